@@ -1,0 +1,100 @@
+-- The lines of the scope's table of examples that are marked *, and one report that is refused by 16, computed from the definitions.
+-- A line's advances go on where start would refuse the table by 13 (A2, F): the book of a list is defined for every table.
+use mathlib.Core.Bool.{false, true}
+use mathlib.Core.List.{List, [], map, _∷_}
+use mathlib.Core.Path.{refl, _≡_}
+use Prim.Native.Nat.{ℕ}
+use Rattle.model.specs.Book.{Answer, Asked, answer, answersFrom, asked, claims, emptyBook, enter, fresh, full, late, misreported, refused, reportable, rowRefused, rowsFrom, served, shown, step, taken, work}
+use Rattle.model.specs.Grants.{claimants, given, grants, left}
+use Rattle.model.specs.Horizon.{S, horizon, hyperperiod, lcm}
+use Rattle.model.specs.Row.{owner, row}
+use Rattle.model.specs.Search.{any, least, memb, upFrom}
+use Rattle.model.specs.Task.{Rule, Table, Task, greedy, idling, limited}
+use Rattle.model.specs.Verdict.{Firm, Full, Miss, Verdict, firm, firstMiss, missedAt, missedIn, rising, verdict}
+
+-- a task as (O, v, C, D, T)
+abbrev pub t : ℕ → ℕ → ℕ → ℕ → ℕ → Task
+t o v c d p = record { offset = o; width = v; length = c; deadline = d; period = p }
+
+-- a table of m cores under a rule
+abbrev pub on : ℕ → Rule → List Task → Table
+on m r τs = record { tasks = τs; cores = m; rule = r }
+
+-- the tasks of A, and of B, under each rule
+abbrev pub A : Rule → Table
+A r = on 3 r (t 0 2 2 5 5 ∷ t 0 2 3 5 5 ∷ t 0 1 4 5 5 ∷ [])
+
+abbrev pub B : Rule → Table
+B r = on 2 r (t 0 1 3 3 4 ∷ t 0 2 1 4 4 ∷ t 0 1 2 2 4 ∷ [])
+
+-- a line: a table and report sets; the verdict, the answer to each advance, the row asked before each advance and after the last
+pub record Line : Type 0 where
+  pub table : Table
+  pub reports : List ℕ
+  pub says : Verdict
+  pub answers : List Answer
+  pub rows : List Asked
+
+-- what the definitions say of a line's table and report sets
+abbrev pub worked : Line → Line
+worked l = record {
+  table = l .table;
+  reports = l .reports;
+  says = verdict (l .table);
+  answers = answersFrom (l .table) emptyBook (l .reports);
+  rows = rowsFrom (l .table) emptyBook (l .reports);
+}
+
+-- a line from its parts
+abbrev line : Table → Verdict → List ℕ → List Answer → List Asked → Line
+line s v xs ws rs = record { table = s; reports = xs; says = v; answers = ws; rows = rs }
+
+-- a row of two cores, and of three
+abbrev two : ℕ → ℕ → Asked
+two a b = shown (a ∷ b ∷ [])
+
+abbrev three : ℕ → ℕ → ℕ → Asked
+three a b c = shown (a ∷ b ∷ c ∷ [])
+
+-- the rows of B3, with the report and without
+abbrev b3 : List Asked
+b3 = two 1 3 ∷ two 1 3 ∷ two 1 0 ∷ two 2 2 ∷ two 1 3 ∷ []
+
+-- the lines
+abbrev pub lines : List Line
+lines =
+    -- A, with the rows that the scope prints
+    line (A greedy) (Full 0 5) (0 ∷ 0 ∷ 0 ∷ 0 ∷ []) (taken ∷ taken ∷ taken ∷ taken ∷ [])
+    (three 1 1 3 ∷ three 1 1 3 ∷ three 2 2 3 ∷ three 2 2 3 ∷ three 2 2 0 ∷ [])
+    -- A2: the deadline on the horizon counts
+    ∷ line (A limited) (Miss 5 3) (0 ∷ 0 ∷ 0 ∷ 0 ∷ 0 ∷ 0 ∷ []) (taken ∷ taken ∷ taken ∷ taken ∷ taken ∷ refused 15 3 ∷ [])
+    (three 1 1 0 ∷ three 1 1 0 ∷ three 2 2 3 ∷ three 2 2 3 ∷ three 2 2 3 ∷ rowRefused 15 3 ∷ rowRefused 15 3 ∷ [])
+    -- A3
+    ∷ line (A idling) (Firm 0 5) [] [] (three 1 1 3 ∷ [])
+    -- B, with position 1 reported in tick 0: tick 1 goes to position 2, then 15 with position 3
+    ∷ line (B greedy) (Full 0 4) (1 ∷ 0 ∷ 0 ∷ []) (taken ∷ taken ∷ refused 15 3 ∷ []) (two 1 3 ∷ two 2 2 ∷ rowRefused 15 3 ∷ rowRefused 15 3 ∷ [])
+    -- a report for a position that is not in the row
+    ∷ line (B greedy) (Full 0 4) (2 ∷ 0 ∷ []) (refused 16 0 ∷ taken ∷ []) (two 1 3 ∷ two 1 3 ∷ two 1 3 ∷ [])
+    -- B2
+    ∷ line (B limited) (Miss 2 3) [] [] (two 1 0 ∷ [])
+    -- B3: the report changes no row
+    ∷ line (B idling) (Firm 0 4) (0 ∷ 0 ∷ 0 ∷ 0 ∷ []) (taken ∷ taken ∷ taken ∷ taken ∷ []) b3
+    ∷ line (B idling) (Firm 0 4) (1 ∷ 0 ∷ 0 ∷ 0 ∷ []) (taken ∷ taken ∷ taken ∷ taken ∷ []) b3
+    -- C and C2
+    ∷ line (on 2 greedy (t 0 1 2 4 4 ∷ t 0 2 2 4 4 ∷ t 0 1 1 4 4 ∷ [])) (Full 0 4) [] [] (two 1 3 ∷ [])
+    ∷ line (on 2 greedy (t 0 1 2 4 4 ∷ t 0 1 1 4 4 ∷ t 0 2 2 4 4 ∷ [])) (Firm 0 4) [] [] (two 1 2 ∷ [])
+    -- E: the repeat starts at 3, not at the largest offset
+    ∷ line (on 1 limited (t 1 1 1 1 2 ∷ t 0 1 1 2 3 ∷ [])) (Firm 3 6) [] [] (shown (2 ∷ []) ∷ [])
+    -- F
+    ∷ line (on 1 greedy (t 0 1 2 1 2 ∷ [])) (Miss 1 1) (0 ∷ 0 ∷ []) (taken ∷ refused 15 1 ∷ []) (shown (1 ∷ []) ∷ rowRefused 15 1 ∷ rowRefused 15 1 ∷ [])
+    ∷ []
+
+-- every line is what the definitions say
+pub examples : map worked lines ≡ lines
+unfolding verdict firstMiss missedIn missedAt firm rising horizon S hyperperiod lcm least any memb upFrom owner row given left grants claimants claims served work step late reportable misreported answer asked enter answersFrom rowsFrom full
+examples = refl
+
+-- a job released at 1 with D 3 claims in ticks 1, 2 and 3, and not when it is due at 4 or later
+pub window : map (λ n. claims greedy (t 1 1 5 3 5) 0 n fresh) (upFrom 0 6) ≡ false ∷ true ∷ true ∷ true ∷ false ∷ false ∷ []
+unfolding claims upFrom
+window = refl

@@ -1,0 +1,161 @@
+-- The definitions say what the scope says: one claim a task loses nothing, the bounded searches miss nothing, S and P are what they are called.
+-- CLAIMS
+-- only the newest job of a task claims ..
+use mathlib.Core.Bool.{_&&_, Bool, false, not, true, true≢false}
+use mathlib.Core.List.{List, [], _∷_}
+use mathlib.Core.Logic.{_↔_}
+use mathlib.Core.Path.{refl, subst, sym, _∙_, _≡_}
+use Prim.Native.Nat.{_*_, _+_, _<_, suc, ℕ, _≤_}
+use native.Mathlib.Nat.{add-zero, le-antisymm, le-of-eq, le-trans, mul-le-mul-left, mul-one, zero-add}
+use native.Mathlib.Omega.{arith}
+use lib.Dec.{eqb, leb}
+use lib.ListN.{length}
+use borrow.Author.Tests.{eq-eqb, eqb-true, le-leb, leb-false, leb-true, not-true}
+use Rattle.model.proofs.Bools.{and-both, and-left, and-right, not-true-false}
+use Rattle.model.proofs.FullLength.{late-job}
+use Rattle.model.proofs.Jobs.{after-release, before-due, newest-is}
+use Rattle.model.proofs.Runs.{full-tick, missed-at}
+use Rattle.model.proofs.Search.{any-of, any-some, bit-high}
+use Rattle.model.proofs.Starts.{S-release, hyperperiod-divides, hyperperiod-least, release-first, release-from}
+use Rattle.model.specs.Book.{Answer, Book, Job, Missed, answer, answersFrom, book, bookFrom, claims, emptyBook, enter, entered, full, jobClaims, late, misreported, refused, reportable, step, taken, takenIn, taskClaims}
+use Rattle.model.specs.Horizon.{S, hyperperiod, releaseFrom}
+use Rattle.model.specs.Search.{bit}
+use Rattle.model.specs.Task.{AllSound, Rule, Sound, Table, Task, due, newest, release, task}
+use Rattle.model.specs.Verdict.{missedAt, missedIn}
+
+pub only-newest :
+    (s : Table) → AllSound s → (b : Book) (p k : ℕ) → p < length (s .tasks) → jobClaims s b p k ≡ true → newest (task s p) (b .tick) ≡ k
+only-newest s ok b p k l c =
+    newest-is (task s p) k (b .tick) (ok p l .constrained)
+    (after-release (s .rule) (task s p) k (b .tick) (b .job p k) c)
+    (before-due (s .rule) (task s p) k (b .tick) (b .job p k) c)
+
+-- .. so a task claims exactly if some job of it does
+pub claims-exact :
+    (s : Table) → AllSound s → (b : Book) (p : ℕ) → p < length (s .tasks)
+    → (taskClaims s b p ≡ true) ↔ ((k : ℕ) × (jobClaims s b p k ≡ true))
+claims-exact s ok b p l = (
+  λ e. (newest (task s p) (b .tick), e),
+  λ x. subst (λ (k : ℕ). jobClaims s b p k ≡ true) (sym (only-newest s ok b p (x .0) l (x .1))) (x .1),
+)
+
+-- a job does not claim at its deadline or later, whatever its line
+pub no-claim-when-due : (r : Rule) (τ : Task) (k t : ℕ) (j : Job) → due τ k ≤ t → claims r τ k t j ≡ false
+no-claim-when-due r τ k t j h = not-true-false (claims r τ k t j) (λ e. let l = before-due r τ k t j e in omega arith)
+
+-- nor before its release
+pub no-claim-before : (r : Rule) (τ : Task) (k t : ℕ) (j : Job) → t < release τ k → claims r τ k t j ≡ false
+no-claim-before r τ k t j h = not-true-false (claims r τ k t j) (λ e. let l = after-release r τ k t j e in omega arith)
+
+-- SEARCHES
+
+-- the number of a job is at most the tick that it is due
+job-number : (τ : Task) (k t : ℕ) → Sound τ → due τ k ≤ t → k < suc t
+job-number τ k t ok h = omega (arith, mul-le-mul-left k (le-trans (ok .deadline-pos) (ok .constrained)), mul-one k)
+
+-- a place is late exactly if some job of it, of any number, has r + D at or before t and has not ended
+pub late-exact :
+    (s : Table) → AllSound s → (b : Book) (p : ℕ) → p < length (s .tasks)
+    → (late s b p ≡ true) ↔ ((k : ℕ) × (due (task s p) k ≤ b .tick) × (b .job p k .ended ≡ false))
+unfolding late
+late-exact s ok b p l = (
+  late-job s b p,
+  λ x. any-of (suc (b .tick)) (λ k. leb (due (task s p) k) (b .tick) && not (b .job p k .ended)) (x .0)
+      (job-number (task s p) (x .0) (b .tick) (ok p l) (x .1))
+      (and-both (leb (due (task s p) (x .0)) (b .tick)) (not (b .job p (x .0) .ended)) (le-leb (due (task s p) (x .0)) (b .tick) (x .1)) (rw (x .2))),
+)
+
+-- a report set is refused by 16 exactly if some bit of it, however high, is set for a position that may not be reported
+pub misreported-exact :
+    (s : Table) (b : Book) (x : ℕ)
+    → (misreported s b x ≡ true) ↔ ((p : ℕ) × (bit x p ≡ true) × (reportable s b p ≡ false))
+unfolding misreported
+misreported-exact s b x = (
+  λ e. let y = any-some x (λ p. bit x p && not (reportable s b p)) e in
+      (y .0, and-left (bit x (y .0)) (not (reportable s b (y .0))) (y .2), not-true (reportable s b (y .0)) (and-right (bit x (y .0)) (not (reportable s b (y .0))) (y .2))),
+  λ y. any-of x (λ p. bit x p && not (reportable s b p)) (y .0) (low (y .0) (y .1))
+      (and-both (bit x (y .0)) (not (reportable s b (y .0))) (y .1) (rw (y .2))),
+)
+  where
+    low : (p : ℕ) → bit x p ≡ true → p < x
+    low p e = go (leb x p) refl
+      where
+        go : (t : Bool) → leb x p ≡ t → p < x
+        go true q = absurd (true≢false (sym e ∙ bit-high x p (leb-true x p q)))
+        go false q = leb-false x p q
+
+-- a deadline of place p is found missed at t exactly if it is
+pub missed-exact :
+    (s : Table) → AllSound s → (t p : ℕ) → p < length (s .tasks) → (missedAt s t p ≡ true) ↔ Missed s p t
+unfolding missedAt
+missed-exact s ok t p l = (
+  λ e. let x = any-some (suc t) (λ k. eqb (due (task s p) k) t && not (full s t .job p k .ended)) e in
+      missed-at s p t (x .0) l
+      (eqb-true (due (task s p) (x .0)) t (and-left (eqb (due (task s p) (x .0)) t) (not (full s t .job p (x .0) .ended)) (x .2)))
+      (not-true (full s t .job p (x .0) .ended) (and-right (eqb (due (task s p) (x .0)) t) (not (full s t .job p (x .0) .ended)) (x .2))),
+  λ m. let x = m .1 in
+      let e : due (task s p) (x .0) ≡ t = x .1 ∙ full-tick s t in
+      any-of (suc t) (λ k. eqb (due (task s p) k) t && not (full s t .job p k .ended)) (x .0)
+      (job-number (task s p) (x .0) t (ok p l) (le-of-eq e))
+      (and-both (eqb (due (task s p) (x .0)) t) (not (full s t .job p (x .0) .ended)) (eq-eqb (due (task s p) (x .0)) t e) (rw (x .2))),
+)
+
+-- and at some place of the table
+pub missed-in-exact :
+    (s : Table) → AllSound s → (t : ℕ) → (missedIn s t ≡ true) ↔ ((p : ℕ) × Missed s p t)
+unfolding missedIn
+missed-in-exact s ok t = (
+  λ e. let x = any-some (length (s .tasks)) (missedAt s t) e in (x .0, missed-exact s ok t (x .0) (x .1) .0 (x .2)),
+  λ x. any-of (length (s .tasks)) (missedAt s t) (x .0) (x .1 .0) (missed-exact s ok t (x .0) (x .1 .0) .1 (x .1)),
+)
+
+-- THE LIST'S TICK is the number of advances in it that were not refused
+tick-from : (s : Table) (xs : List ℕ) (b : Book) → bookFrom s b xs .tick ≡ b .tick + takenIn (answersFrom s b xs)
+unfolding bookFrom answersFrom takenIn enter step
+tick-from s [] b = sym (add-zero (b .tick))
+tick-from s (x ∷ xs) b = go (answer s b x) (tick-from s xs)
+  where
+    go : (w : Answer) → ((b : Book) → bookFrom s b xs .tick ≡ b .tick + takenIn (answersFrom s b xs))
+        → bookFrom s (entered w (step s (bit x) b) b) xs .tick ≡ b .tick + takenIn (w ∷ answersFrom s (entered w (step s (bit x) b) b) xs)
+    go taken ih = ih (step s (bit x) b) ∙ omega arith
+    go (refused n p) ih = ih b
+
+pub tick-taken : (s : Table) (xs : List ℕ) → book s xs .tick ≡ takenIn (answersFrom s emptyBook xs)
+tick-taken s xs = tick-from s xs emptyBook ∙ zero-add (takenIn (answersFrom s emptyBook xs))
+
+-- S AND P
+
+-- S of position 1 is its O
+pub S-first : (s : Table) → S (s .tasks) 0 ≡ task s 0 .offset
+unfolding S
+S-first s = refl
+
+-- S of a later position is its first release not before the previous S; where O is not before that, the first release is O
+pub record Later (τ : Task) (before here : ℕ) : Type 0 where
+  pub released : (k : ℕ) × (here ≡ release τ k)
+  pub not-before : before ≤ here
+  pub first : (k : ℕ) → before ≤ release τ k → here ≤ release τ k
+  pub offset : before ≤ τ .offset → here ≡ τ .offset
+
+pub S-later : (s : Table) → AllSound s → (p : ℕ) → suc p < length (s .tasks) → Later (task s (suc p)) (S (s .tasks) p) (S (s .tasks) (suc p))
+unfolding S
+S-later s ok p l =
+    let τ : Task = task s (suc p) in
+    let pos : 0 < τ .period = le-trans (ok (suc p) l .deadline-pos) (ok (suc p) l .constrained) in
+    let at-zero : (h : S (s .tasks) p ≤ τ .offset) → releaseFrom τ (S (s .tasks) p) ≤ release τ 0 = λ h. release-first τ (S (s .tasks) p) 0 pos (omega arith) in
+    record {
+      released = S-release (s .tasks) (suc p);
+      not-before = release-from τ (S (s .tasks) p) pos;
+      first = λ k. release-first τ (S (s .tasks) p) k pos;
+      offset = λ h. le-antisymm (omega (arith, at-zero h)) (omega arith);
+    }
+
+-- P is a common multiple of the periods ..
+pub P-multiple : (s : Table) → AllSound s → (p : ℕ) → p < length (s .tasks) → (m : ℕ) × (hyperperiod (s .tasks) ≡ m * task s p .period)
+P-multiple s ok p l = hyperperiod-divides (s .tasks) p (λ q h. le-trans (ok q h .deadline-pos) (ok q h .constrained)) l
+
+-- .. and the least that is not 0
+pub P-least :
+    (s : Table) → AllSound s → (n : ℕ) → 0 < n → ((p : ℕ) → p < length (s .tasks) → (m : ℕ) × (n ≡ m * task s p .period))
+    → hyperperiod (s .tasks) ≤ n
+P-least s ok n h d = hyperperiod-least (s .tasks) (λ q l. le-trans (ok q l .deadline-pos) (ok q l .constrained)) n h d

@@ -1,0 +1,94 @@
+-- The model's full-length run is the scope's: the book of a list whose report sets are all empty, up to the first miss.
+use mathlib.Core.Bool.{_&&_, Bool, false, not, true, true≢false}
+use mathlib.Core.Logic.{_↔_, ⊎-elim}
+use mathlib.Core.Path.{ap, fun-ext, refl, subst, sym, _∙_, _≡_}
+use Prim.Native.Nat.{_+_, _<_, _^_, suc, zero, ℕ, _≤_}
+use native.Mathlib.Nat.{add-zero, eq-or-lt-of-le, le-dest, le-of-eq, le-of-suc-le-suc, not-suc-le-zero, zero-add, zero-div}
+use native.Mathlib.Omega.{arith}
+use lib.Dec.{leb, ltb}
+use lib.ListN.{length, replicate}
+use borrow.Author.Tests.{le-ltb, leb-true, not-true}
+use Rattle.model.proofs.Bools.{and-left, and-right, not-true-false}
+use Rattle.model.proofs.Runs.{full-stays, full-tick, missed-at}
+use Rattle.model.proofs.Search.{any-some, least-none, none-any}
+use Rattle.model.specs.Book.{Book, Missed, Misses, NeverMissed, answer, book, bookFrom, enter, firstLate, full, late, misreported, none, step, taken}
+use Rattle.model.specs.Search.{any, bit}
+use Rattle.model.specs.Task.{Table, due, task}
+
+-- a late place has a job that is due and has not ended
+pub late-job : (s : Table) (b : Book) (p : ℕ) → late s b p ≡ true → (k : ℕ) × (due (task s p) k ≤ b .tick) × (b .job p k .ended ≡ false)
+unfolding late
+late-job s b p h = go (any-some (suc (b .tick)) (λ k. leb (due (task s p) k) (b .tick) && not (b .job p k .ended)) h)
+  where
+    go : (k : ℕ) × (k < suc (b .tick)) × (leb (due (task s p) k) (b .tick) && not (b .job p k .ended) ≡ true)
+        → (k : ℕ) × (due (task s p) k ≤ b .tick) × (b .job p k .ended ≡ false)
+    go (k, l, e) = (
+      k,
+      leb-true (due (task s p) k) (b .tick) (and-left (leb (due (task s p) k) (b .tick)) (not (b .job p k .ended)) e),
+      not-true (b .job p k .ended) (and-right (leb (due (task s p) k) (b .tick)) (not (b .job p k .ended)) e),
+    )
+
+-- where no place is late, an empty report set is taken
+no-bits : (p : ℕ) → bit 0 p ≡ false
+no-bits p = rw (zero-div (2 ^ p))
+
+none-late : (s : Table) (b : Book) → ((p : ℕ) → p < length (s .tasks) → late s b p ≡ false) → ltb (firstLate s b) (length (s .tasks)) ≡ false
+none-late s b h =
+    le-ltb (firstLate s b) (length (s .tasks))
+    (le-of-eq (sym (least-none (length (s .tasks)) (late s b) (none-any (length (s .tasks)) (late s b) h))))
+
+none-taken : (s : Table) (b : Book) → ((p : ℕ) → p < length (s .tasks) → late s b p ≡ false) → answer s b 0 ≡ taken
+unfolding answer misreported any
+none-taken s b h = rw (none-late s b h)
+
+enter-none : (s : Table) (n : ℕ) → ((p : ℕ) → p < length (s .tasks) → late s (full s n) p ≡ false) → enter s 0 (full s n) ≡ full s (suc n)
+unfolding enter full
+enter-none s n h = rw (none-taken s (full s n) h) (ap (λ (f : ℕ → Bool). step s f (full s n)) (fun-ext no-bits))
+
+go-on :
+    (s : Table) (n m : ℕ) → ((t p : ℕ) → t < m + n → p < length (s .tasks) → late s (full s t) p ≡ false)
+    → bookFrom s (full s m) (replicate n 0) ≡ full s (m + n)
+unfolding bookFrom
+go-on s zero m h = ap (full s) (sym (add-zero m))
+go-on s (suc n) m h =
+    ap (λ (b : Book). bookFrom s b (replicate n 0)) (enter-none s m (λ p l. h m p (omega arith) l))
+    ∙ (go-on s n (suc m) (λ t p g l. h t p (omega arith) l) ∙ ap (full s) (omega arith))
+
+-- a job that is late at t has missed its deadline, at t or before
+late-missed : (s : Table) (t p : ℕ) → p < length (s .tasks) → late s (full s t) p ≡ true → (u : ℕ) × (u ≤ t) × Missed s p u
+late-missed s t p l h =
+    let x = late-job s (full s t) p h in
+    let d : due (task s p) (x .0) ≤ t = subst (λ (n : ℕ). due (task s p) (x .0) ≤ n) (full-tick s t) (x .1) in
+    let y = le-dest d in (
+      due (task s p) (x .0),
+      d,
+      missed-at s p (due (task s p) (x .0)) (x .0) l refl
+          (not-true-false (full s (due (task s p) (x .0)) .job p (x .0) .ended) (λ e.
+          true≢false (sym (full-stays s (due (task s p) (x .0)) (y .0) p (x .0) e)
+          ∙ subst (λ (n : ℕ). full s n .job p (x .0) .ended ≡ false) (sym (y .1)) (x .2)))),
+    )
+
+-- THE THEOREM: for every n up to and including the tick of the first miss, and for every n where there is none
+pub full-length :
+    (s : Table) (n : ℕ) → ((p t : ℕ) → t < n → ¬ Missed s p t)
+    → book s (replicate n 0) ≡ full s n
+unfolding full
+full-length s n h = go-on s n 0 (λ t p g l. none t p (omega arith) l) ∙ ap (full s) (zero-add n)
+  where
+    none : (t p : ℕ) → t < n → p < length (s .tasks) → late s (full s t) p ≡ false
+    none t p g l = not-true-false (late s (full s t) p) (λ e. let x = late-missed s t p l e in h p (x .0) (omega arith) (x .2))
+
+-- so no deadline is ever missed exactly if none is in the book of any number of empty report sets
+pub never-missed-exact : (s : Table) → NeverMissed s ↔ ((n p : ℕ) → ¬ Misses s (book s (replicate n 0)) p)
+never-missed-exact s = (
+  λ nm n p m. nm p n (subst (λ (b : Book). Misses s b p) (full-length s n (λ q t h. nm q t)) m),
+  λ none p t. below none (suc t) p t (omega arith),
+)
+  where
+    below : ((n p : ℕ) → ¬ Misses s (book s (replicate n 0)) p) → (n p t : ℕ) → t < n → ¬ Missed s p t
+    below none zero p t h = absurd (not-suc-le-zero h)
+    below none (suc n) p t h =
+        ⊎-elim
+        (λ (e : t ≡ n). λ m. none n p (subst (λ (b : Book). Misses s b p) (sym (full-length s n (below none n))) (subst (λ (u : ℕ). Missed s p u) e m)))
+        (λ (l : t < n). below none n p t l)
+        (eq-or-lt-of-le (le-of-suc-le-suc h))

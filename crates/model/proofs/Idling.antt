@@ -1,0 +1,98 @@
+-- Idling: at full length it gives the rows of greedy, and whatever is reported it gives the rows of its full-length run.
+-- the rules choose alike
+use mathlib.Core.Bool.{Bool, cond, false, true}
+use mathlib.Core.List.{List, [], _∷_}
+use mathlib.Core.Logic.{inl, inr}
+use mathlib.Core.Path.{ap, refl, subst, _∙_, _≡_}
+use Prim.Native.Nat.{suc, zero, ℕ, _≤_}
+use native.Mathlib.Nat.{le-trans}
+use native.Mathlib.Omega.{arith}
+use lib.ListN.{length-map}
+use borrow.Author.Tests.{le-ltb}
+use Rattle.model.proofs.Grants.{claimants-same}
+use Rattle.model.proofs.Jobs.{mk, next}
+use Rattle.model.proofs.Runs.{full-whole}
+use Rattle.model.proofs.Sustain.{abreast-full, same-task-claims}
+use Rattle.model.specs.Book.{Book, book, claims, full, grantsOf, jobClaims, none, rowOf, served, step, taskClaims, widths, work}
+use Rattle.model.specs.Grants.{Claimant, claimants, given, grants, left}
+use Rattle.model.specs.Row.{row}
+use Rattle.model.specs.Search.{upFrom}
+use Rattle.model.specs.Task.{AllSound, Rule, Table, Task, greedy, idling, newest, task}
+
+choose-alike : (bs : List Claimant) (F : List ℕ) → grants idling bs F ≡ grants greedy bs F
+unfolding grants left
+choose-alike [] F = refl
+choose-alike (b ∷ bs) F = ap {B = List (List ℕ)} (λ x. given b F ∷ x) (choose-alike bs (left greedy b F))
+
+-- the ticks claimed are no fewer than those had
+had-claimed : (C : ℕ) (f s : Bool) (h c : ℕ) (e : Bool) → h ≤ c → next C f s (mk h c e) .had ≤ next C f s (mk h c e) .claimed
+unfolding work
+had-claimed C f false h c e l = l
+had-claimed C f true h c true l = omega arith
+had-claimed C f true h c false l = omega arith
+
+full-claimed : (s : Table) (n p k : ℕ) → full s n .job p k .had ≤ full s n .job p k .claimed
+unfolding full step
+full-claimed s zero p k = omega arith
+full-claimed s (suc n) p k =
+    had-claimed (task s p .length) false (served s (full s n) p k) (full s n .job p k .had) (full s n .job p k .claimed) (full s n .job p k .ended) (full-claimed s n p k)
+
+-- a job that has claimed C ticks once it has ended claims alike under both
+claims-alike : (τ : Task) (k t h c : ℕ) (e : Bool) → (e ≡ true → τ .length ≤ c) → claims idling τ k t (mk h c e) ≡ claims greedy τ k t (mk h c e)
+unfolding claims
+claims-alike τ k t h c false g = refl
+claims-alike τ k t h c true g = rw (le-ltb c (τ .length) (g refl))
+
+abbrev pub under : Rule → List Task → ℕ → Table
+under r τs m = record { tasks = τs; cores = m; rule = r }
+
+module _ (τs : List Task) (m : ℕ) where
+  abbrev I : Table
+  I = under idling τs m
+
+  abbrev G : Table
+  G = under greedy τs m
+
+  same-claims : (n : ℕ) → full I n ≡ full G n → (p k : ℕ) → jobClaims I (full I n) p k ≡ jobClaims G (full G n) p k
+  same-claims n e p k =
+      subst (λ (b : Book). jobClaims I (full I n) p k ≡ jobClaims G b p k) e
+      (claims-alike (task I p) k (full I n .tick) (full I n .job p k .had) (full I n .job p k .claimed) (full I n .job p k .ended)
+      (λ d. le-trans (full-whole I n p k d) (full-claimed I n p k)))
+
+  same-grants : (n : ℕ) → full I n ≡ full G n → grantsOf I (full I n) ≡ grantsOf G (full G n)
+  same-grants n e =
+      choose-alike (claimants (widths I) (taskClaims I (full I n))) (upFrom 0 m)
+      ∙ ap (λ (x : List Claimant). grants greedy x (upFrom 0 m))
+      (claimants-same (widths I) (taskClaims I (full I n)) (taskClaims G (full G n))
+      (λ q l. same-claims n e q (newest (task I q) (full I n .tick)) ∙ ap (λ (b : Book). jobClaims G (full G n) q (newest (task G q) (b .tick))) e))
+
+  same-served : (n : ℕ) → full I n ≡ full G n → (p k : ℕ) → served I (full I n) p k ≡ served G (full G n) p k
+  unfolding served
+  same-served n e p k = rw (same-claims n e p k, same-grants n e)
+
+  -- a path between books, which hold functions, is a path at each job
+  same-step : (n : ℕ) → full I n ≡ full G n → step I none (full I n) ≡ step G none (full G n)
+  unfolding step
+  same-step n e = λ i. record {
+    tick = suc (e i .tick);
+    job = λ p k. cond (same-served n e p k i) (work (task I p .length) false (e i .job p k)) (e i .job p k);
+  }
+
+  same-full : (n : ℕ) → full I n ≡ full G n
+  unfolding full
+  same-full zero = refl
+  same-full (suc n) = same-step n (same-full n)
+
+-- THE THEOREM: at full length idling and greedy give equal rows
+pub idling-greedy : (τs : List Task) (m n : ℕ) → rowOf (under idling τs m) (full (under idling τs m) n) ≡ rowOf (under greedy τs m) (full (under greedy τs m) n)
+idling-greedy τs m n = ap (row m) (same-grants τs m n (same-full τs m n))
+
+-- THE THEOREM (001, definition 16): under idling the cores, and so the row, of any book are those of the full-length run at its tick
+pub idling-grants : (s : Table) → AllSound s → s .rule ≡ idling → (xs : List ℕ) → grantsOf s (book s xs) ≡ grantsOf s (full s (book s xs .tick))
+idling-grants s ok e xs =
+    ap (λ (x : List Claimant). grants (s .rule) x (upFrom 0 (s .cores)))
+    (claimants-same (widths s) (taskClaims s (book s xs)) (taskClaims s (full s (book s xs .tick)))
+    (λ q h. same-task-claims s ok (book s xs) (full s (book s xs .tick)) (abreast-full s ok (inr (inl e)) xs) e q (rw length-map at h)))
+
+pub idling-rows : (s : Table) → AllSound s → s .rule ≡ idling → (xs : List ℕ) → rowOf s (book s xs) ≡ rowOf s (full s (book s xs .tick))
+idling-rows s ok e xs = ap (row (s .cores)) (idling-grants s ok e xs)

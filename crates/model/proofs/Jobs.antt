@@ -1,0 +1,179 @@
+-- One job's line of the book: what a tick changes of it, and how two lines compare.
+use mathlib.Core.Bool.{_&&_, Bool, cond, false, false≢true, not, true, true≢false, _||_}
+use mathlib.Core.Logic.{inl, inr, _⊎_, ⊎-elim}
+use mathlib.Core.Path.{ap, refl, sym, _≡_}
+use Prim.Native.Nat.{_<_, suc, ℕ, _≤_}
+use native.Mathlib.Nat.{div-lt-iff-lt-mul, eq-or-lt-of-le, le-antisymm, le-div-iff-mul-le, le-of-suc-le-suc}
+use native.Mathlib.Omega.{arith}
+use lib.Dec.{leb, ltb}
+use borrow.Author.Tests.{le-leb, leb-false, leb-true, lt-ltb, ltb-true, not-true}
+use Rattle.model.proofs.Bools.{and-left, and-right, not-true-false, or-left-true, or-right-false}
+use Rattle.model.specs.Book.{Job, claims, holds, work}
+use Rattle.model.specs.Compare.{Behind, Longer}
+use Rattle.model.specs.Task.{Rule, Task, due, idling, newest, release}
+
+-- a claiming job is inside its window
+pub after-release : (r : Rule) (τ : Task) (k t : ℕ) (j : Job) → claims r τ k t j ≡ true → release τ k ≤ t
+unfolding claims
+after-release r τ k t j e =
+    leb-true (release τ k) t
+    (and-left (leb (release τ k) t) (ltb t (due τ k)) (and-left (leb (release τ k) t && ltb t (due τ k)) (not (j .ended) || holds r τ j) e))
+
+pub before-due : (r : Rule) (τ : Task) (k t : ℕ) (j : Job) → claims r τ k t j ≡ true → t < due τ k
+unfolding claims
+before-due r τ k t j e =
+    ltb-true t (due τ k)
+    (and-right (leb (release τ k) t) (ltb t (due τ k)) (and-left (leb (release τ k) t && ltb t (due τ k)) (not (j .ended) || holds r τ j) e))
+
+pub still : (r : Rule) (τ : Task) (k t : ℕ) (j : Job) → claims r τ k t j ≡ true → not (j .ended) || holds r τ j ≡ true
+unfolding claims
+still r τ k t j e = and-right (leb (release τ k) t && ltb t (due τ k)) (not (j .ended) || holds r τ j) e
+
+pub claims-if : (r : Rule) (τ : Task) (k t : ℕ) (j : Job) → release τ k ≤ t → t < due τ k → not (j .ended) || holds r τ j ≡ true → claims r τ k t j ≡ true
+unfolding claims
+claims-if r τ k t j h l e = rw (le-leb (release τ k) t h, lt-ltb t (due τ k) l) e
+
+-- and is the newest of its task
+pub newest-is : (τ : Task) (k t : ℕ) → τ .deadline ≤ τ .period → release τ k ≤ t → t < due τ k → newest τ t ≡ k
+newest-is τ k t c h l =
+    let pos : 0 < τ .period = omega arith in
+    le-antisymm
+    (le-of-suc-le-suc (div-lt-iff-lt-mul pos .1 (omega arith)))
+    (le-div-iff-mul-le pos .1 (omega arith))
+
+-- a job that has not ended claims wherever the job in another book does
+pub claims-open : (r : Rule) (τ : Task) (k t : ℕ) (a b : Job) → claims r τ k t b ≡ true → a .ended ≡ false → claims r τ k t a ≡ true
+claims-open r τ k t a b e o = claims-if r τ k t a (after-release r τ k t b e) (before-due r τ k t b e) (rw o)
+
+-- a job after a tick, in which it was in the row or not
+abbrev pub next : ℕ → Bool → Bool → Job → Job
+next C f s j = cond s (work C f j) j
+
+-- an ended job stays ended, and has no more ticks
+pub next-ended : (C : ℕ) (f s : Bool) (j : Job) → j .ended ≡ true → (next C f s j .ended ≡ true) × (next C f s j .had ≡ j .had)
+unfolding work
+next-ended C f true j e = rw e (refl, refl)
+next-ended C f false j e = (e, refl)
+
+-- a job by its parts: records have η, so a lemma over the parts can go by cases on `ended`
+abbrev pub mk : ℕ → ℕ → Bool → Job
+mk h c e = record { had = h; claimed = c; ended = e }
+
+-- ticks had never fall
+pub next-grows : (C : ℕ) (f s : Bool) (h c : ℕ) (e : Bool) → h ≤ next C f s (mk h c e) .had
+unfolding work
+next-grows C f true h c true = omega arith
+next-grows C f true h c false = omega arith
+next-grows C f false h c e = omega arith
+
+-- a job once longer stays longer
+pub longer-left : (C : ℕ) (f s : Bool) (h c : ℕ) (e : Bool) (b : Job) → Longer (mk h c e) b → Longer (next C f s (mk h c e)) b
+unfolding work
+longer-left C f false h c e b l = l
+longer-left C f true h c true b l = (l .0, go (l .1))
+  where
+    go : (b .had < h) ⊎ ((h ≡ b .had) × (true ≡ false)) → (b .had < h) ⊎ ((h ≡ b .had) × (true ≡ false))
+    go x = x
+longer-left C f true h c false b l = (l .0, inl (go (l .1)))
+  where
+    go : (b .had < h) ⊎ ((h ≡ b .had) × (false ≡ false)) → b .had < suc h
+    go (inl x) = omega arith
+    go (inr x) = omega arith
+
+pub longer-right : (C : ℕ) (f s : Bool) (a : Job) (h c : ℕ) (e : Bool) → Longer a (mk h c e) → Longer a (next C f s (mk h c e))
+unfolding work
+longer-right C f false a h c e l = l
+longer-right C f true a h c true l = l
+longer-right C f true a h c false l = absurd (false≢true (l .0))
+
+-- a job that is not behind, that runs where the other runs, and that is not longer after the tick, is not behind after it
+pub abreast :
+    (C : ℕ) (f g s t : Bool) (h c : ℕ) (e : Bool) (h′ c′ : ℕ) (e′ : Bool)
+    → ¬ Behind (mk h c e) (mk h′ c′ e′)
+    → (e ≡ false → t ≡ true → s ≡ true)
+    → ¬ Longer (next C f s (mk h c e)) (next C g t (mk h′ c′ e′))
+    → ¬ Behind (next C f s (mk h c e)) (next C g t (mk h′ c′ e′))
+unfolding work
+abreast C f g true t h c true h′ c′ e′ nb both nl (o, x) = absurd (true≢false o)
+abreast C f g false t h c true h′ c′ e′ nb both nl (o, x) = absurd (true≢false o)
+abreast C f g true t h c false h′ c′ true nb both nl (o, x) = absurd (nb (refl, inl refl))
+abreast C f g false t h c false h′ c′ true nb both nl (o, x) = absurd (nb (refl, inl refl))
+abreast C f g true true h c false h′ c′ false nb both nl (o, x) = go x
+  where
+    less : ¬ (h < h′)
+    less l = nb (refl, inr (refl, l))
+
+    go : ((g || leb C (suc h′)) ≡ true) ⊎ (((g || leb C (suc h′)) ≡ false) × (suc h < suc h′)) → ⊥
+    go (inl d) =
+        ⊎-elim
+        (λ (q : suc h′ ≡ suc h). nl (d, inr (sym q, o)))
+        (λ (q : suc h′ < suc h). nl (d, inl q))
+        (eq-or-lt-of-le (omega (arith, less)))
+    go (inr d) = less (omega arith)
+abreast C f g true false h c false h′ c′ false nb both nl (o, x) = go x
+  where
+    less : ¬ (h < h′)
+    less l = nb (refl, inr (refl, l))
+
+    go : (false ≡ true) ⊎ ((false ≡ false) × (suc h < h′)) → ⊥
+    go (inl d) = false≢true d
+    go (inr d) = less (omega arith)
+abreast C f g false true h c false h′ c′ false nb both nl (o, x) = false≢true (both refl refl)
+abreast C f g false false h c false h′ c′ false nb both nl (o, x) = nb (refl, x)
+
+-- what holds of every line of a book: at most C ticks had; and while it has not ended, fewer, and as many as claimed
+pub record Good (C : ℕ) (j : Job) : Type 0 where
+  pub within : j .had ≤ C
+  pub short : j .ended ≡ false → j .had < C
+  pub even : j .ended ≡ false → j .claimed ≡ j .had
+
+pub good-fresh : (C : ℕ) → 1 ≤ C → Good C (mk 0 0 false)
+good-fresh C h = record { within = omega arith; short = λ e. h; even = λ e. refl }
+
+pub good-next : (C : ℕ) (f s : Bool) (h c : ℕ) (e : Bool) → Good C (mk h c e) → Good C (next C f s (mk h c e))
+unfolding work
+good-next C f false h c e g = g
+good-next C f true h c true g = record { within = g .within; short = λ o. absurd (true≢false o); even = λ o. absurd (true≢false o) }
+good-next C f true h c false g = record {
+  within = g .short refl;
+  short = λ o. leb-false C (suc h) (or-right-false f (leb C (suc h)) o);
+  even = λ o. ap suc (g .even refl);
+}
+
+-- in the full-length run a job ends only at C ticks
+pub whole-next : (C : ℕ) (s : Bool) (h c : ℕ) (e : Bool) → (e ≡ true → C ≤ h) → next C false s (mk h c e) .ended ≡ true → C ≤ next C false s (mk h c e) .had
+unfolding work
+whole-next C false h c e w o = w o
+whole-next C true h c true w o = w o
+whole-next C true h c false w o = leb-true C (suc h) o
+
+-- ticks claimed grow by the row alone
+pub next-claimed : (C : ℕ) (f s : Bool) (h c : ℕ) (e : Bool) → next C f s (mk h c e) .claimed ≡ cond s (suc c) c
+unfolding work
+next-claimed C f false h c e = refl
+next-claimed C f true h c true = refl
+next-claimed C f true h c false = refl
+
+-- under idling a good line claims by its window and the ticks claimed
+idle-test : (C h c : ℕ) (e : Bool) → Good C (mk h c e) → not e || ltb c C ≡ ltb c C
+idle-test C h c true g = refl
+idle-test C h c false g = sym (lt-ltb c C (omega (arith, g .even refl, g .short refl)))
+
+pub idle-claims :
+    (τ : Task) (k t : ℕ) (a b : Job) → Good (τ .length) a → Good (τ .length) b → a .claimed ≡ b .claimed
+    → claims idling τ k t a ≡ claims idling τ k t b
+unfolding claims
+idle-claims τ k t a b ga gb e =
+    rw (idle-test (τ .length) (a .had) (a .claimed) (a .ended) ga, idle-test (τ .length) (b .had) (b .claimed) (b .ended) gb, e)
+
+-- a rule under which a job that ended claims no more
+abbrev pub Letting : Rule → Type 0
+Letting r = (τ : Task) (j : Job) → holds r τ j ≡ false
+
+-- under such a rule a job that claims, and is not behind, claims in the other book too
+pub claims-less :
+    (r : Rule) (τ : Task) (k t : ℕ) (a b : Job) → Letting r → ¬ Behind a b
+    → claims r τ k t a ≡ true → claims r τ k t b ≡ true
+claims-less r τ k t a b q nb e =
+    let o : a .ended ≡ false = not-true (a .ended) (or-left-true (not (a .ended)) (holds r τ a) (still r τ k t a e) (q τ a)) in
+    claims-open r τ k t b a e (not-true-false (b .ended) (λ d. nb (o, inl d)))

@@ -1,0 +1,15 @@
+pub mod Examples
+pub mod Bools
+pub mod Search
+pub mod Jobs
+pub mod Grants
+pub mod Runs
+pub mod FullLength
+pub mod Starts
+pub mod Horizon
+pub mod Sustain
+pub mod Firm
+pub mod Idling
+pub mod Local
+pub mod Faithful
+pub mod Verdict

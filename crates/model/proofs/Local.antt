@@ -1,0 +1,206 @@
+-- No task changes the core of a task above it: what stands below position n changes nothing for positions 1 to n.
+-- two tables that differ only below position n: the same rule and cores, and the same first n tasks
+use mathlib.Core.Bool.{Bool, cond, false, true}
+use mathlib.Core.List.{List, [], map, _∷_}
+use mathlib.Core.Logic.{inl, inr, _⊎_, ⊎-elim}
+use mathlib.Core.Path.{ap, ap₂, refl, subst, sym, _∙_, _≡_}
+use Prim.Native.Nat.{_+_, _<_, suc, zero, ℕ, _≤_}
+use native.Mathlib.Nat.{le-refl}
+use native.Mathlib.Omega.{arith}
+use lib.Dec.{leb, ltb}
+use lib.ListN.{getD, length, replicate, take}
+use lib.Pow.{high}
+use lib.Seq.{getD-take}
+use borrow.Author.Tests.{le-ltb, leb-false, leb-true, lt-ltb}
+use Rattle.model.proofs.Grants.{claimants-take, grants-take}
+use Rattle.model.specs.Book.{Book, answer, answersFrom, book, bookFrom, emptyBook, enter, entered, full, grantsOf, jobClaims, none, rowOf, served, step, taken, taskClaims, widths}
+use Rattle.model.specs.Grants.{claimants}
+use Rattle.model.specs.Row.{owner, row}
+use Rattle.model.specs.Search.{bit, memb, upFrom}
+use Rattle.model.specs.Task.{Table, Task, newest, nobody, task}
+
+pub record Alike (n : ℕ) (s s′ : Table) : Type 0 where
+  pub rules : s .rule ≡ s′ .rule
+  pub cores : s .cores ≡ s′ .cores
+  pub tasks : take n (s .tasks) ≡ take n (s′ .tasks)
+
+-- two lists of report sets of equal length that agree on positions 1 to n
+unfoldable pub SameReports : ℕ → List ℕ → List ℕ → Type 0
+SameReports n [] [] = Unit {0}
+SameReports n [] (y ∷ ys) = ⊥
+SameReports n (x ∷ xs) [] = ⊥
+SameReports n (x ∷ xs) (y ∷ ys) = ((q : ℕ) → q < n → bit x q ≡ bit y q) × SameReports n xs ys
+
+-- every advance of the list is taken
+abbrev pub AllTaken : Table → Book → List ℕ → Type 0
+AllTaken s b xs = answersFrom s b xs ≡ replicate (length xs) taken
+
+-- a row as positions 1 to n see it: the bytes of positions below them read 0
+abbrev pub upTo : ℕ → ℕ → ℕ
+upTo n byte = cond (leb byte n) byte 0
+
+-- positions 1 to n have the same cores in the rows of two books: as lists of cores, and as bytes
+pub record SameCores (n : ℕ) (s : Table) (b : Book) (s′ : Table) (b′ : Book) : Type 0 where
+  pub lists : (p : ℕ) → p < n → getD (grantsOf s b) p [] ≡ getD (grantsOf s′ b′) p []
+  pub bytes : map (upTo n) (rowOf s b) ≡ map (upTo n) (rowOf s′ b′)
+
+-- two books with the same tick and the same jobs of the first n places
+pub record Agree (n : ℕ) (b b′ : Book) : Type 0 where
+  pub ticks : b .tick ≡ b′ .tick
+  pub jobs : (p k : ℕ) → p < n → b .job p k ≡ b′ .job p k
+
+-- WHAT THE FIRST PLACES BRING TO A TICK
+
+claimants-prefix : (n : ℕ) (ws : List ℕ) (c : ℕ → Bool) → take n (claimants ws c) ≡ claimants (take n ws) c
+unfolding claimants
+claimants-prefix zero ws c = refl
+claimants-prefix (suc n) [] c = refl
+claimants-prefix (suc n) (w ∷ ws) c = rw (claimants-prefix n ws (λ q. c (suc q)))
+
+take-map : (n : ℕ) (τs : List Task) → take n (map (λ τ. τ .width) τs) ≡ map (λ τ. τ .width) (take n τs)
+take-map zero τs = refl
+take-map (suc n) [] = refl
+take-map (suc n) (τ ∷ τs) = ap (λ (l : List ℕ). τ .width ∷ l) (take-map n τs)
+
+claimants-cut :
+    (n : ℕ) (τs σs : List Task) (c d : ℕ → Bool) → take n τs ≡ take n σs → ((q : ℕ) → q < n → c q ≡ d q)
+    → take n (claimants (map (λ τ. τ .width) τs) c) ≡ take n (claimants (map (λ τ. τ .width) σs) d)
+claimants-cut n τs σs c d e h =
+    claimants-prefix n (map (λ τ. τ .width) τs) c
+    ∙ (ap (λ (x : List ℕ). claimants x c) (take-map n τs ∙ (ap (λ (x : List Task). map (λ τ. τ .width) x) e ∙ sym (take-map n σs)))
+    ∙ (sym (claimants-prefix n (map (λ τ. τ .width) σs) c) ∙ claimants-take (map (λ τ. τ .width) σs) n c d h))
+
+-- WHAT THE FIRST PLACES SHOW IN A ROW
+
+owner-from : (c p : ℕ) (gs : List (List ℕ)) → (owner c p gs ≡ 0) ⊎ (p ≤ owner c p gs)
+unfolding owner
+owner-from c p [] = inl refl
+owner-from c p (g ∷ gs) = go (memb c g) (owner-from c (suc p) gs)
+  where
+    go : (t : Bool) → (owner c (suc p) gs ≡ 0) ⊎ (suc p ≤ owner c (suc p) gs)
+        → (cond t p (owner c (suc p) gs) ≡ 0) ⊎ (p ≤ cond t p (owner c (suc p) gs))
+    go true x = inr (le-refl p)
+    go false (inl e) = inl e
+    go false (inr h) = inr (omega arith)
+
+-- bytes of positions from p + n on, cut off
+cut : ℕ → ℕ → ℕ
+cut k byte = cond (ltb byte k) byte 0
+
+owner-cut : (c n p : ℕ) (gs : List (List ℕ)) → cut (p + n) (owner c p gs) ≡ owner c p (take n gs)
+unfolding owner cut
+owner-cut c zero p gs = ⊎-elim low high (owner-from c p gs)
+  where
+    low : owner c p gs ≡ 0 → cond (ltb (owner c p gs) (p + 0)) (owner c p gs) 0 ≡ 0
+    low e = rw e (go (ltb 0 (p + 0)))
+      where
+        go : (t : Bool) → cond {A = ℕ} t 0 0 ≡ 0
+        go true = refl
+        go false = refl
+
+    high : p ≤ owner c p gs → cond (ltb (owner c p gs) (p + 0)) (owner c p gs) 0 ≡ 0
+    high h = rw (le-ltb (owner c p gs) (p + 0) (omega arith))
+owner-cut c (suc n) p [] = go (ltb 0 (p + suc n))
+  where
+    go : (t : Bool) → cond {A = ℕ} t 0 0 ≡ 0
+    go true = refl
+    go false = refl
+owner-cut c (suc n) p (g ∷ gs) = go (memb c g) (owner-cut c n (suc p) gs)
+  where
+    more : suc p + n ≡ p + suc n
+    more = omega arith
+
+    go : (t : Bool) → cond (ltb (owner c (suc p) gs) (suc p + n)) (owner c (suc p) gs) 0 ≡ owner c (suc p) (take n gs)
+        → cond (ltb (cond t p (owner c (suc p) gs)) (p + suc n)) (cond t p (owner c (suc p) gs)) 0 ≡ cond t p (owner c (suc p) (take n gs))
+    go true ih = rw (lt-ltb p (p + suc n) (omega arith))
+    go false ih = subst (λ (k : ℕ). cond (ltb (owner c (suc p) gs) k) (owner c (suc p) gs) 0 ≡ owner c (suc p) (take n gs)) more ih
+
+upTo-cut : (n byte : ℕ) → upTo n byte ≡ cut (1 + n) byte
+unfolding cut
+upTo-cut n byte = go (leb byte n) refl
+  where
+    go : (t : Bool) → leb byte n ≡ t → cond t byte 0 ≡ cond (ltb byte (1 + n)) byte 0
+    go true e = rw (lt-ltb byte (1 + n) (omega (arith, leb-true byte n e)))
+    go false e = rw (le-ltb byte (1 + n) (omega (arith, leb-false byte n e)))
+
+row-upTo : (n m : ℕ) (gs : List (List ℕ)) → map (upTo n) (row m gs) ≡ row m (take n gs)
+unfolding row
+row-upTo n m gs = each (upFrom 0 m)
+  where
+    each : (cs : List ℕ) → map (upTo n) (map (λ c. owner c 1 gs) cs) ≡ map (λ c. owner c 1 (take n gs)) cs
+    each [] = refl
+    each (c ∷ cs) = ap₂ (λ (x : ℕ) (l : List ℕ). x ∷ l) (upTo-cut n (owner c 1 gs) ∙ owner-cut c n 1 gs) (each cs)
+
+module _ (n : ℕ) (s s′ : Table) (al : Alike n s s′) where
+  same-task : (p : ℕ) → p < n → task s p ≡ task s′ p
+  same-task p l = sym (getD-take n (s .tasks) p nobody l) ∙ (ap (λ (x : List Task). getD x p nobody) (al .tasks) ∙ getD-take n (s′ .tasks) p nobody l)
+
+  same-job-claims : (b b′ : Book) → Agree n b b′ → (p k : ℕ) → p < n → jobClaims s b p k ≡ jobClaims s′ b′ p k
+  same-job-claims b b′ ag p k l = rw (same-task p l, al .rules, ag .ticks, ag .jobs p k l)
+
+  same-claims : (b b′ : Book) → Agree n b b′ → (p : ℕ) → p < n → taskClaims s b p ≡ taskClaims s′ b′ p
+  same-claims b b′ ag p l =
+      same-job-claims b b′ ag p (newest (task s p) (b .tick)) l
+      ∙ rw (same-task p l, ag .ticks)
+
+  same-grants : (b b′ : Book) → Agree n b b′ → take n (grantsOf s b) ≡ take n (grantsOf s′ b′)
+  same-grants b b′ ag =
+      grants-take (s .rule) n (claimants (widths s) (taskClaims s b)) (upFrom 0 (s .cores))
+      ∙ (rw (claimants-cut n (s .tasks) (s′ .tasks) (taskClaims s b) (taskClaims s′ b′) (al .tasks) (same-claims b b′ ag), al .rules, al .cores)
+      (sym (grants-take (s′ .rule) n (claimants (widths s′) (taskClaims s′ b′)) (upFrom 0 (s′ .cores)))))
+
+  same-cores : (b b′ : Book) → Agree n b b′ → (p : ℕ) → p < n → getD (grantsOf s b) p [] ≡ getD (grantsOf s′ b′) p []
+  same-cores b b′ ag p l =
+      sym (getD-take n (grantsOf s b) p [] l)
+      ∙ (ap (λ (x : List (List ℕ)). getD x p []) (same-grants b b′ ag)
+      ∙ getD-take n (grantsOf s′ b′) p [] l)
+
+  shown-alike : (b b′ : Book) → Agree n b b′ → SameCores n s b s′ b′
+  shown-alike b b′ ag = record {
+    lists = same-cores b b′ ag;
+    bytes = row-upTo n (s .cores) (grantsOf s b) ∙ (ap₂ row (al .cores) (same-grants b b′ ag) ∙ sym (row-upTo n (s′ .cores) (grantsOf s′ b′)));
+  }
+
+  same-step : (f g : ℕ → Bool) → ((q : ℕ) → q < n → f q ≡ g q) → (b b′ : Book) → Agree n b b′ → Agree n (step s f b) (step s′ g b′)
+  unfolding step served
+  same-step f g fg b b′ ag = record {
+    ticks = ap suc (ag .ticks);
+    jobs = λ p k l. rw (same-job-claims b b′ ag p k l, same-cores b b′ ag p l, same-task p l, ag .jobs p k l, fg p l);
+  }
+
+  start-agree : Agree n emptyBook emptyBook
+  start-agree = record { ticks = refl; jobs = λ p k l. refl }
+
+  full-agree : (t : ℕ) → Agree n (full s t) (full s′ t)
+  unfolding full
+  full-agree zero = start-agree
+  full-agree (suc t) = same-step none none (λ q l. refl) (full s t) (full s′ t) (full-agree t)
+
+  lists-agree :
+      (xs ys : List ℕ) → SameReports n xs ys → (b b′ : Book) → Agree n b b′
+      → AllTaken s b xs → AllTaken s′ b′ ys → Agree n (bookFrom s b xs) (bookFrom s′ b′ ys)
+  unfolding SameReports bookFrom answersFrom enter
+  lists-agree [] [] r b b′ ag e e′ = ag
+  lists-agree [] (y ∷ ys) r b b′ ag e e′ = absurd r
+  lists-agree (x ∷ xs) [] r b b′ ag e e′ = absurd r
+  lists-agree (x ∷ xs) (y ∷ ys) r b b′ ag e e′ =
+      let h : answer s b x ≡ taken = cc in
+      let h′ : answer s′ b′ y ≡ taken = cc in
+      rw (h, h′)
+      (lists-agree xs ys (r .1) (step s (bit x) b) (step s′ (bit y) b′) (same-step (bit x) (bit y) (r .0) b b′ ag)
+      (rest s b x xs h e) (rest s′ b′ y ys h′ e′))
+    where
+      rest : (s : Table) (b : Book) (x : ℕ) (xs : List ℕ) → answer s b x ≡ taken
+          → answer s b x ∷ answersFrom s (entered (answer s b x) (step s (bit x) b) b) xs ≡ taken ∷ replicate (length xs) taken
+          → AllTaken s (step s (bit x) b) xs
+      rest s b x xs h e = let t : answersFrom s (entered (answer s b x) (step s (bit x) b) b) xs ≡ replicate (length xs) taken = cc in rw h at t
+
+  -- THE THEOREM, for the full-length runs
+  pub local-full : (t : ℕ) → SameCores n s (full s t) s′ (full s′ t)
+  local-full t = shown-alike (full s t) (full s′ t) (full-agree t)
+
+  -- THE THEOREM, for two lists of equal length, all taken, whose report sets agree on positions 1 to n
+  pub local-lists :
+      (xs ys : List ℕ) → SameReports n xs ys → AllTaken s emptyBook xs → AllTaken s′ emptyBook ys
+      → SameCores n s (book s xs) s′ (book s′ ys)
+  local-lists xs ys r e e′ = shown-alike (book s xs) (book s′ ys) (lists-agree xs ys r emptyBook emptyBook start-agree e e′)

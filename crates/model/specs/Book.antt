@@ -1,0 +1,185 @@
+-- The book of a run (scope, section 'The book of a run'): kept from a table and the report sets of a list of advances.
+use mathlib.Core.Bool.{Bool, true, false, not, _&&_, _||_, cond}
+use mathlib.Core.List.{List, [], _∷_, map}
+use mathlib.Core.Path.{_≡_}
+use Prim.Native.Nat.{ℕ, zero, suc, _<_}
+use lib.ListN.{length, getD}
+use lib.Dec.{leb, ltb}
+use Rattle.model.specs.Search.{any, least, bit, upFrom}
+use Rattle.model.specs.Task.{Task, Rule, greedy, limited, idling, Table, task, release, due, newest}
+use Rattle.model.specs.Grants.{claimants, grants, some}
+use Rattle.model.specs.Row.{row}
+
+-- a job's line: the ticks had and the ticks claimed, and whether it has ended
+pub record Job : Type 0 where
+  pub had : ℕ
+  pub claimed : ℕ
+  pub ended : Bool
+
+-- both first 0, and first no
+abbrev pub fresh : Job
+fresh = record { had = 0; claimed = 0; ended = false }
+
+-- the book: the tick, and the line of job k of place p
+pub record Book : Type 0 where
+  pub tick : ℕ
+  pub job : ℕ → ℕ → Job
+
+-- the book of the empty list: tick 0 and every line fresh
+abbrev pub emptyBook : Book
+emptyBook = record { tick = 0; job = λ p k. fresh }
+
+-- THE CLAIMS AND THE ROW OF A TICK
+
+-- rule 3: a job that ended still claims while it has claimed fewer than C ticks
+abbrev pub holds : Rule → Task → Job → Bool
+holds greedy τ j = false
+holds limited τ j = false
+holds idling τ j = ltb (j .claimed) (τ .length)
+
+-- a job released at r claims in tick t if r ≤ t < r + D and either it has not ended or it holds
+unfoldable pub claims : Rule → Task → ℕ → ℕ → Job → Bool
+claims r τ k t j = leb (release τ k) t && ltb t (due τ k) && (not (j .ended) || holds r τ j)
+
+-- job k of place p claims in the book's tick
+abbrev pub jobClaims : Table → Book → ℕ → ℕ → Bool
+jobClaims s b p k = claims (s .rule) (task s p) k (b .tick) (b .job p k)
+
+-- place p has a job that claims in the book's tick (only the newest can, since D ≤ T: `claims-exact`)
+abbrev pub taskClaims : Table → Book → ℕ → Bool
+taskClaims s b p = jobClaims s b p (newest (task s p) (b .tick))
+
+-- the widths of the tasks
+abbrev pub widths : Table → List ℕ
+widths s = map (λ τ. τ .width) (s .tasks)
+
+-- from the claims the table's rule gives the cores of each place ..
+abbrev pub grantsOf : Table → Book → List (List ℕ)
+grantsOf s b = grants (s .rule) (claimants (widths s) (taskClaims s b)) (upFrom 0 (s .cores))
+
+-- .. and so the row
+abbrev pub rowOf : Table → Book → List ℕ
+rowOf s b = row (s .cores) (grantsOf s b)
+
+-- place p is in the row
+abbrev pub inRow : Table → Book → ℕ → Bool
+inRow s b p = some (getD (grantsOf s b) p [])
+
+-- job k of place p is in the row
+unfoldable pub served : Table → Book → ℕ → ℕ → Bool
+served s b p k = jobClaims s b p k && inRow s b p
+
+-- AN ADVANCE THAT IS TAKEN
+
+-- a job in the row has claimed one tick more and, if not ended, has had one more; such a job ends if its bit is set or it has had C
+unfoldable pub work : ℕ → Bool → Job → Job
+work C report j =
+    cond (j .ended)
+    (record { had = j .had; claimed = suc (j .claimed); ended = true })
+    (record { had = suc (j .had); claimed = suc (j .claimed); ended = report || leb C (suc (j .had)) })
+
+-- one advance with the reports f, entered without asking whether it is refused; t goes up by one
+unfoldable pub step : Table → (ℕ → Bool) → Book → Book
+step s f b = record {
+  tick = suc (b .tick);
+  job = λ p k. cond (served s b p k) (work (task s p .length) (f p) (b .job p k)) (b .job p k);
+}
+
+-- REFUSALS
+
+-- place p of the table has a job with r + D at or before t that has not ended (such a job has a number up to t: `late-exact`)
+unfoldable pub late : Table → Book → ℕ → Bool
+late s b p = any (suc (b .tick)) (λ k. leb (due (task s p) k) (b .tick) && not (b .job p k .ended))
+
+-- the lowest late place, or the number of places where none is late
+abbrev pub firstLate : Table → Book → ℕ
+firstLate s b = least (length (s .tasks)) (late s b)
+
+-- a bit may be set for a position in the row whose claiming job has not ended
+unfoldable pub reportable : Table → Book → ℕ → Bool
+reportable s b p = inRow s b p && not (b .job p (newest (task s p) (b .tick)) .ended)
+
+-- some bit of the report set is set for anything else (a set x has no bit from x up: `misreported-exact`)
+unfoldable pub misreported : Table → Book → ℕ → Bool
+misreported s b x = any x (λ p. bit x p && not (reportable s b p))
+
+-- what an advance is answered: taken, or refused with number and position
+pub data Answer : Type 0 where
+  taken : Answer
+  refused : ℕ → ℕ → Answer
+
+-- 15 with the lowest late position; else 16 with position 0; else taken
+unfoldable pub answer : Table → Book → ℕ → Answer
+answer s b x =
+    cond (ltb (firstLate s b) (length (s .tasks)))
+    (refused 15 (suc (firstLate s b)))
+    (cond (misreported s b x) (refused 16 0) taken)
+
+-- what a row asked is answered: the row, or refused with number and position
+pub data Asked : Type 0 where
+  shown : List ℕ → Asked
+  rowRefused : ℕ → ℕ → Asked
+
+-- 15 with the lowest late position; else the row; nothing changes in the book
+unfoldable pub asked : Table → Book → Asked
+asked s b = cond (ltb (firstLate s b) (length (s .tasks))) (rowRefused 15 (suc (firstLate s b))) (shown (rowOf s b))
+
+-- THE BOOK OF A LIST
+
+-- a refused advance changes nothing in the book
+abbrev pub entered : Answer → Book → Book → Book
+entered taken new old = new
+entered (refused n p) new old = old
+
+-- the book after an advance with report set x, taken or refused
+unfoldable pub enter : Table → ℕ → Book → Book
+enter s x b = entered (answer s b x) (step s (bit x) b) b
+
+-- the book of a list of report sets, from book b on
+unfoldable pub bookFrom : Table → Book → List ℕ → Book
+bookFrom s b [] = b
+bookFrom s b (x ∷ xs) = bookFrom s (enter s x b) xs
+
+-- the book of a list
+abbrev pub book : Table → List ℕ → Book
+book s xs = bookFrom s emptyBook xs
+
+-- the answer to each advance of the list
+unfoldable pub answersFrom : Table → Book → List ℕ → List Answer
+answersFrom s b [] = []
+answersFrom s b (x ∷ xs) = answer s b x ∷ answersFrom s (enter s x b) xs
+
+-- how many of these answers were not refusals: the list's tick (`tick-taken`)
+unfoldable pub takenIn : List Answer → ℕ
+takenIn [] = 0
+takenIn (taken ∷ ws) = suc (takenIn ws)
+takenIn (refused n p ∷ ws) = takenIn ws
+
+-- the row asked before each advance of the list, and after the last
+unfoldable pub rowsFrom : Table → Book → List ℕ → List Asked
+rowsFrom s b [] = asked s b ∷ []
+rowsFrom s b (x ∷ xs) = asked s b ∷ rowsFrom s (enter s x b) xs
+
+-- THE FULL-LENGTH RUN
+
+-- no report
+abbrev pub none : ℕ → Bool
+none p = false
+
+-- the full-length run at tick n: every advance is entered with no report, past a miss too.
+-- It is the scope's, the book of n empty report sets, up to the first miss (`full-length`)
+unfoldable pub full : Table → ℕ → Book
+full s zero = emptyBook
+full s (suc n) = step s none (full s n)
+
+-- place p of the table misses a deadline in book b: some job with r + D at the book's tick has not ended
+abbrev pub Misses : Table → Book → ℕ → Type 0
+Misses s b p = (p < length (s .tasks)) × ((k : ℕ) × (due (task s p) k ≡ b .tick) × (b .job p k .ended ≡ false))
+
+-- place p misses a deadline at tick t of the full-length run, which goes on past a miss; up to the first miss it is the scope's
+abbrev pub Missed : Table → ℕ → ℕ → Type 0
+Missed s p t = Misses s (full s t) p
+
+-- no deadline of the full-length run is missed at any tick (`never-missed-exact` says so of the books of empty report sets)
+abbrev pub NeverMissed : Table → Type 0
+NeverMissed s = (p t : ℕ) → ¬ Missed s p t

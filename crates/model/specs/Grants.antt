@@ -1,0 +1,50 @@
+-- Who runs in a tick, from who claims (scope, section 'Who runs in a tick'; 001, definitions 5 and 18). Idling chooses as greedy does; its claims are in Book.antt.
+use mathlib.Core.Bool.{Bool, true, false, _&&_, cond}
+use mathlib.Core.List.{List, [], _∷_}
+use Prim.Native.Nat.{ℕ, suc}
+use lib.ListN.{length, take, drop}
+use lib.Dec.{leb}
+use Rattle.model.specs.Task.{Rule, greedy, limited, idling}
+
+-- what a task brings to a tick: whether it has a job that claims, and its width
+pub record Claimant : Type 0 where
+  pub claims : Bool
+  pub width : ℕ
+
+-- the tasks of these widths, in priority order; c says of each place whether it claims
+unfoldable pub claimants : List ℕ → (ℕ → Bool) → List Claimant
+claimants [] c = []
+claimants (w ∷ ws) c = record { claims = c 0; width = w } ∷ claimants ws (λ p. c (suc p))
+
+-- a task claims, and its width fits in the free cores
+abbrev pub fits : Claimant → List ℕ → Bool
+fits b free = b .claims && leb (b .width) (length free)
+
+-- limited: the first task that doesn't fit ends the tick's choosing; greedy and idling pass over it
+abbrev pub endsChoosing : Rule → Bool
+endsChoosing greedy = false
+endsChoosing limited = true
+endsChoosing idling = false
+
+-- the cores that a task is given, of the free ones in ascending order: the lowest-numbered, or none
+unfoldable pub given : Claimant → List ℕ → List ℕ
+given b free = cond (fits b free) (take (b .width) free) []
+
+-- the free cores that are left for the tasks below a task; none where it ends the choosing
+unfoldable pub left : Rule → Claimant → List ℕ → List ℕ
+left r b free = cond (fits b free) (drop (b .width) free) (cond (b .claims && endsChoosing r) [] free)
+
+-- the cores of each task: the tasks are taken in priority order
+unfoldable pub grants : Rule → List Claimant → List ℕ → List (List ℕ)
+grants r [] free = []
+grants r (b ∷ bs) free = given b free ∷ grants r bs (left r b free)
+
+-- the free cores that are still open to choosing after all of them
+unfoldable pub remaining : Rule → List Claimant → List ℕ → List ℕ
+remaining r [] free = free
+remaining r (b ∷ bs) free = remaining r bs (left r b free)
+
+-- a task is given cores: its list is not empty
+abbrev pub some : List ℕ → Bool
+some [] = false
+some (c ∷ cs) = true

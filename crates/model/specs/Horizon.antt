@@ -1,0 +1,33 @@
+-- How far the judge looks (scope, 'Look-ahead and verdict'; 001, theorem 25): S, P and the horizon.
+use mathlib.Core.List.{List, [], _∷_}
+use Prim.Native.Nat.{ℕ, zero, suc, _+_, _*_, _-_, _/_, _%_}
+use lib.ListN.{length, getD}
+use lib.Dec.{eqb}
+use Rattle.model.specs.Search.{least}
+use Rattle.model.specs.Task.{Task, Table, nobody}
+
+-- O, or if larger, the first release of a task not before t (`release-from`, `release-first`)
+abbrev pub releaseFrom : Task → ℕ → ℕ
+releaseFrom τ t = τ .offset + (t - τ .offset + (τ .period - 1)) / τ .period * τ .period
+
+-- S of position 1 is its O; S of a later position is its O, or if larger, its first release not before the previous S
+unfoldable pub S : List Task → ℕ → ℕ
+S τs zero = getD τs 0 nobody .offset
+S τs (suc p) = releaseFrom (getD τs (suc p) nobody) (S τs p)
+
+-- the last S
+abbrev pub lastS : List Task → ℕ
+lastS τs = S τs (length τs - 1)
+
+-- the least common multiple of a and b, both positive: the least multiple of b from b up that a divides, found within a tries
+unfoldable pub lcm : ℕ → ℕ → ℕ
+lcm a b = suc (least a (λ k. eqb (suc k * b % a) 0)) * b
+
+-- P, the hyperperiod: the least common multiple of the periods (`hyperperiod-least`)
+unfoldable pub hyperperiod : List Task → ℕ
+hyperperiod [] = 1
+hyperperiod (τ ∷ τs) = lcm (τ .period) (hyperperiod τs)
+
+-- the last S plus P
+unfoldable pub horizon : Table → ℕ
+horizon s = lastS (s .tasks) + hyperperiod (s .tasks)

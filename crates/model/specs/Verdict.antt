@@ -1,0 +1,59 @@
+-- The verdict on a table that numbers 1 to 9 do not turn down (scope, 'Look-ahead and verdict').
+use mathlib.Core.Path.{_≡_}
+use mathlib.Core.Bool.{Bool, true, not, _&&_, cond}
+use mathlib.Core.List.{List, [], _∷_}
+use mathlib.Core.Logic.{_⊎_}
+use Prim.Native.Nat.{ℕ, suc, _≤_, _<_}
+use lib.ListN.{length, getD}
+use lib.Dec.{leb, eqb}
+use Rattle.model.specs.Search.{any, least}
+use Rattle.model.specs.Task.{Task, Rule, greedy, limited, idling, Table, task, nobody, due}
+use Rattle.model.specs.Book.{full}
+use Rattle.model.specs.Horizon.{lastS, hyperperiod, horizon}
+
+-- widths never fall along the chain: the test (`firm-exact`)
+unfoldable pub rising : List Task → Bool
+rising [] = true
+rising (τ ∷ []) = true
+rising (τ ∷ τ′ ∷ τs) = leb (τ .width) (τ′ .width) && rising (τ′ ∷ τs)
+
+-- each width is at most the next
+abbrev pub Rising : List Task → Type 0
+Rising τs = (p : ℕ) → suc p < length τs → getD τs p nobody .width ≤ getD τs (suc p) nobody .width
+
+-- firm is for rules 2 and 3, and for rule 1 where widths never fall: the test (`firm-exact`)
+unfoldable pub firm : Rule → List Task → Bool
+firm greedy τs = rising τs
+firm limited τs = true
+firm idling τs = true
+
+-- the rule is 2 or 3, or it is 1 and widths never fall
+abbrev pub FirmRule : Table → Type 0
+FirmRule s = (s .rule ≡ limited) ⊎ ((s .rule ≡ idling) ⊎ ((s .rule ≡ greedy) × Rising (s .tasks)))
+
+-- place p of the table misses a deadline at tick t of the full-length run (a job due at t has a number up to t: `missed-exact`)
+unfoldable pub missedAt : Table → ℕ → ℕ → Bool
+missedAt s t p = any (suc t) (λ k. eqb (due (task s p) k) t && not (full s t .job p k .ended))
+
+-- some place does
+unfoldable pub missedIn : Table → ℕ → Bool
+missedIn s t = any (length (s .tasks)) (missedAt s t)
+
+-- Firm with S and P, Full with S and P, Miss with tick and position; the fourth answer, Refused, is for words that numbers 1 to 9 turn down
+pub data Verdict : Type 0 where
+  Firm : ℕ → ℕ → Verdict
+  Full : ℕ → ℕ → Verdict
+  Miss : ℕ → ℕ → Verdict
+
+-- the first tick with a miss, up to and including the horizon
+unfoldable pub firstMiss : Table → ℕ
+firstMiss s = least (suc (horizon s)) (missedIn s)
+
+-- the first miss up to and including the horizon, at equal ticks the first task in priority; else firm or full
+unfoldable pub verdict : Table → Verdict
+verdict s =
+    cond (any (suc (horizon s)) (missedIn s))
+    (Miss (firstMiss s) (suc (least (length (s .tasks)) (missedAt s (firstMiss s)))))
+    (cond (firm (s .rule) (s .tasks))
+    (Firm (lastS (s .tasks)) (hyperperiod (s .tasks)))
+    (Full (lastS (s .tasks)) (hyperperiod (s .tasks))))
