@@ -1,6 +1,4 @@
 -- The definitions say what the scope says: one claim a task loses nothing, the bounded searches miss nothing, S and P are what they are called.
--- CLAIMS
--- only the newest job of a task claims ..
 use mathlib.Core.Bool.{_&&_, Bool, false, not, true, true≢false}
 use mathlib.Core.List.{List, [], _∷_}
 use mathlib.Core.Logic.{_↔_}
@@ -18,11 +16,14 @@ use Rattle.model.proofs.Runs.{full-tick, missed-at}
 use Rattle.model.proofs.Search.{any-of, any-some, bit-high}
 use Rattle.model.proofs.Starts.{S-release, hyperperiod-divides, hyperperiod-least, release-first, release-from}
 use Rattle.model.specs.Book.{Answer, Book, Job, Missed, answer, answersFrom, book, bookFrom, claims, emptyBook, enter, entered, full, jobClaims, late, misreported, refused, reportable, step, taken, takenIn, taskClaims}
-use Rattle.model.specs.Horizon.{S, hyperperiod, releaseFrom}
+use Rattle.model.specs.Horizon.{Later, S, hyperperiod, releaseFrom}
 use Rattle.model.specs.Search.{bit}
 use Rattle.model.specs.Task.{AllSound, Rule, Sound, Table, Task, due, newest, release, task}
 use Rattle.model.specs.Verdict.{missedAt, missedIn}
 
+-- CLAIMS
+
+-- only the newest job of a task claims ..
 pub only-newest :
     (s : Table) → AllSound s → (b : Book) (p k : ℕ) → p < length (s .tasks) → jobClaims s b p k ≡ true → newest (task s p) (b .tick) ≡ k
 only-newest s ok b p k l c =
@@ -129,13 +130,6 @@ tick-taken s xs = tick-from s xs emptyBook ∙ zero-add (takenIn (answersFrom s 
 pub S-first : (s : Table) → S (s .tasks) 0 ≡ task s 0 .offset
 unfolding S
 S-first s = refl
-
--- S of a later position is its first release not before the previous S; where O is not before that, the first release is O
-pub record Later (τ : Task) (before here : ℕ) : Type 0 where
-  pub released : (k : ℕ) × (here ≡ release τ k)
-  pub not-before : before ≤ here
-  pub first : (k : ℕ) → before ≤ release τ k → here ≤ release τ k
-  pub offset : before ≤ τ .offset → here ≡ τ .offset
 
 pub S-later : (s : Table) → AllSound s → (p : ℕ) → suc p < length (s .tasks) → Later (task s (suc p)) (S (s .tasks) p) (S (s .tasks) (suc p))
 unfolding S

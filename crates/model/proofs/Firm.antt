@@ -1,38 +1,23 @@
 -- The firm rules keep their promise for shorter jobs: what holds of every list of advances on a firm table, refused ones included.
 use mathlib.Core.Bool.{Bool, cond, false, true, true≢false}
-use mathlib.Core.List.{_++_, List}
+use mathlib.Core.List.{List}
 use mathlib.Core.Path.{ap, refl, subst, sym, _∙_, _≡_}
 use Prim.Native.Nat.{_<_, ℕ, _≤_}
 use native.Mathlib.Nat.{le-dest, le-of-eq}
 use native.Mathlib.Omega.{arith}
 use lib.Dec.{ltb}
-use lib.ListN.{length, replicate}
+use lib.ListN.{length}
 use borrow.Author.Tests.{ltb-true}
 use Rattle.model.proofs.Bools.{not-false-true, not-true-false}
 use Rattle.model.proofs.FullLength.{full-length, late-job}
-use Rattle.model.proofs.Jobs.{abreast}
 use Rattle.model.proofs.Runs.{full-stays, missed-at}
 use Rattle.model.proofs.Search.{least-found}
 use Rattle.model.proofs.Sustain.{abreast-lists, finished}
 use Rattle.model.proofs.Verdict.{verdict-exact}
-use Rattle.model.specs.Book.{Answer, Asked, Book, Misses, NeverMissed, answer, asked, book, firstLate, full, late, misreported, refused, rowRefused, shown, taken}
-use Rattle.model.specs.Compare.{NoneBehind, NoneLonger}
+use Rattle.model.specs.Book.{Answer, Asked, Book, NeverMissed, answer, asked, book, firstLate, full, late, misreported, refused, rowRefused, shown, taken}
+use Rattle.model.specs.Kept.{Kept}
 use Rattle.model.specs.Task.{AllSound, Table, due, task}
 use Rattle.model.specs.Verdict.{Firm, FirmRule, verdict}
-
--- what is claimed of a list xs of report sets
-pub record Kept (s : Table) (xs : List ℕ) : Type 0 where
-  -- of two lists at one tick, if no job is longer in the first, the first is behind on no job
-  pub abreast : (ys : List ℕ) → book s xs .tick ≡ book s ys .tick → NoneLonger s (book s xs) (book s ys) → NoneBehind s (book s xs) (book s ys)
-  -- every job that the full-length run, the book of empty report sets, has finished by the same tick is finished
-  pub finished :
-      (p k : ℕ) → p < length (s .tasks)
-      → book s (replicate (book s xs .tick) 0) .job p k .ended ≡ true → book s xs .job p k .ended ≡ true
-  -- no deadline is missed, in any prefix of the list
-  pub met : (ys zs : List ℕ) → xs ≡ ys ++ zs → (p : ℕ) → ¬ Misses s (book s ys) p
-  -- 15 is never answered, to an advance or to a row asked
-  pub never-15 : (x p : ℕ) → ¬ (answer s (book s xs) x ≡ refused 15 p)
-  pub never-15-row : (p : ℕ) → ¬ (asked s (book s xs) ≡ rowRefused 15 p)
 
 module _ (s : Table) (ok : AllSound s) (firmly : FirmRule s) (accepted : NeverMissed s) where
   -- a job that is due has ended

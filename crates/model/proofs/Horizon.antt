@@ -1,5 +1,4 @@
 -- THE HORIZON IS ENOUGH: from S of a place on, its full-length run repeats with P, whether deadlines are met or not.
--- claims at a tick and P later are the same
 use mathlib.Core.Bool.{Bool, false, true, true≢false}
 use mathlib.Core.List.{List, []}
 use mathlib.Core.Logic.{⊎-elim}
@@ -22,6 +21,7 @@ use Rattle.model.specs.Horizon.{S, horizon, hyperperiod}
 use Rattle.model.specs.Search.{upFrom}
 use Rattle.model.specs.Task.{AllSound, Rule, Table, Task, due, newest, release, task}
 
+-- claims at a tick and P later are the same
 claims-shift :
     (r : Rule) (τ : Task) (k m t P : ℕ) (j : Job) → P ≡ m * τ .period → claims r τ k t j ≡ claims r τ (k + m) (t + P) j
 claims-shift r τ k m t P j e = same-test (claims r τ k t j) (claims r τ (k + m) (t + P) j) later sooner

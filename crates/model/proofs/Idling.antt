@@ -1,5 +1,4 @@
 -- Idling: at full length it gives the rows of greedy, and whatever is reported it gives the rows of its full-length run.
--- the rules choose alike
 use mathlib.Core.Bool.{Bool, cond, false, true}
 use mathlib.Core.List.{List, [], _∷_}
 use mathlib.Core.Logic.{inl, inr}
@@ -19,6 +18,7 @@ use Rattle.model.specs.Row.{row}
 use Rattle.model.specs.Search.{upFrom}
 use Rattle.model.specs.Task.{AllSound, Rule, Table, Task, greedy, idling, newest, task}
 
+-- the rules choose alike
 choose-alike : (bs : List Claimant) (F : List ℕ) → grants idling bs F ≡ grants greedy bs F
 unfolding grants left
 choose-alike [] F = refl

@@ -1,5 +1,4 @@
 -- No task changes the core of a task above it: what stands below position n changes nothing for positions 1 to n.
--- two tables that differ only below position n: the same rule and cores, and the same first n tasks
 use mathlib.Core.Bool.{Bool, cond, false, true}
 use mathlib.Core.List.{List, [], map, _∷_}
 use mathlib.Core.Logic.{inl, inr, _⊎_, ⊎-elim}
@@ -13,36 +12,12 @@ use lib.Pow.{high}
 use lib.Seq.{getD-take}
 use borrow.Author.Tests.{le-ltb, leb-false, leb-true, lt-ltb}
 use Rattle.model.proofs.Grants.{claimants-take, grants-take}
-use Rattle.model.specs.Book.{Book, answer, answersFrom, book, bookFrom, emptyBook, enter, entered, full, grantsOf, jobClaims, none, rowOf, served, step, taken, taskClaims, widths}
+use Rattle.model.specs.Book.{Book, answer, answersFrom, book, bookFrom, emptyBook, enter, entered, full, grantsOf, jobClaims, none, served, step, taken, taskClaims, widths}
 use Rattle.model.specs.Grants.{claimants}
+use Rattle.model.specs.Local.{Alike, AllTaken, SameCores, SameReports, upTo}
 use Rattle.model.specs.Row.{owner, row}
 use Rattle.model.specs.Search.{bit, memb, upFrom}
 use Rattle.model.specs.Task.{Table, Task, newest, nobody, task}
-
-pub record Alike (n : ℕ) (s s′ : Table) : Type 0 where
-  pub rules : s .rule ≡ s′ .rule
-  pub cores : s .cores ≡ s′ .cores
-  pub tasks : take n (s .tasks) ≡ take n (s′ .tasks)
-
--- two lists of report sets of equal length that agree on positions 1 to n
-unfoldable pub SameReports : ℕ → List ℕ → List ℕ → Type 0
-SameReports n [] [] = Unit {0}
-SameReports n [] (y ∷ ys) = ⊥
-SameReports n (x ∷ xs) [] = ⊥
-SameReports n (x ∷ xs) (y ∷ ys) = ((q : ℕ) → q < n → bit x q ≡ bit y q) × SameReports n xs ys
-
--- every advance of the list is taken
-abbrev pub AllTaken : Table → Book → List ℕ → Type 0
-AllTaken s b xs = answersFrom s b xs ≡ replicate (length xs) taken
-
--- a row as positions 1 to n see it: the bytes of positions below them read 0
-abbrev pub upTo : ℕ → ℕ → ℕ
-upTo n byte = cond (leb byte n) byte 0
-
--- positions 1 to n have the same cores in the rows of two books: as lists of cores, and as bytes
-pub record SameCores (n : ℕ) (s : Table) (b : Book) (s′ : Table) (b′ : Book) : Type 0 where
-  pub lists : (p : ℕ) → p < n → getD (grantsOf s b) p [] ≡ getD (grantsOf s′ b′) p []
-  pub bytes : map (upTo n) (rowOf s b) ≡ map (upTo n) (rowOf s′ b′)
 
 -- two books with the same tick and the same jobs of the first n places
 pub record Agree (n : ℕ) (b b′ : Book) : Type 0 where

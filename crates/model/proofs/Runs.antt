@@ -1,5 +1,4 @@
 -- Books as runs of advances that are all entered: their ticks, what holds of every line, and the book of a list as such a run.
--- the book after advances with these reports, each entered whatever it says
 use mathlib.Core.Bool.{Bool, false, false≢true, true}
 use mathlib.Core.List.{List, [], _∷_}
 use mathlib.Core.Path.{ap, refl, sym, _∙_, _≡_}
@@ -13,6 +12,7 @@ use Rattle.model.specs.Book.{Answer, Book, Missed, answer, book, bookFro
 use Rattle.model.specs.Search.{bit}
 use Rattle.model.specs.Task.{AllSound, Table, due, release, task}
 
+-- the book after advances with these reports, each entered whatever it says
 unfoldable pub run : Table → Book → List (ℕ → Bool) → Book
 run s b [] = b
 run s b (f ∷ fs) = run s (step s f b) fs

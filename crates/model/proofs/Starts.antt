@@ -1,5 +1,4 @@
 -- S and P: each S is a release, the S never fall, and P is the least common multiple of the periods.
--- every period is positive
 use mathlib.Core.Bool.{Bool, true, true≢false}
 use mathlib.Core.List.{List, [], _∷_}
 use mathlib.Core.Logic.{⊎-elim}
@@ -15,6 +14,7 @@ use Rattle.model.specs.Horizon.{S, hyperperiod, lastS, lcm, releaseFrom}
 use Rattle.model.specs.Search.{least}
 use Rattle.model.specs.Task.{Task, nobody, release}
 
+-- every period is positive
 abbrev pub Periods : List Task → Type 0
 Periods τs = (p : ℕ) → p < length τs → 0 < getD τs p nobody .period
 

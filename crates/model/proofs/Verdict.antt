@@ -1,5 +1,4 @@
 -- The verdict means what it says, both ways: what is accepted never misses, at any tick; a miss is the first.
--- (t, p) is the first miss: the deadline of position p is missed at t, none at an earlier tick, and at t none of a position above p
 use mathlib.Core.Bool.{Bool, cond, false, true, true≢false}
 use mathlib.Core.List.{List, [], _∷_}
 use mathlib.Core.Logic.{inl, inr, _↔_, _⊎_}
@@ -15,27 +14,11 @@ use Rattle.model.proofs.Faithful.{missed-exact, missed-in-exact}
 use Rattle.model.proofs.FullLength.{full-length}
 use Rattle.model.proofs.Horizon.{horizon-enough}
 use Rattle.model.proofs.Search.{any-of, least-any, least-below, least-lowest}
-use Rattle.model.specs.Book.{Missed, NeverMissed, book, full}
+use Rattle.model.specs.Book.{NeverMissed, book, full}
 use Rattle.model.specs.Horizon.{horizon, hyperperiod, lastS}
 use Rattle.model.specs.Search.{any, least}
 use Rattle.model.specs.Task.{AllSound, Rule, Table, Task, greedy, idling, limited}
-use Rattle.model.specs.Verdict.{Firm, FirmRule, Full, Miss, Rising, Verdict, firm, firstMiss, missedAt, missedIn, rising, verdict}
-
-pub record FirstMiss (s : Table) (t p : ℕ) : Type 0 where
-  pub place : (q : ℕ) × (p ≡ suc q)
-  pub missed : Missed s (place .0) t
-  pub no-earlier : (q u : ℕ) → u < t → ¬ Missed s q u
-  pub no-higher : (q : ℕ) → q < place .0 → ¬ Missed s q t
-
--- what a verdict v on table s says
-pub record Exact (s : Table) (v : Verdict) : Type 0 where
-  -- Firm or Full exactly if no deadline is missed at any tick
-  pub accepted : ((a b : ℕ) × ((v ≡ Firm a b) ⊎ (v ≡ Full a b))) ↔ NeverMissed s
-  -- Miss t p exactly if (t, p) is the first miss
-  pub miss : (t p : ℕ) → (v ≡ Miss t p) ↔ FirstMiss s t p
-  -- Firm exactly under the condition on rule and widths, and Full exactly where it fails; with S and P
-  pub firm : (a b : ℕ) → (v ≡ Firm a b) ↔ (NeverMissed s × FirmRule s × (a ≡ lastS (s .tasks)) × (b ≡ hyperperiod (s .tasks)))
-  pub full : (a b : ℕ) → (v ≡ Full a b) ↔ (NeverMissed s × (¬ FirmRule s) × (a ≡ lastS (s .tasks)) × (b ≡ hyperperiod (s .tasks)))
+use Rattle.model.specs.Verdict.{Exact, Firm, FirmRule, FirstMiss, Full, Miss, Rising, firm, firstMiss, missedAt, missedIn, rising, verdict}
 
 -- THE CONDITION ON RULE AND WIDTHS
 

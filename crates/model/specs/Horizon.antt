@@ -1,10 +1,11 @@
 -- How far the judge looks (scope, 'Look-ahead and verdict'; 001, theorem 25): S, P and the horizon.
 use mathlib.Core.List.{List, [], _∷_}
-use Prim.Native.Nat.{ℕ, zero, suc, _+_, _*_, _-_, _/_, _%_}
-use lib.ListN.{length, getD}
+use mathlib.Core.Path.{_≡_}
+use Prim.Native.Nat.{_%_, _*_, _+_, _-_, _/_, suc, zero, ℕ, _≤_}
 use lib.Dec.{eqb}
+use lib.ListN.{getD, length}
 use Rattle.model.specs.Search.{least}
-use Rattle.model.specs.Task.{Task, Table, nobody}
+use Rattle.model.specs.Task.{Table, Task, nobody, release}
 
 -- O, or if larger, the first release of a task not before t (`release-from`, `release-first`)
 abbrev pub releaseFrom : Task → ℕ → ℕ
@@ -31,3 +32,10 @@ hyperperiod (τ ∷ τs) = lcm (τ .period) (hyperperiod τs)
 -- the last S plus P
 unfoldable pub horizon : Table → ℕ
 horizon s = lastS (s .tasks) + hyperperiod (s .tasks)
+
+-- S of a later position, `here`, is its first release not before the previous S; where O is not before that, it is O (`S-later`)
+pub record Later (τ : Task) (before here : ℕ) : Type 0 where
+  pub released : (k : ℕ) × (here ≡ release τ k)
+  pub not-before : before ≤ here
+  pub first : (k : ℕ) → before ≤ release τ k → here ≤ release τ k
+  pub offset : before ≤ τ .offset → here ≡ τ .offset

@@ -6,3 +6,5 @@ pub mod Book
 pub mod Compare
 pub mod Horizon
 pub mod Verdict
+pub mod Kept
+pub mod Local

@@ -1,15 +1,15 @@
 -- The verdict on a table that numbers 1 to 9 do not turn down (scope, 'Look-ahead and verdict').
-use mathlib.Core.Path.{_≡_}
-use mathlib.Core.Bool.{Bool, true, not, _&&_, cond}
+use mathlib.Core.Bool.{_&&_, Bool, cond, not, true}
 use mathlib.Core.List.{List, [], _∷_}
-use mathlib.Core.Logic.{_⊎_}
-use Prim.Native.Nat.{ℕ, suc, _≤_, _<_}
-use lib.ListN.{length, getD}
-use lib.Dec.{leb, eqb}
+use mathlib.Core.Logic.{_↔_, _⊎_}
+use mathlib.Core.Path.{_≡_}
+use Prim.Native.Nat.{_<_, suc, ℕ, _≤_}
+use lib.Dec.{eqb, leb}
+use lib.ListN.{getD, length}
+use Rattle.model.specs.Book.{Missed, NeverMissed, full}
+use Rattle.model.specs.Horizon.{horizon, hyperperiod, lastS}
 use Rattle.model.specs.Search.{any, least}
-use Rattle.model.specs.Task.{Task, Rule, greedy, limited, idling, Table, task, nobody, due}
-use Rattle.model.specs.Book.{full}
-use Rattle.model.specs.Horizon.{lastS, hyperperiod, horizon}
+use Rattle.model.specs.Task.{Rule, Table, Task, due, greedy, idling, limited, nobody, task}
 
 -- widths never fall along the chain: the test (`firm-exact`)
 unfoldable pub rising : List Task → Bool
@@ -57,3 +57,20 @@ verdict s =
     (cond (firm (s .rule) (s .tasks))
     (Firm (lastS (s .tasks)) (hyperperiod (s .tasks)))
     (Full (lastS (s .tasks)) (hyperperiod (s .tasks))))
+
+-- (t, p) is the first miss: the deadline of position p is missed at t, none at an earlier tick, and at t none of a position above p
+pub record FirstMiss (s : Table) (t p : ℕ) : Type 0 where
+  pub place : (q : ℕ) × (p ≡ suc q)
+  pub missed : Missed s (place .0) t
+  pub no-earlier : (q u : ℕ) → u < t → ¬ Missed s q u
+  pub no-higher : (q : ℕ) → q < place .0 → ¬ Missed s q t
+
+-- what is claimed of a verdict v on table s (`verdict-exact` shows it of the verdict)
+pub record Exact (s : Table) (v : Verdict) : Type 0 where
+  -- Firm or Full exactly if no deadline is missed at any tick
+  pub accepted : ((a b : ℕ) × ((v ≡ Firm a b) ⊎ (v ≡ Full a b))) ↔ NeverMissed s
+  -- Miss t p exactly if (t, p) is the first miss
+  pub miss : (t p : ℕ) → (v ≡ Miss t p) ↔ FirstMiss s t p
+  -- Firm exactly under the condition on rule and widths, and Full exactly where it fails; with S and P
+  pub firm : (a b : ℕ) → (v ≡ Firm a b) ↔ (NeverMissed s × FirmRule s × (a ≡ lastS (s .tasks)) × (b ≡ hyperperiod (s .tasks)))
+  pub full : (a b : ℕ) → (v ≡ Full a b) ↔ (NeverMissed s × (¬ FirmRule s) × (a ≡ lastS (s .tasks)) × (b ≡ hyperperiod (s .tasks)))

@@ -1,0 +1,23 @@
+-- What a firm table keeps for every list of advances, refused ones included (demand 3, on the side of the book). `firm-kept` shows it.
+use mathlib.Core.Bool.{true}
+use mathlib.Core.List.{_++_, List}
+use mathlib.Core.Path.{_≡_}
+use Prim.Native.Nat.{_<_, ℕ}
+use lib.ListN.{length, replicate}
+use Rattle.model.specs.Book.{Misses, answer, asked, book, refused, rowRefused}
+use Rattle.model.specs.Compare.{NoneBehind, NoneLonger}
+use Rattle.model.specs.Task.{Table}
+
+-- what is claimed of a list xs of report sets
+pub record Kept (s : Table) (xs : List ℕ) : Type 0 where
+  -- of two lists at one tick, if no job is longer in the first, the first is behind on no job
+  pub abreast : (ys : List ℕ) → book s xs .tick ≡ book s ys .tick → NoneLonger s (book s xs) (book s ys) → NoneBehind s (book s xs) (book s ys)
+  -- every job that the full-length run, the book of empty report sets, has finished by the same tick is finished
+  pub finished :
+      (p k : ℕ) → p < length (s .tasks)
+      → book s (replicate (book s xs .tick) 0) .job p k .ended ≡ true → book s xs .job p k .ended ≡ true
+  -- no deadline is missed, in any prefix of the list
+  pub met : (ys zs : List ℕ) → xs ≡ ys ++ zs → (p : ℕ) → ¬ Misses s (book s ys) p
+  -- 15 is never answered, to an advance or to a row asked
+  pub never-15 : (x p : ℕ) → ¬ (answer s (book s xs) x ≡ refused 15 p)
+  pub never-15-row : (p : ℕ) → ¬ (asked s (book s xs) ≡ rowRefused 15 p)
