@@ -2,17 +2,17 @@
 use mathlib.Core.Bool.{_&&_, Bool, false, not, true, true≢false}
 use mathlib.Core.Logic.{_↔_, ⊎-elim}
 use mathlib.Core.Path.{ap, fun-ext, refl, subst, sym, _∙_, _≡_}
-use Prim.Native.Nat.{_+_, _<_, _^_, suc, zero, ℕ, _≤_}
-use native.Mathlib.Nat.{add-zero, eq-or-lt-of-le, le-dest, le-of-eq, le-of-suc-le-suc, not-suc-le-zero, zero-add, zero-div}
+use Prim.Native.Nat.{_+_, _<_, suc, zero, ℕ, _≤_}
+use native.Mathlib.Nat.{add-zero, eq-or-lt-of-le, le-dest, le-of-eq, le-of-suc-le-suc, not-suc-le-zero, zero-add}
 use native.Mathlib.Omega.{arith}
 use lib.Dec.{leb, ltb}
 use lib.ListN.{length, replicate}
 use borrow.Author.Tests.{le-ltb, leb-true, not-true}
 use Rattle.model.proofs.Bools.{and-left, and-right, not-true-false}
 use Rattle.model.proofs.Runs.{full-stays, full-tick, missed-at}
-use Rattle.model.proofs.Search.{any-some, least-none, none-any}
+use Rattle.model.proofs.Search.{any-some, bit-none, least-none, none-any}
 use Rattle.model.specs.Book.{Book, Missed, Misses, NeverMissed, answer, book, bookFrom, enter, firstLate, full, late, misreported, none, step, taken}
-use Rattle.model.specs.Search.{any, bit}
+use Rattle.model.specs.Search.{any}
 use Rattle.model.specs.Task.{Table, due, task}
 
 -- a late place has a job that is due and has not ended
@@ -29,9 +29,6 @@ late-job s b p h = go (any-some (suc (b .tick)) (λ k. leb (due (task s p) k) (b
     )
 
 -- where no place is late, an empty report set is taken
-no-bits : (p : ℕ) → bit 0 p ≡ false
-no-bits p = rw (zero-div (2 ^ p))
-
 none-late : (s : Table) (b : Book) → ((p : ℕ) → p < length (s .tasks) → late s b p ≡ false) → ltb (firstLate s b) (length (s .tasks)) ≡ false
 none-late s b h =
     le-ltb (firstLate s b) (length (s .tasks))
@@ -43,7 +40,7 @@ none-taken s b h = rw (none-late s b h)
 
 enter-none : (s : Table) (n : ℕ) → ((p : ℕ) → p < length (s .tasks) → late s (full s n) p ≡ false) → enter s 0 (full s n) ≡ full s (suc n)
 unfolding enter full
-enter-none s n h = rw (none-taken s (full s n) h) (ap (λ (f : ℕ → Bool). step s f (full s n)) (fun-ext no-bits))
+enter-none s n h = rw (none-taken s (full s n) h) (ap (λ (f : ℕ → Bool). step s f (full s n)) (fun-ext bit-none))
 
 go-on :
     (s : Table) (n m : ℕ) → ((t p : ℕ) → t < m + n → p < length (s .tasks) → late s (full s t) p ≡ false)

@@ -10,7 +10,9 @@ use lib.ListN.{drop, getD, length, length-drop, take}
 use lib.Seq.{drop-nil, take-nil}
 use borrow.Author.Tests.{le-leb, leb-false, leb-true, lt-leb}
 use Rattle.model.proofs.Bools.{and-left, and-right}
+use Rattle.model.proofs.Search.{bit-none}
 use Rattle.model.specs.Grants.{Claimant, claimants, fits, given, grants, left, some}
+use Rattle.model.specs.Search.{bit}
 use Rattle.model.specs.Task.{Rule, greedy, limited}
 
 -- LOCALITY: the cores of the first n tasks depend on the claimants of the first n tasks alone
@@ -19,6 +21,13 @@ unfolding grants
 grants-take r zero bs free = refl
 grants-take r (suc n) [] free = refl
 grants-take r (suc n) (b ∷ bs) free = ap {B = List (List ℕ)} (λ x. given b free ∷ x) (grants-take r n bs (left r b free))
+
+-- the claimants of the first n places are those of the first n widths
+pub claimants-prefix : (n : ℕ) (ws : List ℕ) (c : ℕ → Bool) → take n (claimants ws c) ≡ claimants (take n ws) c
+unfolding claimants
+claimants-prefix zero ws c = refl
+claimants-prefix (suc n) [] c = refl
+claimants-prefix (suc n) (w ∷ ws) c = rw (claimants-prefix n ws (λ q. c (suc q)))
 
 -- claimants agree where the claims do
 pub claimants-take : (ws : List ℕ) (n : ℕ) (c d : ℕ → Bool) → ((q : ℕ) → q < n → c q ≡ d q) → take n (claimants ws c) ≡ take n (claimants ws d)
@@ -185,3 +194,25 @@ greedy-limited (w ∷ ws) c F h =
     ap {B = List (List ℕ)} (λ x. given (claimant (c 0) w) F ∷ x)
     (after-first w ws (λ p. c (suc p)) F h
     (λ G. greedy-limited ws (λ p. c (suc p)) G (λ p l. h (suc p) (omega arith))) (c 0))
+
+-- WHO DOES NOT CLAIM
+
+pub grants-length : (r : Rule) (ws : List ℕ) (c : ℕ → Bool) (free : List ℕ) → length (grants r (claimants ws c) free) ≡ length ws
+unfolding grants claimants
+grants-length r [] c free = refl
+grants-length r (w ∷ ws) c free = ap suc (grants-length r ws (λ p. c (suc p)) (left r (record { claims = c 0; width = w }) free))
+
+-- who does not claim is given nothing
+pub given-none : (b : Claimant) (free : List ℕ) → b .claims ≡ false → given b free ≡ []
+unfolding given
+given-none b free e = rw e
+
+pub grants-none : (r : Rule) (ws : List ℕ) (c : ℕ → Bool) (free : List ℕ) (p : ℕ) → c p ≡ false → getD (grants r (claimants ws c) free) p [] ≡ []
+unfolding grants claimants
+grants-none r [] c free p e = refl
+grants-none r (w ∷ ws) c free zero e = given-none (record { claims = c 0; width = w }) free e
+grants-none r (w ∷ ws) c free (suc p) e = grants-none r ws (λ q. c (suc q)) (left r (record { claims = c 0; width = w }) free) p e
+
+-- where nobody claims, nobody is given cores
+pub grants-nobody : (r : Rule) (ws : List ℕ) (free : List ℕ) (p : ℕ) → some (getD (grants r (claimants ws (bit 0)) free) p []) ≡ false
+grants-nobody r ws free p = ap some (grants-none r ws (bit 0) free p (bit-none p))

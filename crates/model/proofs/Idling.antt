@@ -4,13 +4,11 @@ use mathlib.Core.List.{List, [], _∷_}
 use mathlib.Core.Logic.{inl, inr}
 use mathlib.Core.Path.{ap, refl, subst, _∙_, _≡_}
 use Prim.Native.Nat.{suc, zero, ℕ, _≤_}
-use native.Mathlib.Nat.{le-trans}
-use native.Mathlib.Omega.{arith}
 use lib.ListN.{length-map}
 use borrow.Author.Tests.{le-ltb}
 use Rattle.model.proofs.Grants.{claimants-same}
-use Rattle.model.proofs.Jobs.{mk, next}
-use Rattle.model.proofs.Runs.{full-whole}
+use Rattle.model.proofs.Jobs.{mk}
+use Rattle.model.proofs.Runs.{full-claimed}
 use Rattle.model.proofs.Sustain.{abreast-full, same-task-claims}
 use Rattle.model.specs.Book.{Book, book, claims, full, grantsOf, jobClaims, none, rowOf, served, step, taskClaims, widths, work}
 use Rattle.model.specs.Grants.{Claimant, claimants, given, grants, left}
@@ -23,19 +21,6 @@ choose-alike : (bs : List Claimant) (F : List ℕ) → grants idling bs F ≡ gr
 unfolding grants left
 choose-alike [] F = refl
 choose-alike (b ∷ bs) F = ap {B = List (List ℕ)} (λ x. given b F ∷ x) (choose-alike bs (left greedy b F))
-
--- the ticks claimed are no fewer than those had
-had-claimed : (C : ℕ) (f s : Bool) (h c : ℕ) (e : Bool) → h ≤ c → next C f s (mk h c e) .had ≤ next C f s (mk h c e) .claimed
-unfolding work
-had-claimed C f false h c e l = l
-had-claimed C f true h c true l = omega arith
-had-claimed C f true h c false l = omega arith
-
-full-claimed : (s : Table) (n p k : ℕ) → full s n .job p k .had ≤ full s n .job p k .claimed
-unfolding full step
-full-claimed s zero p k = omega arith
-full-claimed s (suc n) p k =
-    had-claimed (task s p .length) false (served s (full s n) p k) (full s n .job p k .had) (full s n .job p k .claimed) (full s n .job p k .ended) (full-claimed s n p k)
 
 -- a job that has claimed C ticks once it has ended claims alike under both
 claims-alike : (τ : Task) (k t h c : ℕ) (e : Bool) → (e ≡ true → τ .length ≤ c) → claims idling τ k t (mk h c e) ≡ claims greedy τ k t (mk h c e)
@@ -57,7 +42,7 @@ module _ (τs : List Task) (m : ℕ) where
   same-claims n e p k =
       subst (λ (b : Book). jobClaims I (full I n) p k ≡ jobClaims G b p k) e
       (claims-alike (task I p) k (full I n .tick) (full I n .job p k .had) (full I n .job p k .claimed) (full I n .job p k .ended)
-      (λ d. le-trans (full-whole I n p k d) (full-claimed I n p k)))
+      (full-claimed I n p k))
 
   same-grants : (n : ℕ) → full I n ≡ full G n → grantsOf I (full I n) ≡ grantsOf G (full G n)
   same-grants n e =

@@ -1,7 +1,7 @@
 -- One job's line of the book: what a tick changes of it, and how two lines compare.
 use mathlib.Core.Bool.{_&&_, Bool, cond, false, false≢true, not, true, true≢false, _||_}
 use mathlib.Core.Logic.{inl, inr, _⊎_, ⊎-elim}
-use mathlib.Core.Path.{ap, refl, sym, _≡_}
+use mathlib.Core.Path.{ap, refl, sym, _∙_, _≡_}
 use Prim.Native.Nat.{_<_, suc, ℕ, _≤_}
 use native.Mathlib.Nat.{div-lt-iff-lt-mul, eq-or-lt-of-le, le-antisymm, le-div-iff-mul-le, le-of-suc-le-suc}
 use native.Mathlib.Omega.{arith}
@@ -10,7 +10,7 @@ use borrow.Author.Tests.{le-leb, leb-false, leb-true, lt-ltb, ltb-true, not-true
 use Rattle.model.proofs.Bools.{and-left, and-right, not-true-false, or-left-true, or-right-false}
 use Rattle.model.specs.Book.{Job, claims, holds, work}
 use Rattle.model.specs.Compare.{Behind, Longer}
-use Rattle.model.specs.Task.{Rule, Task, due, idling, newest, release}
+use Rattle.model.specs.Task.{Rule, Task, due, greedy, idling, limited, newest, release}
 
 -- a claiming job is inside its window
 pub after-release : (r : Rule) (τ : Task) (k t : ℕ) (j : Job) → claims r τ k t j ≡ true → release τ k ≤ t
@@ -177,3 +177,18 @@ pub claims-less :
 claims-less r τ k t a b q nb e =
     let o : a .ended ≡ false = not-true (a .ended) (or-left-true (not (a .ended)) (holds r τ a) (still r τ k t a e) (q τ a)) in
     claims-open r τ k t b a e (not-true-false (b .ended) (λ d. nb (o, inl d)))
+
+-- where k is the newest, no other job claims
+pub others : (r : Rule) (τ : Task) (k t i : ℕ) (j : Job) → τ .deadline ≤ τ .period → newest τ t ≡ k → (i ≡ k → ⊥) → claims r τ i t j ≡ false
+others r τ k t i j c new ne =
+    not-true-false (claims r τ i t j) (λ e. ne (sym (newest-is τ i t c (after-release r τ i t j e) (before-due r τ i t j e)) ∙ new))
+
+-- a job that has ended and has claimed C ticks claims no more, under any rule
+pub done-off : (r : Rule) (τ : Task) (k t : ℕ) (j : Job) → j .ended ≡ true → τ .length ≤ j .claimed → claims r τ k t j ≡ false
+done-off r τ k t j e l = not-true-false (claims r τ k t j) (λ c. go (j .ended) e r (still r τ k t j c))
+  where
+    go : (b : Bool) → b ≡ true → (r : Rule) → not b || holds r τ j ≡ true → ⊥
+    go true q greedy h = false≢true h
+    go true q limited h = false≢true h
+    go true q idling h = omega (arith, ltb-true (j .claimed) (τ .length) h)
+    go false q r h = false≢true q

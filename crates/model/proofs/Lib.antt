@@ -3,6 +3,7 @@ pub mod Bools
 pub mod Search
 pub mod Jobs
 pub mod Grants
+pub mod Rows
 pub mod Runs
 pub mod FullLength
 pub mod Starts

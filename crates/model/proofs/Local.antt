@@ -11,7 +11,7 @@ use lib.ListN.{getD, length, replicate, take}
 use lib.Pow.{high}
 use lib.Seq.{getD-take}
 use borrow.Author.Tests.{le-ltb, leb-false, leb-true, lt-ltb}
-use Rattle.model.proofs.Grants.{claimants-take, grants-take}
+use Rattle.model.proofs.Grants.{claimants-prefix, claimants-take, grants-take}
 use Rattle.model.specs.Book.{Book, answer, answersFrom, book, bookFrom, emptyBook, enter, entered, full, grantsOf, jobClaims, none, served, step, taken, taskClaims, widths}
 use Rattle.model.specs.Grants.{claimants}
 use Rattle.model.specs.Local.{Alike, AllTaken, SameCores, SameReports, upTo}
@@ -25,12 +25,6 @@ pub record Agree (n : ℕ) (b b′ : Book) : Type 0 where
   pub jobs : (p k : ℕ) → p < n → b .job p k ≡ b′ .job p k
 
 -- WHAT THE FIRST PLACES BRING TO A TICK
-
-claimants-prefix : (n : ℕ) (ws : List ℕ) (c : ℕ → Bool) → take n (claimants ws c) ≡ claimants (take n ws) c
-unfolding claimants
-claimants-prefix zero ws c = refl
-claimants-prefix (suc n) [] c = refl
-claimants-prefix (suc n) (w ∷ ws) c = rw (claimants-prefix n ws (λ q. c (suc q)))
 
 take-map : (n : ℕ) (τs : List Task) → take n (map (λ τ. τ .width) τs) ≡ map (λ τ. τ .width) (take n τs)
 take-map zero τs = refl

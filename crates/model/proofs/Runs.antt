@@ -3,12 +3,12 @@ use mathlib.Core.Bool.{Bool, false, false≢true, true}
 use mathlib.Core.List.{List, [], _∷_}
 use mathlib.Core.Path.{ap, refl, sym, _∙_, _≡_}
 use Prim.Native.Nat.{_+_, _<_, suc, zero, ℕ, _≤_}
-use native.Mathlib.Nat.{add-suc, add-zero, zero-add}
+use native.Mathlib.Nat.{add-suc, add-zero, le-trans, zero-add}
 use native.Mathlib.Omega.{arith}
 use lib.ListN.{length, replicate}
 use Rattle.model.proofs.Bools.{and-left, not-true-false}
-use Rattle.model.proofs.Jobs.{Good, after-release, good-fresh, good-next, next-ended, whole-next}
-use Rattle.model.specs.Book.{Answer, Book, Missed, answer, book, bookFrom, emptyBook, enter, entered, fresh, full, inRow, jobClaims, none, refused, served, step, taken}
+use Rattle.model.proofs.Jobs.{Good, after-release, good-fresh, good-next, mk, next, next-ended, whole-next}
+use Rattle.model.specs.Book.{Answer, Book, Missed, answer, book, bookFrom, emptyBook, enter, entered, fresh, full, inRow, jobClaims, none, refused, served, step, taken, work}
 use Rattle.model.specs.Search.{bit}
 use Rattle.model.specs.Task.{AllSound, Table, due, release, task}
 
@@ -78,6 +78,23 @@ full-whole s zero p k e = absurd (false≢true e)
 full-whole s (suc n) p k e =
     whole-next (task s p .length) (served s (full s n) p k) (full s n .job p k .had) (full s n .job p k .claimed) (full s n .job p k .ended)
     (full-whole s n p k) e
+
+-- the ticks claimed are no fewer than those had
+had-claimed : (C : ℕ) (f s : Bool) (h c : ℕ) (e : Bool) → h ≤ c → next C f s (mk h c e) .had ≤ next C f s (mk h c e) .claimed
+unfolding work
+had-claimed C f false h c e l = l
+had-claimed C f true h c true l = omega arith
+had-claimed C f true h c false l = omega arith
+
+full-had : (s : Table) (n p k : ℕ) → full s n .job p k .had ≤ full s n .job p k .claimed
+unfolding full step
+full-had s zero p k = omega arith
+full-had s (suc n) p k =
+    had-claimed (task s p .length) false (served s (full s n) p k) (full s n .job p k .had) (full s n .job p k .claimed) (full s n .job p k .ended) (full-had s n p k)
+
+-- a job that has ended has claimed C ticks
+pub full-claimed : (s : Table) (n p k : ℕ) → full s n .job p k .ended ≡ true → task s p .length ≤ full s n .job p k .claimed
+full-claimed s n p k e = le-trans (full-whole s n p k e) (full-had s n p k)
 
 pub full-stays : (s : Table) (n d p k : ℕ) → full s n .job p k .ended ≡ true → full s (n + d) .job p k .ended ≡ true
 full-stays s n zero p k e = rw add-zero e

@@ -3,7 +3,7 @@ use mathlib.Core.Bool.{Bool, cond, false, false≢true, true, true≢false, _||_
 use mathlib.Core.Logic.{⊎-elim}
 use mathlib.Core.Path.{refl, subst, sym, _∙_, _≡_}
 use Prim.Native.Nat.{_<_, _^_, suc, zero, ℕ, _≤_}
-use native.Mathlib.Nat.{div-eq-of-lt, eq-or-lt-of-le, not-suc-le-zero}
+use native.Mathlib.Nat.{div-eq-of-lt, eq-or-lt-of-le, not-suc-le-zero, zero-div}
 use native.Mathlib.Omega.{arith}
 use Rattle.model.proofs.Bools.{not-true-false}
 use Rattle.model.specs.Search.{any, bit, least}
@@ -104,3 +104,7 @@ pub bit-high : (x i : ℕ) → x ≤ i → bit x i ≡ false
 bit-high x i h =
     let small : x < 2 ^ i = omega (arith, below-pow i) in
     rw (div-eq-of-lt small)
+
+-- the empty set has nobody
+pub bit-none : (i : ℕ) → bit 0 i ≡ false
+bit-none i = rw (zero-div (2 ^ i))

@@ -37,6 +37,9 @@ rising-found (τ ∷ τ′ ∷ τs) h =
     and-both (leb (τ .width) (τ′ .width)) (rising (τ′ ∷ τs)) (le-leb (τ .width) (τ′ .width) (h 0 (omega arith)))
     (rising-found (τ′ ∷ τs) (λ p l. h (suc p) (omega arith)))
 
+pub rising-exact : (τs : List Task) → (rising τs ≡ true) ↔ Rising τs
+rising-exact τs = (rising-says τs, rising-found τs)
+
 pub firm-exact : (s : Table) → (firm (s .rule) (s .tasks) ≡ true) ↔ FirmRule s
 firm-exact s = (says (s .rule) refl, found)
   where

@@ -1,0 +1,14 @@
+pub mod Lines
+pub mod Places
+pub mod Sets
+pub mod Place
+pub mod Moves
+pub mod Served
+pub mod Turn
+pub mod Tied
+pub mod Bell
+pub mod Late
+pub mod Walk
+pub mod Alike
+pub mod Follows
+pub mod Fields

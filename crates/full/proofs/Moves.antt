@@ -1,0 +1,94 @@
+-- What stands at each place after a release and after a tick.
+use mathlib.Core.Path.{_≡_, refl, _∙_}
+use mathlib.Core.Bool.{Bool, true, false, not, _&&_, _||_, cond}
+use Prim.Native.Nat.{ℕ, _+_, _-_, _≤_, _<_}
+use native.Mathlib.Omega.{arith}
+use lib.ListN.{length, getD, length-set}
+use lib.Seq.{getD-set-same, getD-set-other}
+use lib.Dec.{eqb}
+use borrow.Author.Tests.{eq-eqb, ne-eqb}
+use Rattle.model.specs.Search.{bit}
+use Rattle.full.specs.Machine.{Machine, released, finishes, worked}
+use Rattle.full.proofs.Places.{each-length, each-at}
+use Rattle.full.proofs.Sets.{set-has, set-past}
+
+-- a machine of 32 places
+pub record Sized (m : Machine) : Type 0 where
+  pub left : length (m .left) ≡ 32
+  pub moment : length (m .moment) ≡ 32
+  pub next : length (m .next) ≡ 32
+
+-- two machines have the same at a place
+pub record SameAt (p : ℕ) (a b : Machine) : Type 0 where
+  pub left : getD (a .left) p 0 ≡ getD (b .left) p 0
+  pub moment : getD (a .moment) p 0 ≡ getD (b .moment) p 0
+  pub next : getD (a .next) p 0 ≡ getD (b .next) p 0
+  pub claims : bit (a .claiming) p ≡ bit (b .claiming) p
+
+module _ (p t C D T : ℕ) (m : Machine) where
+  abbrev after : Machine
+  after = released p t C D T m
+
+  pub released-sized : Sized m → Sized after
+  unfolding released
+  released-sized z = record {
+    left = length-set (m .left) p C ∙ z .left;
+    moment = length-set (m .moment) p (t + D) ∙ z .moment;
+    next = length-set (m .next) p (t + T) ∙ z .next;
+  }
+
+  -- at the place itself
+  pub released-own :
+      Sized m → p < 32
+      → (getD (after .left) p 0 ≡ C) × (getD (after .moment) p 0 ≡ t + D) × (getD (after .next) p 0 ≡ t + T) × (bit (after .claiming) p ≡ true)
+  unfolding released
+  released-own z h = (
+    getD-set-same (m .left) p C 0 (omega (arith, z .left)),
+    getD-set-same (m .moment) p (t + D) 0 (omega (arith, z .moment)),
+    getD-set-same (m .next) p (t + T) 0 (omega (arith, z .next)),
+    set-has 32 (λ q. eqb q p || bit (m .claiming) q) p h ∙ rw (eq-eqb p p refl),
+  )
+
+  -- and at any other
+  pub released-other : (q : ℕ) → (q ≡ p → ⊥) → q < 32 → SameAt q after m
+  unfolding released
+  released-other q ne h = record {
+    left = getD-set-other (m .left) p q C 0 ne;
+    moment = getD-set-other (m .moment) p q (t + D) 0 ne;
+    next = getD-set-other (m .next) p q (t + T) 0 ne;
+    claims = set-has 32 (λ q. eqb q p || bit (m .claiming) q) q h ∙ rw (ne-eqb q p ne);
+  }
+
+  pub released-past : (q : ℕ) → 32 ≤ q → bit (after .claiming) q ≡ false
+  unfolding released
+  released-past q h = set-past 32 (λ q. eqb q p || bit (m .claiming) q) q h
+
+module _ (granted : ℕ → Bool) (m : Machine) where
+  pub worked-sized : Sized m → Sized (worked granted m)
+  unfolding worked
+  worked-sized z = record {
+    left = each-length (λ p l. cond (granted p) (l - 1) l) (m .left) ∙ z .left;
+    moment = each-length (λ p d. cond (finishes granted m p) (getD (m .next) p 0) d) (m .moment) ∙ z .moment;
+    next = z .next;
+  }
+
+  module _ (z : Sized m) (p : ℕ) (h : p < 32) where
+    pub worked-left : getD (worked granted m .left) p 0 ≡ cond (granted p) (getD (m .left) p 0 - 1) (getD (m .left) p 0)
+    unfolding worked
+    worked-left = each-at (λ p l. cond (granted p) (l - 1) l) (m .left) p (omega (arith, z .left))
+
+    pub worked-moment : getD (worked granted m .moment) p 0 ≡ cond (finishes granted m p) (getD (m .next) p 0) (getD (m .moment) p 0)
+    unfolding worked
+    worked-moment = each-at (λ p d. cond (finishes granted m p) (getD (m .next) p 0) d) (m .moment) p (omega (arith, z .moment))
+
+    pub worked-claims : bit (worked granted m .claiming) p ≡ bit (m .claiming) p && not (finishes granted m p)
+    unfolding worked
+    worked-claims = set-has 32 (λ p. bit (m .claiming) p && not (finishes granted m p)) p h
+
+  pub worked-past : (p : ℕ) → 32 ≤ p → bit (worked granted m .claiming) p ≡ false
+  unfolding worked
+  worked-past p h = set-past 32 (λ p. bit (m .claiming) p && not (finishes granted m p)) p h
+
+  pub worked-none : (p : ℕ) → bit (m .claiming) p ≡ false → p < 32 → bit (worked granted m .claiming) p ≡ false
+  unfolding worked
+  worked-none p e h = set-has 32 (λ p. bit (m .claiming) p && not (finishes granted m p)) p h ∙ rw e

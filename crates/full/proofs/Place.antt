@@ -1,0 +1,267 @@
+-- One place of the machine and its line of jobs in the book: what ties them, and that a release and a tick keep the tie.
+use mathlib.Core.Path.{_≡_, refl, sym, ap, _∙_, subst}
+use mathlib.Core.Bool.{Bool, true, false, not, _&&_, cond, true≢false}
+use mathlib.Core.Logic.{⊎-elim}
+use Prim.Native.Nat.{ℕ, suc, _+_, _-_, _≤_, _<_}
+use native.Mathlib.Nat.{le-of-suc-le-suc, mul-le-mul-right, eq-or-lt-of-le}
+use native.Mathlib.Omega.{arith}
+use lib.Dec.{leb, ltb, eqb}
+use borrow.Author.Tests.{leb-true, leb-false, eqb-true, eqb-false, le-leb, lt-leb, lt-ltb}
+use Rattle.model.specs.Task.{Task, Sound, Rule, release, due, newest}
+use Rattle.model.specs.Book.{Job, fresh, claims}
+use Rattle.model.proofs.Jobs.{mk, claims-if, newest-is, others, done-off}
+use Rattle.model.proofs.Faithful.{no-claim-before}
+use Rattle.full.proofs.Lines.{lineOn, line-off, line-own, work-open}
+
+-- THE TIE. `seen` counts the ticks whose due moments have been looked at: it is t before those of tick t are, and t + 1 after.
+
+-- l ticks are left, the deadline m is ahead: a job was released, has not ended, and has had what is not left; those before it have ended,
+-- those after it are fresh, and the first of them comes at n
+pub record Works (τ : Task) (seen : ℕ) (js : ℕ → Job) (l m n : ℕ) : Type 0 where
+  pub number : ℕ
+  pub had : ℕ
+  pub owed : 1 ≤ l
+  pub whole : had + l ≡ τ .length
+  pub begun : release τ number < seen
+  pub deadline : m ≡ due τ number
+  pub ahead-of : seen ≤ m
+  pub following : n ≡ release τ (suc number)
+  pub line : js number ≡ mk had had false
+  pub past : (i : ℕ) → i < number → js i .ended ≡ true
+  pub later : (i : ℕ) → number < i → js i ≡ fresh
+
+-- no tick is left, and m is n: every job released so far has ended, and the next, released at n, is fresh as are all after it
+pub record Rests (τ : Task) (seen : ℕ) (js : ℕ → Job) (l m n : ℕ) : Type 0 where
+  pub number : ℕ
+  pub none : l ≡ 0
+  pub moment : m ≡ release τ number
+  pub ahead-of : seen ≤ m
+  pub following : n ≡ release τ number
+  pub past : (i : ℕ) → i < number → js i .ended ≡ true
+  pub later : (i : ℕ) → number ≤ i → js i ≡ fresh
+
+-- a place that claims or not
+abbrev pub TiedAt : Task → ℕ → (ℕ → Job) → ℕ → ℕ → ℕ → Bool → Type 0
+TiedAt τ seen js l m n true = Works τ seen js l m n
+TiedAt τ seen js l m n false = Rests τ seen js l m n
+
+-- who claims is owed ticks, and who is owed ticks claims
+pub claims-owed : (τ : Task) (seen : ℕ) (js : ℕ → Job) (l m n : ℕ) (c : Bool) → TiedAt τ seen js l m n c → c ≡ ltb 0 l
+claims-owed τ seen js l m n true h = sym (lt-ltb 0 l (h .owed))
+claims-owed τ seen js l m n false h = rw (h .none)
+
+-- THE START: the first release is at the offset, and every job is fresh
+pub start-tied : (τ : Task) (O : ℕ) → O ≡ τ .offset → TiedAt τ 0 (λ k. fresh) 0 O O false
+start-tied τ O e = record {
+  number = 0;
+  none = refl;
+  moment = omega arith;
+  ahead-of = omega arith;
+  following = omega arith;
+  past = λ i h. absurd (omega arith);
+  later = λ i h. refl;
+}
+
+-- THE DUE MOMENTS OF A TICK
+
+-- a place whose moment it is not
+pub pass-tied : (τ : Task) (t : ℕ) (js : ℕ → Job) (l m n : ℕ) (c : Bool) → TiedAt τ t js l m n c → (m ≡ t → ⊥) → TiedAt τ (suc t) js l m n c
+pass-tied τ t js l m n true h away = record {
+  number = h .number;
+  had = h .had;
+  owed = h .owed;
+  whole = h .whole;
+  begun = omega (arith, h .begun);
+  deadline = h .deadline;
+  ahead-of = omega (arith, h .ahead-of);
+  following = h .following;
+  line = h .line;
+  past = h .past;
+  later = h .later;
+}
+pass-tied τ t js l m n false h away = record {
+  number = h .number;
+  none = h .none;
+  moment = h .moment;
+  ahead-of = omega (arith, h .ahead-of);
+  following = h .following;
+  past = h .past;
+  later = h .later;
+}
+
+-- a place whose moment it is, with nothing left: its next job is released
+pub release-tied :
+    (τ : Task) → Sound τ → (t : ℕ) (js : ℕ → Job) (l m n : ℕ) (c : Bool) → TiedAt τ t js l m n c → m ≡ t → l ≡ 0
+    → (C D T : ℕ) → C ≡ τ .length → D ≡ τ .deadline → T ≡ τ .period → TiedAt τ (suc t) js C (t + D) (t + T) true
+release-tied τ ok t js l m n true h at none C D T eC eD eT = absurd (omega (arith, h .owed))
+release-tied τ ok t js l m n false h at none C D T eC eD eT = record {
+  number = h .number;
+  had = 0;
+  owed = omega (arith, ok .length-pos);
+  whole = omega arith;
+  begun = omega (arith, h .moment);
+  deadline = omega (arith, h .moment);
+  ahead-of = omega (arith, ok .deadline-pos);
+  following = omega (arith, h .moment);
+  line = h .later (h .number) (omega arith);
+  past = h .past;
+  later = λ i q. h .later i (omega arith);
+}
+
+-- the numbers of two jobs go with their releases
+release-order : (τ : Task) (i k : ℕ) → i ≤ k → release τ i ≤ release τ k
+release-order τ i k h = omega (arith, mul-le-mul-right (τ .period) h)
+
+-- a place at its moment with ticks left has a job that is due and has not ended
+pub overdue-has :
+    (τ : Task) (t : ℕ) (js : ℕ → Job) (l m n : ℕ) (c : Bool) → TiedAt τ t js l m n c → m ≡ t → 0 < l
+    → (k : ℕ) × (due τ k ≡ t) × (js k .ended ≡ false)
+overdue-has τ t js l m n true h at some = (h .number, sym (h .deadline) ∙ at, ap (λ (j : Job). j .ended) (h .line))
+overdue-has τ t js l m n false h at some = absurd (omega (arith, h .none))
+
+-- a job due at a tick from `seen` back that has not ended is the one the place works on, at the tick `seen`
+pub overdue-is :
+    (τ : Task) → Sound τ → (seen : ℕ) (js : ℕ → Job) (l m n : ℕ) (c : Bool) → TiedAt τ seen js l m n c
+    → (t k : ℕ) → t ≤ seen → due τ k ≡ t → js k .ended ≡ false → (m ≡ t) × (0 < l)
+overdue-is τ ok seen js l m n true h t k before d o = go (leb k (h .number)) refl
+  where
+    go : (x : Bool) → leb k (h .number) ≡ x → (m ≡ t) × (0 < l)
+    go true e =
+        ⊎-elim
+        (λ (q : k ≡ h .number). (h .deadline ∙ (ap (due τ) (sym q) ∙ d), h .owed))
+        (λ (q : k < h .number). absurd (true≢false (sym (h .past k q) ∙ o)))
+        (eq-or-lt-of-le (leb-true k (h .number) e))
+    go false e =
+        absurd
+        (omega (arith, release-order τ (suc (h .number)) k (leb-false k (h .number) e), ok .deadline-pos, ok .constrained, h .deadline, h .ahead-of))
+overdue-is τ ok seen js l m n false h t k before d o = go (leb (h .number) k) refl
+  where
+    go : (x : Bool) → leb (h .number) k ≡ x → (m ≡ t) × (0 < l)
+    go true e =
+        absurd (omega (arith, release-order τ (h .number) k (leb-true (h .number) k e), ok .deadline-pos, h .moment, h .ahead-of))
+    go false e = absurd (true≢false (sym (h .past k (leb-false (h .number) k e)) ∙ o))
+
+-- THE CLAIMS OF A TICK, once its due moments have been looked at
+
+-- every job that has ended has claimed its C ticks, as at full length
+abbrev pub Claimed : Task → (ℕ → Job) → Type 0
+Claimed τ js = (i : ℕ) → js i .ended ≡ true → τ .length ≤ js i .claimed
+
+module _ (r : Rule) (τ : Task) (ok : Sound τ) (t : ℕ) (js : ℕ → Job) (all : Claimed τ js) (l m n : ℕ) where
+  -- the job that a claiming place works on is the newest, and claims
+  works-newest : (h : Works τ (suc t) js l m n) → newest τ t ≡ h .number
+  works-newest h = newest-is τ (h .number) t (ok .constrained) (omega (arith, h .begun)) (omega (arith, h .deadline, h .ahead-of))
+
+  works-claims : (h : Works τ (suc t) js l m n) → claims r τ (h .number) t (js (h .number)) ≡ true
+  works-claims h =
+      claims-if r τ (h .number) t (js (h .number)) (omega (arith, h .begun)) (omega (arith, h .deadline, h .ahead-of)) (rw (h .line))
+
+  -- where a place does not claim, none of its jobs does
+  rests-off : Rests τ (suc t) js l m n → (i : ℕ) → claims r τ i t (js i) ≡ false
+  rests-off h i = go (leb (h .number) i) refl
+    where
+      go : (x : Bool) → leb (h .number) i ≡ x → claims r τ i t (js i) ≡ false
+      go true e = no-claim-before r τ i t (js i) (omega (arith, release-order τ (h .number) i (leb-true (h .number) i e), h .moment, h .ahead-of))
+      go false e =
+          let o : js i .ended ≡ true = h .past i (leb-false (h .number) i e) in
+          done-off r τ i t (js i) o (all i o)
+
+  pub tied-claims : (c : Bool) → TiedAt τ (suc t) js l m n c → claims r τ (newest τ t) t (js (newest τ t)) ≡ c
+  tied-claims true h = subst (λ (k : ℕ). claims r τ k t (js k) ≡ true) (sym (works-newest h)) (works-claims h)
+  tied-claims false h = rests-off h (newest τ t)
+
+  -- A TICK, in which the place has cores or not
+
+  other-line : (w : Bool) (h : Works τ (suc t) js l m n) (i : ℕ) → (i ≡ h .number → ⊥) → lineOn r τ t w js i ≡ js i
+  other-line w h i ne = line-off r τ t w js i (others r τ (h .number) t i (js i) (ok .constrained) (works-newest h) ne)
+
+  past-line : (w : Bool) (h : Works τ (suc t) js l m n) (i : ℕ) → i < h .number → lineOn r τ t w js i .ended ≡ true
+  past-line w h i q = ap (λ (j : Job). j .ended) (other-line w h i (omega arith)) ∙ h .past i q
+
+  later-line : (w : Bool) (h : Works τ (suc t) js l m n) (i : ℕ) → h .number < i → lineOn r τ t w js i ≡ fresh
+  later-line w h i q = other-line w h i (omega arith) ∙ h .later i q
+
+  served-line : (h : Works τ (suc t) js l m n) → lineOn r τ t true js (h .number) ≡ mk (suc (h .had)) (suc (h .had)) (leb (τ .length) (suc (h .had)))
+  served-line h = line-own r τ t true js (h .number) (works-claims h) ∙ work-open (τ .length) (h .had) (js (h .number)) (h .line)
+
+  -- with cores, and more than one tick left
+  served-more : (h : Works τ (suc t) js l m n) → (l ≡ 1 → ⊥) → Works τ (suc t) (lineOn r τ t true js) (l - 1) m n
+  served-more h more = record {
+    number = h .number;
+    had = suc (h .had);
+    owed = omega (arith, h .owed);
+    whole = omega (arith, h .owed, h .whole);
+    begun = h .begun;
+    deadline = h .deadline;
+    ahead-of = h .ahead-of;
+    following = h .following;
+    line = served-line h ∙ ap (λ (e : Bool). mk (suc (h .had)) (suc (h .had)) e) (lt-leb (τ .length) (suc (h .had)) (omega (arith, h .owed, h .whole)));
+    past = past-line true h;
+    later = later-line true h;
+  }
+
+  -- with cores, and its last tick
+  served-last : (h : Works τ (suc t) js l m n) → l ≡ 1 → Rests τ (suc t) (lineOn r τ t true js) (l - 1) n n
+  served-last h last = record {
+    number = suc (h .number);
+    none = omega arith;
+    moment = h .following;
+    ahead-of = omega (arith, h .deadline, h .ahead-of, h .following, ok .constrained);
+    following = h .following;
+    past = λ i q. ⊎-elim
+        (λ (e : i ≡ h .number). subst (λ (k : ℕ). lineOn r τ t true js k .ended ≡ true) (sym e) over)
+        (λ (e : i < h .number). past-line true h i e)
+        (eq-or-lt-of-le (le-of-suc-le-suc q));
+    later = later-line true h;
+  }
+    where
+      over : lineOn r τ t true js (h .number) .ended ≡ true
+      over = ap (λ (j : Job). j .ended) (served-line h) ∙ le-leb (τ .length) (suc (h .had)) (omega (arith, h .whole))
+
+  -- without cores
+  unserved : (h : Works τ (suc t) js l m n) → Works τ (suc t) (lineOn r τ t false js) l m n
+  unserved h = record {
+    number = h .number;
+    had = h .had;
+    owed = h .owed;
+    whole = h .whole;
+    begun = h .begun;
+    deadline = h .deadline;
+    ahead-of = h .ahead-of;
+    following = h .following;
+    line = line-own r τ t false js (h .number) (works-claims h) ∙ h .line;
+    past = past-line false h;
+    later = later-line false h;
+  }
+
+  rests-on : (w : Bool) → Rests τ (suc t) js l m n → Rests τ (suc t) (lineOn r τ t w js) l m n
+  rests-on w h = record {
+    number = h .number;
+    none = h .none;
+    moment = h .moment;
+    ahead-of = h .ahead-of;
+    following = h .following;
+    past = λ i q. ap (λ (j : Job). j .ended) (line-off r τ t w js i (rests-off h i)) ∙ h .past i q;
+    later = λ i q. line-off r τ t w js i (rests-off h i) ∙ h .later i q;
+  }
+
+  pub tick-tied :
+      (c w : Bool) → TiedAt τ (suc t) js l m n c
+      → TiedAt τ (suc t) (lineOn r τ t w js) (cond w (l - 1) l) (cond (w && eqb l 1) n m) n (c && not (w && eqb l 1))
+  tick-tied true false h = unserved h
+  tick-tied true true h = go (eqb l 1) refl
+    where
+      go : (x : Bool) → eqb l 1 ≡ x → TiedAt τ (suc t) (lineOn r τ t true js) (l - 1) (cond x n m) n (not x)
+      go true e = served-last h (eqb-true l 1 e)
+      go false e = served-more h (eqb-false l 1 e)
+  tick-tied false false h = rests-on false h
+  tick-tied false true h = go (l - 1) (omega (arith, h .none)) (eqb l 1) (ap (λ (x : ℕ). eqb x 1) (h .none))
+    where
+      go : (l′ : ℕ) → l′ ≡ l → (x : Bool) → x ≡ false → Rests τ (suc t) (lineOn r τ t true js) l′ (cond x n m) n
+      go l′ e true q = absurd (true≢false q)
+      go l′ e false q = subst (λ (y : ℕ). Rests τ (suc t) (lineOn r τ t true js) y m n) (sym e) (rests-on true h)
+
+-- THE BELL: the moment of a place is never after its next release
+pub moment-first : (τ : Task) → Sound τ → (seen : ℕ) (js : ℕ → Job) (l m n : ℕ) (c : Bool) → TiedAt τ seen js l m n c → m ≤ n
+moment-first τ ok seen js l m n true h = omega (arith, h .deadline, h .following, ok .constrained)
+moment-first τ ok seen js l m n false h = omega (arith, h .moment, h .following)

@@ -1,0 +1,132 @@
+-- A turn of the walk over the granted places: the lowest is taken off the set and served.
+use mathlib.Core.Path.{_≡_, refl, sym, ap, _∙_, subst}
+use mathlib.Core.Bool.{Bool, true, false, not, _&&_, and-true}
+use Prim.Native.Nat.{ℕ, _-_, _*_, _%_, _^_, _≤_, _<_}
+use native.Mathlib.Omega.{arith}
+use lib.Count.{trailingZeros}
+use lib.Dec.{eqb}
+use lib.ListN.{getD, set}
+use lib.Pow.{pow-pos}
+use borrow.Author.Tests.{eq-eqb, ne-eqb}
+use Rattle.model.specs.Search.{bit}
+use Rattle.model.proofs.Bools.{and-left}
+use Rattle.full.specs.Machine.{Machine, machine, Owed, worked}
+use Rattle.full.proofs.Sets.{one-bit, Without, without, Lowest, lowest}
+use Rattle.full.proofs.Served.{unserved-left, served-on, served-out}
+
+-- the places of a set that are off what is left of it
+abbrev pub taken : ℕ → ℕ → ℕ → Bool
+taken granted rest p = bit granted p && not (bit rest p)
+
+-- the lowest place of a set, and its digit as the code has it
+abbrev pub first : ℕ → ℕ
+first rest = trailingZeros 32 rest
+
+abbrev pub digit : ℕ → ℕ
+digit rest = 1 * 2 ^ first rest % 2 ^ 32
+
+-- what is left once the lowest place is served
+abbrev ticks : ℕ → Machine → ℕ
+ticks rest m = getD (m .left) (first rest) 0 - 1
+
+pub record Turn (granted rest : ℕ) (m₀ m : Machine) : Type 0 where
+  pub below : first rest < 32
+  pub some : 0 < digit rest
+  pub within : digit rest ≤ rest
+  pub subset : (q : ℕ) → bit (rest - digit rest) q ≡ true → bit granted q ≡ true
+  pub owed : 1 ≤ getD (m .left) (first rest) 0
+  pub on :
+      (ticks rest m ≡ 0 → ⊥)
+      → machine (set (m .left) (first rest) (ticks rest m)) (m .moment) (m .next) (m .claiming) ≡ worked (taken granted (rest - digit rest)) m₀
+  pub member : ticks rest m ≡ 0 → digit rest ≤ m .claiming
+  pub out :
+      ticks rest m ≡ 0
+      → machine (set (m .left) (first rest) (ticks rest m)) (set (m .moment) (first rest) (getD (m .next) (first rest) 0)) (m .next) (m .claiming - digit rest)
+      ≡ worked (taken granted (rest - digit rest)) m₀
+
+off-both : (a b : Bool) → b ≡ true → a && not b ≡ false
+off-both true b e = ap not e
+off-both false b e = refl
+
+on-first : (a b : Bool) → a ≡ true → b ≡ false → a && not b ≡ true
+on-first a b d e = rw (d, e)
+
+module _
+    (granted rest : ℕ) (m : Machine) (some : 0 < rest) (fits : rest < 2 ^ 32)
+    (subset : (q : ℕ) → bit rest q ≡ true → bit granted q ≡ true) (owed : Owed (bit granted) m)
+  where
+    low : Lowest 32 rest
+    low = lowest 32 rest some fits
+
+    one : digit rest ≡ 2 ^ first rest
+    one = one-bit (first rest) (low .below)
+
+    out-of : Without rest (first rest)
+    out-of = without rest (first rest) (low .member)
+
+    others : (q : ℕ) → bit (rest - digit rest) q ≡ bit rest q && not (eqb q (first rest))
+    others q = ap (λ (b : ℕ). bit (rest - b) q) one ∙ out-of .others q
+
+    have : (bit (m .claiming) (first rest) ≡ true) × (0 < getD (m .left) (first rest) 0)
+    have = owed (first rest) (subset (first rest) (low .member))
+
+    abbrev before : ℕ → Bool
+    before = taken granted rest
+
+    abbrev after : ℕ → Bool
+    after = taken granted (rest - digit rest)
+
+    off : before (first rest) ≡ false
+    off = off-both (bit granted (first rest)) (bit rest (first rest)) (low .member)
+
+    on : after (first rest) ≡ true
+    on =
+        on-first (bit granted (first rest)) (bit (rest - digit rest) (first rest)) (subset (first rest) (low .member))
+        (others (first rest) ∙ off-both (bit rest (first rest)) (eqb (first rest) (first rest)) (eq-eqb (first rest) (first rest) refl))
+
+    same : (q : ℕ) → (q ≡ first rest → ⊥) → after q ≡ before q
+    same q ne =
+        ap (λ (b : Bool). bit granted q && not b)
+        (others q ∙ (ap (λ (b : Bool). bit rest q && not b) (ne-eqb q (first rest) ne) ∙ and-true (bit rest q)))
+
+    still : getD (worked before m .left) (first rest) 0 ≡ getD (m .left) (first rest) 0
+    still = unserved-left before after m (first rest) off on same
+
+    pub turn : Turn granted rest m (worked before m)
+    unfolding worked
+    turn = record {
+      below = low .below;
+      some = omega (arith, one, pow-pos (first rest));
+      within = omega (arith, one, out-of .within);
+      subset = λ q e. subset q (and-left (bit rest q) (not (eqb q (first rest))) (sym (others q) ∙ e));
+      owed = omega (arith, still, have .1);
+      on = λ more.
+          subst (λ (x : ℕ). machine (set (worked before m .left) (first rest) (x - 1)) (worked before m .moment) (m .next) (worked before m .claiming) ≡ worked after m)
+          (sym still)
+          (served-on before after m (first rest) off on same
+          (ne-eqb (getD (m .left) (first rest) 0) 1 (λ e. more (omega (arith, still)))));
+      member = λ last. omega (arith, one, finished last .0);
+      out = λ last.
+          subst
+          (λ (x : ℕ).
+          machine (set (worked before m .left) (first rest) (x - 1)) (set (worked before m .moment) (first rest) (getD (m .next) (first rest) 0)) (m .next)
+          (worked before m .claiming - digit rest)
+          ≡ worked after m)
+          (sym still)
+          (subst
+          (λ (b : ℕ).
+          machine (set (worked before m .left) (first rest) (getD (m .left) (first rest) 0 - 1))
+          (set (worked before m .moment) (first rest) (getD (m .next) (first rest) 0)) (m .next) (worked before m .claiming - b)
+          ≡ worked after m)
+          (sym one) (finished last .1));
+    }
+      where
+        finished :
+            ticks rest (worked before m) ≡ 0
+            → (2 ^ first rest ≤ worked before m .claiming)
+            × (machine (set (worked before m .left) (first rest) (getD (m .left) (first rest) 0 - 1))
+            (set (worked before m .moment) (first rest) (getD (m .next) (first rest) 0)) (m .next) (worked before m .claiming - 2 ^ first rest)
+            ≡ worked after m)
+        finished last =
+            served-out before after m (first rest) off on same (low .below) (have .0)
+            (eq-eqb (getD (m .left) (first rest) 0) 1 (omega (arith, still, have .1)))

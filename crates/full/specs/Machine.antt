@@ -1,0 +1,75 @@
+-- The full-length run (scope, 'The book of a run') in plain numbers, as the judge, the plan and the printer step it.
+-- That up to the first miss it follows the book is proved: `machine-follows` in proofs/Follows.antt.
+use mathlib.Core.Path.{_≡_}
+use mathlib.Core.Bool.{Bool, true, not, _&&_, _||_, cond}
+use mathlib.Core.List.{List}
+use Prim.Native.Nat.{ℕ, zero, suc, _+_, _-_, _^_, _<_, min}
+use lib.ListN.{getD, set, replicate}
+use lib.Dec.{eqb, ltb}
+use Rattle.model.specs.Search.{bit}
+use Rattle.full.specs.Places.{each, setOf}
+
+-- for each of 32 places: the ticks that its job is still owed, 0 where none claims; its next moment, the job's deadline while it claims and
+-- else the next release; its next release. And the set of the places that claim. A place past the count never claims.
+pub record Machine : Type 0 where
+  pub left : List ℕ
+  pub moment : List ℕ
+  pub next : List ℕ
+  pub claiming : ℕ
+
+-- a machine of its parts
+abbrev pub machine : List ℕ → List ℕ → List ℕ → ℕ → Machine
+machine l m n c = record { left = l; moment = m; next = n; claiming = c }
+
+-- before tick 0: nobody claims, and each task's first job is released at its O
+abbrev pub started : List ℕ → Machine
+started offsets = machine (replicate 32 0) offsets offsets 0
+
+-- scope: a job's deadline is missed if it has not ended at t = r + D. The place is at its moment, and ticks are still owed
+abbrev pub overdue : ℕ → Machine → ℕ → Bool
+overdue t m p = eqb (getD (m .moment) p 0) t && ltb 0 (getD (m .left) p 0)
+
+-- scope: a job released at t must have its C ticks by t + D, and the next is released at t + T. Place p claims from now on
+unfoldable pub released : ℕ → ℕ → ℕ → ℕ → ℕ → Machine → Machine
+released p t C D T m = record {
+  left = set (m .left) p C;
+  moment = set (m .moment) p (t + D);
+  next = set (m .next) p (t + T);
+  claiming = setOf 32 (λ q. eqb q p || bit (m .claiming) q);
+}
+
+-- the due moments of tick t, looked at in the first n places, where nobody is late: a job is released in each place whose moment it is.
+-- C, D and T list the lengths, deadlines and periods of the tasks
+unfoldable pub releasedDue : ℕ → List ℕ → List ℕ → List ℕ → ℕ → Machine → Machine
+releasedDue t C D T zero m = m
+releasedDue t C D T (suc n) m =
+    cond (eqb (getD (releasedDue t C D T n m .moment) n 0) t)
+    (released n t (getD C n 0) (getD D n 0) (getD T n 0) (releasedDue t C D T n m))
+    (releasedDue t C D T n m)
+
+-- the earliest moment of the first n places, or the largest number of 32 digits where there is no place
+unfoldable pub earliest : ℕ → List ℕ → ℕ
+earliest zero moments = 2 ^ 32 - 1
+earliest (suc n) moments = min (earliest n moments) (getD moments n 0)
+
+-- the machine after the due moments of a tick, and a bell at the earliest moment to come
+pub record DueMoments (t n : ℕ) (C D T : List ℕ) (before after : Machine) (earliest-next : ℕ) : Type 0 where
+  pub machines : after ≡ releasedDue t C D T n before
+  pub bell : earliest-next ≡ earliest n (after .moment)
+
+-- every place that is granted cores claims, and is owed ticks
+abbrev pub Owed : (ℕ → Bool) → Machine → Type 0
+Owed granted m = (p : ℕ) → granted p ≡ true → (bit (m .claiming) p ≡ true) × (0 < getD (m .left) p 0)
+
+-- scope: a job ends if it has had C. Place p is granted cores, and is owed one tick
+abbrev pub finishes : (ℕ → Bool) → Machine → ℕ → Bool
+finishes granted m p = granted p && eqb (getD (m .left) p 0) 1
+
+-- scope: each job in the row has had one tick more. It is owed one less; who had its last claims no more, and its next moment is the next release
+unfoldable pub worked : (ℕ → Bool) → Machine → Machine
+worked granted m = record {
+  left = each (λ p l. cond (granted p) (l - 1) l) (m .left);
+  moment = each (λ p d. cond (finishes granted m p) (getD (m .next) p 0) d) (m .moment);
+  next = m .next;
+  claiming = setOf 32 (λ p. bit (m .claiming) p && not (finishes granted m p));
+}

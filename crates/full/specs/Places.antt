@@ -1,0 +1,14 @@
+-- A number for each place, and a set of places as one number.
+use mathlib.Core.Bool.{Bool, cond}
+use mathlib.Core.List.{List, [], _∷_}
+use Prim.Native.Nat.{ℕ, zero, suc, _+_, _*_}
+
+-- what stands at each place, changed by f, which is told the place
+unfoldable pub each : (ℕ → ℕ → ℕ) → List ℕ → List ℕ
+each f [] = []
+each f (x ∷ xs) = f 0 x ∷ each (λ p. f (suc p)) xs
+
+-- the set of the places below n that pass the test: f 0, f 1, .. are its binary digits from the lowest
+unfoldable pub setOf : ℕ → (ℕ → Bool) → ℕ
+setOf zero f = 0
+setOf (suc n) f = cond (f 0) 1 0 + 2 * setOf n (λ p. f (suc p))

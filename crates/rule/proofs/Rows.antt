@@ -1,0 +1,164 @@
+-- Laws of painted rows: byte by byte, one core or one set more, and the row of the model where no core has two holders.
+use mathlib.Core.Path.{_≡_, refl, sym, ap, _∙_}
+use mathlib.Core.Bool.{Bool, true, false, _||_, cond}
+use mathlib.Core.List.{List, [], _∷_, _++_, map}
+use Prim.Native.Nat.{ℕ, suc, _+_, _-_, _≤_, _<_}
+use native.Mathlib.Nat.{zero-add}
+use native.Mathlib.Omega.{arith}
+use lib.ListN.{length, getD, drop, set, replicate, length-replicate, getD-replicate, length-set, length-map, length-append, drop-of-length-le, List·getD-eq-default, List·getD-append}
+use lib.Seq.{ext-getD, getD-append-add, drop-cons, getD-set-same, getD-set-other}
+use lib.Dec.{eqb, ltb}
+use borrow.Author.Tests.{eqb-true, eqb-false, ne-eqb, ltb-true, ltb-false}
+use Rattle.model.specs.Search.{memb, upFrom}
+use Rattle.model.specs.Row.{owner, row}
+use Rattle.model.specs.Task.{Rule}
+use Rattle.model.specs.Grants.{Claimant, grants}
+use Rattle.model.proofs.Bools.{not-true-false}
+use Rattle.rule.specs.Cores.{cores}
+use Rattle.rule.specs.Painted.{painted, shown}
+use Rattle.rule.proofs.Ascending.{Range, length-up, getD-up, In, in-below}
+use Rattle.rule.proofs.Cores.{cores-none}
+use Rattle.rule.proofs.Granting.{Apart, apart, in-grants}
+
+-- ---- one mark
+
+pub length-painted : (start : List ℕ) (mark : ℕ) (l : List ℕ) → length (painted start mark l) ≡ length start
+unfolding painted
+length-painted start mark l = length-map (upFrom 0 (length start)) (λ c. cond (memb c l) mark (getD start c 0)) ∙ length-up 0 (length start)
+
+-- each byte
+pub painted-at : (start : List ℕ) (mark : ℕ) (l : List ℕ) (c : ℕ) → c < length start → getD (painted start mark l) c 0 ≡ cond (memb c l) mark (getD start c 0)
+unfolding painted
+painted-at start mark l c h =
+    getD-up (λ c. cond (memb c l) mark (getD start c 0)) 0 0 (length start) c h ∙ ap (λ (i : ℕ). cond (memb i l) mark (getD start i 0)) (zero-add c)
+
+pub painted-none : (start : List ℕ) (mark : ℕ) → painted start mark [] ≡ start
+unfolding memb
+painted-none start mark = ext-getD 0 (painted start mark []) start (length-painted start mark []) (λ c h. painted-at start mark [] c (omega (arith, length-painted start mark [])))
+
+-- one core more
+pub painted-more : (start : List ℕ) (mark x : ℕ) (l : List ℕ) → painted start mark (x ∷ l) ≡ painted (set start x mark) mark l
+unfolding memb
+painted-more start mark x l =
+    let n = length-painted start mark (x ∷ l) in
+    let m = length-set start x mark in
+    ext-getD 0 (painted start mark (x ∷ l)) (painted (set start x mark) mark l) (n ∙ sym m ∙ sym (length-painted (set start x mark) mark l)) (λ c h.
+    painted-at start mark (x ∷ l) c (omega (arith, n)) ∙ here c (omega (arith, n)) (eqb c x) refl ∙ sym (painted-at (set start x mark) mark l c (omega (arith, n, m))))
+  where
+    either : (t : Bool) → mark ≡ cond t mark mark
+    either true = refl
+    either false = refl
+
+    here : (c : ℕ) → c < length start → (t : Bool) → eqb c x ≡ t → cond (t || memb c l) mark (getD start c 0) ≡ cond (memb c l) mark (getD (set start x mark) c 0)
+    here c h true e =
+        let i : c ≡ x = eqb-true c x e in
+        either (memb c l) ∙ ap (cond (memb c l) mark) (sym (ap (λ (j : ℕ). getD (set start x mark) j 0) i ∙ getD-set-same start x mark 0 (omega arith)))
+    here c h false e = ap (cond (memb c l) mark) (sym (getD-set-other start x c mark 0 (eqb-false c x e)))
+
+-- ---- one set further along a list of sets
+
+-- past the end there is nothing to show, as for a set of nothing
+pub shown-next : (start : List ℕ) (p i : ℕ) (sets : List ℕ)
+    → shown start p (map cores (drop i sets)) ≡ shown (painted start p (cores (getD sets i 0))) (suc p) (map cores (drop (suc i) sets))
+unfolding shown
+shown-next start p i sets = go (ltb i (length sets)) refl
+  where
+    go : (t : Bool) → ltb i (length sets) ≡ t → shown start p (map cores (drop i sets)) ≡ shown (painted start p (cores (getD sets i 0))) (suc p) (map cores (drop (suc i) sets))
+    go true e = ap (λ (l : List ℕ). shown start p (map cores l)) (drop-cons sets i 0 (ltb-true i (length sets) e))
+    go false e =
+        let h : length sets ≤ i = ltb-false i (length sets) e in
+        let k : length sets ≤ suc i = omega arith in
+        ap (λ (l : List ℕ). shown start p (map cores l)) (drop-of-length-le sets h)
+        ∙ sym (ap (λ (l : List ℕ). shown (painted start p (cores (getD sets i 0))) (suc p) (map cores l)) (drop-of-length-le sets k)
+        ∙ ap (painted start p) (ap cores (List·getD-eq-default sets 0 h) ∙ cores-none) ∙ painted-none start p)
+
+pub shown-end : (start : List ℕ) (p i : ℕ) (sets : List ℕ) → length sets ≤ i → shown start p (map cores (drop i sets)) ≡ start
+unfolding shown
+shown-end start p i sets h = ap (λ (l : List ℕ). shown start p (map cores l)) (drop-of-length-le sets h)
+
+-- ---- where no core stands in two lists, the row shows who holds each core
+
+pub length-shown : (start : List ℕ) (p : ℕ) (gs : List (List ℕ)) → length (shown start p gs) ≡ length start
+unfolding shown
+length-shown start p [] = refl
+length-shown start p (g ∷ gs) = length-shown (painted start p g) (suc p) gs ∙ length-painted start p g
+
+module _ (c : ℕ) where
+  -- c stands in none of the lists
+  abbrev Absent : List (List ℕ) → Type 0
+  Absent gs = (j : ℕ) → In c (getD gs j []) → ⊥
+
+  nobody-holds : (p : ℕ) (gs : List (List ℕ)) → Absent gs → owner c p gs ≡ 0
+  unfolding owner
+  nobody-holds p [] h = refl
+  nobody-holds p (g ∷ gs) h = rw (not-true-false (memb c g) (h 0)) (nobody-holds (suc p) gs (λ j. h (suc j)))
+
+  unpainted : (start : List ℕ) (p : ℕ) (gs : List (List ℕ)) → c < length start → Absent gs → getD (shown start p gs) c 0 ≡ getD start c 0
+  unfolding shown
+  unpainted start p [] h k = refl
+  unpainted start p (g ∷ gs) h k =
+      unpainted (painted start p g) (suc p) gs (omega (arith, length-painted start p g)) (λ j. k (suc j))
+      ∙ painted-at start p g c h ∙ ap (λ (t : Bool). cond t p (getD start c 0)) (not-true-false (memb c g) (k 0))
+
+  -- each byte: the owner's position, or the byte of the start row where no one holds the core
+  pub shown-at : (start : List ℕ) (p : ℕ) (gs : List (List ℕ)) → 0 < p → c < length start → Apart gs
+      → getD (shown start p gs) c 0 ≡ cond (eqb (owner c p gs) 0) (getD start c 0) (owner c p gs)
+  unfolding shown owner
+  shown-at start p [] o h a = refl
+  shown-at start p (g ∷ gs) o h a = go (memb c g) refl (shown-at (painted start p g) (suc p) gs (omega arith) (omega (arith, length-painted start p g)) (λ c i j l. a c (suc i) (suc j) (omega arith)))
+    where
+      go : (t : Bool) → memb c g ≡ t
+          → getD (shown (painted start p g) (suc p) gs) c 0 ≡ cond (eqb (owner c (suc p) gs) 0) (getD (painted start p g) c 0) (owner c (suc p) gs)
+          → getD (shown (painted start p g) (suc p) gs) c 0 ≡ cond (eqb (cond t p (owner c (suc p) gs)) 0) (getD start c 0) (cond t p (owner c (suc p) gs))
+      go true e ih =
+          unpainted (painted start p g) (suc p) gs (omega (arith, length-painted start p g)) (λ j k. a c 0 (suc j) (omega arith) e k)
+          ∙ painted-at start p g c h ∙ ap (λ (t : Bool). cond t p (getD start c 0)) e
+          ∙ ap (λ (t : Bool). cond t (getD start c 0) p) (sym (ne-eqb p 0 (λ z. omega arith)))
+      go false e ih =
+          ih ∙ ap (λ (x : ℕ). cond (eqb (owner c (suc p) gs) 0) x (owner c (suc p) gs)) (painted-at start p g c h ∙ ap (λ (t : Bool). cond t p (getD start c 0)) e)
+
+-- ---- the model's row
+
+-- over a row of zeros
+pub shown-zeros : (n c : ℕ) (gs : List (List ℕ)) → c < n → Apart gs → getD (shown (replicate n 0) 1 gs) c 0 ≡ owner c 1 gs
+shown-zeros n c gs h a =
+    shown-at c (replicate n 0) 1 gs (omega arith) (omega (arith, length-replicate {A = ℕ} n 0)) a
+    ∙ ap (λ (x : ℕ). cond (eqb (owner c 1 gs) 0) x (owner c 1 gs)) (getD-replicate n c 0 0 h)
+    ∙ go (eqb (owner c 1 gs) 0) refl
+  where
+    go : (t : Bool) → eqb (owner c 1 gs) 0 ≡ t → cond t 0 (owner c 1 gs) ≡ owner c 1 gs
+    go true e = sym (eqb-true (owner c 1 gs) 0 e)
+    go false e = refl
+
+pub length-row : (m : ℕ) (gs : List (List ℕ)) → length (row m gs) ≡ m
+unfolding row
+length-row m gs = length-map (upFrom 0 m) (λ c. owner c 1 gs) ∙ length-up 0 m
+
+-- the first m bytes are the model's row, and the others 0, where all cores that are given are below m
+pub shown-row : (n m : ℕ) (gs : List (List ℕ)) → m ≤ n → Apart gs → ((c j : ℕ) → In c (getD gs j []) → c < m)
+    → shown (replicate n 0) 1 gs ≡ row m gs ++ replicate (n - m) 0
+unfolding row
+shown-row n m gs h a k =
+    let s : length (shown (replicate n 0) 1 gs) ≡ n = length-shown (replicate n 0) 1 gs ∙ length-replicate {A = ℕ} n 0 in
+    let t : length (map (λ c. owner c 1 gs) (upFrom 0 m)) ≡ m = length-row m gs in
+    ext-getD 0 (shown (replicate n 0) 1 gs) (map (λ c. owner c 1 gs) (upFrom 0 m) ++ replicate (n - m) 0)
+    (omega (arith, s, t, length-append (map (λ c. owner c 1 gs) (upFrom 0 m)) (replicate (n - m) 0), length-replicate {A = ℕ} (n - m) 0))
+    (λ c l. shown-zeros n c gs (omega (arith, s)) a ∙ at c t (omega (arith, s)) (ltb c m) refl)
+  where
+    at : (c : ℕ) → length (map (λ c. owner c 1 gs) (upFrom 0 m)) ≡ m → c < n → (t : Bool) → ltb c m ≡ t → owner c 1 gs ≡ getD (map (λ c. owner c 1 gs) (upFrom 0 m) ++ replicate (n - m) 0) c 0
+    at c t l true e =
+        let q : c < m = ltb-true c m e in
+        sym (List·getD-append (map (λ c. owner c 1 gs) (upFrom 0 m)) (replicate (n - m) 0) 0 c (omega arith)
+        ∙ getD-up (λ c. owner c 1 gs) 0 0 m c q ∙ ap (λ (i : ℕ). owner i 1 gs) (zero-add c))
+    at c t l false e =
+        let q : m ≤ c = ltb-false c m e in
+        let z : c ≡ length (map (λ c. owner c 1 gs) (upFrom 0 m)) + (c - m) = omega arith in
+        nobody-holds c 1 gs (λ j i. let y : c < m = k c j i in omega arith)
+        ∙ sym (ap (λ (i : ℕ). getD (map (λ c. owner c 1 gs) (upFrom 0 m) ++ replicate (n - m) 0) i 0) z
+        ∙ getD-append-add (map (λ c. owner c 1 gs) (upFrom 0 m)) (replicate (n - m) 0) (c - m) 0
+        ∙ getD-replicate (n - m) (c - m) 0 0 (omega arith))
+
+-- so it is with the grants of free cores below m
+pub shown-grants : (r : Rule) (bs : List Claimant) (n m : ℕ) (free : List ℕ) → m ≤ n → Range 0 m free
+    → shown (replicate n 0) 1 (grants r bs free) ≡ row m (grants r bs free) ++ replicate (n - m) 0
+shown-grants r bs n m free h o = shown-row n m (grants r bs free) h (apart r m bs free o) (λ c j i. in-below c 0 m free o (in-grants r c bs free j i))

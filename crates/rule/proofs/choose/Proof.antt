@@ -1,0 +1,157 @@
+-- `rule::choose` meets its contract: in each turn the lowest digit of the rest is the first claimant, so what is chosen and what the rest will be given stay what all are given.
+-- Assumes nothing.
+use borrow.Author.Needs.{needs}
+use borrow.Author.Tests.{lt-ltb, le-ltb}
+use native.Mathlib.Omega.{arith}
+use mathlib.Core.Path.{_≡_, sym, ap, _∙_}
+use mathlib.Core.Bool.{Bool, true, false, _&&_, _||_, and-true, and-false, or-assoc, or-false}
+use mathlib.Core.List.{List}
+use Prim.Native.Nat.{ℕ, _-_, _^_, _≤_, _<_}
+use lib.Bits.{bitOr}
+use lib.Count.{trailingZeros}
+use lib.Dec.{eqb, ltb}
+use lib.ListN.{getD}
+use Rattle.model.specs.Task.{Rule, ruleOf}
+use Rattle.model.specs.Search.{bit}
+use Rattle.model.specs.Grants.{endsChoosing}
+use Rattle.rule.proofs.Digits.{Lowest, Turn, turn, shifted-one, or-bit, bit-power, bit-none}
+use Rattle.rule.proofs.Choosing.{places, places-none, places-fits, places-passed, places-ended}
+use Rattle.rule.proofs.choose.Statement.{statement}
+use Rattle.rule.proofs.choose.Tie as tie
+
+abbrev Inv-loop : tie.InvT-loop
+Inv-loop rule free claims widths ends chosen₀ left₀ rest₀ chosen left rest =
+    (rest < 2 ^ 32) × ((p : ℕ) → bit chosen p || places (ruleOf rule) widths rest left p ≡ places (ruleOf rule) widths claims free p)
+
+abbrev μ-loop : tie.MeasureT-loop
+μ-loop rule free claims widths ends chosen₀ left₀ rest₀ chosen left rest = rest
+
+ends-choosing-requires : tie.Need-ends-choosing-requires Inv-loop μ-loop
+ends-choosing-requires c κs = search needs
+
+loop-holds : tie.Need-loop-holds Inv-loop μ-loop
+loop-holds c = (c .before .fits .claims .fits, λ p. rw bit-none)
+
+-- ---- one turn, at the lowest digit q of the rest x; y is the rest after it
+
+module _ (r : Rule) (ws : List ℕ) (x y q n chosen : ℕ) (l : Lowest x q) (e : y ≡ x - 2 ^ q) (p : ℕ) where
+  -- it fits: what the rest was given is q, where it has a width, and what is given below
+  fits-turn : getD ws q 0 ≤ n → places r ws x n p ≡ (eqb p q && ltb 0 (getD ws q 0)) || places r ws y (n - getD ws q 0) p
+  fits-turn k = rw e (places-fits r ws x q n p l k)
+
+  given-turn : (m : ℕ) → m ≡ 2 ^ q → getD ws q 0 ≤ n → 0 < getD ws q 0 → bit (bitOr chosen m) p || places r ws y (n - getD ws q 0) p ≡ bit chosen p || places r ws x n p
+  given-turn m d k w =
+      let g = places r ws y (n - getD ws q 0) p in
+      let b : bit (bitOr chosen m) p ≡ bit chosen p || eqb p q = or-bit chosen m p ∙ ap (λ (y : ℕ). bit chosen p || bit y p) d ∙ ap (λ (t : Bool). bit chosen p || t) (bit-power q p) in
+      let f : places r ws x n p ≡ eqb p q || g = fits-turn k ∙ ap (λ (t : Bool). eqb p q && t || g) (lt-ltb 0 (getD ws q 0) w) ∙ ap (λ (t : Bool). t || g) (and-true (eqb p q)) in
+      ap (λ (t : Bool). t || g) b ∙ or-assoc (bit chosen p) (eqb p q) g ∙ ap (λ (t : Bool). bit chosen p || t) (sym f)
+
+  empty-turn : getD ws q 0 ≤ n → getD ws q 0 ≤ 0 → bit chosen p || places r ws y (n - getD ws q 0) p ≡ bit chosen p || places r ws x n p
+  empty-turn k w =
+      let g = places r ws y (n - getD ws q 0) p in
+      let f : places r ws x n p ≡ g = fits-turn k ∙ ap (λ (t : Bool). eqb p q && t || g) (le-ltb 0 (getD ws q 0) w) ∙ ap (λ (t : Bool). t || g) (and-false (eqb p q)) in
+      ap (λ (t : Bool). bit chosen p || t) (sym f)
+
+  ended-turn : n < getD ws q 0 → endsChoosing r ≡ true → bit chosen p ≡ bit chosen p || places r ws x n p
+  ended-turn k t = sym (or-false (bit chosen p)) ∙ ap (λ (u : Bool). bit chosen p || u) (sym (places-ended r ws x q n p l k t))
+
+  passed-turn : n < getD ws q 0 → endsChoosing r ≡ false → bit chosen p || places r ws y n p ≡ bit chosen p || places r ws x n p
+  passed-turn k t = ap (λ (u : Bool). bit chosen p || u) (rw e (sym (places-passed r ws x q n p l k t)))
+
+-- ---- the needs
+
+at-turn : (c : tie.In-loop Inv-loop μ-loop) → Turn 32 (c .before .loop .rest)
+at-turn c = turn 32 (c .before .loop .rest) (c .loop-test .taken) (c .before .loop .inv .0)
+
+-- what the rule does with a misfit
+ends : (c : tie.In-loop Inv-loop μ-loop) → c .before .before .ends-choosing .result ≡ endsChoosing (ruleOf (c .before .before .before .args .rule))
+ends c = c .before .before .ends-choosing .ensures
+
+sub-rest : tie.Need-sub-rest Inv-loop μ-loop
+sub-rest c = omega arith
+
+cast-width : tie.Need-cast-width Inv-loop μ-loop
+cast-width c = omega (arith, at-turn c .place)
+
+mul-width : tie.Need-mul-width Inv-loop μ-loop
+mul-width c = omega (arith, at-turn c .place)
+
+element-copy-out-width : tie.Need-element-copy-out-width Inv-loop μ-loop
+element-copy-out-width c = at-turn c .place
+
+shl-chosen : tie.Need-shl-chosen Inv-loop μ-loop
+shl-chosen c = at-turn (c .before .before .before) .place
+
+loop-less : tie.Need-loop-less Inv-loop μ-loop
+loop-less c = at-turn (c .before .before .before) .falls
+
+loop-again : tie.Need-loop-again Inv-loop μ-loop
+loop-again c =
+    let t = c .before .before .before in
+    let a = t .before .before .before .args in
+    let l = t .before .loop in (
+      omega (arith, at-turn t .falls),
+      λ p. given-turn (ruleOf (a .rule)) (a .widths .now) (l .rest) _ (trailingZeros 32 (l .rest)) (l .left) (l .chosen) (at-turn t .lowest) (at-turn t .after) p _ (shifted-one 32 (trailingZeros 32 (l .rest)) (at-turn t .place)) (c .before .if1 .taken) (c .if2 .taken) ∙ l .inv .1 p,
+    )
+
+loop-less-2 : tie.Need-loop-less-2 Inv-loop μ-loop
+loop-less-2 c = at-turn (c .before .before .before) .falls
+
+loop-again-2 : tie.Need-loop-again-2 Inv-loop μ-loop
+loop-again-2 c =
+    let t = c .before .before .before in
+    let a = t .before .before .before .args in
+    let l = t .before .loop in (
+      omega (arith, at-turn t .falls),
+      λ p. empty-turn (ruleOf (a .rule)) (a .widths .now) (l .rest) _ (trailingZeros 32 (l .rest)) (l .left) (l .chosen) (at-turn t .lowest) (at-turn t .after) p (c .before .if1 .taken) (c .if2 .left) ∙ l .inv .1 p,
+    )
+
+returns : tie.Need-returns Inv-loop μ-loop
+returns c p =
+    let t = c .before .before .before in
+    let a = t .before .before .before .args in
+    let l = t .before .loop in
+    ended-turn (ruleOf (a .rule)) (a .widths .now) (l .rest) _ (trailingZeros 32 (l .rest)) (l .left) (l .chosen) (at-turn t .lowest) (at-turn t .after) p (c .before .if1 .left) (sym (ends t) ∙ c .if3 .taken) ∙ l .inv .1 p
+
+loop-less-3 : tie.Need-loop-less-3 Inv-loop μ-loop
+loop-less-3 c = at-turn (c .before .before .before) .falls
+
+loop-again-3 : tie.Need-loop-again-3 Inv-loop μ-loop
+loop-again-3 c =
+    let t = c .before .before .before in
+    let a = t .before .before .before .args in
+    let l = t .before .loop in (
+      omega (arith, at-turn t .falls),
+      λ p. passed-turn (ruleOf (a .rule)) (a .widths .now) (l .rest) _ (trailingZeros 32 (l .rest)) (l .left) (l .chosen) (at-turn t .lowest) (at-turn t .after) p (c .before .if1 .left) (sym (ends t) ∙ c .if3 .left) ∙ l .inv .1 p,
+    )
+
+returns-2 : tie.Need-returns-2 Inv-loop μ-loop
+returns-2 c p =
+    let l = c .before .loop in
+    let a = c .before .before .before .args in
+    let z : l .rest ≡ 0 = omega arith in
+    sym (or-false (bit (l .chosen) p))
+    ∙ ap (λ (t : Bool). bit (l .chosen) p || t) (sym (places-none (ruleOf (a .rule)) (a .widths .now) (l .left) p))
+    ∙ ap (λ (x : ℕ). bit (l .chosen) p || places (ruleOf (a .rule)) (a .widths .now) x (l .left) p) (sym z) ∙ l .inv .1 p
+
+pub choose-spec : {M : Type 1} → statement M
+choose-spec =
+    tie.close
+    (tie.spec
+    Inv-loop
+    μ-loop
+    ends-choosing-requires
+    loop-holds
+    sub-rest
+    cast-width
+    mul-width
+    element-copy-out-width
+    shl-chosen
+    loop-less
+    loop-again
+    loop-less-2
+    loop-again-2
+    returns
+    loop-less-3
+    loop-again-3
+    returns-2)

@@ -1,0 +1,3 @@
+pub mod Cores
+pub mod Shares
+pub mod Painted

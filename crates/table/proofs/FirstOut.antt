@@ -1,0 +1,52 @@
+-- The first task that 7 or 8 turns down: what it is, and how code that keeps the tasks in places finds it.
+use mathlib.Core.Path.{_≡_, refl, sym, ap, _∙_}
+use mathlib.Core.Bool.{true, false}
+use mathlib.Core.List.{List}
+use Prim.Native.Nat.{ℕ, _≤_, _<_}
+use native.Mathlib.Omega.{arith}
+use lib.ListN.{length, getD}
+use Rattle.model.specs.Task as model
+use Rattle.model.specs.Task.{nobody}
+use Rattle.model.proofs.Search.{least-found, least-lowest, least-none}
+use Rattle.table.specs.declared.Task.{Task}
+use Rattle.table.specs.Task.{taskOf, tasksOf, noTask}
+use Rattle.table.specs.Answer.{taskOut, firstOut}
+use Rattle.table.proofs.Searches.{any-none, least-most, least-is}
+use Rattle.table.proofs.Places.{tasks-length, task-at}
+
+-- it is turned down, none before it is, and it is at most the number of tasks
+pub out-found : (m : ℕ) (τs : List model.Task) → firstOut m τs < length τs → taskOut m (getD τs (firstOut m τs) nobody) ≡ true
+unfolding firstOut
+out-found m τs l = least-found (length τs) (λ p. taskOut m (getD τs p nobody)) l
+
+pub out-lowest : (m : ℕ) (τs : List model.Task) (j : ℕ) → j < firstOut m τs → taskOut m (getD τs j nobody) ≡ false
+unfolding firstOut
+out-lowest m τs j l = least-lowest (length τs) (λ p. taskOut m (getD τs p nobody)) j l
+
+pub out-most : (m : ℕ) (τs : List model.Task) → firstOut m τs ≤ length τs
+unfolding firstOut
+out-most m τs = least-most (length τs) (λ p. taskOut m (getD τs p nobody))
+
+module _ (m : ℕ) (tasks : List Task) (count : ℕ) (there : count ≤ length tasks) where
+  -- no task before the place is turned down
+  abbrev pub FineTo : ℕ → Type 0
+  FineTo place = (p : ℕ) → p < place → taskOut m (taskOf (getD tasks p noTask)) ≡ false
+
+  pub out-here : (place : ℕ) → place < count → FineTo place → taskOut m (taskOf (getD tasks place noTask)) ≡ true → place ≡ firstOut m (tasksOf tasks count)
+  unfolding firstOut
+  out-here place l fine out =
+      let n = tasks-length tasks count there in
+      sym
+      (least-is (length (tasksOf tasks count)) (λ p. taskOut m (getD (tasksOf tasks count) p nobody)) place (omega arith)
+      (ap (taskOut m) (task-at tasks count place l) ∙ out)
+      (λ p h. ap (taskOut m) (task-at tasks count p (omega arith)) ∙ fine p h))
+
+  pub out-none : FineTo count → count ≡ firstOut m (tasksOf tasks count)
+  unfolding firstOut
+  out-none fine =
+      let n = tasks-length tasks count there in
+      sym n
+      ∙ sym
+      (least-none (length (tasksOf tasks count)) (λ p. taskOut m (getD (tasksOf tasks count) p nobody))
+      (any-none (length (tasksOf tasks count)) (λ p. taskOut m (getD (tasksOf tasks count) p nobody))
+      (λ p h. ap (taskOut m) (task-at tasks count p (omega arith)) ∙ fine p (omega arith))))

@@ -1,0 +1,54 @@
+-- What a table has whose header passes 1 to 4.
+use mathlib.Core.Path.{_≡_, refl}
+use mathlib.Core.Bool.{Bool, true, false, cond}
+use mathlib.Core.List.{List}
+use mathlib.Core.Logic.{inl, inr}
+use Prim.Native.Nat.{ℕ, _-_, _%_, _≤_, _<_}
+use native.Mathlib.Omega.{arith}
+use lib.ListN.{length}
+use lib.Dec.{eqb}
+use borrow.Author.Tests.{eqb-true, eqb-false}
+use Rattle.table.specs.Words.{head, cores, rule, records}
+use Rattle.table.specs.Limits.{CoresOut, RuleOut, coresOut, ruleOut}
+use Rattle.table.specs.Numbers.{WordsOut}
+use Rattle.table.specs.Answer.{wordsOut, headerNumber}
+use Rattle.table.proofs.Decide.{fails}
+use Rattle.table.proofs.Tests.{words-decides, cores-decides, rule-decides}
+
+-- none of 1 to 4 applies
+pub record HeaderFine (ws : List ℕ) : Type 0 where
+  pub words-in : ¬ WordsOut ws
+  pub cores-in : ¬ CoresOut (cores ws)
+  pub rule-in : ¬ RuleOut (rule ws)
+  pub headed : ¬ (head ws ≡ 0)
+
+pub header-fine : (ws : List ℕ) → headerNumber ws ≡ 0 → HeaderFine ws
+unfolding headerNumber
+header-fine ws = go (wordsOut ws) refl (coresOut (cores ws)) refl (ruleOut (rule ws)) refl (eqb (head ws) 0) refl
+  where
+    go : (s : Bool) → wordsOut ws ≡ s → (t : Bool) → coresOut (cores ws) ≡ t → (u : Bool) → ruleOut (rule ws) ≡ u → (v : Bool) → eqb (head ws) 0 ≡ v
+        → _≡_ {A = ℕ} (cond s 1 (cond t 2 (cond u 3 (cond v 4 0)))) 0 → HeaderFine ws
+    go true e t f u g v h z = absurd (omega arith)
+    go false e true f u g v h z = absurd (omega arith)
+    go false e false f true g v h z = absurd (omega arith)
+    go false e false f false g true h z = absurd (omega arith)
+    go false e false f false g false h z = record {
+      words-in = fails (wordsOut ws) (WordsOut ws) (words-decides ws) e;
+      cores-in = fails (coresOut (cores ws)) (CoresOut (cores ws)) (cores-decides (cores ws)) f;
+      rule-in = fails (ruleOut (rule ws)) (RuleOut (rule ws)) (rule-decides (rule ws)) g;
+      headed = eqb-false (head ws) 0 h;
+    }
+
+-- the words are three and whole records, at most 32
+pub words-long : (ws : List ℕ) → ¬ WordsOut ws → 3 ≤ length ws
+words-long ws n = let long : ¬ (length ws < 3) = λ l. n (inl l) in omega arith
+
+pub words-whole : (ws : List ℕ) → ¬ WordsOut ws → (length ws - 3) % 6 ≡ 0
+words-whole ws n = go (eqb ((length ws - 3) % 6) 0) refl
+  where
+    go : (t : Bool) → eqb ((length ws - 3) % 6) 0 ≡ t → (length ws - 3) % 6 ≡ 0
+    go true e = eqb-true ((length ws - 3) % 6) 0 e
+    go false e = absurd (n (inr (inl (eqb-false ((length ws - 3) % 6) 0 e))))
+
+pub words-few : (ws : List ℕ) → ¬ WordsOut ws → records ws ≤ 32
+words-few ws n = let few : ¬ (32 < records ws) = λ l. n (inr (inr l)) in omega arith

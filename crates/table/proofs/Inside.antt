@@ -1,0 +1,47 @@
+-- A task that neither 7 nor 8 turns down is within the limits.
+use mathlib.Core.Path.{_≡_}
+use mathlib.Core.Bool.{false}
+use mathlib.Core.Logic.{_⊎_, inl, inr}
+use Prim.Native.Nat.{ℕ, _≤_, _<_}
+use native.Mathlib.Omega.{arith}
+use Rattle.model.specs.Task.{Task, Sound}
+use Rattle.table.specs.Limits.{From, from, WidthOut, TimesOut}
+use Rattle.table.specs.Answer.{taskOut}
+use Rattle.table.proofs.Decide.{stable, fails}
+use Rattle.table.proofs.Tests.{from-decides, task-decides}
+
+-- v 1 to the core count; O 0 to 1,000,000; C and T 1 to 1,000,000; D 1 to T
+pub record Inside (m : ℕ) (τ : Task) : Type 0 where
+  pub width-from : From 1 m (τ .width)
+  pub offset-most : τ .offset ≤ 1000000
+  pub length-from : From 1 1000000 (τ .length)
+  pub period-from : From 1 1000000 (τ .period)
+  pub deadline-from : From 1 (τ .period) (τ .deadline)
+
+within : (a b x : ℕ) → ¬ (¬ From a b x) → From a b x
+within a b x n = stable (from a b x) (From a b x) (from-decides a b x) n
+
+pub inside : (m : ℕ) (τ : Task) → ¬ (WidthOut m τ ⊎ TimesOut τ) → Inside m τ
+inside m τ n =
+    let zero : ¬ (τ .width ≡ 0) = λ e. n (inl (inl e)) in
+    let wide : ¬ (m < τ .width) = λ e. n (inl (inr e)) in
+    let late : ¬ (1000000 < τ .offset) = λ e. n (inr (inl e)) in
+    record {
+      width-from = omega arith;
+      offset-most = omega arith;
+      length-from = within 1 1000000 (τ .length) (λ e. n (inr (inr (inl e))));
+      period-from = within 1 1000000 (τ .period) (λ e. n (inr (inr (inr (inl e)))));
+      deadline-from = within 1 (τ .period) (τ .deadline) (λ e. n (inr (inr (inr (inr e)))));
+    }
+
+pub inside-test : (m : ℕ) (τ : Task) → taskOut m τ ≡ false → Inside m τ
+inside-test m τ e = inside m τ (fails (taskOut m τ) (WidthOut m τ ⊎ TimesOut τ) (task-decides m τ) e)
+
+-- and so within what the theorems of the model ask
+pub inside-sound : (m : ℕ) (τ : Task) → Inside m τ → Sound τ
+inside-sound m τ i = record {
+  width-pos = i .width-from .0;
+  length-pos = i .length-from .0;
+  deadline-pos = i .deadline-from .0;
+  constrained = i .deadline-from .1;
+}

@@ -1,0 +1,125 @@
+-- What code gives at each stage of `load` is what the definitions say.
+use mathlib.Core.Path.{_≡_, refl, sym, ap, _∙_, subst}
+use mathlib.Core.Bool.{Bool, true, false, cond}
+use mathlib.Core.List.{List, [], _∷_, _++_, map}
+use Prim.Native.Nat.{ℕ, zero, suc, _+_, _-_, min, _≤_, _<_}
+use native.Mathlib.Omega.{arith}
+use lib.Dec.{eqb, ltb}
+use lib.ListN.{length, getD, take, drop, replicate, length-map}
+use lib.Seq.{take-at, drop-at}
+use borrow.Author.Tests.{eq-eqb, ne-eqb, lt-ltb, le-ltb, ltb-false}
+use Rattle.model.specs.Task as model
+use Rattle.model.specs.Task.{nobody}
+use Rattle.model.specs.Horizon.{lastS, hyperperiod, horizon}
+use Rattle.table.specs.declared.Task.{Task}
+use Rattle.table.specs.declared.Answer.the-variants.{Passed, Refused}
+use Rattle.table.specs.declared.Loaded.{Loaded}
+use Rattle.table.specs.declared.chain.Ending.the-variants.{Past, Again, Whole}
+use Rattle.table.specs.Task.{taskOf, tasksOf, noTask, InLimits}
+use Rattle.table.specs.Words.{cores, rule, count, tableOf}
+use Rattle.table.specs.Limits.{widthOut, horizonOut}
+use Rattle.table.specs.Answer.{headerNumber, taskOut, firstOut, byHorizon, byTasks, endingOf, byEnding, byWalk, answerOf}
+use Rattle.table.specs.Load.{placed, places, passing, refusal, answered, tableWith, loadOf}
+use Rattle.table.proofs.Places.{tasks-length, task-at}
+use Rattle.table.proofs.Tasks.{table-length}
+use Rattle.table.proofs.FirstOut.{out-lowest}
+use Rattle.table.proofs.Inside.{inside-test}
+use Rattle.table.proofs.Hyperperiods.{exceeds-capped, capped-exact}
+
+-- the tasks that stand in the places
+placed-back : (τs : List model.Task) → map taskOf (map placed τs) ≡ τs
+placed-back [] = refl
+placed-back (τ ∷ τs) = ap {B = List model.Task} (λ ts. τ ∷ ts) (placed-back τs)
+
+pub places-tasks : (τs : List model.Task) → tasksOf (places τs) (length τs) ≡ τs
+places-tasks τs =
+    ap (map taskOf) (take-at (map placed τs) (replicate (32 - length τs) noTask) (length τs) (length-map τs placed)) ∙ placed-back τs
+
+-- so the places of a walk that ended at the zero hold the tasks of the words
+pub walked-tasks : (ws : List ℕ) (tasks : List Task) (many : ℕ) → tasks ≡ places (tableOf ws .tasks) → many ≡ count ws → tasksOf tasks many ≡ tableOf ws .tasks
+walked-tasks ws tasks many e n = rw (e, n ∙ sym (table-length ws)) (places-tasks (tableOf ws .tasks))
+
+pub places-past : (τs : List model.Task) → drop (length τs) (places τs) ≡ replicate (32 - length τs) noTask
+places-past τs = drop-at (map placed τs) (replicate (32 - length τs) noTask) (length τs) (length-map τs placed)
+
+-- THE HORIZON
+
+-- P capped decides 9 ..
+pub horizon-test : (s : model.Table) (start period : ℕ) → start ≡ lastS (s .tasks) → period ≡ min (hyperperiod (s .tasks)) 10000001
+    → horizonOut (start + period) ≡ horizonOut (horizon s)
+unfolding horizon
+horizon-test s start period e f = rw (e, f) (exceeds-capped 10000000 (lastS (s .tasks)) (hyperperiod (s .tasks)))
+
+pub by-far : (s : model.Table) (l : Loaded) → horizonOut (horizon s) ≡ true → answered (byHorizon s) l ≡ refusal 9 0
+unfolding byHorizon
+by-far s l e = rw e
+
+pub by-near : (s : model.Table) (l : Loaded) → horizonOut (horizon s) ≡ false → answered (byHorizon s) l ≡ l
+unfolding byHorizon
+by-near s l e = rw e
+
+-- .. and where it does not exceed, the table is made of it
+pub made : (m r : ℕ) (tasks : List Task) (count start period : ℕ) → count ≤ length tasks → tasks ≡ places (tasksOf tasks count)
+    → start ≡ lastS (tasksOf tasks count) → period ≡ min (hyperperiod (tasksOf tasks count)) 10000001 → horizonOut (start + period) ≡ false
+    → _≡_ {A = Loaded}
+    (record { answer = Passed; count = count; cores = m; rule = r; tasks = tasks; start = start; period = period; horizon = start + period })
+    (passing r (tableWith m r (tasksOf tasks count)))
+unfolding horizon
+made m r tasks count start period there whole e f near =
+    let counted = sym (tasks-length tasks count there) in
+    let most : start + period ≤ 10000000 = ltb-false 10000000 (start + period) near in
+    let exact : period ≡ hyperperiod (tasksOf tasks count) =
+    f ∙ capped-exact 10000000 start (hyperperiod (tasksOf tasks count)) (omega arith) in
+    let sum : start + period ≡ lastS (tasksOf tasks count) + hyperperiod (tasksOf tasks count) = omega arith in
+    λ i. record { answer = Passed; count = counted i; cores = m; rule = r; tasks = whole i; start = e i; period = exact i; horizon = sum i }
+
+-- THE TASKS
+
+module _ (s : model.Table) (l : Loaded) (place : ℕ) (out : firstOut (s .cores) (s .tasks) ≡ place) where
+  pub by-width : place < length (s .tasks) → widthOut (s .cores) (model.task s place) ≡ true → answered (byTasks s) l ≡ refusal 7 (suc place)
+  unfolding byTasks
+  by-width h w = rw (out, lt-ltb place (length (s .tasks)) h, w)
+
+  pub by-times : place < length (s .tasks) → widthOut (s .cores) (model.task s place) ≡ false → answered (byTasks s) l ≡ refusal 8 (suc place)
+  unfolding byTasks
+  by-times h w = rw (out, lt-ltb place (length (s .tasks)) h, w)
+
+  pub by-none : length (s .tasks) ≤ place → answered (byTasks s) l ≡ answered (byHorizon s) l
+  unfolding byTasks
+  by-none h = rw (out, le-ltb place (length (s .tasks)) h)
+
+-- where no task is turned down, each is within its limits
+pub in-limits : (m : ℕ) (tasks : List Task) (count : ℕ) → count ≤ firstOut m (tasksOf tasks count) → InLimits tasks count
+in-limits m tasks count l p h =
+    let i = inside-test m (taskOf (getD tasks p noTask)) (ap (taskOut m) (sym (task-at tasks count p h)) ∙ out-lowest m (tasksOf tasks count) p (omega arith)) in
+    record { offset-most = i .offset-most; period-least = i .period-from .0; period-most = i .period-from .1 }
+
+-- THE HEADER AND THE WALK
+
+table-with : (ws : List ℕ) → tableWith (cores ws) (rule ws) (tableOf ws .tasks) ≡ tableOf ws
+unfolding tableOf
+table-with ws = refl
+
+pub load-header : (ws : List ℕ) → (headerNumber ws ≡ 0 → ⊥) → loadOf ws ≡ refusal (headerNumber ws) 0
+unfolding loadOf answerOf
+load-header ws n = rw (ne-eqb (headerNumber ws) 0 n)
+
+module _ (ws : List ℕ) (fine : headerNumber ws ≡ 0) where
+  pub load-past : endingOf ws ≡ Past → loadOf ws ≡ refusal 5 0
+  unfolding loadOf answerOf byWalk
+  load-past e = rw (fine, e)
+
+  pub load-again : endingOf ws ≡ Again → loadOf ws ≡ refusal 6 0
+  unfolding loadOf answerOf byWalk
+  load-again e = rw (fine, e)
+
+  load-tasks : endingOf ws ≡ Whole → loadOf ws ≡ answered (byTasks (tableOf ws)) (passing (rule ws) (tableOf ws))
+  unfolding loadOf answerOf byWalk
+  load-tasks e = rw (fine, e)
+
+  pub load-whole : endingOf ws ≡ Whole → (tasks : List Task) (many : ℕ) → tasks ≡ places (tableOf ws .tasks) → many ≡ count ws
+      → answered (byTasks (tableWith (cores ws) (rule ws) (tasksOf tasks many))) (passing (rule ws) (tableWith (cores ws) (rule ws) (tasksOf tasks many))) ≡ loadOf ws
+  load-whole e tasks many h n =
+      ap (λ (τs : List model.Task). answered (byTasks (tableWith (cores ws) (rule ws) τs)) (passing (rule ws) (tableWith (cores ws) (rule ws) τs))) (walked-tasks ws tasks many h n)
+      ∙ ap (λ (s : model.Table). answered (byTasks s) (passing (rule ws) s)) (table-with ws)
+      ∙ sym (load-tasks e)

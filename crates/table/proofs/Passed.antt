@@ -1,0 +1,89 @@
+-- What a table has that passes 1 to 9.
+use mathlib.Core.Path.{_≡_, refl, sym, ap, _∙_, subst}
+use mathlib.Core.Bool.{Bool, true, false, cond}
+use mathlib.Core.List.{List}
+use mathlib.Core.Logic.{_⊎_, inl, inr, ⊎-elim, _↔_}
+use Prim.Native.Nat.{ℕ, zero, suc, _-_, _≤_, _<_}
+use native.Mathlib.Omega.{arith}
+use lib.ListN.{length, getD}
+use lib.Dec.{eqb}
+use borrow.Author.Tests.{ltb-false, eqb-true, eqb-false}
+use Rattle.model.specs.Task.{task, AllSound}
+use Rattle.model.specs.Horizon.{horizon}
+use Rattle.model.proofs.Bools.{not-true-false}
+use Rattle.table.specs.declared.chain.Ending.the-variants.{Past, Again, Whole}
+use Rattle.table.specs.Words.{head, cores, rule, records, met, count, taskAt, tableOf}
+use Rattle.table.specs.Limits.{From, from, CoresOut, RuleOut, WidthOut, TimesOut, HorizonOut}
+use Rattle.table.specs.Numbers.{WordsOut, EndAt, Applies, one, two, three, four, five, six, seven, eight, nine, NoneApplies}
+use Rattle.table.specs.Answer.{headerNumber, pastAt, againAt, lastStep, endingOf}
+use Rattle.table.proofs.Decide.{stable, fails, decides-eq, decides-or}
+use Rattle.table.proofs.Tests.{from-decides}
+use Rattle.table.proofs.Walk.{last-comes, last-ends, comes-short, ends-there, five-decides, six-decides}
+use Rattle.table.proofs.HeaderFine.{header-fine, words-few}
+use Rattle.table.proofs.Tasks.{table-length, table-at}
+use Rattle.table.proofs.Inside.{Inside, inside, inside-sound}
+
+-- THE COUNT
+
+-- a chain that ends at the zero and has a head has 1 to 32 records, of at most 32
+count-from : (ws : List ℕ) → ¬ WordsOut ws → ¬ (head ws ≡ 0) → pastAt ws (lastStep ws) ≡ false → againAt ws (lastStep ws) ≡ false → From 1 32 (count ws)
+unfolding met
+count-from ws w headed p a =
+    let few = words-few ws w in
+    let short = comes-short ws (lastStep ws) (last-comes ws) in
+    let same = ends-there ws (lastStep ws) (last-comes ws) (last-ends ws p a) in
+    let some : ¬ (lastStep ws ≡ 0) = λ z. headed (subst (EndAt ws) z (last-ends ws p a)) in
+    omega arith
+
+pub whole-count : (ws : List ℕ) → headerNumber ws ≡ 0 → endingOf ws ≡ Whole → From 1 32 (count ws)
+unfolding endingOf
+whole-count ws h = go (pastAt ws (lastStep ws)) refl (againAt ws (lastStep ws)) refl
+  where
+    go : (t : Bool) → pastAt ws (lastStep ws) ≡ t → (u : Bool) → againAt ws (lastStep ws) ≡ u → cond t Past (cond u Again Whole) ≡ Whole → From 1 32 (count ws)
+    go true p u a e = let z : _≡_ {A = ℕ} 0 1 = cc in absurd (omega arith)
+    go false p true a e = let z : _≡_ {A = ℕ} 0 1 = cc in absurd (omega arith)
+    go false p false a e = let fine = header-fine ws h in count-from ws (fine .words-in) (fine .headed) p a
+
+-- WHAT PASSES
+
+module _ (ws : List ℕ) (none : NoneApplies ws) where
+  -- 1 to 32 tasks
+  pub passed-count : From 1 32 (length (tableOf ws .tasks))
+  passed-count =
+      let n = table-length ws in
+      rw n (count-from ws (λ h. none 1 0 (one h)) (λ h. none 4 0 (four h))
+      (not-true-false (pastAt ws (lastStep ws)) (λ e. none 5 0 (five-decides ws .0 e)))
+      (not-true-false (againAt ws (lastStep ws)) (λ e. none 6 0 (six-decides ws .0 e))))
+
+  -- 1 to 64 cores
+  pub passed-cores : From 1 64 (cores ws)
+  passed-cores = stable (from 1 64 (cores ws)) (From 1 64 (cores ws)) (from-decides 1 64 (cores ws)) (λ h. none 2 0 (two h))
+
+  -- rule 1, 2 or 3
+  pub passed-rule : (rule ws ≡ 1) ⊎ ((rule ws ≡ 2) ⊎ (rule ws ≡ 3))
+  passed-rule =
+      stable _ ((rule ws ≡ 1) ⊎ ((rule ws ≡ 2) ⊎ (rule ws ≡ 3)))
+      (decides-or _ _ _ _ (decides-eq (rule ws) 1) (decides-or _ _ _ _ (decides-eq (rule ws) 2) (decides-eq (rule ws) 3)))
+      (λ h. none 3 0 (three h))
+
+  -- each task is within its limits
+  pub passed-inside : (p : ℕ) → p < length (tableOf ws .tasks) → Inside (cores ws) (task (tableOf ws) p)
+  passed-inside p l =
+      let n = table-length ws in
+      let e : suc p - 1 ≡ p = omega arith in
+      let i : Inside (cores ws) (taskAt ws (suc p)) =
+      inside (cores ws) (taskAt ws (suc p))
+      (λ x. ⊎-elim (λ h. none 7 (suc p) (seven (suc p) (omega arith) h)) (λ h. none 8 (suc p) (eight (suc p) (omega arith) h)) x) in
+      rw (table-at ws p (omega arith)) (rw e at i)
+
+  -- so the theorems of the model hold of it
+  pub passed-sound : AllSound (tableOf ws)
+  passed-sound p l = inside-sound (cores ws) (task (tableOf ws) p) (passed-inside p l)
+
+  -- no width is above the core count
+  pub passed-widths : (p : ℕ) → p < length (tableOf ws .tasks) → task (tableOf ws) p .width ≤ cores ws
+  passed-widths p l = passed-inside p l .width-from .1
+
+  -- the horizon is at most 10,000,000
+  pub passed-horizon : horizon (tableOf ws) ≤ 10000000
+  passed-horizon = let near : ¬ (10000000 < horizon (tableOf ws)) = λ h. none 9 0 (nine h) in omega arith

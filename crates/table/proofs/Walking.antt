@@ -1,0 +1,172 @@
+-- The walk as code makes it: a place for each task met, a mark for each record met.
+use mathlib.Core.Path.{_≡_, refl, sym, ap, _∙_, subst}
+use mathlib.Core.Bool.{Bool, true, false, cond, _||_, or-false, or-true}
+use mathlib.Core.List.{List, [], _∷_, _++_, map, append-assoc}
+use mathlib.Core.Logic.{inl, inr}
+use Prim.Native.Nat.{ℕ, zero, suc, _+_, _-_, _≤_, _<_}
+use native.Mathlib.Omega.{arith}
+use native.Mathlib.Nat.{zero-add, not-suc-le-zero, eq-or-lt-of-le}
+use lib.Dec.{eqb, ltb}
+use lib.ListN.{length, getD, set, replicate, length-set, length-map, length-replicate, getD-replicate}
+use lib.Seq.{getD-set-same, getD-set-other, set-at}
+use borrow.Author.Tests.{eq-eqb, ne-eqb, eqb-true, eqb-false, lt-ltb, le-ltb}
+use Rattle.model.specs.Search.{any, upFrom}
+use Rattle.model.proofs.Bools.{not-true-false}
+use Rattle.table.specs.declared.Task.{Task}
+use Rattle.table.specs.declared.chain.Ending.the-variants.{Past, Again, Whole}
+use Rattle.table.specs.declared.chain.Walked.{Walked}
+use Rattle.table.specs.Task.{noTask}
+use Rattle.table.specs.Words.{head, records, next, met, count, chain, taskOfRecord, tableOf}
+use Rattle.table.specs.Numbers.{EndAt, PastAt, AgainAt, Comes}
+use Rattle.table.specs.Answer.{pastAt, againAt, stopsAt, lastStep, endingOf}
+use Rattle.table.specs.Load.{placed, places, WalkOf}
+use Rattle.table.proofs.Decide.{fails}
+use Rattle.table.proofs.Tests.{past-decides, again-decides, stops-decides}
+use Rattle.table.proofs.Searches.{any-none}
+use Rattle.table.proofs.Lists.{up-length, up-more, map-more, map-map}
+use Rattle.table.proofs.Tasks.{table-length}
+use Rattle.table.proofs.Walk.{comes-more, comes-short, stops-there, ends-there}
+
+-- the task that the walk meets at step j, as code keeps it
+abbrev metTask : List ℕ → ℕ → Task
+metTask ws j = placed (taskOfRecord ws (met ws j))
+
+-- 32 places, of which the first k hold the tasks met
+abbrev pub placesTo : List ℕ → ℕ → List Task
+placesTo ws k = map (metTask ws) (upFrom 0 k) ++ replicate (32 - k) noTask
+
+-- the walk has come to step k, where it meets `at`
+pub record Walking (ws : List ℕ) (tasks : List Task) (seen : List Bool) (k at : ℕ) : Type 0 where
+  pub comes : Comes ws k
+  pub here : at ≡ met ws k
+  pub tasked : tasks ≡ placesTo ws k
+  pub marks : length seen ≡ 32
+  pub marked : (n : ℕ) → n < 32 → getD seen n false ≡ any k (λ j. eqb (met ws j) (suc n))
+
+pub walking-none : (ws : List ℕ) → Walking ws (replicate 32 noTask) (replicate 32 false) 0 (head ws)
+unfolding met any upFrom
+walking-none ws = record {
+  comes = λ j l. absurd (not-suc-le-zero l);
+  here = refl;
+  tasked = refl;
+  marks = refl;
+  marked = λ n l. getD-replicate 32 n false false l;
+}
+
+-- where the chain ends, these are all its tasks
+places-all : (ws : List ℕ) → placesTo ws (count ws) ≡ places (tableOf ws .tasks)
+unfolding tableOf chain
+places-all ws =
+    let n = table-length ws in
+    rw (n, map-map placed (taskOfRecord ws) (map (met ws) (upFrom 0 (count ws))), map-map (λ n. placed (taskOfRecord ws n)) (met ws) (upFrom 0 (count ws)))
+
+past-not-whole : Past ≡ Whole → ⊥
+past-not-whole e = let z : _≡_ {A = ℕ} 0 1 = cc in omega arith
+
+again-not-whole : Again ≡ Whole → ⊥
+again-not-whole e = let z : _≡_ {A = ℕ} 0 1 = cc in omega arith
+
+module _ (ws : List ℕ) (tasks : List Task) (seen : List Bool) (k at : ℕ) (w : Walking ws tasks seen k at) where
+  module _ (some : at ≡ 0 → ⊥) (inside : at ≤ records ws) (few : records ws ≤ 32) where
+    -- the mark of the record met says whether it is met again
+    mark : getD seen (at - 1) false ≡ againAt ws k
+    mark =
+        let e : suc (at - 1) ≡ met ws k = (let h = w .here in omega arith) in
+        w .marked (at - 1) (omega arith) ∙ ap (λ (n : ℕ). any k (λ j. eqb (met ws j) n)) e
+
+    pub walking-again : getD seen (at - 1) false ≡ true → AgainAt ws k
+    walking-again e = again-decides ws k .0 (sym mark ∙ e)
+
+    module _ (new : getD seen (at - 1) false ≡ false) where
+      goes : Comes ws (suc k)
+      goes =
+          let h = w .here in
+          comes-more ws k (w .comes) (λ e. some (h ∙ e), λ e. omega arith, fails (againAt ws k) (AgainAt ws k) (again-decides ws k) (sym mark ∙ new))
+
+      -- there is a place for its task
+      pub walking-room : k < records ws
+      walking-room = comes-short ws (suc k) goes
+
+      tasked-more : set tasks k (placed (taskOfRecord ws at)) ≡ placesTo ws (suc k)
+      tasked-more =
+          let room = walking-room in
+          let left : 32 - k ≡ suc (32 - suc k) = omega arith in
+          let long : length (map (metTask ws) (upFrom 0 k)) ≡ k = length-map (upFrom 0 k) (metTask ws) ∙ up-length 0 k in
+          let before : tasks ≡ map (metTask ws) (upFrom 0 k) ++ replicate (suc (32 - suc k)) noTask = w .tasked ∙ ap (λ (m : ℕ). map (metTask ws) (upFrom 0 k) ++ replicate m noTask) left in
+          let more : map (metTask ws) (upFrom 0 (suc k)) ≡ map (metTask ws) (upFrom 0 k) ++ (metTask ws k ∷ []) =
+          ap (map (metTask ws)) (up-more 0 k) ∙ map-more (metTask ws) (upFrom 0 k) (0 + k) ∙ ap (λ (m : ℕ). map (metTask ws) (upFrom 0 k) ++ (metTask ws m ∷ [])) (zero-add k) in
+          ap (λ (ts : List Task). set ts k (placed (taskOfRecord ws at))) before
+          ∙ set-at (map (metTask ws) (upFrom 0 k)) noTask (replicate (32 - suc k) noTask) (placed (taskOfRecord ws at)) k long
+          ∙ ap (λ (n : ℕ). map (metTask ws) (upFrom 0 k) ++ (placed (taskOfRecord ws n) ∷ replicate (32 - suc k) noTask)) (w .here)
+          ∙ sym (append-assoc (map (metTask ws) (upFrom 0 k)) (metTask ws k ∷ []) (replicate (32 - suc k) noTask))
+          ∙ ap (λ (ts : List Task). ts ++ replicate (32 - suc k) noTask) (sym more)
+
+      marked-more : (n : ℕ) → n < 32 → getD (set seen (at - 1) true) n false ≡ any (suc k) (λ j. eqb (met ws j) (suc n))
+      unfolding any
+      marked-more n l = go (eqb n (at - 1)) refl
+        where
+          h : at ≡ met ws k
+          h = w .here
+
+          m : length seen ≡ 32
+          m = w .marks
+
+          go : (t : Bool) → eqb n (at - 1) ≡ t → getD (set seen (at - 1) true) n false ≡ (any k (λ j. eqb (met ws j) (suc n)) || eqb (met ws k) (suc n))
+          go true e =
+              let q : n ≡ at - 1 = eqb-true n (at - 1) e in
+              let s : met ws k ≡ suc n = omega arith in
+              ap (λ (i : ℕ). getD (set seen (at - 1) true) i false) q ∙ getD-set-same seen (at - 1) true false (omega arith)
+              ∙ sym (ap (λ (b : Bool). any k (λ j. eqb (met ws j) (suc n)) || b) (eq-eqb (met ws k) (suc n) s) ∙ or-true (any k (λ j. eqb (met ws j) (suc n))))
+          go false e =
+              let q : n ≡ at - 1 → ⊥ = eqb-false n (at - 1) e in
+              let s : met ws k ≡ suc n → ⊥ = λ x. q (omega arith) in
+              getD-set-other seen (at - 1) n true false q ∙ w .marked n l
+              ∙ sym (ap (λ (b : Bool). any k (λ j. eqb (met ws j) (suc n)) || b) (ne-eqb (met ws k) (suc n) s) ∙ or-false (any k (λ j. eqb (met ws j) (suc n))))
+
+      -- one step on
+      pub walking-more : Walking ws (set tasks k (placed (taskOfRecord ws at))) (set seen (at - 1) true) (suc k) (next ws at)
+      unfolding met
+      walking-more = record {
+        comes = goes;
+        here = ap (next ws) (w .here);
+        tasked = tasked-more;
+        marks = length-set seen (at - 1) true ∙ w .marks;
+        marked = marked-more;
+      }
+
+  -- the three ends
+  walk-of : stopsAt ws k ≡ true → endingOf ws ≡ cond (pastAt ws k) Past (cond (againAt ws k) Again Whole)
+  unfolding endingOf
+  walk-of e = rw (stops-there ws k (w .comes) e)
+
+  pub walked-past : records ws < at → WalkOf ws (record { ending = Past; count = k; tasks = tasks })
+  walked-past l =
+      let h = w .here in
+      let p = past-decides ws k .1 (omega arith) in
+      record {
+        ending = sym (walk-of (stops-decides ws k .1 (inr (inl (omega arith)))) ∙ rw p);
+        counted = λ e. absurd (past-not-whole e);
+        placed = λ e. absurd (past-not-whole e);
+      }
+
+  pub walked-again : AgainAt ws k → at ≤ records ws → WalkOf ws (record { ending = Again; count = k; tasks = tasks })
+  walked-again a l =
+      let h = w .here in
+      let p : pastAt ws k ≡ false = le-ltb (records ws) (met ws k) (omega arith) in
+      record {
+        ending = sym (walk-of (stops-decides ws k .1 (inr (inr a))) ∙ rw (p, again-decides ws k .1 a));
+        counted = λ e. absurd (again-not-whole e);
+        placed = λ e. absurd (again-not-whole e);
+      }
+
+  pub walked-whole : at ≡ 0 → WalkOf ws (record { ending = Whole; count = k; tasks = tasks })
+  walked-whole z =
+      let h : EndAt ws k = sym (w .here) ∙ z in
+      let p : pastAt ws k ≡ false = le-ltb (records ws) (met ws k) (omega arith) in
+      let a : againAt ws k ≡ false = any-none k (λ j. eqb (met ws j) (met ws k)) (λ j l. ne-eqb (met ws j) (met ws k) (λ e. w .comes j l .0 (e ∙ h))) in
+      let c : count ws ≡ k = ends-there ws k (w .comes) h in
+      record {
+        ending = sym (walk-of (stops-decides ws k .1 (inl h)) ∙ rw (p, a));
+        counted = λ e. sym c;
+        placed = λ e. w .tasked ∙ ap (placesTo ws) (sym c) ∙ places-all ws;
+      }

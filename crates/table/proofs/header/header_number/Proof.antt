@@ -1,0 +1,94 @@
+-- `table::header::header_number` meets its contract: each return rewrites with the tests that led there.
+-- Assumes nothing.
+use mathlib.Core.Path.{_≡_, sym, _∙_}
+use mathlib.Core.Bool.{true, false}
+use denote.Ref.{now}
+use borrow.Author.Needs.{needs}
+use borrow.Author.Tests.{lt-ltb, le-ltb, eq-eqb, ne-eqb}
+use Rattle.table.specs.Words.{cores, rule}
+use Rattle.table.specs.Limits.{coresOut, ruleOut}
+use Rattle.table.specs.Answer.{wordsOut, headerNumber}
+use Rattle.table.proofs.header.header_number.Statement.{statement}
+use Rattle.table.proofs.header.header_number.Tie as tie
+
+-- what the first three tests leave
+words-fine : (c : tie.Else3) → wordsOut (now (c .before .before .before .before .args .words)) ≡ false
+words-fine c = simp (le-ltb _ _ (c .before .before .if1 .left), eq-eqb _ _ (c .before .if2 .left), le-ltb _ _ (c .if3 .left))
+
+cores-fine : (c : tie.Else4) → coresOut (cores (now (c .before .before .before .before .before .before .before .args .words))) ≡ false
+cores-fine c = sym (c .before .cores-out .ensures) ∙ c .if4 .left
+
+rule-fine : (c : tie.Else5) → ruleOut (rule (now (c .before .before .before .before .before .before .before .before .before .before .args .words))) ≡ false
+rule-fine c = sym (c .before .rule-out .ensures) ∙ c .if5 .left
+
+returns : tie.Need-returns
+unfolding headerNumber
+returns c = simp (lt-ltb _ _ (c .if1 .taken))
+
+sub-rest : tie.Need-sub-rest
+sub-rest c = search needs
+
+returns-2 : tie.Need-returns-2
+unfolding headerNumber
+returns-2 c = simp (le-ltb _ _ (c .before .if1 .left), ne-eqb _ _ (c .if2 .taken))
+
+returns-3 : tie.Need-returns-3
+unfolding headerNumber
+returns-3 c = simp (le-ltb _ _ (c .before .before .if1 .left), eq-eqb _ _ (c .before .if2 .left), lt-ltb _ _ (c .if3 .taken))
+
+shared-slice-read-cores-out : tie.Need-shared-slice-read-cores-out
+shared-slice-read-cores-out c = search needs
+
+cores-out-requires : tie.Need-cores-out-requires
+cores-out-requires c κs = search needs
+
+returns-4 : tie.Need-returns-4
+unfolding headerNumber
+returns-4 c = simp (words-fine (c .before .before .before), sym (c .before .cores-out .ensures) ∙ c .if4 .taken)
+
+shared-slice-read-rule-out : tie.Need-shared-slice-read-rule-out
+shared-slice-read-rule-out c = search needs
+
+rule-out-requires : tie.Need-rule-out-requires
+rule-out-requires c κs = search needs
+
+returns-5 : tie.Need-returns-5
+unfolding headerNumber
+returns-5 c =
+    let e = c .before .before .before in
+    simp (words-fine (e .before .before .before), cores-fine e, sym (c .before .rule-out .ensures) ∙ c .if5 .taken)
+
+shared-slice-read-if6 : tie.Need-shared-slice-read-if6
+shared-slice-read-if6 c = search needs
+
+returns-6 : tie.Need-returns-6
+unfolding headerNumber
+returns-6 c =
+    let f = c .before .before in
+    let e = f .before .before .before in
+    simp (words-fine (e .before .before .before), cores-fine e, rule-fine f, eq-eqb _ _ (c .if6 .taken))
+
+returns-7 : tie.Need-returns-7
+unfolding headerNumber
+returns-7 c =
+    let f = c .before .before in
+    let e = f .before .before .before in
+    simp (words-fine (e .before .before .before), cores-fine e, rule-fine f, ne-eqb _ _ (c .if6 .left))
+
+pub header-number-spec : {M : Type 1} → statement M
+header-number-spec =
+    tie.close
+    (tie.spec
+    returns
+    sub-rest
+    returns-2
+    returns-3
+    shared-slice-read-cores-out
+    cores-out-requires
+    returns-4
+    shared-slice-read-rule-out
+    rule-out-requires
+    returns-5
+    shared-slice-read-if6
+    returns-6
+    returns-7)

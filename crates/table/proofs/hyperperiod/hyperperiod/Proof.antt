@@ -1,0 +1,112 @@
+-- `table::hyperperiod::hyperperiod` meets its contract. The loop's invariant: `multiple` is the hyperperiod of the first i
+-- tasks, and at most the limit; the hyperperiod of more tasks is no smaller. Assumes nothing.
+use Prim.Native.Nat.{ℕ, _+_, _*_, _-_, _/_, _≤_, _<_}
+use mathlib.Core.Path.{_≡_, refl, ap, _∙_, subst}
+use borrow.Author.Needs.{needs}
+use native.Mathlib.Nat.{pos-of-dvd-of-pos, lt-of-le-of-lt, le-trans, mul-le-mul, div-le-self}
+use native.Mathlib.Omega.{arith}
+use lib.Dec.{lit<}
+use lib.ListN.{length, getD, take}
+use Rattle.model.specs.Horizon.{hyperperiod}
+use Rattle.table.specs.Task.{tasksOf, noTask, Within}
+use Rattle.table.proofs.Hyperperiods.{hyperperiod-pos, hyperperiod-next, hyperperiod-over, hyperperiod-all}
+use Rattle.table.proofs.hyperperiod.hyperperiod.Statement.{statement}
+use Rattle.table.proofs.hyperperiod.hyperperiod.Tie as tie
+
+abbrev Inv-loop : tie.InvT-loop
+Inv-loop count tasks multiple₀ i₀ multiple i = (i ≤ count) × (multiple ≤ 10000000) × (multiple ≡ hyperperiod (take i (tasksOf tasks count)))
+
+abbrev μ-loop : tie.MeasureT-loop
+μ-loop count tasks multiple₀ i₀ multiple i = count - i
+
+loop-holds : tie.Need-loop-holds Inv-loop μ-loop
+unfolding hyperperiod
+loop-holds c = (search needs, search needs, refl)
+
+mul-period : tie.Need-mul-period Inv-loop μ-loop
+mul-period c = omega arith
+
+element-copy-out-period : tie.Need-element-copy-out-period Inv-loop μ-loop
+element-copy-out-period c = omega arith
+
+cast-period : tie.Need-cast-period Inv-loop μ-loop
+cast-period c = omega (arith, c .before .before .pre .1 (c .before .loop .i) (omega arith))
+
+gcd-requires : tie.Need-gcd-requires Inv-loop μ-loop
+gcd-requires c κs = search needs
+
+div-multiple : tie.Need-div-multiple Inv-loop μ-loop
+div-multiple c =
+    let s = c .before .before in
+    pos-of-dvd-of-pos (c .gcd .ensures .left) (omega (arith, hyperperiod-pos (take (s .loop .i) (tasksOf (s .before .args .t1) (s .before .args .count)))))
+
+mul-multiple : tie.Need-mul-multiple Inv-loop μ-loop
+mul-multiple c =
+    let s = c .before .before in
+    let within : Within (getD (s .before .args .t1) (s .loop .i) noTask) = s .before .pre .1 (s .loop .i) (omega arith) in
+    record { fits = lt-of-le-of-lt (mul-le-mul (le-trans (div-le-self (s .loop .multiple) (c .gcd .result)) (s .loop .inv .1)) (within .period-most)) (lit< tt) }
+
+there : (c : tie.Start Inv-loop μ-loop) → c .args .count ≤ length (c .args .t1)
+there c = let all : length (c .args .t1) ≡ 32 = search needs in omega arith
+
+-- the product is the hyperperiod of one task more
+next :
+    (c : tie.After-gcd Inv-loop μ-loop)
+    → let s = c .before .before in
+    let a = s .before .args in
+    s .loop .multiple / c .gcd .result * getD (a .t1) (s .loop .i) noTask .period ≡ hyperperiod (take (s .loop .i + 1) (tasksOf (a .t1) (a .count)))
+next c =
+    let s = c .before .before in
+    let a = s .before .args in
+    hyperperiod-next (a .t1) (a .count) (s .before .pre .1) (there (s .before))
+    (s .loop .multiple) (s .loop .i) (c .gcd .result) (s .loop .inv .2) (omega arith) (c .gcd .ensures)
+
+returns : tie.Need-returns Inv-loop μ-loop
+returns c =
+    let s = c .before .before .before in
+    let a = s .before .args in
+    hyperperiod-over (a .t1) (a .count) (s .before .pre .1) (there (s .before)) 10000000 (s .loop .i + 1)
+    (subst (λ (n : ℕ). 10000000 < n) (next (c .before)) (c .if1 .taken))
+
+add-i : tie.Need-add-i Inv-loop μ-loop
+add-i c = omega arith
+
+loop-less : tie.Need-loop-less Inv-loop μ-loop
+loop-less c = omega arith
+
+loop-again : tie.Need-loop-again Inv-loop μ-loop
+loop-again c = (omega arith, c .if1 .left, next (c .before))
+
+cast-result : tie.Need-cast-result Inv-loop μ-loop
+cast-result c = omega arith
+
+returns-2 : tie.Need-returns-2 Inv-loop μ-loop
+returns-2 c =
+    let s = c .before in
+    let a = s .before .args in
+    let end : s .loop .i ≡ a .count = omega arith in
+    let whole : s .loop .multiple ≡ hyperperiod (tasksOf (a .t1) (a .count)) =
+    s .loop .inv .2
+    ∙ (ap (λ (i : ℕ). hyperperiod (take i (tasksOf (a .t1) (a .count)))) end
+    ∙ hyperperiod-all (a .t1) (a .count) (s .before .pre .1) (there (s .before))) in
+    omega arith
+
+pub hyperperiod-spec : {M : Type 1} → statement M
+hyperperiod-spec =
+    tie.close
+    (tie.spec
+    Inv-loop
+    μ-loop
+    loop-holds
+    mul-period
+    element-copy-out-period
+    cast-period
+    gcd-requires
+    div-multiple
+    mul-multiple
+    returns
+    add-i
+    loop-less
+    loop-again
+    cast-result
+    returns-2)

@@ -1,0 +1,123 @@
+-- `table::load` meets its contract: its value is `loadOf` of the words at each return, and the value settles what is promised.
+-- Assumes nothing.
+use Prim.Native.Nat.{_≤_, _<_}
+use mathlib.Core.Path.{_≡_, sym, ap, _∙_}
+use denote.Ref.{now}
+use borrow.Author.Needs.{needs}
+use native.Mathlib.Omega.{arith}
+use lib.ListN.{length}
+use Rattle.table.specs.declared.chain.Ending.the-variants.{Whole}
+use Rattle.table.specs.Answer.{headerNumber, endingOf}
+use Rattle.table.specs.Load.{places, refusal}
+use Rattle.table.proofs.HeaderFine.{header-fine, words-long}
+use Rattle.table.proofs.Loads.{walked-tasks, load-header, load-past, load-again, load-whole}
+use Rattle.table.proofs.Passed.{whole-count}
+use Rattle.table.proofs.Promise.{promise}
+use Rattle.table.proofs.load.Statement.{statement}
+use Rattle.table.proofs.load.Tie as tie
+use Rattle.table.proofs.load.Reads as reads
+use Rattle.table.proofs.load.Lts as lts
+use Rattle.table.proofs.by_tasks.Reads as by-tasks-reads
+use Rattle.table.proofs.chain.walk.Reads as walk-reads
+use Rattle.table.proofs.header.header_number.Reads as header-number-reads
+use Rattle.table.proofs.refused.Reads as refused-reads
+
+-- the header passes
+fine : (c : tie.Else1) → headerNumber (now (c .before .before .before .args .words)) ≡ 0
+fine c = sym (c .before .header-number .ensures) ∙ c .if1 .left
+
+long : (c : tie.Else1) → 3 ≤ length (now (c .before .before .before .args .words))
+long c = let ws = now (c .before .before .before .args .words) in words-long ws (header-fine ws (fine c) .words-in)
+
+-- the chain ends at the zero
+whole : (c : tie.After-enum-told3) → endingOf (now (c .before .before .before .before .before .before .args .words)) ≡ Whole
+whole c = sym (c .before .before .walk .ensures .ending) ∙ c .enum-told3 .given .1
+
+header-number-requires : tie.Need-header-number-requires
+header-number-requires c κs = search needs
+
+refused-requires : tie.Need-refused-requires
+refused-requires c κs = search needs
+
+returns : tie.Need-returns
+returns c =
+    let h = c .before .before .header-number .ensures in
+    let ws = now (c .before .before .before .before .args .words) in
+    promise ws (c .refused .result) (c .refused .ensures ∙ ap (λ n. refusal n 0) h ∙ sym (load-header ws (λ e. c .before .if1 .taken (h ∙ e))))
+
+walk-requires : tie.Need-walk-requires
+walk-requires c κs = search needs
+
+enum-told : tie.Need-enum-told
+enum-told c = search needs
+
+refused-requires-2 : tie.Need-refused-requires-2
+refused-requires-2 c κs = search needs
+
+enum-told-2 : tie.Need-enum-told-2
+enum-told-2 c = search needs
+
+refused-requires-3 : tie.Need-refused-requires-3
+refused-requires-3 c κs = search needs
+
+enum-told-3 : tie.Need-enum-told-3
+enum-told-3 c = search needs
+
+shared-slice-read-by-tasks : tie.Need-shared-slice-read-by-tasks
+shared-slice-read-by-tasks c = omega (arith, long (c .before .before .before .before .before))
+
+shared-slice-read-by-tasks-2 : tie.Need-shared-slice-read-by-tasks-2
+shared-slice-read-by-tasks-2 c = omega (arith, long (c .before .before .before .before .before .before))
+
+by-tasks-requires : tie.Need-by-tasks-requires
+by-tasks-requires c κs =
+    let e = c .before .before .before in
+    let w = e .before .before in
+    let ws = now (w .before .before .before .before .args .words) in
+    let told = e .enum-told3 .given .1 in
+    let counted = w .walk .ensures .counted told in
+    let from = whole-count ws (fine (w .before)) (whole e) in
+    let kept = w .walk .ensures .placed told in
+    (omega arith, (omega arith, kept ∙ ap places (sym (walked-tasks ws (w .walk .result .tasks) (w .walk .result .count) kept counted))))
+
+returns-2 : tie.Need-returns-2
+returns-2 c =
+    let w = c .before .before .before in
+    let ws = now (w .before .before .before .before .args .words) in
+    promise ws (c .refused2 .result) (c .refused2 .ensures ∙ sym (load-past ws (fine (w .before)) (sym (w .walk .ensures .ending) ∙ c .before .enum-told .given .1)))
+
+returns-3 : tie.Need-returns-3
+returns-3 c =
+    let w = c .before .before .before in
+    let ws = now (w .before .before .before .before .args .words) in
+    promise ws (c .refused3 .result) (c .refused3 .ensures ∙ sym (load-again ws (fine (w .before)) (sym (w .walk .ensures .ending) ∙ c .before .enum-told2 .given .1)))
+
+returns-4 : tie.Need-returns-4
+returns-4 c =
+    let e = c .before .before .before .before in
+    let w = e .before .before in
+    let ws = now (w .before .before .before .before .args .words) in
+    let told = e .enum-told3 .given .1 in
+    promise ws (c .by-tasks .result)
+    (c .by-tasks .ensures
+    ∙ load-whole ws (fine (w .before)) (whole e) (w .walk .result .tasks) (w .walk .result .count) (w .walk .ensures .placed told) (w .walk .ensures .counted told))
+
+pub load-spec : {M : Type 1} → statement M
+load-spec =
+    tie.close
+    (tie.spec
+    header-number-requires
+    refused-requires
+    returns
+    walk-requires
+    enum-told
+    refused-requires-2
+    enum-told-2
+    refused-requires-3
+    enum-told-3
+    shared-slice-read-by-tasks
+    shared-slice-read-by-tasks-2
+    by-tasks-requires
+    returns-2
+    returns-3
+    returns-4)

@@ -1,0 +1,78 @@
+-- What `load` answers, as a value that computes: the tests of numbers 1 to 9 in the scope's order.
+-- That it is the first number that applies, and passed where none does, are the laws `refusal-exact` and `passed-exact`.
+use mathlib.Core.Bool.{Bool, not, _||_, cond}
+use mathlib.Core.List.{List}
+use Prim.Native.Nat.{ℕ, suc, _-_, _%_}
+use lib.ListN.{length, getD}
+use lib.Dec.{eqb, ltb}
+use Rattle.model.specs.Search.{any, least}
+use Rattle.model.specs.Task.{Task, Table, task, nobody}
+use Rattle.model.specs.Horizon.{horizon}
+use Rattle.table.specs.Words.{head, cores, rule, records, met, tableOf}
+use Rattle.table.specs.Limits.{coresOut, ruleOut, widthOut, timesOut, horizonOut}
+use Rattle.table.specs.declared.chain.Ending.{Ending}
+use Rattle.table.specs.declared.chain.Ending.the-variants.{Past, Again, Whole}
+use Rattle.table.specs.declared.Answer.{Answer}
+use Rattle.table.specs.declared.Answer.the-variants.{Passed, Refused}
+
+-- the words are no table: the test of 1
+abbrev pub wordsOut : List ℕ → Bool
+wordsOut ws = ltb (length ws) 3 || (not (eqb ((length ws - 3) % 6) 0) || ltb 32 (records ws))
+
+-- the first of the numbers 1 to 4 that applies, or 0
+unfoldable pub headerNumber : List ℕ → ℕ
+headerNumber ws =
+    cond (wordsOut ws) 1
+    (cond (coresOut (cores ws)) 2
+    (cond (ruleOut (rule ws)) 3
+    (cond (eqb (head ws) 0) 4 0)))
+
+-- what the walk meets at step k
+abbrev pub pastAt : List ℕ → ℕ → Bool
+pastAt ws k = ltb (records ws) (met ws k)
+
+abbrev pub againAt : List ℕ → ℕ → Bool
+againAt ws k = any k (λ j. eqb (met ws j) (met ws k))
+
+abbrev pub stopsAt : List ℕ → ℕ → Bool
+stopsAt ws k = eqb (met ws k) 0 || (pastAt ws k || againAt ws k)
+
+-- the step at which the walk stops; it meets at most as many records as there are
+unfoldable pub lastStep : List ℕ → ℕ
+lastStep ws = least (suc (records ws)) (stopsAt ws)
+
+-- 7 or 8 applies to a task
+abbrev pub taskOut : ℕ → Task → Bool
+taskOut m τ = widthOut m τ || timesOut τ
+
+-- the first place with such a task, or the number of places
+unfoldable pub firstOut : ℕ → List Task → ℕ
+firstOut m τs = least (length τs) (λ p. taskOut m (getD τs p nobody))
+
+-- 9, or passed
+unfoldable pub byHorizon : Table → Answer
+byHorizon s = cond (horizonOut (horizon s)) (Refused 9 0) Passed
+
+-- 7 or 8 with the first such position, else by the horizon
+unfoldable pub byTasks : Table → Answer
+byTasks s =
+    cond (ltb (firstOut (s .cores) (s .tasks)) (length (s .tasks)))
+    (Refused (cond (widthOut (s .cores) (task s (firstOut (s .cores) (s .tasks)))) 7 8) (suc (firstOut (s .cores) (s .tasks))))
+    (byHorizon s)
+
+-- how the walk ends: past the last record, at a record again, or at the zero
+unfoldable pub endingOf : List ℕ → Ending
+endingOf ws = cond (pastAt ws (lastStep ws)) Past (cond (againAt ws (lastStep ws)) Again Whole)
+
+-- 5 or 6, else by the tasks
+abbrev pub byEnding : Ending → Table → Answer
+byEnding Past s = Refused 5 0
+byEnding Again s = Refused 6 0
+byEnding Whole s = byTasks s
+
+unfoldable pub byWalk : List ℕ → Answer
+byWalk ws = byEnding (endingOf ws) (tableOf ws)
+
+-- 1 to 4, else by the walk
+unfoldable pub answerOf : List ℕ → Answer
+answerOf ws = cond (eqb (headerNumber ws) 0) (byWalk ws) (Refused (headerNumber ws) 0)

@@ -1,0 +1,53 @@
+-- The limits on the header and on a task (scope, 'The table'): for each what it says, and the test that decides it.
+use mathlib.Core.Path.{_≡_}
+use mathlib.Core.Bool.{Bool, not, _&&_, _||_}
+use mathlib.Core.Logic.{_⊎_}
+use Prim.Native.Nat.{ℕ, _≤_, _<_}
+use lib.Dec.{eqb, ltb, leb}
+use Rattle.model.specs.Task.{Task}
+
+-- x is a to b
+abbrev pub From : ℕ → ℕ → ℕ → Type 0
+From a b x = (a ≤ x) × (x ≤ b)
+
+abbrev pub from : ℕ → ℕ → ℕ → Bool
+from a b x = leb a x && leb x b
+
+-- 2: the core count is not 1 to 64
+abbrev pub CoresOut : ℕ → Type 0
+CoresOut m = ¬ From 1 64 m
+
+abbrev pub coresOut : ℕ → Bool
+coresOut m = not (from 1 64 m)
+
+-- 3: the rule is not 1, 2 or 3
+abbrev pub RuleOut : ℕ → Type 0
+RuleOut n = ¬ ((n ≡ 1) ⊎ ((n ≡ 2) ⊎ (n ≡ 3)))
+
+abbrev pub ruleOut : ℕ → Bool
+ruleOut n = not (eqb n 1 || (eqb n 2 || eqb n 3))
+
+-- 7: a task's width is 0 or above the core count
+abbrev pub WidthOut : ℕ → Task → Type 0
+WidthOut m τ = (τ .width ≡ 0) ⊎ (m < τ .width)
+
+abbrev pub widthOut : ℕ → Task → Bool
+widthOut m τ = eqb (τ .width) 0 || ltb m (τ .width)
+
+-- 8: a task's O, C, T or D is outside its limits: O 0 to 1,000,000; C and T 1 to 1,000,000; D 1 to T
+abbrev pub TimesOut : Task → Type 0
+TimesOut τ =
+    (1000000 < τ .offset)
+    ⊎ ((¬ From 1 1000000 (τ .length)) ⊎ ((¬ From 1 1000000 (τ .period)) ⊎ (¬ From 1 (τ .period) (τ .deadline))))
+
+abbrev pub timesOut : Task → Bool
+timesOut τ =
+    ltb 1000000 (τ .offset)
+    || (not (from 1 1000000 (τ .length)) || (not (from 1 1000000 (τ .period)) || not (from 1 (τ .period) (τ .deadline))))
+
+-- 9: the horizon exceeds 10,000,000
+abbrev pub HorizonOut : ℕ → Type 0
+HorizonOut h = 10000000 < h
+
+abbrev pub horizonOut : ℕ → Bool
+horizonOut h = ltb 10000000 h

@@ -1,0 +1,70 @@
+-- Numbers 1 to 9 for what is turned down (scope, 'Numbers for what is turned down'): when each applies, and which is the first.
+use mathlib.Core.Path.{_≡_}
+use mathlib.Core.Bool.{cond}
+use mathlib.Core.List.{List}
+use mathlib.Core.Logic.{_⊎_}
+use Prim.Native.Nat.{ℕ, _-_, _%_, _<_}
+use lib.ListN.{length}
+use lib.Dec.{eqb}
+use Rattle.model.specs.Horizon.{horizon}
+use Rattle.table.specs.Words.{head, cores, rule, records, met, count, taskAt, tableOf}
+use Rattle.table.specs.Limits.{From, CoresOut, RuleOut, WidthOut, TimesOut, HorizonOut}
+
+-- the slice has fewer than 3 words, or the rest is no whole number of records, or there are more than 32
+abbrev pub WordsOut : List ℕ → Type 0
+WordsOut ws = (length ws < 3) ⊎ (((length ws - 3) % 6 ≡ 0 → ⊥) ⊎ (32 < records ws))
+
+-- what the walk can meet at step k: the zero that ends the chain, a number past the last record, a record again
+abbrev pub EndAt : List ℕ → ℕ → Type 0
+EndAt ws k = met ws k ≡ 0
+
+abbrev pub PastAt : List ℕ → ℕ → Type 0
+PastAt ws k = records ws < met ws k
+
+abbrev pub AgainAt : List ℕ → ℕ → Type 0
+AgainAt ws k = (j : ℕ) × (j < k) × (met ws j ≡ met ws k)
+
+-- the walk comes to step k: at no earlier step it met one of these
+abbrev pub Comes : List ℕ → ℕ → Type 0
+Comes ws k = (j : ℕ) → j < k → (¬ EndAt ws j) × (¬ PastAt ws j) × (¬ AgainAt ws j)
+
+-- p is a position on the chain
+abbrev pub Position : List ℕ → ℕ → Type 0
+Position ws p = From 1 (count ws) p
+
+-- number n applies, with position p
+pub data Applies (ws : List ℕ) : ℕ → ℕ → Type 0 where
+  -- 1. The slice has fewer than 3 words, or the rest is no whole number of records, or there are more than 32.
+  one : WordsOut ws → Applies ws 1 0
+  -- 2. The core count is not 1 to 64.
+  two : CoresOut (cores ws) → Applies ws 2 0
+  -- 3. The rule is not 1, 2 or 3.
+  three : RuleOut (rule ws) → Applies ws 3 0
+  -- 4. The head is zero.
+  four : head ws ≡ 0 → Applies ws 4 0
+  -- 5. Walking the chain, a number past the last record is met.
+  five : (k : ℕ) → Comes ws k → PastAt ws k → Applies ws 5 0
+  -- 6. Walking the chain, a record is met again (5 and 6: whichever the walk meets first).
+  six : (k : ℕ) → Comes ws k → AgainAt ws k → Applies ws 6 0
+  -- 7. A task's width is 0 or above the core count.
+  seven : (p : ℕ) → Position ws p → WidthOut (cores ws) (taskAt ws p) → Applies ws 7 p
+  -- 8. A task's O, C, T or D is outside its limits.
+  eight : (p : ℕ) → Position ws p → TimesOut (taskAt ws p) → Applies ws 8 p
+  -- 9. The horizon exceeds 10,000,000.
+  nine : HorizonOut (horizon (tableOf ws)) → Applies ws 9 0
+
+-- checked in this order: by number, but 7 and 8 stand in one place, by position, within a task 7 first
+abbrev pub place : ℕ → ℕ
+place n = cond (eqb n 8) 7 n
+
+-- number m at position q is checked before number n at position p
+abbrev pub Earlier : ℕ → ℕ → ℕ → ℕ → Type 0
+Earlier m q n p = (place m < place n) ⊎ ((place m ≡ place n) × ((q < p) ⊎ ((q ≡ p) × (m < n))))
+
+-- number n is the first that applies, with position p
+abbrev pub First : List ℕ → ℕ → ℕ → Type 0
+First ws n p = Applies ws n p × ((m q : ℕ) → Earlier m q n p → ¬ Applies ws m q)
+
+-- no number applies
+abbrev pub NoneApplies : List ℕ → Type 0
+NoneApplies ws = (n p : ℕ) → ¬ Applies ws n p

@@ -1,0 +1,28 @@
+-- The tasks that code keeps, 32 places with a count, read as the model's tasks.
+use mathlib.Core.List.{List, map}
+use Prim.Native.Nat.{ℕ, _≤_, _<_}
+use lib.ListN.{getD, take}
+use Rattle.model.specs.Task as model
+use Rattle.table.specs.declared.Task.{Task}
+
+-- a task's five numbers, as the model has them
+abbrev pub taskOf : Task → model.Task
+taskOf t = record { offset = t .offset; width = t .width; length = t .length; deadline = t .deadline; period = t .period }
+
+-- the tasks of the first count places, in priority order
+abbrev pub tasksOf : List Task → ℕ → List model.Task
+tasksOf tasks count = map taskOf (take count tasks)
+
+-- no task: what stands past the count
+abbrev pub noTask : Task
+noTask = record { offset = 0; width = 0; length = 0; deadline = 0; period = 0 }
+
+-- the limits on one task that finding S and P asks for: O at most 1,000,000, T from 1 to 1,000,000
+pub record Within (t : Task) : Type 0 where
+  pub offset-most : t .offset ≤ 1000000
+  pub period-least : 1 ≤ t .period
+  pub period-most : t .period ≤ 1000000
+
+-- each of the first count tasks is within them
+abbrev pub InLimits : List Task → ℕ → Type 0
+InLimits tasks count = (p : ℕ) → p < count → Within (getD tasks p noTask)

@@ -1,0 +1,61 @@
+-- The words of a table (scope, 'The table'): its header, its records, and the chain along which they are read.
+use mathlib.Core.List.{List, map}
+use Prim.Native.Nat.{ℕ, zero, suc, _+_, _-_, _*_, _/_}
+use lib.ListN.{length, getD}
+use lib.Dec.{eqb}
+use Rattle.model.specs.Search.{least, upFrom}
+use Rattle.model.specs.Task.{Task, Table, ruleOf}
+
+-- word i, counted from 0
+abbrev pub word : List ℕ → ℕ → ℕ
+word ws i = getD ws i 0
+
+-- word 0 is the head, the number of the record with the highest priority
+abbrev pub head : List ℕ → ℕ
+head ws = word ws 0
+
+-- word 1 the core count
+abbrev pub cores : List ℕ → ℕ
+cores ws = word ws 1
+
+-- word 2 the rule
+abbrev pub rule : List ℕ → ℕ
+rule ws = word ws 2
+
+-- records of six words follow: how many there are
+abbrev pub records : List ℕ → ℕ
+records ws = (length ws - 3) / 6
+
+-- word j of record n, records numbered from 1
+abbrev pub field : List ℕ → ℕ → ℕ → ℕ
+field ws n j = word ws (3 + (n - 1) * 6 + j)
+
+-- next is the number of the record one priority lower
+abbrev pub next : List ℕ → ℕ → ℕ
+next ws n = field ws n 0
+
+-- the others are offset O, width v, length C, deadline D, period T
+abbrev pub taskOfRecord : List ℕ → ℕ → Task
+taskOfRecord ws n =
+    record { offset = field ws n 1; width = field ws n 2; length = field ws n 3; deadline = field ws n 4; period = field ws n 5 }
+
+-- the number that the walk meets at step k: the head, then the next of each record met
+unfoldable pub met : List ℕ → ℕ → ℕ
+met ws zero = head ws
+met ws (suc k) = next ws (met ws k)
+
+-- zero ends the chain: how many records stand on it (in a table that passes 6 it ends within as many steps as there are records)
+unfoldable pub count : List ℕ → ℕ
+count ws = least (suc (records ws)) (λ k. eqb (met ws k) 0)
+
+-- the numbers of the records on the chain, highest priority first
+unfoldable pub chain : List ℕ → List ℕ
+chain ws = map (met ws) (upFrom 0 (count ws))
+
+-- a task's position is its place on the chain, from 1, the highest priority: the task at position p
+abbrev pub taskAt : List ℕ → ℕ → Task
+taskAt ws p = taskOfRecord ws (met ws (p - 1))
+
+-- the table that the words say
+unfoldable pub tableOf : List ℕ → Table
+tableOf ws = record { tasks = map (taskOfRecord ws) (chain ws); cores = cores ws; rule = ruleOf (rule ws) }

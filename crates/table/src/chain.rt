@@ -1,0 +1,82 @@
+ghost use mathlib.Core.Path.{_≡_};
+ghost use Prim.Native.Nat.{_≤_};
+ghost use Rattle.table.specs.Words.{records, taskOfRecord};
+ghost use Rattle.table.specs.Answer.{headerNumber};
+ghost use Rattle.table.specs.Load.{placed, WalkOf};
+use crate::Task;
+
+// How a walk along the chain ends: at the zero, at a number past the last record, at a record met again.
+pub enum Ending {
+    Whole,
+    Past,
+    Again,
+}
+
+// How the walk ended and, where it ended at the zero, the tasks in priority order, zeros past the count.
+pub struct Walked {
+    pub ending: Ending,
+    pub count: usize,
+    pub tasks: [Task; 32],
+}
+
+// The task of a record.
+fn task_of(words: &[u32], number: usize) -> Task
+    requires { ⌜ 1 ≤ number ⌝ ∗ ⌜ number ≤ records (now words) ⌝ }
+    ensures { λ r. ⌜ r ≡ placed (taskOfRecord (now (words .entry)) number) ⌝ }
+{
+    let at = 3 + (number - 1) * 6;
+    Task {
+        offset: words[at + 1],
+        width: words[at + 2],
+        length: words[at + 3],
+        deadline: words[at + 4],
+        period: words[at + 5],
+    }
+}
+
+// The walk along the chain of a table whose header passes.
+pub fn walk(words: &[u32]) -> Walked
+    requires { ⌜ headerNumber (now words) ≡ 0 ⌝ }
+    ensures { λ r. ⌜ WalkOf (now (words .entry)) r ⌝ }
+{
+    let records = (words.len() - 3) / 6;
+    let none = Task {
+        offset: 0,
+        width: 0,
+        length: 0,
+        deadline: 0,
+        period: 0,
+    };
+    let mut tasks = [none; 32];
+    let mut seen = [false; 32];
+    let mut count: usize = 0;
+    let mut at = words[0] as usize;
+    loop {
+        if at == 0 {
+            return Walked {
+                ending: Ending::Whole,
+                count: count,
+                tasks: tasks,
+            };
+        }
+        if records < at {
+            return Walked {
+                ending: Ending::Past,
+                count: count,
+                tasks: tasks,
+            };
+        }
+        if seen[at - 1] {
+            return Walked {
+                ending: Ending::Again,
+                count: count,
+                tasks: tasks,
+            };
+        }
+        seen[at - 1] = true;
+        let task = task_of(words, at);
+        tasks[count] = task;
+        at = words[3 + (at - 1) * 6] as usize;
+        count += 1;
+    }
+}
