@@ -1,9 +1,9 @@
 -- The answer is the first number that applies, with its position, and passed where none applies: each exactly.
-use mathlib.Core.Path.{_≡_, refl, sym, ap, _∙_, subst}
-use mathlib.Core.Bool.{Bool, true, false, cond, _||_, true≢false}
+use mathlib.Core.Path.{_≡_, refl, sym, _∙_, subst}
+use mathlib.Core.Bool.{Bool, true, false, cond, true≢false}
 use mathlib.Core.List.{List}
 use mathlib.Core.Logic.{_⊎_, inl, inr, ⊎-elim, _↔_}
-use Prim.Native.Nat.{ℕ, zero, suc, _-_, _≤_, _<_}
+use Prim.Native.Nat.{ℕ, suc, _-_, _≤_, _<_}
 use native.Mathlib.Omega.{arith}
 use native.Mathlib.Nat.{eq-or-lt-of-le}
 use lib.ListN.{length, getD}
@@ -14,19 +14,16 @@ use Rattle.model.specs.Horizon.{horizon}
 use Rattle.table.specs.declared.chain.Ending.the-variants.{Past, Again, Whole}
 use Rattle.table.specs.declared.Answer.{Answer}
 use Rattle.table.specs.declared.Answer.the-variants.{Passed, Refused}
-use Rattle.table.specs.Words.{head, cores, rule, met, count, taskAt, taskOfRecord, tableOf}
-use Rattle.table.specs.Limits.{CoresOut, RuleOut, WidthOut, TimesOut, HorizonOut, coresOut, ruleOut, widthOut, timesOut, horizonOut}
-use Rattle.table.specs.Numbers.{WordsOut, Comes, PastAt, AgainAt, Position, Applies, one, two, three, four, five, six, seven, eight, nine, place, Earlier, First, NoneApplies}
-use Rattle.table.specs.Answer.{wordsOut, headerNumber, pastAt, againAt, lastStep, taskOut, firstOut, byHorizon, byTasks, endingOf, byEnding, byWalk, answerOf}
-use Rattle.table.proofs.Decide.{Decides, holds, fails, decides-eq, decides-lt}
+use Rattle.table.specs.Words.{head, cores, rule, taskAt, tableOf}
+use Rattle.table.specs.Limits.{CoresOut, RuleOut, WidthOut, TimesOut, HorizonOut, coresOut, ruleOut, widthOut, timesOut, taskNumber, taskOut, horizonOut}
+use Rattle.table.specs.Numbers.{WordsOut, Position, Applies, one, two, three, four, five, six, seven, eight, nine, place, Earlier, First, NoneApplies}
+use Rattle.table.specs.Answer.{wordsOut, headerNumber, pastAt, againAt, lastStep, firstOut, byHorizon, byTasks, endingOf, byEnding, byWalk, answerOf}
+use Rattle.table.proofs.Decide.{Decides, holds, fails, decides-lt}
 use Rattle.table.proofs.Tests.{words-decides, cores-decides, rule-decides, width-decides, times-decides, task-decides}
 use Rattle.table.proofs.Walk.{five-decides, six-decides}
+use Rattle.table.proofs.Order.{earlier-lower, place-of, earlier-task, first-only}
 use Rattle.table.proofs.Tasks.{table-length, table-at}
 use Rattle.table.proofs.FirstOut.{out-found, out-lowest}
-
-or-right-true : (a b : Bool) → a || b ≡ true → a ≡ false → b ≡ true
-or-right-true true b e f = absurd (true≢false f)
-or-right-true false b e f = e
 
 -- numbers are 1 to 9
 applies-from : (ws : List ℕ) (n p : ℕ) → Applies ws n p → (1 ≤ n) × (n ≤ 9)
@@ -78,16 +75,7 @@ eight-says ws q (eight p o h) = (o, h)
 not-nine : (ws : List ℕ) → ¬ HorizonOut (horizon (tableOf ws)) → (q : ℕ) → ¬ Applies ws 9 q
 not-nine ws never q (nine h) = never h
 
--- what is checked before a number other than 7 and 8 is a lower one
-earlier-lower : (m q n : ℕ) → (n ≡ 7 → ⊥) → (n ≡ 8 → ⊥) → Earlier m q n 0 → m < n
-earlier-lower m q n s e = go (eqb m 8) refl (eqb n 8) refl
-  where
-    go : (t : Bool) → eqb m 8 ≡ t → (u : Bool) → eqb n 8 ≡ u
-        → (cond t 7 m < cond u 7 n) ⊎ ((cond t 7 m ≡ cond u 7 n) × ((q < 0) ⊎ ((q ≡ 0) × (m < n)))) → m < n
-    go t a true b x = absurd (e (eqb-true n 8 b))
-    go true a false b x = let y = eqb-true m 8 a in ⊎-elim (λ l. omega arith) (λ l. let z = l .0 in absurd (s (sym z))) x
-    go false a false b x = ⊎-elim (λ l. l) (λ l. ⊎-elim (λ z. omega arith) (λ z. z .1) (l .1)) x
-
+-- a number other than 7 and 8 is the first where no lower one applies
 first-other : (ws : List ℕ) (n : ℕ) → (n ≡ 7 → ⊥) → (n ≡ 8 → ⊥) → Applies ws n 0 → Below ws n → First ws n 0
 first-other ws n s e a b = (a, λ m q l. b m q (earlier-lower m q n s e l))
 
@@ -112,20 +100,6 @@ horizon-right ws b = go (horizonOut (horizon (tableOf ws))) refl
     go : (t : Bool) → horizonOut (horizon (tableOf ws)) ≡ t → Right ws (cond t (Refused 9 0) Passed)
     go true e = first-other ws 9 (λ x. omega arith) (λ x. omega arith) (nine (far .0 e)) b
     go false e = none (fails _ _ far e)
-
--- 7 and 8: the place of each in the order, and what is checked before them
-place-of : (m : ℕ) → ((m ≡ 8) × (place m ≡ 7)) ⊎ ((m ≡ 8 → ⊥) × (place m ≡ m))
-place-of m = go (eqb m 8) refl
-  where
-    go : (t : Bool) → eqb m 8 ≡ t → ((m ≡ 8) × (cond t 7 m ≡ 7)) ⊎ ((m ≡ 8 → ⊥) × (cond t 7 m ≡ m))
-    go true e = inl (eqb-true m 8 e, refl)
-    go false e = inr (eqb-false m 8 e, refl)
-
-earlier-task : (m q n p : ℕ) → place n ≡ 7 → Earlier m q n p → (m < 7) ⊎ (((m ≡ 7) ⊎ (m ≡ 8)) × ((q < p) ⊎ ((q ≡ p) × (m < n))))
-earlier-task m q n p s x =
-    ⊎-elim (λ l. inl (⊎-elim (λ y. let a = y .1 in absurd (omega arith)) (λ y. let a = y .1 in omega arith) (place-of m)))
-    (λ l. inr (⊎-elim (λ y. inr (y .0)) (λ y. inl (sym (y .1) ∙ l .0 ∙ s)) (place-of m), l .1))
-    x
 
 -- neither applies below place i
 abbrev Fine : List ℕ → ℕ → Type 0
@@ -194,17 +168,18 @@ tasks-right ws b = go (ltb out many) refl
         (λ q a. let o = eight-says ws q a .0 in not-eight ws out fine q (omega arith) a)
 
     -- a task that is out by its width, or else by its times
-    which : out < many → (u : Bool) → widthOut m τ ≡ u → First ws (cond u 7 8) (suc out)
-    which l true e =
+    which : out < many → (u : Bool) → widthOut m τ ≡ u → (v : Bool) → timesOut τ ≡ v → First ws (cond u 7 (cond v 8 0)) (suc out)
+    which l true e v f =
         let h = rw (at l) at (holds (widthOut m τ) (WidthOut m τ) (width-decides m τ) e) in
         first-task ws 7 out refl (seven (suc out) (position l) h) b fine (λ x. absurd (omega arith))
-    which l false e =
+    which l false e true f =
         let w = rw (at l) at (fails (widthOut m τ) (WidthOut m τ) (width-decides m τ) e) in
-        let h = rw (at l) at (holds (timesOut τ) (TimesOut τ) (times-decides τ) (or-right-true (widthOut m τ) (timesOut τ) (out-found m (tableOf ws .tasks) l) e)) in
+        let h = rw (at l) at (holds (timesOut τ) (TimesOut τ) (times-decides τ) f) in
         first-task ws 8 out refl (eight (suc out) (position l) h) b fine (λ x a. w (seven-says ws (suc out) a .1))
+    which l false e false f = absurd (true≢false (sym (out-found m (tableOf ws .tasks) l) ∙ rw (e, f)))
 
-    go : (t : Bool) → ltb out many ≡ t → Right ws (cond t (Refused (cond (widthOut m τ) 7 8) (suc out)) (byHorizon (tableOf ws)))
-    go true e = which (ltb-true out many e) (widthOut m τ) refl
+    go : (t : Bool) → ltb out many ≡ t → Right ws (cond t (Refused (taskNumber m τ) (suc out)) (byHorizon (tableOf ws)))
+    go true e = which (ltb-true out many e) (widthOut m τ) refl (timesOut τ) refl
     go false e = horizon-right ws (nine-left (ltb-false out many e))
 
 -- 5 or 6, or by the tasks
@@ -245,33 +220,6 @@ right ws = go (wordsOut ws) refl (coresOut (cores ws)) refl (ruleOut (rule ws)) 
     go false e false f false g true h = first-other ws 4 (λ x. omega arith) (λ x. omega arith) (four (eqb-true (head ws) 0 h)) (four-left e f g)
     go false e false f false g false h =
         walk-right ws (below-more ws 4 (four-left e f g) (not-four ws (eqb-false (head ws) 0 h)))
-
--- of two numbers with their positions one is checked before the other, or they are the same
-order : (a b : ℕ) → (a < b) ⊎ ((b < a) ⊎ (a ≡ b))
-order a b = go (ltb a b) refl (ltb b a) refl
-  where
-    go : (t : Bool) → ltb a b ≡ t → (u : Bool) → ltb b a ≡ u → (a < b) ⊎ ((b < a) ⊎ (a ≡ b))
-    go true e u f = inl (ltb-true a b e)
-    go false e true f = inr (inl (ltb-true b a f))
-    go false e false f = let x = ltb-false a b e in let y = ltb-false b a f in inr (inr (omega arith))
-
-first-only : (ws : List ℕ) (n p m q : ℕ) → First ws n p → First ws m q → (n ≡ m) × (p ≡ q)
-first-only ws n p m q f g =
-    ⊎-elim (λ l. absurd (g .1 n p (inl l) (f .0)))
-    (λ x.
-    ⊎-elim (λ l. absurd (f .1 m q (inl l) (g .0)))
-    (λ e.
-    ⊎-elim (λ l. absurd (g .1 n p (inr (e, inl l)) (f .0)))
-    (λ y.
-    ⊎-elim (λ l. absurd (f .1 m q (inr (sym e, inl l)) (g .0)))
-    (λ i.
-    ⊎-elim (λ l. absurd (g .1 n p (inr (e, inr (i, l))) (f .0)))
-    (λ z. ⊎-elim (λ l. absurd (f .1 m q (inr (sym e, inr (sym i, l))) (g .0))) (λ j. (j, i)) z)
-    (order n m))
-    y)
-    (order p q))
-    x)
-    (order (place n) (place m))
 
 -- what is right of an answer determines it
 settled : (ws : List ℕ) (a : Answer) → Right ws a → ((n p : ℕ) → (a ≡ Refused n p) ↔ First ws n p) × ((a ≡ Passed) ↔ NoneApplies ws)

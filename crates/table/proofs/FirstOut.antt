@@ -1,5 +1,5 @@
 -- The first task that 7 or 8 turns down: what it is, and how code that keeps the tasks in places finds it.
-use mathlib.Core.Path.{_≡_, refl, sym, ap, _∙_}
+use mathlib.Core.Path.{_≡_, sym, ap, _∙_}
 use mathlib.Core.Bool.{true, false}
 use mathlib.Core.List.{List}
 use Prim.Native.Nat.{ℕ, _≤_, _<_}
@@ -10,11 +10,12 @@ use Rattle.model.specs.Task.{nobody}
 use Rattle.model.proofs.Search.{least-found, least-lowest, least-none}
 use Rattle.table.specs.declared.Task.{Task}
 use Rattle.table.specs.Task.{taskOf, tasksOf, noTask}
-use Rattle.table.specs.Answer.{taskOut, firstOut}
-use Rattle.table.proofs.Searches.{any-none, least-most, least-is}
+use Rattle.table.specs.Limits.{taskOut}
+use Rattle.table.specs.Answer.{firstOut}
+use Rattle.table.proofs.Searches.{any-none, least-is}
 use Rattle.table.proofs.Places.{tasks-length, task-at}
 
--- it is turned down, none before it is, and it is at most the number of tasks
+-- it is turned down, and none before it is
 pub out-found : (m : ℕ) (τs : List model.Task) → firstOut m τs < length τs → taskOut m (getD τs (firstOut m τs) nobody) ≡ true
 unfolding firstOut
 out-found m τs l = least-found (length τs) (λ p. taskOut m (getD τs p nobody)) l
@@ -22,10 +23,6 @@ out-found m τs l = least-found (length τs) (λ p. taskOut m (getD τs p nobody
 pub out-lowest : (m : ℕ) (τs : List model.Task) (j : ℕ) → j < firstOut m τs → taskOut m (getD τs j nobody) ≡ false
 unfolding firstOut
 out-lowest m τs j l = least-lowest (length τs) (λ p. taskOut m (getD τs p nobody)) j l
-
-pub out-most : (m : ℕ) (τs : List model.Task) → firstOut m τs ≤ length τs
-unfolding firstOut
-out-most m τs = least-most (length τs) (λ p. taskOut m (getD τs p nobody))
 
 module _ (m : ℕ) (tasks : List Task) (count : ℕ) (there : count ≤ length tasks) where
   -- no task before the place is turned down

@@ -3,11 +3,11 @@ use mathlib.Core.Path.{_≡_, refl}
 use mathlib.Core.Bool.{Bool, true, false, cond}
 use mathlib.Core.List.{List}
 use mathlib.Core.Logic.{inl, inr}
-use Prim.Native.Nat.{ℕ, _-_, _%_, _≤_, _<_}
+use Prim.Native.Nat.{ℕ, _≤_, _<_}
 use native.Mathlib.Omega.{arith}
 use lib.ListN.{length}
 use lib.Dec.{eqb}
-use borrow.Author.Tests.{eqb-true, eqb-false}
+use borrow.Author.Tests.{eqb-false}
 use Rattle.table.specs.Words.{head, cores, rule, records}
 use Rattle.table.specs.Limits.{CoresOut, RuleOut, coresOut, ruleOut}
 use Rattle.table.specs.Numbers.{WordsOut}
@@ -39,16 +39,9 @@ header-fine ws = go (wordsOut ws) refl (coresOut (cores ws)) refl (ruleOut (rule
       headed = eqb-false (head ws) 0 h;
     }
 
--- the words are three and whole records, at most 32
+-- there are three words at least, and at most 32 records
 pub words-long : (ws : List ℕ) → ¬ WordsOut ws → 3 ≤ length ws
 words-long ws n = let long : ¬ (length ws < 3) = λ l. n (inl l) in omega arith
-
-pub words-whole : (ws : List ℕ) → ¬ WordsOut ws → (length ws - 3) % 6 ≡ 0
-words-whole ws n = go (eqb ((length ws - 3) % 6) 0) refl
-  where
-    go : (t : Bool) → eqb ((length ws - 3) % 6) 0 ≡ t → (length ws - 3) % 6 ≡ 0
-    go true e = eqb-true ((length ws - 3) % 6) 0 e
-    go false e = absurd (n (inr (inl (eqb-false ((length ws - 3) % 6) 0 e))))
 
 pub words-few : (ws : List ℕ) → ¬ WordsOut ws → records ws ≤ 32
 words-few ws n = let few : ¬ (32 < records ws) = λ l. n (inr (inr l)) in omega arith

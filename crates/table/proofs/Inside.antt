@@ -5,8 +5,7 @@ use mathlib.Core.Logic.{_⊎_, inl, inr}
 use Prim.Native.Nat.{ℕ, _≤_, _<_}
 use native.Mathlib.Omega.{arith}
 use Rattle.model.specs.Task.{Task, Sound}
-use Rattle.table.specs.Limits.{From, from, WidthOut, TimesOut}
-use Rattle.table.specs.Answer.{taskOut}
+use Rattle.table.specs.Limits.{From, from, WidthOut, TimesOut, taskOut}
 use Rattle.table.proofs.Decide.{stable, fails}
 use Rattle.table.proofs.Tests.{from-decides, task-decides}
 

@@ -1,3 +1,4 @@
+pub mod Examples
 pub mod Searches
 pub mod Decide
 pub mod Tests
@@ -7,6 +8,7 @@ pub mod Lists
 pub mod Tasks
 pub mod Places
 pub mod FirstOut
+pub mod Order
 pub mod Exact
 pub mod Starts
 pub mod Gcd
@@ -18,3 +20,4 @@ pub mod Walking
 pub mod Loads
 pub mod Passed
 pub mod Promise
+pub mod OffChain

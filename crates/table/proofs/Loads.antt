@@ -1,24 +1,22 @@
 -- What code gives at each stage of `load` is what the definitions say.
-use mathlib.Core.Path.{_≡_, refl, sym, ap, _∙_, subst}
-use mathlib.Core.Bool.{Bool, true, false, cond}
-use mathlib.Core.List.{List, [], _∷_, _++_, map}
+use mathlib.Core.Path.{_≡_, refl, sym, ap, _∙_}
+use mathlib.Core.Bool.{true, false}
+use mathlib.Core.List.{List, [], _∷_, map}
 use Prim.Native.Nat.{ℕ, zero, suc, _+_, _-_, min, _≤_, _<_}
 use native.Mathlib.Omega.{arith}
-use lib.Dec.{eqb, ltb}
-use lib.ListN.{length, getD, take, drop, replicate, length-map}
+use lib.ListN.{length, getD, drop, replicate, length-map}
 use lib.Seq.{take-at, drop-at}
-use borrow.Author.Tests.{eq-eqb, ne-eqb, lt-ltb, le-ltb, ltb-false}
+use borrow.Author.Tests.{ne-eqb, lt-ltb, le-ltb, ltb-false}
 use Rattle.model.specs.Task as model
-use Rattle.model.specs.Task.{nobody}
 use Rattle.model.specs.Horizon.{lastS, hyperperiod, horizon}
 use Rattle.table.specs.declared.Task.{Task}
-use Rattle.table.specs.declared.Answer.the-variants.{Passed, Refused}
+use Rattle.table.specs.declared.Answer.the-variants.{Passed}
 use Rattle.table.specs.declared.Loaded.{Loaded}
 use Rattle.table.specs.declared.chain.Ending.the-variants.{Past, Again, Whole}
 use Rattle.table.specs.Task.{taskOf, tasksOf, noTask, InLimits}
 use Rattle.table.specs.Words.{cores, rule, count, tableOf}
-use Rattle.table.specs.Limits.{widthOut, horizonOut}
-use Rattle.table.specs.Answer.{headerNumber, taskOut, firstOut, byHorizon, byTasks, endingOf, byEnding, byWalk, answerOf}
+use Rattle.table.specs.Limits.{taskNumber, taskOut, horizonOut}
+use Rattle.table.specs.Answer.{headerNumber, firstOut, byHorizon, byTasks, endingOf, byWalk, answerOf}
 use Rattle.table.specs.Load.{placed, places, passing, refusal, answered, tableWith, loadOf}
 use Rattle.table.proofs.Places.{tasks-length, task-at}
 use Rattle.table.proofs.Tasks.{table-length}
@@ -76,13 +74,9 @@ made m r tasks count start period there whole e f near =
 -- THE TASKS
 
 module _ (s : model.Table) (l : Loaded) (place : ℕ) (out : firstOut (s .cores) (s .tasks) ≡ place) where
-  pub by-width : place < length (s .tasks) → widthOut (s .cores) (model.task s place) ≡ true → answered (byTasks s) l ≡ refusal 7 (suc place)
+  pub by-number : place < length (s .tasks) → answered (byTasks s) l ≡ refusal (taskNumber (s .cores) (model.task s place)) (suc place)
   unfolding byTasks
-  by-width h w = rw (out, lt-ltb place (length (s .tasks)) h, w)
-
-  pub by-times : place < length (s .tasks) → widthOut (s .cores) (model.task s place) ≡ false → answered (byTasks s) l ≡ refusal 8 (suc place)
-  unfolding byTasks
-  by-times h w = rw (out, lt-ltb place (length (s .tasks)) h, w)
+  by-number h = rw (out, lt-ltb place (length (s .tasks)) h)
 
   pub by-none : length (s .tasks) ≤ place → answered (byTasks s) l ≡ answered (byHorizon s) l
   unfolding byTasks
@@ -113,7 +107,7 @@ module _ (ws : List ℕ) (fine : headerNumber ws ≡ 0) where
   unfolding loadOf answerOf byWalk
   load-again e = rw (fine, e)
 
-  load-tasks : endingOf ws ≡ Whole → loadOf ws ≡ answered (byTasks (tableOf ws)) (passing (rule ws) (tableOf ws))
+  pub load-tasks : endingOf ws ≡ Whole → loadOf ws ≡ answered (byTasks (tableOf ws)) (passing (rule ws) (tableOf ws))
   unfolding loadOf answerOf byWalk
   load-tasks e = rw (fine, e)
 

@@ -1,7 +1,7 @@
 -- The least common multiple: both numbers divide it, it divides every common multiple, and it is the one number over the
 -- greatest common divisor, times the other.
 use mathlib.Core.Path.{_≡_, refl, sym, ap, _∙_, subst}
-use mathlib.Core.Bool.{Bool, true, false, true≢false}
+use mathlib.Core.Bool.{Bool, true, true≢false}
 use Prim.Native.Nat.{ℕ, zero, suc, pred, _*_, _/_, _%_, _≤_, _<_, _∣_, suc-le-suc}
 use native.Mathlib.Nat.{dvd-mul-left, dvd-mul-right, dvd-trans, dvd-antisymm, dvd-mod-iff, dvd-of-mod-eq-zero, mod-eq-zero-of-dvd, mod-lt, mul-mod-right, suc-pred-eq-of-pos, mul-le-mul-right, le-trans, div-mul-cancel, mul-div-cancel', mul-comm, mul-assoc, dvd-of-mul-dvd-mul-left, dvd-of-mul-dvd-mul-right, mul-dvd-mul-left, mul-dvd-mul-right, pos-of-dvd-of-pos}
 use native.Mathlib.Omega.{arith}

@@ -1,24 +1,22 @@
 -- What a table has that passes 1 to 9.
-use mathlib.Core.Path.{_≡_, refl, sym, ap, _∙_, subst}
+use mathlib.Core.Path.{_≡_, refl, subst}
 use mathlib.Core.Bool.{Bool, true, false, cond}
 use mathlib.Core.List.{List}
-use mathlib.Core.Logic.{_⊎_, inl, inr, ⊎-elim, _↔_}
+use mathlib.Core.Logic.{_⊎_, ⊎-elim}
 use Prim.Native.Nat.{ℕ, zero, suc, _-_, _≤_, _<_}
 use native.Mathlib.Omega.{arith}
-use lib.ListN.{length, getD}
-use lib.Dec.{eqb}
-use borrow.Author.Tests.{ltb-false, eqb-true, eqb-false}
+use lib.ListN.{length}
 use Rattle.model.specs.Task.{task, AllSound}
 use Rattle.model.specs.Horizon.{horizon}
 use Rattle.model.proofs.Bools.{not-true-false}
 use Rattle.table.specs.declared.chain.Ending.the-variants.{Past, Again, Whole}
 use Rattle.table.specs.Words.{head, cores, rule, records, met, count, taskAt, tableOf}
-use Rattle.table.specs.Limits.{From, from, CoresOut, RuleOut, WidthOut, TimesOut, HorizonOut}
-use Rattle.table.specs.Numbers.{WordsOut, EndAt, Applies, one, two, three, four, five, six, seven, eight, nine, NoneApplies}
+use Rattle.table.specs.Limits.{From, from}
+use Rattle.table.specs.Numbers.{WordsOut, EndAt, one, two, three, four, seven, eight, nine, NoneApplies}
 use Rattle.table.specs.Answer.{headerNumber, pastAt, againAt, lastStep, endingOf}
-use Rattle.table.proofs.Decide.{stable, fails, decides-eq, decides-or}
+use Rattle.table.proofs.Decide.{stable, decides-eq, decides-or}
 use Rattle.table.proofs.Tests.{from-decides}
-use Rattle.table.proofs.Walk.{last-comes, last-ends, comes-short, ends-there, five-decides, six-decides}
+use Rattle.table.proofs.Walk.{last-reached, last-ends, reaches-short, ends-there, five-decides, six-decides}
 use Rattle.table.proofs.HeaderFine.{header-fine, words-few}
 use Rattle.table.proofs.Tasks.{table-length, table-at}
 use Rattle.table.proofs.Inside.{Inside, inside, inside-sound}
@@ -30,8 +28,8 @@ count-from : (ws : List ℕ) → ¬ WordsOut ws → ¬ (head ws ≡ 0) → pastA
 unfolding met
 count-from ws w headed p a =
     let few = words-few ws w in
-    let short = comes-short ws (lastStep ws) (last-comes ws) in
-    let same = ends-there ws (lastStep ws) (last-comes ws) (last-ends ws p a) in
+    let short = reaches-short ws (lastStep ws) (last-reached ws) in
+    let same = ends-there ws (lastStep ws) (last-reached ws) (last-ends ws p a) in
     let some : ¬ (lastStep ws ≡ 0) = λ z. headed (subst (EndAt ws) z (last-ends ws p a)) in
     omega arith
 

@@ -1,16 +1,16 @@
 -- The tests of numbers 1 to 9 decide what the numbers say.
-use mathlib.Core.Path.{_≡_}
-use mathlib.Core.Bool.{Bool, not, _||_}
+use mathlib.Core.Path.{_≡_, refl}
+use mathlib.Core.Bool.{Bool, true, false, not, _||_, cond}
 use mathlib.Core.List.{List}
 use mathlib.Core.Logic.{_⊎_}
-use Prim.Native.Nat.{ℕ, _-_, _%_, _≤_, _<_}
+use Prim.Native.Nat.{ℕ, _-_, _%_, _≤_}
 use lib.ListN.{length}
-use lib.Dec.{leb, ltb, eqb}
+use lib.Dec.{leb, eqb}
 use Rattle.model.specs.Task.{Task}
 use Rattle.table.specs.Words.{records, met}
-use Rattle.table.specs.Limits.{From, from, CoresOut, coresOut, RuleOut, ruleOut, WidthOut, widthOut, TimesOut, timesOut}
+use Rattle.table.specs.Limits.{From, from, CoresOut, coresOut, RuleOut, ruleOut, WidthOut, widthOut, TimesOut, timesOut, taskOut}
 use Rattle.table.specs.Numbers.{WordsOut, EndAt, PastAt, AgainAt}
-use Rattle.table.specs.Answer.{wordsOut, pastAt, againAt, stopsAt, taskOut}
+use Rattle.table.specs.Answer.{wordsOut, pastAt, againAt, stopsAt}
 use Rattle.table.proofs.Decide.{Decides, decides-le, decides-lt, decides-eq, decides-not, decides-and, decides-or, decides-any}
 
 pub from-decides : (a b x : ℕ) → Decides (from a b x) (From a b x)
@@ -39,8 +39,14 @@ times-decides τ =
     (decides-or _ _ _ _ (out-decides 1 1000000 (τ .length))
     (decides-or _ _ _ _ (out-decides 1 1000000 (τ .period)) (out-decides 1 (τ .period) (τ .deadline))))
 
+-- a task is turned down exactly if 7 or 8 applies to it; the number is 7 where 7 does, and else 8
+task-out-is : (s t : Bool) → not (eqb (cond s 7 (cond t 8 0)) 0) ≡ s || t
+task-out-is true t = refl
+task-out-is false true = refl
+task-out-is false false = refl
+
 pub task-decides : (m : ℕ) (τ : Task) → Decides (taskOut m τ) (WidthOut m τ ⊎ TimesOut τ)
-task-decides m τ = decides-or _ _ _ _ (width-decides m τ) (times-decides τ)
+task-decides m τ = rw (task-out-is (widthOut m τ) (timesOut τ)) (decides-or (widthOut m τ) (timesOut τ) (WidthOut m τ) (TimesOut τ) (width-decides m τ) (times-decides τ))
 
 pub past-decides : (ws : List ℕ) (k : ℕ) → Decides (pastAt ws k) (PastAt ws k)
 past-decides ws k = decides-lt (records ws) (met ws k)

@@ -1,20 +1,20 @@
 -- The walk along the chain: it stops within as many steps as there are records, and what it stops at.
-use mathlib.Core.Path.{_≡_, refl, sym, _∙_, subst}
-use mathlib.Core.Bool.{Bool, true, false, true≢false}
+use mathlib.Core.Path.{_≡_, sym, subst}
+use mathlib.Core.Bool.{true, false}
 use mathlib.Core.List.{List}
-use mathlib.Core.Logic.{_⊎_, inl, inr, ⊎-elim}
+use mathlib.Core.Logic.{inl, inr, ⊎-elim}
 use Prim.Native.Nat.{ℕ, zero, suc, _≤_, _<_}
 use native.Mathlib.Omega.{arith}
 use native.Mathlib.Nat.{eq-or-lt-of-le}
 use lib.Dec.{eqb}
 use borrow.Author.Tests.{eq-eqb, ne-eqb}
-use Rattle.model.specs.Search.{any, least}
+use Rattle.model.specs.Search.{any}
 use Rattle.model.proofs.Bools.{not-true-false, not-false-true}
 use Rattle.model.proofs.Search.{least-any, least-lowest}
 use Rattle.table.specs.Words.{records, met, count}
-use Rattle.table.specs.Numbers.{EndAt, PastAt, AgainAt, Comes, Applies, five, six}
+use Rattle.table.specs.Numbers.{EndAt, PastAt, AgainAt, Reaches, Applies, five, six}
 use Rattle.table.specs.Answer.{pastAt, againAt, stopsAt, lastStep}
-use Rattle.table.proofs.Decide.{Decides, holds, fails}
+use Rattle.table.proofs.Decide.{Decides, fails}
 use Rattle.table.proofs.Tests.{past-decides, again-decides, stops-decides}
 use Rattle.table.proofs.Searches.{none-at, least-is}
 use Rattle.table.proofs.Pigeonhole.{pigeonhole}
@@ -30,28 +30,28 @@ goes-on-test ws j n =
     not-true-false (stopsAt ws j) (λ e. ⊎-elim (λ x. n .0 x) (λ y. ⊎-elim (λ x. n .1 x) (λ x. n .2 x) y) (stops-decides ws j .0 e))
 
 -- where it goes on at step k, it comes to the next
-pub comes-more : (ws : List ℕ) (k : ℕ) → Comes ws k → (¬ EndAt ws k) × (¬ PastAt ws k) × (¬ AgainAt ws k) → Comes ws (suc k)
-comes-more ws k c n j l =
+pub reaches-more : (ws : List ℕ) (k : ℕ) → Reaches ws k → (¬ EndAt ws k) × (¬ PastAt ws k) × (¬ AgainAt ws k) → Reaches ws (suc k)
+reaches-more ws k c n j l =
     ⊎-elim (λ (e : j ≡ k). subst (λ (i : ℕ). (¬ EndAt ws i) × (¬ PastAt ws i) × (¬ AgainAt ws i)) (sym e) n) (λ (h : j < k). c j h) (eq-or-lt-of-le (omega arith))
 
 -- as many steps as it comes to, at most as many records: those met differ
-pub comes-short : (ws : List ℕ) (k : ℕ) → Comes ws k → k ≤ records ws
-comes-short ws k c =
+pub reaches-short : (ws : List ℕ) (k : ℕ) → Reaches ws k → k ≤ records ws
+reaches-short ws k c =
     pigeonhole (records ws) k (met ws)
     (λ i l. let a = c i l .0 in let b = c i l .1 in omega arith)
     (λ i j l m e. c j m .2 (i, l, e))
 
 -- where it comes to step k and stops there, k is the last step
-pub stops-there : (ws : List ℕ) (k : ℕ) → Comes ws k → stopsAt ws k ≡ true → lastStep ws ≡ k
+pub stops-there : (ws : List ℕ) (k : ℕ) → Reaches ws k → stopsAt ws k ≡ true → lastStep ws ≡ k
 unfolding lastStep
 stops-there ws k c e =
-    let short = comes-short ws k c in
+    let short = reaches-short ws k c in
     least-is (suc (records ws)) (stopsAt ws) k (omega arith) e (λ i l. goes-on-test ws i (c i l))
 
 -- it comes to its last step, and stops there
-pub last-comes : (ws : List ℕ) → Comes ws (lastStep ws)
+pub last-reached : (ws : List ℕ) → Reaches ws (lastStep ws)
 unfolding lastStep
-last-comes ws = λ j l. goes-on ws j (least-lowest (suc (records ws)) (stopsAt ws) j l)
+last-reached ws = λ j l. goes-on ws j (least-lowest (suc (records ws)) (stopsAt ws) j l)
 
 pub last-stops : (ws : List ℕ) → stopsAt ws (lastStep ws) ≡ true
 unfolding lastStep
@@ -59,12 +59,12 @@ last-stops ws = least-any (suc (records ws)) (stopsAt ws) (not-false-true (any (
   where
     never : any (suc (records ws)) (stopsAt ws) ≡ false → ⊥
     never e =
-        let short = comes-short ws (suc (records ws)) (λ j l. goes-on ws j (none-at (suc (records ws)) (stopsAt ws) j e l)) in
+        let short = reaches-short ws (suc (records ws)) (λ j l. goes-on ws j (none-at (suc (records ws)) (stopsAt ws) j e l)) in
         omega arith
 
 -- at its last step the walk decides 5 and 6
 pub five-decides : (ws : List ℕ) → Decides (pastAt ws (lastStep ws)) (Applies ws 5 0)
-five-decides ws = (λ e. five (lastStep ws) (last-comes ws) (past-decides ws (lastStep ws) .0 e), back)
+five-decides ws = (λ e. five (lastStep ws) (last-reached ws) (past-decides ws (lastStep ws) .0 e), back)
   where
     back : Applies ws 5 0 → pastAt ws (lastStep ws) ≡ true
     back (five k c h) =
@@ -72,7 +72,7 @@ five-decides ws = (λ e. five (lastStep ws) (last-comes ws) (past-decides ws (la
         rw there (past-decides ws k .1 h)
 
 pub six-decides : (ws : List ℕ) → Decides (againAt ws (lastStep ws)) (Applies ws 6 0)
-six-decides ws = (λ e. six (lastStep ws) (last-comes ws) (again-decides ws (lastStep ws) .0 e), back)
+six-decides ws = (λ e. six (lastStep ws) (last-reached ws) (again-decides ws (lastStep ws) .0 e), back)
   where
     back : Applies ws 6 0 → againAt ws (lastStep ws) ≡ true
     back (six k c h) =
@@ -87,8 +87,8 @@ last-ends ws p a =
     (stops-decides ws (lastStep ws) .0 (last-stops ws))
 
 -- and the chain has that many records
-pub ends-there : (ws : List ℕ) (k : ℕ) → Comes ws k → EndAt ws k → count ws ≡ k
+pub ends-there : (ws : List ℕ) (k : ℕ) → Reaches ws k → EndAt ws k → count ws ≡ k
 unfolding count
 ends-there ws k c e =
-    let short = comes-short ws k c in
+    let short = reaches-short ws k c in
     least-is (suc (records ws)) (λ j. eqb (met ws j) 0) k (omega arith) (eq-eqb (met ws k) 0 e) (λ i l. ne-eqb (met ws i) 0 (c i l .0))

@@ -1,31 +1,29 @@
 -- The walk as code makes it: a place for each task met, a mark for each record met.
-use mathlib.Core.Path.{_≡_, refl, sym, ap, _∙_, subst}
+use mathlib.Core.Path.{_≡_, refl, sym, ap, _∙_}
 use mathlib.Core.Bool.{Bool, true, false, cond, _||_, or-false, or-true}
 use mathlib.Core.List.{List, [], _∷_, _++_, map, append-assoc}
 use mathlib.Core.Logic.{inl, inr}
-use Prim.Native.Nat.{ℕ, zero, suc, _+_, _-_, _≤_, _<_}
+use Prim.Native.Nat.{ℕ, suc, _+_, _-_, _≤_, _<_}
 use native.Mathlib.Omega.{arith}
-use native.Mathlib.Nat.{zero-add, not-suc-le-zero, eq-or-lt-of-le}
-use lib.Dec.{eqb, ltb}
-use lib.ListN.{length, getD, set, replicate, length-set, length-map, length-replicate, getD-replicate}
+use native.Mathlib.Nat.{zero-add, not-suc-le-zero}
+use lib.Dec.{eqb}
+use lib.ListN.{length, getD, set, replicate, length-set, length-map, getD-replicate}
 use lib.Seq.{getD-set-same, getD-set-other, set-at}
-use borrow.Author.Tests.{eq-eqb, ne-eqb, eqb-true, eqb-false, lt-ltb, le-ltb}
+use borrow.Author.Tests.{eq-eqb, ne-eqb, eqb-true, eqb-false, le-ltb}
 use Rattle.model.specs.Search.{any, upFrom}
-use Rattle.model.proofs.Bools.{not-true-false}
 use Rattle.table.specs.declared.Task.{Task}
 use Rattle.table.specs.declared.chain.Ending.the-variants.{Past, Again, Whole}
-use Rattle.table.specs.declared.chain.Walked.{Walked}
 use Rattle.table.specs.Task.{noTask}
 use Rattle.table.specs.Words.{head, records, next, met, count, chain, taskOfRecord, tableOf}
-use Rattle.table.specs.Numbers.{EndAt, PastAt, AgainAt, Comes}
-use Rattle.table.specs.Answer.{pastAt, againAt, stopsAt, lastStep, endingOf}
+use Rattle.table.specs.Numbers.{EndAt, AgainAt, Reaches}
+use Rattle.table.specs.Answer.{pastAt, againAt, stopsAt, endingOf}
 use Rattle.table.specs.Load.{placed, places, WalkOf}
 use Rattle.table.proofs.Decide.{fails}
 use Rattle.table.proofs.Tests.{past-decides, again-decides, stops-decides}
 use Rattle.table.proofs.Searches.{any-none}
 use Rattle.table.proofs.Lists.{up-length, up-more, map-more, map-map}
 use Rattle.table.proofs.Tasks.{table-length}
-use Rattle.table.proofs.Walk.{comes-more, comes-short, stops-there, ends-there}
+use Rattle.table.proofs.Walk.{reaches-more, reaches-short, stops-there, ends-there}
 
 -- the task that the walk meets at step j, as code keeps it
 abbrev metTask : List ℕ → ℕ → Task
@@ -37,7 +35,7 @@ placesTo ws k = map (metTask ws) (upFrom 0 k) ++ replicate (32 - k) noTask
 
 -- the walk has come to step k, where it meets `at`
 pub record Walking (ws : List ℕ) (tasks : List Task) (seen : List Bool) (k at : ℕ) : Type 0 where
-  pub comes : Comes ws k
+  pub reached : Reaches ws k
   pub here : at ≡ met ws k
   pub tasked : tasks ≡ placesTo ws k
   pub marks : length seen ≡ 32
@@ -46,7 +44,7 @@ pub record Walking (ws : List ℕ) (tasks : List Task) (seen : List Bool) (k at 
 pub walking-none : (ws : List ℕ) → Walking ws (replicate 32 noTask) (replicate 32 false) 0 (head ws)
 unfolding met any upFrom
 walking-none ws = record {
-  comes = λ j l. absurd (not-suc-le-zero l);
+  reached = λ j l. absurd (not-suc-le-zero l);
   here = refl;
   tasked = refl;
   marks = refl;
@@ -78,14 +76,14 @@ module _ (ws : List ℕ) (tasks : List Task) (seen : List Bool) (k at : ℕ) (w 
     walking-again e = again-decides ws k .0 (sym mark ∙ e)
 
     module _ (new : getD seen (at - 1) false ≡ false) where
-      goes : Comes ws (suc k)
+      goes : Reaches ws (suc k)
       goes =
           let h = w .here in
-          comes-more ws k (w .comes) (λ e. some (h ∙ e), λ e. omega arith, fails (againAt ws k) (AgainAt ws k) (again-decides ws k) (sym mark ∙ new))
+          reaches-more ws k (w .reached) (λ e. some (h ∙ e), λ e. omega arith, fails (againAt ws k) (AgainAt ws k) (again-decides ws k) (sym mark ∙ new))
 
       -- there is a place for its task
       pub walking-room : k < records ws
-      walking-room = comes-short ws (suc k) goes
+      walking-room = reaches-short ws (suc k) goes
 
       tasked-more : set tasks k (placed (taskOfRecord ws at)) ≡ placesTo ws (suc k)
       tasked-more =
@@ -127,7 +125,7 @@ module _ (ws : List ℕ) (tasks : List Task) (seen : List Bool) (k at : ℕ) (w 
       pub walking-more : Walking ws (set tasks k (placed (taskOfRecord ws at))) (set seen (at - 1) true) (suc k) (next ws at)
       unfolding met
       walking-more = record {
-        comes = goes;
+        reached = goes;
         here = ap (next ws) (w .here);
         tasked = tasked-more;
         marks = length-set seen (at - 1) true ∙ w .marks;
@@ -137,7 +135,7 @@ module _ (ws : List ℕ) (tasks : List Task) (seen : List Bool) (k at : ℕ) (w 
   -- the three ends
   walk-of : stopsAt ws k ≡ true → endingOf ws ≡ cond (pastAt ws k) Past (cond (againAt ws k) Again Whole)
   unfolding endingOf
-  walk-of e = rw (stops-there ws k (w .comes) e)
+  walk-of e = rw (stops-there ws k (w .reached) e)
 
   pub walked-past : records ws < at → WalkOf ws (record { ending = Past; count = k; tasks = tasks })
   walked-past l =
@@ -163,8 +161,8 @@ module _ (ws : List ℕ) (tasks : List Task) (seen : List Bool) (k at : ℕ) (w 
   walked-whole z =
       let h : EndAt ws k = sym (w .here) ∙ z in
       let p : pastAt ws k ≡ false = le-ltb (records ws) (met ws k) (omega arith) in
-      let a : againAt ws k ≡ false = any-none k (λ j. eqb (met ws j) (met ws k)) (λ j l. ne-eqb (met ws j) (met ws k) (λ e. w .comes j l .0 (e ∙ h))) in
-      let c : count ws ≡ k = ends-there ws k (w .comes) h in
+      let a : againAt ws k ≡ false = any-none k (λ j. eqb (met ws j) (met ws k)) (λ j l. ne-eqb (met ws j) (met ws k) (λ e. w .reached j l .0 (e ∙ h))) in
+      let c : count ws ≡ k = ends-there ws k (w .reached) h in
       record {
         ending = sym (walk-of (stops-decides ws k .1 (inl h)) ∙ rw (p, a));
         counted = λ e. sym c;

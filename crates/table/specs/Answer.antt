@@ -9,13 +9,13 @@ use Rattle.model.specs.Search.{any, least}
 use Rattle.model.specs.Task.{Task, Table, task, nobody}
 use Rattle.model.specs.Horizon.{horizon}
 use Rattle.table.specs.Words.{head, cores, rule, records, met, tableOf}
-use Rattle.table.specs.Limits.{coresOut, ruleOut, widthOut, timesOut, horizonOut}
+use Rattle.table.specs.Limits.{coresOut, ruleOut, taskNumber, taskOut, horizonOut}
 use Rattle.table.specs.declared.chain.Ending.{Ending}
 use Rattle.table.specs.declared.chain.Ending.the-variants.{Past, Again, Whole}
 use Rattle.table.specs.declared.Answer.{Answer}
 use Rattle.table.specs.declared.Answer.the-variants.{Passed, Refused}
 
--- the words are no table: the test of 1
+-- 1 as a test (`words-decides`)
 abbrev pub wordsOut : List ℕ → Bool
 wordsOut ws = ltb (length ws) 3 || (not (eqb ((length ws - 3) % 6) 0) || ltb 32 (records ws))
 
@@ -27,7 +27,7 @@ headerNumber ws =
     (cond (ruleOut (rule ws)) 3
     (cond (eqb (head ws) 0) 4 0)))
 
--- what the walk meets at step k
+-- what the walk meets at step k, as tests: a number past the last record, a record again, or one of these or the zero
 abbrev pub pastAt : List ℕ → ℕ → Bool
 pastAt ws k = ltb (records ws) (met ws k)
 
@@ -37,15 +37,11 @@ againAt ws k = any k (λ j. eqb (met ws j) (met ws k))
 abbrev pub stopsAt : List ℕ → ℕ → Bool
 stopsAt ws k = eqb (met ws k) 0 || (pastAt ws k || againAt ws k)
 
--- the step at which the walk stops; it meets at most as many records as there are
+-- the step at which the walk stops: it reaches at most as many as there are records (`reaches-short`)
 unfoldable pub lastStep : List ℕ → ℕ
 lastStep ws = least (suc (records ws)) (stopsAt ws)
 
--- 7 or 8 applies to a task
-abbrev pub taskOut : ℕ → Task → Bool
-taskOut m τ = widthOut m τ || timesOut τ
-
--- the first place with such a task, or the number of places
+-- the first place with a task that 7 or 8 turns down, or the number of places
 unfoldable pub firstOut : ℕ → List Task → ℕ
 firstOut m τs = least (length τs) (λ p. taskOut m (getD τs p nobody))
 
@@ -57,7 +53,7 @@ byHorizon s = cond (horizonOut (horizon s)) (Refused 9 0) Passed
 unfoldable pub byTasks : Table → Answer
 byTasks s =
     cond (ltb (firstOut (s .cores) (s .tasks)) (length (s .tasks)))
-    (Refused (cond (widthOut (s .cores) (task s (firstOut (s .cores) (s .tasks)))) 7 8) (suc (firstOut (s .cores) (s .tasks))))
+    (Refused (taskNumber (s .cores) (task s (firstOut (s .cores) (s .tasks)))) (suc (firstOut (s .cores) (s .tasks))))
     (byHorizon s)
 
 -- how the walk ends: past the last record, at a record again, or at the zero

@@ -5,4 +5,4 @@ pub mod Numbers
 pub mod Answer
 pub mod Gcd
 pub mod Load
-pub mod Examples
+pub mod OffChain

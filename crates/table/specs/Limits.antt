@@ -1,6 +1,6 @@
 -- The limits on the header and on a task (scope, 'The table'): for each what it says, and the test that decides it.
 use mathlib.Core.Path.{_≡_}
-use mathlib.Core.Bool.{Bool, not, _&&_, _||_}
+use mathlib.Core.Bool.{Bool, not, _&&_, _||_, cond}
 use mathlib.Core.Logic.{_⊎_}
 use Prim.Native.Nat.{ℕ, _≤_, _<_}
 use lib.Dec.{eqb, ltb, leb}
@@ -10,6 +10,7 @@ use Rattle.model.specs.Task.{Task}
 abbrev pub From : ℕ → ℕ → ℕ → Type 0
 From a b x = (a ≤ x) × (x ≤ b)
 
+-- .. as a test (`from-decides`)
 abbrev pub from : ℕ → ℕ → ℕ → Bool
 from a b x = leb a x && leb x b
 
@@ -17,6 +18,7 @@ from a b x = leb a x && leb x b
 abbrev pub CoresOut : ℕ → Type 0
 CoresOut m = ¬ From 1 64 m
 
+-- .. as a test (`cores-decides`)
 abbrev pub coresOut : ℕ → Bool
 coresOut m = not (from 1 64 m)
 
@@ -24,6 +26,7 @@ coresOut m = not (from 1 64 m)
 abbrev pub RuleOut : ℕ → Type 0
 RuleOut n = ¬ ((n ≡ 1) ⊎ ((n ≡ 2) ⊎ (n ≡ 3)))
 
+-- .. as a test (`rule-decides`)
 abbrev pub ruleOut : ℕ → Bool
 ruleOut n = not (eqb n 1 || (eqb n 2 || eqb n 3))
 
@@ -31,6 +34,7 @@ ruleOut n = not (eqb n 1 || (eqb n 2 || eqb n 3))
 abbrev pub WidthOut : ℕ → Task → Type 0
 WidthOut m τ = (τ .width ≡ 0) ⊎ (m < τ .width)
 
+-- .. as a test (`width-decides`)
 abbrev pub widthOut : ℕ → Task → Bool
 widthOut m τ = eqb (τ .width) 0 || ltb m (τ .width)
 
@@ -40,14 +44,24 @@ TimesOut τ =
     (1000000 < τ .offset)
     ⊎ ((¬ From 1 1000000 (τ .length)) ⊎ ((¬ From 1 1000000 (τ .period)) ⊎ (¬ From 1 (τ .period) (τ .deadline))))
 
+-- .. as a test (`times-decides`)
 abbrev pub timesOut : Task → Bool
 timesOut τ =
     ltb 1000000 (τ .offset)
     || (not (from 1 1000000 (τ .length)) || (not (from 1 1000000 (τ .period)) || not (from 1 (τ .period) (τ .deadline))))
 
+-- the number that turns a task down, within a task 7 first; 0 where neither does
+abbrev pub taskNumber : ℕ → Task → ℕ
+taskNumber m τ = cond (widthOut m τ) 7 (cond (timesOut τ) 8 0)
+
+-- 7 or 8 turns it down (`task-decides`)
+abbrev pub taskOut : ℕ → Task → Bool
+taskOut m τ = not (eqb (taskNumber m τ) 0)
+
 -- 9: the horizon exceeds 10,000,000
 abbrev pub HorizonOut : ℕ → Type 0
 HorizonOut h = 10000000 < h
 
+-- .. as a test
 abbrev pub horizonOut : ℕ → Bool
 horizonOut h = ltb 10000000 h

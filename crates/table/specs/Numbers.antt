@@ -24,9 +24,9 @@ PastAt ws k = records ws < met ws k
 abbrev pub AgainAt : List ℕ → ℕ → Type 0
 AgainAt ws k = (j : ℕ) × (j < k) × (met ws j ≡ met ws k)
 
--- the walk comes to step k: at no earlier step it met one of these
-abbrev pub Comes : List ℕ → ℕ → Type 0
-Comes ws k = (j : ℕ) → j < k → (¬ EndAt ws j) × (¬ PastAt ws j) × (¬ AgainAt ws j)
+-- the walk reaches step k: at no earlier step it met one of these
+abbrev pub Reaches : List ℕ → ℕ → Type 0
+Reaches ws k = (j : ℕ) → j < k → (¬ EndAt ws j) × (¬ PastAt ws j) × (¬ AgainAt ws j)
 
 -- p is a position on the chain
 abbrev pub Position : List ℕ → ℕ → Type 0
@@ -43,9 +43,9 @@ pub data Applies (ws : List ℕ) : ℕ → ℕ → Type 0 where
   -- 4. The head is zero.
   four : head ws ≡ 0 → Applies ws 4 0
   -- 5. Walking the chain, a number past the last record is met.
-  five : (k : ℕ) → Comes ws k → PastAt ws k → Applies ws 5 0
+  five : (k : ℕ) → Reaches ws k → PastAt ws k → Applies ws 5 0
   -- 6. Walking the chain, a record is met again (5 and 6: whichever the walk meets first).
-  six : (k : ℕ) → Comes ws k → AgainAt ws k → Applies ws 6 0
+  six : (k : ℕ) → Reaches ws k → AgainAt ws k → Applies ws 6 0
   -- 7. A task's width is 0 or above the core count.
   seven : (p : ℕ) → Position ws p → WidthOut (cores ws) (taskAt ws p) → Applies ws 7 p
   -- 8. A task's O, C, T or D is outside its limits.
@@ -53,15 +53,15 @@ pub data Applies (ws : List ℕ) : ℕ → ℕ → Type 0 where
   -- 9. The horizon exceeds 10,000,000.
   nine : HorizonOut (horizon (tableOf ws)) → Applies ws 9 0
 
--- checked in this order: by number, but 7 and 8 stand in one place, by position, within a task 7 first
+-- checked in this order: a number's place in it; 7 and 8 share one
 abbrev pub place : ℕ → ℕ
 place n = cond (eqb n 8) 7 n
 
--- number m at position q is checked before number n at position p
+-- number m with position q is checked before number n with position p: by place, and 7 and 8 by position, within a task 7 first
 abbrev pub Earlier : ℕ → ℕ → ℕ → ℕ → Type 0
 Earlier m q n p = (place m < place n) ⊎ ((place m ≡ place n) × ((q < p) ⊎ ((q ≡ p) × (m < n))))
 
--- number n is the first that applies, with position p
+-- number n is the first that applies, with position p (`first-only`: there is one at most)
 abbrev pub First : List ℕ → ℕ → ℕ → Type 0
 First ws n p = Applies ws n p × ((m q : ℕ) → Earlier m q n p → ¬ Applies ws m q)
 

@@ -44,7 +44,7 @@ unfoldable pub met : List ℕ → ℕ → ℕ
 met ws zero = head ws
 met ws (suc k) = next ws (met ws k)
 
--- zero ends the chain: how many records stand on it (in a table that passes 6 it ends within as many steps as there are records)
+-- zero ends the chain: how many records stand on it, searched within as many steps as there are records (`ends-there`: enough where 5 and 6 do not apply)
 unfoldable pub count : List ℕ → ℕ
 count ws = least (suc (records ws)) (λ k. eqb (met ws k) 0)
 

@@ -1,5 +1,7 @@
+// The walk along the chain: numbers 5 and 6, and the tasks in priority order.
 ghost use mathlib.Core.Path.{_≡_};
 ghost use Prim.Native.Nat.{_≤_};
+ghost use Rattle.table.specs.Task.{noTask};
 ghost use Rattle.table.specs.Words.{records, taskOfRecord};
 ghost use Rattle.table.specs.Answer.{headerNumber};
 ghost use Rattle.table.specs.Load.{placed, WalkOf};
@@ -17,6 +19,19 @@ pub struct Walked {
     pub ending: Ending,
     pub count: usize,
     pub tasks: [Task; 32],
+}
+
+// No task: what stands past the count.
+fn no_task() -> Task
+    ensures { λ r. ⌜ r ≡ noTask ⌝ }
+{
+    Task {
+        offset: 0,
+        width: 0,
+        length: 0,
+        deadline: 0,
+        period: 0,
+    }
 }
 
 // The task of a record.
@@ -40,13 +55,7 @@ pub fn walk(words: &[u32]) -> Walked
     ensures { λ r. ⌜ WalkOf (now (words .entry)) r ⌝ }
 {
     let records = (words.len() - 3) / 6;
-    let none = Task {
-        offset: 0,
-        width: 0,
-        length: 0,
-        deadline: 0,
-        period: 0,
-    };
+    let none = no_task();
     let mut tasks = [none; 32];
     let mut seen = [false; 32];
     let mut count: usize = 0;
@@ -66,17 +75,18 @@ pub fn walk(words: &[u32]) -> Walked
                 tasks: tasks,
             };
         }
-        if seen[at - 1] {
+        let index = at - 1;
+        if seen[index] {
             return Walked {
                 ending: Ending::Again,
                 count: count,
                 tasks: tasks,
             };
         }
-        seen[at - 1] = true;
+        seen[index] = true;
         let task = task_of(words, at);
         tasks[count] = task;
-        at = words[3 + (at - 1) * 6] as usize;
+        at = words[3 + index * 6] as usize;
         count += 1;
     }
 }

@@ -1,3 +1,4 @@
+// Numbers 1 to 4.
 ghost use mathlib.Core.Path.{_≡_};
 ghost use Rattle.table.specs.Answer.{headerNumber};
 

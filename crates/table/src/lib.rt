@@ -1,13 +1,10 @@
 // The supplier's words: the numbers 1 to 9, the chain, the tasks, S, P and the horizon.
-ghost use mathlib.Core.Path.{_≡_};
-ghost use Prim.Native.Nat.{_≤_};
-ghost use Rattle.table.specs.Task.{tasksOf, InLimits};
-ghost use Rattle.table.specs.Answer.{byHorizon, byTasks};
-ghost use Rattle.table.specs.Load.{places, refusal, passing, answered, tableWith, LoadOf};
+ghost use Rattle.table.specs.Load.{LoadOf};
 
-pub mod limits; // limits.rt: numbers 2, 3, 7, 8 and 9 on plain values
+pub mod limits; // limits.rt: numbers 2, 3, 7 and 8 on plain values
 mod header; // header.rt: numbers 1 to 4
 mod chain; // chain.rt: the walk along the chain, numbers 5 and 6
+mod checks; // checks.rt: numbers 7 to 9, and what passes
 mod start; // start.rt: S, where the repeat starts
 mod hyperperiod; // hyperperiod.rt: P, the least common multiple of the periods
 
@@ -40,86 +37,23 @@ pub struct Loaded {
     pub horizon: u32,
 }
 
-// A refusal, with zeros beside it.
-fn refused(number: u32, position: u32) -> Loaded
-    ensures { λ r. ⌜ r ≡ refusal number position ⌝ }
-{
-    let none = Task {
-        offset: 0,
-        width: 0,
-        length: 0,
-        deadline: 0,
-        period: 0,
-    };
-    let tasks = [none; 32];
-    Loaded {
-        answer: Answer::Refused(number, position),
-        count: 0,
-        cores: 0,
-        rule: 0,
-        tasks: tasks,
-        start: 0,
-        period: 0,
-        horizon: 0,
-    }
-}
-
-// A table whose tasks are within their limits: number 9, or the table.
-fn by_horizon(cores: u32, rule: u32, tasks: [Task; 32], count: usize) -> Loaded
-    requires { ⌜ 1 ≤ count ⌝ ∗ ⌜ count ≤ 32 ⌝ ∗ ⌜ InLimits tasks count ⌝ ∗ ⌜ tasks ≡ places (tasksOf tasks count) ⌝ }
-    ensures { λ r. ⌜ r ≡ answered (byHorizon (tableWith cores rule (tasksOf tasks count))) (passing rule (tableWith cores rule (tasksOf tasks count))) ⌝ }
-{
-    let start = start::last_start(tasks, count);
-    let period = hyperperiod::hyperperiod(tasks, count);
-    if limits::horizon_out(start, period) {
-        return refused(9, 0);
-    }
-    Loaded {
-        answer: Answer::Passed,
-        count: count,
-        cores: cores,
-        rule: rule,
-        tasks: tasks,
-        start: start,
-        period: period,
-        horizon: start + period,
-    }
-}
-
-// A table whose chain ends: number 7 or 8 of its first task that breaks one, or by its horizon.
-fn by_tasks(cores: u32, rule: u32, tasks: [Task; 32], count: usize) -> Loaded
-    requires { ⌜ 1 ≤ count ⌝ ∗ ⌜ count ≤ 32 ⌝ ∗ ⌜ tasks ≡ places (tasksOf tasks count) ⌝ }
-    ensures { λ r. ⌜ r ≡ answered (byTasks (tableWith cores rule (tasksOf tasks count))) (passing rule (tableWith cores rule (tasksOf tasks count))) ⌝ }
-{
-    let place = limits::first_out(cores, tasks, count);
-    if place < count {
-        let task = tasks[place];
-        let position = place as u32 + 1;
-        if limits::width_out(cores, task) {
-            return refused(7, position);
-        }
-        return refused(8, position);
-    }
-    by_horizon(cores, rule, tasks, count)
-}
-
 // The table that the words say, or the first of the numbers 1 to 9 that applies.
 pub fn load(words: &[u32]) -> Loaded
     ensures { λ r. ⌜ LoadOf (now (words .entry)) r ⌝ }
 {
     let number = header::header_number(words);
     if number != 0 {
-        return refused(number, 0);
+        return checks::refused(number, 0);
     }
     let walked = chain::walk(words);
     let ending = walked.ending;
     match ending {
-        Ending::Past => refused(5, 0),
-        Ending::Again => refused(6, 0),
+        Ending::Past => checks::refused(5, 0),
+        Ending::Again => checks::refused(6, 0),
         Ending::Whole => {
             let tasks = walked.tasks;
             let count = walked.count;
-            by_tasks(words[1], words[2], tasks, count)
+            checks::by_tasks(words[1], words[2], tasks, count)
         }
     }
 }

@@ -1,6 +1,6 @@
 -- `table::load` meets its contract: its value is `loadOf` of the words at each return, and the value settles what is promised.
 -- Assumes nothing.
-use Prim.Native.Nat.{_≤_, _<_}
+use Prim.Native.Nat.{_≤_}
 use mathlib.Core.Path.{_≡_, sym, ap, _∙_}
 use denote.Ref.{now}
 use borrow.Author.Needs.{needs}
@@ -15,12 +15,6 @@ use Rattle.table.proofs.Passed.{whole-count}
 use Rattle.table.proofs.Promise.{promise}
 use Rattle.table.proofs.load.Statement.{statement}
 use Rattle.table.proofs.load.Tie as tie
-use Rattle.table.proofs.load.Reads as reads
-use Rattle.table.proofs.load.Lts as lts
-use Rattle.table.proofs.by_tasks.Reads as by-tasks-reads
-use Rattle.table.proofs.chain.walk.Reads as walk-reads
-use Rattle.table.proofs.header.header_number.Reads as header-number-reads
-use Rattle.table.proofs.refused.Reads as refused-reads
 
 -- the header passes
 fine : (c : tie.Else1) → headerNumber (now (c .before .before .before .args .words)) ≡ 0

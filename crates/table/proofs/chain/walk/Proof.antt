@@ -1,5 +1,6 @@
-use Prim.Native.Nat.{ℕ, _+_, _*_, _≤_, _<_, _-_}
-use mathlib.Core.Path.{_≡_, refl, sym, _∙_}
+-- `table::chain::walk` meets its contract. The loop's invariant is `Walking`: the walk has come to this step, each task met has a place and
+-- each record met a mark. A record met for the first time leaves one step fewer, since those met differ. Assumes nothing.
+use Prim.Native.Nat.{_+_, _*_, _≤_, _<_, _-_}
 use denote.Ref.{now}
 use borrow.Author.Needs.{needs}
 use native.Mathlib.Omega.{arith}
@@ -7,14 +8,10 @@ use native.Mathlib.Nat.{add-zero}
 use native.Mathlib.Numerals.{add-one}
 use lib.ListN.{length}
 use Rattle.table.specs.Words.{records}
-use Rattle.table.specs.Numbers.{WordsOut}
-use Rattle.table.proofs.HeaderFine.{header-fine, words-long, words-whole, words-few}
+use Rattle.table.proofs.HeaderFine.{header-fine, words-long, words-few}
 use Rattle.table.proofs.Walking.{Walking, walking-none, walking-again, walking-room, walking-more, walked-past, walked-again, walked-whole}
 use Rattle.table.proofs.chain.walk.Statement.{statement}
 use Rattle.table.proofs.chain.walk.Tie as tie
-use Rattle.table.proofs.chain.walk.Reads as reads
-use Rattle.table.proofs.chain.walk.Lts as lts
-use Rattle.table.proofs.chain.task_of.Reads as task-of-reads
 
 abbrev Inv-loop : tie.InvT-loop
 Inv-loop words records tasks₀ seen₀ count₀ at₀ tasks seen count at = Walking words tasks seen count at
@@ -22,30 +19,38 @@ Inv-loop words records tasks₀ seen₀ count₀ at₀ tasks seen count at = Wal
 abbrev μ-loop : tie.MeasureT-loop
 μ-loop words records tasks₀ seen₀ count₀ at₀ tasks seen count at = records - count
 
--- the header passes, and where a record is met for the first time there is a place for its task
+-- the header passes
 long : (c : tie.After-shared-slice-known Inv-loop μ-loop) → 3 ≤ length (now (c .before .args .words))
 long c = let ws = now (c .before .args .words) in words-long ws (header-fine ws (c .before .pre) .words-in)
 
-few : (c : tie.After-shared-slice-known Inv-loop μ-loop) → records (now (c .before .args .words)) ≤ 32
-few c = let ws = now (c .before .args .words) in words-few ws (header-fine ws (c .before .pre) .words-in)
+few : (c : tie.At-loop Inv-loop μ-loop) → records (now (c .before .before .before .before .args .words)) ≤ 32
+few c =
+    let s = c .before .before .before .before in
+    let ws = now (s .args .words) in
+    words-few ws (header-fine ws (s .pre) .words-in)
 
-room : (c : tie.Else3 Inv-loop μ-loop) → c .before .before .before .loop .count < records (now (c .before .before .before .before .before .before .args .words))
+-- where a record is met for the first time there is a place for its task
+room : (c : tie.Else3 Inv-loop μ-loop)
+    → c .before .before .before .loop .count < records (now (c .before .before .before .before .before .before .before .args .words))
 room c =
     let e = c .before in
     let s = e .before .before in
-    walking-room _ _ _ _ _ (s .loop .inv) (e .before .if1 .left) (e .if2 .left) (few (s .before .before)) (c .if3 .left)
+    walking-room _ _ _ _ _ (s .loop .inv) (e .before .if1 .left) (e .if2 .left) (few s) (c .if3 .left)
 
 sub-records : tie.Need-sub-records Inv-loop μ-loop
 sub-records c = omega (arith, long c)
 
+no-task-requires : tie.Need-no-task-requires Inv-loop μ-loop
+no-task-requires c κs = search needs
+
 shared-slice-read-at : tie.Need-shared-slice-read-at Inv-loop μ-loop
-shared-slice-read-at c = omega (arith, long (c .before))
+shared-slice-read-at c = omega (arith, long (c .before .before))
 
 cast-at : tie.Need-cast-at Inv-loop μ-loop
 cast-at c = omega (arith, c .shared-slice-known2 .given 0)
 
 loop-holds : tie.Need-loop-holds Inv-loop μ-loop
-loop-holds c = walking-none _
+loop-holds c = rw (c .before .no-task .ensures) (walking-none (now (c .before .before .before .args .words)))
 
 returns : tie.Need-returns Inv-loop μ-loop
 returns c = walked-whole _ _ _ _ _ (c .before .loop .inv) (c .if1 .taken)
@@ -53,53 +58,48 @@ returns c = walked-whole _ _ _ _ _ (c .before .loop .inv) (c .if1 .taken)
 returns-2 : tie.Need-returns-2 Inv-loop μ-loop
 returns-2 c = walked-past _ _ _ _ _ (c .before .before .loop .inv) (c .if2 .taken)
 
-sub-if3 : tie.Need-sub-if3 Inv-loop μ-loop
-sub-if3 c = omega arith
+sub-index : tie.Need-sub-index Inv-loop μ-loop
+sub-index c = omega arith
 
 array-read-if3 : tie.Need-array-read-if3 Inv-loop μ-loop
-array-read-if3 c = omega (arith, few (c .before .before .before .before))
+array-read-if3 c = omega (arith, few (c .before .before))
 
 returns-3 : tie.Need-returns-3 Inv-loop μ-loop
 returns-3 c =
     let e = c .before in
     let s = e .before .before in
-    walked-again _ _ _ _ _ (s .loop .inv) (walking-again _ _ _ _ _ (s .loop .inv) (e .before .if1 .left) (e .if2 .left) (few (s .before .before)) (c .if3 .taken)) (e .if2 .left)
-
-sub-seen : tie.Need-sub-seen Inv-loop μ-loop
-sub-seen c = omega arith
+    let again = walking-again _ _ _ _ _ (s .loop .inv) (e .before .if1 .left) (e .if2 .left) (few s) (c .if3 .taken) in
+    walked-again _ _ _ _ _ (s .loop .inv) again (e .if2 .left)
 
 array-write-seen : tie.Need-array-write-seen Inv-loop μ-loop
-array-write-seen c = omega (arith, few (c .before .before .before .before .before), c .before .before .before .loop .inv .marks)
+array-write-seen c = let s = c .before .before .before in omega (arith, few s, s .loop .inv .marks)
 
 task-of-requires : tie.Need-task-of-requires Inv-loop μ-loop
 task-of-requires c κs = (omega arith, omega arith)
 
 mul-tasks : tie.Need-mul-tasks Inv-loop μ-loop
-mul-tasks c = omega (arith, room (c .before), few (c .before .before .before .before .before .before))
+mul-tasks c = omega (arith, room (c .before), few (c .before .before .before .before))
 
 array-set-from-tasks : tie.Need-array-set-from-tasks Inv-loop μ-loop
-array-set-from-tasks c = omega (arith, room (c .before), few (c .before .before .before .before .before .before))
-
-sub-at : tie.Need-sub-at Inv-loop μ-loop
-sub-at c = omega (arith, few (c .before .before .before .before .before .before))
+array-set-from-tasks c = omega (arith, room (c .before), few (c .before .before .before .before))
 
 mul-at : tie.Need-mul-at Inv-loop μ-loop
-mul-at c = omega (arith, few (c .before .before .before .before .before .before))
+mul-at c = omega (arith, few (c .before .before .before .before))
 
 add-at : tie.Need-add-at Inv-loop μ-loop
-add-at c = omega (arith, few (c .before .before .before .before .before .before))
+add-at c = omega (arith, few (c .before .before .before .before))
 
 mul-at-2 : tie.Need-mul-at-2 Inv-loop μ-loop
-mul-at-2 c = omega (arith, few (c .before .before .before .before .before .before))
+mul-at-2 c = omega (arith, few (c .before .before .before .before))
 
 shared-slice-read-at-2 : tie.Need-shared-slice-read-at-2 Inv-loop μ-loop
-shared-slice-read-at-2 c = omega (arith, few (c .before .before .before .before .before .before .before))
+shared-slice-read-at-2 c = omega (arith, few (c .before .before .before .before .before))
 
 cast-at-2 : tie.Need-cast-at-2 Inv-loop μ-loop
 cast-at-2 c = omega (arith, c .shared-slice-known3 .given (3 + (c .before .before .before .before .before .loop .at - 1) * 6))
 
 add-count : tie.Need-add-count Inv-loop μ-loop
-add-count c = omega (arith, room (c .before .before), few (c .before .before .before .before .before .before .before))
+add-count c = omega (arith, room (c .before .before), few (c .before .before .before .before .before))
 
 loop-less : tie.Need-loop-less Inv-loop μ-loop
 loop-less c = omega (arith, room (c .before .before))
@@ -108,8 +108,9 @@ loop-again : tie.Need-loop-again Inv-loop μ-loop
 loop-again c =
     let e = c .before .before in
     let s = e .before .before .before in
-    let ws = now (s .before .before .before .args .words) in
-    let more = walking-more ws (s .loop .tasks) (s .loop .seen) (s .loop .count) (s .loop .at) (s .loop .inv) (e .before .before .if1 .left) (e .before .if2 .left) (few (s .before .before)) (e .if3 .left) in
+    let ws = now (s .before .before .before .before .args .words) in
+    let more =
+    walking-more ws (s .loop .tasks) (s .loop .seen) (s .loop .count) (s .loop .at) (s .loop .inv) (e .before .before .if1 .left) (e .before .if2 .left) (few s) (e .if3 .left) in
     rw (add-one (s .loop .count), c .before .task-of .ensures) (rw (add-zero (3 + (s .loop .at - 1) * 6)) at more)
 
 pub walk-spec : {M : Type 1} → statement M
@@ -119,20 +120,19 @@ walk-spec =
     Inv-loop
     μ-loop
     sub-records
+    no-task-requires
     shared-slice-read-at
     cast-at
     loop-holds
     returns
     returns-2
-    sub-if3
+    sub-index
     array-read-if3
     returns-3
-    sub-seen
     array-write-seen
     task-of-requires
     mul-tasks
     array-set-from-tasks
-    sub-at
     mul-at
     add-at
     mul-at-2

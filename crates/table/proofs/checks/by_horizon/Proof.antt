@@ -1,8 +1,7 @@
--- `table::by_horizon` meets its contract: P up to one above the limit decides number 9, and is exact where 9 does not apply.
+-- `table::checks::by_horizon` meets its contract: P up to one above the limit decides number 9, and is exact where 9 does not apply.
 -- Assumes nothing.
-use Prim.Native.Nat.{_+_, _≤_}
+use Prim.Native.Nat.{_+_}
 use mathlib.Core.Path.{_≡_, sym, _∙_}
-use mathlib.Core.Bool.{true, false}
 use borrow.Author.Needs.{needs}
 use borrow.Author.Tests.{ltb-false}
 use native.Mathlib.Omega.{arith}
@@ -12,14 +11,8 @@ use Rattle.table.specs.Task.{tasksOf}
 use Rattle.table.specs.Limits.{horizonOut}
 use Rattle.table.specs.Load.{tableWith, passing}
 use Rattle.table.proofs.Loads.{horizon-test, by-far, by-near, made}
-use Rattle.table.proofs.by_horizon.Statement.{statement}
-use Rattle.table.proofs.by_horizon.Tie as tie
-use Rattle.table.proofs.by_horizon.Reads as reads
-use Rattle.table.proofs.by_horizon.Lts as lts
-use Rattle.table.proofs.hyperperiod.hyperperiod.Reads as hyperperiod-reads
-use Rattle.table.proofs.limits.horizon_out.Reads as horizon-out-reads
-use Rattle.table.proofs.refused.Reads as refused-reads
-use Rattle.table.proofs.start.last_start.Reads as last-start-reads
+use Rattle.table.proofs.checks.by_horizon.Statement.{statement}
+use Rattle.table.proofs.checks.by_horizon.Tie as tie
 
 -- what the test says of the horizon
 test : (c : tie.After-horizon-out)

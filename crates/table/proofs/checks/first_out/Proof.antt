@@ -1,22 +1,19 @@
--- `table::limits::first_out` meets its contract. The loop's invariant: no task before the place is turned down.
+-- `table::checks::first_out` meets its contract. The loop's invariant: no task before the place is turned down.
 -- The measure is what is left of the count. Assumes nothing.
 use Prim.Native.Nat.{ℕ, _≤_, _<_, _-_}
-use mathlib.Core.Path.{_≡_, refl, sym, _∙_}
-use mathlib.Core.Bool.{true, false}
+use mathlib.Core.Path.{_≡_, sym, ap, _∙_}
+use mathlib.Core.Bool.{true, false, not}
 use borrow.Author.Count.{below-none, below-more}
 use borrow.Author.Needs.{needs}
+use borrow.Author.Tests.{ne-eqb}
 use native.Mathlib.Omega.{arith}
+use lib.Dec.{eqb}
 use lib.ListN.{length, getD}
 use Rattle.table.specs.Task.{taskOf, noTask}
-use Rattle.table.specs.Limits.{widthOut, timesOut}
-use Rattle.table.specs.Answer.{taskOut}
+use Rattle.table.specs.Limits.{taskOut}
 use Rattle.table.proofs.FirstOut.{out-here, out-none}
-use Rattle.table.proofs.limits.first_out.Statement.{statement}
-use Rattle.table.proofs.limits.first_out.Tie as tie
-use Rattle.table.proofs.limits.first_out.Reads as reads
-use Rattle.table.proofs.limits.first_out.Lts as lts
-use Rattle.table.proofs.limits.times_out.Reads as times-out-reads
-use Rattle.table.proofs.limits.width_out.Reads as width-out-reads
+use Rattle.table.proofs.checks.first_out.Statement.{statement}
+use Rattle.table.proofs.checks.first_out.Tie as tie
 
 abbrev Inv-loop : tie.InvT-loop
 Inv-loop cores count tasks place₀ place = (place ≤ count) × ((p : ℕ) → p < place → taskOut cores (taskOf (getD tasks p noTask)) ≡ false)
@@ -33,8 +30,8 @@ mul-task c = omega arith
 array-copy-out-task : tie.Need-array-copy-out-task Inv-loop μ-loop
 array-copy-out-task c = omega arith
 
-width-out-requires : tie.Need-width-out-requires Inv-loop μ-loop
-width-out-requires c κs = search needs
+task-number-requires : tie.Need-task-number-requires Inv-loop μ-loop
+task-number-requires c κs = search needs
 
 returns : tie.Need-returns Inv-loop μ-loop
 returns c =
@@ -42,20 +39,7 @@ returns c =
     let a = s .before .args in
     let there : length (a .t2) ≡ 32 = search needs in
     let out : taskOut (a .cores) (taskOf (getD (a .t2) (s .loop .place) noTask)) ≡ true =
-    rw (sym (c .before .width-out .ensures) ∙ c .if1 .taken) in
-    out-here (a .cores) (a .t2) (a .count) (omega arith) (s .loop .place) (omega arith) (s .loop .inv .1) out
-
-times-out-requires : tie.Need-times-out-requires Inv-loop μ-loop
-times-out-requires c κs = search needs
-
-returns-2 : tie.Need-returns-2 Inv-loop μ-loop
-returns-2 c =
-    let s = c .before .before .before .before .before .before in
-    let a = s .before .args in
-    let there : length (a .t2) ≡ 32 = search needs in
-    let fits = c .before .before .if1 .left in
-    let out : taskOut (a .cores) (taskOf (getD (a .t2) (s .loop .place) noTask)) ≡ true =
-    rw (sym (c .before .before .before .width-out .ensures) ∙ fits, sym (c .before .times-out .ensures) ∙ c .if2 .taken) in
+    ap not (ap (λ (n : ℕ). eqb n 0) (sym (c .before .task-number .ensures)) ∙ ne-eqb (c .before .task-number .result) 0 (c .if1 .taken)) in
     out-here (a .cores) (a .t2) (a .count) (omega arith) (s .loop .place) (omega arith) (s .loop .inv .1) out
 
 add-place : tie.Need-add-place Inv-loop μ-loop
@@ -66,14 +50,11 @@ loop-less c = omega arith
 
 loop-again : tie.Need-loop-again Inv-loop μ-loop
 loop-again c =
-    let s = c .before .before .before .before .before .before in (
-      omega arith,
-      below-more _ _ (s .loop .inv .1)
-          (rw (sym (c .before .before .before .width-out .ensures) ∙ c .before .before .if1 .left, sym (c .before .times-out .ensures) ∙ c .if2 .left)),
-    )
+    let s = c .before .before .before .before in
+    (omega arith, below-more _ _ (s .loop .inv .1) (ap (λ (n : ℕ). not (eqb n 0)) (sym (c .before .task-number .ensures) ∙ c .if1 .left)))
 
-returns-3 : tie.Need-returns-3 Inv-loop μ-loop
-returns-3 c =
+returns-2 : tie.Need-returns-2 Inv-loop μ-loop
+returns-2 c =
     let a = c .before .before .args in
     let there : length (a .t2) ≡ 32 = search needs in
     let all : c .before .loop .place ≡ a .count = omega arith in
@@ -88,11 +69,9 @@ first-out-spec =
     loop-holds
     mul-task
     array-copy-out-task
-    width-out-requires
+    task-number-requires
     returns
-    times-out-requires
-    returns-2
     add-place
     loop-less
     loop-again
-    returns-3)
+    returns-2)

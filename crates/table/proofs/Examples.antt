@@ -1,16 +1,17 @@
 -- Tables in words, computed from the definitions: example A, and what numbers 1 to 9 turn down.
 use mathlib.Core.Path.{_≡_, refl}
 use mathlib.Core.List.{List, [], _∷_, map, _++_}
-use Prim.Native.Nat.{ℕ}
-use lib.ListN.{replicate}
+use Prim.Native.Nat.{ℕ, suc}
+use lib.ListN.{length, replicate}
 use Rattle.model.specs.Search.{any, least, upFrom}
-use Rattle.model.specs.Task.{greedy}
+use Rattle.model.specs.Task.{Table, greedy}
 use Rattle.model.specs.Horizon.{S, lcm, hyperperiod, horizon}
-use Rattle.model.proofs.Examples.{A}
+use Rattle.model.proofs.Examples.{t, on, A}
+use Rattle.table.specs.declared.Answer.the-variants.{Passed}
 use Rattle.table.specs.declared.Loaded.{Loaded}
 use Rattle.table.specs.Words.{met, count, chain, tableOf}
 use Rattle.table.specs.Answer.{headerNumber, lastStep, endingOf, firstOut, byHorizon, byTasks, byWalk, answerOf}
-use Rattle.table.specs.Load.{passing, refusal, loadOf}
+use Rattle.table.specs.Load.{places, refusal, loadOf}
 
 -- a line: the words of a table, and what `load` gives of them
 pub record Line : Type 0 where
@@ -24,20 +25,54 @@ worked l = record { words = l .words; gives = loadOf (l .words) }
 abbrev line : List ℕ → Loaded → Line
 line ws l = record { words = ws; gives = l }
 
+-- a table that passes, under rule 1, with its last S, P and horizon
+abbrev passes : Table → ℕ → ℕ → ℕ → Loaded
+passes s start period horizon =
+    record {
+      answer = Passed;
+      count = length (s .tasks);
+      cores = s .cores;
+      rule = 1;
+      tasks = places (s .tasks);
+      start = start;
+      period = period;
+      horizon = horizon;
+    }
+
 -- a header, and a record's six words
 abbrev header : ℕ → ℕ → ℕ → List ℕ
 header h m r = h ∷ m ∷ r ∷ []
 
 abbrev entry : ℕ → ℕ → ℕ → ℕ → ℕ → ℕ → List ℕ
-entry n o v c d t = n ∷ o ∷ v ∷ c ∷ d ∷ t ∷ []
+entry n o v c d p = n ∷ o ∷ v ∷ c ∷ d ∷ p ∷ []
 
 -- A with its records permuted and record 2 off the chain: the chain is 3, 1, 4
 abbrev pub wordsA : List ℕ
 wordsA = header 3 3 1 ++ entry 4 0 2 3 5 5 ++ entry 9 7 7 7 7 7 ++ entry 1 0 2 2 5 5 ++ entry 0 0 1 4 5 5
 
+-- records n, n + 1 and so on, in chain order, of these periods; the last of them is followed by record `next`
+unfoldable pub chained : ℕ → ℕ → List ℕ → List ℕ
+chained next n [] = []
+chained next n (p ∷ []) = entry next 0 1 1 1 p
+chained next n (p ∷ q ∷ ps) = entry (suc n) 0 1 1 1 p ++ chained next (suc n) (q ∷ ps)
+
+-- the primes up to 17, and from 19 to 53
+abbrev low : List ℕ
+low = 2 ∷ 3 ∷ 5 ∷ 7 ∷ 11 ∷ 13 ∷ 17 ∷ []
+
+abbrev high : List ℕ
+high = 19 ∷ 23 ∷ 29 ∷ 31 ∷ 37 ∷ 41 ∷ 43 ∷ 47 ∷ 53 ∷ []
+
+-- eight tasks with P 9,699,690, the last of which has this offset
+abbrev long : ℕ → List ℕ
+long o = header 1 1 1 ++ chained 8 1 low ++ entry 0 o 1 1 1 19
+
+abbrev longTable : ℕ → Table
+longTable o = on 1 greedy (map (λ p. t 0 1 1 1 p) low ++ (t o 1 1 1 19 ∷ []))
+
 abbrev pub lines : List Line
 lines =
-    line wordsA (passing 1 (A greedy))
+    line wordsA (passes (A greedy) 0 5 5)
     -- H: two words; 195 words pass 1, and 201 don't; cores 0 and rule 9 together; head 2 of one record; head 1 and its next 1
     ∷ line (3 ∷ 1 ∷ []) (refusal 1 0)
     ∷ line (replicate 195 0) (refusal 2 0)
@@ -53,14 +88,19 @@ lines =
     -- the chain 1, 2, 3 of two records; the chain 2, 1, 2
     ∷ line (header 1 1 1 ++ entry 2 0 1 1 1 1 ++ entry 3 0 1 1 1 1) (refusal 5 0)
     ∷ line (header 2 1 1 ++ entry 2 0 1 1 1 1 ++ entry 1 0 1 1 1 1) (refusal 6 0)
-    -- a width above the core count at position 2, in record 1, which breaks 8 too; a length 0 at position 1, in record 2, before a width 0 at position 2
+    -- a width above the core count at position 2, in record 1, which breaks 8 too
     ∷ line (header 2 2 1 ++ entry 0 0 3 0 1 1 ++ entry 1 0 1 1 1 1) (refusal 7 2)
+    -- a length 0 at position 1, in record 2, before a width 0 at position 2
     ∷ line (header 2 2 1 ++ entry 0 0 0 1 1 1 ++ entry 1 0 1 0 1 1) (refusal 8 1)
     -- a deadline above the period at position 2, in record 1
     ∷ line (header 2 2 1 ++ entry 0 0 1 1 3 2 ++ entry 1 0 1 1 1 1) (refusal 8 2)
+    -- the horizon 10,000,000 passes 9, and 10,000,001 doesn't; nor does a P above 2^64
+    ∷ line (long 300310) (passes (longTable 300310) 300310 9699690 10000000)
+    ∷ line (long 300311) (refusal 9 0)
+    ∷ line (header 1 1 1 ++ chained 0 1 (low ++ high)) (refusal 9 0)
     ∷ []
 
 -- every line is what the definitions say
 pub examples : map worked lines ≡ lines
-unfolding loadOf answerOf byWalk byTasks byHorizon firstOut endingOf lastStep headerNumber tableOf chain count met horizon S hyperperiod lcm least any upFrom
+unfolding chained loadOf answerOf byWalk byTasks byHorizon firstOut endingOf lastStep headerNumber tableOf chain count met horizon S hyperperiod lcm least any upFrom
 examples = refl

@@ -1,0 +1,190 @@
+-- The run tick by tick: what holds before the due moments of a tick, along the walk over them, and after it; and what the verdict is where the run ends.
+use native.Mathlib.Omega.{arith}
+use mathlib.Core.Path.{_≡_, refl, sym, ap, _∙_, subst}
+use mathlib.Core.Bool.{Bool, true, false, cond, true≢false}
+use mathlib.Core.List.{List, [], _∷_, map}
+use mathlib.Core.Logic.{_⊎_, inl, inr, ⊎-elim}
+use native.Mathlib.Nat.{eq-or-lt-of-le, eq-zero-or-pos, le-trans}
+use native.Mathlib.Numerals.{add-one}
+use Prim.Native.Nat.{ℕ, zero, suc, _+_, _≤_, _<_, min}
+use lib.ListN.{length, getD, take, length-map, List·getD-map}
+use Rattle.model.specs.Search.{bit, upFrom}
+use Rattle.model.specs.Task.{Table, task, nobody, ruleOf}
+use Rattle.model.specs.Task as model
+use Rattle.model.specs.Grants.{claimants, grants, some}
+use Rattle.model.specs.Book.{full, inRow, Missed, NeverMissed, widths}
+use Rattle.model.specs.Horizon.{horizon}
+use Rattle.model.specs.Verdict.{firm, FirstMiss, verdict}
+use Rattle.model.proofs.Search.{bit-none}
+use Rattle.model.proofs.Grants.{grants-nobody}
+use Rattle.model.proofs.Horizon.{horizon-enough}
+use Rattle.model.proofs.Verdict.{firm-exact, verdict-exact}
+use Rattle.table.specs.declared.Task.{Task}
+use Rattle.table.specs.declared.Loaded.{Loaded}
+use Rattle.table.specs.Task.{taskOf, tasksOf, noTask}
+use Rattle.table.proofs.Places.{tasks-length, task-at}
+use Rattle.full.specs.Machine.{Machine, started, released, worked, Owed}
+use Rattle.full.proofs.Tied.{Walked, Tied, Ready, tied-start, walk-pass, walk-release, tick-keeps}
+use Rattle.full.proofs.Bell.{Bell, bell-more, bell-release, bell-tick, quiet}
+use Rattle.full.proofs.Late.{late-missed, passed-met}
+use Rattle.full.proofs.Alike.{row-places, row-owed}
+use Rattle.rule.specs.Shares.{granted}
+use Rattle.judge.specs.declared.Verdict.{Verdict}
+use Rattle.judge.specs.declared.Verdict.the-variants.{Firm, Full, Miss}
+use Rattle.judge.specs.Judged.{told, tableIn, Fit, acceptedOf}
+
+-- the widths of the first n tasks
+front : (n : ℕ) (xs : List Task) → take n (map (λ x. x .width) xs) ≡ map (λ τ. τ .width) (map taskOf (take n xs))
+front zero xs = refl
+front (suc n) [] = refl
+front (suc n) (x ∷ xs) = ap (λ (l : List ℕ). x .width ∷ l) (front n xs)
+
+-- before the due moments of a tick
+pub record Before (t : Loaded) (m : Machine) (bell tick : ℕ) : Type 0 where
+  pub tied : Tied (tableIn t) tick m
+  pub rings : Bell (length (tableIn t .tasks)) bell m
+  pub met : (p u : ℕ) → u < tick → ¬ Missed (tableIn t) p u
+  pub within : tick ≤ t .horizon
+
+-- the walk over them has come to place i
+pub record Walking (t : Loaded) (m : Machine) (bell tick i : ℕ) : Type 0 where
+  pub walked : Walked (tableIn t) tick i m
+  pub rings : Bell i bell m
+  pub inside : i ≤ length (tableIn t .tasks)
+
+-- after them: no deadline of the tick is missed
+pub record After (t : Loaded) (m : Machine) (bell tick : ℕ) : Type 0 where
+  pub ready : Ready (tableIn t) tick m
+  pub rings : Bell (length (tableIn t .tasks)) bell m
+
+-- g is the set of places that are granted cores where those of the set c claim
+abbrev pub Chosen : Loaded → ℕ → ℕ → Type 0
+Chosen t c g = (p : ℕ) → bit g p ≡ granted (ruleOf (t .rule)) (claimants (map (λ x. x .width) (t .tasks)) (bit c)) (upFrom 0 (t .cores)) p
+
+-- where nobody claims, nobody is granted cores
+pub chosen-none : (t : Loaded) → Chosen t 0 0
+chosen-none t p = bit-none p ∙ sym (grants-nobody (ruleOf (t .rule)) (map (λ x. x .width) (t .tasks)) (upFrom 0 (t .cores)) p)
+
+module _ (t : Loaded) (fit : Fit t) where
+  abbrev s : Table
+  s = tableIn t
+
+  -- the table has as many tasks as the count says
+  pub size : length (s .tasks) ≡ t .count
+  size = tasks-length (t .tasks) (t .count) (omega (arith, fit .few, fit .places))
+
+  few : length (s .tasks) ≤ 32
+  few = omega (arith, size, fit .few)
+
+  -- a field of a task, from its column
+  pub column : (f : Task → ℕ) (g : model.Task → ℕ) → ((x : Task) → f x ≡ g (taskOf x)) → (p : ℕ) → p < length (s .tasks) → getD (map f (t .tasks)) p (f noTask) ≡ g (task s p)
+  column f g e p l = List·getD-map f (t .tasks) p noTask ∙ (e (getD (t .tasks) p noTask) ∙ ap g (sym (task-at (t .tasks) (t .count) p (omega (arith, size)))))
+
+  pub at-start : Before t (started (map (λ x. x .offset) (t .tasks))) 0 0
+  at-start = record {
+    tied = tied-start s (fit .sound) few (map (λ x. x .offset) (t .tasks)) (simp length-map (fit .places)) (column (λ x. x .offset) (λ τ. τ .offset) (λ x. refl));
+    rings = λ p l. omega arith;
+    met = λ p u h. absurd (omega arith);
+    within = omega arith;
+  }
+
+  -- THE WALK
+
+  pub walk-begins : (m : Machine) (bell tick : ℕ) → Before t m bell tick → Walking t m 4294967295 tick 0
+  walk-begins m bell tick b = record { walked = b .tied; rings = λ p l. absurd (omega arith); inside = omega arith }
+
+  -- a place that is not due
+  pub walk-passes :
+      (m : Machine) (bell tick i : ℕ) → Walking t m bell tick i → i < length (s .tasks) → (getD (m .moment) i 0 ≡ tick → ⊥)
+      → Walking t m (min bell (getD (m .moment) i 0)) tick (i + 1)
+  walk-passes m bell tick i w l ne =
+      rw add-one (record {
+        walked = walk-pass s (fit .sound) few tick i m (w .walked) l ne;
+        rings = bell-more i bell (min bell (getD (m .moment) i 0)) m (w .rings) (omega arith) (omega arith);
+        inside = l;
+      })
+
+  -- a place that is due and owes nothing
+  pub walk-releases :
+      (m m′ : Machine) (bell tick i C D T : ℕ) → Walking t m bell tick i → i < length (s .tasks) → getD (m .moment) i 0 ≡ tick → getD (m .left) i 0 ≤ 0
+      → C ≡ task s i .length → D ≡ task s i .deadline → T ≡ task s i .period → m′ ≡ released i tick C D T m
+      → Walking t m′ (min bell (getD (m′ .moment) i 0)) tick (i + 1)
+  walk-releases m m′ bell tick i C D T w l at none eC eD eT e =
+      rw add-one (subst (λ (x : Machine). Walking t x (min bell (getD (x .moment) i 0)) tick (suc i)) (sym e) (record {
+        walked = walk-release s (fit .sound) few tick i m (w .walked) l at (omega arith) C D T eC eD eT;
+        rings =
+            bell-more i bell (min bell (getD (released i tick C D T m .moment) i 0)) (released i tick C D T m)
+            (bell-release i bell m (w .rings) i tick C D T (omega arith)) (omega arith) (omega arith);
+        inside = l;
+      }))
+
+  -- a place that is due and still owed ticks: the first miss
+  pub walk-misses :
+      (m : Machine) (bell tick i : ℕ) → ((p u : ℕ) → u < tick → ¬ Missed s p u) → Walking t m bell tick i
+      → i < length (s .tasks) → getD (m .moment) i 0 ≡ tick → 0 < getD (m .left) i 0 → Miss tick (i + 1) ≡ told (verdict s)
+  walk-misses m bell tick i met w l at some =
+      let first : FirstMiss s tick (i + 1) = record {
+        place = (i, add-one i);
+        missed = late-missed s (fit .sound) tick i m (w .walked) i l (omega arith) at some;
+        no-earlier = met;
+        no-higher = λ q h. passed-met s (fit .sound) tick i m (w .walked) q h;
+      } in
+      ap told (sym (verdict-exact s (fit .sound) .miss tick (i + 1) .1 first))
+
+  pub walk-ends : (m : Machine) (bell tick i : ℕ) → Walking t m bell tick i → length (s .tasks) ≤ i → After t m bell tick
+  walk-ends m bell tick i w past =
+      let e : i ≡ length (s .tasks) = omega (arith, w .inside) in
+      record { ready = subst (λ (n : ℕ). Walked s tick n m) e (w .walked); rings = subst (λ (n : ℕ). Bell n bell m) e (w .rings) }
+
+  -- before the bell there is nothing to look at
+  pub walk-skipped : (m : Machine) (bell tick : ℕ) → Before t m bell tick → tick < bell → After t m bell tick
+  walk-skipped m bell tick b h = record { ready = quiet s (fit .sound) few tick bell m (b .tied) (b .rings) h; rings = b .rings }
+
+  -- THE END
+
+  -- what is met up to a tick and at it
+  met-at : (m : Machine) (bell tick : ℕ) → ((p u : ℕ) → u < tick → ¬ Missed s p u) → After t m bell tick → (p u : ℕ) → u ≤ tick → ¬ Missed s p u
+  met-at m bell tick met a p u h =
+      ⊎-elim
+      (λ (e : u ≡ tick). λ x. let y : Missed s p tick = subst (λ (n : ℕ). Missed s p n) e x in passed-met s (fit .sound) tick (length (s .tasks)) m (a .ready) p (y .0) y)
+      (λ (l : u < tick). met p u l)
+      (eq-or-lt-of-le h)
+
+  -- no deadline is missed at the horizon or before, and so none ever
+  pub run-ends :
+      (m : Machine) (bell tick : ℕ) → ((p u : ℕ) → u < tick → ¬ Missed s p u) → After t m bell tick → tick ≡ t .horizon
+      → acceptedOf t ≡ told (verdict s)
+  run-ends m bell tick met a e = go (firm (s .rule) (s .tasks)) refl
+    where
+      never : NeverMissed s
+      never = horizon-enough s (fit .sound) (λ p u h. met-at m bell tick met a p u (omega (arith, fit .horizon)))
+
+      go : (b : Bool) → firm (s .rule) (s .tasks) ≡ b → cond b (Firm (t .start) (t .period)) (Full (t .start) (t .period)) ≡ told (verdict s)
+      go true q = ap told (sym (verdict-exact s (fit .sound) .firm (t .start) (t .period) .1 (never, firm-exact s .0 q, fit .start, fit .period)))
+      go false q =
+          ap told (sym (verdict-exact s (fit .sound) .full (t .start) (t .period) .1
+          (never, (λ x. true≢false (sym (firm-exact s .1 x) ∙ q)), fit .start, fit .period)))
+
+  -- A TICK
+
+  -- the widths' column begins with the table's widths
+  same-widths : take (length (s .tasks)) (map (λ x. x .width) (t .tasks)) ≡ widths s
+  same-widths = ap (λ (n : ℕ). take n (map (λ x. x .width) (t .tasks))) size ∙ front (t .count) (t .tasks)
+
+  chosen-row : (m : Machine) (bell tick g : ℕ) → After t m bell tick → Chosen t (m .claiming) g → (p : ℕ) → bit g p ≡ inRow s (full s tick) p
+  chosen-row m bell tick g a e p = e p ∙ row-places s (fit .sound) tick m (a .ready) (map (λ x. x .width) (t .tasks)) same-widths p
+
+  pub chosen-owed : (m : Machine) (bell tick g : ℕ) → After t m bell tick → Chosen t (m .claiming) g → Owed (bit g) m
+  chosen-owed m bell tick g a e =
+      row-owed s (fit .sound) tick m (a .ready) (map (λ x. x .width) (t .tasks)) same-widths (bit g) (chosen-row m bell tick g a e)
+
+  pub next-tick :
+      (m m′ : Machine) (bell tick g : ℕ) → ((p u : ℕ) → u < tick → ¬ Missed s p u) → After t m bell tick → Chosen t (m .claiming) g
+      → tick < t .horizon → m′ ≡ worked (bit g) m → Before t m′ bell (tick + 1)
+  next-tick m m′ bell tick g met a e h w =
+      rw add-one (subst (λ (x : Machine). Before t x bell (suc tick)) (sym w) (record {
+        tied = tick-keeps s (fit .sound) few tick m (a .ready) (bit g) (λ p l. chosen-row m bell tick g a e p);
+        rings = bell-tick s (fit .sound) few tick bell m (a .ready) (a .rings) (bit g);
+        met = λ p u l. met-at m bell tick met a p u (omega arith);
+        within = h;
+      }))

@@ -1,0 +1,73 @@
+-- `judge::rising` meets its contract: at place i no width has fallen so far, and a width that falls is no rising list. Assumes nothing.
+use borrow.Author.Needs.{needs}
+use native.Mathlib.Omega.{arith}
+use Prim.Native.Nat.{_-_, _≤_}
+use Rattle.judge.proofs.Widths.{RisingTo, rising-more, all-rise, one-falls}
+use Rattle.judge.proofs.rising.Statement.{statement}
+use Rattle.judge.proofs.rising.Tie as tie
+
+abbrev Inv-loop : tie.InvT-loop
+Inv-loop count tasks i₀ i = (1 ≤ i) × RisingTo tasks i
+
+abbrev μ-loop : tie.MeasureT-loop
+μ-loop count tasks i₀ i = count - i
+
+loop-holds : tie.Need-loop-holds Inv-loop μ-loop
+loop-holds c = (search needs, λ p l. absurd (omega arith))
+
+sub-above : tie.Need-sub-above Inv-loop μ-loop
+sub-above c = omega arith
+
+mul-above : tie.Need-mul-above Inv-loop μ-loop
+mul-above c = omega arith
+
+array-copy-out-above : tie.Need-array-copy-out-above Inv-loop μ-loop
+array-copy-out-above c = omega arith
+
+mul-here : tie.Need-mul-here Inv-loop μ-loop
+mul-here c = omega arith
+
+array-copy-out-here : tie.Need-array-copy-out-here Inv-loop μ-loop
+array-copy-out-here c = omega arith
+
+returns : tie.Need-returns Inv-loop μ-loop
+returns c =
+    let a = c .before .before .before .before .before .before .before .args in
+    let l = c .before .before .before .before .before .before .loop in
+    one-falls (a .t1) (a .count) (omega arith) (l .i) (l .inv .0) (omega arith) (c .if1 .taken)
+
+add-i : tie.Need-add-i Inv-loop μ-loop
+add-i c = omega arith
+
+loop-less : tie.Need-loop-less Inv-loop μ-loop
+loop-less c = omega arith
+
+loop-again : tie.Need-loop-again Inv-loop μ-loop
+loop-again c =
+    let a = c .before .before .before .before .before .before .before .args in
+    let l = c .before .before .before .before .before .before .loop in
+    (omega arith, rising-more (a .t1) (l .i) (l .inv .0) (l .inv .1) (c .if1 .left))
+
+returns-2 : tie.Need-returns-2 Inv-loop μ-loop
+returns-2 c =
+    let a = c .before .before .args in
+    let l = c .before .loop in
+    all-rise (a .t1) (a .count) (omega arith) (l .i) (omega arith) (l .inv .1)
+
+pub rising-spec : {M : Type 1} → statement M
+rising-spec =
+    tie.close
+    (tie.spec
+    Inv-loop
+    μ-loop
+    loop-holds
+    sub-above
+    mul-above
+    array-copy-out-above
+    mul-here
+    array-copy-out-here
+    returns
+    add-i
+    loop-less
+    loop-again
+    returns-2)

@@ -1,0 +1,76 @@
+-- The judge's answer, and what is promised of it (demand 2).
+use mathlib.Core.Path.{_≡_}
+use mathlib.Core.Bool.{cond}
+use mathlib.Core.List.{List}
+use mathlib.Core.Logic.{_↔_, _⊎_}
+use Prim.Native.Nat.{ℕ, _≤_, _<_}
+use lib.ListN.{length}
+use Rattle.model.specs.Task.{Table, AllSound, task, ruleOf}
+use Rattle.model.specs.Book.{NeverMissed}
+use Rattle.model.specs.Horizon.{lastS, hyperperiod, horizon}
+use Rattle.model.specs.Verdict.{firm, Rising, FirstMiss, verdict}
+use Rattle.model.specs.Verdict as model
+use Rattle.table.specs.declared.Answer.{Answer}
+use Rattle.table.specs.declared.Answer.the-variants.{Passed}
+use Rattle.table.specs.declared.Answer.the-variants as table
+use Rattle.table.specs.declared.Loaded.{Loaded}
+use Rattle.table.specs.Task.{tasksOf}
+use Rattle.table.specs.Words.{rule, tableOf}
+use Rattle.table.specs.Numbers.{First, NoneApplies}
+use Rattle.table.specs.Answer.{answerOf}
+use Rattle.judge.specs.declared.Verdict.{Verdict}
+use Rattle.judge.specs.declared.Verdict.the-variants.{Firm, Full, Miss, Refused}
+
+-- the cases of the answer carry the scope's values: Firm and Full S and P, Miss tick and position ..
+abbrev pub told : model.Verdict → Verdict
+told (model.Firm s p) = Firm s p
+told (model.Full s p) = Full s p
+told (model.Miss t p) = Miss t p
+
+-- .. and Refused number and position
+abbrev pub judged : Answer → Table → Verdict
+judged Passed s = told (verdict s)
+judged (table.Refused n p) s = Refused n p
+
+-- the verdict of a table's words
+unfoldable pub verdictOf : List ℕ → Verdict
+verdictOf ws = judged (answerOf ws) (tableOf ws)
+
+-- the scope's condition for firm: rule 2 or 3, or rule 1 with widths that never fall
+abbrev pub FirmWords : List ℕ → Type 0
+FirmWords ws = (rule ws ≡ 2) ⊎ ((rule ws ≡ 3) ⊎ ((rule ws ≡ 1) × Rising (tableOf ws .tasks)))
+
+-- what is promised of the answer v to the words ws
+pub record Judged (ws : List ℕ) (v : Verdict) : Type 0 where
+  -- it is the verdict of the words
+  pub value : v ≡ verdictOf ws
+  -- Refused n p exactly if n is the first number that applies, at p
+  pub refused : (n p : ℕ) → (v ≡ Refused n p) ↔ First ws n p
+  -- Firm or Full exactly if no number applies and no deadline of the full-length run is missed at any tick
+  pub accepted : ((s p : ℕ) × ((v ≡ Firm s p) ⊎ (v ≡ Full s p))) ↔ (NoneApplies ws × NeverMissed (tableOf ws))
+  -- Miss t p exactly if no number applies and (t, p) is the earliest missed deadline, at equal ticks the first in priority
+  pub miss : (t p : ℕ) → (v ≡ Miss t p) ↔ (NoneApplies ws × FirstMiss (tableOf ws) t p)
+  -- an accepted table is Firm exactly for rules 2 and 3 and for rule 1 with widths never falling; S and P as defined
+  pub firm : (s p : ℕ) → (v ≡ Firm s p) ↔ (NoneApplies ws × NeverMissed (tableOf ws) × FirmWords ws × (s ≡ lastS (tableOf ws .tasks)) × (p ≡ hyperperiod (tableOf ws .tasks)))
+  pub full : (s p : ℕ) → (v ≡ Full s p) ↔ (NoneApplies ws × NeverMissed (tableOf ws) × (¬ FirmWords ws) × (s ≡ lastS (tableOf ws .tasks)) × (p ≡ hyperperiod (tableOf ws .tasks)))
+
+-- THE RUN, on a table that passed
+
+-- the table that was loaded
+abbrev pub tableIn : Loaded → Table
+tableIn t = record { tasks = tasksOf (t .tasks) (t .count); cores = t .cores; rule = ruleOf (t .rule) }
+
+-- what the run needs of it
+pub record Fit (t : Loaded) : Type 0 where
+  pub places : length (t .tasks) ≡ 32
+  pub few : t .count ≤ 32
+  pub sound : AllSound (tableIn t)
+  pub short : (p : ℕ) → p < t .count → task (tableIn t) p .period ≤ 1000000
+  pub start : t .start ≡ lastS (tableIn t .tasks)
+  pub period : t .period ≡ hyperperiod (tableIn t .tasks)
+  pub horizon : t .horizon ≡ horizon (tableIn t)
+  pub limit : t .horizon ≤ 1000000000
+
+-- the answer where no deadline is missed
+abbrev pub acceptedOf : Loaded → Verdict
+acceptedOf t = cond (firm (ruleOf (t .rule)) (tasksOf (t .tasks) (t .count))) (Firm (t .start) (t .period)) (Full (t .start) (t .period))

@@ -1,0 +1,93 @@
+// Numbers 7 to 9 of a table whose chain ends, and what passes.
+ghost use mathlib.Core.Path.{_≡_};
+ghost use Prim.Native.Nat.{_≤_, _+_};
+ghost use Rattle.table.specs.Task.{tasksOf, InLimits};
+ghost use Rattle.table.specs.Limits.{horizonOut};
+ghost use Rattle.table.specs.Answer.{firstOut, byHorizon, byTasks};
+ghost use Rattle.table.specs.Load.{places, refusal, passing, answered, tableWith};
+use crate::Answer;
+use crate::Loaded;
+use crate::Task;
+
+// A refusal, with zeros beside it.
+pub fn refused(number: u32, position: u32) -> Loaded
+    ensures { λ r. ⌜ r ≡ refusal number position ⌝ }
+{
+    let none = Task {
+        offset: 0,
+        width: 0,
+        length: 0,
+        deadline: 0,
+        period: 0,
+    };
+    let tasks = [none; 32];
+    Loaded {
+        answer: Answer::Refused(number, position),
+        count: 0,
+        cores: 0,
+        rule: 0,
+        tasks: tasks,
+        start: 0,
+        period: 0,
+        horizon: 0,
+    }
+}
+
+// Whether the last S and P reach past tick 10,000,000 (number 9).
+fn horizon_out(start: u32, period: u32) -> bool
+    ensures { λ r. ⌜ r ≡ horizonOut (start + period) ⌝ }
+{
+    10_000_000 < start as u64 + period as u64
+}
+
+// A table whose tasks are within their limits: number 9, or the table.
+fn by_horizon(cores: u32, rule: u32, tasks: [Task; 32], count: usize) -> Loaded
+    requires { ⌜ 1 ≤ count ⌝ ∗ ⌜ count ≤ 32 ⌝ ∗ ⌜ InLimits tasks count ⌝ ∗ ⌜ tasks ≡ places (tasksOf tasks count) ⌝ }
+    ensures { λ r. ⌜ r ≡ answered (byHorizon (tableWith cores rule (tasksOf tasks count))) (passing rule (tableWith cores rule (tasksOf tasks count))) ⌝ }
+{
+    let start = crate::start::last_start(tasks, count);
+    let period = crate::hyperperiod::hyperperiod(tasks, count);
+    if horizon_out(start, period) {
+        return refused(9, 0);
+    }
+    Loaded {
+        answer: Answer::Passed,
+        count: count,
+        cores: cores,
+        rule: rule,
+        tasks: tasks,
+        start: start,
+        period: period,
+        horizon: start + period,
+    }
+}
+
+// The first place with a task that 7 or 8 turns down, or the count.
+fn first_out(cores: u32, tasks: [Task; 32], count: usize) -> usize
+    requires { ⌜ count ≤ 32 ⌝ }
+    ensures { λ r. ⌜ r ≡ firstOut cores (tasksOf tasks count) ⌝ }
+{
+    let mut place: usize = 0;
+    while place < count {
+        let task = tasks[place];
+        if crate::limits::task_number(cores, task) != 0 {
+            return place;
+        }
+        place += 1;
+    }
+    place
+}
+
+// A table whose chain ends: number 7 or 8 of the first task that breaks one, or by the horizon.
+pub fn by_tasks(cores: u32, rule: u32, tasks: [Task; 32], count: usize) -> Loaded
+    requires { ⌜ 1 ≤ count ⌝ ∗ ⌜ count ≤ 32 ⌝ ∗ ⌜ tasks ≡ places (tasksOf tasks count) ⌝ }
+    ensures { λ r. ⌜ r ≡ answered (byTasks (tableWith cores rule (tasksOf tasks count))) (passing rule (tableWith cores rule (tasksOf tasks count))) ⌝ }
+{
+    let place = first_out(cores, tasks, count);
+    if place < count {
+        let task = tasks[place];
+        let number = crate::limits::task_number(cores, task);
+        return refused(number, place as u32 + 1);
+    }
+    by_horizon(cores, rule, tasks, count)
+}

@@ -1,0 +1,74 @@
+-- Texts and what they are read as, and the scope's own print of A and of some others, computed from the definitions.
+use mathlib.Core.List.{List, [], _∷_, map}
+use mathlib.Core.Path.{_≡_, refl}
+use Prim.Native.String.{String}
+use Rattle.model.specs.Task.{Table, greedy, limited}
+use Rattle.model.specs.Book.{claims, full, served, step, work}
+use Rattle.model.specs.Grants.{claimants, given, grants, left}
+use Rattle.model.specs.Horizon.{S, horizon, hyperperiod, lcm}
+use Rattle.model.specs.Row.{owner, row}
+use Rattle.model.specs.Search.{any, least, memb, upFrom}
+use Rattle.model.specs.Verdict.{firm, firstMiss, missedAt, missedIn, rising, verdict}
+use Rattle.model.proofs.Examples.{A, on, t}
+use Rattle.text.specs.Decimal.{all, value, decimal, lastDigits, digitCount, digitsWithin}
+use Rattle.text.specs.Format.{Words, words, noText, wordsOf, lines, isNumber}
+use Rattle.text.specs.Output.{letters, fields, lineOf, firstLine, rowLine, rowLines, printed, refused}
+
+-- a text and what it is read as
+pub record Case : Type 0 where
+  pub text : String
+  pub reads : Words
+
+abbrev case : String → Words → Case
+case s w = record { text = s; reads = w }
+
+abbrev pub cases : List Case
+cases =
+    case "3\n12\n0\n" (words (3 ∷ 12 ∷ 0 ∷ []))
+    -- the last line may lack its newline
+    ∷ case "3\n12" (words (3 ∷ 12 ∷ []))
+    -- no line is no number
+    ∷ case "" (words [])
+    -- zeros in front count as digits
+    ∷ case "007" (words (7 ∷ []))
+    ∷ case "0000000007" (words (7 ∷ []))
+    ∷ case "00000000007" noText
+    ∷ case "4294967295" (words (4294967295 ∷ []))
+    ∷ case "4294967296" noText
+    -- empty lines and other characters
+    ∷ case "\n" noText
+    ∷ case "3\n\n" noText
+    ∷ case "+3\n" noText
+    ∷ case "3 \n" noText
+    ∷ case "3\r\n" noText
+    ∷ []
+
+pub texts : map (λ c. case (c .text) (wordsOf (letters (c .text)))) cases ≡ cases
+unfolding wordsOf lines isNumber all value
+texts = refl
+
+-- a table and what is printed for it
+pub record Print : Type 0 where
+  pub table : Table
+  pub text : String
+
+abbrev pub prints : List Print
+prints =
+    -- A, as the scope prints it
+    record { table = A greedy; text = "full 0 5\n0 1 1 3\n1 1 1 3\n2 2 2 3\n3 2 2 3\n4 2 2 0\n" }
+    -- A2: a miss on the horizon
+    ∷ record { table = A limited; text = "miss 5 3\n0 1 1 0\n1 1 1 0\n2 2 2 3\n3 2 2 3\n4 2 2 3\n" }
+    -- F: the rows stop before the miss
+    ∷ record { table = on 1 greedy (t 0 1 2 1 2 ∷ []); text = "miss 1 1\n0 1\n" }
+    -- E: an idle core is 0
+    ∷ record { table = on 1 limited (t 1 1 1 1 2 ∷ t 0 1 1 2 3 ∷ []); text = "firm 3 6\n0 2\n1 1\n2 0\n3 1\n4 2\n5 1\n6 2\n7 1\n8 0\n" }
+    ∷ []
+
+pub prints-exact : map (λ p. printed (p .table)) prints ≡ map (λ p. letters (p .text)) prints
+unfolding printed firstLine rowLine rowLines lineOf fields decimal lastDigits digitCount digitsWithin verdict firstMiss missedIn missedAt firm rising horizon S hyperperiod lcm least any memb upFrom owner row given left grants claimants claims served work step full
+prints-exact = refl
+
+-- a refusal
+pub refusal : firstLine (refused 8 12) ≡ letters "refused 8 12\n"
+unfolding firstLine lineOf fields decimal lastDigits digitCount digitsWithin
+refusal = refl

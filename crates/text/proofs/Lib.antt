@@ -1,0 +1,12 @@
+pub mod Every
+pub mod Values
+pub mod Lines
+pub mod Numbers
+pub mod Reading
+pub mod Exact
+pub mod Decimals
+pub mod ReadOf
+pub mod Canonical
+pub mod FirstLine
+pub mod Writing
+pub mod Examples

@@ -1,0 +1,54 @@
+-- `text::line::end_from` meets its contract: the line from the start ends where the line from here does, since no byte passed is a newline.
+-- Assumes nothing.
+use mathlib.Core.Path.{_≡_}
+use Prim.Native.Nat.{_+_, _-_}
+use native.Mathlib.Omega.{arith}
+use lib.ListN.{length, drop}
+use Rattle.text.specs.Input.{lineLength}
+use Rattle.text.proofs.Lines.{line-here, line-on, line-none}
+use Rattle.text.proofs.line.end_from.Statement.{statement}
+use Rattle.text.proofs.line.end_from.Tie as tie
+
+abbrev Inv-loop : tie.InvT-loop
+Inv-loop bytes from end₀ end = from + lineLength (drop from bytes) ≡ end + lineLength (drop end bytes)
+
+abbrev μ-loop : tie.MeasureT-loop
+μ-loop bytes from end₀ end = length bytes - end
+
+loop-holds : tie.Need-loop-holds Inv-loop μ-loop
+loop-holds c = omega arith
+
+shared-slice-read-if1 : tie.Need-shared-slice-read-if1 Inv-loop μ-loop
+shared-slice-read-if1 c = omega arith
+
+returns : tie.Need-returns Inv-loop μ-loop
+returns c = let a = c .before .before .before .before .args in omega (arith, line-here (a .bytes .now) (c .before .before .before .loop .end) (omega arith) (c .if1 .taken))
+
+add-end : tie.Need-add-end Inv-loop μ-loop
+add-end c = omega arith
+
+loop-less : tie.Need-loop-less Inv-loop μ-loop
+loop-less c = omega arith
+
+loop-again : tie.Need-loop-again Inv-loop μ-loop
+loop-again c =
+    let a = c .before .before .before .before .args in
+    let e = line-on (a .bytes .now) (c .before .before .before .loop .end) (omega arith) (c .if1 .left) in
+    omega arith
+
+returns-2 : tie.Need-returns-2 Inv-loop μ-loop
+returns-2 c = let a = c .before .before .args in omega (arith, line-none (a .bytes .now) (c .before .loop .end) (omega arith))
+
+pub end-from-spec : {M : Type 1} → statement M
+end-from-spec =
+    tie.close
+    (tie.spec
+    Inv-loop
+    μ-loop
+    loop-holds
+    shared-slice-read-if1
+    returns
+    add-end
+    loop-less
+    loop-again
+    returns-2)

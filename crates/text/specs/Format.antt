@@ -1,0 +1,66 @@
+-- The text that the program reads (scope, end of 'The table of examples'): one decimal number a line, the last line may lack its newline.
+-- Other characters, an empty line, a line of more than ten digits, a number above 4,294,967,295 or more than 195 numbers are turned down.
+use mathlib.Core.Bool.{Bool, _&&_, cond}
+use mathlib.Core.List.{List, [], _∷_, _++_, map}
+use Prim.Native.Nat.{ℕ, _≤_}
+use lib.ListN.{length}
+use lib.Dec.{leb, eqb}
+use Rattle.text.specs.Decimal.{all, isDigit, Digits, value, decimal}
+
+-- a newline
+abbrev pub newline : ℕ
+newline = 10
+
+-- the largest number that a line may say
+abbrev pub largest : ℕ
+largest = 4294967295
+
+-- how many numbers a text may have: the words of a header and of 32 records
+abbrev pub mostNumbers : ℕ
+mostNumbers = 195
+
+-- a byte in front of the first line
+abbrev pub joined : ℕ → List (List ℕ) → List (List ℕ)
+joined b [] = (b ∷ []) ∷ []
+joined b (l ∷ ls) = (b ∷ l) ∷ ls
+
+-- the lines of a text: what stands before each newline, and what stands after the last one unless that is nothing
+unfoldable pub lines : List ℕ → List (List ℕ)
+lines [] = []
+lines (b ∷ bs) = cond (eqb b newline) ([] ∷ lines bs) (joined b (lines bs))
+
+-- a line says a number: it has one to ten digits and nothing else, and the number is at most 4,294,967,295
+pub record Number (l : List ℕ) : Type 0 where
+  pub some : 1 ≤ length l
+  pub short : length l ≤ 10
+  pub digits : Digits l
+  pub fits : value l ≤ largest
+
+-- .. the test (`number-exact`)
+unfoldable pub isNumber : List ℕ → Bool
+isNumber l = leb 1 (length l) && (leb (length l) 10 && (all isDigit l && leb (value l) largest))
+
+-- the numbers of a text, or that it is no table's text
+pub data Words : Type 0 where
+  words : List ℕ → Words
+  noText : Words
+
+-- every line says a number, and there are at most 195: the numbers of the lines
+unfoldable pub wordsOf : List ℕ → Words
+wordsOf bs = cond (all isNumber (lines bs) && leb (length (lines bs)) mostNumbers) (words (map value (lines bs))) noText
+
+-- the bytes are these numbers, one to a line; each line ends with a newline, which the last may lack
+pub data Lines : List ℕ → List ℕ → Type 0 where
+  none : Lines [] []
+  last : {l : List ℕ} → Number l → Lines l (value l ∷ [])
+  line : {l bs ws : List ℕ} → Number l → Lines bs ws → Lines (l ++ (newline ∷ bs)) (value l ∷ ws)
+
+-- the bytes are a table's text, and ws are its numbers (`text-exact`, `no-text-exact`)
+pub record IsText (bs ws : List ℕ) : Type 0 where
+  pub lines : Lines bs ws
+  pub most : length ws ≤ mostNumbers
+
+-- the text of the numbers ws: each in decimal, with a newline (`text-read`)
+unfoldable pub textOf : List ℕ → List ℕ
+textOf [] = []
+textOf (w ∷ ws) = decimal w ++ (newline ∷ textOf ws)

@@ -1,0 +1,43 @@
+-- What `read` gives of the bytes, and what its two helpers do.
+use mathlib.Core.Bool.{true, false, cond}
+use mathlib.Core.List.{List, [], _∷_, _++_}
+use mathlib.Core.Logic.{_↔_}
+use mathlib.Core.Path.{_≡_}
+use Prim.Native.Nat.{ℕ, suc, _-_, _≤_}
+use lib.ListN.{length, take, drop, replicate}
+use lib.Dec.{eqb}
+use Rattle.text.specs.Decimal.{value}
+use Rattle.text.specs.Format.{newline, mostNumbers, isNumber, Words, words, noText, wordsOf, IsText}
+use Rattle.text.specs.declared.Input.{Input}
+use Rattle.text.specs.declared.line.Found.{Found}
+use Rattle.text.specs.declared.line.Found.the-variants.{Value, Nothing}
+
+-- how many bytes stand before the first newline, or in all where there is none
+unfoldable pub lineLength : List ℕ → ℕ
+lineLength [] = 0
+lineLength (b ∷ bs) = cond (eqb b newline) 0 (suc (lineLength bs))
+
+-- the number that a line says, or nothing
+abbrev pub foundIn : List ℕ → Found
+foundIn l = cond (isNumber l) (Value (value l)) Nothing
+
+-- the numbers in 195 places, zeros past the last
+abbrev pub placed : List ℕ → List ℕ
+placed ws = ws ++ replicate (mostNumbers - length ws) 0
+
+-- a text is accepted, with its numbers and their count; of other bytes all is zero
+abbrev pub inputOf : Words → Input
+inputOf (words ws) = record { accepted = true; count = length ws; words = placed ws }
+inputOf noText = record { accepted = false; count = 0; words = replicate mostNumbers 0 }
+
+-- what `read` promises of the bytes
+pub record ReadOf (bs : List ℕ) (r : Input) : Type 0 where
+  -- its value
+  pub value : r ≡ inputOf (wordsOf bs)
+  -- accepted with the numbers ws exactly if the bytes are the text of ws
+  pub text : (ws : List ℕ) → ((r .accepted ≡ true) × (take (r .count) (r .words) ≡ ws)) ↔ IsText bs ws
+  -- turned down exactly if they are the text of no numbers
+  pub noText : (r .accepted ≡ false) ↔ ((ws : List ℕ) → ¬ IsText bs ws)
+  -- at most 195 numbers, and zeros past them
+  pub most : r .count ≤ mostNumbers
+  pub past : drop (r .count) (r .words) ≡ replicate (mostNumbers - r .count) 0

@@ -1,0 +1,60 @@
+-- What the program prints (scope, end of 'The table of examples'): the verdict, then a line for each row; every line ends with a newline.
+use mathlib.Core.List.{List, [], _∷_, _++_}
+use Prim.Native.Char.{code}
+use Prim.Native.Nat.{ℕ, zero, suc}
+use Prim.Native.String.{String}
+use Rattle.model.specs.Task.{Table}
+use Rattle.model.specs.Book.{full, rowOf}
+use Rattle.model.specs.Horizon.{horizon}
+use Rattle.model.specs.Verdict.{Verdict, Firm, Full, Miss, verdict}
+use Rattle.text.specs.Decimal.{decimal}
+use Rattle.text.specs.Format.{newline}
+
+-- the bytes of a word of plain letters
+abbrev pub letters : String → List ℕ
+letters String.[] = []
+letters (String._∷_ c s) = code c ∷ letters s
+
+-- a space
+abbrev pub space : ℕ
+space = 32
+
+-- the numbers in decimal, a space before each
+unfoldable pub fields : List ℕ → List ℕ
+fields [] = []
+fields (n ∷ ns) = space ∷ (decimal n ++ fields ns)
+
+-- a line that begins so and has these numbers
+unfoldable pub lineOf : List ℕ → List ℕ → List ℕ
+lineOf begin ns = begin ++ (fields ns ++ (newline ∷ []))
+
+-- what the first line says: a verdict, or a refusal with number and position
+pub data Answer : Type 0 where
+  judged : Verdict → Answer
+  refused : ℕ → ℕ → Answer
+
+-- a Firm table begins `firm`, S, P; a Full one `full`, S, P; a miss `miss`, tick, position; a refusal is `refused`, number, position
+unfoldable pub firstLine : Answer → List ℕ
+firstLine (judged (Firm s p)) = lineOf (letters "firm") (s ∷ p ∷ [])
+firstLine (judged (Full s p)) = lineOf (letters "full") (s ∷ p ∷ [])
+firstLine (judged (Miss t p)) = lineOf (letters "miss") (t ∷ p ∷ [])
+firstLine (refused n p) = lineOf (letters "refused") (n ∷ p ∷ [])
+
+-- a row: the tick and the cores' positions
+unfoldable pub rowLine : ℕ → List ℕ → List ℕ
+rowLine t cores = lineOf (decimal t) cores
+
+-- the rows printed of a table whose horizon is h: up to the horizon, or up to but not including the tick of the miss
+abbrev pub rowsPrinted : Verdict → ℕ → ℕ
+rowsPrinted (Firm s p) h = h
+rowsPrinted (Full s p) h = h
+rowsPrinted (Miss t p) h = t
+
+-- the lines of n rows of the full-length run, from tick t on
+unfoldable pub rowLines : Table → ℕ → ℕ → List ℕ
+rowLines s t zero = []
+rowLines s t (suc n) = rowLine t (rowOf s (full s t)) ++ rowLines s (suc t) n
+
+-- all that is printed for a table that passes 1 to 9
+unfoldable pub printed : Table → List ℕ
+printed s = firstLine (judged (verdict s)) ++ rowLines s 0 (rowsPrinted (verdict s) (horizon s))

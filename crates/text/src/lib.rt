@@ -1,0 +1,56 @@
+// Decimal lines in: the words of a table from the bytes that the program is given.
+ghost use mathlib.Core.Path.{_≡_};
+ghost use Rattle.text.specs.Format.{noText};
+ghost use Rattle.text.specs.Input.{inputOf, ReadOf};
+
+mod decimal; // decimal.rt: numbers in decimal
+mod line; // line.rt: where a line ends and which number it says
+
+use line::Found;
+
+// What was read: whether it is a table's text, and its numbers, zeros past the count; all zeros where it is none.
+pub struct Input {
+    pub accepted: bool,
+    pub count: usize,
+    pub words: [u32; 195],
+}
+
+// No table's text.
+fn no_text() -> Input
+    ensures { λ r. ⌜ r ≡ inputOf noText ⌝ }
+{
+    let words = [0u32; 195];
+    Input {
+        accepted: false,
+        count: 0,
+        words: words,
+    }
+}
+
+// The numbers of a table's text.
+pub fn read(bytes: &[u8]) -> Input
+    ensures { λ r. ⌜ ReadOf (now (bytes .entry)) r ⌝ }
+{
+    let mut words = [0u32; 195];
+    let mut count: usize = 0;
+    let mut at: usize = 0;
+    while at < bytes.len() {
+        let end = line::end_from(bytes, at);
+        match line::number(&bytes[at..end]) {
+            Found::Nothing => return no_text(),
+            Found::Value(number) => {
+                if count == 195 {
+                    return no_text();
+                }
+                words[count] = number;
+                count += 1;
+            }
+        }
+        at = end + 1;
+    }
+    Input {
+        accepted: true,
+        count: count,
+        words: words,
+    }
+}

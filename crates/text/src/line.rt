@@ -1,0 +1,53 @@
+ghost use mathlib.Core.Path.{_≡_};
+ghost use Prim.Native.Nat.{_+_};
+ghost use lib.ListN.{drop};
+ghost use Rattle.text.specs.Input.{lineLength, foundIn};
+
+// The number that a line says, if it says one.
+pub enum Found {
+    Value(u32),
+    Nothing,
+}
+
+// Where the line that starts at `from` ends: at its newline, or at the end of the bytes.
+pub fn end_from(bytes: &[u8], from: usize) -> usize
+    ensures { λ r. ⌜ r ≡ from + lineLength (drop from (now (bytes .entry))) ⌝ }
+{
+    let mut end = from;
+    while end < bytes.len() {
+        if bytes[end] == b'\n' {
+            return end;
+        }
+        end += 1;
+    }
+    end
+}
+
+// The number of a line of one to ten digits, up to 4,294,967,295.
+pub fn number(line: &[u8]) -> Found
+    ensures { λ r. ⌜ r ≡ foundIn (now (line .entry)) ⌝ }
+{
+    if line.len() < 1 {
+        return Found::Nothing;
+    }
+    if 10 < line.len() {
+        return Found::Nothing;
+    }
+    let mut value: u64 = 0;
+    let mut i = 0;
+    while i < line.len() {
+        let byte = line[i];
+        if byte < b'0' {
+            return Found::Nothing;
+        }
+        if b'9' < byte {
+            return Found::Nothing;
+        }
+        value = value * 10 + (byte - b'0') as u64;
+        i += 1;
+    }
+    if 4_294_967_295 < value {
+        return Found::Nothing;
+    }
+    Found::Value(value as u32)
+}
