@@ -1,3 +1,4 @@
 pub mod Widths
 pub mod Ticks
 pub mod Promise
+pub mod OffChain
