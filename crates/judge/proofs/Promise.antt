@@ -4,7 +4,7 @@ use mathlib.Core.Path.{_≡_, refl, sym, ap, _∙_, subst}
 use mathlib.Core.List.{List, _++_}
 use mathlib.Core.Logic.{_⊎_, _↔_, inl, inr, ⊎-elim}
 use Prim.Native.Nat.{ℕ, _-_, _≤_, _<_}
-use lib.ListN.{length, take, drop, replicate, length-append, length-replicate, length-map, take-append-drop}
+use lib.ListN.{length, take, drop, length-append, length-replicate, length-map, take-append-drop}
 use Rattle.model.specs.Task.{Table, Rule, greedy, limited, idling, ruleOf, AllSound, task}
 use Rattle.model.specs.Book.{NeverMissed}
 use Rattle.model.specs.Horizon.{lastS, hyperperiod, horizon}
@@ -17,7 +17,7 @@ use Rattle.table.specs.declared.Answer.the-variants as table
 use Rattle.table.specs.declared.Loaded.{Loaded}
 use Rattle.table.specs.Task.{taskOf, tasksOf, noTask}
 use Rattle.table.specs.Words.{rule, tableOf}
-use Rattle.table.specs.Numbers.{First, NoneApplies}
+use Rattle.table.specs.Numbers.{NoneApplies}
 use Rattle.table.specs.Answer.{answerOf}
 use Rattle.table.specs.Load.{LoadOf, Holds}
 use Rattle.table.proofs.Exact.{refusal-exact, passed-exact}

@@ -3,17 +3,16 @@ use native.Mathlib.Omega.{arith}
 use mathlib.Core.Path.{_≡_, refl, sym, ap, _∙_, subst}
 use mathlib.Core.Bool.{Bool, true, false, cond, true≢false}
 use mathlib.Core.List.{List, [], _∷_, map}
-use mathlib.Core.Logic.{_⊎_, inl, inr, ⊎-elim}
-use native.Mathlib.Nat.{eq-or-lt-of-le, eq-zero-or-pos, le-trans}
+use mathlib.Core.Logic.{⊎-elim}
+use native.Mathlib.Nat.{eq-or-lt-of-le}
 use native.Mathlib.Numerals.{add-one}
 use Prim.Native.Nat.{ℕ, zero, suc, _+_, _≤_, _<_, min}
 use lib.ListN.{length, getD, take, length-map, List·getD-map}
 use Rattle.model.specs.Search.{bit, upFrom}
-use Rattle.model.specs.Task.{Table, task, nobody, ruleOf}
+use Rattle.model.specs.Task.{Table, task, ruleOf}
 use Rattle.model.specs.Task as model
-use Rattle.model.specs.Grants.{claimants, grants, some}
+use Rattle.model.specs.Grants.{claimants, some}
 use Rattle.model.specs.Book.{full, inRow, Missed, NeverMissed, widths}
-use Rattle.model.specs.Horizon.{horizon}
 use Rattle.model.specs.Verdict.{firm, FirstMiss, verdict}
 use Rattle.model.proofs.Search.{bit-none}
 use Rattle.model.proofs.Grants.{grants-nobody}
@@ -21,7 +20,7 @@ use Rattle.model.proofs.Horizon.{horizon-enough}
 use Rattle.model.proofs.Verdict.{firm-exact, verdict-exact}
 use Rattle.table.specs.declared.Task.{Task}
 use Rattle.table.specs.declared.Loaded.{Loaded}
-use Rattle.table.specs.Task.{taskOf, tasksOf, noTask}
+use Rattle.table.specs.Task.{taskOf, noTask}
 use Rattle.table.proofs.Places.{tasks-length, task-at}
 use Rattle.full.specs.Machine.{Machine, started, released, worked, Owed}
 use Rattle.full.proofs.Tied.{Walked, Tied, Ready, tied-start, walk-pass, walk-release, tick-keeps}
@@ -29,7 +28,6 @@ use Rattle.full.proofs.Bell.{Bell, bell-more, bell-release, bell-tick, quiet}
 use Rattle.full.proofs.Late.{late-missed, passed-met}
 use Rattle.full.proofs.Alike.{row-places, row-owed}
 use Rattle.rule.specs.Shares.{granted}
-use Rattle.judge.specs.declared.Verdict.{Verdict}
 use Rattle.judge.specs.declared.Verdict.the-variants.{Firm, Full, Miss}
 use Rattle.judge.specs.Judged.{told, tableIn, Fit, acceptedOf}
 

@@ -1,0 +1,205 @@
+-- THE ANSWER OF THE PLAN is the first number that applies, and written where none does.
+use native.Mathlib.Omega.{arith}
+use mathlib.Core.Path.{_≡_, refl, sym}
+use mathlib.Core.Bool.{Bool, true, false, _||_, cond}
+use mathlib.Core.List.{List}
+use mathlib.Core.Logic.{_⊎_, _↔_, inl, inr}
+use Prim.Native.Nat.{ℕ, _-_, _*_, _<_}
+use lib.Dec.{ltb}
+use borrow.Author.Tests.{ltb-true, ltb-false}
+use Rattle.model.specs.Search.{any}
+use Rattle.model.specs.Task.{Table}
+use Rattle.model.specs.Horizon.{horizon}
+use Rattle.model.specs.Verdict.{missedIn}
+use Rattle.table.specs.declared.Answer.{Answer}
+use Rattle.table.specs.declared.Answer.the-variants as answer
+use Rattle.table.specs.Words.{tableOf}
+use Rattle.table.specs.Numbers.{place, Earlier}
+use Rattle.table.specs.Numbers as table
+use Rattle.table.specs.Answer.{answerOf}
+use Rattle.table.proofs.Decide.{Decides, fails, decides-lt, decides-or}
+use Rattle.table.proofs.Exact.{refusal-exact, passed-exact}
+use Rattle.table.proofs.Passed.{passed-sound}
+use Rattle.plan.specs.declared.Planned.{Planned}
+use Rattle.plan.specs.declared.Planned.the-variants.{Written, Refused}
+use Rattle.plan.specs.Numbers.{RangeOut, BufferOut, MissOut, Applies, words, ten, eleven, twelve, First, NoneApplies}
+use Rattle.plan.specs.Plan.{byPlan, told, plannedOf}
+use Rattle.plan.proofs.Late.{miss-decides}
+
+-- THE ORDER OF THE NUMBERS
+
+-- of two numbers one is less, or they are the same
+order : (a b : ℕ) → (a < b) ⊎ ((b < a) ⊎ (a ≡ b))
+order a b = go (ltb a b) refl (ltb b a) refl
+  where
+    go : (t : Bool) → ltb a b ≡ t → (u : Bool) → ltb b a ≡ u → (a < b) ⊎ ((b < a) ⊎ (a ≡ b))
+    go true e u f = inl (ltb-true a b e)
+    go false e true f = inr (inl (ltb-true b a f))
+    go false e false f = let x = ltb-false a b e in let y = ltb-false b a f in inr (inr (omega arith))
+
+-- of two numbers with their positions one is checked before the other, or they are the same
+decided : (n p m q : ℕ) → Earlier n p m q ⊎ (Earlier m q n p ⊎ ((n ≡ m) × (p ≡ q)))
+decided n p m q = by-place (order (place n) (place m))
+  where
+    by-number : place n ≡ place m → p ≡ q → (n < m) ⊎ ((m < n) ⊎ (n ≡ m)) → Earlier n p m q ⊎ (Earlier m q n p ⊎ ((n ≡ m) × (p ≡ q)))
+    by-number e i (inl l) = inl (inr (e, inr (i, l)))
+    by-number e i (inr (inl l)) = inr (inl (inr (sym e, inr (sym i, l))))
+    by-number e i (inr (inr j)) = inr (inr (j, i))
+
+    by-position : place n ≡ place m → (p < q) ⊎ ((q < p) ⊎ (p ≡ q)) → Earlier n p m q ⊎ (Earlier m q n p ⊎ ((n ≡ m) × (p ≡ q)))
+    by-position e (inl l) = inl (inr (e, inl l))
+    by-position e (inr (inl l)) = inr (inl (inr (sym e, inl l)))
+    by-position e (inr (inr i)) = by-number e i (order n m)
+
+    by-place : (place n < place m) ⊎ ((place m < place n) ⊎ (place n ≡ place m)) → Earlier n p m q ⊎ (Earlier m q n p ⊎ ((n ≡ m) × (p ≡ q)))
+    by-place (inl l) = inl (inl l)
+    by-place (inr (inl l)) = inr (inl (inl l))
+    by-place (inr (inr e)) = by-position e (order p q)
+
+-- a number of a later place is not checked before
+later : (m q n p : ℕ) → place n < place m → ¬ Earlier m q n p
+later m q n p l (inl h) = omega arith
+later m q n p l (inr (e, h)) = omega arith
+
+-- nor is a number with position 0 before itself
+itself : (m : ℕ) → ¬ Earlier m 0 m 0
+itself m (inl h) = omega arith
+itself m (inr (e, inl h)) = omega arith
+itself m (inr (e, inr (i, h))) = omega arith
+
+-- the table's numbers are checked before the plan's
+number-most : (ws : List ℕ) (n p : ℕ) → table.Applies ws n p → place n < 10
+number-most ws _ _ (table.one x) = omega arith
+number-most ws _ _ (table.two x) = omega arith
+number-most ws _ _ (table.three x) = omega arith
+number-most ws _ _ (table.four x) = omega arith
+number-most ws _ _ (table.five k x y) = omega arith
+number-most ws _ _ (table.six k x y) = omega arith
+number-most ws _ _ (table.seven p x y) = omega arith
+number-most ws _ _ (table.eight p x y) = omega arith
+number-most ws _ _ (table.nine x) = omega arith
+
+-- WHAT IS RIGHT OF AN ANSWER
+
+module _ (ws : List ℕ) (a b bytes : ℕ) where
+  abbrev s : Table
+  s = tableOf ws
+
+  abbrev Right : Planned → Type 0
+  Right Written = NoneApplies ws a b bytes
+  Right (Refused n p) = First ws a b bytes n p
+
+  -- a number of the table
+  by-words : (n p : ℕ) → table.First ws n p → First ws a b bytes n p
+  by-words n p f = (words n p (f .0), none)
+    where
+      most : place n < 10
+      most = number-most ws n p (f .0)
+
+      none : (m q : ℕ) → Earlier m q n p → ¬ Applies ws a b bytes m q
+      none m q e (words _ _ x) = f .1 m q e x
+      none _ _ e (ten x) = later 10 0 n p (omega (arith, most)) e
+      none _ _ e (eleven x) = later 11 0 n p (omega (arith, most)) e
+      none _ _ e (twelve x) = later 12 0 n p (omega (arith, most)) e
+
+  module _ (passed : table.NoneApplies ws) where
+    is-ten : RangeOut s a b → First ws a b bytes 10 0
+    is-ten y = (ten y, none)
+      where
+        none : (m q : ℕ) → Earlier m q 10 0 → ¬ Applies ws a b bytes m q
+        none m q e (words _ _ x) = passed m q x
+        none _ _ e (ten x) = itself 10 e
+        none _ _ e (eleven x) = later 11 0 10 0 (omega arith) e
+        none _ _ e (twelve x) = later 12 0 10 0 (omega arith) e
+
+    is-eleven : (¬ RangeOut s a b) → BufferOut s a b bytes → First ws a b bytes 11 0
+    is-eleven h y = (eleven y, none)
+      where
+        none : (m q : ℕ) → Earlier m q 11 0 → ¬ Applies ws a b bytes m q
+        none m q e (words _ _ x) = passed m q x
+        none _ _ e (ten x) = h x
+        none _ _ e (eleven x) = itself 11 e
+        none _ _ e (twelve x) = later 12 0 11 0 (omega arith) e
+
+    is-twelve : (¬ RangeOut s a b) → (¬ BufferOut s a b bytes) → MissOut s b → First ws a b bytes 12 0
+    is-twelve h k y = (twelve y, none)
+      where
+        none : (m q : ℕ) → Earlier m q 12 0 → ¬ Applies ws a b bytes m q
+        none m q e (words _ _ x) = passed m q x
+        none _ _ e (ten x) = h x
+        none _ _ e (eleven x) = k x
+        none _ _ e (twelve x) = itself 12 e
+
+    is-none : (¬ RangeOut s a b) → (¬ BufferOut s a b bytes) → (¬ MissOut s b) → NoneApplies ws a b bytes
+    is-none h k l m q (words _ _ x) = passed m q x
+    is-none h k l _ _ (ten x) = h x
+    is-none h k l _ _ (eleven x) = k x
+    is-none h k l _ _ (twelve x) = l x
+
+    range-decides : Decides (ltb b a || ltb (horizon s) b) (RangeOut s a b)
+    range-decides = decides-or (ltb b a) (ltb (horizon s) b) (b < a) (horizon s < b) (decides-lt b a) (decides-lt (horizon s) b)
+
+    buffer-decides : Decides (ltb bytes ((b - a) * s .cores)) (BufferOut s a b bytes)
+    buffer-decides = decides-lt bytes ((b - a) * s .cores)
+
+    late-decides : Decides (any b (missedIn s)) (MissOut s b)
+    late-decides = miss-decides s (passed-sound ws passed) b
+
+    -- 10, 11 and 12 by their tests
+    right-plan : Right (byPlan s a b bytes)
+    unfolding byPlan
+    right-plan = go (ltb b a || ltb (horizon s) b) refl (ltb bytes ((b - a) * s .cores)) refl (any b (missedIn s)) refl
+      where
+        go : (t : Bool) → (ltb b a || ltb (horizon s) b) ≡ t → (u : Bool) → ltb bytes ((b - a) * s .cores) ≡ u → (v : Bool) → any b (missedIn s) ≡ v
+            → Right (cond t (Refused 10 0) (cond u (Refused 11 0) (cond v (Refused 12 0) Written)))
+        go true e u f v g = is-ten (range-decides .0 e)
+        go false e true f v g = is-eleven (fails (ltb b a || ltb (horizon s) b) (RangeOut s a b) range-decides e) (buffer-decides .0 f)
+        go false e false f true g =
+            is-twelve (fails (ltb b a || ltb (horizon s) b) (RangeOut s a b) range-decides e)
+            (fails (ltb bytes ((b - a) * s .cores)) (BufferOut s a b bytes) buffer-decides f) (late-decides .0 g)
+        go false e false f false g =
+            is-none (fails (ltb b a || ltb (horizon s) b) (RangeOut s a b) range-decides e)
+            (fails (ltb bytes ((b - a) * s .cores)) (BufferOut s a b bytes) buffer-decides f)
+            (fails (any b (missedIn s)) (MissOut s b) late-decides g)
+
+  right : Right (plannedOf ws a b bytes)
+  unfolding plannedOf
+  right = go (answerOf ws) refl
+    where
+      go : (x : Answer) → answerOf ws ≡ x → Right (told x (byPlan s a b bytes))
+      go answer.Passed e = right-plan (passed-exact ws .0 e)
+      go (answer.Refused n p) e = by-words n p (refusal-exact ws n p .0 e)
+
+  -- only one number is the first
+  first-only : (n p m q : ℕ) → First ws a b bytes n p → First ws a b bytes m q → (n ≡ m) × (p ≡ q)
+  first-only n p m q f g = go (decided n p m q)
+    where
+      go : Earlier n p m q ⊎ (Earlier m q n p ⊎ ((n ≡ m) × (p ≡ q))) → (n ≡ m) × (p ≡ q)
+      go (inl e) = absurd (g .1 n p e (f .0))
+      go (inr (inl e)) = absurd (f .1 m q e (g .0))
+      go (inr (inr e)) = e
+
+  -- what is right of an answer determines it
+  settled : (v : Planned) → Right v → ((n p : ℕ) → (v ≡ Refused n p) ↔ First ws a b bytes n p) × ((v ≡ Written) ↔ NoneApplies ws a b bytes)
+  settled Written r = (λ n p. (λ e. absurd (written-not-refused e), λ f. absurd (r n p (f .0))), (λ e. r, λ n. refl))
+    where
+      written-not-refused : {n p : ℕ} → Written ≡ Refused n p → ⊥
+      written-not-refused e = let z : _≡_ {A = ℕ} 0 1 = cc in omega arith
+  settled (Refused m q) r = (λ n p. (λ e. to n p e, λ f. from n p f), (λ e. absurd (refused-not-written e), λ none. absurd (none m q (r .0))))
+    where
+      refused-not-written : Refused m q ≡ Written → ⊥
+      refused-not-written e = let z : _≡_ {A = ℕ} 0 1 = cc in omega arith
+
+      to : (n p : ℕ) → Refused m q ≡ Refused n p → First ws a b bytes n p
+      to n p e = let i : m ≡ n = cc in let j : q ≡ p = cc in rw (i, j) at r
+
+      from : (n p : ℕ) → First ws a b bytes n p → Refused m q ≡ Refused n p
+      from n p f = let x = first-only m q n p r f in rw (x .0, x .1)
+
+  -- the plan refuses with n and p exactly if number n applies with position p and no earlier one does
+  pub refused-exact : (n p : ℕ) → (plannedOf ws a b bytes ≡ Refused n p) ↔ First ws a b bytes n p
+  refused-exact n p = settled (plannedOf ws a b bytes) right .0 n p
+
+  -- and the rows are written exactly if no number applies
+  pub written-exact : (plannedOf ws a b bytes ≡ Written) ↔ NoneApplies ws a b bytes
+  written-exact = settled (plannedOf ws a b bytes) right .1

@@ -1,0 +1,6 @@
+pub mod Late
+pub mod Exact
+pub mod Buffer
+pub mod Writing
+pub mod Cases
+pub mod Promise

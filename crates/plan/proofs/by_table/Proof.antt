@@ -1,0 +1,93 @@
+-- `plan::by_table` meets its contract: the tests are made in the scope's order, and the rows are written where none of them says no. Assumes nothing.
+use borrow.Author.Needs.{needs}
+use native.Mathlib.Omega.{arith}
+use native.Mathlib.Nat.{mul-le-mul}
+use mathlib.Core.Path.{refl, sym, _∙_}
+use mathlib.Core.Bool.{true, false}
+use Prim.Native.Nat.{_-_, _≤_}
+use lib.ListN.{length}
+use Rattle.model.specs.Search.{any}
+use Rattle.model.specs.Verdict.{missedIn}
+use Rattle.judge.specs.Judged.{tableIn}
+use Rattle.plan.proofs.Cases.{not-no, not-yes, above, beyond, too-short, long-enough}
+use Rattle.plan.proofs.by_table.Statement.{statement}
+use Rattle.plan.proofs.by_table.Tie as tie
+
+returns : tie.Need-returns
+returns c =
+    let x = c .before .before .args in
+    (above (tableIn (x .table)) (x .a) (x .b) (length (x .out .now)) (c .if1 .taken), refl)
+
+returns-2 : tie.Need-returns-2
+returns-2 c =
+    let x = c .before .before .before .before .args in
+    let p = c .before .before .before .before .pre in
+    (beyond (tableIn (x .table)) (x .a) (x .b) (length (x .out .now)) (c .before .before .if1 .left) (omega (arith, c .if2 .taken, p .0 .horizon)), refl)
+
+cast-bytes : tie.Need-cast-bytes
+cast-bytes c = search needs
+
+cast-bytes-2 : tie.Need-cast-bytes-2
+cast-bytes-2 c = search needs
+
+mul-bytes : tie.Need-mul-bytes
+mul-bytes c =
+    let x = c .before .before .before .before .before .args in
+    let p = c .before .before .before .before .before .pre in
+    let short : x .b - x .a ≤ 1000000000 = omega (arith, c .before .if2 .left, p .0 .limit) in
+    omega (arith, mul-le-mul short (p .1))
+
+returns-3 : tie.Need-returns-3
+returns-3 c =
+    let x = c .before .before .before .before .before .before .args in
+    let p = c .before .before .before .before .before .before .pre in
+    (too-short (tableIn (x .table)) (x .a) (x .b) (length (x .out .now)) (c .before .before .before .before .if1 .left) (omega (arith, c .before .before .if2 .left, p .0 .horizon)) (c .if3 .taken), refl)
+
+met-requires : tie.Need-met-requires
+met-requires c κs = search needs
+
+write-requires : tie.Need-write-requires
+write-requires c κs =
+    let x = c .before .before .before .before .before .before .before .before .before .args in
+    let p = c .before .before .before .before .before .before .before .before .before .pre in (
+      p .0,
+      p .1,
+      c .before .before .before .before .before .if2 .left,
+      not-no (any (x .b) (missedIn (tableIn (x .table)))) (sym (c .before .before .met .ensures) ∙ c .before .if4 .taken),
+      c .before .before .before .if3 .left,
+    )
+
+same-length : tie.Need-same-length
+same-length c = search needs
+
+returns-4 : tie.Need-returns-4
+returns-4 c =
+    let x = c .before .before .before .before .before .before .before .before .before .before .before .before .args in
+    let p = c .before .before .before .before .before .before .before .before .before .before .before .before .pre in
+    let none = not-no (any (x .b) (missedIn (tableIn (x .table)))) (sym (c .before .before .before .before .before .met .ensures) ∙ c .before .before .before .before .if4 .taken) in (
+      long-enough (tableIn (x .table)) (x .a) (x .b) (length (x .out .now)) (c .before .before .before .before .before .before .before .before .before .before .if1 .left) (omega (arith, c .before .before .before .before .before .before .before .before .if2 .left, p .0 .horizon)) (c .before .before .before .before .before .before .if3 .left) false none,
+      c .before .before .write .ensures,
+    )
+
+returns-5 : tie.Need-returns-5
+returns-5 c =
+    let x = c .before .before .before .before .before .before .before .before .args in
+    let p = c .before .before .before .before .before .before .before .before .pre in
+    let some = not-yes (any (x .b) (missedIn (tableIn (x .table)))) (sym (c .before .met .ensures) ∙ c .if4 .left) in
+    (long-enough (tableIn (x .table)) (x .a) (x .b) (length (x .out .now)) (c .before .before .before .before .before .before .if1 .left) (omega (arith, c .before .before .before .before .if2 .left, p .0 .horizon)) (c .before .before .if3 .left) true some, refl)
+
+pub by-table-spec : {M : Type 1} → statement M
+by-table-spec =
+    tie.close
+    (tie.spec
+    returns
+    returns-2
+    cast-bytes
+    cast-bytes-2
+    mul-bytes
+    returns-3
+    met-requires
+    write-requires
+    same-length
+    returns-4
+    returns-5)

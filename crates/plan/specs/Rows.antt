@@ -1,0 +1,14 @@
+-- The rows of the plan (scope, 'The plan'): rows a up to but not including b of the full-length run, core 0 first, one byte a core.
+use mathlib.Core.List.{List, [], _++_}
+use Prim.Native.Nat.{ℕ, zero, suc, _-_}
+use Rattle.model.specs.Task.{Table}
+use Rattle.model.specs.Book.{rowOf, full}
+
+-- n rows of the full-length run, one after the other, from tick t on
+unfoldable pub rowsFrom : Table → ℕ → ℕ → List ℕ
+rowsFrom s t zero = []
+rowsFrom s t (suc n) = rowOf s (full s t) ++ rowsFrom s (suc t) n
+
+-- rows a up to but not including b
+abbrev pub rowsOf : Table → ℕ → ℕ → List ℕ
+rowsOf s a b = rowsFrom s a (b - a)

@@ -1,0 +1,113 @@
+-- Number 14: its test decides what it says, what passes it has sound tasks, and a move passes it again.
+use mathlib.Core.Path.{_≡_, refl, sym, subst}
+use mathlib.Core.Bool.{Bool, true, false, not, _||_, true≢false}
+use Prim.Native.Nat.{ℕ, _<_}
+use lib.ListN.{length, getD, List·getD-eq-default}
+use lib.Dec.{leb}
+use borrow.Author.Tests.{leb-true, leb-false, not-false}
+use Rattle.model.specs.Search.{any}
+use Rattle.model.specs.Task as model
+use Rattle.model.proofs.Bools.{or-right-false}
+use Rattle.table.specs.Limits.{from, coresOut, ruleOut, taskOut}
+use Rattle.table.proofs.Decide.{Decides, decides-not, decides-or, decides-any}
+use Rattle.table.proofs.Searches.{any-none, none-at}
+use Rattle.table.proofs.Tests.{from-decides, cores-decides, rule-decides, task-decides}
+use Rattle.table.proofs.Inside.{inside-test, inside-sound}
+use Rattle.run.specs.declared.Task.{Task}
+use Rattle.run.specs.declared.Run.{Run}
+use Rattle.run.specs.Phase.{PhaseIn, phaseIn}
+use Rattle.run.specs.Run.{taskOf, pastEnd, nextTask, ruleIn, taskAt, phaseAt, hasCores, mapFirst, moved}
+use Rattle.run.specs.Numbers.{PlaceOut, RunOut, placeOut, runOut, lateAt}
+use Rattle.run.proofs.Places.{mapFirst-at}
+use Rattle.run.proofs.Phases.{phase-decides, next-in}
+
+-- THE TEST OF 14
+
+pub place-decides : (r : Run) (p : ℕ) → Decides (placeOut r p) (PlaceOut r p)
+place-decides r p =
+    decides-or _ _ _ _ (task-decides (r .cores) (taskAt r p))
+    (decides-not _ _ (phase-decides (ruleIn r) (taskAt r p) (phaseAt r p)))
+
+pub run-decides : (r : Run) → Decides (runOut r) (RunOut r)
+unfolding runOut
+run-decides r =
+    decides-or _ _ _ _ (decides-not _ _ (from-decides 1 32 (r .count)))
+    (decides-or _ _ _ _ (cores-decides (r .cores))
+    (decides-or _ _ _ _ (rule-decides (r .rule))
+    (decides-any (r .count) (placeOut r) (PlaceOut r) (place-decides r))))
+
+-- WHAT PASSES IT
+
+or-left-false : (a b : Bool) → a || b ≡ false → a ≡ false
+or-left-false true b e = absurd (true≢false e)
+or-left-false false b e = refl
+
+-- the parts of 14 that a run passes
+pub record Passes (r : Run) : Type 0 where
+  pub count : from 1 32 (r .count) ≡ true
+  pub cores : coresOut (r .cores) ≡ false
+  pub rule : ruleOut (r .rule) ≡ false
+  pub tasks : (p : ℕ) → p < r .count → taskOut (r .cores) (taskAt r p) ≡ false
+  pub phases : (p : ℕ) → p < r .count → PhaseIn (ruleIn r) (taskAt r p) (phaseAt r p)
+
+pub passes-if : (r : Run) → runOut r ≡ false → Passes r
+unfolding runOut
+passes-if r e = record {
+  count = not-false (from 1 32 (r .count)) (or-left-false (not (from 1 32 (r .count))) (coresOut (r .cores) || (ruleOut (r .rule) || any (r .count) (placeOut r))) e);
+  cores = or-left-false (coresOut (r .cores)) (ruleOut (r .rule) || any (r .count) (placeOut r)) e1;
+  rule = or-left-false (ruleOut (r .rule)) (any (r .count) (placeOut r)) e2;
+  tasks = λ p l. or-left-false (taskOut (r .cores) (taskAt r p)) (not (phaseIn (ruleIn r) (taskAt r p) (phaseAt r p))) (at p l);
+  phases = λ p l.
+      phase-decides (ruleIn r) (taskAt r p) (phaseAt r p) .0
+      (not-false (phaseIn (ruleIn r) (taskAt r p) (phaseAt r p))
+      (or-right-false (taskOut (r .cores) (taskAt r p)) (not (phaseIn (ruleIn r) (taskAt r p) (phaseAt r p))) (at p l)));
+}
+  where
+    e1 : coresOut (r .cores) || (ruleOut (r .rule) || any (r .count) (placeOut r)) ≡ false
+    e1 = or-right-false (not (from 1 32 (r .count))) (coresOut (r .cores) || (ruleOut (r .rule) || any (r .count) (placeOut r))) e
+
+    e2 : ruleOut (r .rule) || any (r .count) (placeOut r) ≡ false
+    e2 = or-right-false (coresOut (r .cores)) (ruleOut (r .rule) || any (r .count) (placeOut r)) e1
+
+    at : (p : ℕ) → p < r .count → placeOut r p ≡ false
+    at p l = none-at (r .count) (placeOut r) p (or-right-false (ruleOut (r .rule)) (any (r .count) (placeOut r)) e2) l
+
+pub passes-runs : (r : Run) → Passes r → runOut r ≡ false
+unfolding runOut
+passes-runs r h = rw (h .count, h .cores, h .rule) (any-none (r .count) (placeOut r) at)
+  where
+    at : (p : ℕ) → p < r .count → placeOut r p ≡ false
+    at p l = rw (h .tasks p l, phase-decides (ruleIn r) (taskAt r p) (phaseAt r p) .1 (h .phases p l))
+
+-- a task that 7 and 8 pass is sound
+pub sound-if : (m : ℕ) (τ : model.Task) → taskOut m τ ≡ false → model.Sound τ
+sound-if m τ e = inside-sound m τ (inside-test m τ e)
+
+-- A MOVE PASSES IT AGAIN
+
+-- a place with a task is a place of the array
+in-array : (r : Run) (p : ℕ) → taskOut (r .cores) (taskAt r p) ≡ false → p < length (r .tasks)
+in-array r p e = go (leb (length (r .tasks)) p) refl
+  where
+    go : (x : Bool) → leb (length (r .tasks)) p ≡ x → p < length (r .tasks)
+    go false q = leb-false (length (r .tasks)) p q
+    go true q =
+        absurd (true≢false (subst (λ (t : Task). taskOut (r .cores) (taskOf t) ≡ false) (List·getD-eq-default (r .tasks) pastEnd (leb-true (length (r .tasks)) p q)) e))
+
+-- the run one tick on passes 14, where nobody is late
+pub moved-passes : (f : ℕ → Bool) (r : Run) → Passes r → ((p : ℕ) → p < r .count → lateAt r p ≡ false) → Passes (moved f r)
+unfolding moved
+moved-passes f r h n = record {
+  count = h .count;
+  cores = h .cores;
+  rule = h .rule;
+  tasks = λ p l. rw (at p l) (h .tasks p l);
+  phases = λ p l.
+      subst (λ (t : Task). PhaseIn (ruleIn r) (taskOf t) (t .phase)) (sym (at p l))
+      (next-in (ruleIn r) (taskAt r p) (sound-if (r .cores) (taskAt r p) (h .tasks p l)) (hasCores r p) (f p) (phaseAt r p) (h .phases p l) (n p l));
+}
+  where
+    at : (p : ℕ) → p < r .count
+        → getD (mapFirst (λ p t. nextTask (ruleIn r) (hasCores r p) (f p) t) (r .count) (r .tasks)) p pastEnd
+        ≡ nextTask (ruleIn r) (hasCores r p) (f p) (getD (r .tasks) p pastEnd)
+    at p l = mapFirst-at (λ p t. nextTask (ruleIn r) (hasCores r p) (f p) t) (r .count) (r .tasks) p pastEnd l (in-array r p (h .tasks p l))

@@ -1,0 +1,105 @@
+-- `run::Run::claims` meets its contract. The loop's invariant: the sets are those of the places passed, and the widths of these places are stored.
+-- Assumes nothing.
+use mathlib.Core.Path.{_≡_, refl}
+use mathlib.Core.Bool.{_&&_}
+use Prim.Native.Nat.{ℕ, _≤_, _<_, _-_}
+use native.Mathlib.Omega.{arith}
+use lib.ListN.{length, getD, length-set, length-map}
+use lib.Dec.{ltb}
+use borrow.Author.Needs.{needs}
+use Rattle.model.specs.Search.{bit}
+use Rattle.run.specs.Phase.{claiming, working}
+use Rattle.run.specs.Run.{phaseAt, pastEnd}
+use Rattle.run.proofs.PlaceSets.{gathered-none, gathered-more, stored-more, widths-stored}
+use Rattle.run.proofs.Run.claims.Statement.{statement}
+use Rattle.run.proofs.Run.claims.Tie as tie
+
+abbrev Inv-loop : tie.InvT-loop
+Inv-loop run count claiming₀ working₀ widths₀ i₀ c w ws i =
+    (i ≤ count) × ((length ws ≡ 32)
+    × (((p : ℕ) → bit c p ≡ ltb p i && claiming (phaseAt run p))
+    × (((p : ℕ) → bit w p ≡ ltb p i && working (phaseAt run p))
+    × ((p : ℕ) → p < i → getD ws p 0 ≡ getD (run .tasks) p pastEnd .width))))
+
+abbrev μ-loop : tie.MeasureT-loop
+μ-loop run count claiming₀ working₀ widths₀ i₀ c w ws i = count - i
+
+loop-holds : tie.Need-loop-holds Inv-loop μ-loop
+loop-holds c =
+    let r = c .args .self in
+    (search needs, (refl, (gathered-none (λ p. claiming (phaseAt r p)), (gathered-none (λ p. working (phaseAt r p)), λ p h. absurd (omega arith)))))
+
+mul-task : tie.Need-mul-task Inv-loop μ-loop
+mul-task c = omega arith
+
+element-copy-out-task : tie.Need-element-copy-out-task Inv-loop μ-loop
+element-copy-out-task c = omega arith
+
+cast-place : tie.Need-cast-place Inv-loop μ-loop
+cast-place c = omega arith
+
+claims-requires : tie.Need-claims-requires Inv-loop μ-loop
+claims-requires c κs = search needs
+
+with-requires : tie.Need-with-requires Inv-loop μ-loop
+with-requires c κs = omega arith
+
+works-requires : tie.Need-works-requires Inv-loop μ-loop
+works-requires c κs = search needs
+
+with-requires-2 : tie.Need-with-requires-2 Inv-loop μ-loop
+with-requires-2 c κs = omega arith
+
+mul-widths : tie.Need-mul-widths Inv-loop μ-loop
+mul-widths c = omega arith
+
+array-write-widths : tie.Need-array-write-widths Inv-loop μ-loop
+array-write-widths c = omega arith
+
+add-i : tie.Need-add-i Inv-loop μ-loop
+add-i c = omega arith
+
+loop-less : tie.Need-loop-less Inv-loop μ-loop
+loop-less c = omega arith
+
+loop-again : tie.Need-loop-again Inv-loop μ-loop
+loop-again c =
+    let s = c .before .before .before .before .before .before in
+    let r = s .before .args .self in
+    let i = s .loop .i in
+    let v = s .loop .inv in
+    (omega arith, (simp length-set (v .1 .0),
+    (gathered-more (λ p. claiming (phaseAt r p)) i (s .loop .claiming) (c .before .before .with .result) (c .before .before .before .claims .result)
+    (v .1 .1 .0) (c .before .before .before .claims .ensures) (c .before .before .with .ensures),
+    (gathered-more (λ p. working (phaseAt r p)) i (s .loop .working) (c .with2 .result) (c .before .works .result)
+    (v .1 .1 .1 .0) (c .before .works .ensures) (c .with2 .ensures),
+    stored-more (s .loop .widths) (λ p. getD (r .tasks) p pastEnd .width) i (omega arith) (v .1 .1 .1 .1)))))
+
+returns : tie.Need-returns Inv-loop μ-loop
+returns c =
+    let s = c .before in
+    let r = s .before .args .self in
+    let e : s .loop .i ≡ r .count = omega arith in
+    let len : length (r .tasks) ≡ 32 = simp length-map at (s .before .good .0 .1 .1 .1 .1 .1 .0 .1 .0 .1) in
+    record { claimed = rw e at (s .loop .inv .1 .1 .0); worked = rw e at (s .loop .inv .1 .1 .1 .0); width = widths-stored r (s .loop .widths) (s .before .pre) (s .loop .inv .1 .0) len (rw e at (s .loop .inv .1 .1 .1 .1)) }
+
+pub claims-spec : {M : Type 1} → statement M
+claims-spec =
+    tie.close
+    (tie.spec
+    Inv-loop
+    μ-loop
+    loop-holds
+    mul-task
+    element-copy-out-task
+    cast-place
+    claims-requires
+    with-requires
+    works-requires
+    with-requires-2
+    mul-widths
+    array-write-widths
+    add-i
+    loop-less
+    loop-again
+    returns)

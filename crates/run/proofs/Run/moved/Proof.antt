@@ -1,0 +1,114 @@
+-- `run::Run::moved` meets its contract. The loop's invariant: the run is the one given with the tasks of the places passed one tick on.
+-- Assumes nothing.
+use mathlib.Core.Path.{_≡_, refl, ap, _∙_}
+use mathlib.Core.Bool.{Bool}
+use Prim.Native.Nat.{ℕ, _≤_, _-_}
+use native.Mathlib.Omega.{arith}
+use native.Mathlib.Numerals.{add-one}
+use native.Mathlib.Nat.{le-refl}
+use lib.ListN.{length, getD, length-map}
+use borrow.Author.Needs.{needs}
+use Rattle.model.specs.Search.{bit}
+use Rattle.run.specs.declared.Run.{Run}
+use Rattle.run.specs.declared.Task.{Task}
+use Rattle.run.specs.Run.{ruleIn, hasCores, nextTask, mapFirst, moved, pastEnd}
+use Rattle.run.proofs.Places.{mapFirst-past, mapFirst-step}
+use Rattle.run.proofs.RunOut.{few, roomy}
+use Rattle.run.proofs.Run.moved.Statement.{statement}
+use Rattle.run.proofs.Run.moved.Tie as tie
+
+abbrev movesAt : (ℕ → Bool) → Run → ℕ → Task → Task
+movesAt reported r p t = nextTask (ruleIn r) (hasCores r p) (reported p) t
+
+-- the run with its first n tasks one tick on
+abbrev movedTo : (ℕ → Bool) → Run → ℕ → Run
+movedTo reported r n = record {
+  rule = r .rule;
+  cores = r .cores;
+  count = r .count;
+  tasks = mapFirst (movesAt reported r) n (r .tasks);
+}
+
+abbrev Inv-loop : tie.InvT-loop
+Inv-loop granted reports run₀ rule count i₀ run i = (i ≤ count) × ((count ≤ 32) × (run ≡ movedTo (bit reports) run₀ i))
+
+abbrev μ-loop : tie.MeasureT-loop
+μ-loop granted reports run₀ rule count i₀ run i = count - i
+
+loop-holds : tie.Need-loop-holds Inv-loop μ-loop
+unfolding mapFirst
+loop-holds c = (search needs, (few (c .args .self) (c .pre .0), refl))
+
+mul-task : tie.Need-mul-task Inv-loop μ-loop
+mul-task c = omega arith
+
+element-copy-out-task : tie.Need-element-copy-out-task Inv-loop μ-loop
+element-copy-out-task c = omega arith
+
+cast-place : tie.Need-cast-place Inv-loop μ-loop
+cast-place c = omega arith
+
+has-requires : tie.Need-has-requires Inv-loop μ-loop
+has-requires c κs = omega arith
+
+has-requires-2 : tie.Need-has-requires-2 Inv-loop μ-loop
+has-requires-2 c κs = omega arith
+
+next-requires : tie.Need-next-requires Inv-loop μ-loop
+next-requires c κs =
+    let s = c .before .before .before .before in
+    let r = s .before .args .self in
+    simp (s .loop .inv .1 .1, mapFirst-past (movesAt (bit (s .before .args .reports)) r) (s .loop .i) (r .tasks) (s .loop .i) pastEnd (le-refl (s .loop .i)))
+    (roomy r (s .before .pre .0) (s .loop .i) (omega arith))
+
+mul-next : tie.Need-mul-next Inv-loop μ-loop
+mul-next c = omega arith
+
+element-set-from-next : tie.Need-element-set-from-next Inv-loop μ-loop
+element-set-from-next c = omega arith
+
+add-i : tie.Need-add-i Inv-loop μ-loop
+add-i c = omega arith
+
+loop-less : tie.Need-loop-less Inv-loop μ-loop
+loop-less c = omega arith
+
+loop-again : tie.Need-loop-again Inv-loop μ-loop
+loop-again c =
+    let s = c .before .before .before .before .before in
+    let r = s .before .args .self in
+    let i = s .loop .i in
+    let f = movesAt (bit (s .before .args .reports)) r in
+    let len : length (r .tasks) ≡ 32 = simp length-map at (s .before .good .0 .1 .1 .1 .1 .1 .0 .1 .0 .1) in
+    let past = mapFirst-past f i (r .tasks) i pastEnd (le-refl i) in
+    let e : c .next .result ≡ f i (getD (r .tasks) i pastEnd) =
+        simp (c .next .ensures, c .before .before .has .ensures, c .before .has2 .ensures, s .before .pre .1 i, s .loop .inv .1 .1, past) in
+    (omega arith, (omega arith, simp (s .loop .inv .1 .1, e, add-one, mapFirst-step f i (r .tasks) pastEnd (omega arith))))
+
+returns : tie.Need-returns Inv-loop μ-loop
+unfolding moved
+returns c =
+    let s = c .before in
+    let r = s .before .args .self in
+    let e : s .loop .i ≡ r .count = omega arith in
+    s .loop .inv .1 .1 ∙ ap (movedTo (bit (s .before .args .reports)) r) e
+
+pub moved-spec : {M : Type 1} → statement M
+moved-spec =
+    tie.close
+    (tie.spec
+    Inv-loop
+    μ-loop
+    loop-holds
+    mul-task
+    element-copy-out-task
+    cast-place
+    has-requires
+    has-requires-2
+    next-requires
+    mul-next
+    element-set-from-next
+    add-i
+    loop-less
+    loop-again
+    returns)

@@ -1,0 +1,80 @@
+-- `run::Run::out` meets its contract. The loop's invariant: no place passed is out of its limits; the head is looked at first (`out-by-head`, `out-by-place`).
+-- Assumes nothing.
+use mathlib.Core.Path.{_≡_, sym, _∙_}
+use mathlib.Core.Bool.{true, false}
+use Prim.Native.Nat.{ℕ, _≤_, _<_, _-_}
+use native.Mathlib.Omega.{arith}
+use borrow.Author.Needs.{needs}
+use borrow.Author.Count.{below-more}
+use Rattle.model.proofs.Search.{none-any, any-of}
+use Rattle.run.specs.Numbers.{placeOut}
+use Rattle.run.proofs.RunOut.{out-by-head, out-by-place, head-few}
+use Rattle.run.proofs.Run.out.Statement.{statement}
+use Rattle.run.proofs.Run.out.Tie as tie
+
+abbrev Inv-loop : tie.InvT-loop
+Inv-loop run rule cores count i₀ i = (i ≤ count) × ((count ≤ 32) × ((k : ℕ) → k < i → placeOut run k ≡ false))
+
+abbrev μ-loop : tie.MeasureT-loop
+μ-loop run rule cores count i₀ i = count - i
+
+head-out-requires : tie.Need-head-out-requires Inv-loop μ-loop
+head-out-requires c κs = search needs
+
+returns : tie.Need-returns Inv-loop μ-loop
+returns c = sym (out-by-head (c .before .before .args .self) (sym (c .before .head-out .ensures) ∙ c .if1 .taken))
+
+loop-holds : tie.Need-loop-holds Inv-loop μ-loop
+loop-holds c = (search needs, (head-few (c .before .before .args .self) (sym (c .before .head-out .ensures) ∙ c .if1 .left), λ (k : ℕ) h. absurd (omega arith)))
+
+mul-task : tie.Need-mul-task Inv-loop μ-loop
+mul-task c = omega arith
+
+element-copy-out-task : tie.Need-element-copy-out-task Inv-loop μ-loop
+element-copy-out-task c = omega arith
+
+out-requires : tie.Need-out-requires Inv-loop μ-loop
+out-requires c κs = search needs
+
+returns-2 : tie.Need-returns-2 Inv-loop μ-loop
+returns-2 c =
+    let s = c .before .before .before .before in
+    let r = s .before .before .before .args .self in
+    let place : placeOut r (s .loop .i) ≡ true = sym (c .before .out .ensures) ∙ c .if2 .taken in
+    sym (out-by-place r (sym (s .before .before .head-out .ensures) ∙ s .before .if1 .left) ∙ any-of (r .count) (placeOut r) (s .loop .i) (omega arith) place)
+
+add-i : tie.Need-add-i Inv-loop μ-loop
+add-i c = omega arith
+
+loop-less : tie.Need-loop-less Inv-loop μ-loop
+loop-less c = omega arith
+
+loop-again : tie.Need-loop-again Inv-loop μ-loop
+loop-again c =
+    let s = c .before .before .before .before in
+    (omega arith, (omega arith, below-more _ _ (s .loop .inv .1 .1) (sym (c .before .out .ensures) ∙ c .if2 .left)))
+
+returns-3 : tie.Need-returns-3 Inv-loop μ-loop
+returns-3 c =
+    let s = c .before in
+    let r = s .before .before .before .args .self in
+    let e : s .loop .i ≡ r .count = omega arith in
+    sym (out-by-place r (sym (s .before .before .head-out .ensures) ∙ s .before .if1 .left) ∙ none-any (r .count) (placeOut r) (rw e at (s .loop .inv .1 .1)))
+
+pub out-spec : {M : Type 1} → statement M
+out-spec =
+    tie.close
+    (tie.spec
+    Inv-loop
+    μ-loop
+    head-out-requires
+    returns
+    loop-holds
+    mul-task
+    element-copy-out-task
+    out-requires
+    returns-2
+    add-i
+    loop-less
+    loop-again
+    returns-3)

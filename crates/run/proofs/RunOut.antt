@@ -1,0 +1,86 @@
+-- Number 14 in the order in which code looks: the count, the core count and the rule, then each place; and the room that a phase leaves for one more tick.
+use mathlib.Core.Path.{_≡_, refl, sym, ap, _∙_}
+use mathlib.Core.Bool.{Bool, true, false, not, _||_, true≢false, false≢true}
+use Prim.Native.Nat.{ℕ, _≤_, _<_}
+use native.Mathlib.Omega.{arith}
+use borrow.Author.Tests.{not-false}
+use Rattle.model.specs.Search.{any, least}
+use Rattle.model.proofs.Search.{least-below, least-none}
+use Rattle.model.specs.Task as model
+use Rattle.table.specs.Limits.{from, coresOut, ruleOut}
+use Rattle.table.proofs.Tests.{from-decides}
+use Rattle.table.proofs.Inside.{inside-test}
+use Rattle.run.specs.declared.Phase.{Phase}
+use Rattle.run.specs.declared.Phase.the-variants.{Coming, Working, Holding, Resting}
+use Rattle.run.specs.declared.Run.{Run}
+use Rattle.run.specs.Phase.{PhaseIn}
+use Rattle.run.specs.Room.{Roomy}
+use Rattle.run.specs.Run.{ruleIn, taskAt, phaseAt}
+use Rattle.run.specs.Numbers.{placeOut, runOut, lateAt, firstLateIn}
+use Rattle.run.proofs.Limits.{Passes, passes-if}
+
+-- ---- the head, then the places
+
+abbrev pub headOut : Run → Bool
+headOut r = not (from 1 32 (r .count)) || (coresOut (r .cores) || ruleOut (r .rule))
+
+first-out : (a b c d : Bool) → a || (b || c) ≡ true → a || (b || (c || d)) ≡ true
+first-out true b c d e = refl
+first-out false true c d e = refl
+first-out false false true d e = refl
+first-out false false false d e = absurd (false≢true e)
+
+last-out : (a b c d : Bool) → a || (b || c) ≡ false → a || (b || (c || d)) ≡ d
+last-out true b c d e = absurd (true≢false e)
+last-out false true c d e = absurd (true≢false e)
+last-out false false true d e = absurd (true≢false e)
+last-out false false false d e = refl
+
+left-out : (a b : Bool) → a || b ≡ false → a ≡ false
+left-out true b e = absurd (true≢false e)
+left-out false b e = refl
+
+module _ (r : Run) where
+  pub out-by-head : headOut r ≡ true → runOut r ≡ true
+  unfolding runOut
+  out-by-head e = first-out (not (from 1 32 (r .count))) (coresOut (r .cores)) (ruleOut (r .rule)) (any (r .count) (placeOut r)) e
+
+  pub out-by-place : headOut r ≡ false → runOut r ≡ any (r .count) (placeOut r)
+  unfolding runOut
+  out-by-place e = last-out (not (from 1 32 (r .count))) (coresOut (r .cores)) (ruleOut (r .rule)) (any (r .count) (placeOut r)) e
+
+  pub head-few : headOut r ≡ false → r .count ≤ 32
+  head-few e =
+      from-decides 1 32 (r .count) .0
+      (not-false (from 1 32 (r .count)) (left-out (not (from 1 32 (r .count))) (coresOut (r .cores) || ruleOut (r .rule)) e)) .1
+
+-- ---- what a run that passes 14 has
+
+-- a phase within its limits leaves room, where O, D and T are at most 1,000,000
+room : (r : model.Rule) (τ : model.Task) (ph : Phase) → τ .offset ≤ 1000000 → τ .deadline ≤ 1000000 → τ .period ≤ 1000000 → PhaseIn r τ ph → Roomy ph
+room r τ (Coming left) o d t h = h .0
+room r τ (Working z u) o d t h = (omega arith, omega arith)
+room r τ (Holding z u) o d t h = (omega arith, omega arith)
+room r τ (Resting z) o d t h = omega arith
+
+module _ (r : Run) (e : runOut r ≡ false) where
+  pub few : r .count ≤ 32
+  few = from-decides 1 32 (r .count) .0 (passes-if r e .count) .1
+
+  pub few-cores : r .cores ≤ 64
+  few-cores = from-decides 1 64 (r .cores) .0 (not-false (from 1 64 (r .cores)) (passes-if r e .cores)) .1
+
+  -- each place leaves room for one more tick
+  pub roomy : (p : ℕ) → p < r .count → Roomy (phaseAt r p)
+  roomy p l =
+      let i = inside-test (r .cores) (taskAt r p) (passes-if r e .tasks p l) in
+      room (ruleIn r) (taskAt r p) (phaseAt r p) (i .offset-most) (omega (arith, i .deadline-from, i .period-from)) (i .period-from .1) (passes-if r e .phases p l)
+
+-- the first late place is at most the count
+pub late-most : (r : Run) → firstLateIn r ≤ r .count
+unfolding firstLateIn
+late-most r = go (any (r .count) (lateAt r)) refl
+  where
+    go : (t : Bool) → any (r .count) (lateAt r) ≡ t → least (r .count) (lateAt r) ≤ r .count
+    go true e = omega (arith, least-below (r .count) (lateAt r) e)
+    go false e = omega (arith, least-none (r .count) (lateAt r) e)

@@ -1,0 +1,43 @@
+-- An advance (scope, 'The run in the cab'): the run and a set of report bits, bit 0 for position 1, give the run one tick on.
+use mathlib.Core.Path.{_≡_}
+use mathlib.Core.Logic.{_↔_}
+use mathlib.Core.Bool.{cond}
+use Prim.Native.Nat.{ℕ, suc}
+use lib.ListN.{drop}
+use lib.Dec.{ltb}
+use Rattle.model.specs.Search.{bit}
+use Rattle.model.specs.Book as model
+use Rattle.run.specs.declared.Run.{Run}
+use Rattle.run.specs.declared.Answer.{Answer}
+use Rattle.run.specs.declared.Answer.the-variants.{Taken, Refused}
+use Rattle.run.specs.declared.Advanced.{Advanced}
+use Rattle.run.specs.Run.{moved}
+use Rattle.run.specs.Answer.{told, byAnswer}
+use Rattle.run.specs.Numbers.{RunOut, AdvanceApplies, First, NoneApplies, runOut, firstLateIn, misreportedIn}
+
+-- 14, then 15 with the lowest late position, then 16; else taken
+unfoldable pub advanceAnswer : Run → ℕ → Answer
+advanceAnswer r x =
+    cond (runOut r) (Refused 14 0)
+    (cond (ltb (firstLateIn r) (r .count)) (Refused 15 (suc (firstLateIn r)))
+    (cond (misreportedIn r x) (Refused 16 0) Taken))
+
+-- the run one tick on; where refused, the run as given
+unfoldable pub advanceOf : Run → ℕ → Advanced
+advanceOf r x = record { answer = advanceAnswer r x; run = byAnswer (advanceAnswer r x) (moved (bit x) r) r }
+
+-- what an advance of run r with report set x promises
+pub record AdvanceOf (r : Run) (x : ℕ) (a : Advanced) : Type 0 where
+  -- its value
+  pub value : a ≡ advanceOf r x
+  -- refused with n and p exactly if number n applies with position p and no earlier one does; taken exactly if none applies
+  pub refused : (n p : ℕ) → (told (a .answer) ≡ model.refused n p) ↔ First (AdvanceApplies r x) n p
+  pub taken : (told (a .answer) ≡ model.taken) ↔ NoneApplies (AdvanceApplies r x)
+  -- taken: the run one tick on
+  pub on : told (a .answer) ≡ model.taken → a .run ≡ moved (bit x) r
+  -- refused: the run as given
+  pub as-given : (n p : ℕ) → told (a .answer) ≡ model.refused n p → a .run ≡ r
+  -- what a taken advance hands back passes 14 again
+  pub passes : told (a .answer) ≡ model.taken → ¬ RunOut (a .run)
+  -- places past the count come back as given
+  pub past : drop (r .count) (a .run .tasks) ≡ drop (r .count) (r .tasks)

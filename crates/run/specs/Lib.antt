@@ -1,0 +1,13 @@
+pub mod Phase
+pub mod Run
+pub mod Answer
+pub mod Numbers
+pub mod Advance
+pub mod Row
+pub mod Start
+pub mod Advances
+pub mod Follows
+pub mod Demand
+pub mod Past
+pub mod Claims
+pub mod Room

@@ -1,0 +1,85 @@
+-- Numbers 14 to 16 for what row and advance turn down (scope, 'Numbers for what is turned down'): when each applies, and which is the first.
+use mathlib.Core.Path.{_≡_}
+use mathlib.Core.Bool.{Bool, true, not, _&&_, _||_}
+use mathlib.Core.List.{[]}
+use mathlib.Core.Logic.{_⊎_}
+use Prim.Native.Nat.{ℕ, suc, _≤_, _<_}
+use lib.ListN.{getD}
+use lib.Dec.{ltb}
+use Rattle.model.specs.Search.{any, least, bit}
+use Rattle.table.specs.Limits.{From, from, CoresOut, coresOut, RuleOut, ruleOut, WidthOut, TimesOut, taskOut}
+use Rattle.table.specs.Numbers.{Earlier}
+use Rattle.run.specs.declared.Phase.the-variants.{Working}
+use Rattle.run.specs.declared.Run.{Run}
+use Rattle.run.specs.Phase.{PhaseIn, phaseIn, working, lateIn}
+use Rattle.run.specs.Run.{ruleIn, taskAt, phaseAt, grantsIn, hasCores}
+
+-- WHAT EACH NUMBER SAYS
+
+-- the task at place p breaks 7 or 8, or its phase is outside the limits
+abbrev pub PlaceOut : Run → ℕ → Type 0
+PlaceOut r p = (WidthOut (r .cores) (taskAt r p) ⊎ TimesOut (taskAt r p)) ⊎ (¬ PhaseIn (ruleIn r) (taskAt r p) (phaseAt r p))
+
+-- the run's count is not 1 to 32, its core count or rule is out of range, a task breaks 7 or 8, or a phase is outside the limits
+abbrev pub RunOut : Run → Type 0
+RunOut r = (¬ From 1 32 (r .count)) ⊎ (CoresOut (r .cores) ⊎ (RuleOut (r .rule) ⊎ ((p : ℕ) × (p < r .count) × PlaceOut r p)))
+
+-- the task at place p is Working at z = D
+abbrev pub Late : Run → ℕ → Type 0
+Late r p = (u : ℕ) × (phaseAt r p ≡ Working (taskAt r p .deadline) u)
+
+-- the task at place p is Working
+abbrev pub Works : Run → ℕ → Type 0
+Works r p = (z u : ℕ) × (phaseAt r p ≡ Working z u)
+
+-- the bit of place p is set, which is past the count, or its task isn't Working or gets no cores in this tick
+abbrev pub Misreports : Run → ℕ → ℕ → Type 0
+Misreports r x p = (bit x p ≡ true) × ((r .count ≤ p) ⊎ ((¬ Works r p) ⊎ (getD (grantsIn r) p [] ≡ [])))
+
+-- number n applies to a row asked of the run, with position p
+pub data RowApplies (r : Run) : ℕ → ℕ → Type 0 where
+  -- 14. Row or advance: the run's count is not 1 to 32, its core count or rule is out of range, a task breaks 7 or 8, or a phase is outside the limits.
+  fourteen : RunOut r → RowApplies r 14 0
+  -- 15. Row or advance: some task is Working at z = D.
+  fifteen : (p : ℕ) → p < r .count → Late r p → RowApplies r 15 (suc p)
+
+-- number n applies to an advance of the run with report set x, with position p
+pub data AdvanceApplies (r : Run) (x : ℕ) : ℕ → ℕ → Type 0 where
+  -- 14 and 15
+  as-row : (n p : ℕ) → RowApplies r n p → AdvanceApplies r x n p
+  -- 16. Advance: a bit is set for a position past the count, or for a task that isn't Working or gets no cores in this tick.
+  sixteen : (p : ℕ) → Misreports r x p → AdvanceApplies r x 16 0
+
+-- checked in this order: number n is the first that applies, with the lowest such position p
+abbrev pub First : (ℕ → ℕ → Type 0) → ℕ → ℕ → Type 0
+First applies n p = applies n p × ((m q : ℕ) → Earlier m q n p → ¬ applies m q)
+
+-- no number applies
+abbrev pub NoneApplies : (ℕ → ℕ → Type 0) → Type 0
+NoneApplies applies = (n p : ℕ) → ¬ applies n p
+
+-- THE TESTS THAT DECIDE THEM
+
+-- 14 of one place (`place-decides`)
+abbrev pub placeOut : Run → ℕ → Bool
+placeOut r p = taskOut (r .cores) (taskAt r p) || not (phaseIn (ruleIn r) (taskAt r p) (phaseAt r p))
+
+-- 14 (`run-decides`)
+unfoldable pub runOut : Run → Bool
+runOut r = not (from 1 32 (r .count)) || (coresOut (r .cores) || (ruleOut (r .rule) || any (r .count) (placeOut r)))
+
+-- 15 of one place (`late-decides`)
+abbrev pub lateAt : Run → ℕ → Bool
+lateAt r p = lateIn (taskAt r p .deadline) (phaseAt r p)
+
+-- the lowest late place, or the count where none is late
+unfoldable pub firstLateIn : Run → ℕ
+firstLateIn r = least (r .count) (lateAt r)
+
+-- the task at place p may be reported: it is Working and gets cores in this tick
+abbrev pub reportableAt : Run → ℕ → Bool
+reportableAt r p = ltb p (r .count) && (working (phaseAt r p) && hasCores r p)
+
+-- 16: some bit is set that may not be (a set x has no bit from x up: `misreported-decides`)
+unfoldable pub misreportedIn : Run → ℕ → Bool
+misreportedIn r x = any x (λ p. bit x p && not (reportableAt r p))

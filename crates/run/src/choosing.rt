@@ -1,0 +1,88 @@
+ghost use mathlib.Core.Path.{_≡_};
+ghost use Prim.Native.Nat.{ℕ, _≤_};
+ghost use Rattle.run.specs.Phase.{claiming, working};
+ghost use Rattle.run.specs.Claims.{ClaimsOf};
+ghost use mathlib.Core.Bool.{false};
+ghost use Rattle.run.specs.Numbers.{runOut};
+ghost use Rattle.run.specs.Row.{bytesIn};
+
+use crate::Phase;
+use crate::Run;
+use crate::sets;
+
+// What the tasks bring to a tick: the set of those that claim, the set of those that are Working, and the widths.
+pub struct Claims {
+    pub claiming: u32,
+    pub working: u32,
+    pub widths: [u32; 32],
+}
+
+impl Phase {
+    // Whether a task in this phase claims cores.
+    fn claims(self) -> bool
+        ensures { λ r. ⌜ r ≡ claiming self ⌝ }
+    {
+        match self {
+            Phase::Coming(_) => false,
+            Phase::Working(_, _) => true,
+            Phase::Holding(_, _) => true,
+            Phase::Resting(_) => false,
+        }
+    }
+
+    // Whether a task in this phase is Working.
+    fn works(self) -> bool
+        ensures { λ r. ⌜ r ≡ working self ⌝ }
+    {
+        match self {
+            Phase::Coming(_) => false,
+            Phase::Working(_, _) => true,
+            Phase::Holding(_, _) => false,
+            Phase::Resting(_) => false,
+        }
+    }
+}
+
+impl Run {
+    // What the tasks below the count bring to the present tick.
+    pub(crate) fn claims(self) -> Claims
+        requires { ⌜ self .count ≤ 32 ⌝ }
+        ensures { λ r. ⌜ ClaimsOf self r ⌝ }
+    {
+        let run = self;
+        let count = self.count;
+        let mut claiming: u32 = 0;
+        let mut working: u32 = 0;
+        let mut widths = [0u32; 32];
+        let mut i: usize = 0;
+        while i < count {
+            let task = run.tasks[i];
+            let phase = task.phase;
+            let place = i as u32;
+            claiming = sets::with(claiming, place, phase.claims());
+            working = sets::with(working, place, phase.works());
+            widths[i] = task.width;
+            i += 1;
+        }
+        Claims {
+            claiming: claiming,
+            working: working,
+            widths: widths,
+        }
+    }
+
+    // The row of the present tick, core 0 first; bytes past the core count are 0.
+    pub(crate) fn bytes(self) -> [u8; 64]
+        requires { ⌜ runOut self ≡ false ⌝ }
+        ensures { λ r. ⌜ r ≡ bytesIn self ⌝ }
+    {
+        let count = self.count;
+        let claims = self.claims();
+        let widths = claims.widths;
+        let free = rule::first_cores(self.cores);
+        let granted = rule::grants(self.rule, free, claims.claiming, &widths, count);
+        let sets = granted.sets;
+        let idle = [0u8; 64];
+        rule::row_of(idle, 1, &sets, count)
+    }
+}

@@ -1,0 +1,158 @@
+// The run in the cab: rule, core count and the tasks with their phases; start, row and advance.
+ghost use mathlib.Core.Path.{_≡_};
+ghost use mathlib.Core.Bool.{cond};
+ghost use Rattle.run.specs.declared.Answer.the-variants.{Taken, Refused};
+ghost use Rattle.run.specs.Row.{RowOf, noBytes};
+ghost use Rattle.run.specs.Advance.{AdvanceOf};
+ghost use Rattle.run.specs.Start.{StartOf};
+
+mod bounds; // bounds.rt: numbers 14 and 15
+mod choosing; // choosing.rt: who claims in the present tick, and the bytes of its row
+mod moves; // moves.rt: one tick
+mod sets; // sets.rt: sets of places
+mod starts; // starts.rt: the run of a table as it starts
+
+use judge::Verdict;
+
+// What a task is doing, with the scope's counts: Coming(ticks left to the first release), Working(ticks since release, ticks had),
+// Holding(ticks since release, ticks claimed), Resting(ticks since release).
+pub enum Phase {
+    Coming(u32),
+    Working(u32, u32),
+    Holding(u32, u32),
+    Resting(u32),
+}
+
+// A task of the run: offset O, width v, length C, deadline D, period T, and its phase.
+pub struct Task {
+    pub offset: u32,
+    pub width: u32,
+    pub length: u32,
+    pub deadline: u32,
+    pub period: u32,
+    pub phase: Phase,
+}
+
+// A run: the rule's number, the core count, and the tasks in priority order, of which the first count are used.
+pub struct Run {
+    pub rule: u32,
+    pub cores: u32,
+    pub count: usize,
+    pub tasks: [Task; 32],
+}
+
+// What a call is answered: taken, or refused with number and position.
+pub enum Answer {
+    Taken,
+    Refused(u32, u32),
+}
+
+// What start gives: the answer, and the run as it starts.
+pub struct Started {
+    pub answer: Answer,
+    pub run: Run,
+}
+
+// What an advance gives: the answer, and the run one tick on.
+pub struct Advanced {
+    pub answer: Answer,
+    pub run: Run,
+}
+
+// What a row asked gives: the answer, and one byte a core, the position or 0 for idle; bytes past the core count are 0.
+pub struct Row {
+    pub answer: Answer,
+    pub bytes: [u8; 64],
+}
+
+// The run of a table's words as it starts; or the first of 1 to 9 that applies, or 13 where the verdict is Miss, and the run of all zeros.
+pub fn start(words: &[u32]) -> Started
+    ensures { λ r. ⌜ StartOf (now (words .entry)) r ⌝ }
+{
+    let verdict = judge::judge(words);
+    match verdict {
+        Verdict::Firm(_, _) => starts::begun(words),
+        Verdict::Full(_, _) => starts::begun(words),
+        Verdict::Miss(_, _) => starts::refused(13, 0),
+        Verdict::Refused(number, position) => starts::refused(number, position),
+    }
+}
+
+// The answer to an advance of a run that passes 14: 15 with the late position, then 16, else taken.
+fn in_order(late: bool, position: u32, within: bool) -> Answer
+    ensures { λ r. ⌜ r ≡ cond late (Refused 15 position) (cond within Taken (Refused 16 0)) ⌝ }
+{
+    if late {
+        return Answer::Refused(15, position);
+    }
+    if within {
+        return Answer::Taken;
+    }
+    Answer::Refused(16, 0)
+}
+
+// A row that is turned down: all zeros.
+fn row_refused(number: u32, position: u32) -> Row
+    ensures { λ r. ⌜ r ≡ record { answer = Refused number position; bytes = noBytes } ⌝ }
+{
+    let bytes = [0u8; 64];
+    Row {
+        answer: Answer::Refused(number, position),
+        bytes: bytes,
+    }
+}
+
+impl Run {
+    // The row of the present tick, held cores with the holder's position; or 14, or 15 with the lowest late position.
+    pub fn row(self) -> Row
+        ensures { λ r. ⌜ RowOf self r ⌝ }
+    {
+        if self.out() {
+            return row_refused(14, 0);
+        }
+        let late = self.first_late();
+        if late < self.count {
+            return row_refused(15, late as u32 + 1);
+        }
+        let bytes = self.bytes();
+        Row {
+            answer: Answer::Taken,
+            bytes: bytes,
+        }
+    }
+
+    // An advance that is turned down: the run as given.
+    fn refused(self, number: u32, position: u32) -> Advanced
+        ensures { λ r. ⌜ r ≡ record { answer = Refused number position; run = self } ⌝ }
+    {
+        Advanced {
+            answer: Answer::Refused(number, position),
+            run: self,
+        }
+    }
+
+    // The run one tick on, where bit p of `reports` says that the job of position p + 1 ends after this tick; or 14, 15, 16 and the run as given.
+    pub fn advance(self, reports: u32) -> Advanced
+        ensures { λ r. ⌜ AdvanceOf self reports r ⌝ }
+    {
+        if self.out() {
+            return self.refused(14, 0);
+        }
+        let late = self.first_late();
+        let claims = self.claims();
+        let widths = claims.widths;
+        let granted = rule::choose(self.rule, self.cores, claims.claiming, &widths);
+        let ending = reports & (granted & claims.working);
+        let answer = in_order(late < self.count, late as u32 + 1, ending == reports);
+        match answer {
+            Answer::Taken => {
+                let next = self.moved(granted, reports);
+                Advanced {
+                    answer: Answer::Taken,
+                    run: next,
+                }
+            }
+            Answer::Refused(number, position) => self.refused(number, position),
+        }
+    }
+}
