@@ -7,10 +7,11 @@ use lib.ListN.{getD, set}
 use lib.Dec.{eqb}
 use borrow.Author.Tests.{eqb-true, eqb-false}
 use Rattle.model.specs.Search.{bit}
+use Rattle.model.proofs.Digits.{Without, without}
 use Rattle.full.specs.Places.{each, setOf}
 use Rattle.full.specs.Machine.{Machine, machine, finishes, worked}
 use Rattle.full.proofs.Places.{each-none, each-still, each-more}
-use Rattle.full.proofs.Sets.{set-has, set-lt, set-is, Without, without}
+use Rattle.full.proofs.Sets.{set-has, set-lt, set-is}
 
 -- nobody is served: the machine is as it was
 pub served-none : (f : ℕ → Bool) (m : Machine) → m .claiming < 2 ^ 32 → ((p : ℕ) → f p ≡ false) → worked f m ≡ m

@@ -13,10 +13,10 @@ use borrow.Author.Tests.{leb-true, leb-false}
 use Rattle.model.specs.Search.{bit}
 use Rattle.model.specs.Task.{Task, Table, task, AllSound}
 use Rattle.model.specs.Book.{Job, emptyBook, widths, inRow, served, step, full}
-use Rattle.full.specs.Machine.{Machine, started, released, finishes, worked}
 use Rattle.model.proofs.Runs.{full-tick, full-claimed}
+use Rattle.model.proofs.Digits.{bit-none}
+use Rattle.full.specs.Machine.{Machine, started, released, finishes, worked}
 use Rattle.full.proofs.Lines.{lineOn}
-use Rattle.full.proofs.Sets.{bit-none}
 use Rattle.full.proofs.Place.{TiedAt, start-tied, pass-tied, release-tied, tick-tied}
 use Rattle.full.proofs.Moves.{Sized, SameAt, released-sized, released-own, released-other, released-past, worked-sized, worked-left, worked-moment, worked-claims, worked-past, worked-none}
 

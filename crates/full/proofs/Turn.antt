@@ -10,8 +10,8 @@ use lib.Pow.{pow-pos}
 use borrow.Author.Tests.{eq-eqb, ne-eqb}
 use Rattle.model.specs.Search.{bit}
 use Rattle.model.proofs.Bools.{and-left}
+use Rattle.model.proofs.Digits.{shifted-one, Without, without, Lowest, lowest-of}
 use Rattle.full.specs.Machine.{Machine, machine, Owed, worked}
-use Rattle.full.proofs.Sets.{one-bit, Without, without, Lowest, lowest}
 use Rattle.full.proofs.Served.{unserved-left, served-on, served-out}
 
 -- the places of a set that are off what is left of it
@@ -55,20 +55,20 @@ module _
     (granted rest : ℕ) (m : Machine) (some : 0 < rest) (fits : rest < 2 ^ 32)
     (subset : (q : ℕ) → bit rest q ≡ true → bit granted q ≡ true) (owed : Owed (bit granted) m)
   where
-    low : Lowest 32 rest
-    low = lowest 32 rest some fits
+    low : (first rest < 32) × Lowest rest (first rest)
+    low = lowest-of 32 rest some fits
 
     one : digit rest ≡ 2 ^ first rest
-    one = one-bit (first rest) (low .below)
+    one = shifted-one 32 (first rest) (low .0)
 
     out-of : Without rest (first rest)
-    out-of = without rest (first rest) (low .member)
+    out-of = without rest (first rest) (low .1 .here)
 
     others : (q : ℕ) → bit (rest - digit rest) q ≡ bit rest q && not (eqb q (first rest))
     others q = ap (λ (b : ℕ). bit (rest - b) q) one ∙ out-of .others q
 
     have : (bit (m .claiming) (first rest) ≡ true) × (0 < getD (m .left) (first rest) 0)
-    have = owed (first rest) (subset (first rest) (low .member))
+    have = owed (first rest) (subset (first rest) (low .1 .here))
 
     abbrev before : ℕ → Bool
     before = taken granted rest
@@ -77,11 +77,11 @@ module _
     after = taken granted (rest - digit rest)
 
     off : before (first rest) ≡ false
-    off = off-both (bit granted (first rest)) (bit rest (first rest)) (low .member)
+    off = off-both (bit granted (first rest)) (bit rest (first rest)) (low .1 .here)
 
     on : after (first rest) ≡ true
     on =
-        on-first (bit granted (first rest)) (bit (rest - digit rest) (first rest)) (subset (first rest) (low .member))
+        on-first (bit granted (first rest)) (bit (rest - digit rest) (first rest)) (subset (first rest) (low .1 .here))
         (others (first rest) ∙ off-both (bit rest (first rest)) (eqb (first rest) (first rest)) (eq-eqb (first rest) (first rest) refl))
 
     same : (q : ℕ) → (q ≡ first rest → ⊥) → after q ≡ before q
@@ -95,7 +95,7 @@ module _
     pub turn : Turn granted rest m (worked before m)
     unfolding worked
     turn = record {
-      below = low .below;
+      below = low .0;
       some = omega (arith, one, pow-pos (first rest));
       within = omega (arith, one, out-of .within);
       subset = λ q e. subset q (and-left (bit rest q) (not (eqb q (first rest))) (sym (others q) ∙ e));
@@ -128,5 +128,5 @@ module _
             (set (worked before m .moment) (first rest) (getD (m .next) (first rest) 0)) (m .next) (worked before m .claiming - 2 ^ first rest)
             ≡ worked after m)
         finished last =
-            served-out before after m (first rest) off on same (low .below) (have .0)
+            served-out before after m (first rest) off on same (low .0) (have .0)
             (eq-eqb (getD (m .left) (first rest) 0) 1 (omega (arith, still, have .1)))

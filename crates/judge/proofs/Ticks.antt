@@ -8,13 +8,13 @@ use native.Mathlib.Nat.{eq-or-lt-of-le}
 use native.Mathlib.Numerals.{add-one}
 use Prim.Native.Nat.{ℕ, zero, suc, _+_, _≤_, _<_, min}
 use lib.ListN.{length, getD, take, length-map, List·getD-map}
+use Rattle.model.proofs.Digits.{bit-none}
 use Rattle.model.specs.Search.{bit, upFrom}
 use Rattle.model.specs.Task.{Table, task, ruleOf}
 use Rattle.model.specs.Task as model
 use Rattle.model.specs.Grants.{claimants, some}
 use Rattle.model.specs.Book.{full, inRow, Missed, NeverMissed, widths}
 use Rattle.model.specs.Verdict.{firm, FirstMiss, verdict}
-use Rattle.model.proofs.Search.{bit-none}
 use Rattle.model.proofs.Grants.{grants-nobody}
 use Rattle.model.proofs.Horizon.{horizon-enough}
 use Rattle.model.proofs.Verdict.{firm-exact, verdict-exact}

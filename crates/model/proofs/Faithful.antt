@@ -10,10 +10,11 @@ use lib.Dec.{eqb, leb}
 use lib.ListN.{length}
 use borrow.Author.Tests.{eq-eqb, eqb-true, le-leb, leb-false, leb-true, not-true}
 use Rattle.model.proofs.Bools.{and-both, and-left, and-right, not-true-false}
+use Rattle.model.proofs.Digits.{bit-high}
 use Rattle.model.proofs.FullLength.{late-job}
 use Rattle.model.proofs.Jobs.{after-release, before-due, newest-is}
 use Rattle.model.proofs.Runs.{full-tick, missed-at}
-use Rattle.model.proofs.Search.{any-of, any-some, bit-high}
+use Rattle.model.proofs.Search.{any-of, any-some}
 use Rattle.model.proofs.Starts.{S-release, hyperperiod-divides, hyperperiod-least, release-first, release-from}
 use Rattle.model.specs.Book.{Answer, Book, Job, Missed, answer, answersFrom, book, bookFrom, claims, emptyBook, enter, entered, full, jobClaims, late, misreported, refused, reportable, step, taken, takenIn, taskClaims}
 use Rattle.model.specs.Horizon.{Later, S, hyperperiod, releaseFrom}

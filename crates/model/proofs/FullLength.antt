@@ -9,8 +9,9 @@ use lib.Dec.{leb, ltb}
 use lib.ListN.{length, replicate}
 use borrow.Author.Tests.{le-ltb, leb-true, not-true}
 use Rattle.model.proofs.Bools.{and-left, and-right, not-true-false}
+use Rattle.model.proofs.Digits.{bit-none}
 use Rattle.model.proofs.Runs.{full-stays, full-tick, missed-at}
-use Rattle.model.proofs.Search.{any-some, bit-none, least-none, none-any}
+use Rattle.model.proofs.Search.{any-some, least-none, none-any}
 use Rattle.model.specs.Book.{Book, Missed, Misses, NeverMissed, answer, book, bookFrom, enter, firstLate, full, late, misreported, none, step, taken}
 use Rattle.model.specs.Search.{any}
 use Rattle.model.specs.Task.{Table, due, task}

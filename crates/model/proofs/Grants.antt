@@ -10,7 +10,7 @@ use lib.ListN.{drop, getD, length, length-drop, take}
 use lib.Seq.{drop-nil, take-nil}
 use borrow.Author.Tests.{le-leb, leb-false, leb-true, lt-leb}
 use Rattle.model.proofs.Bools.{and-left, and-right}
-use Rattle.model.proofs.Search.{bit-none}
+use Rattle.model.proofs.Digits.{bit-none}
 use Rattle.model.specs.Grants.{Claimant, claimants, fits, given, grants, left, some}
 use Rattle.model.specs.Search.{bit}
 use Rattle.model.specs.Task.{Rule, greedy, limited}

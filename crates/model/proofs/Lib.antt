@@ -1,6 +1,8 @@
 pub mod Examples
 pub mod Bools
 pub mod Search
+pub mod Lists
+pub mod Digits
 pub mod Jobs
 pub mod Grants
 pub mod Rows

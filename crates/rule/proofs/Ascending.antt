@@ -10,6 +10,7 @@ use lib.ListN.{length, getD, take, drop}
 use lib.Dec.{eqb, ltb}
 use borrow.Author.Tests.{eqb-true, eq-eqb, ne-eqb, ltb-true, ltb-false}
 use Rattle.model.specs.Search.{memb, upFrom}
+use Rattle.model.proofs.Lists.{up-length, up-at, map-at}
 use Rattle.rule.specs.Cores.{kept}
 
 -- an ascending list whose entries are at least lo and below hi
@@ -39,16 +40,10 @@ unfolding upFrom
 range-up i zero hi h = tt
 range-up i (suc n) hi h = (omega arith, omega arith, range-up (suc i) n hi (omega arith))
 
-pub length-up : (i n : ℕ) → length (upFrom i n) ≡ n
-unfolding upFrom
-length-up i zero = refl
-length-up i (suc n) = ap suc (length-up (suc i) n)
-
 pub getD-up : {A : Type 0} (f : ℕ → A) (d : A) (i n c : ℕ) → c < n → getD (map f (upFrom i n)) c d ≡ f (i + c)
-unfolding upFrom
-getD-up f d i zero c h = absurd (omega arith)
-getD-up f d i (suc n) zero h = let e : i ≡ i + 0 = omega arith in ap f e
-getD-up f d i (suc n) (suc c) h = let e : suc i + c ≡ i + suc c = omega arith in getD-up f d (suc i) n c (omega arith) ∙ ap f e
+getD-up f d i n c h =
+    let l : c < length (upFrom i n) = omega (arith, up-length i n) in
+    map-at f (upFrom i n) c d 0 l ∙ ap f (up-at i n c 0 h)
 
 -- membership
 

@@ -11,9 +11,9 @@ use Rattle.model.specs.Task.{Rule}
 use Rattle.model.specs.Grants.{Claimant, claimants, endsChoosing, given, left, grants, remaining, some}
 use Rattle.model.specs.Search.{bit, upFrom}
 use Rattle.model.proofs.Bools.{and-left}
+use Rattle.model.proofs.Lists.{up-length}
+use Rattle.model.proofs.Digits.{Lowest, bit-none}
 use Rattle.rule.specs.Shares.{granted}
-use Rattle.rule.proofs.Ascending.{length-up}
-use Rattle.rule.proofs.Digits.{Lowest, bit-none}
 use Rattle.rule.proofs.Granting.{unclaimed, fitting, ended, passed, none-granted, some-take, some-given, same-places, same-either}
 
 -- q is the first place of c, and d is c without it
@@ -157,7 +157,7 @@ places r ws x n p = granted r (claimants ws (bit x)) (upFrom 0 n) p
 
 -- and so on any list of that many free cores
 pub places-on : (r : Rule) (ws : List ℕ) (x p : ℕ) (free : List ℕ) → places r ws x (length free) p ≡ granted r (claimants ws (bit x)) free p
-places-on r ws x p free = same-places r (claimants ws (bit x)) (upFrom 0 (length free)) free (length-up 0 (length free)) p
+places-on r ws x p free = same-places r (claimants ws (bit x)) (upFrom 0 (length free)) free (up-length 0 (length free)) p
 
 pub places-none : (r : Rule) (ws : List ℕ) (n p : ℕ) → places r ws 0 n p ≡ false
 places-none r ws n p = ap some (nobody-given r ws (bit 0) (upFrom 0 n) p bit-none)
@@ -191,15 +191,15 @@ module _ (r : Rule) (ws : List ℕ) (x q n p : ℕ) (l : Lowest x q) where
   places-fits k =
       let w = getD ws q 0 in
       let u = upFrom 0 n in
-      let m : w ≤ length u = omega (arith, length-up 0 n) in
+      let m : w ≤ length u = omega (arith, up-length 0 n) in
       let f = fitting r b u refl (le-leb w (length u) m) in
-      let e : length (drop w u) ≡ length (upFrom 0 (n - w)) = length-drop w u ∙ ap (λ (i : ℕ). i - w) (length-up 0 n) ∙ sym (length-up 0 (n - w)) in
+      let e : length (drop w u) ≡ length (upFrom 0 (n - w)) = length-drop w u ∙ ap (λ (i : ℕ). i - w) (up-length 0 n) ∙ sym (up-length 0 (n - w)) in
       first-granted
       ∙ ap₂ (λ (g o : List ℕ). eqb p q && some g || granted r (claimants ws (bit (x - 2 ^ q))) o p) (f .0) (f .1)
       ∙ ap₂ (λ (s t : Bool). eqb p q && s || t) (some-take w u m) (same-places r (claimants ws (bit (x - 2 ^ q))) (drop w u) (upFrom 0 (n - w)) e p)
 
   misfits : n < getD ws q 0 → leb (getD ws q 0) (length (upFrom 0 n)) ≡ false
-  misfits k = lt-leb (getD ws q 0) (length (upFrom 0 n)) (omega (arith, length-up 0 n))
+  misfits k = lt-leb (getD ws q 0) (length (upFrom 0 n)) (omega (arith, up-length 0 n))
 
   pub places-passed : n < getD ws q 0 → endsChoosing r ≡ false → places r ws x n p ≡ places r ws (x - 2 ^ q) n p
   places-passed k e =

@@ -8,20 +8,15 @@ use native.Mathlib.Nat.{pow-suc, sub-zero, zero-add, add-zero, eq-or-lt-of-le}
 use native.Mathlib.Omega.{arith}
 use lib.Arith.{lt-one}
 use lib.ListN.{length, take, drop, take-append-drop}
-use lib.Count.{ones, ones-step, trailingZeros, under}
+use lib.Count.{ones, ones-step, trailingZeros}
 use lib.Dec.{eqb}
-use lib.Pow.{pow-pos, shr-shr, ones-lt}
+use lib.Pow.{pow-pos, ones-lt}
 use Rattle.model.specs.Search.{bit, memb, upFrom}
+use Rattle.model.proofs.Digits.{bit-zero, bit-suc, even-half, odd-half, half, tz-out, tz-into}
 use Rattle.rule.specs.Cores.{kept, cores}
 use Rattle.rule.proofs.Ascending.{Range, range-weaken, range-take, range-drop, memb-up, memb-kept}
 
--- ---- a set's digits, one by one
-
-pub bit-zero : (n : ℕ) → bit n 0 ≡ eqb (n % 2) 1
-bit-zero n = let e : n / 2 ^ 0 % 2 ≡ n % 2 = omega arith in ap (λ (x : ℕ). eqb x 1) e
-
-pub bit-suc : (n i : ℕ) → bit n (suc i) ≡ bit (n / 2) i
-bit-suc n i = let e : suc i ≡ 1 + i = omega arith in ap (λ (k : ℕ). eqb (n / 2 ^ k % 2) 1) e ∙ ap (λ (x : ℕ). eqb (x % 2) 1) (sym (shr-shr n 1 i))
+-- ---- the cores, digit by digit
 
 -- the digit b says whether the core c stands in front of the rest
 abbrev named : ℕ → ℕ → List ℕ → List ℕ
@@ -66,9 +61,6 @@ pub cores-range : (n : ℕ) → Range 0 64 (cores n)
 cores-range n = rw cores-digits (range-from 64 0 n 64 (omega arith))
 
 -- ---- ones counts the cores
-
-pub half : (d n : ℕ) → n < 2 ^ suc d → n / 2 < 2 ^ d
-half d n h = omega (arith, pow-suc 2 d)
 
 length-named : (b at : ℕ) (l : List ℕ) → b < 2 → length (named b at l) ≡ b + length l
 length-named zero at l h = omega arith
@@ -134,19 +126,13 @@ set-cores n h = ap setOf (cores-digits n) ∙ set-from (coresFrom 64 0 n) ∙ se
 
 -- ---- and the cores of that set
 
-even : (n m : ℕ) → n ≡ 2 * m → (n % 2 ≡ 0) × (n / 2 ≡ m)
-even n m e = omega arith
-
-odd : (n m : ℕ) → n ≡ 1 + 2 * m → (n % 2 ≡ 1) × (n / 2 ≡ m)
-odd n m e = omega arith
-
 out : (d at n m : ℕ) → n ≡ 2 * m → coresFrom (suc d) at n ≡ coresFrom d (suc at) m
 unfolding coresFrom
-out d at n m e = ap₂ (λ (b h : ℕ). named b at (coresFrom d (suc at) h)) (even n m e .0) (even n m e .1)
+out d at n m e = ap₂ (λ (b h : ℕ). named b at (coresFrom d (suc at) h)) (even-half n m e .0) (even-half n m e .1)
 
 pub into : (d at n m : ℕ) → n ≡ 1 + 2 * m → coresFrom (suc d) at n ≡ at ∷ coresFrom d (suc at) m
 unfolding coresFrom
-into d at n m e = ap₂ (λ (b h : ℕ). named b at (coresFrom d (suc at) h)) (odd n m e .0) (odd n m e .1)
+into d at n m e = ap₂ (λ (b h : ℕ). named b at (coresFrom d (suc at) h)) (odd-half n m e .0) (odd-half n m e .1)
 
 back : (d at : ℕ) (l : List ℕ) → Range at (at + d) l → coresFrom d at (setFrom at l) ≡ l
 unfolding coresFrom setFrom
@@ -165,14 +151,6 @@ pub cores-set : (l : List ℕ) → Range 0 64 l → cores (setOf l) ≡ l
 cores-set l r = cores-digits (setOf l) ∙ ap (coresFrom 64 0) (set-from l) ∙ back 64 0 l r
 
 -- ---- trailing zeros finds the first core
-
-pub tz-out : (d n m : ℕ) → n ≡ 2 * m → trailingZeros (suc d) n ≡ suc (trailingZeros d m)
-unfolding trailingZeros
-tz-out d n m e = ap₂ (λ (b h : ℕ). under b (trailingZeros d h)) (even n m e .0) (even n m e .1)
-
-pub tz-into : (d n m : ℕ) → n ≡ 1 + 2 * m → trailingZeros (suc d) n ≡ 0
-unfolding trailingZeros
-tz-into d n m e = ap₂ (λ (b h : ℕ). under b (trailingZeros d h)) (odd n m e .0) (odd n m e .1)
 
 tz-from : (d at c : ℕ) (l : List ℕ) → Range at (at + d) (c ∷ l) → at + trailingZeros d (setFrom at (c ∷ l)) ≡ c
 unfolding setFrom

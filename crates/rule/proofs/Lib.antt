@@ -1,8 +1,6 @@
 pub mod Examples
-pub mod Lists
 pub mod Ascending
 pub mod Cores
-pub mod Digits
 pub mod Granting
 pub mod Choosing
 pub mod Rows

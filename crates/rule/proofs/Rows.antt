@@ -14,9 +14,10 @@ use Rattle.model.specs.Row.{owner, row}
 use Rattle.model.specs.Task.{Rule}
 use Rattle.model.specs.Grants.{Claimant, grants}
 use Rattle.model.proofs.Bools.{not-true-false}
+use Rattle.model.proofs.Lists.{up-length}
 use Rattle.rule.specs.Cores.{cores}
 use Rattle.rule.specs.Painted.{painted, shown}
-use Rattle.rule.proofs.Ascending.{Range, length-up, getD-up, In, in-below}
+use Rattle.rule.proofs.Ascending.{Range, getD-up, In, in-below}
 use Rattle.rule.proofs.Cores.{cores-none}
 use Rattle.rule.proofs.Granting.{Apart, apart, in-grants}
 
@@ -24,7 +25,7 @@ use Rattle.rule.proofs.Granting.{Apart, apart, in-grants}
 
 pub length-painted : (start : List ℕ) (mark : ℕ) (l : List ℕ) → length (painted start mark l) ≡ length start
 unfolding painted
-length-painted start mark l = length-map (upFrom 0 (length start)) (λ c. cond (memb c l) mark (getD start c 0)) ∙ length-up 0 (length start)
+length-painted start mark l = length-map (upFrom 0 (length start)) (λ c. cond (memb c l) mark (getD start c 0)) ∙ up-length 0 (length start)
 
 -- each byte
 pub painted-at : (start : List ℕ) (mark : ℕ) (l : List ℕ) (c : ℕ) → c < length start → getD (painted start mark l) c 0 ≡ cond (memb c l) mark (getD start c 0)
@@ -132,7 +133,7 @@ shown-zeros n c gs h a =
 
 pub length-row : (m : ℕ) (gs : List (List ℕ)) → length (row m gs) ≡ m
 unfolding row
-length-row m gs = length-map (upFrom 0 m) (λ c. owner c 1 gs) ∙ length-up 0 m
+length-row m gs = length-map (upFrom 0 m) (λ c. owner c 1 gs) ∙ up-length 0 m
 
 -- the first m bytes are the model's row, and the others 0, where all cores that are given are below m
 pub shown-row : (n m : ℕ) (gs : List (List ℕ)) → m ≤ n → Apart gs → ((c j : ℕ) → In c (getD gs j []) → c < m)

@@ -6,9 +6,10 @@ use native.Mathlib.Nat.{div-eq-of-lt, le-trans}
 use lib.Dec.{leb}
 use lib.Pow.{pow-mono}
 use borrow.Author.Tests.{leb-true, leb-false}
+use Rattle.model.proofs.Digits.{bit-high}
 use Rattle.model.specs.Search.{any, bit}
 use Rattle.model.proofs.Bools.{same-test}
-use Rattle.model.proofs.Search.{any-some, any-of, bit-high}
+use Rattle.model.proofs.Search.{any-some, any-of}
 
 -- a search up to m finds what any search finds, where nothing passes from m on
 any-within : (n m : ℕ) (f : ℕ → Bool) → ((i : ℕ) → m ≤ i → f i ≡ false) → any n f ≡ true → any m f ≡ true

@@ -9,16 +9,14 @@ use lib.ListN.{length, take, length-map, length-take}
 use lib.Bits.{bitAnd, and-le-l}
 use lib.Dec.{eqb, ltb}
 use borrow.Author.Tests.{lt-ltb, le-ltb, eqb-true, eqb-false, ltb-true, ltb-false}
+use Rattle.model.proofs.Digits.{bit-high, bit-zero, bit-suc, half, and-bit}
 use Rattle.model.specs.Task.{Rule}
 use Rattle.model.specs.Grants.{Claimant, claimants, left, grants, given, some}
 use Rattle.model.specs.Search.{any, bit, upFrom}
 use Rattle.model.proofs.Bools.{not-false-true, same-test}
 use Rattle.model.proofs.Grants.{claimants-same}
-use Rattle.model.proofs.Search.{none-any, bit-high}
-use Rattle.table.proofs.Searches.{none-at}
+use Rattle.model.proofs.Search.{none-any, none-at}
 use Rattle.rule.specs.Shares.{granted}
-use Rattle.rule.proofs.Cores.{bit-zero, bit-suc, half}
-use Rattle.rule.proofs.Digits.{and-bit}
 use Rattle.run.specs.declared.Run.{Run}
 use Rattle.run.specs.declared.choosing.Claims.{Claims}
 use Rattle.run.specs.Phase.{claiming, working}

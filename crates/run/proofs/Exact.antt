@@ -9,11 +9,12 @@ use native.Mathlib.Omega.{arith}
 use lib.ListN.{getD}
 use lib.Dec.{ltb, leb}
 use borrow.Author.Tests.{ltb-true, ltb-false, le-ltb, leb-true, leb-false, eqb-true, eq-eqb, not-true}
+use Rattle.model.proofs.Digits.{bit-high}
 use Rattle.model.specs.Search.{bit}
 use Rattle.model.specs.Grants.{some}
 use Rattle.model.specs.Book as model
 use Rattle.model.proofs.Bools.{and-left, and-right, and-both}
-use Rattle.model.proofs.Search.{any-some, any-of, bit-high, least-found, least-lowest}
+use Rattle.model.proofs.Search.{any-some, any-of, least-found, least-lowest}
 use Rattle.table.specs.Numbers.{Earlier}
 use Rattle.table.proofs.Decide.{Decides, fails, decides-not}
 use Rattle.run.specs.declared.Phase.{Phase}

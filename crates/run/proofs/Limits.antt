@@ -5,12 +5,12 @@ use Prim.Native.Nat.{ℕ, _<_}
 use lib.ListN.{length, getD, List·getD-eq-default}
 use lib.Dec.{leb}
 use borrow.Author.Tests.{leb-true, leb-false, not-false}
+use Rattle.model.proofs.Search.{none-any, none-at}
 use Rattle.model.specs.Search.{any}
 use Rattle.model.specs.Task as model
 use Rattle.model.proofs.Bools.{or-right-false}
 use Rattle.table.specs.Limits.{from, coresOut, ruleOut, taskOut}
 use Rattle.table.proofs.Decide.{Decides, decides-not, decides-or, decides-any}
-use Rattle.table.proofs.Searches.{any-none, none-at}
 use Rattle.table.proofs.Tests.{from-decides, cores-decides, rule-decides, task-decides}
 use Rattle.table.proofs.Inside.{inside-test, inside-sound}
 use Rattle.run.specs.declared.Task.{Task}
@@ -74,7 +74,7 @@ passes-if r e = record {
 
 pub passes-runs : (r : Run) → Passes r → runOut r ≡ false
 unfolding runOut
-passes-runs r h = rw (h .count, h .cores, h .rule) (any-none (r .count) (placeOut r) at)
+passes-runs r h = rw (h .count, h .cores, h .rule) (none-any (r .count) (placeOut r) at)
   where
     at : (p : ℕ) → p < r .count → placeOut r p ≡ false
     at p l = rw (h .tasks p l, phase-decides (ruleIn r) (taskAt r p) (phaseAt r p) .1 (h .phases p l))

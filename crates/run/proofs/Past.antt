@@ -8,13 +8,13 @@ use lib.ListN.{getD, take, drop, length-map, length-take}
 use lib.Seq.{getD-take}
 use lib.Dec.{ltb}
 use borrow.Author.Tests.{ltb-true}
+use Rattle.model.proofs.Search.{any-same, least-same}
 use Rattle.model.specs.Search.{bit, upFrom}
 use Rattle.model.specs.Task.{ruleOf}
 use Rattle.model.specs.Grants.{Claimant, claimants, grants}
 use Rattle.model.proofs.Bools.{same-and}
 use Rattle.model.proofs.Grants.{claimants-same}
 use Rattle.table.specs.Limits.{taskOut}
-use Rattle.table.proofs.Searches.{any-same, least-same}
 use Rattle.run.specs.declared.Task.{Task}
 use Rattle.run.specs.declared.Run.{Run}
 use Rattle.run.specs.declared.Answer.{Answer}

@@ -9,8 +9,8 @@ use lib.Seq.{ext-getD, getD-take, getD-set-same, getD-set-other}
 use lib.Bits.{bitOr}
 use lib.Dec.{eqb, ltb}
 use borrow.Author.Tests.{lt-ltb, le-ltb, eqb-true, eqb-false, ltb-true, ltb-false}
+use Rattle.model.proofs.Digits.{or-bit, bit-none, bit-power, shifted-one}
 use Rattle.model.specs.Search.{bit}
-use Rattle.rule.proofs.Digits.{or-bit, bit-none, bit-power, shifted-one}
 use Rattle.run.specs.declared.Run.{Run}
 use Rattle.run.specs.Run.{pastEnd, widthsIn}
 

@@ -9,6 +9,7 @@ use lib.ListN.{length, getD, take, replicate, length-map, length-take, List·get
 use lib.Seq.{getD-take, take-at}
 use lib.Dec.{ltb}
 use borrow.Author.Tests.{ltb-false, lt-ltb}
+use Rattle.model.proofs.Lists.{map-map}
 use Rattle.model.specs.Search.{least, bit, upFrom}
 use Rattle.model.specs.Task.{AllSound, Table, task, nobody, Rule, ruleOf, newest}
 use Rattle.model.specs.Task as model
@@ -16,11 +17,9 @@ use Rattle.model.specs.Grants.{Claimant, claimants, grants, left, some}
 use Rattle.model.specs.Row.{row}
 use Rattle.model.specs.Book.{Book, emptyBook, widths, taskClaims, grantsOf, rowOf, inRow, served, step, late, firstLate, reportable, misreported}
 use Rattle.model.proofs.Bools.{same-test}
-use Rattle.model.proofs.Search.{least-lowest}
+use Rattle.model.proofs.Search.{least-lowest, any-same, least-same}
 use Rattle.model.proofs.Grants.{claimants-same, runs}
 use Rattle.model.proofs.Faithful.{late-exact}
-use Rattle.table.proofs.Searches.{any-same, least-same}
-use Rattle.table.proofs.Lists.{map-map}
 use Rattle.run.specs.declared.Phase.{Phase}
 use Rattle.run.specs.declared.Task.{Task}
 use Rattle.run.specs.declared.Run.{Run}

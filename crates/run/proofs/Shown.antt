@@ -5,6 +5,7 @@ use Prim.Native.Nat.{ℕ, _-_, _≤_, min}
 use native.Mathlib.Nat.{min-eq-left}
 use native.Mathlib.Omega.{arith}
 use lib.ListN.{length, take, replicate, length-map}
+use Rattle.model.proofs.Lists.{up-length}
 use Rattle.model.specs.Grants.{Claimant, claimants, grants}
 use Rattle.model.specs.Row.{row, owner}
 use Rattle.model.specs.Search.{bit, upFrom}
@@ -12,7 +13,7 @@ use Rattle.rule.specs.Cores.{cores}
 use Rattle.rule.specs.Painted.{shown}
 use Rattle.rule.specs.Shares.{GrantedAs}
 use Rattle.rule.specs.declared.Granted.{Granted}
-use Rattle.rule.proofs.Ascending.{length-up, range-up}
+use Rattle.rule.proofs.Ascending.{range-up}
 use Rattle.rule.proofs.Rows.{shown-grants}
 use Rattle.run.specs.declared.Run.{Run}
 use Rattle.run.specs.declared.choosing.Claims.{Claims}
@@ -23,7 +24,7 @@ use Rattle.run.proofs.Chosen.{same-claimants}
 
 length-row : (m : ℕ) (gs : List (List ℕ)) → length (row m gs) ≡ m
 unfolding row
-length-row m gs = length-map (upFrom 0 m) (λ c. owner c 1 gs) ∙ length-up 0 m
+length-row m gs = length-map (upFrom 0 m) (λ c. owner c 1 gs) ∙ up-length 0 m
 
 module _ (r : Run) (c : Claims) (h : ClaimsOf r c) (free : ℕ) (g : Granted) where
   same-grants : cores free ≡ upFrom 0 (r .cores) → GrantedAs (ruleIn r) (claimants (take (r .count) (c .widths)) (bit (c .claiming))) (r .count) free g

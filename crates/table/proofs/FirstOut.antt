@@ -7,12 +7,11 @@ use native.Mathlib.Omega.{arith}
 use lib.ListN.{length, getD}
 use Rattle.model.specs.Task as model
 use Rattle.model.specs.Task.{nobody}
-use Rattle.model.proofs.Search.{least-found, least-lowest, least-none}
+use Rattle.model.proofs.Search.{least-found, least-lowest, least-none, none-any, least-is}
 use Rattle.table.specs.declared.Task.{Task}
 use Rattle.table.specs.Task.{taskOf, tasksOf, noTask}
 use Rattle.table.specs.Limits.{taskOut}
 use Rattle.table.specs.Answer.{firstOut}
-use Rattle.table.proofs.Searches.{any-none, least-is}
 use Rattle.table.proofs.Places.{tasks-length, task-at}
 
 -- it is turned down, and none before it is
@@ -45,5 +44,5 @@ module _ (m : ℕ) (tasks : List Task) (count : ℕ) (there : count ≤ length t
       sym n
       ∙ sym
       (least-none (length (tasksOf tasks count)) (λ p. taskOut m (getD (tasksOf tasks count) p nobody))
-      (any-none (length (tasksOf tasks count)) (λ p. taskOut m (getD (tasksOf tasks count) p nobody))
+      (none-any (length (tasksOf tasks count)) (λ p. taskOut m (getD (tasksOf tasks count) p nobody))
       (λ p h. ap (taskOut m) (task-at tasks count p (omega arith)) ∙ fine p (omega arith))))

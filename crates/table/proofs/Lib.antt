@@ -1,10 +1,8 @@
 pub mod Examples
-pub mod Searches
 pub mod Decide
 pub mod Tests
 pub mod Pigeonhole
 pub mod Walk
-pub mod Lists
 pub mod Tasks
 pub mod Places
 pub mod FirstOut

@@ -8,8 +8,9 @@ use lib.Dec.{eqb, ltb}
 use lib.ListN.{length}
 use lib.Seq.{ext-getD}
 use borrow.Author.Tests.{eqb-true, eqb-false}
-use Rattle.model.proofs.Bools.{not-true-false}
 use Rattle.model.specs.Task.{Table, nobody, ruleOf}
+use Rattle.model.proofs.Bools.{not-true-false}
+use Rattle.model.proofs.Search.{any-same}
 use Rattle.table.specs.declared.Answer.the-variants.{Passed}
 use Rattle.table.specs.declared.Loaded.{Loaded}
 use Rattle.table.specs.declared.chain.Ending.the-variants.{Past, Again, Whole}
@@ -19,7 +20,6 @@ use Rattle.table.specs.Numbers.{EndAt, Reaches}
 use Rattle.table.specs.Answer.{headerNumber, pastAt, againAt, stopsAt, lastStep, endingOf, byTasks, answerOf}
 use Rattle.table.specs.Load.{passing, refusal, answered, loadOf}
 use Rattle.table.specs.OffChain.{SameOnChain}
-use Rattle.table.proofs.Searches.{any-same}
 use Rattle.table.proofs.Walk.{last-reached, last-stops, last-ends, stops-there, ends-there, five-decides, six-decides}
 use Rattle.table.proofs.Tasks.{table-length, table-at}
 use Rattle.table.proofs.Exact.{passed-exact}

@@ -7,8 +7,8 @@ use native.Mathlib.Nat.{zero-add}
 use lib.ListN.{length, getD, length-map}
 use Rattle.model.specs.Search.{upFrom}
 use Rattle.model.specs.Task.{nobody}
+use Rattle.model.proofs.Lists.{up-length, up-at, map-at}
 use Rattle.table.specs.Words.{met, count, chain, taskOfRecord, tableOf}
-use Rattle.table.proofs.Lists.{up-length, up-at, map-at}
 
 pub chain-length : (ws : List ℕ) → length (chain ws) ≡ count ws
 unfolding chain

@@ -3,20 +3,19 @@ use mathlib.Core.Path.{_≡_, sym, subst}
 use mathlib.Core.Bool.{true, false}
 use mathlib.Core.List.{List}
 use mathlib.Core.Logic.{inl, inr, ⊎-elim}
-use Prim.Native.Nat.{ℕ, zero, suc, _≤_, _<_}
+use Prim.Native.Nat.{ℕ, suc, _≤_, _<_}
 use native.Mathlib.Omega.{arith}
 use native.Mathlib.Nat.{eq-or-lt-of-le}
 use lib.Dec.{eqb}
 use borrow.Author.Tests.{eq-eqb, ne-eqb}
 use Rattle.model.specs.Search.{any}
 use Rattle.model.proofs.Bools.{not-true-false, not-false-true}
-use Rattle.model.proofs.Search.{least-any, least-lowest}
+use Rattle.model.proofs.Search.{least-any, least-lowest, none-at, least-is}
 use Rattle.table.specs.Words.{records, met, count}
 use Rattle.table.specs.Numbers.{EndAt, PastAt, AgainAt, Reaches, Applies, five, six}
 use Rattle.table.specs.Answer.{pastAt, againAt, stopsAt, lastStep}
 use Rattle.table.proofs.Decide.{Decides, fails}
 use Rattle.table.proofs.Tests.{past-decides, again-decides, stops-decides}
-use Rattle.table.proofs.Searches.{none-at, least-is}
 use Rattle.table.proofs.Pigeonhole.{pigeonhole}
 
 -- what stands at a step where the walk goes on

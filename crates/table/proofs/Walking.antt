@@ -11,6 +11,8 @@ use lib.ListN.{length, getD, set, replicate, length-set, length-map, getD-replic
 use lib.Seq.{getD-set-same, getD-set-other, set-at}
 use borrow.Author.Tests.{eq-eqb, ne-eqb, eqb-true, eqb-false, le-ltb}
 use Rattle.model.specs.Search.{any, upFrom}
+use Rattle.model.proofs.Search.{none-any}
+use Rattle.model.proofs.Lists.{up-length, up-more, map-more, map-map}
 use Rattle.table.specs.declared.Task.{Task}
 use Rattle.table.specs.declared.chain.Ending.the-variants.{Past, Again, Whole}
 use Rattle.table.specs.Task.{noTask}
@@ -20,8 +22,6 @@ use Rattle.table.specs.Answer.{pastAt, againAt, stopsAt, endingOf}
 use Rattle.table.specs.Load.{placed, places, WalkOf}
 use Rattle.table.proofs.Decide.{fails}
 use Rattle.table.proofs.Tests.{past-decides, again-decides, stops-decides}
-use Rattle.table.proofs.Searches.{any-none}
-use Rattle.table.proofs.Lists.{up-length, up-more, map-more, map-map}
 use Rattle.table.proofs.Tasks.{table-length}
 use Rattle.table.proofs.Walk.{reaches-more, reaches-short, stops-there, ends-there}
 
@@ -161,7 +161,7 @@ module _ (ws : List ℕ) (tasks : List Task) (seen : List Bool) (k at : ℕ) (w 
   walked-whole z =
       let h : EndAt ws k = sym (w .here) ∙ z in
       let p : pastAt ws k ≡ false = le-ltb (records ws) (met ws k) (omega arith) in
-      let a : againAt ws k ≡ false = any-none k (λ j. eqb (met ws j) (met ws k)) (λ j l. ne-eqb (met ws j) (met ws k) (λ e. w .reached j l .0 (e ∙ h))) in
+      let a : againAt ws k ≡ false = none-any k (λ j. eqb (met ws j) (met ws k)) (λ j l. ne-eqb (met ws j) (met ws k) (λ e. w .reached j l .0 (e ∙ h))) in
       let c : count ws ≡ k = ends-there ws k (w .reached) h in
       record {
         ending = sym (walk-of (stops-decides ws k .1 (inl h)) ∙ rw (p, a));

@@ -5,8 +5,9 @@ use mathlib.Core.Path.{ap, _∙_}
 use Prim.Native.Nat.{ℕ, _+_}
 use lib.Bits.{bitOr}
 use lib.ListN.{set}
+use Rattle.model.proofs.Digits.{shifted-one}
 use Rattle.full.specs.Machine.{machine, released}
-use Rattle.full.proofs.Sets.{one-bit, set-with}
+use Rattle.full.proofs.Sets.{set-with}
 use Rattle.full.proofs.release.Statement.{statement}
 use Rattle.full.proofs.release.Tie as tie
 
@@ -45,7 +46,7 @@ unfolding released
 returns c =
     let a = c .args in
     ap (λ (x : ℕ). machine (set (a .left .now) (a .place) (a .length)) (set (a .moment .now) (a .place) (a .tick + a .deadline)) (set (a .next .now) (a .place) (a .tick + a .period)) x)
-    (ap (bitOr (a .claiming)) (one-bit (a .place) (c .pre .0)) ∙ set-with (a .claiming) (a .place) (c .fits .claiming .fits) (c .pre .0))
+    (ap (bitOr (a .claiming)) (shifted-one 32 (a .place) (c .pre .0)) ∙ set-with (a .claiming) (a .place) (c .fits .claiming .fits) (c .pre .0))
 
 pub release-spec : {M : Type 1} → statement M
 release-spec =

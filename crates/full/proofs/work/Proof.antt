@@ -5,8 +5,8 @@ use mathlib.Core.Bool.{Bool, true, false, not, _&&_, and-true}
 use Prim.Native.Nat.{ℕ, _≤_}
 use native.Mathlib.Omega.{arith}
 use Rattle.model.specs.Search.{bit}
+use Rattle.model.proofs.Digits.{bit-none}
 use Rattle.full.specs.Machine.{machine, worked}
-use Rattle.full.proofs.Sets.{bit-none}
 use Rattle.full.proofs.Served.{served-none, served-same}
 use Rattle.full.proofs.Turn.{taken, Turn, turn}
 use Rattle.full.proofs.work.Statement.{statement}

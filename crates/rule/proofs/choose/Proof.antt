@@ -14,7 +14,7 @@ use lib.ListN.{getD}
 use Rattle.model.specs.Task.{Rule, ruleOf}
 use Rattle.model.specs.Search.{bit}
 use Rattle.model.specs.Grants.{endsChoosing}
-use Rattle.rule.proofs.Digits.{Lowest, Turn, turn, shifted-one, or-bit, bit-power, bit-none}
+use Rattle.model.proofs.Digits.{Lowest, Turn, turn, shifted-one, or-bit, bit-power, bit-none}
 use Rattle.rule.proofs.Choosing.{places, places-none, places-fits, places-passed, places-ended}
 use Rattle.rule.proofs.choose.Statement.{statement}
 use Rattle.rule.proofs.choose.Tie as tie

@@ -6,9 +6,9 @@ use mathlib.Core.Path.{_≡_, ap, sym, _∙_}
 use Prim.Native.Nat.{ℕ, _-_, _^_, _≤_, min}
 use lib.Pow.{pow-pos}
 use Rattle.model.specs.Search.{upFrom}
+use Rattle.model.proofs.Digits.{shifted-one}
 use Rattle.rule.specs.Cores.{cores}
 use Rattle.rule.proofs.Cores.{cores-up}
-use Rattle.rule.proofs.Digits.{shifted-one}
 use Rattle.rule.proofs.first_cores.Statement.{statement}
 use Rattle.rule.proofs.first_cores.Tie as tie
 

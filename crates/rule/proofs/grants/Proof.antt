@@ -14,12 +14,12 @@ use lib.Seq.{ext-getD, getD-take, getD-drop, getD-set-same, getD-set-other}
 use Rattle.model.specs.Task.{Rule, ruleOf}
 use Rattle.model.specs.Search.{bit}
 use Rattle.model.specs.Grants.{Claimant, claimants, left, grants, remaining}
+use Rattle.model.proofs.Lists.{getD-zeros}
+use Rattle.model.proofs.Digits.{Lowest, Turn, turn, bit-none}
 use Rattle.rule.specs.Cores.{cores}
 use Rattle.rule.specs.Shares.{SharedAs}
 use Rattle.rule.specs.declared.Share.{Share}
-use Rattle.rule.proofs.Lists.{getD-zeros}
 use Rattle.rule.proofs.Cores.{cores-none}
-use Rattle.rule.proofs.Digits.{Lowest, Turn, turn, bit-none}
 use Rattle.rule.proofs.Granting.{length-grants, length-claimants}
 use Rattle.rule.proofs.Choosing.{claimant, same-within, first-of, first-given, first-left, nobody-given, nobody-left}
 use Rattle.rule.proofs.grants.Statement.{statement}

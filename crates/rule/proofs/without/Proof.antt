@@ -6,10 +6,10 @@ use Prim.Native.Nat.{ℕ}
 use native.Mathlib.Omega.{arith}
 use lib.Bits.{bitAnd, bitXor}
 use Rattle.model.specs.Search.{bit, memb, upFrom}
+use Rattle.model.proofs.Digits.{without-bit}
 use Rattle.rule.specs.Cores.{kept, cores}
 use Rattle.rule.proofs.Ascending.{range-up, kept-kept, kept-same}
 use Rattle.rule.proofs.Cores.{cores-memb}
-use Rattle.rule.proofs.Digits.{without-bit}
 use Rattle.rule.proofs.without.Statement.{statement}
 use Rattle.rule.proofs.without.Tie as tie
 

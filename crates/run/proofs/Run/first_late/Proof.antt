@@ -6,8 +6,7 @@ use Prim.Native.Nat.{ℕ, _≤_, _<_, _-_}
 use native.Mathlib.Omega.{arith}
 use borrow.Author.Needs.{needs}
 use borrow.Author.Count.{below-more}
-use Rattle.model.proofs.Search.{none-any, least-none}
-use Rattle.table.proofs.Searches.{least-is}
+use Rattle.model.proofs.Search.{none-any, least-none, least-is}
 use Rattle.run.specs.Numbers.{lateAt, firstLateIn}
 use Rattle.run.proofs.Run.first_late.Statement.{statement}
 use Rattle.run.proofs.Run.first_late.Tie as tie

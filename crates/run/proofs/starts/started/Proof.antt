@@ -7,9 +7,9 @@ use native.Mathlib.Omega.{arith}
 use lib.ListN.{length, getD, take, drop, set, replicate, length-map, length-replicate}
 use lib.Seq.{length-take-le}
 use borrow.Author.Needs.{needs}
+use Rattle.model.proofs.Lists.{map-more}
 use Rattle.table.specs.declared.Task as table
 use Rattle.table.specs.Task.{taskOf, tasksOf, noTask}
-use Rattle.table.proofs.Lists.{map-more}
 use Rattle.run.specs.declared.Task.{Task}
 use Rattle.run.specs.declared.Run.{Run}
 use Rattle.run.specs.Run.{unused, pastEnd}

@@ -1,11 +1,11 @@
--- Lists that are made from a count: their lengths and elements.
+-- Lists that are made from a count or by a map: their lengths and elements.
 use mathlib.Core.Path.{_≡_, refl, sym, ap, _∙_}
 use mathlib.Core.List.{List, [], _∷_, _++_, map}
 use Prim.Native.Nat.{ℕ, zero, suc, _+_, _<_}
 use native.Mathlib.Omega.{arith}
 use native.Mathlib.Nat.{not-suc-le-zero, le-of-suc-le-suc, add-zero, add-suc, suc-add}
-use lib.ListN.{length, getD}
+use lib.ListN.{length, getD, replicate}
 use Rattle.model.specs.Search.{upFrom}
 
 pub up-length : (i n : ℕ) → length (upFrom i n) ≡ n
 unfolding upFrom
@@ -37,3 +37,9 @@ map-at f (x ∷ xs) (suc k) d e l = map-at f xs k d e (le-of-suc-le-suc l)
 pub map-map {ℓ κ μ} : {A : Type ℓ} {B : Type κ} {C : Type μ} (f : B → C) (g : A → B) (xs : List A) → map f (map g xs) ≡ map (λ x. f (g x)) xs
 map-map f g [] = refl
 map-map {C = C} f g (x ∷ xs) = ap {B = List C} (λ l. f (g x) ∷ l) (map-map f g xs)
+
+-- zeros everywhere, and past the end
+pub getD-zeros : (n i : ℕ) → _≡_ {A = ℕ} (getD (replicate n 0) i 0) 0
+getD-zeros zero i = refl
+getD-zeros (suc n) zero = refl
+getD-zeros (suc n) (suc i) = getD-zeros n i
