@@ -11,7 +11,7 @@ use lib.Seq.{drop-nil, take-nil}
 use borrow.Author.Tests.{le-leb, leb-false, leb-true, lt-leb}
 use Rattle.model.proofs.Bools.{and-left, and-right}
 use Rattle.model.proofs.Digits.{bit-none}
-use Rattle.model.specs.Grants.{Claimant, claimants, fits, given, grants, left, some}
+use Rattle.model.specs.Grants.{Claimant, claimants, endsChoosing, fits, given, grants, left, some}
 use Rattle.model.specs.Search.{bit}
 use Rattle.model.specs.Task.{Rule, greedy, limited}
 
@@ -125,7 +125,8 @@ above-first : (w : ℕ) (ws : List ℕ) → RisingList (w ∷ ws) → (p : ℕ) 
 above-first w ws h zero l = h 0 (omega arith)
 above-first w ws h (suc p) l = le-trans (above-first w ws h p (omega arith)) (h (suc p) (omega arith))
 
-given-nothing : (b : Claimant) → given b [] ≡ []
+-- of no free cores nothing is given, and nothing is left
+pub given-nothing : (b : Claimant) → given b [] ≡ []
 unfolding given
 given-nothing b = go (fits b [])
   where
@@ -133,9 +134,9 @@ given-nothing b = go (fits b [])
     go true = take-nil (b .width)
     go false = refl
 
-left-nothing : (b : Claimant) → left limited b [] ≡ []
+pub left-nothing : (r : Rule) (b : Claimant) → left r b [] ≡ []
 unfolding left
-left-nothing b = go (fits b []) (b .claims && true)
+left-nothing r b = go (fits b []) (b .claims && endsChoosing r)
   where
     go : (t u : Bool) → cond {A = List ℕ} t (drop (b .width) []) (cond u [] []) ≡ []
     go true u = drop-nil (b .width)
@@ -152,7 +153,7 @@ none-fits [] c F h = refl
 none-fits (w ∷ ws) c F h =
     rw (
       given-nothing (claimant (c 0) w),
-      left-nothing (claimant (c 0) w),
+      left-nothing limited (claimant (c 0) w),
       given-off (c 0),
       left-off (c 0),
       none-fits ws (λ p. c (suc p)) F (λ p l. h (suc p) (omega arith)),

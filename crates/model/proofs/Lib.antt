@@ -8,6 +8,7 @@ pub mod Grants
 pub mod Rows
 pub mod Runs
 pub mod FullLength
+pub mod Multiples
 pub mod Starts
 pub mod Horizon
 pub mod Sustain

@@ -1,17 +1,13 @@
 -- S and P: each S is a release, the S never fall, and P is the least common multiple of the periods.
-use mathlib.Core.Bool.{Bool, true, true≢false}
 use mathlib.Core.List.{List, [], _∷_}
 use mathlib.Core.Logic.{⊎-elim}
-use mathlib.Core.Path.{ap, refl, subst, sym, _∙_, _≡_}
-use Prim.Native.Nat.{_%_, _*_, _+_, _-_, _/_, _<_, pred, suc, suc-le-suc, zero, ℕ, _≤_}
-use native.Mathlib.Nat.{div-add-mod', div-lt-iff-lt-mul, dvd-of-mod-eq-zero, eq-or-lt-of-le, eq-zero-or-pos, le-of-dvd, le-of-eq, le-of-suc-le-suc, le-trans, mod-lt, mod-mod-of-dvd, mod-one, mul-assoc, mul-le-mul-right, mul-mod-left, mul-mod-right, not-suc-le-zero, suc-pred-eq-of-pos}
+use mathlib.Core.Path.{ap, refl, subst⁻¹, sym, _∙_, _≡_}
+use Prim.Native.Nat.{_*_, _+_, _-_, _/_, _<_, suc, zero, ℕ, _≤_, _∣_}
+use native.Mathlib.Nat.{div-add-mod', div-mul-cancel, dvd-mul-left, dvd-trans, one-dvd, div-lt-iff-lt-mul, eq-or-lt-of-le, le-of-dvd, le-of-eq, le-of-suc-le-suc, le-trans, mod-lt, mul-le-mul-right, not-suc-le-zero}
 use native.Mathlib.Omega.{arith}
-use lib.Dec.{eqb}
-use lib.ListN.{getD, length}
-use borrow.Author.Tests.{eq-eqb, eqb-true}
-use Rattle.model.proofs.Search.{any-of, least-any, least-lowest}
+use lib.ListN.{getD, length, take}
+use Rattle.model.proofs.Multiples.{lcm-assoc, lcm-comm, lcm-divides, lcm-left, lcm-pos, lcm-right}
 use Rattle.model.specs.Horizon.{S, hyperperiod, lastS, lcm, releaseFrom}
-use Rattle.model.specs.Search.{least}
 use Rattle.model.specs.Task.{Task, nobody, release}
 
 -- every period is positive
@@ -52,68 +48,28 @@ S-release τs zero = (0, omega arith)
 S-release τs (suc p) =
     ((S τs p - getD τs (suc p) nobody .offset + (getD τs (suc p) nobody .period - 1)) / getD τs (suc p) nobody .period, refl)
 
--- both numbers divide their least common multiple
-pub lcm-left : (a b : ℕ) → 0 < a → (m : ℕ) × (lcm a b ≡ m * a)
-unfolding lcm
-lcm-left a b h =
-    let f : ℕ → Bool = λ k. eqb (suc k * b % a) 0 in
-    let last : f (pred a) ≡ true = eq-eqb (suc (pred a) * b % a) 0 (rw (suc-pred-eq-of-pos h) (mul-mod-right a b)) in
-    let found : suc (least a f) * b % a ≡ 0 = eqb-true (suc (least a f) * b % a) 0 (least-any a f (any-of a f (pred a) (omega arith) last)) in
-    (suc (least a f) * b / a, sym (div-add-mod' (suc (least a f) * b) a) ∙ omega arith)
+pub hyperperiod-pos : (τs : List Task) → 0 < hyperperiod τs
+unfolding hyperperiod
+hyperperiod-pos [] = omega arith
+hyperperiod-pos (τ ∷ τs) = lcm-pos (τ .period) (hyperperiod τs) (hyperperiod-pos τs)
 
-pub lcm-right : (a b : ℕ) → (m : ℕ) × (lcm a b ≡ m * b)
-unfolding lcm
-lcm-right a b = (suc (least a (λ k. eqb (suc k * b % a) 0)), refl)
+-- every period divides P
+pub period-divides : (τs : List Task) (p : ℕ) → Periods τs → p < length τs → getD τs p nobody .period ∣ hyperperiod τs
+unfolding hyperperiod
+period-divides [] p h l = absurd (not-suc-le-zero l)
+period-divides (τ ∷ τs) zero h l = lcm-left (τ .period) (hyperperiod τs) (h 0 (omega arith))
+period-divides (τ ∷ τs) (suc p) h l =
+    dvd-trans (getD τs p nobody .period) (period-divides τs p (λ p l. h (suc p) (omega arith)) (omega arith)) (lcm-right (τ .period) (hyperperiod τs))
 
 pub hyperperiod-divides : (τs : List Task) (p : ℕ) → Periods τs → p < length τs → (m : ℕ) × (hyperperiod τs ≡ m * getD τs p nobody .period)
-unfolding hyperperiod
-hyperperiod-divides [] p h l = absurd (not-suc-le-zero l)
-hyperperiod-divides (τ ∷ τs) zero h l = lcm-left (τ .period) (hyperperiod τs) (h 0 (omega arith))
-hyperperiod-divides (τ ∷ τs) (suc p) h l =
-    let x = hyperperiod-divides τs p (λ p l. h (suc p) (omega arith)) (omega arith) in
-    let y = lcm-right (τ .period) (hyperperiod τs) in
-    (y .0 * x .0, y .1 ∙ (ap (λ (v : ℕ). y .0 * v) (x .1) ∙ sym (mul-assoc (y .0) (x .0) (getD τs p nobody .period))))
-
-pub hyperperiod-pos : (τs : List Task) → 0 < hyperperiod τs
-unfolding hyperperiod lcm
-hyperperiod-pos [] = omega arith
-hyperperiod-pos (τ ∷ τs) = omega (arith, hyperperiod-pos τs)
-
--- no smaller positive number is a multiple of both
-pub lcm-least : (a b n : ℕ) → 0 < n → n % a ≡ 0 → n % b ≡ 0 → lcm a b ≤ n
-unfolding lcm
-lcm-least a b n h d e = go (n / b) (sym (div-add-mod' n b) ∙ omega arith)
-  where
-    f : ℕ → Bool
-    f k = eqb (suc k * b % a) 0
-
-    go : (j : ℕ) → n ≡ j * b → suc (least a f) * b ≤ n
-    go zero q = omega arith
-    go (suc j) q =
-        let hit : f j ≡ true = eq-eqb (suc j * b % a) 0 (subst (λ (x : ℕ). x % a ≡ 0) q d) in
-        let early : ¬ (j < least a f) = λ l. true≢false (sym hit ∙ least-lowest a f j l) in
-        le-trans (mul-le-mul-right b (suc-le-suc (omega (arith, early)))) (le-of-eq (sym q))
-
--- so every common multiple is a multiple of it
-pub lcm-divides : (a b n : ℕ) → 0 < a → 0 < b → n % a ≡ 0 → n % b ≡ 0 → n % lcm a b ≡ 0
-lcm-divides a b n h k d e = ⊎-elim (λ q. q) (λ q. absurd (short q)) (eq-zero-or-pos (n % lcm a b))
-  where
-    pos : 0 < lcm a b
-    pos = unfold lcm in omega arith
-
-    rest-a : n % lcm a b % a ≡ 0
-    rest-a = mod-mod-of-dvd a n (dvd-of-mod-eq-zero a (subst (λ (x : ℕ). x % a ≡ 0) (sym (lcm-left a b h .1)) (mul-mod-left (lcm-left a b h .0) a))) ∙ d
-
-    rest-b : n % lcm a b % b ≡ 0
-    rest-b = mod-mod-of-dvd b n (dvd-of-mod-eq-zero b (subst (λ (x : ℕ). x % b ≡ 0) (sym (lcm-right a b .1)) (mul-mod-left (lcm-right a b .0) b))) ∙ e
-
-    short : 0 < n % lcm a b → ⊥
-    short q = omega (arith, lcm-least a b (n % lcm a b) q rest-a rest-b, mod-lt n pos)
+hyperperiod-divides τs p h l =
+    let T : ℕ = getD τs p nobody .period in
+    (hyperperiod τs / T, sym (div-mul-cancel T (period-divides τs p h l)))
 
 -- P divides every common multiple of the periods
-pub hyperperiod-common : (τs : List Task) → Periods τs → (n : ℕ) → ((p : ℕ) → p < length τs → n % getD τs p nobody .period ≡ 0) → n % hyperperiod τs ≡ 0
+pub hyperperiod-common : (τs : List Task) → Periods τs → (n : ℕ) → ((p : ℕ) → p < length τs → getD τs p nobody .period ∣ n) → hyperperiod τs ∣ n
 unfolding hyperperiod
-hyperperiod-common [] h n d = mod-one n
+hyperperiod-common [] h n d = one-dvd n
 hyperperiod-common (τ ∷ τs) h n d =
     lcm-divides (τ .period) (hyperperiod τs) n (h 0 (omega arith)) (hyperperiod-pos τs) (d 0 (omega arith))
     (hyperperiod-common τs (λ p l. h (suc p) (omega arith)) n (λ p l. d (suc p) (omega arith)))
@@ -123,5 +79,27 @@ pub hyperperiod-least :
     → hyperperiod τs ≤ n
 hyperperiod-least τs h n pos d =
     le-of-dvd pos
-    (dvd-of-mod-eq-zero (hyperperiod τs)
-    (hyperperiod-common τs h n (λ p l. ap (λ (x : ℕ). x % getD τs p nobody .period) (d p l .1) ∙ mul-mod-left (d p l .0) (getD τs p nobody .period))))
+    (hyperperiod-common τs h n
+    (λ p l. subst⁻¹ (λ (x : ℕ). getD τs p nobody .period ∣ x) (d p l .1) (dvd-mul-left (getD τs p nobody .period) (d p l .0))))
+
+-- one more task: the least common multiple with its period
+pub hyperperiod-more :
+    (τs : List Task) (i : ℕ) → Periods τs → i < length τs
+    → hyperperiod (take (suc i) τs) ≡ lcm (hyperperiod (take i τs)) (getD τs i nobody .period)
+unfolding hyperperiod
+hyperperiod-more [] i h l = absurd (not-suc-le-zero l)
+hyperperiod-more (τ ∷ τs) zero h l = lcm-comm (τ .period) 1 (h 0 l) (omega arith)
+hyperperiod-more (τ ∷ τs) (suc i) h l =
+    ap (lcm (τ .period)) (hyperperiod-more τs i (λ p q. h (suc p) (omega arith)) (omega arith))
+    ∙ lcm-assoc (τ .period) (hyperperiod (take i τs)) (getD τs i nobody .period) (h 0 (omega arith)) (hyperperiod-pos (take i τs)) (h (suc i) l)
+
+-- fewer tasks: a divisor
+pub hyperperiod-fewer : (τs : List Task) (i : ℕ) → Periods τs → hyperperiod (take i τs) ∣ hyperperiod τs
+unfolding hyperperiod
+hyperperiod-fewer τs zero h = one-dvd (hyperperiod τs)
+hyperperiod-fewer [] (suc i) h = one-dvd 1
+hyperperiod-fewer (τ ∷ τs) (suc i) h =
+    let pos : 0 < τ .period = h 0 (omega arith) in
+    lcm-divides (τ .period) (hyperperiod (take i τs)) (lcm (τ .period) (hyperperiod τs)) pos (hyperperiod-pos (take i τs))
+    (lcm-left (τ .period) (hyperperiod τs) pos)
+    (dvd-trans (hyperperiod (take i τs)) (hyperperiod-fewer τs i (λ p q. h (suc p) (omega arith))) (lcm-right (τ .period) (hyperperiod τs)))

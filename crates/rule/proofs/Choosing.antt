@@ -11,8 +11,9 @@ use Rattle.model.specs.Task.{Rule}
 use Rattle.model.specs.Grants.{Claimant, claimants, endsChoosing, given, left, grants, remaining, some}
 use Rattle.model.specs.Search.{bit, upFrom}
 use Rattle.model.proofs.Bools.{and-left}
+use Rattle.model.proofs.Grants.{claimant, claimants-same, grants-none, grants-nobody}
 use Rattle.model.proofs.Lists.{up-length}
-use Rattle.model.proofs.Digits.{Lowest, bit-none}
+use Rattle.model.proofs.Digits.{Lowest}
 use Rattle.rule.specs.Shares.{granted}
 use Rattle.rule.proofs.Granting.{unclaimed, fitting, ended, passed, none-granted, some-take, some-given, same-places, same-either}
 
@@ -35,119 +36,97 @@ first-later {c} {d} {q} f = record {
 pub first-of : {x q : ℕ} → Lowest x q → First (bit x) (bit (x - 2 ^ q)) q
 first-of l = record { here = l .here; below = l .below; gone = l .gone; others = l .others }
 
--- a task of width w, and whether it claims
-abbrev pub claimant : ℕ → Bool → Claimant
-claimant w t = record { claims = t; width = w }
-
 -- the claims of the places below the first
 abbrev lower : (ℕ → Bool) → ℕ → Bool
 lower c i = c (suc i)
-
--- equal claims, equal claimants
-pub same-claimants : (ws : List ℕ) (c d : ℕ → Bool) → ((i : ℕ) → c i ≡ d i) → claimants ws c ≡ claimants ws d
-same-claimants ws c d h = λ k. claimants ws (λ i. h i k)
-
--- claims that agree on the places of the widths
-pub same-within : (ws : List ℕ) (c d : ℕ → Bool) → ((i : ℕ) → i < length ws → c i ≡ d i) → claimants ws c ≡ claimants ws d
-unfolding claimants
-same-within [] c d h = refl
-same-within (w ∷ ws) c d h =
-    ap₂ (λ (t : Bool) (bs : List Claimant). claimant w t ∷ bs) (h 0 (omega arith)) (same-within ws (lower c) (lower d) (λ i k. h (suc i) (omega arith)))
 
 module _ (r : Rule) where
   -- what place p is given
   abbrev share : List Claimant → List ℕ → ℕ → List ℕ
   share bs free p = getD (grants r bs free) p []
 
-  -- no one claims: no one is given cores, and all are left
-  pub nobody-given : (ws : List ℕ) (c : ℕ → Bool) (free : List ℕ) (p : ℕ) → ((i : ℕ) → c i ≡ false) → getD (grants r (claimants ws c) free) p [] ≡ []
-  unfolding grants claimants
-  nobody-given [] c free p h = refl
-  nobody-given (w ∷ ws) c free zero h = unclaimed r (claimant w (c 0)) free (h 0) .0
-  nobody-given (w ∷ ws) c free (suc p) h =
-      ap (λ (l : List ℕ). share (claimants ws (lower c)) l p) (unclaimed r (claimant w (c 0)) free (h 0) .1) ∙ nobody-given ws (lower c) free p (λ i. h (suc i))
-
+  -- no one claims: all are left
   pub nobody-left : (ws : List ℕ) (c : ℕ → Bool) (free : List ℕ) → ((i : ℕ) → c i ≡ false) → remaining r (claimants ws c) free ≡ free
   unfolding remaining claimants
   nobody-left [] c free h = refl
   nobody-left (w ∷ ws) c free h =
-      ap (remaining r (claimants ws (lower c))) (unclaimed r (claimant w (c 0)) free (h 0) .1) ∙ nobody-left ws (lower c) free (λ i. h (suc i))
+      ap (remaining r (claimants ws (lower c))) (unclaimed r (claimant (c 0) w) free (h 0) .1) ∙ nobody-left ws (lower c) free (λ i. h (suc i))
 
   -- the highest place does not claim
   module _ (w : ℕ) (ws : List ℕ) (c : ℕ → Bool) (free : List ℕ) (h : c 0 ≡ false) where
     idle-zero : share (claimants (w ∷ ws) c) free 0 ≡ []
     unfolding grants claimants
-    idle-zero = unclaimed r (claimant w (c 0)) free h .0
+    idle-zero = unclaimed r (claimant (c 0) w) free h .0
 
     idle-suc : (p : ℕ) → share (claimants (w ∷ ws) c) free (suc p) ≡ share (claimants ws (lower c)) free p
     unfolding grants claimants
-    idle-suc p = ap (λ (l : List ℕ). share (claimants ws (lower c)) l p) (unclaimed r (claimant w (c 0)) free h .1)
+    idle-suc p = ap (λ (l : List ℕ). share (claimants ws (lower c)) l p) (unclaimed r (claimant (c 0) w) free h .1)
 
     idle-left : remaining r (claimants (w ∷ ws) c) free ≡ remaining r (claimants ws (lower c)) free
     unfolding remaining claimants
-    idle-left = ap (remaining r (claimants ws (lower c))) (unclaimed r (claimant w (c 0)) free h .1)
+    idle-left = ap (remaining r (claimants ws (lower c))) (unclaimed r (claimant (c 0) w) free h .1)
 
   -- a task of no width is given nothing, and leaves all
-  no-width : (free : List ℕ) → (given (claimant 0 true) free ≡ []) × (left r (claimant 0 true) free ≡ free)
-  no-width free = fitting r (claimant 0 true) free refl (le-leb 0 (length free) (omega arith))
+  no-width : (free : List ℕ) → (given (claimant true 0) free ≡ []) × (left r (claimant true 0) free ≡ free)
+  no-width free = fitting r (claimant true 0) free refl (le-leb 0 (length free) (omega arith))
 
   -- the first claimant is served, and the others of what it leaves
   pub first-given : (q : ℕ) (ws : List ℕ) (c d : ℕ → Bool) (free : List ℕ) (p : ℕ) → First c d q
       → getD (grants r (claimants ws c) free) p []
-      ≡ cond (eqb p q) (given (claimant (getD ws q 0) true) free) [] ++ getD (grants r (claimants ws d) (left r (claimant (getD ws q 0) true) free)) p []
+      ≡ cond (eqb p q) (given (claimant true (getD ws q 0)) free) [] ++ getD (grants r (claimants ws d) (left r (claimant true (getD ws q 0)) free)) p []
   unfolding grants claimants
   first-given q [] c d free p f = sym (append-nil _ ∙ ap (λ (l : List ℕ). cond (eqb p q) l []) (no-width free .0) ∙ same-either (eqb p q) [])
   first-given zero (w ∷ ws) c d free zero f =
-      ap (λ (t : Bool). given (claimant w t) free) (f .here)
-      ∙ sym (append-nil (given (claimant w true) free))
-      ∙ ap (λ (l : List ℕ). given (claimant w true) free ++ l) (sym (idle-zero w ws d (left r (claimant w true) free) (f .gone)))
+      ap (λ (t : Bool). given (claimant t w) free) (f .here)
+      ∙ sym (append-nil (given (claimant true w) free))
+      ∙ ap (λ (l : List ℕ). given (claimant true w) free ++ l) (sym (idle-zero w ws d (left r (claimant true w) free) (f .gone)))
   first-given zero (w ∷ ws) c d free (suc p) f =
-      ap (λ (t : Bool). share (claimants ws (lower c)) (left r (claimant w t) free) p) (f .here)
-      ∙ ap (λ (bs : List Claimant). share bs (left r (claimant w true) free) p) (same-claimants ws (lower c) (lower d) (λ i. sym (f .others (suc i) (λ e. omega arith))))
-      ∙ sym (idle-suc w ws d (left r (claimant w true) free) (f .gone) p)
-      ∙ ap (λ (t : Bool). cond t (given (claimant w true) free) [] ++ share (claimants (w ∷ ws) d) (left r (claimant w true) free) (suc p)) (sym (eqb·suc-zero p))
+      ap (λ (t : Bool). share (claimants ws (lower c)) (left r (claimant t w) free) p) (f .here)
+      ∙ ap (λ (bs : List Claimant). share bs (left r (claimant true w) free) p) (claimants-same ws (lower c) (lower d) (λ i k. sym (f .others (suc i) (λ e. omega arith))))
+      ∙ sym (idle-suc w ws d (left r (claimant true w) free) (f .gone) p)
+      ∙ ap (λ (t : Bool). cond t (given (claimant true w) free) [] ++ share (claimants (w ∷ ws) d) (left r (claimant true w) free) (suc p)) (sym (eqb·suc-zero p))
   first-given (suc q) (w ∷ ws) c d free zero f =
       let o = f .below 0 (omega arith) in
-      let b = claimant (getD ws q 0) true in
+      let b = claimant true (getD ws q 0) in
       idle-zero w ws c free o
       ∙ sym (idle-zero w ws d (left r b free) (f .others 0 (λ e. omega arith) ∙ o))
       ∙ ap (λ (t : Bool). cond t (given b free) [] ++ share (claimants (w ∷ ws) d) (left r b free) 0) (sym (eqb·zero-suc q))
   first-given (suc q) (w ∷ ws) c d free (suc p) f =
       let o = f .below 0 (omega arith) in
-      let b = claimant (getD ws q 0) true in
+      let b = claimant true (getD ws q 0) in
       idle-suc w ws c free o p
       ∙ first-given q ws (lower c) (lower d) free p (first-later f)
       ∙ ap (λ (l : List ℕ). cond (eqb p q) (given b free) [] ++ l) (sym (idle-suc w ws d (left r b free) (f .others 0 (λ e. omega arith) ∙ o) p))
       ∙ ap (λ (t : Bool). cond t (given b free) [] ++ share (claimants (w ∷ ws) d) (left r b free) (suc p)) (sym (eqb·suc-suc p q))
 
   pub first-left : (q : ℕ) (ws : List ℕ) (c d : ℕ → Bool) (free : List ℕ) → First c d q
-      → remaining r (claimants ws c) free ≡ remaining r (claimants ws d) (left r (claimant (getD ws q 0) true) free)
+      → remaining r (claimants ws c) free ≡ remaining r (claimants ws d) (left r (claimant true (getD ws q 0)) free)
   unfolding remaining claimants
   first-left q [] c d free f = sym (no-width free .1)
   first-left zero (w ∷ ws) c d free f =
-      ap (λ (t : Bool). remaining r (claimants ws (lower c)) (left r (claimant w t) free)) (f .here)
-      ∙ ap (λ (bs : List Claimant). remaining r bs (left r (claimant w true) free)) (same-claimants ws (lower c) (lower d) (λ i. sym (f .others (suc i) (λ e. omega arith))))
-      ∙ sym (idle-left w ws d (left r (claimant w true) free) (f .gone))
+      ap (λ (t : Bool). remaining r (claimants ws (lower c)) (left r (claimant t w) free)) (f .here)
+      ∙ ap (λ (bs : List Claimant). remaining r bs (left r (claimant true w) free)) (claimants-same ws (lower c) (lower d) (λ i k. sym (f .others (suc i) (λ e. omega arith))))
+      ∙ sym (idle-left w ws d (left r (claimant true w) free) (f .gone))
   first-left (suc q) (w ∷ ws) c d free f =
       let o = f .below 0 (omega arith) in
-      let b = claimant (getD ws q 0) true in
+      let b = claimant true (getD ws q 0) in
       idle-left w ws c free o ∙ first-left q ws (lower c) (lower d) free (first-later f) ∙ sym (idle-left w ws d (left r b free) (f .others 0 (λ e. omega arith) ∙ o))
 
   -- places that do not claim may be left out at the end
   pub only-first : (n : ℕ) (ws : List ℕ) (c : ℕ → Bool) (free : List ℕ) (p : ℕ) → ((i : ℕ) → n ≤ i → c i ≡ false)
       → getD (grants r (claimants ws c) free) p [] ≡ getD (grants r (claimants (take n ws) c) free) p []
   unfolding grants claimants
-  only-first zero ws c free p h = nobody-given ws c free p (λ i. h i (omega arith))
+  only-first zero ws c free p h = grants-none r ws c free p (h p (omega arith))
   only-first (suc n) [] c free p h = refl
   only-first (suc n) (w ∷ ws) c free zero h = refl
-  only-first (suc n) (w ∷ ws) c free (suc p) h = only-first n ws (lower c) (left r (claimant w (c 0)) free) p (λ i k. h (suc i) (omega arith))
+  only-first (suc n) (w ∷ ws) c free (suc p) h = only-first n ws (lower c) (left r (claimant (c 0) w) free) p (λ i k. h (suc i) (omega arith))
 
   -- who is given cores claims
   pub granted-claims : (ws : List ℕ) (c : ℕ → Bool) (free : List ℕ) (p : ℕ) → granted r (claimants ws c) free p ≡ true → (p < length ws) × (c p ≡ true)
   unfolding grants claimants
   granted-claims [] c free p h = absurd (false≢true h)
-  granted-claims (w ∷ ws) c free zero h = (omega arith, and-left (c 0) (leb w (length free)) (and-left (c 0 && leb w (length free)) (ltb 0 w) (sym (some-given (claimant w (c 0)) free) ∙ h)))
-  granted-claims (w ∷ ws) c free (suc p) h = let g = granted-claims ws (lower c) (left r (claimant w (c 0)) free) p h in (omega arith, g .1)
+  granted-claims (w ∷ ws) c free zero h = (omega arith, and-left (c 0) (leb w (length free)) (and-left (c 0 && leb w (length free)) (ltb 0 w) (sym (some-given (claimant (c 0) w) free) ∙ h)))
+  granted-claims (w ∷ ws) c free (suc p) h = let g = granted-claims ws (lower c) (left r (claimant (c 0) w) free) p h in (omega arith, g .1)
 
 -- ---- on a plain count of free cores, the claimants being the places of a set
 
@@ -160,7 +139,7 @@ pub places-on : (r : Rule) (ws : List ℕ) (x p : ℕ) (free : List ℕ) → pla
 places-on r ws x p free = same-places r (claimants ws (bit x)) (upFrom 0 (length free)) free (up-length 0 (length free)) p
 
 pub places-none : (r : Rule) (ws : List ℕ) (n p : ℕ) → places r ws 0 n p ≡ false
-places-none r ws n p = ap some (nobody-given r ws (bit 0) (upFrom 0 n) p bit-none)
+places-none r ws n p = grants-nobody r ws (upFrom 0 n) p
 
 some-append : (a b : List ℕ) → some (a ++ b) ≡ some a || some b
 some-append [] b = refl
@@ -173,7 +152,7 @@ some-cond false a = refl
 -- the first claimant is the lowest digit q of the set
 module _ (r : Rule) (ws : List ℕ) (x q n p : ℕ) (l : Lowest x q) where
   abbrev b : Claimant
-  b = claimant (getD ws q 0) true
+  b = claimant true (getD ws q 0)
 
   first-granted : places r ws x n p ≡ (eqb p q && some (given b (upFrom 0 n))) || granted r (claimants ws (bit (x - 2 ^ q))) (left r b (upFrom 0 n)) p
   first-granted =

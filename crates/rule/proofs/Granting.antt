@@ -1,5 +1,5 @@
 -- Laws of the model's choosing: the cases of one claimant; who is given cores depends on the number of free cores alone;
--- what stands below changes nothing above; no core is given twice; each is given its width or nothing.
+-- no core is given twice; each is given its width or nothing.
 use mathlib.Core.Path.{_≡_, refl, sym, ap, _∙_}
 use mathlib.Core.Logic.{_⊎_, inl, inr}
 use mathlib.Core.Bool.{Bool, true, false, _&&_, cond}
@@ -7,12 +7,13 @@ use mathlib.Core.List.{List, [], _∷_}
 use Prim.Native.Nat.{ℕ, zero, suc, _≤_, _<_}
 use native.Mathlib.Omega.{arith}
 use lib.ListN.{length, take, drop, getD, length-drop}
-use lib.Seq.{take-nil, drop-nil, length-take-le}
+use lib.Seq.{length-take-le}
 use lib.Dec.{leb, ltb}
 use borrow.Author.Tests.{leb-true, lt-ltb}
 use Rattle.model.specs.Task.{Rule}
-use Rattle.model.specs.Grants.{Claimant, claimants, fits, endsChoosing, given, left, grants, some}
+use Rattle.model.specs.Grants.{Claimant, fits, endsChoosing, given, left, grants, some}
 use Rattle.model.proofs.Bools.{and-right}
+use Rattle.model.proofs.Grants.{given-nothing, left-nothing}
 use Rattle.rule.specs.Shares.{granted}
 use Rattle.rule.proofs.Ascending.{Range, range-drop, In, not-in-none, in-take, in-drop, split-apart}
 
@@ -45,21 +46,11 @@ pub same-either : (t : Bool) (l : List ℕ) → cond t l l ≡ l
 same-either true l = refl
 same-either false l = refl
 
-none-given : (b : Claimant) → given b [] ≡ []
-unfolding given
-none-given b = ap (λ (l : List ℕ). cond (fits b []) l []) (take-nil (b .width)) ∙ same-either (fits b []) []
-
-none-left : (r : Rule) (b : Claimant) → left r b [] ≡ []
-unfolding left
-none-left r b =
-    ap (λ (l : List ℕ). cond (fits b []) l (cond (b .claims && endsChoosing r) [] [])) (drop-nil (b .width))
-    ∙ ap (λ (l : List ℕ). cond (fits b []) [] l) (same-either (b .claims && endsChoosing r) []) ∙ same-either (fits b []) []
-
 pub none-granted : (r : Rule) (bs : List Claimant) (p : ℕ) → granted r bs [] p ≡ false
 unfolding grants
 none-granted r [] p = refl
-none-granted r (b ∷ bs) zero = ap some (none-given b)
-none-granted r (b ∷ bs) (suc p) = ap (λ (l : List ℕ). granted r bs l p) (none-left r b) ∙ none-granted r bs p
+none-granted r (b ∷ bs) zero = ap some (given-nothing b)
+none-granted r (b ∷ bs) (suc p) = ap (λ (l : List ℕ). granted r bs l p) (left-nothing r b) ∙ none-granted r bs p
 
 -- ---- who is given cores depends on the number of free cores alone
 
@@ -96,35 +87,6 @@ unfolding grants
 same-places r [] free other e p = refl
 same-places r (b ∷ bs) free other e zero = same-some r b free other e
 same-places r (b ∷ bs) free other e (suc p) = same-places r bs (left r b free) (left r b other) (same-left r b free other e) p
-
--- ---- as many shares as claimants
-
-pub length-grants : (r : Rule) (bs : List Claimant) (free : List ℕ) → length (grants r bs free) ≡ length bs
-unfolding grants
-length-grants r [] free = refl
-length-grants r (b ∷ bs) free = ap suc (length-grants r bs (left r b free))
-
-pub length-claimants : (ws : List ℕ) (c : ℕ → Bool) → length (claimants ws c) ≡ length ws
-unfolding claimants
-length-claimants [] c = refl
-length-claimants (w ∷ ws) c = ap suc (length-claimants ws (λ i. c (suc i)))
-
--- ---- what stands below a place changes nothing above it
-
-pub above : (r : Rule) (n : ℕ) (bs : List Claimant) (free : List ℕ) → take n (grants r bs free) ≡ grants r (take n bs) free
-unfolding grants
-above r zero bs free = refl
-above r (suc n) [] free = refl
-above r (suc n) (b ∷ bs) free = ap (λ (l : List (List ℕ)). given b free ∷ l) (above r n bs (left r b free))
-
-pub same-above : (r : Rule) (n : ℕ) (bs ds : List Claimant) (free : List ℕ) → take n bs ≡ take n ds → take n (grants r bs free) ≡ take n (grants r ds free)
-same-above r n bs ds free e = above r n bs free ∙ ap (λ (l : List Claimant). grants r l free) e ∙ sym (above r n ds free)
-
-pub take-claimants : (n : ℕ) (ws : List ℕ) (c : ℕ → Bool) → take n (claimants ws c) ≡ claimants (take n ws) c
-unfolding claimants
-take-claimants zero ws c = refl
-take-claimants (suc n) [] c = refl
-take-claimants (suc n) (w ∷ ws) c = ap (λ (l : List Claimant). record { claims = c 0; width = w } ∷ l) (take-claimants n ws (λ i. c (suc i)))
 
 -- ---- each is given as many cores as its width, or none
 

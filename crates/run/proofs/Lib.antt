@@ -24,3 +24,5 @@ pub mod Rules
 pub mod RunOut
 pub mod Shown
 pub mod Written
+pub mod Listed
+pub mod Outcomes

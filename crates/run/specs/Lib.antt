@@ -11,3 +11,5 @@ pub mod Demand
 pub mod Past
 pub mod Claims
 pub mod Room
+pub mod Replay
+pub mod Small

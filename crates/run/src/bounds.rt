@@ -6,7 +6,6 @@ ghost use Rattle.table.specs.Limits.{from, coresOut, ruleOut, taskOut};
 ghost use Rattle.run.specs.Phase.{phaseIn, lateIn};
 ghost use Rattle.run.specs.Run.{taskOf};
 ghost use Rattle.run.specs.Numbers.{runOut, firstLateIn};
-
 use crate::Phase;
 use crate::Run;
 use crate::Task;

@@ -5,7 +5,6 @@ ghost use Rattle.run.specs.Claims.{ClaimsOf};
 ghost use mathlib.Core.Bool.{false};
 ghost use Rattle.run.specs.Numbers.{runOut};
 ghost use Rattle.run.specs.Row.{bytesIn};
-
 use crate::Phase;
 use crate::Run;
 use crate::sets;

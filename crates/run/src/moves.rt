@@ -7,7 +7,6 @@ ghost use Rattle.run.specs.Phase.{resting, holding, ended, worked};
 ghost use Rattle.run.specs.Room.{Roomy};
 ghost use Rattle.run.specs.Run.{taskOf, nextTask, hasCores, moved};
 ghost use Rattle.run.specs.Numbers.{runOut};
-
 use crate::Phase;
 use crate::Run;
 use crate::Task;
@@ -40,7 +39,11 @@ impl Task {
     fn ended(self, rule: u32, z: u32, u: u32) -> Phase
         ensures { λ r. ⌜ r ≡ ended (ruleOf rule) (taskOf self) z u ⌝ }
     {
-        if rule == 3 { self.held(z, u) } else { self.rested(z) }
+        if rule == 3 {
+            self.held(z, u)
+        } else {
+            self.rested(z)
+        }
     }
 
     // The phase after a tick of work.
@@ -63,13 +66,25 @@ impl Task {
         let new = match old {
             Phase::Coming(left) => {
                 let still = left - 1;
-                if still == 0 { Phase::Working(0, 0) } else { Phase::Coming(still) }
+                if still == 0 {
+                    Phase::Working(0, 0)
+                } else {
+                    Phase::Coming(still)
+                }
             }
             Phase::Working(z, u) => {
-                if ran { self.worked(rule, reported, z + 1, u + 1) } else { Phase::Working(z + 1, u) }
+                if ran {
+                    self.worked(rule, reported, z + 1, u + 1)
+                } else {
+                    Phase::Working(z + 1, u)
+                }
             }
             Phase::Holding(z, u) => {
-                if ran { self.held(z + 1, u + 1) } else { self.held(z + 1, u) }
+                if ran {
+                    self.held(z + 1, u + 1)
+                } else {
+                    self.held(z + 1, u)
+                }
             }
             Phase::Resting(z) => self.rested(z + 1),
         };

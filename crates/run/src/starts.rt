@@ -9,7 +9,6 @@ ghost use Rattle.table.specs.Task as table;
 ghost use Rattle.run.specs.Phase.{startPhase};
 ghost use Rattle.run.specs.Run.{unused};
 ghost use Rattle.run.specs.Start.{startTask, startedRun, emptyRun};
-
 use crate::Answer;
 use crate::Phase;
 use crate::Run;
@@ -48,7 +47,11 @@ fn empty() -> Run
 fn start_phase(offset: u32) -> Phase
     ensures { λ r. ⌜ r ≡ startPhase offset ⌝ }
 {
-    if offset == 0 { Phase::Working(0, 0) } else { Phase::Coming(offset) }
+    if offset == 0 {
+        Phase::Working(0, 0)
+    } else {
+        Phase::Coming(offset)
+    }
 }
 
 // A task of the table as it starts.

@@ -1,8 +1,8 @@
--- P, the hyperperiod: one more task, fewer tasks, the tasks that code keeps, and the limit on the horizon.
+-- P, the hyperperiod, of the tasks that code keeps: one more task, all the tasks, and the limit on the horizon.
 use mathlib.Core.Path.{_≡_, sym, ap, _∙_, subst⁻¹}
-use mathlib.Core.List.{List, [], _∷_}
-use Prim.Native.Nat.{ℕ, zero, suc, _+_, _*_, _/_, min, _≤_, _<_, _∣_}
-use native.Mathlib.Nat.{dvd-trans, one-dvd, le-of-dvd, le-of-eq, not-suc-le-zero}
+use mathlib.Core.List.{List}
+use Prim.Native.Nat.{ℕ, suc, _+_, _*_, _/_, min, _≤_, _<_}
+use native.Mathlib.Nat.{le-of-dvd, le-of-eq}
 use native.Mathlib.Numerals.{add-one}
 use native.Mathlib.Omega.{arith}
 use lib.ListN.{length, getD, take}
@@ -13,42 +13,12 @@ use Rattle.model.specs.Task as model
 use Rattle.model.specs.Task.{nobody}
 use Rattle.model.specs.Horizon.{lcm, hyperperiod}
 use Rattle.model.proofs.Bools.{same-test}
+use Rattle.model.proofs.Starts.{Periods, hyperperiod-pos, hyperperiod-more, hyperperiod-fewer}
 use Rattle.table.specs.declared.Task.{Task}
 use Rattle.table.specs.Task.{tasksOf, noTask, InLimits}
 use Rattle.table.specs.Gcd.{Gcd}
 use Rattle.table.proofs.Places.{tasks-length, task-at}
-use Rattle.table.proofs.Multiples.{lcm-left, lcm-right, lcm-pos, lcm-divides, lcm-comm, lcm-assoc, lcm-by-gcd}
-
--- every period is positive
-abbrev pub Periods : List model.Task → Type 0
-Periods τs = (p : ℕ) → p < length τs → 0 < getD τs p nobody .period
-
-pub hyperperiod-pos : (τs : List model.Task) → 0 < hyperperiod τs
-unfolding hyperperiod
-hyperperiod-pos [] = omega arith
-hyperperiod-pos (τ ∷ τs) = lcm-pos (τ .period) (hyperperiod τs) (hyperperiod-pos τs)
-
--- one more task: the least common multiple with its period
-pub hyperperiod-more :
-    (τs : List model.Task) (i : ℕ) → Periods τs → i < length τs
-    → hyperperiod (take (suc i) τs) ≡ lcm (hyperperiod (take i τs)) (getD τs i nobody .period)
-unfolding hyperperiod
-hyperperiod-more [] i h l = absurd (not-suc-le-zero l)
-hyperperiod-more (τ ∷ τs) zero h l = lcm-comm (τ .period) 1 (h 0 l) (omega arith)
-hyperperiod-more (τ ∷ τs) (suc i) h l =
-    ap (lcm (τ .period)) (hyperperiod-more τs i (λ p q. h (suc p) (omega arith)) (omega arith))
-    ∙ lcm-assoc (τ .period) (hyperperiod (take i τs)) (getD τs i nobody .period) (h 0 (omega arith)) (hyperperiod-pos (take i τs)) (h (suc i) l)
-
--- fewer tasks: a divisor
-pub hyperperiod-fewer : (τs : List model.Task) (i : ℕ) → Periods τs → hyperperiod (take i τs) ∣ hyperperiod τs
-unfolding hyperperiod
-hyperperiod-fewer τs zero h = one-dvd (hyperperiod τs)
-hyperperiod-fewer [] (suc i) h = one-dvd 1
-hyperperiod-fewer (τ ∷ τs) (suc i) h =
-    let pos : 0 < τ .period = h 0 (omega arith) in
-    lcm-divides (τ .period) (hyperperiod (take i τs)) (lcm (τ .period) (hyperperiod τs)) pos (hyperperiod-pos (take i τs))
-    (lcm-left (τ .period) (hyperperiod τs) pos)
-    (dvd-trans (hyperperiod (take i τs)) (hyperperiod-fewer τs i (λ p q. h (suc p) (omega arith))) (lcm-right (τ .period) (hyperperiod τs)))
+use Rattle.table.proofs.Gcd.{lcm-by-gcd}
 
 module _ (tasks : List Task) (count : ℕ) (limits : InLimits tasks count) (there : count ≤ length tasks) where
   periods : Periods (tasksOf tasks count)

@@ -10,7 +10,6 @@ pub mod Order
 pub mod Exact
 pub mod Starts
 pub mod Gcd
-pub mod Multiples
 pub mod Hyperperiods
 pub mod HeaderFine
 pub mod Inside

@@ -1,6 +1,5 @@
 // Reads a table from standard input, one decimal number a line, and prints the verdict line alone.
 ghost use Prim.Native.Nat.{_≤_};
-
 use judge::Verdict;
 use libc::STDIN_FILENO;
 use libc::STDOUT_FILENO;

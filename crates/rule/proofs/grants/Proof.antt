@@ -16,12 +16,12 @@ use Rattle.model.specs.Search.{bit}
 use Rattle.model.specs.Grants.{Claimant, claimants, left, grants, remaining}
 use Rattle.model.proofs.Lists.{getD-zeros}
 use Rattle.model.proofs.Digits.{Lowest, Turn, turn, bit-none}
+use Rattle.model.proofs.Grants.{claimant, claimants-same, grants-none, grants-length}
 use Rattle.rule.specs.Cores.{cores}
 use Rattle.rule.specs.Shares.{SharedAs}
 use Rattle.rule.specs.declared.Share.{Share}
 use Rattle.rule.proofs.Cores.{cores-none}
-use Rattle.rule.proofs.Granting.{length-grants, length-claimants}
-use Rattle.rule.proofs.Choosing.{claimant, same-within, first-of, first-given, first-left, nobody-given, nobody-left}
+use Rattle.rule.proofs.Choosing.{first-of, first-given, first-left, nobody-left}
 use Rattle.rule.proofs.grants.Statement.{statement}
 use Rattle.rule.proofs.grants.Tie as tie
 
@@ -63,7 +63,7 @@ module _ (r : Rule) (ws : List ℕ) (claims free count : ℕ) (sets : List ℕ) 
   less = omega (arith, h .fit)
 
   -- it is served
-  module _ (c : q < count) (s : Share) (g : SharedAs r (claimant (getD ws q 0) true) rem s) where
+  module _ (c : q < count) (s : Share) (g : SharedAs r (claimant true (getD ws q 0)) rem s) where
     stored : (p : ℕ) (t : Bool) → q < 32 → eqb p q ≡ t → cores (getD (set sets q (s .cores)) p 0) ≡ cores (getD sets p 0) ++ cond t (cores (s .cores)) []
     stored p true k z =
         let i : p ≡ q = eqb-true p q z in
@@ -94,7 +94,7 @@ module _ (r : Rule) (ws : List ℕ) (claims free count : ℕ) (sets : List ℕ) 
   -- it stands past the count
   skipped : length ws ≤ q → Held r ws claims free count sets y rem
   skipped k =
-      let same : claimants ws (bit y) ≡ claimants ws (bit rest) = same-within ws (bit y) (bit rest) (λ i j. rw e (l .others i (λ z. omega arith))) in
+      let same : claimants ws (bit y) ≡ claimants ws (bit rest) = claimants-same ws (bit y) (bit rest) (λ i j. rw e (l .others i (λ z. omega arith))) in
       record {
         fit = less;
         size = h .size;
@@ -113,13 +113,13 @@ module _ (r : Rule) (widths : List ℕ) (claims free count : ℕ) (sets : List �
   at-place : (p : ℕ) → cores (getD sets p 0) ≡ share r ws claims (cores free) p
   at-place p =
       sym (append-nil (cores (getD sets p 0)))
-      ∙ ap (λ (x : List ℕ). cores (getD sets p 0) ++ x) (sym (nobody-given r ws (bit 0) (cores rem) p bit-none)) ∙ h .gives p
+      ∙ ap (λ (x : List ℕ). cores (getD sets p 0) ++ x) (sym (grants-none r ws (bit 0) (cores rem) p (bit-none p))) ∙ h .gives p
 
   all-given : map cores (take count sets) ≡ grants r (claimants ws (bit claims)) (cores free)
   all-given =
       let n : length (map cores (take count sets)) ≡ length (take count sets) = length-map (take count sets) cores in
       let k : length (map cores (take count sets)) ≡ length (grants r (claimants ws (bit claims)) (cores free)) =
-      omega (arith, n, length-take count sets, h .size, length-take count widths, length-grants r (claimants ws (bit claims)) (cores free), length-claimants ws (bit claims)) in
+      omega (arith, n, length-take count sets, h .size, length-take count widths, grants-length r ws (bit claims) (cores free)) in
       ext-getD [] (map cores (take count sets)) (grants r (claimants ws (bit claims)) (cores free)) k (λ i j.
       ap (getD (map cores (take count sets)) i) (sym cores-none)
       ∙ List·getD-map cores (take count sets) i 0

@@ -67,13 +67,21 @@ loop-again c =
     let s = c .before .before .before .before .before .before in
     let r = s .before .args .self in
     let i = s .loop .i in
-    let v = s .loop .inv in
-    (omega arith, (simp length-set (v .1 .0),
-    (gathered-more (λ p. claiming (phaseAt r p)) i (s .loop .claiming) (c .before .before .with .result) (c .before .before .before .claims .result)
-    (v .1 .1 .0) (c .before .before .before .claims .ensures) (c .before .before .with .ensures),
-    (gathered-more (λ p. working (phaseAt r p)) i (s .loop .working) (c .with2 .result) (c .before .works .result)
-    (v .1 .1 .1 .0) (c .before .works .ensures) (c .with2 .ensures),
-    stored-more (s .loop .widths) (λ p. getD (r .tasks) p pastEnd .width) i (omega arith) (v .1 .1 .1 .1)))))
+    let v = s .loop .inv in (
+      omega arith,
+      (
+        simp length-set (v .1 .0),
+        (
+          gathered-more (λ p. claiming (phaseAt r p)) i (s .loop .claiming) (c .before .before .with .result) (c .before .before .before .claims .result)
+              (v .1 .1 .0) (c .before .before .before .claims .ensures) (c .before .before .with .ensures),
+          (
+            gathered-more (λ p. working (phaseAt r p)) i (s .loop .working) (c .with2 .result) (c .before .works .result)
+                (v .1 .1 .1 .0) (c .before .works .ensures) (c .with2 .ensures),
+            stored-more (s .loop .widths) (λ p. getD (r .tasks) p pastEnd .width) i (omega arith) (v .1 .1 .1 .1),
+          ),
+        ),
+      ),
+    )
 
 returns : tie.Need-returns Inv-loop μ-loop
 returns c =

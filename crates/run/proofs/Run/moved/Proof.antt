@@ -82,7 +82,7 @@ loop-again c =
     let len : length (r .tasks) ≡ 32 = simp length-map at (s .before .good .0 .1 .1 .1 .1 .1 .0 .1 .0 .1) in
     let past = mapFirst-past f i (r .tasks) i pastEnd (le-refl i) in
     let e : c .next .result ≡ f i (getD (r .tasks) i pastEnd) =
-        simp (c .next .ensures, c .before .before .has .ensures, c .before .has2 .ensures, s .before .pre .1 i, s .loop .inv .1 .1, past) in
+    simp (c .next .ensures, c .before .before .has .ensures, c .before .has2 .ensures, s .before .pre .1 i, s .loop .inv .1 .1, past) in
     (omega arith, (omega arith, simp (s .loop .inv .1 .1, e, add-one, mapFirst-step f i (r .tasks) pastEnd (omega arith))))
 
 returns : tie.Need-returns Inv-loop μ-loop

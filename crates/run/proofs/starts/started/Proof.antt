@@ -88,7 +88,7 @@ returns c =
     let few = s .before .before .pre in
     let n : length (tasksOf (a .t3) (a .count)) ≡ a .count = length-map (take (a .count) (a .t3)) taskOf ∙ length-take-le (a .count) (a .t3) (omega arith) in
     let tasks : s .loop .places ≡ starting (a .t3) (a .count) ++ replicate (32 - a .count) unused =
-        s .loop .inv .1 ∙ (ap (λ (k : ℕ). starting (a .t3) k ++ drop k (replicate 32 unused)) e ∙ ap (λ (l : List Task). starting (a .t3) (a .count) ++ l) (drop-equal 32 (a .count) unused)) in
+    s .loop .inv .1 ∙ (ap (λ (k : ℕ). starting (a .t3) k ++ drop k (replicate 32 unused)) e ∙ ap (λ (l : List Task). starting (a .t3) (a .count) ++ l) (drop-equal 32 (a .count) unused)) in
     ap (made (a .rule) (a .cores) (a .count)) tasks
     ∙ ap (λ (k : ℕ). made (a .rule) (a .cores) k (starting (a .t3) (a .count) ++ replicate (32 - k) unused)) (sym n)
 

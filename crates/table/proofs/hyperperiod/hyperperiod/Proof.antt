@@ -8,8 +8,9 @@ use native.Mathlib.Omega.{arith}
 use lib.Dec.{lit<}
 use lib.ListN.{length, getD, take}
 use Rattle.model.specs.Horizon.{hyperperiod}
+use Rattle.model.proofs.Starts.{hyperperiod-pos}
 use Rattle.table.specs.Task.{tasksOf, noTask, Within}
-use Rattle.table.proofs.Hyperperiods.{hyperperiod-pos, hyperperiod-next, hyperperiod-over, hyperperiod-all}
+use Rattle.table.proofs.Hyperperiods.{hyperperiod-next, hyperperiod-over, hyperperiod-all}
 use Rattle.table.proofs.hyperperiod.hyperperiod.Statement.{statement}
 use Rattle.table.proofs.hyperperiod.hyperperiod.Tie as tie
 
