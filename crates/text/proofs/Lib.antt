@@ -9,4 +9,10 @@ pub mod ReadOf
 pub mod Canonical
 pub mod FirstLine
 pub mod Writing
+pub mod Spelling
+pub mod RowText
+pub mod Step
+pub mod Hand
+pub mod Made
+pub mod Pieces
 pub mod Examples

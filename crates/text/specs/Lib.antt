@@ -2,4 +2,8 @@ pub mod Decimal
 pub mod Format
 pub mod Input
 pub mod Output
+pub mod Cells
+pub mod Said
+pub mod Printer
+pub mod Pieces
 pub mod Written

@@ -7,8 +7,12 @@ use Rattle.model.specs.Task.{Table}
 use Rattle.model.specs.Book.{full, rowOf}
 use Rattle.model.specs.Horizon.{horizon}
 use Rattle.model.specs.Verdict.{Verdict, Firm, Full, Miss, verdict}
+use Rattle.table.specs.declared.Answer as loaded
+use Rattle.table.specs.declared.Answer.the-variants.{Passed, Refused}
+use Rattle.table.specs.Words.{tableOf}
+use Rattle.table.specs.Answer.{answerOf}
 use Rattle.text.specs.Decimal.{decimal}
-use Rattle.text.specs.Format.{newline}
+use Rattle.text.specs.Format.{newline, Words, words, noText, wordsOf}
 
 -- the bytes of a word of plain letters
 abbrev pub letters : String → List ℕ
@@ -58,3 +62,17 @@ rowLines s t (suc n) = rowLine t (rowOf s (full s t)) ++ rowLines s (suc t) n
 -- all that is printed for a table that passes 1 to 9
 unfoldable pub printed : Table → List ℕ
 printed s = firstLine (judged (verdict s)) ++ rowLines s 0 (rowsPrinted (verdict s) (horizon s))
+
+-- a table that passes is printed; a refusal is one line and nothing more
+abbrev pub printedBy : loaded.Answer → Table → List ℕ
+printedBy Passed s = printed s
+printedBy (Refused n p) s = firstLine (refused n p)
+
+-- all that is printed for the numbers of a text; what is no table's text prints `refused 1 0`
+abbrev pub outputOf : Words → List ℕ
+outputOf (words ws) = printedBy (answerOf ws) (tableOf ws)
+outputOf noText = firstLine (refused 1 0)
+
+-- everything that the program prints for the bytes that it reads
+unfoldable pub output : List ℕ → List ℕ
+output bs = outputOf (wordsOf bs)

@@ -4,6 +4,9 @@ ghost use Rattle.text.specs.Format.{noText};
 ghost use Rattle.text.specs.Input.{inputOf, ReadOf};
 
 mod decimal; // decimal.rt: numbers in decimal
+mod row; // row.rt: the text of a row
+mod first; // first.rt: the first line
+pub mod print; // print.rt: everything that is printed, piece by piece
 mod line; // line.rt: where a line ends and which number it says
 
 use line::Found;

@@ -1,0 +1,111 @@
+-- `text::first::put_first` meets its contract: each case of the verdict has its word.
+-- Assumes nothing.
+use mathlib.Core.Path.{sym, subst}
+use Rattle.judge.specs.declared.Verdict.{Verdict}
+use Rattle.text.specs.Output.{firstLine}
+use Rattle.text.specs.Said.{saidBy}
+use Rattle.text.specs.Written.{Put}
+use borrow.Author.Needs.{needs}
+use Rattle.text.proofs.first.put_first.Statement.{statement}
+use Rattle.text.proofs.first.put_first.Tie as tie
+
+enum-known-verdict : tie.Need-enum-known-verdict
+enum-known-verdict c = search needs
+
+slice-aggregate-put-pair : tie.Need-slice-aggregate-put-pair
+slice-aggregate-put-pair c = search needs
+
+put-pair-requires : tie.Need-put-pair-requires
+put-pair-requires c κs = search needs
+
+enum-known-verdict-2 : tie.Need-enum-known-verdict-2
+enum-known-verdict-2 c = search needs
+
+slice-aggregate-put-pair-2 : tie.Need-slice-aggregate-put-pair-2
+slice-aggregate-put-pair-2 c = search needs
+
+put-pair-requires-2 : tie.Need-put-pair-requires-2
+put-pair-requires-2 c κs = search needs
+
+enum-known-verdict-3 : tie.Need-enum-known-verdict-3
+enum-known-verdict-3 c = search needs
+
+slice-aggregate-put-pair-3 : tie.Need-slice-aggregate-put-pair-3
+slice-aggregate-put-pair-3 c = search needs
+
+put-pair-requires-3 : tie.Need-put-pair-requires-3
+put-pair-requires-3 c κs = search needs
+
+enum-known-verdict-4 : tie.Need-enum-known-verdict-4
+enum-known-verdict-4 c = search needs
+
+slice-aggregate-put-pair-4 : tie.Need-slice-aggregate-put-pair-4
+slice-aggregate-put-pair-4 c = search needs
+
+put-pair-requires-4 : tie.Need-put-pair-requires-4
+put-pair-requires-4 c κs = search needs
+
+same-length : tie.Need-same-length
+same-length c = search needs
+
+returns : tie.Need-returns
+unfolding firstLine
+returns c =
+    let a = c .before .before .before .before .before .before .before .before .before .args in
+    let f = c .before .before .put-pair in
+    (subst (λ (v : Verdict). Put (a .line .now) 0 (firstLine (saidBy v)) (f .last .0) (f .result)) (sym (c .before .before .before .before .before .before .verdict .given .1)) (f .ensures .0), f .ensures .1)
+
+same-length-2 : tie.Need-same-length-2
+same-length-2 c = search needs
+
+returns-2 : tie.Need-returns-2
+unfolding firstLine
+returns-2 c =
+    let a = c .before .before .before .before .before .before .before .before .before .args in
+    let f = c .before .before .put-pair2 in
+    (subst (λ (v : Verdict). Put (a .line .now) 0 (firstLine (saidBy v)) (f .last .0) (f .result)) (sym (c .before .before .before .before .before .before .verdict2 .given .1)) (f .ensures .0), f .ensures .1)
+
+same-length-3 : tie.Need-same-length-3
+same-length-3 c = search needs
+
+returns-3 : tie.Need-returns-3
+unfolding firstLine
+returns-3 c =
+    let a = c .before .before .before .before .before .before .before .before .before .args in
+    let f = c .before .before .put-pair3 in
+    (subst (λ (v : Verdict). Put (a .line .now) 0 (firstLine (saidBy v)) (f .last .0) (f .result)) (sym (c .before .before .before .before .before .before .verdict3 .given .1)) (f .ensures .0), f .ensures .1)
+
+same-length-4 : tie.Need-same-length-4
+same-length-4 c = search needs
+
+returns-4 : tie.Need-returns-4
+unfolding firstLine
+returns-4 c =
+    let a = c .before .before .before .before .before .before .before .before .before .args in
+    let f = c .before .before .put-pair4 in
+    (subst (λ (v : Verdict). Put (a .line .now) 0 (firstLine (saidBy v)) (f .last .0) (f .result)) (sym (c .before .before .before .before .before .before .verdict4 .given .1)) (f .ensures .0), f .ensures .1)
+
+pub put-first-spec : {M : Type 1} → statement M
+put-first-spec =
+    tie.close
+    (tie.spec
+    enum-known-verdict
+    slice-aggregate-put-pair
+    put-pair-requires
+    enum-known-verdict-2
+    slice-aggregate-put-pair-2
+    put-pair-requires-2
+    enum-known-verdict-3
+    slice-aggregate-put-pair-3
+    put-pair-requires-3
+    enum-known-verdict-4
+    slice-aggregate-put-pair-4
+    put-pair-requires-4
+    same-length
+    returns
+    same-length-2
+    returns-2
+    same-length-3
+    returns-3
+    same-length-4
+    returns-4)

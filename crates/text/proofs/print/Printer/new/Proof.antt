@@ -1,0 +1,38 @@
+-- `text::print::Printer::new` meets its contract: what is no table's text has no numbers, and no words are refused with 1 as it is.
+-- Assumes nothing.
+use mathlib.Core.Path.{_≡_, sym, ap, _∙_}
+use Prim.Native.Nat.{ℕ, _≤_}
+use native.Mathlib.Omega.{arith}
+use lib.ListN.{length, take}
+use lib.Seq.{length-take-le}
+use Rattle.text.specs.declared.Input.{Input}
+use Rattle.text.specs.Input.{ReadOf}
+use Rattle.text.proofs.Made.{bytes-made, read-fits}
+use borrow.Author.Needs.{needs}
+use Rattle.text.proofs.print.Printer.new.Statement.{statement}
+use Rattle.text.proofs.print.Printer.new.Tie as tie
+
+read-requires : tie.Need-read-requires
+read-requires c κs = search needs
+
+array-share-prefix-words : tie.Need-array-share-prefix-words
+array-share-prefix-words c = read-fits _ (c .before .read .result) (c .before .read .ensures)
+
+slice-aggregate-of-words : tie.Need-slice-aggregate-of-words
+slice-aggregate-of-words c = sym (length-take-le (c .before .before .read .result .count) (c .before .before .read .result .words) (read-fits _ (c .before .before .read .result) (c .before .before .read .ensures)))
+
+of-words-requires : tie.Need-of-words-requires
+of-words-requires c κs = search needs
+
+returns : tie.Need-returns
+returns c = bytes-made (c .before .before .before .before .before .args .bytes .now) (c .before .before .before .read .result) (c .of-words .result) (c .before .before .before .read .ensures) (c .of-words .ensures)
+
+pub new-spec : {M : Type 1} → statement M
+new-spec =
+    tie.close
+    (tie.spec
+    read-requires
+    array-share-prefix-words
+    slice-aggregate-of-words
+    of-words-requires
+    returns)

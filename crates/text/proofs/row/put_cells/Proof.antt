@@ -1,0 +1,52 @@
+-- `text::row::put_cells` meets its contract: the sets that the rule grants are painted into the row of the model.
+-- Assumes nothing.
+use mathlib.Core.List.{List, [], _∷_, _++_}
+use mathlib.Core.Path.{_≡_, ap, subst}
+use Prim.Native.Nat.{ℕ, _≤_}
+use native.Mathlib.Omega.{arith}
+use lib.ListN.{take}
+use Rattle.model.specs.Search.{bit}
+use Rattle.model.specs.Grants.{claimants}
+use Rattle.text.specs.Format.{newline}
+use Rattle.text.specs.Output.{fields}
+use Rattle.text.specs.Written.{Put}
+use Rattle.text.specs.Cells.{cells}
+use Rattle.text.proofs.RowText.{row-front}
+use borrow.Author.Needs.{needs}
+use Rattle.text.proofs.row.put_cells.Statement.{statement}
+use Rattle.text.proofs.row.put_cells.Tie as tie
+
+first-cores-requires : tie.Need-first-cores-requires
+first-cores-requires c κs = search needs
+
+grants-requires : tie.Need-grants-requires
+grants-requires c κs = search needs
+
+row-of-requires : tie.Need-row-of-requires
+row-of-requires c κs = search needs
+
+spell-requires : tie.Need-spell-requires
+spell-requires c κs = search needs
+
+same-length : tie.Need-same-length
+same-length c = search needs
+
+returns : tie.Need-returns
+unfolding cells
+returns c =
+    let a = c .before .before .before .before .before .before .before .before .before .before .args in
+    let s = c .before .before .spell in
+    let e = row-front (a .rule) (a .cores) (claimants (take (a .count) (a .widths .now)) (bit (a .claims))) (a .count) (c .before .before .before .before .before .before .before .before .first-cores .result) (c .before .before .before .before .before .before .before .grants .result) (c .before .before .before .before .row-of .result)
+    (c .before .before .before .before .before .before .before .before .before .before .pre .0) (c .before .before .before .before .before .before .before .before .first-cores .ensures) (c .before .before .before .before .before .before .before .grants .ensures) (c .before .before .before .before .row-of .ensures) in
+    (subst (λ (xs : List ℕ). Put (a .text .now) 0 (fields xs ++ (newline ∷ [])) (s .last .1 .1 .0) (s .result)) e (s .ensures .0), s .ensures .1)
+
+pub put-cells-spec : {M : Type 1} → statement M
+put-cells-spec =
+    tie.close
+    (tie.spec
+    first-cores-requires
+    grants-requires
+    row-of-requires
+    spell-requires
+    same-length
+    returns)

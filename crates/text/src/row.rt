@@ -1,0 +1,85 @@
+ghost use mathlib.Core.Path.{_≡_};
+ghost use mathlib.Core.List.{[], _∷_, _++_};
+ghost use Prim.Native.Nat.{_+_, _≤_};
+ghost use lib.ListN.{length, take, drop};
+ghost use Rattle.text.specs.Decimal.{decimal};
+ghost use Rattle.text.specs.Format.{newline};
+ghost use Rattle.text.specs.Output.{fields};
+ghost use Rattle.text.specs.Written.{Put};
+ghost use Rattle.text.specs.Cells.{cells};
+use crate::decimal;
+
+// Writes `count` bytes, those of `from` that begin at `start`, into `to` from `at` on; the answer is where they end.
+pub fn copy(from: &[u8], start: usize, count: usize, to: &mut [u8], at: usize) -> usize
+    requires { ⌜ (start + count ≤ length (now from)) × (at + count ≤ length (now to)) ⌝ }
+    ensures { λ r. ⌜ Put (now (to .entry)) at (take count (drop start (now (from .entry)))) (now (to .exit)) r ⌝ }
+{
+    let mut k: usize = 0;
+    while k < count {
+        to[at + k] = from[start + k];
+        k += 1;
+    }
+    at + count
+}
+
+// Writes a byte's value in decimal into the text from `at` on; the answer is where it ends.
+pub fn put_byte(text: &mut [u8], at: usize, number: u8) -> usize
+    requires { ⌜ at + 3 ≤ length (now text) ⌝ }
+    ensures { λ r. ⌜ (Put (now (text .entry)) at (decimal number) (now (text .exit)) r) × (r ≤ at + 3) ⌝ }
+{
+    if number < 10 {
+        text[at] = b'0' + number;
+        return at + 1;
+    }
+    if number < 100 {
+        text[at] = b'0' + number / 10;
+        text[at + 1] = b'0' + number % 10;
+        return at + 2;
+    }
+    decimal::put(text, at, number as u32)
+}
+
+// Writes the positions of the first `cores` cores, a space before each, and a newline; the answer is where they end.
+pub fn spell(row: [u8; 64], cores: usize, text: &mut [u8]) -> usize
+    requires { ⌜ (cores ≤ 64) × (257 ≤ length (now text)) ⌝ }
+    ensures { λ r. ⌜ (Put (now (text .entry)) 0 (fields (take cores row) ++ (newline ∷ [])) (now (text .exit)) r) × (r ≤ 257) ⌝ }
+{
+    let mut at: usize = 0;
+    let mut core: usize = 0;
+    while core < cores {
+        text[at] = b' ';
+        at = put_byte(text, at + 1, row[core]);
+        core += 1;
+    }
+    text[at] = b'\n';
+    at + 1
+}
+
+// Writes the positions of the cores, and a newline, where the places of the set `claims` claim; the answer is where they end.
+pub fn put_cells(
+    rule: u32,
+    cores: u32,
+    claims: u32,
+    widths: &[u32; 32],
+    count: usize,
+    text: &mut [u8],
+) -> usize
+    requires { ⌜ (cores ≤ 64) × (count ≤ 32) × (257 ≤ length (now text)) ⌝ }
+    ensures { λ r. ⌜ (Put (now (text .entry)) 0 (cells rule cores (take count (now (widths .entry))) claims) (now (text .exit)) r) × (r ≤ 257) ⌝ }
+{
+    let free = rule::first_cores(cores);
+    let granted = rule::grants(rule, free, claims, widths, count);
+    let sets = granted.sets;
+    let blank = [0u8; 64];
+    let row = rule::row_of(blank, 1, &sets, count);
+    spell(row, cores as usize, text)
+}
+
+// Writes the line of a row: the tick, and the text of its cores; the answer is where it ends.
+pub fn put_row(line: &mut [u8], tick: u32, text: &[u8], count: usize) -> usize
+    requires { ⌜ (count ≤ length (now text)) × (count ≤ 257) × (267 ≤ length (now line)) ⌝ }
+    ensures { λ r. ⌜ (Put (now (line .entry)) 0 (decimal tick ++ take count (now (text .entry))) (now (line .exit)) r) × (r ≤ 267) ⌝ }
+{
+    let at = decimal::put(line, 0, tick);
+    copy(text, 0, count, line, at)
+}
