@@ -32,9 +32,16 @@ together-more p p′ before after r sizes parts q t = record {
       append-assoc (take (r .length) after) (joined parts) (rest p′) ∙ ap (λ (l : List ℕ). take (r .length) after ++ l) (t .whole ∙ q .rest)
       ∙ ap (λ (l : List ℕ). l ++ drop (r .length) (rest p)) first ∙ take-append-drop (r .length) (rest p);
   size =
-      omega
-      (arith, length-append (take (r .length) after) (joined parts), ap length first, length-take (r .length) (rest p), t .size, ap length (q .rest),
-      length-drop (r .length) (rest p), q .length);
+      omega (
+        arith,
+        length-append (take (r .length) after) (joined parts),
+        ap length first,
+        length-take (r .length) (rest p),
+        t .size,
+        ap length (q .rest),
+        length-drop (r .length) (rest p),
+        q .length,
+      );
 }
   where
     first : take (r .length) after ≡ take (r .length) (rest p)

@@ -64,7 +64,15 @@ fn next_line(
     let mut bell = pace.bell;
     if bell <= tick {
         let due = full::release_due(
-            tick, count, length, deadline, period, claiming, left, moment, next,
+            tick,
+            count,
+            length,
+            deadline,
+            period,
+            claiming,
+            left,
+            moment,
+            next,
         );
         claiming = due.claiming;
         bell = due.bell;

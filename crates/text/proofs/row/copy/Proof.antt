@@ -47,8 +47,7 @@ loop-again c =
     let s = drop (a .start) (a .from .now) in
     let inside : l .k < length s = omega (arith, length-drop (a .start) (a .from .now), c .before .loop-test .taken) in
     let p : Put (a .to .now) (a .at) (take (l .k + 1) s) (set (l .to) (a .at + l .k) (getD s (l .k) 0)) (a .at + (l .k + 1)) =
-    put-next (a .to .now) (l .to) (a .at) (l .k) s (l .inv .0) inside (omega (arith, c .before .loop-test .taken)) (l .inv .2) in
-    (
+    put-next (a .to .now) (l .to) (a .at) (l .k) s (l .inv .0) inside (omega (arith, c .before .loop-test .taken)) (l .inv .2) in (
       subst (λ (x : ℕ). Put (a .to .now) (a .at) (take (l .k + 1) s) (set (l .to) (a .at + l .k) x) (a .at + (l .k + 1))) (getD-drop (a .start) (a .from .now) (l .k) 0) p,
       omega (arith, c .before .loop-test .taken),
       length-set (l .to) _ _ ∙ l .inv .2,

@@ -82,8 +82,7 @@ slice-aggregate-copy c = sym (c .before .before .before .loop .inv .keeps .long)
 
 copy-requires : tie.Need-copy-requires Inv-loop μ-loop
 copy-requires c κs =
-    let i = c .before .before .before .before .loop .inv in
-    (
+    let i = c .before .before .before .before .loop .inv in (
       omega (arith, c .before .before .smaller .ensures, i .keeps .given, i .keeps .ready, i .keeps .long),
       omega (arith, c .before .before .smaller .ensures, i .room, i .same),
     )
