@@ -10,9 +10,4 @@ pub mod Canonical
 pub mod FirstLine
 pub mod Writing
 pub mod Spelling
-pub mod RowText
-pub mod Step
-pub mod Hand
-pub mod Made
-pub mod Pieces
 pub mod Examples

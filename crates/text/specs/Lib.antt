@@ -2,8 +2,5 @@ pub mod Decimal
 pub mod Format
 pub mod Input
 pub mod Output
-pub mod Cells
 pub mod Said
-pub mod Printer
-pub mod Pieces
 pub mod Written

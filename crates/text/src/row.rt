@@ -6,7 +6,6 @@ ghost use Rattle.text.specs.Decimal.{decimal};
 ghost use Rattle.text.specs.Format.{newline};
 ghost use Rattle.text.specs.Output.{fields};
 ghost use Rattle.text.specs.Written.{Put};
-ghost use Rattle.text.specs.Cells.{cells};
 use crate::decimal;
 
 // Writes `count` bytes, those of `from` that begin at `start`, into `to` from `at` on; the answer is where they end.
@@ -53,26 +52,6 @@ pub fn spell(row: [u8; 64], cores: usize, text: &mut [u8]) -> usize
     }
     text[at] = b'\n';
     at + 1
-}
-
-// Writes the positions of the cores, and a newline, where the places of the set `claims` claim; the answer is where they end.
-pub fn put_cells(
-    rule: u32,
-    cores: u32,
-    claims: u32,
-    widths: &[u32; 32],
-    count: usize,
-    text: &mut [u8],
-) -> usize
-    requires { ⌜ (cores ≤ 64) × (count ≤ 32) × (257 ≤ length (now text)) ⌝ }
-    ensures { λ r. ⌜ (Put (now (text .entry)) 0 (cells rule cores (take count (now (widths .entry))) claims) (now (text .exit)) r) × (r ≤ 257) ⌝ }
-{
-    let free = rule::first_cores(cores);
-    let granted = rule::grants(rule, free, claims, widths, count);
-    let sets = granted.sets;
-    let blank = [0u8; 64];
-    let row = rule::row_of(blank, 1, &sets, count);
-    spell(row, cores as usize, text)
 }
 
 // Writes the line of a row: the tick, and the text of its cores; the answer is where it ends.

@@ -5,7 +5,7 @@ use Prim.Native.Nat.{_-_, _≤_}
 use mathlib.Core.Path.{_≡_, sym, ap, _∙_}
 use lib.ListN.{length, length-drop, length-take}
 use lib.Seq.{length-take-le}
-use Rattle.text.specs.Printer.{Keeps, rest}
+use Rattle.printer.specs.Printer.{Keeps, rest}
 use Rattle.sivorandra.proofs.print.Statement.{statement}
 use Rattle.sivorandra.proofs.print.Tie as tie
 

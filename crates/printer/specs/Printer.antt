@@ -11,13 +11,13 @@ use Rattle.judge.proofs.Ticks.{Before, Chosen}
 use Rattle.table.specs.Words.{tableOf}
 use Rattle.table.specs.Answer.{answerOf}
 use Rattle.judge.specs.declared.Verdict.{Verdict}
 use Rattle.text.specs.Output.{firstLine, rowLine, rowLines, printedBy, output}
 use Rattle.text.specs.Said.{saidBy}
 use Rattle.text.specs.Written.{Put}
-use Rattle.text.specs.Cells.{cells}
-use Rattle.text.specs.declared.print.Pace.{Pace}
-use Rattle.text.specs.declared.print.Printer.{Printer}
-use Rattle.text.specs.declared.print.Piece.{Piece}
+use Rattle.printer.specs.Cells.{cells}
+use Rattle.printer.specs.declared.Pace.{Pace}
+use Rattle.printer.specs.declared.Printer.{Printer}
+use Rattle.printer.specs.declared.Piece.{Piece}
 
 -- the widths of the table's tasks
 abbrev pub widthsIn : Loaded → List ℕ

@@ -2,9 +2,9 @@
 use mathlib.Core.List.{List, [], _∷_, _++_}
 use Prim.Native.Nat.{ℕ, _+_}
 use lib.ListN.{length, take}
-use Rattle.text.specs.Printer.{PieceOf}
-use Rattle.text.specs.declared.print.Printer.{Printer}
-use Rattle.text.specs.declared.print.Piece.{Piece}
+use Rattle.printer.specs.Printer.{PieceOf}
+use Rattle.printer.specs.declared.Printer.{Printer}
+use Rattle.printer.specs.declared.Piece.{Piece}
 
 -- from printer p, buffers of these sizes are filled with these parts, and then the printer is p′: each step is what `piece` promises
 pub data Pieces : Printer → List ℕ → List (List ℕ) → Printer → Type 0 where

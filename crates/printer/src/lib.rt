@@ -1,12 +1,16 @@
+// Everything that the program prints for an input, piece by piece.
 ghost use mathlib.Core.Path.{_≡_};
 ghost use Rattle.table.specs.declared.Loaded.{Loaded};
 ghost use Rattle.full.specs.Machine.{machine};
-ghost use Rattle.text.specs.Printer.{Stepping, Stepped, StartOf, WordsPrinter, MadeFrom, Keeps, PieceOf};
+ghost use Rattle.printer.specs.Printer.{Stepping, Stepped, StartOf, WordsPrinter, MadeFrom, Keeps, PieceOf};
 ghost use Prim.Native.Nat.{_≤_, min};
-use crate::first;
-use crate::row;
+
+mod cells; // cells.rt: the text of a row's cores
+
 use judge::Verdict;
 use table::Loaded;
+use text::first;
+use text::row;
 
 // Where a run stands before a tick: the set of claimants, the bell, the claimants that the kept choice and text are for,
 // who is granted cores, how long the text of the row is, and how long the line.
@@ -81,7 +85,7 @@ fn next_line(
     let mut size = pace.text;
     if claiming != pace.chosen {
         granted = rule::choose(rule, cores, claiming, width);
-        size = row::put_cells(rule, cores, claiming, width, count, text);
+        size = cells::put_cells(rule, cores, claiming, width, count, text);
     }
     let ready = row::put_row(line, tick, text, size);
     let after = full::work(granted, claiming, left, moment, next);
@@ -113,7 +117,7 @@ fn start(table: Loaded, end: u32, verdict: Verdict) -> Printer
     let offset = columns.offset;
     let width = columns.width;
     let mut text = [0u8; 257];
-    let size = row::put_cells(table.rule, table.cores, 0, &width, table.count, &mut text);
+    let size = cells::put_cells(table.rule, table.cores, 0, &width, table.count, &mut text);
     let mut line = [0u8; 267];
     let ready = first::put_first(&mut line, verdict);
     let left = [0u32; 32];
@@ -154,7 +158,7 @@ impl Printer {
     pub fn new(bytes: &[u8]) -> Printer
         ensures { λ r. ⌜ MadeFrom (now (bytes .entry)) r ⌝ }
     {
-        let input = crate::read(bytes);
+        let input = text::read(bytes);
         let words = input.words;
         let count = input.count;
         of_words(&words[..count])

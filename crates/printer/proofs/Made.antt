@@ -29,16 +29,16 @@ use Rattle.judge.specs.declared.Verdict.the-variants as judge
 use Rattle.judge.specs.Judged.{told, verdictOf, Judged, tableIn, Fit}
 use Rattle.judge.proofs.Ticks.{Before, at-start, chosen-none}
 use Rattle.judge.proofs.Promise.{fit, same-table, passed-is, refused-is}
 use Rattle.text.specs.Format.{mostNumbers, Words, words, noText, wordsOf}
 use Rattle.text.specs.Input.{inputOf, ReadOf}
 use Rattle.text.specs.Output.{Answer as Said, judged, refused, firstLine, rowLines, rowsPrinted, printed, printedBy, outputOf, output}
 use Rattle.text.specs.Written.{Put}
-use Rattle.text.specs.Cells.{cells}
+use Rattle.printer.specs.Cells.{cells}
 use Rattle.text.specs.Said.{saidBy, endOf}
-use Rattle.text.specs.Printer.{widthsIn, rest, Keeps, StartOf, WordsPrinter, MadeFrom}
+use Rattle.printer.specs.Printer.{widthsIn, rest, Keeps, StartOf, WordsPrinter, MadeFrom}
 use Rattle.text.specs.declared.Input.{Input}
-use Rattle.text.specs.declared.print.Printer.{Printer}
+use Rattle.printer.specs.declared.Printer.{Printer}
 use Rattle.text.proofs.Writing.{put-front, put-length}
 
 -- THE START
 

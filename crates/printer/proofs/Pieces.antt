@@ -8,12 +8,12 @@ use lib.ListN.{length, take, drop, length-take, length-drop, length-append, take
 use lib.Seq.{take-append-seam, take-all, take-length}
 use lib.Dec.{leb}
 use borrow.Author.Tests.{leb-true, leb-false}
 use Rattle.text.specs.Output.{output}
-use Rattle.text.specs.Printer.{rest, Keeps, MadeFrom, PieceOf}
-use Rattle.text.specs.Pieces.{Pieces, none, more, joined, room}
-use Rattle.text.specs.declared.print.Printer.{Printer}
-use Rattle.text.specs.declared.print.Piece.{Piece}
+use Rattle.printer.specs.Printer.{rest, Keeps, MadeFrom, PieceOf}
+use Rattle.printer.specs.Pieces.{Pieces, none, more, joined, room}
+use Rattle.printer.specs.declared.Printer.{Printer}
+use Rattle.printer.specs.declared.Piece.{Piece}
 use Rattle.text.proofs.Writing.{put-front}
 
 -- what the pieces give and what is left make up what there was; and they give as much as their buffers take
 pub record Together (p p′ : Printer) (sizes : List ℕ) (parts : List (List ℕ)) : Type 0 where

@@ -1,4 +1,4 @@
--- `text::print::next_line` meets its contract: after the due moments the machine is ready, whether they were looked at or the bell had not rung;
+-- `printer::next_line` meets its contract: after the due moments the machine is ready, whether they were looked at or the bell had not rung;
 -- the text is that of the claimants, just made or kept; and the tick is entered with those who are granted cores. Assumes nothing.
 use borrow.Author.Needs.{needs}
 use native.Mathlib.Omega.{arith}
@@ -10,11 +10,11 @@ use lib.ListN as list
 use Rattle.table.specs.declared.Loaded.{Loaded}
 use Rattle.full.specs.Machine.{Machine, machine}
 use Rattle.judge.proofs.Ticks.{After, Chosen, chosen-owed}
-use Rattle.text.specs.Cells.{cells}
-use Rattle.text.specs.Printer.{widthsIn, Stepping}
-use Rattle.text.proofs.Step.{due-looked, due-skipped, made-chosen, kept-chosen, made-text, kept-text, same-machine, step-taken, in-range}
-use Rattle.text.proofs.print.next_line.Statement.{statement}
-use Rattle.text.proofs.print.next_line.Tie as tie
+use Rattle.printer.specs.Cells.{cells}
+use Rattle.printer.specs.Printer.{widthsIn, Stepping}
+use Rattle.printer.proofs.Step.{due-looked, due-skipped, made-chosen, kept-chosen, made-text, kept-text, same-machine, step-taken, in-range}
+use Rattle.printer.proofs.next_line.Statement.{statement}
+use Rattle.printer.proofs.next_line.Tie as tie
 
 -- the run of a table t stands where the function begins
 abbrev Stands : tie.Start → Loaded → Type 0

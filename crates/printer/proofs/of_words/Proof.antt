@@ -1,12 +1,12 @@
--- `text::print::of_words` meets its contract: the verdict of the words says what is printed of the table that was loaded.
+-- `printer::of_words` meets its contract: the verdict of the words says what is printed of the table that was loaded.
 -- Assumes nothing.
 use mathlib.Core.Path.{subst}
 use Prim.Native.Nat.{ℕ}
-use Rattle.text.specs.Printer.{StartOf}
-use Rattle.text.proofs.Made.{load-small, words-made}
+use Rattle.printer.specs.Printer.{StartOf}
+use Rattle.printer.proofs.Made.{load-small, words-made}
 use borrow.Author.Needs.{needs}
-use Rattle.text.proofs.print.of_words.Statement.{statement}
-use Rattle.text.proofs.print.of_words.Tie as tie
+use Rattle.printer.proofs.of_words.Statement.{statement}
+use Rattle.printer.proofs.of_words.Tie as tie
 
 load-requires : tie.Need-load-requires
 load-requires c κs = search needs

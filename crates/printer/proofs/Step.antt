@@ -19,14 +19,14 @@ use Rattle.full.proofs.Walk.{due-walked, earliest-bell}
 use Rattle.full.proofs.Alike.{widths-first, row-alike}
 use Rattle.judge.specs.Judged.{tableIn, Fit}
 use Rattle.judge.proofs.Ticks.{size, column, Before, After, Chosen, walk-skipped, next-tick}
 use Rattle.text.specs.Decimal.{decimal}
 use Rattle.text.specs.Format.{newline}
 use Rattle.text.specs.Output.{fields, lineOf, rowLine}
 use Rattle.text.specs.Written.{Put}
-use Rattle.text.specs.Cells.{cells}
-use Rattle.text.specs.Printer.{widthsIn, Stepping, Stepped}
-use Rattle.text.specs.declared.print.Pace.{Pace}
+use Rattle.printer.specs.Cells.{cells}
+use Rattle.printer.specs.Printer.{widthsIn, Stepping, Stepped}
+use Rattle.printer.specs.declared.Pace.{Pace}
 use Rattle.text.proofs.Writing.{put-length, put-front}
 
 module _ (t : Loaded) (fit : Fit t) where
   abbrev s : Table

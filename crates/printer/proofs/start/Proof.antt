@@ -1,9 +1,9 @@
--- `text::print::start` meets its contract: the first line is written, and the run stands before tick 0 with the text of no claimants.
+-- `printer::start` meets its contract: the first line is written, and the run stands before tick 0 with the text of no claimants.
 -- Assumes nothing.
 use borrow.Author.Needs.{needs}
-use Rattle.text.proofs.Made.{start-of}
-use Rattle.text.proofs.print.start.Statement.{statement}
-use Rattle.text.proofs.print.start.Tie as tie
+use Rattle.printer.proofs.Made.{start-of}
+use Rattle.printer.proofs.start.Statement.{statement}
+use Rattle.printer.proofs.start.Tie as tie
 
 columns-of-requires : tie.Need-columns-of-requires
 columns-of-requires c κs = search needs

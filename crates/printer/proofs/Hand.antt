@@ -7,17 +7,17 @@ use native.Mathlib.Omega.{arith}
 use lib.ListN.{length, take, drop, length-take, length-drop, length-append}
 use lib.Seq.{take-append-le, drop-append-le, take-take, drop-drop, take-add, take-nil, drop-nil, length-take-le}
 use Rattle.model.specs.Book.{full, rowOf}
 use Rattle.text.specs.Output.{rowLine, rowLines}
 use Rattle.text.specs.Written.{Put}
-use Rattle.text.specs.Printer.{machineOf, rest, Keeps, Going, PieceOf, Stepping, Stepped}
-use Rattle.text.specs.declared.print.Printer.{Printer}
-use Rattle.text.specs.declared.print.Pace.{Pace}
-use Rattle.text.specs.declared.print.Piece.{Piece}
+use Rattle.printer.specs.Printer.{machineOf, rest, Keeps, Going, PieceOf, Stepping, Stepped}
+use Rattle.printer.specs.declared.Printer.{Printer}
+use Rattle.printer.specs.declared.Pace.{Pace}
+use Rattle.printer.specs.declared.Piece.{Piece}
 use Rattle.full.specs.declared.columns.Columns.{Columns}
 use Rattle.full.specs.Fields.{columnsOf}
 use Rattle.full.specs.Machine.{machine}
 use Rattle.judge.specs.Judged.{tableIn}
 use Rattle.text.proofs.Writing.{put-none, put-then, put-length, put-front}
 
 -- nothing of nothing
 drop-nil' : {A : Type 0} (k n : ℕ) → _≡_ {A = List A} (drop k (take n [])) []

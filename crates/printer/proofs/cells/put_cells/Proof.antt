@@ -1,4 +1,4 @@
--- `text::row::put_cells` meets its contract: the sets that the rule grants are painted into the row of the model.
+-- `printer::cells::put_cells` meets its contract: the sets that the rule grants are painted into the row of the model.
 -- Assumes nothing.
 use mathlib.Core.List.{List, [], _∷_, _++_}
 use mathlib.Core.Path.{_≡_, ap, subst}
@@ -7,14 +7,14 @@ use native.Mathlib.Omega.{arith}
 use lib.ListN.{take}
 use Rattle.model.specs.Search.{bit}
 use Rattle.model.specs.Grants.{claimants}
 use Rattle.text.specs.Format.{newline}
 use Rattle.text.specs.Output.{fields}
 use Rattle.text.specs.Written.{Put}
-use Rattle.text.specs.Cells.{cells}
-use Rattle.text.proofs.RowText.{row-front}
+use Rattle.printer.specs.Cells.{cells}
+use Rattle.printer.proofs.RowText.{row-front}
 use borrow.Author.Needs.{needs}
-use Rattle.text.proofs.row.put_cells.Statement.{statement}
-use Rattle.text.proofs.row.put_cells.Tie as tie
+use Rattle.printer.proofs.cells.put_cells.Statement.{statement}
+use Rattle.printer.proofs.cells.put_cells.Tie as tie
 
 first-cores-requires : tie.Need-first-cores-requires
 first-cores-requires c κs = search needs

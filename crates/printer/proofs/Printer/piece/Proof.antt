@@ -1,15 +1,15 @@
--- `text::print::Printer::piece` meets its contract: what has been handed out and what is left make up what there was (`Handing`). It stops where the
+-- `printer::Printer::piece` meets its contract: what has been handed out and what is left make up what there was (`Handing`). It stops where the
 -- buffer is full, or where the line is at its end and no row is to come. Each turn but the last makes a row's line. Assumes nothing.
 use borrow.Author.Needs.{needs}
 use native.Mathlib.Omega.{arith}
 use mathlib.Core.Path.{_≡_, sym}
 use mathlib.Core.List.{List}
 use Prim.Native.Nat.{ℕ, _+_, _-_, _≤_, _<_}
-use Rattle.text.specs.Printer.{machineOf, Stepping, Stepped}
-use Rattle.text.specs.declared.print.Printer.{Printer}
-use Rattle.text.proofs.Hand.{Handing, at-given, hand-start, hand-part, part-fills, hand-step, hand-full, hand-done, stepping-of}
-use Rattle.text.proofs.print.Printer.piece.Statement.{statement}
-use Rattle.text.proofs.print.Printer.piece.Tie as tie
+use Rattle.printer.specs.Printer.{machineOf, Stepping, Stepped}
+use Rattle.printer.specs.declared.Printer.{Printer}
+use Rattle.printer.proofs.Hand.{Handing, at-given, hand-start, hand-part, part-fills, hand-step, hand-full, hand-done, stepping-of}
+use Rattle.printer.proofs.Printer.piece.Statement.{statement}
+use Rattle.printer.proofs.Printer.piece.Tie as tie
 
 abbrev Inv-loop : tie.InvT-loop
 Inv-loop buffer₀ table end width length deadline period left₀ moment₀ next₀ pace₀ text₀ line₀ given₀ at₀ buffer left moment next pace text line given at =

@@ -1,0 +1,5 @@
+pub mod RowText
+pub mod Step
+pub mod Hand
+pub mod Made
+pub mod Pieces

@@ -1,0 +1,25 @@
+ghost use Prim.Native.Nat.{_≤_};
+ghost use lib.ListN.{length, take};
+ghost use Rattle.text.specs.Written.{Put};
+ghost use Rattle.printer.specs.Cells.{cells};
+use text::row;
+
+// Writes the positions of the cores, and a newline, where the places of the set `claims` claim; the answer is where they end.
+pub fn put_cells(
+    rule: u32,
+    cores: u32,
+    claims: u32,
+    widths: &[u32; 32],
+    count: usize,
+    text: &mut [u8],
+) -> usize
+    requires { ⌜ (cores ≤ 64) × (count ≤ 32) × (257 ≤ length (now text)) ⌝ }
+    ensures { λ r. ⌜ (Put (now (text .entry)) 0 (cells rule cores (take count (now (widths .entry))) claims) (now (text .exit)) r) × (r ≤ 257) ⌝ }
+{
+    let free = rule::first_cores(cores);
+    let granted = rule::grants(rule, free, claims, widths, count);
+    let sets = granted.sets;
+    let blank = [0u8; 64];
+    let row = rule::row_of(blank, 1, &sets, count);
+    row::spell(row, cores as usize, text)
+}
