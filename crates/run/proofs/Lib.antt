@@ -1,20 +1,11 @@
-pub mod Examples
 pub mod Places
-pub mod Bits
 pub mod Phases
 pub mod Limits
-pub mod Tied
-pub mod Ticks
-pub mod Alike
-pub mod Related
-pub mod Stands
-pub mod Words
-pub mod Follows
-pub mod Demand
 pub mod First
 pub mod Past
 pub mod Again
 pub mod Exact
+pub mod StartPasses
 pub mod StartExact
 pub mod ByVerdict
 pub mod Cases
@@ -24,5 +15,3 @@ pub mod Rules
 pub mod RunOut
 pub mod Shown
 pub mod Written
-pub mod Listed
-pub mod Outcomes

@@ -38,7 +38,7 @@ run-decides r =
 
 -- WHAT PASSES IT
 
-or-left-false : (a b : Bool) → a || b ≡ false → a ≡ false
+pub or-left-false : (a b : Bool) → a || b ≡ false → a ≡ false
 or-left-false true b e = absurd (true≢false e)
 or-left-false false b e = refl
 

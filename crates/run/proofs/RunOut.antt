@@ -14,10 +14,10 @@ use Rattle.run.specs.declared.Phase.{Phase}
 use Rattle.run.specs.declared.Phase.the-variants.{Coming, Working, Holding, Resting}
 use Rattle.run.specs.declared.Run.{Run}
 use Rattle.run.specs.Phase.{PhaseIn}
-use Rattle.run.specs.Room.{Roomy}
+use Rattle.run.specs.Headroom.{Roomy}
 use Rattle.run.specs.Run.{ruleIn, taskAt, phaseAt}
 use Rattle.run.specs.Numbers.{placeOut, runOut, lateAt, firstLateIn}
-use Rattle.run.proofs.Limits.{Passes, passes-if}
+use Rattle.run.proofs.Limits.{or-left-false, Passes, passes-if}
 
 -- ---- the head, then the places
 
@@ -36,10 +36,6 @@ last-out false true c d e = absurd (true≢false e)
 last-out false false true d e = absurd (true≢false e)
 last-out false false false d e = refl
 
-left-out : (a b : Bool) → a || b ≡ false → a ≡ false
-left-out true b e = absurd (true≢false e)
-left-out false b e = refl
-
 module _ (r : Run) where
   pub out-by-head : headOut r ≡ true → runOut r ≡ true
   unfolding runOut
@@ -52,7 +48,7 @@ module _ (r : Run) where
   pub head-few : headOut r ≡ false → r .count ≤ 32
   head-few e =
       from-decides 1 32 (r .count) .0
-      (not-false (from 1 32 (r .count)) (left-out (not (from 1 32 (r .count))) (coresOut (r .cores) || ruleOut (r .rule)) e)) .1
+      (not-false (from 1 32 (r .count)) (or-left-false (not (from 1 32 (r .count))) (coresOut (r .cores) || ruleOut (r .rule)) e)) .1
 
 -- ---- what a run that passes 14 has
 

@@ -21,7 +21,7 @@ use Rattle.run.specs.Answer.{told}
 use Rattle.run.specs.Numbers.{First, NoneApplies, RunOut, runOut}
 use Rattle.run.specs.Start.{StartApplies, as-table, thirteen, byVerdict, byTable, startAnswer, startedRun, emptyRun, startOf, StartOf}
 use Rattle.run.proofs.Limits.{run-decides, passes-runs}
-use Rattle.run.proofs.Words.{stands-start, taken-passed, taken-begun}
+use Rattle.run.proofs.StartPasses.{start-passes, taken-passed}
 use Rattle.run.proofs.First.{by-taken, by-refused, not-before-itself, Right, refused-exact, taken-exact}
 
 -- the run of all zeros is turned down by 14
@@ -95,16 +95,19 @@ module _ (ws : List ℕ) where
     value = refl;
     refused = start-exact;
     taken = start-taken;
-    started = unfold startOf in by-taken (startAnswer ws) (startedRun (rule ws) (tableOf ws)) emptyRun;
+    started = started;
     zeros = zeros;
     passes = λ e.
-        subst (λ (r : Run). ¬ RunOut r) (sym (taken-begun ws e))
-        (fails (runOut first) (RunOut first) (run-decides first) (passes-runs first (stands-start ws (taken-passed ws e) .passes)));
+        subst (λ (r : Run). ¬ RunOut r) (sym (started e))
+        (fails (runOut first) (RunOut first) (run-decides first) (passes-runs first (start-passes ws (taken-passed ws e))));
     out = λ n p e. subst (λ (r : Run). RunOut r) (sym (zeros n p e)) (run-decides emptyRun .0 empty-run-out);
   }
     where
       first : Run
       first = startedRun (rule ws) (tableOf ws)
 
+      started : told (startOf ws .answer) ≡ model.taken → startOf ws .run ≡ first
+      started = unfold startOf in by-taken (startAnswer ws) first emptyRun
+
       zeros : (n p : ℕ) → told (startOf ws .answer) ≡ model.refused n p → startOf ws .run ≡ emptyRun
-      zeros = unfold startOf in by-refused (startAnswer ws) (startedRun (rule ws) (tableOf ws)) emptyRun
+      zeros = unfold startOf in by-refused (startAnswer ws) first emptyRun

@@ -5,11 +5,6 @@ pub mod Numbers
 pub mod Advance
 pub mod Row
 pub mod Start
-pub mod Advances
-pub mod Follows
-pub mod Demand
 pub mod Past
 pub mod Claims
-pub mod Room
-pub mod Replay
-pub mod Small
+pub mod Headroom

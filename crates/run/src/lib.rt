@@ -5,12 +5,10 @@ ghost use Rattle.run.specs.declared.Answer.the-variants.{Taken, Refused}
 ghost use Rattle.run.specs.Row.{RowOf, noBytes};
 ghost use Rattle.run.specs.Advance.{AdvanceOf};
 ghost use Rattle.run.specs.Start.{StartOf};
-ghost use Rattle.run.specs.Replay.{ReplayOf};
 
 mod bounds; // bounds.rt: numbers 14 and 15
 mod choosing; // choosing.rt: who claims in the present tick, and the bytes of its row
 mod moves; // moves.rt: one tick
-mod replays; // replays.rt: a run through a whole list of report sets
 mod sets; // sets.rt: sets of places
 mod starts; // starts.rt: the run of a table as it starts
 
@@ -65,14 +63,6 @@ pub struct Advanced {
 pub struct Row {
     pub answer: Answer,
     pub bytes: [u8; 64],
-}
-
-// What a replay is answered: the last row shown, or refused with number and position; the start refused with number and position; or a lent slice too short.
-pub enum Replayed {
-    Shown,
-    RowRefused(u32, u32),
-    Refused(u32, u32),
-    Short,
 }
 
 // The run of a table's words as it starts; or the first of 1 to 9 that applies, or 13 where the verdict is Miss, and the run of all zeros.
@@ -163,22 +153,6 @@ impl Run {
                 }
             }
             Answer::Refused(number, position) => self.refused(number, position),
-        }
-    }
-}
-
-// A replay: the run of a table's words, started and advanced through all of `reports`. Each answer goes into `numbers`, the last row into `bytes`;
-// a refused start, and a lent slice too short, leave both as found.
-pub fn replay(words: &[u32], reports: &[u32], numbers: &mut [u32], bytes: &mut [u8]) -> Replayed
-    ensures { λ r. ⌜ ReplayOf (now (words .entry)) (now (reports .entry)) (now (numbers .entry)) (now (bytes .entry)) (record { answer = r; numbers = now (numbers .exit); bytes = now (bytes .exit) }) ⌝ }
-{
-    let started = start(words);
-    let answer = started.answer;
-    match answer {
-        Answer::Refused(number, position) => Replayed::Refused(number, position),
-        Answer::Taken => {
-            let run = started.run;
-            replays::play(run, reports, numbers, bytes)
         }
     }
 }

@@ -4,7 +4,7 @@ ghost use Prim.Native.Nat.{ℕ};
 ghost use Rattle.model.specs.Task.{ruleOf};
 ghost use Rattle.model.specs.Search.{bit};
 ghost use Rattle.run.specs.Phase.{resting, holding, ended, worked};
-ghost use Rattle.run.specs.Room.{Roomy};
+ghost use Rattle.run.specs.Headroom.{Roomy};
 ghost use Rattle.run.specs.Run.{taskOf, nextTask, hasCores, moved};
 ghost use Rattle.run.specs.Numbers.{runOut};
 use crate::Phase;

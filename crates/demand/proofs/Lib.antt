@@ -1,0 +1,11 @@
+pub mod Tied
+pub mod Ticks
+pub mod Alike
+pub mod Related
+pub mod Stands
+pub mod Words
+pub mod Follows
+pub mod Demand
+pub mod Listed
+pub mod Outcomes
+pub mod Examples

@@ -1,0 +1,230 @@
+-- A tick keeps the tie of a task's phase to its line of jobs, where the task is not late; and the start is tied to the empty book.
+use mathlib.Core.Path.{_≡_, refl, sym, ap, _∙_, subst}
+use mathlib.Core.Bool.{Bool, true, false, _&&_, _||_, cond}
+use mathlib.Core.Logic.{⊎-elim}
+use Prim.Native.Nat.{ℕ, suc, _+_, _-_, _≤_, _<_}
+use native.Mathlib.Nat.{le-of-suc-le-suc, le-trans, eq-or-lt-of-le}
+use native.Mathlib.Numerals.{add-one}
+use native.Mathlib.Omega.{arith}
+use lib.Dec.{leb, eqb}
+use borrow.Author.Tests.{eqb-false, le-leb, lt-leb}
+use Rattle.model.specs.Task.{Task, Sound, Rule, idling, newest}
+use Rattle.model.specs.Book.{Job, fresh, holds, claims, work}
+use Rattle.model.proofs.Jobs.{mk, next, next-ended, next-claimed, claims-if, newest-is, others}
+use Rattle.run.specs.declared.Phase.{Phase}
+use Rattle.run.specs.declared.Phase.the-variants.{Coming, Working, Holding, Resting}
+use Rattle.run.specs.Phase.{idles, lateIn, startPhase, resting, holding, ended, worked, nextPhase}
+use Rattle.run.proofs.Phases.{by-eq, idles-decides}
+use Rattle.demand.proofs.Tied.{Present, Tied, newest-in, early, hold-if, full-done, none-holds, ended-also, rests-off}
+
+-- a line after a tick in which its task had cores or not
+abbrev pub lineOn : Rule → Task → ℕ → Bool → Bool → (ℕ → Job) → ℕ → Job
+lineOn r τ t w f js i = cond (claims r τ i t (js i) && w) (work (τ .length) f (js i)) (js i)
+
+-- a job that does not claim is as it was
+line-off : (r : Rule) (τ : Task) (t : ℕ) (w f : Bool) (js : ℕ → Job) (i : ℕ) → claims r τ i t (js i) ≡ false → lineOn r τ t w f js i ≡ js i
+line-off r τ t w f js i e = rw e
+
+line-own : (r : Rule) (τ : Task) (t : ℕ) (w f : Bool) (js : ℕ → Job) (i : ℕ) → claims r τ i t (js i) ≡ true → lineOn r τ t w f js i ≡ next (τ .length) f w (js i)
+line-own r τ t w f js i e = rw e
+
+-- where k is the newest, the present job one tick on is still k
+present-on :
+    (r : Rule) (τ : Task) → Sound τ → (t : ℕ) (js : ℕ → Job) (w f : Bool) (k z : ℕ) → newest τ t ≡ k
+    → Present τ t js k z → Present τ (suc t) (lineOn r τ t w f js) k (z + 1)
+present-on r τ ok t js w f k z new h = record {
+  when = omega (arith, h .when);
+  past = λ i l. ap (λ (j : Job). j .ended) (same i (omega arith)) ∙ h .past i l;
+  ahead = λ i l. same i (omega arith) ∙ h .ahead i l;
+}
+  where
+    same : (i : ℕ) → (i ≡ k → ⊥) → lineOn r τ t w f js i ≡ js i
+    same i ne = line-off r τ t w f js i (others r τ k t i (js i) (ok .constrained) new ne)
+
+-- AFTER A TICK
+
+module _ (r : Rule) (τ : Task) (ok : Sound τ) (t : ℕ) (js : ℕ → Job) (k z : ℕ) (h : Present τ t js k z) where
+  -- a job that has ended rests, or the next is released
+  rested : 1 ≤ z → z ≤ τ .period → js k .ended ≡ true → (holds r τ (js k) ≡ true → τ .deadline ≤ z) → Tied r τ t js (resting τ z)
+  rested a b over done =
+      by-eq (λ (x : Bool). Tied r τ t js (cond x (Working 0 0) (Resting z))) z (τ .period)
+      (λ e. record {
+        number = suc k;
+        present = record {
+          when = omega (arith, h .when);
+          past = λ i l. ⊎-elim (λ (q : i ≡ k). subst (λ (x : ℕ). js x .ended ≡ true) (sym q) over) (λ (q : i < k). h .past i q) (eq-or-lt-of-le (le-of-suc-le-suc l));
+          ahead = λ i l. h .ahead i (omega arith);
+        };
+        by-due = omega arith;
+        short = ok .length-pos;
+        within = omega arith;
+        line = h .ahead (suc k) (omega arith);
+      })
+      (λ n. record { number = k; present = h; begun = a; short = omega arith; over = over; done = done })
+
+  -- a held job
+  held-on :
+      r ≡ idling → 1 ≤ z → z ≤ τ .deadline → (u : ℕ) → 1 ≤ u → u ≤ τ .length → u ≤ z → js k .ended ≡ true → js k .claimed ≡ u
+      → Tied r τ t js (holding τ z u)
+  held-on idle a b u c d w over held =
+      by-eq (λ (x : Bool). Tied r τ t js (cond (x || eqb z (τ .deadline)) (resting τ z) (Holding z u))) u (τ .length)
+      (λ e. rested a (le-trans b (ok .constrained)) over (λ q. absurd (full-done r τ (js k) (omega arith) q)))
+      (λ n.
+      by-eq (λ (x : Bool). Tied r τ t js (cond x (resting τ z) (Holding z u))) z (τ .deadline)
+      (λ e. rested a (le-trans b (ok .constrained)) over (λ q. omega arith))
+      (λ m. record {
+        number = k;
+        present = h;
+        idle = idle;
+        begun = a;
+        in-time = omega arith;
+        some = c;
+        short = omega arith;
+        within = w;
+        over = over;
+        held = held;
+      }))
+
+  -- a job that has just ended
+  ended-on :
+      1 ≤ z → z ≤ τ .deadline → (u : ℕ) → 1 ≤ u → u ≤ τ .length → u ≤ z → js k .ended ≡ true → js k .claimed ≡ u
+      → Tied r τ t js (ended r τ z u)
+  ended-on a b u c d w over held = go (idles r) refl
+    where
+      go : (x : Bool) → idles r ≡ x → Tied r τ t js (cond x (holding τ z u) (resting τ z))
+      go true e = held-on (idles-decides r .0 e) a b u c d w over held
+      go false e = rested a (le-trans b (ok .constrained)) over (λ q. absurd (none-holds r τ (js k) e q))
+
+  -- an open job after a tick with cores
+  worked-on :
+      z ≤ τ .deadline → (u : ℕ) (f : Bool) → 1 ≤ u → u ≤ τ .length → u ≤ z → js k ≡ mk u u (f || leb (τ .length) u)
+      → Tied r τ t js (worked r τ f z u)
+  worked-on b u true c d w line = ended-on (omega arith) b u c d w (ap (λ (j : Job). j .ended) line) (ap (λ (j : Job). j .claimed) line)
+  worked-on b u false c d w line =
+      by-eq (λ (x : Bool). Tied r τ t js (cond x (ended r τ z u) (Working z u))) u (τ .length)
+      (λ e.
+      ended-on (omega arith) b u c d w (ap (λ (j : Job). j .ended) line ∙ le-leb (τ .length) u (omega arith)) (ap (λ (j : Job). j .claimed) line))
+      (λ n. record {
+        number = k;
+        present = h;
+        by-due = b;
+        short = omega arith;
+        within = w;
+        line = line ∙ ap (λ (e : Bool). mk u u e) (lt-leb (τ .length) u (omega arith));
+      })
+
+-- a job after a tick in its row, that was not ended: it has had one more, and ends if reported or at C
+work-open : (C u : ℕ) (f : Bool) (j : Job) → j ≡ mk u u false → work C f j ≡ mk (suc u) (suc u) (f || leb C (suc u))
+unfolding work
+work-open C u f j e = rw e
+
+-- ONE TICK
+
+-- at the start the first release is now, or it is O ticks ahead
+pub tied-start : (r : Rule) (τ : Task) → Sound τ → Tied r τ 0 (λ k. fresh) (startPhase (τ .offset))
+tied-start r τ ok =
+    by-eq (λ (x : Bool). Tied r τ 0 (λ k. fresh) (cond x (Working 0 0) (Coming (τ .offset)))) (τ .offset) 0
+    (λ e. record {
+      number = 0;
+      present = record { when = omega arith; past = λ i l. absurd (omega arith); ahead = λ i l. refl };
+      by-due = omega arith;
+      short = ok .length-pos;
+      within = omega arith;
+      line = refl;
+    })
+    (λ n. record { some = omega arith; when = omega arith; unmet = λ i. refl })
+
+-- the tie holds one tick on, where the task is not late
+pub tied-on :
+    (r : Rule) (τ : Task) → Sound τ → (t : ℕ) (js : ℕ → Job) (w f : Bool) (ph : Phase)
+    → Tied r τ t js ph → lateIn (τ .deadline) ph ≡ false
+    → Tied r τ (suc t) (lineOn r τ t w f js) (nextPhase r τ w f ph)
+tied-on r τ ok t js w f (Coming left) h n =
+    by-eq (λ (x : Bool). Tied r τ (suc t) (lineOn r τ t w f js) (cond x (Working 0 0) (Coming (left - 1)))) (left - 1) 0
+    (λ e. record {
+      number = 0;
+      present = record { when = omega (arith, h .when, h .some); past = λ i q. absurd (omega arith); ahead = λ i q. unmet i };
+      by-due = omega arith;
+      short = ok .length-pos;
+      within = omega arith;
+      line = unmet 0;
+    })
+    (λ e. record {
+      some = omega (arith, h .some);
+      when = omega (arith, h .when, h .some);
+      unmet = unmet;
+    })
+  where
+    unmet : (i : ℕ) → lineOn r τ t w f js i ≡ fresh
+    unmet i = line-off r τ t w f js i (early r τ t i (js i) (omega (arith, h .when, h .some))) ∙ h .unmet i
+tied-on r τ ok t js w f (Working z u) h n = go w
+  where
+    k : ℕ
+    k = h .number
+
+    less : z < τ .deadline
+    less = omega (arith, eqb-false z (τ .deadline) n, h .by-due)
+
+    new : newest τ t ≡ k
+    new = newest-is τ k t (ok .constrained) (omega (arith, h .present .when)) (omega (arith, h .present .when, less))
+
+    own : claims r τ k t (js k) ≡ true
+    own = claims-if r τ k t (js k) (omega (arith, h .present .when)) (omega (arith, h .present .when, less)) (rw (h .line))
+
+    go : (w : Bool) → Tied r τ (suc t) (lineOn r τ t w f js) (nextPhase r τ w f (Working z u))
+    go true =
+        worked-on r τ ok (suc t) (lineOn r τ t true f js) k (z + 1) (present-on r τ ok t js true f k z new (h .present))
+        (omega (arith, less)) (u + 1) f (omega arith) (omega (arith, h .short)) (omega (arith, h .within))
+        (line-own r τ t true f js k own ∙ (work-open (τ .length) u f (js k) (h .line) ∙ rw add-one))
+    go false = record {
+      number = k;
+      present = present-on r τ ok t js false f k z new (h .present);
+      by-due = omega (arith, less);
+      short = h .short;
+      within = omega (arith, h .within);
+      line = line-own r τ t false f js k own ∙ h .line;
+    }
+tied-on r τ ok t js w f (Holding z u) h n = go w
+  where
+    k : ℕ
+    k = h .number
+
+    new : newest τ t ≡ k
+    new = newest-is τ k t (ok .constrained) (omega (arith, h .present .when)) (omega (arith, h .present .when, h .in-time))
+
+    own : claims r τ k t (js k) ≡ true
+    own =
+        claims-if r τ k t (js k) (omega (arith, h .present .when)) (omega (arith, h .present .when, h .in-time))
+        (ended-also (js k .ended) (holds r τ (js k)) (h .over) (hold-if r τ (js k) (h .idle) (omega (arith, h .held, h .short))))
+
+    over : (w : Bool) → lineOn r τ t w f js k .ended ≡ true
+    over w = ap (λ (j : Job). j .ended) (line-own r τ t w f js k own) ∙ next-ended (τ .length) f w (js k) (h .over) .0
+
+    held : (w : Bool) → lineOn r τ t w f js k .claimed ≡ cond w (suc (js k .claimed)) (js k .claimed)
+    held w =
+        ap (λ (j : Job). j .claimed) (line-own r τ t w f js k own)
+        ∙ next-claimed (τ .length) f w (js k .had) (js k .claimed) (js k .ended)
+
+    go : (w : Bool) → Tied r τ (suc t) (lineOn r τ t w f js) (holding τ (z + 1) (cond w (u + 1) u))
+    go true =
+        held-on r τ ok (suc t) (lineOn r τ t true f js) k (z + 1) (present-on r τ ok t js true f k z new (h .present))
+        (h .idle) (omega arith) (omega (arith, h .in-time)) (u + 1) (omega arith) (omega (arith, h .short)) (omega (arith, h .within))
+        (over true) (held true ∙ omega (arith, h .held))
+    go false =
+        held-on r τ ok (suc t) (lineOn r τ t false f js) k (z + 1) (present-on r τ ok t js false f k z new (h .present))
+        (h .idle) (omega arith) (omega (arith, h .in-time)) u (h .some) (omega (arith, h .short)) (omega (arith, h .within))
+        (over false) (held false ∙ h .held)
+tied-on r τ ok t js w f (Resting z) h n =
+    rested r τ ok (suc t) (lineOn r τ t w f js) k (z + 1) (present-on r τ ok t js w f k z new (h .present))
+    (omega arith) (omega (arith, h .short))
+    (ap (λ (j : Job). j .ended) same ∙ h .over)
+    (λ e. le-trans (h .done (subst (λ (j : Job). holds r τ j ≡ true) same e)) (omega arith))
+  where
+    k : ℕ
+    k = h .number
+
+    new : newest τ t ≡ k
+    new = newest-in τ k t (le-trans (ok .deadline-pos) (ok .constrained)) (omega (arith, h .present .when)) (omega (arith, h .present .when, h .short))
+
+    same : lineOn r τ t w f js k ≡ js k
+    same = line-off r τ t w f js k (rests-off r τ t (js k) k z (h .present .when) (h .over) (h .done))

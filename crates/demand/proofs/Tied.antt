@@ -1,0 +1,120 @@
+-- A task's phase and its line of jobs in the book: what ties them, and which job claims.
+use mathlib.Core.Path.{_≡_, refl}
+use mathlib.Core.Bool.{Bool, true, false, not, _||_, false≢true, true≢false}
+use Prim.Native.Nat.{ℕ, _+_, _≤_, _<_}
+use native.Mathlib.Nat.{div-lt-iff-lt-mul, le-div-iff-mul-le, le-antisymm, le-of-suc-le-suc}
+use native.Mathlib.Omega.{arith}
+use borrow.Author.Tests.{ltb-true, lt-ltb}
+use Rattle.model.specs.Task.{Task, Rule, greedy, limited, idling, release, newest}
+use Rattle.model.specs.Book.{Job, fresh, holds, claims}
+use Rattle.model.proofs.Bools.{not-true-false}
+use Rattle.model.proofs.Jobs.{mk, after-release, before-due, still}
+use Rattle.run.specs.declared.Phase.{Phase}
+use Rattle.run.specs.declared.Phase.the-variants.{Coming, Working, Holding, Resting}
+use Rattle.run.specs.Phase.{PhaseIn, idles}
+
+-- THE TIE
+
+-- Coming left: the first release is so many ticks ahead, and every job is fresh
+pub record Comes (τ : Task) (t : ℕ) (js : ℕ → Job) (left : ℕ) : Type 0 where
+  pub some : 1 ≤ left
+  pub when : t + left ≡ τ .offset
+  pub unmet : (i : ℕ) → js i ≡ fresh
+
+-- the job of this number was released z ticks ago; those before it have ended, those after it are fresh
+pub record Present (τ : Task) (t : ℕ) (js : ℕ → Job) (number z : ℕ) : Type 0 where
+  pub when : release τ number + z ≡ t
+  pub past : (i : ℕ) → i < number → js i .ended ≡ true
+  pub ahead : (i : ℕ) → number < i → js i ≡ fresh
+
+-- Working z u: the present job has not ended and has had u ticks
+pub record Works (τ : Task) (t : ℕ) (js : ℕ → Job) (z u : ℕ) : Type 0 where
+  pub number : ℕ
+  pub present : Present τ t js number z
+  pub by-due : z ≤ τ .deadline
+  pub short : u < τ .length
+  pub within : u ≤ z
+  pub line : js number ≡ mk u u false
+
+-- Holding z u: under idling, the present job has ended, has claimed u ticks and is not yet due
+pub record Holds (r : Rule) (τ : Task) (t : ℕ) (js : ℕ → Job) (z u : ℕ) : Type 0 where
+  pub number : ℕ
+  pub present : Present τ t js number z
+  pub idle : r ≡ idling
+  pub begun : 1 ≤ z
+  pub in-time : z < τ .deadline
+  pub some : 1 ≤ u
+  pub short : u < τ .length
+  pub within : u ≤ z
+  pub over : js number .ended ≡ true
+  pub held : js number .claimed ≡ u
+
+-- Resting z: the present job has ended, and holds no more before it is due
+pub record Rests (r : Rule) (τ : Task) (t : ℕ) (js : ℕ → Job) (z : ℕ) : Type 0 where
+  pub number : ℕ
+  pub present : Present τ t js number z
+  pub begun : 1 ≤ z
+  pub short : z < τ .period
+  pub over : js number .ended ≡ true
+  pub done : holds r τ (js number) ≡ true → τ .deadline ≤ z
+
+abbrev pub Tied : Rule → Task → ℕ → (ℕ → Job) → Phase → Type 0
+Tied r τ t js (Coming left) = Comes τ t js left
+Tied r τ t js (Working z u) = Works τ t js z u
+Tied r τ t js (Holding z u) = Holds r τ t js z u
+Tied r τ t js (Resting z) = Rests r τ t js z
+
+-- a tied phase is within its limits
+pub tied-in : (r : Rule) (τ : Task) (t : ℕ) (js : ℕ → Job) (ph : Phase) → Tied r τ t js ph → PhaseIn r τ ph
+tied-in r τ t js (Coming left) h = (h .some, omega (arith, h .when))
+tied-in r τ t js (Working z u) h = ((omega arith, h .by-due), h .short, h .within)
+tied-in r τ t js (Holding z u) h = (h .idle, (h .begun, omega (arith, h .in-time)), (h .some, omega (arith, h .short)), h .within)
+tied-in r τ t js (Resting z) h = (h .begun, omega (arith, h .short))
+
+-- WHICH JOB IS THE NEWEST, AND WHICH CLAIMS
+
+pub newest-in : (τ : Task) (k t : ℕ) → 0 < τ .period → release τ k ≤ t → t < release τ k + τ .period → newest τ t ≡ k
+newest-in τ k t pos h l =
+    le-antisymm
+    (le-of-suc-le-suc (div-lt-iff-lt-mul pos .1 (omega arith)))
+    (le-div-iff-mul-le pos .1 (omega arith))
+
+-- none claims before the first release
+pub early : (r : Rule) (τ : Task) (t i : ℕ) (j : Job) → t < τ .offset → claims r τ i t j ≡ false
+early r τ t i j l = not-true-false (claims r τ i t j) (λ e. absurd (omega (arith, after-release r τ i t j e)))
+
+-- HOLDING
+
+pub hold-if : (r : Rule) (τ : Task) (j : Job) → r ≡ idling → j .claimed < τ .length → holds r τ j ≡ true
+hold-if r τ j e l = rw e (lt-ltb (j .claimed) (τ .length) l)
+
+-- a job that has claimed C ticks holds no more
+pub full-done : (r : Rule) (τ : Task) (j : Job) → τ .length ≤ j .claimed → holds r τ j ≡ true → ⊥
+full-done greedy τ j l e = false≢true e
+full-done limited τ j l e = false≢true e
+full-done idling τ j l e = omega (arith, ltb-true (j .claimed) (τ .length) e)
+
+-- under a rule other than idling no job holds
+pub none-holds : (r : Rule) (τ : Task) (j : Job) → idles r ≡ false → holds r τ j ≡ true → ⊥
+none-holds greedy τ j n e = false≢true e
+none-holds limited τ j n e = false≢true e
+none-holds idling τ j n e = true≢false n
+
+-- an ended job claims if it holds
+ended-only : (a b : Bool) → a ≡ true → not a || b ≡ true → b ≡ true
+ended-only true b e h = h
+ended-only false b e h = absurd (false≢true e)
+
+pub ended-also : (a b : Bool) → a ≡ true → b ≡ true → not a || b ≡ true
+ended-also true b e h = h
+ended-also false b e h = refl
+
+-- a job that has ended and holds no more before it is due does not claim
+pub rests-off :
+    (r : Rule) (τ : Task) (t : ℕ) (j : Job) (k z : ℕ) → release τ k + z ≡ t → j .ended ≡ true → (holds r τ j ≡ true → τ .deadline ≤ z)
+    → claims r τ k t j ≡ false
+rests-off r τ t j k z when over done =
+    not-true-false (claims r τ k t j)
+    (λ e.
+    let d : τ .deadline ≤ z = done (ended-only (j .ended) (holds r τ j) over (still r τ k t j e)) in
+    absurd (omega (arith, before-due r τ k t j e)))

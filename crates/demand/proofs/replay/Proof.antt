@@ -1,0 +1,56 @@
+-- `demand::replay` meets its contract: a refused start leaves everything as found, and a run that has started is played (`replay-of`).
+-- Assumes nothing.
+use mathlib.Core.Path.{_≡_, sym, ap, _∙_}
+use borrow.Author.Needs.{needs}
+use Rattle.run.specs.declared.Answer.{Answer}
+use Rattle.run.specs.declared.Run.{Run}
+use Rattle.run.specs.declared.Started.{Started}
+use Rattle.run.specs.Start.{startOf}
+use Rattle.demand.specs.Replay.{played}
+use Rattle.demand.proofs.Outcomes.{replay-refused, replay-taken, replay-of}
+use Rattle.demand.proofs.replay.Statement.{statement}
+use Rattle.demand.proofs.replay.Tie as tie
+
+-- the answer of the start is the definition's
+told : (c : tie.After-start) (a : Answer) → c .start .result .answer ≡ a → startOf (c .before .before .before .before .before .args .words .now) .answer ≡ a
+told c a e = ap (λ (s : Started). s .answer) (sym (c .start .ensures .value)) ∙ e
+
+start-requires : tie.Need-start-requires
+start-requires c κs = search needs
+
+enum-known-answer : tie.Need-enum-known-answer
+enum-known-answer c = search needs
+
+enum-told : tie.Need-enum-told
+enum-told c = search needs
+
+play-requires : tie.Need-play-requires
+play-requires c κs = search needs
+
+returns : tie.Need-returns
+returns c =
+    let s = c .before .before .before in
+    let a = s .before .before .before .before .before .args in
+    replay-of (a .words .now) (a .reports .now) (a .numbers .now) (a .bytes .now) _
+    (sym (replay-refused (a .words .now) (a .reports .now) (a .numbers .now) (a .bytes .now) _ _ (told s _ (c .before .answer .given .1))))
+
+same-length : tie.Need-same-length
+same-length c = search needs
+
+same-length-2 : tie.Need-same-length-2
+same-length-2 c = search needs
+
+returns-2 : tie.Need-returns-2
+returns-2 c =
+    let p = c .before .before .before .before in
+    let t = p .before .before .before .before in
+    let s = t .before .before in
+    let a = s .before .before .before .before .before .args in
+    let run : s .start .result .run ≡ startOf (a .words .now) .run = ap (λ (q : Started). q .run) (s .start .ensures .value) in
+    replay-of (a .words .now) (a .reports .now) (a .numbers .now) (a .bytes .now) _
+    (p .play .ensures ∙ (ap (λ (r : Run). played r (a .reports .now) (a .numbers .now) (a .bytes .now)) run
+    ∙ sym (replay-taken (a .words .now) (a .reports .now) (a .numbers .now) (a .bytes .now) (told s _ (t .enum-told .given .1)))))
+
+pub replay-spec : {M : Type 1} → statement M
+replay-spec =
+    tie.close (tie.spec start-requires enum-known-answer enum-told play-requires returns same-length same-length-2 returns-2)

@@ -1,0 +1,27 @@
+-- What a started run does through a list of advances, against the book (scope, 'The book of a run'): `follows` shows it of every table that start takes.
+use mathlib.Core.Path.{_≡_}
+use mathlib.Core.List.{List, map}
+use Prim.Native.Nat.{ℕ}
+use Rattle.model.specs.Book.{emptyBook, answersFrom, takenIn, asked, book}
+use Rattle.table.specs.Words.{tableOf}
+use Rattle.run.specs.declared.Run.{Run}
+use Rattle.run.specs.Answer.{told, rowTold, askedIn64}
+use Rattle.run.specs.Numbers.{RunOut}
+use Rattle.run.specs.Row.{rowOf}
+use Rattle.run.specs.Start.{startOf}
+use Rattle.demand.specs.Advances.{answers, after}
+
+-- the list begins with the run that start returned
+abbrev pub begun : List ℕ → Run
+begun ws = startOf ws .run
+
+-- what is claimed of the words of a table and a list xs of report sets
+pub record Follows (ws xs : List ℕ) : Type 0 where
+  -- each answer in it, taken or refused with number and position, is the book's
+  pub each-answer : map told (answers (begun ws) xs) ≡ answersFrom (tableOf ws) emptyBook xs
+  -- the list's tick, the number of advances in it that were not refused, is the book's
+  pub list-tick : takenIn (map told (answers (begun ws) xs)) ≡ book (tableOf ws) xs .tick
+  -- and so is the row asked of the run after it, or its refusal, byte by byte
+  pub row-after : rowTold (rowOf (after (begun ws) xs)) ≡ askedIn64 (asked (tableOf ws) (book (tableOf ws) xs))
+  -- 14 never turns that run down
+  pub passes : ¬ RunOut (after (begun ws) xs)

@@ -1,0 +1,96 @@
+-- A replay: the run of a table's words is started, advanced through a whole list of report sets and asked for its row (scope, 'The book of a run', demand 3).
+-- What it writes goes into two lent slices: a number for each answer, and the bytes of the last row.
+use mathlib.Core.Path.{_≡_}
+use mathlib.Core.Logic.{_↔_}
+use mathlib.Core.Bool.{_&&_, cond}
+use mathlib.Core.List.{List, map, _++_}
+use Prim.Native.Nat.{ℕ, _+_, _*_, _≤_}
+use lib.ListN.{length, take, drop}
+use lib.Dec.{leb}
+use Rattle.model.specs.Book as model
+use Rattle.table.specs.Words.{tableOf}
+use Rattle.run.specs.declared.Run.{Run}
+use Rattle.run.specs.declared.Answer.{Answer}
+use Rattle.run.specs.declared.Answer.the-variants.{Taken, Refused}
+use Rattle.demand.specs.declared.Replayed.{Replayed}
+use Rattle.demand.specs.declared.Replayed.the-variants as replayed
+use Rattle.run.specs.Answer.{told, askedIn64}
+use Rattle.run.specs.Row.{rowOf}
+use Rattle.run.specs.Numbers.{First, NoneApplies}
+use Rattle.run.specs.Start.{StartApplies, startOf}
+use Rattle.demand.specs.Advances.{answers, after}
+use Rattle.demand.specs.Follows.{begun}
+
+-- an answer as one number: 0 for taken, else its number times 256 plus its position
+abbrev pub code : model.Answer → ℕ
+code model.taken = 0
+code (model.refused n p) = n * 256 + p
+
+-- the answers of a run to a list of report sets, as numbers
+abbrev pub codes : Run → List ℕ → List ℕ
+codes r xs = map (λ a. code (told a)) (answers r xs)
+
+-- the lent slices have room: a number for each report set, and 64 bytes
+abbrev pub Room : List ℕ → List ℕ → List ℕ → Type 0
+Room xs numbers bytes = (length xs ≤ length numbers) × (64 ≤ length bytes)
+
+-- what a replay gives: its answer, and the lent slices afterwards
+pub record Outcome : Type 0 where
+  pub answer : Replayed
+  pub numbers : List ℕ
+  pub bytes : List ℕ
+
+-- the case of the last row: shown, or refused with number and position
+abbrev pub rowCase : Answer → Replayed
+rowCase Taken = replayed.Shown
+rowCase (Refused n p) = replayed.RowRefused n p
+
+-- what the last row is answered, by the case and the bytes written
+abbrev pub rowSaid : Replayed → List ℕ → model.Asked
+rowSaid replayed.Shown bytes = model.shown bytes
+rowSaid (replayed.RowRefused n p) bytes = model.rowRefused n p
+rowSaid (replayed.Refused n p) bytes = model.rowRefused n p
+rowSaid replayed.Short bytes = model.rowRefused 0 0
+
+-- a run that has started: the answers and the row after the list are written, and what stands behind them stays; too short: everything as found
+unfoldable pub played : Run → List ℕ → List ℕ → List ℕ → Outcome
+played r xs numbers bytes =
+    cond (leb (length xs) (length numbers) && leb 64 (length bytes))
+    (record {
+      answer = rowCase (rowOf (after r xs) .answer);
+      numbers = codes r xs ++ drop (length xs) numbers;
+      bytes = rowOf (after r xs) .bytes ++ drop 64 bytes;
+    })
+    (record { answer = replayed.Short; numbers = numbers; bytes = bytes })
+
+-- a start that is refused: everything as found
+abbrev pub byStart : Answer → Outcome → List ℕ → List ℕ → Outcome
+byStart Taken o numbers bytes = o
+byStart (Refused n p) o numbers bytes = record { answer = replayed.Refused n p; numbers = numbers; bytes = bytes }
+
+-- the words are started, and the run is played
+unfoldable pub replayOf : List ℕ → List ℕ → List ℕ → List ℕ → Outcome
+replayOf ws xs numbers bytes = byStart (startOf ws .answer) (played (begun ws) xs numbers bytes) numbers bytes
+
+-- what was written is the book's
+pub record ByTheBook (ws xs numbers bytes : List ℕ) (o : Outcome) : Type 0 where
+  -- each answer, and what stands behind them as found
+  pub each-answer : o .numbers ≡ map code (model.answersFrom (tableOf ws) model.emptyBook xs) ++ drop (length xs) numbers
+  -- the row asked after the list, or its refusal
+  pub row-after : rowSaid (o .answer) (take 64 (o .bytes)) ≡ askedIn64 (model.asked (tableOf ws) (model.book (tableOf ws) xs))
+  -- what stands behind the row, as found
+  pub behind : drop 64 (o .bytes) ≡ drop 64 bytes
+
+-- what a replay of the words with the report sets xs promises
+pub record ReplayOf (ws xs numbers bytes : List ℕ) (o : Outcome) : Type 0 where
+  -- its value
+  pub value : o ≡ replayOf ws xs numbers bytes
+  -- refused exactly as the start is
+  pub refused : (n p : ℕ) → (o .answer ≡ replayed.Refused n p) ↔ First (StartApplies ws) n p
+  -- short exactly if the start is taken and a lent slice has no room: a case outside the scope's numbers
+  pub short : (o .answer ≡ replayed.Short) ↔ (NoneApplies (StartApplies ws) × (¬ Room xs numbers bytes))
+  -- both leave everything as found
+  pub refused-found : (n p : ℕ) → o .answer ≡ replayed.Refused n p → (o .numbers ≡ numbers) × (o .bytes ≡ bytes)
+  pub short-found : o .answer ≡ replayed.Short → (o .numbers ≡ numbers) × (o .bytes ≡ bytes)
+  -- else every answer and the last row are the book's
+  pub book : NoneApplies (StartApplies ws) → Room xs numbers bytes → ByTheBook ws xs numbers bytes o

@@ -1,0 +1,87 @@
+-- The run that starts from the words of a table that passes 1 to 9 passes 14.
+use mathlib.Core.Path.{_≡_, refl, sym, subst}
+use mathlib.Core.Bool.{false}
+use mathlib.Core.List.{List, [], _∷_, map, _++_}
+use mathlib.Core.Logic.{⊎-elim}
+use Prim.Native.Nat.{ℕ, zero, suc, _-_, _<_}
+use native.Mathlib.Nat.{not-suc-le-zero, le-of-suc-le-suc}
+use native.Mathlib.Omega.{arith}
+use lib.ListN.{length, getD, replicate}
+use Rattle.model.specs.Task.{task, nobody}
+use Rattle.model.specs.Task as model
+use Rattle.model.specs.Book.{taken}
+use Rattle.model.specs.Verdict.{verdict}
+use Rattle.model.proofs.Bools.{not-true-false}
+use Rattle.table.specs.declared.Answer as words
+use Rattle.table.specs.declared.Answer.the-variants as table
+use Rattle.table.specs.Words.{cores, rule, tableOf}
+use Rattle.table.specs.Limits.{coresOut, ruleOut, taskOut}
+use Rattle.table.specs.Numbers.{NoneApplies, two, three}
+use Rattle.table.specs.Answer.{answerOf}
+use Rattle.table.proofs.Tests.{from-decides, cores-decides, rule-decides, task-decides}
+use Rattle.table.proofs.Passed.{passed-count, passed-inside, passed-sound}
+use Rattle.table.proofs.Exact.{passed-exact}
+use Rattle.run.specs.declared.Task.{Task}
+use Rattle.run.specs.Phase.{PhaseIn}
+use Rattle.run.specs.Run.{taskOf, pastEnd, unused}
+use Rattle.run.specs.Answer.{told}
+use Rattle.run.specs.Start.{startTask, startedRun, byVerdict, byTable, startAnswer, startOf}
+use Rattle.run.proofs.Phases.{start-in}
+use Rattle.run.proofs.Limits.{Passes}
+
+-- the task at a place of a started run
+pub started-at : (τs : List model.Task) (us : List Task) (p : ℕ) → p < length τs → getD (map startTask τs ++ us) p pastEnd ≡ startTask (getD τs p nobody)
+started-at [] us p l = absurd (not-suc-le-zero l)
+started-at (τ ∷ τs) us zero l = refl
+started-at (τ ∷ τs) us (suc p) l = started-at τs us p (le-of-suc-le-suc l)
+
+module _ (ws : List ℕ) (passed : answerOf ws ≡ table.Passed) where
+  none : NoneApplies ws
+  none = passed-exact ws .0 passed
+
+  -- 2 and 3
+  cores-in : coresOut (cores ws) ≡ false
+  cores-in = not-true-false (coresOut (cores ws)) (λ e. none 2 0 (two (cores-decides (cores ws) .0 e)))
+
+  rule-in : ruleOut (rule ws) ≡ false
+  rule-in = not-true-false (ruleOut (rule ws)) (λ e. none 3 0 (three (rule-decides (rule ws) .0 e)))
+
+  -- 7 and 8
+  task-in : (p : ℕ) → p < length (tableOf ws .tasks) → taskOut (cores ws) (task (tableOf ws) p) ≡ false
+  task-in p l =
+      not-true-false (taskOut (cores ws) (task (tableOf ws) p)) (λ e.
+      let i = passed-inside ws none p l in
+      ⊎-elim
+      (λ w. ⊎-elim (λ x. omega arith) (λ x. omega arith) w)
+      (λ w. ⊎-elim (λ x. omega arith) (λ w. ⊎-elim (λ x. x (i .length-from)) (λ w. ⊎-elim (λ x. x (i .period-from)) (λ x. x (i .deadline-from)) w) w) w)
+      (task-decides (cores ws) (task (tableOf ws) p) .0 e))
+
+  same-cores : tableOf ws .cores ≡ cores ws
+  unfolding tableOf
+  same-cores = refl
+
+  -- so it passes 14
+  pub start-passes : Passes (startedRun (rule ws) (tableOf ws))
+  unfolding startedRun
+  start-passes = record {
+    count = from-decides 1 32 (length (tableOf ws .tasks)) .1 (passed-count ws none);
+    cores = rw same-cores cores-in;
+    rule = rule-in;
+    tasks = λ p l. rw (at p l, same-cores) (task-in p l);
+    phases = λ p l.
+        subst (λ (t : Task). PhaseIn (model.ruleOf (rule ws)) (taskOf t) (t .phase)) (sym (at p l))
+        (start-in (model.ruleOf (rule ws)) (task (tableOf ws) p) (passed-sound ws none p l));
+  }
+    where
+      at : (p : ℕ) → p < length (tableOf ws .tasks)
+          → getD (map startTask (tableOf ws .tasks) ++ replicate (32 - length (tableOf ws .tasks)) unused) p pastEnd ≡ startTask (task (tableOf ws) p)
+      at p l = started-at (tableOf ws .tasks) (replicate (32 - length (tableOf ws .tasks)) unused) p l
+
+-- a table that start takes passes 1 to 9
+pub taken-passed : (ws : List ℕ) → told (startOf ws .answer) ≡ taken → answerOf ws ≡ table.Passed
+unfolding startOf startAnswer
+taken-passed ws e = go (answerOf ws) refl e
+  where
+    go : (a : words.Answer) → answerOf ws ≡ a → told (byTable a (byVerdict (verdict (tableOf ws)))) ≡ taken → answerOf ws ≡ table.Passed
+    go table.Passed q t = q
+    go (table.Refused n p) q t = absurd (let z : _≡_ {A = ℕ} 0 1 = cc in omega arith)
