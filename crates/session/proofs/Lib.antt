@@ -1,0 +1,5 @@
+pub mod Saying
+pub mod Talking
+pub mod Feeding
+pub mod Replying
+pub mod Whole

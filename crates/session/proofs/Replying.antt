@@ -1,0 +1,210 @@
+-- What is said, case by case.
+use mathlib.Core.Bool.{Bool, true, false, _&&_, cond}
+use mathlib.Core.List.{List, [], _∷_, _++_}
+use mathlib.Core.Path.{_≡_, refl, sym, ap, _∙_}
+use Prim.Native.Nat.{ℕ, suc, _-_, _≤_, _<_, min}
+use native.Mathlib.Nat.{not-suc-le-zero}
+use native.Mathlib.Omega.{arith}
+use lib.ListN.{length, getD, take, drop, length-take}
+use lib.Seq.{take-all, take-append-seam}
+use lib.Dec.{eqb, leb}
+use borrow.Author.Tests.{le-leb, lt-leb, leb-true, ne-eqb}
+use Rattle.text.specs.Format.{Words, words, noText, wordsOf}
+use Rattle.text.specs.Input.{inputOf, foundIn}
+use Rattle.text.specs.Output.{letters, lineOf}
+use Rattle.text.specs.declared.Input.{Input}
+use Rattle.text.specs.declared.line.Found.{Found}
+use Rattle.run.specs.declared.Run.{Run}
+use Rattle.run.specs.declared.Answer.{Answer}
+use Rattle.run.specs.declared.Answer.the-variants.{Taken, Refused}
+use Rattle.run.specs.declared.Started.{Started}
+use Rattle.run.specs.Advance.{advanceOf}
+use Rattle.run.specs.Row.{rowOf}
+use Rattle.run.specs.Start.{startOf}
+use Rattle.session.specs.declared.Stage.{Stage}
+use Rattle.session.specs.declared.Stage.the-variants.{Table, Operations, Over}
+use Rattle.session.specs.declared.Session.{Session}
+use Rattle.session.specs.declared.open.Opened.{Opened}
+use Rattle.session.specs.declared.operations.Operation.{Operation}
+use Rattle.session.specs.declared.operations.Operation.the-variants.{Advance, Row, Nothing}
+use Rattle.session.specs.Operation.{operationOf, advanceBy, plain, answerLine, shownLine, said, runAfter, isLast}
+use Rattle.session.specs.Talk.{isDashes, numbersIn, startLine, opened, replies, linesFrom, talkFrom}
+use Rattle.session.specs.Session.{stageOf, Said, OpenedOf}
+use Rattle.session.proofs.Talking.{nil-right, tooLong, opened-long}
+
+-- ANSWERS
+
+pub answer-taken : (w : List ℕ) (a : Answer) → a ≡ Taken → plain w ≡ answerLine w a
+unfolding answerLine
+answer-taken w a e = rw e
+
+pub answer-refused : (w : List ℕ) (a : Answer) (n p : ℕ) → a ≡ Refused n p → lineOf (letters "refused") (n ∷ p ∷ []) ≡ answerLine w a
+unfolding answerLine
+answer-refused w a n p e = rw e
+
+pub shown-taken : (k : ℕ) (a : Answer) (bytes : List ℕ) → a ≡ Taken → lineOf (letters "row") (take k bytes) ≡ shownLine k a bytes
+unfolding shownLine
+shown-taken k a bytes e = rw e
+
+pub shown-refused : (k : ℕ) (a : Answer) (bytes : List ℕ) (n p : ℕ) → a ≡ Refused n p → lineOf (letters "refused") (n ∷ p ∷ []) ≡ shownLine k a bytes
+unfolding shownLine
+shown-refused k a bytes n p e = rw e
+
+-- OPERATIONS
+
+pub said-advance : (o : Operation) (r : Run) (x : ℕ) → o ≡ Advance x → answerLine (letters "taken") (advanceOf r x .answer) ≡ said o r
+unfolding said
+said-advance o r x e = rw e
+
+pub run-advance : (o : Operation) (r : Run) (x : ℕ) → o ≡ Advance x → advanceOf r x .run ≡ runAfter o r
+unfolding runAfter
+run-advance o r x e = rw e
+
+pub last-advance : (o : Operation) (x : ℕ) → o ≡ Advance x → false ≡ isLast o
+last-advance o x e = rw e
+
+pub said-row : (o : Operation) (r : Run) → o ≡ Row → shownLine (r .cores) (rowOf r .answer) (rowOf r .bytes) ≡ said o r
+unfolding said
+said-row o r e = rw e
+
+pub run-row : (o : Operation) (r : Run) → o ≡ Row → r ≡ runAfter o r
+unfolding runAfter
+run-row o r e = rw e
+
+pub last-row : (o : Operation) → o ≡ Row → false ≡ isLast o
+last-row o e = rw e
+
+pub said-none : (o : Operation) (r : Run) → o ≡ Nothing → plain (letters "not an operation") ≡ said o r
+unfolding said
+said-none o r e = rw e
+
+pub run-none : (o : Operation) (r : Run) → o ≡ Nothing → r ≡ runAfter o r
+unfolding runAfter
+run-none o r e = rw e
+
+pub last-none : (o : Operation) → o ≡ Nothing → true ≡ isLast o
+last-none o e = rw e
+
+-- LINES
+
+pub asked-empty : (l : List ℕ) → length l ≡ 0 → Nothing ≡ operationOf l
+unfolding operationOf
+asked-empty [] e = refl
+asked-empty (b ∷ l) e = absurd (omega arith)
+
+pub asked-row : (l : List ℕ) → length l ≡ 1 → getD l 0 0 ≡ 114 → Row ≡ operationOf l
+unfolding operationOf
+asked-row [] e q = absurd (omega arith)
+asked-row (b ∷ []) e q = rw q
+asked-row (b ∷ c ∷ l) e q = absurd (omega arith)
+
+pub asked-letter : (l : List ℕ) → length l ≡ 1 → (getD l 0 0 ≡ 114 → ⊥) → Nothing ≡ operationOf l
+unfolding operationOf
+asked-letter [] e q = absurd (omega arith)
+asked-letter (b ∷ []) e q = rw (ne-eqb b 114 q)
+asked-letter (b ∷ c ∷ l) e q = absurd (omega arith)
+
+pub asked-advance :
+    (l : List ℕ) → (length l ≡ 0 → ⊥) → (length l ≡ 1 → ⊥) → getD l 0 0 ≡ 97 → getD l 1 0 ≡ 32
+    → advanceBy (foundIn (take (length l - 2) (drop 2 l))) ≡ operationOf l
+unfolding operationOf
+asked-advance [] z o q r = absurd (z refl)
+asked-advance (b ∷ []) z o q r = absurd (o refl)
+asked-advance (b ∷ c ∷ l) z o q r =
+    let e : length (b ∷ c ∷ l) - 2 ≡ length l = omega arith in
+    rw (q, r) (ap (λ (x : List ℕ). advanceBy (foundIn x)) (take-all (length (b ∷ c ∷ l) - 2) l (omega (arith, e))))
+
+pub asked-no-space : (l : List ℕ) → (length l ≡ 0 → ⊥) → (length l ≡ 1 → ⊥) → (getD l 1 0 ≡ 32 → ⊥) → Nothing ≡ operationOf l
+unfolding operationOf
+asked-no-space [] z o q = absurd (z refl)
+asked-no-space (b ∷ []) z o q = absurd (o refl)
+asked-no-space (b ∷ c ∷ l) z o q = rw (ne-eqb c 32 q) (go (eqb b 97))
+  where
+    go : (t : Bool) → Nothing ≡ cond (t && false) (advanceBy (foundIn l)) Nothing
+    go true = refl
+    go false = refl
+
+pub asked-no-letter : (l : List ℕ) → (length l ≡ 0 → ⊥) → (length l ≡ 1 → ⊥) → (getD l 0 0 ≡ 97 → ⊥) → Nothing ≡ operationOf l
+unfolding operationOf
+asked-no-letter [] z o q = absurd (z refl)
+asked-no-letter (b ∷ []) z o q = absurd (o refl)
+asked-no-letter (b ∷ c ∷ l) z o q = rw (ne-eqb b 97 q)
+
+pub dashes-of : (l : List ℕ) → length l ≡ 2 → eqb (getD l 0 0) 45 && eqb (getD l 1 0) 45 ≡ isDashes l
+unfolding isDashes
+dashes-of [] e = absurd (omega arith)
+dashes-of (a ∷ []) e = absurd (omega arith)
+dashes-of (a ∷ b ∷ []) e = refl
+dashes-of (a ∷ b ∷ c ∷ l) e = absurd (omega arith)
+
+pub no-dashes : (l : List ℕ) → (length l ≡ 2 → ⊥) → false ≡ isDashes l
+unfolding isDashes
+no-dashes [] e = refl
+no-dashes (a ∷ []) e = refl
+no-dashes (a ∷ b ∷ []) e = absurd (e refl)
+no-dashes (a ∷ b ∷ c ∷ l) e = refl
+
+-- THE TABLE
+
+-- the numbers that were read
+pub numbers-read : (r : Input) (bs : List ℕ) → r ≡ inputOf (wordsOf bs) → take (r .count) (r .words) ≡ numbersIn (wordsOf bs)
+numbers-read r bs e = ap (λ (i : Input). take (i .count) (i .words)) e ∙ go (wordsOf bs)
+  where
+    go : (w : Words) → take (inputOf w .count) (inputOf w .words) ≡ numbersIn w
+    go (words ws) = take-append-seam ws _
+    go noText = refl
+
+pub opened-refused :
+    (table before after : List ℕ) (run : Run) (n : ℕ) → 2145 < length table → Said tooLong before after n
+    → OpenedOf table before after (record { run = run; length = n; over = true })
+opened-refused table before after run n h s = record {
+  room = s .room;
+  same = s .same;
+  behind = s .behind;
+  text = λ ls. opened-long table ls h ∙ sym (s .front) ∙ sym (nil-right (take n after));
+}
+
+pub opened-run :
+    (table before after : List ℕ) (s : Started) (n : ℕ) → length table ≤ 2145 → s ≡ startOf (numbersIn (wordsOf table))
+    → Said (answerLine (letters "ok") (s .answer)) before after n → OpenedOf table before after (record { run = s .run; length = n; over = false })
+unfolding opened startLine
+opened-run table before after s n h e w = record {
+  room = w .room;
+  same = w .same;
+  behind = w .behind;
+  text = λ ls.
+      rw (le-leb (length table) 2145 h)
+      (ap (λ (x : Started). answerLine (letters "ok") (x .answer) ++ replies (x .run) ls) (sym e) ∙ ap (λ (x : List ℕ). x ++ replies (s .run) ls) (sym (w .front)));
+}
+
+-- STAGES
+
+pub stage-left : (s : Session) → s .held < s .from → Over ≡ stageOf s
+stage-left s h = rw (lt-leb (s .from) (s .held) h)
+
+pub stage-long : (s : Session) → 2148 < s .held → Over ≡ stageOf s
+stage-long s h = rw (lt-leb (s .held) 2148 h) (go (leb (s .from) (s .held)))
+  where
+    go : (t : Bool) → Over ≡ cond (t && false) (s .stage) Over
+    go true = refl
+    go false = refl
+
+pub stage-in : (s : Session) → s .from ≤ s .held → s .held ≤ 2148 → s .stage ≡ stageOf s
+stage-in s f h = rw (le-leb (s .from) (s .held) f, le-leb (s .held) 2148 h)
+
+-- a session that is not over has its numbers within its bytes
+pub stage-within : (s : Session) → (stageOf s ≡ Over → ⊥) → (s .from ≤ s .held) × (s .held ≤ 2148)
+stage-within s = go (leb (s .from) (s .held)) (leb (s .held) 2148) refl refl
+  where
+    go :
+        (t u : Bool) → leb (s .from) (s .held) ≡ t → leb (s .held) 2148 ≡ u → (cond (t && u) (s .stage) Over ≡ Over → ⊥)
+        → (s .from ≤ s .held) × (s .held ≤ 2148)
+    go true true e f n = (leb-true (s .from) (s .held) e, leb-true (s .held) 2148 f)
+    go true false e f n = absurd (n refl)
+    go false u e f n = absurd (n refl)
+
+pub table-not-over : (t : Stage) → t ≡ Table → t ≡ Over → ⊥
+table-not-over t e f = let z : _≡_ {A = ℕ} 0 1 = cc in absurd (omega arith)
+
+pub operations-not-over : (t : Stage) → t ≡ Operations → t ≡ Over → ⊥
+operations-not-over t e f = let z : _≡_ {A = ℕ} 0 1 = cc in absurd (omega arith)

@@ -1,0 +1,27 @@
+-- What was put at the front of a buffer is said.
+use mathlib.Core.List.{List, [], _∷_, _++_}
+use mathlib.Core.Path.{_≡_, refl, sym, ap, _∙_, subst}
+use Prim.Native.Nat.{ℕ, _+_, _≤_}
+use native.Mathlib.Omega.{arith}
+use lib.ListN.{length, take, drop}
+use lib.Seq.{drop-at}
+use Rattle.text.specs.Written.{Put}
+use Rattle.text.proofs.Writing.{put-front, put-length}
+use Rattle.session.specs.Session.{Said}
+
+pub said-put : {text before after : List ℕ} {n : ℕ} → Put before 0 text after n → n ≤ length before → Said text before after n
+said-put {text} {before} {after} {n} p h = record {
+  room = h;
+  same = put-length p h;
+  behind =
+      let e : length text ≡ n = omega (arith, p .ends) in
+      ap (drop n) (p .bytes) ∙ drop-at text (drop (0 + length text) before) n e ∙ ap (λ (k : ℕ). drop k before) (sym (p .ends));
+  front = put-front p;
+}
+
+-- nothing is said
+pub said-nothing : (before : List ℕ) → Said [] before before 0
+said-nothing before = record { room = omega arith; same = refl; behind = refl; front = refl }
+
+pub said-of : {text text′ before after : List ℕ} {n : ℕ} → text ≡ text′ → Said text before after n → Said text′ before after n
+said-of {text} {text′} {before} {after} {n} e s = subst (λ (x : List ℕ). Said x before after n) e s

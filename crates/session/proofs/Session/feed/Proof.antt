@@ -1,0 +1,58 @@
+use borrow.Author.Needs.{needs}
+use mathlib.Core.Path.{_≡_, sym, ap, _∙_, subst}
+use mathlib.Core.List.{List, [], _++_}
+use Rattle.session.specs.Session.{spoken, FedBy}
+use Rattle.session.proofs.Saying.{said-nothing, said-of}
+use Rattle.session.proofs.Replying.{stage-within, table-not-over, operations-not-over}
+use Rattle.session.specs.declared.Fed.{Fed}
+use Rattle.session.proofs.Feeding.{spoken-in, over-spoken, fed-in, fed-over, over-silent}
+use Rattle.session.proofs.Session.feed.Statement.{statement}
+use Rattle.session.proofs.Session.feed.Tie as tie
+
+stage-of-requires : tie.Need-stage-of-requires
+stage-of-requires c κs = search needs
+
+enum-told : tie.Need-enum-told
+enum-told c = search needs
+
+feed-table-requires : tie.Need-feed-table-requires
+feed-table-requires c κs = stage-within (c .before .before .before .before .before .args .self) (table-not-over _ (sym (c .before .before .before .stage-of .ensures) ∙ c .before .enum-told .given .1))
+
+enum-told-2 : tie.Need-enum-told-2
+enum-told-2 c = search needs
+
+feed-operations-requires : tie.Need-feed-operations-requires
+feed-operations-requires c κs = stage-within (c .before .before .before .before .before .args .self) (operations-not-over _ (sym (c .before .before .before .stage-of .ensures) ∙ c .before .enum-told2 .given .1)) .1
+
+enum-told-3 : tie.Need-enum-told-3
+enum-told-3 c = search needs
+
+over-requires : tie.Need-over-requires
+over-requires c κs = search needs
+
+returns : tie.Need-returns
+returns c = fed-in (c .before .before .before .before .before .before .args .self) _ _ _ _ _ (sym (c .before .before .before .before .stage-of .ensures) ∙ c .before .before .enum-told .given .1) (c .feed-table .ensures)
+
+returns-2 : tie.Need-returns-2
+returns-2 c = fed-in (c .before .before .before .before .before .before .args .self) _ _ _ _ _ (sym (c .before .before .before .before .stage-of .ensures) ∙ c .before .before .enum-told2 .given .1) (c .feed-operations .ensures)
+
+returns-3 : tie.Need-returns-3
+returns-3 c =
+    let a = c .before .before .before .before .before .args in
+    subst (λ (x : Fed). FedBy (spoken (a .self)) (a .chunk .now) (a .out .now) (a .out .now) x) (sym (c .over .ensures))
+    (fed-over (spoken (a .self)) (a .self) (a .chunk .now) (a .out .now) (a .out .now) [] 0 (said-nothing (a .out .now)) (λ bs. over-spoken (a .self) (a .chunk .now ++ bs) (sym (c .before .before .before .stage-of .ensures) ∙ c .before .enum-told3 .given .1)))
+
+pub feed-spec : {M : Type 1} → statement M
+feed-spec =
+    tie.close
+    (tie.spec
+    stage-of-requires
+    enum-told
+    feed-table-requires
+    enum-told-2
+    feed-operations-requires
+    enum-told-3
+    over-requires
+    returns
+    returns-2
+    returns-3)

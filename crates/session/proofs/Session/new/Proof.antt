@@ -1,0 +1,19 @@
+use borrow.Author.Needs.{needs}
+use mathlib.Core.Path.{_≡_, refl}
+use Rattle.session.specs.Session.{spoken, spokenIn}
+use Rattle.session.specs.Talk.{talk, talkFrom}
+use Rattle.session.proofs.Session.new.Statement.{statement}
+use Rattle.session.proofs.Session.new.Tie as tie
+
+slice-aggregate-start : tie.Need-slice-aggregate-start
+slice-aggregate-start c = search needs
+
+start-requires : tie.Need-start-requires
+start-requires c κs = search needs
+
+returns : tie.Need-returns
+unfolding spoken talk spokenIn talkFrom
+returns c = λ bs. refl
+
+pub new-spec : {M : Type 1} → statement M
+new-spec = tie.close (tie.spec slice-aggregate-start start-requires returns)

@@ -1,0 +1,21 @@
+-- A whole session: however the input comes, what is said is what the definition says of it.
+use mathlib.Core.List.{List, [], _++_, append-assoc}
+use mathlib.Core.Path.{_≡_, refl, sym, ap, _∙_}
+use Prim.Native.Nat.{ℕ}
+use lib.ListN.{take}
+use Rattle.session.specs.declared.Session.{Session}
+use Rattle.session.specs.Talk.{talk}
+use Rattle.session.specs.Session.{spoken, FedOf, LastOf, NewOf, Feeds, none, more}
+use Rattle.session.proofs.Talking.{nil-right}
+
+said-so-far : {s s′ : Session} {bs text : List ℕ} → Feeds s bs text s′ → (cs : List ℕ) → spoken s (bs ++ cs) ≡ text ++ spoken s′ cs
+said-so-far none cs = refl
+said-so-far {s} {s′} (more {chunk = chunk} {after = after} {bs = bs} {text = text} {r = r} w f) cs =
+    ap (spoken s) (append-assoc (take (r .taken) chunk) bs cs) ∙ w .text (bs ++ cs)
+    ∙ ap (λ (x : List ℕ). take (r .length) after ++ x) (said-so-far f cs) ∙ sym (append-assoc (take (r .length) after) text (spoken s′ cs))
+
+-- all that a new session says to the bytes bs, however they come, and at their end, is `talk bs`
+pub whole-talk :
+    (s s′ : Session) (bs text before after : List ℕ) (n : ℕ) → NewOf s → Feeds s bs text s′ → LastOf s′ before after n → text ++ take n after ≡ talk bs
+whole-talk s s′ bs text before after n new f last =
+    ap (λ (x : List ℕ). text ++ x) (last .front) ∙ sym (said-so-far f []) ∙ ap (spoken s) (nil-right bs) ∙ new bs

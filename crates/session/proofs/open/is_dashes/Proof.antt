@@ -1,0 +1,20 @@
+use borrow.Author.Needs.{needs}
+use Rattle.session.proofs.Replying.{dashes-of, no-dashes}
+use Rattle.session.proofs.open.is_dashes.Statement.{statement}
+use Rattle.session.proofs.open.is_dashes.Tie as tie
+
+shared-slice-read-result : tie.Need-shared-slice-read-result
+shared-slice-read-result c = search needs
+
+shared-slice-read-result-2 : tie.Need-shared-slice-read-result-2
+shared-slice-read-result-2 c = search needs
+
+returns : tie.Need-returns
+returns c = dashes-of (c .before .before .before .args .line .now) (c .before .before .if1 .taken)
+
+returns-2 : tie.Need-returns-2
+returns-2 c = no-dashes (c .before .args .line .now) (c .if1 .left)
+
+pub is-dashes-spec : {M : Type 1} → statement M
+is-dashes-spec =
+    tie.close (tie.spec shared-slice-read-result shared-slice-read-result-2 returns returns-2)

@@ -1,0 +1,70 @@
+use borrow.Author.Needs.{needs}
+use mathlib.Core.Path.{_≡_, _∙_, ap}
+use Rattle.session.specs.Operation.{advanceBy}
+use Rattle.session.proofs.Replying.{asked-empty, asked-row, asked-letter, asked-advance, asked-no-space, asked-no-letter}
+use Rattle.session.proofs.operations.asked.Statement.{statement}
+use Rattle.session.proofs.operations.asked.Tie as tie
+
+returns : tie.Need-returns
+returns c = asked-empty (c .before .before .args .line .now) (c .if1 .taken)
+
+shared-slice-read-if3 : tie.Need-shared-slice-read-if3
+shared-slice-read-if3 c = search needs
+
+returns-2 : tie.Need-returns-2
+returns-2 c = asked-row (c .before .before .before .before .before .args .line .now) (c .before .before .if2 .taken) (c .if3 .taken)
+
+returns-3 : tie.Need-returns-3
+returns-3 c = asked-letter (c .before .before .before .before .before .args .line .now) (c .before .before .if2 .taken) (c .if3 .left)
+
+shared-slice-read-if4 : tie.Need-shared-slice-read-if4
+shared-slice-read-if4 c = search needs
+
+shared-slice-read-if5 : tie.Need-shared-slice-read-if5
+shared-slice-read-if5 c = search needs
+
+sub-number : tie.Need-sub-number
+sub-number c = search needs
+
+part-number-start : tie.Need-part-number-start
+part-number-start c = search needs
+
+part-number-end : tie.Need-part-number-end
+part-number-end c = search needs
+
+number-requires : tie.Need-number-requires
+number-requires c κs = search needs
+
+advance-by-requires : tie.Need-advance-by-requires
+advance-by-requires c κs = search needs
+
+returns-4 : tie.Need-returns-4
+returns-4 c =
+    let l = c .before .before .before .before .before .before .before .before .before .before .args .line .now in
+    c .advance-by .ensures ∙ ap advanceBy (c .before .number .ensures)
+    ∙ asked-advance l (c .before .before .before .before .before .before .before .before .if1 .left) (c .before .before .before .before .before .before .before .if2 .left) (c .before .before .before .before .before .if4 .taken) (c .before .before .before .if5 .taken)
+
+returns-5 : tie.Need-returns-5
+returns-5 c = asked-no-space (c .before .before .before .before .before .before .before .args .line .now) (c .before .before .before .before .before .if1 .left) (c .before .before .before .before .if2 .left) (c .if5 .left)
+
+returns-6 : tie.Need-returns-6
+returns-6 c = asked-no-letter (c .before .before .before .before .before .args .line .now) (c .before .before .before .if1 .left) (c .before .before .if2 .left) (c .if4 .left)
+
+pub asked-spec : {M : Type 1} → statement M
+asked-spec =
+    tie.close
+    (tie.spec
+    returns
+    shared-slice-read-if3
+    returns-2
+    returns-3
+    shared-slice-read-if4
+    shared-slice-read-if5
+    sub-number
+    part-number-start
+    part-number-end
+    number-requires
+    advance-by-requires
+    returns-4
+    returns-5
+    returns-6)

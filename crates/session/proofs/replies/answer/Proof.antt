@@ -1,0 +1,87 @@
+use borrow.Author.Needs.{needs}
+use mathlib.Core.Path.{_≡_, ap, _∙_}
+use mathlib.Core.List.{List}
+use Rattle.run.specs.declared.Advanced.{Advanced}
+use Rattle.run.specs.declared.Row as rows
+use Rattle.text.specs.Output.{letters}
+use Rattle.session.specs.Operation.{answerLine, shownLine}
+use Rattle.session.proofs.Saying.{said-of}
+use Rattle.session.proofs.Replying.{said-advance, run-advance, last-advance, said-row, run-row, last-row, said-none, run-none, last-none}
+use Rattle.session.proofs.replies.answer.Statement.{statement}
+use Rattle.session.proofs.replies.answer.Tie as tie
+
+enum-known-operation : tie.Need-enum-known-operation
+enum-known-operation c = search needs
+
+advance-requires : tie.Need-advance-requires
+advance-requires c κs = search needs
+
+slice-aggregate-say-answer : tie.Need-slice-aggregate-say-answer
+slice-aggregate-say-answer c = search needs
+
+say-answer-requires : tie.Need-say-answer-requires
+say-answer-requires c κs = search needs
+
+enum-told : tie.Need-enum-told
+enum-told c = search needs
+
+row-requires : tie.Need-row-requires
+row-requires c κs = search needs
+
+say-row-requires : tie.Need-say-row-requires
+say-row-requires c κs = search needs
+
+enum-told-2 : tie.Need-enum-told-2
+enum-told-2 c = search needs
+
+slice-aggregate-say-word : tie.Need-slice-aggregate-say-word
+slice-aggregate-say-word c = search needs
+
+say-word-requires : tie.Need-say-word-requires
+say-word-requires c κs = search needs
+
+returns : tie.Need-returns
+returns c =
+    let a = c .before .before .before .before .before .before .before .before .args in
+    let v = c .before .before .before .before .advance .ensures .value in
+    let o = c .before .before .before .before .before .before .operation .given .1 in (
+      said-of (ap (λ (x : Advanced). answerLine (letters "taken") (x .answer)) v ∙ said-advance (a .operation) (a .run) _ o) (c .say-answer .ensures),
+      ap (λ (x : Advanced). x .run) v ∙ run-advance (a .operation) (a .run) _ o,
+      last-advance (a .operation) _ o,
+    )
+
+returns-2 : tie.Need-returns-2
+returns-2 c =
+    let a = c .before .before .before .before .before .args in
+    let o = c .before .before .before .enum-told .given .1 in (
+      said-of (ap (λ (x : rows.Row). shownLine (a .run .cores) (x .answer) (x .bytes)) (c .before .before .row .ensures .value) ∙ said-row (a .operation) (a .run) o) (c .say-row .ensures),
+      run-row (a .operation) (a .run) o,
+      last-row (a .operation) o,
+    )
+
+returns-3 : tie.Need-returns-3
+returns-3 c =
+    let a = c .before .before .before .before .before .args in
+    let o = c .before .before .before .enum-told2 .given .1 in (
+      said-of (said-none (a .operation) (a .run) o) (c .say-word .ensures),
+      run-none (a .operation) (a .run) o,
+      last-none (a .operation) o,
+    )
+
+pub answer-spec : {M : Type 1} → statement M
+answer-spec =
+    tie.close
+    (tie.spec
+    enum-known-operation
+    advance-requires
+    slice-aggregate-say-answer
+    say-answer-requires
+    enum-told
+    row-requires
+    say-row-requires
+    enum-told-2
+    slice-aggregate-say-word
+    say-word-requires
+    returns
+    returns-2
+    returns-3)

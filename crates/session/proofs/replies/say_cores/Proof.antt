@@ -1,0 +1,81 @@
+use borrow.Author.Needs.{needs}
+use native.Mathlib.Omega.{arith}
+use mathlib.Core.Path.{_≡_, refl, sym, ap, _∙_, subst}
+use mathlib.Core.List.{List, [], _∷_, _++_}
+use Prim.Native.Nat.{ℕ, _+_, _≤_, _<_, min}
+use lib.ListN.{length, take, drop, length-take}
+use Rattle.text.specs.Written.{Put}
+use Rattle.session.specs.Session.{Said}
+use Rattle.session.proofs.Saying.{said-put}
+use mathlib.Core.Bool.{Bool, true, false}
+use lib.Dec.{leb}
+use lib.Seq.{take-all}
+use borrow.Author.Tests.{leb-true, leb-false}
+use Rattle.text.specs.Format.{newline}
+use Rattle.text.specs.Output.{letters, fields, lineOf}
+use Rattle.text.proofs.Writing.{put-then, put-length, put-front}
+use Rattle.session.proofs.replies.say_cores.Statement.{statement}
+use Rattle.session.proofs.replies.say_cores.Tie as tie
+
+-- a row has 64 bytes
+take-most : (cores count : ℕ) (bytes : List ℕ) → length bytes ≡ 64 → count ≡ min cores 64 → take count bytes ≡ take cores bytes
+take-most cores count bytes w e = go (leb cores 64) refl
+  where
+    go : (t : Bool) → leb cores 64 ≡ t → take count bytes ≡ take cores bytes
+    go true h = let k : count ≡ cores = omega (arith, e, leb-true cores 64 h) in ap (λ (n : ℕ). take n bytes) k
+    go false h =
+        let l : 64 < cores = leb-false cores 64 h in
+        take-all count bytes (omega (arith, e, l, w)) ∙ sym (take-all cores bytes (omega (arith, l, w)))
+
+cores-said :
+    (cores : ℕ) (bytes before blank text middle after : List ℕ) (count size start end : ℕ) → length before ≡ 267 → length bytes ≡ 64 → count ≡ min cores 64
+    → Put blank 0 (fields (take count bytes) ++ (newline ∷ [])) text size → size ≤ 257 → Put before 0 (letters "row") middle start
+    → Put middle start (take size (drop 0 text)) after end → Said (lineOf (letters "row") (take cores bytes)) before after end
+unfolding lineOf
+cores-said cores bytes before blank text middle after count size start end w v e p s q r =
+    let k : take size text ≡ fields (take cores bytes) ++ (newline ∷ []) =
+    put-front p ∙ ap (λ (l : List ℕ). fields l ++ (newline ∷ [])) (take-most cores count bytes v e) in
+    let n : length (take size text) ≤ 257 = omega (arith, s, length-take size text) in
+    let m : end ≤ 267 = omega (arith, q .ends, r .ends, n) in
+    subst (λ (l : List ℕ). Said (letters "row" ++ l) before after end) k (said-put (put-then q r (omega (arith, m, w))) (omega (arith, m, w)))
+
+smaller-requires : tie.Need-smaller-requires
+smaller-requires c κs = search needs
+
+slice-aggregate-spell : tie.Need-slice-aggregate-spell
+slice-aggregate-spell c = search needs
+
+spell-requires : tie.Need-spell-requires
+spell-requires c κs = search needs
+
+slice-aggregate-copy : tie.Need-slice-aggregate-copy
+slice-aggregate-copy c = search needs
+
+copy-requires : tie.Need-copy-requires
+copy-requires c κs = search needs
+
+slice-aggregate-copy-2 : tie.Need-slice-aggregate-copy-2
+slice-aggregate-copy-2 c = search needs
+
+copy-requires-2 : tie.Need-copy-requires-2
+copy-requires-2 c κs = search needs
+
+returns : tie.Need-returns
+returns c =
+    let a = c .before .before .before .before .before .before .before .before .before .before .args in
+    let w : length (a .out .now) ≡ 267 = search needs in
+    let v : length (a .bytes) ≡ 64 = search needs in
+    cores-said (a .cores) (a .bytes) (a .out .now) _ _ _ _ _ _ _ _ w v (c .before .before .before .before .before .before .before .before .before .smaller .ensures) (c .before .before .before .before .before .before .before .spell .ensures .0) (c .before .before .before .before .before .before .before .spell .ensures .1) (c .before .before .before .copy .ensures) (c .copy2 .ensures)
+
+pub say-cores-spec : {M : Type 1} → statement M
+say-cores-spec =
+    tie.close
+    (tie.spec
+    smaller-requires
+    slice-aggregate-spell
+    spell-requires
+    slice-aggregate-copy
+    copy-requires
+    slice-aggregate-copy-2
+    copy-requires-2
+    returns)

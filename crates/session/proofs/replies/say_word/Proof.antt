@@ -1,0 +1,41 @@
+use borrow.Author.Needs.{needs}
+use native.Mathlib.Omega.{arith}
+use mathlib.Core.Path.{_≡_, subst}
+use mathlib.Core.List.{List, [], _∷_, _++_}
+use Prim.Native.Nat.{ℕ, _+_, _≤_}
+use lib.ListN.{length, take, drop, set}
+use lib.Seq.{take-length}
+use Rattle.text.specs.Written.{Put}
+use Rattle.text.proofs.Writing.{put-one, put-then, put-length}
+use Rattle.session.specs.Operation.{plain}
+use Rattle.session.specs.Session.{Said}
+use Rattle.session.proofs.Saying.{said-put}
+use Rattle.session.proofs.replies.say_word.Statement.{statement}
+use Rattle.session.proofs.replies.say_word.Tie as tie
+
+ends : (word before after : List ℕ) (n : ℕ) → Put before 0 (take (length word) (drop 0 word)) after n → n ≡ length word
+ends word before after n p = let q = subst (λ (x : List ℕ). Put before 0 x after n) (take-length word) p in omega (arith, q .ends)
+
+word-said :
+    (word before after : List ℕ) (n : ℕ) → length before ≡ 267 → length word ≤ 16 → Put before 0 (take (length word) (drop 0 word)) after n
+    → Said (plain word) before (set after n 10) (n + 1)
+unfolding plain
+word-said word before after n w h p =
+    let q : Put before 0 word after n = subst (λ (x : List ℕ). Put before 0 x after n) (take-length word) p in
+    let k : length after ≡ length before = put-length q (omega (arith, q .ends, w, h)) in
+    said-put (put-then q (put-one after n 10 (omega (arith, q .ends, w, h, k))) (omega (arith, q .ends, w, h))) (omega (arith, q .ends, w, h))
+
+copy-requires : tie.Need-copy-requires
+copy-requires c κs = search needs
+
+element-write-out : tie.Need-element-write-out
+element-write-out c = omega (arith, ends (c .before .before .before .args .word .now) _ _ _ (c .copy .ensures), c .before .before .before .pre)
+
+add-result : tie.Need-add-result
+add-result c = omega (arith, ends (c .before .before .before .args .word .now) _ _ _ (c .copy .ensures), c .before .before .before .pre)
+
+returns : tie.Need-returns
+returns c = let w : length (c .before .before .before .args .out .now) ≡ 267 = search needs in word-said (c .before .before .before .args .word .now) (c .before .before .before .args .out .now) _ _ w (c .before .before .before .pre) (c .copy .ensures)
+
+pub say-word-spec : {M : Type 1} → statement M
+say-word-spec = tie.close (tie.spec copy-requires element-write-out add-result returns)

@@ -1,0 +1,15 @@
+use Rattle.session.proofs.Replying.{stage-left, stage-long, stage-in}
+use Rattle.session.proofs.stage_of.Statement.{statement}
+use Rattle.session.proofs.stage_of.Tie as tie
+
+returns : tie.Need-returns
+returns c = stage-left (c .before .before .args .session) (c .if1 .taken)
+
+returns-2 : tie.Need-returns-2
+returns-2 c = stage-long (c .before .before .before .before .args .session) (c .if2 .taken)
+
+returns-3 : tie.Need-returns-3
+returns-3 c = stage-in (c .before .before .before .before .args .session) (c .before .before .if1 .left) (c .if2 .left)
+
+pub stage-of-spec : {M : Type 1} → statement M
+stage-of-spec = tie.close (tie.spec returns returns-2 returns-3)

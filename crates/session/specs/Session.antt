@@ -1,0 +1,80 @@
+-- Where a session stands: what it will say to the bytes to come.
+use mathlib.Core.Bool.{Bool, true, false, _&&_, cond}
+use mathlib.Core.List.{List, [], _∷_, _++_}
+use mathlib.Core.Path.{_≡_}
+use Prim.Native.Nat.{ℕ, _-_, _≤_, _<_}
+use lib.ListN.{length, take, drop}
+use lib.Dec.{leb}
+use Rattle.run.specs.declared.Run.{Run}
+use Rattle.session.specs.Talk.{linesFrom, replies, opened, talkFrom, talk}
+use Rattle.session.specs.declared.Stage.{Stage}
+use Rattle.session.specs.declared.Stage.the-variants.{Table, Operations, Over}
+use Rattle.session.specs.declared.Session.{Session}
+use Rattle.session.specs.declared.Fed.{Fed}
+use Rattle.session.specs.declared.open.Opened.{Opened}
+
+-- what a session in a stage says to the bytes bs, after which the input ends
+unfoldable pub spokenIn : Stage → Session → List ℕ → List ℕ
+spokenIn Table s bs = talkFrom (take (s .from) (s .bytes)) (take (s .held - s .from) (drop (s .from) (s .bytes))) bs
+spokenIn Operations s bs = replies (s .run) (linesFrom (take (s .held) (s .bytes)) bs)
+spokenIn Over s bs = []
+
+-- the stage of a session; one whose numbers are outside its bytes is over
+abbrev pub stageOf : Session → Stage
+stageOf s = cond (leb (s .from) (s .held) && leb (s .held) 2148) (s .stage) Over
+
+-- what a session says to the bytes bs, after which the input ends
+unfoldable pub spoken : Session → List ℕ → List ℕ
+spoken s bs = spokenIn (stageOf s) s bs
+
+-- where f says what is said to all bytes to come: of the chunk a part is taken, at least a byte where there is one; what is said to it stands at the
+-- front of the buffer, whatever comes after, and the session that is handed back says the rest
+pub record FedBy (f : List ℕ → List ℕ) (chunk before after : List ℕ) (r : Fed) : Type 0 where
+  pub taken : r .taken ≤ length chunk
+  pub moves : 0 < length chunk → 0 < r .taken
+  pub room : r .length ≤ length before
+  pub same : length after ≡ length before
+  pub behind : drop (r .length) after ≡ drop (r .length) before
+  pub text : (bs : List ℕ) → f (take (r .taken) chunk ++ bs) ≡ take (r .length) after ++ spoken (r .session) bs
+
+-- what `feed` promises of a session
+abbrev pub FedOf : Session → List ℕ → List ℕ → List ℕ → Fed → Type 0
+FedOf s chunk before after r = FedBy (spoken s) chunk before after r
+
+-- so much of the buffer is text, and all else is as it was
+pub record Said (text before after : List ℕ) (n : ℕ) : Type 0 where
+  pub room : n ≤ length before
+  pub same : length after ≡ length before
+  pub behind : drop n after ≡ drop n before
+  pub front : take n after ≡ text
+
+-- what `end` promises: the rest of what is said, where no more bytes come
+abbrev pub LastOf : Session → List ℕ → List ℕ → ℕ → Type 0
+LastOf s before after n = Said (spoken s []) before after n
+
+-- a session that says what the program prints
+abbrev pub NewOf : Session → Type 0
+NewOf s = (bs : List ℕ) → spoken s bs ≡ talk bs
+
+-- the stage after the table: the operations, or none
+abbrev pub stageAfter : Bool → Stage
+stageAfter true = Over
+stageAfter false = Operations
+
+-- what `begin` promises of a table's text
+pub record OpenedOf (table before after : List ℕ) (r : Opened) : Type 0 where
+  pub room : r .length ≤ length before
+  pub same : length after ≡ length before
+  pub behind : drop (r .length) after ≡ drop (r .length) before
+  pub text : (ls : List (List ℕ)) → opened table ls ≡ take (r .length) after ++ cond (r .over) [] (replies (r .run) ls)
+
+-- a session that is over, after so many bytes taken and so many said
+abbrev pub overWith : Session → ℕ → ℕ → Fed
+overWith s taken length = record { session = record { stage = Over; bytes = s .bytes; from = 0; held = 0; run = s .run }; taken = taken; length = length }
+
+-- from session s the bytes bs are fed, in parts of any size, `text` is said, and then the session is s′: each step is what `feed` promises
+pub data Feeds : Session → List ℕ → List ℕ → Session → Type 0 where
+  none : {s : Session} → Feeds s [] [] s
+  more :
+      {s s′ : Session} {chunk before after bs text : List ℕ} {r : Fed} → FedOf s chunk before after r → Feeds (r .session) bs text s′
+      → Feeds s (take (r .taken) chunk ++ bs) (take (r .length) after ++ text) s′

@@ -1,0 +1,73 @@
+// The table of a session, and the run that it starts.
+ghost use mathlib.Core.Path.{_≡_};
+ghost use Rattle.session.specs.Talk.{isDashes, numbersIn};
+ghost use Rattle.text.specs.Format.{wordsOf};
+ghost use Rattle.run.specs.Start.{startOf};
+ghost use Rattle.session.specs.Session.{OpenedOf};
+ghost use mathlib.Core.Bool.{cond};
+ghost use Prim.Native.Nat.{_≤_, _-_};
+ghost use lib.ListN.{length, take, drop};
+use crate::replies;
+use run::Run;
+use run::Started;
+
+// What was said to the table, its run, and whether the session is over.
+pub struct Opened {
+    pub run: Run,
+    pub length: usize,
+    pub over: bool,
+}
+
+// Whether a line is `--`.
+pub fn is_dashes(line: &[u8]) -> bool
+    ensures { λ r. ⌜ r ≡ isDashes (now (line .entry)) ⌝ }
+{
+    if line.len() == 2 {
+        return (line[0] == b'-') & (line[1] == b'-');
+    }
+    false
+}
+
+// Where the table ends, whose last line begins at `from`: before a line `--`, else after it.
+pub fn table_end(bytes: &[u8], from: usize, held: usize) -> usize
+    requires { ⌜ (from ≤ held) × (held ≤ length (now bytes)) ⌝ }
+    ensures { λ r. ⌜ r ≡ cond (isDashes (take (held - from) (drop from (now (bytes .entry))))) from held ⌝ }
+{
+    if is_dashes(&bytes[from..held]) {
+        return from;
+    }
+    held
+}
+
+// The start of the run of a table's text.
+fn start(table: &[u8]) -> Started
+    ensures { λ r. ⌜ r ≡ startOf (numbersIn (wordsOf (now (table .entry)))) ⌝ }
+{
+    let input = text::read(table);
+    let words = input.words;
+    let count = input.count;
+    run::start(&words[..count])
+}
+
+// Starts the run of a table's text, and writes start's answer; a text longer than any table can be is turned down, and ends the session.
+pub fn begin(table: &[u8], out: &mut [u8; 267]) -> Opened
+    ensures { λ r. ⌜ OpenedOf (now (table .entry)) (now (out .entry)) (now (out .exit)) r ⌝ }
+{
+    let started = start(table);
+    let answer = started.answer;
+    let run = started.run;
+    if 2145 < table.len() {
+        let length = replies::say_refused(1, 0, out);
+        return Opened {
+            run: run,
+            length: length,
+            over: true,
+        };
+    }
+    let length = replies::say_answer(b"ok", answer, out);
+    Opened {
+        run: run,
+        length: length,
+        over: false,
+    }
+}

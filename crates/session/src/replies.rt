@@ -1,0 +1,108 @@
+// What is said to an operation.
+ghost use mathlib.Core.Path.{_≡_};
+ghost use mathlib.Core.List.{[], _∷_};
+ghost use Prim.Native.Nat.{_≤_};
+ghost use lib.ListN.{length, take};
+ghost use Rattle.text.specs.Output.{letters, lineOf};
+ghost use Rattle.session.specs.Operation.{plain, answerLine, shownLine, said, runAfter, isLast};
+ghost use Rattle.session.specs.Session.{Said};
+use crate::operations::Operation;
+use run::Answer;
+use run::Row;
+use run::Run;
+use text::first;
+use text::row;
+
+// What was said, and the run after it; whether that was the last.
+pub struct Reply {
+    pub run: Run,
+    pub length: usize,
+    pub last: bool,
+}
+
+// Writes a refusal with number and position; the answer is where it ends.
+pub fn say_refused(number: u32, position: u32, out: &mut [u8; 267]) -> usize
+    ensures { λ r. ⌜ Said (lineOf (letters "refused") (number ∷ position ∷ [])) (now (out .entry)) (now (out .exit)) r ⌝ }
+{
+    first::put_pair(out, b"refused", number, position)
+}
+
+// Writes a word and a newline; the answer is where they end.
+pub fn say_word(word: &[u8], out: &mut [u8; 267]) -> usize
+    requires { ⌜ length (now word) ≤ 16 ⌝ }
+    ensures { λ r. ⌜ Said (plain (now (word .entry))) (now (out .entry)) (now (out .exit)) r ⌝ }
+{
+    let end = row::copy(word, 0, word.len(), out, 0);
+    out[end] = b'\n';
+    end + 1
+}
+
+// Writes an answer: the word where it is taken.
+pub fn say_answer(word: &[u8], answer: Answer, out: &mut [u8; 267]) -> usize
+    requires { ⌜ length (now word) ≤ 16 ⌝ }
+    ensures { λ r. ⌜ Said (answerLine (now (word .entry)) answer) (now (out .entry)) (now (out .exit)) r ⌝ }
+{
+    match answer {
+        Answer::Taken => say_word(word, out),
+        Answer::Refused(number, position) => say_refused(number, position, out),
+    }
+}
+
+// Writes the positions of the first cores of a row.
+fn say_cores(cores: u32, bytes: [u8; 64], out: &mut [u8; 267]) -> usize
+    ensures { λ r. ⌜ Said (lineOf (letters "row") (take cores bytes)) (now (out .entry)) (now (out .exit)) r ⌝ }
+{
+    let mut text = [0u8; 257];
+    let count = crate::smaller(cores as usize, 64);
+    let size = row::spell(bytes, count, &mut text);
+    let start = row::copy(b"row", 0, 3, out, 0);
+    row::copy(&text, 0, size, out, start)
+}
+
+// Writes a row, or its refusal.
+fn say_row(cores: u32, row: Row, out: &mut [u8; 267]) -> usize
+    ensures { λ r. ⌜ Said (shownLine cores (row .answer) (row .bytes)) (now (out .entry)) (now (out .exit)) r ⌝ }
+{
+    let answer = row.answer;
+    let bytes = row.bytes;
+    match answer {
+        Answer::Taken => say_cores(cores, bytes, out),
+        Answer::Refused(number, position) => say_refused(number, position, out),
+    }
+}
+
+// Does an operation, and writes what is said to it.
+pub fn answer(run: Run, operation: Operation, out: &mut [u8; 267]) -> Reply
+    ensures { λ r. ⌜ Said (said operation run) (now (out .entry)) (now (out .exit)) (r .length) × (r .run ≡ runAfter operation run) × (r .last ≡ isLast operation) ⌝ }
+{
+    match operation {
+        Operation::Advance(reports) => {
+            let advanced = run.advance(reports);
+            let answer = advanced.answer;
+            let next = advanced.run;
+            let length = say_answer(b"taken", answer, out);
+            Reply {
+                run: next,
+                length: length,
+                last: false,
+            }
+        }
+        Operation::Row => {
+            let row = run.row();
+            let length = say_row(run.cores, row, out);
+            Reply {
+                run: run,
+                length: length,
+                last: false,
+            }
+        }
+        Operation::Nothing => {
+            let length = say_word(b"not an operation", out);
+            Reply {
+                run: run,
+                length: length,
+                last: true,
+            }
+        }
+    }
+}
