@@ -1,23 +1,35 @@
 -- Handing out: what has been handed out and what is left make up the whole.
 use mathlib.Core.Path.{_≡_, refl, sym, ap, ap₂, _∙_, subst}
+use mathlib.Core.Bool.{Bool, true, false, cond, true≢false}
 use mathlib.Core.List.{List, [], _∷_, _++_}
 use Prim.Native.Nat.{ℕ, zero, suc, _+_, _-_, _≤_, _<_, min}
-use native.Mathlib.Nat.{add-zero}
 use native.Mathlib.Omega.{arith}
-use lib.ListN.{length, take, drop, length-take, length-drop, length-append}
+use lib.ListN.{length, take, drop, length-take, length-drop}
 use lib.Seq.{take-append-le, drop-append-le, take-take, drop-drop, take-add, take-nil, drop-nil, length-take-le}
-use Rattle.model.specs.Book.{full, rowOf}
-use Rattle.text.specs.Output.{rowLine, rowLines}
-use Rattle.text.specs.Written.{Put}
-use Rattle.printer.specs.Printer.{machineOf, rest, Keeps, Going, PieceOf, Stepping, Stepped}
-use Rattle.printer.specs.declared.Printer.{Printer}
-use Rattle.printer.specs.declared.Pace.{Pace}
-use Rattle.printer.specs.declared.Piece.{Piece}
+use Rattle.table.specs.declared.Loaded.{Loaded}
 use Rattle.full.specs.declared.columns.Columns.{Columns}
 use Rattle.full.specs.Fields.{columnsOf}
 use Rattle.full.specs.Machine.{machine}
-use Rattle.judge.specs.Judged.{tableIn}
+use Rattle.text.specs.Written.{Put}
 use Rattle.text.proofs.Writing.{put-none, put-then, put-length, put-front}
+use Rattle.printer.specs.Rows.{Numbers, numbers, numbersIn, Stand, lineIn, next, linesIn}
+use Rattle.printer.specs.Sound.{sound, Safe}
+use Rattle.printer.specs.Printer.{standOf, toCome, rest, PieceOf, Stepping, Stepped}
+use Rattle.printer.specs.declared.Printer.{Printer}
+use Rattle.printer.specs.declared.Pace.{Pace}
+use Rattle.printer.specs.declared.Piece.{Piece}
+use Rattle.printer.proofs.Safe.{safe-next}
+use Rattle.printer.proofs.Step.{tick-on}
+use Rattle.printer.proofs.Limits.{Limits, limits-sound, Arrays, limits-safe}
+
+-- a sound printer has all that is to come to hand out, another has nothing
+pub rest-sound : (p : Printer) → sound p ≡ true → rest p ≡ toCome p
+unfolding rest
+rest-sound p e = ap (λ (b : Bool). cond b (toCome p) []) e
+
+pub rest-none : (p : Printer) → sound p ≡ false → rest p ≡ []
+unfolding rest
+rest-none p e = ap (λ (b : Bool). cond b (toCome p) []) e
 
 -- nothing of nothing
 drop-nil' : {A : Type 0} (k n : ℕ) → _≡_ {A = List A} (drop k (take n [])) []
@@ -33,35 +45,36 @@ drop-front (suc k) n (x ∷ l) =
 
 -- what a printer p has handed out of what p₀ had, into a buffer
 pub record Handing (p₀ p : Printer) (before after : List ℕ) (at : ℕ) : Type 0 where
-  pub keeps : Keeps p
-  pub left : rest p ≡ drop at (rest p₀)
-  pub bytes : Put before 0 (take at (rest p₀)) after at
+  pub limits : Limits p
+  pub arrays : Arrays p
+  pub left : toCome p ≡ drop at (toCome p₀)
+  pub bytes : Put before 0 (take at (toCome p₀)) after at
   pub room : at ≤ length before
   pub same : length after ≡ length before
 
-pub hand-start : (p : Printer) (buffer : List ℕ) → Keeps p → Handing p p buffer buffer 0
-hand-start p buffer k = record { keeps = k; left = refl; bytes = put-none buffer 0; room = omega arith; same = refl }
+pub hand-start : (p : Printer) (buffer : List ℕ) → Limits p → Arrays p → Handing p p buffer buffer 0
+hand-start p buffer k a = record { limits = k; arrays = a; left = refl; bytes = put-none buffer 0; room = omega arith; same = refl }
 
 -- a printer that has handed out so much of its line
 abbrev pub at-given : Printer → ℕ → Printer
 at-given p g = record { table = p .table; end = p .end; left = p .left; moment = p .moment; next = p .next; pace = p .pace; row = p .row; line = p .line; given = g }
 
 -- a part of the line is the next of what is left, and the rest comes after it
-module _ (p : Printer) (k : Keeps p) (part : ℕ) (h : part ≤ p .pace .ready - p .given) where
+module _ (p : Printer) (k : Limits p) (a : Arrays p) (part : ℕ) (h : part ≤ p .pace .ready - p .given) where
   abbrev line-left : List ℕ
   line-left = drop (p .given) (p .line)
 
   long : length (take (p .pace .ready - p .given) line-left) ≡ p .pace .ready - p .given
-  long = length-take-le (p .pace .ready - p .given) line-left (omega (arith, length-drop (p .given) (p .line), k .long, k .ready))
+  long = length-take-le (p .pace .ready - p .given) line-left (omega (arith, length-drop (p .given) (p .line), a .long, k .ready))
 
-  pub part-taken : take part (rest p) ≡ take part line-left
-  unfolding rest
+  pub part-taken : take part (toCome p) ≡ take part line-left
+  unfolding toCome
   part-taken =
       take-append-le part (take (p .pace .ready - p .given) line-left) _ (omega (arith, long))
       ∙ take-take part (p .pace .ready - p .given) line-left h
 
-  pub part-left : rest (at-given p (p .given + part)) ≡ drop part (rest p)
-  unfolding rest
+  pub part-left : toCome (at-given p (p .given + part)) ≡ drop part (toCome p)
+  unfolding toCome
   part-left =
       let e : p .pace .ready - p .given ≡ part + (p .pace .ready - (p .given + part)) = omega arith in
       let f : drop part (take (p .pace .ready - p .given) line-left) ≡ take (p .pace .ready - (p .given + part)) (drop (p .given + part) (p .line)) =
@@ -69,25 +82,30 @@ module _ (p : Printer) (k : Keeps p) (part : ℕ) (h : part ≤ p .pace .ready -
       ∙ ap (take (p .pace .ready - (p .given + part))) (drop-drop part (p .given) (p .line)) in
       sym
       (drop-append-le part (take (p .pace .ready - p .given) line-left) _ (omega (arith, long))
-      ∙ ap (λ (l : List ℕ). l ++ rowLines (tableIn (p .table)) (p .pace .tick) (p .end - p .pace .tick)) f)
+      ∙ ap (λ (l : List ℕ). l ++ linesIn (numbersIn (p .table)) (p .end - p .pace .tick) (standOf p)) f)
 
-  part-keeps : Keeps (at-given p (p .given + part))
-  part-keeps = record {
-    given = omega (arith, k .given);
-    ready = k .ready;
-    wide = k .wide;
-    long = k .long;
+  part-limits : Limits (at-given p (p .given + part))
+  part-limits = record {
+    table = k .table;
     tick = k .tick;
-    going = λ l. record { standing = k .going l .standing; within = k .going l .within; met = k .going l .met };
+    end = k .end;
+    ready = k .ready;
+    given = omega (arith, k .given);
+    text = k .text;
+    claims = k .claims;
+    chosen = k .chosen;
   }
+
+  part-arrays : Arrays (at-given p (p .given + part))
+  part-arrays = record { sized = a .sized; wide = a .wide; long = a .long }
 
 -- where a part ends
 part-ends :
-    (p : Printer) (after after′ : List ℕ) (at at′ part : ℕ) → Keeps p → part ≤ p .pace .ready - p .given
+    (p : Printer) (after after′ : List ℕ) (at at′ part : ℕ) → Limits p → Arrays p → part ≤ p .pace .ready - p .given
     → Put after at (take part (drop (p .given) (p .line))) after′ at′ → at′ ≡ at + part
-part-ends p after after′ at at′ part k few q =
+part-ends p after after′ at at′ part k a few q =
     q .ends ∙ ap (λ (n : ℕ). at + n)
-    (length-take-le part (drop (p .given) (p .line)) (omega (arith, length-drop (p .given) (p .line), k .long, k .ready)))
+    (length-take-le part (drop (p .given) (p .line)) (omega (arith, length-drop (p .given) (p .line), a .long, k .ready)))
 
 -- where the line is not at its end after it, the buffer is full
 pub part-fills :
@@ -95,7 +113,7 @@ pub part-fills :
     → part ≡ min (p .pace .ready - p .given) (length after - at) → Put after at (take part (drop (p .given) (p .line))) after′ at′
     → p .given + part < p .pace .ready → at′ ≡ length before
 part-fills p₀ p before after after′ at at′ part h e q l =
-    omega (arith, part-ends p after after′ at at′ part (h .keeps) (omega arith) q, h .same, h .room)
+    omega (arith, part-ends p after after′ at at′ part (h .limits) (h .arrays) (omega arith) q, h .same, h .room)
 
 -- a part of the line is handed out
 pub hand-part :
@@ -103,9 +121,10 @@ pub hand-part :
     → part ≡ min (p .pace .ready - p .given) (length after - at) → Put after at (take part (drop (p .given) (p .line))) after′ at′
     → Handing p₀ (at-given p (p .given + part)) before after′ at′
 hand-part p₀ p before after after′ at at′ part h e q = record {
-  keeps = part-keeps p (h .keeps) part few;
+  limits = part-limits p (h .limits) (h .arrays) part few;
+  arrays = part-arrays p (h .limits) (h .arrays) part few;
   left =
-      part-left p (h .keeps) part few ∙ ap (drop part) (h .left) ∙ drop-drop part at (rest p₀) ∙ ap (λ (n : ℕ). drop n (rest p₀)) (sym ends);
+      part-left p (h .limits) (h .arrays) part few ∙ ap (drop part) (h .left) ∙ drop-drop part at (toCome p₀) ∙ ap (λ (n : ℕ). drop n (toCome p₀)) (sym ends);
   bytes = subst (λ (x : List ℕ). Put before 0 x after′ at′) taken (put-then (h .bytes) q room′);
   room = room′;
   same = put-length q (omega (arith, h .same, room′)) ∙ h .same;
@@ -115,119 +134,149 @@ hand-part p₀ p before after after′ at at′ part h e q = record {
     few = omega arith
 
     ends : at′ ≡ at + part
-    ends = part-ends p after after′ at at′ part (h .keeps) few q
+    ends = part-ends p after after′ at at′ part (h .limits) (h .arrays) few q
 
     room′ : at′ ≤ length before
     room′ = omega (arith, ends, h .same, h .room)
 
-    taken : take at (rest p₀) ++ take part (drop (p .given) (p .line)) ≡ take at′ (rest p₀)
+    taken : take at (toCome p₀) ++ take part (drop (p .given) (p .line)) ≡ take at′ (toCome p₀)
     taken =
-        ap (λ (l : List ℕ). take at (rest p₀) ++ l) (sym (part-taken p (h .keeps) part few) ∙ ap (take part) (h .left))
-        ∙ sym (take-add at part (rest p₀)) ∙ ap (λ (n : ℕ). take n (rest p₀)) (sym ends)
+        ap (λ (l : List ℕ). take at (toCome p₀) ++ l) (sym (part-taken p (h .limits) (h .arrays) part few) ∙ ap (take part) (h .left))
+        ∙ sym (take-add at part (toCome p₀)) ∙ ap (λ (n : ℕ). take n (toCome p₀)) (sym ends)
 
--- one row more
-more-rows :
-    (p : Printer) → p .pace .tick < p .end
-    → rowLines (tableIn (p .table)) (p .pace .tick) (p .end - p .pace .tick)
-    ≡ rowLine (p .pace .tick) (rowOf (tableIn (p .table)) (full (tableIn (p .table)) (p .pace .tick)))
-    ++ rowLines (tableIn (p .table)) (suc (p .pace .tick)) (p .end - suc (p .pace .tick))
-unfolding rowLines
-more-rows p l =
-    let e : p .end - p .pace .tick ≡ suc (p .end - suc (p .pace .tick)) = omega arith in
-    ap (rowLines (tableIn (p .table)) (p .pace .tick)) e
+-- THE NEXT ROW
+
+-- the table's own numbers, by its columns
+abbrev pub numbersBy : Loaded → Columns → Numbers
+numbersBy t c = numbers (t .rule) (t .cores) (t .count) (c .width) (c .length) (c .deadline) (c .period)
+
+-- a row can be stepped
+pub stepping-of :
+    (p : Printer) (columns : Columns) → columns ≡ columnsOf (p .table .tasks) → Limits p → Arrays p → p .pace .tick < p .end
+    → Stepping (numbersBy (p .table) columns) (machine (p .left) (p .moment) (p .next) (p .pace .claiming)) (p .pace) (p .row) (p .line)
+stepping-of p columns e k a l = record {
+  safe = subst (λ (n : Numbers). Safe n (standOf p)) (sym (ap (numbersBy (p .table)) e)) (limits-safe p k a);
+  tick = omega (arith, k .end);
+  text = k .text;
+  wide = a .wide;
+  long = a .long;
+}
 
 -- the line is handed out, and the next is made
-pub hand-step :
-    (p₀ p : Printer) (before after : List ℕ) (at : ℕ) → Handing p₀ p before after at → p .pace .ready ≤ p .given → p .pace .tick < p .end
-    → (left moment next : List ℕ) (pace : Pace) (row line : List ℕ)
-    → Stepped (p .table) (p .pace) (p .line) (machine left moment next (pace .claiming)) pace row line
-    → Handing p₀ (record { table = p .table; end = p .end; left = left; moment = moment; next = next; pace = pace; row = row; line = line; given = 0 }) before after at
-hand-step p₀ p before after at h over l left moment next pace row line s = record {
-  keeps = record {
-    given = omega arith;
-    ready = s .short;
-    wide = s .wide;
-    long = s .long;
-    tick = omega (arith, s .tick);
-    going = λ b. record { standing = s .standing; within = h .keeps .going l .within; met = h .keeps .going l .met };
-  };
-  left = same-rest ∙ h .left;
-  bytes = h .bytes;
-  room = h .room;
-  same = h .same;
-}
+module _
+    (p : Printer) (k : Limits p) (a : Arrays p) (over : p .pace .ready ≤ p .given) (l : p .pace .tick < p .end) (left moment next′ : List ℕ) (pace : Pace) (row line : List ℕ)
+    (s : Stepped (numbersIn (p .table)) (standOf p) (p .line) (machine left moment next′ (pace .claiming)) pace row line)
   where
-    t : ℕ
+    abbrev n : Numbers
+    n = numbersIn (p .table)
+
+    abbrev t : ℕ
     t = p .pace .tick
 
-    one : pace .tick ≡ suc t
-    one = omega (arith, s .tick)
+    abbrev stepped : Printer
+    stepped = record { table = p .table; end = p .end; left = left; moment = moment; next = next′; pace = pace; row = row; line = line; given = 0 }
 
-    zero-off : pace .ready - 0 ≡ pace .ready
-    zero-off = omega arith
+    safe : Safe n (standOf stepped)
+    safe = subst (Safe n) (sym (s .stand)) (safe-next n (standOf p) (limits-safe p k a))
 
-    new-rest :
-        rest (record { table = p .table; end = p .end; left = left; moment = moment; next = next; pace = pace; row = row; line = line; given = 0 })
-        ≡ rowLine t (rowOf (tableIn (p .table)) (full (tableIn (p .table)) t)) ++ rowLines (tableIn (p .table)) (suc t) (p .end - suc t)
-    new-rest = unfold rest in
-        ap₂ (λ (x y : List ℕ). x ++ y)
-        (ap (λ (n : ℕ). take n line) zero-off ∙ put-front (s .line))
-        (ap (λ (n : ℕ). rowLines (tableIn (p .table)) n (p .end - n)) one)
+    one : pace .tick ≡ t + 1
+    one = tick-on n (standOf p) (standOf stepped) (s .stand)
 
-    old-rest : rest p ≡ rowLines (tableIn (p .table)) t (p .end - t)
-    old-rest = unfold rest in
+    step-limits : Limits stepped
+    step-limits = record {
+      table = k .table;
+      tick = omega (arith, one);
+      end = k .end;
+      ready = s .ready;
+      given = omega arith;
+      text = s .text;
+      claims = safe .owed;
+      chosen = safe .kept;
+    }
+
+    step-arrays : Arrays stepped
+    step-arrays = record { sized = safe .sized; wide = s .wide; long = s .long }
+
+    new : toCome stepped ≡ lineIn n (standOf p) ++ linesIn n (p .end - suc t) (next n (standOf p))
+    new = unfold toCome in
+        let z : pace .ready - 0 ≡ pace .ready = omega arith in
+        let y : p .end - pace .tick ≡ p .end - suc t = omega (arith, one) in
+        ap₂ (λ (x y : List ℕ). x ++ y) (ap (λ (i : ℕ). take i line) z ∙ put-front (s .line)) (ap₂ (linesIn n) y (s .stand))
+
+    old : toCome p ≡ lineIn n (standOf p) ++ linesIn n (p .end - suc t) (next n (standOf p))
+    old = unfold toCome linesIn in
         let z : p .pace .ready - p .given ≡ 0 = omega arith in
-        ap (λ (n : ℕ). take n (drop (p .given) (p .line)) ++ rowLines (tableIn (p .table)) t (p .end - t)) z
+        let e : p .end - t ≡ suc (p .end - suc t) = omega arith in
+        ap₂ (λ (i j : ℕ). take i (drop (p .given) (p .line)) ++ linesIn n j (standOf p)) z e
 
-    same-rest :
-        rest (record { table = p .table; end = p .end; left = left; moment = moment; next = next; pace = pace; row = row; line = line; given = 0 }) ≡ rest p
-    same-rest = new-rest ∙ sym (more-rows p l) ∙ sym old-rest
+    step-same : toCome stepped ≡ toCome p
+    step-same = new ∙ sym old
+
+pub hand-step :
+    (p₀ p : Printer) (before after : List ℕ) (at : ℕ) → Handing p₀ p before after at → p .pace .ready ≤ p .given → p .pace .tick < p .end
+    → (columns : Columns) → columns ≡ columnsOf (p .table .tasks) → (left moment next′ : List ℕ) (pace : Pace) (row line : List ℕ)
+    → Stepped (numbersBy (p .table) columns) (standOf p) (p .line) (machine left moment next′ (pace .claiming)) pace row line
+    → Handing p₀ (record { table = p .table; end = p .end; left = left; moment = moment; next = next′; pace = pace; row = row; line = line; given = 0 }) before after at
+hand-step p₀ p before after at h over l columns e left moment next′ pace row line q =
+    let s = subst (λ (n : Numbers). Stepped n (standOf p) (p .line) (machine left moment next′ (pace .claiming)) pace row line) (ap (numbersBy (p .table)) e) q in
+    record {
+      limits = step-limits p (h .limits) (h .arrays) over l left moment next′ pace row line s;
+      arrays = step-arrays p (h .limits) (h .arrays) over l left moment next′ pace row line s;
+      left = step-same p (h .limits) (h .arrays) over l left moment next′ pace row line s ∙ h .left;
+      bytes = h .bytes;
+      room = h .room;
+      same = h .same;
+    }
+
+-- THE END
 
 -- no more than there was
-handed : (p₀ p : Printer) (before after : List ℕ) (at : ℕ) → Handing p₀ p before after at → at ≤ length (rest p₀)
-handed p₀ p before after at h = omega (arith, h .bytes .ends, length-take at (rest p₀))
+handed : (p₀ p : Printer) (before after : List ℕ) (at : ℕ) → Handing p₀ p before after at → at ≤ length (toCome p₀)
+handed p₀ p before after at h = omega (arith, h .bytes .ends, length-take at (toCome p₀))
 
 piece-of :
-    (p₀ p : Printer) (before after : List ℕ) (at : ℕ) → Handing p₀ p before after at → at ≡ min (length before) (length (rest p₀))
+    (p₀ p : Printer) (before after : List ℕ) (at : ℕ) → sound p₀ ≡ true → Handing p₀ p before after at → at ≡ min (length before) (length (toCome p₀))
     → PieceOf p₀ before after (record { printer = p; length = at })
-piece-of p₀ p before after at h e = record { keeps = h .keeps; length = e; bytes = h .bytes; rest = h .left }
+piece-of p₀ p before after at ok h e = record {
+  length = e ∙ ap (λ (x : List ℕ). min (length before) (length x)) (sym all);
+  bytes = subst (λ (x : List ℕ). Put before 0 (take at x) after at) (sym all) (h .bytes);
+  rest = rest-sound p still ∙ h .left ∙ ap (drop at) (sym all);
+  refused = λ z. absurd (true≢false (sym ok ∙ z));
+  sound = still ∙ sym ok;
+}
+  where
+    all : rest p₀ ≡ toCome p₀
+    all = rest-sound p₀ ok
+
+    still : sound p ≡ true
+    still = limits-sound p (h .limits)
 
 -- the buffer is full
 pub hand-full :
-    (p₀ p : Printer) (before after : List ℕ) (at : ℕ) → Handing p₀ p before after at → at ≡ length before
+    (p₀ p : Printer) (before after : List ℕ) (at : ℕ) → sound p₀ ≡ true → Handing p₀ p before after at → at ≡ length before
     → PieceOf p₀ before after (record { printer = p; length = at })
-hand-full p₀ p before after at h e = piece-of p₀ p before after at h (omega (arith, handed p₀ p before after at h))
+hand-full p₀ p before after at ok h e = piece-of p₀ p before after at ok h (omega (arith, handed p₀ p before after at h))
 
 -- or nothing is left
 pub hand-done :
-    (p₀ p : Printer) (before after : List ℕ) (at : ℕ) → Handing p₀ p before after at → p .pace .ready ≤ p .given → p .pace .tick ≡ p .end
+    (p₀ p : Printer) (before after : List ℕ) (at : ℕ) → sound p₀ ≡ true → Handing p₀ p before after at → p .pace .ready ≤ p .given → p .pace .tick ≡ p .end
     → PieceOf p₀ before after (record { printer = p; length = at })
-hand-done p₀ p before after at h over e =
-    piece-of p₀ p before after at h
-    (omega (arith, h .room, handed p₀ p before after at h, ap length (sym (h .left) ∙ none), length-drop at (rest p₀)))
+hand-done p₀ p before after at ok h over e =
+    piece-of p₀ p before after at ok h
+    (omega (arith, h .room, handed p₀ p before after at h, ap length (sym (h .left) ∙ none), length-drop at (toCome p₀)))
   where
-    none : rest p ≡ []
-    none = unfold rest rowLines in
+    none : toCome p ≡ []
+    none = unfold toCome linesIn in
         let z : p .pace .ready - p .given ≡ 0 = omega arith in
         let y : p .end - p .pace .tick ≡ 0 = omega arith in
-        ap₂ (λ (n m : ℕ). take n (drop (p .given) (p .line)) ++ rowLines (tableIn (p .table)) (p .pace .tick) m) z y
+        ap₂ (λ (i j : ℕ). take i (drop (p .given) (p .line)) ++ linesIn (numbersIn (p .table)) j (standOf p)) z y
 
--- the table's own numbers, for the next row
-pub stepping-of :
-    (p : Printer) (columns : Columns) → columns ≡ columnsOf (p .table .tasks) → Keeps p → p .pace .tick < p .end
-    → Stepping (p .table) (p .table .rule) (p .table .cores) (p .table .count) (columns .width) (columns .length) (columns .deadline) (columns .period)
-    (machineOf p) (p .pace) (p .row) (p .line)
-stepping-of p columns e k l = record {
-  rule = refl;
-  cores = refl;
-  count = refl;
-  widths = ap (λ (x : Columns). x .width) e;
-  lengths = ap (λ (x : Columns). x .length) e;
-  deadlines = ap (λ (x : Columns). x .deadline) e;
-  periods = ap (λ (x : Columns). x .period) e;
-  standing = k .going l .standing;
-  wide = k .wide;
-  long = k .long;
-  early = omega (arith, k .going l .within);
-  met = λ q. k .going l .met q (p .pace .tick) l;
+-- a printer that is not sound is handed back as it is
+pub piece-refused : (p : Printer) (buffer : List ℕ) → sound p ≡ false → PieceOf p buffer buffer (record { printer = p; length = 0 })
+piece-refused p buffer e = record {
+  length = omega (arith, ap length (rest-none p e));
+  bytes = put-none buffer 0;
+  rest = refl;
+  refused = λ z. (refl, refl, refl);
+  sound = refl;
 }

@@ -2,11 +2,20 @@
 use native.Mathlib.Omega.{arith}
 use mathlib.Core.Path.{_≡_, refl, sym, ap, ap₂, _∙_, subst, subst⁻¹}
 use mathlib.Core.List.{List, [], _∷_, _++_, append-nil}
-use mathlib.Core.Logic.{inl, inr}
+use mathlib.Core.Bool.{true, false, not, _&&_}
+use mathlib.Core.Logic.{inl, inr, ⊎-elim}
+use native.Mathlib.Nat.{eq-zero-or-pos}
 use Prim.Native.Nat.{ℕ, _-_, _≤_, _<_}
-use lib.ListN.{length, take, replicate, length-replicate, length-append}
+use lib.Bits.{bitAnd, and-zero-l}
+use lib.Dec.{leb}
+use lib.ListN.{length, getD, take, replicate, length-append}
 use lib.Seq.{take-append-seam}
-use Rattle.model.specs.Task.{Table, AllSound}
+use borrow.Author.Tests.{eq-eqb, le-leb}
+use Rattle.model.specs.Task.{Table, AllSound, task}
+use Rattle.model.specs.Search.{any}
+use Rattle.model.proofs.Bools.{and-both, not-true-false}
+use Rattle.model.proofs.Search.{none-any}
+use Rattle.model.specs.Task as plain
 use Rattle.model.specs.Book.{Missed, NeverMissed}
 use Rattle.model.specs.Horizon.{horizon}
 use Rattle.model.specs.Verdict.{FirstMiss, verdict}
@@ -16,14 +25,19 @@ use Rattle.model.proofs.Verdict.{verdict-exact}
 use Rattle.table.specs.declared.Answer.{Answer}
 use Rattle.table.specs.declared.Answer.the-variants.{Passed, Refused}
 use Rattle.table.specs.declared.Loaded.{Loaded}
-use Rattle.table.specs.Words.{tableOf}
+use Rattle.table.specs.Words.{cores, tableOf}
 use Rattle.table.specs.Answer.{answerOf, headerNumber}
 use Rattle.table.specs.Load.{LoadOf, refusal}
 use Rattle.table.proofs.Exact.{refusal-exact, passed-exact}
-use Rattle.table.proofs.Passed.{passed-cores}
+use Rattle.table.specs.Limits.{WidthOut, TimesOut, taskOut}
+use Rattle.table.specs.Task.{taskOf, noTask}
+use Rattle.table.proofs.Inside.{Inside}
+use Rattle.table.proofs.Passed.{passed-cores, passed-inside}
+use Rattle.table.proofs.Places.{task-at}
+use Rattle.table.proofs.Tests.{task-decides}
 use Rattle.full.specs.declared.columns.Columns.{Columns}
 use Rattle.full.specs.Fields.{columnsOf}
-use Rattle.full.specs.Machine.{machine}
+use Rattle.full.specs.Machine.{machine, started}
 use Rattle.judge.specs.declared.Verdict.{Verdict}
 use Rattle.judge.specs.declared.Verdict.the-variants as judge
 use Rattle.judge.specs.Judged.{told, verdictOf, Judged, tableIn, Fit}
@@ -35,23 +49,30 @@ use Rattle.text.specs.Output.{Answer as Said, judged, refused, firstLine, rowLi
 use Rattle.text.specs.Written.{Put}
 use Rattle.printer.specs.Cells.{cells}
 use Rattle.text.specs.Said.{saidBy, endOf}
-use Rattle.printer.specs.Printer.{widthsIn, rest, Keeps, StartOf, WordsPrinter, MadeFrom}
+use Rattle.printer.specs.Rows.{numbersIn, Stand, linesIn}
+use Rattle.printer.specs.Sound.{outAt, tableSound, owed, within, sound}
+use Rattle.printer.specs.Printer.{standOf, toCome, rest, StartOf, WordsPrinter, MadeFrom}
 use Rattle.text.specs.declared.Input.{Input}
 use Rattle.printer.specs.declared.Printer.{Printer}
-use Rattle.text.proofs.Writing.{put-front, put-length}
+use Rattle.text.proofs.Writing.{put-front}
+use Rattle.printer.proofs.Limits.{limits-sound, none-out}
+use Rattle.printer.proofs.Follows.{Follows, rows-follow}
+use Rattle.printer.proofs.Hand.{rest-sound}
 
 -- THE START
 
-zeros : (n : ℕ) → length {A = ℕ} (replicate n 0) ≡ n
-zeros n = length-replicate {A = ℕ} n 0
+-- nobody is in any set
+none-within : (b : ℕ) → within 0 b ≡ true
+none-within b = eq-eqb (bitAnd 0 b) 0 (and-zero-l b)
 
 -- the first line is written, and the run stands before tick 0
-pub start-of :
-    (t : Loaded) (e : ℕ) (v : Verdict) (columns : Columns) → columns ≡ columnsOf (t .tasks) → t .cores ≤ 64 → (row line : List ℕ) (size ready : ℕ)
-    → (Put (replicate 257 0) 0 (cells (t .rule) (t .cores) (take (t .count) (columns .width)) 0) row size) × (size ≤ 257)
-    → (Put (replicate 267 0) 0 (firstLine (saidBy v)) line ready) × (ready ≤ 267)
-    → StartOf t e v
-    (record {
+module _
+    (t : Loaded) (e : ℕ) (v : Verdict) (columns : Columns) (c : columns ≡ columnsOf (t .tasks)) (row line : List ℕ) (size ready : ℕ)
+    (p : (Put (replicate 257 0) 0 (cells (t .rule) (t .cores) (take (t .count) (columns .width)) 0) row size) × (size ≤ 257))
+    (q : (Put (replicate 267 0) 0 (firstLine (saidBy v)) line ready) × (ready ≤ 267))
+  where
+    abbrev first : Printer
+    first = record {
       table = t;
       end = e;
       left = replicate 32 0;
@@ -61,36 +82,40 @@ pub start-of :
       row = row;
       line = line;
       given = 0;
-    })
-start-of t e v columns c few row line size ready p q = record {
-  keeps = λ f. record {
-    given = omega arith;
-    ready = q .1;
-    wide = put-length (p .0) (omega (arith, p .1, zeros 257)) ∙ zeros 257;
-    long = put-length (q .0) (omega (arith, q .1, zeros 267)) ∙ zeros 267;
-    tick = omega arith;
-    going = λ l. record {
-      standing = record {
-        fit = f l .0;
-        cores = few;
-        before = subst (λ (o : List ℕ). Before t (machine (replicate 32 0) o o 0) 0 0) (sym (ap (λ (x : Columns). x .offset) c)) (at-start t (f l .0));
-        chosen = chosen-none t;
-        text = put-front (p .0) ∙ ap (λ (x : Columns). cells (t .rule) (t .cores) (take (t .count) (x .width)) 0) c;
-        short = p .1;
-      };
-      within = f l .1;
-      met = f l .2;
-    };
-  };
-  whole = unfold rest in
-      ap₂ (λ (n m : ℕ). take n line ++ rowLines (tableIn t) 0 m) ready-off end-off ∙ ap (λ (x : List ℕ). x ++ rowLines (tableIn t) 0 e) (put-front (q .0));
-}
-  where
-    ready-off : ready - 0 ≡ ready
-    ready-off = omega arith
+    }
 
-    end-off : e - 0 ≡ e
-    end-off = omega arith
+    follows : Fit t → Follows t (standOf first)
+    follows fit = record {
+      before = subst (λ (o : List ℕ). Before t (started o) 0 0) (sym (ap (λ (x : Columns). x .offset) c)) (at-start t fit);
+      chosen = chosen-none t;
+      text = put-front (p .0) ∙ ap (λ (x : Columns). cells (t .rule) (t .cores) (take (t .count) (x .width)) 0) c;
+    }
+
+    rows : (0 < e → Fit t × (e ≤ t .horizon) × ((q u : ℕ) → u < e → ¬ Missed (tableIn t) q u)) → linesIn (numbersIn t) e (standOf first) ≡ rowLines (tableIn t) 0 e
+    rows f =
+        ⊎-elim
+        (λ (z : e ≡ 0). let none : linesIn (numbersIn t) 0 (standOf first) ≡ rowLines (tableIn t) 0 0 = unfold linesIn rowLines in refl in
+        subst⁻¹ (λ (k : ℕ). linesIn (numbersIn t) k (standOf first) ≡ rowLines (tableIn t) 0 k) z none)
+        (λ (l : 0 < e). rows-follow t (f l .0) e (standOf first) (follows (f l .0)) (omega (arith, f l .1)) (λ q u b. f l .2 q u (omega arith)))
+        (eq-zero-or-pos e)
+
+    pub start-of : StartOf t e v first
+    start-of = record {
+      sound = λ ok few. limits-sound first (record {
+        table = ok;
+        tick = omega arith;
+        end = few;
+        ready = q .1;
+        given = omega arith;
+        text = p .1;
+        claims = none-within (owed (replicate 32 0));
+        chosen = none-within 0;
+      });
+      whole = λ f. unfold toCome in
+          let z : ready - 0 ≡ ready = omega arith in
+          let y : e - 0 ≡ e = omega arith in
+          ap₂ (λ (i j : ℕ). take i line ++ linesIn (numbersIn t) j (standOf first)) z y ∙ ap₂ (λ (x y : List ℕ). x ++ y) (put-front (q .0)) (rows f);
+    }
 
 -- THE WORDS
 
@@ -105,6 +130,31 @@ load-small ws r l = go (r .answer) refl
     go (Refused n p) e =
         let z : r ≡ refusal n p = l .zeros n p e in
         (omega (arith, ap (λ (x : Loaded). x .cores) z), omega (arith, ap (λ (x : Loaded). x .count) z))
+
+-- a task that is within its limits is not turned down
+inside-in : (m : ℕ) (τ : plain.Task) → Inside m τ → taskOut m τ ≡ false
+inside-in m τ i =
+    not-true-false (taskOut m τ) (λ e.
+    ⊎-elim
+    (λ w. ⊎-elim (λ x. omega (arith, i .width-from .0)) (λ x. omega (arith, i .width-from .1)) w)
+    (λ w. ⊎-elim (λ x. omega (arith, i .offset-most)) (λ w. ⊎-elim (λ x. x (i .length-from)) (λ w. ⊎-elim (λ x. x (i .period-from)) (λ x. x (i .deadline-from)) w) w) w)
+    (task-decides m τ .0 e))
+
+-- and what was loaded is sound
+load-sound : (ws : List ℕ) (r : Loaded) → LoadOf ws r → tableSound r ≡ true
+load-sound ws r l = go (r .answer) refl
+  where
+    go : (a : Answer) → r .answer ≡ a → tableSound r ≡ true
+    go Passed e = none-out r (load-small ws r l .1) (load-small ws r l .0) fine
+      where
+        fine : (p : ℕ) → p < r .count → outAt r p ≡ false
+        fine p b =
+            let h = l .holds e in
+            let i = passed-inside ws (l .passed .0 e) p (omega (arith, h .count)) in
+            let same : taskOf (getD (r .tasks) p noTask) ≡ task (tableOf ws) p =
+            sym (task-at (r .tasks) (r .count) p b) ∙ ap (λ (τs : List plain.Task). getD τs p plain.nobody) (h .tasks) in
+            ap₂ (λ (m : ℕ) (τ : plain.Task). taskOut m τ) (h .cores) same ∙ inside-in (cores ws) (task (tableOf ws) p) i
+    go (Refused n p) e = subst⁻¹ (λ (x : Loaded). tableSound x ≡ true) (l .zeros n p e) (unfold tableSound any in refl)
 
 said-told : (v : model.Verdict) → saidBy (told v) ≡ judged v
 said-told (model.Firm a b) = refl
@@ -138,9 +188,9 @@ words-made ws r v p l j s = go (r .answer) refl
   where
     go : (a : Answer) → r .answer ≡ a → WordsPrinter ws p
     go Passed e = record {
-      keeps = s .keeps (λ h. (f, near, λ q u b. rows .1 q u (subst (λ (x : ℕ). u < x) ends b)));
+      sound = ok;
       whole =
-          s .whole
+          rest-sound p ok ∙ s .whole (λ h. (f, near, λ q u b. rows .1 q u (subst (λ (x : ℕ). u < x) ends b)))
           ∙ ap₂ (λ (x : Verdict) (n : ℕ). firstLine (saidBy x) ++ rowLines (tableIn r) 0 n) is ends
           ∙ ap (λ (x : Said). firstLine x ++ rowLines (tableIn r) 0 (rowsPrinted (verdict (tableIn r)) (horizon (tableIn r)))) (said-told (verdict (tableIn r)))
           ∙ printed-is (tableIn r) ∙ ap printed (same-table ws r l e)
@@ -165,12 +215,15 @@ words-made ws r v p l j s = go (r .answer) refl
         near : endOf v (r .horizon) ≤ r .horizon
         near = omega (arith, ends, rows .0, f .horizon)
 
+        ok : sound p ≡ true
+        ok = s .sound (load-sound ws r l) (omega (arith, near, l .holds e .horizon-most))
+
         printed-is : (x : Table) → firstLine (judged (verdict x)) ++ rowLines x 0 (rowsPrinted (verdict x) (horizon x)) ≡ printed x
         printed-is x = unfold printed in refl
     go (Refused n q) e = record {
-      keeps = s .keeps (λ h. absurd (omega (arith, ends)));
+      sound = ok;
       whole =
-          s .whole ∙ ap₂ (λ (x : Verdict) (m : ℕ). firstLine (saidBy x) ++ rowLines (tableIn r) 0 m) is ends
+          rest-sound p ok ∙ s .whole (λ h. absurd (omega (arith, ends))) ∙ ap₂ (λ (x : Verdict) (m : ℕ). firstLine (saidBy x) ++ rowLines (tableIn r) 0 m) is ends
           ∙ none ∙ sym (ap (λ (a : Answer). printedBy a (tableOf ws)) refuses);
     }
       where
@@ -182,6 +235,9 @@ words-made ws r v p l j s = go (r .answer) refl
 
         ends : endOf v (r .horizon) ≡ 0
         ends = ap (λ (x : Verdict). endOf x (r .horizon)) is
+
+        ok : sound p ≡ true
+        ok = s .sound (load-sound ws r l) (omega (arith, ends))
 
         none : firstLine (refused n q) ++ rowLines (tableIn r) 0 0 ≡ firstLine (refused n q)
         none = unfold rowLines in append-nil (firstLine (refused n q))
@@ -202,7 +258,7 @@ unfolding answerOf headerNumber
 no-words = refl
 
 pub bytes-made : (bs : List ℕ) (r : Input) (p : Printer) → ReadOf bs r → WordsPrinter (take (r .count) (r .words)) p → MadeFrom bs p
-bytes-made bs r p h w = record { keeps = w .keeps; whole = w .whole ∙ go (wordsOf bs) refl ∙ out }
+bytes-made bs r p h w = record { sound = w .sound; whole = w .whole ∙ go (wordsOf bs) refl ∙ out }
   where
     out : outputOf (wordsOf bs) ≡ output bs
     out = unfold output in refl

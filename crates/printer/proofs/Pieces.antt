@@ -9,7 +9,7 @@ use lib.Seq.{take-append-seam, take-all, take-length}
 use lib.Dec.{leb}
 use borrow.Author.Tests.{leb-true, leb-false}
 use Rattle.text.specs.Output.{output}
-use Rattle.printer.specs.Printer.{rest, Keeps, MadeFrom, PieceOf}
+use Rattle.printer.specs.Printer.{rest, MadeFrom, PieceOf}
 use Rattle.printer.specs.Pieces.{Pieces, none, more, joined, room}
 use Rattle.printer.specs.declared.Printer.{Printer}
 use Rattle.printer.specs.declared.Piece.{Piece}
@@ -17,7 +17,6 @@ use Rattle.text.proofs.Writing.{put-front}
 
 -- what the pieces give and what is left make up what there was; and they give as much as their buffers take
 pub record Together (p p′ : Printer) (sizes : List ℕ) (parts : List (List ℕ)) : Type 0 where
-  pub keeps : Keeps p′
   pub whole : joined parts ++ rest p′ ≡ rest p
   pub size : length (joined parts) ≡ min (room sizes) (length (rest p))
 
@@ -27,7 +26,6 @@ together-more :
     → Together p p′ (length before ∷ sizes) (take (r .length) after ∷ parts)
 unfolding joined room
 together-more p p′ before after r sizes parts q t = record {
-  keeps = t .keeps;
   whole =
       append-assoc (take (r .length) after) (joined parts) (rest p′) ∙ ap (λ (l : List ℕ). take (r .length) after ++ l) (t .whole ∙ q .rest)
       ∙ ap (λ (l : List ℕ). l ++ drop (r .length) (rest p)) first ∙ take-append-drop (r .length) (rest p);
@@ -47,11 +45,11 @@ together-more p p′ before after r sizes parts q t = record {
     first : take (r .length) after ≡ take (r .length) (rest p)
     first = put-front (q .bytes)
 
-pub pieces-together : {p p′ : Printer} {sizes : List ℕ} {parts : List (List ℕ)} → Keeps p → Pieces p sizes parts p′ → Together p p′ sizes parts
+pub pieces-together : {p p′ : Printer} {sizes : List ℕ} {parts : List (List ℕ)} → Pieces p sizes parts p′ → Together p p′ sizes parts
 unfolding joined room
-pieces-together k none = record { keeps = k; whole = refl; size = omega arith }
-pieces-together {p} {p′} k (more {before = before} {after = after} {r = r} {sizes = sizes} {parts = parts} q qs) =
-    together-more p p′ before after r sizes parts q (pieces-together (q .keeps) qs)
+pieces-together none = record { whole = refl; size = omega arith }
+pieces-together {p} {p′} (more {before = before} {after = after} {r = r} {sizes = sizes} {parts = parts} q qs) =
+    together-more p p′ before after r sizes parts q (pieces-together qs)
 
 -- what is claimed of the pieces of an input
 pub record Printed (bs : List ℕ) (p′ : Printer) (sizes : List ℕ) (parts : List (List ℕ)) : Type 0 where
@@ -74,7 +72,7 @@ pieces bs {p} {p′} {sizes} {parts} m qs = record {
 }
   where
     t : Together p p′ sizes parts
-    t = pieces-together (m .keeps) qs
+    t = pieces-together qs
 
     size : length (joined parts) ≡ min (room sizes) (length (output bs))
     size = t .size ∙ ap (λ (l : List ℕ). min (room sizes) (length l)) (m .whole)

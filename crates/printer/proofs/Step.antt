@@ -1,199 +1,126 @@
--- One tick of the printer's run: after the due moments the machine is ready, its claimants give the row of the book, and the tick is entered.
-use mathlib.Core.Path.{_≡_, refl, sym, ap, ap₂, _∙_, subst, subst₂}
-use mathlib.Core.List.{List, [], _∷_, _++_, map}
-use Prim.Native.Nat.{ℕ, _+_, _≤_, _<_, _^_}
+-- One tick as code takes it is the step of the definitions: the due moments looked at or the bell not rung, the choice and the text kept or made anew.
+use mathlib.Core.Path.{_≡_, refl, sym, ap, ap₂, _∙_, subst}
+use mathlib.Core.Bool.{Bool, true, false, cond}
+use mathlib.Core.List.{List, _++_}
+use Prim.Native.Nat.{ℕ, _+_, _^_, _≤_, _<_}
 use native.Mathlib.Omega.{arith}
-use lib.ListN.{length, getD, take, length-map}
-use lib.Seq.{take-take}
+use lib.Dec.{leb, eqb}
+use lib.ListN.{length, getD, take}
+use borrow.Author.Tests.{le-leb, lt-leb, eq-eqb, ne-eqb}
 use Rattle.model.specs.Search.{bit, upFrom}
-use Rattle.model.specs.Task.{Table, task, ruleOf}
+use Rattle.model.specs.Task.{ruleOf}
 use Rattle.model.specs.Grants.{claimants}
-use Rattle.model.specs.Book.{full, rowOf, Missed, widths}
-use Rattle.table.specs.declared.Task.{Task}
-use Rattle.table.specs.declared.Loaded.{Loaded}
-use Rattle.full.specs.Machine.{Machine, machine, releasedDue, DueMoments, worked}
+use Rattle.full.specs.Machine.{Machine, machine, releasedDue, earliest, DueMoments, worked}
+use Rattle.full.proofs.Sets.{set-is}
 use Rattle.rule.specs.Shares.{granted}
-use Rattle.full.proofs.Tied.{Ready, Columns}
-use Rattle.full.proofs.Bell.{Bell}
-use Rattle.full.proofs.Walk.{due-walked, earliest-bell}
-use Rattle.full.proofs.Alike.{widths-first, row-alike}
-use Rattle.judge.specs.Judged.{tableIn, Fit}
-use Rattle.judge.proofs.Ticks.{size, column, Before, After, Chosen, walk-skipped, next-tick}
 use Rattle.text.specs.Decimal.{decimal}
-use Rattle.text.specs.Format.{newline}
-use Rattle.text.specs.Output.{fields, lineOf, rowLine}
 use Rattle.text.specs.Written.{Put}
-use Rattle.printer.specs.Cells.{cells}
-use Rattle.printer.specs.Printer.{widthsIn, Stepping, Stepped}
-use Rattle.printer.specs.declared.Pace.{Pace}
 use Rattle.text.proofs.Writing.{put-length, put-front}
+use Rattle.printer.specs.Cells.{cells}
+use Rattle.printer.specs.Rows.{Numbers, Stand, after, bellAfter, choice, grantedIn, textIn, lineIn, next}
+use Rattle.printer.specs.Printer.{standAt, Stepping, Stepped}
+use Rattle.printer.specs.declared.Pace.{Pace}
 
-module _ (t : Loaded) (fit : Fit t) where
-  abbrev s : Table
-  s = tableIn t
+module _ (n : Numbers) (s : Stand) where
+  abbrev due : Machine
+  due = releasedDue (s .tick) (n .lengths) (n .deadlines) (n .periods) (n .count) (s .machine)
 
-  few : length (s .tasks) ≤ 32
-  few = omega (arith, size t fit, fit .few)
+  after-by : (b : Bool) → leb (s .bell) (s .tick) ≡ b → cond b due (s .machine) ≡ after n s
+  unfolding after
+  after-by b e = ap (λ (x : Bool). cond x due (s .machine)) (sym e)
 
-  -- the columns of the table
-  same-widths : take (length (s .tasks)) (widthsIn t) ≡ widths s
-  same-widths =
-      widths-first s (widthsIn t) (omega (arith, few, fit .places, length-map (t .tasks) (λ (x : Task). x .width)))
-      (λ p l. column t fit (λ x. x .width) (λ τ. τ .width) (λ x. refl) p l)
+  bell-by : (b : Bool) → leb (s .bell) (s .tick) ≡ b → cond b (earliest (n .count) (after n s .moment)) (s .bell) ≡ bellAfter n s
+  unfolding bellAfter
+  bell-by b e = ap (λ (x : Bool). cond x (earliest (n .count) (after n s .moment)) (s .bell)) (sym e)
 
-  columns :
-      Columns s (map (λ x. x .offset) (t .tasks)) (widthsIn t) (map (λ x. x .length) (t .tasks)) (map (λ x. x .deadline) (t .tasks))
-      (map (λ x. x .period) (t .tasks))
-  columns = record {
-    places = length-map (t .tasks) (λ (x : Task). x .offset) ∙ fit .places;
-    offsets = λ p l. column t fit (λ x. x .offset) (λ τ. τ .offset) (λ x. refl) p l;
-    first-widths = same-widths;
-    lengths = λ p l. column t fit (λ x. x .length) (λ τ. τ .length) (λ x. refl) p l;
-    deadlines = λ p l. column t fit (λ x. x .deadline) (λ τ. τ .deadline) (λ x. refl) p l;
-    periods = λ p l. column t fit (λ x. x .period) (λ τ. τ .period) (λ x. refl) p l;
-  }
+  -- the due moments are looked at
+  pub due-looked :
+      (m′ : Machine) (bell′ : ℕ) → s .bell ≤ s .tick → DueMoments (s .tick) (n .count) (n .lengths) (n .deadlines) (n .periods) (s .machine) m′ bell′
+      → (m′ ≡ after n s) × (bell′ ≡ bellAfter n s)
+  due-looked m′ bell′ l d =
+      let e = le-leb (s .bell) (s .tick) l in
+      let x : m′ ≡ after n s = d .machines ∙ after-by true e in
+      (x, d .bell ∙ ap (λ (m : Machine). earliest (n .count) (m .moment)) x ∙ bell-by true e)
 
-  -- the walk over the due moments of a tick without a miss
-  pub due-after :
-      (m m′ : Machine) (bell bell′ tick : ℕ) → Before t m bell tick → ((q : ℕ) → ¬ Missed s q tick)
-      → DueMoments tick (t .count) (map (λ x. x .length) (t .tasks)) (map (λ x. x .deadline) (t .tasks)) (map (λ x. x .period) (t .tasks)) m m′ bell′
-      → After t m′ bell′ tick
-  due-after m m′ bell bell′ tick b met d =
-      subst (λ (x : Machine). After t x bell′ tick) (sym (d .machines)) (record {
-        ready = subst (λ (n : ℕ). Ready s tick (releasedDue tick C D T n m)) (size t fit) walked;
-        rings = subst (λ (x : Machine). Bell (length (s .tasks)) bell′ x) (d .machines) rings′;
-      })
-    where
-      C : List ℕ
-      C = map (λ x. x .length) (t .tasks)
+  -- or the bell has not rung
+  pub due-skipped : s .tick < s .bell → (s .machine ≡ after n s) × (s .bell ≡ bellAfter n s)
+  due-skipped l = let e = lt-leb (s .bell) (s .tick) l in (after-by false e, bell-by false e)
 
-      D : List ℕ
-      D = map (λ x. x .deadline) (t .tasks)
+  abbrev Made : ℕ → List ℕ
+  Made c = cells (n .rule) (n .cores) (take (n .count) (n .widths)) c
 
-      T : List ℕ
-      T = map (λ x. x .period) (t .tasks)
+  granted-by : (b : Bool) → eqb (after n s .claiming) (s .chosen) ≡ b → cond b (s .granted) (choice n (after n s .claiming)) ≡ grantedIn n s
+  unfolding grantedIn
+  granted-by b e = ap (λ (x : Bool). cond x (s .granted) (choice n (after n s .claiming))) (sym e)
 
-      walked : Ready s tick (releasedDue tick C D T (length (s .tasks)) m)
-      walked =
-          due-walked s (fit .sound) few (map (λ x. x .offset) (t .tasks)) (widthsIn t) C D T columns tick m (b .tied) met (length (s .tasks)) (omega arith)
+  text-by : (b : Bool) → eqb (after n s .claiming) (s .chosen) ≡ b → cond b (s .text) (Made (after n s .claiming)) ≡ textIn n s
+  unfolding textIn
+  text-by b e = ap (λ (x : Bool). cond x (s .text) (Made (after n s .claiming))) (sym e)
 
-      rings′ : Bell (length (s .tasks)) bell′ m′
-      rings′ p l = subst (λ (x : ℕ). x ≤ getD (m′ .moment) p 0) (sym (d .bell)) (earliest-bell (t .count) m′ p (omega (arith, size t fit)))
+  -- choice and text are kept
+  pub kept : (c : ℕ) → c ≡ after n s .claiming → c ≡ s .chosen → (s .granted ≡ grantedIn n s) × (s .text ≡ textIn n s)
+  kept c x h = let e = eq-eqb (after n s .claiming) (s .chosen) (sym x ∙ h) in (granted-by true e, text-by true e)
 
-  -- the text of the claimants is that of the row
-  pub cells-row :
-      (m : Machine) (bell tick : ℕ) → After t m bell tick
-      → cells (t .rule) (t .cores) (take (t .count) (widthsIn t)) (m .claiming) ≡ fields (rowOf s (full s tick)) ++ (newline ∷ [])
-  unfolding cells
-  cells-row m bell tick a =
-      ap (λ (r : List ℕ). fields r ++ (newline ∷ []))
-      (row-alike s (fit .sound) tick m (a .ready) (take (t .count) (widthsIn t)) same)
-    where
-      same : take (length (s .tasks)) (take (t .count) (widthsIn t)) ≡ widths s
-      same = take-take (length (s .tasks)) (t .count) (widthsIn t) (omega (arith, size t fit)) ∙ same-widths
+  -- or made anew
+  pub chosen-anew :
+      (c g : ℕ) → c ≡ after n s .claiming → (c ≡ s .chosen → ⊥) → g < 2 ^ 32
+      → ((q : ℕ) → bit g q ≡ granted (ruleOf (n .rule)) (claimants (n .widths) (bit c)) (upFrom 0 (n .cores)) q) → g ≡ grantedIn n s
+  chosen-anew c g x ne small e =
+      set-is 32 g (granted (ruleOf (n .rule)) (claimants (n .widths) (bit c)) (upFrom 0 (n .cores))) small (λ i l. e i) ∙ ap (choice n) x
+      ∙ granted-by false (ne-eqb (after n s .claiming) (s .chosen) (λ h. ne (x ∙ h)))
 
--- a line of its parts
-row-line : (tick : ℕ) (r : List ℕ) → decimal tick ++ (fields r ++ (newline ∷ [])) ≡ rowLine tick r
-unfolding rowLine lineOf
-row-line tick r = refl
+  pub text-anew : (c : ℕ) → c ≡ after n s .claiming → (c ≡ s .chosen → ⊥) → Made c ≡ textIn n s
+  text-anew c x ne = ap Made x ∙ text-by false (ne-eqb (after n s .claiming) (s .chosen) (λ h. ne (x ∙ h)))
 
--- the machine before the due moments, after them and after the tick, the text of the claimants, and the line
+-- the text of a row in its array
+abbrev pub Text : Numbers → Stand → ℕ → List ℕ → Type 0
+Text n s text row = (take text row ≡ textIn n s) × (text ≤ 257) × (length row ≡ 257)
+
+pub text-put :
+    (n : Numbers) (s : Stand) (c text : ℕ) (row row′ : List ℕ) → c ≡ after n s .claiming → (c ≡ s .chosen → ⊥) → length row ≡ 257
+    → (Put row 0 (cells (n .rule) (n .cores) (take (n .count) (n .widths)) c) row′ text) × (text ≤ 257) → Text n s text row′
+text-put n s c text row row′ x ne wide q = (
+  put-front (q .0) ∙ text-anew n s c x ne,
+  q .1,
+  put-length (q .0) (omega (arith, wide, q .1)) ∙ wide,
+)
+
+-- the tick is entered, and its line is written
 pub step-taken :
-    (t : Loaded) (r k n : ℕ) (v C D T : List ℕ) (m : Machine) (p : Pace) (row old : List ℕ) → Stepping t r k n v C D T m p row old
-    → (m₁ m₂ : Machine) (bell granted text ready : ℕ) (row′ new : List ℕ) → After t m₁ bell (p .tick) → Chosen t (m₁ .claiming) granted
-    → take text row′ ≡ cells (t .rule) (t .cores) (take (t .count) (widthsIn t)) (m₁ .claiming) → text ≤ 257 → length row′ ≡ 257
-    → m₂ ≡ worked (bit granted) m₁ → (Put old 0 (decimal (p .tick) ++ take text row′) new ready) × (ready ≤ 267)
-    → Stepped t p old m₂
-    (record { tick = p .tick + 1; claiming = m₂ .claiming; bell = bell; chosen = m₁ .claiming; granted = granted; text = text; ready = ready }) row′ new
-step-taken t r k n v C D T m p row old h m₁ m₂ bell granted text ready row′ new a chosen kept few wide w l = record {
-  tick = refl;
-  standing = record {
-    fit = fit;
-    cores = h .standing .cores;
-    before = next-tick t fit m₁ m₂ bell (p .tick) granted (h .standing .before .met) a chosen (h .early) w;
-    chosen = chosen;
-    text = kept;
-    short = few;
+    (n : Numbers) (s : Stand) (old : List ℕ) (m₁ m₂ : Machine) (bell granted text ready : ℕ) (row′ new : List ℕ) → length old ≡ 267
+    → m₁ ≡ after n s → bell ≡ bellAfter n s → granted ≡ grantedIn n s → Text n s text row′ → m₂ ≡ worked (bit granted) m₁
+    → (Put old 0 (decimal (s .tick) ++ take text row′) new ready) × (ready ≤ 267)
+    → Stepped n s old m₂
+    (record { tick = s .tick + 1; claiming = m₂ .claiming; bell = bell; chosen = m₁ .claiming; granted = granted; text = text; ready = ready }) row′ new
+step-taken n s old m₁ m₂ bell granted text ready row′ new long em eb eg t w l = record {
+  stand = unfold next in λ i. record {
+    tick = s .tick + 1;
+    machine = (w ∙ ap₂ (λ (g : ℕ) (m : Machine). worked (bit g) m) eg em) i;
+    bell = eb i;
+    chosen = em i .claiming;
+    granted = eg i;
+    text = t .0 i;
   };
-  line =
-      subst (λ (x : List ℕ). Put old 0 x new ready)
-      (ap (λ (x : List ℕ). decimal (p .tick) ++ x) (kept ∙ cells-row t fit m₁ bell (p .tick) a) ∙ row-line (p .tick) (rowOf (tableIn t) (full (tableIn t) (p .tick)))) (l .0);
-  short = l .1;
-  wide = wide;
-  long = put-length (l .0) (omega (arith, h .long, l .1)) ∙ h .long;
+  line = unfold lineIn in subst (λ (x : List ℕ). Put old 0 (decimal (s .tick) ++ x) new ready) (t .0) (l .0);
+  ready = l .1;
+  text = t .1;
+  wide = t .2;
+  long = put-length (l .0) (omega (arith, long, l .1)) ∙ long;
 }
-  where
-    fit : Fit t
-    fit = h .standing .fit
+
+-- the tick is the next
+pub tick-on : (n : Numbers) (s s′ : Stand) → s′ ≡ next n s → s′ .tick ≡ s .tick + 1
+unfolding next
+tick-on n s s′ e = ap (λ (x : Stand). x .tick) e
 
 -- the sums of a tick stay small
 pub in-range :
-    (t : Loaded) (r k n : ℕ) (v C D T : List ℕ) (m : Machine) (p : Pace) (row old : List ℕ) → Stepping t r k n v C D T m p row old
-    → (n ≤ 32) × ((q : ℕ) → q < n → (p .tick + getD D q 0 < 2 ^ 32) × (p .tick + getD T q 0 < 2 ^ 32))
-in-range t r k n v C D T m p row old h = (omega (arith, h .count, fit .few), each)
-  where
-    fit : Fit t
-    fit = h .standing .fit
-
-    each : (q : ℕ) → q < n → (p .tick + getD D q 0 < 2 ^ 32) × (p .tick + getD T q 0 < 2 ^ 32)
-    each q l =
-        let inside : q < length (tableIn t .tasks) = omega (arith, size t fit, h .count) in
-        let eD : getD D q 0 ≡ task (tableIn t) q .deadline =
-        ap (λ (xs : List ℕ). getD xs q 0) (h .deadlines) ∙ column t fit (λ x. x .deadline) (λ τ. τ .deadline) (λ x. refl) q inside in
-        let eT : getD T q 0 ≡ task (tableIn t) q .period =
-        ap (λ (xs : List ℕ). getD xs q 0) (h .periods) ∙ column t fit (λ x. x .period) (λ τ. τ .period) (λ x. refl) q inside in
-        let short : task (tableIn t) q .period ≤ 1000000 = fit .short q (omega (arith, h .count)) in
-        let sound : task (tableIn t) q .deadline ≤ task (tableIn t) q .period = fit .sound q inside .constrained in
-        let limit : t .horizon ≤ 1000000000 = fit .limit in
-        let early : p .tick < t .horizon = h .early in
-        (omega arith, omega arith)
-
-module _ (t : Loaded) (r k n : ℕ) (v C D T : List ℕ) (m : Machine) (p : Pace) (row old : List ℕ) (h : Stepping t r k n v C D T m p row old) where
-  -- after the due moments
-  pub due-looked : (m′ : Machine) (bell′ : ℕ) → DueMoments (p .tick) n C D T m m′ bell′ → After t m′ bell′ (p .tick)
-  due-looked m′ bell′ d =
-      let a : DueMoments (p .tick) (t .count) C D T m m′ bell′ = subst (λ (x : ℕ). DueMoments (p .tick) x C D T m m′ bell′) (h .count) d in
-      let b : DueMoments (p .tick) (t .count) (map (λ x. x .length) (t .tasks)) D T m m′ bell′ =
-      subst (λ (x : List ℕ). DueMoments (p .tick) (t .count) x D T m m′ bell′) (h .lengths) a in
-      let c : DueMoments (p .tick) (t .count) (map (λ x. x .length) (t .tasks)) (map (λ x. x .deadline) (t .tasks)) T m m′ bell′ =
-      subst (λ (x : List ℕ). DueMoments (p .tick) (t .count) (map (λ x. x .length) (t .tasks)) x T m m′ bell′) (h .deadlines) b in
-      due-after t (h .standing .fit) m m′ (p .bell) bell′ (p .tick) (h .standing .before) (h .met)
-      (subst (λ (x : List ℕ). DueMoments (p .tick) (t .count) (map (λ x. x .length) (t .tasks)) (map (λ x. x .deadline) (t .tasks)) x m m′ bell′) (h .periods) c)
-
-  -- the bell has not rung
-  pub due-skipped : p .tick < p .bell → After t m (p .bell) (p .tick)
-  due-skipped l = walk-skipped t (h .standing .fit) m (p .bell) (p .tick) (h .standing .before) l
-
-  -- a choice just made, and one that is kept
-  pub made-chosen : (c g : ℕ) → ((q : ℕ) → bit g q ≡ granted (ruleOf r) (claimants v (bit c)) (upFrom 0 k) q) → Chosen t c g
-  made-chosen c g e q =
-      e q ∙ ap (λ (x : ℕ). granted (ruleOf x) (claimants v (bit c)) (upFrom 0 k) q) (h .rule)
-      ∙ ap (λ (x : List ℕ). granted (ruleOf (t .rule)) (claimants x (bit c)) (upFrom 0 k) q) (h .widths)
-      ∙ ap (λ (x : ℕ). granted (ruleOf (t .rule)) (claimants (widthsIn t) (bit c)) (upFrom 0 x) q) (h .cores)
-
-  pub kept-chosen : (c g : ℕ) → c ≡ p .chosen → g ≡ p .granted → Chosen t c g
-  kept-chosen c g e f = subst₂ (λ (x y : ℕ). Chosen t x y) (sym e) (sym f) (h .standing .chosen)
-
-  -- a text just made, and one that is kept
-  abbrev pub Text : ℕ → ℕ → List ℕ → Type 0
-  Text c text row′ =
-      (take text row′ ≡ cells (t .rule) (t .cores) (take (t .count) (widthsIn t)) c) × (text ≤ 257) × (length row′ ≡ 257)
-
-  pub made-text : (c text : ℕ) (row′ : List ℕ) → (Put row 0 (cells r k (take n v) c) row′ text) × (text ≤ 257) → Text c text row′
-  made-text c text row′ q = (
-    put-front (q .0) ∙ ap (λ (x : ℕ). cells x k (take n v) c) (h .rule) ∙ ap (λ (x : ℕ). cells (t .rule) x (take n v) c) (h .cores)
-        ∙ ap (λ (x : ℕ). cells (t .rule) (t .cores) (take x v) c) (h .count) ∙ ap (λ (x : List ℕ). cells (t .rule) (t .cores) (take (t .count) x) c) (h .widths),
-    q .1,
-    put-length (q .0) (omega (arith, h .wide, q .1)) ∙ h .wide,
-  )
-
-  pub kept-text : (c text : ℕ) (row′ : List ℕ) → c ≡ p .chosen → text ≡ p .text → row′ ≡ row → Text c text row′
-  kept-text c text row′ e f g = (
-    ap₂ (λ (x : ℕ) (y : List ℕ). take x y) f g ∙ h .standing .text
-        ∙ ap (λ (x : ℕ). cells (t .rule) (t .cores) (take (t .count) (widthsIn t)) x) (sym e),
-    omega (arith, h .standing .short),
-    ap length g ∙ h .wide,
-  )
+    (n : Numbers) (m : Machine) (p : Pace) (row old : List ℕ) → Stepping n m p row old
+    → (n .count ≤ 32) × ((q : ℕ) → q < n .count → (p .tick + getD (n .deadlines) q 0 < 2 ^ 32) × (p .tick + getD (n .periods) q 0 < 2 ^ 32))
+in-range n m p row old h = (
+  h .safe .few,
+  λ q l. let t = h .safe .times q l in (omega (arith, t .1, h .tick), omega (arith, t .2, h .tick)),
+)
 
 -- machines are equal where their parts are
 pub same-machine : {l l′ m m′ n n′ : List ℕ} {c c′ : ℕ} → l ≡ l′ → m ≡ m′ → n ≡ n′ → c ≡ c′ → machine l m n c ≡ machine l′ m′ n′ c′

@@ -1,11 +1,14 @@
 // Everything that the program prints for an input, piece by piece.
+ghost use mathlib.Core.Bool.{true};
 ghost use mathlib.Core.Path.{_≡_};
-ghost use Rattle.table.specs.declared.Loaded.{Loaded};
-ghost use Rattle.full.specs.Machine.{machine};
-ghost use Rattle.printer.specs.Printer.{Stepping, Stepped, StartOf, WordsPrinter, MadeFrom, Keeps, PieceOf};
 ghost use Prim.Native.Nat.{_≤_, min};
+ghost use Rattle.full.specs.Machine.{machine};
+ghost use Rattle.printer.specs.Rows.{numbers};
+ghost use Rattle.printer.specs.Sound.{sound};
+ghost use Rattle.printer.specs.Printer.{standAt, Stepping, Stepped, StartOf, WordsPrinter, MadeFrom, PieceOf};
 
 mod cells; // cells.rt: the text of a row's cores
+mod sound; // sound.rt: whether a printer can be stepped
 
 use judge::Verdict;
 use table::Loaded;
@@ -60,8 +63,8 @@ fn next_line(
     text: &mut [u8; 257],
     line: &mut [u8; 267],
 ) -> Pace
-    requires { ⌜ ((t : Loaded) × Stepping t rule cores count (now width) (now length) (now deadline) (now period) (machine (now left) (now moment) (now next) (pace .claiming)) pace (now text) (now line)) ⌝ }
-    ensures { λ r. ⌜ ((t : Loaded) → Stepping t rule cores count (now (width .entry)) (now (length .entry)) (now (deadline .entry)) (now (period .entry)) (machine (now (left .entry)) (now (moment .entry)) (now (next .entry)) (pace .claiming)) pace (now (text .entry)) (now (line .entry)) → Stepped t pace (now (line .entry)) (machine (now (left .exit)) (now (moment .exit)) (now (next .exit)) (r .claiming)) r (now (text .exit)) (now (line .exit))) ⌝ }
+    requires { ⌜ Stepping (numbers rule cores count (now width) (now length) (now deadline) (now period)) (machine (now left) (now moment) (now next) (pace .claiming)) pace (now text) (now line) ⌝ }
+    ensures { λ r. ⌜ Stepped (numbers rule cores count (now (width .entry)) (now (length .entry)) (now (deadline .entry)) (now (period .entry))) (standAt (machine (now (left .entry)) (now (moment .entry)) (now (next .entry)) (pace .claiming)) pace (now (text .entry))) (now (line .entry)) (machine (now (left .exit)) (now (moment .exit)) (now (next .exit)) (r .claiming)) r (now (text .exit)) (now (line .exit)) ⌝ }
 {
     let tick = pace.tick;
     let mut claiming = pace.claiming;
@@ -164,9 +167,9 @@ impl Printer {
         of_words(&words[..count])
     }
 
-    // Fills the buffer with the next bytes of the output.
-    pub fn piece(self, buffer: &mut [u8]) -> Piece
-        requires { ⌜ Keeps self ⌝ }
+    // Fills the buffer with the next bytes of the output, from a printer that is sound.
+    fn hand_out(self, buffer: &mut [u8]) -> Piece
+        requires { ⌜ sound self ≡ true ⌝ }
         ensures { λ r. ⌜ PieceOf self (now (buffer .entry)) (now (buffer .exit)) r ⌝ }
     {
         let table = self.table;
@@ -226,6 +229,20 @@ impl Printer {
         Piece {
             printer: printer,
             length: at,
+        }
+    }
+
+    // Fills the buffer with the next bytes of the output; a printer that is not sound has none.
+    pub fn piece(self, buffer: &mut [u8]) -> Piece
+        ensures { λ r. ⌜ PieceOf self (now (buffer .entry)) (now (buffer .exit)) r ⌝ }
+    {
+        let printer = self;
+        if printer.sound() {
+            return printer.hand_out(buffer);
+        }
+        Piece {
+            printer: printer,
+            length: 0,
         }
     }
 }

@@ -1,15 +1,12 @@
 // Reads a table from standard input, and prints its verdict and rows.
 ghost use Prim.Native.Nat.{_≤_};
-ghost use Rattle.printer.specs.Printer.{Keeps};
 use libc::STDERR_FILENO;
 use libc::STDIN_FILENO;
 use libc::STDOUT_FILENO;
 use printer::Printer;
 
 // Writes the pieces of a printer until there are no more, or until a write fails.
-fn print(start: Printer)
-    requires { ⌜ Keeps start ⌝ }
-{
+fn print(start: Printer) {
     let mut printer = start;
     let mut buffer = io::large_buffer();
     loop {

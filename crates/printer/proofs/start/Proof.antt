@@ -23,7 +23,7 @@ put-first-requires c κs = search needs
 returns : tie.Need-returns
 returns c =
     let s = c .before .before .before .before .before .before .before .before .before .before .before in
-    start-of (s .args .table) (s .args .end) (s .args .verdict) (c .before .before .before .before .before .before .before .before .before .columns-of .result) (c .before .before .before .before .before .before .before .before .before .columns-of .ensures) (s .pre .0)
+    start-of (s .args .table) (s .args .end) (s .args .verdict) (c .before .before .before .before .before .before .before .before .before .columns-of .result) (c .before .before .before .before .before .before .before .before .before .columns-of .ensures)
     (c .before .before .before .before .put-cells .last .1 .1 .1 .1 .1 .0) (c .before .put-first .last .0) (c .before .before .before .before .put-cells .result) (c .before .put-first .result)
     (c .before .before .before .before .put-cells .ensures) (c .before .put-first .ensures)
 

@@ -1,4 +1,4 @@
--- `sivorandra::answer` is safe: the part lent has as many bytes as the count says, and a new printer keeps what it must. Assumes nothing.
+-- `sivorandra::answer` is safe: the part lent has as many bytes as the count says. Assumes nothing.
 use native.Mathlib.Omega.{arith}
 use mathlib.Core.Path.{sym}
 use lib.Seq.{length-take-le}

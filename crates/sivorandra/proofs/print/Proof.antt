@@ -5,12 +5,12 @@ use Prim.Native.Nat.{_-_, _≤_}
 use mathlib.Core.Path.{_≡_, sym, ap, _∙_}
 use lib.ListN.{length, length-drop, length-take}
 use lib.Seq.{length-take-le}
-use Rattle.printer.specs.Printer.{Keeps, rest}
+use Rattle.printer.specs.Printer.{rest}
 use Rattle.sivorandra.proofs.print.Statement.{statement}
 use Rattle.sivorandra.proofs.print.Tie as tie
 
 abbrev Inv-loop : tie.InvT-loop
-Inv-loop printer₀ buffer₀ printer buffer = Keeps printer × (length buffer ≡ 65536)
+Inv-loop printer₀ buffer₀ printer buffer = length buffer ≡ 65536
 
 abbrev μ-loop : tie.MeasureT-loop
 μ-loop printer₀ buffer₀ printer buffer = length (rest printer)
@@ -36,7 +36,7 @@ array-share-prefix-buffer c = search needs
 slice-aggregate-write-all : tie.Need-slice-aggregate-write-all Inv-loop μ-loop
 slice-aggregate-write-all c =
     let h = c .before .before .before in
-    sym (length-take-le (h .piece .result .length) (h .piece .last .1 .0) (omega (arith, h .piece .ensures .length, h .piece .kept, h .before .before .loop .inv .1)))
+    sym (length-take-le (h .piece .result .length) (h .piece .last .1 .0) (omega (arith, h .piece .ensures .length, h .piece .kept, h .before .before .loop .inv)))
 
 write-all-requires : tie.Need-write-all-requires Inv-loop μ-loop
 write-all-requires c κs = search needs

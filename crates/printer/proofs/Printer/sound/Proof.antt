@@ -1,0 +1,26 @@
+-- `printer::Printer::sound` meets its contract: the tests are those of the definition. Assumes nothing.
+use borrow.Author.Needs.{needs}
+use Rattle.printer.specs.Sound.{sound}
+use Rattle.printer.proofs.Printer.sound.Statement.{statement}
+use Rattle.printer.proofs.Printer.sound.Tie as tie
+
+table-sound-requires : tie.Need-table-sound-requires
+table-sound-requires c κs = search needs
+
+owed-requires : tie.Need-owed-requires
+owed-requires c κs = search needs
+
+within-requires : tie.Need-within-requires
+within-requires c κs = search needs
+
+within-requires-2 : tie.Need-within-requires-2
+within-requires-2 c κs = search needs
+
+returns : tie.Need-returns
+unfolding sound
+returns c =
+    let s = c .before .before .before .before .before .before .before in
+    simp (s .before .before .before .table-sound .ensures, s .before .within .ensures, s .before .before .owed .ensures, s .within2 .ensures)
+
+pub sound-spec : {M : Type 1} → statement M
+sound-spec = tie.close (tie.spec table-sound-requires owed-requires within-requires within-requires-2 returns)

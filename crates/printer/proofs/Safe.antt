@@ -1,0 +1,179 @@
+-- A run that can be stepped can be stepped again: who claims is owed ticks after the due moments and after the tick, and who is granted cores claims.
+use mathlib.Core.Path.{_≡_, refl, sym, ap, _∙_, subst, subst₂}
+use mathlib.Core.Bool.{Bool, true, false, not, _&&_, cond, true≢false, false≢true}
+use mathlib.Core.List.{List}
+use mathlib.Core.Logic.{⊎-elim}
+use Prim.Native.Nat.{ℕ, zero, suc, _+_, _-_, _^_, _≤_, _<_}
+use native.Mathlib.Omega.{arith}
+use lib.Bits.{bitAnd, and-le-l}
+use lib.Dec.{eqb, ltb, leb}
+use lib.ListN.{length, getD}
+use borrow.Author.Tests.{eq-eqb, eqb-true, eqb-false, lt-ltb, ltb-true, leb-true, leb-false}
+use Rattle.model.specs.Search.{bit, upFrom}
+use Rattle.model.specs.Task.{ruleOf}
+use Rattle.model.specs.Grants.{claimants, some}
+use Rattle.model.proofs.Bools.{and-left, and-right, not-false-true}
+use Rattle.model.proofs.Digits.{and-bit, same-digits}
+use Rattle.model.proofs.Grants.{grants-none}
+use Rattle.full.specs.Machine.{Machine, released, releasedDue, Owed, finishes, worked}
+use Rattle.full.specs.Places.{setOf}
+use Rattle.full.proofs.Moves.{Sized, released-sized, released-own, released-other, released-past, worked-sized, worked-left, worked-claims, worked-past}
+use Rattle.full.proofs.Sets.{set-has, set-past, set-lt}
+use Rattle.rule.specs.Shares.{granted}
+use Rattle.printer.specs.Rows.{Numbers, Stand, after, unchanged, choice, grantedIn, next}
+use Rattle.printer.specs.Sound.{within, owed, Safe}
+
+-- SETS WITHIN SETS
+
+pub within-bit : (a b p : ℕ) → within a b ≡ true → bit a p ≡ true → bit b p ≡ true
+within-bit a b p e h =
+    and-right (bit a p) (bit b p) (sym (and-bit a b p) ∙ ap (λ (x : ℕ). bit x p) (eqb-true (bitAnd a b) a e) ∙ h)
+
+pub within-of : (a b : ℕ) → a < 2 ^ 32 → ((p : ℕ) → bit a p ≡ true → bit b p ≡ true) → within a b ≡ true
+within-of a b small h = eq-eqb (bitAnd a b) a (same-digits 32 (bitAnd a b) a (omega (arith, and-le-l a b)) small (λ p l. and-bit a b p ∙ go p (bit a p) refl))
+  where
+    go : (p : ℕ) (x : Bool) → bit a p ≡ x → x && bit b p ≡ x
+    go p true e = h p e
+    go p false e = refl
+
+-- WHO IS OWED TICKS
+
+-- every claimant of a machine is one of its 32 places, and is owed ticks
+abbrev pub ClaimsOwed : Machine → Type 0
+ClaimsOwed m = (p : ℕ) → bit (m .claiming) p ≡ true → (p < 32) × (0 < getD (m .left) p 0)
+
+pub claims-owed : (m : Machine) → within (m .claiming) (owed (m .left)) ≡ true → ClaimsOwed m
+claims-owed m e p h = go (leb 32 p) refl
+  where
+    there : bit (owed (m .left)) p ≡ true
+    there = within-bit (m .claiming) (owed (m .left)) p e h
+
+    go : (x : Bool) → leb 32 p ≡ x → (p < 32) × (0 < getD (m .left) p 0)
+    go true q = absurd (true≢false (sym there ∙ set-past 32 (λ p. ltb 0 (getD (m .left) p 0)) p (leb-true 32 p q)))
+    go false q =
+        let l : p < 32 = leb-false 32 p q in
+        (l, ltb-true 0 (getD (m .left) p 0) (sym (set-has 32 (λ p. ltb 0 (getD (m .left) p 0)) p l) ∙ there))
+
+pub owed-claims : (m : Machine) → m .claiming < 2 ^ 32 → ClaimsOwed m → within (m .claiming) (owed (m .left)) ≡ true
+owed-claims m small h =
+    within-of (m .claiming) (owed (m .left)) small
+    (λ p e. set-has 32 (λ p. ltb 0 (getD (m .left) p 0)) p (h p e .0) ∙ lt-ltb 0 (getD (m .left) p 0) (h p e .1))
+
+-- a release
+released-owed : (i t C D T : ℕ) (m : Machine) → Sized m → i < 32 → 0 < C → ClaimsOwed m → ClaimsOwed (released i t C D T m)
+released-owed i t C D T m z l c h p e = go (leb 32 p) refl (eqb p i) refl
+  where
+    go : (x : Bool) → leb 32 p ≡ x → (y : Bool) → eqb p i ≡ y → (p < 32) × (0 < getD (released i t C D T m .left) p 0)
+    go true q y f = absurd (true≢false (sym e ∙ released-past i t C D T m p (leb-true 32 p q)))
+    go false q true f =
+        let own : getD (released i t C D T m .left) p 0 ≡ C =
+        ap (λ (x : ℕ). getD (released i t C D T m .left) x 0) (eqb-true p i f) ∙ released-own i t C D T m z l .0 in
+        (leb-false 32 p q, omega arith)
+    go false q false f =
+        let b : p < 32 = leb-false 32 p q in
+        let o = released-other i t C D T m p (eqb-false p i f) b in
+        (b, subst (λ (x : ℕ). 0 < x) (sym (o .left)) (h p (sym (o .claims) ∙ e) .1))
+
+-- the due moments of a tick
+due-owed :
+    (t : ℕ) (C D T : List ℕ) (n : ℕ) (m : Machine) → Sized m → n ≤ 32 → ((p : ℕ) → p < n → 0 < getD C p 0) → ClaimsOwed m
+    → Sized (releasedDue t C D T n m) × ClaimsOwed (releasedDue t C D T n m)
+unfolding releasedDue
+due-owed t C D T zero m z l c h = (z, h)
+due-owed t C D T (suc n) m z l c h =
+    let x = due-owed t C D T n m z (omega arith) (λ p b. c p (omega arith)) h in
+    go (releasedDue t C D T n m) (x .0) (x .1) (eqb (getD (releasedDue t C D T n m .moment) n 0) t)
+  where
+    go : (m′ : Machine) → Sized m′ → ClaimsOwed m′ → (b : Bool)
+        → Sized (cond b (released n t (getD C n 0) (getD D n 0) (getD T n 0) m′) m′)
+        × ClaimsOwed (cond b (released n t (getD C n 0) (getD D n 0) (getD T n 0) m′) m′)
+    go m′ z′ h′ true = (
+      released-sized n t (getD C n 0) (getD D n 0) (getD T n 0) m′ z′,
+      released-owed n t (getD C n 0) (getD D n 0) (getD T n 0) m′ z′ (omega arith) (c n (omega arith)) h′,
+    )
+    go m′ z′ h′ false = (z′, h′)
+
+-- a tick
+worked-owed : (g : ℕ → Bool) (m : Machine) → Sized m → ClaimsOwed m → ClaimsOwed (worked g m)
+worked-owed g m z h p e = go (leb 32 p) refl
+  where
+    L : ℕ
+    L = getD (m .left) p 0
+
+    by-grant : (b : Bool) → bit (m .claiming) p && not (b && eqb L 1) ≡ true → 0 < cond b (L - 1) L
+    by-grant true q =
+        let some : 0 < L = h p (and-left (bit (m .claiming) p) (not (eqb L 1)) q) .1 in
+        let more : L ≡ 1 → ⊥ = λ one. false≢true (sym (ap not (eq-eqb L 1 one)) ∙ and-right (bit (m .claiming) p) (not (eqb L 1)) q) in
+        omega arith
+    by-grant false q = h p (and-left (bit (m .claiming) p) true q) .1
+
+    go : (x : Bool) → leb 32 p ≡ x → (p < 32) × (0 < getD (worked g m .left) p 0)
+    go true q = absurd (true≢false (sym e ∙ worked-past g m p (leb-true 32 p q)))
+    go false q =
+        let l : p < 32 = leb-false 32 p q in
+        (l, subst (λ (x : ℕ). 0 < x) (sym (worked-left g m z p l)) (by-grant (g p) (sym (worked-claims g m z p l) ∙ e)))
+
+-- A STEP
+
+-- who is chosen is among the claimants
+choice-claims : (n : Numbers) (c p : ℕ) → bit (choice n c) p ≡ true → bit c p ≡ true
+choice-claims n c p e = go (leb 32 p) refl
+  where
+    f : ℕ → Bool
+    f = granted (ruleOf (n .rule)) (claimants (n .widths) (bit c)) (upFrom 0 (n .cores))
+
+    go : (x : Bool) → leb 32 p ≡ x → bit c p ≡ true
+    go true q = absurd (true≢false (sym e ∙ set-past 32 f p (leb-true 32 p q)))
+    go false q =
+        not-false-true (bit c p)
+        (λ z. absurd (false≢true (sym (ap some (grants-none (ruleOf (n .rule)) (n .widths) (bit c) (upFrom 0 (n .cores)) p z))
+        ∙ (sym (set-has 32 f p (leb-false 32 p q)) ∙ e))))
+
+module _ (n : Numbers) (s : Stand) (h : Safe n s) where
+  -- after the due moments
+  after-owed : Sized (after n s) × ClaimsOwed (after n s)
+  unfolding after
+  after-owed = go (leb (s .bell) (s .tick))
+    where
+      go : (b : Bool)
+          → Sized (cond b (releasedDue (s .tick) (n .lengths) (n .deadlines) (n .periods) (n .count) (s .machine)) (s .machine))
+          × ClaimsOwed (cond b (releasedDue (s .tick) (n .lengths) (n .deadlines) (n .periods) (n .count) (s .machine)) (s .machine))
+      go true =
+          due-owed (s .tick) (n .lengths) (n .deadlines) (n .periods) (n .count) (s .machine) (h .sized) (h .few) (λ p l. h .times p l .0)
+          (claims-owed (s .machine) (h .owed))
+      go false = (h .sized, claims-owed (s .machine) (h .owed))
+
+  -- who is granted cores claims
+  granted-kept : within (grantedIn n s) (after n s .claiming) ≡ true
+  unfolding grantedIn
+  granted-kept = go (unchanged n s) refl
+    where
+      go : (b : Bool) → unchanged n s ≡ b → within (cond b (s .granted) (choice n (after n s .claiming))) (after n s .claiming) ≡ true
+      go true e = subst (λ (c : ℕ). within (s .granted) c ≡ true) (sym (eqb-true (after n s .claiming) (s .chosen) e)) (h .kept)
+      go false e =
+          within-of (choice n (after n s .claiming)) (after n s .claiming)
+          (set-lt 32 (granted (ruleOf (n .rule)) (claimants (n .widths) (bit (after n s .claiming))) (upFrom 0 (n .cores))))
+          (choice-claims n (after n s .claiming))
+
+  -- and so is owed ticks
+  pub granted-owed : Owed (bit (grantedIn n s)) (after n s)
+  granted-owed p e =
+      let c : bit (after n s .claiming) p ≡ true = within-bit (grantedIn n s) (after n s .claiming) p granted-kept e in
+      (c, after-owed .1 p c .1)
+
+  -- so the next tick can be stepped
+  pub safe-next : Safe n (next n s)
+  unfolding next
+  safe-next = record {
+    few = h .few;
+    cores = h .cores;
+    times = h .times;
+    sized = worked-sized (bit (grantedIn n s)) (after n s) (after-owed .0);
+    owed =
+        owed-claims (worked (bit (grantedIn n s)) (after n s)) worked-small
+        (worked-owed (bit (grantedIn n s)) (after n s) (after-owed .0) (after-owed .1));
+    kept = granted-kept;
+  }
+    where
+      worked-small : worked (bit (grantedIn n s)) (after n s) .claiming < 2 ^ 32
+      worked-small = unfold worked in set-lt 32 (λ p. bit (after n s .claiming) p && not (finishes (bit (grantedIn n s)) (after n s) p))

@@ -1,0 +1,94 @@
+-- `printer::sound::owed` meets its contract. The loop's invariant: the set is that of the places from i on, counted from i. Assumes nothing.
+use borrow.Author.Needs.{needs}
+use native.Mathlib.Omega.{arith}
+use mathlib.Core.Path.{_≡_, sym, ap, _∙_}
+use mathlib.Core.List.{List}
+use Prim.Native.Nat.{ℕ, _+_, _*_, _-_, _^_, _≤_, _<_}
+use lib.ListN.{getD}
+use Rattle.printer.proofs.Owed.{owedFrom, owed-none, owed-all, owed-room, owed-with, owed-without}
+use Rattle.printer.proofs.sound.owed.Statement.{statement}
+use Rattle.printer.proofs.sound.owed.Tie as tie
+
+abbrev Inv-loop : tie.InvT-loop
+Inv-loop left set₀ i₀ set i = (i ≤ 32) × (set ≡ owedFrom left i)
+
+abbrev μ-loop : tie.MeasureT-loop
+μ-loop left set₀ i₀ set i = i
+
+-- place i - 1 is looked at
+module _ (left : List ℕ) (i set : ℕ) (h : (i ≤ 32) × (set ≡ owedFrom left i)) (l : 0 < i) where
+  is : set ≡ owedFrom left (i - 1 + 1)
+  is = let e : i ≡ i - 1 + 1 = omega arith in h .1 ∙ ap (owedFrom left) e
+
+  fits-on : (set * 2 < 2 ^ 32) × (set * 2 + 1 < 2 ^ 32)
+  fits-on = let r = owed-room left (i - 1) (omega arith) in (omega (arith, is), omega (arith, is))
+
+  one-on : (0 < getD left (i - 1) 0 → set * 2 + 1 ≡ owedFrom left (i - 1)) × (getD left (i - 1) 0 ≤ 0 → set * 2 ≡ owedFrom left (i - 1))
+  one-on = (
+    λ b. ap (λ (x : ℕ). x * 2 + 1) is ∙ owed-with left (i - 1) (omega arith) b,
+    λ b. ap (λ (x : ℕ). x * 2) is ∙ owed-without left (i - 1) (omega arith) b,
+  )
+
+loop-holds : tie.Need-loop-holds Inv-loop μ-loop
+loop-holds c = (omega arith, owed-none _)
+
+sub-i : tie.Need-sub-i Inv-loop μ-loop
+sub-i c = omega arith
+
+mul-ticks : tie.Need-mul-ticks Inv-loop μ-loop
+mul-ticks c = omega arith
+
+array-read-ticks : tie.Need-array-read-ticks Inv-loop μ-loop
+array-read-ticks c = omega arith
+
+mul-set : tie.Need-mul-set Inv-loop μ-loop
+mul-set c = omega (arith, fits-on (c .before .before .args .t1) (c .before .loop .i) (c .before .loop .set) (c .before .loop .inv) (c .loop-test .taken) .0)
+
+add-set : tie.Need-add-set Inv-loop μ-loop
+add-set c =
+    omega (
+      arith,
+      fits-on (c .before .before .before .args .t1) (c .before .before .loop .i) (c .before .before .loop .set) (c .before .before .loop .inv) (c .before .loop-test .taken)
+          .1,
+    )
+
+loop-less : tie.Need-loop-less Inv-loop μ-loop
+loop-less c = omega arith
+
+loop-again : tie.Need-loop-again Inv-loop μ-loop
+loop-again c = (
+  omega arith,
+  one-on (c .before .before .before .args .t1) (c .before .before .loop .i) (c .before .before .loop .set) (c .before .before .loop .inv) (c .before .loop-test .taken)
+      .0 (c .if1 .taken),
+)
+
+loop-less-2 : tie.Need-loop-less-2 Inv-loop μ-loop
+loop-less-2 c = omega arith
+
+loop-again-2 : tie.Need-loop-again-2 Inv-loop μ-loop
+loop-again-2 c = (
+  omega arith,
+  one-on (c .before .before .before .args .t1) (c .before .before .loop .i) (c .before .before .loop .set) (c .before .before .loop .inv) (c .before .loop-test .taken)
+      .1 (c .if1 .left),
+)
+
+returns : tie.Need-returns Inv-loop μ-loop
+returns c = let e : c .before .loop .i ≡ 0 = omega arith in c .before .loop .inv .1 ∙ ap (owedFrom _) e ∙ owed-all _
+
+pub owed-spec : {M : Type 1} → statement M
+owed-spec =
+    tie.close
+    (tie.spec
+    Inv-loop
+    μ-loop
+    loop-holds
+    sub-i
+    mul-ticks
+    array-read-ticks
+    mul-set
+    add-set
+    loop-less
+    loop-again
+    loop-less-2
+    loop-again-2
+    returns)

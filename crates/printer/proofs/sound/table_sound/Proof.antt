@@ -1,0 +1,84 @@
+-- `printer::sound::table_sound` meets its contract. The loop's invariant: no task passed is turned down. Assumes nothing.
+use borrow.Author.Count.{below-none, below-more}
+use borrow.Author.Needs.{needs}
+use borrow.Author.Tests.{ne-eqb}
+use native.Mathlib.Omega.{arith}
+use mathlib.Core.Bool.{true, false, not}
+use mathlib.Core.Path.{_≡_, sym, ap, _∙_}
+use Prim.Native.Nat.{ℕ, _-_, _≤_, _<_}
+use lib.Dec.{eqb}
+use lib.ListN.{getD}
+use Rattle.table.specs.Limits.{taskOut}
+use Rattle.table.specs.Task.{taskOf, noTask}
+use Rattle.printer.specs.Sound.{outAt}
+use Rattle.printer.proofs.Limits.{many-out, wide-out, task-out, none-out}
+use Rattle.printer.proofs.sound.table_sound.Statement.{statement}
+use Rattle.printer.proofs.sound.table_sound.Tie as tie
+
+abbrev Inv-loop : tie.InvT-loop
+Inv-loop count cores tasks i₀ i = (i ≤ count) × ((p : ℕ) → p < i → taskOut cores (taskOf (getD tasks p noTask)) ≡ false)
+
+abbrev μ-loop : tie.MeasureT-loop
+μ-loop count cores tasks i₀ i = count - i
+
+returns : tie.Need-returns Inv-loop μ-loop
+returns c = sym (many-out (c .before .args .table) (c .if1 .taken))
+
+returns-2 : tie.Need-returns-2 Inv-loop μ-loop
+returns-2 c = sym (wide-out (c .before .before .args .table) (c .before .if1 .left) (c .if2 .taken))
+
+loop-holds : tie.Need-loop-holds Inv-loop μ-loop
+loop-holds c = (search needs, below-none _)
+
+mul-task : tie.Need-mul-task Inv-loop μ-loop
+mul-task c = omega arith
+
+array-copy-out-task : tie.Need-array-copy-out-task Inv-loop μ-loop
+array-copy-out-task c = omega arith
+
+task-number-requires : tie.Need-task-number-requires Inv-loop μ-loop
+task-number-requires c κs = search needs
+
+returns-3 : tie.Need-returns-3 Inv-loop μ-loop
+returns-3 c =
+    let s = c .before .before .before .before in
+    let t = s .before .before .before .before .args .table in
+    let out : outAt t (s .loop .i) ≡ true =
+    ap not (ap (λ (n : ℕ). eqb n 0) (sym (c .before .task-number .ensures)) ∙ ne-eqb (c .before .task-number .result) 0 (c .if3 .taken)) in
+    sym (task-out t (s .before .before .before .if1 .left) (s .before .before .if2 .left) (s .loop .i) (omega arith) out)
+
+add-i : tie.Need-add-i Inv-loop μ-loop
+add-i c = omega arith
+
+loop-less : tie.Need-loop-less Inv-loop μ-loop
+loop-less c = omega arith
+
+loop-again : tie.Need-loop-again Inv-loop μ-loop
+loop-again c =
+    let s = c .before .before .before .before in
+    (omega arith, below-more _ _ (s .loop .inv .1) (ap (λ (n : ℕ). not (eqb n 0)) (sym (c .before .task-number .ensures) ∙ c .if3 .left)))
+
+returns-4 : tie.Need-returns-4 Inv-loop μ-loop
+returns-4 c =
+    let s = c .before in
+    let t = s .before .before .before .before .args .table in
+    let all : s .loop .i ≡ t .count = omega arith in
+    sym (none-out t (s .before .before .before .if1 .left) (s .before .before .if2 .left) (rw all at (s .loop .inv .1)))
+
+pub table-sound-spec : {M : Type 1} → statement M
+table-sound-spec =
+    tie.close
+    (tie.spec
+    Inv-loop
+    μ-loop
+    returns
+    returns-2
+    loop-holds
+    mul-task
+    array-copy-out-task
+    task-number-requires
+    returns-3
+    add-i
+    loop-less
+    loop-again
+    returns-4)

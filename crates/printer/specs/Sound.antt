@@ -1,0 +1,55 @@
+-- When a printer is sound: its numbers are in the limits within which it can be stepped. `Printer::new` gives sound ones, a piece leaves a sound one
+-- sound, and one that is not, forged by its caller, has nothing to hand out. The bell, the moments, the texts and what the table says of its
+-- answer, S, P and horizon are not asked for: whatever they are, they say which rows there are and where the printer ends.
+use mathlib.Core.Bool.{Bool, true, not, _&&_}
+use mathlib.Core.List.{List}
+use mathlib.Core.Path.{_≡_}
+use Prim.Native.Nat.{ℕ, _≤_, _<_}
+use lib.Bits.{bitAnd}
+use lib.Dec.{eqb, ltb, leb}
+use lib.ListN.{length, getD}
+use Rattle.model.specs.Search.{any}
+use Rattle.table.specs.declared.Loaded.{Loaded}
+use Rattle.table.specs.Limits.{taskOut}
+use Rattle.table.specs.Task.{taskOf, noTask}
+use Rattle.full.specs.Places.{setOf}
+use Rattle.full.proofs.Moves.{Sized}
+use Rattle.printer.specs.Rows.{Numbers, Stand}
+use Rattle.printer.specs.declared.Printer.{Printer}
+
+-- 7 or 8 turns the task at place p down
+abbrev pub outAt : Loaded → ℕ → Bool
+outAt t p = taskOut (t .cores) (taskOf (getD (t .tasks) p noTask))
+
+-- a table's count, core count and tasks are in their limits
+unfoldable pub tableSound : Loaded → Bool
+tableSound t = leb (t .count) 32 && (leb (t .cores) 64 && not (any (t .count) (outAt t)))
+
+-- the set of the places that are owed ticks
+abbrev pub owed : List ℕ → ℕ
+owed left = setOf 32 (λ p. ltb 0 (getD left p 0))
+
+-- every place of the set a is in the set b
+abbrev pub within : ℕ → ℕ → Bool
+within a b = eqb (bitAnd a b) a
+
+-- the tick is at most the last, which is at most 10,000,000; line and text fit their arrays; who claims is owed ticks, and who is granted cores
+-- is among those that the choice is for
+unfoldable pub sound : Printer → Bool
+sound p =
+    tableSound (p .table)
+    && (leb (p .pace .tick) (p .end)
+    && (leb (p .end) 10000000
+    && (leb (p .pace .ready) 267
+    && (leb (p .given) (p .pace .ready)
+    && (leb (p .pace .text) 257
+    && (within (p .pace .claiming) (owed (p .left)) && within (p .pace .granted) (p .pace .chosen)))))))
+
+-- what a run needs so that it can be stepped
+pub record Safe (n : Numbers) (s : Stand) : Type 0 where
+  pub few : n .count ≤ 32
+  pub cores : n .cores ≤ 64
+  pub times : (p : ℕ) → p < n .count → (0 < getD (n .lengths) p 0) × (getD (n .deadlines) p 0 ≤ 1000000) × (getD (n .periods) p 0 ≤ 1000000)
+  pub sized : Sized (s .machine)
+  pub owed : within (s .machine .claiming) (owed (s .machine .left)) ≡ true
+  pub kept : within (s .granted) (s .chosen) ≡ true
