@@ -8,6 +8,7 @@ use Prim.Native.Nat.{ℕ, _+_, _*_, _≤_}
 use lib.ListN.{length, take, drop}
 use lib.Dec.{leb}
 use Rattle.model.specs.Book as model
+use Rattle.table.specs.Limits.{From}
 use Rattle.table.specs.Words.{tableOf}
 use Rattle.run.specs.declared.Run.{Run}
 use Rattle.run.specs.declared.Answer.{Answer}
@@ -21,10 +22,15 @@ use Rattle.run.specs.Start.{StartApplies, startOf}
 use Rattle.demand.specs.Advances.{answers, after}
 use Rattle.demand.specs.Follows.{begun}
 
--- an answer as one number: 0 for taken, else its number times 256 plus its position
+-- an answer as one number: 0 for taken, else its number times 256 plus its position (no two answers of an advance share one: `codes-tell`)
 abbrev pub code : model.Answer → ℕ
 code model.taken = 0
 code (model.refused n p) = n * 256 + p
+
+-- an answer that an advance may give: taken, or a number up to 16 with a position up to 32
+abbrev pub Small : model.Answer → Type 0
+Small model.taken = Unit {0}
+Small (model.refused n p) = From 1 16 n × (p ≤ 32)
 
 -- the answers of a run to a list of report sets, as numbers
 abbrev pub codes : Run → List ℕ → List ℕ
