@@ -7,7 +7,7 @@ use lib.ListN.{length, replicate}
 use Rattle.model.specs.Task as model
 use Rattle.model.specs.Book as book
 use Rattle.table.specs.Words.{rule, tableOf}
-use Rattle.table.specs.Numbers.{Applies}
+use Rattle.table.specs.Numbers.{Applies, FirstOf, NoneOf}
 use Rattle.judge.specs.declared.Verdict.{Verdict}
 use Rattle.judge.specs.declared.Verdict.the-variants as judge
 use Rattle.judge.specs.Judged.{verdictOf}
@@ -19,7 +19,7 @@ use Rattle.run.specs.declared.Started.{Started}
 use Rattle.run.specs.Phase.{startPhase}
 use Rattle.run.specs.Run.{inPhase, unused}
 use Rattle.run.specs.Answer.{told, byAnswer}
-use Rattle.run.specs.Numbers.{RunOut, First, NoneApplies}
+use Rattle.run.specs.Numbers.{RunOut}
 
 -- a task as it starts
 abbrev pub startTask : model.Task → Task
@@ -65,8 +65,8 @@ pub record StartOf (ws : List ℕ) (s : Started) : Type 0 where
   -- its value
   pub value : s ≡ startOf ws
   -- refused with n and p exactly if number n applies with position p and no earlier one does; taken exactly if none applies
-  pub refused : (n p : ℕ) → (told (s .answer) ≡ book.refused n p) ↔ First (StartApplies ws) n p
-  pub taken : (told (s .answer) ≡ book.taken) ↔ NoneApplies (StartApplies ws)
+  pub refused : (n p : ℕ) → (told (s .answer) ≡ book.refused n p) ↔ FirstOf (StartApplies ws) n p
+  pub taken : (told (s .answer) ≡ book.taken) ↔ NoneOf (StartApplies ws)
   -- taken: the table as it starts
   pub started : told (s .answer) ≡ book.taken → s .run ≡ startedRun (rule ws) (tableOf ws)
   -- refused: all zeros
