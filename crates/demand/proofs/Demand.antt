@@ -1,26 +1,29 @@
 -- DEMAND 3: of a table that the judge calls Firm, a started run follows the book, is never behind and never late.
-use mathlib.Core.Path.{_≡_}
+use mathlib.Core.Path.{_≡_, sym, ap}
 use mathlib.Core.List.{List}
 use Prim.Native.Nat.{ℕ}
 use Rattle.model.specs.Book.{taken}
-use Rattle.model.specs.Verdict.{Firm, verdict}
-use Rattle.model.proofs.Firm.{firm-verdict}
-use Rattle.table.specs.declared.Answer.the-variants as table
+use Rattle.model.proofs.Firm.{firm-kept}
 use Rattle.table.specs.Words.{tableOf}
-use Rattle.table.specs.Answer.{answerOf}
+use Rattle.table.proofs.Passed.{passed-sound}
+use Rattle.judge.specs.declared.Verdict.the-variants.{Firm}
+use Rattle.judge.specs.Judged.{verdictOf}
+use Rattle.judge.proofs.Promise.{judged-exact, firm-words}
 use Rattle.run.specs.Answer.{told}
-use Rattle.run.specs.Start.{startAnswer, startOf}
+use Rattle.run.specs.Start.{startOf}
+use Rattle.run.proofs.ByVerdict.{start-answer}
 use Rattle.demand.specs.Demand.{Demand}
-use Rattle.demand.proofs.Words.{all-sound}
 use Rattle.demand.proofs.Follows.{follows}
 
--- THEOREM (demand 3): for every table that passes 1 to 9 and whose verdict is Firm, and every list of report sets
-pub demand-3 : (ws : List ℕ) → answerOf ws ≡ table.Passed → (S P : ℕ) → verdict (tableOf ws) ≡ Firm S P → (xs : List ℕ) → Demand ws xs
-demand-3 ws passed S P firm xs = record {
-  started = started;
-  follows = follows ws started xs;
-  kept = firm-verdict (tableOf ws) (all-sound ws passed) S P firm xs;
-}
+-- THEOREM (demand 3): for the words of every table that the judge calls Firm, and every list of report sets
+pub demand-3 : (ws : List ℕ) (S P : ℕ) → verdictOf ws ≡ Firm S P → (xs : List ℕ) → Demand ws xs
+demand-3 ws S P firm xs =
+    let says = judged-exact ws .firm S P .0 firm in
+    record {
+      started = started;
+      follows = follows ws started xs;
+      kept = firm-kept (tableOf ws) (passed-sound ws (says .0)) (firm-words ws (says .0) .1 (says .2)) (says .1) xs;
+    }
   where
     started : told (startOf ws .answer) ≡ taken
-    started = unfold startOf startAnswer in rw (passed, firm)
+    started = unfold startOf in ap told (start-answer ws (Firm S P) (sym firm))

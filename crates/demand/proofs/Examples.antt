@@ -1,205 +1,156 @@
--- Runs computed from the definitions: B and B3 with their report, from the words on; B2, which start refuses; a first release to come;
--- a hold that ends at D; and a phase at each limit of 14, inside and outside.
+-- The marked lines of the table of examples through `replay`: what its contract says of the words of a line's table and of the line's report sets is what the line says.
+-- So B with its report shows figure 2's right side (001) row by row, up to the miss; and B3 with the same report shows the rows that it shows without.
+use mathlib.Core.Path.{_≡_, refl, sym, ap, subst, _∙_}
 use mathlib.Core.List.{List, [], _∷_, map, _++_}
-use mathlib.Core.Path.{_≡_, refl}
-use Prim.Native.Nat.{ℕ}
-use lib.ListN.{replicate}
-use Rattle.model.specs.Book.{claims, full, late, misreported, reportable, served, step, work}
+use Prim.Native.Nat.{ℕ, zero, suc, _≤_}
+use native.Mathlib.Nat.{not-suc-le-zero, le-of-suc-le-suc}
+use lib.ListN.{length, getD, take, drop}
+use lib.Seq.{length-take-le}
+use Rattle.model.specs.Book.{Book, Answer, taken, refused, Asked, shown, answersFrom, bookFrom, emptyBook, book, enter, asked, rowsFrom, claims, full, served, step, work}
 use Rattle.model.specs.Grants.{claimants, given, grants, left}
 use Rattle.model.specs.Horizon.{S, horizon, hyperperiod, lcm}
-use Rattle.model.specs.Row.{owner, row}
 use Rattle.model.specs.Search.{any, least, memb, upFrom}
-use Rattle.model.specs.Verdict.{firm, firstMiss, missedAt, missedIn, rising, verdict}
+use Rattle.model.specs.Task.{Table, Task, Rule, greedy, limited, idling}
+use Rattle.model.specs.Verdict.{Verdict, Firm, Full, Miss, firm, firstMiss, missedAt, missedIn, rising, verdict}
+use Rattle.model.proofs.Examples.{Line, worked, lines, examples}
 use Rattle.table.specs.Words.{met, count, chain, tableOf}
 use Rattle.table.specs.Answer.{headerNumber, lastStep, endingOf, firstOut, byHorizon, byTasks, byWalk, answerOf}
-use Rattle.run.specs.declared.Phase.{Phase}
-use Rattle.run.specs.declared.Phase.the-variants.{Coming, Working, Holding, Resting}
-use Rattle.run.specs.declared.Task.{Task}
-use Rattle.run.specs.declared.Run.{Run}
-use Rattle.run.specs.declared.Answer.{Answer}
-use Rattle.run.specs.declared.Answer.the-variants.{Taken, Refused}
-use Rattle.run.specs.declared.Started.{Started}
-use Rattle.run.specs.declared.Row.{Row}
-use Rattle.run.specs.Run.{unused, grantsIn, mapFirst, moved}
-use Rattle.run.specs.Numbers.{runOut, firstLateIn, misreportedIn}
-use Rattle.run.specs.Advance.{advanceAnswer, advanceOf}
-use Rattle.run.specs.Row.{rowAnswer, bytesIn, noBytes, rowOf}
-use Rattle.run.specs.Start.{startedRun, emptyRun, startAnswer, startOf}
-use Rattle.demand.specs.Advances.{answers, after}
+use Rattle.judge.specs.Judged.{verdictOf}
+use Rattle.run.specs.Answer.{told, askedIn64}
+use Rattle.run.specs.Start.{startAnswer, startOf}
+use Rattle.run.proofs.StartExact.{start-exact, start-taken}
+use Rattle.demand.specs.declared.Replayed.the-variants as replayed
+use Rattle.demand.specs.Replay.{code, Room, Outcome, rowSaid, ByTheBook, ReplayOf}
 
--- where a run comes from: the words of a table, or it is built by hand
-pub data Source : Type 0 where
-  words : List ℕ → Source
-  built : Run → Source
+-- THE WORDS OF A LINE
 
-abbrev pub started : Source → Started
-started (words ws) = startOf ws
-started (built r) = record { answer = Taken; run = r }
+abbrev numberOf : Rule → ℕ
+numberOf greedy = 1
+numberOf limited = 2
+numberOf idling = 3
 
--- the row asked before each advance of the list, and after the last
-unfoldable pub rows : Run → List ℕ → List Row
-rows r [] = rowOf r ∷ []
-rows r (x ∷ xs) = rowOf r ∷ rows (advanceOf r x .run) xs
+-- a task's record
+abbrev entry : ℕ → Task → List ℕ
+entry next τ = next ∷ τ .offset ∷ τ .width ∷ τ .length ∷ τ .deadline ∷ τ .period ∷ []
 
--- a line: where the run comes from, and report sets; what start gives, the answer to each advance, the rows, and the run after the list
-pub record Line : Type 0 where
-  pub source : Source
-  pub reports : List ℕ
-  pub start : Started
-  pub gets : List Answer
-  pub shows : List Row
-  pub ends : Run
+-- the records of tasks in priority order, numbered from n on
+unfoldable pub records : ℕ → List Task → List ℕ
+records n [] = []
+records n (τ ∷ []) = entry 0 τ
+records n (τ ∷ τ′ ∷ τs) = entry (suc n) τ ++ records (suc n) (τ′ ∷ τs)
 
--- what the definitions say of a line's source and report sets
-abbrev pub worked : Line → Line
-worked l = record {
-  source = l .source;
-  reports = l .reports;
-  start = started (l .source);
-  gets = answers (started (l .source) .run) (l .reports);
-  shows = rows (started (l .source) .run) (l .reports);
-  ends = after (started (l .source) .run) (l .reports);
-}
+-- the words of a line's table
+abbrev pub wordsOf : Line → List ℕ
+wordsOf l = 1 ∷ l .table .cores ∷ numberOf (l .table .rule) ∷ records 1 (l .table .tasks)
 
--- a task as (O, v, C, D, T) in a phase
-abbrev t : ℕ → ℕ → ℕ → ℕ → ℕ → Phase → Task
-t o v c d p ph = record { offset = o; width = v; length = c; deadline = d; period = p; phase = ph }
+-- WHAT IS SHOWN OF A LINE
 
--- runs of one, two and three tasks
-abbrev one : ℕ → ℕ → Task → Run
-one r m a = record { rule = r; cores = m; count = 1; tasks = a ∷ replicate 31 unused }
+-- a replay of its first k report sets writes its first k answers, and is told its row k
+abbrev pub Shows : Line → Type 0
+Shows l =
+    (k : ℕ) → k ≤ length (l .reports) → (numbers bytes : List ℕ) (o : Outcome) → ReplayOf (wordsOf l) (take k (l .reports)) numbers bytes o → Room (take k (l .reports)) numbers bytes
+    → (o .numbers ≡ map code (take k (l .answers)) ++ drop k numbers) × (rowSaid (o .answer) (take 64 (o .bytes)) ≡ askedIn64 (getD (l .rows) k (shown [])))
 
-abbrev two : ℕ → ℕ → Task → Task → Run
-two r m a b = record { rule = r; cores = m; count = 2; tasks = a ∷ b ∷ replicate 30 unused }
+-- a replay of any report sets is refused by 13, and everything is as found
+abbrev pub Misses : Line → Type 0
+Misses l =
+    (xs numbers bytes : List ℕ) (o : Outcome) → ReplayOf (wordsOf l) xs numbers bytes o
+    → (o .answer ≡ replayed.Refused 13 0) × ((o .numbers ≡ numbers) × (o .bytes ≡ bytes))
 
-abbrev three : ℕ → ℕ → Task → Task → Task → Run
-three r m a b c = record { rule = r; cores = m; count = 3; tasks = a ∷ b ∷ c ∷ replicate 29 unused }
+-- the one where the line's verdict is Firm or Full, the other where it is Miss
+abbrev pub ByVerdict : Verdict → Line → Type 0
+ByVerdict (Firm a b) l = Shows l
+ByVerdict (Full a b) l = Shows l
+ByVerdict (Miss t p) l = Misses l
 
--- the words of B under each rule, and the run of B in these phases
-abbrev wordsB : ℕ → List ℕ
-wordsB r = (1 ∷ 2 ∷ r ∷ []) ++ (2 ∷ 0 ∷ 1 ∷ 3 ∷ 3 ∷ 4 ∷ []) ++ (3 ∷ 0 ∷ 2 ∷ 1 ∷ 4 ∷ 4 ∷ []) ++ (0 ∷ 0 ∷ 1 ∷ 2 ∷ 2 ∷ 4 ∷ [])
+-- FROM THE CONTRACT
 
-abbrev runB : ℕ → Phase → Phase → Phase → Run
-runB r a b c = three r 2 (t 0 1 3 3 4 a) (t 0 2 1 4 4 b) (t 0 1 2 2 4 c)
+answers-take : (s : Table) (b : Book) (xs : List ℕ) (k : ℕ) → answersFrom s b (take k xs) ≡ take k (answersFrom s b xs)
+unfolding answersFrom
+answers-take s b xs zero = refl
+answers-take s b [] (suc k) = refl
+answers-take s b (x ∷ xs) (suc k) = ap (λ (l : List Answer). answersFrom s b (x ∷ []) ++ l) (answers-take s (enter s x b) xs k)
 
--- the words of E, its records in the other order, and its run in these phases
-abbrev wordsE : List ℕ
-wordsE = (2 ∷ 1 ∷ 2 ∷ []) ++ (0 ∷ 0 ∷ 1 ∷ 1 ∷ 2 ∷ 3 ∷ []) ++ (1 ∷ 1 ∷ 1 ∷ 1 ∷ 1 ∷ 2 ∷ [])
+rows-at : (s : Table) (b : Book) (xs : List ℕ) (k : ℕ) (d : Asked) → k ≤ length xs → getD (rowsFrom s b xs) k d ≡ asked s (bookFrom s b (take k xs))
+unfolding rowsFrom bookFrom
+rows-at s b [] zero d h = refl
+rows-at s b (x ∷ xs) zero d h = refl
+rows-at s b [] (suc k) d h = absurd (not-suc-le-zero h)
+rows-at s b (x ∷ xs) (suc k) d h = rows-at s (enter s x b) xs k d (le-of-suc-le-suc h)
 
-abbrev runE : Phase → Phase → Run
-runE a b = two 2 1 (t 1 1 1 1 2 a) (t 0 1 1 2 3 b)
+-- a line's words are those of its table, and start answers by its verdict
+abbrev startSays : Verdict → Answer
+startSays (Firm a b) = taken
+startSays (Full a b) = taken
+startSays (Miss t p) = refused 13 0
 
--- rows
-abbrev on1 : ℕ → Row
-on1 a = record { answer = Taken; bytes = a ∷ replicate 63 0 }
+module _ (l : Line) (works : worked l ≡ l) (table : tableOf (wordsOf l) ≡ l .table) where
+  shows : told (startOf (wordsOf l) .answer) ≡ taken → Shows l
+  shows start k h numbers bytes o r room = (
+    b .each-answer ∙ (ap (λ (al : List Answer). map code al ++ drop (length (take k (l .reports))) numbers) said
+        ∙ ap (λ (n : ℕ). map code (take k (l .answers)) ++ drop n numbers) (length-take-le k (l .reports) h)),
+    b .row-after ∙ ap askedIn64 row,
+  )
+    where
+      b : ByTheBook (wordsOf l) (take k (l .reports)) numbers bytes o
+      b = r .book (start-taken (wordsOf l) .0 start) room
 
-abbrev on2 : ℕ → ℕ → Row
-on2 a b = record { answer = Taken; bytes = a ∷ b ∷ replicate 62 0 }
+      said : answersFrom (tableOf (wordsOf l)) emptyBook (take k (l .reports)) ≡ take k (l .answers)
+      said =
+          ap (λ (s : Table). answersFrom s emptyBook (take k (l .reports))) table
+          ∙ (answers-take (l .table) emptyBook (l .reports) k ∙ ap (λ (m : Line). take k (m .answers)) works)
 
-abbrev no : ℕ → ℕ → Row
-no n p = record { answer = Refused n p; bytes = noBytes }
+      row : asked (tableOf (wordsOf l)) (book (tableOf (wordsOf l)) (take k (l .reports))) ≡ getD (l .rows) k (shown [])
+      row =
+          ap (λ (s : Table). asked s (book s (take k (l .reports)))) table
+          ∙ (sym (rows-at (l .table) emptyBook (l .reports) k (shown []) h) ∙ ap (λ (m : Line). getD (m .rows) k (shown [])) works)
 
--- a start that is taken
-abbrev begins : Run → Started
-begins r = record { answer = Taken; run = r }
+  misses : told (startOf (wordsOf l) .answer) ≡ refused 13 0 → Misses l
+  misses start xs numbers bytes o r =
+      let e = r .refused 13 0 .1 (start-exact (wordsOf l) 13 0 .0 start) in
+      (e, r .refused-found 13 0 e)
 
--- one task (2, 1, 3, 4, 6) on one core in a phase, under a rule, and what its row is answered
-abbrev limit : ℕ → Phase → Row → Line
-limit r ph w = record {
-  source = built (one r 1 (t 2 1 3 4 6 ph));
-  reports = [];
-  start = begins (one r 1 (t 2 1 3 4 6 ph));
-  gets = [];
-  shows = w ∷ [];
-  ends = one r 1 (t 2 1 3 4 6 ph);
-}
+  by-verdict : (v : Verdict) → told (startOf (wordsOf l) .answer) ≡ startSays v → ByVerdict v l
+  by-verdict (Firm a b) e = shows e
+  by-verdict (Full a b) e = shows e
+  by-verdict (Miss t p) e = misses e
 
-abbrev pub lines : List Line
-lines =
-    -- B: position 1 reported in tick 0: tick 1 goes to position 2, then 15 with position 3, for ever
-    record {
-      source = words (wordsB 1);
-      reports = 1 ∷ 0 ∷ 0 ∷ 2 ∷ [];
-      start = begins (runB 1 (Working 0 0) (Working 0 0) (Working 0 0));
-      gets = Taken ∷ Taken ∷ Refused 15 3 ∷ Refused 15 3 ∷ [];
-      shows = on2 1 3 ∷ on2 2 2 ∷ no 15 3 ∷ no 15 3 ∷ no 15 3 ∷ [];
-      ends = runB 1 (Resting 2) (Resting 2) (Working 2 1);
-    }
-    -- a report for a position that gets no cores, and one past the count: 16, and the run as given
-    ∷ record {
-      source = words (wordsB 1);
-      reports = 2 ∷ 8 ∷ [];
-      start = begins (runB 1 (Working 0 0) (Working 0 0) (Working 0 0));
-      gets = Refused 16 0 ∷ Refused 16 0 ∷ [];
-      shows = on2 1 3 ∷ on2 1 3 ∷ on2 1 3 ∷ [];
-      ends = runB 1 (Working 0 0) (Working 0 0) (Working 0 0);
-    }
-    -- B2: the verdict is Miss; 14 turns the run of zeros down
-    ∷ record {
-      source = words (wordsB 2);
-      reports = 0 ∷ [];
-      start = record { answer = Refused 13 0; run = emptyRun };
-      gets = Refused 14 0 ∷ [];
-      shows = no 14 0 ∷ no 14 0 ∷ [];
-      ends = emptyRun;
-    }
-    -- B3: the same report changes no row; a report for a holder is 16
-    ∷ record {
-      source = words (wordsB 3);
-      reports = 0 ∷ 0 ∷ 0 ∷ 0 ∷ [];
-      start = begins (runB 3 (Working 0 0) (Working 0 0) (Working 0 0));
-      gets = Taken ∷ Taken ∷ Taken ∷ Taken ∷ [];
-      shows = on2 1 3 ∷ on2 1 3 ∷ on2 1 0 ∷ on2 2 2 ∷ on2 1 3 ∷ [];
-      ends = runB 3 (Working 0 0) (Working 0 0) (Working 0 0);
-    }
-    ∷ record {
-      source = words (wordsB 3);
-      reports = 1 ∷ 1 ∷ 0 ∷ [];
-      start = begins (runB 3 (Working 0 0) (Working 0 0) (Working 0 0));
-      gets = Taken ∷ Refused 16 0 ∷ Taken ∷ [];
-      shows = on2 1 3 ∷ on2 1 3 ∷ on2 1 3 ∷ on2 1 0 ∷ [];
-      ends = runB 3 (Holding 2 2) (Working 2 0) (Resting 2);
-    }
-    ∷ record {
-      source = words (wordsB 3);
-      reports = 1 ∷ 0 ∷ 0 ∷ 0 ∷ [];
-      start = begins (runB 3 (Working 0 0) (Working 0 0) (Working 0 0));
-      gets = Taken ∷ Taken ∷ Taken ∷ Taken ∷ [];
-      shows = on2 1 3 ∷ on2 1 3 ∷ on2 1 0 ∷ on2 2 2 ∷ on2 1 3 ∷ [];
-      ends = runB 3 (Working 0 0) (Working 0 0) (Working 0 0);
-    }
-    -- E: the first release of position 1 is one tick ahead
-    ∷ record {
-      source = words wordsE;
-      reports = 0 ∷ 0 ∷ [];
-      start = begins (runE (Coming 1) (Working 0 0));
-      gets = Taken ∷ Taken ∷ [];
-      shows = on1 2 ∷ on1 1 ∷ on1 0 ∷ [];
-      ends = runE (Resting 1) (Resting 2);
-    }
-    -- a hold without cores ends at z = D, and then rests
-    ∷ record {
-      source = built (two 3 1 (t 0 1 3 3 4 (Working 0 0)) (t 0 1 3 3 5 (Holding 2 1)));
-      reports = 0 ∷ [];
-      start = begins (two 3 1 (t 0 1 3 3 4 (Working 0 0)) (t 0 1 3 3 5 (Holding 2 1)));
-      gets = Taken ∷ [];
-      shows = on1 1 ∷ on1 1 ∷ [];
-      ends = two 3 1 (t 0 1 3 3 4 (Working 1 1)) (t 0 1 3 3 5 (Resting 3));
-    }
-    -- the limits of 14: Coming 1 to O
-    ∷ limit 1 (Coming 0) (no 14 0) ∷ limit 1 (Coming 1) (on1 0) ∷ limit 1 (Coming 2) (on1 0) ∷ limit 1 (Coming 3) (no 14 0)
-    -- Working z 0 to D, where z = D passes 14 and is 15; u below C and at most z
-    ∷ limit 1 (Working 0 0) (on1 1) ∷ limit 1 (Working 4 0) (no 15 1) ∷ limit 1 (Working 5 0) (no 14 0)
-    ∷ limit 1 (Working 3 2) (on1 1) ∷ limit 1 (Working 3 3) (no 14 0) ∷ limit 1 (Working 2 2) (on1 1) ∷ limit 1 (Working 1 2) (no 14 0)
-    -- Holding under rule 3 only; z 1 to D − 1, u 1 to C − 1, u at most z
-    ∷ limit 3 (Holding 1 1) (on1 1) ∷ limit 2 (Holding 1 1) (no 14 0) ∷ limit 1 (Holding 1 1) (no 14 0)
-    ∷ limit 3 (Holding 0 0) (no 14 0) ∷ limit 3 (Holding 1 0) (no 14 0) ∷ limit 3 (Holding 3 1) (on1 1) ∷ limit 3 (Holding 4 1) (no 14 0)
-    ∷ limit 3 (Holding 3 2) (on1 1) ∷ limit 3 (Holding 3 3) (no 14 0) ∷ limit 3 (Holding 2 2) (on1 1) ∷ limit 3 (Holding 1 2) (no 14 0)
-    -- Resting 1 to T − 1
-    ∷ limit 1 (Resting 0) (no 14 0) ∷ limit 1 (Resting 1) (on1 0) ∷ limit 1 (Resting 5) (on1 0) ∷ limit 1 (Resting 6) (no 14 0)
-    ∷ []
+-- OF EVERY LINE
 
--- every line is what the definitions say
-pub examples : map worked lines ≡ lines
-unfolding startOf startAnswer startedRun answerOf byWalk byTasks byHorizon firstOut endingOf lastStep headerNumber tableOf chain count met verdict firstMiss missedIn missedAt firm rising horizon S hyperperiod lcm least any memb upFrom owner row given left grants claimants claims served work step late reportable misreported full answers after rows advanceOf advanceAnswer rowOf rowAnswer bytesIn runOut firstLateIn misreportedIn grantsIn mapFirst moved
-examples = refl
+-- what holds of each line of a list
+abbrev pub Each : (Line → Type 0) → List Line → Type 0
+Each P [] = Unit {0}
+Each P (l ∷ ls) = P l × Each P ls
+
+each : {A : Type 0} (f g : Line → A) (ls : List Line) → map f ls ≡ map g ls → Each (λ l. f l ≡ g l) ls
+each f g [] e = tt
+each f g (l ∷ ls) e =
+    let a : f l ≡ g l = cc in
+    let b : map f ls ≡ map g ls = cc in
+    (a, each f g ls b)
+
+both : (P Q R : Line → Type 0) → ((l : Line) → P l → Q l → R l) → (ls : List Line) → Each P ls → Each Q ls → Each R ls
+both P Q R h [] p q = tt
+both P Q R h (l ∷ ls) p q = (h l (p .0) (q .0), both P Q R h ls (p .1) (q .1))
+
+-- the table of a line's words, and what start answers to them
+pub record Begins : Type 0 where
+  pub table : Table
+  pub start : Answer
+
+abbrev begins : Line → Begins
+begins l = record { table = tableOf (wordsOf l); start = told (startOf (wordsOf l) .answer) }
+
+expected : Line → Begins
+expected l = record { table = l .table; start = startSays (l .says) }
+
+starts : map begins lines ≡ map expected lines
+unfolding expected records startOf startAnswer verdictOf answerOf byWalk byTasks byHorizon firstOut endingOf lastStep headerNumber tableOf chain count met verdict firstMiss missedIn missedAt firm rising horizon S hyperperiod lcm least any memb upFrom given left grants claimants claims served work step full
+starts = refl
+
+-- THEOREM: every marked line of the table of examples, through the contract of `replay`
+pub through-replay : Each (λ l. ByVerdict (l .says) l) lines
+through-replay =
+    both (λ l. worked l ≡ l) (λ l. begins l ≡ expected l) (λ l. ByVerdict (l .says) l)
+    (λ l w e. unfold expected in by-verdict l w (ap (λ (x : Begins). x .table) e) (l .says) (ap (λ (x : Begins). x .start) e))
+    lines (each worked (λ l. l) lines examples) (each begins expected lines starts)

@@ -5,10 +5,10 @@ use Prim.Native.Nat.{ℕ}
 use Rattle.model.specs.Task.{AllSound}
 use Rattle.model.specs.Book.{emptyBook, answersFrom, takenIn, book, taken}
 use Rattle.model.proofs.Faithful.{tick-taken}
-use Rattle.table.specs.declared.Answer.the-variants as table
 use Rattle.table.specs.Words.{tableOf}
-use Rattle.table.specs.Answer.{answerOf}
+use Rattle.table.specs.Numbers.{NoneApplies}
 use Rattle.table.proofs.Decide.{fails}
+use Rattle.table.proofs.Passed.{passed-sound}
 use Rattle.run.specs.declared.Run.{Run}
 use Rattle.run.specs.Answer.{told}
 use Rattle.run.specs.Numbers.{RunOut, runOut}
@@ -16,10 +16,9 @@ use Rattle.run.specs.Start.{startOf}
 use Rattle.demand.specs.Advances.{answers, after}
 use Rattle.demand.specs.Follows.{begun, Follows}
 use Rattle.run.proofs.Limits.{run-decides, passes-runs}
-use Rattle.run.proofs.StartPasses.{taken-passed}
-use Rattle.run.proofs.StartExact.{start-of}
+use Rattle.run.proofs.StartExact.{taken-passes, start-of}
 use Rattle.demand.proofs.Stands.{Stands, same-answers, same-asked, stands-after}
-use Rattle.demand.proofs.Words.{all-sound, stands-start}
+use Rattle.demand.proofs.Words.{stands-start}
 
 -- THEOREM (follows): for every table that start takes, Firm and Full alike, and every list of report sets
 pub follows : (ws : List ℕ) → told (startOf ws .answer) ≡ taken → (xs : List ℕ) → Follows ws xs
@@ -30,14 +29,14 @@ follows ws e xs = record {
   passes = fails (runOut (after (begun ws) xs)) (RunOut (after (begun ws) xs)) (run-decides (after (begun ws) xs)) (passes-runs (after (begun ws) xs) (stands .passes));
 }
   where
-    passed : answerOf ws ≡ table.Passed
-    passed = taken-passed ws e
+    none : NoneApplies ws
+    none = taken-passes ws e
 
     ok : AllSound (tableOf ws)
-    ok = all-sound ws passed
+    ok = passed-sound ws none
 
     st : Stands (tableOf ws) emptyBook (begun ws)
-    st = subst (λ (r : Run). Stands (tableOf ws) emptyBook r) (sym (start-of ws (startOf ws) refl .started e)) (stands-start ws passed)
+    st = subst (λ (r : Run). Stands (tableOf ws) emptyBook r) (sym (start-of ws (startOf ws) refl .started e)) (stands-start ws none)
 
     stands : Stands (tableOf ws) (book (tableOf ws) xs) (after (begun ws) xs)
     stands = stands-after (tableOf ws) ok xs emptyBook (begun ws) st

@@ -7,5 +7,7 @@ pub mod Words
 pub mod Follows
 pub mod Demand
 pub mod Listed
+pub mod Codes
 pub mod Outcomes
 pub mod Examples
+pub mod HandBuilt

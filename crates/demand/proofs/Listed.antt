@@ -1,26 +1,15 @@
--- A list of advances, one more at its end; and the answers of an advance as numbers.
-use mathlib.Core.Path.{_≡_, refl, sym, ap, _∙_}
-use mathlib.Core.Bool.{Bool, true, false, cond}
+-- A list of advances, one more at its end.
+use mathlib.Core.Path.{_≡_, refl, ap, _∙_}
 use mathlib.Core.List.{List, [], _∷_, _++_, map}
-use Prim.Native.Nat.{ℕ, suc, _+_, _*_, _≤_}
-use native.Mathlib.Omega.{arith}
+use Prim.Native.Nat.{ℕ, suc, _+_, _*_}
 use lib.ListN.{length, length-map}
-use lib.Dec.{ltb}
-use borrow.Author.Tests.{ltb-true}
 use Rattle.model.proofs.Lists.{map-more}
-use Rattle.model.specs.Book as model
 use Rattle.run.specs.declared.Run.{Run}
 use Rattle.run.specs.declared.Answer.{Answer}
-use Rattle.run.specs.declared.Answer.the-variants.{Taken, Refused}
 use Rattle.run.specs.Answer.{told}
-use Rattle.run.specs.Numbers.{runOut, firstLateIn, misreportedIn}
-use Rattle.run.specs.Advance.{advanceAnswer, advanceOf}
+use Rattle.run.specs.Advance.{advanceOf}
 use Rattle.demand.specs.Advances.{answers, after}
 use Rattle.demand.specs.Replay.{code, codes}
-use Rattle.demand.specs.Small.{Small}
-use Rattle.run.proofs.RunOut.{few}
-
--- ---- one advance more
 
 pub after-more : (r : Run) (xs : List ℕ) (x : ℕ) → after r (xs ++ (x ∷ [])) ≡ advanceOf (after r xs) x .run
 unfolding after
@@ -50,23 +39,3 @@ codes-more r xs x = ap (map coded) (answers-more r xs x) ∙ map-more coded (ans
 
 pub length-codes : (r : Run) (xs : List ℕ) → length (codes r xs) ≡ length xs
 length-codes r xs = length-map (answers r xs) coded ∙ length-answers r xs
-
--- ---- the answers of an advance are small
-
-pub small-answer : (r : Run) (x : ℕ) → Small (advanceOf r x .answer)
-unfolding advanceOf advanceAnswer
-small-answer r x = by-out (runOut r) refl
-  where
-    by-report : (t : Bool) → Small (cond t (Refused 16 0) Taken)
-    by-report true = (omega arith, omega arith)
-    by-report false = tt
-
-    by-late : runOut r ≡ false → (t : Bool) → ltb (firstLateIn r) (r .count) ≡ t
-        → Small (cond t (Refused 15 (suc (firstLateIn r))) (cond (misreportedIn r x) (Refused 16 0) Taken))
-    by-late e true l = (omega arith, omega (arith, ltb-true (firstLateIn r) (r .count) l, few r e))
-    by-late e false l = by-report (misreportedIn r x)
-
-    by-out : (t : Bool) → runOut r ≡ t
-        → Small (cond t (Refused 14 0) (cond (ltb (firstLateIn r) (r .count)) (Refused 15 (suc (firstLateIn r))) (cond (misreportedIn r x) (Refused 16 0) Taken)))
-    by-out true e = (omega arith, omega arith)
-    by-out false e = by-late e (ltb (firstLateIn r) (r .count)) refl

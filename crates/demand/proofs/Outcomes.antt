@@ -13,6 +13,7 @@ use Rattle.model.proofs.Lists.{map-map}
 use Rattle.model.specs.Book as model
 use Rattle.model.proofs.Bools.{and-left, and-right, and-both}
 use Rattle.table.specs.Words.{tableOf}
+use Rattle.table.specs.Numbers.{FirstOf, NoneOf}
 use Rattle.run.specs.declared.Run.{Run}
 use Rattle.run.specs.declared.Answer.{Answer}
 use Rattle.run.specs.declared.Answer.the-variants.{Taken, Refused}
@@ -20,7 +21,6 @@ use Rattle.run.specs.declared.Row.{Row}
 use Rattle.demand.specs.declared.Replayed.{Replayed}
 use Rattle.demand.specs.declared.Replayed.the-variants as replayed
 use Rattle.run.specs.Answer.{told, shownBy, rowTold, askedIn64}
-use Rattle.run.specs.Numbers.{First, NoneApplies}
 use Rattle.run.specs.Row.{rowOf}
 use Rattle.run.specs.Start.{StartApplies, startOf, StartOf}
 use Rattle.demand.specs.Advances.{answers, after}
@@ -137,10 +137,10 @@ module _ (ws xs numbers bytes : List ℕ) where
       go Taken e = f e
       go (Refused n p) e = g n p e
 
-  none-refused : startOf ws .answer ≡ Taken → NoneApplies (StartApplies ws)
+  none-refused : startOf ws .answer ≡ Taken → NoneOf (StartApplies ws)
   none-refused e = started .taken .0 (ap told e)
 
-  taken-none : NoneApplies (StartApplies ws) → startOf ws .answer ≡ Taken
+  taken-none : NoneOf (StartApplies ws) → startOf ws .answer ≡ Taken
   taken-none h = by-start (startOf ws .answer ≡ Taken) (λ e. e) (λ n p e. absurd (clash n p (started .taken .1 h) (ap told e)))
     where
       clash : (n p : ℕ) → told (startOf ws .answer) ≡ model.taken → told (startOf ws .answer) ≡ model.refused n p → ⊥
@@ -149,9 +149,9 @@ module _ (ws xs numbers bytes : List ℕ) where
   abbrev given : Outcome
   given = replayOf ws xs numbers bytes
 
-  refused-exact : (n p : ℕ) → (given .answer ≡ replayed.Refused n p) ↔ First (StartApplies ws) n p
+  refused-exact : (n p : ℕ) → (given .answer ≡ replayed.Refused n p) ↔ FirstOf (StartApplies ws) n p
   refused-exact n p = (
-    λ e. by-start (First (StartApplies ws) n p)
+    λ e. by-start (FirstOf (StartApplies ws) n p)
         (λ t. absurd (play-refused (begun ws) xs numbers bytes n p (sym (ap (λ (o : Outcome). o .answer) (replay-taken ws xs numbers bytes t)) ∙ e)))
         (λ m q t. started .refused n p .0 (same m q t (sym (ap (λ (o : Outcome). o .answer) (replay-refused ws xs numbers bytes m q t)) ∙ e))),
     λ h. by-start (given .answer ≡ replayed.Refused n p)
@@ -169,9 +169,9 @@ module _ (ws xs numbers bytes : List ℕ) where
       clash u v = let z : _≡_ {A = ℕ} 0 1 = cc in omega arith
 
   -- a short answer: the start is taken, there is no room, and everything is as found
-  short-gives : given .answer ≡ replayed.Short → NoneApplies (StartApplies ws) × ((¬ Room xs numbers bytes) × (given ≡ tooShort numbers bytes))
+  short-gives : given .answer ≡ replayed.Short → NoneOf (StartApplies ws) × ((¬ Room xs numbers bytes) × (given ≡ tooShort numbers bytes))
   short-gives e =
-      by-start (NoneApplies (StartApplies ws) × ((¬ Room xs numbers bytes) × (given ≡ tooShort numbers bytes)))
+      by-start (NoneOf (StartApplies ws) × ((¬ Room xs numbers bytes) × (given ≡ tooShort numbers bytes)))
       (λ t.
       let s = play-short (begun ws) xs numbers bytes (sym (ap (λ (o : Outcome). o .answer) (replay-taken ws xs numbers bytes t)) ∙ e) in
       (none-refused t, (s .0, replay-taken ws xs numbers bytes t ∙ s .1)))
@@ -180,7 +180,7 @@ module _ (ws xs numbers bytes : List ℕ) where
       clash : (n p : ℕ) → replayed.Refused n p ≡ replayed.Short → ⊥
       clash n p q = let z : _≡_ {A = ℕ} 0 1 = cc in omega arith
 
-  short-exact : (given .answer ≡ replayed.Short) ↔ (NoneApplies (StartApplies ws) × (¬ Room xs numbers bytes))
+  short-exact : (given .answer ≡ replayed.Short) ↔ (NoneOf (StartApplies ws) × (¬ Room xs numbers bytes))
   short-exact = (
     λ e. let s = short-gives e in (s .0, s .1 .0),
     λ h. ap (λ (o : Outcome). o .answer) (replay-taken ws xs numbers bytes (taken-none (h .0)) ∙ short-play (begun ws) xs numbers bytes (h .1)),
@@ -193,7 +193,7 @@ module _ (ws xs numbers bytes : List ℕ) where
       (λ m q t. (ap (λ (o : Outcome). o .numbers) (replay-refused ws xs numbers bytes m q t), ap (λ (o : Outcome). o .bytes) (replay-refused ws xs numbers bytes m q t)))
 
   -- the answers and the row are the book's
-  by-the-book : NoneApplies (StartApplies ws) → Room xs numbers bytes → ByTheBook ws xs numbers bytes (written (begun ws) xs numbers bytes)
+  by-the-book : NoneOf (StartApplies ws) → Room xs numbers bytes → ByTheBook ws xs numbers bytes (written (begun ws) xs numbers bytes)
   by-the-book h room = record {
     each-answer = ap (λ (l : List ℕ). l ++ drop (length xs) numbers) (sym (map-map code told (answers (begun ws) xs)) ∙ ap (map code) (f .each-answer));
     row-after = ap (rowSaid (rowCase (last .answer))) (take-at (last .bytes) (drop 64 bytes) 64 (row-length (after (begun ws) xs))) ∙ (case-said last ∙ f .row-after);

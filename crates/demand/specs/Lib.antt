@@ -1,5 +1,4 @@
 pub mod Advances
 pub mod Follows
 pub mod Demand
-pub mod Small
 pub mod Replay

@@ -8,7 +8,9 @@ use Prim.Native.Nat.{ℕ, _+_, _*_, _≤_}
 use lib.ListN.{length, take, drop}
 use lib.Dec.{leb}
 use Rattle.model.specs.Book as model
+use Rattle.table.specs.Limits.{From}
 use Rattle.table.specs.Words.{tableOf}
+use Rattle.table.specs.Numbers.{FirstOf, NoneOf}
 use Rattle.run.specs.declared.Run.{Run}
 use Rattle.run.specs.declared.Answer.{Answer}
 use Rattle.run.specs.declared.Answer.the-variants.{Taken, Refused}
@@ -16,15 +18,19 @@ use Rattle.demand.specs.declared.Replayed.{Replayed}
 use Rattle.demand.specs.declared.Replayed.the-variants as replayed
 use Rattle.run.specs.Answer.{told, askedIn64}
 use Rattle.run.specs.Row.{rowOf}
-use Rattle.run.specs.Numbers.{First, NoneApplies}
 use Rattle.run.specs.Start.{StartApplies, startOf}
 use Rattle.demand.specs.Advances.{answers, after}
 use Rattle.demand.specs.Follows.{begun}
 
--- an answer as one number: 0 for taken, else its number times 256 plus its position
+-- an answer as one number: 0 for taken, else its number times 256 plus its position (no two answers of an advance share one: `codes-tell`)
 abbrev pub code : model.Answer → ℕ
 code model.taken = 0
 code (model.refused n p) = n * 256 + p
+
+-- an answer that an advance may give: taken, or a number up to 16 with a position up to 32
+abbrev pub Small : model.Answer → Type 0
+Small model.taken = Unit {0}
+Small (model.refused n p) = From 1 16 n × (p ≤ 32)
 
 -- the answers of a run to a list of report sets, as numbers
 abbrev pub codes : Run → List ℕ → List ℕ
@@ -86,11 +92,11 @@ pub record ReplayOf (ws xs numbers bytes : List ℕ) (o : Outcome) : Type 0 wher
   -- its value
   pub value : o ≡ replayOf ws xs numbers bytes
   -- refused exactly as the start is
-  pub refused : (n p : ℕ) → (o .answer ≡ replayed.Refused n p) ↔ First (StartApplies ws) n p
+  pub refused : (n p : ℕ) → (o .answer ≡ replayed.Refused n p) ↔ FirstOf (StartApplies ws) n p
   -- short exactly if the start is taken and a lent slice has no room: a case outside the scope's numbers
-  pub short : (o .answer ≡ replayed.Short) ↔ (NoneApplies (StartApplies ws) × (¬ Room xs numbers bytes))
+  pub short : (o .answer ≡ replayed.Short) ↔ (NoneOf (StartApplies ws) × (¬ Room xs numbers bytes))
   -- both leave everything as found
   pub refused-found : (n p : ℕ) → o .answer ≡ replayed.Refused n p → (o .numbers ≡ numbers) × (o .bytes ≡ bytes)
   pub short-found : o .answer ≡ replayed.Short → (o .numbers ≡ numbers) × (o .bytes ≡ bytes)
   -- else every answer and the last row are the book's
-  pub book : NoneApplies (StartApplies ws) → Room xs numbers bytes → ByTheBook ws xs numbers bytes o
+  pub book : NoneOf (StartApplies ws) → Room xs numbers bytes → ByTheBook ws xs numbers bytes o

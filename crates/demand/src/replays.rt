@@ -5,15 +5,14 @@ ghost use Prim.Native.Nat.{_≤_};
 ghost use lib.ListN.{length, drop};
 ghost use Rattle.run.specs.Answer.{told};
 ghost use Rattle.demand.specs.Advances.{after};
-ghost use Rattle.demand.specs.Replay.{code, codes, rowCase, played};
-ghost use Rattle.demand.specs.Small.{Small};
+ghost use Rattle.demand.specs.Replay.{code, Small, codes, rowCase, played};
 use crate::Replayed;
 use run::Answer;
 use run::Run;
 
 // An answer as one number: 0 for taken, else number × 256 + position.
 fn code(answer: Answer) -> u32
-    requires { ⌜ Small answer ⌝ }
+    requires { ⌜ Small (told answer) ⌝ }
     ensures { λ r. ⌜ r ≡ code (told answer) ⌝ }
 {
     match answer {

@@ -18,6 +18,7 @@ use Rattle.table.specs.Numbers.{place, Earlier}
 use Rattle.table.specs.Numbers as table
 use Rattle.table.specs.Answer.{answerOf}
 use Rattle.table.proofs.Decide.{Decides, fails, decides-lt, decides-or}
+use Rattle.table.proofs.Order.{not-before-itself, later, number-most, first-only}
 use Rattle.table.proofs.Exact.{refusal-exact, passed-exact}
 use Rattle.table.proofs.Passed.{passed-sound}
 use Rattle.plan.specs.declared.Planned.{Planned}
@@ -25,59 +26,6 @@ use Rattle.plan.specs.declared.Planned.the-variants.{Written, Refused}
 use Rattle.plan.specs.Numbers.{RangeOut, BufferOut, MissOut, Applies, words, ten, eleven, twelve, First, NoneApplies}
 use Rattle.plan.specs.Plan.{byPlan, told, plannedOf}
 use Rattle.plan.proofs.Late.{miss-decides}
-
--- THE ORDER OF THE NUMBERS
-
--- of two numbers one is less, or they are the same
-order : (a b : ℕ) → (a < b) ⊎ ((b < a) ⊎ (a ≡ b))
-order a b = go (ltb a b) refl (ltb b a) refl
-  where
-    go : (t : Bool) → ltb a b ≡ t → (u : Bool) → ltb b a ≡ u → (a < b) ⊎ ((b < a) ⊎ (a ≡ b))
-    go true e u f = inl (ltb-true a b e)
-    go false e true f = inr (inl (ltb-true b a f))
-    go false e false f = let x = ltb-false a b e in let y = ltb-false b a f in inr (inr (omega arith))
-
--- of two numbers with their positions one is checked before the other, or they are the same
-decided : (n p m q : ℕ) → Earlier n p m q ⊎ (Earlier m q n p ⊎ ((n ≡ m) × (p ≡ q)))
-decided n p m q = by-place (order (place n) (place m))
-  where
-    by-number : place n ≡ place m → p ≡ q → (n < m) ⊎ ((m < n) ⊎ (n ≡ m)) → Earlier n p m q ⊎ (Earlier m q n p ⊎ ((n ≡ m) × (p ≡ q)))
-    by-number e i (inl l) = inl (inr (e, inr (i, l)))
-    by-number e i (inr (inl l)) = inr (inl (inr (sym e, inr (sym i, l))))
-    by-number e i (inr (inr j)) = inr (inr (j, i))
-
-    by-position : place n ≡ place m → (p < q) ⊎ ((q < p) ⊎ (p ≡ q)) → Earlier n p m q ⊎ (Earlier m q n p ⊎ ((n ≡ m) × (p ≡ q)))
-    by-position e (inl l) = inl (inr (e, inl l))
-    by-position e (inr (inl l)) = inr (inl (inr (sym e, inl l)))
-    by-position e (inr (inr i)) = by-number e i (order n m)
-
-    by-place : (place n < place m) ⊎ ((place m < place n) ⊎ (place n ≡ place m)) → Earlier n p m q ⊎ (Earlier m q n p ⊎ ((n ≡ m) × (p ≡ q)))
-    by-place (inl l) = inl (inl l)
-    by-place (inr (inl l)) = inr (inl (inl l))
-    by-place (inr (inr e)) = by-position e (order p q)
-
--- a number of a later place is not checked before
-later : (m q n p : ℕ) → place n < place m → ¬ Earlier m q n p
-later m q n p l (inl h) = omega arith
-later m q n p l (inr (e, h)) = omega arith
-
--- nor is a number with position 0 before itself
-itself : (m : ℕ) → ¬ Earlier m 0 m 0
-itself m (inl h) = omega arith
-itself m (inr (e, inl h)) = omega arith
-itself m (inr (e, inr (i, h))) = omega arith
-
--- the table's numbers are checked before the plan's
-number-most : (ws : List ℕ) (n p : ℕ) → table.Applies ws n p → place n < 10
-number-most ws _ _ (table.one x) = omega arith
-number-most ws _ _ (table.two x) = omega arith
-number-most ws _ _ (table.three x) = omega arith
-number-most ws _ _ (table.four x) = omega arith
-number-most ws _ _ (table.five k x y) = omega arith
-number-most ws _ _ (table.six k x y) = omega arith
-number-most ws _ _ (table.seven p x y) = omega arith
-number-most ws _ _ (table.eight p x y) = omega arith
-number-most ws _ _ (table.nine x) = omega arith
 
 -- WHAT IS RIGHT OF AN ANSWER
 
@@ -108,7 +56,7 @@ module _ (ws : List ℕ) (a b bytes : ℕ) where
       where
         none : (m q : ℕ) → Earlier m q 10 0 → ¬ Applies ws a b bytes m q
         none m q e (words _ _ x) = passed m q x
-        none _ _ e (ten x) = itself 10 e
+        none _ _ e (ten x) = not-before-itself 10 0 e
         none _ _ e (eleven x) = later 11 0 10 0 (omega arith) e
         none _ _ e (twelve x) = later 12 0 10 0 (omega arith) e
 
@@ -118,7 +66,7 @@ module _ (ws : List ℕ) (a b bytes : ℕ) where
         none : (m q : ℕ) → Earlier m q 11 0 → ¬ Applies ws a b bytes m q
         none m q e (words _ _ x) = passed m q x
         none _ _ e (ten x) = h x
-        none _ _ e (eleven x) = itself 11 e
+        none _ _ e (eleven x) = not-before-itself 11 0 e
         none _ _ e (twelve x) = later 12 0 11 0 (omega arith) e
 
     is-twelve : (¬ RangeOut s a b) → (¬ BufferOut s a b bytes) → MissOut s b → First ws a b bytes 12 0
@@ -128,7 +76,7 @@ module _ (ws : List ℕ) (a b bytes : ℕ) where
         none m q e (words _ _ x) = passed m q x
         none _ _ e (ten x) = h x
         none _ _ e (eleven x) = k x
-        none _ _ e (twelve x) = itself 12 e
+        none _ _ e (twelve x) = not-before-itself 12 0 e
 
     is-none : (¬ RangeOut s a b) → (¬ BufferOut s a b bytes) → (¬ MissOut s b) → NoneApplies ws a b bytes
     is-none h k l m q (words _ _ x) = passed m q x
@@ -170,15 +118,6 @@ module _ (ws : List ℕ) (a b bytes : ℕ) where
       go answer.Passed e = right-plan (passed-exact ws .0 e)
       go (answer.Refused n p) e = by-words n p (refusal-exact ws n p .0 e)
 
-  -- only one number is the first
-  first-only : (n p m q : ℕ) → First ws a b bytes n p → First ws a b bytes m q → (n ≡ m) × (p ≡ q)
-  first-only n p m q f g = go (decided n p m q)
-    where
-      go : Earlier n p m q ⊎ (Earlier m q n p ⊎ ((n ≡ m) × (p ≡ q))) → (n ≡ m) × (p ≡ q)
-      go (inl e) = absurd (g .1 n p e (f .0))
-      go (inr (inl e)) = absurd (f .1 m q e (g .0))
-      go (inr (inr e)) = e
-
   -- what is right of an answer determines it
   settled : (v : Planned) → Right v → ((n p : ℕ) → (v ≡ Refused n p) ↔ First ws a b bytes n p) × ((v ≡ Written) ↔ NoneApplies ws a b bytes)
   settled Written r = (λ n p. (λ e. absurd (written-not-refused e), λ f. absurd (r n p (f .0))), (λ e. r, λ n. refl))
@@ -194,7 +133,7 @@ module _ (ws : List ℕ) (a b bytes : ℕ) where
       to n p e = let i : m ≡ n = cc in let j : q ≡ p = cc in rw (i, j) at r
 
       from : (n p : ℕ) → First ws a b bytes n p → Refused m q ≡ Refused n p
-      from n p f = let x = first-only m q n p r f in rw (x .0, x .1)
+      from n p f = let x = first-only (Applies ws a b bytes) m q n p r f in rw (x .0, x .1)
 
   -- the plan refuses with n and p exactly if number n applies with position p and no earlier one does
   pub refused-exact : (n p : ℕ) → (plannedOf ws a b bytes ≡ Refused n p) ↔ First ws a b bytes n p

@@ -6,7 +6,7 @@ use Rattle.model.specs.Task.{Table}
 use Rattle.model.specs.Horizon.{horizon}
 use Rattle.model.specs.Verdict.{FirstMiss}
 use Rattle.table.specs.Words.{tableOf}
-use Rattle.table.specs.Numbers.{Earlier}
+use Rattle.table.specs.Numbers.{FirstOf, NoneOf}
 use Rattle.table.specs.Numbers as table
 
 -- a is above b, or b is above the horizon
@@ -34,8 +34,8 @@ pub data Applies (ws : List ℕ) (a b bytes : ℕ) : ℕ → ℕ → Type 0 wher
 
 -- number n is the first that applies, with position p
 abbrev pub First : List ℕ → ℕ → ℕ → ℕ → ℕ → ℕ → Type 0
-First ws a b bytes n p = Applies ws a b bytes n p × ((m q : ℕ) → Earlier m q n p → ¬ Applies ws a b bytes m q)
+First ws a b bytes n p = FirstOf (Applies ws a b bytes) n p
 
 -- no number applies
 abbrev pub NoneApplies : List ℕ → ℕ → ℕ → ℕ → Type 0
-NoneApplies ws a b bytes = (n p : ℕ) → ¬ Applies ws a b bytes n p
+NoneApplies ws a b bytes = NoneOf (Applies ws a b bytes)

@@ -15,8 +15,9 @@ use Rattle.model.specs.Grants.{some}
 use Rattle.model.specs.Book as model
 use Rattle.model.proofs.Bools.{and-left, and-right, and-both}
 use Rattle.model.proofs.Search.{any-some, any-of, least-found, least-lowest}
-use Rattle.table.specs.Numbers.{Earlier}
+use Rattle.table.specs.Numbers.{Earlier, FirstOf, NoneOf}
 use Rattle.table.proofs.Decide.{Decides, fails, decides-not}
+use Rattle.table.proofs.Order.{not-before-itself, later}
 use Rattle.run.specs.declared.Phase.{Phase}
 use Rattle.run.specs.declared.Phase.the-variants.{Coming, Working, Holding, Resting}
 use Rattle.run.specs.declared.Run.{Run}
@@ -26,10 +27,10 @@ use Rattle.run.specs.declared.Row.{Row}
 use Rattle.run.specs.Phase.{working, lateIn}
 use Rattle.run.specs.Run.{taskAt, phaseAt, grantsIn, hasCores, moved}
 use Rattle.run.specs.Answer.{told}
-use Rattle.run.specs.Numbers.{RunOut, Late, Works, Misreports, RowApplies, fourteen, fifteen, AdvanceApplies, as-row, sixteen, First, NoneApplies, runOut, lateAt, firstLateIn, reportableAt, misreportedIn}
+use Rattle.run.specs.Numbers.{RunOut, Late, Works, Misreports, RowApplies, fourteen, fifteen, AdvanceApplies, as-row, sixteen, runOut, lateAt, firstLateIn, reportableAt, misreportedIn}
 use Rattle.run.specs.Advance.{advanceAnswer, advanceOf, AdvanceOf}
 use Rattle.run.specs.Row.{rowAnswer, bytesIn, noBytes, rowOf, RowOf}
-use Rattle.run.proofs.First.{by-taken, by-refused, not-before-itself, Right, refused-exact, taken-exact}
+use Rattle.run.proofs.First.{by-taken, by-refused, Right, refused-exact, taken-exact}
 use Rattle.run.proofs.Limits.{run-decides}
 use Rattle.run.proofs.Again.{advance-passes}
 use Rattle.run.proofs.Past.{past-unchanged}
@@ -108,14 +109,14 @@ module _ (r : Run) where
   unfolding firstLateIn
   first-late p l h = true≢false (sym (late-at p h) ∙ least-lowest (r .count) (lateAt r) p l)
 
-  row-14 : runOut r ≡ true → First (RowApplies r) 14 0
+  row-14 : runOut r ≡ true → FirstOf (RowApplies r) 14 0
   row-14 e = (fourteen (run-decides r .0 e), earlier)
     where
       earlier : (m q : ℕ) → Earlier m q 14 0 → ¬ RowApplies r m q
       earlier m q x (fourteen h) = not-before-itself 14 0 x
-      earlier m q x (fifteen p l h) = ⊎-elim (λ y. omega arith) (λ y. let z = y .0 in omega arith) x
+      earlier m q x (fifteen p l h) = later 15 (suc p) 14 0 (omega arith) x
 
-  row-15 : runOut r ≡ false → ltb (firstLateIn r) (r .count) ≡ true → First (RowApplies r) 15 (suc (firstLateIn r))
+  row-15 : runOut r ≡ false → ltb (firstLateIn r) (r .count) ≡ true → FirstOf (RowApplies r) 15 (suc (firstLateIn r))
   row-15 e f = (fifteen (firstLateIn r) below (late-decides r (firstLateIn r) .0 found), earlier)
     where
       below : firstLateIn r < r .count
@@ -130,7 +131,7 @@ module _ (r : Run) where
           ⊎-elim (λ y. omega arith)
           (λ y. ⊎-elim (λ z. first-late p (omega arith) h) (λ z. let w = z .1 in omega arith) (y .1)) x
 
-  row-none : runOut r ≡ false → ltb (firstLateIn r) (r .count) ≡ false → NoneApplies (RowApplies r)
+  row-none : runOut r ≡ false → ltb (firstLateIn r) (r .count) ≡ false → NoneOf (RowApplies r)
   row-none e f m q (fourteen h) = no-fourteen e h
   row-none e f m q (fifteen p l h) = first-late p (le-trans l (ltb-false (firstLateIn r) (r .count) f)) h
 
@@ -145,11 +146,11 @@ module _ (r : Run) where
       go false e true f = row-15 e f
       go false e false f = row-none e f
 
-  pub row-exact : (n p : ℕ) → (told (rowOf r .answer) ≡ model.refused n p) ↔ First (RowApplies r) n p
+  pub row-exact : (n p : ℕ) → (told (rowOf r .answer) ≡ model.refused n p) ↔ FirstOf (RowApplies r) n p
   unfolding rowOf
   row-exact = refused-exact (RowApplies r) (rowAnswer r) row-right
 
-  pub row-taken : (told (rowOf r .answer) ≡ model.taken) ↔ NoneApplies (RowApplies r)
+  pub row-taken : (told (rowOf r .answer) ≡ model.taken) ↔ NoneOf (RowApplies r)
   unfolding rowOf
   row-taken = taken-exact (RowApplies r) (rowAnswer r) row-right
 
@@ -165,14 +166,14 @@ module _ (r : Run) where
 
   module _ (x : ℕ) where
     -- 14 and 15 come before 16
-    as-advance : (n p : ℕ) → ¬ Earlier 16 0 n p → First (RowApplies r) n p → First (AdvanceApplies r x) n p
+    as-advance : (n p : ℕ) → ¬ Earlier 16 0 n p → FirstOf (RowApplies r) n p → FirstOf (AdvanceApplies r x) n p
     as-advance n p late f = (as-row n p (f .0), earlier)
       where
         earlier : (m q : ℕ) → Earlier m q n p → ¬ AdvanceApplies r x m q
         earlier m q e (as-row i j h) = f .1 m q e h
         earlier m q e (sixteen j h) = late e
 
-    advance-16 : NoneApplies (RowApplies r) → misreportedIn r x ≡ true → First (AdvanceApplies r x) 16 0
+    advance-16 : NoneOf (RowApplies r) → misreportedIn r x ≡ true → FirstOf (AdvanceApplies r x) 16 0
     advance-16 none e = (sixteen (bad .0) (bad .1), earlier)
       where
         bad : (p : ℕ) × Misreports r x p
@@ -182,7 +183,7 @@ module _ (r : Run) where
         earlier m q y (as-row i j h) = none m q h
         earlier m q y (sixteen j h) = not-before-itself 16 0 y
 
-    advance-none : NoneApplies (RowApplies r) → misreportedIn r x ≡ false → NoneApplies (AdvanceApplies r x)
+    advance-none : NoneOf (RowApplies r) → misreportedIn r x ≡ false → NoneOf (AdvanceApplies r x)
     advance-none none e m q (as-row i j h) = none m q h
     advance-none none e m q (sixteen j h) = fails (misreportedIn r x) ((p : ℕ) × Misreports r x p) (misreported-decides r x) e (j, h)
 
@@ -193,16 +194,16 @@ module _ (r : Run) where
       where
         go : (t : Bool) → runOut r ≡ t → (u : Bool) → ltb (firstLateIn r) (r .count) ≡ u → (v : Bool) → misreportedIn r x ≡ v
             → Right (AdvanceApplies r x) (cond t (Refused 14 0) (cond u (Refused 15 (suc (firstLateIn r))) (cond v (Refused 16 0) Taken)))
-        go true e u f v g = as-advance 14 0 (λ y. ⊎-elim (λ z. omega arith) (λ z. let w = z .0 in omega arith) y) (row-14 e)
-        go false e true f v g = as-advance 15 (suc (firstLateIn r)) (λ y. ⊎-elim (λ z. omega arith) (λ z. let w = z .0 in omega arith) y) (row-15 e f)
+        go true e u f v g = as-advance 14 0 (later 16 0 14 0 (omega arith)) (row-14 e)
+        go false e true f v g = as-advance 15 (suc (firstLateIn r)) (later 16 0 15 (suc (firstLateIn r)) (omega arith)) (row-15 e f)
         go false e false f true g = advance-16 (row-none e f) g
         go false e false f false g = advance-none (row-none e f) g
 
-    pub advance-exact : (n p : ℕ) → (told (advanceOf r x .answer) ≡ model.refused n p) ↔ First (AdvanceApplies r x) n p
+    pub advance-exact : (n p : ℕ) → (told (advanceOf r x .answer) ≡ model.refused n p) ↔ FirstOf (AdvanceApplies r x) n p
     unfolding advanceOf
     advance-exact = refused-exact (AdvanceApplies r x) (advanceAnswer r x) advance-right
 
-    pub advance-taken : (told (advanceOf r x .answer) ≡ model.taken) ↔ NoneApplies (AdvanceApplies r x)
+    pub advance-taken : (told (advanceOf r x .answer) ≡ model.taken) ↔ NoneOf (AdvanceApplies r x)
     unfolding advanceOf
     advance-taken = taken-exact (AdvanceApplies r x) (advanceAnswer r x) advance-right
 

@@ -2,27 +2,27 @@
 use mathlib.Core.Path.{_≡_, refl, sym, subst, _∙_}
 use mathlib.Core.Bool.{true}
 use mathlib.Core.List.{List}
-use mathlib.Core.Logic.{⊎-elim, _↔_}
+use mathlib.Core.Logic.{_↔_}
 use Prim.Native.Nat.{ℕ}
 use native.Mathlib.Omega.{arith}
 use Rattle.model.specs.Book as model
-use Rattle.model.specs.Verdict.{Verdict, Firm, Full, Miss, verdict}
-use Rattle.table.specs.declared.Answer as words
-use Rattle.table.specs.declared.Answer.the-variants as table
 use Rattle.table.specs.Words.{rule, tableOf}
-use Rattle.table.specs.Numbers.{Applies, one, two, three, four, five, six, seven, eight, nine, Earlier}
+use Rattle.table.specs.Numbers.{Earlier, FirstOf, NoneOf}
 use Rattle.table.specs.Numbers as table-numbers
-use Rattle.table.specs.Answer.{answerOf}
-use Rattle.table.proofs.Exact.{refusal-exact, passed-exact}
 use Rattle.table.proofs.Decide.{fails}
+use Rattle.table.proofs.Order.{not-before-itself, later, number-most}
+use Rattle.judge.specs.declared.Verdict.{Verdict}
+use Rattle.judge.specs.declared.Verdict.the-variants.{Firm, Full, Miss, Refused}
+use Rattle.judge.specs.Judged.{Judged, verdictOf}
+use Rattle.judge.proofs.Promise.{judged-exact}
 use Rattle.run.specs.declared.Run.{Run}
 use Rattle.run.specs.declared.Started.{Started}
 use Rattle.run.specs.Answer.{told}
-use Rattle.run.specs.Numbers.{First, NoneApplies, RunOut, runOut}
-use Rattle.run.specs.Start.{StartApplies, as-table, thirteen, byVerdict, byTable, startAnswer, startedRun, emptyRun, startOf, StartOf}
+use Rattle.run.specs.Numbers.{RunOut, runOut}
+use Rattle.run.specs.Start.{StartApplies, as-table, thirteen, byVerdict, startAnswer, startedRun, emptyRun, startOf, StartOf}
 use Rattle.run.proofs.Limits.{run-decides, passes-runs}
-use Rattle.run.proofs.StartPasses.{start-passes, taken-passed}
-use Rattle.run.proofs.First.{by-taken, by-refused, not-before-itself, Right, refused-exact, taken-exact}
+use Rattle.run.proofs.StartPasses.{start-passes}
+use Rattle.run.proofs.First.{by-taken, by-refused, Right, refused-exact, taken-exact}
 
 -- the run of all zeros is turned down by 14
 pub empty-run-out : runOut emptyRun ≡ true
@@ -30,64 +30,56 @@ unfolding runOut
 empty-run-out = refl
 
 module _ (ws : List ℕ) where
-  -- 13 is not checked before 1 to 9
-  not-before : (n p : ℕ) → Applies ws n p → ¬ Earlier 13 0 n p
-  not-before n p (one h) x = ⊎-elim (λ y. omega arith) (λ y. let z = y .0 in omega arith) x
-  not-before n p (two h) x = ⊎-elim (λ y. omega arith) (λ y. let z = y .0 in omega arith) x
-  not-before n p (three h) x = ⊎-elim (λ y. omega arith) (λ y. let z = y .0 in omega arith) x
-  not-before n p (four h) x = ⊎-elim (λ y. omega arith) (λ y. let z = y .0 in omega arith) x
-  not-before n p (five k c h) x = ⊎-elim (λ y. omega arith) (λ y. let z = y .0 in omega arith) x
-  not-before n p (six k c h) x = ⊎-elim (λ y. omega arith) (λ y. let z = y .0 in omega arith) x
-  not-before n p (seven q o h) x = ⊎-elim (λ y. omega arith) (λ y. let z = y .0 in omega arith) x
-  not-before n p (eight q o h) x = ⊎-elim (λ y. omega arith) (λ y. let z = y .0 in omega arith) x
-  not-before n p (nine h) x = ⊎-elim (λ y. omega arith) (λ y. let z = y .0 in omega arith) x
-
-  -- so the first of 1 to 9 is the first
-  as-start : (n p : ℕ) → table-numbers.First ws n p → First (StartApplies ws) n p
+  -- 13 is not checked before 1 to 9, so the first of these is the first
+  as-start : (n p : ℕ) → table-numbers.First ws n p → FirstOf (StartApplies ws) n p
   as-start n p f = (as-table n p (f .0), earlier)
     where
       earlier : (m q : ℕ) → Earlier m q n p → ¬ StartApplies ws m q
       earlier m q e (as-table i j h) = f .1 m q e h
-      earlier m q e (thirteen t j h) = not-before n p (f .0) e
+      earlier m q e (thirteen t j h) = later 13 0 n p (omega (arith, number-most ws n p (f .0))) e
 
-  start-13 : table-numbers.NoneApplies ws → (t p : ℕ) → verdict (tableOf ws) ≡ Miss t p → First (StartApplies ws) 13 0
+  start-13 : table-numbers.NoneApplies ws → (t p : ℕ) → verdictOf ws ≡ Miss t p → FirstOf (StartApplies ws) 13 0
   start-13 none t p e = (thirteen t p e, earlier)
     where
       earlier : (m q : ℕ) → Earlier m q 13 0 → ¬ StartApplies ws m q
       earlier m q x (as-table i j h) = none m q h
       earlier m q x (thirteen u j h) = not-before-itself 13 0 x
 
-  start-none : table-numbers.NoneApplies ws → ((t p : ℕ) → ¬ (verdict (tableOf ws) ≡ Miss t p)) → NoneApplies (StartApplies ws)
+  start-none : table-numbers.NoneApplies ws → ((t p : ℕ) → ¬ (verdictOf ws ≡ Miss t p)) → NoneOf (StartApplies ws)
   start-none none never m q (as-table i j h) = none m q h
   start-none none never m q (thirteen t j h) = never t j h
 
   start-right : Right (StartApplies ws) (startAnswer ws)
   unfolding startAnswer
-  start-right = by-table (answerOf ws) refl
+  start-right = go (verdictOf ws) refl
     where
+      judged : Judged ws (verdictOf ws)
+      judged = judged-exact ws
+
       firm-not-miss : {a b t p : ℕ} → Firm a b ≡ Miss t p → ⊥
       firm-not-miss e = let z : _≡_ {A = ℕ} 0 1 = cc in omega arith
 
       full-not-miss : {a b t p : ℕ} → Full a b ≡ Miss t p → ⊥
       full-not-miss e = let z : _≡_ {A = ℕ} 0 1 = cc in omega arith
 
-      by-verdict : table-numbers.NoneApplies ws → (v : Verdict) → verdict (tableOf ws) ≡ v → Right (StartApplies ws) (byVerdict v)
-      by-verdict none (Firm a b) e = start-none none (λ t p f. firm-not-miss (sym e ∙ f))
-      by-verdict none (Full a b) e = start-none none (λ t p f. full-not-miss (sym e ∙ f))
-      by-verdict none (Miss t p) e = start-13 none t p e
-
-      by-table : (a : words.Answer) → answerOf ws ≡ a → Right (StartApplies ws) (byTable a (byVerdict (verdict (tableOf ws))))
-      by-table table.Passed e = by-verdict (passed-exact ws .0 e) (verdict (tableOf ws)) refl
-      by-table (table.Refused n p) e = as-start n p (refusal-exact ws n p .0 e)
+      go : (v : Verdict) → verdictOf ws ≡ v → Right (StartApplies ws) (byVerdict v)
+      go (Firm a b) e = start-none (judged .firm a b .0 e .0) (λ t p f. firm-not-miss (sym e ∙ f))
+      go (Full a b) e = start-none (judged .full a b .0 e .0) (λ t p f. full-not-miss (sym e ∙ f))
+      go (Miss t p) e = start-13 (judged .miss t p .0 e .0) t p e
+      go (Refused n p) e = as-start n p (judged .refused n p .0 e)
 
   -- THE LAW OF A START
-  pub start-exact : (n p : ℕ) → (told (startOf ws .answer) ≡ model.refused n p) ↔ First (StartApplies ws) n p
+  pub start-exact : (n p : ℕ) → (told (startOf ws .answer) ≡ model.refused n p) ↔ FirstOf (StartApplies ws) n p
   unfolding startOf
   start-exact = refused-exact (StartApplies ws) (startAnswer ws) start-right
 
-  pub start-taken : (told (startOf ws .answer) ≡ model.taken) ↔ NoneApplies (StartApplies ws)
+  pub start-taken : (told (startOf ws .answer) ≡ model.taken) ↔ NoneOf (StartApplies ws)
   unfolding startOf
   start-taken = taken-exact (StartApplies ws) (startAnswer ws) start-right
+
+  -- a start that is taken passes 1 to 9
+  pub taken-passes : told (startOf ws .answer) ≡ model.taken → table-numbers.NoneApplies ws
+  taken-passes e n p h = start-taken .0 e n p (as-table n p h)
 
   -- a value that is the start's by definition keeps what a start promises
   pub start-of : (s : Started) → s ≡ startOf ws → StartOf ws s
@@ -99,7 +91,7 @@ module _ (ws : List ℕ) where
     zeros = zeros;
     passes = λ e.
         subst (λ (r : Run). ¬ RunOut r) (sym (started e))
-        (fails (runOut first) (RunOut first) (run-decides first) (passes-runs first (start-passes ws (taken-passed ws e))));
+        (fails (runOut first) (RunOut first) (run-decides first) (passes-runs first (start-passes ws (taken-passes e))));
     out = λ n p e. subst (λ (r : Run). RunOut r) (sym (zeros n p e)) (run-decides emptyRun .0 empty-run-out);
   }
     where

@@ -9,23 +9,16 @@ use native.Mathlib.Omega.{arith}
 use lib.ListN.{length, getD, replicate}
 use Rattle.model.specs.Task.{task, nobody}
 use Rattle.model.specs.Task as model
-use Rattle.model.specs.Book.{taken}
-use Rattle.model.specs.Verdict.{verdict}
 use Rattle.model.proofs.Bools.{not-true-false}
-use Rattle.table.specs.declared.Answer as words
-use Rattle.table.specs.declared.Answer.the-variants as table
 use Rattle.table.specs.Words.{cores, rule, tableOf}
 use Rattle.table.specs.Limits.{coresOut, ruleOut, taskOut}
 use Rattle.table.specs.Numbers.{NoneApplies, two, three}
-use Rattle.table.specs.Answer.{answerOf}
 use Rattle.table.proofs.Tests.{from-decides, cores-decides, rule-decides, task-decides}
 use Rattle.table.proofs.Passed.{passed-count, passed-inside, passed-sound}
-use Rattle.table.proofs.Exact.{passed-exact}
 use Rattle.run.specs.declared.Task.{Task}
 use Rattle.run.specs.Phase.{PhaseIn}
 use Rattle.run.specs.Run.{taskOf, pastEnd, unused}
-use Rattle.run.specs.Answer.{told}
-use Rattle.run.specs.Start.{startTask, startedRun, byVerdict, byTable, startAnswer, startOf}
+use Rattle.run.specs.Start.{startTask, startedRun}
 use Rattle.run.proofs.Phases.{start-in}
 use Rattle.run.proofs.Limits.{Passes}
 
@@ -35,10 +28,7 @@ started-at [] us p l = absurd (not-suc-le-zero l)
 started-at (τ ∷ τs) us zero l = refl
 started-at (τ ∷ τs) us (suc p) l = started-at τs us p (le-of-suc-le-suc l)
 
-module _ (ws : List ℕ) (passed : answerOf ws ≡ table.Passed) where
-  none : NoneApplies ws
-  none = passed-exact ws .0 passed
-
+module _ (ws : List ℕ) (none : NoneApplies ws) where
   -- 2 and 3
   cores-in : coresOut (cores ws) ≡ false
   cores-in = not-true-false (coresOut (cores ws)) (λ e. none 2 0 (two (cores-decides (cores ws) .0 e)))
@@ -76,12 +66,3 @@ module _ (ws : List ℕ) (passed : answerOf ws ≡ table.Passed) where
       at : (p : ℕ) → p < length (tableOf ws .tasks)
           → getD (map startTask (tableOf ws .tasks) ++ replicate (32 - length (tableOf ws .tasks)) unused) p pastEnd ≡ startTask (task (tableOf ws) p)
       at p l = started-at (tableOf ws .tasks) (replicate (32 - length (tableOf ws .tasks)) unused) p l
-
--- a table that start takes passes 1 to 9
-pub taken-passed : (ws : List ℕ) → told (startOf ws .answer) ≡ taken → answerOf ws ≡ table.Passed
-unfolding startOf startAnswer
-taken-passed ws e = go (answerOf ws) refl e
-  where
-    go : (a : words.Answer) → answerOf ws ≡ a → told (byTable a (byVerdict (verdict (tableOf ws)))) ≡ taken → answerOf ws ≡ table.Passed
-    go table.Passed q t = q
-    go (table.Refused n p) q t = absurd (let z : _≡_ {A = ℕ} 0 1 = cc in omega arith)

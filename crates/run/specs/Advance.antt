@@ -7,13 +7,14 @@ use lib.ListN.{drop}
 use lib.Dec.{ltb}
 use Rattle.model.specs.Search.{bit}
 use Rattle.model.specs.Book as model
+use Rattle.table.specs.Numbers.{FirstOf, NoneOf}
 use Rattle.run.specs.declared.Run.{Run}
 use Rattle.run.specs.declared.Answer.{Answer}
 use Rattle.run.specs.declared.Answer.the-variants.{Taken, Refused}
 use Rattle.run.specs.declared.Advanced.{Advanced}
 use Rattle.run.specs.Run.{moved}
 use Rattle.run.specs.Answer.{told, byAnswer}
-use Rattle.run.specs.Numbers.{RunOut, AdvanceApplies, First, NoneApplies, runOut, firstLateIn, misreportedIn}
+use Rattle.run.specs.Numbers.{RunOut, AdvanceApplies, runOut, firstLateIn, misreportedIn}
 
 -- 14, then 15 with the lowest late position, then 16; else taken
 unfoldable pub advanceAnswer : Run → ℕ → Answer
@@ -31,8 +32,8 @@ pub record AdvanceOf (r : Run) (x : ℕ) (a : Advanced) : Type 0 where
   -- its value
   pub value : a ≡ advanceOf r x
   -- refused with n and p exactly if number n applies with position p and no earlier one does; taken exactly if none applies
-  pub refused : (n p : ℕ) → (told (a .answer) ≡ model.refused n p) ↔ First (AdvanceApplies r x) n p
-  pub taken : (told (a .answer) ≡ model.taken) ↔ NoneApplies (AdvanceApplies r x)
+  pub refused : (n p : ℕ) → (told (a .answer) ≡ model.refused n p) ↔ FirstOf (AdvanceApplies r x) n p
+  pub taken : (told (a .answer) ≡ model.taken) ↔ NoneOf (AdvanceApplies r x)
   -- taken: the run one tick on
   pub on : told (a .answer) ≡ model.taken → a .run ≡ moved (bit x) r
   -- refused: the run as given

@@ -8,7 +8,6 @@ use lib.ListN.{getD}
 use lib.Dec.{ltb}
 use Rattle.model.specs.Search.{any, least, bit}
 use Rattle.table.specs.Limits.{From, from, CoresOut, coresOut, RuleOut, ruleOut, WidthOut, TimesOut, taskOut}
-use Rattle.table.specs.Numbers.{Earlier}
 use Rattle.run.specs.declared.Phase.the-variants.{Working}
 use Rattle.run.specs.declared.Run.{Run}
 use Rattle.run.specs.Phase.{PhaseIn, phaseIn, working, lateIn}
@@ -49,14 +48,6 @@ pub data AdvanceApplies (r : Run) (x : ℕ) : ℕ → ℕ → Type 0 where
   as-row : (n p : ℕ) → RowApplies r n p → AdvanceApplies r x n p
   -- 16. Advance: a bit is set for a position past the count, or for a task that isn't Working or gets no cores in this tick.
   sixteen : (p : ℕ) → Misreports r x p → AdvanceApplies r x 16 0
-
--- checked in this order: number n is the first that applies, with the lowest such position p
-abbrev pub First : (ℕ → ℕ → Type 0) → ℕ → ℕ → Type 0
-First applies n p = applies n p × ((m q : ℕ) → Earlier m q n p → ¬ applies m q)
-
--- no number applies
-abbrev pub NoneApplies : (ℕ → ℕ → Type 0) → Type 0
-NoneApplies applies = (n p : ℕ) → ¬ applies n p
 
 -- THE TESTS THAT DECIDE THEM
 

@@ -8,13 +8,14 @@ use lib.ListN.{replicate}
 use lib.Dec.{ltb}
 use Rattle.model.specs.Row.{row}
 use Rattle.model.specs.Book as model
+use Rattle.table.specs.Numbers.{FirstOf, NoneOf}
 use Rattle.run.specs.declared.Run.{Run}
 use Rattle.run.specs.declared.Answer.{Answer}
 use Rattle.run.specs.declared.Answer.the-variants.{Taken, Refused}
 use Rattle.run.specs.declared.Row.{Row}
 use Rattle.run.specs.Run.{grantsIn}
 use Rattle.run.specs.Answer.{told, byAnswer, in64}
-use Rattle.run.specs.Numbers.{RowApplies, First, NoneApplies, runOut, firstLateIn}
+use Rattle.run.specs.Numbers.{RowApplies, runOut, firstLateIn}
 
 -- 14, then 15 with the lowest late position; else taken
 unfoldable pub rowAnswer : Run → Answer
@@ -37,8 +38,8 @@ pub record RowOf (r : Run) (w : Row) : Type 0 where
   -- its value
   pub value : w ≡ rowOf r
   -- refused with n and p exactly if number n applies with position p and no earlier one does; taken exactly if none applies
-  pub refused : (n p : ℕ) → (told (w .answer) ≡ model.refused n p) ↔ First (RowApplies r) n p
-  pub taken : (told (w .answer) ≡ model.taken) ↔ NoneApplies (RowApplies r)
+  pub refused : (n p : ℕ) → (told (w .answer) ≡ model.refused n p) ↔ FirstOf (RowApplies r) n p
+  pub taken : (told (w .answer) ≡ model.taken) ↔ NoneOf (RowApplies r)
   -- taken: the row
   pub bytes : told (w .answer) ≡ model.taken → w .bytes ≡ bytesIn r
   -- refused: all zeros

@@ -6,12 +6,11 @@ use Prim.Native.Nat.{ℕ, _-_}
 use lib.ListN.{length, replicate}
 use Rattle.model.specs.Task as model
 use Rattle.model.specs.Book as book
-use Rattle.model.specs.Verdict.{Verdict, Firm, Full, Miss, verdict}
-use Rattle.table.specs.declared.Answer.the-variants as table
-use Rattle.table.specs.declared.Answer as words
 use Rattle.table.specs.Words.{rule, tableOf}
-use Rattle.table.specs.Numbers.{Applies}
-use Rattle.table.specs.Answer.{answerOf}
+use Rattle.table.specs.Numbers.{Applies, FirstOf, NoneOf}
+use Rattle.judge.specs.declared.Verdict.{Verdict}
+use Rattle.judge.specs.declared.Verdict.the-variants as judge
+use Rattle.judge.specs.Judged.{verdictOf}
 use Rattle.run.specs.declared.Task.{Task}
 use Rattle.run.specs.declared.Run.{Run}
 use Rattle.run.specs.declared.Answer.{Answer}
@@ -20,7 +19,7 @@ use Rattle.run.specs.declared.Started.{Started}
 use Rattle.run.specs.Phase.{startPhase}
 use Rattle.run.specs.Run.{inPhase, unused}
 use Rattle.run.specs.Answer.{told, byAnswer}
-use Rattle.run.specs.Numbers.{RunOut, First, NoneApplies}
+use Rattle.run.specs.Numbers.{RunOut}
 
 -- a task as it starts
 abbrev pub startTask : model.Task → Task
@@ -44,22 +43,18 @@ pub data StartApplies (ws : List ℕ) : ℕ → ℕ → Type 0 where
   -- 1 to 9
   as-table : (n p : ℕ) → Applies ws n p → StartApplies ws n p
   -- 13. Start: the verdict is Miss.
-  thirteen : (t p : ℕ) → verdict (tableOf ws) ≡ Miss t p → StartApplies ws 13 0
+  thirteen : (t p : ℕ) → verdictOf ws ≡ judge.Miss t p → StartApplies ws 13 0
 
--- 13 where the verdict is Miss; Firm and Full are taken
+-- by the judge's verdict: Firm and Full are taken, Miss is 13, and 1 to 9 turn down as they do there
 abbrev pub byVerdict : Verdict → Answer
-byVerdict (Firm a b) = Taken
-byVerdict (Full a b) = Taken
-byVerdict (Miss t p) = Refused 13 0
-
--- the number of 1 to 9 that turns the table down; else what is given
-abbrev pub byTable : words.Answer → Answer → Answer
-byTable table.Passed a = a
-byTable (table.Refused n p) a = Refused n p
+byVerdict (judge.Firm a b) = Taken
+byVerdict (judge.Full a b) = Taken
+byVerdict (judge.Miss t p) = Refused 13 0
+byVerdict (judge.Refused n p) = Refused n p
 
 -- 1 to 9, then 13; else taken
 unfoldable pub startAnswer : List ℕ → Answer
-startAnswer ws = byTable (answerOf ws) (byVerdict (verdict (tableOf ws)))
+startAnswer ws = byVerdict (verdictOf ws)
 
 -- the run as it starts; where refused, the run of all zeros
 unfoldable pub startOf : List ℕ → Started
@@ -70,8 +65,8 @@ pub record StartOf (ws : List ℕ) (s : Started) : Type 0 where
   -- its value
   pub value : s ≡ startOf ws
   -- refused with n and p exactly if number n applies with position p and no earlier one does; taken exactly if none applies
-  pub refused : (n p : ℕ) → (told (s .answer) ≡ book.refused n p) ↔ First (StartApplies ws) n p
-  pub taken : (told (s .answer) ≡ book.taken) ↔ NoneApplies (StartApplies ws)
+  pub refused : (n p : ℕ) → (told (s .answer) ≡ book.refused n p) ↔ FirstOf (StartApplies ws) n p
+  pub taken : (told (s .answer) ≡ book.taken) ↔ NoneOf (StartApplies ws)
   -- taken: the table as it starts
   pub started : told (s .answer) ≡ book.taken → s .run ≡ startedRun (rule ws) (tableOf ws)
   -- refused: all zeros

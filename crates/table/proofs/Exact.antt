@@ -236,7 +236,7 @@ settled ws (Refused m q) r = (λ n p. (λ e. to n p e, λ f. from n p f), (λ e.
     to n p e = let a : m ≡ n = cc in let b : q ≡ p = cc in rw (a, b) at r
 
     from : (n p : ℕ) → First ws n p → Refused m q ≡ Refused n p
-    from n p f = let x = first-only ws m q n p r f in rw (x .0, x .1)
+    from n p f = let x = first-only (Applies ws) m q n p r f in rw (x .0, x .1)
 
 -- load refuses with n and p exactly if number n applies with position p and no earlier one does
 pub refusal-exact : (ws : List ℕ) (n p : ℕ) → (answerOf ws ≡ Refused n p) ↔ First ws n p

@@ -7,7 +7,7 @@ use Prim.Native.Nat.{ℕ, _<_}
 use native.Mathlib.Omega.{arith}
 use lib.Dec.{eqb, ltb}
 use borrow.Author.Tests.{eqb-true, eqb-false, ltb-true, ltb-false}
-use Rattle.table.specs.Numbers.{place, Earlier, First}
+use Rattle.table.specs.Numbers.{Applies, one, two, three, four, five, six, seven, eight, nine, place, Earlier, FirstOf}
 
 -- what is checked before a number other than 7 and 8 is a lower one
 pub earlier-lower : (m q n : ℕ) → (n ≡ 7 → ⊥) → (n ≡ 8 → ⊥) → Earlier m q n 0 → m < n
@@ -33,6 +33,7 @@ earlier-task m q n p s x =
     (λ l. inr (⊎-elim (λ y. inr (y .0)) (λ y. inl (sym (y .1) ∙ l .0 ∙ s)) (place-of m), l .1))
     x
 
+-- of two numbers one is lower, or they are the same
 order : (a b : ℕ) → (a < b) ⊎ ((b < a) ⊎ (a ≡ b))
 order a b = go (ltb a b) refl (ltb b a) refl
   where
@@ -41,21 +42,41 @@ order a b = go (ltb a b) refl (ltb b a) refl
     go false e true f = inr (inl (ltb-true b a f))
     go false e false f = let x = ltb-false a b e in let y = ltb-false b a f in inr (inr (omega arith))
 
--- of two numbers with their positions one is checked before the other, or they are the same: so one at most is the first
-pub first-only : (ws : List ℕ) (n p m q : ℕ) → First ws n p → First ws m q → (n ≡ m) × (p ≡ q)
-first-only ws n p m q f g =
-    ⊎-elim (λ l. absurd (g .1 n p (inl l) (f .0)))
-    (λ x.
-    ⊎-elim (λ l. absurd (f .1 m q (inl l) (g .0)))
-    (λ e.
-    ⊎-elim (λ l. absurd (g .1 n p (inr (e, inl l)) (f .0)))
-    (λ y.
-    ⊎-elim (λ l. absurd (f .1 m q (inr (sym e, inl l)) (g .0)))
-    (λ i.
-    ⊎-elim (λ l. absurd (g .1 n p (inr (e, inr (i, l))) (f .0)))
-    (λ z. ⊎-elim (λ l. absurd (f .1 m q (inr (sym e, inr (sym i, l))) (g .0))) (λ j. (j, i)) z)
-    (order n m))
-    y)
-    (order p q))
-    x)
-    (order (place n) (place m))
+-- nothing is checked before itself ..
+pub not-before-itself : (n p : ℕ) → ¬ Earlier n p n p
+not-before-itself n p x = ⊎-elim (λ l. omega arith) (λ l. ⊎-elim (λ y. omega arith) (λ y. omega arith) (l .1)) x
+
+-- .. nor is a number of a later place; 10 and more come after 1 to 9 ..
+pub later : (m q n p : ℕ) → place n < place m → ¬ Earlier m q n p
+later m q n p l (inl h) = omega arith
+later m q n p l (inr (e, h)) = omega arith
+
+pub number-most : (ws : List ℕ) (n p : ℕ) → Applies ws n p → place n < 10
+number-most ws n p (one h) = omega arith
+number-most ws n p (two h) = omega arith
+number-most ws n p (three h) = omega arith
+number-most ws n p (four h) = omega arith
+number-most ws n p (five k c h) = omega arith
+number-most ws n p (six k c h) = omega arith
+number-most ws n p (seven q o h) = omega arith
+number-most ws n p (eight q o h) = omega arith
+number-most ws n p (nine h) = omega arith
+
+-- .. and of two numbers with their positions one is checked before the other, or they are the same
+ordered : (n p m q : ℕ) → Earlier n p m q ⊎ (Earlier m q n p ⊎ ((n ≡ m) × (p ≡ q)))
+ordered n p m q = go (order (place n) (place m)) (order p q) (order n m)
+  where
+    go : (place n < place m) ⊎ ((place m < place n) ⊎ (place n ≡ place m)) → (p < q) ⊎ ((q < p) ⊎ (p ≡ q)) → (n < m) ⊎ ((m < n) ⊎ (n ≡ m))
+        → Earlier n p m q ⊎ (Earlier m q n p ⊎ ((n ≡ m) × (p ≡ q)))
+    go (inl a) b c = inl (inl a)
+    go (inr (inl a)) b c = inr (inl (inl a))
+    go (inr (inr a)) (inl b) c = inl (inr (a, inl b))
+    go (inr (inr a)) (inr (inl b)) c = inr (inl (inr (sym a, inl b)))
+    go (inr (inr a)) (inr (inr b)) (inl c) = inl (inr (a, inr (b, c)))
+    go (inr (inr a)) (inr (inr b)) (inr (inl c)) = inr (inl (inr (sym a, inr (sym b, c))))
+    go (inr (inr a)) (inr (inr b)) (inr (inr c)) = inr (inr (c, b))
+
+-- so one at most is the first of the numbers that apply
+pub first-only : (applies : ℕ → ℕ → Type 0) (n p m q : ℕ) → FirstOf applies n p → FirstOf applies m q → (n ≡ m) × (p ≡ q)
+first-only applies n p m q f g =
+    ⊎-elim (λ e. absurd (g .1 n p e (f .0))) (λ x. ⊎-elim (λ e. absurd (f .1 m q e (g .0))) (λ e. e) x) (ordered n p m q)

@@ -61,10 +61,17 @@ place n = cond (eqb n 8) 7 n
 abbrev pub Earlier : ℕ → ℕ → ℕ → ℕ → Type 0
 Earlier m q n p = (place m < place n) ⊎ ((place m ≡ place n) × ((q < p) ⊎ ((q ≡ p) × (m < n))))
 
--- number n is the first that applies, with position p (`first-only`: there is one at most)
-abbrev pub First : List ℕ → ℕ → ℕ → Type 0
-First ws n p = Applies ws n p × ((m q : ℕ) → Earlier m q n p → ¬ Applies ws m q)
+-- of the numbers that apply, n is the first, with position p (`first-only`: there is one at most)
+abbrev pub FirstOf : (ℕ → ℕ → Type 0) → ℕ → ℕ → Type 0
+FirstOf applies n p = applies n p × ((m q : ℕ) → Earlier m q n p → ¬ applies m q)
 
--- no number applies
+-- none applies
+abbrev pub NoneOf : (ℕ → ℕ → Type 0) → Type 0
+NoneOf applies = (n p : ℕ) → ¬ applies n p
+
+-- the first of 1 to 9 that applies to the words, and that none does
+abbrev pub First : List ℕ → ℕ → ℕ → Type 0
+First ws n p = FirstOf (Applies ws) n p
+
 abbrev pub NoneApplies : List ℕ → Type 0
-NoneApplies ws = (n p : ℕ) → ¬ Applies ws n p
+NoneApplies ws = NoneOf (Applies ws)

@@ -4,14 +4,14 @@ use mathlib.Core.Path.{_≡_, sym, ap, _∙_}
 use mathlib.Core.Logic.{inl, inr}
 use borrow.Author.Needs.{needs}
 use Rattle.judge.specs.declared.Verdict.{Verdict}
-use Rattle.run.specs.Start.{startAnswer}
-use Rattle.run.proofs.ByVerdict.{answerBy, start-answer, start-taken, start-refused}
+use Rattle.run.specs.Start.{byVerdict, startAnswer}
+use Rattle.run.proofs.ByVerdict.{start-answer, start-taken, start-refused}
 use Rattle.run.proofs.StartExact.{start-of}
 use Rattle.run.proofs.start.Statement.{statement}
 use Rattle.run.proofs.start.Tie as tie
 
 -- the answer is the verdict's
-told : (c : tie.After-judge) (v : Verdict) → c .judge .result ≡ v → startAnswer (c .before .before .args .words .now) ≡ answerBy v
+told : (c : tie.After-judge) (v : Verdict) → c .judge .result ≡ v → startAnswer (c .before .before .args .words .now) ≡ byVerdict v
 told c v e = start-answer (c .before .before .args .words .now) v (sym e ∙ c .judge .ensures .value)
 
 judge-requires : tie.Need-judge-requires

@@ -14,7 +14,8 @@ use Rattle.run.specs.Advance.{advanceOf}
 use Rattle.demand.specs.Advances.{answers, after}
 use Rattle.demand.specs.Replay.{code, codes}
 use Rattle.run.proofs.Written.{written-more, take-more}
-use Rattle.demand.proofs.Listed.{after-more, codes-more, length-codes, small-answer}
+use Rattle.demand.proofs.Listed.{after-more, codes-more, length-codes}
+use Rattle.demand.proofs.Codes.{small-answer}
 use Rattle.demand.proofs.replays.advances.Statement.{statement}
 use Rattle.demand.proofs.replays.advances.Tie as tie
 

@@ -1,0 +1,140 @@
+-- Runs built by hand, computed from the definitions: B and B3 with their report, by phases; a first release to come; a hold that ends at D;
+-- and a phase at each limit of 14, inside and outside.
+use mathlib.Core.List.{List, [], _∷_, map}
+use mathlib.Core.Path.{_≡_, refl}
+use Prim.Native.Nat.{ℕ}
+use lib.ListN.{replicate}
+use Rattle.model.specs.Grants.{claimants, given, grants, left}
+use Rattle.model.specs.Row.{owner, row}
+use Rattle.model.specs.Search.{any, least, memb, upFrom}
+use Rattle.run.specs.declared.Phase.{Phase}
+use Rattle.run.specs.declared.Phase.the-variants.{Coming, Working, Holding, Resting}
+use Rattle.run.specs.declared.Task.{Task}
+use Rattle.run.specs.declared.Run.{Run}
+use Rattle.run.specs.declared.Answer.{Answer}
+use Rattle.run.specs.declared.Answer.the-variants.{Taken, Refused}
+use Rattle.run.specs.declared.Row.{Row}
+use Rattle.run.specs.Run.{unused, grantsIn, mapFirst, moved}
+use Rattle.run.specs.Numbers.{runOut, firstLateIn, misreportedIn}
+use Rattle.run.specs.Advance.{advanceAnswer, advanceOf}
+use Rattle.run.specs.Row.{rowAnswer, bytesIn, noBytes, rowOf}
+use Rattle.demand.specs.Advances.{answers, after}
+
+-- the row asked before each advance of the list, and after the last
+unfoldable pub rows : Run → List ℕ → List Row
+rows r [] = rowOf r ∷ []
+rows r (x ∷ xs) = rowOf r ∷ rows (advanceOf r x .run) xs
+
+-- a line: a run and report sets; the answer to each advance, the rows, and the run after the list
+pub record Line : Type 0 where
+  pub from : Run
+  pub reports : List ℕ
+  pub gets : List Answer
+  pub shows : List Row
+  pub ends : Run
+
+-- what the definitions say of a line's run and report sets
+abbrev pub worked : Line → Line
+worked l = record {
+  from = l .from;
+  reports = l .reports;
+  gets = answers (l .from) (l .reports);
+  shows = rows (l .from) (l .reports);
+  ends = after (l .from) (l .reports);
+}
+
+-- a task as (O, v, C, D, T) in a phase
+abbrev t : ℕ → ℕ → ℕ → ℕ → ℕ → Phase → Task
+t o v c d p ph = record { offset = o; width = v; length = c; deadline = d; period = p; phase = ph }
+
+-- runs of one, two and three tasks
+abbrev one : ℕ → ℕ → Task → Run
+one r m a = record { rule = r; cores = m; count = 1; tasks = a ∷ replicate 31 unused }
+
+abbrev two : ℕ → ℕ → Task → Task → Run
+two r m a b = record { rule = r; cores = m; count = 2; tasks = a ∷ b ∷ replicate 30 unused }
+
+abbrev three : ℕ → ℕ → Task → Task → Task → Run
+three r m a b c = record { rule = r; cores = m; count = 3; tasks = a ∷ b ∷ c ∷ replicate 29 unused }
+
+-- B as it starts and later, under each rule
+abbrev runB : ℕ → Phase → Phase → Phase → Run
+runB r a b c = three r 2 (t 0 1 3 3 4 a) (t 0 2 1 4 4 b) (t 0 1 2 2 4 c)
+
+-- E
+abbrev runE : Phase → Phase → Run
+runE a b = two 2 1 (t 1 1 1 1 2 a) (t 0 1 1 2 3 b)
+
+-- rows
+abbrev on1 : ℕ → Row
+on1 a = record { answer = Taken; bytes = a ∷ replicate 63 0 }
+
+abbrev on2 : ℕ → ℕ → Row
+on2 a b = record { answer = Taken; bytes = a ∷ b ∷ replicate 62 0 }
+
+abbrev no : ℕ → ℕ → Row
+no n p = record { answer = Refused n p; bytes = noBytes }
+
+-- one task (2, 1, 3, 4, 6) on one core in a phase, under a rule, and what its row is answered
+abbrev limit : ℕ → Phase → Row → Line
+limit r ph w = record { from = one r 1 (t 2 1 3 4 6 ph); reports = []; gets = []; shows = w ∷ []; ends = one r 1 (t 2 1 3 4 6 ph) }
+
+abbrev pub lines : List Line
+lines =
+    -- B: position 1 reported in tick 0: tick 1 goes to position 2, then 15 with position 3, for ever
+    record {
+      from = runB 1 (Working 0 0) (Working 0 0) (Working 0 0);
+      reports = 1 ∷ 0 ∷ 0 ∷ 2 ∷ [];
+      gets = Taken ∷ Taken ∷ Refused 15 3 ∷ Refused 15 3 ∷ [];
+      shows = on2 1 3 ∷ on2 2 2 ∷ no 15 3 ∷ no 15 3 ∷ no 15 3 ∷ [];
+      ends = runB 1 (Resting 2) (Resting 2) (Working 2 1);
+    }
+    -- a report for a position that gets no cores, and one past the count: 16, and the run as given
+    ∷ record {
+      from = runB 1 (Working 0 0) (Working 0 0) (Working 0 0);
+      reports = 2 ∷ 8 ∷ [];
+      gets = Refused 16 0 ∷ Refused 16 0 ∷ [];
+      shows = on2 1 3 ∷ on2 1 3 ∷ on2 1 3 ∷ [];
+      ends = runB 1 (Working 0 0) (Working 0 0) (Working 0 0);
+    }
+    -- B3: the same report changes no row; a report for a holder is 16
+    ∷ record {
+      from = runB 3 (Working 0 0) (Working 0 0) (Working 0 0);
+      reports = 1 ∷ 1 ∷ 0 ∷ [];
+      gets = Taken ∷ Refused 16 0 ∷ Taken ∷ [];
+      shows = on2 1 3 ∷ on2 1 3 ∷ on2 1 3 ∷ on2 1 0 ∷ [];
+      ends = runB 3 (Holding 2 2) (Working 2 0) (Resting 2);
+    }
+    -- E: the first release of position 1 is one tick ahead
+    ∷ record {
+      from = runE (Coming 1) (Working 0 0);
+      reports = 0 ∷ 0 ∷ [];
+      gets = Taken ∷ Taken ∷ [];
+      shows = on1 2 ∷ on1 1 ∷ on1 0 ∷ [];
+      ends = runE (Resting 1) (Resting 2);
+    }
+    -- a hold without cores ends at z = D, and then rests
+    ∷ record {
+      from = two 3 1 (t 0 1 3 3 4 (Working 0 0)) (t 0 1 3 3 5 (Holding 2 1));
+      reports = 0 ∷ [];
+      gets = Taken ∷ [];
+      shows = on1 1 ∷ on1 1 ∷ [];
+      ends = two 3 1 (t 0 1 3 3 4 (Working 1 1)) (t 0 1 3 3 5 (Resting 3));
+    }
+    -- the limits of 14: Coming 1 to O
+    ∷ limit 1 (Coming 0) (no 14 0) ∷ limit 1 (Coming 1) (on1 0) ∷ limit 1 (Coming 2) (on1 0) ∷ limit 1 (Coming 3) (no 14 0)
+    -- Working z 0 to D, where z = D passes 14 and is 15; u below C and at most z
+    ∷ limit 1 (Working 0 0) (on1 1) ∷ limit 1 (Working 4 0) (no 15 1) ∷ limit 1 (Working 5 0) (no 14 0)
+    ∷ limit 1 (Working 3 2) (on1 1) ∷ limit 1 (Working 3 3) (no 14 0) ∷ limit 1 (Working 2 2) (on1 1) ∷ limit 1 (Working 1 2) (no 14 0)
+    -- Holding under rule 3 only; z 1 to D − 1, u 1 to C − 1, u at most z
+    ∷ limit 3 (Holding 1 1) (on1 1) ∷ limit 2 (Holding 1 1) (no 14 0) ∷ limit 1 (Holding 1 1) (no 14 0)
+    ∷ limit 3 (Holding 0 0) (no 14 0) ∷ limit 3 (Holding 1 0) (no 14 0) ∷ limit 3 (Holding 3 1) (on1 1) ∷ limit 3 (Holding 4 1) (no 14 0)
+    ∷ limit 3 (Holding 3 2) (on1 1) ∷ limit 3 (Holding 3 3) (no 14 0) ∷ limit 3 (Holding 2 2) (on1 1) ∷ limit 3 (Holding 1 2) (no 14 0)
+    -- Resting 1 to T − 1
+    ∷ limit 1 (Resting 0) (no 14 0) ∷ limit 1 (Resting 1) (on1 0) ∷ limit 1 (Resting 5) (on1 0) ∷ limit 1 (Resting 6) (no 14 0)
+    ∷ []
+
+-- every line is what the definitions say
+pub built-runs : map worked lines ≡ lines
+unfolding any least memb upFrom owner row given left grants claimants answers after rows advanceOf advanceAnswer rowOf rowAnswer bytesIn runOut firstLateIn misreportedIn grantsIn mapFirst moved
+built-runs = refl
