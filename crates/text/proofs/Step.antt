@@ -110,7 +110,7 @@ step-taken t r k n v C D T m p row old h m₁ m₂ bell granted text ready row�
   standing = record {
     fit = fit;
     cores = h .standing .cores;
-    before = next-tick t fit m₁ m₂ bell (p .tick) granted (h .standing .before .met) a chosen (h .early) w;
+    before = next-tick t fit m₁ m₂ bell (p .tick) granted (h .standing .before .met) a chosen w;
     chosen = chosen;
     text = kept;
     short = few;
