@@ -1,6 +1,7 @@
 -- What stands at each place after a release and after a tick.
 use mathlib.Core.Path.{_≡_, refl, _∙_}
 use mathlib.Core.Bool.{Bool, true, false, not, _&&_, _||_, cond}
+use mathlib.Core.List.{List}
 use Prim.Native.Nat.{ℕ, _+_, _-_, _≤_, _<_}
 use native.Mathlib.Omega.{arith}
 use lib.ListN.{length, getD, length-set}
@@ -8,9 +9,13 @@ use lib.Seq.{getD-set-same, getD-set-other}
 use lib.Dec.{eqb}
 use borrow.Author.Tests.{eq-eqb, ne-eqb}
 use Rattle.model.specs.Search.{bit}
-use Rattle.full.specs.Machine.{Machine, released, finishes, worked}
+use Rattle.full.specs.Machine.{Machine, machine, released, finishes, worked}
 use Rattle.full.proofs.Places.{each-length, each-at}
 use Rattle.full.proofs.Sets.{set-has, set-past}
+
+-- machines are equal where their parts are
+pub same-machine : {l l′ m m′ n n′ : List ℕ} {c c′ : ℕ} → l ≡ l′ → m ≡ m′ → n ≡ n′ → c ≡ c′ → machine l m n c ≡ machine l′ m′ n′ c′
+same-machine el em en ec = λ i. machine (el i) (em i) (en i) (ec i)
 
 -- a machine of 32 places
 pub record Sized (m : Machine) : Type 0 where

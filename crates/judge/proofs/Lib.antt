@@ -1,4 +1,5 @@
 pub mod Widths
 pub mod Ticks
+pub mod FirstMiss
 pub mod Promise
 pub mod OffChain

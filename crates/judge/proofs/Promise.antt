@@ -3,7 +3,7 @@ use native.Mathlib.Omega.{arith}
 use mathlib.Core.Path.{_≡_, refl, sym, ap, _∙_, subst}
 use mathlib.Core.List.{List, _++_}
 use mathlib.Core.Logic.{_⊎_, _↔_, inl, inr, ⊎-elim}
-use Prim.Native.Nat.{ℕ, _-_, _≤_, _<_}
+use Prim.Native.Nat.{ℕ, suc, _-_, _≤_, _<_}
 use lib.ListN.{length, take, drop, length-append, length-replicate, length-map, take-append-drop}
 use Rattle.model.specs.Task.{Table, Rule, greedy, limited, idling, ruleOf, AllSound, task}
 use Rattle.model.specs.Book.{NeverMissed}
@@ -24,7 +24,9 @@ use Rattle.table.proofs.Exact.{refusal-exact, passed-exact}
 use Rattle.table.proofs.Passed.{passed-rule, passed-sound, passed-inside}
 use Rattle.judge.specs.declared.Verdict.{Verdict}
 use Rattle.judge.specs.declared.Verdict.the-variants.{Firm, Full, Miss, Refused}
-use Rattle.judge.specs.Judged.{told, judged, verdictOf, FirmWords, Judged, tableIn, Fit}
+use Rattle.judge.specs.Judged.{told, judged, verdictOf, FirmWords, Judged, tableIn, Fit, acceptedOf}
+use Rattle.judge.specs.FirstMiss.{missedBefore, answered}
+use Rattle.judge.proofs.FirstMiss.{verdict-by}
 
 -- THE CASES OF THE ANSWER
 
@@ -215,9 +217,10 @@ module _ (ws : List ℕ) (r : Loaded) (l : LoadOf ws r) (e : r .answer ≡ Passe
   }
 
   -- so the verdict on it is that of the words
-  pub run-value : (v : Verdict) → v ≡ told (verdict (tableIn r)) → Judged ws v
+  pub run-value : (v : Verdict) → v ≡ answered (missedBefore (tableIn r) (suc (r .horizon))) (acceptedOf r) → Judged ws v
   run-value v q =
-      subst (Judged ws) (passed-is ws (passed-exact ws .1 none) ∙ (ap (λ (s : Table). told (verdict s)) (sym same-table) ∙ sym q)) (judged-exact ws)
+      subst (Judged ws) (passed-is ws (passed-exact ws .1 none) ∙ (ap (λ (s : Table). told (verdict s)) (sym same-table) ∙ sym (q ∙ verdict-by r fit)))
+      (judged-exact ws)
 
 -- a refusal is the verdict of the words
 pub refused-value : (ws : List ℕ) (r : Loaded) → LoadOf ws r → (n p : ℕ) → r .answer ≡ table.Refused n p → Judged ws (Refused n p)

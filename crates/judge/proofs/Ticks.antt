@@ -1,7 +1,6 @@
--- The run tick by tick: what holds before the due moments of a tick, along the walk over them, and after it; and what the verdict is where the run ends.
+-- The run tick by tick: what holds before the due moments of a tick, along the walk over them, and after it.
 use native.Mathlib.Omega.{arith}
 use mathlib.Core.Path.{_≡_, refl, sym, ap, _∙_, subst}
-use mathlib.Core.Bool.{Bool, true, false, cond, true≢false}
 use mathlib.Core.List.{List, [], _∷_, map}
 use mathlib.Core.Logic.{⊎-elim}
 use native.Mathlib.Nat.{eq-or-lt-of-le}
@@ -13,11 +12,9 @@ use Rattle.model.specs.Search.{bit, upFrom}
 use Rattle.model.specs.Task.{Table, task, ruleOf}
 use Rattle.model.specs.Task as model
 use Rattle.model.specs.Grants.{claimants, some}
-use Rattle.model.specs.Book.{full, inRow, Missed, NeverMissed, widths}
-use Rattle.model.specs.Verdict.{firm, FirstMiss, verdict}
+use Rattle.model.specs.Book.{full, inRow, Missed, widths}
+use Rattle.model.specs.Verdict.{FirstMiss}
 use Rattle.model.proofs.Grants.{grants-nobody}
-use Rattle.model.proofs.Horizon.{horizon-enough}
-use Rattle.model.proofs.Verdict.{firm-exact, verdict-exact}
 use Rattle.table.specs.declared.Task.{Task}
 use Rattle.table.specs.declared.Loaded.{Loaded}
 use Rattle.table.specs.Task.{taskOf, noTask}
@@ -28,8 +25,7 @@ use Rattle.full.proofs.Bell.{Bell, bell-more, bell-release, bell-tick, quiet}
 use Rattle.full.proofs.Late.{late-missed, passed-met}
 use Rattle.full.proofs.Alike.{row-places, row-owed}
 use Rattle.rule.specs.Shares.{granted}
-use Rattle.judge.specs.declared.Verdict.the-variants.{Firm, Full, Miss}
-use Rattle.judge.specs.Judged.{told, tableIn, Fit, acceptedOf}
+use Rattle.judge.specs.Judged.{tableIn, Fit}
 
 -- the widths of the first n tasks
 front : (n : ℕ) (xs : List Task) → take n (map (λ x. x .width) xs) ≡ map (λ τ. τ .width) (map taskOf (take n xs))
@@ -42,7 +38,6 @@ pub record Before (t : Loaded) (m : Machine) (bell tick : ℕ) : Type 0 where
   pub tied : Tied (tableIn t) tick m
   pub rings : Bell (length (tableIn t .tasks)) bell m
   pub met : (p u : ℕ) → u < tick → ¬ Missed (tableIn t) p u
-  pub within : tick ≤ t .horizon
 
 -- the walk over them has come to place i
 pub record Walking (t : Loaded) (m : Machine) (bell tick i : ℕ) : Type 0 where
@@ -83,7 +78,6 @@ module _ (t : Loaded) (fit : Fit t) where
     tied = tied-start s (fit .sound) few (map (λ x. x .offset) (t .tasks)) (simp length-map (fit .places)) (column (λ x. x .offset) (λ τ. τ .offset) (λ x. refl));
     rings = λ p l. omega arith;
     met = λ p u h. absurd (omega arith);
-    within = omega arith;
   }
 
   -- THE WALK
@@ -119,15 +113,13 @@ module _ (t : Loaded) (fit : Fit t) where
   -- a place that is due and still owed ticks: the first miss
   pub walk-misses :
       (m : Machine) (bell tick i : ℕ) → ((p u : ℕ) → u < tick → ¬ Missed s p u) → Walking t m bell tick i
-      → i < length (s .tasks) → getD (m .moment) i 0 ≡ tick → 0 < getD (m .left) i 0 → Miss tick (i + 1) ≡ told (verdict s)
-  walk-misses m bell tick i met w l at some =
-      let first : FirstMiss s tick (i + 1) = record {
-        place = (i, add-one i);
-        missed = late-missed s (fit .sound) tick i m (w .walked) i l (omega arith) at some;
-        no-earlier = met;
-        no-higher = λ q h. passed-met s (fit .sound) tick i m (w .walked) q h;
-      } in
-      ap told (sym (verdict-exact s (fit .sound) .miss tick (i + 1) .1 first))
+      → i < length (s .tasks) → getD (m .moment) i 0 ≡ tick → 0 < getD (m .left) i 0 → FirstMiss s tick (i + 1)
+  walk-misses m bell tick i met w l at some = record {
+    place = (i, add-one i);
+    missed = late-missed s (fit .sound) tick i m (w .walked) i l (omega arith) at some;
+    no-earlier = met;
+    no-higher = λ q h. passed-met s (fit .sound) tick i m (w .walked) q h;
+  }
 
   pub walk-ends : (m : Machine) (bell tick i : ℕ) → Walking t m bell tick i → length (s .tasks) ≤ i → After t m bell tick
   walk-ends m bell tick i w past =
@@ -138,30 +130,13 @@ module _ (t : Loaded) (fit : Fit t) where
   pub walk-skipped : (m : Machine) (bell tick : ℕ) → Before t m bell tick → tick < bell → After t m bell tick
   walk-skipped m bell tick b h = record { ready = quiet s (fit .sound) few tick bell m (b .tied) (b .rings) h; rings = b .rings }
 
-  -- THE END
-
-  -- what is met up to a tick and at it
-  met-at : (m : Machine) (bell tick : ℕ) → ((p u : ℕ) → u < tick → ¬ Missed s p u) → After t m bell tick → (p u : ℕ) → u ≤ tick → ¬ Missed s p u
+  -- what is met before a tick and at it
+  pub met-at : (m : Machine) (bell tick : ℕ) → ((p u : ℕ) → u < tick → ¬ Missed s p u) → After t m bell tick → (p u : ℕ) → u ≤ tick → ¬ Missed s p u
   met-at m bell tick met a p u h =
       ⊎-elim
       (λ (e : u ≡ tick). λ x. let y : Missed s p tick = subst (λ (n : ℕ). Missed s p n) e x in passed-met s (fit .sound) tick (length (s .tasks)) m (a .ready) p (y .0) y)
       (λ (l : u < tick). met p u l)
       (eq-or-lt-of-le h)
-
-  -- no deadline is missed at the horizon or before, and so none ever
-  pub run-ends :
-      (m : Machine) (bell tick : ℕ) → ((p u : ℕ) → u < tick → ¬ Missed s p u) → After t m bell tick → tick ≡ t .horizon
-      → acceptedOf t ≡ told (verdict s)
-  run-ends m bell tick met a e = go (firm (s .rule) (s .tasks)) refl
-    where
-      never : NeverMissed s
-      never = horizon-enough s (fit .sound) (λ p u h. met-at m bell tick met a p u (omega (arith, fit .horizon)))
-
-      go : (b : Bool) → firm (s .rule) (s .tasks) ≡ b → cond b (Firm (t .start) (t .period)) (Full (t .start) (t .period)) ≡ told (verdict s)
-      go true q = ap told (sym (verdict-exact s (fit .sound) .firm (t .start) (t .period) .1 (never, firm-exact s .0 q, fit .start, fit .period)))
-      go false q =
-          ap told (sym (verdict-exact s (fit .sound) .full (t .start) (t .period) .1
-          (never, (λ x. true≢false (sym (firm-exact s .1 x) ∙ q)), fit .start, fit .period)))
 
   -- A TICK
 
@@ -178,11 +153,10 @@ module _ (t : Loaded) (fit : Fit t) where
 
   pub next-tick :
       (m m′ : Machine) (bell tick g : ℕ) → ((p u : ℕ) → u < tick → ¬ Missed s p u) → After t m bell tick → Chosen t (m .claiming) g
-      → tick < t .horizon → m′ ≡ worked (bit g) m → Before t m′ bell (tick + 1)
-  next-tick m m′ bell tick g met a e h w =
+      → m′ ≡ worked (bit g) m → Before t m′ bell (tick + 1)
+  next-tick m m′ bell tick g met a e w =
       rw add-one (subst (λ (x : Machine). Before t x bell (suc tick)) (sym w) (record {
         tied = tick-keeps s (fit .sound) few tick m (a .ready) (bit g) (λ p l. chosen-row m bell tick g a e p);
         rings = bell-tick s (fit .sound) few tick bell m (a .ready) (a .rings) (bit g);
         met = λ p u l. met-at m bell tick met a p u (omega arith);
-        within = h;
       }))

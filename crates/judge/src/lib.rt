@@ -1,12 +1,16 @@
 ghost use mathlib.Core.Path.{_≡_};
-ghost use Prim.Native.Nat.{_≤_};
+ghost use Prim.Native.Nat.{suc, _≤_};
 ghost use Rattle.model.specs.Task.{ruleOf};
-ghost use Rattle.model.specs.Verdict.{rising, firm, verdict};
+ghost use Rattle.model.specs.Verdict.{rising, firm};
 ghost use Rattle.table.specs.Task.{tasksOf};
-ghost use Rattle.judge.specs.Judged.{Judged, told, tableIn, Fit, acceptedOf};
+ghost use Rattle.judge.specs.FirstMiss.{missedBefore, answered};
+ghost use Rattle.judge.specs.Judged.{Judged, tableIn, Fit, acceptedOf};
+use misses::Missed;
 use table::Answer;
 use table::Loaded;
 use table::Task;
+
+pub mod misses; // misses.rt: the full-length run up to its first missed deadline
 
 // The judge's answer: Firm with S and P, Full with S and P, Miss with tick and position, or Refused with number and position.
 pub enum Verdict {
@@ -60,65 +64,15 @@ fn accepted(table: Loaded) -> Verdict
     Verdict::Full(table.start, table.period)
 }
 
-// The verdict of the full-length run, tick by tick up to and including the horizon.
+// The verdict of the full-length run: its first miss up to and including the horizon, or accepted.
 fn run(table: Loaded) -> Verdict
     requires { ⌜ Fit table ⌝ }
-    ensures { λ r. ⌜ r ≡ told (verdict (tableIn table)) ⌝ }
+    ensures { λ r. ⌜ r ≡ answered (missedBefore (tableIn table) (suc (table .horizon))) (acceptedOf table) ⌝ }
 {
-    let rule = table.rule;
-    let cores = table.cores;
-    let count = table.count;
-    let horizon = table.horizon;
-    let tasks = table.tasks;
-    let columns = full::columns::columns_of(tasks);
-    let offset = columns.offset;
-    let width = columns.width;
-    let length = columns.length;
-    let deadline = columns.deadline;
-    let period = columns.period;
-    let mut left = [0u32; 32];
-    let mut moment = offset;
-    let mut next = offset;
-    let mut claiming: u32 = 0;
-    let mut chosen: u32 = 0;
-    let mut granted: u32 = 0;
-    let mut bell: u32 = 0;
-    let mut tick: u32 = 0;
-    'ticks: loop {
-        if bell <= tick {
-            bell = 4294967295;
-            let mut i: usize = 0;
-            while i < count {
-                if moment[i] == tick {
-                    if 0 < left[i] {
-                        let position = i as u32 + 1;
-                        break 'ticks Verdict::Miss(tick, position);
-                    }
-                    claiming = full::release(
-                        i,
-                        tick,
-                        length[i],
-                        deadline[i],
-                        period[i],
-                        claiming,
-                        &mut left,
-                        &mut moment,
-                        &mut next,
-                    );
-                }
-                bell = full::sooner(bell, moment[i]);
-                i += 1;
-            }
-        }
-        if tick == horizon {
-            break 'ticks accepted(table);
-        }
-        if claiming != chosen {
-            granted = rule::choose(rule, cores, claiming, &width);
-            chosen = claiming;
-        }
-        claiming = full::work(granted, claiming, &mut left, &mut moment, &next);
-        tick += 1;
+    let missed = misses::first_miss(table, table.horizon + 1);
+    match missed {
+        Missed::Never => accepted(table),
+        Missed::At(tick, position) => Verdict::Miss(tick, position),
     }
 }
 

@@ -1,6 +1,6 @@
 -- The answer on a table that passed, by the results of the tests.
 use mathlib.Core.Path.{_≡_, refl, sym, ap, _∙_}
-use mathlib.Core.Bool.{Bool, true, false, not, _||_, cond, true≢false, false≢true}
+use mathlib.Core.Bool.{Bool, true, false, _||_, cond}
 use Prim.Native.Nat.{ℕ, _-_, _*_, _≤_, _<_}
 use lib.Dec.{ltb}
 use borrow.Author.Tests.{lt-ltb, le-ltb}
@@ -10,15 +10,6 @@ use Rattle.model.specs.Horizon.{horizon}
 use Rattle.model.specs.Verdict.{missedIn}
 use Rattle.plan.specs.declared.Planned.the-variants.{Written, Refused}
 use Rattle.plan.specs.Plan.{byPlan}
-
--- a test that says no, said the other way round
-pub not-no : (x : Bool) → not x ≡ true → x ≡ false
-not-no true e = absurd (false≢true e)
-not-no false e = refl
-
-pub not-yes : (x : Bool) → not x ≡ false → x ≡ true
-not-yes true e = refl
-not-yes false e = absurd (true≢false e)
 
 module _ (s : Table) (a b bytes : ℕ) where
   by-tests :

@@ -9,10 +9,10 @@ use Rattle.model.specs.Search.{any, least}
 use Rattle.model.specs.Task.{Table, AllSound}
 use Rattle.model.specs.Book.{Missed}
 use Rattle.model.specs.Verdict.{FirstMiss, missedAt, missedIn}
-use Rattle.model.proofs.Bools.{not-true-false}
-use Rattle.model.proofs.Search.{any-of, none-any, least-any, least-below, least-lowest}
+use Rattle.model.proofs.Search.{least-any, least-below, least-lowest}
 use Rattle.model.proofs.Faithful.{missed-exact, missed-in-exact}
 use Rattle.table.proofs.Decide.{Decides}
+use Rattle.judge.proofs.FirstMiss.{found}
 use Rattle.plan.specs.Numbers.{MissOut}
 
 module _ (s : Table) (ok : AllSound s) (b : ℕ) where
@@ -31,20 +31,10 @@ module _ (s : Table) (ok : AllSound s) (b : ℕ) where
       } in
       (t, suc (least n (missedAt s t)), f, least-below b (missedIn s) e)
 
-  -- a deadline missed before b is found
-  pub found : (p t : ℕ) → t < b → Missed s p t → any b (missedIn s) ≡ true
-  found p t l m = any-of b (missedIn s) t l (missed-in-exact s ok t .1 (p, m))
-
   -- b is above the tick of the first miss exactly if the test says so
   pub miss-decides : Decides (any b (missedIn s)) (MissOut s b)
-  miss-decides = (first, λ x. found (x .2 .place .0) (x .0) (x .3) (x .2 .missed))
+  miss-decides = (first, λ x. found s ok b (x .2 .place .0) (x .0) (x .3) (x .2 .missed))
 
   -- where it says no, every deadline before b is met
   pub all-met : any b (missedIn s) ≡ false → (p t : ℕ) → t < b → ¬ Missed s p t
-  all-met e p t l m = true≢false (sym (found p t l m) ∙ e)
-
-  -- and where every deadline before b is met, it says no
-  pub none-missed : ((p t : ℕ) → t < b → ¬ Missed s p t) → any b (missedIn s) ≡ false
-  none-missed met =
-      none-any b (missedIn s)
-      (λ t l. not-true-false (missedIn s t) (λ e. let x = missed-in-exact s ok t .0 e in met (x .0) t l (x .1)))
+  all-met e p t l m = true≢false (sym (found s ok b p t l m) ∙ e)

@@ -15,12 +15,13 @@ use Rattle.table.specs.Load.{LoadOf}
 use Rattle.table.proofs.Exact.{refusal-exact, passed-exact}
 use Rattle.table.proofs.Passed.{passed-cores, passed-sound}
 use Rattle.judge.specs.Judged.{tableIn}
+use Rattle.judge.proofs.FirstMiss.{found}
 use Rattle.judge.proofs.Promise.{same-table}
 use Rattle.plan.specs.declared.Planned.{Planned}
 use Rattle.plan.specs.declared.Planned.the-variants.{Written, Refused}
 use Rattle.plan.specs.Numbers.{NoneApplies, words, eleven, twelve}
 use Rattle.plan.specs.Plan.{byPlan, told, plannedOf, bufferOf, PlanOf}
-use Rattle.plan.proofs.Late.{found, miss-decides}
+use Rattle.plan.proofs.Late.{miss-decides}
 use Rattle.plan.proofs.Exact.{refused-exact, written-exact}
 use Rattle.plan.proofs.Buffer.{with-length, over-at, over-past}
 

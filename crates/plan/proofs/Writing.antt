@@ -116,11 +116,11 @@ module _ (t : Loaded) (fit : Fit t) where
 
   -- moments to come fit in 32 digits
   pub moments-fit :
-      (tick : ℕ) → tick ≤ t .horizon → (x : Columns) → x ≡ columnsOf (t .tasks) → (p : ℕ) → p < t .count
+      (tick : ℕ) → tick ≤ 1000000000 → (x : Columns) → x ≡ columnsOf (t .tasks) → (p : ℕ) → p < t .count
       → (tick + getD (x .deadline) p 0 < 2 ^ 32) × (tick + getD (x .period) p 0 < 2 ^ 32)
   moments-fit tick h x e p l =
       subst (λ (y : Columns). (tick + getD (y .deadline) p 0 < 2 ^ 32) × (tick + getD (y .period) p 0 < 2 ^ 32)) (sym e)
-      (omega (arith, columns-are .deadlines p l′, fit .short p l, fit .sound p l′ .constrained, fit .limit), omega (arith, columns-are .periods p l′, fit .short p l, fit .limit))
+      (omega (arith, columns-are .deadlines p l′, fit .short p l, fit .sound p l′ .constrained), omega (arith, columns-are .periods p l′, fit .short p l))
     where
       l′ : p < length (s .tasks)
       l′ = omega (arith, size t fit)

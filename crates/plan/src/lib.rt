@@ -4,10 +4,10 @@ ghost use Prim.Native.Nat.{_≤_};
 ghost use lib.ListN.{length};
 ghost use Rattle.judge.specs.Judged.{tableIn, Fit};
 ghost use Rattle.plan.specs.Plan.{byPlan, bufferOf, PlanOf};
+use judge::misses::Missed;
 use table::Answer;
 use table::Loaded;
 
-mod misses; // misses.rt: whether a deadline is missed before a tick
 mod rows; // rows.rt: the row of a tick, and rows into the buffer
 
 // The plan's answer: the rows are written, or Refused with number and position.
@@ -31,11 +31,14 @@ fn by_table(table: Loaded, a: u32, b: u32, out: &mut [u8]) -> Planned
     if (out.len() as u64) < bytes {
         return Planned::Refused(11, 0);
     }
-    if misses::met(table, b) {
-        rows::write(table, a, b, out);
-        return Planned::Written;
+    let missed = judge::misses::first_miss(table, b);
+    match missed {
+        Missed::Never => {
+            rows::write(table, a, b, out);
+            Planned::Written
+        },
+        Missed::At(_, _) => Planned::Refused(12, 0),
     }
-    Planned::Refused(12, 0)
 }
 
 // Rows `a` up to but not including `b` of the full-length run of the table in these words, core 0 first, one byte a core.

@@ -167,7 +167,7 @@ module _ (t : Loaded) (fit : Fit t) where
     unfolding next
     follows l = record {
       before =
-          next-tick t fit (after n s) (worked (bit (grantedIn n s)) (after n s)) (bellAfter n s) (s .tick) (grantedIn n s) (h .before .met) looked chosen l
+          next-tick t fit (after n s) (worked (bit (grantedIn n s)) (after n s)) (bellAfter n s) (s .tick) (grantedIn n s) (h .before .met) looked chosen
           refl;
       chosen = chosen;
       text = text;

@@ -122,6 +122,3 @@ in-range n m p row old h = (
   λ q l. let t = h .safe .times q l in (omega (arith, t .1, h .tick), omega (arith, t .2, h .tick)),
 )
 
--- machines are equal where their parts are
-pub same-machine : {l l′ m m′ n n′ : List ℕ} {c c′ : ℕ} → l ≡ l′ → m ≡ m′ → n ≡ n′ → c ≡ c′ → machine l m n c ≡ machine l′ m′ n′ c′
-same-machine el em en ec = λ i. machine (el i) (em i) (en i) (ec i)

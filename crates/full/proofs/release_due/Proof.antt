@@ -3,11 +3,11 @@
 use borrow.Author.Needs.{needs}
 use mathlib.Core.Path.{_≡_, refl, sym, ap, _∙_}
 use mathlib.Core.Logic.{⊎-elim}
-use mathlib.Core.List.{List}
 use Prim.Native.Nat.{ℕ, _-_, _≤_}
 use native.Mathlib.Numerals.{add-one}
 use native.Mathlib.Omega.{arith}
 use Rattle.full.specs.Machine.{machine, releasedDue, earliest}
+use Rattle.full.proofs.Moves.{same-machine}
 use Rattle.full.proofs.Walk.{Looked, due-release, due-pass, earliest-more}
 use Rattle.full.proofs.release_due.Statement.{statement}
 use Rattle.full.proofs.release_due.Tie as tie
@@ -68,9 +68,6 @@ add-i c = omega arith
 
 loop-less : tie.Need-loop-less Inv-loop μ-loop
 loop-less c = omega arith
-
-same-machine : {l l′ m m′ n n′ : List ℕ} {c c′ : ℕ} → l ≡ l′ → m ≡ m′ → n ≡ n′ → c ≡ c′ → machine l m n c ≡ machine l′ m′ n′ c′
-same-machine el em en ec = λ i. machine (el i) (em i) (en i) (ec i)
 
 -- what the look at a place leaves
 at-join :

@@ -6,10 +6,9 @@ use mathlib.Core.Path.{refl, sym, _∙_}
 use mathlib.Core.Bool.{true, false}
 use Prim.Native.Nat.{_-_, _≤_}
 use lib.ListN.{length}
-use Rattle.model.specs.Search.{any}
-use Rattle.model.specs.Verdict.{missedIn}
 use Rattle.judge.specs.Judged.{tableIn}
-use Rattle.plan.proofs.Cases.{not-no, not-yes, above, beyond, too-short, long-enough}
+use Rattle.judge.proofs.FirstMiss.{never-found, one-found}
+use Rattle.plan.proofs.Cases.{above, beyond, too-short, long-enough}
 use Rattle.plan.proofs.by_table.Statement.{statement}
 use Rattle.plan.proofs.by_table.Tie as tie
 
@@ -43,38 +42,46 @@ returns-3 c =
     let p = c .before .before .before .before .before .before .pre in
     (too-short (tableIn (x .table)) (x .a) (x .b) (length (x .out .now)) (c .before .before .before .before .if1 .left) (omega (arith, c .before .before .if2 .left, p .0 .horizon)) (c .if3 .taken), refl)
 
-met-requires : tie.Need-met-requires
-met-requires c κs = search needs
+first-miss-requires : tie.Need-first-miss-requires
+first-miss-requires c κs = search needs
+
+enum-told : tie.Need-enum-told
+enum-told c = search needs
 
 write-requires : tie.Need-write-requires
 write-requires c κs =
-    let x = c .before .before .before .before .before .before .before .before .before .args in
-    let p = c .before .before .before .before .before .before .before .before .before .pre in (
+    let x = c .before .before .before .before .before .before .before .before .before .before .args in
+    let p = c .before .before .before .before .before .before .before .before .before .before .pre in (
       p .0,
       p .1,
-      c .before .before .before .before .before .if2 .left,
-      not-no (any (x .b) (missedIn (tableIn (x .table)))) (sym (c .before .before .met .ensures) ∙ c .before .if4 .taken),
-      c .before .before .before .if3 .left,
+      c .before .before .before .before .before .before .if2 .left,
+      never-found (tableIn (x .table)) (x .b) (sym (c .before .before .before .first-miss .ensures) ∙ c .before .enum-told .given .1),
+      c .before .before .before .before .if3 .left,
     )
+
+enum-told-2 : tie.Need-enum-told-2
+enum-told-2 c = search needs
 
 same-length : tie.Need-same-length
 same-length c = search needs
 
 returns-4 : tie.Need-returns-4
 returns-4 c =
-    let x = c .before .before .before .before .before .before .before .before .before .before .before .before .args in
-    let p = c .before .before .before .before .before .before .before .before .before .before .before .before .pre in
-    let none = not-no (any (x .b) (missedIn (tableIn (x .table)))) (sym (c .before .before .before .before .before .met .ensures) ∙ c .before .before .before .before .if4 .taken) in (
-      long-enough (tableIn (x .table)) (x .a) (x .b) (length (x .out .now)) (c .before .before .before .before .before .before .before .before .before .before .if1 .left) (omega (arith, c .before .before .before .before .before .before .before .before .if2 .left, p .0 .horizon)) (c .before .before .before .before .before .before .if3 .left) false none,
+    let f = c .before .before .before .before .before .before in
+    let x = f .before .before .before .before .before .before .before .args in
+    let p = f .before .before .before .before .before .before .before .pre in
+    let none = never-found (tableIn (x .table)) (x .b) (sym (f .first-miss .ensures) ∙ c .before .before .before .before .enum-told .given .1) in (
+      long-enough (tableIn (x .table)) (x .a) (x .b) (length (x .out .now)) (f .before .before .before .before .before .if1 .left) (omega (arith, f .before .before .before .if2 .left, p .0 .horizon)) (f .before .if3 .left) false none,
       c .before .before .write .ensures,
     )
 
 returns-5 : tie.Need-returns-5
 returns-5 c =
-    let x = c .before .before .before .before .before .before .before .before .args in
-    let p = c .before .before .before .before .before .before .before .before .pre in
-    let some = not-yes (any (x .b) (missedIn (tableIn (x .table)))) (sym (c .before .met .ensures) ∙ c .if4 .left) in
-    (long-enough (tableIn (x .table)) (x .a) (x .b) (length (x .out .now)) (c .before .before .before .before .before .before .if1 .left) (omega (arith, c .before .before .before .before .if2 .left, p .0 .horizon)) (c .before .before .if3 .left) true some, refl)
+    let f = c .before .before in
+    let x = f .before .before .before .before .before .before .before .args in
+    let p = f .before .before .before .before .before .before .before .pre in
+    let some = one-found (tableIn (x .table)) (x .b) _ _ (sym (f .first-miss .ensures) ∙ c .enum-told2 .given .1) in
+    (long-enough (tableIn (x .table)) (x .a) (x .b) (length (x .out .now)) (f .before .before .before .before .before .if1 .left) (omega (arith, f .before .before .before .if2 .left, p .0 .horizon)) (f .before .if3 .left) true some, refl)
 
 pub by-table-spec : {M : Type 1} → statement M
 by-table-spec =
@@ -86,8 +93,10 @@ by-table-spec =
     cast-bytes-2
     mul-bytes
     returns-3
-    met-requires
+    first-miss-requires
+    enum-told
     write-requires
+    enum-told-2
     same-length
     returns-4
     returns-5)

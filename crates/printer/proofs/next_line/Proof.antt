@@ -11,7 +11,8 @@ use Rattle.full.specs.Machine.{Machine, machine, Owed}
 use Rattle.printer.specs.Rows.{Numbers, numbers, Stand, after, bellAfter, grantedIn}
 use Rattle.printer.specs.Printer.{standAt}
 use Rattle.printer.proofs.Safe.{granted-owed}
-use Rattle.printer.proofs.Step.{due-looked, due-skipped, kept, chosen-anew, Text, text-put, same-machine, step-taken, in-range}
+use Rattle.full.proofs.Moves.{same-machine}
+use Rattle.printer.proofs.Step.{due-looked, due-skipped, kept, chosen-anew, Text, text-put, step-taken, in-range}
 use Rattle.printer.proofs.next_line.Statement.{statement}
 use Rattle.printer.proofs.next_line.Tie as tie
 

@@ -17,6 +17,7 @@ use Rattle.table.specs.declared.Loaded.{Loaded}
 use Rattle.full.specs.declared.columns.Columns.{Columns}
 use Rattle.full.specs.Fields.{columnsOf}
 use Rattle.full.specs.Machine.{Machine, machine}
+use Rattle.full.proofs.Moves.{same-machine}
 use Rattle.judge.specs.Judged.{tableIn, Fit}
 use Rattle.judge.proofs.Ticks.{Before, After, at-start, walk-skipped, Chosen, chosen-none, chosen-owed, next-tick}
 use Rattle.plan.proofs.Late.{all-met}
@@ -59,18 +60,14 @@ enough-of c = c .before .before .before .before .before .before .before .before 
 columns : (c : tie.After-show Inv-loop μ-loop) → c .before .before .before .before .before .before .before .columns-of .result ≡ columnsOf (table-of c .tasks)
 columns c = c .before .before .before .before .before .before .before .columns-of .ensures
 
--- machines are equal where their parts are
-same-machine : {l l′ m m′ n n′ : List ℕ} {c c′ : ℕ} → l ≡ l′ → m ≡ m′ → n ≡ n′ → c ≡ c′ → machine l m n c ≡ machine l′ m′ n′ c′
-same-machine el em en ec = λ i. machine (el i) (em i) (en i) (ec i)
-
 -- the row made for a set of claimants, by the columns
 row-made :
     (c : tie.After-show Inv-loop μ-loop) (k : ℕ) (bytes : List ℕ) → RowBy (table-of c) (c .before .before .before .before .before .before .before .columns-of .result .width) k bytes → RowFor (table-of c) k bytes
 row-made c k bytes e = subst (λ (x : Columns). RowBy (table-of c) (x .width) k bytes) (columns c) e
 
--- in the loop: before the horizon, and no deadline of the tick is missed
-early : (c : tie.In-loop Inv-loop μ-loop) → c .before .loop .tick < table-of (c .before .before) .horizon
-early c = omega (arith, c .loop-test .taken, c .before .before .before .before .before .before .before .before .before .before .before .before .before .pre .2)
+-- in the loop: ticks are small, and no deadline of the tick is missed
+small : (c : tie.In-loop Inv-loop μ-loop) → c .before .loop .tick ≤ 1000000000
+small c = omega (arith, c .loop-test .taken, fit-of (c .before .before) .limit, c .before .before .before .before .before .before .before .before .before .before .before .before .before .pre .2)
 
 met : (c : tie.In-loop Inv-loop μ-loop) (p : ℕ) → ¬ Missed (tableIn (table-of (c .before .before))) p (c .before .loop .tick)
 met c p =
@@ -173,7 +170,7 @@ release-due-requires : tie.Need-release-due-requires Inv-loop μ-loop
 release-due-requires c κs =
     let h = c .before .before .before .before .before .before .before .before .before in (
       fit-of h .few,
-      moments-fit (table-of h) (fit-of h) (c .before .before .before .before .before .before .before .before .loop .tick) (c .before .before .before .before .before .before .before .before .loop .inv .0 .within) (h .before .before .before .before .before .before .before .columns-of .result) (columns h),
+      moments-fit (table-of h) (fit-of h) (c .before .before .before .before .before .before .before .before .loop .tick) (small (c .before .before .before .before .before .before .before)) (h .before .before .before .before .before .before .before .columns-of .result) (columns h),
     )
 
 choose-requires : tie.Need-choose-requires Inv-loop μ-loop
@@ -194,7 +191,7 @@ add-at : tie.Need-add-at Inv-loop μ-loop
 add-at c =
     let h = c .before .before .before .before .before .before .before .before .before in
     let k = c .before .before .before .before .before .before .before .before .loop in
-    let short : k .tick - first-of h ≤ 1000000000 = omega (arith, k .inv .0 .within, fit-of h .limit) in
+    let short : k .tick - first-of h ≤ 1000000000 = omega (arith, small (c .before .before .before .before .before .before .before)) in
     omega (arith, k .inv .4 .next, cores-of h, mul-le-mul short (cores-of h))
 
 work-requires : tie.Need-work-requires Inv-loop μ-loop
@@ -208,7 +205,7 @@ work-requires c κs =
 add-tick : tie.Need-add-tick Inv-loop μ-loop
 add-tick c =
     let e = c .before .before .before .before .before .before .before in
-    omega (arith, early e, fit-of (e .before .before) .limit)
+    omega (arith, small e)
 
 loop-less : tie.Need-loop-less Inv-loop μ-loop
 loop-less c =
@@ -222,7 +219,7 @@ loop-again c =
     let e = j .before in
     let h = e .before .before in (
       next-tick (table-of h) (fit-of h) (machine (j .if1 .left) (j .if1 .moment) (j .if1 .next) (j .if1 .claiming)) _ (j .if1 .bell) (e .before .loop .tick)
-          (g .if2 .granted) (e .before .loop .inv .0 .met) (after-of j) (chosen-of g .0) (early e) (c .work .ensures),
+          (g .if2 .granted) (e .before .loop .inv .0 .met) (after-of j) (chosen-of g .0) (c .work .ensures),
       kept-of g .0,
       kept-of g .1,
       omega (arith, e .loop-test .taken),

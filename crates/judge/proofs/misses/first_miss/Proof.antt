@@ -1,12 +1,12 @@
--- `plan::misses::met` meets its contract. Before each tick the machine is tied to the full-length run and no deadline has been missed (`Before`); along the
--- walk over the tasks the places passed are ready (`Walking`). A place that is due and owed ticks is a miss; at tick b nothing has been missed. Assumes nothing.
+-- `judge::misses::first_miss` meets its contract. Before each tick the machine is tied to the full-length run and no deadline has been missed (`Before`);
+-- along the walk over the tasks the places passed are ready (`Walking`). A place that is due and owed ticks is the first miss; at the end nothing has
+-- been missed. Assumes nothing.
 use borrow.Author.Needs.{needs}
 use native.Mathlib.Omega.{arith}
 use mathlib.Core.Path.{_≡_, refl, sym, ap, _∙_, subst, subst₂}
-use mathlib.Core.Bool.{not}
 use mathlib.Core.List.{List, map}
 use mathlib.Core.Logic.{⊎-elim}
-use Prim.Native.Nat.{ℕ, _+_, _-_, _<_, min}
+use Prim.Native.Nat.{ℕ, _+_, _-_, _≤_, _<_, min}
 use lib.ListN as list
 use Rattle.model.specs.Search.{bit, upFrom}
 use Rattle.model.specs.Task.{task, ruleOf}
@@ -19,26 +19,26 @@ use Rattle.table.specs.Task.{taskOf, noTask}
 use Rattle.full.specs.declared.columns.Columns.{Columns}
 use Rattle.full.specs.Fields.{columnsOf}
 use Rattle.full.specs.Machine.{Machine, machine}
-use Rattle.full.proofs.Late.{late-missed}
+use Rattle.full.proofs.Moves.{same-machine}
 use Rattle.judge.specs.Judged.{tableIn, Fit}
-use Rattle.judge.proofs.Ticks.{size, column, Before, Walking, After, at-start, walk-begins, walk-passes, walk-releases, walk-ends, walk-skipped, Chosen, chosen-none, chosen-owed, next-tick}
-use Rattle.plan.proofs.Late.{found, none-missed}
-use Rattle.plan.proofs.misses.met.Statement.{statement}
-use Rattle.plan.proofs.misses.met.Tie as tie
+use Rattle.judge.proofs.Ticks.{size, column, Before, Walking, After, at-start, walk-begins, walk-passes, walk-releases, walk-misses, walk-ends, walk-skipped, Chosen, chosen-none, chosen-owed, next-tick}
+use Rattle.judge.proofs.FirstMiss.{by-none, by-first}
+use Rattle.judge.proofs.misses.first_miss.Statement.{statement}
+use Rattle.judge.proofs.misses.first_miss.Tie as tie
 
 abbrev Inv-loop2 : tie.InvT-loop2
-Inv-loop2 table b count width length deadline period left₀ moment₀ next₀ claiming₀ chosen granted bell₀ tick i₀ left moment next claiming bell i =
+Inv-loop2 table end count width length deadline period left₀ moment₀ next₀ claiming₀ chosen granted bell₀ tick i₀ left moment next claiming bell i =
     Walking table (machine left moment next claiming) bell tick i
 
 abbrev μ-loop2 : tie.MeasureT-loop2
-μ-loop2 table b count width length deadline period left₀ moment₀ next₀ claiming₀ chosen granted bell₀ tick i₀ left moment next claiming bell i = count - i
+μ-loop2 table end count width length deadline period left₀ moment₀ next₀ claiming₀ chosen granted bell₀ tick i₀ left moment next claiming bell i = count - i
 
 abbrev Inv-loop : tie.InvT-loop
-Inv-loop table b count width length deadline period left₀ moment₀ next₀ claiming₀ chosen₀ granted₀ bell₀ tick₀ left moment next claiming chosen granted bell tick =
-    Before table (machine left moment next claiming) bell tick × Chosen table chosen granted
+Inv-loop table end count width length deadline period left₀ moment₀ next₀ claiming₀ chosen₀ granted₀ bell₀ tick₀ left moment next claiming chosen granted bell tick =
+    Before table (machine left moment next claiming) bell tick × Chosen table chosen granted × (tick ≤ end)
 
 abbrev μ-loop : tie.MeasureT-loop
-μ-loop table b count width length deadline period left₀ moment₀ next₀ claiming₀ chosen₀ granted₀ bell₀ tick₀ left moment next claiming chosen granted bell tick = b - tick
+μ-loop table end count width length deadline period left₀ moment₀ next₀ claiming₀ chosen₀ granted₀ bell₀ tick₀ left moment next claiming chosen granted bell tick = end - tick
 
 -- THE PLACES. The table, what is known of it, and the columns made of it
 abbrev table-of : tie.After-period Inv-loop2 μ-loop2 Inv-loop μ-loop → Loaded
@@ -79,10 +79,6 @@ deadline-at c = field c (λ x. x .deadline) (λ τ. τ .deadline) (λ x. refl) _
 period-at : (c : tie.In-loop2 Inv-loop2 μ-loop2 Inv-loop μ-loop) → list.getD (c .before .before .before .before .before .before .before .before .before .before .columns-of .result .period) (c .before .loop2 .i) 0 ≡ task (tableIn (table-of (c .before .before .before .before .before))) (c .before .loop2 .i) .period
 period-at c = field c (λ x. x .period) (λ τ. τ .period) (λ x. refl) _ (ap (λ (x : Columns). x .period) (columns (c .before .before .before .before .before))) refl
 
--- machines are equal where their parts are
-same-machine : {l l′ m m′ n n′ : List ℕ} {c c′ : ℕ} → l ≡ l′ → m ≡ m′ → n ≡ n′ → c ≡ c′ → machine l m n c ≡ machine l′ m′ n′ c′
-same-machine el em en ec = λ i. machine (el i) (em i) (en i) (ec i)
-
 -- where the walk has ended or was not needed
 after-of :
     (c : tie.Joined1 Inv-loop2 μ-loop2 Inv-loop μ-loop)
@@ -104,11 +100,11 @@ after-of c =
     (k .inv .0) (w .0 .left)))
     (c .if1 .came)
 
--- before the horizon
-early : (c : tie.In-loop Inv-loop2 μ-loop2 Inv-loop μ-loop) → c .before .loop .tick < table-of (c .before .before) .horizon
-early c =
+-- ticks of the loop are small
+small : (c : tie.In-loop Inv-loop2 μ-loop2 Inv-loop μ-loop) → c .before .loop .tick ≤ 1000000000
+small c =
     let start = c .before .before .before .before .before .before .before .before .before in
-    omega (arith, c .loop-test .taken, start .pre .1)
+    omega (arith, c .loop-test .taken, start .pre .1, start .pre .0 .limit)
 
 -- the set of granted places is that of the claimants: it was just chosen, or they are those it was chosen for
 chosen-of :
@@ -146,6 +142,7 @@ loop-holds c = (
   subst (λ (o : List ℕ). Before (table-of c) (machine (list.replicate 32 0) o o 0) 0 0) (sym (ap (λ (x : Columns). x .offset) (columns c)))
       (at-start (table-of c) (fit-of c)),
   chosen-none (table-of c),
+  omega arith,
 )
 
 loop2-holds : tie.Need-loop2-holds Inv-loop2 μ-loop2 Inv-loop μ-loop
@@ -165,6 +162,12 @@ mul-if3 c = omega (arith, inside (c .before))
 
 array-read-if3 : tie.Need-array-read-if3 Inv-loop2 μ-loop2 Inv-loop μ-loop
 array-read-if3 c = inside (c .before)
+
+cast-position : tie.Need-cast-position Inv-loop2 μ-loop2 Inv-loop μ-loop
+cast-position c = omega (arith, inside (c .before .before))
+
+add-position : tie.Need-add-position Inv-loop2 μ-loop2 Inv-loop μ-loop
+add-position c = omega (arith, inside (c .before .before))
 
 mul-release : tie.Need-mul-release Inv-loop2 μ-loop2 Inv-loop μ-loop
 mul-release c = omega (arith, inside (c .before .before))
@@ -188,10 +191,10 @@ release-requires : tie.Need-release-requires Inv-loop2 μ-loop2 Inv-loop μ-loop
 release-requires c κs =
     let n = c .before .before .before .before .before in
     let p = n .before .before .before .before .before in
-    let tick-limit = n .before .before .before .before .loop .inv .0 .within in
+    let tick-limit = small (n .before .before .before) in
     let short = fit-of p .short (n .before .loop2 .i) (n .loop2-test .taken) in
     let sound = fit-of p .sound (n .before .loop2 .i) (placed n) .constrained in
-    (inside n, omega (arith, deadline-at n, short, sound, tick-limit, fit-of p .limit), omega (arith, period-at n, short, tick-limit, fit-of p .limit))
+    (inside n, omega (arith, deadline-at n, short, sound, tick-limit), omega (arith, period-at n, short, tick-limit))
 
 mul-sooner : tie.Need-mul-sooner Inv-loop2 μ-loop2 Inv-loop μ-loop
 mul-sooner c = omega (arith, inside (c .before))
@@ -243,7 +246,7 @@ work-requires c κs =
 add-tick : tie.Need-add-tick Inv-loop2 μ-loop2 Inv-loop μ-loop
 add-tick c =
     let e = c .before .before .before .before .before .before in
-    omega (arith, early e, fit-of (e .before .before) .limit)
+    omega (arith, small e)
 
 loop-less : tie.Need-loop-less Inv-loop2 μ-loop2 Inv-loop μ-loop
 loop-less c =
@@ -257,8 +260,9 @@ loop-again c =
     let e = j .before in
     let p = e .before .before in (
       next-tick (table-of p) (fit-of p) (machine (j .if1 .left) (j .if1 .moment) (j .if1 .next) (j .if1 .claiming)) _ (j .if1 .bell) (e .before .loop .tick)
-          (h .if4 .granted) (e .before .loop .inv .0 .met) (after-of j) (chosen-of h) (early e) (c .work .ensures),
+          (h .if4 .granted) (e .before .loop .inv .0 .met) (after-of j) (chosen-of h) (c .work .ensures),
       kept-of h,
+      omega (arith, e .loop-test .taken),
     )
 
 returns : tie.Need-returns Inv-loop2 μ-loop2 Inv-loop μ-loop
@@ -267,19 +271,19 @@ returns c =
     let p = n .before .before .before .before .before in
     let l = n .before .loop2 in
     let e = n .before .before .before in
-    let t = table-of p in
-    ap not (sym (found (tableIn t) (fit-of p .sound) _ (l .i) (e .before .loop .tick) (e .loop-test .taken)
-    (late-missed (tableIn t) (fit-of p .sound) (e .before .loop .tick) (l .i) (machine (l .left) (l .moment) (l .next) (l .claiming)) (l .inv .walked)
-    (l .i) (placed n) (omega arith) (c .before .if2 .taken) (c .if3 .taken))))
+    let k = e .before .loop in
+    by-first (tableIn (table-of p)) (fit-of p .sound) _ (k .tick) (l .i + 1) (e .loop-test .taken)
+    (walk-misses (table-of p) (fit-of p) (machine (l .left) (l .moment) (l .next) (l .claiming)) (l .bell) (k .tick) (l .i)
+    (k .inv .0 .met) (l .inv) (placed n) (c .before .if2 .taken) (c .if3 .taken))
 
 returns-2 : tie.Need-returns-2 Inv-loop2 μ-loop2 Inv-loop μ-loop
 returns-2 c =
     let p = c .before .before in
     let k = c .before .loop in
-    ap not (sym (none-missed (tableIn (table-of p)) (fit-of p .sound) _ (λ q u h. k .inv .0 .met q u (omega (arith, c .loop-test .left)))))
+    by-none (tableIn (table-of p)) (fit-of p .sound) _ (λ q u h. k .inv .0 .met q u (omega (arith, c .loop-test .left)))
 
-pub met-spec : {M : Type 1} → statement M
-met-spec =
+pub first-miss-spec : {M : Type 1} → statement M
+first-miss-spec =
     tie.close
     (tie.spec
     Inv-loop2
@@ -293,6 +297,8 @@ met-spec =
     array-read-if2
     mul-if3
     array-read-if3
+    cast-position
+    add-position
     returns
     mul-release
     array-read-release

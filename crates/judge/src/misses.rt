@@ -1,15 +1,20 @@
+// The full-length run of a table that passed, up to its first missed deadline.
 ghost use mathlib.Core.Path.{_≡_};
-ghost use mathlib.Core.Bool.{not};
-ghost use Prim.Native.Nat.{_≤_};
-ghost use Rattle.model.specs.Search.{any};
-ghost use Rattle.model.specs.Verdict.{missedIn};
+ghost use Prim.Native.Nat.{_+_, _≤_};
 ghost use Rattle.judge.specs.Judged.{tableIn, Fit};
+ghost use Rattle.judge.specs.FirstMiss.{missedBefore};
 use table::Loaded;
 
-// Whether the full-length run meets every deadline before tick `b`.
-pub fn met(table: Loaded, b: u32) -> bool
-    requires { ⌜ Fit table × (b ≤ table .horizon) ⌝ }
-    ensures { λ r. ⌜ r ≡ not (any b (missedIn (tableIn table))) ⌝ }
+// Tick and position of the first deadline missed, or none.
+pub enum Missed {
+    Never,
+    At(u32, u32),
+}
+
+// The first deadline that the full-length run misses before tick `end`, at equal ticks the first in priority.
+pub fn first_miss(table: Loaded, end: u32) -> Missed
+    requires { ⌜ Fit table × (end ≤ table .horizon + 1) ⌝ }
+    ensures { λ r. ⌜ r ≡ missedBefore (tableIn table) end ⌝ }
 {
     let count = table.count;
     let tasks = table.tasks;
@@ -27,14 +32,15 @@ pub fn met(table: Loaded, b: u32) -> bool
     let mut granted: u32 = 0;
     let mut bell: u32 = 0;
     let mut tick: u32 = 0;
-    while tick < b {
+    while tick < end {
         if bell <= tick {
             bell = 4294967295;
             let mut i: usize = 0;
             while i < count {
                 if moment[i] == tick {
                     if 0 < left[i] {
-                        return false;
+                        let position = i as u32 + 1;
+                        return Missed::At(tick, position);
                     }
                     claiming = full::release(
                         i,
@@ -59,5 +65,5 @@ pub fn met(table: Loaded, b: u32) -> bool
         claiming = full::work(granted, claiming, &mut left, &mut moment, &next);
         tick += 1;
     }
-    true
+    Missed::Never
 }
