@@ -1,0 +1,42 @@
+// The library to link: the judge, the plan, the replay and the run in the cab for C and Rust, on numbers and lent slices.
+// Each function returns 0 where the call is answered, and 1 where a lent slice is too short: then everything is as found.
+// The answer stands in the three first words of `answer`: a case and two numbers.
+ghost use mathlib.Core.Path.{_≡_};
+ghost use mathlib.Core.List.{[], _∷_};
+ghost use Rattle.capi.specs.Calls.{judgeCall, planCall};
+
+mod told; // told.rt: an answer in three words
+
+// The verdict on a table's words: case 0 Firm S P, 1 Full S P, 2 Miss tick position, 3 Refused number position.
+#[no_mangle]
+pub extern "C" fn sivorandra_judge(words: &[u32], answer: &mut [u32]) -> u32
+    ensures { λ r. ⌜ record { value = r; lent = now (answer .exit) ∷ [] } ≡ judgeCall (now (words .entry)) (now (answer .entry)) ⌝ }
+{
+    if answer.len() < 3 {
+        return 1;
+    }
+    let verdict = judge::judge(words);
+    let told = told::of_verdict(verdict);
+    told::put(told, answer);
+    0
+}
+
+// Rows a up to but not including b of the full-length run into `rows`, one byte a core: case 0, or 3 Refused number position and the rows as found.
+#[no_mangle]
+pub extern "C" fn sivorandra_plan(
+    words: &[u32],
+    a: u32,
+    b: u32,
+    rows: &mut [u8],
+    answer: &mut [u32],
+) -> u32
+    ensures { λ r. ⌜ record { value = r; lent = now (rows .exit) ∷ (now (answer .exit) ∷ []) } ≡ planCall (now (words .entry)) a b (now (rows .entry)) (now (answer .entry)) ⌝ }
+{
+    if answer.len() < 3 {
+        return 1;
+    }
+    let planned = plan::plan(words, a, b, rows);
+    let told = told::of_planned(planned);
+    told::put(told, answer);
+    0
+}
