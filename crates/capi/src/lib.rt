@@ -4,7 +4,9 @@
 ghost use mathlib.Core.Path.{_≡_};
 ghost use mathlib.Core.List.{[], _∷_};
 ghost use Rattle.capi.specs.Calls.{judgeCall, planCall};
+ghost use Rattle.capi.specs.Replays.{replayCall};
 
+mod replays; // replays.rt: what a replay says
 mod told; // told.rt: an answer in three words
 
 // The verdict on a table's words: case 0 Firm S P, 1 Full S P, 2 Miss tick position, 3 Refused number position.
@@ -39,4 +41,28 @@ pub extern "C" fn sivorandra_plan(
     let told = told::of_planned(planned);
     told::put(told, answer);
     0
+}
+
+// The run of a table's words, advanced through all of `reports`: its answers go into `numbers`, its last row into the first 64 bytes of `row`.
+// Case 0: the last row is shown; 4: the last row is refused, number position; 3: the start is Refused number position, and both as found.
+#[no_mangle]
+pub extern "C" fn sivorandra_replay(
+    words: &[u32],
+    reports: &[u32],
+    numbers: &mut [u32],
+    row: &mut [u8],
+    answer: &mut [u32],
+) -> u32
+    ensures { λ r. ⌜ record { value = r; lent = now (numbers .exit) ∷ (now (row .exit) ∷ (now (answer .exit) ∷ [])) } ≡ replayCall (now (words .entry)) (now (reports .entry)) (now (numbers .entry)) (now (row .entry)) (now (answer .entry)) ⌝ }
+{
+    if answer.len() < 3 {
+        return 1;
+    }
+    let replayed = run::replay(words, reports, numbers, row);
+    if replays::had_room(replayed) {
+        let told = replays::of_replayed(replayed);
+        told::put(told, answer);
+        return 0;
+    }
+    1
 }
