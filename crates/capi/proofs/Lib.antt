@@ -1,2 +1,5 @@
 mod Calls
 mod Replaying
+mod Places
+pub mod Inverse
+mod Putting

@@ -6,6 +6,7 @@ ghost use mathlib.Core.List.{[], _∷_};
 ghost use Rattle.capi.specs.Calls.{judgeCall, planCall};
 ghost use Rattle.capi.specs.Replays.{replayCall};
 
+mod held; // held.rt: a run in a lent buffer of words
 mod replays; // replays.rt: what a replay says
 mod told; // told.rt: an answer in three words
 
