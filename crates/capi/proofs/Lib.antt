@@ -3,3 +3,4 @@ mod Replaying
 mod Places
 pub mod Inverse
 mod Putting
+mod Keeping

@@ -6,7 +6,9 @@ use Prim.Native.Nat.{ℕ, zero, suc, _+_, _*_, _≤_, _<_}
 use native.Mathlib.Omega.{arith}
 use lib.ListN.{length, getD, drop}
 use lib.Seq.{drop-drop, getD-drop}
-use borrow.Author.Tests.{le-leb, lt-leb}
+use lib.Dec.{leb}
+use borrow.Author.Tests.{le-leb, lt-leb, leb-true}
+use Rattle.model.proofs.Bools.{and-left}
 use Rattle.run.specs.declared.Task.{Task}
 use Rattle.capi.specs.Encoding.{placeWords, placesWords, isPhase, placeIn, isPlace, placesIn, arePlaces, holds}
 
@@ -69,3 +71,8 @@ module _ (ws : List ℕ) (h : 259 ≤ length ws) where
   pub held-by : getD ws 2 0 ≤ 32 → holds ws ≡ arePlaces 32 (drop 3 ws)
   unfolding holds
   held-by l = simp (le-leb 259 (length ws) h, le-leb (getD ws 2 0) 32 l)
+
+-- what a buffer that holds a run has
+pub held-long : (ws : List ℕ) → holds ws ≡ true → 259 ≤ length ws
+unfolding holds
+held-long ws e = leb-true 259 (length ws) (and-left (leb 259 (length ws)) (leb (getD ws 2 0) 32 && arePlaces 32 (drop 3 ws)) e)

@@ -2,3 +2,4 @@ pub mod Told
 pub mod Calls
 pub mod Replays
 pub mod Encoding
+pub mod Runs

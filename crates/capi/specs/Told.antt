@@ -6,6 +6,8 @@ use Rattle.judge.specs.declared.Verdict.{Verdict}
 use Rattle.judge.specs.declared.Verdict.the-variants as judge
 use Rattle.plan.specs.declared.Planned.{Planned}
 use Rattle.plan.specs.declared.Planned.the-variants as plan
+use Rattle.run.specs.declared.Answer.{Answer}
+use Rattle.run.specs.declared.Answer.the-variants as run
 use Rattle.capi.specs.declared.told.Told.{Told}
 
 -- a case and its two numbers
@@ -23,6 +25,11 @@ ofVerdict (judge.Refused n p) = says 3 n p
 abbrev pub ofPlanned : Planned → Told
 ofPlanned plan.Written = says 0 0 0
 ofPlanned (plan.Refused n p) = says 3 n p
+
+-- start, row and advance: 0 taken, 3 Refused number position
+abbrev pub ofAnswer : Answer → Told
+ofAnswer run.Taken = says 0 0 0
+ofAnswer (run.Refused n p) = says 3 n p
 
 -- the lent slice afterwards: the three words, and behind them what stood there
 abbrev pub written : Told → List ℕ → List ℕ

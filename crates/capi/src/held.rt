@@ -3,9 +3,12 @@ ghost use mathlib.Core.Path.{_≡_};
 ghost use mathlib.Core.List.{_++_};
 ghost use Prim.Native.Nat.{_+_, _≤_};
 ghost use lib.ListN.{length, drop};
-ghost use Rattle.capi.specs.Encoding.{ofPhase, eight, countWord, encode, phaseOf, isPhase, placeIn, holds, runIn};
+ghost use Rattle.capi.specs.Encoding.{ofPhase, eight, countWord, encode, phaseOf, isPhase, placeIn, holds, runIn, decode};
+ghost use Rattle.capi.specs.Runs.{rowFrom, advanceFrom};
 use crate::told::Told;
+use run::Answer;
 use run::Phase;
+use run::Row;
 use run::Run;
 use run::Task;
 
@@ -157,4 +160,53 @@ pub fn run_in(words: &[u32]) -> Run
         count: words[2] as usize,
         tasks: tasks,
     }
+}
+
+// The row of the run that the buffer holds; 14 where it holds none.
+pub fn row_of(words: &[u32]) -> Row
+    ensures { λ r. ⌜ r ≡ rowFrom (decode (now (words .entry))) ⌝ }
+{
+    if holds(words) {
+        let held = run_in(words);
+        return held.row();
+    }
+    let bytes = [0u8; 64];
+    Row {
+        answer: Answer::Refused(14, 0),
+        bytes: bytes,
+    }
+}
+
+// Writes the row's 64 bytes; what stands behind them stays.
+pub fn put_row(bytes: [u8; 64], row: &mut [u8])
+    requires { ⌜ 64 ≤ length (now row) ⌝ }
+    ensures { λ r. ⌜ now (row .exit) ≡ bytes ++ drop 64 (now (row .entry)) ⌝ }
+{
+    let mut i: usize = 0;
+    while i < 64 {
+        row[i] = bytes[i];
+        i += 1;
+    }
+}
+
+// Advances the run that the buffer holds; 14 where it holds none.
+pub fn advance(words: &mut [u32], reports: u32) -> Answer
+    ensures { λ r. ⌜ record { answer = r; buffer = now (words .exit) } ≡ advanceFrom (decode (now (words .entry))) reports (now (words .entry)) ⌝ }
+{
+    if holds(words) {
+        let held = run_in(words);
+        let advanced = held.advance(reports);
+        let answer = advanced.answer;
+        match answer {
+            Answer::Taken => {
+                let next = advanced.run;
+                put_run(next, words);
+                return Answer::Taken;
+            }
+            Answer::Refused(number, position) => {
+                return Answer::Refused(number, position);
+            }
+        }
+    }
+    Answer::Refused(14, 0)
 }

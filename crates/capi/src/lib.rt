@@ -5,6 +5,7 @@ ghost use mathlib.Core.Path.{_≡_};
 ghost use mathlib.Core.List.{[], _∷_};
 ghost use Rattle.capi.specs.Calls.{judgeCall, planCall};
 ghost use Rattle.capi.specs.Replays.{replayCall};
+ghost use Rattle.capi.specs.Runs.{startCall, rowCall, advanceCall};
 
 mod held; // held.rt: a run in a lent buffer of words
 mod replays; // replays.rt: what a replay says
@@ -66,4 +67,59 @@ pub extern "C" fn sivorandra_replay(
         return 0;
     }
     1
+}
+
+// The run of a table's words as it starts, into the first 259 words of `run`: case 0, or 3 Refused number position and the run of all zeros.
+#[no_mangle]
+pub extern "C" fn sivorandra_start(words: &[u32], run: &mut [u32], answer: &mut [u32]) -> u32
+    ensures { λ r. ⌜ record { value = r; lent = now (run .exit) ∷ (now (answer .exit) ∷ []) } ≡ startCall (now (words .entry)) (now (run .entry)) (now (answer .entry)) ⌝ }
+{
+    if answer.len() < 3 {
+        return 1;
+    }
+    if run.len() < 259 {
+        return 1;
+    }
+    let started = run::start(words);
+    let first = started.run;
+    held::put_run(first, run);
+    let given = started.answer;
+    let told = told::of_answer(given);
+    told::put(told, answer);
+    0
+}
+
+// The row of the present tick into the first 64 bytes of `row`: case 0, or 3 Refused number position and 64 zeros; 14 where `run` holds no run.
+#[no_mangle]
+pub extern "C" fn sivorandra_row(run: &[u32], row: &mut [u8], answer: &mut [u32]) -> u32
+    ensures { λ r. ⌜ record { value = r; lent = now (row .exit) ∷ (now (answer .exit) ∷ []) } ≡ rowCall (now (run .entry)) (now (row .entry)) (now (answer .entry)) ⌝ }
+{
+    if answer.len() < 3 {
+        return 1;
+    }
+    if row.len() < 64 {
+        return 1;
+    }
+    let shown = held::row_of(run);
+    let bytes = shown.bytes;
+    held::put_row(bytes, row);
+    let given = shown.answer;
+    let told = told::of_answer(given);
+    told::put(told, answer);
+    0
+}
+
+// The run one tick on, where bit p of `reports` says that the job of position p + 1 ends after this tick: case 0, or 3 Refused number position
+// and `run` as found; 14 where `run` holds no run.
+#[no_mangle]
+pub extern "C" fn sivorandra_advance(run: &mut [u32], reports: u32, answer: &mut [u32]) -> u32
+    ensures { λ r. ⌜ record { value = r; lent = now (run .exit) ∷ (now (answer .exit) ∷ []) } ≡ advanceCall (now (run .entry)) reports (now (answer .entry)) ⌝ }
+{
+    if answer.len() < 3 {
+        return 1;
+    }
+    let given = held::advance(run, reports);
+    let told = told::of_answer(given);
+    told::put(told, answer);
+    0
 }

@@ -2,9 +2,10 @@
 ghost use mathlib.Core.Path.{_≡_};
 ghost use Prim.Native.Nat.{_≤_};
 ghost use lib.ListN.{length};
-ghost use Rattle.capi.specs.Told.{ofVerdict, ofPlanned, written};
+ghost use Rattle.capi.specs.Told.{ofVerdict, ofPlanned, ofAnswer, written};
 use judge::Verdict;
 use plan::Planned;
+use run::Answer;
 
 // The case and its two numbers, 0 where it has none.
 pub struct Told {
@@ -52,6 +53,24 @@ pub fn of_planned(planned: Planned) -> Told
             second: 0,
         },
         Planned::Refused(number, position) => Told {
+            kind: 3,
+            first: number,
+            second: position,
+        },
+    }
+}
+
+// What start, row and advance answer.
+pub fn of_answer(answer: Answer) -> Told
+    ensures { λ r. ⌜ r ≡ ofAnswer answer ⌝ }
+{
+    match answer {
+        Answer::Taken => Told {
+            kind: 0,
+            first: 0,
+            second: 0,
+        },
+        Answer::Refused(number, position) => Told {
             kind: 3,
             first: number,
             second: position,
