@@ -70,15 +70,18 @@ module _ (r : Run) (places : length (r .tasks) ≡ 32) (few : r .count ≤ 32) (
   pub decode-encode : decode (encode r ++ behind) ≡ run r
   decode-encode = ap (λ (t : Bool). cond t (run (runIn (encode r ++ behind))) none) holds-encoded ∙ ap run run-back
 
--- so does every run that 14 accepts
-pub decode-accepted : (r : Run) → length (r .tasks) ≡ 32 → (¬ RunOut r) → decode (encode r) ≡ run r
-decode-accepted r places fine =
-    let few : r .count ≤ 32 = go (leb (r .count) 32) refl in
-    ap decode (sym (append-nil (encode r))) ∙ decode-encode r places few []
+-- a run that 14 accepts has a count of at most 32 ..
+pub few-accepted : (r : Run) → (¬ RunOut r) → r .count ≤ 32
+few-accepted r fine = go (leb (r .count) 32) refl
   where
     go : (t : Bool) → leb (r .count) 32 ≡ t → r .count ≤ 32
     go true e = leb-true (r .count) 32 e
     go false e = absurd (fine (inl (λ f. let h = leb-false (r .count) 32 e in let l = f .1 in omega arith)))
+
+-- .. so every run that 14 accepts comes back
+pub decode-accepted : (r : Run) → length (r .tasks) ≡ 32 → (¬ RunOut r) → decode (encode r) ≡ run r
+decode-accepted r places fine =
+    ap decode (sym (append-nil (encode r))) ∙ decode-encode r places (few-accepted r fine) []
 
 -- WHAT IS DECODED IS ENCODED
 
@@ -137,20 +140,25 @@ words-back ws e =
     ∙ ap (λ (l : List ℕ). getD ws 0 0 ∷ l) (drop-cons ws 1 0 (omega arith)
     ∙ ap (λ (l : List ℕ). getD ws 1 0 ∷ l) (drop-cons ws 2 0 (omega arith))))))
 
--- a buffer that holds a run begins with the encoding of that run
-pub encode-decode : (ws : List ℕ) (r : Run) → decode ws ≡ run r → encode r ++ drop 259 ws ≡ ws
-encode-decode ws r e = go (holds ws) refl
+-- a buffer that is decoded to a run holds it
+pub held-run : (ws : List ℕ) (r : Run) → decode ws ≡ run r → (holds ws ≡ true) × (runIn ws ≡ r)
+held-run ws r e = go (holds ws) refl
   where
-    go : (t : Bool) → holds ws ≡ t → encode r ++ drop 259 ws ≡ ws
+    go : (t : Bool) → holds ws ≡ t → (holds ws ≡ true) × (runIn ws ≡ r)
     go true h =
         let same : run (runIn ws) ≡ run r = sym (ap (λ (t : Bool). cond t (run (runIn ws)) none) h) ∙ e in
-        let back : runIn ws ≡ r = cc in
-        ap (λ (q : Run). encode q ++ drop 259 ws) (sym back) ∙ words-back ws h
+        (h, cc)
     go false h =
         let same : none ≡ run r = sym (ap (λ (t : Bool). cond t (run (runIn ws)) none) h) ∙ e in
         absurd (let z : _≡_ {A = ℕ} 0 1 = cc in omega arith)
 
--- and a buffer of 259 words is it
+-- and begins with its encoding
+pub encode-decode : (ws : List ℕ) (r : Run) → decode ws ≡ run r → encode r ++ drop 259 ws ≡ ws
+encode-decode ws r e =
+    let h = held-run ws r e in
+    ap (λ (q : Run). encode q ++ drop 259 ws) (sym (h .1)) ∙ words-back ws (h .0)
+
+-- a buffer of 259 words is it
 pub encode-decoded : (ws : List ℕ) (r : Run) → length ws ≡ 259 → decode ws ≡ run r → encode r ≡ ws
 encode-decoded ws r n e =
     let none-behind : drop 259 ws ≡ [] = ap (λ (k : ℕ). drop k ws) (sym n) ∙ drop-length ws in

@@ -4,3 +4,4 @@ mod Places
 pub mod Inverse
 mod Putting
 mod Keeping
+pub mod Kept

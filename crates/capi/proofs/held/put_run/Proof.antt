@@ -7,6 +7,7 @@ use native.Mathlib.Omega.{arith}
 use lib.ListN.{length, getD, take, drop, set, length-set, length-drop, length-map}
 use lib.Seq.{length-take-le, take-all}
 use borrow.Rule.Slice.PartAt.{part-to-end}
+use borrow.Rule.Slice.PartMut.{putMid}
 use borrow.Author.Needs.{needs}
 use Rattle.run.specs.declared.Task.{Task}
 use Rattle.run.specs.declared.Run.{Run}
@@ -35,6 +36,20 @@ length-begun r i h = let a = length-words (take i (r .tasks)) in let b = length-
 begun-more : (r : Run) (i : ℕ) → i < length (r .tasks) → begun r (i + 1) ≡ begun r i ++ placeWords (getD (r .tasks) i pastEnd)
 begun-more r i h =
     ap (λ (l : List ℕ). r .rule ∷ (r .cores ∷ (countWord (r .count) ∷ l))) (ap placesWords (take-more (r .tasks) i pastEnd h) ∙ words-more (take i (r .tasks)) (getD (r .tasks) i pastEnd))
+
+-- one place more, in a buffer that stays as long as it was
+next-place :
+    (words w ys : List ℕ) (r : Run) (i : ℕ) → i < length (r .tasks) → length words ≡ length w → words ≡ begun r i ++ drop (3 + 8 * i) w → 3 + 8 * i ≤ length words
+    → length (putMid (3 + 8 * i) (length words - (3 + 8 * i)) words ys) ≡ length words
+    → ys ≡ placeWords (getD (r .tasks) i pastEnd) ++ drop 8 (take (length words - (3 + 8 * i)) (drop (3 + 8 * i) words))
+    → (length (putMid (3 + 8 * i) (length words - (3 + 8 * i)) words ys) ≡ length w)
+    × (putMid (3 + 8 * i) (length words - (3 + 8 * i)) words ys ≡ begun r (i + 1) ++ drop (3 + 8 * (i + 1)) w)
+next-place words w ys r i l k e h m q =
+    let n : 3 + 8 * i + 8 ≡ 3 + 8 * (i + 1) = omega arith in (
+      m ∙ k,
+      put-more words (begun r i) w (placeWords (getD (r .tasks) i pastEnd)) ys (3 + 8 * i) e (length-begun r i (omega arith)) h q
+          ∙ (ap (λ (b : List ℕ). b ++ drop (3 + 8 * i + 8) w) (sym (begun-more r i l)) ∙ ap (λ (k : ℕ). begun r (i + 1) ++ drop k w) n),
+    )
 
 whole : (r : Run) → length (r .tasks) ≡ 32 → (behind : List ℕ) → begun r 32 ++ behind ≡ encode r ++ behind
 unfolding encode
@@ -135,14 +150,7 @@ loop-again c =
     let t = getD (a .t1 .tasks) i pastEnd in
     let w = set (set (set (a .words .now) 0 (a .t1 .rule)) 1 (a .t1 .cores)) 2 (s .before .count-word .result) in
     let put = p .put-place .ensures ∙ ap (λ (ph : Told). eight t ph ++ drop 8 (take (length words - at) (drop at words))) (o .of-phase .ensures) in
-    let e : at + 8 ≡ 3 + 8 * (i + 1) = omega arith in (
-      omega arith,
-      (
-        c .before .words .given .1 ∙ s .loop .inv .1 .0,
-        put-more words (begun (a .t1) i) w (placeWords t) _ at (s .loop .inv .1 .1) (length-begun (a .t1) i (omega arith)) (in-reach o) put
-            ∙ (ap (λ (b : List ℕ). b ++ drop (at + 8) w) (sym (begun-more (a .t1) i (omega arith))) ∙ ap (λ (k : ℕ). begun (a .t1) (i + 1) ++ drop k w) e),
-      ),
-    )
+    (omega arith, next-place words w _ (a .t1) i (omega arith) (s .loop .inv .1 .0) (s .loop .inv .1 .1) (in-reach o) (c .before .words .given .1) put)
 
 same-length : tie.Need-same-length Inv-loop μ-loop
 same-length c = c .before .loop .inv .1 .0 ∙ simp length-set
