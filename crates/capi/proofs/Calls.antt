@@ -1,0 +1,44 @@
+-- What the calls leave, by whether there is room.
+use mathlib.Core.Path.{_≡_, ap}
+use mathlib.Core.Bool.{Bool}
+use mathlib.Core.List.{List, [], _∷_}
+use Prim.Native.Nat.{ℕ, _≤_, _<_}
+use lib.ListN.{length}
+use lib.Dec.{leb}
+use borrow.Author.Tests.{le-leb, lt-leb}
+use Rattle.table.specs.Words.{tableOf}
+use Rattle.judge.specs.Judged.{verdictOf}
+use Rattle.plan.specs.Plan.{plannedOf, bufferOf}
+use Rattle.capi.specs.Told.{ofVerdict, ofPlanned, written}
+use Rattle.capi.specs.Calls.{left, byRoom, judgeCall, planCall}
+
+-- two lent slices, each by its equation
+pub both : {k l m n : List ℕ} → k ≡ m → l ≡ n → left 0 (k ∷ (l ∷ [])) ≡ left 0 (m ∷ (n ∷ []))
+both p q = λ i. left 0 (p i ∷ (q i ∷ []))
+
+module _ (answer : List ℕ) (lent found : List (List ℕ)) where
+  with-room : 3 ≤ length answer → byRoom (leb 3 (length answer)) lent found ≡ left 0 lent
+  with-room h = ap (λ (t : Bool). byRoom t lent found) (le-leb 3 (length answer) h)
+
+  no-room : length answer < 3 → byRoom (leb 3 (length answer)) lent found ≡ left 1 found
+  no-room h = ap (λ (t : Bool). byRoom t lent found) (lt-leb 3 (length answer) h)
+
+module _ (ws answer : List ℕ) where
+  pub judge-room : 3 ≤ length answer → judgeCall ws answer ≡ left 0 (written (ofVerdict (verdictOf ws)) answer ∷ [])
+  unfolding judgeCall
+  judge-room h = with-room answer _ _ h
+
+  pub judge-short : length answer < 3 → judgeCall ws answer ≡ left 1 (answer ∷ [])
+  unfolding judgeCall
+  judge-short h = no-room answer _ _ h
+
+module _ (ws : List ℕ) (a b : ℕ) (rows answer : List ℕ) where
+  pub plan-room :
+      3 ≤ length answer
+      → planCall ws a b rows answer ≡ left 0 (bufferOf (plannedOf ws a b (length rows)) (tableOf ws) a b rows ∷ (written (ofPlanned (plannedOf ws a b (length rows))) answer ∷ []))
+  unfolding planCall
+  plan-room h = with-room answer _ _ h
+
+  pub plan-short : length answer < 3 → planCall ws a b rows answer ≡ left 1 (rows ∷ (answer ∷ []))
+  unfolding planCall
+  plan-short h = no-room answer _ _ h

@@ -1,0 +1,128 @@
+-- What the calls on a run in a buffer leave, by whether there is room and by what the buffer holds.
+use mathlib.Core.Path.{_≡_, sym, ap, _∙_}
+use mathlib.Core.Bool.{Bool, true, false, _&&_, cond}
+use mathlib.Core.List.{List, [], _∷_, _++_}
+use Prim.Native.Nat.{ℕ, _≤_, _<_}
+use lib.ListN.{length, drop}
+use lib.Dec.{leb}
+use borrow.Author.Tests.{le-leb, lt-leb}
+use Rattle.run.specs.declared.Answer.{Answer}
+use Rattle.run.specs.declared.Answer.the-variants.{Taken, Refused}
+use Rattle.run.specs.declared.Row.{Row}
+use Rattle.run.specs.declared.Run.{Run}
+use Rattle.run.specs.declared.Started.{Started}
+use Rattle.run.specs.declared.Advanced.{Advanced}
+use Rattle.run.specs.Start.{startOf}
+use Rattle.run.specs.Row.{noBytes, rowOf}
+use Rattle.run.specs.Advance.{advanceOf}
+use Rattle.capi.specs.Told.{ofAnswer, written}
+use Rattle.capi.specs.Calls.{Left, left, byRoom, room}
+use Rattle.capi.specs.Encoding.{encode, holds, runIn, Held, run, none, decode}
+use Rattle.capi.specs.Runs.{startCall, rowFrom, rowCall, Advance, kept, advanceFrom, advanceCall}
+use Rattle.capi.proofs.Calls.{both}
+
+-- THE ROOM FOR AN ANSWER AND FOR n MORE
+
+module _ (n : ℕ) (buffer answer : List ℕ) (lent found : List (List ℕ)) where
+  narrow : length answer < 3 → byRoom (room answer && leb n (length buffer)) lent found ≡ left 1 found
+  narrow h = simp (lt-leb 3 (length answer) h)
+
+  module _ (h : 3 ≤ length answer) where
+    short : length buffer < n → byRoom (room answer && leb n (length buffer)) lent found ≡ left 1 found
+    short l = simp (le-leb 3 (length answer) h, lt-leb n (length buffer) l)
+
+    roomy : n ≤ length buffer → byRoom (room answer && leb n (length buffer)) lent found ≡ left 0 lent
+    roomy l = simp (le-leb 3 (length answer) h, le-leb n (length buffer) l)
+
+-- START
+
+module _ (ws buffer answer : List ℕ) where
+  pub start-narrow : length answer < 3 → startCall ws buffer answer ≡ left 1 (buffer ∷ (answer ∷ []))
+  unfolding startCall
+  start-narrow h = narrow 259 buffer answer _ _ h
+
+  pub start-short : 3 ≤ length answer → length buffer < 259 → startCall ws buffer answer ≡ left 1 (buffer ∷ (answer ∷ []))
+  unfolding startCall
+  start-short h l = short 259 buffer answer _ _ h l
+
+  pub start-room :
+      (s : Started) {k m : List ℕ} → 3 ≤ length answer → 259 ≤ length buffer → s ≡ startOf ws → k ≡ encode (s .run) ++ drop 259 buffer
+      → m ≡ written (ofAnswer (s .answer)) answer → left 0 (k ∷ (m ∷ [])) ≡ startCall ws buffer answer
+  unfolding startCall
+  start-room s h l e p q =
+      both
+      (p ∙ ap (λ (t : Started). encode (t .run) ++ drop 259 buffer) e)
+      (q ∙ ap (λ (t : Started). written (ofAnswer (t .answer)) answer) e)
+      ∙ sym (roomy 259 buffer answer _ _ h l)
+
+-- ROW
+
+module _ (buffer row answer : List ℕ) where
+  pub row-narrow : length answer < 3 → rowCall buffer row answer ≡ left 1 (row ∷ (answer ∷ []))
+  unfolding rowCall
+  row-narrow h = narrow 64 row answer _ _ h
+
+  pub row-short : 3 ≤ length answer → length row < 64 → rowCall buffer row answer ≡ left 1 (row ∷ (answer ∷ []))
+  unfolding rowCall
+  row-short h l = short 64 row answer _ _ h l
+
+  pub row-room :
+      (w : Row) {k m : List ℕ} → 3 ≤ length answer → 64 ≤ length row → w ≡ rowFrom (decode buffer) → k ≡ w .bytes ++ drop 64 row
+      → m ≡ written (ofAnswer (w .answer)) answer → left 0 (k ∷ (m ∷ [])) ≡ rowCall buffer row answer
+  unfolding rowCall
+  row-room w h l e p q =
+      both
+      (p ∙ ap (λ (v : Row). v .bytes ++ drop 64 row) e)
+      (q ∙ ap (λ (v : Row). written (ofAnswer (v .answer)) answer) e)
+      ∙ sym (roomy 64 row answer _ _ h l)
+
+-- ADVANCE
+
+module _ (buffer answer : List ℕ) (x : ℕ) where
+  pub advance-narrow : length answer < 3 → advanceCall buffer x answer ≡ left 1 (buffer ∷ (answer ∷ []))
+  unfolding advanceCall
+  advance-narrow h = simp (lt-leb 3 (length answer) h)
+
+  pub advance-room :
+      (a : Answer) {k m : List ℕ} → 3 ≤ length answer → _≡_ {A = Advance} (record { answer = a; buffer = k }) (advanceFrom (decode buffer) x buffer)
+      → m ≡ written (ofAnswer a) answer → left 0 (k ∷ (m ∷ [])) ≡ advanceCall buffer x answer
+  unfolding advanceCall
+  advance-room a h e q =
+      both
+      (ap (λ (v : Advance). v .buffer) e)
+      (q ∙ ap (λ (v : Advance). written (ofAnswer (v .answer)) answer) e)
+      ∙ sym (simp (le-leb 3 (length answer) h))
+
+-- WHAT A BUFFER HOLDS
+
+module _ (ws : List ℕ) where
+  by-held : {t : Bool} → holds ws ≡ t → decode ws ≡ cond t (run (runIn ws)) none
+  by-held e = ap (λ (t : Bool). cond t (run (runIn ws)) none) e
+
+  pub row-held : {w : Row} {r : Run} → holds ws ≡ true → r ≡ runIn ws → w ≡ rowOf r → w ≡ rowFrom (decode ws)
+  row-held h e p = p ∙ (ap rowOf e ∙ ap rowFrom (sym (by-held h)))
+
+  pub row-none : holds ws ≡ false → _≡_ {A = Row} (record { answer = Refused 14 0; bytes = noBytes }) (rowFrom (decode ws))
+  row-none h = ap rowFrom (sym (by-held h))
+
+  module _ (x : ℕ) where
+    -- an advance of the run that the buffer holds
+    by-advance : (a : Advanced) (r : Run) → holds ws ≡ true → r ≡ runIn ws → a ≡ advanceOf r x → kept (a .answer) (a .run) ws ≡ advanceFrom (decode ws) x ws
+    by-advance a r h e p =
+        ap (λ (v : Advanced). kept (v .answer) (v .run) ws) (p ∙ ap (λ (q : Run). advanceOf q x) e)
+        ∙ ap (λ (v : Held). advanceFrom v x ws) (sym (by-held h))
+
+    pub advance-taken :
+        (a : Advanced) (r : Run) {new : List ℕ} → holds ws ≡ true → r ≡ runIn ws → a ≡ advanceOf r x → a .answer ≡ Taken
+        → new ≡ encode (a .run) ++ drop 259 ws → _≡_ {A = Advance} (record { answer = Taken; buffer = new }) (advanceFrom (decode ws) x ws)
+    advance-taken a r h e p t n =
+        ap (λ (l : List ℕ). record { answer = Taken; buffer = l }) n
+        ∙ (ap (λ (v : Answer). kept v (a .run) ws) (sym t) ∙ by-advance a r h e p)
+
+    pub advance-refused :
+        (a : Advanced) (r : Run) {n p : ℕ} → holds ws ≡ true → r ≡ runIn ws → a ≡ advanceOf r x → a .answer ≡ Refused n p
+        → _≡_ {A = Advance} (record { answer = Refused n p; buffer = ws }) (advanceFrom (decode ws) x ws)
+    advance-refused a r h e p t = ap (λ (v : Answer). kept v (a .run) ws) (sym t) ∙ by-advance a r h e p
+
+    pub advance-none : holds ws ≡ false → _≡_ {A = Advance} (record { answer = Refused 14 0; buffer = ws }) (advanceFrom (decode ws) x ws)
+    advance-none h = ap (λ (v : Held). advanceFrom v x ws) (sym (by-held h))

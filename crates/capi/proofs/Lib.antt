@@ -1,0 +1,7 @@
+mod Calls
+mod Replaying
+mod Places
+pub mod Inverse
+mod Putting
+mod Keeping
+pub mod Kept

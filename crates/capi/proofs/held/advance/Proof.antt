@@ -1,0 +1,93 @@
+-- `capi::held::advance` meets its contract: an advance of the run that the buffer holds, or 14.
+-- Assumes nothing.
+use mathlib.Core.Path.{sym, _∙_}
+use Rattle.capi.proofs.Places.{held-long}
+use Rattle.capi.proofs.Keeping.{advance-taken, advance-refused, advance-none}
+use borrow.Author.Needs.{needs}
+use Rattle.capi.proofs.held.advance.Statement.{statement}
+use Rattle.capi.proofs.held.advance.Tie as tie
+
+holds-requires : tie.Need-holds-requires
+holds-requires c κs = search needs
+
+run-in-requires : tie.Need-run-in-requires
+run-in-requires c κs =
+    let t = c .before in
+    let h = t .before in
+    held-long (h .before .before .before .args .words .now) (sym (h .holds .ensures) ∙ t .if1 .taken)
+
+advance-requires : tie.Need-advance-requires
+advance-requires c κs = search needs
+
+enum-told : tie.Need-enum-told
+enum-told c = search needs
+
+put-run-requires : tie.Need-put-run-requires
+put-run-requires c κs =
+    let t = c .before .before .before .before .before .before .before in
+    let h = t .before in
+    held-long (h .before .before .before .args .words .now) (sym (h .holds .ensures) ∙ t .if1 .taken)
+
+same-length : tie.Need-same-length
+same-length c = search needs
+
+returns : tie.Need-returns
+returns c =
+    let p = c .before .before in
+    let m = p .before .before .before in
+    let v = m .before .before in
+    let r = v .before in
+    let t = r .before .before in
+    let h = t .before in
+    let a = h .before .before .before .args in
+    advance-taken (a .words .now) (a .reports) (v .advance .result) (r .run-in .result)
+    (sym (h .holds .ensures) ∙ t .if1 .taken)
+    (r .run-in .ensures)
+    (v .advance .ensures .value)
+    (m .enum-told .given .1)
+    (p .put-run .ensures)
+
+enum-known-answer : tie.Need-enum-known-answer
+enum-known-answer c = search needs
+
+same-length-2 : tie.Need-same-length-2
+same-length-2 c = search needs
+
+returns-2 : tie.Need-returns-2
+returns-2 c =
+    let v = c .before .before .before in
+    let r = v .before in
+    let t = r .before .before in
+    let h = t .before in
+    let a = h .before .before .before .args in
+    advance-refused (a .words .now) (a .reports) (v .advance .result) (r .run-in .result)
+    (sym (h .holds .ensures) ∙ t .if1 .taken)
+    (r .run-in .ensures)
+    (v .advance .ensures .value)
+    (c .before .answer .given .1)
+
+same-length-3 : tie.Need-same-length-3
+same-length-3 c = search needs
+
+returns-3 : tie.Need-returns-3
+returns-3 c =
+    let h = c .before in
+    let a = h .before .before .before .args in
+    advance-none (a .words .now) (a .reports) (sym (h .holds .ensures) ∙ c .if1 .left)
+
+pub advance-spec : {M : Type 1} → statement M
+advance-spec =
+    tie.close
+    (tie.spec
+    holds-requires
+    run-in-requires
+    advance-requires
+    enum-told
+    put-run-requires
+    same-length
+    returns
+    enum-known-answer
+    same-length-2
+    returns-2
+    same-length-3
+    returns-3)

@@ -1,0 +1,113 @@
+-- `capi::held::place_in` meets its contract: each word is read where the place has it.
+-- Assumes nothing.
+use native.Mathlib.Omega.{arith}
+use native.Mathlib.Nat.{add-zero}
+use lib.Seq.{getD-drop}
+use borrow.Author.Needs.{needs}
+use Rattle.capi.proofs.held.place_in.Statement.{statement}
+use Rattle.capi.proofs.held.place_in.Tie as tie
+
+add-phase-of : tie.Need-add-phase-of
+add-phase-of c = omega arith
+
+mul-phase-of : tie.Need-mul-phase-of
+mul-phase-of c = omega arith
+
+shared-slice-read-phase-of : tie.Need-shared-slice-read-phase-of
+shared-slice-read-phase-of c = omega arith
+
+add-phase-of-2 : tie.Need-add-phase-of-2
+add-phase-of-2 c = omega arith
+
+mul-phase-of-2 : tie.Need-mul-phase-of-2
+mul-phase-of-2 c = omega arith
+
+shared-slice-read-phase-of-2 : tie.Need-shared-slice-read-phase-of-2
+shared-slice-read-phase-of-2 c = omega arith
+
+add-phase-of-3 : tie.Need-add-phase-of-3
+add-phase-of-3 c = omega arith
+
+mul-phase-of-3 : tie.Need-mul-phase-of-3
+mul-phase-of-3 c = omega arith
+
+shared-slice-read-phase-of-3 : tie.Need-shared-slice-read-phase-of-3
+shared-slice-read-phase-of-3 c = omega arith
+
+phase-of-requires : tie.Need-phase-of-requires
+phase-of-requires c κs = search needs
+
+mul-t4 : tie.Need-mul-t4
+mul-t4 c = omega arith
+
+shared-slice-read-t15 : tie.Need-shared-slice-read-t15
+shared-slice-read-t15 c = omega arith
+
+add-t13 : tie.Need-add-t13
+add-t13 c = omega arith
+
+mul-t12 : tie.Need-mul-t12
+mul-t12 c = omega arith
+
+shared-slice-read-t11 : tie.Need-shared-slice-read-t11
+shared-slice-read-t11 c = omega arith
+
+add-t9 : tie.Need-add-t9
+add-t9 c = omega arith
+
+mul-t8 : tie.Need-mul-t8
+mul-t8 c = omega arith
+
+shared-slice-read-t7 : tie.Need-shared-slice-read-t7
+shared-slice-read-t7 c = omega arith
+
+add-t5 : tie.Need-add-t5
+add-t5 c = omega arith
+
+mul-t19 : tie.Need-mul-t19
+mul-t19 c = omega arith
+
+shared-slice-read-t21 : tie.Need-shared-slice-read-t21
+shared-slice-read-t21 c = omega arith
+
+add-t22 : tie.Need-add-t22
+add-t22 c = omega arith
+
+mul-t23 : tie.Need-mul-t23
+mul-t23 c = omega arith
+
+shared-slice-read-t25 : tie.Need-shared-slice-read-t25
+shared-slice-read-t25 c = omega arith
+
+returns : tie.Need-returns
+returns c = simp (c .before .before .before .before .before .phase-of .ensures, getD-drop, add-zero)
+
+pub place-in-spec : {M : Type 1} → statement M
+place-in-spec =
+    tie.close
+    (tie.spec
+    add-phase-of
+    mul-phase-of
+    shared-slice-read-phase-of
+    add-phase-of-2
+    mul-phase-of-2
+    shared-slice-read-phase-of-2
+    add-phase-of-3
+    mul-phase-of-3
+    shared-slice-read-phase-of-3
+    phase-of-requires
+    mul-t4
+    shared-slice-read-t15
+    add-t13
+    mul-t12
+    shared-slice-read-t11
+    add-t9
+    mul-t8
+    shared-slice-read-t7
+    add-t5
+    mul-t19
+    shared-slice-read-t21
+    add-t22
+    mul-t23
+    shared-slice-read-t25
+    returns)

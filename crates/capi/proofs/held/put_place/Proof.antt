@@ -1,0 +1,57 @@
+-- `capi::held::put_place` meets its contract: eight stores from the front (`sets-eq`).
+-- Assumes nothing.
+use native.Mathlib.Omega.{arith}
+use lib.ListN.{length-set}
+use lib.Seq.{sets-eq}
+use Rattle.capi.specs.Encoding.{eight}
+use borrow.Author.Needs.{needs}
+use Rattle.capi.proofs.held.put_place.Statement.{statement}
+use Rattle.capi.proofs.held.put_place.Tie as tie
+
+slice-write-words : tie.Need-slice-write-words
+slice-write-words c = omega arith
+
+slice-write-words-2 : tie.Need-slice-write-words-2
+slice-write-words-2 c = simp length-set (omega arith)
+
+slice-write-words-3 : tie.Need-slice-write-words-3
+slice-write-words-3 c = simp length-set (omega arith)
+
+slice-write-words-4 : tie.Need-slice-write-words-4
+slice-write-words-4 c = simp length-set (omega arith)
+
+slice-write-words-5 : tie.Need-slice-write-words-5
+slice-write-words-5 c = simp length-set (omega arith)
+
+slice-write-words-6 : tie.Need-slice-write-words-6
+slice-write-words-6 c = simp length-set (omega arith)
+
+slice-write-words-7 : tie.Need-slice-write-words-7
+slice-write-words-7 c = simp length-set (omega arith)
+
+slice-write-words-8 : tie.Need-slice-write-words-8
+slice-write-words-8 c = simp length-set (omega arith)
+
+same-length : tie.Need-same-length
+same-length c = search needs
+
+returns : tie.Need-returns
+returns c =
+    let t = c .args .task in
+    let ph = c .args .phase in
+    sets-eq (eight t ph) (c .args .words .now) 0 (omega arith)
+
+pub put-place-spec : {M : Type 1} → statement M
+put-place-spec =
+    tie.close
+    (tie.spec
+    slice-write-words
+    slice-write-words-2
+    slice-write-words-3
+    slice-write-words-4
+    slice-write-words-5
+    slice-write-words-6
+    slice-write-words-7
+    slice-write-words-8
+    same-length
+    returns)

@@ -1,0 +1,34 @@
+-- `capi::held::row_of` meets its contract: the row of the run that the buffer holds, or 14.
+-- Assumes nothing.
+use mathlib.Core.Path.{sym, _∙_}
+use Rattle.capi.proofs.Places.{held-long}
+use Rattle.capi.proofs.Keeping.{row-held, row-none}
+use borrow.Author.Needs.{needs}
+use Rattle.capi.proofs.held.row_of.Statement.{statement}
+use Rattle.capi.proofs.held.row_of.Tie as tie
+
+holds-requires : tie.Need-holds-requires
+holds-requires c κs = search needs
+
+run-in-requires : tie.Need-run-in-requires
+run-in-requires c κs =
+    let h = c .before in
+    held-long (h .before .before .args .words .now) (sym (h .holds .ensures) ∙ c .if1 .taken)
+
+row-requires : tie.Need-row-requires
+row-requires c κs = search needs
+
+returns : tie.Need-returns
+returns c =
+    let r = c .before in
+    let t = r .before in
+    let h = t .before in
+    row-held (h .before .before .args .words .now) (sym (h .holds .ensures) ∙ t .if1 .taken) (r .run-in .ensures) (c .row .ensures .value)
+
+returns-2 : tie.Need-returns-2
+returns-2 c =
+    let h = c .before in
+    row-none (h .before .before .args .words .now) (sym (h .holds .ensures) ∙ c .if1 .left)
+
+pub row-of-spec : {M : Type 1} → statement M
+row-of-spec = tie.close (tie.spec holds-requires run-in-requires row-requires returns returns-2)

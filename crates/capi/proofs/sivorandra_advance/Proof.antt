@@ -1,0 +1,53 @@
+-- `capi::sivorandra_advance` meets its contract: buffer and answer are those of the advance, and its three words are put where there is room.
+-- Assumes nothing.
+use mathlib.Core.Path.{sym, ap, _∙_}
+use Rattle.capi.specs.declared.told.Told.{Told}
+use Rattle.capi.specs.Told.{written}
+use Rattle.capi.proofs.Keeping.{advance-narrow, advance-room}
+use borrow.Author.Needs.{needs}
+use Rattle.capi.proofs.sivorandra_advance.Statement.{statement}
+use Rattle.capi.proofs.sivorandra_advance.Tie as tie
+
+returns : tie.Need-returns
+returns c =
+    let a = c .before .before .before .args in
+    sym (advance-narrow (a .run .now) (a .answer .now) (a .reports) (c .if1 .taken))
+
+advance-requires : tie.Need-advance-requires
+advance-requires c κs = search needs
+
+of-answer-requires : tie.Need-of-answer-requires
+of-answer-requires c κs = search needs
+
+put-requires : tie.Need-put-requires
+put-requires c κs = search needs
+
+same-length : tie.Need-same-length
+same-length c = search needs
+
+same-length-2 : tie.Need-same-length-2
+same-length-2 c = search needs
+
+returns-2 : tie.Need-returns-2
+returns-2 c =
+    let p = c .before .before in
+    let o = p .before .before in
+    let v = o .before .before .before in
+    let e = v .before .before in
+    let a = e .before .before .before .args in
+    advance-room (a .run .now) (a .answer .now) (a .reports) (v .advance .result)
+    (e .if1 .left)
+    (v .advance .ensures)
+    (p .put .ensures ∙ ap (λ (t : Told). written t (a .answer .now)) (o .of-answer .ensures))
+
+pub sivorandra-advance-spec : {M : Type 1} → statement M
+sivorandra-advance-spec =
+    tie.close
+    (tie.spec
+    returns
+    advance-requires
+    of-answer-requires
+    put-requires
+    same-length
+    same-length-2
+    returns-2)

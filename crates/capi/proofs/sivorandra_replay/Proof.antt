@@ -1,0 +1,78 @@
+-- `capi::sivorandra_replay` meets its contract: numbers, row and answer are the replay's, and its three words are put where there is room.
+-- Assumes nothing.
+use mathlib.Core.Path.{_≡_, sym, ap, _∙_}
+use borrow.Author.Needs.{needs}
+use Rattle.capi.specs.declared.told.Told.{Told}
+use Rattle.capi.specs.Told.{written}
+use Rattle.capi.proofs.Replaying.{replay-narrow, replay-short, replay-room}
+use Rattle.capi.proofs.sivorandra_replay.Statement.{statement}
+use Rattle.capi.proofs.sivorandra_replay.Tie as tie
+
+returns : tie.Need-returns
+returns c =
+    let a = c .before .before .before .before .before .before .args in
+    sym (replay-narrow (a .words .now) (a .reports .now) (a .numbers .now) (a .row .now) (a .answer .now) (c .if1 .taken))
+
+replay-requires : tie.Need-replay-requires
+replay-requires c κs = search needs
+
+had-room-requires : tie.Need-had-room-requires
+had-room-requires c κs = search needs
+
+of-replayed-requires : tie.Need-of-replayed-requires
+of-replayed-requires c κs = search needs
+
+put-requires : tie.Need-put-requires
+put-requires c κs = search needs
+
+same-length : tie.Need-same-length
+same-length c = search needs
+
+same-length-2 : tie.Need-same-length-2
+same-length-2 c = search needs
+
+same-length-3 : tie.Need-same-length-3
+same-length-3 c = search needs
+
+returns-2 : tie.Need-returns-2
+returns-2 c =
+    let p = c .before .before in
+    let o = p .before .before in
+    let h = o .before .before in
+    let q = h .before .before .before .before .before in
+    let e = q .before .before .before in
+    let a = e .before .before .before .before .before .before .args in
+    replay-room (a .words .now) (a .reports .now) (a .numbers .now) (a .row .now) (a .answer .now) _ (q .replay .ensures)
+    (sym (h .had-room .ensures) ∙ o .before .if2 .taken)
+    (e .if1 .left)
+    (p .put .ensures ∙ ap (λ (t : Told). written t (a .answer .now)) (o .of-replayed .ensures))
+
+same-length-4 : tie.Need-same-length-4
+same-length-4 c = search needs
+
+same-length-5 : tie.Need-same-length-5
+same-length-5 c = search needs
+
+returns-3 : tie.Need-returns-3
+returns-3 c =
+    let h = c .before in
+    let q = h .before .before .before .before .before in
+    let a = q .before .before .before .before .before .before .before .before .before .args in
+    replay-short (a .words .now) (a .reports .now) (a .numbers .now) (a .row .now) (a .answer .now) _ (q .replay .ensures) (sym (h .had-room .ensures) ∙ c .if2 .left)
+
+pub sivorandra-replay-spec : {M : Type 1} → statement M
+sivorandra-replay-spec =
+    tie.close
+    (tie.spec
+    returns
+    replay-requires
+    had-room-requires
+    of-replayed-requires
+    put-requires
+    same-length
+    same-length-2
+    same-length-3
+    returns-2
+    same-length-4
+    same-length-5
+    returns-3)

@@ -1,0 +1,5 @@
+pub mod Told
+pub mod Calls
+pub mod Replays
+pub mod Encoding
+pub mod Runs

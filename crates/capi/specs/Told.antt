@@ -1,0 +1,36 @@
+-- An answer in three words: the case and its two numbers, 0 where it has none.
+use mathlib.Core.List.{List, _∷_}
+use Prim.Native.Nat.{ℕ}
+use lib.ListN.{drop}
+use Rattle.judge.specs.declared.Verdict.{Verdict}
+use Rattle.judge.specs.declared.Verdict.the-variants as judge
+use Rattle.plan.specs.declared.Planned.{Planned}
+use Rattle.plan.specs.declared.Planned.the-variants as plan
+use Rattle.run.specs.declared.Answer.{Answer}
+use Rattle.run.specs.declared.Answer.the-variants as run
+use Rattle.capi.specs.declared.told.Told.{Told}
+
+-- a case and its two numbers
+abbrev pub says : ℕ → ℕ → ℕ → Told
+says n a b = record { kind = n; first = a; second = b }
+
+-- the judge's four cases: 0 Firm S P, 1 Full S P, 2 Miss tick position, 3 Refused number position
+abbrev pub ofVerdict : Verdict → Told
+ofVerdict (judge.Firm s p) = says 0 s p
+ofVerdict (judge.Full s p) = says 1 s p
+ofVerdict (judge.Miss t p) = says 2 t p
+ofVerdict (judge.Refused n p) = says 3 n p
+
+-- the plan's two cases: 0 written, 3 Refused number position
+abbrev pub ofPlanned : Planned → Told
+ofPlanned plan.Written = says 0 0 0
+ofPlanned (plan.Refused n p) = says 3 n p
+
+-- start, row and advance: 0 taken, 3 Refused number position
+abbrev pub ofAnswer : Answer → Told
+ofAnswer run.Taken = says 0 0 0
+ofAnswer (run.Refused n p) = says 3 n p
+
+-- the lent slice afterwards: the three words, and behind them what stood there
+abbrev pub written : Told → List ℕ → List ℕ
+written t old = t .kind ∷ (t .first ∷ (t .second ∷ drop 3 old))

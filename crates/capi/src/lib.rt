@@ -1,0 +1,125 @@
+// The library to link: the judge, the plan, the replay and the run in the cab for C and Rust, on numbers and lent slices.
+// Each function returns 0 where the call is answered, and 1 where a lent slice is too short: then everything is as found.
+// The answer stands in the three first words of `answer`: a case and two numbers.
+ghost use mathlib.Core.Path.{_≡_};
+ghost use mathlib.Core.List.{[], _∷_};
+ghost use Rattle.capi.specs.Calls.{judgeCall, planCall};
+ghost use Rattle.capi.specs.Replays.{replayCall};
+ghost use Rattle.capi.specs.Runs.{startCall, rowCall, advanceCall};
+
+mod held; // held.rt: a run in a lent buffer of words
+mod replays; // replays.rt: what a replay says
+mod told; // told.rt: an answer in three words
+
+// The verdict on a table's words: case 0 Firm S P, 1 Full S P, 2 Miss tick position, 3 Refused number position.
+#[no_mangle]
+pub extern "C" fn sivorandra_judge(words: &[u32], answer: &mut [u32]) -> u32
+    ensures { λ r. ⌜ record { value = r; lent = now (answer .exit) ∷ [] } ≡ judgeCall (now (words .entry)) (now (answer .entry)) ⌝ }
+{
+    if answer.len() < 3 {
+        return 1;
+    }
+    let verdict = judge::judge(words);
+    let told = told::of_verdict(verdict);
+    told::put(told, answer);
+    0
+}
+
+// Rows a up to but not including b of the full-length run into `rows`, one byte a core: case 0, or 3 Refused number position and the rows as found.
+#[no_mangle]
+pub extern "C" fn sivorandra_plan(
+    words: &[u32],
+    a: u32,
+    b: u32,
+    rows: &mut [u8],
+    answer: &mut [u32],
+) -> u32
+    ensures { λ r. ⌜ record { value = r; lent = now (rows .exit) ∷ (now (answer .exit) ∷ []) } ≡ planCall (now (words .entry)) a b (now (rows .entry)) (now (answer .entry)) ⌝ }
+{
+    if answer.len() < 3 {
+        return 1;
+    }
+    let planned = plan::plan(words, a, b, rows);
+    let told = told::of_planned(planned);
+    told::put(told, answer);
+    0
+}
+
+// The run of a table's words, advanced through all of `reports`: its answers go into `numbers`, its last row into the first 64 bytes of `row`.
+// Case 0: the last row is shown; 4: the last row is refused, number position; 3: the start is Refused number position, and both as found.
+#[no_mangle]
+pub extern "C" fn sivorandra_replay(
+    words: &[u32],
+    reports: &[u32],
+    numbers: &mut [u32],
+    row: &mut [u8],
+    answer: &mut [u32],
+) -> u32
+    ensures { λ r. ⌜ record { value = r; lent = now (numbers .exit) ∷ (now (row .exit) ∷ (now (answer .exit) ∷ [])) } ≡ replayCall (now (words .entry)) (now (reports .entry)) (now (numbers .entry)) (now (row .entry)) (now (answer .entry)) ⌝ }
+{
+    if answer.len() < 3 {
+        return 1;
+    }
+    let replayed = demand::replay(words, reports, numbers, row);
+    if replays::had_room(replayed) {
+        let told = replays::of_replayed(replayed);
+        told::put(told, answer);
+        return 0;
+    }
+    1
+}
+
+// The run of a table's words as it starts, into the first 259 words of `run`: case 0, or 3 Refused number position and the run of all zeros.
+#[no_mangle]
+pub extern "C" fn sivorandra_start(words: &[u32], run: &mut [u32], answer: &mut [u32]) -> u32
+    ensures { λ r. ⌜ record { value = r; lent = now (run .exit) ∷ (now (answer .exit) ∷ []) } ≡ startCall (now (words .entry)) (now (run .entry)) (now (answer .entry)) ⌝ }
+{
+    if answer.len() < 3 {
+        return 1;
+    }
+    if run.len() < 259 {
+        return 1;
+    }
+    let started = run::start(words);
+    let first = started.run;
+    held::put_run(first, run);
+    let given = started.answer;
+    let told = told::of_answer(given);
+    told::put(told, answer);
+    0
+}
+
+// The row of the present tick into the first 64 bytes of `row`: case 0, or 3 Refused number position and 64 zeros; 14 where `run` holds no run.
+#[no_mangle]
+pub extern "C" fn sivorandra_row(run: &[u32], row: &mut [u8], answer: &mut [u32]) -> u32
+    ensures { λ r. ⌜ record { value = r; lent = now (row .exit) ∷ (now (answer .exit) ∷ []) } ≡ rowCall (now (run .entry)) (now (row .entry)) (now (answer .entry)) ⌝ }
+{
+    if answer.len() < 3 {
+        return 1;
+    }
+    if row.len() < 64 {
+        return 1;
+    }
+    let shown = held::row_of(run);
+    let bytes = shown.bytes;
+    held::put_row(bytes, row);
+    let given = shown.answer;
+    let told = told::of_answer(given);
+    told::put(told, answer);
+    0
+}
+
+// The run one tick on, where bit p of `reports` says that the job of position p + 1 ends after this tick: case 0, or 3 Refused number position
+// and `run` as found; 14 where `run` holds no run.
+#[no_mangle]
+pub extern "C" fn sivorandra_advance(run: &mut [u32], reports: u32, answer: &mut [u32]) -> u32
+    ensures { λ r. ⌜ record { value = r; lent = now (run .exit) ∷ (now (answer .exit) ∷ []) } ≡ advanceCall (now (run .entry)) reports (now (answer .entry)) ⌝ }
+{
+    if answer.len() < 3 {
+        return 1;
+    }
+    let given = held::advance(run, reports);
+    let told = told::of_answer(given);
+    told::put(told, answer);
+    0
+}

@@ -1,0 +1,45 @@
+// What a replay says.
+ghost use mathlib.Core.Path.{_≡_};
+ghost use Rattle.capi.specs.Replays.{hadRoom, ofReplayed};
+use crate::told::Told;
+use demand::Replayed;
+
+// Whether the replay's own lent slices had room.
+pub fn had_room(replayed: Replayed) -> bool
+    ensures { λ r. ⌜ r ≡ hadRoom replayed ⌝ }
+{
+    match replayed {
+        Replayed::Shown => true,
+        Replayed::RowRefused(_, _) => true,
+        Replayed::Refused(_, _) => true,
+        Replayed::Short => false,
+    }
+}
+
+// The cases of a replay that had room.
+pub fn of_replayed(replayed: Replayed) -> Told
+    ensures { λ r. ⌜ r ≡ ofReplayed replayed ⌝ }
+{
+    match replayed {
+        Replayed::Shown => Told {
+            kind: 0,
+            first: 0,
+            second: 0,
+        },
+        Replayed::RowRefused(number, position) => Told {
+            kind: 4,
+            first: number,
+            second: position,
+        },
+        Replayed::Refused(number, position) => Told {
+            kind: 3,
+            first: number,
+            second: position,
+        },
+        Replayed::Short => Told {
+            kind: 0,
+            first: 0,
+            second: 0,
+        },
+    }
+}

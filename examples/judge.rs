@@ -1,0 +1,54 @@
+//! The table of tables/a.txt from Rust: its verdict, its rows, and two ticks of a run in which the job of position 1 ends early.
+use sivorandra::{judge, plan, Refusal, Run, Verdict};
+
+// head, cores, rule; then for each record: next, offset, width, length, deadline, period
+const TABLE: [u32; 21] = [
+    1, 3, 1, //
+    2, 0, 2, 2, 5, 5, //
+    3, 0, 2, 3, 5, 5, //
+    0, 0, 1, 4, 5, 5,
+];
+const CORES: usize = 3;
+
+fn print_row(tick: usize, row: &[u8]) {
+    let cores: Vec<String> = row[..CORES].iter().map(u8::to_string).collect();
+    println!("{tick} {}", cores.join(" "));
+}
+
+fn show() -> Result<(), Refusal> {
+    let ticks = match judge(&TABLE)? {
+        Verdict::Firm { start, period } => {
+            println!("firm {start} {period}");
+            start + period
+        }
+        Verdict::Full { start, period } => {
+            println!("full {start} {period}");
+            start + period
+        }
+        Verdict::Miss { tick, position } => {
+            println!("miss {tick} {position}");
+            tick
+        }
+    };
+
+    let mut rows = vec![0; ticks as usize * CORES];
+    plan(&TABLE, 0, ticks, &mut rows)?;
+    for (tick, row) in rows.chunks(CORES).enumerate() {
+        print_row(tick, row);
+    }
+
+    let mut run = Run::start(&TABLE)?;
+    println!("the job of position 1 ends after tick 0");
+    for (tick, reports) in [1, 0].into_iter().enumerate() {
+        print_row(tick, &run.row()?);
+        run.advance(reports)?;
+    }
+    Ok(())
+}
+
+fn main() {
+    if let Err(Refusal { number, position }) = show() {
+        println!("refused {number} {position}");
+        std::process::exit(1);
+    }
+}
