@@ -2,6 +2,7 @@
 """Runs the program, hands its output on as it is, and says on standard error how many of the rows have gone by: progress.py PROGRAM < table
 
 How many there will be it reads from the verdict line. Where standard output is a terminal too, it is silent from the first row on."""
+import fcntl
 import os
 import select
 import subprocess
@@ -10,6 +11,7 @@ import time
 
 QUIET = 1.5  # seconds before the first word
 EVERY = 0.5  # seconds between two words
+BLOCK = 1 << 18  # bytes that are handed on at once
 
 
 # How many rows follow a verdict line.
@@ -21,9 +23,8 @@ def rows_after(line):
 
 
 def write_all(block):
-    rest = memoryview(block)
-    while rest:
-        rest = rest[os.write(1, rest):]
+    while block:
+        block = block[os.write(1, block):]
 
 
 # The line that is rewritten.
@@ -45,20 +46,25 @@ class Line:
 
 
 def hand_on(source, line):
+    try:
+        fcntl.fcntl(source, 1031, BLOCK)  # F_SETPIPE_SZ: a longer pipe, fewer turns
+    except OSError:
+        pass
     first, lines, total = b"", 0, None
+    buffer = bytearray(BLOCK)
     while True:
         if select.select([source], [], [], EVERY)[0]:
-            block = os.read(source, 1 << 20)
-            if not block:
+            count = os.readv(source, [buffer])
+            if not count:
                 return
             if total is None:
-                first += block
+                first += buffer[:count]
                 if b"\n" in first:
                     total = rows_after(first[:first.index(b"\n")])
-            lines += block.count(b"\n")
+            lines += buffer.count(b"\n", 0, count)
             if os.isatty(1):
                 line.clear()
-            write_all(block)
+            write_all(memoryview(buffer)[:count])
         if total is None:
             line.say("no verdict yet")
         elif not os.isatty(1):
