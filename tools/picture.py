@@ -5,6 +5,7 @@ It decides nothing. The cells are the program's rows and the words are the progr
 beside each task are the table's. The program's output is read as a stream: only the rows that are drawn are kept."""
 import collections
 import colorsys
+import contextlib
 import itertools
 import os
 import subprocess
@@ -86,27 +87,30 @@ def colour(position):
     return "#%02x%02x%02x" % (round(red * 255), round(green * 255), round(blue * 255)), ink
 
 
+def attributes(words):
+    return "".join(f" {key.replace('_', '-')}={quoteattr(str(value))}" for key, value in words.items())
+
+
 # The elements of a picture, and how large it must be to show them.
 class Sheet:
     def __init__(self):
         self.parts, self.right, self.bottom = [], 0, 0
 
+    def add(self, name, inner=None, **words):
+        self.parts.append(f"<{name}{attributes(words)}/>" if inner is None else f"<{name}{attributes(words)}>{escape(inner)}</{name}>")
+
     def reach(self, x, y):
         self.right, self.bottom = max(self.right, x), max(self.bottom, y)
-
-    def add(self, name, inner=None, **words):
-        said = "".join(f" {key.replace('_', '-')}={quoteattr(str(value))}" for key, value in words.items())
-        self.parts.append(f"<{name}{said}/>" if inner is None else f"<{name}{said}>{escape(inner)}</{name}>")
 
     def text(self, x, y, words, size=11, **more):
         room = len(words) * size * 0.6
         self.reach(x + room * {"middle": 0.5, "end": 0}.get(more.get("text_anchor"), 1), y + 4)
         self.add("text", words, x=round(x, 2), y=round(y, 2), font_size=size, **more)
 
-    def open(self, **words):
-        self.parts.append("<g" + "".join(f" {key.replace('_', '-')}={quoteattr(str(value))}" for key, value in words.items()) + ">")
-
-    def close(self):
+    @contextlib.contextmanager
+    def group(self, **words):
+        self.parts.append(f"<g{attributes(words)}>")
+        yield
         self.parts.append("</g>")
 
     def out(self, title):
@@ -129,156 +133,165 @@ def refusal(number, position):
     return sheet.out(title)
 
 
-# The stretch of a horizontal run of cells with one position on one core; a new job starts a new run.
-def runs(row, first, tasks):
+# The runs of equal positions in a line of cells, as position, first cell, length; a new job starts a new run.
+def runs(line, start, tasks):
     begin = 0
-    for at in range(1, len(row) + 1):
-        position = row[begin]
-        if at < len(row) and row[at] == position:
-            if not position or first + at < tasks[position - 1].O or (first + at - tasks[position - 1].O) % tasks[position - 1].T:
-                continue
+    for at in range(1, len(line) + 1):
+        position = line[begin]
+        if at < len(line) and line[at] == position and not (position and (start + at - tasks[position - 1].O) % tasks[position - 1].T == 0):
+            continue
         if position:
             yield position, begin, at - begin
         begin = at
 
 
-# The first moment of a task's jobs, at `after` ticks from each release, that is not before `start`.
+# The ticks from `start` to `end` that are `after` ticks from a release.
 def moments(task, after, start, end):
     first = task.O + after
-    if first < start:
-        first += -((first - start) // task.T) * task.T
-    return range(first, end + 1, task.T)
+    return range(first + max(0, -(-(start - first) // task.T)) * task.T, end + 1, task.T)
 
 
-def chart(word, first, second, table, start, end, about, rows):
+MONO = {"font_size": 10, "font_family": "DejaVu Sans Mono, Menlo, Consolas, monospace", "xml:space": "preserve", "fill": "#333"}
+
+
+# The chart of a stretch of ticks: cores over ticks, below it a strip for each task.
+class Chart(Sheet):
+    def __init__(self, cores, tasks, start, end, rows):
+        super().__init__()
+        self.cores, self.tasks, self.start, self.end, self.rows = cores, tasks, start, end, rows
+        self.wide = min(80, max(12, 960 / (end - start)))
+        self.high = next(size for most, size in ((8, 28), (16, 20), (32, 15), (64, 12)) if cores <= most)
+        self.strip = 24 if len(tasks) <= 12 else 18
+        self.columns = [max(len(name), *(len(str(task[k])) for task in tasks)) + 2 for k, name in enumerate(Task._fields)]
+        self.left = 16 + 40 + 6.1 * sum(self.columns)
+        self.top = 126
+        self.under = self.top + cores * self.high
+        self.foot = self.under + 46 + len(tasks) * self.strip
+        self.reach(self.x(end) + 12, self.foot)
+
+    def x(self, tick):
+        return round(self.left + (tick - self.start) * self.wide, 2)
+
+    def base(self, place):
+        return self.under + 46 + (place + 1) * self.strip - 4
+
+    def bar(self, since, until, base, **words):
+        self.add("rect", x=self.x(since), y=base - 8, width=round((until - since) * self.wide, 2), height=8, **words)
+
+    # The cells. In the group `rows` x is the tick since the first, y the core.
+    def cells(self):
+        ticks, found = self.end - self.start, collections.defaultdict(list)
+        for core in range(self.cores):
+            for position, at, length in runs([row[core] for row in self.rows], self.start, self.tasks):
+                found[position].append((at, core, length))
+        with self.group(id="rows", transform=f"translate({self.left} {self.top}) scale({self.wide} {self.high})"):
+            self.add("title", f"from tick {self.start}, {ticks} ticks, {self.cores} cores")
+            self.add("rect", width=ticks, height=self.cores, fill="#f4f4f4")
+            for position in sorted(found):
+                with self.group(id=f"p{position}", fill=colour(position)[0]):
+                    for at, core, length in found[position]:
+                        self.add("rect", x=at, y=core, width=length, height=1)
+        with self.group(stroke="#fff", stroke_width=0.6):
+            for tick in range(self.start + 1, self.end):
+                self.add("line", x1=self.x(tick), x2=self.x(tick), y1=self.top, y2=self.under)
+        with self.group(stroke="#fff", stroke_width=1.2):
+            for core in range(1, self.cores):
+                self.add("line", x1=self.x(self.start), x2=self.x(self.end), y1=self.top + core * self.high, y2=self.top + core * self.high)
+        size = min(14, self.high - 2, self.wide * 0.75)
+        for position in sorted(found):
+            with self.group(fill=colour(position)[1], text_anchor="middle", font_size=round(size, 1)):
+                for at, core, length in found[position]:
+                    # the number in each cell, or where cells are small in one of a run and in every tenth of a long one
+                    for cell in range(at, at + length) if self.wide >= 24 else range(at + min(5, (length - 1) // 2), at + length, 10):
+                        self.add("text", str(position), x=round(self.x(self.start + cell) + self.wide / 2, 2), y=round(self.top + (core + 0.5) * self.high + size * 0.36, 2))
+        self.add("rect", x=self.x(self.start), y=self.top, width=round(ticks * self.wide, 2), height=self.cores * self.high, stroke="#888", fill="none")
+        with self.group(fill="#333", text_anchor="end"):
+            for core in range(0, self.cores, 1 if self.high >= 15 else 4):
+                self.text(self.left - 6, self.top + core * self.high + self.high / 2 + 4, f"core {core}", 11, text_anchor="end")
+
+    # The strips: for each task its numbers, the time from release to deadline, the ticks in which it runs, its releases and deadlines.
+    def strips(self, late):
+        label = lambda fields: "".join(str(field).rjust(width) for field, width in zip(fields, self.columns))
+        self.parts.append('<defs><path id="up" d="M0 0V-14M-3 -9L0 -15L3 -9Z" stroke="#000" fill="#000"/>'
+                          '<path id="down" d="M0 -14V0M-3.5 -6L0 0L3.5 -6" stroke="#000" fill="none"/></defs>')
+        self.add("text", label(Task._fields), x=42, y=self.under + 38, **MONO)
+        for place, task in enumerate(self.tasks):
+            base, (fill, ink) = self.base(place), colour(place + 1)
+            with self.group(id=f"task{place + 1}"):
+                self.add("rect", x=16, y=base - 12, width=24, height=14, fill=fill)
+                self.add("text", str(place + 1), x=28, y=base - 1, font_size=11, text_anchor="middle", fill=ink)
+                self.add("text", label(task), x=42, y=base - 1, **MONO)
+                for due in moments(task, task.D, self.start + 1, self.end + task.D - 1):
+                    self.bar(max(self.start, due - task.D), min(self.end, due), base, fill="#d8d8d8")
+                for _, at, length in runs([place + 1 if place + 1 in row else 0 for row in self.rows], self.start, self.tasks):
+                    self.bar(self.start + at, self.start + at + length, base, fill=fill)
+                if late and late[1] == place + 1:
+                    self.bar(max(self.start, late[0] - task.D), late[0], base, fill="none", stroke="#c00000", stroke_width=1.5)
+                self.add("line", x1=self.x(self.start), x2=self.x(self.end), y1=base, y2=base, stroke="#888")
+                for name, arrow, after in (("releases", "up", 0), ("deadlines", "down", task.D)):
+                    with self.group(id=f"{name}{place + 1}"):
+                        for tick in moments(task, after, self.start, self.end):
+                            self.arrow(arrow, self.x(tick), base)
+
+    def arrow(self, name, x, y):
+        self.parts.append(f'<use xlink:href="#{name}" x="{x}" y="{y}"/>')
+
+    # A mark across chart and strips, if its tick is in the picture.
+    def mark(self, name, tick, words, y, ink, dashes):
+        if self.start <= tick <= self.end:
+            at = self.x(tick)
+            self.add("line", id=name, x1=at, x2=at, y1=y - 8, y2=self.foot + 2, stroke=ink, stroke_width=2, stroke_dasharray=dashes)
+            if at + len(words) * 12 * 0.6 > max(self.x(self.end), 560):
+                self.text(at - 5, y, words, 12, fill=ink, text_anchor="end")
+            else:
+                self.text(at + 5, y, words, 12, fill=ink)
+
+    # The ticks' numbers, over the marks.
+    def ticks(self):
+        step = next(step for step in (k * 10 ** n for n in range(8) for k in (1, 2, 5)) if step * self.wide >= 7 * len(str(self.end)) + 8)
+        with self.group(fill="#333", text_anchor="middle", font_size=11):
+            for tick in range(-(-self.start // step) * step, self.end + 1, step):
+                room = 6.5 * len(str(tick)) + 4
+                self.add("line", x1=self.x(tick), x2=self.x(tick), y1=self.under, y2=self.under + 4, stroke="#888")
+                self.add("rect", x=round(self.x(tick) - room / 2, 2), y=self.under + 5, width=round(room, 2), height=14, fill="#fff")
+                self.add("text", str(tick), x=self.x(tick), y=self.under + 16)
+
+    # How to read it.
+    def legend(self):
+        y = self.foot + 24
+        self.arrow("up", 22, y + 2)
+        self.text(30, y, "release")
+        self.arrow("down", 84, y + 2)
+        self.text(92, y, "deadline")
+        self.add("rect", x=150, y=y - 8, width=20, height=8, fill="#d8d8d8")
+        self.text(175, y, "from release to deadline; coloured where the task runs")
+        self.text(16, y + 18, "The number in a cell is the position of the task that has the core; an empty cell is an idle core.")
+
+
+def number_of(count, thing):
+    return f"{count} {thing}{'' if count == 1 else 's'}"
+
+
+# The picture of a verdict that is no refusal, and of the rows that it needs from the program's lines.
+def chart(word, first, second, table, lines):
     cores, rule, tasks = table
-    ticks = end - start
-    wide = min(80, max(12, 960 / ticks))
-    high = next(size for most, size in ((8, 28), (16, 20), (32, 15), (64, 12)) if cores <= most)
-    strip = 24 if len(tasks) <= 12 else 18
-    widths = [max(len(name), *(len(str(task[k])) for task in tasks)) + 2 for k, name in enumerate(Task._fields)]
-    label = lambda fields: "".join(str(field).rjust(width) for field, width in zip(fields, widths))
-    left = 16 + max(52, 40 + 6.1 * sum(widths))
-    top = 126
-    below = top + cores * high + 46
-    foot = below + len(tasks) * strip
-    x = lambda tick: round(left + (tick - start) * wide, 2)
-    sheet = Sheet()
-    sheet.reach(x(end) + 12, foot)
-
+    start, end, about = stretch(word, first, second)
+    sheet = Chart(cores, tasks, start, end, rows_of(lines, start, end, cores, len(tasks)))
     title = VERDICTS[word].format(first, second)
-    many = lambda number, thing: f"{number} {thing}{'' if number == 1 else 's'}"
-    about_it = f"{many(len(tasks), 'task')} on {many(cores, 'core')}, rule {rule} ({RULES.get(rule, '?')})"
     sheet.text(16, 28, title, 17, font_weight="bold")
-    sheet.text(16, 50, about_it + (f"; S is {first}, P is {second}" if word != "miss" else ""), 13)
+    sheet.text(16, 50, f"{number_of(len(tasks), 'task')} on {number_of(cores, 'core')}, rule {rule} ({RULES[rule]})" + ("" if word == "miss" else f"; S is {first}, P is {second}"), 13)
     sheet.text(16, 69, f"Ticks {start} to {end}: {about}.", 13)
-
-    # the cells: in this group x is the tick since the first, y the core
-    sheet.open(id="rows", transform=f"translate({left} {top}) scale({wide} {high})")
-    sheet.parts.append(f"<title>from tick {start}, {ticks} ticks, {cores} cores</title>")
-    sheet.add("rect", width=ticks, height=cores, fill="#f4f4f4")
-    found = collections.defaultdict(list)
-    for core in range(cores):
-        for position, at, length in runs([row[core] for row in rows], start, tasks):
-            found[position].append((at, core, length))
-    for position in sorted(found):
-        sheet.open(id=f"p{position}", fill=colour(position)[0])
-        for at, core, length in found[position]:
-            sheet.add("rect", x=at, y=core, width=length, height=1)
-        sheet.close()
-    sheet.close()
-    sheet.open(stroke="#fff", stroke_width=0.6)
-    for tick in range(start + 1, end):
-        sheet.add("line", x1=x(tick), x2=x(tick), y1=top, y2=top + cores * high)
-    sheet.close()
-    sheet.open(stroke="#fff", stroke_width=1.2)
-    for core in range(1, cores):
-        sheet.add("line", x1=x(start), x2=x(end), y1=top + core * high, y2=top + core * high)
-    sheet.close()
-    size = min(14, high - 2, wide * 0.75)
-    for position in sorted(found):
-        sheet.open(fill=colour(position)[1], text_anchor="middle")
-        for at, core, length in found[position]:
-            # in each cell, or where cells are small in one of a run, in every tenth of a long one
-            for cell in range(at, at + length) if wide >= 24 else range(at + min(5, (length - 1) // 2), at + length, 10):
-                sheet.add("text", str(position), x=round(x(start + cell) + wide / 2, 2), y=round(top + core * high + high / 2 + size * 0.36, 2), font_size=round(size, 1))
-        sheet.close()
-    sheet.open(stroke="#888", fill="none")
-    sheet.add("rect", x=x(start), y=top, width=round(ticks * wide, 2), height=cores * high)
-    sheet.close()
-
-    # the names of the cores
-    sheet.open(fill="#333", text_anchor="end")
-    every = 1 if high >= 15 else 2 if high > 12 else 4
-    for core in range(0, cores, every):
-        sheet.text(left - 6, top + core * high + high / 2 + 4, f"core {core}", 11)
-    sheet.close()
-
-    # a strip for each task: its window from release to deadline, the ticks in which it runs, its releases and deadlines
-    sheet.parts.append('<defs><path id="up" d="M0 0V-14M-3 -9L0 -15L3 -9Z" stroke="#000" fill="#000"/>'
-                       '<path id="down" d="M0 -14V0M-3.5 -6L0 0L3.5 -6" stroke="#000" fill="none"/></defs>')
-    mono = {"font_family": "DejaVu Sans Mono, Menlo, Consolas, monospace", "xml:space": "preserve", "fill": "#333"}
-    sheet.add("text", label(Task._fields), x=42, y=below - 8, font_size=10, **mono)
-    for place, task in enumerate(tasks):
-        base = below + (place + 1) * strip - 4
-        fill, ink = colour(place + 1)
-        sheet.open(id=f"task{place + 1}")
-        sheet.add("rect", x=16, y=base - 12, width=24, height=14, fill=fill)
-        sheet.add("text", str(place + 1), x=28, y=base - 1, font_size=11, text_anchor="middle", fill=ink)
-        sheet.add("text", label(task), x=42, y=base - 1, font_size=10, **mono)
-        for due in moments(task, task.D, start, end + task.D):
-            since, until = max(start, due - task.D), min(end, due)
-            if since < until:
-                late = word == "miss" and (due, place + 1) == (first, second)
-                sheet.add("rect", x=x(since), y=base - 8, width=round((until - since) * wide, 2), height=8, fill="#f2a6a6" if late else "#ddd")
-        ran = [place + 1 if place + 1 in row else 0 for row in rows]
-        for _, at, length in runs(ran, start, tasks):
-            sheet.add("rect", x=x(start + at), y=base - 8, width=round(length * wide, 2), height=8, fill=fill)
-        sheet.add("line", x1=x(start), x2=x(end), y1=base, y2=base, stroke="#888")
-        for name, mark, after in (("releases", "up", 0), ("deadlines", "down", task.D)):
-            sheet.open(id=f"{name}{place + 1}")
-            for tick in moments(task, after, start, end):
-                sheet.parts.append(f'<use xlink:href="#{mark}" x="{x(tick)}" y="{base}"/>')
-            sheet.close()
-        sheet.close()
-
-    # the marks across: S, the first repeat, the miss
-    def mark(name, tick, words, y, ink, dashes):
-        if not start <= tick <= end:
-            return
-        sheet.add("line", id=name, x1=x(tick), x2=x(tick), y1=y - 8, y2=foot + 2, stroke=ink, stroke_width=2, stroke_dasharray=dashes)
-        room = len(words) * 12 * 0.6
-        if x(tick) + room > max(x(end), 560):
-            sheet.text(x(tick) - 5, y, words, 12, fill=ink, text_anchor="end")
-        else:
-            sheet.text(x(tick) + 5, y, words, 12, fill=ink)
-
+    sheet.cells()
     if word == "miss":
-        mark("miss", first, f"miss at tick {first}, position {second}", top - 10, "#c00000", "none")
-        base = below + second * strip - 4
-        sheet.add("path", id="late", d=f"M{x(first) - 6} {base - 14}l12 12m0 -12l-12 12", stroke="#c00000", stroke_width=3, fill="none")
+        sheet.strips((first, second))
+        sheet.mark("miss", first, f"miss at tick {first}, position {second}", sheet.top - 10, "#c00000", "none")
+        sheet.add("path", id="late", d=f"M{sheet.x(first) - 6} {sheet.base(second - 1) - 14}l12 12m0 -12l-12 12", stroke="#c00000", stroke_width=3, fill="none")
     else:
-        mark("S", first, f"S, tick {first}", top - 26, "#00459c", "6 3")
-        mark("repeat", first + second, f"first repeat, S + P, tick {first + second}", top - 10, "#00459c", "2 3")
-
-    # the ticks, over the marks
-    step = next(step for step in (k * 10 ** n for n in range(8) for k in (1, 2, 5)) if step * wide >= 7 * len(str(end)) + 8)
-    sheet.open(fill="#333", text_anchor="middle")
-    for tick in range(-(-start // step) * step, end + 1, step):
-        sheet.add("line", x1=x(tick), x2=x(tick), y1=top + cores * high, y2=top + cores * high + 4, stroke="#888")
-        room = 6.5 * len(str(tick)) + 4
-        sheet.add("rect", x=round(x(tick) - room / 2, 2), y=top + cores * high + 5, width=round(room, 2), height=14, fill="#fff")
-        sheet.add("text", str(tick), x=x(tick), y=top + cores * high + 16, font_size=11)
-    sheet.close()
-
-    # how to read it
-    sheet.parts.append(f'<use xlink:href="#up" x="22" y="{foot + 26}"/>')
-    sheet.text(30, foot + 24, "release", 11)
-    sheet.parts.append(f'<use xlink:href="#down" x="84" y="{foot + 26}"/>')
-    sheet.text(92, foot + 24, "deadline", 11)
-    sheet.add("rect", x=150, y=foot + 16, width=20, height=8, fill="#ddd")
-    sheet.text(175, foot + 24, "from release to deadline; coloured where the task runs", 11)
-    sheet.text(16, foot + 42, "The number in a cell is the position of the task that has the core; an empty cell is an idle core.", 11)
+        sheet.strips(None)
+        sheet.mark("S", first, f"S, tick {first}", sheet.top - 26, "#00459c", "6 3")
+        sheet.mark("repeat", first + second, f"first repeat, S + P, tick {first + second}", sheet.top - 10, "#00459c", "2 3")
+    sheet.ticks()
+    sheet.legend()
     return sheet.out(title)
 
 
@@ -295,9 +308,7 @@ def draw(program, text):
             return refusal(first, second)
         if word not in VERDICTS:
             raise Trouble(f"the program's verdict is {word!r}")
-        table = table_of(text)
-        start, end, about = stretch(word, first, second)
-        return chart(word, first, second, table, start, end, about, rows_of(process.stdout, start, end, table[0], len(table[2])))
+        return chart(word, first, second, table_of(text), process.stdout)
 
 
 def main():
@@ -309,7 +320,7 @@ def main():
         drawn = draw(sys.argv[1:], sys.stdin.buffer.read(LONGEST + 1))
         sys.stdout.buffer.write(drawn.encode())
         sys.stdout.buffer.flush()
-    except (Trouble, OSError, ValueError, IndexError, TypeError) as trouble:
+    except (Trouble, OSError, ValueError, IndexError, KeyError, TypeError) as trouble:
         print(f"picture: {trouble}", file=sys.stderr)
         sys.stderr.flush()
         os._exit(1)  # standard output may be what failed
