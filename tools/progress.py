@@ -1,0 +1,90 @@
+#!/usr/bin/env python3
+"""Runs the program, hands its output on as it is, and says on standard error how many of the rows have gone by: progress.py PROGRAM < table
+
+How many there will be it reads from the verdict line. Where standard output is a terminal too, it is silent from the first row on."""
+import fcntl
+import os
+import select
+import subprocess
+import sys
+import time
+
+QUIET = 1.5  # seconds before the first word
+EVERY = 0.5  # seconds between two words
+BLOCK = 1 << 18  # bytes that are handed on at once
+
+
+# How many rows follow a verdict line.
+def rows_after(line):
+    fields = line.split()
+    if len(fields) != 3 or fields[0] == b"refused":
+        return 0
+    return int(fields[1]) + (0 if fields[0] == b"miss" else int(fields[2]))
+
+
+def write_all(block):
+    while block:
+        block = block[os.write(1, block):]
+
+
+# The line that is rewritten.
+class Line:
+    def __init__(self):
+        self.begun = self.last = time.monotonic()
+        self.shown = False
+
+    def say(self, words):
+        now = time.monotonic()
+        if now - self.begun >= QUIET and now - self.last >= EVERY:
+            os.write(2, f"\r\033[Ksivorandra: {words}, {now - self.begun:.0f} s".encode())
+            self.last, self.shown = now, True
+
+    def clear(self):
+        if self.shown:
+            os.write(2, b"\r\033[K")
+        self.shown = False
+
+
+def hand_on(source, line):
+    try:
+        fcntl.fcntl(source, 1031, BLOCK)  # F_SETPIPE_SZ: a longer pipe, fewer turns
+    except OSError:
+        pass
+    first, lines, total = b"", 0, None
+    buffer = bytearray(BLOCK)
+    while True:
+        if select.select([source], [], [], EVERY)[0]:
+            count = os.readv(source, [buffer])
+            if not count:
+                return
+            if total is None:
+                first += buffer[:count]
+                if b"\n" in first:
+                    total = rows_after(first[:first.index(b"\n")])
+            lines += buffer.count(b"\n", 0, count)
+            if os.isatty(1):
+                line.clear()
+            write_all(memoryview(buffer)[:count])
+        if total is None:
+            line.say("no verdict yet")
+        elif not os.isatty(1):
+            line.say(f"{lines - 1:,} of {total:,} rows")
+
+
+def main():
+    line = Line()
+    process = subprocess.Popen(sys.argv[1:], stdout=subprocess.PIPE)
+    try:
+        hand_on(process.stdout.fileno(), line)
+    except BrokenPipeError:  # nobody reads any more: the program stops at its next write
+        pass
+    except KeyboardInterrupt:
+        process.terminate()
+    line.clear()
+    process.stdout.close()
+    status = process.wait()
+    return status if status >= 0 else 128 - status
+
+
+if __name__ == "__main__":
+    sys.exit(main())
