@@ -224,9 +224,10 @@ impl Session {
         let none = [0u32; 1];
         let started = run::start(&none);
         let run = started.run;
+        let stage = Stage::Table;
         let bytes = [0u8; 2148];
         Session {
-            stage: Stage::Table,
+            stage: stage,
             bytes: bytes,
             from: 0,
             held: 0,
