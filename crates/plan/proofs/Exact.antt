@@ -1,12 +1,11 @@
 -- THE ANSWER OF THE PLAN is the first number that applies, and written where none does.
 use native.Mathlib.Omega.{arith}
-use mathlib.Core.Path.{_≡_, refl, sym}
+use mathlib.Core.Path.{_≡_, refl}
 use mathlib.Core.Bool.{Bool, true, false, _||_, cond}
 use mathlib.Core.List.{List}
-use mathlib.Core.Logic.{_⊎_, _↔_, inl, inr}
+use mathlib.Core.Logic.{_↔_}
 use Prim.Native.Nat.{ℕ, _-_, _*_, _<_}
 use lib.Dec.{ltb}
-use borrow.Author.Tests.{ltb-true, ltb-false}
 use Rattle.model.specs.Search.{any}
 use Rattle.model.specs.Task.{Table}
 use Rattle.model.specs.Horizon.{horizon}
@@ -19,53 +18,13 @@ use Rattle.table.specs.Numbers as table
 use Rattle.table.specs.Answer.{answerOf}
 use Rattle.table.proofs.Decide.{Decides, fails, decides-lt, decides-or}
 use Rattle.table.proofs.Exact.{refusal-exact, passed-exact}
+use Rattle.table.proofs.Order.{one-first, later, itself}
 use Rattle.table.proofs.Passed.{passed-sound}
 use Rattle.plan.specs.declared.Planned.{Planned}
 use Rattle.plan.specs.declared.Planned.the-variants.{Written, Refused}
 use Rattle.plan.specs.Numbers.{RangeOut, BufferOut, MissOut, Applies, words, ten, eleven, twelve, First, NoneApplies}
 use Rattle.plan.specs.Plan.{byPlan, told, plannedOf}
 use Rattle.plan.proofs.Late.{miss-decides}
-
--- THE ORDER OF THE NUMBERS
-
--- of two numbers one is less, or they are the same
-order : (a b : ℕ) → (a < b) ⊎ ((b < a) ⊎ (a ≡ b))
-order a b = go (ltb a b) refl (ltb b a) refl
-  where
-    go : (t : Bool) → ltb a b ≡ t → (u : Bool) → ltb b a ≡ u → (a < b) ⊎ ((b < a) ⊎ (a ≡ b))
-    go true e u f = inl (ltb-true a b e)
-    go false e true f = inr (inl (ltb-true b a f))
-    go false e false f = let x = ltb-false a b e in let y = ltb-false b a f in inr (inr (omega arith))
-
--- of two numbers with their positions one is checked before the other, or they are the same
-decided : (n p m q : ℕ) → Earlier n p m q ⊎ (Earlier m q n p ⊎ ((n ≡ m) × (p ≡ q)))
-decided n p m q = by-place (order (place n) (place m))
-  where
-    by-number : place n ≡ place m → p ≡ q → (n < m) ⊎ ((m < n) ⊎ (n ≡ m)) → Earlier n p m q ⊎ (Earlier m q n p ⊎ ((n ≡ m) × (p ≡ q)))
-    by-number e i (inl l) = inl (inr (e, inr (i, l)))
-    by-number e i (inr (inl l)) = inr (inl (inr (sym e, inr (sym i, l))))
-    by-number e i (inr (inr j)) = inr (inr (j, i))
-
-    by-position : place n ≡ place m → (p < q) ⊎ ((q < p) ⊎ (p ≡ q)) → Earlier n p m q ⊎ (Earlier m q n p ⊎ ((n ≡ m) × (p ≡ q)))
-    by-position e (inl l) = inl (inr (e, inl l))
-    by-position e (inr (inl l)) = inr (inl (inr (sym e, inl l)))
-    by-position e (inr (inr i)) = by-number e i (order n m)
-
-    by-place : (place n < place m) ⊎ ((place m < place n) ⊎ (place n ≡ place m)) → Earlier n p m q ⊎ (Earlier m q n p ⊎ ((n ≡ m) × (p ≡ q)))
-    by-place (inl l) = inl (inl l)
-    by-place (inr (inl l)) = inr (inl (inl l))
-    by-place (inr (inr e)) = by-position e (order p q)
-
--- a number of a later place is not checked before
-later : (m q n p : ℕ) → place n < place m → ¬ Earlier m q n p
-later m q n p l (inl h) = omega arith
-later m q n p l (inr (e, h)) = omega arith
-
--- nor is a number with position 0 before itself
-itself : (m : ℕ) → ¬ Earlier m 0 m 0
-itself m (inl h) = omega arith
-itself m (inr (e, inl h)) = omega arith
-itself m (inr (e, inr (i, h))) = omega arith
 
 -- the table's numbers are checked before the plan's
 number-most : (ws : List ℕ) (n p : ℕ) → table.Applies ws n p → place n < 10
@@ -170,15 +129,6 @@ module _ (ws : List ℕ) (a b bytes : ℕ) where
       go answer.Passed e = right-plan (passed-exact ws .0 e)
       go (answer.Refused n p) e = by-words n p (refusal-exact ws n p .0 e)
 
-  -- only one number is the first
-  first-only : (n p m q : ℕ) → First ws a b bytes n p → First ws a b bytes m q → (n ≡ m) × (p ≡ q)
-  first-only n p m q f g = go (decided n p m q)
-    where
-      go : Earlier n p m q ⊎ (Earlier m q n p ⊎ ((n ≡ m) × (p ≡ q))) → (n ≡ m) × (p ≡ q)
-      go (inl e) = absurd (g .1 n p e (f .0))
-      go (inr (inl e)) = absurd (f .1 m q e (g .0))
-      go (inr (inr e)) = e
-
   -- what is right of an answer determines it
   settled : (v : Planned) → Right v → ((n p : ℕ) → (v ≡ Refused n p) ↔ First ws a b bytes n p) × ((v ≡ Written) ↔ NoneApplies ws a b bytes)
   settled Written r = (λ n p. (λ e. absurd (written-not-refused e), λ f. absurd (r n p (f .0))), (λ e. r, λ n. refl))
@@ -194,7 +144,7 @@ module _ (ws : List ℕ) (a b bytes : ℕ) where
       to n p e = let i : m ≡ n = cc in let j : q ≡ p = cc in rw (i, j) at r
 
       from : (n p : ℕ) → First ws a b bytes n p → Refused m q ≡ Refused n p
-      from n p f = let x = first-only m q n p r f in rw (x .0, x .1)
+      from n p f = let x = one-first (Applies ws a b bytes) m q n p r f in rw (x .0, x .1)
 
   -- the plan refuses with n and p exactly if number n applies with position p and no earlier one does
   pub refused-exact : (n p : ℕ) → (plannedOf ws a b bytes ≡ Refused n p) ↔ First ws a b bytes n p

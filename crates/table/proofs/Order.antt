@@ -7,7 +7,7 @@ use Prim.Native.Nat.{ℕ, _<_}
 use native.Mathlib.Omega.{arith}
 use lib.Dec.{eqb, ltb}
 use borrow.Author.Tests.{eqb-true, eqb-false, ltb-true, ltb-false}
-use Rattle.table.specs.Numbers.{place, Earlier, First}
+use Rattle.table.specs.Numbers.{Applies, place, Earlier, First}
 
 -- what is checked before a number other than 7 and 8 is a lower one
 pub earlier-lower : (m q n : ℕ) → (n ≡ 7 → ⊥) → (n ≡ 8 → ⊥) → Earlier m q n 0 → m < n
@@ -33,6 +33,7 @@ earlier-task m q n p s x =
     (λ l. inr (⊎-elim (λ y. inr (y .0)) (λ y. inl (sym (y .1) ∙ l .0 ∙ s)) (place-of m), l .1))
     x
 
+-- of two numbers one is less, or they are the same
 order : (a b : ℕ) → (a < b) ⊎ ((b < a) ⊎ (a ≡ b))
 order a b = go (ltb a b) refl (ltb b a) refl
   where
@@ -41,21 +42,46 @@ order a b = go (ltb a b) refl (ltb b a) refl
     go false e true f = inr (inl (ltb-true b a f))
     go false e false f = let x = ltb-false a b e in let y = ltb-false b a f in inr (inr (omega arith))
 
--- of two numbers with their positions one is checked before the other, or they are the same: so one at most is the first
+-- of two numbers with their positions one is checked before the other, or they are the same
+decided : (n p m q : ℕ) → Earlier n p m q ⊎ (Earlier m q n p ⊎ ((n ≡ m) × (p ≡ q)))
+decided n p m q = by-place (order (place n) (place m))
+  where
+    by-number : place n ≡ place m → p ≡ q → (n < m) ⊎ ((m < n) ⊎ (n ≡ m)) → Earlier n p m q ⊎ (Earlier m q n p ⊎ ((n ≡ m) × (p ≡ q)))
+    by-number e i (inl l) = inl (inr (e, inr (i, l)))
+    by-number e i (inr (inl l)) = inr (inl (inr (sym e, inr (sym i, l))))
+    by-number e i (inr (inr j)) = inr (inr (j, i))
+
+    by-position : place n ≡ place m → (p < q) ⊎ ((q < p) ⊎ (p ≡ q)) → Earlier n p m q ⊎ (Earlier m q n p ⊎ ((n ≡ m) × (p ≡ q)))
+    by-position e (inl l) = inl (inr (e, inl l))
+    by-position e (inr (inl l)) = inr (inl (inr (sym e, inl l)))
+    by-position e (inr (inr i)) = by-number e i (order n m)
+
+    by-place : (place n < place m) ⊎ ((place m < place n) ⊎ (place n ≡ place m)) → Earlier n p m q ⊎ (Earlier m q n p ⊎ ((n ≡ m) × (p ≡ q)))
+    by-place (inl l) = inl (inl l)
+    by-place (inr (inl l)) = inr (inl (inl l))
+    by-place (inr (inr e)) = by-position e (order p q)
+
+-- so, whatever it is that applies, one at most is the first
+pub one-first :
+    (A : ℕ → ℕ → Type 0) (n p m q : ℕ) → A n p × ((k r : ℕ) → Earlier k r n p → ¬ A k r) → A m q × ((k r : ℕ) → Earlier k r m q → ¬ A k r)
+    → (n ≡ m) × (p ≡ q)
+one-first A n p m q f g = go (decided n p m q)
+  where
+    go : Earlier n p m q ⊎ (Earlier m q n p ⊎ ((n ≡ m) × (p ≡ q))) → (n ≡ m) × (p ≡ q)
+    go (inl e) = absurd (g .1 n p e (f .0))
+    go (inr (inl e)) = absurd (f .1 m q e (g .0))
+    go (inr (inr e)) = e
+
 pub first-only : (ws : List ℕ) (n p m q : ℕ) → First ws n p → First ws m q → (n ≡ m) × (p ≡ q)
-first-only ws n p m q f g =
-    ⊎-elim (λ l. absurd (g .1 n p (inl l) (f .0)))
-    (λ x.
-    ⊎-elim (λ l. absurd (f .1 m q (inl l) (g .0)))
-    (λ e.
-    ⊎-elim (λ l. absurd (g .1 n p (inr (e, inl l)) (f .0)))
-    (λ y.
-    ⊎-elim (λ l. absurd (f .1 m q (inr (sym e, inl l)) (g .0)))
-    (λ i.
-    ⊎-elim (λ l. absurd (g .1 n p (inr (e, inr (i, l))) (f .0)))
-    (λ z. ⊎-elim (λ l. absurd (f .1 m q (inr (sym e, inr (sym i, l))) (g .0))) (λ j. (j, i)) z)
-    (order n m))
-    y)
-    (order p q))
-    x)
-    (order (place n) (place m))
+first-only ws = one-first (Applies ws)
+
+-- a number of a later place is not checked before
+pub later : (m q n p : ℕ) → place n < place m → ¬ Earlier m q n p
+later m q n p l (inl h) = omega arith
+later m q n p l (inr (e, h)) = omega arith
+
+-- nor is a number with position 0 before itself
+pub itself : (m : ℕ) → ¬ Earlier m 0 m 0
+itself m (inl h) = omega arith
+itself m (inr (e, inl h)) = omega arith
+itself m (inr (e, inr (i, h))) = omega arith
