@@ -5,3 +5,4 @@ pub mod Inverse
 mod Putting
 mod Keeping
 pub mod Kept
+pub mod Listed

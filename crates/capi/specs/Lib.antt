@@ -3,3 +3,4 @@ pub mod Calls
 pub mod Replays
 pub mod Encoding
 pub mod Runs
+pub mod Lists
