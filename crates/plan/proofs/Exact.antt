@@ -1,11 +1,12 @@
 -- THE ANSWER OF THE PLAN is the first number that applies, and written where none does.
 use native.Mathlib.Omega.{arith}
-use mathlib.Core.Path.{_≡_, refl}
+use mathlib.Core.Path.{_≡_, refl, sym}
 use mathlib.Core.Bool.{Bool, true, false, _||_, cond}
 use mathlib.Core.List.{List}
-use mathlib.Core.Logic.{_↔_}
+use mathlib.Core.Logic.{_⊎_, _↔_, inl, inr}
 use Prim.Native.Nat.{ℕ, _-_, _*_, _<_}
 use lib.Dec.{ltb}
+use borrow.Author.Tests.{ltb-true, ltb-false}
 use Rattle.model.specs.Search.{any}
 use Rattle.model.specs.Task.{Table}
 use Rattle.model.specs.Horizon.{horizon}
@@ -19,7 +20,6 @@ use Rattle.table.specs.Answer.{answerOf}
 use Rattle.table.proofs.Decide.{Decides, fails, decides-lt, decides-or}
 use Rattle.table.proofs.Order.{not-before-itself, later, number-most, first-only}
 use Rattle.table.proofs.Exact.{refusal-exact, passed-exact}
-use Rattle.table.proofs.Order.{one-first, later, itself}
 use Rattle.table.proofs.Passed.{passed-sound}
 use Rattle.plan.specs.declared.Planned.{Planned}
 use Rattle.plan.specs.declared.Planned.the-variants.{Written, Refused}
