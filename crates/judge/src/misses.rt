@@ -32,7 +32,10 @@ pub fn first_miss(table: Loaded, end: u32) -> Missed
     let mut granted: u32 = 0;
     let mut bell: u32 = 0;
     let mut tick: u32 = 0;
-    while tick < end {
+    'ticks: loop {
+        if tick == end {
+            break 'ticks Missed::Never;
+        }
         if bell <= tick {
             bell = 4294967295;
             let mut i: usize = 0;
@@ -40,7 +43,7 @@ pub fn first_miss(table: Loaded, end: u32) -> Missed
                 if moment[i] == tick {
                     if 0 < left[i] {
                         let position = i as u32 + 1;
-                        return Missed::At(tick, position);
+                        break 'ticks Missed::At(tick, position);
                     }
                     claiming = full::release(
                         i,
@@ -65,5 +68,4 @@ pub fn first_miss(table: Loaded, end: u32) -> Missed
         claiming = full::work(granted, claiming, &mut left, &mut moment, &next);
         tick += 1;
     }
-    Missed::Never
 }

@@ -26,68 +26,68 @@ use Rattle.judge.proofs.FirstMiss.{by-none, by-first}
 use Rattle.judge.proofs.misses.first_miss.Statement.{statement}
 use Rattle.judge.proofs.misses.first_miss.Tie as tie
 
-abbrev Inv-loop2 : tie.InvT-loop2
-Inv-loop2 table end count width length deadline period left₀ moment₀ next₀ claiming₀ chosen granted bell₀ tick i₀ left moment next claiming bell i =
+abbrev Inv-loop : tie.InvT-loop
+Inv-loop table end count width length deadline period left₀ moment₀ next₀ claiming₀ chosen granted bell₀ tick i₀ left moment next claiming bell i =
     Walking table (machine left moment next claiming) bell tick i
 
-abbrev μ-loop2 : tie.MeasureT-loop2
-μ-loop2 table end count width length deadline period left₀ moment₀ next₀ claiming₀ chosen granted bell₀ tick i₀ left moment next claiming bell i = count - i
+abbrev μ-loop : tie.MeasureT-loop
+μ-loop table end count width length deadline period left₀ moment₀ next₀ claiming₀ chosen granted bell₀ tick i₀ left moment next claiming bell i = count - i
 
-abbrev Inv-loop : tie.InvT-loop
-Inv-loop table end count width length deadline period left₀ moment₀ next₀ claiming₀ chosen₀ granted₀ bell₀ tick₀ left moment next claiming chosen granted bell tick =
+abbrev Inv-ticks : tie.InvT-ticks
+Inv-ticks table end count width length deadline period left₀ moment₀ next₀ claiming₀ chosen₀ granted₀ bell₀ tick₀ left moment next claiming chosen granted bell tick =
     Before table (machine left moment next claiming) bell tick × Chosen table chosen granted × (tick ≤ end)
 
-abbrev μ-loop : tie.MeasureT-loop
-μ-loop table end count width length deadline period left₀ moment₀ next₀ claiming₀ chosen₀ granted₀ bell₀ tick₀ left moment next claiming chosen granted bell tick = end - tick
+abbrev μ-ticks : tie.MeasureT-ticks
+μ-ticks table end count width length deadline period left₀ moment₀ next₀ claiming₀ chosen₀ granted₀ bell₀ tick₀ left moment next claiming chosen granted bell tick = end - tick
 
 -- THE PLACES. The table, what is known of it, and the columns made of it
-abbrev table-of : tie.After-period Inv-loop2 μ-loop2 Inv-loop μ-loop → Loaded
+abbrev table-of : tie.After-period Inv-loop μ-loop Inv-ticks μ-ticks → Loaded
 table-of c = c .before .before .before .before .before .before .before .args .table
 
-fit-of : (c : tie.After-period Inv-loop2 μ-loop2 Inv-loop μ-loop) → Fit (table-of c)
+fit-of : (c : tie.After-period Inv-loop μ-loop Inv-ticks μ-ticks) → Fit (table-of c)
 fit-of c = c .before .before .before .before .before .before .before .pre .0
 
-columns : (c : tie.After-period Inv-loop2 μ-loop2 Inv-loop μ-loop) → c .before .before .before .before .before .columns-of .result ≡ columnsOf (table-of c .tasks)
+columns : (c : tie.After-period Inv-loop μ-loop Inv-ticks μ-ticks) → c .before .before .before .before .before .columns-of .result ≡ columnsOf (table-of c .tasks)
 columns c = c .before .before .before .before .before .columns-of .ensures
 
 -- in the walk: the place is one of the table's, and one of 32
-inside : (c : tie.In-loop2 Inv-loop2 μ-loop2 Inv-loop μ-loop) → c .before .loop2 .i < 32
-inside c = omega (arith, c .loop2-test .taken, fit-of (c .before .before .before .before .before) .few)
+inside : (c : tie.In-loop Inv-loop μ-loop Inv-ticks μ-ticks) → c .before .loop .i < 32
+inside c = omega (arith, c .loop-test .taken, fit-of (c .before .before .before .before .before) .few)
 
-placed : (c : tie.In-loop2 Inv-loop2 μ-loop2 Inv-loop μ-loop) → c .before .loop2 .i < list.length (tableIn (table-of (c .before .before .before .before .before)) .tasks)
+placed : (c : tie.In-loop Inv-loop μ-loop Inv-ticks μ-ticks) → c .before .loop .i < list.length (tableIn (table-of (c .before .before .before .before .before)) .tasks)
 placed c =
     let p = c .before .before .before .before .before in
-    omega (arith, c .loop2-test .taken, size (table-of p) (fit-of p))
+    omega (arith, c .loop-test .taken, size (table-of p) (fit-of p))
 
 -- a task's number, read from its column
 field :
-    (c : tie.In-loop2 Inv-loop2 μ-loop2 Inv-loop μ-loop) (f : Task → ℕ) (g : model.Task → ℕ) → ((x : Task) → f x ≡ g (taskOf x)) → (xs : List ℕ)
+    (c : tie.In-loop Inv-loop μ-loop Inv-ticks μ-ticks) (f : Task → ℕ) (g : model.Task → ℕ) → ((x : Task) → f x ≡ g (taskOf x)) → (xs : List ℕ)
     → xs ≡ map f (table-of (c .before .before .before .before .before) .tasks) → f noTask ≡ 0
-    → list.getD xs (c .before .loop2 .i) 0 ≡ g (task (tableIn (table-of (c .before .before .before .before .before))) (c .before .loop2 .i))
+    → list.getD xs (c .before .loop .i) 0 ≡ g (task (tableIn (table-of (c .before .before .before .before .before))) (c .before .loop .i))
 field c f g e xs same z =
     let p = c .before .before .before .before .before in
-    ap (λ (l : List ℕ). list.getD l (c .before .loop2 .i) 0) same
-    ∙ (ap (λ (d : ℕ). list.getD (map f (table-of p .tasks)) (c .before .loop2 .i) d) (sym z)
-    ∙ column (table-of p) (fit-of p) f g e (c .before .loop2 .i) (placed c))
+    ap (λ (l : List ℕ). list.getD l (c .before .loop .i) 0) same
+    ∙ (ap (λ (d : ℕ). list.getD (map f (table-of p .tasks)) (c .before .loop .i) d) (sym z)
+    ∙ column (table-of p) (fit-of p) f g e (c .before .loop .i) (placed c))
 
-length-at : (c : tie.In-loop2 Inv-loop2 μ-loop2 Inv-loop μ-loop) → list.getD (c .before .before .before .before .before .before .before .before .before .before .columns-of .result .length) (c .before .loop2 .i) 0 ≡ task (tableIn (table-of (c .before .before .before .before .before))) (c .before .loop2 .i) .length
+length-at : (c : tie.In-loop Inv-loop μ-loop Inv-ticks μ-ticks) → list.getD (c .before .before .before .before .before .before .before .before .before .before .columns-of .result .length) (c .before .loop .i) 0 ≡ task (tableIn (table-of (c .before .before .before .before .before))) (c .before .loop .i) .length
 length-at c = field c (λ x. x .length) (λ τ. τ .length) (λ x. refl) _ (ap (λ (x : Columns). x .length) (columns (c .before .before .before .before .before))) refl
 
-deadline-at : (c : tie.In-loop2 Inv-loop2 μ-loop2 Inv-loop μ-loop) → list.getD (c .before .before .before .before .before .before .before .before .before .before .columns-of .result .deadline) (c .before .loop2 .i) 0 ≡ task (tableIn (table-of (c .before .before .before .before .before))) (c .before .loop2 .i) .deadline
+deadline-at : (c : tie.In-loop Inv-loop μ-loop Inv-ticks μ-ticks) → list.getD (c .before .before .before .before .before .before .before .before .before .before .columns-of .result .deadline) (c .before .loop .i) 0 ≡ task (tableIn (table-of (c .before .before .before .before .before))) (c .before .loop .i) .deadline
 deadline-at c = field c (λ x. x .deadline) (λ τ. τ .deadline) (λ x. refl) _ (ap (λ (x : Columns). x .deadline) (columns (c .before .before .before .before .before))) refl
 
-period-at : (c : tie.In-loop2 Inv-loop2 μ-loop2 Inv-loop μ-loop) → list.getD (c .before .before .before .before .before .before .before .before .before .before .columns-of .result .period) (c .before .loop2 .i) 0 ≡ task (tableIn (table-of (c .before .before .before .before .before))) (c .before .loop2 .i) .period
+period-at : (c : tie.In-loop Inv-loop μ-loop Inv-ticks μ-ticks) → list.getD (c .before .before .before .before .before .before .before .before .before .before .columns-of .result .period) (c .before .loop .i) 0 ≡ task (tableIn (table-of (c .before .before .before .before .before))) (c .before .loop .i) .period
 period-at c = field c (λ x. x .period) (λ τ. τ .period) (λ x. refl) _ (ap (λ (x : Columns). x .period) (columns (c .before .before .before .before .before))) refl
 
 -- where the walk has ended or was not needed
 after-of :
-    (c : tie.Joined1 Inv-loop2 μ-loop2 Inv-loop μ-loop)
+    (c : tie.Joined2 Inv-loop μ-loop Inv-ticks μ-ticks)
     → After (table-of (c .before .before .before))
-    (machine (c .if1 .left) (c .if1 .moment) (c .if1 .next) (c .if1 .claiming)) (c .if1 .bell) (c .before .before .loop .tick)
+    (machine (c .if2 .left) (c .if2 .moment) (c .if2 .next) (c .if2 .claiming)) (c .if2 .bell) (c .before .before .ticks .tick)
 after-of c =
     let p = c .before .before .before in
     let t = table-of p in
-    let k = c .before .before .loop in
+    let k = c .before .before .ticks in
     let goal : Machine → ℕ → Type 0 = λ m b. After t m b (k .tick) in
     ⊎-elim
     (λ w.
@@ -98,22 +98,22 @@ after-of c =
     subst₂ goal (sym (same-machine (w .1) (w .2) (w .3) (w .4))) (sym (w .5))
     (walk-skipped t (fit-of p) (machine (k .left) (k .moment) (k .next) (k .claiming)) (k .bell) (k .tick)
     (k .inv .0) (w .0 .left)))
-    (c .if1 .came)
+    (c .if2 .came)
 
 -- ticks of the loop are small
-small : (c : tie.In-loop Inv-loop2 μ-loop2 Inv-loop μ-loop) → c .before .loop .tick ≤ 1000000000
+small : (c : tie.Else1 Inv-loop μ-loop Inv-ticks μ-ticks) → c .before .ticks .tick ≤ 1000000000
 small c =
     let start = c .before .before .before .before .before .before .before .before .before in
-    omega (arith, c .loop-test .taken, start .pre .1, start .pre .0 .limit)
+    omega (arith, c .if1 .left, start .pre .1, start .pre .0 .limit)
 
 -- the set of granted places is that of the claimants: it was just chosen, or they are those it was chosen for
 chosen-of :
-    (c : tie.Joined4 Inv-loop2 μ-loop2 Inv-loop μ-loop)
-    → Chosen (table-of (c .before .before .before .before)) (c .before .if1 .claiming) (c .if4 .granted)
+    (c : tie.Joined5 Inv-loop μ-loop Inv-ticks μ-ticks)
+    → Chosen (table-of (c .before .before .before .before)) (c .before .if2 .claiming) (c .if5 .granted)
 chosen-of c =
     let p = c .before .before .before .before in
     let t = table-of p in
-    let k = c .before .if1 .claiming in
+    let k = c .before .if2 .claiming in
     ⊎-elim
     (λ w.
     subst (λ (g : ℕ). Chosen t k g) (sym (w .4))
@@ -121,104 +121,104 @@ chosen-of c =
     w .2 .ensures q
     ∙ ap (λ (x : Columns). granted (ruleOf (t .rule)) (claimants (x .width) (bit k)) (upFrom 0 (t .cores)) q) (columns p)))
     (λ w.
-    subst₂ (λ (x g : ℕ). Chosen t x g) (sym (w .0 .left)) (sym (w .2)) (c .before .before .before .loop .inv .1))
-    (c .if4 .came)
+    subst₂ (λ (x g : ℕ). Chosen t x g) (sym (w .0 .left)) (sym (w .2)) (c .before .before .before .ticks .inv .1))
+    (c .if5 .came)
 
 -- and it is kept with the claimants it was chosen for
 kept-of :
-    (c : tie.Joined4 Inv-loop2 μ-loop2 Inv-loop μ-loop)
-    → Chosen (table-of (c .before .before .before .before)) (c .if4 .chosen) (c .if4 .granted)
+    (c : tie.Joined5 Inv-loop μ-loop Inv-ticks μ-ticks)
+    → Chosen (table-of (c .before .before .before .before)) (c .if5 .chosen) (c .if5 .granted)
 kept-of c = ⊎-elim
-    (λ w. subst (λ (x : ℕ). Chosen (table-of (c .before .before .before .before)) x (c .if4 .granted)) (sym (w .3)) (chosen-of c))
-    (λ w. subst (λ (x : ℕ). Chosen (table-of (c .before .before .before .before)) x (c .if4 .granted)) (w .0 .left ∙ sym (w .1)) (chosen-of c))
-    (c .if4 .came)
+    (λ w. subst (λ (x : ℕ). Chosen (table-of (c .before .before .before .before)) x (c .if5 .granted)) (sym (w .3)) (chosen-of c))
+    (λ w. subst (λ (x : ℕ). Chosen (table-of (c .before .before .before .before)) x (c .if5 .granted)) (w .0 .left ∙ sym (w .1)) (chosen-of c))
+    (c .if5 .came)
 
 -- THE ANSWERS
-columns-of-requires : tie.Need-columns-of-requires Inv-loop2 μ-loop2 Inv-loop μ-loop
+columns-of-requires : tie.Need-columns-of-requires Inv-loop μ-loop Inv-ticks μ-ticks
 columns-of-requires c κs = search needs
 
-loop-holds : tie.Need-loop-holds Inv-loop2 μ-loop2 Inv-loop μ-loop
-loop-holds c = (
+ticks-holds : tie.Need-ticks-holds Inv-loop μ-loop Inv-ticks μ-ticks
+ticks-holds c = (
   subst (λ (o : List ℕ). Before (table-of c) (machine (list.replicate 32 0) o o 0) 0 0) (sym (ap (λ (x : Columns). x .offset) (columns c)))
       (at-start (table-of c) (fit-of c)),
   chosen-none (table-of c),
   omega arith,
 )
 
-loop2-holds : tie.Need-loop2-holds Inv-loop2 μ-loop2 Inv-loop μ-loop
-loop2-holds c =
+loop-holds : tie.Need-loop-holds Inv-loop μ-loop Inv-ticks μ-ticks
+loop-holds c =
     let p = c .before .before .before in
-    let k = c .before .before .loop in
+    let k = c .before .before .ticks in
     walk-begins (table-of p) (fit-of p) (machine (k .left) (k .moment) (k .next) (k .claiming)) (k .bell) (k .tick) (k .inv .0)
 
-mul-if2 : tie.Need-mul-if2 Inv-loop2 μ-loop2 Inv-loop μ-loop
-mul-if2 c = omega (arith, inside c)
+mul-if3 : tie.Need-mul-if3 Inv-loop μ-loop Inv-ticks μ-ticks
+mul-if3 c = omega (arith, inside c)
 
-array-read-if2 : tie.Need-array-read-if2 Inv-loop2 μ-loop2 Inv-loop μ-loop
-array-read-if2 c = inside c
+array-read-if3 : tie.Need-array-read-if3 Inv-loop μ-loop Inv-ticks μ-ticks
+array-read-if3 c = inside c
 
-mul-if3 : tie.Need-mul-if3 Inv-loop2 μ-loop2 Inv-loop μ-loop
-mul-if3 c = omega (arith, inside (c .before))
+mul-if4 : tie.Need-mul-if4 Inv-loop μ-loop Inv-ticks μ-ticks
+mul-if4 c = omega (arith, inside (c .before))
 
-array-read-if3 : tie.Need-array-read-if3 Inv-loop2 μ-loop2 Inv-loop μ-loop
-array-read-if3 c = inside (c .before)
+array-read-if4 : tie.Need-array-read-if4 Inv-loop μ-loop Inv-ticks μ-ticks
+array-read-if4 c = inside (c .before)
 
-cast-position : tie.Need-cast-position Inv-loop2 μ-loop2 Inv-loop μ-loop
+cast-position : tie.Need-cast-position Inv-loop μ-loop Inv-ticks μ-ticks
 cast-position c = omega (arith, inside (c .before .before))
 
-add-position : tie.Need-add-position Inv-loop2 μ-loop2 Inv-loop μ-loop
+add-position : tie.Need-add-position Inv-loop μ-loop Inv-ticks μ-ticks
 add-position c = omega (arith, inside (c .before .before))
 
-mul-release : tie.Need-mul-release Inv-loop2 μ-loop2 Inv-loop μ-loop
+mul-release : tie.Need-mul-release Inv-loop μ-loop Inv-ticks μ-ticks
 mul-release c = omega (arith, inside (c .before .before))
 
-array-read-release : tie.Need-array-read-release Inv-loop2 μ-loop2 Inv-loop μ-loop
+array-read-release : tie.Need-array-read-release Inv-loop μ-loop Inv-ticks μ-ticks
 array-read-release c = inside (c .before .before)
 
-mul-release-2 : tie.Need-mul-release-2 Inv-loop2 μ-loop2 Inv-loop μ-loop
+mul-release-2 : tie.Need-mul-release-2 Inv-loop μ-loop Inv-ticks μ-ticks
 mul-release-2 c = omega (arith, inside (c .before .before))
 
-array-read-release-2 : tie.Need-array-read-release-2 Inv-loop2 μ-loop2 Inv-loop μ-loop
+array-read-release-2 : tie.Need-array-read-release-2 Inv-loop μ-loop Inv-ticks μ-ticks
 array-read-release-2 c = inside (c .before .before)
 
-mul-release-3 : tie.Need-mul-release-3 Inv-loop2 μ-loop2 Inv-loop μ-loop
+mul-release-3 : tie.Need-mul-release-3 Inv-loop μ-loop Inv-ticks μ-ticks
 mul-release-3 c = omega (arith, inside (c .before .before))
 
-array-read-release-3 : tie.Need-array-read-release-3 Inv-loop2 μ-loop2 Inv-loop μ-loop
+array-read-release-3 : tie.Need-array-read-release-3 Inv-loop μ-loop Inv-ticks μ-ticks
 array-read-release-3 c = inside (c .before .before)
 
-release-requires : tie.Need-release-requires Inv-loop2 μ-loop2 Inv-loop μ-loop
+release-requires : tie.Need-release-requires Inv-loop μ-loop Inv-ticks μ-ticks
 release-requires c κs =
     let n = c .before .before .before .before .before in
     let p = n .before .before .before .before .before in
     let tick-limit = small (n .before .before .before) in
-    let short = fit-of p .short (n .before .loop2 .i) (n .loop2-test .taken) in
-    let sound = fit-of p .sound (n .before .loop2 .i) (placed n) .constrained in
+    let short = fit-of p .short (n .before .loop .i) (n .loop-test .taken) in
+    let sound = fit-of p .sound (n .before .loop .i) (placed n) .constrained in
     (inside n, omega (arith, deadline-at n, short, sound, tick-limit), omega (arith, period-at n, short, tick-limit))
 
-mul-sooner : tie.Need-mul-sooner Inv-loop2 μ-loop2 Inv-loop μ-loop
+mul-sooner : tie.Need-mul-sooner Inv-loop μ-loop Inv-ticks μ-ticks
 mul-sooner c = omega (arith, inside (c .before))
 
-array-read-sooner : tie.Need-array-read-sooner Inv-loop2 μ-loop2 Inv-loop μ-loop
+array-read-sooner : tie.Need-array-read-sooner Inv-loop μ-loop Inv-ticks μ-ticks
 array-read-sooner c = inside (c .before)
 
-sooner-requires : tie.Need-sooner-requires Inv-loop2 μ-loop2 Inv-loop μ-loop
+sooner-requires : tie.Need-sooner-requires Inv-loop μ-loop Inv-ticks μ-ticks
 sooner-requires c κs = search needs
 
-add-i : tie.Need-add-i Inv-loop2 μ-loop2 Inv-loop μ-loop
+add-i : tie.Need-add-i Inv-loop μ-loop Inv-ticks μ-ticks
 add-i c = omega (arith, inside (c .before .before))
 
-loop2-less : tie.Need-loop2-less Inv-loop2 μ-loop2 Inv-loop μ-loop
-loop2-less c = omega (arith, c .before .before .loop2-test .taken)
+loop-less : tie.Need-loop-less Inv-loop μ-loop Inv-ticks μ-ticks
+loop-less c = omega (arith, c .before .before .loop-test .taken)
 
-loop2-again : tie.Need-loop2-again Inv-loop2 μ-loop2 Inv-loop μ-loop
-loop2-again c =
+loop-again : tie.Need-loop-again Inv-loop μ-loop Inv-ticks μ-ticks
+loop-again c =
     let n = c .before .before in
     let p = n .before .before .before .before .before in
     let t = table-of p in
-    let l = n .before .loop2 in
-    let tick = n .before .before .before .before .loop .tick in
-    let j = c .before .if2 in
+    let l = n .before .loop in
+    let tick = n .before .before .before .before .ticks .tick in
+    let j = c .before .if3 in
     let m = machine (l .left) (l .moment) (l .next) (l .claiming) in
     let m′ = machine (j .left) (j .moment) (j .next) (j .claiming) in
     subst (λ (b : ℕ). Walking t m′ b tick (l .i + 1)) (sym (c .sooner .ensures))
@@ -232,74 +232,73 @@ loop2-again c =
     (walk-passes t (fit-of p) m (l .bell) tick (l .i) (l .inv) (placed n) (w .0 .left)))
     (j .came))
 
-choose-requires : tie.Need-choose-requires Inv-loop2 μ-loop2 Inv-loop μ-loop
+choose-requires : tie.Need-choose-requires Inv-loop μ-loop Inv-ticks μ-ticks
 choose-requires c κs = search needs
 
-work-requires : tie.Need-work-requires Inv-loop2 μ-loop2 Inv-loop μ-loop
+work-requires : tie.Need-work-requires Inv-loop μ-loop Inv-ticks μ-ticks
 work-requires c κs =
     let h = c .before .before .before in
     let j = h .before in
     let p = j .before .before .before in
-    chosen-owed (table-of p) (fit-of p) (machine (j .if1 .left) (j .if1 .moment) (j .if1 .next) (j .if1 .claiming)) (j .if1 .bell) (j .before .before .loop .tick)
-    (h .if4 .granted) (after-of j) (chosen-of h)
+    chosen-owed (table-of p) (fit-of p) (machine (j .if2 .left) (j .if2 .moment) (j .if2 .next) (j .if2 .claiming)) (j .if2 .bell) (j .before .before .ticks .tick)
+    (h .if5 .granted) (after-of j) (chosen-of h)
 
-add-tick : tie.Need-add-tick Inv-loop2 μ-loop2 Inv-loop μ-loop
+add-tick : tie.Need-add-tick Inv-loop μ-loop Inv-ticks μ-ticks
 add-tick c =
     let e = c .before .before .before .before .before .before in
     omega (arith, small e)
 
-loop-less : tie.Need-loop-less Inv-loop2 μ-loop2 Inv-loop μ-loop
-loop-less c =
+ticks-less : tie.Need-ticks-less Inv-loop μ-loop Inv-ticks μ-ticks
+ticks-less c =
     let e = c .before .before .before .before .before .before in
-    omega (arith, e .loop-test .taken)
+    omega (arith, e .if1 .left)
 
-loop-again : tie.Need-loop-again Inv-loop2 μ-loop2 Inv-loop μ-loop
-loop-again c =
+ticks-again : tie.Need-ticks-again Inv-loop μ-loop Inv-ticks μ-ticks
+ticks-again c =
     let h = c .before .before .before .before in
     let j = h .before in
     let e = j .before in
     let p = e .before .before in (
-      next-tick (table-of p) (fit-of p) (machine (j .if1 .left) (j .if1 .moment) (j .if1 .next) (j .if1 .claiming)) _ (j .if1 .bell) (e .before .loop .tick)
-          (h .if4 .granted) (e .before .loop .inv .0 .met) (after-of j) (chosen-of h) (c .work .ensures),
+      next-tick (table-of p) (fit-of p) (machine (j .if2 .left) (j .if2 .moment) (j .if2 .next) (j .if2 .claiming)) _ (j .if2 .bell) (e .before .ticks .tick)
+          (h .if5 .granted) (e .before .ticks .inv .0 .met) (after-of j) (chosen-of h) (c .work .ensures),
       kept-of h,
-      omega (arith, e .loop-test .taken),
+      omega (arith, e .if1 .left),
     )
 
-returns : tie.Need-returns Inv-loop2 μ-loop2 Inv-loop μ-loop
+returns : tie.Need-returns Inv-loop μ-loop Inv-ticks μ-ticks
 returns c =
+    let p = c .before .before in
+    let k = c .before .ticks in
+    by-none (tableIn (table-of p)) (fit-of p .sound) _ (λ q u h. k .inv .0 .met q u (omega (arith, c .if1 .taken)))
+
+returns-2 : tie.Need-returns-2 Inv-loop μ-loop Inv-ticks μ-ticks
+returns-2 c =
     let n = c .before .before in
     let p = n .before .before .before .before .before in
-    let l = n .before .loop2 in
+    let l = n .before .loop in
     let e = n .before .before .before in
-    let k = e .before .loop in
-    by-first (tableIn (table-of p)) (fit-of p .sound) _ (k .tick) (l .i + 1) (e .loop-test .taken)
+    let k = e .before .ticks in
+    by-first (tableIn (table-of p)) (fit-of p .sound) _ (k .tick) (l .i + 1) (omega (arith, k .inv .2, e .if1 .left))
     (walk-misses (table-of p) (fit-of p) (machine (l .left) (l .moment) (l .next) (l .claiming)) (l .bell) (k .tick) (l .i)
-    (k .inv .0 .met) (l .inv) (placed n) (c .before .if2 .taken) (c .if3 .taken))
-
-returns-2 : tie.Need-returns-2 Inv-loop2 μ-loop2 Inv-loop μ-loop
-returns-2 c =
-    let p = c .before .before in
-    let k = c .before .loop in
-    by-none (tableIn (table-of p)) (fit-of p .sound) _ (λ q u h. k .inv .0 .met q u (omega (arith, c .loop-test .left)))
+    (k .inv .0 .met) (l .inv) (placed n) (c .before .if3 .taken) (c .if4 .taken))
 
 pub first-miss-spec : {M : Type 1} → statement M
 first-miss-spec =
     tie.close
     (tie.spec
-    Inv-loop2
-    μ-loop2
     Inv-loop
     μ-loop
+    Inv-ticks
+    μ-ticks
     columns-of-requires
+    ticks-holds
     loop-holds
-    loop2-holds
-    mul-if2
-    array-read-if2
     mul-if3
     array-read-if3
+    mul-if4
+    array-read-if4
     cast-position
     add-position
-    returns
     mul-release
     array-read-release
     mul-release-2
@@ -311,11 +310,12 @@ first-miss-spec =
     array-read-sooner
     sooner-requires
     add-i
-    loop2-less
-    loop2-again
+    loop-less
+    loop-again
     choose-requires
     work-requires
     add-tick
-    loop-less
-    loop-again
+    ticks-less
+    ticks-again
+    returns
     returns-2)
