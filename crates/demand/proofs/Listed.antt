@@ -1,7 +1,7 @@
 -- A list of advances, one more at its end.
 use mathlib.Core.Path.{_≡_, refl, ap, _∙_}
 use mathlib.Core.List.{List, [], _∷_, _++_, map}
-use Prim.Native.Nat.{ℕ, suc, _+_, _*_}
+use Prim.Native.Nat.{ℕ, suc, _+_}
 use lib.ListN.{length, length-map}
 use Rattle.model.proofs.Lists.{map-more}
 use Rattle.run.specs.declared.Run.{Run}

@@ -5,14 +5,13 @@ use mathlib.Core.Logic.{_↔_}
 use mathlib.Core.List.{List, map, _++_}
 use Prim.Native.Nat.{ℕ, _≤_, _<_}
 use native.Mathlib.Omega.{arith}
-use lib.ListN.{length, take, drop, length-map}
+use lib.ListN.{length, drop}
 use lib.Seq.{take-at, drop-at}
 use lib.Dec.{leb}
-use borrow.Author.Tests.{le-leb, lt-leb, leb-true, leb-false}
+use borrow.Author.Tests.{le-leb, lt-leb, leb-true}
 use Rattle.model.proofs.Lists.{map-map}
 use Rattle.model.specs.Book as model
 use Rattle.model.proofs.Bools.{and-left, and-right, and-both}
-use Rattle.table.specs.Words.{tableOf}
 use Rattle.table.specs.Numbers.{FirstOf, NoneOf}
 use Rattle.run.specs.declared.Run.{Run}
 use Rattle.run.specs.declared.Answer.{Answer}
@@ -20,12 +19,12 @@ use Rattle.run.specs.declared.Answer.the-variants.{Taken, Refused}
 use Rattle.run.specs.declared.Row.{Row}
 use Rattle.demand.specs.declared.Replayed.{Replayed}
 use Rattle.demand.specs.declared.Replayed.the-variants as replayed
-use Rattle.run.specs.Answer.{told, shownBy, rowTold, askedIn64}
+use Rattle.run.specs.Answer.{told, shownBy, rowTold}
 use Rattle.run.specs.Row.{rowOf}
 use Rattle.run.specs.Start.{StartApplies, startOf, StartOf}
 use Rattle.demand.specs.Advances.{answers, after}
 use Rattle.demand.specs.Follows.{begun, Follows}
-use Rattle.demand.specs.Replay.{code, codes, Room, Outcome, rowCase, rowSaid, played, byStart, replayOf, ByTheBook, ReplayOf}
+use Rattle.demand.specs.Replay.{code, codes, Room, Outcome, rowCase, rowSaid, played, replayOf, ByTheBook, ReplayOf}
 use Rattle.run.proofs.StartExact.{start-of}
 use Rattle.demand.proofs.Follows.{follows}
 use Rattle.run.proofs.Shown.{row-length}

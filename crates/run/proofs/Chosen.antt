@@ -5,7 +5,7 @@ use mathlib.Core.List.{List, [], _∷_}
 use Prim.Native.Nat.{ℕ, zero, suc, _/_, _%_, _^_, _≤_, _<_}
 use native.Mathlib.Nat.{lt-of-le-of-lt}
 use native.Mathlib.Omega.{arith}
-use lib.ListN.{length, take, length-map, length-take}
+use lib.ListN.{take, length-map, length-take}
 use lib.Bits.{bitAnd, and-le-l}
 use lib.Dec.{eqb, ltb}
 use borrow.Author.Tests.{lt-ltb, le-ltb, eqb-true, eqb-false, ltb-true, ltb-false}
@@ -13,7 +13,7 @@ use Rattle.model.proofs.Digits.{bit-high, bit-zero, bit-suc, half, and-bit}
 use Rattle.model.specs.Task.{Rule}
 use Rattle.model.specs.Grants.{Claimant, claimants, left, grants, given, some}
 use Rattle.model.specs.Search.{any, bit, upFrom}
-use Rattle.model.proofs.Bools.{not-false-true, same-test}
+use Rattle.model.proofs.Bools.{not-false-true}
 use Rattle.model.proofs.Grants.{claimants-same}
 use Rattle.model.proofs.Search.{none-any, none-at}
 use Rattle.rule.specs.Shares.{granted}
@@ -21,7 +21,7 @@ use Rattle.run.specs.declared.Run.{Run}
 use Rattle.run.specs.declared.choosing.Claims.{Claims}
 use Rattle.run.specs.Phase.{claiming, working}
 use Rattle.run.specs.Run.{ruleIn, phaseAt, widthsIn, grantsIn, hasCores}
-use Rattle.run.specs.Numbers.{reportableAt, misreportedIn}
+use Rattle.run.specs.Numbers.{reportableAt}
 use Rattle.run.specs.Claims.{ClaimsOf}
 
 -- ---- the choosing over more places than claim

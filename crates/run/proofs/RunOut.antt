@@ -1,5 +1,5 @@
 -- Number 14 in the order in which code looks: the count, the core count and the rule, then each place; and the room that a phase leaves for one more tick.
-use mathlib.Core.Path.{_≡_, refl, sym, ap, _∙_}
+use mathlib.Core.Path.{_≡_, refl}
 use mathlib.Core.Bool.{Bool, true, false, not, _||_, true≢false, false≢true}
 use Prim.Native.Nat.{ℕ, _≤_, _<_}
 use native.Mathlib.Omega.{arith}
@@ -17,7 +17,7 @@ use Rattle.run.specs.Phase.{PhaseIn}
 use Rattle.run.specs.Headroom.{Roomy}
 use Rattle.run.specs.Run.{ruleIn, taskAt, phaseAt}
 use Rattle.run.specs.Numbers.{placeOut, runOut, lateAt, firstLateIn}
-use Rattle.run.proofs.Limits.{or-left-false, Passes, passes-if}
+use Rattle.run.proofs.Limits.{or-left-false, passes-if}
 
 -- ---- the head, then the places
 

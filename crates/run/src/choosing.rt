@@ -1,5 +1,5 @@
 ghost use mathlib.Core.Path.{_≡_};
-ghost use Prim.Native.Nat.{ℕ, _≤_};
+ghost use Prim.Native.Nat.{_≤_};
 ghost use Rattle.run.specs.Phase.{claiming, working};
 ghost use Rattle.run.specs.Claims.{ClaimsOf};
 ghost use mathlib.Core.Bool.{false};

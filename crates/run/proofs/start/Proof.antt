@@ -1,6 +1,6 @@
 -- `run::start` meets its contract: the answer goes by the judge's verdict, and the run goes with the answer (`ByVerdict`).
 -- Assumes nothing.
-use mathlib.Core.Path.{_≡_, sym, ap, _∙_}
+use mathlib.Core.Path.{_≡_, sym, _∙_}
 use mathlib.Core.Logic.{inl, inr}
 use borrow.Author.Needs.{needs}
 use Rattle.judge.specs.declared.Verdict.{Verdict}

@@ -1,10 +1,10 @@
 -- `run::starts::started` meets its contract. The loop's invariant: the places passed hold their tasks as they start, and the others are as they were made (`written-more`).
 -- Assumes nothing.
-use mathlib.Core.Path.{_≡_, refl, sym, ap, _∙_}
+use mathlib.Core.Path.{_≡_, sym, ap, _∙_}
 use mathlib.Core.List.{List, [], _∷_, _++_, map}
 use Prim.Native.Nat.{ℕ, _+_, _-_, _≤_, _<_}
 use native.Mathlib.Omega.{arith}
-use lib.ListN.{length, getD, take, drop, set, replicate, length-map, length-replicate}
+use lib.ListN.{length, getD, take, drop, replicate, length-map}
 use lib.Seq.{length-take-le}
 use borrow.Author.Needs.{needs}
 use Rattle.model.proofs.Lists.{map-more}
