@@ -5,7 +5,7 @@ use Prim.Native.Nat.{ℕ}
 use Rattle.run.specs.declared.Answer.{Answer}
 use Rattle.run.specs.declared.Run.{Run}
 use Rattle.run.specs.Advance.{advanceOf}
-use Rattle.run.specs.Advances.{answers, after}
+use Rattle.demand.specs.Advances.{answers, after}
 use Rattle.capi.specs.Encoding.{run, decode}
 use Rattle.capi.specs.Runs.{advanceFrom}
 use Rattle.capi.specs.Lists.{bufferAnswers, bufferAfter}
