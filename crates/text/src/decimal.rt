@@ -5,7 +5,7 @@ ghost use Rattle.text.specs.Decimal.{digitCount, decimal};
 ghost use Rattle.text.specs.Written.{Put};
 
 // How many digits a number has.
-pub fn digits(number: u32) -> usize
+fn digits(number: u32) -> usize
     ensures { λ r. ⌜ r ≡ digitCount number ⌝ }
 {
     let mut left = number;

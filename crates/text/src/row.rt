@@ -22,7 +22,7 @@ pub fn copy(from: &[u8], start: usize, count: usize, to: &mut [u8], at: usize) -
 }
 
 // Writes a byte's value in decimal into the text from `at` on; the answer is where it ends.
-pub fn put_byte(text: &mut [u8], at: usize, number: u8) -> usize
+fn put_byte(text: &mut [u8], at: usize, number: u8) -> usize
     requires { ⌜ at + 3 ≤ length (now text) ⌝ }
     ensures { λ r. ⌜ (Put (now (text .entry)) at (decimal number) (now (text .exit)) r) × (r ≤ at + 3) ⌝ }
 {
