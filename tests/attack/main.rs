@@ -41,9 +41,13 @@ pub struct Counts {
     tables: u64,
     plans: u64,
     replays: u64,
+    /// Replays that end in a missed deadline.
+    late: u64,
     advances: u64,
     runs: u64,
     nodes: u64,
+    /// Nodes at which a deadline is missed.
+    ends: u64,
     searched: HashSet<Vec<u32>>,
 }
 
@@ -81,8 +85,8 @@ impl Counts {
         let ours = [&mut self.passed, &mut self.failed, &mut self.firm, &mut self.full, &mut self.miss, &mut self.tables];
         let theirs = [other.passed, other.failed, other.firm, other.full, other.miss, other.tables];
         ours.into_iter().zip(theirs).for_each(|(here, there)| *here += there);
-        let ours = [&mut self.plans, &mut self.replays, &mut self.advances, &mut self.runs, &mut self.nodes];
-        let theirs = [other.plans, other.replays, other.advances, other.runs, other.nodes];
+        let ours = [&mut self.plans, &mut self.replays, &mut self.late, &mut self.advances, &mut self.runs, &mut self.nodes, &mut self.ends];
+        let theirs = [other.plans, other.replays, other.late, other.advances, other.runs, other.nodes, other.ends];
         ours.into_iter().zip(theirs).for_each(|(here, there)| *here += there);
         self.searched.extend(other.searched);
     }
@@ -156,9 +160,9 @@ fn main() {
             }
         }
     });
-    let Counts { tables, firm, full, miss, plans, replays, advances, runs, nodes, .. } = counts;
-    println!("attack: {tables} tables (firm {firm}, full {full}, miss {miss}), {plans} plans, {replays} replays, {advances} advances, {runs} runs built by hand");
-    println!("attack: {} small tables searched, {nodes} nodes", counts.searched.len());
+    let Counts { tables, firm, full, miss, plans, replays, late, advances, runs, nodes, ends, .. } = counts;
+    println!("attack: {tables} tables (firm {firm}, full {full}, miss {miss}), {plans} plans, {replays} replays ({late} to a missed deadline), {advances} advances, {runs} runs built by hand");
+    println!("attack: {} small tables searched, {nodes} nodes ({ends} at a missed deadline)", counts.searched.len());
     let often: Vec<String> = (1..17).map(|number| format!("{number}: {}", counts.numbers[number])).collect();
     println!("attack: numbers among the answers: {}", often.join(", "));
     if long.is_none() {

@@ -1,6 +1,6 @@
 //! Verdict, plan, replay and the run in words beside the simulator, on one random table.
 use crate::book::{self, Known, Said};
-use crate::calls::{self, same, Kept, Tried};
+use crate::calls::{self, same, Kept, Lent, Tried};
 use crate::rng::Rng;
 use crate::tables;
 use crate::Counts;
@@ -59,10 +59,9 @@ fn compare_plans(rng: &mut Rng, counts: &mut Counts, words: &[u32], known: &Said
         let got = calls::plan(rng, words, a, b, len, &expected).map_err(|why| format!("plan {a} {b} into {len} bytes: {why}"))?;
         counts.plans += 1;
         counts.answer(&got);
-        let mut rows = vec![0; len];
-        let bound = sivorandra::plan(words, a, b, &mut rows);
-        same("plan in Rust", got, bound)?;
-        same("rows in Rust", &expected.as_deref().unwrap_or(&[])[..], &rows[..expected.as_ref().map_or(0, Vec::len)])?;
+        let mut rows = Lent::bytes(rng, len);
+        same("plan in Rust", got, sivorandra::plan(words, a, b, rows.lent()))?;
+        rows.holds("the rows in Rust", expected.as_deref().unwrap_or(&[]))?;
     }
     Ok(())
 }
@@ -116,6 +115,7 @@ fn compare_runs(rng: &mut Rng, counts: &mut Counts, words: &[u32], known: &Said<
     let whole = begun.as_ref().map(|_| (expected.iter().map(code).collect(), row)).map_err(|refusal| *refusal);
     calls::replay(rng, words, list, &whole)?;
     counts.replays += 1;
+    counts.late += u64::from(row.is_err() && begun.is_ok());
     let bound = begun.as_ref().map(|_| Replay { advances: expected, row }).map_err(|refusal| *refusal);
     same("replay in Rust", bound, sivorandra::replay(words, list))
 }

@@ -66,6 +66,7 @@ impl Search<'_> {
             }
         }
         if row.is_err() {
+            counts.ends += 1;
             let mut next = run.clone();
             same("advance of a run that has missed", row.map(|_| ()), next.advance(0))?;
             return same("a run that has missed", run, &next);

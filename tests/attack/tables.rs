@@ -79,6 +79,24 @@ fn long(rng: &mut Rng) -> (u32, Vec<Task>) {
     (cores, tasks(rng, 32, cores, &periods, 12))
 }
 
+/// As the scope's example B: the second task is too wide beside the first, the third is not, and has little room once the first ends early.
+fn frail(rng: &mut Rng) -> (u32, Vec<Task>) {
+    let cores = rng.from(2, 5);
+    let first = rng.from(1, cores - 1);
+    let (long, short) = (rng.from(2, 6), rng.from(1, 3));
+    let period = long + short + rng.from(0, 2);
+    let third = rng.from(1, long);
+    let room = third + rng.from(0, short - 1);
+    let wide = rng.from(cores - first + 1, cores);
+    let narrow = rng.from(1, cores - first);
+    let offset = rng.from(0, 2);
+    let mut tasks = vec![[offset, first, long, rng.from(long, period), period], [offset, wide, short, period, period], [offset, narrow, third, room, period]];
+    if rng.once_in(3) {
+        tasks.push([rng.from(0, 5), rng.from(1, cores), 1, 2 * period, 2 * period]);
+    }
+    (cores, tasks)
+}
+
 /// Any table: about one in four has a fault.
 pub fn any(rng: &mut Rng) -> Vec<u32> {
     const SMALL: [u32; 10] = [1, 2, 3, 4, 5, 6, 8, 10, 12, 15];
@@ -89,11 +107,12 @@ pub fn any(rng: &mut Rng) -> Vec<u32> {
             let cores = rng.pick(&[8, 16, 33, 63, 64]);
             (cores, tasks(rng, 32, (cores / 4).max(1), &[8, 12, 16, 24, 48], 4))
         }
-        90..=399 => {
+        90..=249 => frail(rng),
+        250..=499 => {
             let cores = rng.pick(&[1, 2, 3, 4, 8]);
             (cores, tasks(rng, 8, cores, &[4, 6, 8, 12, 24], 3))
         }
-        400..=699 => {
+        500..=749 => {
             let cores = rng.from(1, 4);
             (cores, tasks(rng, 4, cores, &SMALL, 2))
         }
@@ -102,7 +121,7 @@ pub fn any(rng: &mut Rng) -> Vec<u32> {
             (cores, tasks(rng, 6, cores, &SMALL, 1))
         }
     };
-    let rule = rng.from(1, 3);
+    let rule = rng.pick(&[1, 1, 2, 3]);
     let mut words = words(rng, cores, rule, &tasks);
     if rng.once_in(4) {
         spoil(rng, &mut words);
@@ -113,17 +132,19 @@ pub fn any(rng: &mut Rng) -> Vec<u32> {
     words
 }
 
-/// A table of at most 4 tasks on at most 3 cores, without a fault.
+/// A table of at most 4 tasks, without a fault.
 pub fn small(rng: &mut Rng) -> Vec<u32> {
-    let cores = rng.from(1, 3);
-    let count = rng.from(1, 4);
-    let tasks: Vec<Task> = (0..count)
-        .map(|_| {
+    let (cores, tasks) = if rng.once_in(2) {
+        frail(rng)
+    } else {
+        let (cores, count) = (rng.from(1, 3), rng.from(1, 4));
+        let one = |_| {
             let period = rng.from(2, 8);
             let deadline = rng.from(1.max(period / 2), period);
             [rng.pick(&[0, 0, 1, 3]), rng.from(1, cores), rng.from(1, deadline.min(5)), deadline, period]
-        })
-        .collect();
+        };
+        (cores, (0..count).map(one).collect())
+    };
     let rule = rng.from(1, 3);
     words(rng, cores, rule, &tasks)
 }
