@@ -24,6 +24,14 @@ pub fn same<T: PartialEq + Debug>(what: &str, expected: T, got: T) -> Tried<()> 
     Err(format!("{what}: expected {expected:?}, got {got:?}"))
 }
 
+/// Fails unless both runs have the same words.
+pub fn same_run(what: &str, expected: &[u32; RUN_WORDS], got: &[u32; RUN_WORDS]) -> Tried<()> {
+    match (0..RUN_WORDS).find(|&at| expected[at] != got[at]) {
+        None => Ok(()),
+        Some(at) => Err(format!("{what}: word {at} of the run: expected {}, got {}", expected[at], got[at])),
+    }
+}
+
 /// The run that a refused start hands out: all zeros, every phase Resting(0).
 pub const NO_RUN: [u32; RUN_WORDS] = {
     let mut words = [0; RUN_WORDS];

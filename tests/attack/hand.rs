@@ -1,6 +1,6 @@
 //! Runs built by hand: number 14 at each limit, 15, and what no started run shows.
 use crate::book::{self, COMING, HOLDING, RESTING, WORKING};
-use crate::calls::{same, Kept, Tried};
+use crate::calls::{same, same_run, Kept, Tried};
 use crate::rng::Rng;
 use crate::Counts;
 use sivorandra::{Refusal, Run, RUN_WORDS};
@@ -60,7 +60,7 @@ fn compare(rng: &mut Rng, counts: &mut Counts, words: &Words, ticks: usize) -> T
     let known = book::table_of(words);
     let mut cab = known.book_of(words);
     let mut now = *words;
-    same("the words of the book", &now[..], &cab.words(&now)[..])?;
+    same_run("the book", &now, &cab.words(&now))?;
     for _ in 0..ticks {
         counts.answer(&kept.row(rng, cab.row())?);
         let may = cab.may_report();
@@ -249,7 +249,7 @@ fn lateness(counts: &mut Counts) -> Tried<()> {
                 let answer = held.advance(reports);
                 counts.answer(&answer);
                 same("advance", expected, answer)?;
-                same("the late run", &words[..], &held.words()[..])?;
+                same_run("the late run", &words, held.words())?;
             }
             words[3 + 8 * 5 + 1] = 5;
             same("14 before 15", Err(OUT), Run::from_words(words).advance(0))?;
@@ -291,7 +291,7 @@ fn a_move(rule: u32, place: Place, reports: u32, phase: [u32; 3]) -> Tried<()> {
     same("advance", Ok(()), held.advance(reports))?;
     let [o, v, c, d, t, ..] = place;
     let next = run(rule, 1, &[[o, v, c, d, t, phase[0], phase[1], phase[2]]]);
-    same("the run one tick on", &next[..], &held.words()[..])
+    same_run("one tick on", &next, held.words())
 }
 
 /// Held cores have the holder's position, and hold others back; its reports are refused with 16.

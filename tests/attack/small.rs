@@ -1,6 +1,6 @@
 //! Every way of ending jobs early within the first ticks of a small table, the run kept in words beside the book.
 use crate::book::{self, Cab, WORKING};
-use crate::calls::{same, Tried};
+use crate::calls::{same, same_run, Tried};
 use crate::rng::Rng;
 use crate::tables;
 use crate::Counts;
@@ -53,7 +53,7 @@ impl Search<'_> {
     fn visit(&mut self, run: &Run, cab: &mut Cab, counts: &mut Counts) -> Tried<()> {
         counts.nodes += 1;
         let tick = self.list.len();
-        same("the run's words", &cab.words(run.words())[..], &run.words()[..])?;
+        same_run("the run", &cab.words(run.words()), run.words())?;
         let row = cab.row();
         same("row", row, run.row())?;
         counts.answer(&row.map(|_| ()));
@@ -69,7 +69,7 @@ impl Search<'_> {
             counts.ends += 1;
             let mut next = run.clone();
             same("advance of a run that has missed", row.map(|_| ()), next.advance(0))?;
-            return same("a run that has missed", run, &next);
+            return same_run("a run that has missed", run.words(), next.words());
         }
         if tick == TICKS {
             return Ok(());
@@ -82,7 +82,7 @@ impl Search<'_> {
             counts.answer(&answer);
             if set & !may != 0 {
                 same(&format!("advance with {set}"), Err(Refusal { number: 16, position: 0 }), answer)?;
-                same("a refused run", run, &next)?;
+                same_run("a refused run", run.words(), next.words())?;
                 continue;
             }
             self.list.push(set);
