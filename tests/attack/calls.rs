@@ -1,0 +1,264 @@
+//! The C functions, each with its lent slices inside larger ones: what stands around them must stay.
+use crate::book::Said;
+use crate::rng::Rng;
+use sivorandra::{Refusal, Verdict, ROW_BYTES, RUN_WORDS};
+use std::fmt::Debug;
+
+extern "C" {
+    fn sivorandra_judge(words: *const u32, words_len: usize, answer: *mut u32, answer_len: usize) -> u32;
+    fn sivorandra_plan(words: *const u32, words_len: usize, a: u32, b: u32, rows: *mut u8, rows_len: usize, answer: *mut u32, answer_len: usize) -> u32;
+    fn sivorandra_replay(words: *const u32, words_len: usize, reports: *const u32, reports_len: usize, numbers: *mut u32, numbers_len: usize, row: *mut u8, row_len: usize, answer: *mut u32, answer_len: usize) -> u32;
+    fn sivorandra_start(words: *const u32, words_len: usize, run: *mut u32, run_len: usize, answer: *mut u32, answer_len: usize) -> u32;
+    fn sivorandra_row(run: *const u32, run_len: usize, row: *mut u8, row_len: usize, answer: *mut u32, answer_len: usize) -> u32;
+    fn sivorandra_advance(run: *mut u32, run_len: usize, reports: u32, answer: *mut u32, answer_len: usize) -> u32;
+}
+
+/// What is wrong, in words.
+pub type Tried<T> = Result<T, String>;
+
+/// Fails unless both are the same.
+pub fn same<T: PartialEq + Debug>(what: &str, expected: T, got: T) -> Tried<()> {
+    if expected == got {
+        return Ok(());
+    }
+    Err(format!("{what}: expected {expected:?}, got {got:?}"))
+}
+
+/// Fails unless both runs have the same words.
+pub fn same_run(what: &str, expected: &[u32; RUN_WORDS], got: &[u32; RUN_WORDS]) -> Tried<()> {
+    match (0..RUN_WORDS).find(|&at| expected[at] != got[at]) {
+        None => Ok(()),
+        Some(at) => Err(format!("{what}: word {at} of the run: expected {}, got {}", expected[at], got[at])),
+    }
+}
+
+/// The run that a refused start hands out: all zeros, every phase Resting(0).
+pub const NO_RUN: [u32; RUN_WORDS] = {
+    let mut words = [0; RUN_WORDS];
+    let mut kind = 8;
+    while kind < RUN_WORDS {
+        words[kind] = crate::book::RESTING;
+        kind += 8;
+    }
+    words
+};
+
+const GUARD: usize = 24;
+
+/// A slice to lend, with other elements before and behind it.
+pub struct Lent<T> {
+    found: Vec<T>,
+    now: Vec<T>,
+}
+
+impl<T: Copy + PartialEq + Debug> Lent<T> {
+    pub fn new(len: usize, mut one: impl FnMut() -> T) -> Lent<T> {
+        let found: Vec<T> = (0..len + 2 * GUARD).map(|_| one()).collect();
+        Lent { now: found.clone(), found }
+    }
+
+    pub fn len(&self) -> usize {
+        self.found.len() - 2 * GUARD
+    }
+
+    pub fn lent(&mut self) -> &mut [T] {
+        let end = self.now.len() - GUARD;
+        &mut self.now[GUARD..end]
+    }
+
+    /// Fails unless the first elements are these and everything else is as found. What is there counts as found from now on.
+    pub fn holds(&mut self, what: &str, first: &[T]) -> Tried<()> {
+        self.found[GUARD..][..first.len()].copy_from_slice(first);
+        if self.found == self.now {
+            return Ok(());
+        }
+        let at = (0..self.found.len()).find(|&at| self.found[at] != self.now[at]).unwrap_or(0);
+        Err(format!("{what}: element {} of {} is {:?} and not {:?}", at as i64 - GUARD as i64, self.len(), self.now[at], self.found[at]))
+    }
+
+    pub fn as_found(&mut self, what: &str) -> Tried<()> {
+        self.holds(what, &[])
+    }
+
+    fn as_found_if(&mut self, short: bool, what: &str) -> Tried<()> {
+        if short { self.as_found(what) } else { Ok(()) }
+    }
+}
+
+impl Lent<u8> {
+    pub fn bytes(rng: &mut Rng, len: usize) -> Lent<u8> {
+        let mut left = 0;
+        Lent::new(len, || {
+            left = if left < 256 { rng.next() } else { left >> 8 };
+            left as u8
+        })
+    }
+}
+
+impl Lent<u32> {
+    pub fn words(rng: &mut Rng, len: usize) -> Lent<u32> {
+        Lent::new(len, || rng.word())
+    }
+}
+
+/// The answer's three words; at times first with no room for them, where the call itself sees to it that all else stays. Fails unless the words behind them stay.
+fn ask(rng: &mut Rng, mut call: impl FnMut(&mut [u32]) -> Tried<u32>) -> Tried<[u32; 3]> {
+    if rng.once_in(16) {
+        let len = rng.below(3);
+        let mut answer = Lent::words(rng, len);
+        same("the value with a short answer", 1, call(answer.lent())?)?;
+        answer.as_found("a short answer")?;
+    }
+    let len = 3 + rng.below(3);
+    let mut answer = Lent::words(rng, len);
+    same("the value", 0, call(answer.lent())?)?;
+    let three = [answer.lent()[0], answer.lent()[1], answer.lent()[2]];
+    answer.holds("the answer", &three)?;
+    Ok(three)
+}
+
+/// Done or refused, as start, row, advance and plan say it.
+fn done(three: [u32; 3]) -> Tried<Said<()>> {
+    match three {
+        [0, 0, 0] => Ok(Ok(())),
+        [3, number, position] => Ok(Err(Refusal { number, position })),
+        other => Err(format!("the answer is {other:?}")),
+    }
+}
+
+pub fn judge(rng: &mut Rng, words: &[u32]) -> Tried<Said<Verdict>> {
+    let three = ask(rng, |answer| Ok(unsafe { sivorandra_judge(words.as_ptr(), words.len(), answer.as_mut_ptr(), answer.len()) }))?;
+    match three {
+        [0, start, period] => Ok(Ok(Verdict::Firm { start, period })),
+        [1, start, period] => Ok(Ok(Verdict::Full { start, period })),
+        [2, tick, position] => Ok(Ok(Verdict::Miss { tick, position })),
+        [3, number, position] => Ok(Err(Refusal { number, position })),
+        other => Err(format!("the answer is {other:?}")),
+    }
+}
+
+/// What plan says; it leaves the rows expected, and in a refusal everything as found.
+pub fn plan(rng: &mut Rng, words: &[u32], a: u32, b: u32, len: usize, expected: &Said<Vec<u8>>) -> Tried<Said<()>> {
+    let mut rows = Lent::bytes(rng, len);
+    let three = ask(rng, |answer| {
+        let value = unsafe { sivorandra_plan(words.as_ptr(), words.len(), a, b, rows.lent().as_mut_ptr(), len, answer.as_mut_ptr(), answer.len()) };
+        rows.as_found_if(value == 1, "the rows")?;
+        Ok(value)
+    })?;
+    let got = done(three)?;
+    same("plan", expected.as_ref().map(|_| ()).map_err(|refusal| *refusal), got)?;
+    rows.holds("the rows", expected.as_deref().unwrap_or(&[]))?;
+    Ok(got)
+}
+
+/// What replay says of the last row or of the start; it leaves the answers and the row expected, and where the start is refused everything as found.
+pub fn replay(rng: &mut Rng, words: &[u32], reports: &[u32], expected: &Said<(Vec<u32>, Said<[u8; ROW_BYTES]>)>) -> Tried<()> {
+    let (numbers_len, row_len) = (reports.len() + rng.below(3), ROW_BYTES + rng.below(3));
+    let (mut numbers, mut row) = (Lent::words(rng, numbers_len), Lent::bytes(rng, row_len));
+    let mut call = |numbers_len: usize, row_len: usize, answer: &mut [u32]| {
+        let (into, last) = (numbers.lent().as_mut_ptr(), row.lent().as_mut_ptr());
+        let value = unsafe { sivorandra_replay(words.as_ptr(), words.len(), reports.as_ptr(), reports.len(), into, numbers_len, last, row_len, answer.as_mut_ptr(), answer.len()) };
+        numbers.as_found_if(value == 1, "the answers")?;
+        row.as_found_if(value == 1, "the last row")?;
+        Ok(value)
+    };
+    if expected.is_ok() && rng.once_in(16) {
+        // no room for the answers, or for the row
+        let for_numbers = rng.once_in(2) && !reports.is_empty();
+        let lens = if for_numbers { (rng.below(reports.len()), row_len) } else { (numbers_len, rng.below(ROW_BYTES)) };
+        let mut answer = Lent::words(rng, 3);
+        same("the value with a short slice", 1, call(lens.0, lens.1, answer.lent())?)?;
+        answer.as_found("the answer to a short slice")?;
+    }
+    let three = ask(rng, |answer| call(numbers_len, row_len, answer))?;
+    let (case, answers, bytes): (_, &[u32], &[u8]) = match expected {
+        Ok((answers, Ok(row))) => ([0, 0, 0], answers, row),
+        Ok((answers, Err(refusal))) => ([4, refusal.number, refusal.position], answers, &[0; ROW_BYTES]),
+        Err(refusal) => ([3, refusal.number, refusal.position], &[], &[]),
+    };
+    same("replay", case, three)?;
+    numbers.holds("the answers", answers)?;
+    row.holds("the last row", bytes)
+}
+
+/// A run kept in words, with a row's bytes to ask it into.
+pub struct Kept {
+    run: Lent<u32>,
+    row: Lent<u8>,
+}
+
+impl Kept {
+    /// The run of a table as it starts, or the run of all zeros.
+    pub fn start(rng: &mut Rng, words: &[u32], expected: Said<[u32; RUN_WORDS]>) -> Tried<(Kept, Said<()>)> {
+        let len = RUN_WORDS + rng.below(3);
+        let mut run = Lent::words(rng, len);
+        let mut call = |len: usize, answer: &mut [u32]| {
+            let value = unsafe { sivorandra_start(words.as_ptr(), words.len(), run.lent().as_mut_ptr(), len, answer.as_mut_ptr(), answer.len()) };
+            run.as_found_if(value == 1, "the run")?;
+            Ok(value)
+        };
+        if rng.once_in(64) {
+            let mut answer = Lent::words(rng, 3);
+            same("the value with a short run", 1, call(rng.below(RUN_WORDS), answer.lent())?)?;
+            answer.as_found("the answer to a short run")?;
+        }
+        let got = done(ask(rng, |answer| call(len, answer))?)?;
+        same("start", expected.map(|_| ()), got)?;
+        run.holds("the started run", &expected.unwrap_or(NO_RUN))?;
+        Ok((Kept { run, row: Lent::bytes(rng, ROW_BYTES + 2) }, got))
+    }
+
+    /// A run built by hand.
+    pub fn from(rng: &mut Rng, words: &[u32; RUN_WORDS]) -> Kept {
+        let mut run = Lent::words(rng, RUN_WORDS + 1);
+        run.lent()[..RUN_WORDS].copy_from_slice(words);
+        run.found = run.now.clone();
+        Kept { run, row: Lent::bytes(rng, ROW_BYTES + 2) }
+    }
+
+    pub fn row(&mut self, rng: &mut Rng, expected: Said<[u8; ROW_BYTES]>) -> Tried<Said<()>> {
+        let Kept { run, row } = self;
+        let three = ask(rng, |answer| {
+            let value = unsafe { sivorandra_row(run.lent().as_ptr(), run.len(), row.lent().as_mut_ptr(), row.len(), answer.as_mut_ptr(), answer.len()) };
+            row.as_found_if(value == 1, "the row")?;
+            Ok(value)
+        })?;
+        let got = done(three)?;
+        same("row", expected.map(|_| ()), got)?;
+        row.holds("the row", &expected.unwrap_or([0; ROW_BYTES]))?;
+        run.as_found("the run whose row is asked")?;
+        Ok(got)
+    }
+
+    /// An advance, which leaves the run expected, or in a refusal the run as found.
+    pub fn advance(&mut self, rng: &mut Rng, reports: u32, expected: Said<[u32; RUN_WORDS]>) -> Tried<Said<()>> {
+        let run = &mut self.run;
+        let three = ask(rng, |answer| {
+            let value = unsafe { sivorandra_advance(run.lent().as_mut_ptr(), run.len(), reports, answer.as_mut_ptr(), answer.len()) };
+            run.as_found_if(value == 1, "the run")?;
+            Ok(value)
+        })?;
+        let got = done(three)?;
+        same("advance", expected.map(|_| ()), got)?;
+        run.holds("the run one tick on", expected.as_ref().map_or(&[][..], |words| &words[..]))?;
+        Ok(got)
+    }
+
+    /// Row and advance of too few words for a run, which 14 turns down, and a row asked into too few bytes.
+    pub fn cut(&mut self, rng: &mut Rng) -> Tried<()> {
+        let Kept { run, row } = self;
+        let (words, bytes) = (rng.below(RUN_WORDS), rng.below(ROW_BYTES));
+        let mut answer = [0; 3];
+        same("the value of a row of too few words", 0, unsafe { sivorandra_row(run.lent().as_ptr(), words, row.lent().as_mut_ptr(), row.len(), answer.as_mut_ptr(), 3) })?;
+        same("a row of too few words", [3, 14, 0], answer)?;
+        row.holds("the row of too few words", &[0; ROW_BYTES])?;
+        answer = [0; 3];
+        same("the value of an advance of too few words", 0, unsafe { sivorandra_advance(run.lent().as_mut_ptr(), words, 0, answer.as_mut_ptr(), 3) })?;
+        same("an advance of too few words", [3, 14, 0], answer)?;
+        run.as_found("too few words")?;
+        answer = [7; 3];
+        same("the value of a row in too few bytes", 1, unsafe { sivorandra_row(run.lent().as_ptr(), run.len(), row.lent().as_mut_ptr(), bytes, answer.as_mut_ptr(), 3) })?;
+        same("the answer to too few bytes", [7; 3], answer)?;
+        row.as_found("too few bytes")
+    }
+}

@@ -1,0 +1,321 @@
+//! Runs built by hand: number 14 at each limit, 15, and what no started run shows.
+use crate::book::{self, COMING, HOLDING, RESTING, WORKING};
+use crate::calls::{same, same_run, Kept, Tried};
+use crate::rng::Rng;
+use crate::Counts;
+use sivorandra::{Refusal, Run, RUN_WORDS};
+
+/// O, v, C, D, T, and the phase: its kind and two numbers.
+type Place = [u32; 8];
+type Words = [u32; RUN_WORDS];
+
+/// A run of these places; past the count zeros and Resting(0).
+fn run(rule: u32, cores: u32, places: &[Place]) -> Words {
+    let mut words = [0; RUN_WORDS];
+    words[..3].copy_from_slice(&[rule, cores, places.len() as u32]);
+    for (at, place) in words[3..].chunks_mut(8).enumerate() {
+        place.copy_from_slice(places.get(at).unwrap_or(&[0, 0, 0, 0, 0, RESTING, 0, 0]));
+    }
+    words
+}
+
+/// Whether the words hold no run, or number 14 turns it down (scope, 'The run in the cab').
+fn turned_down(words: &Words) -> bool {
+    let [rule, cores, count, ..] = *words;
+    let within = |n: u32, low: u32, high: u32| low <= n && n <= high;
+    let is_phase = |place: &[u32]| match place[5] {
+        COMING | RESTING => place[7] == 0,
+        kind => kind == WORKING || kind == HOLDING,
+    };
+    let fits = |place: &[u32]| {
+        let [o, v, c, d, t, kind, first, u] = place[..] else { unreachable!() };
+        let z = first;
+        within(v, 1, cores)
+            && o <= 1_000_000
+            && within(c, 1, 1_000_000)
+            && within(t, 1, 1_000_000)
+            && within(d, 1, t)
+            && match kind {
+                COMING => within(first, 1, o),
+                WORKING => z <= d && u < c && u <= z,
+                HOLDING => rule == 3 && within(z, 1, d - 1) && within(u, 1, c - 1) && u <= z,
+                _ => within(z, 1, t - 1),
+            }
+    };
+    let all = words[3..].chunks(8);
+    !(within(count, 1, 32) && within(cores, 1, 64) && within(rule, 1, 3) && all.clone().all(is_phase) && all.take(count as usize).all(fits))
+}
+
+const OUT: Refusal = Refusal { number: 14, position: 0 };
+
+/// Row and advance of a run, for some ticks, beside 14 and the book.
+fn compare(rng: &mut Rng, counts: &mut Counts, words: &Words, ticks: usize) -> Tried<()> {
+    let mut kept = Kept::from(rng, words);
+    if turned_down(words) {
+        counts.answer(&kept.row(rng, Err(OUT))?);
+        let set = rng.pick(&[0, 1, u32::MAX]);
+        counts.answer(&kept.advance(rng, set, Err(OUT))?);
+        return Ok(());
+    }
+    let known = book::table_of(words);
+    let mut cab = known.book_of(words);
+    let mut now = *words;
+    same_run("the book", &now, &cab.words(&now))?;
+    for _ in 0..ticks {
+        counts.answer(&kept.row(rng, cab.row())?);
+        let may = cab.may_report();
+        let set = match rng.below(8) {
+            0 => rng.word(),
+            1 => 1 << rng.below(32),
+            2 => may,
+            _ => rng.word() & may,
+        };
+        let answer = cab.advance(set);
+        if answer.is_ok() {
+            now = cab.words(&now);
+        }
+        counts.answer(&kept.advance(rng, set, answer.map(|()| now)).map_err(|why| format!("with {set}: {why}"))?);
+    }
+    Ok(())
+}
+
+/// A number near one of these limits.
+fn near(rng: &mut Rng, limits: &[u32]) -> u32 {
+    let limit = rng.pick(limits);
+    rng.pick(&[limit, limit.wrapping_sub(1), limit.saturating_add(1)])
+}
+
+/// A place within its limits where they leave room.
+fn place(rng: &mut Rng, rule: u32, cores: u32) -> Place {
+    let t = if rng.once_in(30) { rng.pick(&[1_000_000, 999_999]) } else { rng.from(1, 9) };
+    let d = if rng.once_in(2) { t } else { rng.from(1, t) };
+    let c = if rng.once_in(8) { rng.from(1, 1_000_000) } else { rng.from(1, d.min(12)) };
+    let o = rng.pick(&[0, 1, 3, 1_000_000]);
+    let v = if rng.once_in(4) { rng.from(1, cores) } else { rng.from(1, cores.min(2)) };
+    let z = |rng: &mut Rng, low: u32, high: u32| if rng.once_in(3) { high } else { rng.from(low, high) };
+    let phase = match rng.below(8) {
+        0 if o > 0 => [COMING, rng.pick(&[1, o, o.div_ceil(2)]), 0],
+        1 | 2 if t > 1 => [RESTING, z(rng, 1, t - 1), 0],
+        3..=5 if rule == 3 && d > 1 && c > 1 => {
+            let z = z(rng, 1, d - 1);
+            [HOLDING, z, rng.from(1, z.min(c - 1))]
+        }
+        _ => {
+            let z = if rng.once_in(12) { d } else { rng.from(0, d - 1) };
+            [WORKING, z, rng.from(0, z.min(c - 1))]
+        }
+    };
+    [o, v, c, d, t, phase[0], phase[1], phase[2]]
+}
+
+/// A random run built by hand, at times with a fault, and with anything that is a phase past the count.
+pub fn case(seed: u64, counts: &mut Counts) -> Tried<()> {
+    let mut rng = Rng::new(seed);
+    let (rule, cores) = (rng.pick(&[1, 2, 3, 3]), rng.pick(&[1, 2, 3, 4, 8, 64]));
+    let count = if rng.once_in(8) { rng.from(1, 32) } else { rng.from(1, 5) };
+    let places: Vec<Place> = (0..count).map(|_| place(&mut rng, rule, cores)).collect();
+    let mut words = run(rule, cores, &places);
+    for past in words[3..].chunks_mut(8).skip(count as usize) {
+        past.fill_with(|| rng.word());
+        past[5] = rng.from(COMING, RESTING);
+        if past[5] == COMING || past[5] == RESTING {
+            past[7] = 0;
+        }
+    }
+    if rng.once_in(3) {
+        let place = 3 + 8 * rng.below(count as usize);
+        let w = words[place..][..8].to_vec();
+        match rng.below(6) {
+            0 => words[0] = near(&mut rng, &[1, 3, u32::MAX]),
+            1 => words[1] = near(&mut rng, &[1, 64, w[1]]),
+            2 => words[2] = near(&mut rng, &[1, 32, count, u32::MAX]),
+            3 => words[place + rng.below(5)] = near(&mut rng, &[1, cores, w[4], w[3], 1_000_000]),
+            4 => words[place + 5] = near(&mut rng, &[0, 3, u32::MAX]),
+            _ => words[place + rng.pick(&[6, 7])] = near(&mut rng, &[1, w[0], w[2], w[3], w[4], w[6], u32::MAX]),
+        }
+    }
+    let ticks = 1 + rng.below(10);
+    compare(&mut rng, counts, &words, ticks).map_err(|why| format!("seed {seed}, run built by hand: {why}\n  run {:?}", &words[..3 + 8 * (count as usize + 1).min(32)]))
+}
+
+/// The limits of one place: what is inside, and what is outside by one number.
+fn place_limits() -> Vec<(&'static str, Place, Place)> {
+    const M: u32 = 1_000_000;
+    vec![
+        ("width at least 1", [5, 1, 4, 6, 8, RESTING, 1, 0], [5, 0, 4, 6, 8, RESTING, 1, 0]),
+        ("width at most the cores", [5, 64, 4, 6, 8, RESTING, 1, 0], [5, 65, 4, 6, 8, RESTING, 1, 0]),
+        ("O at most 1,000,000", [M, 1, 4, 6, 8, RESTING, 1, 0], [M + 1, 1, 4, 6, 8, RESTING, 1, 0]),
+        ("C at least 1", [5, 1, 1, 6, 8, RESTING, 1, 0], [5, 1, 0, 6, 8, RESTING, 1, 0]),
+        ("C at most 1,000,000", [5, 1, M, 6, 8, RESTING, 1, 0], [5, 1, M + 1, 6, 8, RESTING, 1, 0]),
+        ("D at least 1", [5, 1, 4, 1, 8, RESTING, 1, 0], [5, 1, 4, 0, 8, RESTING, 1, 0]),
+        ("D at most T", [5, 1, 4, 8, 8, RESTING, 1, 0], [5, 1, 4, 9, 8, RESTING, 1, 0]),
+        ("T at least 1", [5, 1, 4, 1, 1, WORKING, 0, 0], [5, 1, 4, 1, 0, WORKING, 0, 0]),
+        ("T at most 1,000,000", [5, 1, 4, 6, M, RESTING, 1, 0], [5, 1, 4, 6, M + 1, RESTING, 1, 0]),
+        ("Coming at least 1", [5, 1, 4, 6, 8, COMING, 1, 0], [5, 1, 4, 6, 8, COMING, 0, 0]),
+        ("Coming at most O", [5, 1, 4, 6, 8, COMING, 5, 0], [5, 1, 4, 6, 8, COMING, 6, 0]),
+        ("Coming at most O, the largest", [M, 1, 4, 6, 8, COMING, M, 0], [M, 1, 4, 6, 8, COMING, M + 1, 0]),
+        ("no Coming where O is 0", [1, 1, 4, 6, 8, COMING, 1, 0], [0, 1, 4, 6, 8, COMING, 1, 0]),
+        ("Working z at most D", [5, 1, 4, 6, 8, WORKING, 6, 1], [5, 1, 4, 6, 8, WORKING, 7, 1]),
+        ("Working z at most D where D is T", [5, 1, 4, 8, 8, WORKING, 8, 1], [5, 1, 4, 8, 8, WORKING, 9, 1]),
+        ("Working z at most D, far", [5, 1, 4, 6, 8, WORKING, 0, 0], [5, 1, 4, 6, 8, WORKING, u32::MAX, 0]),
+        ("Working u below C", [5, 1, 4, 6, 8, WORKING, 5, 3], [5, 1, 4, 6, 8, WORKING, 5, 4]),
+        ("Working u at most z", [5, 1, 4, 6, 8, WORKING, 2, 2], [5, 1, 4, 6, 8, WORKING, 2, 3]),
+        ("Working u at most z, at the release", [5, 1, 4, 6, 8, WORKING, 0, 0], [5, 1, 4, 6, 8, WORKING, 0, 1]),
+        ("Working u below C where C is above D", [5, 1, 9, 6, 8, WORKING, 5, 5], [5, 1, 5, 6, 8, WORKING, 5, 5]),
+        ("Holding z at least 1", [5, 1, 4, 6, 8, HOLDING, 1, 1], [5, 1, 4, 6, 8, HOLDING, 0, 1]),
+        ("Holding z at least 1, nor 0 with 0", [5, 1, 4, 6, 8, HOLDING, 1, 1], [5, 1, 4, 6, 8, HOLDING, 0, 0]),
+        ("Holding z at most D - 1", [5, 1, 4, 6, 8, HOLDING, 5, 1], [5, 1, 4, 6, 8, HOLDING, 6, 1]),
+        ("Holding z at most D - 1 where D is T", [5, 1, 4, 8, 8, HOLDING, 7, 1], [5, 1, 4, 8, 8, HOLDING, 8, 1]),
+        ("Holding u at least 1", [5, 1, 4, 6, 8, HOLDING, 3, 1], [5, 1, 4, 6, 8, HOLDING, 3, 0]),
+        ("Holding u at most C - 1", [5, 1, 4, 6, 8, HOLDING, 5, 3], [5, 1, 4, 6, 8, HOLDING, 5, 4]),
+        ("Holding u at most z", [5, 1, 4, 6, 8, HOLDING, 2, 2], [5, 1, 4, 6, 8, HOLDING, 2, 3]),
+        ("Resting at least 1", [5, 1, 4, 6, 8, RESTING, 1, 0], [5, 1, 4, 6, 8, RESTING, 0, 0]),
+        ("Resting at most T - 1", [5, 1, 4, 6, 8, RESTING, 7, 0], [5, 1, 4, 6, 8, RESTING, 8, 0]),
+        ("no Resting where T is 1", [5, 1, 1, 1, 2, RESTING, 1, 0], [5, 1, 1, 1, 1, RESTING, 1, 0]),
+        ("a kind at most 3", [5, 1, 4, 6, 8, RESTING, 1, 0], [5, 1, 4, 6, 8, 4, 1, 0]),
+        ("Coming has no second number", [5, 1, 4, 6, 8, COMING, 1, 0], [5, 1, 4, 6, 8, COMING, 1, 1]),
+        ("Resting has no second number", [5, 1, 4, 6, 8, RESTING, 1, 0], [5, 1, 4, 6, 8, RESTING, 1, 1]),
+    ]
+}
+
+/// A place that is within its limits whatever the rule.
+const PLAIN: Place = [5, 1, 4, 6, 8, WORKING, 2, 1];
+
+/// Each limit by name, a run inside and a run outside.
+fn limits() -> Vec<(String, Words, Words)> {
+    let mut limits = Vec::new();
+    for (name, inside, outside) in place_limits() {
+        for (at, count) in [(0, 1), (0, 3), (1, 3), (2, 3), (30, 32), (31, 32)] {
+            let with = |place: Place| {
+                let mut places = vec![PLAIN; count];
+                places[at] = place;
+                run(3, 64, &places)
+            };
+            limits.push((format!("{name}, place {} of {count}", at + 1), with(inside), with(outside)));
+        }
+    }
+    let head = |at: usize, number: u32, mut words: Words| {
+        words[at] = number;
+        words
+    };
+    let one = run(1, 2, &[PLAIN]);
+    let all = run(2, 64, &[PLAIN; 32]);
+    let holding = [5, 1, 4, 6, 8, HOLDING, 3, 2];
+    limits.extend([
+        ("rule at least 1".into(), one, head(0, 0, one)),
+        ("rule at most 3".into(), head(0, 3, one), head(0, 4, one)),
+        ("rule far".into(), head(0, 2, one), head(0, u32::MAX, one)),
+        ("cores at least 1".into(), head(1, 1, one), head(1, 0, one)),
+        ("cores at most 64".into(), all, head(1, 65, all)),
+        ("cores far".into(), head(1, 64, one), head(1, u32::MAX, one)),
+        ("width at most 1 core".into(), run(1, 1, &[PLAIN]), run(1, 1, &[PLAIN, [5, 2, 4, 6, 8, RESTING, 1, 0]])),
+        ("count at least 1".into(), one, head(2, 0, one)),
+        ("count at most 32".into(), all, head(2, 33, all)),
+        ("count far".into(), all, head(2, u32::MAX, all)),
+        ("count within what is built".into(), one, head(2, 2, one)),
+        ("Holding under rule 3, not 1".into(), run(3, 2, &[PLAIN, holding]), run(1, 2, &[PLAIN, holding])),
+        ("Holding under rule 3, not 2".into(), run(3, 2, &[PLAIN, holding]), run(2, 2, &[PLAIN, holding])),
+        ("kinds past the count too".into(), one, head(8 + 8 * 31, 4, one)),
+        ("second numbers past the count too".into(), one, head(10 + 8 * 31, 1, one)),
+    ]);
+    limits
+}
+
+/// A run inside is accepted, and one outside gets 14.
+fn limit(counts: &mut Counts, inside: &Words, outside: &Words) -> Tried<()> {
+    let mut rng = Rng::new(1);
+    for (words, out) in [(inside, false), (outside, true)] {
+        same("row with 14", out, Run::from_words(*words).row() == Err(OUT))?;
+        let mut run = Run::from_words(*words);
+        same("advance with 14", out, run.advance(0) == Err(OUT))?;
+        same("the test's own reading of 14", out, turned_down(words))?;
+        compare(&mut rng, counts, words, 3)?;
+    }
+    Ok(())
+}
+
+/// Late positions: 15 with the lowest, after 14 and before 16, in row and advance.
+fn lateness(counts: &mut Counts) -> Tried<()> {
+    let late = [5, 1, 4, 6, 8, WORKING, 6, 1];
+    for set in 1u32..1 << 6 {
+        let mut places = vec![PLAIN; 6];
+        (0..6).filter(|place| set & 1 << place != 0).for_each(|place| places[place] = late);
+        for rule in 1..=3 {
+            let mut words = run(rule, 4, &places);
+            let expected = Err(Refusal { number: 15, position: set.trailing_zeros() + 1 });
+            let mut held = Run::from_words(words);
+            same("row", expected, held.row().map(|_| ()))?;
+            for reports in [0, 1, 63, u32::MAX] {
+                let answer = held.advance(reports);
+                counts.answer(&answer);
+                same("advance", expected, answer)?;
+                same_run("the late run", &words, held.words())?;
+            }
+            words[3 + 8 * 5 + 1] = 5;
+            same("14 before 15", Err(OUT), Run::from_words(words).advance(0))?;
+        }
+    }
+    Ok(())
+}
+
+/// One task on one core: the rule, the place, the reports, and the phase one tick on, as the scope's sentences say.
+fn moves() -> Vec<(&'static str, u32, Place, u32, [u32; 3])> {
+    vec![
+        ("a Coming counts down", 1, [5, 1, 4, 6, 8, COMING, 5, 0], 0, [COMING, 4, 0]),
+        ("Coming 0 left works", 1, [5, 1, 4, 6, 8, COMING, 1, 0], 0, [WORKING, 0, 0]),
+        ("work goes on", 1, [5, 1, 4, 6, 8, WORKING, 2, 1], 0, [WORKING, 3, 2]),
+        ("work ends at C", 2, [5, 1, 4, 6, 8, WORKING, 4, 3], 0, [RESTING, 5, 0]),
+        ("work ends at C, not held", 3, [5, 1, 4, 6, 8, WORKING, 4, 3], 0, [RESTING, 5, 0]),
+        ("reported work rests", 1, [5, 1, 4, 6, 8, WORKING, 0, 0], 1, [RESTING, 1, 0]),
+        ("reported work rests", 2, [5, 1, 4, 6, 8, WORKING, 2, 1], 1, [RESTING, 3, 0]),
+        ("reported work holds", 3, [5, 1, 4, 6, 8, WORKING, 2, 1], 1, [HOLDING, 3, 2]),
+        ("reported work rests at C", 3, [5, 1, 4, 6, 8, WORKING, 4, 3], 1, [RESTING, 5, 0]),
+        ("reported work holds no longer than D", 3, [5, 1, 4, 6, 8, WORKING, 5, 1], 1, [RESTING, 6, 0]),
+        ("reported work at D and T works again", 3, [5, 1, 4, 6, 6, WORKING, 5, 1], 1, [WORKING, 0, 0]),
+        ("ended work with z = T works again", 1, [5, 1, 4, 6, 6, WORKING, 5, 3], 0, [WORKING, 0, 0]),
+        ("period 1", 1, [0, 1, 1, 1, 1, WORKING, 0, 0], 0, [WORKING, 0, 0]),
+        ("work at D is late", 1, [5, 1, 4, 6, 8, WORKING, 5, 2], 0, [WORKING, 6, 3]),
+        ("work at D = T is late", 2, [5, 1, 4, 6, 6, WORKING, 5, 2], 0, [WORKING, 6, 3]),
+        ("a hold goes on", 3, [5, 1, 4, 6, 8, HOLDING, 2, 1], 0, [HOLDING, 3, 2]),
+        ("a hold ends at C", 3, [5, 1, 4, 6, 8, HOLDING, 3, 3], 0, [RESTING, 4, 0]),
+        ("a hold ends at D", 3, [5, 1, 4, 6, 8, HOLDING, 5, 1], 0, [RESTING, 6, 0]),
+        ("a hold ends at D = T", 3, [5, 1, 4, 6, 6, HOLDING, 5, 1], 0, [WORKING, 0, 0]),
+        ("a rest goes on", 1, [5, 1, 4, 6, 8, RESTING, 6, 0], 0, [RESTING, 7, 0]),
+        ("a rest ends at T", 1, [5, 1, 4, 6, 8, RESTING, 7, 0], 0, [WORKING, 0, 0]),
+        ("the largest numbers", 2, [1_000_000, 1, 1_000_000, 1_000_000, 1_000_000, WORKING, 999_999, 999_999], 0, [WORKING, 0, 0]),
+    ]
+}
+
+fn a_move(rule: u32, place: Place, reports: u32, phase: [u32; 3]) -> Tried<()> {
+    let mut held = Run::from_words(run(rule, 1, &[place]));
+    same("advance", Ok(()), held.advance(reports))?;
+    let [o, v, c, d, t, ..] = place;
+    let next = run(rule, 1, &[[o, v, c, d, t, phase[0], phase[1], phase[2]]]);
+    same_run("one tick on", &next, held.words())
+}
+
+/// Held cores have the holder's position, and hold others back; its reports are refused with 16.
+fn held_back() -> Tried<()> {
+    let mut held = Run::from_words(run(3, 2, &[[0, 2, 4, 6, 8, HOLDING, 5, 1], [0, 1, 2, 8, 8, WORKING, 5, 0]]));
+    same("the row", Ok([1, 1]), held.row().map(|row| [row[0], row[1]]))?;
+    same("the holder reported", Err(Refusal { number: 16, position: 0 }), held.advance(1))?;
+    same("the waiting one reported", Err(Refusal { number: 16, position: 0 }), held.advance(2))?;
+    same("a position past the count reported", Err(Refusal { number: 16, position: 0 }), held.advance(4))?;
+    same("advance", Ok(()), held.advance(0))?;
+    same("the row after the hold", Ok([2, 0]), held.row().map(|row| [row[0], row[1]]))
+}
+
+/// Each fixed run by name, and whether the library does with it what it should.
+pub fn all(counts: &mut Counts) -> Vec<(String, Tried<()>)> {
+    let mut done = Vec::new();
+    for (name, inside, outside) in limits() {
+        let tried = limit(counts, &inside, &outside);
+        done.push((name, tried));
+    }
+    done.push(("the lowest late position".into(), lateness(counts)));
+    for (name, rule, place, reports, phase) in moves() {
+        done.push((format!("{name}, rule {rule}"), a_move(rule, place, reports, phase)));
+    }
+    done.push(("a hold holds others back".into(), held_back()));
+    done
+}

@@ -1,0 +1,179 @@
+//! The library beside the simulator by another hand. `attack` runs a fixed seed; `attack --long SECONDS` goes on with new seeds for so long;
+//! `attack --seed N` begins with the seed N, which a difference has named. The last line is 'N passed, M failed'.
+mod book;
+mod calls;
+mod hand;
+mod random;
+mod rng;
+mod small;
+mod tables;
+mod vectors;
+
+use book::Said;
+use calls::Tried;
+use sivorandra::Verdict;
+use std::collections::HashSet;
+use std::sync::atomic::{AtomicU64, Ordering};
+use std::time::{Duration, Instant, SystemTime, UNIX_EPOCH};
+
+const FIXED_SEED: u64 = 1;
+/// Batches of a run with a fixed seed.
+const BATCHES: u64 = 125;
+/// What a batch has: random tables, random runs built by hand, small tables searched.
+const TABLES: u64 = 1_000;
+const RUNS: u64 = 1_000;
+const SEARCHES: u64 = 2;
+const THREADS: usize = 2;
+/// Differences beyond these are counted and not printed.
+const MOST_PRINTED: u64 = 20;
+/// At least so many small tables are searched.
+const FEWEST_SEARCHED: usize = 200;
+
+/// What was seen, of the library's answers.
+#[derive(Default)]
+pub struct Counts {
+    passed: u64,
+    failed: u64,
+    firm: u64,
+    full: u64,
+    miss: u64,
+    numbers: [u64; 17],
+    tables: u64,
+    plans: u64,
+    replays: u64,
+    /// Replays that end in a missed deadline.
+    late: u64,
+    advances: u64,
+    runs: u64,
+    nodes: u64,
+    /// Nodes at which a deadline is missed.
+    ends: u64,
+    searched: HashSet<Vec<u32>>,
+}
+
+impl Counts {
+    pub fn answer(&mut self, answer: &Said<()>) {
+        if let Err(refusal) = answer {
+            self.numbers[refusal.number.min(16) as usize] += 1;
+        }
+    }
+
+    pub fn verdict(&mut self, verdict: &Said<Verdict>) {
+        match verdict {
+            Ok(Verdict::Firm { .. }) => self.firm += 1,
+            Ok(Verdict::Full { .. }) => self.full += 1,
+            Ok(Verdict::Miss { .. }) => self.miss += 1,
+            Err(_) => self.answer(&verdict.map(|_| ())),
+        }
+    }
+
+    fn count(&mut self, tried: Tried<()>) {
+        match tried {
+            Ok(()) => self.passed += 1,
+            Err(why) => {
+                self.failed += 1;
+                if self.failed <= MOST_PRINTED {
+                    println!("attack: {why}");
+                }
+            }
+        }
+    }
+
+    fn add(&mut self, other: Counts) {
+        let numbers = self.numbers.iter_mut().zip(other.numbers);
+        numbers.for_each(|(here, there)| *here += there);
+        let ours = [&mut self.passed, &mut self.failed, &mut self.firm, &mut self.full, &mut self.miss, &mut self.tables];
+        let theirs = [other.passed, other.failed, other.firm, other.full, other.miss, other.tables];
+        ours.into_iter().zip(theirs).for_each(|(here, there)| *here += there);
+        let ours = [&mut self.plans, &mut self.replays, &mut self.late, &mut self.advances, &mut self.runs, &mut self.nodes, &mut self.ends];
+        let theirs = [other.plans, other.replays, other.late, other.advances, other.runs, other.nodes, other.ends];
+        ours.into_iter().zip(theirs).for_each(|(here, there)| *here += there);
+        self.searched.extend(other.searched);
+    }
+
+    fn batch(&mut self, first: u64) {
+        for seed in first..first + TABLES {
+            let tried = random::case(seed, self);
+            self.count(tried);
+            self.tables += 1;
+        }
+        for seed in first..first + RUNS {
+            let tried = hand::case(seed, self);
+            self.count(tried);
+            self.runs += 1;
+        }
+        for seed in first..first + SEARCHES {
+            let tried = small::case(seed, self);
+            self.count(tried);
+        }
+    }
+}
+
+/// The seed to begin with, and how long to go on; the fixed number of batches where it is not said.
+fn told() -> Option<(u64, Option<Duration>)> {
+    let words: Vec<String> = std::env::args().skip(1).collect();
+    let words: Vec<&str> = words.iter().map(String::as_str).collect();
+    match words[..] {
+        [] => Some((FIXED_SEED, None)),
+        ["--seed", seed] => Some((seed.parse().ok()?, None)),
+        ["--long", seconds] => {
+            let now = SystemTime::now().duration_since(UNIX_EPOCH).ok()?;
+            Some((now.as_micros() as u64, Some(Duration::from_secs(seconds.parse().ok()?))))
+        }
+        _ => None,
+    }
+}
+
+fn main() {
+    let Some((seed, long)) = told() else {
+        println!("usage: attack [--long SECONDS | --seed N]");
+        println!("0 passed, 1 failed");
+        std::process::exit(2);
+    };
+    println!("attack: seed {seed}");
+    let begun = Instant::now();
+    let mut counts = Counts::default();
+    let fixed = [vectors::all(), hand::all(&mut counts)].concat();
+    if !fixed.iter().any(|(name, _)| name.starts_with("vector")) {
+        counts.count(Err("no plan vector".into()));
+    }
+    for (name, tried) in fixed {
+        counts.count(tried.map_err(|why| format!("{name}: {why}")));
+    }
+    let next = AtomicU64::new(0);
+    let work = || {
+        let mut counts = Counts::default();
+        loop {
+            let batch = next.fetch_add(1, Ordering::Relaxed);
+            if long.map_or(batch >= BATCHES, |long| begun.elapsed() >= long) {
+                return counts;
+            }
+            counts.batch(seed.wrapping_add(batch * TABLES));
+        }
+    };
+    std::thread::scope(|scope| {
+        let threads: Vec<_> = (0..THREADS).map(|_| scope.spawn(work)).collect();
+        for thread in threads {
+            match thread.join() {
+                Ok(theirs) => counts.add(theirs),
+                Err(_) => counts.count(Err("a thread stopped".into())),
+            }
+        }
+    });
+    let Counts { tables, firm, full, miss, plans, replays, late, advances, runs, nodes, ends, .. } = counts;
+    println!("attack: {tables} tables (firm {firm}, full {full}, miss {miss}), {plans} plans, {replays} replays ({late} to a missed deadline), {advances} advances, {runs} runs built by hand");
+    println!("attack: {} small tables searched, {nodes} nodes ({ends} at a missed deadline)", counts.searched.len());
+    let often: Vec<String> = (1..17).map(|number| format!("{number}: {}", counts.numbers[number])).collect();
+    println!("attack: numbers among the answers: {}", often.join(", "));
+    if long.is_none() {
+        for number in 1..17 {
+            let seen = counts.numbers[number] > 0;
+            counts.count(if seen { Ok(()) } else { Err(format!("{number} was never answered")) });
+        }
+        let searched = counts.searched.len();
+        counts.count(if searched >= FEWEST_SEARCHED { Ok(()) } else { Err(format!("only {searched} small tables")) });
+    }
+    println!("attack: {:.0} s", begun.elapsed().as_secs_f64());
+    println!("{} passed, {} failed", counts.passed, counts.failed);
+    std::process::exit(i32::from(counts.failed != 0));
+}

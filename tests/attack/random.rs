@@ -1,0 +1,140 @@
+//! Verdict, plan, replay and the run in words beside the simulator, on one random table.
+use crate::book::{self, Known, Said};
+use crate::calls::{self, same, Kept, Lent, Tried};
+use crate::rng::Rng;
+use crate::tables;
+use crate::Counts;
+use sivorandra::{Refusal, Replay, Run, Verdict, ROW_BYTES};
+
+/// A list of at most so many advances.
+const MOST_ADVANCES: u32 = 60;
+/// At most so many rows of a long table.
+const MOST_ROWS: u32 = 2_000;
+
+fn code(answer: &Said<()>) -> u32 {
+    answer.map_or_else(|refusal| refusal.number * 256 + refusal.position, |()| 0)
+}
+
+/// Rows to ask for and a buffer's length: mostly such that they can be written.
+fn asked(rng: &mut Rng, known: &Said<Known>) -> (u32, u32, usize) {
+    let (cores, horizon, miss) = match known {
+        Ok(known) => match known.verdict() {
+            Verdict::Miss { tick, .. } => (known.cores(), known.horizon(), tick),
+            _ => (known.cores(), known.horizon(), known.horizon()),
+        },
+        Err(_) => (rng.below(65), rng.from(0, 30), rng.from(0, 30)),
+    };
+    let b = match rng.below(12) {
+        0 => horizon + 1,
+        1 => miss + 1,
+        2 => miss,
+        3 => horizon,
+        4 => rng.word(),
+        5 => rng.from(0, horizon),
+        _ => rng.from(0, miss),
+    };
+    let a = match rng.below(10) {
+        0 => b,
+        1 => b.saturating_add(1),
+        2 => rng.word(),
+        3 => 0,
+        _ => rng.from(b.saturating_sub(MOST_ROWS), b),
+    };
+    let need = (b.saturating_sub(a) as usize * cores).min(MOST_ROWS as usize * 64);
+    let len = match rng.below(8) {
+        0 => need.saturating_sub(1),
+        1 => rng.below(need + 1),
+        2 => 0,
+        3 => need,
+        _ => need + rng.below(20),
+    };
+    (a, b, len)
+}
+
+fn compare_plans(rng: &mut Rng, counts: &mut Counts, words: &[u32], known: &Said<Known>) -> Tried<()> {
+    let times = if known.as_ref().is_ok_and(|known| known.horizon() < 1_000) { 3 } else { 1 };
+    for _ in 0..times {
+        let (a, b, len) = asked(rng, known);
+        let expected = known.as_ref().map_err(|refusal| *refusal).and_then(|known| known.plan(a, b, len));
+        let got = calls::plan(rng, words, a, b, len, &expected).map_err(|why| format!("plan {a} {b} into {len} bytes: {why}"))?;
+        counts.plans += 1;
+        counts.answer(&got);
+        let mut rows = Lent::bytes(rng, len);
+        same("plan in Rust", got, sivorandra::plan(words, a, b, rows.lent()))?;
+        rows.holds("the rows in Rust", expected.as_deref().unwrap_or(&[]))?;
+    }
+    Ok(())
+}
+
+/// The next set of reports: mostly what may be reported, and at times what may not.
+fn reports(rng: &mut Rng, may: u32, often: u32) -> u32 {
+    match rng.below(40) {
+        0 => rng.word(),
+        1 => u32::MAX,
+        2 => may | 1 << rng.below(32),
+        3 => 1 << rng.below(8),
+        4 => may,
+        _ => (0..32).filter(|_| rng.once_in(often)).fold(0, |set, place| set | 1 << place) & may,
+    }
+}
+
+/// A list of advances through the run kept in words, step by step, and then as a whole.
+fn compare_runs(rng: &mut Rng, counts: &mut Counts, words: &[u32], known: &Said<Known>, list: &mut Vec<u32>) -> Tried<()> {
+    let mut begun = known.as_ref().map_err(|refusal| *refusal).and_then(Known::start);
+    let mut held = calls::NO_RUN;
+    let first = begun.as_ref().map(|cab| cab.words(&held)).map_err(|refusal| *refusal);
+    let (mut kept, started) = Kept::start(rng, words, first)?;
+    counts.answer(&started);
+    same("start in Rust", first, Run::start(words).map(|run| *run.words()))?;
+    let often = rng.pick(&[1, 2, 4, 16]);
+    let length = rng.from(0, MOST_ADVANCES);
+    let mut expected = Vec::new();
+    let unmade = Refusal { number: 14, position: 0 };
+    let mut row: Said<[u8; ROW_BYTES]> = Err(unmade);
+    for at in 0..=length {
+        row = begun.as_mut().map_or(Err(unmade), |cab| cab.row());
+        let shown = kept.row(rng, row).map_err(|why| format!("after {at} advances: {why}"))?;
+        counts.answer(&shown);
+        if at == length || (begun.is_err() && at == 2) {
+            break;
+        }
+        let set = begun.as_mut().map_or(at, |cab| reports(rng, cab.may_report(), often));
+        list.push(set);
+        let answer = begun.as_mut().map_or(Err(unmade), |cab| cab.advance(set));
+        if let (Ok(cab), Ok(())) = (&begun, answer) {
+            held = cab.words(&held);
+        }
+        let taken = kept.advance(rng, set, answer.map(|()| held)).map_err(|why| format!("advance {at}: {why}"))?;
+        counts.advances += 1;
+        counts.answer(&taken);
+        expected.push(answer);
+    }
+    if rng.once_in(8) {
+        kept.cut(rng)?;
+    }
+    let whole = begun.as_ref().map(|_| (expected.iter().map(code).collect(), row)).map_err(|refusal| *refusal);
+    calls::replay(rng, words, list, &whole)?;
+    counts.replays += 1;
+    counts.late += u64::from(row.is_err() && begun.is_ok());
+    let bound = begun.as_ref().map(|_| Replay { advances: expected, row }).map_err(|refusal| *refusal);
+    same("replay in Rust", bound, sivorandra::replay(words, list))
+}
+
+/// One random table; the error says what differs on what.
+pub fn case(seed: u64, counts: &mut Counts) -> Tried<()> {
+    let mut rng = Rng::new(seed);
+    let words = tables::any(&mut rng);
+    let mut list = Vec::new();
+    compare(&mut rng, counts, &words, &mut list).map_err(|why| format!("seed {seed}: {why}\n  table {words:?}\n  list {list:?}"))
+}
+
+fn compare(rng: &mut Rng, counts: &mut Counts, words: &[u32], list: &mut Vec<u32>) -> Tried<()> {
+    let known = book::read(words);
+    let expected = known.as_ref().map(Known::verdict).map_err(|refusal| *refusal);
+    let got = calls::judge(rng, words)?;
+    same("verdict", expected, got)?;
+    same("verdict in Rust", expected, sivorandra::judge(words))?;
+    counts.verdict(&got);
+    compare_plans(rng, counts, words, &known)?;
+    compare_runs(rng, counts, words, &known, list)
+}

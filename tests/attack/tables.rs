@@ -1,0 +1,150 @@
+//! Random tables: small and tight ones, wide ones, long ones, with permuted records, records off the chain, and faults for each number 1 to 9.
+use crate::rng::Rng;
+
+/// A task: O, v, C, D, T.
+type Task = [u32; 5];
+
+/// A task that leaves its width about 1/`share` of the time to itself.
+fn task(rng: &mut Rng, cores: u32, periods: &[u32], share: u32) -> Task {
+    let period = rng.pick(periods);
+    let deadline = if rng.once_in(3) { period } else { rng.from(1.max(period / 2), period) };
+    let most = (deadline / share).max(1) + u32::from(rng.once_in(20));
+    let length = rng.from(1, most);
+    let offset = if rng.once_in(2) { 0 } else { rng.from(0, 2 * period) };
+    [offset, rng.from(1, cores), length, deadline, period]
+}
+
+/// At most `most` tasks.
+fn tasks(rng: &mut Rng, most: u32, cores: u32, periods: &[u32], share: u32) -> Vec<Task> {
+    let count = rng.from(1, most);
+    (0..count).map(|_| task(rng, cores, periods, share)).collect()
+}
+
+/// The words of the tasks in priority order, in records of any order, with others off the chain.
+fn words(rng: &mut Rng, cores: u32, rule: u32, tasks: &[Task]) -> Vec<u32> {
+    let off = if rng.once_in(2) { 0 } else { rng.below(3).min(32 - tasks.len()) };
+    let mut places: Vec<usize> = (1..=tasks.len() + off).collect();
+    rng.shuffle(&mut places);
+    let mut words = vec![places[0] as u32, cores, rule];
+    words.extend((0..6 * places.len()).map(|_| rng.word()));
+    for (at, task) in tasks.iter().enumerate() {
+        let record = &mut words[3 + 6 * (places[at] - 1)..][..6];
+        record[0] = if at + 1 < tasks.len() { places[at + 1] as u32 } else { 0 };
+        record[1..].copy_from_slice(task);
+    }
+    words
+}
+
+/// A fault that one of 1 to 9 may turn down.
+fn spoil(rng: &mut Rng, words: &mut Vec<u32>) {
+    let records = words.len().saturating_sub(3) / 6;
+    if records == 0 {
+        return;
+    }
+    let record = 3 + 6 * rng.below(records);
+    match rng.below(11) {
+        0 => words.truncate(rng.below(words.len())),
+        1 => {
+            let room = 32usize.saturating_sub(records);
+            let more = rng.pick(&[1, 5, 6, 6 * room, 6 * room + 6, 6 * 32, 6000]);
+            words.extend((0..more).map(|_| rng.word()));
+        }
+        2 => words[1] = rng.pick(&[0, 65, 64, u32::MAX]),
+        3 => words[2] = rng.pick(&[0, 4, 9, u32::MAX]),
+        4 => words[0] = rng.pick(&[0, 0, 33, records as u32 + 1, u32::MAX]),
+        5 => words[record] = rng.from(0, records as u32 + 1),
+        6 => words[record] = rng.pick(&[33, u32::MAX, 1 << 31]),
+        7 => words[record + 2] = rng.pick(&[0, 1, words[1], words[1].wrapping_add(1), u32::MAX]),
+        8 => words[record + 1 + rng.below(5)] = rng.pick(&[0, 1, 1_000_000, 1_000_001, u32::MAX]),
+        9 => words[record + 4] = words[record + 5].wrapping_add(rng.from(0, 1)),
+        _ => {
+            let at = rng.below(words.len());
+            words[at] = rng.word();
+        }
+    }
+}
+
+/// A horizon at or about 10,000,000; mostly with a task that misses at once, so that the run is short.
+fn at_the_limit(rng: &mut Rng) -> (u32, Vec<Task>) {
+    let (first, second) = rng.pick(&[(128, 78_125), (1_000_000, 10), (1_000_000, 625_000), (999_983, 999_979), (3, 999_999), (9, 1_000_000), (11, 909_091), (10, 1_000_000)]);
+    let offset = rng.pick(&[0, 0, 1, 1_000_000]);
+    let length = if rng.once_in(400) { 1 } else { 4 };
+    (4, vec![[offset, 2, 1, first.min(3), first], [0, 1, length, second.min(3), second]])
+}
+
+/// A horizon from some thousands to a million.
+fn long(rng: &mut Rng) -> (u32, Vec<Task>) {
+    let periods = rng.pick(&[[1000, 1024, 400, 625], [997, 500, 100, 20], [9973, 90, 30, 9], [640, 729, 80, 27]]);
+    let cores = rng.pick(&[1, 3, 8, 64]);
+    (cores, tasks(rng, 32, cores, &periods, 12))
+}
+
+/// As the scope's example B: the second task is too wide beside the first, the third is not, and has little room once the first ends early.
+fn frail(rng: &mut Rng) -> (u32, Vec<Task>) {
+    let cores = rng.from(2, 5);
+    let first = rng.from(1, cores - 1);
+    let (long, short) = (rng.from(2, 6), rng.from(1, 3));
+    let period = long + short + rng.from(0, 2);
+    let third = rng.from(1, long);
+    let room = third + rng.from(0, short - 1);
+    let wide = rng.from(cores - first + 1, cores);
+    let narrow = rng.from(1, cores - first);
+    let offset = rng.from(0, 2);
+    let mut tasks = vec![[offset, first, long, rng.from(long, period), period], [offset, wide, short, period, period], [offset, narrow, third, room, period]];
+    if rng.once_in(3) {
+        tasks.push([rng.from(0, 5), rng.from(1, cores), 1, 2 * period, 2 * period]);
+    }
+    (cores, tasks)
+}
+
+/// Any table: about one in four has a fault.
+pub fn any(rng: &mut Rng) -> Vec<u32> {
+    const SMALL: [u32; 10] = [1, 2, 3, 4, 5, 6, 8, 10, 12, 15];
+    let (cores, tasks) = match rng.below(1000) {
+        0 => long(rng),
+        1..=19 => at_the_limit(rng),
+        20..=89 => {
+            let cores = rng.pick(&[8, 16, 33, 63, 64]);
+            (cores, tasks(rng, 32, (cores / 4).max(1), &[8, 12, 16, 24, 48], 4))
+        }
+        90..=249 => frail(rng),
+        250..=499 => {
+            let cores = rng.pick(&[1, 2, 3, 4, 8]);
+            (cores, tasks(rng, 8, cores, &[4, 6, 8, 12, 24], 3))
+        }
+        500..=749 => {
+            let cores = rng.from(1, 4);
+            (cores, tasks(rng, 4, cores, &SMALL, 2))
+        }
+        _ => {
+            let cores = rng.pick(&[1, 2, 2, 3, 4, 6, 64]);
+            (cores, tasks(rng, 6, cores, &SMALL, 1))
+        }
+    };
+    let rule = rng.pick(&[1, 1, 2, 3]);
+    let mut words = words(rng, cores, rule, &tasks);
+    if rng.once_in(4) {
+        spoil(rng, &mut words);
+        if rng.once_in(4) {
+            spoil(rng, &mut words);
+        }
+    }
+    words
+}
+
+/// A table of at most 4 tasks, without a fault.
+pub fn small(rng: &mut Rng) -> Vec<u32> {
+    let (cores, tasks) = if rng.once_in(2) {
+        frail(rng)
+    } else {
+        let (cores, count) = (rng.from(1, 3), rng.from(1, 4));
+        let one = |_| {
+            let period = rng.from(2, 8);
+            let deadline = rng.from(1.max(period / 2), period);
+            [rng.pick(&[0, 0, 1, 3]), rng.from(1, cores), rng.from(1, deadline.min(5)), deadline, period]
+        };
+        (cores, (0..count).map(one).collect())
+    };
+    let rule = rng.from(1, 3);
+    words(rng, cores, rule, &tasks)
+}
