@@ -116,6 +116,9 @@ fn first_miss<const JUMP: bool>(table: &Table) -> Option<(u32, usize)> {
     let mut tasks = [Task::default(); 32];
     tasks[..count].copy_from_slice(&table.tasks);
     let width = tasks.map(|task| task.width);
+    let length = tasks.map(|task| task.length);
+    let deadline = tasks.map(|task| task.deadline);
+    let period = tasks.map(|task| task.period);
     let mut left = [0u32; 32]; // ticks owed; 0: not claiming
     let mut moment = [u32::MAX; 32]; // the deadline while claiming, else the next release
     let mut next = [0u32; 32]; // the next release
@@ -126,19 +129,22 @@ fn first_miss<const JUMP: bool>(table: &Table) -> Option<(u32, usize)> {
     let (mut tick, mut bell, mut claiming, mut chosen, mut granted) = (0, 0, 0u32, 0, 0u32);
     loop {
         if tick == bell {
-            bell = u32::MAX;
-            for place in 0..count {
-                if moment[place] == tick {
-                    if left[place] > 0 {
-                        return Some((tick, place + 1));
-                    }
-                    left[place] = tasks[place].length;
-                    moment[place] = tick + tasks[place].deadline;
-                    next[place] = tick + tasks[place].period;
-                    claiming |= 1 << place;
-                }
-                bell = bell.min(moment[place]);
+            let mut due = 0u32;
+            for place in 0..32 {
+                due |= u32::from(moment[place] == tick) << place;
             }
+            while due != 0 {
+                let place = due.trailing_zeros() as usize & 31;
+                due &= due - 1;
+                if left[place] > 0 {
+                    return Some((tick, place + 1));
+                }
+                left[place] = length[place];
+                moment[place] = tick + deadline[place];
+                next[place] = tick + period[place];
+                claiming |= 1 << place;
+            }
+            bell = moment.iter().fold(u32::MAX, |a, &b| a.min(b));
         }
         if tick == end {
             return None;
