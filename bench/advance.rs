@@ -1,0 +1,353 @@
+// Nanoseconds an advance at 1, 8 and 32 tasks: the proved library beside the simulator's book and beside straight Rust of the same step, by value and in place.
+// All of them get the same table and report sets in one run, their answers and last rows must be equal, and the best of several times counts.
+//
+// The library's advance is timed inside `sivorandra_replay`, which moves a run by value through the list. Its row is timed through `sivorandra_row`, which reads
+// the run from its words first; so the sum is an upper bound of what an advance with its row costs.
+
+use std::hint::black_box;
+
+const TICKS: usize = 50_000;
+const RUNS: usize = 5;
+
+extern "C" {
+    fn clock_gettime(clock: i32, time: *mut [i64; 2]) -> i32;
+    fn sivorandra_judge(words: *const u32, words_len: usize, answer: *mut u32, answer_len: usize) -> u32;
+    fn sivorandra_replay(words: *const u32, words_len: usize, reports: *const u32, reports_len: usize, numbers: *mut u32, numbers_len: usize, row: *mut u8, row_len: usize, answer: *mut u32, answer_len: usize) -> u32;
+    fn sivorandra_start(words: *const u32, words_len: usize, run: *mut u32, run_len: usize, answer: *mut u32, answer_len: usize) -> u32;
+    fn sivorandra_row(run: *const u32, run_len: usize, row: *mut u8, row_len: usize, answer: *mut u32, answer_len: usize) -> u32;
+    fn sivorandra_advance(run: *mut u32, run_len: usize, reports: u32, answer: *mut u32, answer_len: usize) -> u32;
+}
+
+#[allow(dead_code)]
+mod simulator {
+    include!("../tests/gangsim.rs");
+
+    /// The book's answers to a list of report sets, and the row of every tick where `rows` is set.
+    pub fn advances(words: &[u32], reports: &[u32], rows: bool, numbers: &mut [u32]) {
+        let table = Table::check(words).ok().expect("a table");
+        let mut book = Book { ledger: Ledger::new(&table) };
+        for (number, &bits) in numbers.iter_mut().zip(reports) {
+            if rows {
+                std::hint::black_box(book.row().is_ok());
+            }
+            *number = book.advance(u64::from(bits)).map_or_else(|r| r.number * 256 + r.position as u32, |()| 0);
+        }
+    }
+}
+
+// Straight Rust of the run in the cab: the same records, the same numbers 14 to 16, the same moves.
+
+#[derive(Clone, Copy)]
+enum Phase {
+    Coming(u32),
+    Working(u32, u32),
+    Holding(u32, u32),
+    Resting(u32),
+}
+use Phase::*;
+
+#[derive(Clone, Copy)]
+struct Task {
+    offset: u32,
+    width: u32,
+    length: u32,
+    deadline: u32,
+    period: u32,
+    phase: Phase,
+}
+
+#[derive(Clone, Copy)]
+struct Run {
+    rule: u32,
+    cores: u32,
+    count: usize,
+    tasks: [Task; 32],
+}
+
+/// Who has cores in a tick, and who of them works.
+struct Tick {
+    granted: u32,
+    working: u32,
+}
+
+impl Task {
+    fn in_limits(&self, rule: u32, cores: u32) -> bool {
+        let numbers = (1..=cores).contains(&self.width) && self.offset <= 1_000_000 && (1..=1_000_000).contains(&self.length) && (1..=1_000_000).contains(&self.period) && (1..=self.period).contains(&self.deadline);
+        numbers
+            && match self.phase {
+                Coming(left) => (1..=self.offset).contains(&left),
+                Working(z, u) => z <= self.deadline && u < self.length && u <= z,
+                Holding(z, u) => rule == 3 && 1 <= z && z < self.deadline && 1 <= u && u < self.length && u <= z,
+                Resting(z) => 1 <= z && z < self.period,
+            }
+    }
+
+    fn rested(&self, z: u32) -> Phase {
+        if z == self.period { Working(0, 0) } else { Resting(z) }
+    }
+
+    fn held(&self, z: u32, u: u32) -> Phase {
+        if u == self.length || z == self.deadline { self.rested(z) } else { Holding(z, u) }
+    }
+
+    fn next(&self, rule: u32, ran: bool, reported: bool) -> Phase {
+        match self.phase {
+            Coming(1) => Working(0, 0),
+            Coming(left) => Coming(left - 1),
+            Working(z, u) if !ran => Working(z + 1, u),
+            Working(z, u) if !reported && u + 1 < self.length => Working(z + 1, u + 1),
+            Working(z, u) if rule == 3 => self.held(z + 1, u + 1),
+            Working(z, _) => self.rested(z + 1),
+            Holding(z, u) => self.held(z + 1, u + u32::from(ran)),
+            Resting(z) => self.rested(z + 1),
+        }
+    }
+}
+
+impl Run {
+    fn start(words: &[u32]) -> Run {
+        let unused = Task { offset: 0, width: 0, length: 0, deadline: 0, period: 0, phase: Resting(0) };
+        let mut run = Run { rule: words[2], cores: words[1], count: 0, tasks: [unused; 32] };
+        let mut record = words[0] as usize;
+        while record != 0 {
+            let at = 6 * record - 3;
+            let offset = words[at + 1];
+            let phase = if offset == 0 { Working(0, 0) } else { Coming(offset) };
+            run.tasks[run.count] = Task { offset, width: words[at + 2], length: words[at + 3], deadline: words[at + 4], period: words[at + 5], phase };
+            run.count += 1;
+            record = words[at] as usize;
+        }
+        run
+    }
+
+    /// 14 and 15, else who has cores.
+    fn tick(&self) -> Result<Tick, u32> {
+        if !(1..=32).contains(&self.count) || !(1..=64).contains(&self.cores) || !(1..=3).contains(&self.rule) {
+            return Err(14 * 256);
+        }
+        let (mut claiming, mut working, mut late) = (0u32, 0u32, 0);
+        for (place, task) in self.tasks[..self.count].iter().enumerate() {
+            if !task.in_limits(self.rule, self.cores) {
+                return Err(14 * 256);
+            }
+            match task.phase {
+                Working(z, _) => {
+                    working |= 1 << place;
+                    claiming |= 1 << place;
+                    if z == task.deadline && late == 0 {
+                        late = place as u32 + 1;
+                    }
+                }
+                Holding(..) => claiming |= 1 << place,
+                _ => {}
+            }
+        }
+        if late != 0 {
+            return Err(15 * 256 + late);
+        }
+        let (mut granted, mut free) = (0, self.cores);
+        while claiming != 0 {
+            let place = claiming.trailing_zeros();
+            claiming &= claiming - 1;
+            let width = self.tasks[place as usize].width;
+            if width <= free {
+                free -= width;
+                granted |= 1 << place;
+            } else if self.rule == 2 {
+                break;
+            }
+        }
+        Ok(Tick { granted, working })
+    }
+
+    fn step(&mut self, reports: u32) -> u32 {
+        let tick = match self.tick() {
+            Ok(tick) => tick,
+            Err(number) => return number,
+        };
+        if reports & !(tick.granted & tick.working) != 0 {
+            return 16 * 256;
+        }
+        let rule = self.rule;
+        for (place, task) in self.tasks[..self.count].iter_mut().enumerate() {
+            task.phase = task.next(rule, tick.granted >> place & 1 != 0, reports >> place & 1 != 0);
+        }
+        0
+    }
+
+    #[inline(never)]
+    fn advance_in_place(&mut self, reports: u32) -> u32 {
+        self.step(reports)
+    }
+
+    #[inline(never)]
+    fn advance(mut self, reports: u32) -> (u32, Run) {
+        let number = self.step(reports);
+        (number, self)
+    }
+
+    fn paint(&self, row: &mut [u8; 64]) -> u32 {
+        row.fill(0);
+        let granted = match self.tick() {
+            Ok(tick) => tick.granted,
+            Err(number) => return number,
+        };
+        let mut core = 0;
+        for (place, task) in self.tasks[..self.count].iter().enumerate() {
+            if granted >> place & 1 != 0 {
+                let end = core + task.width as usize;
+                row[core..end].fill(place as u8 + 1);
+                core = end;
+            }
+        }
+        0
+    }
+
+    #[inline(never)]
+    fn row_in_place(&self, row: &mut [u8; 64]) -> u32 {
+        self.paint(row)
+    }
+
+    #[inline(never)]
+    fn row(self) -> (u32, [u8; 64]) {
+        let mut row = [0; 64];
+        (self.paint(&mut row), row)
+    }
+}
+
+/// A random number generator that is good enough for tables.
+struct Dice(u64);
+
+impl Dice {
+    fn below(&mut self, n: u32) -> u32 {
+        self.0 = self.0.wrapping_mul(6364136223846793005).wrapping_add(1442695040888963407);
+        ((self.0 >> 33) % u64::from(n)) as u32
+    }
+}
+
+/// The words of a table of `count` tasks on 64 cores that the judge calls Firm, with a short horizon.
+fn table(count: u32, rule: u32) -> Vec<u32> {
+    let mut dice = Dice(u64::from(count));
+    loop {
+        let mut words = vec![1, 64, rule];
+        let mut widths: Vec<u32> = (0..count).map(|_| 1 + dice.below(128 / count.max(4))).collect();
+        widths.sort();
+        for (place, width) in (1..).zip(widths) {
+            let period = [8, 10, 16, 20, 40, 80][dice.below(6) as usize];
+            let length = period / 2 + dice.below(period / 2);
+            words.extend([if place < count { place + 1 } else { 0 }, dice.below(4), width, length, period, period]);
+        }
+        let mut answer = [0; 3];
+        unsafe { sivorandra_judge(words.as_ptr(), words.len(), answer.as_mut_ptr(), 3) };
+        if answer[0] == 0 {
+            return words;
+        }
+    }
+}
+
+/// Report sets that are taken: now and then a job that works in the tick ends early.
+fn reports(words: &[u32]) -> Vec<u32> {
+    let (mut dice, mut run) = (Dice(1), Run::start(words));
+    let mut list = Vec::with_capacity(TICKS);
+    for _ in 0..TICKS {
+        let tick = run.tick().expect("a firm table");
+        let ended = tick.granted & tick.working & if dice.below(4) == 0 { 1 << dice.below(32) } else { 0 };
+        assert_eq!(run.step(ended), 0);
+        list.push(ended);
+    }
+    list
+}
+
+/// The least time of several, in nanoseconds of this thread for each tick.
+fn best(mut work: impl FnMut()) -> f64 {
+    let now = || unsafe {
+        let mut time = [0; 2];
+        clock_gettime(3, &mut time);
+        time[0] as f64 * 1e9 + time[1] as f64
+    };
+    (0..RUNS).map(|_| (now(), work(), now())).map(|(from, (), to)| to - from).fold(f64::MAX, f64::min) / TICKS as f64
+}
+
+/// Times of one table: advances without rows and with them, by the library, the simulator, and Rust by value and in place; last the library's advance on a run kept in words.
+fn times(words: &[u32], list: &[u32]) -> [f64; 9] {
+    let mut answer = [0; 3];
+    let (mut numbers, mut row, mut others) = (vec![1; TICKS], [0; 64], vec![1; TICKS]);
+    let ours = best(|| unsafe {
+        sivorandra_replay(words.as_ptr(), words.len(), list.as_ptr(), list.len(), numbers.as_mut_ptr(), TICKS, row.as_mut_ptr(), 64, answer.as_mut_ptr(), 3);
+    });
+    let simulator = best(|| simulator::advances(words, list, false, &mut others));
+    assert_eq!(numbers, others);
+    let simulator_row = best(|| simulator::advances(words, list, true, &mut others));
+
+    let mut last = Run::start(words);
+    let value = best(|| {
+        let mut run = Run::start(words);
+        for (number, &bits) in others.iter_mut().zip(list) {
+            (*number, run) = run.advance(bits);
+        }
+        last = run;
+    });
+    assert_eq!(numbers, others);
+    assert_eq!(last.row(), (0, row));
+    let value_row = best(|| {
+        let mut run = Run::start(words);
+        for (number, &bits) in others.iter_mut().zip(list) {
+            black_box(run.row());
+            (*number, run) = run.advance(bits);
+        }
+    });
+    let place = best(|| {
+        let mut run = Run::start(words);
+        for (number, &bits) in others.iter_mut().zip(list) {
+            *number = run.advance_in_place(bits);
+        }
+        last = run;
+    });
+    assert_eq!(numbers, others);
+    let mut shown = [0; 64];
+    let place_row = best(|| {
+        let mut run = Run::start(words);
+        for (number, &bits) in others.iter_mut().zip(list) {
+            run.row_in_place(&mut shown);
+            *number = run.advance_in_place(bits);
+        }
+    });
+    black_box(shown);
+
+    let mut kept = [0; 259];
+    let mut keep = |rows: bool| {
+        best(|| unsafe {
+            sivorandra_start(words.as_ptr(), words.len(), kept.as_mut_ptr(), 259, answer.as_mut_ptr(), 3);
+            for &bits in list {
+                if rows {
+                    sivorandra_row(kept.as_ptr(), 259, shown.as_mut_ptr(), 64, answer.as_mut_ptr(), 3);
+                }
+                sivorandra_advance(kept.as_mut_ptr(), 259, bits, answer.as_mut_ptr(), 3);
+            }
+        })
+    };
+    let words_alone = keep(false);
+    let ours_row = ours + keep(true) - words_alone;
+    [ours, simulator, value, place, ours_row, simulator_row, value_row, place_row, words_alone]
+}
+
+fn main() {
+    println!("| tasks | | library | simulator | Rust by value | Rust in place | library / simulator | library / by value | library / in place |");
+    println!("| --- | --- | --- | --- | --- | --- | --- | --- | --- |");
+    for count in [1, 8, 32] {
+        let mut mean = [0.0; 9];
+        for rule in 1..=3 {
+            let words = table(count, rule);
+            let list = reports(&words);
+            for (sum, time) in mean.iter_mut().zip(times(&words, &list)) {
+                *sum += time / 3.0;
+            }
+        }
+        for (name, at) in [("advance", 0), ("advance with its row", 4)] {
+            let [ours, simulator, value, place] = [mean[at], mean[at + 1], mean[at + 2], mean[at + 3]];
+            println!("| {count} | {name} | {ours:.0} ns | {simulator:.0} ns | {value:.0} ns | {place:.0} ns | {:.2} | {:.2} | {:.2} |", ours / simulator, ours / value, ours / place);
+        }
+        let ours = mean[8];
+        println!("| {count} | advance of a run kept in words | {ours:.0} ns | | | | {:.2} | {:.2} | {:.2} |", ours / mean[1], ours / mean[2], ours / mean[3]);
+    }
+}

@@ -1,0 +1,64 @@
+"""What the measurements share: programs built, heavy tables, and the least processor time of several runs."""
+import contextlib
+import os
+import pathlib
+import resource
+import subprocess
+import sys
+import tempfile
+
+HERE = pathlib.Path(__file__).resolve().parent
+ROOT = HERE.parent
+
+
+def program(name):
+    """A program of this repository, proved and built where it is missing."""
+    path = ROOT / "target" / "bin" / name
+    if not path.exists():
+        subprocess.run(["rt", "check", name], cwd=ROOT, check=True, stdout=subprocess.DEVNULL)
+    return str(path)
+
+
+def rust(source, work):
+    """A plain Rust program, built with optimisation."""
+    path = os.path.join(work, source.stem)
+    subprocess.run(["rustc", "--edition", "2021", "-O", "-o", path, str(source)], check=True, stderr=subprocess.DEVNULL)
+    return path
+
+
+@contextlib.contextmanager
+def heavy():
+    """The simulator and the peer, and the paths of the heavy tables, in a folder that goes away."""
+    with tempfile.TemporaryDirectory() as work:
+        gangsim, peer = rust(ROOT / "tests" / "gangsim.rs", work), rust(HERE / "peer.rs", work)
+        tables = pathlib.Path(work) / "tables"
+        subprocess.run([sys.executable, str(HERE / "tables.py"), str(tables), gangsim], check=True)
+        yield gangsim, peer, sorted(tables.iterdir())
+
+
+def spent():
+    """The processor time of the programs that have ended, user and system."""
+    children = resource.getrusage(resource.RUSAGE_CHILDREN)
+    return children.ru_utime + children.ru_stime
+
+
+def run(command, path, out):
+    before = spent()
+    with open(path, "rb") as table:
+        said = subprocess.run(command, stdin=table, stdout=out, check=True).stdout
+    return spent() - before, said
+
+
+def best(runs, command, path, out=subprocess.DEVNULL):
+    """The least processor time of a command on a table, and what it said."""
+    return min((run(command, path, out) for _ in range(runs)), key=lambda pair: pair[0])
+
+
+def row(*cells):
+    """A line of a table in Markdown."""
+    print("| " + " | ".join(f"{cell:.2f}" if isinstance(cell, float) else cell for cell in cells) + " |", flush=True)
+
+
+def head(*cells):
+    row(*cells)
+    row(*("---" for _ in cells))

@@ -1,0 +1,193 @@
+// A strong peer: the best plain Rust judge by the judge's own method, to be measured beside it. Not proved; bench/verdict holds its verdicts to the simulator's.
+//
+// The full-length run tick by tick on sets of 32 bits: due moments are looked at only when the bell rings, and the choice is kept while the claimants are unchanged.
+// With the word `jump` it goes from event to event instead: while nobody is due and nobody ends, every tick is as the one before.
+
+use std::io::Read;
+
+#[derive(Clone, Copy, Default)]
+struct Task {
+    offset: u32,
+    width: u32,
+    length: u32,
+    deadline: u32,
+    period: u32,
+}
+
+struct Table {
+    cores: u32,
+    rule: u32,
+    tasks: Vec<Task>,
+    s: u64,
+    p: u64,
+}
+
+type Refusal = (u32, usize);
+
+fn numbers(text: &[u8]) -> Option<Vec<u32>> {
+    let mut numbers = Vec::with_capacity(195);
+    if text.is_empty() {
+        return Some(numbers);
+    }
+    for line in text.strip_suffix(b"\n").unwrap_or(text).split(|&b| b == b'\n') {
+        if line.is_empty() || line.len() > 10 || !line.iter().all(u8::is_ascii_digit) || numbers.len() == 195 {
+            return None;
+        }
+        let value = line.iter().fold(0u64, |n, &digit| n * 10 + u64::from(digit - b'0'));
+        numbers.push(u32::try_from(value).ok()?);
+    }
+    Some(numbers)
+}
+
+fn gcd(a: u64, b: u64) -> u64 {
+    if b == 0 { a } else { gcd(b, a % b) }
+}
+
+fn load(text: &[u8]) -> Result<Table, Refusal> {
+    let words = numbers(text).ok_or((1, 0))?;
+    if words.len() < 3 || (words.len() - 3) % 6 != 0 {
+        return Err((1, 0));
+    }
+    let (head, cores, rule) = (words[0] as usize, words[1], words[2]);
+    if !(1..=64).contains(&cores) {
+        return Err((2, 0));
+    }
+    if !(1..=3).contains(&rule) {
+        return Err((3, 0));
+    }
+    if head == 0 {
+        return Err((4, 0));
+    }
+    let (mut tasks, mut met, mut number) = (Vec::with_capacity(32), 0u64, head);
+    while number != 0 {
+        if number > (words.len() - 3) / 6 {
+            return Err((5, 0));
+        }
+        if met >> number & 1 != 0 {
+            return Err((6, 0));
+        }
+        met |= 1 << number;
+        let record = &words[6 * number - 3..6 * number + 3];
+        tasks.push(Task { offset: record[1], width: record[2], length: record[3], deadline: record[4], period: record[5] });
+        number = record[0] as usize;
+    }
+    for (place, task) in tasks.iter().enumerate() {
+        if !(1..=cores).contains(&task.width) {
+            return Err((7, place + 1));
+        }
+        let limit = 1..=1_000_000;
+        if task.offset > 1_000_000 || !limit.contains(&task.length) || !limit.contains(&task.period) || !(1..=task.period).contains(&task.deadline) {
+            return Err((8, place + 1));
+        }
+    }
+    let (mut s, mut p) = (0, 1);
+    for task in &tasks {
+        let (offset, period) = (u64::from(task.offset), u64::from(task.period));
+        s = offset + s.max(offset).abs_diff(offset).div_ceil(period) * period;
+        p = p / gcd(p, period) * period;
+        if p > 10_000_000 {
+            return Err((9, 0));
+        }
+    }
+    if s + p > 10_000_000 {
+        return Err((9, 0));
+    }
+    Ok(Table { cores, rule, tasks, s, p })
+}
+
+fn choose(table: &Table, width: &[u32; 32], mut claiming: u32) -> u32 {
+    let (mut free, mut granted) = (table.cores, 0);
+    while claiming != 0 && free > 0 {
+        let place = claiming.trailing_zeros();
+        claiming &= claiming - 1;
+        if width[place as usize & 31] <= free {
+            free -= width[place as usize & 31];
+            granted |= 1 << place;
+        } else if table.rule == 2 {
+            break;
+        }
+    }
+    granted
+}
+
+/// Tick and position of the first miss up to and including the horizon.
+fn first_miss<const JUMP: bool>(table: &Table) -> Option<(u32, usize)> {
+    let count = table.tasks.len();
+    let mut tasks = [Task::default(); 32];
+    tasks[..count].copy_from_slice(&table.tasks);
+    let width = tasks.map(|task| task.width);
+    let length = tasks.map(|task| task.length);
+    let deadline = tasks.map(|task| task.deadline);
+    let period = tasks.map(|task| task.period);
+    let mut left = [0u32; 32]; // ticks owed; 0: not claiming
+    let mut moment = [u32::MAX; 32]; // the deadline while claiming, else the next release
+    let mut next = [0u32; 32]; // the next release
+    for place in 0..count {
+        moment[place] = tasks[place].offset;
+    }
+    let end = (table.s + table.p) as u32;
+    let (mut tick, mut bell, mut claiming, mut chosen, mut granted) = (0, 0, 0u32, 0, 0u32);
+    loop {
+        if tick == bell {
+            let mut due = 0u32;
+            for place in 0..32 {
+                due |= u32::from(moment[place] == tick) << place;
+            }
+            while due != 0 {
+                let place = due.trailing_zeros() as usize & 31;
+                due &= due - 1;
+                if left[place] > 0 {
+                    return Some((tick, place + 1));
+                }
+                left[place] = length[place];
+                moment[place] = tick + deadline[place];
+                next[place] = tick + period[place];
+                claiming |= 1 << place;
+            }
+            bell = moment.iter().fold(u32::MAX, |a, &b| a.min(b));
+        }
+        if tick == end {
+            return None;
+        }
+        if claiming != chosen {
+            chosen = claiming;
+            granted = choose(table, &width, claiming);
+        }
+        let mut ticks = 1;
+        if JUMP {
+            ticks = bell.min(end) - tick;
+            let mut rest = granted;
+            while rest != 0 {
+                ticks = ticks.min(left[rest.trailing_zeros() as usize & 31]);
+                rest &= rest - 1;
+            }
+        }
+        let mut rest = granted;
+        while rest != 0 {
+            let place = rest.trailing_zeros() as usize & 31;
+            rest &= rest - 1;
+            left[place] -= ticks;
+            if left[place] == 0 {
+                claiming &= !(1 << place);
+                moment[place] = next[place];
+            }
+        }
+        tick += ticks;
+    }
+}
+
+fn main() {
+    let mut text = Vec::new();
+    std::io::stdin().lock().read_to_end(&mut text).expect("standard input can be read");
+    let table = match load(&text) {
+        Ok(table) => table,
+        Err((number, position)) => return println!("refused {number} {position}"),
+    };
+    let jump = std::env::args().nth(1).as_deref() == Some("jump");
+    let miss = if jump { first_miss::<true>(&table) } else { first_miss::<false>(&table) };
+    let firm = table.rule != 1 || table.tasks.windows(2).all(|pair| pair[0].width <= pair[1].width);
+    match miss {
+        Some((tick, position)) => println!("miss {tick} {position}"),
+        None => println!("{} {} {}", if firm { "firm" } else { "full" }, table.s, table.p),
+    }
+}
