@@ -11,7 +11,8 @@
 extern "C" {
 #endif
 
-/* What every call returns: the call is answered, or a lent slice is too short and everything is as found. */
+/* What every call returns: the call is answered, or a lent slice is too short and everything is as found.
+   Short `rows` of a plan are 11 instead, and fewer than 259 words lent to row or advance are no run: 14. */
 #define SIVORANDRA_ANSWERED 0u
 #define SIVORANDRA_SHORT 1u
 
@@ -40,7 +41,8 @@ uint32_t sivorandra_plan(const uint32_t *words, size_t words_len, uint32_t a, ui
 
 /* Starts a run, advances it by each of `reports`, and asks its row: done, row refused, or refused where the start is.
    An advance's answer goes into `numbers`, 0 for taken or else number * 256 + position; the last row into 64 bytes of `row`.
-   A refused start leaves both as found. */
+   `numbers` needs a word for each report set; what stands behind stays. A refused row is 64 zeros; a refused start, which is
+   answered even where a slice is short, leaves both as found. */
 uint32_t sivorandra_replay(const uint32_t *words, size_t words_len,
                            const uint32_t *reports, size_t reports_len,
                            uint32_t *numbers, size_t numbers_len,
@@ -53,7 +55,7 @@ uint32_t sivorandra_start(const uint32_t *words, size_t words_len,
                           uint32_t *answer, size_t answer_len);
 
 /* The row of the present tick into 64 bytes of `row`: done, or refused and 64 zeros.
-   Words that are no run are refused with 14. */
+   Words that are no run are refused with 14; all 32 places must hold phases, those past the count too. */
 uint32_t sivorandra_row(const uint32_t *run, size_t run_len,
                         uint8_t *row, size_t row_len,
                         uint32_t *answer, size_t answer_len);

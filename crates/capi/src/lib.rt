@@ -1,5 +1,6 @@
 // The library to link: the judge, the plan, the replay and the run in the cab for C and Rust, on numbers and lent slices.
-// Each function returns 0 where the call is answered, and 1 where a lent slice is too short: then everything is as found.
+// Each function returns 0 where the call is answered, and 1 where a lent slice is too short: then everything is as found. Short rows of a plan are 11
+// instead, and a buffer lent to row or advance that is too short for a run holds none: 14.
 // The answer stands in the three first words of `answer`: a case and two numbers.
 ghost use mathlib.Core.Path.{_≡_};
 ghost use mathlib.Core.List.{[], _∷_};
@@ -69,7 +70,7 @@ pub extern "C" fn sivorandra_replay(
     1
 }
 
-// The run of a table's words as it starts, into the first 259 words of `run`: case 0, or 3 Refused number position and the run of all zeros.
+// The run of a table's words as it starts, into the first 259 words of `run`: case 0, or 3 Refused number position and the run that start returns then.
 #[no_mangle]
 pub extern "C" fn sivorandra_start(words: &[u32], run: &mut [u32], answer: &mut [u32]) -> u32
     ensures { λ r. ⌜ record { value = r; lent = now (run .exit) ∷ (now (answer .exit) ∷ []) } ≡ startCall (now (words .entry)) (now (run .entry)) (now (answer .entry)) ⌝ }

@@ -121,4 +121,3 @@ in-range n m p row old h = (
   h .safe .few,
   λ q l. let t = h .safe .times q l in (omega (arith, t .1, h .tick), omega (arith, t .2, h .tick)),
 )
-

@@ -1,6 +1,6 @@
 -- When a printer is sound: its numbers are in the limits within which it can be stepped. `Printer::new` gives sound ones, a piece leaves a sound one
--- sound, and one that is not, forged by its caller, has nothing to hand out. The bell, the moments, the texts and what the table says of its
--- answer, S, P and horizon are not asked for: whatever they are, they say which rows there are and where the printer ends.
+-- sound, and one that is not, forged by its caller, has nothing to hand out. The bell, the moments, the next
+-- releases, the texts and the rule are not asked for: whatever they are, they say which rows there are. The table's answer, S, P and horizon are not read.
 use mathlib.Core.Bool.{Bool, true, not, _&&_}
 use mathlib.Core.List.{List}
 use mathlib.Core.Path.{_≡_}
@@ -21,7 +21,7 @@ use Rattle.printer.specs.declared.Printer.{Printer}
 abbrev pub outAt : Loaded → ℕ → Bool
 outAt t p = taskOut (t .cores) (taskOf (getD (t .tasks) p noTask))
 
--- a table's count, core count and tasks are in their limits
+-- at most 32 tasks and at most 64 cores, and no task below the count that 7 or 8 turns down
 unfoldable pub tableSound : Loaded → Bool
 tableSound t = leb (t .count) 32 && (leb (t .cores) 64 && not (any (t .count) (outAt t)))
 

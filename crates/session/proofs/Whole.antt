@@ -4,9 +4,11 @@ use mathlib.Core.Path.{_≡_, refl, sym, ap, _∙_}
 use Prim.Native.Nat.{ℕ}
 use lib.ListN.{take}
 use Rattle.session.specs.declared.Session.{Session}
+use Rattle.session.specs.declared.Stage.the-variants.{Over}
 use Rattle.session.specs.Talk.{talk}
-use Rattle.session.specs.Session.{spoken, FedOf, LastOf, NewOf, Feeds, none, more}
+use Rattle.session.specs.Session.{spoken, stageOf, FedOf, LastOf, NewOf, Feeds, none, more}
 use Rattle.session.proofs.Talking.{nil-right}
+use Rattle.session.proofs.Feeding.{over-spoken}
 
 said-so-far : {s s′ : Session} {bs text : List ℕ} → Feeds s bs text s′ → (cs : List ℕ) → spoken s (bs ++ cs) ≡ text ++ spoken s′ cs
 said-so-far none cs = refl
@@ -19,3 +21,8 @@ pub whole-talk :
     (s s′ : Session) (bs text before after : List ℕ) (n : ℕ) → NewOf s → Feeds s bs text s′ → LastOf s′ before after n → text ++ take n after ≡ talk bs
 whole-talk s s′ bs text before after n new f last =
     ap (λ (x : List ℕ). text ++ x) (last .front) ∙ sym (said-so-far f []) ∙ ap (spoken s) (nil-right bs) ∙ new bs
+
+-- where the session is over, all has been said, whatever might still come
+pub over-talk : (s s′ : Session) (bs cs text : List ℕ) → NewOf s → Feeds s bs text s′ → stageOf s′ ≡ Over → text ≡ talk (bs ++ cs)
+over-talk s s′ bs cs text new f o =
+    sym (nil-right text) ∙ ap (λ (x : List ℕ). text ++ x) (sym (over-spoken s′ cs o)) ∙ sym (said-so-far f cs) ∙ new (bs ++ cs)
