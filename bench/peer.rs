@@ -1,4 +1,4 @@
-// A strong peer: the best plain Rust judge by the judge's own method, to be measured beside it. Not proved; bench/verdict holds its verdicts to the simulator's.
+// A strong peer: a plain Rust judge written for speed by the judge's own method, to be measured beside it. Not proved; bench/verdict holds its verdicts to the simulator's.
 //
 // The full-length run tick by tick on sets of 32 bits: due moments are looked at only when the bell rings, and the choice is kept while the claimants are unchanged.
 // With the word `jump` it goes from event to event instead: while nobody is due and nobody ends, every tick is as the one before.
