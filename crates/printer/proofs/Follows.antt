@@ -5,20 +5,19 @@ use mathlib.Core.List.{List, [], _∷_, _++_, map}
 use Prim.Native.Nat.{ℕ, zero, suc, _+_, _≤_, _<_}
 use native.Mathlib.Numerals.{add-one}
 use native.Mathlib.Omega.{arith}
-use lib.Dec.{leb, eqb}
-use lib.ListN.{length, getD, take, length-map, List·getD-eq-default}
+use lib.Dec.{leb}
+use lib.ListN.{length, take, length-map, List·getD-eq-default}
 use lib.Seq.{take-take}
 use borrow.Author.Tests.{leb-true, leb-false, eqb-true}
 use Rattle.model.specs.Search.{bit, upFrom}
-use Rattle.model.specs.Task.{Table, task, ruleOf}
+use Rattle.model.specs.Task.{Table, ruleOf}
 use Rattle.model.specs.Grants.{claimants, grants, some}
 use Rattle.model.specs.Book.{full, rowOf, Missed, widths}
 use Rattle.model.proofs.Grants.{grants-length}
 use Rattle.table.specs.declared.Task.{Task}
 use Rattle.table.specs.declared.Loaded.{Loaded}
-use Rattle.full.specs.Machine.{Machine, releasedDue, earliest, DueMoments, worked}
+use Rattle.full.specs.Machine.{Machine, releasedDue, earliest, worked}
 use Rattle.full.proofs.Tied.{Ready, Columns}
-use Rattle.full.proofs.Bell.{Bell}
 use Rattle.full.proofs.Sets.{set-has, set-past}
 use Rattle.full.proofs.Walk.{due-walked, earliest-bell}
 use Rattle.full.proofs.Alike.{widths-first, row-alike}

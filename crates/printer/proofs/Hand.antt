@@ -12,12 +12,11 @@ use Rattle.full.specs.Fields.{columnsOf}
 use Rattle.full.specs.Machine.{machine}
 use Rattle.text.specs.Written.{Put}
 use Rattle.text.proofs.Writing.{put-none, put-then, put-length, put-front}
-use Rattle.printer.specs.Rows.{Numbers, numbers, numbersIn, Stand, lineIn, next, linesIn}
+use Rattle.printer.specs.Rows.{Numbers, numbers, numbersIn, lineIn, next, linesIn}
 use Rattle.printer.specs.Sound.{sound, Safe}
 use Rattle.printer.specs.Printer.{standOf, toCome, rest, PieceOf, Stepping, Stepped}
 use Rattle.printer.specs.declared.Printer.{Printer}
 use Rattle.printer.specs.declared.Pace.{Pace}
-use Rattle.printer.specs.declared.Piece.{Piece}
 use Rattle.printer.proofs.Safe.{safe-next}
 use Rattle.printer.proofs.Step.{tick-on}
 use Rattle.printer.proofs.Limits.{Limits, limits-sound, Arrays, limits-safe}

@@ -1,6 +1,6 @@
 -- What it says that a printer is sound: its numbers in their limits, and its run one that can be stepped.
-use mathlib.Core.Path.{_≡_, refl, sym, ap, _∙_, subst}
-use mathlib.Core.Bool.{Bool, true, false, not, _&&_, true≢false, false≢true}
+use mathlib.Core.Path.{_≡_, refl}
+use mathlib.Core.Bool.{Bool, true, false, not, _&&_}
 use mathlib.Core.List.{List, map}
 use Prim.Native.Nat.{ℕ, _≤_, _<_}
 use native.Mathlib.Omega.{arith}
@@ -13,7 +13,7 @@ use Rattle.model.proofs.Search.{any-of, none-any, none-at}
 use Rattle.table.specs.declared.Loaded.{Loaded}
 use Rattle.table.specs.declared.Task.{Task}
 use Rattle.table.specs.Task.{taskOf, noTask}
-use Rattle.table.proofs.Inside.{Inside, inside-test}
+use Rattle.table.proofs.Inside.{inside-test}
 use Rattle.full.specs.Machine.{machine}
 use Rattle.full.proofs.Moves.{Sized}
 use Rattle.printer.specs.Rows.{numbersIn}

@@ -1,22 +1,20 @@
 -- A printer as it is made: all that is printed for the words, and so for the bytes, is still to be handed out.
 use native.Mathlib.Omega.{arith}
 use mathlib.Core.Path.{_≡_, refl, sym, ap, ap₂, _∙_, subst, subst⁻¹}
-use mathlib.Core.List.{List, [], _∷_, _++_, append-nil}
-use mathlib.Core.Bool.{true, false, not, _&&_}
+use mathlib.Core.List.{List, [], _++_, append-nil}
+use mathlib.Core.Bool.{true, false}
 use mathlib.Core.Logic.{inl, inr, ⊎-elim}
 use native.Mathlib.Nat.{eq-zero-or-pos}
 use Prim.Native.Nat.{ℕ, _-_, _≤_, _<_}
 use lib.Bits.{bitAnd, and-zero-l}
-use lib.Dec.{leb}
 use lib.ListN.{length, getD, take, replicate, length-append}
 use lib.Seq.{take-append-seam}
-use borrow.Author.Tests.{eq-eqb, le-leb}
+use borrow.Author.Tests.{eq-eqb}
 use Rattle.model.specs.Task.{Table, AllSound, task}
 use Rattle.model.specs.Search.{any}
-use Rattle.model.proofs.Bools.{and-both, not-true-false}
-use Rattle.model.proofs.Search.{none-any}
+use Rattle.model.proofs.Bools.{not-true-false}
 use Rattle.model.specs.Task as plain
-use Rattle.model.specs.Book.{Missed, NeverMissed}
+use Rattle.model.specs.Book.{Missed}
 use Rattle.model.specs.Horizon.{horizon}
 use Rattle.model.specs.Verdict.{FirstMiss, verdict}
 use Rattle.model.specs.Verdict as model
@@ -29,7 +27,7 @@ use Rattle.table.specs.Words.{cores, tableOf}
 use Rattle.table.specs.Answer.{answerOf, headerNumber}
 use Rattle.table.specs.Load.{LoadOf, refusal}
 use Rattle.table.proofs.Exact.{refusal-exact, passed-exact}
-use Rattle.table.specs.Limits.{WidthOut, TimesOut, taskOut}
+use Rattle.table.specs.Limits.{taskOut}
 use Rattle.table.specs.Task.{taskOf, noTask}
 use Rattle.table.proofs.Inside.{Inside}
 use Rattle.table.proofs.Passed.{passed-cores, passed-inside}
@@ -37,10 +35,10 @@ use Rattle.table.proofs.Places.{task-at}
 use Rattle.table.proofs.Tests.{task-decides}
 use Rattle.full.specs.declared.columns.Columns.{Columns}
 use Rattle.full.specs.Fields.{columnsOf}
-use Rattle.full.specs.Machine.{machine, started}
+use Rattle.full.specs.Machine.{started}
 use Rattle.judge.specs.declared.Verdict.{Verdict}
 use Rattle.judge.specs.declared.Verdict.the-variants as judge
-use Rattle.judge.specs.Judged.{told, verdictOf, Judged, tableIn, Fit}
+use Rattle.judge.specs.Judged.{told, Judged, tableIn, Fit}
 use Rattle.judge.proofs.Ticks.{Before, at-start, chosen-none}
 use Rattle.judge.proofs.Promise.{fit, same-table, passed-is, refused-is}
 use Rattle.text.specs.Format.{mostNumbers, Words, words, noText, wordsOf}
@@ -49,9 +47,9 @@ use Rattle.text.specs.Output.{Answer as Said, judged, refused, firstLine, rowLi
 use Rattle.text.specs.Written.{Put}
 use Rattle.printer.specs.Cells.{cells}
 use Rattle.text.specs.Said.{saidBy, endOf}
-use Rattle.printer.specs.Rows.{numbersIn, Stand, linesIn}
+use Rattle.printer.specs.Rows.{numbersIn, linesIn}
 use Rattle.printer.specs.Sound.{outAt, tableSound, owed, within, sound}
-use Rattle.printer.specs.Printer.{standOf, toCome, rest, StartOf, WordsPrinter, MadeFrom}
+use Rattle.printer.specs.Printer.{standOf, toCome, StartOf, WordsPrinter, MadeFrom}
 use Rattle.text.specs.declared.Input.{Input}
 use Rattle.printer.specs.declared.Printer.{Printer}
 use Rattle.text.proofs.Writing.{put-front}

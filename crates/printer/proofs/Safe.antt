@@ -1,13 +1,12 @@
 -- A run that can be stepped can be stepped again: who claims is owed ticks after the due moments and after the tick, and who is granted cores claims.
-use mathlib.Core.Path.{_≡_, refl, sym, ap, _∙_, subst, subst₂}
+use mathlib.Core.Path.{_≡_, refl, sym, ap, _∙_, subst}
 use mathlib.Core.Bool.{Bool, true, false, not, _&&_, cond, true≢false, false≢true}
 use mathlib.Core.List.{List}
-use mathlib.Core.Logic.{⊎-elim}
-use Prim.Native.Nat.{ℕ, zero, suc, _+_, _-_, _^_, _≤_, _<_}
+use Prim.Native.Nat.{ℕ, zero, suc, _-_, _^_, _≤_, _<_}
 use native.Mathlib.Omega.{arith}
 use lib.Bits.{bitAnd, and-le-l}
 use lib.Dec.{eqb, ltb, leb}
-use lib.ListN.{length, getD}
+use lib.ListN.{getD}
 use borrow.Author.Tests.{eq-eqb, eqb-true, eqb-false, lt-ltb, ltb-true, leb-true, leb-false}
 use Rattle.model.specs.Search.{bit, upFrom}
 use Rattle.model.specs.Task.{ruleOf}
@@ -16,7 +15,6 @@ use Rattle.model.proofs.Bools.{and-left, and-right, not-false-true}
 use Rattle.model.proofs.Digits.{and-bit, same-digits}
 use Rattle.model.proofs.Grants.{grants-none}
 use Rattle.full.specs.Machine.{Machine, released, releasedDue, Owed, finishes, worked}
-use Rattle.full.specs.Places.{setOf}
 use Rattle.full.proofs.Moves.{Sized, released-sized, released-own, released-other, released-past, worked-sized, worked-left, worked-claims, worked-past}
 use Rattle.full.proofs.Sets.{set-has, set-past, set-lt}
 use Rattle.rule.specs.Shares.{granted}

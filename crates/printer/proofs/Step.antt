@@ -1,5 +1,5 @@
 -- One tick as code takes it is the step of the definitions: the due moments looked at or the bell not rung, the choice and the text kept or made anew.
-use mathlib.Core.Path.{_≡_, refl, sym, ap, ap₂, _∙_, subst}
+use mathlib.Core.Path.{_≡_, sym, ap, ap₂, _∙_, subst}
 use mathlib.Core.Bool.{Bool, true, false, cond}
 use mathlib.Core.List.{List, _++_}
 use Prim.Native.Nat.{ℕ, _+_, _^_, _≤_, _<_}
@@ -18,7 +18,7 @@ use Rattle.text.specs.Written.{Put}
 use Rattle.text.proofs.Writing.{put-length, put-front}
 use Rattle.printer.specs.Cells.{cells}
 use Rattle.printer.specs.Rows.{Numbers, Stand, after, bellAfter, choice, grantedIn, textIn, lineIn, next}
-use Rattle.printer.specs.Printer.{standAt, Stepping, Stepped}
+use Rattle.printer.specs.Printer.{Stepping, Stepped}
 use Rattle.printer.specs.declared.Pace.{Pace}
 
 module _ (n : Numbers) (s : Stand) where

@@ -7,7 +7,7 @@ use mathlib.Core.Path.{_≡_}
 use Prim.Native.Nat.{ℕ, _≤_, _<_}
 use lib.Bits.{bitAnd}
 use lib.Dec.{eqb, ltb, leb}
-use lib.ListN.{length, getD}
+use lib.ListN.{getD}
 use Rattle.model.specs.Search.{any}
 use Rattle.table.specs.declared.Loaded.{Loaded}
 use Rattle.table.specs.Limits.{taskOut}

@@ -4,8 +4,8 @@ use borrow.Author.Needs.{needs}
 use native.Mathlib.Omega.{arith}
 use mathlib.Core.List.{List}
 use mathlib.Core.Logic.{⊎-elim}
-use mathlib.Core.Path.{_≡_, sym, ap, ap₂, _∙_, subst, subst₂}
-use Prim.Native.Nat.{ℕ, _+_, _≤_, _<_}
+use mathlib.Core.Path.{_≡_, sym, ap, _∙_, subst₂}
+use Prim.Native.Nat.{ℕ}
 use Rattle.model.specs.Search.{bit}
 use Rattle.full.specs.Machine.{Machine, machine, Owed}
 use Rattle.printer.specs.Rows.{Numbers, numbers, Stand, after, bellAfter, grantedIn}

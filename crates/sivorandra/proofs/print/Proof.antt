@@ -1,9 +1,8 @@
 -- `sivorandra::print` is safe and ends: each piece that is not empty leaves less of the output. Assumes nothing.
 use borrow.Author.Needs.{needs}
 use native.Mathlib.Omega.{arith}
-use Prim.Native.Nat.{_-_, _≤_}
-use mathlib.Core.Path.{_≡_, sym, ap, _∙_}
-use lib.ListN.{length, length-drop, length-take}
+use mathlib.Core.Path.{_≡_, sym, ap}
+use lib.ListN.{length, length-drop}
 use lib.Seq.{length-take-le}
 use Rattle.printer.specs.Printer.{rest}
 use Rattle.sivorandra.proofs.print.Statement.{statement}

@@ -3,16 +3,15 @@
 use borrow.Author.Needs.{needs}
 use Rattle.full.specs.declared.columns.Columns.{Columns}
 use native.Mathlib.Omega.{arith}
-use mathlib.Core.Path.{_≡_, refl, sym, ap, _∙_}
+use mathlib.Core.Path.{sym}
 use Rattle.printer.proofs.Step.{tick-on}
-use mathlib.Core.List.{List}
 use lib.ListN.{length-map}
-use Prim.Native.Nat.{ℕ, _+_, _-_, _≤_, _<_}
+use Prim.Native.Nat.{_+_, _-_, _<_}
 use Rattle.full.specs.Machine.{machine}
 use Rattle.printer.specs.Printer.{Stepping}
 use Rattle.printer.specs.declared.Printer.{Printer}
 use Rattle.printer.proofs.Hand.{Handing, at-given, hand-start, hand-part, part-fills, hand-step, hand-full, hand-done, numbersBy, stepping-of}
-use Rattle.printer.proofs.Limits.{Limits, sound-limits, Arrays}
+use Rattle.printer.proofs.Limits.{sound-limits}
 use Rattle.printer.proofs.Printer.hand_out.Statement.{statement}
 use Rattle.printer.proofs.Printer.hand_out.Tie as tie
 

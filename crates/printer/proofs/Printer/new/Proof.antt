@@ -1,12 +1,7 @@
 -- `printer::Printer::new` meets its contract: what is no table's text has no numbers, and no words are refused with 1 as it is.
 -- Assumes nothing.
-use mathlib.Core.Path.{_≡_, sym, ap, _∙_}
-use Prim.Native.Nat.{ℕ, _≤_}
-use native.Mathlib.Omega.{arith}
-use lib.ListN.{length, take}
+use mathlib.Core.Path.{sym}
 use lib.Seq.{length-take-le}
-use Rattle.text.specs.declared.Input.{Input}
-use Rattle.text.specs.Input.{ReadOf}
 use Rattle.printer.proofs.Made.{bytes-made, read-fits}
 use borrow.Author.Needs.{needs}
 use Rattle.printer.proofs.Printer.new.Statement.{statement}

@@ -1,9 +1,8 @@
 -- `printer::cells::put_cells` meets its contract: the sets that the rule grants are painted into the row of the model.
 -- Assumes nothing.
 use mathlib.Core.List.{List, [], _∷_, _++_}
-use mathlib.Core.Path.{_≡_, ap, subst}
-use Prim.Native.Nat.{ℕ, _≤_}
-use native.Mathlib.Omega.{arith}
+use mathlib.Core.Path.{subst}
+use Prim.Native.Nat.{ℕ}
 use lib.ListN.{take}
 use Rattle.model.specs.Search.{bit}
 use Rattle.model.specs.Grants.{claimants}
