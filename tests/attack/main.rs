@@ -82,12 +82,19 @@ impl Counts {
     fn add(&mut self, other: Counts) {
         let numbers = self.numbers.iter_mut().zip(other.numbers);
         numbers.for_each(|(here, there)| *here += there);
-        let ours = [&mut self.passed, &mut self.failed, &mut self.firm, &mut self.full, &mut self.miss, &mut self.tables];
-        let theirs = [other.passed, other.failed, other.firm, other.full, other.miss, other.tables];
-        ours.into_iter().zip(theirs).for_each(|(here, there)| *here += there);
-        let ours = [&mut self.plans, &mut self.replays, &mut self.late, &mut self.advances, &mut self.runs, &mut self.nodes, &mut self.ends];
-        let theirs = [other.plans, other.replays, other.late, other.advances, other.runs, other.nodes, other.ends];
-        ours.into_iter().zip(theirs).for_each(|(here, there)| *here += there);
+        self.passed += other.passed;
+        self.failed += other.failed;
+        self.firm += other.firm;
+        self.full += other.full;
+        self.miss += other.miss;
+        self.tables += other.tables;
+        self.plans += other.plans;
+        self.replays += other.replays;
+        self.late += other.late;
+        self.advances += other.advances;
+        self.runs += other.runs;
+        self.nodes += other.nodes;
+        self.ends += other.ends;
         self.searched.extend(other.searched);
     }
 
