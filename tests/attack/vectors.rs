@@ -1,8 +1,8 @@
-//! The plan vectors: INDEX has lines 'NNN plan A B LEN'; NNN.in is the table's text, NNN.out what is to be printed.
+//! The examples through replay, and the plan vectors: INDEX has lines 'NNN plan A B LEN'; NNN.in is the table's text, NNN.out what is to be printed.
 use crate::book;
-use crate::calls::{same, Lent, Tried};
+use crate::calls::{self, same, Lent, Tried};
 use crate::rng::Rng;
-use sivorandra::Refusal;
+use sivorandra::{Refusal, ROW_BYTES};
 use std::fs;
 
 /// What the library's plan gives, printed a row a line.
@@ -29,12 +29,36 @@ fn one(number: &str, a: &str, b: &str, len: &str) -> Tried<()> {
     same(&format!("for {:?}", String::from_utf8_lossy(&text)), String::from_utf8_lossy(&expected), got.into())
 }
 
-/// Each vector by name, and whether the library gives what it says.
+/// Example B with its report, that the job of position 1 ends after tick 0 (figure 2, right side), and B3 with the same, through replay.
+fn examples() -> Vec<(String, Tried<()>)> {
+    let row = |positions: [u8; 2]| {
+        let mut bytes = [0; ROW_BYTES];
+        bytes[..2].copy_from_slice(&positions);
+        Ok(bytes)
+    };
+    let late = Err(Refusal { number: 15, position: 3 });
+    let cases = [
+        ("b", vec![], row([1, 3])),
+        ("b", vec![1], row([2, 2])),
+        ("b", vec![1, 0], late),
+        ("b3-idling-is-firm", vec![1], row([1, 3])),
+        ("b3-idling-is-firm", vec![1, 0], row([1, 0])),
+        ("b3-idling-is-firm", vec![1, 0, 0], row([2, 2])),
+    ];
+    let one = |table: &str, reports: &[u32], last: Result<[u8; ROW_BYTES], Refusal>| {
+        let text = fs::read(format!("tables/{table}.txt")).map_err(|why| why.to_string())?;
+        let words = book::numbers(&text).map_err(|why| format!("{why:?}"))?;
+        calls::replay(&mut Rng::new(1), &words, reports, &Ok((vec![0; reports.len()], last)))
+    };
+    cases.into_iter().map(|(table, reports, last)| (format!("{table} replayed with {reports:?}"), one(table, &reports, last))).collect()
+}
+
+/// Each example and vector by name, and whether the library gives what it says.
 pub fn all() -> Vec<(String, Tried<()>)> {
     let index = fs::read_to_string("tests/vectors/INDEX").unwrap_or_default();
     let plans = index.lines().filter_map(|line| match line.split(' ').collect::<Vec<_>>()[..] {
         [number, "plan", a, b, len] => Some((format!("vector {number}"), one(number, a, b, len))),
         _ => None,
     });
-    plans.collect()
+    plans.chain(examples()).collect()
 }
