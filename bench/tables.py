@@ -1,5 +1,5 @@
 #!/usr/bin/env python3
-"""Heavy tables for measuring: 32 tasks, 64 cores, a horizon of 10,000,000, for each rule with short, long and mixed periods.
+"""Heavy tables for measuring: 32 tasks, 64 cores, a horizon of up to 10,000,000, for each rule with short, long and mixed periods.
 
     bench/tables.py DIR GANGSIM    writes DIR/RULE-KIND.txt; the reference simulator picks a table that fits
 """

@@ -42,7 +42,7 @@ uint32_t sivorandra_plan(const uint32_t *words, size_t words_len, uint32_t a, ui
 /* Starts a run, advances it by each of `reports`, and asks its row: done, row refused, or refused where the start is.
    An advance's answer goes into `numbers`, 0 for taken or else number * 256 + position; the last row into 64 bytes of `row`.
    `numbers` needs a word for each report set; what stands behind stays. A refused row is 64 zeros; a refused start, which is
-   answered even where a slice is short, leaves both as found. */
+   answered even where `numbers` or `row` is short, leaves both as found. */
 uint32_t sivorandra_replay(const uint32_t *words, size_t words_len,
                            const uint32_t *reports, size_t reports_len,
                            uint32_t *numbers, size_t numbers_len,
