@@ -17,9 +17,10 @@ use Rattle.run.specs.declared.Answer.the-variants.{Taken, Refused}
 use Rattle.run.specs.declared.Run.{Run}
 use Rattle.run.specs.declared.Started.{Started}
 use Rattle.run.specs.declared.Advanced.{Advanced}
-use Rattle.run.specs.Run.{unused, moved}
+use Rattle.phase.specs.Task.{unused, startTask}
+use Rattle.run.specs.Run.{moved}
 use Rattle.run.specs.Answer.{told, byAnswer}
-use Rattle.run.specs.Start.{startTask, startedRun, emptyRun, startAnswer, startOf}
+use Rattle.run.specs.Start.{startedRun, emptyRun, startAnswer, startOf}
 use Rattle.run.specs.Advance.{advanceAnswer, advanceOf}
 use Rattle.run.proofs.Places.{length-mapFirst}
 use Rattle.run.proofs.StartExact.{start-of}

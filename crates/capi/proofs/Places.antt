@@ -9,7 +9,7 @@ use lib.Seq.{drop-drop, getD-drop}
 use lib.Dec.{leb}
 use borrow.Author.Tests.{le-leb, lt-leb, leb-true}
 use Rattle.model.proofs.Bools.{and-left}
-use Rattle.run.specs.declared.Task.{Task}
+use Rattle.phase.specs.declared.Task.{Task}
 use Rattle.capi.specs.Encoding.{placeWords, placesWords, isPhase, placeIn, isPlace, placesIn, arePlaces, holds}
 
 -- written

@@ -6,11 +6,11 @@ ghost use lib.ListN.{length, drop};
 ghost use Rattle.capi.specs.Encoding.{ofPhase, eight, countWord, encode, phaseOf, isPhase, placeIn, holds, runIn, decode};
 ghost use Rattle.capi.specs.Runs.{rowFrom, advanceFrom};
 use crate::told::Told;
+use phase::Phase;
+use phase::Task;
 use run::Answer;
-use run::Phase;
 use run::Row;
 use run::Run;
-use run::Task;
 
 // A phase in three words.
 fn of_phase(phase: Phase) -> Told

@@ -10,9 +10,9 @@ use borrow.Author.Tests.{leb-true, leb-false, eqb-true, eqb-false, eq-eqb}
 use Rattle.model.specs.Task.{Task, Sound, Rule, due, newest}
 use Rattle.model.specs.Book.{Job, holds, claims}
 use Rattle.model.proofs.Jobs.{newest-is, claims-if}
-use Rattle.run.specs.declared.Phase.{Phase}
-use Rattle.run.specs.declared.Phase.the-variants.{Coming, Working, Holding, Resting}
-use Rattle.run.specs.Phase.{claiming, working, lateIn}
+use Rattle.phase.specs.declared.Phase.{Phase}
+use Rattle.phase.specs.declared.Phase.the-variants.{Coming, Working, Holding, Resting}
+use Rattle.phase.specs.Phase.{claiming, working, lateIn}
 use Rattle.demand.proofs.Tied.{Present, Tied, newest-in, early, hold-if, ended-also, rests-off}
 
 -- of the jobs that are due, only the present one can be open

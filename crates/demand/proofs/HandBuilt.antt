@@ -7,14 +7,15 @@ use lib.ListN.{replicate}
 use Rattle.model.specs.Grants.{claimants, given, grants, left}
 use Rattle.model.specs.Row.{owner, row}
 use Rattle.model.specs.Search.{any, least, memb, upFrom}
-use Rattle.run.specs.declared.Phase.{Phase}
-use Rattle.run.specs.declared.Phase.the-variants.{Coming, Working, Holding, Resting}
-use Rattle.run.specs.declared.Task.{Task}
+use Rattle.phase.specs.declared.Phase.{Phase}
+use Rattle.phase.specs.declared.Phase.the-variants.{Coming, Working, Holding, Resting}
+use Rattle.phase.specs.declared.Task.{Task}
 use Rattle.run.specs.declared.Run.{Run}
 use Rattle.run.specs.declared.Answer.{Answer}
 use Rattle.run.specs.declared.Answer.the-variants.{Taken, Refused}
 use Rattle.run.specs.declared.Row.{Row}
-use Rattle.run.specs.Run.{unused, grantsIn, mapFirst, moved}
+use Rattle.phase.specs.Task.{unused}
+use Rattle.run.specs.Run.{grantsIn, mapFirst, moved}
 use Rattle.run.specs.Numbers.{runOut, firstLateIn, misreportedIn}
 use Rattle.run.specs.Advance.{advanceAnswer, advanceOf}
 use Rattle.run.specs.Row.{rowAnswer, bytesIn, noBytes, rowOf}

@@ -20,13 +20,14 @@ use Rattle.model.proofs.Bools.{same-test}
 use Rattle.model.proofs.Search.{least-lowest, any-same, least-same}
 use Rattle.model.proofs.Grants.{claimants-same, runs}
 use Rattle.model.proofs.Faithful.{late-exact}
-use Rattle.run.specs.declared.Phase.{Phase}
-use Rattle.run.specs.declared.Task.{Task}
+use Rattle.phase.specs.declared.Phase.{Phase}
+use Rattle.phase.specs.declared.Task.{Task}
 use Rattle.run.specs.declared.Run.{Run}
-use Rattle.run.specs.Phase.{claiming, working, lateIn, nextPhase}
-use Rattle.run.specs.Run.{taskOf, pastEnd, unused, nextTask, ruleIn, taskAt, phaseAt, widthsIn, grantsIn, hasCores, moved}
+use Rattle.phase.specs.Phase.{claiming, working, lateIn, nextPhase}
+use Rattle.phase.specs.Task.{taskOf, pastEnd, unused, nextTask, startTask}
+use Rattle.run.specs.Run.{ruleIn, taskAt, phaseAt, widthsIn, grantsIn, hasCores, moved}
 use Rattle.run.specs.Numbers.{lateAt, firstLateIn, reportableAt, misreportedIn}
-use Rattle.run.specs.Start.{startTask, startedRun}
+use Rattle.run.specs.Start.{startedRun}
 use Rattle.run.proofs.Places.{mapFirst-at, take-kept}
 use Rattle.run.proofs.StartPasses.{started-at}
 use Rattle.demand.proofs.Tied.{Tied}

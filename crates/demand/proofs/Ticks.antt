@@ -11,10 +11,10 @@ use borrow.Author.Tests.{eqb-false, le-leb, lt-leb}
 use Rattle.model.specs.Task.{Task, Sound, Rule, idling, newest}
 use Rattle.model.specs.Book.{Job, fresh, holds, claims, work}
 use Rattle.model.proofs.Jobs.{mk, next, next-ended, next-claimed, claims-if, newest-is, others}
-use Rattle.run.specs.declared.Phase.{Phase}
-use Rattle.run.specs.declared.Phase.the-variants.{Coming, Working, Holding, Resting}
-use Rattle.run.specs.Phase.{idles, lateIn, startPhase, resting, holding, ended, worked, nextPhase}
-use Rattle.run.proofs.Phases.{by-eq, idles-decides}
+use Rattle.phase.specs.declared.Phase.{Phase}
+use Rattle.phase.specs.declared.Phase.the-variants.{Coming, Working, Holding, Resting}
+use Rattle.phase.specs.Phase.{idles, lateIn, startPhase, resting, holding, ended, worked, nextPhase}
+use Rattle.phase.proofs.Phases.{by-eq, idles-decides}
 use Rattle.demand.proofs.Tied.{Present, Tied, newest-in, early, hold-if, full-done, none-holds, ended-also, rests-off}
 
 -- a line after a tick in which its task had cores or not

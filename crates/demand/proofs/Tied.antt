@@ -9,9 +9,9 @@ use Rattle.model.specs.Task.{Task, Rule, greedy, limited, idling, release, newe
 use Rattle.model.specs.Book.{Job, fresh, holds, claims}
 use Rattle.model.proofs.Bools.{not-true-false}
 use Rattle.model.proofs.Jobs.{mk, after-release, before-due, still}
-use Rattle.run.specs.declared.Phase.{Phase}
-use Rattle.run.specs.declared.Phase.the-variants.{Coming, Working, Holding, Resting}
-use Rattle.run.specs.Phase.{PhaseIn, idles}
+use Rattle.phase.specs.declared.Phase.{Phase}
+use Rattle.phase.specs.declared.Phase.the-variants.{Coming, Working, Holding, Resting}
+use Rattle.phase.specs.Phase.{PhaseIn, idles}
 
 -- THE TIE
 

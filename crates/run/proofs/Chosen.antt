@@ -19,7 +19,7 @@ use Rattle.model.proofs.Search.{none-any, none-at}
 use Rattle.rule.specs.Shares.{granted}
 use Rattle.run.specs.declared.Run.{Run}
 use Rattle.run.specs.declared.choosing.Claims.{Claims}
-use Rattle.run.specs.Phase.{claiming, working}
+use Rattle.phase.specs.Phase.{claiming, working}
 use Rattle.run.specs.Run.{ruleIn, phaseAt, widthsIn, grantsIn, hasCores}
 use Rattle.run.specs.Numbers.{reportableAt}
 use Rattle.run.specs.Claims.{ClaimsOf}

@@ -18,13 +18,13 @@ use Rattle.model.proofs.Search.{any-some, any-of, least-found, least-lowest}
 use Rattle.table.specs.Numbers.{Earlier, FirstOf, NoneOf}
 use Rattle.table.proofs.Decide.{Decides, fails, decides-not}
 use Rattle.table.proofs.Order.{not-before-itself, later}
-use Rattle.run.specs.declared.Phase.{Phase}
-use Rattle.run.specs.declared.Phase.the-variants.{Coming, Working, Holding, Resting}
+use Rattle.phase.specs.declared.Phase.{Phase}
+use Rattle.phase.specs.declared.Phase.the-variants.{Coming, Working, Holding, Resting}
 use Rattle.run.specs.declared.Run.{Run}
 use Rattle.run.specs.declared.Answer.the-variants.{Taken, Refused}
 use Rattle.run.specs.declared.Advanced.{Advanced}
 use Rattle.run.specs.declared.Row.{Row}
-use Rattle.run.specs.Phase.{working, lateIn}
+use Rattle.phase.specs.Phase.{working, lateIn}
 use Rattle.run.specs.Run.{taskAt, phaseAt, grantsIn, hasCores, moved}
 use Rattle.run.specs.Answer.{told}
 use Rattle.run.specs.Numbers.{RunOut, Late, Works, Misreports, RowApplies, fourteen, fifteen, AdvanceApplies, as-row, sixteen, runOut, lateAt, firstLateIn, reportableAt, misreportedIn}

@@ -1,5 +1,4 @@
 pub mod Places
-pub mod Phases
 pub mod Limits
 pub mod First
 pub mod Past
@@ -11,7 +10,6 @@ pub mod ByVerdict
 pub mod Cases
 pub mod Chosen
 pub mod PlaceSets
-pub mod Rules
 pub mod RunOut
 pub mod Shown
 pub mod Written

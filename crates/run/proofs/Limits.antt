@@ -13,13 +13,14 @@ use Rattle.table.specs.Limits.{from, coresOut, ruleOut, taskOut}
 use Rattle.table.proofs.Decide.{Decides, decides-not, decides-or, decides-any}
 use Rattle.table.proofs.Tests.{from-decides, cores-decides, rule-decides, task-decides}
 use Rattle.table.proofs.Inside.{inside-test, inside-sound}
-use Rattle.run.specs.declared.Task.{Task}
+use Rattle.phase.specs.declared.Task.{Task}
 use Rattle.run.specs.declared.Run.{Run}
-use Rattle.run.specs.Phase.{PhaseIn, phaseIn}
-use Rattle.run.specs.Run.{taskOf, pastEnd, nextTask, ruleIn, taskAt, phaseAt, hasCores, mapFirst, moved}
+use Rattle.phase.specs.Phase.{PhaseIn, phaseIn}
+use Rattle.phase.specs.Task.{taskOf, pastEnd, nextTask}
+use Rattle.run.specs.Run.{ruleIn, taskAt, phaseAt, hasCores, mapFirst, moved}
 use Rattle.run.specs.Numbers.{PlaceOut, RunOut, placeOut, runOut, lateAt}
 use Rattle.run.proofs.Places.{mapFirst-at}
-use Rattle.run.proofs.Phases.{phase-decides, next-in}
+use Rattle.phase.proofs.Phases.{phase-decides, next-in}
 
 -- THE TEST OF 14
 

@@ -15,12 +15,13 @@ use Rattle.model.specs.Grants.{Claimant, claimants, grants}
 use Rattle.model.proofs.Bools.{same-and}
 use Rattle.model.proofs.Grants.{claimants-same}
 use Rattle.table.specs.Limits.{taskOut}
-use Rattle.run.specs.declared.Task.{Task}
+use Rattle.phase.specs.declared.Task.{Task}
 use Rattle.run.specs.declared.Run.{Run}
 use Rattle.run.specs.declared.Answer.{Answer}
 use Rattle.run.specs.declared.Answer.the-variants.{Taken, Refused}
-use Rattle.run.specs.Phase.{claiming, working, phaseIn, lateIn}
-use Rattle.run.specs.Run.{taskOf, pastEnd, nextTask, ruleIn, phaseAt, widthsIn, grantsIn, hasCores, moved}
+use Rattle.phase.specs.Phase.{claiming, working, phaseIn, lateIn}
+use Rattle.phase.specs.Task.{taskOf, pastEnd, nextTask}
+use Rattle.run.specs.Run.{ruleIn, phaseAt, widthsIn, grantsIn, hasCores, moved}
 use Rattle.run.specs.Answer.{byAnswer}
 use Rattle.run.specs.Numbers.{placeOut, runOut, lateAt, firstLateIn, reportableAt, misreportedIn}
 use Rattle.run.specs.Advance.{advanceAnswer, advanceOf}

@@ -12,7 +12,8 @@ use borrow.Author.Tests.{lt-ltb, le-ltb, eqb-true, eqb-false, ltb-true, ltb-fals
 use Rattle.model.proofs.Digits.{or-bit, bit-none, bit-power, shifted-one}
 use Rattle.model.specs.Search.{bit}
 use Rattle.run.specs.declared.Run.{Run}
-use Rattle.run.specs.Run.{pastEnd, widthsIn}
+use Rattle.phase.specs.Task.{pastEnd}
+use Rattle.run.specs.Run.{widthsIn}
 
 -- a place added
 pub with-place : (s q : ℕ) → q < 32 → (p : ℕ) → bit (bitOr s ((1 * 2 ^ q) % 2 ^ 32)) p ≡ bit s p || eqb p q

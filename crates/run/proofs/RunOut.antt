@@ -10,11 +10,11 @@ use Rattle.model.specs.Task as model
 use Rattle.table.specs.Limits.{from, coresOut, ruleOut}
 use Rattle.table.proofs.Tests.{from-decides}
 use Rattle.table.proofs.Inside.{inside-test}
-use Rattle.run.specs.declared.Phase.{Phase}
-use Rattle.run.specs.declared.Phase.the-variants.{Coming, Working, Holding, Resting}
+use Rattle.phase.specs.declared.Phase.{Phase}
+use Rattle.phase.specs.declared.Phase.the-variants.{Coming, Working, Holding, Resting}
 use Rattle.run.specs.declared.Run.{Run}
-use Rattle.run.specs.Phase.{PhaseIn}
-use Rattle.run.specs.Headroom.{Roomy}
+use Rattle.phase.specs.Phase.{PhaseIn}
+use Rattle.phase.specs.Headroom.{Roomy}
 use Rattle.run.specs.Run.{ruleIn, taskAt, phaseAt}
 use Rattle.run.specs.Numbers.{placeOut, runOut, lateAt, firstLateIn}
 use Rattle.run.proofs.Limits.{or-left-false, passes-if}

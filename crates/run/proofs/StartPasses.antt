@@ -15,11 +15,11 @@ use Rattle.table.specs.Limits.{coresOut, ruleOut, taskOut}
 use Rattle.table.specs.Numbers.{NoneApplies, two, three}
 use Rattle.table.proofs.Tests.{from-decides, cores-decides, rule-decides, task-decides}
 use Rattle.table.proofs.Passed.{passed-count, passed-inside, passed-sound}
-use Rattle.run.specs.declared.Task.{Task}
-use Rattle.run.specs.Phase.{PhaseIn}
-use Rattle.run.specs.Run.{taskOf, pastEnd, unused}
-use Rattle.run.specs.Start.{startTask, startedRun}
-use Rattle.run.proofs.Phases.{start-in}
+use Rattle.phase.specs.declared.Task.{Task}
+use Rattle.phase.specs.Phase.{PhaseIn}
+use Rattle.phase.specs.Task.{taskOf, pastEnd, unused, startTask}
+use Rattle.run.specs.Start.{startedRun}
+use Rattle.phase.proofs.Phases.{start-in}
 use Rattle.run.proofs.Limits.{Passes}
 
 -- the task at a place of a started run

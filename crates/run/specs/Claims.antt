@@ -7,7 +7,7 @@ use lib.Dec.{ltb}
 use Rattle.model.specs.Search.{bit}
 use Rattle.run.specs.declared.Run.{Run}
 use Rattle.run.specs.declared.choosing.Claims.{Claims}
-use Rattle.run.specs.Phase.{claiming, working}
+use Rattle.phase.specs.Phase.{claiming, working}
 use Rattle.run.specs.Run.{phaseAt, widthsIn}
 
 -- the places below the count whose task claims, those whose task is Working, and the widths of the tasks below the count

@@ -1,4 +1,3 @@
-pub mod Phase
 pub mod Run
 pub mod Answer
 pub mod Numbers
@@ -7,4 +6,3 @@ pub mod Row
 pub mod Start
 pub mod Past
 pub mod Claims
-pub mod Headroom

@@ -8,9 +8,9 @@ use lib.ListN.{getD}
 use lib.Dec.{ltb}
 use Rattle.model.specs.Search.{any, least, bit}
 use Rattle.table.specs.Limits.{From, from, CoresOut, coresOut, RuleOut, ruleOut, WidthOut, TimesOut, taskOut}
-use Rattle.run.specs.declared.Phase.the-variants.{Working}
+use Rattle.phase.specs.declared.Phase.the-variants.{Working}
 use Rattle.run.specs.declared.Run.{Run}
-use Rattle.run.specs.Phase.{PhaseIn, phaseIn, working, lateIn}
+use Rattle.phase.specs.Phase.{PhaseIn, phaseIn, working, lateIn}
 use Rattle.run.specs.Run.{ruleIn, taskAt, phaseAt, grantsIn, hasCores}
 
 -- WHAT EACH NUMBER SAYS

@@ -11,19 +11,13 @@ use Rattle.table.specs.Numbers.{Applies, FirstOf, NoneOf}
 use Rattle.judge.specs.declared.Verdict.{Verdict}
 use Rattle.judge.specs.declared.Verdict.the-variants as judge
 use Rattle.judge.specs.Judged.{verdictOf}
-use Rattle.run.specs.declared.Task.{Task}
 use Rattle.run.specs.declared.Run.{Run}
 use Rattle.run.specs.declared.Answer.{Answer}
 use Rattle.run.specs.declared.Answer.the-variants.{Taken, Refused}
 use Rattle.run.specs.declared.Started.{Started}
-use Rattle.run.specs.Phase.{startPhase}
-use Rattle.run.specs.Run.{inPhase, unused}
+use Rattle.phase.specs.Task.{startTask, unused}
 use Rattle.run.specs.Answer.{told, byAnswer}
 use Rattle.run.specs.Numbers.{RunOut}
-
--- a task as it starts
-abbrev pub startTask : model.Task → Task
-startTask τ = inPhase (startPhase (τ .offset)) τ
 
 -- a table, whose rule has number n, as it starts; places past the count hold zeros and Resting(0)
 unfoldable pub startedRun : ℕ → model.Table → Run

@@ -1,11 +1,9 @@
 ghost use mathlib.Core.Path.{_≡_};
 ghost use Prim.Native.Nat.{_≤_};
-ghost use Rattle.run.specs.Phase.{claiming, working};
 ghost use Rattle.run.specs.Claims.{ClaimsOf};
 ghost use mathlib.Core.Bool.{false};
 ghost use Rattle.run.specs.Numbers.{runOut};
 ghost use Rattle.run.specs.Row.{bytesIn};
-use crate::Phase;
 use crate::Run;
 use crate::sets;
 
@@ -14,32 +12,6 @@ pub struct Claims {
     pub claiming: u32,
     pub working: u32,
     pub widths: [u32; 32],
-}
-
-impl Phase {
-    // Whether a task in this phase claims cores.
-    fn claims(self) -> bool
-        ensures { λ r. ⌜ r ≡ claiming self ⌝ }
-    {
-        match self {
-            Phase::Coming(_) => false,
-            Phase::Working(_, _) => true,
-            Phase::Holding(_, _) => true,
-            Phase::Resting(_) => false,
-        }
-    }
-
-    // Whether a task in this phase is Working.
-    fn works(self) -> bool
-        ensures { λ r. ⌜ r ≡ working self ⌝ }
-    {
-        match self {
-            Phase::Coming(_) => false,
-            Phase::Working(_, _) => true,
-            Phase::Holding(_, _) => false,
-            Phase::Resting(_) => false,
-        }
-    }
 }
 
 impl Run {

@@ -13,25 +13,7 @@ mod sets; // sets.rt: sets of places
 mod starts; // starts.rt: the run of a table as it starts
 
 use judge::Verdict;
-
-// What a task is doing, with the scope's counts: Coming(ticks left to the first release), Working(ticks since release, ticks had),
-// Holding(ticks since release, ticks claimed), Resting(ticks since release).
-pub enum Phase {
-    Coming(u32),
-    Working(u32, u32),
-    Holding(u32, u32),
-    Resting(u32),
-}
-
-// A task of the run: offset O, width v, length C, deadline D, period T, and its phase.
-pub struct Task {
-    pub offset: u32,
-    pub width: u32,
-    pub length: u32,
-    pub deadline: u32,
-    pub period: u32,
-    pub phase: Phase,
-}
+use phase::Task;
 
 // A run: the rule's number, the core count, and the tasks in priority order, of which the first count are used.
 pub struct Run {

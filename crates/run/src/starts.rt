@@ -6,34 +6,16 @@ ghost use Rattle.table.specs.Words.{rule, tableOf};
 ghost use Rattle.table.specs.Numbers.{NoneApplies};
 ghost use Rattle.run.specs.declared.Answer.the-variants.{Taken, Refused};
 ghost use Rattle.table.specs.Task as table;
-ghost use Rattle.run.specs.Phase.{startPhase};
-ghost use Rattle.run.specs.Run.{unused};
-ghost use Rattle.run.specs.Start.{startTask, startedRun, emptyRun};
+ghost use Rattle.run.specs.Start.{startedRun, emptyRun};
 use crate::Answer;
-use crate::Phase;
 use crate::Run;
 use crate::Started;
-use crate::Task;
-
-// A place past the count: zeros and Resting(0).
-fn unused() -> Task
-    ensures { λ r. ⌜ r ≡ unused ⌝ }
-{
-    Task {
-        offset: 0,
-        width: 0,
-        length: 0,
-        deadline: 0,
-        period: 0,
-        phase: Phase::Resting(0),
-    }
-}
 
 // The run of all zeros with every phase Resting(0).
 fn empty() -> Run
     ensures { λ r. ⌜ r ≡ emptyRun ⌝ }
 {
-    let place = unused();
+    let place = phase::starts::unused();
     let tasks = [place; 32];
     Run {
         rule: 0,
@@ -43,43 +25,17 @@ fn empty() -> Run
     }
 }
 
-// The phase at tick 0 of a task of this offset.
-fn start_phase(offset: u32) -> Phase
-    ensures { λ r. ⌜ r ≡ startPhase offset ⌝ }
-{
-    if offset == 0 {
-        Phase::Working(0, 0)
-    } else {
-        Phase::Coming(offset)
-    }
-}
-
-// A task of the table as it starts.
-fn start_task(task: table::Task) -> Task
-    ensures { λ r. ⌜ r ≡ startTask (table.taskOf task) ⌝ }
-{
-    let phase = start_phase(task.offset);
-    Task {
-        offset: task.offset,
-        width: task.width,
-        length: task.length,
-        deadline: task.deadline,
-        period: task.period,
-        phase: phase,
-    }
-}
-
 // The run of a table's first `count` tasks as it starts.
 fn started(rule: u32, cores: u32, tasks: [table::Task; 32], count: usize) -> Run
     requires { ⌜ count ≤ 32 ⌝ }
     ensures { λ r. ⌜ r ≡ startedRun rule (tableWith cores rule (table.tasksOf tasks count)) ⌝ }
 {
-    let place = unused();
+    let place = phase::starts::unused();
     let mut places = [place; 32];
     let mut i: usize = 0;
     while i < count {
         let task = tasks[i];
-        let next = start_task(task);
+        let next = phase::starts::start_task(task);
         places[i] = next;
         i += 1;
     }

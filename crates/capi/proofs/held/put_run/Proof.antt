@@ -9,9 +9,9 @@ use lib.Seq.{length-take-le, take-all}
 use borrow.Rule.Slice.PartAt.{part-to-end}
 use borrow.Rule.Slice.PartMut.{putMid}
 use borrow.Author.Needs.{needs}
-use Rattle.run.specs.declared.Task.{Task}
+use Rattle.phase.specs.declared.Task.{Task}
 use Rattle.run.specs.declared.Run.{Run}
-use Rattle.run.specs.Run.{pastEnd}
+use Rattle.phase.specs.Task.{pastEnd}
 use Rattle.run.proofs.Written.{take-more}
 use Rattle.capi.specs.declared.told.Told.{Told}
 use Rattle.capi.specs.Encoding.{eight, placeWords, countWord, placesWords, encode}

@@ -8,9 +8,9 @@ use native.Mathlib.Omega.{arith}
 use lib.ListN.{length, getD, set, drop, replicate}
 use lib.Seq.{drop-drop}
 use borrow.Author.Needs.{needs}
-use Rattle.run.specs.declared.Task.{Task}
+use Rattle.phase.specs.declared.Task.{Task}
 use Rattle.run.specs.declared.Run.{Run}
-use Rattle.run.specs.Run.{pastEnd}
+use Rattle.phase.specs.Task.{pastEnd}
 use Rattle.run.proofs.Written.{written-more}
 use Rattle.capi.specs.Encoding.{placeIn, placesIn, runIn}
 use Rattle.capi.proofs.Places.{read-more, length-read}

@@ -8,8 +8,9 @@ use lib.ListN.{length, getD, length-set, length-map}
 use lib.Dec.{ltb}
 use borrow.Author.Needs.{needs}
 use Rattle.model.specs.Search.{bit}
-use Rattle.run.specs.Phase.{claiming, working}
-use Rattle.run.specs.Run.{phaseAt, pastEnd}
+use Rattle.phase.specs.Phase.{claiming, working}
+use Rattle.phase.specs.Task.{pastEnd}
+use Rattle.run.specs.Run.{phaseAt}
 use Rattle.run.proofs.PlaceSets.{gathered-none, gathered-more, stored-more, widths-stored}
 use Rattle.run.proofs.Run.claims.Statement.{statement}
 use Rattle.run.proofs.Run.claims.Tie as tie

@@ -10,8 +10,9 @@ use lib.ListN.{length, getD, length-map}
 use borrow.Author.Needs.{needs}
 use Rattle.model.specs.Search.{bit}
 use Rattle.run.specs.declared.Run.{Run}
-use Rattle.run.specs.declared.Task.{Task}
-use Rattle.run.specs.Run.{ruleIn, hasCores, nextTask, mapFirst, moved, pastEnd}
+use Rattle.phase.specs.declared.Task.{Task}
+use Rattle.phase.specs.Task.{nextTask, pastEnd}
+use Rattle.run.specs.Run.{ruleIn, hasCores, mapFirst, moved}
 use Rattle.run.proofs.Places.{mapFirst-past, mapFirst-step}
 use Rattle.run.proofs.RunOut.{few, roomy}
 use Rattle.run.proofs.Run.moved.Statement.{statement}

@@ -10,10 +10,10 @@ use borrow.Author.Needs.{needs}
 use Rattle.model.proofs.Lists.{map-more}
 use Rattle.table.specs.declared.Task as table
 use Rattle.table.specs.Task.{taskOf, tasksOf, noTask}
-use Rattle.run.specs.declared.Task.{Task}
+use Rattle.phase.specs.declared.Task.{Task}
 use Rattle.run.specs.declared.Run.{Run}
-use Rattle.run.specs.Run.{unused, pastEnd}
-use Rattle.run.specs.Start.{startTask, startedRun}
+use Rattle.phase.specs.Task.{unused, pastEnd, startTask}
+use Rattle.run.specs.Start.{startedRun}
 use Rattle.run.proofs.Written.{written-more, take-more, drop-equal}
 use Rattle.run.proofs.starts.started.Statement.{statement}
 use Rattle.run.proofs.starts.started.Tie as tie

@@ -1,0 +1,133 @@
+-- The test of a phase decides its limits, and a tick keeps a phase within them.
+use mathlib.Core.Path.{_≡_, refl, ap}
+use mathlib.Core.Bool.{Bool, true, false, _||_, cond, false≢true}
+use Prim.Native.Nat.{ℕ, _+_, _-_, _≤_, _<_}
+use native.Mathlib.Omega.{arith}
+use lib.Dec.{eqb}
+use borrow.Author.Tests.{eqb-true, eqb-false, eq-eqb}
+use Rattle.model.specs.Task.{Task, Sound, Rule, greedy, limited, idling, ruleOf}
+use Rattle.table.proofs.Decide.{Decides, decides-le, decides-lt, decides-and}
+use Rattle.phase.specs.declared.Phase.{Phase}
+use Rattle.phase.specs.declared.Phase.the-variants.{Coming, Working, Holding, Resting}
+use Rattle.phase.specs.Phase.{PhaseIn, idles, phaseIn, lateIn, startPhase, resting, holding, ended, worked, nextPhase}
+
+-- TESTS
+
+-- a property of a test of equality, from the two cases of what it tests
+pub by-eq : (P : Bool → Type 0) (a b : ℕ) → (a ≡ b → P true) → ((a ≡ b → ⊥) → P false) → P (eqb a b)
+by-eq P a b f g = go (eqb a b) refl
+  where
+    go : (x : Bool) → eqb a b ≡ x → P x
+    go true e = f (eqb-true a b e)
+    go false e = g (eqb-false a b e)
+
+-- rule 3 is the rule under which ended work holds
+pub idles-rule : (n : ℕ) → idles (ruleOf n) ≡ eqb n 3
+idles-rule n =
+    by-eq (λ (x : Bool). idles (cond x limited (cond (eqb n 3) idling greedy)) ≡ eqb n 3) n 2
+    (λ e. rw e)
+    (λ e. go (eqb n 3))
+  where
+    go : (x : Bool) → idles (cond x idling greedy) ≡ x
+    go true = refl
+    go false = refl
+
+pub idles-decides : (r : Rule) → Decides (idles r) (r ≡ idling)
+idles-decides greedy = (λ e. absurd (false≢true e), λ e. ap idles e)
+idles-decides limited = (λ e. absurd (false≢true e), λ e. ap idles e)
+idles-decides idling = (λ e. refl, λ e. refl)
+
+-- the test is true exactly within the limits
+pub phase-decides : (r : Rule) (τ : Task) (ph : Phase) → Decides (phaseIn r τ ph) (PhaseIn r τ ph)
+phase-decides r τ (Coming left) = decides-and _ _ _ _ (decides-le 1 left) (decides-le left (τ .offset))
+phase-decides r τ (Working z u) = (
+  λ e. let x = deciding .0 e in ((omega arith, x .0), x .1 .0, x .1 .1),
+  λ x. deciding .1 (x .0 .1, (x .1, x .2)),
+)
+  where
+    deciding : Decides (phaseIn r τ (Working z u)) ((z ≤ τ .deadline) × ((u < τ .length) × (u ≤ z)))
+    deciding = decides-and _ _ _ _ (decides-le z (τ .deadline)) (decides-and _ _ _ _ (decides-lt u (τ .length)) (decides-le u z))
+phase-decides r τ (Holding z u) = (
+  λ e. let x = deciding .0 e in (x .0, (omega arith, omega arith), (omega arith, omega arith), omega arith),
+  λ x. deciding .1 (x .0, (omega arith, (omega arith, (omega arith, (omega arith, omega arith))))),
+)
+  where
+    deciding :
+        Decides (phaseIn r τ (Holding z u))
+        ((r ≡ idling) × ((1 ≤ z) × ((z < τ .deadline) × ((1 ≤ u) × ((u < τ .length) × (u ≤ z))))))
+    deciding =
+        decides-and _ _ _ _ (idles-decides r)
+        (decides-and _ _ _ _ (decides-le 1 z)
+        (decides-and _ _ _ _ (decides-lt z (τ .deadline))
+        (decides-and _ _ _ _ (decides-le 1 u)
+        (decides-and _ _ _ _ (decides-lt u (τ .length)) (decides-le u z)))))
+phase-decides r τ (Resting z) = (
+  λ e. let x = deciding .0 e in (x .0, omega arith),
+  λ x. deciding .1 (x .0, omega arith),
+)
+  where
+    deciding : Decides (phaseIn r τ (Resting z)) ((1 ≤ z) × (z < τ .period))
+    deciding = decides-and _ _ _ _ (decides-le 1 z) (decides-lt z (τ .period))
+
+-- a hold ends at z = D, whatever it has claimed
+pub hold-ends : (τ : Task) (u : ℕ) → holding τ (τ .deadline) u ≡ resting τ (τ .deadline)
+hold-ends τ u = rw (eq-eqb (τ .deadline) (τ .deadline) refl) (go (eqb u (τ .length)))
+  where
+    go : (x : Bool) → cond (x || true) (resting τ (τ .deadline)) (Holding (τ .deadline) u) ≡ resting τ (τ .deadline)
+    go true = refl
+    go false = refl
+
+-- ONE TICK KEEPS THE LIMITS
+
+module _ (r : Rule) (τ : Task) (ok : Sound τ) where
+  resting-in : (z : ℕ) → 1 ≤ z → z ≤ τ .period → PhaseIn r τ (resting τ z)
+  resting-in z a b =
+      by-eq (λ (x : Bool). PhaseIn r τ (cond x (Working 0 0) (Resting z))) z (τ .period)
+      (λ e. ((omega arith, omega arith), ok .length-pos, omega arith))
+      (λ n. (a, omega arith))
+
+  holding-in : r ≡ idling → (z u : ℕ) → 1 ≤ z → z ≤ τ .deadline → 1 ≤ u → u ≤ τ .length → u ≤ z → PhaseIn r τ (holding τ z u)
+  holding-in i z u a b c d w =
+      by-eq (λ (x : Bool). PhaseIn r τ (cond (x || eqb z (τ .deadline)) (resting τ z) (Holding z u))) u (τ .length)
+      (λ e. resting-in z a (omega (arith, ok .constrained)))
+      (λ n.
+      by-eq (λ (x : Bool). PhaseIn r τ (cond x (resting τ z) (Holding z u))) z (τ .deadline)
+      (λ e. resting-in z a (omega (arith, ok .constrained)))
+      (λ m. (i, (a, omega arith), (c, omega arith), w)))
+
+  ended-in : (z u : ℕ) → 1 ≤ z → z ≤ τ .deadline → 1 ≤ u → u ≤ τ .length → u ≤ z → PhaseIn r τ (ended r τ z u)
+  ended-in z u a b c d w = go (idles r) refl
+    where
+      go : (x : Bool) → idles r ≡ x → PhaseIn r τ (cond x (holding τ z u) (resting τ z))
+      go true e = holding-in (idles-decides r .0 e) z u a b c d w
+      go false e = resting-in z a (omega (arith, ok .constrained))
+
+  worked-in : (f : Bool) (z u : ℕ) → z ≤ τ .deadline → 1 ≤ u → u ≤ τ .length → u ≤ z → PhaseIn r τ (worked r τ f z u)
+  worked-in true z u b c d w = ended-in z u (omega arith) b c d w
+  worked-in false z u b c d w =
+      by-eq (λ (x : Bool). PhaseIn r τ (cond x (ended r τ z u) (Working z u))) u (τ .length)
+      (λ e. ended-in z u (omega arith) b c d w)
+      (λ n. ((omega arith, b), omega arith, w))
+
+  -- a phase within its limits, whose task is not late, is within them one tick on
+  pub next-in : (ran f : Bool) (ph : Phase) → PhaseIn r τ ph → lateIn (τ .deadline) ph ≡ false → PhaseIn r τ (nextPhase r τ ran f ph)
+  next-in ran f (Coming left) h n =
+      by-eq (λ (x : Bool). PhaseIn r τ (cond x (Working 0 0) (Coming (left - 1)))) (left - 1) 0
+      (λ e. ((omega arith, omega arith), ok .length-pos, omega arith))
+      (λ e. (omega arith, omega arith))
+  next-in true f (Working z u) h n =
+      let less = eqb-false z (τ .deadline) n in
+      worked-in f (z + 1) (u + 1) (omega arith) (omega arith) (omega arith) (omega arith)
+  next-in false f (Working z u) h n =
+      let less = eqb-false z (τ .deadline) n in
+      ((omega arith, omega arith), h .1, omega arith)
+  next-in true f (Holding z u) h n = holding-in (h .0) (z + 1) (u + 1) (omega arith) (omega arith) (omega arith) (omega arith) (omega arith)
+  next-in false f (Holding z u) h n = holding-in (h .0) (z + 1) u (omega arith) (omega arith) (omega arith) (omega arith) (omega arith)
+  next-in ran f (Resting z) h n = resting-in (z + 1) (omega arith) (omega arith)
+
+  -- and so is the phase at the start
+  pub start-in : PhaseIn r τ (startPhase (τ .offset))
+  start-in =
+      by-eq (λ (x : Bool). PhaseIn r τ (cond x (Working 0 0) (Coming (τ .offset)))) (τ .offset) 0
+      (λ e. ((omega arith, omega arith), ok .length-pos, omega arith))
+      (λ n. (omega arith, omega arith))

@@ -1,0 +1,31 @@
+-- A task with its phase (scope, 'The run in the cab'): which task of the table it is, how it starts, and where one tick takes it.
+use mathlib.Core.Bool.{Bool}
+use Rattle.model.specs.Task as model
+use Rattle.phase.specs.declared.Phase.{Phase}
+use Rattle.phase.specs.declared.Phase.the-variants.{Coming, Resting}
+use Rattle.phase.specs.declared.Task.{Task}
+use Rattle.phase.specs.Phase.{startPhase, nextPhase}
+
+-- the task of the table that a task with its phase is
+abbrev pub taskOf : Task → model.Task
+taskOf t = record { offset = t .offset; width = t .width; length = t .length; deadline = t .deadline; period = t .period }
+
+-- a task of the table in a phase
+abbrev pub inPhase : Phase → model.Task → Task
+inPhase ph τ = record { offset = τ .offset; width = τ .width; length = τ .length; deadline = τ .deadline; period = τ .period; phase = ph }
+
+-- zeros and Resting(0): a place past the count
+abbrev pub unused : Task
+unused = inPhase (Resting 0) model.nobody
+
+-- what an array's read past its last place gives
+abbrev pub pastEnd : Task
+pastEnd = inPhase (Coming 0) model.nobody
+
+-- a task as it starts
+abbrev pub startTask : model.Task → Task
+startTask τ = inPhase (startPhase (τ .offset)) τ
+
+-- the task one tick on
+abbrev pub nextTask : model.Rule → Bool → Bool → Task → Task
+nextTask r ran reported t = inPhase (nextPhase r (taskOf t) ran reported (t .phase)) (taskOf t)

@@ -1,0 +1,54 @@
+ghost use mathlib.Core.Path.{_≡_};
+ghost use mathlib.Core.Bool.{_||_, not};
+ghost use Rattle.model.specs.Task.{ruleOf};
+ghost use Rattle.table.specs.Limits.{taskOut};
+ghost use Rattle.phase.specs.Phase.{phaseIn, lateIn};
+ghost use Rattle.phase.specs.Task.{taskOf};
+use crate::Phase;
+use crate::Task;
+
+impl Task {
+    // Whether the task's phase is within its limits.
+    fn phase_in(self, rule: u32) -> bool
+        ensures { λ r. ⌜ r ≡ phaseIn (ruleOf rule) (taskOf self) (self .phase) ⌝ }
+    {
+        let phase = self.phase;
+        match phase {
+            Phase::Coming(left) => (1 <= left) & (left <= self.offset),
+            Phase::Working(z, u) => (z <= self.deadline) & ((u < self.length) & (u <= z)),
+            Phase::Holding(z, u) => {
+                (rule == 3)
+                    & ((1 <= z)
+                        & ((z < self.deadline) & ((1 <= u) & ((u < self.length) & (u <= z)))))
+            }
+            Phase::Resting(z) => (1 <= z) & (z < self.period),
+        }
+    }
+
+    // Whether the task breaks 7 or 8, or its phase is outside the limits.
+    pub fn out(self, rule: u32, cores: u32) -> bool
+        ensures { λ r. ⌜ r ≡ taskOut cores (taskOf self) || not (phaseIn (ruleOf rule) (taskOf self) (self .phase)) ⌝ }
+    {
+        let plain = table::Task {
+            offset: self.offset,
+            width: self.width,
+            length: self.length,
+            deadline: self.deadline,
+            period: self.period,
+        };
+        !(table::limits::task_number(cores, plain) == 0) | !self.phase_in(rule)
+    }
+
+    // Whether the task is Working at its deadline.
+    pub fn late(self) -> bool
+        ensures { λ r. ⌜ r ≡ lateIn (self .deadline) (self .phase) ⌝ }
+    {
+        let phase = self.phase;
+        match phase {
+            Phase::Coming(_) => false,
+            Phase::Working(z, _) => z == self.deadline,
+            Phase::Holding(_, _) => false,
+            Phase::Resting(_) => false,
+        }
+    }
+}

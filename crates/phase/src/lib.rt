@@ -1,0 +1,52 @@
+// A task with its phase: what it is doing, and what that claims.
+ghost use mathlib.Core.Path.{_≡_};
+ghost use Rattle.phase.specs.Phase.{claiming, working};
+
+mod bounds; // bounds.rt: the limits of a task and its phase, and lateness
+mod moves; // moves.rt: one tick
+pub mod starts; // starts.rt: a task as it starts, and a place past the count
+
+// What a task is doing, with the scope's counts: Coming(ticks left to the first release), Working(ticks since release, ticks had),
+// Holding(ticks since release, ticks claimed), Resting(ticks since release).
+pub enum Phase {
+    Coming(u32),
+    Working(u32, u32),
+    Holding(u32, u32),
+    Resting(u32),
+}
+
+// A task of the run: offset O, width v, length C, deadline D, period T, and its phase.
+pub struct Task {
+    pub offset: u32,
+    pub width: u32,
+    pub length: u32,
+    pub deadline: u32,
+    pub period: u32,
+    pub phase: Phase,
+}
+
+impl Phase {
+    // Whether a task in this phase claims cores.
+    pub fn claims(self) -> bool
+        ensures { λ r. ⌜ r ≡ claiming self ⌝ }
+    {
+        match self {
+            Phase::Coming(_) => false,
+            Phase::Working(_, _) => true,
+            Phase::Holding(_, _) => true,
+            Phase::Resting(_) => false,
+        }
+    }
+
+    // Whether a task in this phase is Working.
+    pub fn works(self) -> bool
+        ensures { λ r. ⌜ r ≡ working self ⌝ }
+    {
+        match self {
+            Phase::Coming(_) => false,
+            Phase::Working(_, _) => true,
+            Phase::Holding(_, _) => false,
+            Phase::Resting(_) => false,
+        }
+    }
+}

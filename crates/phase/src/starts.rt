@@ -1,0 +1,46 @@
+ghost use mathlib.Core.Path.{_≡_};
+ghost use Rattle.table.specs.Task as table;
+ghost use Rattle.phase.specs.Phase.{startPhase};
+ghost use Rattle.phase.specs.Task.{unused, startTask};
+use crate::Phase;
+use crate::Task;
+
+// A place past the count: zeros and Resting(0).
+pub fn unused() -> Task
+    ensures { λ r. ⌜ r ≡ unused ⌝ }
+{
+    Task {
+        offset: 0,
+        width: 0,
+        length: 0,
+        deadline: 0,
+        period: 0,
+        phase: Phase::Resting(0),
+    }
+}
+
+// The phase at tick 0 of a task of this offset.
+fn start_phase(offset: u32) -> Phase
+    ensures { λ r. ⌜ r ≡ startPhase offset ⌝ }
+{
+    if offset == 0 {
+        Phase::Working(0, 0)
+    } else {
+        Phase::Coming(offset)
+    }
+}
+
+// A task of the table as it starts.
+pub fn start_task(task: table::Task) -> Task
+    ensures { λ r. ⌜ r ≡ startTask (table.taskOf task) ⌝ }
+{
+    let phase = start_phase(task.offset);
+    Task {
+        offset: task.offset,
+        width: task.width,
+        length: task.length,
+        deadline: task.deadline,
+        period: task.period,
+        phase: phase,
+    }
+}
