@@ -56,6 +56,7 @@ pub fn write(table: Loaded, a: u32, b: u32, out: &mut [u8])
     let mut claiming: u32 = 0;
     let mut chosen: u32 = 0;
     let mut granted: u32 = 0;
+    let mut shown: u32 = 0;
     let mut row = show(table.rule, table.cores, 0, &width, count);
     let mut bell: u32 = 0;
     let mut at: usize = 0;
@@ -78,11 +79,14 @@ pub fn write(table: Loaded, a: u32, b: u32, out: &mut [u8])
         }
         if claiming != chosen {
             granted = rule::choose(table.rule, table.cores, claiming, &width);
-            let fresh = show(table.rule, table.cores, claiming, &width, count);
-            row = fresh;
             chosen = claiming;
         }
         if a <= tick {
+            if claiming != shown {
+                let fresh = show(table.rule, table.cores, claiming, &width, count);
+                row = fresh;
+                shown = claiming;
+            }
             put(row, cores, at, out);
             at += cores;
         }

@@ -1,5 +1,5 @@
 -- `plan::rows::write` meets its contract. Before each tick the machine is tied to the full-length run (`Before`) and the buffer has the rows so far (`Filled`);
--- the row is kept with the claimants it was made for, as the choice is (`RowFor`, `Chosen`). Assumes nothing.
+-- the choice and the row are each kept with the claimants they were made for (`Chosen`, `RowFor`). Assumes nothing.
 use borrow.Author.Needs.{needs}
 use native.Mathlib.Omega.{arith}
 use mathlib.Core.Path.{_≡_, sym, ap, _∙_, subst, subst₂}
@@ -27,12 +27,12 @@ use Rattle.plan.proofs.rows.write.Statement.{statement}
 use Rattle.plan.proofs.rows.write.Tie as tie
 
 abbrev Inv-loop : tie.InvT-loop
-Inv-loop table a b out₀ cores count width length deadline period left₀ moment₀ next₀ claiming₀ chosen₀ granted₀ row₀ bell₀ at₀ tick₀ out left moment next claiming chosen granted row bell at tick =
-    Before table (machine left moment next claiming) bell tick × Chosen table chosen granted × RowFor table chosen row × (tick ≤ b)
+Inv-loop table a b out₀ cores count width length deadline period left₀ moment₀ next₀ claiming₀ chosen₀ granted₀ shown₀ row₀ bell₀ at₀ tick₀ out left moment next claiming chosen granted shown row bell at tick =
+    Before table (machine left moment next claiming) bell tick × Chosen table chosen granted × RowFor table shown row × (tick ≤ b)
     × Filled table a tick at out₀ out
 
 abbrev μ-loop : tie.MeasureT-loop
-μ-loop table a b out₀ cores count width length deadline period left₀ moment₀ next₀ claiming₀ chosen₀ granted₀ row₀ bell₀ at₀ tick₀ out left moment next claiming chosen granted row bell at tick =
+μ-loop table a b out₀ cores count width length deadline period left₀ moment₀ next₀ claiming₀ chosen₀ granted₀ shown₀ row₀ bell₀ at₀ tick₀ out left moment next claiming chosen granted shown row bell at tick =
     b - tick
 
 -- THE PLACES. The table, what is known of it, and the columns made of it
@@ -94,37 +94,57 @@ after-of c =
     (walk-skipped t (fit-of h) (machine (k .left) (k .moment) (k .next) (k .claiming)) (k .bell) (k .tick) (k .inv .0) (w .0 .left)))
     (c .if1 .came)
 
--- the set of granted places and the row are those of the claimants: they were just made, or the claimants are those they were made for
+-- the set of granted places is that of the claimants: it was just chosen, or they are those it was chosen for
 chosen-of :
     (c : tie.Joined2 Inv-loop μ-loop)
-    → Chosen (table-of (c .before .before .before .before)) (c .before .if1 .claiming) (c .if2 .granted) × RowFor (table-of (c .before .before .before .before)) (c .before .if1 .claiming) (c .if2 .row)
+    → Chosen (table-of (c .before .before .before .before)) (c .before .if1 .claiming) (c .if2 .granted)
 chosen-of c =
     let h = c .before .before .before .before in
     let t = table-of h in
     let k = c .before .if1 .claiming in
-    let i = c .before .before .before .loop .inv in
     ⊎-elim
-    (λ w. (
-      subst (λ (g : ℕ). Chosen t k g) (sym (w .6))
-          (λ q.
-          w .2 .ensures q
-          ∙ ap (λ (x : Columns). granted (ruleOf (t .rule)) (claimants (x .width) (bit k)) (upFrom 0 (t .cores)) q) (columns h)),
-      subst (λ (g : List ℕ). RowFor t k g) (sym (w .7)) (row-made h k _ (w .4 .ensures)),
-    ))
-    (λ w. (
-      subst₂ (λ (x g : ℕ). Chosen t x g) (sym (w .0 .left)) (sym (w .2)) (i .1),
-      subst₂ (λ (x : ℕ) (g : List ℕ). RowFor t x g) (sym (w .0 .left)) (sym (w .3)) (i .2),
-    ))
+    (λ w.
+    subst (λ (g : ℕ). Chosen t k g) (sym (w .4))
+    (λ q.
+    w .2 .ensures q
+    ∙ ap (λ (x : Columns). granted (ruleOf (t .rule)) (claimants (x .width) (bit k)) (upFrom 0 (t .cores)) q) (columns h)))
+    (λ w. subst₂ (λ (x g : ℕ). Chosen t x g) (sym (w .0 .left)) (sym (w .2)) (c .before .before .before .loop .inv .1))
     (c .if2 .came)
 
--- and they are kept with the claimants they were made for
-kept-of :
-    (c : tie.Joined2 Inv-loop μ-loop)
-    → Chosen (table-of (c .before .before .before .before)) (c .if2 .chosen) (c .if2 .granted) × RowFor (table-of (c .before .before .before .before)) (c .if2 .chosen) (c .if2 .row)
-kept-of c = subst (λ (x : ℕ). Chosen (table-of (c .before .before .before .before)) x (c .if2 .granted) × RowFor (table-of (c .before .before .before .before)) x (c .if2 .row)) same (chosen-of c)
+chosen-kept : (c : tie.Joined2 Inv-loop μ-loop) → Chosen (table-of (c .before .before .before .before)) (c .if2 .chosen) (c .if2 .granted)
+chosen-kept c = subst (λ (x : ℕ). Chosen (table-of (c .before .before .before .before)) x (c .if2 .granted)) same (chosen-of c)
   where
     same : c .before .if1 .claiming ≡ c .if2 .chosen
-    same = ⊎-elim (λ w. sym (w .5)) (λ w. w .0 .left ∙ sym (w .1)) (c .if2 .came)
+    same = ⊎-elim (λ w. sym (w .3)) (λ w. w .0 .left ∙ sym (w .1)) (c .if2 .came)
+
+-- from tick a on the row is that of the claimants: it was just made, or they are those it was made for
+row-of :
+    (c : tie.Joined4 Inv-loop μ-loop)
+    → RowFor (table-of (c .before .before .before .before .before .before)) (c .before .before .before .if1 .claiming) (c .if4 .row)
+row-of c =
+    let h = c .before .before .before .before .before .before in
+    let t = table-of h in
+    let k = c .before .before .before .if1 .claiming in
+    ⊎-elim
+    (λ w. subst (λ (g : List ℕ). RowFor t k g) (sym (w .4)) (row-made h k _ (w .2 .ensures)))
+    (λ w. subst₂ (λ (x : ℕ) (g : List ℕ). RowFor t x g) (sym (w .0 .left)) (sym (w .2)) (c .before .before .before .before .before .loop .inv .2))
+    (c .if4 .came)
+
+row-kept :
+    (c : tie.Joined3 Inv-loop μ-loop)
+    → RowFor (table-of (c .before .before .before .before .before)) (c .if3 .shown) (c .if3 .row)
+row-kept c =
+    let t = table-of (c .before .before .before .before .before) in
+    let goal : ℕ → List ℕ → Type 0 = λ x g. RowFor t x g in
+    ⊎-elim
+    (λ w.
+    let d : tie.Joined4 Inv-loop μ-loop = record { before = record { before = c .before; if3 = w .0 }; if4 = w .1 } in
+    subst₂ goal (sym (w .7)) (sym (w .8)) (subst (λ (x : ℕ). goal x (w .1 .row)) (same d) (row-of d)))
+    (λ w. subst₂ goal (sym (w .2)) (sym (w .3)) (c .before .before .before .before .loop .inv .2))
+    (c .if3 .came)
+  where
+    same : (d : tie.Joined4 Inv-loop μ-loop) → d .before .before .before .if1 .claiming ≡ d .if4 .shown
+    same d = ⊎-elim (λ w. sym (w .3)) (λ w. w .0 .left ∙ sym (w .1)) (d .if4 .came)
 
 -- the buffer after the tick
 filled-of :
@@ -135,14 +155,14 @@ filled-of c =
     let t = table-of h in
     let k = c .before .before .before .before .loop in
     let j = c .before .before in
-    let r = row-bytes t (fit-of h) (machine (j .if1 .left) (j .if1 .moment) (j .if1 .next) (j .if1 .claiming)) (j .if1 .bell) (k .tick)
-    (c .before .if2 .row) (after-of j) (chosen-of (c .before) .1) in
     ⊎-elim
     (λ w.
-    filled-more t (first-of h) (last-of h) (k .tick) (k .at) (c .if3 .at) (found-of h) (k .out) (c .if3 .out) (c .before .if2 .row)
-    (k .inv .4) (w .0 .taken) (c .before .before .before .loop-test .taken) (enough-of h) r (w .6) (w .5 ∙ w .2 .ensures))
+    let r = row-bytes t (fit-of h) (machine (j .if1 .left) (j .if1 .moment) (j .if1 .next) (j .if1 .claiming)) (j .if1 .bell) (k .tick)
+    (w .1 .row) (after-of j) (row-of (record { before = record { before = c .before; if3 = w .0 }; if4 = w .1 })) in
+    filled-more t (first-of h) (last-of h) (k .tick) (k .at) (c .if3 .at) (found-of h) (k .out) (c .if3 .out) (w .1 .row)
+    (k .inv .4) (w .0 .taken) (c .before .before .before .loop-test .taken) (enough-of h) r (w .9) (w .6 ∙ w .3 .ensures))
     (λ w.
-    subst₂ (λ (n : ℕ) (l : List ℕ). Filled t (first-of h) (k .tick + 1) n (found-of h) l) (sym (w .2)) (sym (w .1))
+    subst₂ (λ (n : ℕ) (l : List ℕ). Filled t (first-of h) (k .tick + 1) n (found-of h) l) (sym (w .4)) (sym (w .1))
     (filled-pass t (first-of h) (k .tick) (k .at) (found-of h) (k .out) (k .inv .4) (w .0 .left)))
     (c .if3 .came)
 
@@ -181,17 +201,17 @@ show-requires-2 c κs = (cores-of (c .before .before .before .before .before .be
 
 put-requires : tie.Need-put-requires Inv-loop μ-loop
 put-requires c κs =
-    let h = c .before .before .before .before .before .before in
-    let k = c .before .before .before .before .before .loop in (
+    let h = c .before .before .before .before .before .before .before in
+    let k = c .before .before .before .before .before .before .loop in (
       cores-of h,
-      filled-room (table-of h) (first-of h) (last-of h) (k .tick) (k .at) (found-of h) (k .out) (k .inv .4) (c .before .if3 .taken) (c .before .before .before .before .loop-test .taken) (enough-of h),
+      filled-room (table-of h) (first-of h) (last-of h) (k .tick) (k .at) (found-of h) (k .out) (k .inv .4) (c .before .before .if3 .taken) (c .before .before .before .before .before .loop-test .taken) (enough-of h),
     )
 
 add-at : tie.Need-add-at Inv-loop μ-loop
 add-at c =
-    let h = c .before .before .before .before .before .before .before .before .before in
-    let k = c .before .before .before .before .before .before .before .before .loop in
-    let short : k .tick - first-of h ≤ 1000000000 = omega (arith, small (c .before .before .before .before .before .before .before)) in
+    let h = c .before .before .before .before .before .before .before .before .before .before in
+    let k = c .before .before .before .before .before .before .before .before .before .loop in
+    let short : k .tick - first-of h ≤ 1000000000 = omega (arith, small (c .before .before .before .before .before .before .before .before)) in
     omega (arith, k .inv .4 .next, cores-of h, mul-le-mul short (cores-of h))
 
 work-requires : tie.Need-work-requires Inv-loop μ-loop
@@ -200,7 +220,7 @@ work-requires c κs =
     let j = g .before in
     let h = j .before .before .before in
     chosen-owed (table-of h) (fit-of h) (machine (j .if1 .left) (j .if1 .moment) (j .if1 .next) (j .if1 .claiming)) (j .if1 .bell) (j .before .before .loop .tick)
-    (g .if2 .granted) (after-of j) (chosen-of g .0)
+    (g .if2 .granted) (after-of j) (chosen-of g)
 
 add-tick : tie.Need-add-tick Inv-loop μ-loop
 add-tick c =
@@ -219,9 +239,9 @@ loop-again c =
     let e = j .before in
     let h = e .before .before in (
       next-tick (table-of h) (fit-of h) (machine (j .if1 .left) (j .if1 .moment) (j .if1 .next) (j .if1 .claiming)) _ (j .if1 .bell) (e .before .loop .tick)
-          (g .if2 .granted) (e .before .loop .inv .0 .met) (after-of j) (chosen-of g .0) (c .work .ensures),
-      kept-of g .0,
-      kept-of g .1,
+          (g .if2 .granted) (e .before .loop .inv .0 .met) (after-of j) (chosen-of g) (c .work .ensures),
+      chosen-kept g,
+      row-kept (c .before .before .before .before),
       omega (arith, e .loop-test .taken),
       filled-of (c .before .before .before .before),
     )
