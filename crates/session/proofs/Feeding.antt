@@ -1,13 +1,14 @@
 -- A chunk of the input: a part of it is held or said, and the session that is handed back says the rest.
 use mathlib.Core.Bool.{Bool, true, false, cond}
 use mathlib.Core.List.{List, [], _∷_, _++_, append-assoc}
+use mathlib.Core.Logic.{inl, inr}
 use mathlib.Core.Path.{_≡_, refl, sym, ap, ap₂, _∙_, subst}
 use Prim.Native.Nat.{ℕ, zero, suc, _+_, _-_, _≤_, _<_, min}
 use native.Mathlib.Numerals.{add-one}
 use native.Mathlib.Omega.{arith}
 use lib.ListN.{length, getD, take, drop, set, take-append-drop, length-append, length-take, length-drop, length-set}
 use lib.Seq.{take-suc, take-add, take-at, take-all, take-append-le, drop-append-le, length-take-le, take-suc-set, take-take, take-nil, append-snoc}
-use lib.Dec.{leb}
+use lib.Dec.{leb, eqb}
 use borrow.Author.Tests.{le-leb}
 use Rattle.text.specs.Format.{newline}
 use Rattle.text.specs.Input.{lineLength}
@@ -21,8 +22,8 @@ use Rattle.session.specs.declared.Session.{Session}
 use Rattle.session.specs.declared.Fed.{Fed}
 use Rattle.session.specs.declared.open.Opened.{Opened}
 use Rattle.session.specs.Operation.{operationOf, said, runAfter, isLast}
-use Rattle.session.specs.Talk.{linesFrom, replies, opened, isDashes, talkFrom}
-use Rattle.session.specs.Session.{spokenIn, spoken, stageOf, FedBy, stageAfter, Said, OpenedOf, overWith}
+use Rattle.session.specs.Talk.{lastLine, linesFrom, replies, opened, isDashes, talkFrom}
+use Rattle.session.specs.Session.{spokenIn, spoken, stageOf, Ends, AllSaid, FedBy, stageAfter, Said, OpenedOf, overWith}
 use Rattle.session.proofs.Saying.{said-nothing, said-of}
 use Rattle.session.proofs.Talking.{nil-right, talk-more, talk-long, talk-dashes, talk-line, tooLong, lines-more, lines-line, noOperation, replies-long, replies-line, replies-last}
 
@@ -57,6 +58,7 @@ fed-in s t chunk before after r e w = record {
   same = w .same;
   behind = w .behind;
   text = λ bs. spoken-in s t (take (r .taken) chunk ++ bs) e ∙ w .text bs;
+  at-once = w .at-once;
 }
 
 pub spoken-table : (s : Session) (bs : List ℕ) → spokenIn Table s bs ≡ talkFrom (take (s .from) (s .bytes)) (take (s .held - s .from) (drop (s .from) (s .bytes))) bs
@@ -73,6 +75,12 @@ unfolding spoken spokenIn
 spoken-after true bytes run bs = refl
 spoken-after false bytes run bs = refl
 
+-- so nothing waits
+waits-not : (over : Bool) (bytes : List ℕ) (run : Run) → spoken (session (stageAfter over) bytes 0 0 run) [] ≡ []
+unfolding spoken spokenIn replies linesFrom lastLine
+waits-not true bytes run = refl
+waits-not false bytes run = refl
+
 -- a session that is over says nothing
 pub over-silent : (s : Session) (taken length : ℕ) (bs : List ℕ) → spoken (overWith s taken length .session) bs ≡ []
 unfolding spoken spokenIn
@@ -82,14 +90,15 @@ over-silent s taken length bs = refl
 pub fed :
     (f : List ℕ → List ℕ) (chunk before after text : List ℕ) (r : Fed) → r .taken ≤ length chunk → (0 < length chunk → 0 < r .taken)
     → Said text before after (r .length) → ((bs : List ℕ) → f (take (r .taken) chunk ++ bs) ≡ text ++ spoken (r .session) bs)
-    → FedBy f chunk before after r
-fed f chunk before after text r t m s h = record {
+    → (Ends (take (r .taken) chunk) → AllSaid (r .session)) → FedBy f chunk before after r
+fed f chunk before after text r t m s h a = record {
   taken = t;
   moves = m;
   room = s .room;
   same = s .same;
   behind = s .behind;
   text = λ bs. h bs ∙ ap (λ (x : List ℕ). x ++ spoken (r .session) bs) (sym (s .front));
+  at-once = a;
 }
 
 -- the session ends with what was said, whatever comes
@@ -101,6 +110,7 @@ fed-over f s chunk before after text n p h =
     (λ bs.
     ap (λ (x : List ℕ). f (x ++ bs)) (take-all (length chunk) chunk (omega arith)) ∙ h bs ∙ sym (nil-right text)
     ∙ ap (λ (x : List ℕ). text ++ x) (sym (over-silent s (length chunk) n bs)))
+    (λ l. inr (over-silent s (length chunk) n []))
 
 -- a part of the front, from a place on
 part-front : (i n : ℕ) (l : List ℕ) → drop i (take n l) ≡ take (n - i) (drop i l)
@@ -111,6 +121,16 @@ part-front (suc i) zero l = sym (take-none (drop (suc i) l))
     take-none m = let e : 0 - suc i ≡ 0 = omega arith in ap (λ (k : ℕ). take k m) e
 part-front (suc i) (suc n) [] = sym (take-nil (suc n - suc i))
 part-front (suc i) (suc n) (x ∷ l) = let e : n - i ≡ suc n - suc i = omega arith in part-front i n l ∙ ap (λ (k : ℕ). take k (drop i l)) e
+
+-- the first line of bytes that end with a newline ends before they do
+ends-short : (l : List ℕ) → lineLength (l ++ (newline ∷ [])) ≤ length l
+unfolding lineLength
+ends-short [] = omega arith
+ends-short (b ∷ l) = go (eqb b newline) (ends-short l)
+  where
+    go : (t : Bool) → lineLength (l ++ (newline ∷ [])) ≤ length l → cond t 0 (suc (lineLength (l ++ (newline ∷ [])))) ≤ suc (length l)
+    go true h = omega arith
+    go false h = omega arith
 
 -- A PART OF THE CHUNK IS HELD: as much of its first line as there is room for
 
@@ -166,6 +186,12 @@ module _
     pub operations-on : (bs : List ℕ) → spokenIn Operations s (take count chunk ++ bs) ≡ replies (s .run) (linesFrom (take held bytes) bs)
     unfolding spokenIn
     operations-on bs = ap (replies (s .run)) (lines-more (take (s .held) (s .bytes)) chunk count bs some ∙ ap (λ (l : List ℕ). linesFrom l bs) (sym holds))
+
+    -- a chunk that is all of one line does not end with a newline
+    pub within-line : count ≡ length chunk → Ends (take count chunk) → ⊥
+    within-line q (l, x) =
+        let y : chunk ≡ l ++ (newline ∷ []) = sym (take-all count chunk (omega (arith, q))) ∙ x in
+        omega (arith, q, some, ap lineLength y, ends-short l, ap (λ (z : List ℕ). length z) y, length-append l (newline ∷ []))
 
     -- the whole chunk, where nothing that comes matters any more
     pub whole : (f : List ℕ → List ℕ) (text : List ℕ) → ((bs : List ℕ) → f (take count chunk ++ bs) ≡ text) → (bs : List ℕ) → f (chunk ++ bs) ≡ text
@@ -225,6 +251,7 @@ module _
         (λ bs.
         table-on s chunk bytes 2148 end count held wide room fits e m p f bs
         ∙ sym (speaks Table (session Table bytes (s .from) held (s .run)) bs refl (omega (arith, f, sum)) (held-most s chunk bytes 2148 end count held wide room fits e m p) ∙ spoken-table _ bs))
+        (λ l. inl (within Table (session Table bytes (s .from) held (s .run)) refl (omega (arith, f, sum)) (held-most s chunk bytes 2148 end count held wide room fits e m p)))
 
     -- the line ends: what comes is read after a newline
     line-ends :
@@ -248,6 +275,7 @@ module _
       text = λ bs.
           line-ends n q bs ∙ talk-dashes (take (s .from) bytes) (take (held - s .from) (drop (s .from) bytes)) bs d ∙ w .text (linesFrom [] bs)
           ∙ ap (λ (x : List ℕ). take (o .length) after ++ x) (spoken-after (o .over) bytes (o .run) bs ∙ ap (λ (x : Stage). spoken (session x bytes 0 0 (o .run)) bs) (sym g));
+      at-once = λ l. inr (ap (λ (x : Stage). spoken (session x bytes 0 0 (o .run)) []) g ∙ waits-not (o .over) bytes (o .run));
     }
 
     -- it is one more line of the table
@@ -260,6 +288,7 @@ module _
         line-ends n q bs ∙ talk-line (take (s .from) bytes) (take (held - s .from) (drop (s .from) bytes)) bs d
         ∙ ap₂ (λ (x y : List ℕ). talkFrom x y bs) lines none
         ∙ sym (speaks Table (session Table (set bytes held newline) (held + 1) (held + 1) (s .run)) bs refl (omega arith) more ∙ spoken-table _ bs))
+        (λ l. inl (within Table (session Table (set bytes held newline) (held + 1) (held + 1) (s .run)) refl (omega arith) more))
       where
         more : held + 1 ≤ 2148
         more = omega (arith, held-most s chunk bytes 2148 end count held wide room fits e m p, n)
@@ -303,6 +332,7 @@ module _
         (λ bs.
         operations-on s chunk bytes 13 end count held wide room few-bytes e m p bs
         ∙ sym (speaks Operations (session Operations bytes 0 held (s .run)) bs refl (omega arith) (omega (arith, held-most s chunk bytes 13 end count held wide room few-bytes e m p)) ∙ spoken-operations _ bs))
+        (λ l. absurd (within-line s chunk bytes 13 end count held wide room few-bytes e m p q l))
 
     -- the line ends
     line-asked :
@@ -336,6 +366,7 @@ module _
         (λ bs.
         line-asked h q bs ∙ replies-line (s .run) (take held bytes) (linesFrom [] bs) l
         ∙ ap (λ (x : List ℕ). said (operationOf (take held bytes)) (s .run) ++ x) (ap (λ (x : Run). replies x (linesFrom [] bs)) (sym z) ∙ spoken-after false bytes run bs))
+        (λ o. inr (waits-not false bytes run))
 
 -- a session that holds a line longer than any operation
 pub operation-long :

@@ -1,10 +1,12 @@
 -- Where a session stands: what it will say to the bytes to come.
 use mathlib.Core.Bool.{Bool, true, false, _&&_, cond}
 use mathlib.Core.List.{List, [], _∷_, _++_}
+use mathlib.Core.Logic.{_⊎_}
 use mathlib.Core.Path.{_≡_}
 use Prim.Native.Nat.{ℕ, _-_, _≤_, _<_}
 use lib.ListN.{length, take, drop}
 use lib.Dec.{leb}
+use Rattle.text.specs.Format.{newline}
 use Rattle.run.specs.declared.Run.{Run}
 use Rattle.session.specs.Talk.{linesFrom, replies, opened, talkFrom, talk}
 use Rattle.session.specs.declared.Stage.{Stage}
@@ -27,8 +29,16 @@ stageOf s = cond (leb (s .from) (s .held) && leb (s .held) 2148) (s .stage) Over
 unfoldable pub spoken : Session → List ℕ → List ℕ
 spoken s bs = spokenIn (stageOf s) s bs
 
+-- these bytes end with a newline
+abbrev pub Ends : List ℕ → Type 0
+Ends bs = (l : List ℕ) × (bs ≡ l ++ (newline ∷ []))
+
+-- nothing waits to be said: the table is still being read, or an end of the input here would add nothing
+abbrev pub AllSaid : Session → Type 0
+AllSaid s = (stageOf s ≡ Table) ⊎ (spoken s [] ≡ [])
+
 -- where f says what is said to all bytes to come: of the chunk a part is taken, at least a byte where there is one; what is said to it stands at the
--- front of the buffer, whatever comes after, and the session that is handed back says the rest
+-- front of the buffer, whatever comes after, and the session that is handed back says the rest; where the part ends with a newline, nothing waits to be said
 pub record FedBy (f : List ℕ → List ℕ) (chunk before after : List ℕ) (r : Fed) : Type 0 where
   pub taken : r .taken ≤ length chunk
   pub moves : 0 < length chunk → 0 < r .taken
@@ -36,6 +46,7 @@ pub record FedBy (f : List ℕ → List ℕ) (chunk before after : List ℕ) (r 
   pub same : length after ≡ length before
   pub behind : drop (r .length) after ≡ drop (r .length) before
   pub text : (bs : List ℕ) → f (take (r .taken) chunk ++ bs) ≡ take (r .length) after ++ spoken (r .session) bs
+  pub at-once : Ends (take (r .taken) chunk) → AllSaid (r .session)
 
 -- what `feed` promises of a session
 abbrev pub FedOf : Session → List ℕ → List ℕ → List ℕ → Fed → Type 0
