@@ -31,21 +31,24 @@ fn answer(bytes: [u8; 2146], count: usize)
     print(Printer::new(&bytes[..count]));
 }
 
-// Standard input is read until its end, or until it is longer than any table can be; where that stopped short, one more read tells whether it failed.
+// Standard input is read until its end, or until it is longer than any table can be; a read that fails is said, and nothing is printed.
 fn main() {
     let mut bytes = [0u8; 2146];
-    let count = io::read_full(STDIN_FILENO, &mut bytes);
-    let mut probe = [0u8; 1];
-    if count < 2146 {
-        if libc::read(STDIN_FILENO, &mut probe) < 0 {
+    let mut held: usize = 0;
+    while held < 2146 {
+        let got = libc::read(STDIN_FILENO, &mut bytes[held..2146]);
+        if got < 0 {
             io::write_all(
                 STDERR_FILENO,
                 b"sivorandra: standard input could not be read\n",
             );
             return;
         }
+        let count = io::count(got, &bytes[held..2146]);
+        if count == 0 {
+            break;
+        }
+        held += count;
     }
-    if count <= 2146 {
-        answer(bytes, count);
-    }
+    answer(bytes, held);
 }
