@@ -27,7 +27,7 @@ use Rattle.demand.specs.Follows.{begun, Follows}
 use Rattle.demand.specs.Replay.{code, codes, Room, Outcome, rowCase, rowSaid, played, replayOf, ByTheBook, ReplayOf}
 use Rattle.run.proofs.StartExact.{start-of}
 use Rattle.demand.proofs.Follows.{follows}
-use Rattle.run.proofs.Shown.{row-length}
+use Rattle.run.proofs.Shown.{shown-length}
 
 -- ---- a run that has started
 
@@ -195,8 +195,8 @@ module _ (ws xs numbers bytes : List ℕ) where
   by-the-book : NoneOf (StartApplies ws) → Room xs numbers bytes → ByTheBook ws xs numbers bytes (written (begun ws) xs numbers bytes)
   by-the-book h room = record {
     each-answer = ap (λ (l : List ℕ). l ++ drop (length xs) numbers) (sym (map-map code told (answers (begun ws) xs)) ∙ ap (map code) (f .each-answer));
-    row-after = ap (rowSaid (rowCase (last .answer))) (take-at (last .bytes) (drop 64 bytes) 64 (row-length (after (begun ws) xs))) ∙ (case-said last ∙ f .row-after);
-    behind = drop-at (last .bytes) (drop 64 bytes) 64 (row-length (after (begun ws) xs));
+    row-after = ap (rowSaid (rowCase (last .answer))) (take-at (last .bytes) (drop 64 bytes) 64 (shown-length (after (begun ws) xs))) ∙ (case-said last ∙ f .row-after);
+    behind = drop-at (last .bytes) (drop 64 bytes) 64 (shown-length (after (begun ws) xs));
   }
     where
       f : Follows ws xs

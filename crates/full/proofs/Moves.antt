@@ -9,19 +9,13 @@ use lib.Seq.{getD-set-same, getD-set-other}
 use lib.Dec.{eqb}
 use borrow.Author.Tests.{eq-eqb, ne-eqb}
 use Rattle.model.specs.Search.{bit}
-use Rattle.full.specs.Machine.{Machine, machine, released, finishes, worked}
+use Rattle.full.specs.Machine.{Machine, machine, released, finishes, worked, Sized}
 use Rattle.full.proofs.Places.{each-length, each-at}
 use Rattle.full.proofs.Sets.{set-has, set-past}
 
 -- machines are equal where their parts are
 pub same-machine : {l l′ m m′ n n′ : List ℕ} {c c′ : ℕ} → l ≡ l′ → m ≡ m′ → n ≡ n′ → c ≡ c′ → machine l m n c ≡ machine l′ m′ n′ c′
 same-machine el em en ec = λ i. machine (el i) (em i) (en i) (ec i)
-
--- a machine of 32 places
-pub record Sized (m : Machine) : Type 0 where
-  pub left : length (m .left) ≡ 32
-  pub moment : length (m .moment) ≡ 32
-  pub next : length (m .next) ≡ 32
 
 -- two machines have the same at a place
 pub record SameAt (p : ℕ) (a b : Machine) : Type 0 where

@@ -4,7 +4,7 @@ use mathlib.Core.Path.{_≡_}
 use mathlib.Core.Bool.{Bool, true, not, _&&_, _||_, cond}
 use mathlib.Core.List.{List}
 use Prim.Native.Nat.{ℕ, zero, suc, _+_, _-_, _^_, _<_, min}
-use lib.ListN.{getD, set, replicate}
+use lib.ListN.{length, getD, set, replicate}
 use lib.Dec.{eqb, ltb}
 use Rattle.model.specs.Search.{bit}
 use Rattle.full.specs.Places.{each, setOf}
@@ -20,6 +20,12 @@ pub record Machine : Type 0 where
 -- a machine of its parts
 abbrev pub machine : List ℕ → List ℕ → List ℕ → ℕ → Machine
 machine l m n c = record { left = l; moment = m; next = n; claiming = c }
+
+-- a machine of 32 places
+pub record Sized (m : Machine) : Type 0 where
+  pub left : length (m .left) ≡ 32
+  pub moment : length (m .moment) ≡ 32
+  pub next : length (m .next) ≡ 32
 
 -- before tick 0: nobody claims, and each task's first job is released at its O
 abbrev pub started : List ℕ → Machine
@@ -47,7 +53,7 @@ releasedDue t C D T (suc n) m =
     (released n t (getD C n 0) (getD D n 0) (getD T n 0) (releasedDue t C D T n m))
     (releasedDue t C D T n m)
 
--- the earliest moment of the first n places, or the largest number of 32 digits where there is no place
+-- the earliest moment of the first n places, or the largest number of 32 binary digits where there is no place
 unfoldable pub earliest : ℕ → List ℕ → ℕ
 earliest zero moments = 2 ^ 32 - 1
 earliest (suc n) moments = min (earliest n moments) (getD moments n 0)

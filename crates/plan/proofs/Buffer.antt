@@ -4,23 +4,16 @@ use native.Mathlib.Nat.{add-zero, suc-mul, add-suc, suc-add, zero-mul, mul-le-mu
 use mathlib.Core.Path.{_≡_, sym, ap, _∙_}
 use mathlib.Core.List.{List, _++_, append-nil, append-assoc}
 use Prim.Native.Nat.{ℕ, zero, suc, _+_, _-_, _*_, _≤_, _<_}
-use lib.ListN.{length, getD, take, drop, length-append, length-drop, length-map, List·getD-append}
+use lib.ListN.{length, getD, take, drop, length-append, length-drop, List·getD-append}
 use lib.Seq.{paste, take-at, drop-at, drop-drop, getD-append-add, getD-drop}
-use Rattle.model.proofs.Lists.{up-length}
-use Rattle.model.specs.Search.{upFrom}
+use Rattle.model.proofs.Rows.{row-length}
 use Rattle.model.specs.Task.{Table}
-use Rattle.model.specs.Row.{row, owner}
 use Rattle.model.specs.Book.{grantsOf, rowOf, full}
 use Rattle.plan.specs.Rows.{rowsFrom}
 use Rattle.plan.specs.Plan.{over}
 
--- a row has a byte for each core
-pub row-length : (m : ℕ) (gs : List (List ℕ)) → length (row m gs) ≡ m
-unfolding row
-row-length m gs = length-map (upFrom 0 m) (λ c. owner c 1 gs) ∙ up-length 0 m
-
 module _ (s : Table) where
-  -- and n rows have n times as many
+  -- a row has a byte for each core, and n rows have n times as many
   pub rows-length : (t n : ℕ) → length (rowsFrom s t n) ≡ n * s .cores
   unfolding rowsFrom
   rows-length t zero = sym (zero-mul (s .cores))

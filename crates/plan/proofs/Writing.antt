@@ -7,6 +7,7 @@ use mathlib.Core.List.{List, _++_, map}
 use Prim.Native.Nat.{ℕ, suc, _+_, _-_, _*_, _^_, _≤_, _<_}
 use lib.ListN.{length, getD, take, replicate, length-map}
 use lib.Seq.{paste, take-at, take-take}
+use Rattle.model.proofs.Rows.{row-length}
 use Rattle.model.specs.Search.{bit, upFrom}
 use Rattle.model.specs.Task.{Table, ruleOf}
 use Rattle.model.specs.Grants.{claimants, grants}
@@ -25,7 +26,7 @@ use Rattle.full.proofs.Alike.{widths-first, row-alike}
 use Rattle.judge.specs.Judged.{tableIn, Fit}
 use Rattle.judge.proofs.Ticks.{size, column, Before, After}
 use Rattle.plan.specs.Plan.{over}
-use Rattle.plan.proofs.Buffer.{row-length, over-none, over-more, with-length}
+use Rattle.plan.proofs.Buffer.{over-none, over-more, with-length}
 
 -- the bytes of a tick in which the places of the set c claim, by a column of widths
 abbrev pub RowBy : Loaded → List ℕ → ℕ → List ℕ → Type 0
@@ -114,7 +115,7 @@ module _ (t : Loaded) (fit : Fit t) where
     periods = column t fit (λ x. x .period) (λ τ. τ .period) (λ x. refl);
   }
 
-  -- moments to come fit in 32 digits
+  -- moments to come fit in 32 binary digits
   pub moments-fit :
       (tick : ℕ) → tick ≤ 1000000000 → (x : Columns) → x ≡ columnsOf (t .tasks) → (p : ℕ) → p < t .count
       → (tick + getD (x .deadline) p 0 < 2 ^ 32) × (tick + getD (x .period) p 0 < 2 ^ 32)

@@ -13,17 +13,6 @@ ghost use Rattle.judge.specs.Judged.{tableIn, Fit};
 ghost use Rattle.plan.specs.Plan.{over};
 use table::Loaded;
 
-// The row of a tick in which the places of a set claim; bytes past the core count are 0.
-fn show(rule: u32, cores: u32, claiming: u32, width: &[u32; 32], count: usize) -> [u8; 64]
-    requires { ⌜ (cores ≤ 64) × (count ≤ 32) ⌝ }
-    ensures { λ r. ⌜ r ≡ row cores (grants (ruleOf rule) (claimants (take count (now (width .entry))) (bit claiming)) (upFrom 0 cores)) ++ replicate (64 - cores) 0 ⌝ }
-{
-    let free = rule::first_cores(cores);
-    let given = rule::grants(rule, free, claiming, width, count);
-    let sets = given.sets;
-    rule::row_of([0u8; 64], 1, &sets, count)
-}
-
 // Puts the first `count` bytes of a row into the buffer, from byte `at` on.
 fn put(row: [u8; 64], count: usize, at: usize, out: &mut [u8])
     requires { ⌜ (count ≤ 64) × (at + count ≤ length (now out)) ⌝ }
@@ -57,7 +46,7 @@ pub fn write(table: Loaded, a: u32, b: u32, out: &mut [u8])
     let mut chosen: u32 = 0;
     let mut granted: u32 = 0;
     let mut shown: u32 = 0;
-    let mut row = show(table.rule, table.cores, 0, &width, count);
+    let mut row = rule::show(table.rule, table.cores, 0, &width, count);
     let mut bell: u32 = 0;
     let mut at: usize = 0;
     let mut tick: u32 = 0;
@@ -83,7 +72,7 @@ pub fn write(table: Loaded, a: u32, b: u32, out: &mut [u8])
         }
         if a <= tick {
             if claiming != shown {
-                let fresh = show(table.rule, table.cores, claiming, &width, count);
+                let fresh = rule::show(table.rule, table.cores, claiming, &width, count);
                 row = fresh;
                 shown = claiming;
             }

@@ -1,4 +1,3 @@
-pub mod RowText
 pub mod Safe
 pub mod Limits
 pub mod Owed

@@ -14,8 +14,7 @@ use Rattle.table.specs.declared.Loaded.{Loaded}
 use Rattle.table.specs.declared.Task.{Task}
 use Rattle.table.specs.Task.{taskOf, noTask}
 use Rattle.table.proofs.Inside.{inside-test}
-use Rattle.full.specs.Machine.{machine}
-use Rattle.full.proofs.Moves.{Sized}
+use Rattle.full.specs.Machine.{machine, Sized}
 use Rattle.printer.specs.Rows.{numbersIn}
 use Rattle.printer.specs.Sound.{outAt, tableSound, owed, within, sound, Safe}
 use Rattle.printer.specs.Printer.{standOf}

@@ -2,7 +2,7 @@
 use native.Mathlib.Omega.{arith}
 use mathlib.Core.Path.{_≡_, refl, sym, ap, _∙_}
 use mathlib.Core.List.{List, _∷_, _++_, append-assoc}
-use Prim.Native.Nat.{ℕ, _+_, _≤_, _<_, min}
+use Prim.Native.Nat.{ℕ, _+_, min}
 use mathlib.Core.Bool.{Bool, true, false}
 use lib.ListN.{length, take, drop, length-take, length-drop, length-append, take-append-drop}
 use lib.Seq.{take-append-seam, take-all, take-length}
@@ -10,7 +10,7 @@ use lib.Dec.{leb}
 use borrow.Author.Tests.{leb-true, leb-false}
 use Rattle.text.specs.Output.{output}
 use Rattle.printer.specs.Printer.{rest, MadeFrom, PieceOf}
-use Rattle.printer.specs.Pieces.{Pieces, none, more, joined, room}
+use Rattle.printer.specs.Pieces.{Pieces, none, more, joined, room, Printed}
 use Rattle.printer.specs.declared.Printer.{Printer}
 use Rattle.printer.specs.declared.Piece.{Piece}
 use Rattle.text.proofs.Writing.{put-front}
@@ -50,17 +50,6 @@ unfolding joined room
 pieces-together none = record { whole = refl; size = omega arith }
 pieces-together {p} {p′} (more {before = before} {after = after} {r = r} {sizes = sizes} {parts = parts} q qs) =
     together-more p p′ before after r sizes parts q (pieces-together qs)
-
--- what is claimed of the pieces of an input
-pub record Printed (bs : List ℕ) (p′ : Printer) (sizes : List ℕ) (parts : List (List ℕ)) : Type 0 where
-  -- put together they are the front of the output, as much of it as the buffers take
-  pub front : joined parts ≡ take (room sizes) (output bs)
-  -- once the buffers take as many bytes as the output has, they are the whole of it
-  pub all : length (output bs) ≤ room sizes → joined parts ≡ output bs
-  -- .. and every further piece is empty: there are finitely many
-  pub ends : length (output bs) ≤ room sizes → (before after : List ℕ) (r : Piece) → PieceOf p′ before after r → r .length ≡ 0
-  -- before that a piece into a buffer that is not empty is not empty
-  pub goes-on : room sizes < length (output bs) → (before after : List ℕ) (r : Piece) → PieceOf p′ before after r → 0 < length before → 0 < r .length
 
 -- THEOREM (pieces)
 pub pieces : (bs : List ℕ) {p p′ : Printer} {sizes : List ℕ} {parts : List (List ℕ)} → MadeFrom bs p → Pieces p sizes parts p′ → Printed bs p′ sizes parts

@@ -14,8 +14,8 @@ use Rattle.model.specs.Grants.{claimants, some}
 use Rattle.model.proofs.Bools.{and-left, and-right, not-false-true}
 use Rattle.model.proofs.Digits.{and-bit, same-digits}
 use Rattle.model.proofs.Grants.{grants-none}
-use Rattle.full.specs.Machine.{Machine, released, releasedDue, Owed, finishes, worked}
-use Rattle.full.proofs.Moves.{Sized, released-sized, released-own, released-other, released-past, worked-sized, worked-left, worked-claims, worked-past}
+use Rattle.full.specs.Machine.{Machine, released, releasedDue, Owed, finishes, worked, Sized}
+use Rattle.full.proofs.Moves.{released-sized, released-own, released-other, released-past, worked-sized, worked-left, worked-claims, worked-past}
 use Rattle.full.proofs.Sets.{set-has, set-past, set-lt}
 use Rattle.rule.specs.Shares.{granted}
 use Rattle.printer.specs.Rows.{Numbers, Stand, after, unchanged, choice, grantedIn, next}

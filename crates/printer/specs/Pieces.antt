@@ -1,7 +1,9 @@
--- A whole sequence of pieces: a printer is asked for one piece after the other, each into a buffer of its own size.
+-- A whole sequence of pieces: a printer is asked for one piece after the other, each into a buffer of its own size. What is claimed of it is `pieces`.
 use mathlib.Core.List.{List, [], _∷_, _++_}
-use Prim.Native.Nat.{ℕ, _+_}
+use mathlib.Core.Path.{_≡_}
+use Prim.Native.Nat.{ℕ, _+_, _≤_, _<_}
 use lib.ListN.{length, take}
+use Rattle.text.specs.Output.{output}
 use Rattle.printer.specs.Printer.{PieceOf}
 use Rattle.printer.specs.declared.Printer.{Printer}
 use Rattle.printer.specs.declared.Piece.{Piece}
@@ -23,3 +25,14 @@ joined (x ∷ xs) = x ++ joined xs
 unfoldable pub room : List ℕ → ℕ
 room [] = 0
 room (n ∷ ns) = n + room ns
+
+-- what is claimed of the pieces of an input
+pub record Printed (bs : List ℕ) (p′ : Printer) (sizes : List ℕ) (parts : List (List ℕ)) : Type 0 where
+  -- put together they are the front of the output, as much of it as the buffers take
+  pub front : joined parts ≡ take (room sizes) (output bs)
+  -- once the buffers take as many bytes as the output has, they are the whole of it
+  pub all : length (output bs) ≤ room sizes → joined parts ≡ output bs
+  -- .. and every further piece is empty: there are finitely many
+  pub ends : length (output bs) ≤ room sizes → (before after : List ℕ) (r : Piece) → PieceOf p′ before after r → r .length ≡ 0
+  -- before that a piece into a buffer that is not empty is not empty
+  pub goes-on : room sizes < length (output bs) → (before after : List ℕ) (r : Piece) → PieceOf p′ before after r → 0 < length before → 0 < r .length

@@ -13,7 +13,7 @@ use Rattle.table.specs.declared.Loaded.{Loaded}
 use Rattle.table.specs.Limits.{taskOut}
 use Rattle.table.specs.Task.{taskOf, noTask}
 use Rattle.full.specs.Places.{setOf}
-use Rattle.full.proofs.Moves.{Sized}
+use Rattle.full.specs.Machine.{Sized}
 use Rattle.printer.specs.Rows.{Numbers, Stand}
 use Rattle.printer.specs.declared.Printer.{Printer}
 

@@ -16,10 +16,6 @@ pub fn put_cells(
     requires { ⌜ (cores ≤ 64) × (count ≤ 32) × (257 ≤ length (now text)) ⌝ }
     ensures { λ r. ⌜ (Put (now (text .entry)) 0 (cells rule cores (take count (now (widths .entry))) claims) (now (text .exit)) r) × (r ≤ 257) ⌝ }
 {
-    let free = rule::first_cores(cores);
-    let granted = rule::grants(rule, free, claims, widths, count);
-    let sets = granted.sets;
-    let blank = [0u8; 64];
-    let row = rule::row_of(blank, 1, &sets, count);
+    let row = rule::show(rule, cores, claims, widths, count);
     row::spell(row, cores as usize, text)
 }

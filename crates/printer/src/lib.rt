@@ -161,6 +161,7 @@ impl Printer {
     pub fn new(bytes: &[u8]) -> Printer
         ensures { λ r. ⌜ MadeFrom (now (bytes .entry)) r ⌝ }
     {
+        // what is no table's text has no numbers, and no words are refused as it is: 1 0
         let input = text::read(bytes);
         let words = input.words;
         let count = input.count;

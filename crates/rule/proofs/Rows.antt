@@ -14,6 +14,7 @@ use Rattle.model.specs.Row.{owner, row}
 use Rattle.model.specs.Task.{Rule}
 use Rattle.model.specs.Grants.{Claimant, grants}
 use Rattle.model.proofs.Bools.{not-true-false}
+use Rattle.model.proofs.Rows.{row-length}
 use Rattle.model.proofs.Lists.{up-length}
 use Rattle.rule.specs.Cores.{cores}
 use Rattle.rule.specs.Painted.{painted, shown}
@@ -131,17 +132,13 @@ shown-zeros n c gs h a =
     go true e = sym (eqb-true (owner c 1 gs) 0 e)
     go false e = refl
 
-pub length-row : (m : ℕ) (gs : List (List ℕ)) → length (row m gs) ≡ m
-unfolding row
-length-row m gs = length-map (upFrom 0 m) (λ c. owner c 1 gs) ∙ up-length 0 m
-
 -- the first m bytes are the model's row, and the others 0, where all cores that are given are below m
 pub shown-row : (n m : ℕ) (gs : List (List ℕ)) → m ≤ n → Apart gs → ((c j : ℕ) → In c (getD gs j []) → c < m)
     → shown (replicate n 0) 1 gs ≡ row m gs ++ replicate (n - m) 0
 unfolding row
 shown-row n m gs h a k =
     let s : length (shown (replicate n 0) 1 gs) ≡ n = length-shown (replicate n 0) 1 gs ∙ length-replicate {A = ℕ} n 0 in
-    let t : length (map (λ c. owner c 1 gs) (upFrom 0 m)) ≡ m = length-row m gs in
+    let t : length (map (λ c. owner c 1 gs) (upFrom 0 m)) ≡ m = row-length m gs in
     ext-getD 0 (shown (replicate n 0) 1 gs) (map (λ c. owner c 1 gs) (upFrom 0 m) ++ replicate (n - m) 0)
     (omega (arith, s, t, length-append (map (λ c. owner c 1 gs) (upFrom 0 m)) (replicate (n - m) 0), length-replicate {A = ℕ} (n - m) 0))
     (λ c l. shown-zeros n c gs (omega (arith, s)) a ∙ at c t (omega (arith, s)) (ltb c m) refl)

@@ -1,12 +1,13 @@
 ghost use mathlib.Core.Path.{_≡_};
 ghost use mathlib.Core.Bool.{not};
-ghost use mathlib.Core.List.{map};
-ghost use Prim.Native.Nat.{ℕ, _+_, _≤_, min};
-ghost use lib.ListN.{length, take};
+ghost use mathlib.Core.List.{map, _++_};
+ghost use Prim.Native.Nat.{ℕ, _+_, _-_, _≤_, min};
+ghost use lib.ListN.{length, take, replicate};
 ghost use lib.Dec.{leb};
 ghost use Rattle.model.specs.Search.{bit, memb, upFrom};
 ghost use Rattle.model.specs.Task.{ruleOf};
-ghost use Rattle.model.specs.Grants.{claimants};
+ghost use Rattle.model.specs.Grants.{claimants, grants};
+ghost use Rattle.model.specs.Row.{row};
 ghost use Rattle.rule.specs.Cores.{kept, cores};
 ghost use Rattle.rule.specs.Shares.{SharedAs, GrantedAs, granted};
 ghost use Rattle.rule.specs.Painted.{painted, shown};
@@ -163,6 +164,17 @@ pub fn first_cores(count: u32) -> u64
     } else {
         0xffff_ffff_ffff_ffff
     }
+}
+
+// The row of a tick in which the places of a set claim the first `cores` cores: core 0 first, the position or 0; bytes past the core count are 0.
+pub fn show(rule: u32, cores: u32, claiming: u32, widths: &[u32; 32], count: usize) -> [u8; 64]
+    requires { ⌜ (cores ≤ 64) × (count ≤ 32) ⌝ }
+    ensures { λ r. ⌜ r ≡ row cores (grants (ruleOf rule) (claimants (take count (now (widths .entry))) (bit claiming)) (upFrom 0 cores)) ++ replicate (64 - cores) 0 ⌝ }
+{
+    let free = first_cores(cores);
+    let given = grants(rule, free, claiming, widths, count);
+    let sets = given.sets;
+    row_of([0u8; 64], 1, &sets, count)
 }
 
 // The cores of a set that another does not have.

@@ -47,13 +47,8 @@ impl Run {
         requires { ⌜ runOut self ≡ false ⌝ }
         ensures { λ r. ⌜ r ≡ bytesIn self ⌝ }
     {
-        let count = self.count;
         let claims = self.claims();
         let widths = claims.widths;
-        let free = rule::first_cores(self.cores);
-        let granted = rule::grants(self.rule, free, claims.claiming, &widths, count);
-        let sets = granted.sets;
-        let idle = [0u8; 64];
-        rule::row_of(idle, 1, &sets, count)
+        rule::show(self.rule, self.cores, claims.claiming, &widths, self.count)
     }
 }

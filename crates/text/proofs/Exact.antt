@@ -14,6 +14,7 @@ use Rattle.model.proofs.Bools.{and-left, and-right, and-both}
 use Rattle.text.specs.Decimal.{all, value}
 use Rattle.text.specs.Format.{newline, mostNumbers, lines, Number, isNumber, Words, words, noText, wordsOf, Lines, none, last, line, IsText}
 use Rattle.text.specs.Input.{lineLength}
+use Rattle.text.specs.Output.{output, outputOf}
 use Rattle.text.proofs.Lines.{line-within, line-split, lines-first, lines-line, lines-last}
 use Rattle.text.proofs.Numbers.{number-exact}
 
@@ -122,3 +123,8 @@ first-enough bs k h = go (leb (length bs) k) refl
         let l = leb-false (length bs) k e in
         let n : length (take k bs) ≡ k = length-take-le k bs (omega arith) in
         long-refused (take k bs) (omega arith) ∙ sym (long-refused bs (omega arith))
+
+-- .. for all that is printed
+pub output-enough : (bs : List ℕ) → output (take 2146 bs) ≡ output bs
+unfolding output
+output-enough bs = ap outputOf (first-enough bs 2146 (omega arith))

@@ -3,7 +3,7 @@ use Prim.Native.Nat.{ℕ}
 use Rattle.model.specs.Verdict as model
 use Rattle.judge.specs.declared.Verdict.{Verdict}
 use Rattle.judge.specs.declared.Verdict.the-variants.{Firm, Full, Miss, Refused}
-use Rattle.text.specs.Output.{Answer, judged, refused}
+use Rattle.text.specs.Output.{Answer, judged, refused, rowsPrinted}
 
 -- the verdict, or the refusal with number and position
 abbrev pub saidBy : Verdict → Answer
@@ -12,9 +12,11 @@ saidBy (Full s p) = judged (model.Full s p)
 saidBy (Miss t p) = judged (model.Miss t p)
 saidBy (Refused n p) = refused n p
 
--- the rows of a table whose horizon is h: up to the horizon, or up to the tick of the miss; none of a refusal
+-- the rows printed after what the first line says; none after a refusal
+abbrev rowsAfter : Answer → ℕ → ℕ
+rowsAfter (judged v) h = rowsPrinted v h
+rowsAfter (refused n p) h = 0
+
+-- the rows printed of a table whose horizon is h, by the judge's answer
 abbrev pub endOf : Verdict → ℕ → ℕ
-endOf (Firm s p) h = h
-endOf (Full s p) h = h
-endOf (Miss t p) h = t
-endOf (Refused n p) h = 0
+endOf v h = rowsAfter (saidBy v) h

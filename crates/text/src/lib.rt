@@ -1,4 +1,4 @@
-// Decimal lines in: the words of a table from the bytes that the program is given.
+// Decimal lines in: the words of a table from the bytes that the program is given. The modules write lines.
 ghost use mathlib.Core.Path.{_≡_};
 ghost use Rattle.text.specs.Format.{noText};
 ghost use Rattle.text.specs.Input.{inputOf, ReadOf};

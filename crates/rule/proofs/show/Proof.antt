@@ -1,4 +1,4 @@
--- `plan::rows::show` meets its contract: the sets that the rule grants, painted over zeros, are the model's row (`sets-row`). Assumes nothing.
+-- `rule::show` meets its contract: the sets that the rule grants, painted over zeros, are the model's row (`sets-row`). Assumes nothing.
 use borrow.Author.Needs.{needs}
 use native.Mathlib.Omega.{arith}
 use mathlib.Core.Path.{_≡_, sym, ap, _∙_, subst}
@@ -9,11 +9,11 @@ use Rattle.model.specs.Search.{bit, upFrom}
 use Rattle.model.specs.Task.{ruleOf}
 use Rattle.model.specs.Grants.{claimants, grants}
 use Rattle.model.specs.Row.{row}
 use Rattle.rule.specs.Cores.{cores}
 use Rattle.rule.proofs.Ascending.{Range, range-up}
 use Rattle.rule.proofs.Sets.{sets-row}
-use Rattle.plan.proofs.rows.show.Statement.{statement}
-use Rattle.plan.proofs.rows.show.Tie as tie
+use Rattle.rule.proofs.show.Statement.{statement}
+use Rattle.rule.proofs.show.Tie as tie
 
 first-cores-requires : tie.Need-first-cores-requires
 first-cores-requires c κs = search needs
@@ -32,10 +32,10 @@ returns c =
     let few : min (a .cores) 64 ≡ a .cores = omega arith in
     let all : cores (f .first-cores .result) ≡ upFrom 0 (a .cores) = f .first-cores .ensures ∙ ap (upFrom 0) few in
     c .row-of .ensures
-    ∙ (sets-row (ruleOf (a .rule)) (claimants (take (a .count) (a .width .now)) (bit (a .claiming))) (a .count) (f .first-cores .result) (g .grants .result) (g .grants .ensures)
+    ∙ (sets-row (ruleOf (a .rule)) (claimants (take (a .count) (a .widths .now)) (bit (a .claiming))) (a .count) (f .first-cores .result) (g .grants .result) (g .grants .ensures)
     (a .cores) (omega arith) (subst (Range 0 (a .cores)) (sym all) (range-up 0 (a .cores) (a .cores) (omega arith)))
     ∙ ap
-    (λ (l : List ℕ). row (a .cores) (grants (ruleOf (a .rule)) (claimants (take (a .count) (a .width .now)) (bit (a .claiming))) l) ++ replicate (64 - a .cores) 0)
+    (λ (l : List ℕ). row (a .cores) (grants (ruleOf (a .rule)) (claimants (take (a .count) (a .widths .now)) (bit (a .claiming))) l) ++ replicate (64 - a .cores) 0)
     all)
 
 pub show-spec : {M : Type 1} → statement M
