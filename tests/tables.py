@@ -40,7 +40,8 @@ def spoilt(rng, words):
     elif kind == 4:
         words[0] = rng.choice([0, 33, (len(words) - 3) // 6 + 1])
     elif kind == 5:
-        words[3 + 6 * rng.randrange((len(words) - 3) // 6)] = rng.randint(0, 40)
+        records = (len(words) - 3) // 6
+        words[3 + 6 * rng.randrange(records)] = rng.choice([rng.randint(0, 40), rng.randint(1, records)])
     elif kind == 6:
         words[3 + 6 * rng.randrange((len(words) - 3) // 6) + rng.randint(1, 5)] = rng.choice([0, 1, 1000000, 1000001, 2**32 - 1])
     elif kind == 7:

@@ -311,20 +311,33 @@ def draw(program, text):
         return chart(word, first, second, table_of(text), process.stdout)
 
 
+# Says what went wrong, and ends: what is still to be written to standard output is not.
+def fail(words):
+    print(f"picture: {words}", file=sys.stderr)
+    sys.stderr.flush()
+    os._exit(1)
+
+
 def main():
     if len(sys.argv) < 2:
         sys.exit("usage: picture.py PROGRAM... < table > out.svg")
     try:
-        if sys.stdin is None:
-            raise Trouble("standard input is closed")
-        drawn = draw(sys.argv[1:], sys.stdin.buffer.read(LONGEST + 1))
+        text = sys.stdin.buffer.read(LONGEST + 1)
+    except (OSError, AttributeError):  # it is None where it is closed
+        fail("standard input could not be read")
+    try:
+        drawn = draw(sys.argv[1:], text)
+    except (Trouble, OSError, ValueError, IndexError, KeyError, TypeError) as trouble:
+        fail(trouble)
+    try:
         sys.stdout.buffer.write(drawn.encode())
         sys.stdout.buffer.flush()
-    except (Trouble, OSError, ValueError, IndexError, KeyError, TypeError) as trouble:
-        print(f"picture: {trouble}", file=sys.stderr)
-        sys.stderr.flush()
-        os._exit(1)  # standard output may be what failed
+    except (OSError, AttributeError):
+        fail("standard output could not be written")
 
 
 if __name__ == "__main__":
-    main()
+    try:
+        main()
+    except KeyboardInterrupt:  # stopped by a key
+        os._exit(130)

@@ -74,15 +74,21 @@ def hand_on(source, line):
 def main():
     line = Line()
     process = subprocess.Popen(sys.argv[1:], stdout=subprocess.PIPE)
+    lost = False
     try:
         hand_on(process.stdout.fileno(), line)
     except BrokenPipeError:  # nobody reads any more: the program stops at its next write
         pass
+    except OSError:
+        lost = True
     except KeyboardInterrupt:
         process.terminate()
     line.clear()
     process.stdout.close()
     status = process.wait()
+    if lost:
+        os.write(2, b"sivorandra: standard output could not be written\n")
+        return 1
     return status if status >= 0 else 128 - status
 
 

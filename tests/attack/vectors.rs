@@ -38,9 +38,9 @@ fn examples() -> Vec<(String, Tried<()>)> {
     };
     let late = Err(Refusal { number: 15, position: 3 });
     let cases = [
-        ("b", vec![], row([1, 3])),
-        ("b", vec![1], row([2, 2])),
-        ("b", vec![1, 0], late),
+        ("b-full-not-firm", vec![], row([1, 3])),
+        ("b-full-not-firm", vec![1], row([2, 2])),
+        ("b-full-not-firm", vec![1, 0], late),
         ("b3-idling-is-firm", vec![1], row([1, 3])),
         ("b3-idling-is-firm", vec![1, 0], row([1, 0])),
         ("b3-idling-is-firm", vec![1, 0, 0], row([2, 2])),
