@@ -1,10 +1,12 @@
--- A task with its phase (scope, 'The run in the cab'): which task of the table it is, how it starts, and where one tick takes it.
-use mathlib.Core.Bool.{Bool}
+-- A task with its phase (scope, 'The run in the cab'): which task of the table it is, its limits, how it starts, and where one tick takes it.
+use mathlib.Core.Bool.{Bool, _||_, not}
+use Prim.Native.Nat.{ℕ}
 use Rattle.model.specs.Task as model
+use Rattle.table.specs.Limits.{taskOut}
 use Rattle.phase.specs.declared.Phase.{Phase}
 use Rattle.phase.specs.declared.Phase.the-variants.{Coming, Resting}
 use Rattle.phase.specs.declared.Task.{Task}
-use Rattle.phase.specs.Phase.{startPhase, nextPhase}
+use Rattle.phase.specs.Phase.{phaseIn, startPhase, nextPhase}
 
 -- the task of the table that a task with its phase is
 abbrev pub taskOf : Task → model.Task
@@ -21,6 +23,10 @@ unused = inPhase (Resting 0) model.nobody
 -- what an array's read past its last place gives
 abbrev pub pastEnd : Task
 pastEnd = inPhase (Coming 0) model.nobody
+
+-- the task breaks 7 or 8, or its phase is outside the limits
+abbrev pub outIn : ℕ → model.Rule → Task → Bool
+outIn cores r t = taskOut cores (taskOf t) || not (phaseIn r (taskOf t) (t .phase))
 
 -- a task as it starts
 abbrev pub startTask : model.Task → Task

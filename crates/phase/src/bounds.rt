@@ -1,9 +1,7 @@
 ghost use mathlib.Core.Path.{_≡_};
-ghost use mathlib.Core.Bool.{_||_, not};
 ghost use Rattle.model.specs.Task.{ruleOf};
-ghost use Rattle.table.specs.Limits.{taskOut};
 ghost use Rattle.phase.specs.Phase.{phaseIn, lateIn};
-ghost use Rattle.phase.specs.Task.{taskOf};
+ghost use Rattle.phase.specs.Task.{taskOf, outIn};
 use crate::Phase;
 use crate::Task;
 
@@ -27,7 +25,7 @@ impl Task {
 
     // Whether the task breaks 7 or 8, or its phase is outside the limits.
     pub fn out(self, rule: u32, cores: u32) -> bool
-        ensures { λ r. ⌜ r ≡ taskOut cores (taskOf self) || not (phaseIn (ruleOf rule) (taskOf self) (self .phase)) ⌝ }
+        ensures { λ r. ⌜ r ≡ outIn cores (ruleOf rule) self ⌝ }
     {
         let plain = table::Task {
             offset: self.offset,

@@ -8,7 +8,7 @@ use judge::misses::Missed;
 use table::Answer;
 use table::Loaded;
 
-mod rows; // rows.rt: the row of a tick, and rows into the buffer
+mod rows; // rows.rt: rows into the buffer
 
 // The plan's answer: the rows are written, or Refused with number and position.
 pub enum Planned {

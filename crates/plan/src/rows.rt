@@ -1,13 +1,9 @@
 ghost use mathlib.Core.Path.{_≡_};
 ghost use mathlib.Core.Bool.{false};
-ghost use mathlib.Core.List.{_++_};
 ghost use Prim.Native.Nat.{_+_, _-_, _*_, _≤_};
-ghost use lib.ListN.{length, take, replicate};
+ghost use lib.ListN.{length};
 ghost use lib.Seq.{paste};
-ghost use Rattle.model.specs.Search.{any, bit, upFrom};
-ghost use Rattle.model.specs.Task.{ruleOf};
-ghost use Rattle.model.specs.Grants.{claimants, grants};
-ghost use Rattle.model.specs.Row.{row};
+ghost use Rattle.model.specs.Search.{any};
 ghost use Rattle.model.specs.Verdict.{missedIn};
 ghost use Rattle.judge.specs.Judged.{tableIn, Fit};
 ghost use Rattle.plan.specs.Plan.{over};

@@ -4,22 +4,11 @@ use libc::STDERR_FILENO;
 use libc::STDIN_FILENO;
 use libc::STDOUT_FILENO;
 use session::Session;
-use session::Stage;
 
 // What came of a part of the input: the session after it, and whether the program goes on.
 struct Turn {
     session: Session,
     goes_on: bool,
-}
-
-// Whether a session has more to say.
-fn is_open(session: Session) -> bool {
-    let stage = session.stage;
-    match stage {
-        Stage::Table => true,
-        Stage::Operations => true,
-        Stage::Over => false,
-    }
 }
 
 // Feeds the first bytes of a chunk to a session, and writes what it says.
@@ -43,7 +32,7 @@ fn talk(start: Session, chunk: [u8; 4096], count: usize) -> Turn
     }
     Turn {
         session: session,
-        goes_on: is_open(session),
+        goes_on: !session.is_over(),
     }
 }
 

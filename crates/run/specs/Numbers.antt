@@ -7,11 +7,12 @@ use Prim.Native.Nat.{ℕ, suc, _≤_, _<_}
 use lib.ListN.{getD}
 use lib.Dec.{ltb}
 use Rattle.model.specs.Search.{any, least, bit}
-use Rattle.table.specs.Limits.{From, from, CoresOut, coresOut, RuleOut, ruleOut, WidthOut, TimesOut, taskOut}
+use Rattle.table.specs.Limits.{From, from, CoresOut, coresOut, RuleOut, ruleOut, WidthOut, TimesOut}
 use Rattle.phase.specs.declared.Phase.the-variants.{Working}
 use Rattle.run.specs.declared.Run.{Run}
-use Rattle.phase.specs.Phase.{PhaseIn, phaseIn, working, lateIn}
-use Rattle.run.specs.Run.{ruleIn, taskAt, phaseAt, grantsIn, hasCores}
+use Rattle.phase.specs.Phase.{PhaseIn, working, lateIn}
+use Rattle.phase.specs.Task.{outIn}
+use Rattle.run.specs.Run.{ruleIn, placeAt, taskAt, phaseAt, grantsIn, hasCores}
 
 -- WHAT EACH NUMBER SAYS
 
@@ -53,7 +54,7 @@ pub data AdvanceApplies (r : Run) (x : ℕ) : ℕ → ℕ → Type 0 where
 
 -- 14 of one place (`place-decides`)
 abbrev pub placeOut : Run → ℕ → Bool
-placeOut r p = taskOut (r .cores) (taskAt r p) || not (phaseIn (ruleIn r) (taskAt r p) (phaseAt r p))
+placeOut r p = outIn (r .cores) (ruleIn r) (placeAt r p)
 
 -- 14 (`run-decides`)
 unfoldable pub runOut : Run → Bool

@@ -16,13 +16,15 @@ use Rattle.phase.specs.Task.{taskOf, pastEnd, nextTask}
 abbrev pub ruleIn : Run → model.Rule
 ruleIn r = model.ruleOf (r .rule)
 
--- the task at place p
-abbrev pub taskAt : Run → ℕ → model.Task
-taskAt r p = taskOf (getD (r .tasks) p pastEnd)
+-- what stands at place p: a task and its phase
+abbrev pub placeAt : Run → ℕ → Task
+placeAt r p = getD (r .tasks) p pastEnd
 
--- the phase at place p
+abbrev pub taskAt : Run → ℕ → model.Task
+taskAt r p = taskOf (placeAt r p)
+
 abbrev pub phaseAt : Run → ℕ → Phase
-phaseAt r p = getD (r .tasks) p pastEnd .phase
+phaseAt r p = placeAt r p .phase
 
 -- the widths of the tasks below the count
 abbrev pub widthsIn : Run → List ℕ

@@ -1,14 +1,13 @@
 -- A chunk of the input: a part of it is held or said, and the session that is handed back says the rest.
 use mathlib.Core.Bool.{Bool, true, false, cond}
 use mathlib.Core.List.{List, [], _∷_, _++_, append-assoc}
-use mathlib.Core.Logic.{inl, inr}
 use mathlib.Core.Path.{_≡_, refl, sym, ap, ap₂, _∙_, subst}
 use Prim.Native.Nat.{ℕ, zero, suc, _+_, _-_, _≤_, _<_, min}
 use native.Mathlib.Numerals.{add-one}
 use native.Mathlib.Omega.{arith}
 use lib.ListN.{length, getD, take, drop, set, take-append-drop, length-append, length-take, length-drop, length-set}
 use lib.Seq.{take-suc, take-add, take-at, take-all, take-append-le, drop-append-le, length-take-le, take-suc-set, take-take, take-nil, append-snoc}
-use lib.Dec.{leb, eqb}
+use lib.Dec.{leb}
 use borrow.Author.Tests.{le-leb}
 use Rattle.text.specs.Format.{newline}
 use Rattle.text.specs.Input.{lineLength}
@@ -22,10 +21,11 @@ use Rattle.session.specs.declared.Session.{Session}
 use Rattle.session.specs.declared.Fed.{Fed}
 use Rattle.session.specs.declared.open.Opened.{Opened}
 use Rattle.session.specs.Operation.{operationOf, said, runAfter, isLast}
-use Rattle.session.specs.Talk.{lastLine, linesFrom, replies, opened, isDashes, talkFrom}
-use Rattle.session.specs.Session.{spokenIn, spoken, stageOf, Ends, AllSaid, FedBy, stageAfter, Said, OpenedOf, overWith}
+use Rattle.session.specs.Talk.{Behind, nothing, unknown, linesFrom, replies, opened, isDashes, talkFrom}
+use Rattle.session.specs.Session.{spokenIn, spoken, stageOf, Begins, FedBy, stageAfter, Said, OpenedOf, overWith}
 use Rattle.session.proofs.Saying.{said-nothing, said-of}
-use Rattle.session.proofs.Talking.{nil-right, talk-more, talk-long, talk-dashes, talk-line, tooLong, lines-more, lines-line, noOperation, replies-long, replies-line, replies-last}
+use Rattle.session.proofs.Replying.{stage-within, table-not-over}
+use Rattle.session.proofs.Talking.{nil-right, begins-with, talk-more, talk-long, due-long, due-none, talk-dashes, talk-line, tooLong, lines-more, lines-line, noOperation, replies-long, replies-due, replies-line, replies-last, due-silent}
 
 -- a session of its parts
 abbrev pub session : Stage → List ℕ → ℕ → ℕ → Run → Session
@@ -35,82 +35,115 @@ session stage bytes from held run = record { stage = stage; bytes = bytes; from 
 within : (stage : Stage) (s : Session) → s .stage ≡ stage → s .from ≤ s .held → s .held ≤ 2148 → stageOf s ≡ stage
 within stage s e f h = rw (le-leb (s .from) (s .held) f, le-leb (s .held) 2148 h) e
 
-pub speaks : (stage : Stage) (s : Session) (bs : List ℕ) → s .stage ≡ stage → s .from ≤ s .held → s .held ≤ 2148 → spoken s bs ≡ spokenIn stage s bs
+pub speaks :
+    (stage : Stage) (s : Session) (e : Behind) (bs : List ℕ) → s .stage ≡ stage → s .from ≤ s .held → s .held ≤ 2148 → spoken s e bs ≡ spokenIn stage s e bs
 unfolding spoken
-speaks stage s bs e f h = ap (λ (t : Stage). spokenIn t s bs) (within stage s e f h)
+speaks stage s e bs q f h = ap (λ (t : Stage). spokenIn t s e bs) (within stage s q f h)
 
 -- what a session says in the stage that it is in
-pub spoken-in : (s : Session) (t : Stage) (bs : List ℕ) → stageOf s ≡ t → spoken s bs ≡ spokenIn t s bs
+pub spoken-in : (s : Session) (t : Stage) (e : Behind) (bs : List ℕ) → stageOf s ≡ t → spoken s e bs ≡ spokenIn t s e bs
 unfolding spoken
-spoken-in s t bs e = ap (λ (x : Stage). spokenIn x s bs) e
+spoken-in s t e bs q = ap (λ (x : Stage). spokenIn x s e bs) q
 
-pub over-spoken : (s : Session) (bs : List ℕ) → stageOf s ≡ Over → spoken s bs ≡ []
+pub over-spoken : (s : Session) (e : Behind) (bs : List ℕ) → stageOf s ≡ Over → spoken s e bs ≡ []
 unfolding spokenIn
-over-spoken s bs e = spoken-in s Over bs e
+over-spoken s e bs q = spoken-in s Over e bs q
 
 pub fed-in :
     (s : Session) (t : Stage) (chunk before after : List ℕ) (r : Fed) → stageOf s ≡ t → FedBy (spokenIn t s) chunk before after r
     → FedBy (spoken s) chunk before after r
-fed-in s t chunk before after r e w = record {
+fed-in s t chunk before after r q w = record {
   taken = w .taken;
   moves = w .moves;
   room = w .room;
   same = w .same;
   behind = w .behind;
-  text = λ bs. spoken-in s t (take (r .taken) chunk ++ bs) e ∙ w .text bs;
-  at-once = w .at-once;
+  text = λ bs. spoken-in s t nothing (take (r .taken) chunk ++ bs) q ∙ w .text bs;
+  at-once = λ bs.
+      subst (λ (x : List ℕ). Begins x (take (r .length) after ++ spoken (r .session) unknown bs)) (sym (spoken-in s t unknown (take (r .taken) chunk ++ bs) q))
+      (w .at-once bs);
 }
 
-pub spoken-table : (s : Session) (bs : List ℕ) → spokenIn Table s bs ≡ talkFrom (take (s .from) (s .bytes)) (take (s .held - s .from) (drop (s .from) (s .bytes))) bs
+pub spoken-table :
+    (s : Session) (e : Behind) (bs : List ℕ)
+    → spokenIn Table s e bs ≡ talkFrom e (take (s .from) (s .bytes)) (take (s .held - s .from) (drop (s .from) (s .bytes))) bs
 unfolding spokenIn
-spoken-table s bs = refl
+spoken-table s e bs = refl
 
-pub spoken-operations : (s : Session) (bs : List ℕ) → spokenIn Operations s bs ≡ replies (s .run) (linesFrom (take (s .held) (s .bytes)) bs)
+pub spoken-operations : (s : Session) (e : Behind) (bs : List ℕ) → spokenIn Operations s e bs ≡ replies (s .run) (linesFrom e (take (s .held) (s .bytes)) bs)
 unfolding spokenIn
-spoken-operations s bs = refl
+spoken-operations s e bs = refl
 
 -- after the table, and after an operation, nothing is held
-spoken-after : (over : Bool) (bytes : List ℕ) (run : Run) (bs : List ℕ) → cond over [] (replies run (linesFrom [] bs)) ≡ spoken (session (stageAfter over) bytes 0 0 run) bs
+spoken-after :
+    (e : Behind) (over : Bool) (bytes : List ℕ) (run : Run) (bs : List ℕ)
+    → cond over [] (replies run (linesFrom e [] bs)) ≡ spoken (session (stageAfter over) bytes 0 0 run) e bs
 unfolding spoken spokenIn
-spoken-after true bytes run bs = refl
-spoken-after false bytes run bs = refl
-
--- so nothing waits
-waits-not : (over : Bool) (bytes : List ℕ) (run : Run) → spoken (session (stageAfter over) bytes 0 0 run) [] ≡ []
-unfolding spoken spokenIn replies linesFrom lastLine
-waits-not true bytes run = refl
-waits-not false bytes run = refl
+spoken-after e true bytes run bs = refl
+spoken-after e false bytes run bs = refl
 
 -- a session that is over says nothing
-pub over-silent : (s : Session) (taken length : ℕ) (bs : List ℕ) → spoken (overWith s taken length .session) bs ≡ []
+pub over-silent : (s : Session) (taken length : ℕ) (e : Behind) (bs : List ℕ) → spoken (overWith s taken length .session) e bs ≡ []
 unfolding spoken spokenIn
-over-silent s taken length bs = refl
+over-silent s taken length e bs = refl
+
+-- where nobody knows what comes, nothing has to be said before it
+pub nothing-due : (s : Session) → spoken s unknown [] ≡ []
+nothing-due s = by-stage (stageOf s) refl
+  where
+    in-table : s .from ≤ s .held → s .held ≤ 2148 → spokenIn Table s unknown [] ≡ []
+    in-table f h =
+        spoken-table s unknown []
+        ∙ due-none (take (s .from) (s .bytes)) (take (s .held - s .from) (drop (s .from) (s .bytes)))
+        (omega (arith, f, h, length-take (s .from) (s .bytes), length-take (s .held - s .from) (drop (s .from) (s .bytes))))
+
+    by-stage : (t : Stage) → stageOf s ≡ t → spoken s unknown [] ≡ []
+    by-stage Table q = let w = stage-within s (table-not-over (stageOf s) q) in spoken-in s Table unknown [] q ∙ in-table (w .0) (w .1)
+    by-stage Operations q = spoken-in s Operations unknown [] q ∙ spoken-operations s unknown [] ∙ due-silent (s .run) (take (s .held) (s .bytes))
+    by-stage Over q = over-spoken s unknown [] q
 
 -- what was said, and what the session after it says, make up what there was to say
 pub fed :
-    (f : List ℕ → List ℕ) (chunk before after text : List ℕ) (r : Fed) → r .taken ≤ length chunk → (0 < length chunk → 0 < r .taken)
-    → Said text before after (r .length) → ((bs : List ℕ) → f (take (r .taken) chunk ++ bs) ≡ text ++ spoken (r .session) bs)
-    → (Ends (take (r .taken) chunk) → AllSaid (r .session)) → FedBy f chunk before after r
-fed f chunk before after text r t m s h a = record {
+    (f : Behind → List ℕ → List ℕ) (chunk before after text : List ℕ) (r : Fed) → r .taken ≤ length chunk → (0 < length chunk → 0 < r .taken)
+    → Said text before after (r .length) → ((e : Behind) (bs : List ℕ) → f e (take (r .taken) chunk ++ bs) ≡ text ++ spoken (r .session) e bs)
+    → FedBy f chunk before after r
+fed f chunk before after text r t m s h = record {
   taken = t;
   moves = m;
   room = s .room;
   same = s .same;
   behind = s .behind;
-  text = λ bs. h bs ∙ ap (λ (x : List ℕ). x ++ spoken (r .session) bs) (sym (s .front));
-  at-once = a;
+  text = λ bs. all nothing bs;
+  at-once = λ bs. begins-with (sym (all unknown bs));
 }
+  where
+    all : (e : Behind) (bs : List ℕ) → f e (take (r .taken) chunk ++ bs) ≡ take (r .length) after ++ spoken (r .session) e bs
+    all e bs = h e bs ∙ ap (λ (x : List ℕ). x ++ spoken (r .session) e bs) (sym (s .front))
 
 -- the session ends with what was said, whatever comes
 pub fed-over :
-    (f : List ℕ → List ℕ) (s : Session) (chunk before after text : List ℕ) (n : ℕ) → Said text before after n → ((bs : List ℕ) → f (chunk ++ bs) ≡ text)
+    (f : Behind → List ℕ → List ℕ) (s : Session) (chunk before after text : List ℕ) (n : ℕ) → Said text before after n
+    → ((bs : List ℕ) → f nothing (chunk ++ bs) ≡ text) → ((bs : List ℕ) → Begins (f unknown (chunk ++ bs)) text)
     → FedBy f chunk before after (overWith s (length chunk) n)
-fed-over f s chunk before after text n p h =
-    fed f chunk before after text (overWith s (length chunk) n) (omega arith) (λ q. q) p
-    (λ bs.
-    ap (λ (x : List ℕ). f (x ++ bs)) (take-all (length chunk) chunk (omega arith)) ∙ h bs ∙ sym (nil-right text)
-    ∙ ap (λ (x : List ℕ). text ++ x) (sym (over-silent s (length chunk) n bs)))
-    (λ l. inr (over-silent s (length chunk) n []))
+fed-over f s chunk before after text n p h w = record {
+  taken = omega arith;
+  moves = λ q. q;
+  room = p .room;
+  same = p .same;
+  behind = p .behind;
+  text = λ bs. ap (λ (x : List ℕ). f nothing (x ++ bs)) all ∙ h bs ∙ said nothing bs;
+  at-once = λ bs.
+      subst (λ (x : List ℕ). Begins x (take n after ++ spoken (overWith s (length chunk) n .session) unknown bs)) (ap (λ (x : List ℕ). f unknown (x ++ bs)) (sym all))
+      (subst (Begins (f unknown (chunk ++ bs))) (said unknown bs) (w bs));
+}
+  where
+    all : take (length chunk) chunk ≡ chunk
+    all = take-all (length chunk) chunk (omega arith)
+
+    said : (e : Behind) (bs : List ℕ) → text ≡ take n after ++ spoken (overWith s (length chunk) n .session) e bs
+    said e bs =
+        sym (p .front) ∙ sym (nil-right (take n after))
+        ∙ ap (λ (x : List ℕ). take n after ++ x) (sym (over-silent s (length chunk) n e bs))
 
 -- a part of the front, from a place on
 part-front : (i n : ℕ) (l : List ℕ) → drop i (take n l) ≡ take (n - i) (drop i l)
@@ -121,16 +154,6 @@ part-front (suc i) zero l = sym (take-none (drop (suc i) l))
     take-none m = let e : 0 - suc i ≡ 0 = omega arith in ap (λ (k : ℕ). take k m) e
 part-front (suc i) (suc n) [] = sym (take-nil (suc n - suc i))
 part-front (suc i) (suc n) (x ∷ l) = let e : n - i ≡ suc n - suc i = omega arith in part-front i n l ∙ ap (λ (k : ℕ). take k (drop i l)) e
-
--- the first line of bytes that end with a newline ends before they do
-ends-short : (l : List ℕ) → lineLength (l ++ (newline ∷ [])) ≤ length l
-unfolding lineLength
-ends-short [] = omega arith
-ends-short (b ∷ l) = go (eqb b newline) (ends-short l)
-  where
-    go : (t : Bool) → lineLength (l ++ (newline ∷ [])) ≤ length l → cond t 0 (suc (lineLength (l ++ (newline ∷ [])))) ≤ suc (length l)
-    go true h = omega arith
-    go false h = omega arith
 
 -- A PART OF THE CHUNK IS HELD: as much of its first line as there is room for
 
@@ -176,28 +199,23 @@ module _
 
     -- so the rest of the table is read alike
     pub table-on :
-        s .from ≤ s .held → (bs : List ℕ)
-        → spokenIn Table s (take count chunk ++ bs) ≡ talkFrom (take (s .from) bytes) (take (held - s .from) (drop (s .from) bytes)) bs
+        s .from ≤ s .held → (x : Behind) (bs : List ℕ)
+        → spokenIn Table s x (take count chunk ++ bs) ≡ talkFrom x (take (s .from) bytes) (take (held - s .from) (drop (s .from) bytes)) bs
     unfolding spokenIn
-    table-on f bs =
-        talk-more (take (s .from) (s .bytes)) (take (s .held - s .from) (drop (s .from) (s .bytes))) chunk count bs some
-        ∙ ap₂ (λ (d l : List ℕ). talkFrom d l bs) (sym (same-table f)) (sym (line-on f))
+    table-on f x bs =
+        talk-more x (take (s .from) (s .bytes)) (take (s .held - s .from) (drop (s .from) (s .bytes))) chunk count bs some
+        ∙ ap₂ (λ (d l : List ℕ). talkFrom x d l bs) (sym (same-table f)) (sym (line-on f))
 
-    pub operations-on : (bs : List ℕ) → spokenIn Operations s (take count chunk ++ bs) ≡ replies (s .run) (linesFrom (take held bytes) bs)
+    pub operations-on : (x : Behind) (bs : List ℕ) → spokenIn Operations s x (take count chunk ++ bs) ≡ replies (s .run) (linesFrom x (take held bytes) bs)
     unfolding spokenIn
-    operations-on bs = ap (replies (s .run)) (lines-more (take (s .held) (s .bytes)) chunk count bs some ∙ ap (λ (l : List ℕ). linesFrom l bs) (sym holds))
-
-    -- a chunk that is all of one line does not end with a newline
-    pub within-line : count ≡ length chunk → Ends (take count chunk) → ⊥
-    within-line q (l, x) =
-        let y : chunk ≡ l ++ (newline ∷ []) = sym (take-all count chunk (omega (arith, q))) ∙ x in
-        omega (arith, q, some, ap lineLength y, ends-short l, ap (λ (z : List ℕ). length z) y, length-append l (newline ∷ []))
+    operations-on x bs = ap (replies (s .run)) (lines-more x (take (s .held) (s .bytes)) chunk count bs some ∙ ap (λ (l : List ℕ). linesFrom x l bs) (sym holds))
 
     -- the whole chunk, where nothing that comes matters any more
-    pub whole : (f : List ℕ → List ℕ) (text : List ℕ) → ((bs : List ℕ) → f (take count chunk ++ bs) ≡ text) → (bs : List ℕ) → f (chunk ++ bs) ≡ text
-    whole f text h bs =
-        ap (λ (c : List ℕ). f (c ++ bs)) (sym (take-append-drop count chunk))
-        ∙ ap f (append-assoc (take count chunk) (drop count chunk) bs) ∙ h (drop count chunk ++ bs)
+    pub whole : (P : List ℕ → Type 0) → ((bs : List ℕ) → P (take count chunk ++ bs)) → (bs : List ℕ) → P (chunk ++ bs)
+    whole P h bs =
+        subst P
+        (sym (append-assoc (take count chunk) (drop count chunk) bs) ∙ ap (λ (c : List ℕ). c ++ bs) (take-append-drop count chunk))
+        (h (drop count chunk ++ bs))
 
     -- a line that ends in the chunk ends at a newline
     pub ended : (held ≡ most → ⊥) → (count ≡ length chunk → ⊥) → count < length chunk
@@ -239,8 +257,18 @@ module _
     table-full n r h w q =
         subst (λ (x : Fed). FedBy (spokenIn Table s) chunk before after x) (sym q)
         (fed-over (spokenIn Table s) s chunk before after tooLong n w
-        (whole s chunk bytes 2148 end count held wide room fits e m p (spokenIn Table s) tooLong
-        (λ bs. table-on s chunk bytes 2148 end count held wide room fits e m p f bs ∙ talk-long (take (s .from) bytes) (take (held - s .from) (drop (s .from) bytes)) bs (omega (arith, all-held, h)))))
+        (whole s chunk bytes 2148 end count held wide room fits e m p (λ cs. spokenIn Table s nothing cs ≡ tooLong)
+        (λ bs. table-on s chunk bytes 2148 end count held wide room fits e m p f nothing bs ∙ talk-long (take (s .from) bytes) line bs long))
+        (whole s chunk bytes 2148 end count held wide room fits e m p (λ cs. Begins (spokenIn Table s unknown cs) tooLong)
+        (λ bs.
+        subst (λ (x : List ℕ). Begins x tooLong) (sym (table-on s chunk bytes 2148 end count held wide room fits e m p f unknown bs))
+        (due-long (take (s .from) bytes) line bs long))))
+      where
+        line : List ℕ
+        line = take (held - s .from) (drop (s .from) bytes)
+
+        long : 2148 ≤ length (take (s .from) bytes) + length line
+        long = omega (arith, all-held, h)
 
     -- the chunk ends within the line
     pub table-held :
@@ -248,35 +276,29 @@ module _
         → FedBy (spokenIn Table s) chunk before before (record { session = session Table bytes (s .from) held (s .run); taken = count; length = 0 })
     table-held n q =
         fed (spokenIn Table s) chunk before before [] _ (omega arith) (λ o. omega (arith, q, o)) (said-nothing before)
-        (λ bs.
-        table-on s chunk bytes 2148 end count held wide room fits e m p f bs
-        ∙ sym (speaks Table (session Table bytes (s .from) held (s .run)) bs refl (omega (arith, f, sum)) (held-most s chunk bytes 2148 end count held wide room fits e m p) ∙ spoken-table _ bs))
-        (λ l. inl (within Table (session Table bytes (s .from) held (s .run)) refl (omega (arith, f, sum)) (held-most s chunk bytes 2148 end count held wide room fits e m p)))
+        (λ x bs.
+        table-on s chunk bytes 2148 end count held wide room fits e m p f x bs
+        ∙ sym (speaks Table (session Table bytes (s .from) held (s .run)) x bs refl (omega (arith, f, sum)) (held-most s chunk bytes 2148 end count held wide room fits e m p) ∙ spoken-table _ x bs))
 
     -- the line ends: what comes is read after a newline
     line-ends :
-        (held ≡ 2148 → ⊥) → (count ≡ length chunk → ⊥) → (bs : List ℕ)
-        → spokenIn Table s (take (count + 1) chunk ++ bs) ≡ talkFrom (take (s .from) bytes) (take (held - s .from) (drop (s .from) bytes)) (newline ∷ bs)
-    line-ends n q bs =
-        ap (spokenIn Table s) (to-newline s chunk bytes 2148 end count held wide room fits e m p n q bs)
-        ∙ table-on s chunk bytes 2148 end count held wide room fits e m p f (newline ∷ bs)
+        (held ≡ 2148 → ⊥) → (count ≡ length chunk → ⊥) → (x : Behind) (bs : List ℕ)
+        → spokenIn Table s x (take (count + 1) chunk ++ bs) ≡ talkFrom x (take (s .from) bytes) (take (held - s .from) (drop (s .from) bytes)) (newline ∷ bs)
+    line-ends n q x bs =
+        ap (spokenIn Table s x) (to-newline s chunk bytes 2148 end count held wide room fits e m p n q bs)
+        ∙ table-on s chunk bytes 2148 end count held wide room fits e m p f x (newline ∷ bs)
 
     -- it is `--`: the run is opened
     pub table-opened :
         (o : Opened) (stage : Stage) → (held ≡ 2148 → ⊥) → (count ≡ length chunk → ⊥) → isDashes (take (held - s .from) (drop (s .from) bytes)) ≡ true
         → OpenedOf (take (s .from) bytes) before after o → stage ≡ stageAfter (o .over)
         → FedBy (spokenIn Table s) chunk before after (record { session = session stage bytes 0 0 (o .run); taken = count + 1; length = o .length })
-    table-opened o stage n q d w g = record {
-      taken = omega (arith, ended s chunk bytes 2148 end count held wide room fits e m p n q);
-      moves = λ l. omega arith;
-      room = w .room;
-      same = w .same;
-      behind = w .behind;
-      text = λ bs.
-          line-ends n q bs ∙ talk-dashes (take (s .from) bytes) (take (held - s .from) (drop (s .from) bytes)) bs d ∙ w .text (linesFrom [] bs)
-          ∙ ap (λ (x : List ℕ). take (o .length) after ++ x) (spoken-after (o .over) bytes (o .run) bs ∙ ap (λ (x : Stage). spoken (session x bytes 0 0 (o .run)) bs) (sym g));
-      at-once = λ l. inr (ap (λ (x : Stage). spoken (session x bytes 0 0 (o .run)) []) g ∙ waits-not (o .over) bytes (o .run));
-    }
+    table-opened o stage n q d w g =
+        fed (spokenIn Table s) chunk before after (take (o .length) after) _ (omega (arith, ended s chunk bytes 2148 end count held wide room fits e m p n q)) (λ l. omega arith)
+        (record { room = w .room; same = w .same; behind = w .behind; front = refl })
+        (λ x bs.
+        line-ends n q x bs ∙ talk-dashes x (take (s .from) bytes) (take (held - s .from) (drop (s .from) bytes)) bs d ∙ w .text (linesFrom x [] bs)
+        ∙ ap (λ (y : List ℕ). take (o .length) after ++ y) (spoken-after x (o .over) bytes (o .run) bs ∙ ap (λ (y : Stage). spoken (session y bytes 0 0 (o .run)) x bs) (sym g)))
 
     -- it is one more line of the table
     pub table-more :
@@ -284,11 +306,10 @@ module _
         → FedBy (spokenIn Table s) chunk before before (record { session = session Table (set bytes held newline) (held + 1) (held + 1) (s .run); taken = count + 1; length = 0 })
     table-more n q d =
         fed (spokenIn Table s) chunk before before [] _ (omega (arith, ended s chunk bytes 2148 end count held wide room fits e m p n q)) (λ l. omega arith) (said-nothing before)
-        (λ bs.
-        line-ends n q bs ∙ talk-line (take (s .from) bytes) (take (held - s .from) (drop (s .from) bytes)) bs d
-        ∙ ap₂ (λ (x y : List ℕ). talkFrom x y bs) lines none
-        ∙ sym (speaks Table (session Table (set bytes held newline) (held + 1) (held + 1) (s .run)) bs refl (omega arith) more ∙ spoken-table _ bs))
-        (λ l. inl (within Table (session Table (set bytes held newline) (held + 1) (held + 1) (s .run)) refl (omega arith) more))
+        (λ x bs.
+        line-ends n q x bs ∙ talk-line x (take (s .from) bytes) (take (held - s .from) (drop (s .from) bytes)) bs d
+        ∙ ap₂ (λ (y z : List ℕ). talkFrom x y z bs) lines none
+        ∙ sym (speaks Table (session Table (set bytes held newline) (held + 1) (held + 1) (s .run)) x bs refl (omega arith) more ∙ spoken-table _ x bs))
       where
         more : held + 1 ≤ 2148
         more = omega (arith, held-most s chunk bytes 2148 end count held wide room fits e m p, n)
@@ -320,8 +341,15 @@ module _
     operation-full n r h w q =
         subst (λ (x : Fed). FedBy (spokenIn Operations s) chunk before after x) (sym q)
         (fed-over (spokenIn Operations s) s chunk before after noOperation n w
-        (whole s chunk bytes 13 end count held wide room few-bytes e m p (spokenIn Operations s) noOperation
-        (λ bs. operations-on s chunk bytes 13 end count held wide room few-bytes e m p bs ∙ replies-long (s .run) (take held bytes) bs (omega (arith, held-length, h)))))
+        (whole s chunk bytes 13 end count held wide room few-bytes e m p (λ cs. spokenIn Operations s nothing cs ≡ noOperation)
+        (λ bs. operations-on s chunk bytes 13 end count held wide room few-bytes e m p nothing bs ∙ replies-long (s .run) (take held bytes) bs long))
+        (whole s chunk bytes 13 end count held wide room few-bytes e m p (λ cs. Begins (spokenIn Operations s unknown cs) noOperation)
+        (λ bs.
+        subst (λ (x : List ℕ). Begins x noOperation) (sym (operations-on s chunk bytes 13 end count held wide room few-bytes e m p unknown bs))
+        (replies-due (s .run) (take held bytes) bs long))))
+      where
+        long : 13 ≤ length (take held bytes)
+        long = omega (arith, held-length, h)
 
     -- the chunk ends within the line
     pub operation-held :
@@ -329,19 +357,18 @@ module _
         → FedBy (spokenIn Operations s) chunk before before (record { session = session Operations bytes 0 held (s .run); taken = count; length = 0 })
     operation-held n q =
         fed (spokenIn Operations s) chunk before before [] _ (omega arith) (λ o. omega (arith, q, o)) (said-nothing before)
-        (λ bs.
-        operations-on s chunk bytes 13 end count held wide room few-bytes e m p bs
-        ∙ sym (speaks Operations (session Operations bytes 0 held (s .run)) bs refl (omega arith) (omega (arith, held-most s chunk bytes 13 end count held wide room few-bytes e m p)) ∙ spoken-operations _ bs))
-        (λ l. absurd (within-line s chunk bytes 13 end count held wide room few-bytes e m p q l))
+        (λ x bs.
+        operations-on s chunk bytes 13 end count held wide room few-bytes e m p x bs
+        ∙ sym (speaks Operations (session Operations bytes 0 held (s .run)) x bs refl (omega arith) (omega (arith, held-most s chunk bytes 13 end count held wide room few-bytes e m p)) ∙ spoken-operations _ x bs))
 
     -- the line ends
     line-asked :
-        (held ≡ 13 → ⊥) → (count ≡ length chunk → ⊥) → (bs : List ℕ)
-        → spokenIn Operations s (take (count + 1) chunk ++ bs) ≡ replies (s .run) (take held bytes ∷ linesFrom [] bs)
-    line-asked n q bs =
-        ap (spokenIn Operations s) (to-newline s chunk bytes 13 end count held wide room few-bytes e m p n q bs)
-        ∙ operations-on s chunk bytes 13 end count held wide room few-bytes e m p (newline ∷ bs)
-        ∙ ap (replies (s .run)) (lines-line (take held bytes) bs)
+        (held ≡ 13 → ⊥) → (count ≡ length chunk → ⊥) → (x : Behind) (bs : List ℕ)
+        → spokenIn Operations s x (take (count + 1) chunk ++ bs) ≡ replies (s .run) (take held bytes ∷ linesFrom x [] bs)
+    line-asked n q x bs =
+        ap (spokenIn Operations s x) (to-newline s chunk bytes 13 end count held wide room few-bytes e m p n q bs)
+        ∙ operations-on s chunk bytes 13 end count held wide room few-bytes e m p x (newline ∷ bs)
+        ∙ ap (replies (s .run)) (lines-line x (take held bytes) bs)
 
     -- it is no operation
     pub operation-none :
@@ -349,11 +376,13 @@ module _
         → Said (said (operationOf (take held bytes)) (s .run)) before after n → r ≡ overWith s (length chunk) n → FedBy (spokenIn Operations s) chunk before after r
     operation-none n r h q l w z =
         subst (λ (x : Fed). FedBy (spokenIn Operations s) chunk before after x) (sym z)
-        (fed-over (spokenIn Operations s) s chunk before after (said (operationOf (take held bytes)) (s .run)) n w
-        (λ bs.
-        ap (λ (c : List ℕ). spokenIn Operations s (c ++ bs)) (sym (take-append-drop (count + 1) chunk))
-        ∙ ap (spokenIn Operations s) (append-assoc (take (count + 1) chunk) (drop (count + 1) chunk) bs)
-        ∙ line-asked h q (drop (count + 1) chunk ++ bs) ∙ replies-last (s .run) (take held bytes) (linesFrom [] (drop (count + 1) chunk ++ bs)) l))
+        (fed-over (spokenIn Operations s) s chunk before after (said (operationOf (take held bytes)) (s .run)) n w (told nothing) (λ bs. begins-with (sym (told unknown bs))))
+      where
+        told : (x : Behind) (bs : List ℕ) → spokenIn Operations s x (chunk ++ bs) ≡ said (operationOf (take held bytes)) (s .run)
+        told x bs =
+            ap (λ (c : List ℕ). spokenIn Operations s x (c ++ bs)) (sym (take-append-drop (count + 1) chunk))
+            ∙ ap (spokenIn Operations s x) (append-assoc (take (count + 1) chunk) (drop (count + 1) chunk) bs)
+            ∙ line-asked h q x (drop (count + 1) chunk ++ bs) ∙ replies-last (s .run) (take held bytes) (linesFrom x [] (drop (count + 1) chunk ++ bs)) l
 
     -- it is one, and is answered
     pub operation-done :
@@ -363,10 +392,9 @@ module _
     operation-done n run h q l w z =
         fed (spokenIn Operations s) chunk before after (said (operationOf (take held bytes)) (s .run)) _
         (omega (arith, ended s chunk bytes 13 end count held wide room few-bytes e m p h q)) (λ o. omega arith) w
-        (λ bs.
-        line-asked h q bs ∙ replies-line (s .run) (take held bytes) (linesFrom [] bs) l
-        ∙ ap (λ (x : List ℕ). said (operationOf (take held bytes)) (s .run) ++ x) (ap (λ (x : Run). replies x (linesFrom [] bs)) (sym z) ∙ spoken-after false bytes run bs))
-        (λ o. inr (waits-not false bytes run))
+        (λ x bs.
+        line-asked h q x bs ∙ replies-line (s .run) (take held bytes) (linesFrom x [] bs) l
+        ∙ ap (λ (y : List ℕ). said (operationOf (take held bytes)) (s .run) ++ y) (ap (λ (y : Run). replies y (linesFrom x [] bs)) (sym z) ∙ spoken-after x false bytes run bs))
 
 -- a session that holds a line longer than any operation
 pub operation-long :
@@ -376,4 +404,8 @@ unfolding spokenIn
 operation-long s chunk before after n r wide h l w q =
     subst (λ (x : Fed). FedBy (spokenIn Operations s) chunk before after x) (sym q)
     (fed-over (spokenIn Operations s) s chunk before after noOperation n w
-    (λ bs. replies-long (s .run) (take (s .held) (s .bytes)) (chunk ++ bs) (omega (arith, l, length-take-le (s .held) (s .bytes) (omega (arith, h, wide))))))
+    (λ bs. replies-long (s .run) (take (s .held) (s .bytes)) (chunk ++ bs) long)
+    (λ bs. replies-due (s .run) (take (s .held) (s .bytes)) (chunk ++ bs) long))
+  where
+    long : 13 ≤ length (take (s .held) (s .bytes))
+    long = omega (arith, l, length-take-le (s .held) (s .bytes) (omega (arith, h, wide)))

@@ -17,39 +17,40 @@ use Rattle.run.specs.declared.Run.{Run}
 use Rattle.session.specs.declared.operations.Operation.{Operation}
 use Rattle.session.specs.declared.operations.Operation.the-variants.{Nothing}
 use Rattle.session.specs.Operation.{advanceBy, operationOf, plain, said, runAfter, isLast}
-use Rattle.session.specs.Talk.{lastLine, linesFrom, replies, opened, isDashes, talkFrom}
+use Rattle.session.specs.Talk.{Behind, nothing, unknown, lastLine, linesFrom, replies, opened, isDashes, unclosed, talkFrom}
+use Rattle.session.specs.Session.{Begins}
 
 pub nil-right : (l : List ℕ) → l ++ [] ≡ l
 nil-right [] = refl
 nil-right (x ∷ l) = ap (λ (m : List ℕ). x ∷ m) (nil-right l)
 
 -- bytes that are no newlines go on with the line
-pub talk-more : (d l chunk : List ℕ) (k : ℕ) (bs : List ℕ) → k ≤ lineLength chunk → talkFrom d l (take k chunk ++ bs) ≡ talkFrom d (l ++ take k chunk) bs
+pub talk-more : (e : Behind) (d l chunk : List ℕ) (k : ℕ) (bs : List ℕ) → k ≤ lineLength chunk → talkFrom e d l (take k chunk ++ bs) ≡ talkFrom e d (l ++ take k chunk) bs
 unfolding talkFrom lineLength
-talk-more d l chunk zero bs h = ap (λ (m : List ℕ). talkFrom d m bs) (sym (nil-right l))
-talk-more d l [] (suc k) bs h = absurd (not-suc-le-zero h)
-talk-more d l (b ∷ chunk) (suc k) bs h = go (eqb b newline) h (talk-more d (l ++ (b ∷ [])) chunk k bs)
+talk-more e d l chunk zero bs h = ap (λ (m : List ℕ). talkFrom e d m bs) (sym (nil-right l))
+talk-more e d l [] (suc k) bs h = absurd (not-suc-le-zero h)
+talk-more e d l (b ∷ chunk) (suc k) bs h = go (eqb b newline) h (talk-more e d (l ++ (b ∷ [])) chunk k bs)
   where
     go :
         (t : Bool) → suc k ≤ cond t 0 (suc (lineLength chunk))
-        → (k ≤ lineLength chunk → talkFrom d (l ++ (b ∷ [])) (take k chunk ++ bs) ≡ talkFrom d ((l ++ (b ∷ [])) ++ take k chunk) bs)
-        → cond t (cond (isDashes l) (opened d (linesFrom [] (take k chunk ++ bs))) (talkFrom (d ++ (l ++ (newline ∷ []))) [] (take k chunk ++ bs))) (talkFrom d (l ++ (b ∷ [])) (take k chunk ++ bs))
-        ≡ talkFrom d (l ++ (b ∷ take k chunk)) bs
+        → (k ≤ lineLength chunk → talkFrom e d (l ++ (b ∷ [])) (take k chunk ++ bs) ≡ talkFrom e d ((l ++ (b ∷ [])) ++ take k chunk) bs)
+        → cond t (cond (isDashes l) (opened d (linesFrom e [] (take k chunk ++ bs))) (talkFrom e (d ++ (l ++ (newline ∷ []))) [] (take k chunk ++ bs))) (talkFrom e d (l ++ (b ∷ [])) (take k chunk ++ bs))
+        ≡ talkFrom e d (l ++ (b ∷ take k chunk)) bs
     go true q ih = absurd (not-suc-le-zero q)
-    go false q ih = ih (le-of-suc-le-suc q) ∙ ap (λ (m : List ℕ). talkFrom d m bs) (append-snoc l b (take k chunk))
+    go false q ih = ih (le-of-suc-le-suc q) ∙ ap (λ (m : List ℕ). talkFrom e d m bs) (append-snoc l b (take k chunk))
 
-pub lines-more : (l chunk : List ℕ) (k : ℕ) (bs : List ℕ) → k ≤ lineLength chunk → linesFrom l (take k chunk ++ bs) ≡ linesFrom (l ++ take k chunk) bs
+pub lines-more : (e : Behind) (l chunk : List ℕ) (k : ℕ) (bs : List ℕ) → k ≤ lineLength chunk → linesFrom e l (take k chunk ++ bs) ≡ linesFrom e (l ++ take k chunk) bs
 unfolding linesFrom lineLength
-lines-more l chunk zero bs h = ap (λ (m : List ℕ). linesFrom m bs) (sym (nil-right l))
-lines-more l [] (suc k) bs h = absurd (not-suc-le-zero h)
-lines-more l (b ∷ chunk) (suc k) bs h = go (eqb b newline) h (lines-more (l ++ (b ∷ [])) chunk k bs)
+lines-more e l chunk zero bs h = ap (λ (m : List ℕ). linesFrom e m bs) (sym (nil-right l))
+lines-more e l [] (suc k) bs h = absurd (not-suc-le-zero h)
+lines-more e l (b ∷ chunk) (suc k) bs h = go (eqb b newline) h (lines-more e (l ++ (b ∷ [])) chunk k bs)
   where
     go :
         (t : Bool) → suc k ≤ cond t 0 (suc (lineLength chunk))
-        → (k ≤ lineLength chunk → linesFrom (l ++ (b ∷ [])) (take k chunk ++ bs) ≡ linesFrom ((l ++ (b ∷ [])) ++ take k chunk) bs)
-        → cond t (l ∷ linesFrom [] (take k chunk ++ bs)) (linesFrom (l ++ (b ∷ [])) (take k chunk ++ bs)) ≡ linesFrom (l ++ (b ∷ take k chunk)) bs
+        → (k ≤ lineLength chunk → linesFrom e (l ++ (b ∷ [])) (take k chunk ++ bs) ≡ linesFrom e ((l ++ (b ∷ [])) ++ take k chunk) bs)
+        → cond t (l ∷ linesFrom e [] (take k chunk ++ bs)) (linesFrom e (l ++ (b ∷ [])) (take k chunk ++ bs)) ≡ linesFrom e (l ++ (b ∷ take k chunk)) bs
     go true q ih = absurd (not-suc-le-zero q)
-    go false q ih = ih (le-of-suc-le-suc q) ∙ ap (λ (m : List ℕ). linesFrom m bs) (append-snoc l b (take k chunk))
+    go false q ih = ih (le-of-suc-le-suc q) ∙ ap (λ (m : List ℕ). linesFrom e m bs) (append-snoc l b (take k chunk))
 
 -- what is said to a table that is too long
 abbrev pub tooLong : List ℕ
@@ -67,9 +68,13 @@ dashes-two (a ∷ []) e = absurd (false≢true e)
 dashes-two (a ∷ b ∷ []) e = refl
 dashes-two (a ∷ b ∷ c ∷ l) e = absurd (false≢true e)
 
--- 2,148 bytes with no line `--` decide: whatever comes, the table is too long
-pub talk-long : (d l bs : List ℕ) → 2148 ≤ length d + length l → talkFrom d l bs ≡ tooLong
-unfolding talkFrom
+-- equal texts, and one that follows
+pub begins-with : {a b : List ℕ} → b ≡ a → Begins a b
+begins-with {a} e = ([], e ∙ sym (nil-right a))
+
+-- 2,148 bytes with no line `--` decide: whatever comes, the table is too long ..
+pub talk-long : (d l bs : List ℕ) → 2148 ≤ length d + length l → talkFrom nothing d l bs ≡ tooLong
+unfolding talkFrom unclosed
 talk-long d l [] h = go (isDashes l) refl
   where
     go : (t : Bool) → isDashes l ≡ t → opened (cond t d (d ++ l)) [] ≡ tooLong
@@ -81,24 +86,49 @@ talk-long d l (b ∷ bs) h =
     (talk-long d (l ++ (b ∷ [])) bs (omega (arith, length-append l (b ∷ []))))
   where
     go :
-        (t u : Bool) → isDashes l ≡ u → talkFrom (d ++ (l ++ (newline ∷ []))) [] bs ≡ tooLong → talkFrom d (l ++ (b ∷ [])) bs ≡ tooLong
-        → cond t (cond u (opened d (linesFrom [] bs)) (talkFrom (d ++ (l ++ (newline ∷ []))) [] bs)) (talkFrom d (l ++ (b ∷ [])) bs) ≡ tooLong
-    go true true e x y = opened-long d (linesFrom [] bs) (omega (arith, dashes-two l e))
+        (t u : Bool) → isDashes l ≡ u → talkFrom nothing (d ++ (l ++ (newline ∷ []))) [] bs ≡ tooLong → talkFrom nothing d (l ++ (b ∷ [])) bs ≡ tooLong
+        → cond t (cond u (opened d (linesFrom nothing [] bs)) (talkFrom nothing (d ++ (l ++ (newline ∷ []))) [] bs)) (talkFrom nothing d (l ++ (b ∷ [])) bs) ≡ tooLong
+    go true true e x y = opened-long d (linesFrom nothing [] bs) (omega (arith, dashes-two l e))
     go true false e x y = x
     go false u e x y = y
 
--- a line ends: `--` opens the run, any other is one more of the table
-pub talk-dashes : (d l bs : List ℕ) → isDashes l ≡ true → talkFrom d l (newline ∷ bs) ≡ opened d (linesFrom [] bs)
-unfolding talkFrom
-talk-dashes d l bs e = rw e
+-- .. and nothing else can be due
+pub due-long : (d l bs : List ℕ) → 2148 ≤ length d + length l → Begins (talkFrom unknown d l bs) tooLong
+unfolding talkFrom unclosed
+due-long d l [] h = go (leb 2149 (length d + length l))
+  where
+    go : (t : Bool) → Begins (cond t tooLong []) tooLong
+    go true = begins-with refl
+    go false = (tooLong, refl)
+due-long d l (b ∷ bs) h =
+    go (eqb b newline) (isDashes l) refl
+    (due-long (d ++ (l ++ (newline ∷ []))) [] bs (omega (arith, length-append d (l ++ (newline ∷ [])), length-append l (newline ∷ []))))
+    (due-long d (l ++ (b ∷ [])) bs (omega (arith, length-append l (b ∷ []))))
+  where
+    go :
+        (t u : Bool) → isDashes l ≡ u → Begins (talkFrom unknown (d ++ (l ++ (newline ∷ []))) [] bs) tooLong → Begins (talkFrom unknown d (l ++ (b ∷ [])) bs) tooLong
+        → Begins (cond t (cond u (opened d (linesFrom unknown [] bs)) (talkFrom unknown (d ++ (l ++ (newline ∷ []))) [] bs)) (talkFrom unknown d (l ++ (b ∷ [])) bs)) tooLong
+    go true true e x y = begins-with (sym (opened-long d (linesFrom unknown [] bs) (omega (arith, dashes-two l e))))
+    go true false e x y = x
+    go false u e x y = y
 
-pub talk-line : (d l bs : List ℕ) → isDashes l ≡ false → talkFrom d l (newline ∷ bs) ≡ talkFrom (d ++ (l ++ (newline ∷ []))) [] bs
+-- fewer bytes, and no line `--`: nothing is due
+pub due-none : (d l : List ℕ) → length d + length l ≤ 2148 → talkFrom unknown d l [] ≡ []
+unfolding talkFrom unclosed
+due-none d l h = rw (lt-leb 2149 (length d + length l) (omega arith))
+
+-- a line ends: `--` opens the run, any other is one more of the table
+pub talk-dashes : (e : Behind) (d l bs : List ℕ) → isDashes l ≡ true → talkFrom e d l (newline ∷ bs) ≡ opened d (linesFrom e [] bs)
 unfolding talkFrom
-talk-line d l bs e = rw e
+talk-dashes e d l bs h = rw h
+
+pub talk-line : (e : Behind) (d l bs : List ℕ) → isDashes l ≡ false → talkFrom e d l (newline ∷ bs) ≡ talkFrom e (d ++ (l ++ (newline ∷ []))) [] bs
+unfolding talkFrom
+talk-line e d l bs h = rw h
 
 -- at the end of the input
-pub talk-end : (d l : List ℕ) → talkFrom d l [] ≡ opened (cond (isDashes l) d (d ++ l)) []
-unfolding talkFrom
+pub talk-end : (d l : List ℕ) → talkFrom nothing d l [] ≡ opened (cond (isDashes l) d (d ++ l)) []
+unfolding talkFrom unclosed
 talk-end d l = refl
 
 -- THE OPERATIONS
@@ -122,21 +152,35 @@ replies-none : (r : Run) (l : List ℕ) (ls : List (List ℕ)) → operationOf l
 unfolding replies said
 replies-none r l ls e = rw e (nil-right noOperation)
 
--- 13 bytes of a line decide: whatever comes, it is no operation
-pub replies-long : (r : Run) (l bs : List ℕ) → 13 ≤ length l → replies r (linesFrom l bs) ≡ noOperation
+-- 13 bytes of a line decide: whatever comes, it is no operation ..
+pub replies-long : (r : Run) (l bs : List ℕ) → 13 ≤ length l → replies r (linesFrom nothing l bs) ≡ noOperation
 unfolding linesFrom lastLine
 replies-long r [] [] h = absurd (not-suc-le-zero h)
 replies-long r (b ∷ l) [] h = replies-none r (b ∷ l) [] (long-none (b ∷ l) h)
 replies-long r l (b ∷ bs) h = go (eqb b newline) (replies-long r (l ++ (b ∷ [])) bs (omega (arith, length-append l (b ∷ []))))
   where
-    go : (t : Bool) → replies r (linesFrom (l ++ (b ∷ [])) bs) ≡ noOperation → replies r (cond t (l ∷ linesFrom [] bs) (linesFrom (l ++ (b ∷ [])) bs)) ≡ noOperation
-    go true x = replies-none r l (linesFrom [] bs) (long-none l h)
+    go :
+        (t : Bool) → replies r (linesFrom nothing (l ++ (b ∷ [])) bs) ≡ noOperation
+        → replies r (cond t (l ∷ linesFrom nothing [] bs) (linesFrom nothing (l ++ (b ∷ [])) bs)) ≡ noOperation
+    go true x = replies-none r l (linesFrom nothing [] bs) (long-none l h)
+    go false x = x
+
+-- .. and nothing else can be due
+pub replies-due : (r : Run) (l bs : List ℕ) → 13 ≤ length l → Begins (replies r (linesFrom unknown l bs)) noOperation
+unfolding linesFrom lastLine replies
+replies-due r l [] h = (noOperation, refl)
+replies-due r l (b ∷ bs) h = go (eqb b newline) (replies-due r (l ++ (b ∷ [])) bs (omega (arith, length-append l (b ∷ []))))
+  where
+    go :
+        (t : Bool) → Begins (replies r (linesFrom unknown (l ++ (b ∷ [])) bs)) noOperation
+        → Begins (replies r (cond t (l ∷ linesFrom unknown [] bs) (linesFrom unknown (l ++ (b ∷ [])) bs))) noOperation
+    go true x = begins-with (sym (replies-none r l (linesFrom unknown [] bs) (long-none l h)))
     go false x = x
 
 -- a line ends
-pub lines-line : (l bs : List ℕ) → linesFrom l (newline ∷ bs) ≡ l ∷ linesFrom [] bs
+pub lines-line : (e : Behind) (l bs : List ℕ) → linesFrom e l (newline ∷ bs) ≡ l ∷ linesFrom e [] bs
 unfolding linesFrom
-lines-line l bs = refl
+lines-line e l bs = refl
 
 -- what is said to one line, and then to the rest
 pub replies-line :
@@ -150,7 +194,7 @@ unfolding replies
 replies-last r l ls e = rw e (nil-right (said (operationOf l) r))
 
 -- at the end of the input
-pub replies-end : (r : Run) (b : ℕ) (l : List ℕ) → replies r (linesFrom (b ∷ l) []) ≡ said (operationOf (b ∷ l)) r
+pub replies-end : (r : Run) (b : ℕ) (l : List ℕ) → replies r (linesFrom nothing (b ∷ l) []) ≡ said (operationOf (b ∷ l)) r
 unfolding replies linesFrom lastLine
 replies-end r b l = go (isLast (operationOf (b ∷ l)))
   where
@@ -158,6 +202,11 @@ replies-end r b l = go (isLast (operationOf (b ∷ l)))
     go true = nil-right (said (operationOf (b ∷ l)) r)
     go false = nil-right (said (operationOf (b ∷ l)) r)
 
-pub replies-silent : (r : Run) → replies r (linesFrom [] []) ≡ []
+pub replies-silent : (r : Run) → replies r (linesFrom nothing [] []) ≡ []
 unfolding replies linesFrom lastLine
 replies-silent r = refl
+
+-- where more may come, what is held of a line is not answered yet
+pub due-silent : (r : Run) (l : List ℕ) → replies r (linesFrom unknown l []) ≡ []
+unfolding replies linesFrom lastLine
+due-silent r l = refl

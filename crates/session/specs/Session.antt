@@ -1,52 +1,52 @@
 -- Where a session stands: what it will say to the bytes to come.
 use mathlib.Core.Bool.{Bool, true, false, _&&_, cond}
 use mathlib.Core.List.{List, [], _∷_, _++_}
-use mathlib.Core.Logic.{_⊎_}
 use mathlib.Core.Path.{_≡_}
 use Prim.Native.Nat.{ℕ, _-_, _≤_, _<_}
 use lib.ListN.{length, take, drop}
 use lib.Dec.{leb}
-use Rattle.text.specs.Format.{newline}
 use Rattle.run.specs.declared.Run.{Run}
-use Rattle.session.specs.Talk.{linesFrom, replies, opened, talkFrom, talk}
+use Rattle.session.specs.Talk.{Behind, nothing, unknown, linesFrom, replies, opened, talkFrom, talk, due}
 use Rattle.session.specs.declared.Stage.{Stage}
 use Rattle.session.specs.declared.Stage.the-variants.{Table, Operations, Over}
 use Rattle.session.specs.declared.Session.{Session}
 use Rattle.session.specs.declared.Fed.{Fed}
 use Rattle.session.specs.declared.open.Opened.{Opened}
 
--- what a session in a stage says to the bytes bs, after which the input ends
-unfoldable pub spokenIn : Stage → Session → List ℕ → List ℕ
-spokenIn Table s bs = talkFrom (take (s .from) (s .bytes)) (take (s .held - s .from) (drop (s .from) (s .bytes))) bs
-spokenIn Operations s bs = replies (s .run) (linesFrom (take (s .held) (s .bytes)) bs)
-spokenIn Over s bs = []
+-- what a session in a stage says to the bytes bs, by what stands behind them
+unfoldable pub spokenIn : Stage → Session → Behind → List ℕ → List ℕ
+spokenIn Table s e bs = talkFrom e (take (s .from) (s .bytes)) (take (s .held - s .from) (drop (s .from) (s .bytes))) bs
+spokenIn Operations s e bs = replies (s .run) (linesFrom e (take (s .held) (s .bytes)) bs)
+spokenIn Over s e bs = []
 
 -- the stage of a session; one whose numbers are outside its bytes is over
 abbrev pub stageOf : Session → Stage
 stageOf s = cond (leb (s .from) (s .held) && leb (s .held) 2148) (s .stage) Over
 
--- what a session says to the bytes bs, after which the input ends
-unfoldable pub spoken : Session → List ℕ → List ℕ
-spoken s bs = spokenIn (stageOf s) s bs
+-- nothing is said any more
+abbrev pub isOver : Stage → Bool
+isOver Table = false
+isOver Operations = false
+isOver Over = true
 
--- these bytes end with a newline
-abbrev pub Ends : List ℕ → Type 0
-Ends bs = (l : List ℕ) × (bs ≡ l ++ (newline ∷ []))
+-- what a session says to the bytes bs; where nobody knows what stands behind them, what it must have said
+unfoldable pub spoken : Session → Behind → List ℕ → List ℕ
+spoken s e bs = spokenIn (stageOf s) s e bs
 
--- nothing waits to be said: the table is still being read, or an end of the input here would add nothing
-abbrev pub AllSaid : Session → Type 0
-AllSaid s = (stageOf s ≡ Table) ⊎ (spoken s [] ≡ [])
+-- a text begins with another
+abbrev pub Begins : List ℕ → List ℕ → Type 0
+Begins first text = (rest : List ℕ) × (text ≡ first ++ rest)
 
 -- where f says what is said to all bytes to come: of the chunk a part is taken, at least a byte where there is one; what is said to it stands at the
--- front of the buffer, whatever comes after, and the session that is handed back says the rest; where the part ends with a newline, nothing waits to be said
-pub record FedBy (f : List ℕ → List ℕ) (chunk before after : List ℕ) (r : Fed) : Type 0 where
+-- front of the buffer, whatever comes after, and the session that is handed back says the rest. No answer waits: what had to be said is said
+pub record FedBy (f : Behind → List ℕ → List ℕ) (chunk before after : List ℕ) (r : Fed) : Type 0 where
   pub taken : r .taken ≤ length chunk
   pub moves : 0 < length chunk → 0 < r .taken
   pub room : r .length ≤ length before
   pub same : length after ≡ length before
   pub behind : drop (r .length) after ≡ drop (r .length) before
-  pub text : (bs : List ℕ) → f (take (r .taken) chunk ++ bs) ≡ take (r .length) after ++ spoken (r .session) bs
-  pub at-once : Ends (take (r .taken) chunk) → AllSaid (r .session)
+  pub text : (bs : List ℕ) → f nothing (take (r .taken) chunk ++ bs) ≡ take (r .length) after ++ spoken (r .session) nothing bs
+  pub at-once : (bs : List ℕ) → Begins (f unknown (take (r .taken) chunk ++ bs)) (take (r .length) after ++ spoken (r .session) unknown bs)
 
 -- what `feed` promises of a session
 abbrev pub FedOf : Session → List ℕ → List ℕ → List ℕ → Fed → Type 0
@@ -61,11 +61,11 @@ pub record Said (text before after : List ℕ) (n : ℕ) : Type 0 where
 
 -- what `end` promises: the rest of what is said, where no more bytes come
 abbrev pub LastOf : Session → List ℕ → List ℕ → ℕ → Type 0
-LastOf s before after n = Said (spoken s []) before after n
+LastOf s before after n = Said (spoken s nothing []) before after n
 
--- a session that says what the program prints
+-- a session that says what the program prints, and must have said what the program must have printed
 abbrev pub NewOf : Session → Type 0
-NewOf s = (bs : List ℕ) → spoken s bs ≡ talk bs
+NewOf s = (bs : List ℕ) → (spoken s nothing bs ≡ talk bs) × (spoken s unknown bs ≡ due bs)
 
 -- the stage after the table: the operations, or none
 abbrev pub stageAfter : Bool → Stage

@@ -1,7 +1,8 @@
 -- Everything that the program `replay` prints for an input: a table's text, a line `--`, then one operation a line; the last line may lack its newline.
+-- And what it must have printed once some bytes of an input have come: answers do not wait.
 use mathlib.Core.Bool.{Bool, true, false, _&&_, cond}
 use mathlib.Core.List.{List, [], _∷_, _++_}
-use Prim.Native.Nat.{ℕ}
+use Prim.Native.Nat.{ℕ, _+_}
 use lib.ListN.{length}
 use lib.Dec.{eqb, leb}
 use Rattle.text.specs.Format.{newline, Words, words, noText, wordsOf}
@@ -10,15 +11,21 @@ use Rattle.run.specs.declared.Run.{Run}
 use Rattle.run.specs.Start.{startOf}
 use Rattle.session.specs.Operation.{operationOf, answerLine, said, runAfter, isLast}
 
--- a last line that lacks its newline; where no bytes stand after the last newline there is none
-unfoldable pub lastLine : List ℕ → List (List ℕ)
-lastLine [] = []
-lastLine (b ∷ l) = (b ∷ l) ∷ []
+-- what stands behind the bytes that have come: nothing, the input ends; or nobody knows
+pub data Behind : Type 0 where
+  nothing : Behind
+  unknown : Behind
+
+-- bytes after the last newline: where the input ends they are a last line that lacks its newline, if there are any; else they are no line yet
+unfoldable pub lastLine : Behind → List ℕ → List (List ℕ)
+lastLine nothing [] = []
+lastLine nothing (b ∷ l) = (b ∷ l) ∷ []
+lastLine unknown l = []
 
 -- the lines of the bytes bs, where the bytes l stand before them
-unfoldable pub linesFrom : List ℕ → List ℕ → List (List ℕ)
-linesFrom l [] = lastLine l
-linesFrom l (b ∷ bs) = cond (eqb b newline) (l ∷ linesFrom [] bs) (linesFrom (l ++ (b ∷ [])) bs)
+unfoldable pub linesFrom : Behind → List ℕ → List ℕ → List (List ℕ)
+linesFrom e l [] = lastLine e l
+linesFrom e l (b ∷ bs) = cond (eqb b newline) (l ∷ linesFrom e [] bs) (linesFrom e (l ++ (b ∷ [])) bs)
 
 -- what is said to the operations in these lines, from run r on
 unfoldable pub replies : Run → List (List ℕ) → List ℕ
@@ -48,15 +55,24 @@ isDashes (a ∷ []) = false
 isDashes (a ∷ b ∷ []) = eqb a 45 && eqb b 45
 isDashes (a ∷ b ∷ c ∷ l) = false
 
--- what is said where the whole lines `table` and the bytes l of one more stand before the bytes bs: the first line `--` ends the table;
--- with none the whole input is the table
-unfoldable pub talkFrom : List ℕ → List ℕ → List ℕ → List ℕ
-talkFrom table l [] = opened (cond (isDashes l) table (table ++ l)) []
-talkFrom table l (b ∷ bs) =
+-- what is said where the whole lines `table` and the bytes l of one more have come, and no line `--`: where the input ends the whole of it is the
+-- table; else nothing yet, but the refusal once 2,149 bytes have come
+unfoldable pub unclosed : Behind → List ℕ → List ℕ → List ℕ
+unclosed nothing table l = opened (cond (isDashes l) table (table ++ l)) []
+unclosed unknown table l = cond (leb 2149 (length table + length l)) (lineOf (letters "refused") (1 ∷ 0 ∷ [])) []
+
+-- what is said where the whole lines `table` and the bytes l of one more stand before the bytes bs: the first line `--` ends the table
+unfoldable pub talkFrom : Behind → List ℕ → List ℕ → List ℕ → List ℕ
+talkFrom e table l [] = unclosed e table l
+talkFrom e table l (b ∷ bs) =
     cond (eqb b newline)
-    (cond (isDashes l) (opened table (linesFrom [] bs)) (talkFrom (table ++ (l ++ (newline ∷ []))) [] bs))
-    (talkFrom table (l ++ (b ∷ [])) bs)
+    (cond (isDashes l) (opened table (linesFrom e [] bs)) (talkFrom e (table ++ (l ++ (newline ∷ []))) [] bs))
+    (talkFrom e table (l ++ (b ∷ [])) bs)
 
 -- everything that the program prints for the bytes that it reads
 unfoldable pub talk : List ℕ → List ℕ
-talk bs = talkFrom [] [] bs
+talk bs = talkFrom nothing [] [] bs
+
+-- what it must have printed once these bytes have come: start's answer once the line `--` has ended, and the answer to each line that has ended since
+unfoldable pub due : List ℕ → List ℕ
+due bs = talkFrom unknown [] [] bs

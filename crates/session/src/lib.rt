@@ -3,7 +3,8 @@ ghost use mathlib.Core.Path.{_≡_};
 ghost use mathlib.Core.List.{[]};
 ghost use Prim.Native.Nat.{_≤_, min};
 ghost use Rattle.session.specs.declared.Stage.the-variants.{Table, Operations};
-ghost use Rattle.session.specs.Session.{Said, spokenIn, stageOf, stageAfter, FedBy, FedOf, LastOf, NewOf, overWith};
+ghost use Rattle.session.specs.Talk.{nothing};
+ghost use Rattle.session.specs.Session.{Said, spokenIn, stageOf, isOver, stageAfter, FedBy, FedOf, LastOf, NewOf, overWith};
 
 mod open; // open.rt: the table, and the run that it starts
 pub mod operations; // operations.rt: what a line asks
@@ -178,7 +179,7 @@ fn feed_operations(session: Session, chunk: &[u8], out: &mut [u8; 267]) -> Fed
 // The end of the input in the table: what is said to it.
 fn end_table(session: Session, out: &mut [u8; 267]) -> usize
     requires { ⌜ (session .from ≤ session .held) × (session .held ≤ 2148) ⌝ }
-    ensures { λ r. ⌜ Said (spokenIn Table session []) (now (out .entry)) (now (out .exit)) r ⌝ }
+    ensures { λ r. ⌜ Said (spokenIn Table session nothing []) (now (out .entry)) (now (out .exit)) r ⌝ }
 {
     let bytes = session.bytes;
     let from = session.from;
@@ -191,7 +192,7 @@ fn end_table(session: Session, out: &mut [u8; 267]) -> usize
 // The end of the input in the operations: what is said to a last line that lacks its newline.
 fn end_operations(session: Session, out: &mut [u8; 267]) -> usize
     requires { ⌜ session .held ≤ 2148 ⌝ }
-    ensures { λ r. ⌜ Said (spokenIn Operations session []) (now (out .entry)) (now (out .exit)) r ⌝ }
+    ensures { λ r. ⌜ Said (spokenIn Operations session nothing []) (now (out .entry)) (now (out .exit)) r ⌝ }
 {
     let bytes = session.bytes;
     let held = session.held;
@@ -244,6 +245,18 @@ impl Session {
             Stage::Table => feed_table(self, chunk, out),
             Stage::Operations => feed_operations(self, chunk, out),
             Stage::Over => over(self, chunk.len(), 0),
+        }
+    }
+
+    // Whether the session is over: it says nothing any more, whatever comes.
+    pub fn is_over(self) -> bool
+        ensures { λ r. ⌜ r ≡ isOver (stageOf self) ⌝ }
+    {
+        let stage = stage_of(self);
+        match stage {
+            Stage::Table => false,
+            Stage::Operations => false,
+            Stage::Over => true,
         }
     }
 

@@ -61,8 +61,8 @@ loop-less c = let p = part (c .before .before .before .before .before) in omega 
 loop-again : tie.Need-loop-again Inv-loop μ-loop
 loop-again c = search needs
 
-is-open-requires : tie.Need-is-open-requires Inv-loop μ-loop
-is-open-requires c κs = search needs
+is-over-requires : tie.Need-is-over-requires Inv-loop μ-loop
+is-over-requires c κs = search needs
 
 returns-2 : tie.Need-returns-2 Inv-loop μ-loop
 returns-2 c = search needs
@@ -85,5 +85,5 @@ talk-spec =
     returns
     loop-less
     loop-again
-    is-open-requires
+    is-over-requires
     returns-2)

@@ -9,7 +9,7 @@ use Rattle.session.specs.declared.Session.{Session}
 use Rattle.session.specs.declared.Stage.the-variants.{Operations}
 use Rattle.session.specs.declared.operations.Operation.{Operation}
 use Rattle.session.specs.Operation.{operationOf, said}
-use Rattle.session.specs.Talk.{linesFrom, replies}
+use Rattle.session.specs.Talk.{nothing, linesFrom, replies}
 use Rattle.session.specs.Session.{spokenIn, Said}
 use Rattle.session.proofs.Saying.{said-nothing, said-of}
 use Rattle.session.proofs.Talking.{replies-end, replies-silent}
@@ -18,16 +18,16 @@ use Rattle.session.proofs.end_operations.Statement.{statement}
 use Rattle.session.proofs.end_operations.Tie as tie
 
 -- no bytes stand after the last newline
-silent : (s : Session) → s .held ≡ 0 → spokenIn Operations s [] ≡ []
-silent s e = spoken-operations s [] ∙ ap (λ (n : ℕ). replies (s .run) (linesFrom (take n (s .bytes)) [])) e ∙ replies-silent (s .run)
+silent : (s : Session) → s .held ≡ 0 → spokenIn Operations s nothing [] ≡ []
+silent s e = spoken-operations s nothing [] ∙ ap (λ (n : ℕ). replies (s .run) (linesFrom nothing (take n (s .bytes)) [])) e ∙ replies-silent (s .run)
 
 -- a last line that lacks its newline
 last-line :
     (s : Session) → length (s .bytes) ≡ 2148 → s .held ≤ 2148 → (s .held ≡ 0 → ⊥)
-    → spokenIn Operations s [] ≡ said (operationOf (take (s .held) (s .bytes))) (s .run)
-last-line s w h z = spoken-operations s [] ∙ go (take (s .held) (s .bytes)) (length-take-le (s .held) (s .bytes) (omega (arith, w, h)))
+    → spokenIn Operations s nothing [] ≡ said (operationOf (take (s .held) (s .bytes))) (s .run)
+last-line s w h z = spoken-operations s nothing [] ∙ go (take (s .held) (s .bytes)) (length-take-le (s .held) (s .bytes) (omega (arith, w, h)))
   where
-    go : (l : List ℕ) → length l ≡ s .held → replies (s .run) (linesFrom l []) ≡ said (operationOf l) (s .run)
+    go : (l : List ℕ) → length l ≡ s .held → replies (s .run) (linesFrom nothing l []) ≡ said (operationOf l) (s .run)
     go [] e = absurd (z (sym e))
     go (b ∷ l) e = replies-end (s .run) b l
 

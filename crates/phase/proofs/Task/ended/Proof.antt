@@ -1,4 +1,4 @@
--- `run::Task::ended` meets its contract: ended work holds exactly under rule number 3.
+-- `phase::Task::ended` meets its contract: ended work holds exactly under rule number 3.
 -- Assumes nothing.
 use borrow.Author.Needs.{needs}
 use Rattle.phase.proofs.Rules.{idles-where, idles-else}

@@ -1,4 +1,4 @@
--- `run::Task::next` meets its contract: each arm is the clause of its phase; the sums fit, since the phase leaves room.
+-- `phase::Task::next` meets its contract: each arm is the clause of its phase; the sums fit, since the phase leaves room.
 -- Assumes nothing.
 use native.Mathlib.Omega.{arith}
 use borrow.Author.Tests.{eq-eqb, ne-eqb}

@@ -1,4 +1,4 @@
--- `run::Task::out` meets its contract: the two tests are those of its callees.
+-- `phase::Task::out` meets its contract: the two tests are those of its callees.
 -- Assumes nothing.
 use borrow.Author.Needs.{needs}
 use Rattle.phase.proofs.Task.out.Statement.{statement}

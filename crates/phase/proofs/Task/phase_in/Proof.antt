@@ -1,4 +1,4 @@
--- `run::Task::phase_in` meets its contract: each arm is the row of tests of its phase.
+-- `phase::Task::phase_in` meets its contract: each arm is the row of tests of its phase.
 -- Assumes nothing.
 use borrow.Author.Needs.{needs}
 use Rattle.phase.proofs.Phases.{idles-rule}

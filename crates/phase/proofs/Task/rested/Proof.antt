@@ -1,4 +1,4 @@
--- `run::Task::rested` meets its contract: the branch is the test of the definition.
+-- `phase::Task::rested` meets its contract: the branch is the test of the definition.
 -- Assumes nothing.
 use borrow.Author.Tests.{eq-eqb, ne-eqb}
 use Rattle.phase.proofs.Task.rested.Statement.{statement}

@@ -1,4 +1,4 @@
--- `run::starts::start_phase` meets its contract: the branch is the test of the definition.
+-- `phase::starts::start_phase` meets its contract: the branch is the test of the definition.
 -- Assumes nothing.
 use borrow.Author.Tests.{eq-eqb, ne-eqb}
 use Rattle.phase.proofs.starts.start_phase.Statement.{statement}

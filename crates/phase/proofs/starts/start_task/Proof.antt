@@ -1,4 +1,4 @@
--- `run::starts::start_task` meets its contract: the task is the table's, and the phase is what `start_phase` gives.
+-- `phase::starts::start_task` meets its contract: the task is the table's, and the phase is what `start_phase` gives.
 -- Assumes nothing.
 use borrow.Author.Needs.{needs}
 use Rattle.phase.proofs.starts.start_task.Statement.{statement}

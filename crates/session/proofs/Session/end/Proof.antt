@@ -2,6 +2,7 @@ use borrow.Author.Needs.{needs}
 use mathlib.Core.Path.{_≡_, sym, ap, _∙_}
 use mathlib.Core.List.{List, []}
 use Rattle.session.specs.declared.Stage.{Stage}
+use Rattle.session.specs.Talk.{nothing}
 use Rattle.session.specs.Session.{spokenIn}
 use Rattle.session.proofs.Saying.{said-nothing, said-of}
 use Rattle.session.proofs.Replying.{stage-within, table-not-over, operations-not-over}
@@ -28,13 +29,13 @@ enum-told-3 : tie.Need-enum-told-3
 enum-told-3 c = search needs
 
 returns : tie.Need-returns
-returns c = said-of (sym (spoken-in (c .before .before .before .before .before .args .self) _ [] (sym (c .before .before .before .before .stage-of .ensures) ∙ c .before .before .enum-told .given .1))) (c .end-table .ensures)
+returns c = said-of (sym (spoken-in (c .before .before .before .before .before .args .self) _ nothing [] (sym (c .before .before .before .before .stage-of .ensures) ∙ c .before .before .enum-told .given .1))) (c .end-table .ensures)
 
 returns-2 : tie.Need-returns-2
-returns-2 c = said-of (sym (spoken-in (c .before .before .before .before .before .args .self) _ [] (sym (c .before .before .before .before .stage-of .ensures) ∙ c .before .before .enum-told2 .given .1))) (c .end-operations .ensures)
+returns-2 c = said-of (sym (spoken-in (c .before .before .before .before .before .args .self) _ nothing [] (sym (c .before .before .before .before .stage-of .ensures) ∙ c .before .before .enum-told2 .given .1))) (c .end-operations .ensures)
 
 returns-3 : tie.Need-returns-3
-returns-3 c = said-of (sym (over-spoken (c .before .before .before .args .self) [] (sym (c .before .before .stage-of .ensures) ∙ c .enum-told3 .given .1))) (said-nothing (c .before .before .before .args .out .now))
+returns-3 c = said-of (sym (over-spoken (c .before .before .before .args .self) nothing [] (sym (c .before .before .stage-of .ensures) ∙ c .enum-told3 .given .1))) (said-nothing (c .before .before .before .args .out .now))
 
 pub end-spec : {M : Type 1} → statement M
 end-spec =

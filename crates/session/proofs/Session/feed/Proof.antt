@@ -1,7 +1,10 @@
 use borrow.Author.Needs.{needs}
 use mathlib.Core.Path.{_≡_, sym, ap, _∙_, subst}
 use mathlib.Core.List.{List, [], _++_}
+use Prim.Native.Nat.{ℕ}
+use Rattle.session.specs.Talk.{Behind, nothing, unknown}
 use Rattle.session.specs.Session.{spoken, FedBy}
+use Rattle.session.proofs.Talking.{begins-with}
 use Rattle.session.proofs.Saying.{said-nothing, said-of}
 use Rattle.session.proofs.Replying.{stage-within, table-not-over, operations-not-over}
 use Rattle.session.specs.declared.Fed.{Fed}
@@ -40,7 +43,10 @@ returns-3 : tie.Need-returns-3
 returns-3 c =
     let a = c .before .before .before .before .before .args in
     subst (λ (x : Fed). FedBy (spoken (a .self)) (a .chunk .now) (a .out .now) (a .out .now) x) (sym (c .over .ensures))
-    (fed-over (spoken (a .self)) (a .self) (a .chunk .now) (a .out .now) (a .out .now) [] 0 (said-nothing (a .out .now)) (λ bs. over-spoken (a .self) (a .chunk .now ++ bs) (sym (c .before .before .before .stage-of .ensures) ∙ c .before .enum-told3 .given .1)))
+    (fed-over (spoken (a .self)) (a .self) (a .chunk .now) (a .out .now) (a .out .now) [] 0 (said-nothing (a .out .now)) (λ bs. silent nothing bs) (λ bs. begins-with (sym (silent unknown bs))))
+  where
+    silent : (e : Behind) (bs : List ℕ) → spoken (c .before .before .before .before .before .args .self) e (c .before .before .before .before .before .args .chunk .now ++ bs) ≡ []
+    silent e bs = over-spoken (c .before .before .before .before .before .args .self) e (c .before .before .before .before .before .args .chunk .now ++ bs) (sym (c .before .before .before .stage-of .ensures) ∙ c .before .enum-told3 .given .1)
 
 pub feed-spec : {M : Type 1} → statement M
 feed-spec =

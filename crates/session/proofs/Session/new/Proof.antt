@@ -1,7 +1,7 @@
 use borrow.Author.Needs.{needs}
 use mathlib.Core.Path.{_≡_, refl}
 use Rattle.session.specs.Session.{spoken, spokenIn}
-use Rattle.session.specs.Talk.{talk, talkFrom}
+use Rattle.session.specs.Talk.{talk, due, talkFrom}
 use Rattle.session.proofs.Session.new.Statement.{statement}
 use Rattle.session.proofs.Session.new.Tie as tie
 
@@ -12,8 +12,8 @@ start-requires : tie.Need-start-requires
 start-requires c κs = search needs
 
 returns : tie.Need-returns
-unfolding spoken talk spokenIn talkFrom
-returns c = λ bs. refl
+unfolding spoken talk due spokenIn talkFrom
+returns c = λ bs. (refl, refl)
 
 pub new-spec : {M : Type 1} → statement M
 new-spec = tie.close (tie.spec slice-aggregate-start start-requires returns)
