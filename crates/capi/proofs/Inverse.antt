@@ -1,13 +1,13 @@
 -- Encoding and decoding are inverse to each other.
 use mathlib.Core.Path.{_≡_, refl, sym, ap, subst, _∙_}
-use mathlib.Core.Bool.{Bool, true, false, _&&_, _||_, cond}
+use mathlib.Core.Bool.{Bool, true, false, _&&_, cond}
 use mathlib.Core.List.{List, [], _∷_, _++_, append-nil}
 use mathlib.Core.Logic.{inl}
-use Prim.Native.Nat.{ℕ, zero, suc, _+_, _*_, _≤_, _<_}
+use Prim.Native.Nat.{ℕ, zero, suc, _+_, _*_, _≤_}
 use native.Mathlib.Omega.{arith}
 use lib.ListN.{length, getD, drop, length-append, length-drop}
 use lib.Seq.{drop-cons, drop-drop, drop-length}
-use lib.Dec.{leb, eqb}
+use lib.Dec.{leb}
 use borrow.Author.Tests.{le-leb, leb-true, leb-false, eqb-true}
 use Rattle.model.proofs.Bools.{and-left, and-right, and-both}
 use Rattle.phase.specs.declared.Phase.{Phase}
@@ -17,7 +17,7 @@ use Rattle.run.specs.declared.Run.{Run}
 use Rattle.run.specs.Numbers.{RunOut}
 use Rattle.capi.specs.declared.told.Told.{Told}
 use Rattle.capi.specs.Told.{says}
-use Rattle.capi.specs.Encoding.{ofPhase, eight, placeWords, placesWords, countWord, encode, phaseOf, isPhase, placeIn, isPlace, placesIn, arePlaces, holds, runIn, Held, run, none, decode}
+use Rattle.capi.specs.Encoding.{ofPhase, eight, placeWords, placesWords, countWord, encode, phaseOf, isPhase, placeIn, isPlace, placesIn, arePlaces, holds, runIn, run, none, decode}
 use Rattle.capi.proofs.Places.{length-words}
 
 -- WHAT IS ENCODED IS DECODED

@@ -16,7 +16,7 @@ use Rattle.run.specs.Start.{startOf}
 use Rattle.run.specs.Row.{noBytes, rowOf}
 use Rattle.run.specs.Advance.{advanceOf}
 use Rattle.capi.specs.Told.{ofAnswer, written}
-use Rattle.capi.specs.Calls.{Left, left, byRoom, room}
+use Rattle.capi.specs.Calls.{left, byRoom, room}
 use Rattle.capi.specs.Encoding.{encode, holds, runIn, Held, run, none, decode}
 use Rattle.capi.specs.Runs.{startCall, rowFrom, rowCall, Advance, kept, advanceFrom, advanceCall}
 use Rattle.capi.proofs.Calls.{both}

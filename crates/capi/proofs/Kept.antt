@@ -1,8 +1,8 @@
 -- The calls on a buffer are the calls on the run that it holds: what start writes and what an advance leaves is decoded to the run that they return.
 -- (A row asked goes by the run that is decoded, by its definition.)
 use mathlib.Core.Path.{_≡_, refl, sym, ap, subst, _∙_}
-use mathlib.Core.Bool.{Bool, true, false, _&&_, cond}
-use mathlib.Core.List.{List, [], _∷_, _++_, map}
+use mathlib.Core.Bool.{Bool, true, _&&_}
+use mathlib.Core.List.{List, _++_, map}
 use Prim.Native.Nat.{ℕ, _-_, _≤_}
 use native.Mathlib.Omega.{arith}
 use lib.ListN.{length, getD, drop, replicate, length-append, length-map, length-replicate}
@@ -20,13 +20,13 @@ use Rattle.run.specs.declared.Advanced.{Advanced}
 use Rattle.phase.specs.Task.{unused, startTask}
 use Rattle.run.specs.Run.{moved}
 use Rattle.run.specs.Answer.{told, byAnswer}
-use Rattle.run.specs.Start.{startedRun, emptyRun, startAnswer, startOf}
+use Rattle.run.specs.Start.{startedRun, startAnswer, startOf}
 use Rattle.run.specs.Advance.{advanceAnswer, advanceOf}
 use Rattle.run.proofs.Places.{length-mapFirst}
 use Rattle.run.proofs.StartExact.{start-of}
 use Rattle.run.proofs.ByVerdict.{start-taken, start-refused}
 use Rattle.run.proofs.Cases.{advance-taken, advance-refused}
-use Rattle.capi.specs.Encoding.{encode, arePlaces, holds, runIn, Held, run, none, decode}
+use Rattle.capi.specs.Encoding.{encode, arePlaces, holds, runIn, Held, run, decode}
 use Rattle.capi.specs.Runs.{advanceFrom}
 use Rattle.capi.proofs.Places.{length-read}
 use Rattle.capi.proofs.Inverse.{few-accepted, held-run, decode-encode}

@@ -1,8 +1,7 @@
 -- A list of advances of the run in a buffer is the list of advances of the run: what `follows` and `demand-3` say of the run holds of the calls.
-use mathlib.Core.Path.{_≡_, refl, ap, _∙_}
+use mathlib.Core.Path.{_≡_, refl}
 use mathlib.Core.List.{List, [], _∷_}
 use Prim.Native.Nat.{ℕ}
-use Rattle.run.specs.declared.Answer.{Answer}
 use Rattle.run.specs.declared.Run.{Run}
 use Rattle.run.specs.Advance.{advanceOf}
 use Rattle.demand.specs.Advances.{answers, after}

@@ -9,7 +9,7 @@ use lib.Dec.{leb}
 use borrow.Author.Tests.{le-leb, lt-leb}
 use Rattle.demand.specs.declared.Replayed.{Replayed}
 use Rattle.demand.specs.declared.Replayed.the-variants.{Shown, RowRefused, Refused, Short}
-use Rattle.demand.specs.Replay.{Outcome, ReplayOf, replayOf}
+use Rattle.demand.specs.Replay.{Outcome, ReplayOf}
 use Rattle.capi.specs.Told.{written}
 use Rattle.capi.specs.Calls.{left, byRoom}
 use Rattle.capi.specs.Replays.{hadRoom, ofReplayed, byOutcome, replayCall}

@@ -17,7 +17,6 @@ use Rattle.run.specs.declared.Run.{Run}
 use Rattle.run.specs.declared.Answer.{Answer}
 use Rattle.run.specs.declared.Answer.the-variants.{Taken, Refused}
 use Rattle.run.specs.declared.Row.{Row}
-use Rattle.demand.specs.declared.Replayed.{Replayed}
 use Rattle.demand.specs.declared.Replayed.the-variants as replayed
 use Rattle.run.specs.Answer.{told, shownBy, rowTold}
 use Rattle.run.specs.Row.{rowOf}

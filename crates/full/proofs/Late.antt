@@ -1,14 +1,14 @@
 -- A place is found late exactly if its deadline is missed at this tick of the full-length run.
-use mathlib.Core.Path.{_≡_, sym, ap, _∙_}
-use mathlib.Core.Bool.{Bool, true, false, not, _&&_, true≢false}
+use mathlib.Core.Path.{_≡_, sym, _∙_}
+use mathlib.Core.Bool.{Bool, true, false, true≢false}
 use Prim.Native.Nat.{ℕ, suc, _≤_, _<_}
-use native.Mathlib.Nat.{le-trans, le-antisymm, mul-le-mul-left, mul-one}
+use native.Mathlib.Nat.{le-antisymm}
 use native.Mathlib.Omega.{arith}
 use lib.ListN.{length, getD}
 use lib.Dec.{eqb, ltb}
-use borrow.Author.Tests.{eqb-true, eq-eqb, ltb-true, lt-ltb, not-true}
+use borrow.Author.Tests.{eqb-true, eq-eqb, ltb-true, lt-ltb}
 use Rattle.model.specs.Search.{any, least, bit}
-use Rattle.model.specs.Task.{Table, task, AllSound, due}
+use Rattle.model.specs.Task.{Table, task, AllSound}
 use Rattle.model.specs.Book.{full, Missed}
 use Rattle.model.specs.Verdict.{missedAt, missedIn}
 use Rattle.model.proofs.Bools.{and-left, and-right, and-both, same-test, not-true-false}

@@ -1,47 +1,41 @@
 -- Sustainability: under a firm rule, of two runs at one tick of which the first has no longer job, the first is behind on none.
 -- Whoever runs in the longer run and still claims in the shorter one runs there too.
-use mathlib.Core.Bool.{Bool, cond, false, false≢true, not, true, true≢false}
+use mathlib.Core.Bool.{Bool, false, false≢true, true}
 use mathlib.Core.List.{List, [], _∷_}
 use mathlib.Core.Logic.{inl, inr, _⊎_}
 use mathlib.Core.Path.{ap, refl, subst, subst₂, sym, _∙_, _≡_}
 use Prim.Native.Nat.{_<_, suc, ℕ}
-use native.Mathlib.Nat.{le-dest, suc-inj, suc-ne-zero}
+use native.Mathlib.Nat.{suc-inj, suc-ne-zero}
 use native.Mathlib.Omega.{arith}
-use lib.Dec.{leb, ltb}
 use lib.ListN.{List·getD-map, getD, length, length-map, length-replicate, replicate}
-use borrow.Author.Tests.{leb-true, ltb-true, not-true}
 use Rattle.model.proofs.Bools.{and-both, and-left, and-right, not-false-true}
 use Rattle.model.proofs.Grants.{RisingList, claimants-same, greedy-limited, limited-mono}
 use Rattle.model.proofs.Jobs.{Good, Letting, abreast, after-release, before-due, claims-less, claims-open, idle-claims, longer-left, longer-right, newest-is, next-claimed}
-use Rattle.model.proofs.Runs.{GoodBook, book-run, book-tick, full-run, full-stays, full-whole, good-run, good-start, good-step, kept, run}
-use Rattle.model.proofs.Search.{any-some, least-found}
-use Rattle.model.specs.Book.{Answer, Book, NeverMissed, answer, book, claims, emptyBook, firstLate, fresh, full, inRow, jobClaims, late, none, refused, reportable, served, step, taken, taskClaims, widths}
+use Rattle.model.proofs.Runs.{GoodBook, book-run, book-tick, full-run, full-whole, good-run, good-start, good-step, kept, run}
+use Rattle.model.specs.Book.{Book, book, claims, emptyBook, fresh, full, inRow, jobClaims, none, served, step, taskClaims, widths}
 use Rattle.model.specs.Compare.{Behind, Longer, NoneBehind, NoneLonger}
 use Rattle.model.specs.Grants.{claimants, grants, some}
-use Rattle.model.specs.Search.{any, bit, upFrom}
-use Rattle.model.specs.Task.{AllSound, Rule, Table, Task, due, greedy, idling, limited, newest, nobody, task}
+use Rattle.model.specs.Search.{upFrom}
+use Rattle.model.specs.Task.{AllSound, Rule, Table, greedy, idling, limited, newest, nobody, task}
 use Rattle.model.specs.Verdict.{FirmRule, Rising}
 -- fewer claims take no cores from a task that still claims
-use mathlib.Core.Bool.{_&&_, Bool, cond, false, false≢true, not, true, true≢false}
+use mathlib.Core.Bool.{Bool, false, false≢true, true}
 use mathlib.Core.List.{List, [], _∷_}
 use mathlib.Core.Logic.{inl, inr, _⊎_}
 use mathlib.Core.Path.{ap, refl, subst, subst₂, sym, _∙_, _≡_}
-use Prim.Native.Nat.{_<_, suc, ℕ, _≤_}
-use native.Mathlib.Nat.{le-dest, suc-inj, suc-ne-zero}
+use Prim.Native.Nat.{_<_, suc, ℕ}
+use native.Mathlib.Nat.{suc-inj, suc-ne-zero}
 use native.Mathlib.Omega.{arith}
-use lib.Dec.{leb, ltb}
 use lib.ListN.{getD, length, length-replicate, replicate}
-use borrow.Author.Tests.{leb-true, ltb-true, not-true}
 use Rattle.model.proofs.Bools.{and-both, and-left, and-right, not-false-true}
 use Rattle.model.proofs.Grants.{RisingList, claimants-same, greedy-limited, limited-mono}
 use Rattle.model.proofs.Jobs.{Good, Letting, abreast, after-release, before-due, claims-less, claims-open, idle-claims, longer-left, longer-right, newest-is, next-claimed}
-use Rattle.model.proofs.Runs.{GoodBook, book-run, book-tick, full-run, full-stays, full-whole, good-run, good-start, good-step, kept, run}
-use Rattle.model.proofs.Search.{any-some, least-found}
-use Rattle.model.specs.Book.{Answer, Book, NeverMissed, answer, book, claims, firstLate, fresh, full, inRow, jobClaims, late, none, refused, reportable, served, emptyBook, step, taken, taskClaims}
+use Rattle.model.proofs.Runs.{GoodBook, book-run, book-tick, full-run, full-whole, good-run, good-start, good-step, kept, run}
+use Rattle.model.specs.Book.{Book, book, claims, fresh, full, inRow, jobClaims, none, served, emptyBook, step, taskClaims}
 use Rattle.model.specs.Compare.{Behind, Longer, NoneBehind, NoneLonger}
 use Rattle.model.specs.Grants.{claimants, grants, some}
-use Rattle.model.specs.Search.{any, bit, upFrom}
-use Rattle.model.specs.Task.{AllSound, Rule, Table, Task, due, greedy, idling, limited, newest, task}
+use Rattle.model.specs.Search.{upFrom}
+use Rattle.model.specs.Task.{AllSound, Rule, Table, greedy, idling, limited, newest, task}
 use Rattle.model.specs.Verdict.{FirmRule}
 
 abbrev pub GrantsMono : Rule → List ℕ → Type 0

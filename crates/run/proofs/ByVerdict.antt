@@ -9,7 +9,6 @@ use Rattle.table.specs.Load.{tableWith, Holds}
 use Rattle.judge.specs.declared.Verdict.{Verdict}
 use Rattle.judge.specs.Judged.{verdictOf}
 use Rattle.run.specs.declared.Answer.the-variants.{Taken, Refused}
-use Rattle.run.specs.declared.Started.{Started}
 use Rattle.run.specs.Start.{startedRun, emptyRun, byVerdict, startAnswer, startOf}
 
 module _ (ws : List ℕ) where

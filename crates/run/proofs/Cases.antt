@@ -9,8 +9,6 @@ use Rattle.model.specs.Search.{bit}
 use Rattle.run.specs.declared.Run.{Run}
 use Rattle.run.specs.declared.Answer.{Answer}
 use Rattle.run.specs.declared.Answer.the-variants.{Taken, Refused}
-use Rattle.run.specs.declared.Advanced.{Advanced}
-use Rattle.run.specs.declared.Row.{Row}
 use Rattle.run.specs.Run.{moved}
 use Rattle.run.specs.Numbers.{runOut, firstLateIn, misreportedIn}
 use Rattle.run.specs.Row.{rowAnswer, bytesIn, noBytes, rowOf}

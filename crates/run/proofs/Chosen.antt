@@ -11,7 +11,7 @@ use lib.Dec.{eqb, ltb}
 use borrow.Author.Tests.{lt-ltb, le-ltb, eqb-true, eqb-false, ltb-true, ltb-false}
 use Rattle.model.proofs.Digits.{bit-high, bit-zero, bit-suc, half, and-bit}
 use Rattle.model.specs.Task.{Rule}
-use Rattle.model.specs.Grants.{Claimant, claimants, left, grants, given, some}
+use Rattle.model.specs.Grants.{claimants, left, grants, given, some}
 use Rattle.model.specs.Search.{any, bit, upFrom}
 use Rattle.model.proofs.Bools.{not-false-true}
 use Rattle.model.proofs.Grants.{claimants-same}

@@ -5,9 +5,8 @@ use mathlib.Core.Path.{_≡_, refl, sym, ap, ap₂, _∙_, subst}
 use Prim.Native.Nat.{ℕ, zero, suc, _+_, _-_, _≤_, _<_, min}
 use native.Mathlib.Numerals.{add-one}
 use native.Mathlib.Omega.{arith}
-use lib.ListN.{length, getD, take, drop, set, take-append-drop, length-append, length-take, length-drop, length-set}
+use lib.ListN.{length, getD, take, drop, set, take-append-drop, length-append, length-take, length-drop}
 use lib.Seq.{take-suc, take-add, take-at, take-all, take-append-le, drop-append-le, length-take-le, take-suc-set, take-take, take-nil, append-snoc}
-use lib.Dec.{leb}
 use borrow.Author.Tests.{le-leb}
 use Rattle.text.specs.Format.{newline}
 use Rattle.text.specs.Input.{lineLength}
@@ -21,9 +20,9 @@ use Rattle.session.specs.declared.Session.{Session}
 use Rattle.session.specs.declared.Fed.{Fed}
 use Rattle.session.specs.declared.open.Opened.{Opened}
 use Rattle.session.specs.Operation.{operationOf, said, runAfter, isLast}
-use Rattle.session.specs.Talk.{Behind, nothing, unknown, linesFrom, replies, opened, isDashes, talkFrom}
+use Rattle.session.specs.Talk.{Behind, nothing, unknown, linesFrom, replies, isDashes, talkFrom}
 use Rattle.session.specs.Session.{spokenIn, spoken, stageOf, Begins, FedBy, stageAfter, Said, OpenedOf, overWith}
-use Rattle.session.proofs.Saying.{said-nothing, said-of}
+use Rattle.session.proofs.Saying.{said-nothing}
 use Rattle.session.proofs.Replying.{stage-within, table-not-over}
 use Rattle.session.proofs.Talking.{nil-right, begins-with, talk-more, talk-long, due-long, due-none, talk-dashes, talk-line, tooLong, lines-more, lines-line, noOperation, replies-long, replies-due, replies-line, replies-last, due-silent}
 

@@ -2,10 +2,9 @@
 use mathlib.Core.Bool.{Bool, true, false, _&&_, cond}
 use mathlib.Core.List.{List, [], _∷_, _++_}
 use mathlib.Core.Path.{_≡_, refl, sym, ap, _∙_}
-use Prim.Native.Nat.{ℕ, suc, _-_, _≤_, _<_, min}
-use native.Mathlib.Nat.{not-suc-le-zero}
+use Prim.Native.Nat.{ℕ, _-_, _≤_, _<_}
 use native.Mathlib.Omega.{arith}
-use lib.ListN.{length, getD, take, drop, length-take}
+use lib.ListN.{length, getD, take, drop}
 use lib.Seq.{take-all, take-append-seam}
 use lib.Dec.{eqb, leb}
 use borrow.Author.Tests.{le-leb, lt-leb, leb-true, ne-eqb}
@@ -13,7 +12,6 @@ use Rattle.text.specs.Format.{Words, words, noText, wordsOf}
 use Rattle.text.specs.Input.{inputOf, foundIn}
 use Rattle.text.specs.Output.{letters, lineOf}
 use Rattle.text.specs.declared.Input.{Input}
-use Rattle.text.specs.declared.line.Found.{Found}
 use Rattle.run.specs.declared.Run.{Run}
 use Rattle.run.specs.declared.Answer.{Answer}
 use Rattle.run.specs.declared.Answer.the-variants.{Taken, Refused}
@@ -24,11 +22,10 @@ use Rattle.run.specs.Start.{startOf}
 use Rattle.session.specs.declared.Stage.{Stage}
 use Rattle.session.specs.declared.Stage.the-variants.{Table, Operations, Over}
 use Rattle.session.specs.declared.Session.{Session}
-use Rattle.session.specs.declared.open.Opened.{Opened}
 use Rattle.session.specs.declared.operations.Operation.{Operation}
 use Rattle.session.specs.declared.operations.Operation.the-variants.{Advance, Row, Nothing}
 use Rattle.session.specs.Operation.{operationOf, advanceBy, plain, answerLine, shownLine, said, runAfter, isLast}
-use Rattle.session.specs.Talk.{isDashes, numbersIn, startLine, opened, replies, linesFrom, talkFrom}
+use Rattle.session.specs.Talk.{isDashes, numbersIn, startLine, opened, replies}
 use Rattle.session.specs.Session.{stageOf, Said, OpenedOf}
 use Rattle.session.proofs.Talking.{nil-right, tooLong, opened-long}
 

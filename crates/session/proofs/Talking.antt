@@ -1,11 +1,11 @@
 -- Lines that come in pieces: what is said where some bytes of a line have been read.
 use mathlib.Core.Bool.{Bool, true, false, _&&_, cond, false≢true}
-use mathlib.Core.List.{List, [], _∷_, _++_, append-assoc}
-use mathlib.Core.Path.{_≡_, refl, sym, ap, ap₂, _∙_}
+use mathlib.Core.List.{List, [], _∷_, _++_}
+use mathlib.Core.Path.{_≡_, refl, sym, ap, _∙_}
 use Prim.Native.Nat.{ℕ, zero, suc, _+_, _≤_, _<_}
 use native.Mathlib.Nat.{not-suc-le-zero, le-of-suc-le-suc}
 use native.Mathlib.Omega.{arith}
-use lib.ListN.{length, take, drop, length-append}
+use lib.ListN.{length, take, length-append}
 use lib.Seq.{append-snoc}
 use lib.Dec.{eqb, leb}
 use borrow.Author.Tests.{lt-leb}
@@ -14,7 +14,6 @@ use Rattle.text.specs.Input.{lineLength, foundIn}
 use Rattle.text.specs.Output.{letters, lineOf}
 use Rattle.text.proofs.Numbers.{found-nothing}
 use Rattle.run.specs.declared.Run.{Run}
-use Rattle.session.specs.declared.operations.Operation.{Operation}
 use Rattle.session.specs.declared.operations.Operation.the-variants.{Nothing}
 use Rattle.session.specs.Operation.{advanceBy, operationOf, plain, said, runAfter, isLast}
 use Rattle.session.specs.Talk.{Behind, nothing, unknown, lastLine, linesFrom, replies, opened, isDashes, unclosed, talkFrom}

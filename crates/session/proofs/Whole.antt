@@ -1,6 +1,6 @@
 -- A whole session: however the input comes, what is said is what the definition says of it, and no answer waits.
 use mathlib.Core.List.{List, [], _++_, append-assoc}
-use mathlib.Core.Path.{_≡_, refl, sym, ap, _∙_, subst, subst₂}
+use mathlib.Core.Path.{_≡_, refl, sym, ap, _∙_, subst₂}
 use Prim.Native.Nat.{ℕ}
 use lib.ListN.{take}
 use Rattle.session.specs.declared.Session.{Session}

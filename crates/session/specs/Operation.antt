@@ -10,7 +10,6 @@ use Rattle.text.specs.Output.{letters, lineOf}
 use Rattle.text.specs.declared.line.Found.{Found}
 use Rattle.text.specs.declared.line.Found.the-variants as found
 use Rattle.run.specs.declared.Run.{Run}
-use Rattle.run.specs.declared.Row as rows
 use Rattle.run.specs.declared.Answer.{Answer}
 use Rattle.run.specs.declared.Answer.the-variants.{Taken, Refused}
 use Rattle.run.specs.Advance.{advanceOf}

@@ -1,11 +1,10 @@
 -- Where a session stands: what it will say to the bytes to come.
 use mathlib.Core.Bool.{Bool, true, false, _&&_, cond}
-use mathlib.Core.List.{List, [], _∷_, _++_}
+use mathlib.Core.List.{List, [], _++_}
 use mathlib.Core.Path.{_≡_}
 use Prim.Native.Nat.{ℕ, _-_, _≤_, _<_}
 use lib.ListN.{length, take, drop}
 use lib.Dec.{leb}
-use Rattle.run.specs.declared.Run.{Run}
 use Rattle.session.specs.Talk.{Behind, nothing, unknown, linesFrom, replies, opened, talkFrom, talk, due}
 use Rattle.session.specs.declared.Stage.{Stage}
 use Rattle.session.specs.declared.Stage.the-variants.{Table, Operations, Over}

@@ -1,6 +1,6 @@
 -- Everything that the program `replay` prints for an input: a table's text, a line `--`, then one operation a line; the last line may lack its newline.
 -- And what it must have printed once some bytes of an input have come: answers do not wait.
-use mathlib.Core.Bool.{Bool, true, false, _&&_, cond}
+use mathlib.Core.Bool.{Bool, false, _&&_, cond}
 use mathlib.Core.List.{List, [], _∷_, _++_}
 use Prim.Native.Nat.{ℕ, _+_}
 use lib.ListN.{length}

@@ -1,6 +1,6 @@
 -- `capi::sivorandra_judge` meets its contract: the verdict is the judge's, and its three words are put where there is room.
 -- Assumes nothing.
-use mathlib.Core.Path.{_≡_, sym, ap, _∙_}
+use mathlib.Core.Path.{sym, ap, _∙_}
 use mathlib.Core.List.{List, [], _∷_}
 use Prim.Native.Nat.{ℕ}
 use borrow.Author.Needs.{needs}

@@ -1,8 +1,6 @@
 -- `capi::sivorandra_plan` meets its contract: rows and answer are the plan's, and its three words are put where there is room.
 -- Assumes nothing.
-use mathlib.Core.Path.{_≡_, sym, ap, _∙_}
-use mathlib.Core.List.{List, [], _∷_}
-use Prim.Native.Nat.{ℕ}
+use mathlib.Core.Path.{sym, ap, _∙_}
 use borrow.Author.Needs.{needs}
 use Rattle.table.specs.Words.{tableOf}
 use Rattle.plan.specs.declared.Planned.{Planned}

@@ -1,6 +1,6 @@
 -- `capi::sivorandra_replay` meets its contract: numbers, row and answer are the replay's, and its three words are put where there is room.
 -- Assumes nothing.
-use mathlib.Core.Path.{_≡_, sym, ap, _∙_}
+use mathlib.Core.Path.{sym, ap, _∙_}
 use borrow.Author.Needs.{needs}
 use Rattle.capi.specs.declared.told.Told.{Told}
 use Rattle.capi.specs.Told.{written}

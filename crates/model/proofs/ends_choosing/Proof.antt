@@ -2,7 +2,7 @@
 use mathlib.Core.Path.{_≡_, refl}
 use mathlib.Core.Bool.{Bool, true, false, cond}
 use lib.Dec.{eqb}
-use Rattle.model.specs.Task.{Rule, greedy, limited, idling}
+use Rattle.model.specs.Task.{greedy, limited, idling}
 use Rattle.model.specs.Grants.{endsChoosing}
 use Rattle.model.proofs.ends_choosing.Statement.{statement}
 use Rattle.model.proofs.ends_choosing.Tie as tie

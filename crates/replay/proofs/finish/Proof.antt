@@ -1,7 +1,7 @@
 -- `replay::finish` is safe: no more is written than was said. Assumes nothing.
 use borrow.Author.Needs.{needs}
 use native.Mathlib.Omega.{arith}
-use mathlib.Core.Path.{_≡_, sym}
+use mathlib.Core.Path.{sym}
 use lib.ListN.{length}
 use lib.Seq.{length-take-le}
 use Rattle.replay.proofs.finish.Statement.{statement}

@@ -1,6 +1,6 @@
 use borrow.Author.Needs.{needs}
 use native.Mathlib.Omega.{arith}
-use mathlib.Core.Path.{_≡_, refl, sym, ap, _∙_, subst}
+use mathlib.Core.Path.{_≡_, sym, ap, _∙_}
 use mathlib.Core.List.{List, [], _∷_}
 use Prim.Native.Nat.{ℕ, _≤_}
 use lib.ListN.{length, take}
@@ -10,7 +10,7 @@ use Rattle.session.specs.declared.Stage.the-variants.{Operations}
 use Rattle.session.specs.declared.operations.Operation.{Operation}
 use Rattle.session.specs.Operation.{operationOf, said}
 use Rattle.session.specs.Talk.{nothing, linesFrom, replies}
-use Rattle.session.specs.Session.{spokenIn, Said}
+use Rattle.session.specs.Session.{spokenIn}
 use Rattle.session.proofs.Saying.{said-nothing, said-of}
 use Rattle.session.proofs.Talking.{replies-end, replies-silent}
 use Rattle.session.proofs.Feeding.{spoken-operations}

@@ -1,11 +1,11 @@
 use borrow.Author.Needs.{needs}
 use native.Mathlib.Omega.{arith}
 use mathlib.Core.Path.{_≡_, sym, _∙_}
-use Prim.Native.Nat.{_+_, _-_, _≤_}
-use lib.ListN.{length, length-drop}
+use Prim.Native.Nat.{_-_}
+use lib.ListN.{length}
 use lib.Seq.{length-take-le}
 use Rattle.text.proofs.Lines.{line-within}
-use Rattle.session.proofs.Feeding.{table-full, table-held, table-opened, table-more, still-wide, held-most, now-held}
+use Rattle.session.proofs.Feeding.{table-full, table-held, table-opened, table-more, still-wide, held-most}
 use Rattle.session.proofs.feed_table.Statement.{statement}
 use Rattle.session.proofs.feed_table.Tie as tie
 

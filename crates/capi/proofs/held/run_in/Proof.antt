@@ -5,7 +5,7 @@ use mathlib.Core.List.{List, [], _∷_, _++_, append-nil}
 use Prim.Native.Nat.{ℕ, _+_, _*_, _-_, _≤_}
 use native.Mathlib.Numerals.{add-one}
 use native.Mathlib.Omega.{arith}
-use lib.ListN.{length, getD, set, drop, replicate}
+use lib.ListN.{getD, set, drop, replicate}
 use lib.Seq.{drop-drop}
 use borrow.Author.Needs.{needs}
 use Rattle.phase.specs.declared.Task.{Task}

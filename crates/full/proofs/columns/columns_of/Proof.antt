@@ -1,12 +1,11 @@
 -- `full::columns::columns_of` meets its contract: after i turns the first i places of each array have the field of the tasks. Assumes nothing.
 use borrow.Author.Needs.{needs}
 use native.Mathlib.Omega.{arith}
-use mathlib.Core.Path.{_≡_, ap, _∙_}
+use mathlib.Core.Path.{_≡_}
 use mathlib.Core.List.{List, map}
 use Prim.Native.Nat.{ℕ, _-_, _≤_, _<_}
 use lib.ListN as list
 use Rattle.table.specs.declared.Task.{Task}
-use Rattle.full.specs.declared.columns.Columns.{Columns}
 use Rattle.full.proofs.Fields.{Filled, filled-none, filled-more, filled-all}
 use Rattle.full.proofs.columns.columns_of.Statement.{statement}
 use Rattle.full.proofs.columns.columns_of.Tie as tie

@@ -1,7 +1,7 @@
 -- `printer::cells::put_cells` meets its contract: the first bytes that are shown are the row of the model.
 -- Assumes nothing.
 use mathlib.Core.List.{List, [], _∷_, _++_}
-use mathlib.Core.Path.{_≡_, ap, _∙_, subst}
+use mathlib.Core.Path.{ap, _∙_, subst}
 use Prim.Native.Nat.{ℕ, _-_}
 use lib.ListN.{take, replicate}
 use lib.Seq.{take-at}

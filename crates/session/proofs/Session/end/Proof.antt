@@ -1,9 +1,7 @@
 use borrow.Author.Needs.{needs}
-use mathlib.Core.Path.{_≡_, sym, ap, _∙_}
-use mathlib.Core.List.{List, []}
-use Rattle.session.specs.declared.Stage.{Stage}
+use mathlib.Core.Path.{sym, _∙_}
+use mathlib.Core.List.{[]}
 use Rattle.session.specs.Talk.{nothing}
-use Rattle.session.specs.Session.{spokenIn}
 use Rattle.session.proofs.Saying.{said-nothing, said-of}
 use Rattle.session.proofs.Replying.{stage-within, table-not-over, operations-not-over}
 use Rattle.session.proofs.Feeding.{spoken-in, over-spoken}

@@ -1,14 +1,14 @@
 use borrow.Author.Needs.{needs}
-use mathlib.Core.Path.{_≡_, sym, ap, _∙_, subst}
+use mathlib.Core.Path.{_≡_, sym, _∙_, subst}
 use mathlib.Core.List.{List, [], _++_}
 use Prim.Native.Nat.{ℕ}
 use Rattle.session.specs.Talk.{Behind, nothing, unknown}
 use Rattle.session.specs.Session.{spoken, FedBy}
 use Rattle.session.proofs.Talking.{begins-with}
-use Rattle.session.proofs.Saying.{said-nothing, said-of}
+use Rattle.session.proofs.Saying.{said-nothing}
 use Rattle.session.proofs.Replying.{stage-within, table-not-over, operations-not-over}
 use Rattle.session.specs.declared.Fed.{Fed}
-use Rattle.session.proofs.Feeding.{spoken-in, over-spoken, fed-in, fed-over, over-silent}
+use Rattle.session.proofs.Feeding.{over-spoken, fed-in, fed-over}
 use Rattle.session.proofs.Session.feed.Statement.{statement}
 use Rattle.session.proofs.Session.feed.Tie as tie
 

@@ -1,5 +1,5 @@
 use borrow.Author.Needs.{needs}
-use mathlib.Core.Path.{_≡_, refl}
+use mathlib.Core.Path.{refl}
 use Rattle.session.specs.Session.{spoken, spokenIn}
 use Rattle.session.specs.Talk.{talk, due, talkFrom}
 use Rattle.session.proofs.Session.new.Statement.{statement}

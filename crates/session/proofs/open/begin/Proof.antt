@@ -1,6 +1,4 @@
 use borrow.Author.Needs.{needs}
-use native.Mathlib.Omega.{arith}
-use mathlib.Core.Path.{_≡_}
 use Rattle.session.proofs.Replying.{opened-refused, opened-run}
 use Rattle.session.proofs.open.begin.Statement.{statement}
 use Rattle.session.proofs.open.begin.Tie as tie

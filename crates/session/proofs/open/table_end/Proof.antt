@@ -1,5 +1,4 @@
 use borrow.Author.Needs.{needs}
-use mathlib.Core.Path.{_≡_, refl}
 use Rattle.session.proofs.open.table_end.Statement.{statement}
 use Rattle.session.proofs.open.table_end.Tie as tie
 

@@ -1,5 +1,5 @@
 use borrow.Author.Needs.{needs}
-use mathlib.Core.Path.{_≡_, _∙_, ap}
+use mathlib.Core.Path.{_∙_, ap}
 use Rattle.session.specs.Operation.{advanceBy}
 use Rattle.session.proofs.Replying.{asked-empty, asked-row, asked-letter, asked-advance, asked-no-space, asked-no-letter}
 use Rattle.session.proofs.operations.asked.Statement.{statement}

@@ -1,5 +1,4 @@
 use borrow.Author.Needs.{needs}
-use mathlib.Core.Path.{_≡_}
 use Rattle.session.proofs.Saying.{said-of}
 use Rattle.session.proofs.Replying.{answer-taken, answer-refused}
 use Rattle.session.proofs.replies.say_answer.Statement.{statement}

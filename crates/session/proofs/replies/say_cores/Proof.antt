@@ -13,7 +13,7 @@ use lib.Seq.{take-all}
 use borrow.Author.Tests.{leb-true, leb-false}
 use Rattle.text.specs.Format.{newline}
 use Rattle.text.specs.Output.{letters, fields, lineOf}
-use Rattle.text.proofs.Writing.{put-then, put-length, put-front}
+use Rattle.text.proofs.Writing.{put-then, put-front}
 use Rattle.session.proofs.replies.say_cores.Statement.{statement}
 use Rattle.session.proofs.replies.say_cores.Tie as tie
 

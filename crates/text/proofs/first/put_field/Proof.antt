@@ -1,10 +1,9 @@
 -- `text::first::put_field` meets its contract: a number has at most ten digits.
 -- Assumes nothing.
-use mathlib.Core.List.{List, [], _∷_}
-use mathlib.Core.Path.{_≡_}
-use Prim.Native.Nat.{ℕ, _+_, _≤_}
+use mathlib.Core.List.{_∷_}
+use Prim.Native.Nat.{_+_, _≤_}
 use native.Mathlib.Omega.{arith}
-use lib.ListN.{length, length-set}
+use lib.ListN.{length-set}
 use Rattle.text.specs.Decimal.{decimal}
 use Rattle.text.specs.Output.{space}
 use Rattle.text.specs.Written.{Put}

@@ -1,13 +1,13 @@
 -- `text::first::put_pair` meets its contract: the word has at most seven letters, and each number at most ten digits.
 -- Assumes nothing.
-use mathlib.Core.List.{List, [], _∷_, _++_}
+use mathlib.Core.List.{List, _∷_, _++_}
 use mathlib.Core.Path.{_≡_, _∙_, subst}
 use Prim.Native.Nat.{ℕ, _+_, _≤_}
 use native.Mathlib.Omega.{arith}
 use lib.ListN.{length, take, drop, set, length-set}
 use lib.Seq.{take-length}
 use Rattle.text.specs.Decimal.{decimal}
-use Rattle.text.specs.Output.{space, lineOf}
+use Rattle.text.specs.Output.{space}
 use Rattle.text.specs.Written.{Put}
 use Rattle.text.proofs.Writing.{put-one, put-then, put-length}
 use Rattle.text.proofs.Spelling.{pair-text}

@@ -1,7 +1,6 @@
 -- `text::row::copy` meets its contract: after k turns the first k bytes are in their place.
 -- Assumes nothing.
-use mathlib.Core.List.{List}
-use mathlib.Core.Path.{_≡_, refl, ap, sym, _∙_, subst}
+use mathlib.Core.Path.{_≡_, refl, _∙_, subst}
 use Prim.Native.Nat.{ℕ, _+_, _-_, _≤_, _<_}
 use native.Mathlib.Nat.{add-zero}
 use native.Mathlib.Omega.{arith}
@@ -9,7 +8,7 @@ use borrow.Author.Needs.{needs}
 use lib.ListN.{length, set, getD, take, drop, length-set, length-drop}
 use lib.Seq.{getD-drop}
 use Rattle.text.specs.Written.{Put}
-use Rattle.text.proofs.Writing.{put-none, put-next, put-length}
+use Rattle.text.proofs.Writing.{put-none, put-next}
 use Rattle.text.proofs.row.copy.Statement.{statement}
 use Rattle.text.proofs.row.copy.Tie as tie
 

@@ -1,9 +1,8 @@
 -- `text::row::put_row` meets its contract: the tick has at most ten digits, and the text of the cores stands after them.
 -- Assumes nothing.
-use mathlib.Core.Path.{_≡_}
-use Prim.Native.Nat.{_+_, _≤_}
+use Prim.Native.Nat.{_≤_}
 use native.Mathlib.Omega.{arith}
-use lib.ListN.{length, length-take}
+use lib.ListN.{length-take}
 use Rattle.text.proofs.Decimals.{decimal-length, count-most}
 use Rattle.text.proofs.Writing.{put-then, put-length}
 use borrow.Author.Needs.{needs}
