@@ -20,7 +20,7 @@ use Rattle.session.specs.declared.Session.{Session}
 use Rattle.session.specs.declared.Fed.{Fed}
 use Rattle.session.specs.declared.open.Opened.{Opened}
 use Rattle.session.specs.Operation.{operationOf, said, runAfter, isLast}
-use Rattle.session.specs.Talk.{Behind, nothing, unknown, linesFrom, replies, isDashes, talkFrom}
+use Rattle.session.specs.Talk.{Ahead, nothing, unknown, linesFrom, replies, isDashes, talkFrom}
 use Rattle.session.specs.Session.{spokenIn, spoken, stageOf, Begins, FedBy, stageAfter, Said, OpenedOf, overWith}
 use Rattle.session.proofs.Saying.{said-nothing}
 use Rattle.session.proofs.Replying.{stage-within, table-not-over}
@@ -35,16 +35,16 @@ within : (stage : Stage) (s : Session) → s .stage ≡ stage → s .from ≤ s 
 within stage s e f h = rw (le-leb (s .from) (s .held) f, le-leb (s .held) 2148 h) e
 
 pub speaks :
-    (stage : Stage) (s : Session) (e : Behind) (bs : List ℕ) → s .stage ≡ stage → s .from ≤ s .held → s .held ≤ 2148 → spoken s e bs ≡ spokenIn stage s e bs
+    (stage : Stage) (s : Session) (e : Ahead) (bs : List ℕ) → s .stage ≡ stage → s .from ≤ s .held → s .held ≤ 2148 → spoken s e bs ≡ spokenIn stage s e bs
 unfolding spoken
 speaks stage s e bs q f h = ap (λ (t : Stage). spokenIn t s e bs) (within stage s q f h)
 
 -- what a session says in the stage that it is in
-pub spoken-in : (s : Session) (t : Stage) (e : Behind) (bs : List ℕ) → stageOf s ≡ t → spoken s e bs ≡ spokenIn t s e bs
+pub spoken-in : (s : Session) (t : Stage) (e : Ahead) (bs : List ℕ) → stageOf s ≡ t → spoken s e bs ≡ spokenIn t s e bs
 unfolding spoken
 spoken-in s t e bs q = ap (λ (x : Stage). spokenIn x s e bs) q
 
-pub over-spoken : (s : Session) (e : Behind) (bs : List ℕ) → stageOf s ≡ Over → spoken s e bs ≡ []
+pub over-spoken : (s : Session) (e : Ahead) (bs : List ℕ) → stageOf s ≡ Over → spoken s e bs ≡ []
 unfolding spokenIn
 over-spoken s e bs q = spoken-in s Over e bs q
 
@@ -64,25 +64,25 @@ fed-in s t chunk before after r q w = record {
 }
 
 pub spoken-table :
-    (s : Session) (e : Behind) (bs : List ℕ)
+    (s : Session) (e : Ahead) (bs : List ℕ)
     → spokenIn Table s e bs ≡ talkFrom e (take (s .from) (s .bytes)) (take (s .held - s .from) (drop (s .from) (s .bytes))) bs
 unfolding spokenIn
 spoken-table s e bs = refl
 
-pub spoken-operations : (s : Session) (e : Behind) (bs : List ℕ) → spokenIn Operations s e bs ≡ replies (s .run) (linesFrom e (take (s .held) (s .bytes)) bs)
+pub spoken-operations : (s : Session) (e : Ahead) (bs : List ℕ) → spokenIn Operations s e bs ≡ replies (s .run) (linesFrom e (take (s .held) (s .bytes)) bs)
 unfolding spokenIn
 spoken-operations s e bs = refl
 
 -- after the table, and after an operation, nothing is held
 spoken-after :
-    (e : Behind) (over : Bool) (bytes : List ℕ) (run : Run) (bs : List ℕ)
+    (e : Ahead) (over : Bool) (bytes : List ℕ) (run : Run) (bs : List ℕ)
     → cond over [] (replies run (linesFrom e [] bs)) ≡ spoken (session (stageAfter over) bytes 0 0 run) e bs
 unfolding spoken spokenIn
 spoken-after e true bytes run bs = refl
 spoken-after e false bytes run bs = refl
 
 -- a session that is over says nothing
-pub over-silent : (s : Session) (taken length : ℕ) (e : Behind) (bs : List ℕ) → spoken (overWith s taken length .session) e bs ≡ []
+pub over-silent : (s : Session) (taken length : ℕ) (e : Ahead) (bs : List ℕ) → spoken (overWith s taken length .session) e bs ≡ []
 unfolding spoken spokenIn
 over-silent s taken length e bs = refl
 
@@ -103,8 +103,8 @@ nothing-due s = by-stage (stageOf s) refl
 
 -- what was said, and what the session after it says, make up what there was to say
 pub fed :
-    (f : Behind → List ℕ → List ℕ) (chunk before after text : List ℕ) (r : Fed) → r .taken ≤ length chunk → (0 < length chunk → 0 < r .taken)
-    → Said text before after (r .length) → ((e : Behind) (bs : List ℕ) → f e (take (r .taken) chunk ++ bs) ≡ text ++ spoken (r .session) e bs)
+    (f : Ahead → List ℕ → List ℕ) (chunk before after text : List ℕ) (r : Fed) → r .taken ≤ length chunk → (0 < length chunk → 0 < r .taken)
+    → Said text before after (r .length) → ((e : Ahead) (bs : List ℕ) → f e (take (r .taken) chunk ++ bs) ≡ text ++ spoken (r .session) e bs)
     → FedBy f chunk before after r
 fed f chunk before after text r t m s h = record {
   taken = t;
@@ -116,12 +116,12 @@ fed f chunk before after text r t m s h = record {
   at-once = λ bs. begins-with (sym (all unknown bs));
 }
   where
-    all : (e : Behind) (bs : List ℕ) → f e (take (r .taken) chunk ++ bs) ≡ take (r .length) after ++ spoken (r .session) e bs
+    all : (e : Ahead) (bs : List ℕ) → f e (take (r .taken) chunk ++ bs) ≡ take (r .length) after ++ spoken (r .session) e bs
     all e bs = h e bs ∙ ap (λ (x : List ℕ). x ++ spoken (r .session) e bs) (sym (s .front))
 
 -- the session ends with what was said, whatever comes
 pub fed-over :
-    (f : Behind → List ℕ → List ℕ) (s : Session) (chunk before after text : List ℕ) (n : ℕ) → Said text before after n
+    (f : Ahead → List ℕ → List ℕ) (s : Session) (chunk before after text : List ℕ) (n : ℕ) → Said text before after n
     → ((bs : List ℕ) → f nothing (chunk ++ bs) ≡ text) → ((bs : List ℕ) → Begins (f unknown (chunk ++ bs)) text)
     → FedBy f chunk before after (overWith s (length chunk) n)
 fed-over f s chunk before after text n p h w = record {
@@ -139,7 +139,7 @@ fed-over f s chunk before after text n p h w = record {
     all : take (length chunk) chunk ≡ chunk
     all = take-all (length chunk) chunk (omega arith)
 
-    said : (e : Behind) (bs : List ℕ) → text ≡ take n after ++ spoken (overWith s (length chunk) n .session) e bs
+    said : (e : Ahead) (bs : List ℕ) → text ≡ take n after ++ spoken (overWith s (length chunk) n .session) e bs
     said e bs =
         sym (p .front) ∙ sym (nil-right (take n after))
         ∙ ap (λ (x : List ℕ). take n after ++ x) (sym (over-silent s (length chunk) n e bs))
@@ -198,14 +198,14 @@ module _
 
     -- so the rest of the table is read alike
     pub table-on :
-        s .from ≤ s .held → (x : Behind) (bs : List ℕ)
+        s .from ≤ s .held → (x : Ahead) (bs : List ℕ)
         → spokenIn Table s x (take count chunk ++ bs) ≡ talkFrom x (take (s .from) bytes) (take (held - s .from) (drop (s .from) bytes)) bs
     unfolding spokenIn
     table-on f x bs =
         talk-more x (take (s .from) (s .bytes)) (take (s .held - s .from) (drop (s .from) (s .bytes))) chunk count bs some
         ∙ ap₂ (λ (d l : List ℕ). talkFrom x d l bs) (sym (same-table f)) (sym (line-on f))
 
-    pub operations-on : (x : Behind) (bs : List ℕ) → spokenIn Operations s x (take count chunk ++ bs) ≡ replies (s .run) (linesFrom x (take held bytes) bs)
+    pub operations-on : (x : Ahead) (bs : List ℕ) → spokenIn Operations s x (take count chunk ++ bs) ≡ replies (s .run) (linesFrom x (take held bytes) bs)
     unfolding spokenIn
     operations-on x bs = ap (replies (s .run)) (lines-more x (take (s .held) (s .bytes)) chunk count bs some ∙ ap (λ (l : List ℕ). linesFrom x l bs) (sym holds))
 
@@ -281,7 +281,7 @@ module _
 
     -- the line ends: what comes is read after a newline
     line-ends :
-        (held ≡ 2148 → ⊥) → (count ≡ length chunk → ⊥) → (x : Behind) (bs : List ℕ)
+        (held ≡ 2148 → ⊥) → (count ≡ length chunk → ⊥) → (x : Ahead) (bs : List ℕ)
         → spokenIn Table s x (take (count + 1) chunk ++ bs) ≡ talkFrom x (take (s .from) bytes) (take (held - s .from) (drop (s .from) bytes)) (newline ∷ bs)
     line-ends n q x bs =
         ap (spokenIn Table s x) (to-newline s chunk bytes 2148 end count held wide room fits e m p n q bs)
@@ -362,7 +362,7 @@ module _
 
     -- the line ends
     line-asked :
-        (held ≡ 13 → ⊥) → (count ≡ length chunk → ⊥) → (x : Behind) (bs : List ℕ)
+        (held ≡ 13 → ⊥) → (count ≡ length chunk → ⊥) → (x : Ahead) (bs : List ℕ)
         → spokenIn Operations s x (take (count + 1) chunk ++ bs) ≡ replies (s .run) (take held bytes ∷ linesFrom x [] bs)
     line-asked n q x bs =
         ap (spokenIn Operations s x) (to-newline s chunk bytes 13 end count held wide room few-bytes e m p n q bs)
@@ -377,7 +377,7 @@ module _
         subst (λ (x : Fed). FedBy (spokenIn Operations s) chunk before after x) (sym z)
         (fed-over (spokenIn Operations s) s chunk before after (said (operationOf (take held bytes)) (s .run)) n w (told nothing) (λ bs. begins-with (sym (told unknown bs))))
       where
-        told : (x : Behind) (bs : List ℕ) → spokenIn Operations s x (chunk ++ bs) ≡ said (operationOf (take held bytes)) (s .run)
+        told : (x : Ahead) (bs : List ℕ) → spokenIn Operations s x (chunk ++ bs) ≡ said (operationOf (take held bytes)) (s .run)
         told x bs =
             ap (λ (c : List ℕ). spokenIn Operations s x (c ++ bs)) (sym (take-append-drop (count + 1) chunk))
             ∙ ap (spokenIn Operations s x) (append-assoc (take (count + 1) chunk) (drop (count + 1) chunk) bs)

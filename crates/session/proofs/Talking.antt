@@ -16,7 +16,7 @@ use Rattle.text.proofs.Numbers.{found-nothing}
 use Rattle.run.specs.declared.Run.{Run}
 use Rattle.session.specs.declared.operations.Operation.the-variants.{Nothing}
 use Rattle.session.specs.Operation.{advanceBy, operationOf, plain, said, runAfter, isLast}
-use Rattle.session.specs.Talk.{Behind, nothing, unknown, lastLine, linesFrom, replies, opened, isDashes, unclosed, talkFrom}
+use Rattle.session.specs.Talk.{Ahead, nothing, unknown, lastLine, linesFrom, replies, opened, isDashes, unclosed, talkFrom}
 use Rattle.session.specs.Session.{Begins}
 
 pub nil-right : (l : List ℕ) → l ++ [] ≡ l
@@ -24,7 +24,7 @@ nil-right [] = refl
 nil-right (x ∷ l) = ap (λ (m : List ℕ). x ∷ m) (nil-right l)
 
 -- bytes that are no newlines go on with the line
-pub talk-more : (e : Behind) (d l chunk : List ℕ) (k : ℕ) (bs : List ℕ) → k ≤ lineLength chunk → talkFrom e d l (take k chunk ++ bs) ≡ talkFrom e d (l ++ take k chunk) bs
+pub talk-more : (e : Ahead) (d l chunk : List ℕ) (k : ℕ) (bs : List ℕ) → k ≤ lineLength chunk → talkFrom e d l (take k chunk ++ bs) ≡ talkFrom e d (l ++ take k chunk) bs
 unfolding talkFrom lineLength
 talk-more e d l chunk zero bs h = ap (λ (m : List ℕ). talkFrom e d m bs) (sym (nil-right l))
 talk-more e d l [] (suc k) bs h = absurd (not-suc-le-zero h)
@@ -38,7 +38,7 @@ talk-more e d l (b ∷ chunk) (suc k) bs h = go (eqb b newline) h (talk-more e d
     go true q ih = absurd (not-suc-le-zero q)
     go false q ih = ih (le-of-suc-le-suc q) ∙ ap (λ (m : List ℕ). talkFrom e d m bs) (append-snoc l b (take k chunk))
 
-pub lines-more : (e : Behind) (l chunk : List ℕ) (k : ℕ) (bs : List ℕ) → k ≤ lineLength chunk → linesFrom e l (take k chunk ++ bs) ≡ linesFrom e (l ++ take k chunk) bs
+pub lines-more : (e : Ahead) (l chunk : List ℕ) (k : ℕ) (bs : List ℕ) → k ≤ lineLength chunk → linesFrom e l (take k chunk ++ bs) ≡ linesFrom e (l ++ take k chunk) bs
 unfolding linesFrom lineLength
 lines-more e l chunk zero bs h = ap (λ (m : List ℕ). linesFrom e m bs) (sym (nil-right l))
 lines-more e l [] (suc k) bs h = absurd (not-suc-le-zero h)
@@ -117,11 +117,11 @@ unfolding talkFrom unclosed
 due-none d l h = rw (lt-leb 2149 (length d + length l) (omega arith))
 
 -- a line ends: `--` opens the run, any other is one more of the table
-pub talk-dashes : (e : Behind) (d l bs : List ℕ) → isDashes l ≡ true → talkFrom e d l (newline ∷ bs) ≡ opened d (linesFrom e [] bs)
+pub talk-dashes : (e : Ahead) (d l bs : List ℕ) → isDashes l ≡ true → talkFrom e d l (newline ∷ bs) ≡ opened d (linesFrom e [] bs)
 unfolding talkFrom
 talk-dashes e d l bs h = rw h
 
-pub talk-line : (e : Behind) (d l bs : List ℕ) → isDashes l ≡ false → talkFrom e d l (newline ∷ bs) ≡ talkFrom e (d ++ (l ++ (newline ∷ []))) [] bs
+pub talk-line : (e : Ahead) (d l bs : List ℕ) → isDashes l ≡ false → talkFrom e d l (newline ∷ bs) ≡ talkFrom e (d ++ (l ++ (newline ∷ []))) [] bs
 unfolding talkFrom
 talk-line e d l bs h = rw h
 
@@ -177,7 +177,7 @@ replies-due r l (b ∷ bs) h = go (eqb b newline) (replies-due r (l ++ (b ∷ []
     go false x = x
 
 -- a line ends
-pub lines-line : (e : Behind) (l bs : List ℕ) → linesFrom e l (newline ∷ bs) ≡ l ∷ linesFrom e [] bs
+pub lines-line : (e : Ahead) (l bs : List ℕ) → linesFrom e l (newline ∷ bs) ≡ l ∷ linesFrom e [] bs
 unfolding linesFrom
 lines-line e l bs = refl
 

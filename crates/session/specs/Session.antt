@@ -5,15 +5,15 @@ use mathlib.Core.Path.{_≡_}
 use Prim.Native.Nat.{ℕ, _-_, _≤_, _<_}
 use lib.ListN.{length, take, drop}
 use lib.Dec.{leb}
-use Rattle.session.specs.Talk.{Behind, nothing, unknown, linesFrom, replies, opened, talkFrom, talk, due}
+use Rattle.session.specs.Talk.{Ahead, nothing, unknown, linesFrom, replies, opened, talkFrom, talk, due}
 use Rattle.session.specs.declared.Stage.{Stage}
 use Rattle.session.specs.declared.Stage.the-variants.{Table, Operations, Over}
 use Rattle.session.specs.declared.Session.{Session}
 use Rattle.session.specs.declared.Fed.{Fed}
 use Rattle.session.specs.declared.open.Opened.{Opened}
 
--- what a session in a stage says to the bytes bs, by what stands behind them
-unfoldable pub spokenIn : Stage → Session → Behind → List ℕ → List ℕ
+-- what a session in a stage says to the bytes bs, by what lies ahead of them
+unfoldable pub spokenIn : Stage → Session → Ahead → List ℕ → List ℕ
 spokenIn Table s e bs = talkFrom e (take (s .from) (s .bytes)) (take (s .held - s .from) (drop (s .from) (s .bytes))) bs
 spokenIn Operations s e bs = replies (s .run) (linesFrom e (take (s .held) (s .bytes)) bs)
 spokenIn Over s e bs = []
@@ -28,8 +28,8 @@ isOver Table = false
 isOver Operations = false
 isOver Over = true
 
--- what a session says to the bytes bs; where nobody knows what stands behind them, what it must have said
-unfoldable pub spoken : Session → Behind → List ℕ → List ℕ
+-- what a session says to the bytes bs; where nobody knows what lies ahead, what it must have said
+unfoldable pub spoken : Session → Ahead → List ℕ → List ℕ
 spoken s e bs = spokenIn (stageOf s) s e bs
 
 -- a text begins with another
@@ -38,7 +38,7 @@ Begins first text = (rest : List ℕ) × (text ≡ first ++ rest)
 
 -- where f says what is said to all bytes to come: of the chunk a part is taken, at least a byte where there is one; what is said to it stands at the
 -- front of the buffer, whatever comes after, and the session that is handed back says the rest. No answer waits: what had to be said is said
-pub record FedBy (f : Behind → List ℕ → List ℕ) (chunk before after : List ℕ) (r : Fed) : Type 0 where
+pub record FedBy (f : Ahead → List ℕ → List ℕ) (chunk before after : List ℕ) (r : Fed) : Type 0 where
   pub taken : r .taken ≤ length chunk
   pub moves : 0 < length chunk → 0 < r .taken
   pub room : r .length ≤ length before

@@ -11,19 +11,19 @@ use Rattle.run.specs.declared.Run.{Run}
 use Rattle.run.specs.Start.{startOf}
 use Rattle.session.specs.Operation.{operationOf, answerLine, said, runAfter, isLast}
 
--- what stands behind the bytes that have come: nothing, the input ends; or nobody knows
-pub data Behind : Type 0 where
-  nothing : Behind
-  unknown : Behind
+-- what lies ahead of the bytes that have come: nothing, the input ends; or nobody knows
+pub data Ahead : Type 0 where
+  nothing : Ahead
+  unknown : Ahead
 
 -- bytes after the last newline: where the input ends they are a last line that lacks its newline, if there are any; else they are no line yet
-unfoldable pub lastLine : Behind → List ℕ → List (List ℕ)
+unfoldable pub lastLine : Ahead → List ℕ → List (List ℕ)
 lastLine nothing [] = []
 lastLine nothing (b ∷ l) = (b ∷ l) ∷ []
 lastLine unknown l = []
 
 -- the lines of the bytes bs, where the bytes l stand before them
-unfoldable pub linesFrom : Behind → List ℕ → List ℕ → List (List ℕ)
+unfoldable pub linesFrom : Ahead → List ℕ → List ℕ → List (List ℕ)
 linesFrom e l [] = lastLine e l
 linesFrom e l (b ∷ bs) = cond (eqb b newline) (l ∷ linesFrom e [] bs) (linesFrom e (l ++ (b ∷ [])) bs)
 
@@ -57,12 +57,12 @@ isDashes (a ∷ b ∷ c ∷ l) = false
 
 -- what is said where the whole lines `table` and the bytes l of one more have come, and no line `--`: where the input ends the whole of it is the
 -- table; else nothing yet, but the refusal once 2,149 bytes have come
-unfoldable pub unclosed : Behind → List ℕ → List ℕ → List ℕ
+unfoldable pub unclosed : Ahead → List ℕ → List ℕ → List ℕ
 unclosed nothing table l = opened (cond (isDashes l) table (table ++ l)) []
 unclosed unknown table l = cond (leb 2149 (length table + length l)) (lineOf (letters "refused") (1 ∷ 0 ∷ [])) []
 
 -- what is said where the whole lines `table` and the bytes l of one more stand before the bytes bs: the first line `--` ends the table
-unfoldable pub talkFrom : Behind → List ℕ → List ℕ → List ℕ → List ℕ
+unfoldable pub talkFrom : Ahead → List ℕ → List ℕ → List ℕ → List ℕ
 talkFrom e table l [] = unclosed e table l
 talkFrom e table l (b ∷ bs) =
     cond (eqb b newline)
@@ -73,6 +73,7 @@ talkFrom e table l (b ∷ bs) =
 unfoldable pub talk : List ℕ → List ℕ
 talk bs = talkFrom nothing [] [] bs
 
--- what it must have printed once these bytes have come: start's answer once the line `--` has ended, and the answer to each line that has ended since
+-- what it must have printed once these bytes have come: start's answer once the line `--` has ended, and the answer to each line that has ended since;
+-- or the refusal of a table that is too long
 unfoldable pub due : List ℕ → List ℕ
 due bs = talkFrom unknown [] [] bs

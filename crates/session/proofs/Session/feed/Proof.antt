@@ -2,7 +2,7 @@ use borrow.Author.Needs.{needs}
 use mathlib.Core.Path.{_≡_, sym, _∙_, subst}
 use mathlib.Core.List.{List, [], _++_}
 use Prim.Native.Nat.{ℕ}
-use Rattle.session.specs.Talk.{Behind, nothing, unknown}
+use Rattle.session.specs.Talk.{Ahead, nothing, unknown}
 use Rattle.session.specs.Session.{spoken, FedBy}
 use Rattle.session.proofs.Talking.{begins-with}
 use Rattle.session.proofs.Saying.{said-nothing}
@@ -45,7 +45,7 @@ returns-3 c =
     subst (λ (x : Fed). FedBy (spoken (a .self)) (a .chunk .now) (a .out .now) (a .out .now) x) (sym (c .over .ensures))
     (fed-over (spoken (a .self)) (a .self) (a .chunk .now) (a .out .now) (a .out .now) [] 0 (said-nothing (a .out .now)) (λ bs. silent nothing bs) (λ bs. begins-with (sym (silent unknown bs))))
   where
-    silent : (e : Behind) (bs : List ℕ) → spoken (c .before .before .before .before .before .args .self) e (c .before .before .before .before .before .args .chunk .now ++ bs) ≡ []
+    silent : (e : Ahead) (bs : List ℕ) → spoken (c .before .before .before .before .before .args .self) e (c .before .before .before .before .before .args .chunk .now ++ bs) ≡ []
     silent e bs = over-spoken (c .before .before .before .before .before .args .self) e (c .before .before .before .before .before .args .chunk .now ++ bs) (sym (c .before .before .before .stage-of .ensures) ∙ c .before .enum-told3 .given .1)
 
 pub feed-spec : {M : Type 1} → statement M
