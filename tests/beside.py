@@ -1,0 +1,70 @@
+"""What the outside tests share: where things are, the simulator by another hand, the vectors, and the count that is the last line of each."""
+import contextlib
+import os
+import pathlib
+import subprocess
+import sys
+import tempfile
+
+ROOT = pathlib.Path(__file__).resolve().parents[1]
+passed = failed = 0
+
+
+def program(name):
+    return str(ROOT / "target" / "bin" / name)
+
+
+def table(name):
+    return (ROOT / "tables" / name).read_bytes()
+
+
+def said(command, text):
+    return subprocess.run(command, input=text, capture_output=True, timeout=60).stdout
+
+
+@contextlib.contextmanager
+def simulator():
+    """The path of tests/gangsim.rs, built."""
+    with tempfile.TemporaryDirectory() as work:
+        built = os.path.join(work, "gangsim")
+        subprocess.run(["rustc", "-O", "-o", built, str(ROOT / "tests" / "gangsim.rs")], check=True, stderr=subprocess.DEVNULL)
+        yield built
+
+
+def vectors(kind):
+    """The name, the input and the output of each vector of a kind."""
+    folder = ROOT / "tests" / "vectors"
+    for line in (folder / "INDEX").read_text().splitlines():
+        number, its = line.split()[:2]
+        if its == kind:
+            yield f"vector {number}", (folder / f"{number}.in").read_bytes(), (folder / f"{number}.out").read_bytes()
+
+
+def check(name, holds, why=""):
+    global passed, failed
+    if holds:
+        passed += 1
+    else:
+        failed += 1
+        print(f"{name}: {why}")
+
+
+def compare(name, text, expected, got):
+    check(name, expected == got, f"expected {expected!r}, got {got!r}, for {text!r}")
+
+
+def case(answer):
+    """The case of an answer's first line: its word, of a refusal with the number."""
+    return b" ".join(answer.split()[: 2 if answer.startswith(b"refused") else 1]).decode()
+
+
+def occur(cases, words, more=""):
+    """Says how often each case came, and checks that each of the words did."""
+    print("answers: " + ", ".join(f"{word} {count}" for word, count in sorted(cases.items())) + more)
+    for word in words:
+        check(f"the answer {word} occurs", cases[word] > 0, "not once")
+
+
+def finish():
+    print(f"{passed} passed, {failed} failed")
+    sys.exit(failed != 0)
