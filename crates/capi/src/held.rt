@@ -63,7 +63,7 @@ fn count_word(count: usize) -> u32
 }
 
 // Writes the run into the first 259 words; what stands behind them stays.
-pub fn put_run(run: Run, words: &mut [u32])
+pub(crate) fn put_run(run: Run, words: &mut [u32])
     requires { ⌜ 259 ≤ length (now words) ⌝ }
     ensures { λ r. ⌜ now (words .exit) ≡ encode run ++ drop 259 (now (words .entry)) ⌝ }
 {
@@ -120,7 +120,7 @@ fn place_in(words: &[u32], at: usize) -> Task
 }
 
 // Whether the buffer holds a run.
-pub fn holds(words: &[u32]) -> bool
+pub(crate) fn holds(words: &[u32]) -> bool
     ensures { λ r. ⌜ r ≡ holds (now (words .entry)) ⌝ }
 {
     if words.len() < 259 {
@@ -142,7 +142,7 @@ pub fn holds(words: &[u32]) -> bool
 }
 
 // The run that stands in front of the buffer.
-pub fn run_in(words: &[u32]) -> Run
+pub(crate) fn run_in(words: &[u32]) -> Run
     requires { ⌜ 259 ≤ length (now words) ⌝ }
     ensures { λ r. ⌜ r ≡ runIn (now (words .entry)) ⌝ }
 {
@@ -163,7 +163,7 @@ pub fn run_in(words: &[u32]) -> Run
 }
 
 // The row of the run that the buffer holds; 14 where it holds none.
-pub fn row_of(words: &[u32]) -> Row
+pub(crate) fn row_of(words: &[u32]) -> Row
     ensures { λ r. ⌜ r ≡ rowFrom (decode (now (words .entry))) ⌝ }
 {
     if holds(words) {
@@ -178,7 +178,7 @@ pub fn row_of(words: &[u32]) -> Row
 }
 
 // Writes the row's 64 bytes; what stands behind them stays.
-pub fn put_row(bytes: [u8; 64], row: &mut [u8])
+pub(crate) fn put_row(bytes: [u8; 64], row: &mut [u8])
     requires { ⌜ 64 ≤ length (now row) ⌝ }
     ensures { λ r. ⌜ now (row .exit) ≡ bytes ++ drop 64 (now (row .entry)) ⌝ }
 {
@@ -190,7 +190,7 @@ pub fn put_row(bytes: [u8; 64], row: &mut [u8])
 }
 
 // Advances the run that the buffer holds; 14 where it holds none.
-pub fn advance(words: &mut [u32], reports: u32) -> Answer
+pub(crate) fn advance(words: &mut [u32], reports: u32) -> Answer
     ensures { λ r. ⌜ record { answer = r; buffer = now (words .exit) } ≡ advanceFrom (decode (now (words .entry))) reports (now (words .entry)) ⌝ }
 {
     if holds(words) {

@@ -5,7 +5,7 @@ use crate::told::Told;
 use demand::Replayed;
 
 // Whether the replay's own lent slices had room.
-pub fn had_room(replayed: Replayed) -> bool
+pub(crate) fn had_room(replayed: Replayed) -> bool
     ensures { λ r. ⌜ r ≡ hadRoom replayed ⌝ }
 {
     match replayed {
@@ -17,7 +17,7 @@ pub fn had_room(replayed: Replayed) -> bool
 }
 
 // The cases of a replay that had room.
-pub fn of_replayed(replayed: Replayed) -> Told
+pub(crate) fn of_replayed(replayed: Replayed) -> Told
     ensures { λ r. ⌜ r ≡ ofReplayed replayed ⌝ }
 {
     match replayed {

@@ -15,7 +15,7 @@ pub struct Told {
 }
 
 // The judge's four cases.
-pub fn of_verdict(verdict: Verdict) -> Told
+pub(crate) fn of_verdict(verdict: Verdict) -> Told
     ensures { λ r. ⌜ r ≡ ofVerdict verdict ⌝ }
 {
     match verdict {
@@ -43,7 +43,7 @@ pub fn of_verdict(verdict: Verdict) -> Told
 }
 
 // The plan's two cases.
-pub fn of_planned(planned: Planned) -> Told
+pub(crate) fn of_planned(planned: Planned) -> Told
     ensures { λ r. ⌜ r ≡ ofPlanned planned ⌝ }
 {
     match planned {
@@ -61,7 +61,7 @@ pub fn of_planned(planned: Planned) -> Told
 }
 
 // What start, row and advance answer.
-pub fn of_answer(answer: Answer) -> Told
+pub(crate) fn of_answer(answer: Answer) -> Told
     ensures { λ r. ⌜ r ≡ ofAnswer answer ⌝ }
 {
     match answer {
@@ -79,7 +79,7 @@ pub fn of_answer(answer: Answer) -> Told
 }
 
 // Writes the three words; what stands behind them stays.
-pub fn put(told: Told, answer: &mut [u32])
+pub(crate) fn put(told: Told, answer: &mut [u32])
     requires { ⌜ 3 ≤ length (now answer) ⌝ }
     ensures { λ r. ⌜ now (answer .exit) ≡ written told (now (answer .entry)) ⌝ }
 {

@@ -22,7 +22,7 @@ fn put(row: [u8; 64], count: usize, at: usize, out: &mut [u8])
 }
 
 // Writes rows `a` up to but not including `b` of a full-length run that meets every deadline before `b`.
-pub fn write(table: Loaded, a: u32, b: u32, out: &mut [u8])
+pub(crate) fn write(table: Loaded, a: u32, b: u32, out: &mut [u8])
     requires { ⌜ Fit table × (table .cores ≤ 64) × (b ≤ table .horizon) × (any b (missedIn (tableIn table)) ≡ false) × ((b - a) * table .cores ≤ length (now out)) ⌝ }
     ensures { λ _. ⌜ now (out .exit) ≡ over (tableIn table) a b (now (out .entry)) ⌝ }
 {

@@ -5,7 +5,7 @@ ghost use Rattle.printer.specs.Cells.{cells};
 use text::row;
 
 // Writes the positions of the cores, and a newline, where the places of the set `claims` claim; the answer is where they end.
-pub fn put_cells(
+pub(crate) fn put_cells(
     rule: u32,
     cores: u32,
     claims: u32,

@@ -5,7 +5,7 @@ ghost use lib.Dec.{eqb};
 ghost use Rattle.model.specs.Search.{bit};
 
 // Whether a place is in a set, bit 0 for position 1.
-pub fn has(set: u32, place: u32) -> bool
+pub(crate) fn has(set: u32, place: u32) -> bool
     requires { ⌜ place < 32 ⌝ }
     ensures { λ r. ⌜ r ≡ bit set place ⌝ }
 {
@@ -13,7 +13,7 @@ pub fn has(set: u32, place: u32) -> bool
 }
 
 // The set with a place added where `on` is true.
-pub fn with(set: u32, place: u32, on: bool) -> u32
+pub(crate) fn with(set: u32, place: u32, on: bool) -> u32
     requires { ⌜ place < 32 ⌝ }
     ensures { λ r. ⌜ ((p : ℕ) → bit r p ≡ bit set p || (on && eqb p place)) ⌝ }
 {

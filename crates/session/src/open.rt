@@ -19,7 +19,7 @@ pub struct Opened {
 }
 
 // Whether a line is `--`.
-pub fn is_dashes(line: &[u8]) -> bool
+pub(crate) fn is_dashes(line: &[u8]) -> bool
     ensures { λ r. ⌜ r ≡ isDashes (now (line .entry)) ⌝ }
 {
     if line.len() == 2 {
@@ -29,7 +29,7 @@ pub fn is_dashes(line: &[u8]) -> bool
 }
 
 // Where the table ends, whose last line begins at `from`: before a line `--`, else after it.
-pub fn table_end(bytes: &[u8], from: usize, held: usize) -> usize
+pub(crate) fn table_end(bytes: &[u8], from: usize, held: usize) -> usize
     requires { ⌜ (from ≤ held) × (held ≤ length (now bytes)) ⌝ }
     ensures { λ r. ⌜ r ≡ cond (isDashes (take (held - from) (drop from (now (bytes .entry))))) from held ⌝ }
 {
@@ -50,7 +50,7 @@ fn start(table: &[u8]) -> Started
 }
 
 // Starts the run of a table's text, and writes start's answer; a text longer than any table can be is turned down, and ends the session.
-pub fn begin(table: &[u8], out: &mut [u8; 267]) -> Opened
+pub(crate) fn begin(table: &[u8], out: &mut [u8; 267]) -> Opened
     ensures { λ r. ⌜ OpenedOf (now (table .entry)) (now (out .entry)) (now (out .exit)) r ⌝ }
 {
     let started = start(table);

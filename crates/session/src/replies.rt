@@ -21,14 +21,14 @@ pub struct Reply {
 }
 
 // Writes a refusal with number and position; the answer is where it ends.
-pub fn say_refused(number: u32, position: u32, out: &mut [u8; 267]) -> usize
+pub(crate) fn say_refused(number: u32, position: u32, out: &mut [u8; 267]) -> usize
     ensures { λ r. ⌜ Said (lineOf (letters "refused") (number ∷ position ∷ [])) (now (out .entry)) (now (out .exit)) r ⌝ }
 {
     first::put_pair(out, b"refused", number, position)
 }
 
 // Writes a word and a newline; the answer is where they end.
-pub fn say_word(word: &[u8], out: &mut [u8; 267]) -> usize
+pub(crate) fn say_word(word: &[u8], out: &mut [u8; 267]) -> usize
     requires { ⌜ length (now word) ≤ 16 ⌝ }
     ensures { λ r. ⌜ Said (plain (now (word .entry))) (now (out .entry)) (now (out .exit)) r ⌝ }
 {
@@ -38,7 +38,7 @@ pub fn say_word(word: &[u8], out: &mut [u8; 267]) -> usize
 }
 
 // Writes an answer: the word where it is taken.
-pub fn say_answer(word: &[u8], answer: Answer, out: &mut [u8; 267]) -> usize
+pub(crate) fn say_answer(word: &[u8], answer: Answer, out: &mut [u8; 267]) -> usize
     requires { ⌜ length (now word) ≤ 16 ⌝ }
     ensures { λ r. ⌜ Said (answerLine (now (word .entry)) answer) (now (out .entry)) (now (out .exit)) r ⌝ }
 {
@@ -72,7 +72,7 @@ fn say_row(cores: u32, row: Row, out: &mut [u8; 267]) -> usize
 }
 
 // Does an operation, and writes what is said to it.
-pub fn answer(run: Run, operation: Operation, out: &mut [u8; 267]) -> Reply
+pub(crate) fn answer(run: Run, operation: Operation, out: &mut [u8; 267]) -> Reply
     ensures { λ r. ⌜ Said (said operation run) (now (out .entry)) (now (out .exit)) (r .length) × (r .run ≡ runAfter operation run) × (r .last ≡ isLast operation) ⌝ }
 {
     match operation {

@@ -50,7 +50,7 @@ fn task_of(words: &[u32], number: usize) -> Task
 }
 
 // The walk along the chain of a table whose header passes.
-pub fn walk(words: &[u32]) -> Walked
+pub(crate) fn walk(words: &[u32]) -> Walked
     requires { ⌜ headerNumber (now words) ≡ 0 ⌝ }
     ensures { λ r. ⌜ WalkOf (now (words .entry)) r ⌝ }
 {

@@ -10,7 +10,7 @@ use crate::Loaded;
 use crate::Task;
 
 // A refusal, with zeros beside it.
-pub fn refused(number: u32, position: u32) -> Loaded
+pub(crate) fn refused(number: u32, position: u32) -> Loaded
     ensures { λ r. ⌜ r ≡ refusal number position ⌝ }
 {
     let none = Task {
@@ -79,7 +79,7 @@ fn first_out(cores: u32, tasks: [Task; 32], count: usize) -> usize
 }
 
 // A table whose chain ends: number 7 or 8 of the first task that breaks one, or by the horizon.
-pub fn by_tasks(cores: u32, rule: u32, tasks: [Task; 32], count: usize) -> Loaded
+pub(crate) fn by_tasks(cores: u32, rule: u32, tasks: [Task; 32], count: usize) -> Loaded
     requires { ⌜ 1 ≤ count ⌝ ∗ ⌜ count ≤ 32 ⌝ ∗ ⌜ tasks ≡ places (tasksOf tasks count) ⌝ }
     ensures { λ r. ⌜ r ≡ answered (byTasks (tableWith cores rule (tasksOf tasks count))) (passing rule (tableWith cores rule (tasksOf tasks count))) ⌝ }
 {

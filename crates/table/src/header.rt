@@ -3,7 +3,7 @@ ghost use mathlib.Core.Path.{_≡_};
 ghost use Rattle.table.specs.Answer.{headerNumber};
 
 // The first of the numbers 1 to 4 that applies, or 0.
-pub fn header_number(words: &[u32]) -> u32
+pub(crate) fn header_number(words: &[u32]) -> u32
     ensures { λ r. ⌜ r ≡ headerNumber (now (words .entry)) ⌝ }
 {
     if words.len() < 3 {

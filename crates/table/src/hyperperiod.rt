@@ -10,7 +10,7 @@ use crate::Task;
 const LIMIT: u64 = 10_000_000;
 
 // The greatest common divisor.
-pub fn gcd(a: u64, b: u64) -> u64
+pub(crate) fn gcd(a: u64, b: u64) -> u64
     ensures { λ r. ⌜ Gcd a b r ⌝ }
 {
     let mut x = a;
@@ -24,7 +24,7 @@ pub fn gcd(a: u64, b: u64) -> u64
 }
 
 // P, or 10,000,001 where it is above 10,000,000.
-pub fn hyperperiod(tasks: [Task; 32], count: usize) -> u32
+pub(crate) fn hyperperiod(tasks: [Task; 32], count: usize) -> u32
     requires { ⌜ count ≤ 32 ⌝ ∗ ⌜ InLimits tasks count ⌝ }
     ensures { λ r. ⌜ r ≡ min (hyperperiod (tasksOf tasks count)) 10000001 ⌝ }
 {

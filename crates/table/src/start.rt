@@ -9,7 +9,7 @@ use crate::Task;
 const FAR: u32 = 67_108_864;
 
 // The first release of the task that is not before t: its offset where t is earlier.
-pub fn release_from(task: Task, t: u32) -> u32
+pub(crate) fn release_from(task: Task, t: u32) -> u32
     requires { ⌜ Within task ⌝ ∗ ⌜ t ≤ 32000000 ⌝ }
     ensures { λ r. ⌜ r ≡ releaseFrom (taskOf task) t ⌝ }
 {
@@ -23,7 +23,7 @@ pub fn release_from(task: Task, t: u32) -> u32
 }
 
 // The last S.
-pub fn last_start(tasks: [Task; 32], count: usize) -> u32
+pub(crate) fn last_start(tasks: [Task; 32], count: usize) -> u32
     requires { ⌜ 1 ≤ count ⌝ ∗ ⌜ count ≤ 32 ⌝ ∗ ⌜ InLimits tasks count ⌝ }
     ensures { λ r. ⌜ r ≡ lastS (tasksOf tasks count) ⌝ }
 {
