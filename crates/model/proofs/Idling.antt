@@ -72,7 +72,7 @@ module _ (τs : List Task) (m : ℕ) where
 pub idling-greedy : (τs : List Task) (m n : ℕ) → rowOf (under idling τs m) (full (under idling τs m) n) ≡ rowOf (under greedy τs m) (full (under greedy τs m) n)
 idling-greedy τs m n = ap (row m) (same-grants τs m n (same-full τs m n))
 
--- THE THEOREM (001, definition 16): under idling the cores, and so the row, of any book are those of the full-length run at its tick
+-- THE THEOREM (Goossens and Berten, definition 16): under idling the cores, and so the row, of any book are those of the full-length run at its tick
 pub idling-grants : (s : Table) → AllSound s → s .rule ≡ idling → (xs : List ℕ) → grantsOf s (book s xs) ≡ grantsOf s (full s (book s xs .tick))
 idling-grants s ok e xs =
     ap (λ (x : List Claimant). grants (s .rule) x (upFrom 0 (s .cores)))

@@ -18,26 +18,8 @@ use Rattle.model.specs.Grants.{claimants, grants, some}
 use Rattle.model.specs.Search.{upFrom}
 use Rattle.model.specs.Task.{AllSound, Rule, Table, greedy, idling, limited, newest, nobody, task}
 use Rattle.model.specs.Verdict.{FirmRule, Rising}
--- fewer claims take no cores from a task that still claims
-use mathlib.Core.Bool.{Bool, false, false≢true, true}
-use mathlib.Core.List.{List, [], _∷_}
-use mathlib.Core.Logic.{inl, inr, _⊎_}
-use mathlib.Core.Path.{ap, refl, subst, subst₂, sym, _∙_, _≡_}
-use Prim.Native.Nat.{_<_, suc, ℕ}
-use native.Mathlib.Nat.{suc-inj, suc-ne-zero}
-use native.Mathlib.Omega.{arith}
-use lib.ListN.{getD, length, length-replicate, replicate}
-use Rattle.model.proofs.Bools.{and-both, and-left, and-right, not-false-true}
-use Rattle.model.proofs.Grants.{RisingList, claimants-same, greedy-limited, limited-mono}
-use Rattle.model.proofs.Jobs.{Good, Letting, abreast, after-release, before-due, claims-less, claims-open, idle-claims, longer-left, longer-right, newest-is, next-claimed}
-use Rattle.model.proofs.Runs.{GoodBook, book-run, book-tick, full-run, full-whole, good-run, good-start, good-step, kept, run}
-use Rattle.model.specs.Book.{Book, book, claims, fresh, full, inRow, jobClaims, none, served, emptyBook, step, taskClaims}
-use Rattle.model.specs.Compare.{Behind, Longer, NoneBehind, NoneLonger}
-use Rattle.model.specs.Grants.{claimants, grants, some}
-use Rattle.model.specs.Search.{upFrom}
-use Rattle.model.specs.Task.{AllSound, Rule, Table, greedy, idling, limited, newest, task}
-use Rattle.model.specs.Verdict.{FirmRule}
 
+-- fewer claims take no cores from a task that still claims
 abbrev pub GrantsMono : Rule → List ℕ → Type 0
 GrantsMono r ws =
     (c d : ℕ → Bool) (F : List ℕ) → ((q : ℕ) → q < length ws → c q ≡ true → d q ≡ true)

@@ -1,4 +1,4 @@
--- How far the judge looks (scope, 'Look-ahead and verdict'; 001, theorem 25): S, P and the horizon.
+-- How far the judge looks (scope, 'Look-ahead and verdict'; Goossens and Berten, theorem 25): S, P and the horizon.
 use mathlib.Core.List.{List, [], _∷_}
 use mathlib.Core.Path.{_≡_}
 use Prim.Native.Nat.{_%_, _*_, _+_, _-_, _/_, suc, zero, ℕ, _≤_}
