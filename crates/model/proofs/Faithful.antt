@@ -15,9 +15,9 @@ use Rattle.model.proofs.FullLength.{late-job}
 use Rattle.model.proofs.Jobs.{after-release, before-due, newest-is}
 use Rattle.model.proofs.Runs.{full-tick, missed-at}
 use Rattle.model.proofs.Search.{any-of, any-some}
-use Rattle.model.proofs.Starts.{S-release, hyperperiod-divides, hyperperiod-least, release-first, release-from}
+use Rattle.model.proofs.Starts.{Periods, S-release, hyperperiod-divides, hyperperiod-least, hyperperiod-pos, release-first, release-from}
 use Rattle.model.specs.Book.{Answer, Book, Job, Missed, answer, answersFrom, book, bookFrom, claims, emptyBook, enter, entered, full, jobClaims, late, misreported, refused, reportable, step, taken, takenIn, taskClaims}
-use Rattle.model.specs.Horizon.{Later, S, hyperperiod, releaseFrom}
+use Rattle.model.specs.Horizon.{Later, LeastCommonMultiple, S, hyperperiod, releaseFrom}
 use Rattle.model.specs.Search.{bit}
 use Rattle.model.specs.Task.{AllSound, Rule, Sound, Table, Task, due, newest, release, task}
 use Rattle.model.specs.Verdict.{missedAt, missedIn}
@@ -145,12 +145,12 @@ S-later s ok p l =
       offset = λ h. le-antisymm (omega (arith, at-zero h)) (omega arith);
     }
 
--- P is a common multiple of the periods ..
-pub P-multiple : (s : Table) → AllSound s → (p : ℕ) → p < length (s .tasks) → (m : ℕ) × (hyperperiod (s .tasks) ≡ m * task s p .period)
-P-multiple s ok p l = hyperperiod-divides (s .tasks) p (λ q h. le-trans (ok q h .deadline-pos) (ok q h .constrained)) l
-
--- .. and the least that is not 0
-pub P-least :
-    (s : Table) → AllSound s → (n : ℕ) → 0 < n → ((p : ℕ) → p < length (s .tasks) → (m : ℕ) × (n ≡ m * task s p .period))
-    → hyperperiod (s .tasks) ≤ n
-P-least s ok n h d = hyperperiod-least (s .tasks) (λ q l. le-trans (ok q l .deadline-pos) (ok q l .constrained)) n h d
+-- P is the least of the positive common multiples of the periods
+pub P-exact : (s : Table) → AllSound s → LeastCommonMultiple (s .tasks) (hyperperiod (s .tasks))
+P-exact s ok =
+    let periods : Periods (s .tasks) = λ p l. le-trans (ok p l .deadline-pos) (ok p l .constrained) in
+    record {
+      positive = hyperperiod-pos (s .tasks);
+      common = λ p. hyperperiod-divides (s .tasks) p periods;
+      least = hyperperiod-least (s .tasks) periods;
+    }
