@@ -3,7 +3,7 @@ use mathlib.Core.Bool.{_&&_, Bool, false, not, true, true≢false}
 use mathlib.Core.List.{List, [], _∷_}
 use mathlib.Core.Logic.{_↔_}
 use mathlib.Core.Path.{refl, subst, sym, _∙_, _≡_}
-use Prim.Native.Nat.{_*_, _+_, _<_, suc, ℕ, _≤_}
+use Prim.Native.Nat.{_+_, _<_, suc, ℕ, _≤_}
 use native.Mathlib.Nat.{add-zero, le-antisymm, le-of-eq, le-trans, mul-le-mul-left, mul-one, zero-add}
 use native.Mathlib.Omega.{arith}
 use lib.Dec.{eqb, leb}

@@ -155,6 +155,20 @@ takenIn [] = 0
 takenIn (taken ∷ ws) = suc (takenIn ws)
 takenIn (refused n p ∷ ws) = takenIn ws
 
+-- a report set goes before the others if its advance is taken, and is dropped if it is refused
+abbrev pub keep : Answer → ℕ → List ℕ → List ℕ
+keep taken x xs = x ∷ xs
+keep (refused n p) x xs = xs
+
+-- the report sets of those advances of the list that are taken, from book b on
+unfoldable pub takenFrom : Table → Book → List ℕ → List ℕ
+takenFrom s b [] = []
+takenFrom s b (x ∷ xs) = keep (answer s b x) x (takenFrom s (enter s x b) xs)
+
+-- the taken advances of a list: without the refused ones its book is the same (`taken-book`), and all are taken (`taken-all`)
+abbrev pub takenOf : Table → List ℕ → List ℕ
+takenOf s xs = takenFrom s emptyBook xs
+
 -- the row asked before each advance of the list, and after the last
 unfoldable pub rowsFrom : Table → Book → List ℕ → List Asked
 rowsFrom s b [] = asked s b ∷ []
