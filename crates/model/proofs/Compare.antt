@@ -7,7 +7,7 @@ use mathlib.Core.Path.{refl, _≡_}
 use Prim.Native.Nat.{_<_, suc, zero, ℕ}
 use native.Mathlib.Omega.{arith}
 use lib.Dec.{eqb, ltb}
-use lib.ListN.{length, replicate}
+use lib.ListN.{replicate}
 use borrow.Author.Tests.{eq-eqb, eqb-true, lt-ltb, ltb-true, not-true}
 use Rattle.model.proofs.Bools.{and-both, and-left, and-right, or-cases, or-left, or-right}
 use Rattle.model.proofs.Examples.{B}
