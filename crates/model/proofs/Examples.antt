@@ -4,7 +4,7 @@ use mathlib.Core.Bool.{false, true}
 use mathlib.Core.List.{List, [], map, _∷_}
 use mathlib.Core.Path.{refl, _≡_}
 use Prim.Native.Nat.{ℕ}
-use Rattle.model.specs.Book.{Answer, Asked, answer, answersFrom, asked, claims, emptyBook, enter, fresh, full, late, misreported, refused, reportable, rowRefused, rowsFrom, served, shown, step, taken, work}
+use Rattle.model.specs.Book.{Answer, Asked, answer, answersFrom, asked, claims, emptyBook, enter, fresh, full, late, misreported, refused, reportable, rowRefused, rowsFrom, served, shown, step, taken, takenFrom, takenOf, work}
 use Rattle.model.specs.Grants.{claimants, given, grants, left}
 use Rattle.model.specs.Horizon.{S, horizon, hyperperiod, lcm}
 use Rattle.model.specs.Row.{owner, row}
@@ -107,3 +107,8 @@ examples = refl
 pub window : map (λ n. claims greedy (t 1 1 5 3 5) 0 n fresh) (upFrom 0 6) ≡ false ∷ true ∷ true ∷ true ∷ false ∷ false ∷ []
 unfolding claims upFrom
 window = refl
+
+-- of these advances of B the second and the third are taken: the first is refused by 16, the last two by 15
+pub dropped : takenOf (B greedy) (2 ∷ 1 ∷ 0 ∷ 0 ∷ 8 ∷ []) ≡ 1 ∷ 0 ∷ []
+unfolding takenFrom enter answer late misreported reportable any least step served work claims claimants grants given left memb upFrom
+dropped = refl

@@ -5,7 +5,7 @@ use mathlib.Core.Path.{ap, fun-ext, refl, subst, sym, _∙_, _≡_}
 use Prim.Native.Nat.{_+_, _<_, suc, zero, ℕ, _≤_}
 use native.Mathlib.Nat.{add-suc, add-zero, le-trans, zero-add}
 use native.Mathlib.Omega.{arith}
-use lib.ListN.{length, length-map, replicate}
+use lib.ListN.{length, replicate}
 use Rattle.model.proofs.Bools.{and-left, not-true-false}
 use Rattle.model.proofs.Digits.{bit-none}
 use Rattle.model.proofs.Jobs.{Good, after-release, good-fresh, good-next, mk, next, next-ended, whole-next}
@@ -144,9 +144,6 @@ book-run s (x ∷ xs) b = go (answer s b x) (book-run s xs)
 pub book-tick : (s : Table) (xs : List ℕ) → length (map bit (takenOf s xs)) ≡ book s xs .tick
 book-tick s xs =
     sym (ap (λ (b : Book). b .tick) (book-run s xs emptyBook) ∙ (run-tick s (map bit (takenOf s xs)) emptyBook ∙ zero-add (length (map bit (takenOf s xs)))))
-
-pub taken-tick : (s : Table) (xs : List ℕ) → length (takenOf s xs) ≡ book s xs .tick
-taken-tick s xs = sym (length-map (takenOf s xs) bit) ∙ book-tick s xs
 
 -- so every line of it is good
 pub good-book : (s : Table) → AllSound s → (xs : List ℕ) → GoodBook s (book s xs)
