@@ -1,6 +1,7 @@
 //! Every way of ending jobs early within the first ticks of a small table, the run kept in words beside the book.
 use crate::book::{self, Cab, WORKING};
 use crate::calls::{same, same_run, Tried};
+use crate::lists::{self, List};
 use crate::rng::Rng;
 use crate::tables;
 use crate::Counts;
@@ -46,11 +47,13 @@ struct Search<'a> {
     firm: bool,
     /// The full-length run at each tick.
     full: &'a [Run],
+    /// The list that is being tried, and all lists so far, by their ticks.
     list: Vec<u32>,
+    lists: Vec<Vec<List>>,
 }
 
 impl Search<'_> {
-    fn visit(&mut self, run: &Run, cab: &mut Cab, counts: &mut Counts) -> Tried<()> {
+    fn visit(&mut self, run: &Run, cab: &mut Cab, list: List, counts: &mut Counts) -> Tried<()> {
         counts.nodes += 1;
         let tick = self.list.len();
         same_run("the run", &cab.words(run.words()), run.words())?;
@@ -67,11 +70,13 @@ impl Search<'_> {
         }
         if row.is_err() {
             counts.ends += 1;
+            self.lists[tick].push(list);
             let mut next = run.clone();
             same("advance of a run that has missed", row.map(|_| ()), next.advance(0))?;
             return same_run("a run that has missed", run.words(), next.words());
         }
         if tick == TICKS {
+            self.lists[tick].push(list);
             return Ok(());
         }
         let may = cab.may_report();
@@ -89,9 +94,10 @@ impl Search<'_> {
             same("advance", Ok(()), answer)?;
             let mut book = cab.clone();
             same("the book's advance", Ok(()), book.advance(set))?;
-            self.visit(&next, &mut book, counts)?;
+            self.visit(&next, &mut book, list.with(set, run.words(), next.words()), counts)?;
             self.list.pop();
         }
+        self.lists[tick].push(list);
         Ok(())
     }
 }
@@ -121,10 +127,11 @@ pub fn case(seed: u64, counts: &mut Counts) -> Tried<()> {
                 next.advance(0).map_err(|refusal| format!("the full-length run: {refusal:?}"))?;
                 full.push(next);
             }
-            let mut search = Search { firm, full: &full, list: Vec::new() };
-            let visited = search.visit(&run, &mut cab, counts);
+            let mut search = Search { firm, full: &full, list: Vec::new(), lists: vec![Vec::new(); TICKS + 1] };
+            let visited = search.visit(&run, &mut cab, List::empty(run.words(), TICKS), counts);
             list = search.list;
-            visited
+            visited?;
+            search.lists.iter().try_for_each(|lists| lists::compare(firm, lists, counts))
         })();
         counts.searched.insert(words.clone());
         return searched.map_err(|why| format!("seed {seed}, small table: {why}\n  table {words:?}\n  list {list:?}"));
