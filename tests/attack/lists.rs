@@ -60,29 +60,51 @@ impl List {
         next
     }
 
+    /// Whether every set of the list is empty.
+    fn full_length(&self) -> bool {
+        self.sets.iter().all(|&set| set == 0)
+    }
+
+    /// The first job that passes the test beside the same job of another list.
     fn some(&self, other: &List, test: impl Fn(&Line, &Line) -> bool) -> Option<usize> {
         self.jobs.iter().zip(&other.jobs).position(|(here, there)| test(here, there))
     }
+
+    /// A job of this list beside that of another, in words.
+    fn named(&self, other: &List, job: usize) -> String {
+        format!("job {} of position {} after {:?} beside {:?}", job % self.per_place + 1, job / self.per_place + 1, self.sets, other.sets)
+    }
+}
+
+/// The lists of one tick beside the full-length one: no job is longer, and on a firm table none is behind.
+fn compare_with_full(firm: bool, lists: &[List]) -> Tried<()> {
+    let Some(full) = lists.iter().find(|list| list.full_length()) else { return Ok(()) };
+    for list in lists {
+        if let Some(job) = list.some(full, Line::longer) {
+            return Err(format!("longer than at full length: {}", list.named(full, job)));
+        }
+        if let Some(job) = list.some(full, Line::behind).filter(|_| firm) {
+            return Err(format!("behind the full-length run: {}", list.named(full, job)));
+        }
+    }
+    Ok(())
 }
 
 /// The lists of one tick, or as many of them as are compared, each with each: on a firm table a list that has no longer job is behind on none.
 pub fn compare(firm: bool, lists: &[List], counts: &mut Counts) -> Tried<()> {
+    compare_with_full(firm, lists)?;
     let chosen: Vec<&List> = lists.iter().step_by(lists.len().div_ceil(MOST_LISTS).max(1)).collect();
     for a in &chosen {
         for b in &chosen {
-            // the full-length list, and lists that have come to the same jobs, say little
-            if b.sets.iter().all(|&set| set == 0) || a.jobs == b.jobs || a.some(b, Line::longer).is_some() {
+            // lists that have come to the same jobs say little
+            if b.full_length() || a.jobs == b.jobs || a.some(b, Line::longer).is_some() {
                 continue;
             }
-            let Some(at) = a.some(b, Line::behind) else {
-                counts.abreast += u64::from(firm);
-                continue;
-            };
-            if firm {
-                let (position, job) = (at / a.per_place + 1, at % a.per_place + 1);
-                return Err(format!("no job is longer after {:?} than after {:?}, and job {job} of position {position} is behind", a.sets, b.sets));
+            match a.some(b, Line::behind) {
+                None => counts.abreast += u64::from(firm),
+                Some(job) if firm => return Err(format!("no job is longer, and one is behind: {}", a.named(b, job))),
+                Some(_) => counts.overtaken += 1,
             }
-            counts.overtaken += 1;
         }
     }
     Ok(())
