@@ -78,7 +78,7 @@ impl List {
 
 /// The lists of one tick beside the full-length one: no job is longer, and on a firm table none is behind.
 fn compare_with_full(firm: bool, lists: &[List]) -> Tried<()> {
-    let Some(full) = lists.iter().find(|list| list.full_length()) else { return Ok(()) };
+    let full = lists.iter().find(|list| list.full_length()).ok_or("no list is the full-length one")?;
     for list in lists {
         if let Some(job) = list.some(full, Line::longer) {
             return Err(format!("longer than at full length: {}", list.named(full, job)));

@@ -1,11 +1,11 @@
 //! Every way of ending jobs early within the first ticks of a small table, the run kept in words beside the book.
-use crate::book::{self, Cab, WORKING};
+use crate::book::{self, Cab};
 use crate::calls::{same, same_run, Tried};
 use crate::lists::{self, List};
 use crate::rng::Rng;
 use crate::tables;
 use crate::Counts;
-use sivorandra::{Refusal, Run, Verdict, RUN_WORDS};
+use sivorandra::{Refusal, Run, Verdict};
 
 const TICKS: usize = 12;
 /// Tables with fewer or more nodes are left out.
@@ -38,21 +38,14 @@ fn nodes(cab: &Cab, ticks: usize, limit: u64) -> u64 {
     count
 }
 
-/// The phase kinds of the first places.
-fn kinds(words: &[u32; RUN_WORDS]) -> impl Iterator<Item = u32> + '_ {
-    (0..words[2] as usize).map(|place| words[8 + 8 * place])
-}
-
-struct Search<'a> {
+struct Search {
     firm: bool,
-    /// The full-length run at each tick.
-    full: &'a [Run],
     /// The list that is being tried, and all lists so far, by their ticks.
     list: Vec<u32>,
     lists: Vec<Vec<List>>,
 }
 
-impl Search<'_> {
+impl Search {
     fn visit(&mut self, run: &Run, cab: &mut Cab, list: List, counts: &mut Counts) -> Tried<()> {
         counts.nodes += 1;
         let tick = self.list.len();
@@ -62,11 +55,6 @@ impl Search<'_> {
         counts.answer(&row.map(|_| ()));
         if self.firm {
             same("the row of a firm table is shown", Ok(()), row.map(|_| ()))?;
-            for (place, (full, here)) in kinds(self.full[tick].words()).zip(kinds(run.words())).enumerate() {
-                if full != WORKING && here == WORKING {
-                    return Err(format!("position {} is behind the full-length run", place + 1));
-                }
-            }
         }
         if row.is_err() {
             counts.ends += 1;
@@ -121,13 +109,7 @@ pub fn case(seed: u64, counts: &mut Counts) -> Tried<()> {
         let mut list = Vec::new();
         let searched = (|| {
             let run = Run::start(&words).map_err(|refusal| format!("start: {refusal:?}"))?;
-            let mut full = vec![run.clone()];
-            for tick in 0..TICKS {
-                let mut next = full[tick].clone();
-                next.advance(0).map_err(|refusal| format!("the full-length run: {refusal:?}"))?;
-                full.push(next);
-            }
-            let mut search = Search { firm, full: &full, list: Vec::new(), lists: vec![Vec::new(); TICKS + 1] };
+            let mut search = Search { firm, list: Vec::new(), lists: vec![Vec::new(); TICKS + 1] };
             let visited = search.visit(&run, &mut cab, List::empty(run.words(), TICKS), counts);
             list = search.list;
             visited?;
