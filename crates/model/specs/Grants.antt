@@ -1,4 +1,4 @@
--- Who runs in a tick, from who claims (scope, section 'Who runs in a tick'; 001, definitions 5 and 18). Idling chooses as greedy does; its claims are in Book.antt.
+-- Who runs in a tick, from who claims (scope, section 'Who runs in a tick'; Goossens and Berten, definitions 5 and 18). Idling chooses as greedy does; its claims are in Book.antt.
 use mathlib.Core.Bool.{Bool, true, false, _&&_, cond}
 use mathlib.Core.List.{List, [], _∷_}
 use Prim.Native.Nat.{ℕ, suc}
