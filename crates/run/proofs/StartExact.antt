@@ -1,5 +1,5 @@
 -- Start is refused with n and p exactly if n is the first of 1 to 9 and 13 that applies, with position p; and taken exactly if none applies.
-use mathlib.Core.Path.{_≡_, refl, sym, subst, _∙_}
+use mathlib.Core.Path.{_≡_, refl, sym, ap, subst, _∙_}
 use mathlib.Core.Bool.{true}
 use mathlib.Core.List.{List}
 use mathlib.Core.Logic.{_↔_}
@@ -13,6 +13,7 @@ use Rattle.table.proofs.Decide.{fails}
 use Rattle.table.proofs.Order.{not-before-itself, later, number-most}
 use Rattle.judge.specs.declared.Verdict.{Verdict}
 use Rattle.judge.specs.declared.Verdict.the-variants.{Firm, Full, Miss, Refused}
+use Rattle.judge.specs.Said.{saidBy}
 use Rattle.judge.specs.Judged.{Judged, verdictOf}
 use Rattle.judge.proofs.Promise.{judged-exact}
 use Rattle.run.specs.declared.Run.{Run}
@@ -63,10 +64,10 @@ module _ (ws : List ℕ) where
       full-not-miss e = let z : _≡_ {A = ℕ} 0 1 = cc in omega arith
 
       go : (v : Verdict) → verdictOf ws ≡ v → Right (StartApplies ws) (byVerdict v)
-      go (Firm a b) e = start-none (judged .firm a b .0 e .0) (λ t p f. firm-not-miss (sym e ∙ f))
-      go (Full a b) e = start-none (judged .full a b .0 e .0) (λ t p f. full-not-miss (sym e ∙ f))
-      go (Miss t p) e = start-13 (judged .miss t p .0 e .0) t p e
-      go (Refused n p) e = as-start n p (judged .refused n p .0 e)
+      go (Firm a b) e = start-none (judged .firm a b .0 (ap saidBy e) .0) (λ t p f. firm-not-miss (sym e ∙ f))
+      go (Full a b) e = start-none (judged .full a b .0 (ap saidBy e) .0) (λ t p f. full-not-miss (sym e ∙ f))
+      go (Miss t p) e = start-13 (judged .miss t p .0 (ap saidBy e) .0) t p e
+      go (Refused n p) e = as-start n p (judged .refused n p .0 (ap saidBy e))
 
   -- THE LAW OF A START
   pub start-exact : (n p : ℕ) → (told (startOf ws .answer) ≡ model.refused n p) ↔ FirstOf (StartApplies ws) n p
