@@ -12,8 +12,8 @@ use Rattle.run.proofs.start.Statement.{statement}
 use Rattle.run.proofs.start.Tie as tie
 
 -- the answer is the verdict's
-told : (c : tie.After-judge) (v : Verdict) → c .judge .result ≡ v → startAnswer (c .before .before .args .words .now) ≡ byVerdict v
-told c v e = start-answer (c .before .before .args .words .now) v (sym e ∙ c .judge .ensures .value)
+by-verdict : (c : tie.After-judge) (v : Verdict) → c .judge .result ≡ v → startAnswer (c .before .before .args .words .now) ≡ byVerdict v
+by-verdict c v e = start-answer (c .before .before .args .words .now) v (sym e ∙ c .judge .ensures .value)
 
 judge-requires : tie.Need-judge-requires
 judge-requires c κs = search needs
@@ -46,25 +46,25 @@ returns : tie.Need-returns
 returns c =
     let j = c .before .before .before in
     let ws = j .before .before .args .words .now in
-    start-of ws (c .begun .result) (c .begun .ensures ∙ sym (start-taken ws (told j _ (c .before .enum-told .given .1))))
+    start-of ws (c .begun .result) (c .begun .ensures ∙ sym (start-taken ws (by-verdict j _ (c .before .enum-told .given .1))))
 
 returns-2 : tie.Need-returns-2
 returns-2 c =
     let j = c .before .before .before in
     let ws = j .before .before .args .words .now in
-    start-of ws (c .begun2 .result) (c .begun2 .ensures ∙ sym (start-taken ws (told j _ (c .before .enum-told2 .given .1))))
+    start-of ws (c .begun2 .result) (c .begun2 .ensures ∙ sym (start-taken ws (by-verdict j _ (c .before .enum-told2 .given .1))))
 
 returns-3 : tie.Need-returns-3
 returns-3 c =
     let j = c .before .before .before in
     let ws = j .before .before .args .words .now in
-    start-of ws (c .refused .result) (c .refused .ensures ∙ sym (start-refused ws 13 0 (told j _ (c .before .enum-told3 .given .1))))
+    start-of ws (c .refused .result) (c .refused .ensures ∙ sym (start-refused ws 13 0 (by-verdict j _ (c .before .enum-told3 .given .1))))
 
 returns-4 : tie.Need-returns-4
 returns-4 c =
     let j = c .before .before .before .before in
     let ws = j .before .before .args .words .now in
-    start-of ws (c .refused2 .result) (c .refused2 .ensures ∙ sym (start-refused ws _ _ (told j _ (c .before .before .verdict .given .1))))
+    start-of ws (c .refused2 .result) (c .refused2 .ensures ∙ sym (start-refused ws _ _ (by-verdict j _ (c .before .before .verdict .given .1))))
 
 pub start-spec : {M : Type 1} → statement M
 start-spec =
