@@ -1,4 +1,4 @@
--- How many rows follow the first line, by the judge's answer.
+-- How many rows follow what the judge said.
 use Prim.Native.Nat.{ℕ}
 use Rattle.judge.specs.declared.Verdict.{Verdict}
 use Rattle.judge.specs.Said.{Said, judged, refused, saidBy}
