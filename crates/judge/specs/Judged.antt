@@ -19,22 +19,18 @@ use Rattle.table.specs.Words.{rule, tableOf}
 use Rattle.table.specs.Numbers.{First, NoneApplies}
 use Rattle.table.specs.Answer.{answerOf}
 use Rattle.judge.specs.declared.Verdict.{Verdict}
-use Rattle.judge.specs.declared.Verdict.the-variants.{Firm, Full, Miss, Refused}
+use Rattle.judge.specs.declared.Verdict.the-variants.{Firm, Full}
+use Rattle.judge.specs.Said.{Said, judged, saidBy, caseOf}
+use Rattle.judge.specs.Said as said
 
--- the cases of the answer carry the scope's values: Firm and Full S and P, Miss tick and position ..
-abbrev pub told : model.Verdict → Verdict
-told (model.Firm s p) = Firm s p
-told (model.Full s p) = Full s p
-told (model.Miss t p) = Miss t p
-
--- .. and Refused number and position
-abbrev pub judged : Answer → Table → Verdict
-judged Passed s = told (verdict s)
-judged (table.Refused n p) s = Refused n p
+-- by the table's answer: the verdict on one that passes, or its refusal with number and position
+abbrev pub judgedBy : Answer → Table → Said
+judgedBy Passed s = judged (verdict s)
+judgedBy (table.Refused n p) s = said.refused n p
 
 -- the verdict of a table's words
 unfoldable pub verdictOf : List ℕ → Verdict
-verdictOf ws = judged (answerOf ws) (tableOf ws)
+verdictOf ws = caseOf (judgedBy (answerOf ws) (tableOf ws))
 
 -- the scope's condition for firm: rule 2 or 3, or rule 1 with widths that never fall
 abbrev pub FirmWords : List ℕ → Type 0
@@ -44,15 +40,15 @@ FirmWords ws = (rule ws ≡ 2) ⊎ ((rule ws ≡ 3) ⊎ ((rule ws ≡ 1) × Risi
 pub record Judged (ws : List ℕ) (v : Verdict) : Type 0 where
   -- it is the verdict of the words
   pub value : v ≡ verdictOf ws
-  -- Refused n p exactly if n is the first number that applies, at p
-  pub refused : (n p : ℕ) → (v ≡ Refused n p) ↔ First ws n p
+  -- refused with n and p exactly if n is the first number that applies, at p
+  pub refused : (n p : ℕ) → (saidBy v ≡ said.refused n p) ↔ First ws n p
   -- Firm or Full exactly if no number applies and no deadline of the full-length run is missed at any tick
-  pub accepted : ((s p : ℕ) × ((v ≡ Firm s p) ⊎ (v ≡ Full s p))) ↔ (NoneApplies ws × NeverMissed (tableOf ws))
+  pub accepted : ((s p : ℕ) × ((saidBy v ≡ judged (model.Firm s p)) ⊎ (saidBy v ≡ judged (model.Full s p)))) ↔ (NoneApplies ws × NeverMissed (tableOf ws))
   -- Miss t p exactly if no number applies and (t, p) is the earliest missed deadline, at equal ticks the first in priority
-  pub miss : (t p : ℕ) → (v ≡ Miss t p) ↔ (NoneApplies ws × FirstMiss (tableOf ws) t p)
+  pub miss : (t p : ℕ) → (saidBy v ≡ judged (model.Miss t p)) ↔ (NoneApplies ws × FirstMiss (tableOf ws) t p)
   -- an accepted table is Firm exactly for rules 2 and 3 and for rule 1 with widths never falling; S and P as defined
-  pub firm : (s p : ℕ) → (v ≡ Firm s p) ↔ (NoneApplies ws × NeverMissed (tableOf ws) × FirmWords ws × (s ≡ lastS (tableOf ws .tasks)) × (p ≡ hyperperiod (tableOf ws .tasks)))
-  pub full : (s p : ℕ) → (v ≡ Full s p) ↔ (NoneApplies ws × NeverMissed (tableOf ws) × (¬ FirmWords ws) × (s ≡ lastS (tableOf ws .tasks)) × (p ≡ hyperperiod (tableOf ws .tasks)))
+  pub firm : (s p : ℕ) → (saidBy v ≡ judged (model.Firm s p)) ↔ (NoneApplies ws × NeverMissed (tableOf ws) × FirmWords ws × (s ≡ lastS (tableOf ws .tasks)) × (p ≡ hyperperiod (tableOf ws .tasks)))
+  pub full : (s p : ℕ) → (saidBy v ≡ judged (model.Full s p)) ↔ (NoneApplies ws × NeverMissed (tableOf ws) × (¬ FirmWords ws) × (s ≡ lastS (tableOf ws .tasks)) × (p ≡ hyperperiod (tableOf ws .tasks)))
 
 -- THE RUN, on a table that passed
 

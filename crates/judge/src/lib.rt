@@ -3,7 +3,7 @@ ghost use Prim.Native.Nat.{suc, _≤_};
 ghost use Rattle.model.specs.Task.{ruleOf};
 ghost use Rattle.model.specs.Verdict.{rising, firm};
 ghost use Rattle.table.specs.Task.{tasksOf};
-ghost use Rattle.judge.specs.FirstMiss.{missedBefore, answered};
+ghost use Rattle.judge.specs.FirstMiss.{missedBefore, byMiss};
 ghost use Rattle.judge.specs.Judged.{Judged, tableIn, Fit, acceptedOf};
 use misses::Missed;
 use table::Answer;
@@ -67,7 +67,7 @@ fn accepted(table: Loaded) -> Verdict
 // The verdict of the full-length run: its first miss up to and including the horizon, or accepted.
 fn run(table: Loaded) -> Verdict
     requires { ⌜ Fit table ⌝ }
-    ensures { λ r. ⌜ r ≡ answered (missedBefore (tableIn table) (suc (table .horizon))) (acceptedOf table) ⌝ }
+    ensures { λ r. ⌜ r ≡ byMiss (missedBefore (tableIn table) (suc (table .horizon))) (acceptedOf table) ⌝ }
 {
     let missed = misses::first_miss(table, table.horizon + 1);
     match missed {

@@ -1,8 +1,7 @@
 // The full-length run of a table that passed, up to its first missed deadline.
-ghost use mathlib.Core.Path.{_≡_};
 ghost use Prim.Native.Nat.{_+_, _≤_};
 ghost use Rattle.judge.specs.Judged.{tableIn, Fit};
-ghost use Rattle.judge.specs.FirstMiss.{missedBefore};
+ghost use Rattle.judge.specs.FirstMiss.{MissedOf};
 use table::Loaded;
 
 // Tick and position of the first deadline missed, or none.
@@ -14,7 +13,7 @@ pub enum Missed {
 // The first deadline that the full-length run misses before tick `end`, at equal ticks the first in priority.
 pub fn first_miss(table: Loaded, end: u32) -> Missed
     requires { ⌜ Fit table × (end ≤ table .horizon + 1) ⌝ }
-    ensures { λ r. ⌜ r ≡ missedBefore (tableIn table) end ⌝ }
+    ensures { λ r. ⌜ MissedOf (tableIn table) end r ⌝ }
 {
     let count = table.count;
     let tasks = table.tasks;

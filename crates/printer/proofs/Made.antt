@@ -25,7 +25,7 @@ use Rattle.table.specs.declared.Answer.the-variants.{Passed, Refused}
 use Rattle.table.specs.declared.Loaded.{Loaded}
 use Rattle.table.specs.Words.{cores, tableOf}
 use Rattle.table.specs.Answer.{answerOf, headerNumber}
-use Rattle.table.specs.Load.{LoadOf, refusal}
+use Rattle.table.specs.Load.{loadTold, LoadOf, refusal}
 use Rattle.table.proofs.Exact.{refusal-exact, passed-exact}
 use Rattle.table.specs.Limits.{taskOut}
 use Rattle.table.specs.Task.{taskOf, noTask}
@@ -38,15 +38,16 @@ use Rattle.full.specs.Fields.{columnsOf}
 use Rattle.full.specs.Machine.{started}
 use Rattle.judge.specs.declared.Verdict.{Verdict}
 use Rattle.judge.specs.declared.Verdict.the-variants as judge
-use Rattle.judge.specs.Judged.{told, Judged, tableIn, Fit}
+use Rattle.judge.specs.Said.{Said, judged, refused, saidBy, caseOf}
+use Rattle.judge.specs.Judged.{Judged, tableIn, Fit}
 use Rattle.judge.proofs.Ticks.{Before, at-start, chosen-none}
-use Rattle.judge.proofs.Promise.{fit, same-table, passed-is, refused-is}
+use Rattle.judge.proofs.Promise.{said-case, fit, same-table, passed-is, refused-is}
 use Rattle.text.specs.Format.{mostNumbers, Words, words, noText, wordsOf}
 use Rattle.text.specs.Input.{inputOf, ReadOf}
-use Rattle.text.specs.Output.{Answer as Said, judged, refused, firstLine, rowLines, rowsPrinted, printed, printedBy, outputOf, output}
+use Rattle.text.specs.Output.{firstLine, rowLines, rowsPrinted, printed, printedBy, outputOf, output}
 use Rattle.text.specs.Written.{Put}
 use Rattle.printer.specs.Cells.{cells}
-use Rattle.text.specs.Said.{saidBy, endOf}
+use Rattle.text.specs.Said.{endOf}
 use Rattle.printer.specs.Rows.{numbersIn, linesIn}
 use Rattle.printer.specs.Sound.{outAt, tableSound, owed, within, sound}
 use Rattle.printer.specs.Printer.{standOf, toCome, StartOf, WordsPrinter, MadeFrom}
@@ -123,10 +124,10 @@ load-small ws r l = go (r .answer) refl
   where
     go : (a : Answer) → r .answer ≡ a → (r .cores ≤ 64) × (r .count ≤ 32)
     go Passed e =
-        let h = l .holds e in
-        (omega (arith, h .cores, passed-cores ws (l .passed .0 e) .1), h .count-from .1)
+        let h = l .holds (ap loadTold e) in
+        (omega (arith, h .cores, passed-cores ws (l .passed .0 (ap loadTold e)) .1), h .count-from .1)
     go (Refused n p) e =
-        let z : r ≡ refusal n p = l .zeros n p e in
+        let z : r ≡ refusal n p = l .zeros n p (ap loadTold e) in
         (omega (arith, ap (λ (x : Loaded). x .cores) z), omega (arith, ap (λ (x : Loaded). x .count) z))
 
 -- a task that is within its limits is not turned down
@@ -147,22 +148,17 @@ load-sound ws r l = go (r .answer) refl
       where
         fine : (p : ℕ) → p < r .count → outAt r p ≡ false
         fine p b =
-            let h = l .holds e in
-            let i = passed-inside ws (l .passed .0 e) p (omega (arith, h .count)) in
+            let h = l .holds (ap loadTold e) in
+            let i = passed-inside ws (l .passed .0 (ap loadTold e)) p (omega (arith, h .count)) in
             let same : taskOf (getD (r .tasks) p noTask) ≡ task (tableOf ws) p =
             sym (task-at (r .tasks) (r .count) p b) ∙ ap (λ (τs : List plain.Task). getD τs p plain.nobody) (h .tasks) in
             ap₂ (λ (m : ℕ) (τ : plain.Task). taskOut m τ) (h .cores) same ∙ inside-in (cores ws) (task (tableOf ws) p) i
-    go (Refused n p) e = subst⁻¹ (λ (x : Loaded). tableSound x ≡ true) (l .zeros n p e) (unfold tableSound any in refl)
+    go (Refused n p) e = subst⁻¹ (λ (x : Loaded). tableSound x ≡ true) (l .zeros n p (ap loadTold e)) (unfold tableSound any in refl)
 
-said-told : (v : model.Verdict) → saidBy (told v) ≡ judged v
-said-told (model.Firm a b) = refl
-said-told (model.Full a b) = refl
-said-told (model.Miss a b) = refl
-
-end-told : (v : model.Verdict) (h : ℕ) → endOf (told v) h ≡ rowsPrinted v h
-end-told (model.Firm a b) h = refl
-end-told (model.Full a b) h = refl
-end-told (model.Miss a b) h = refl
+end-case : (v : model.Verdict) (h : ℕ) → endOf (caseOf (judged v)) h ≡ rowsPrinted v h
+end-case (model.Firm a b) h = refl
+end-case (model.Full a b) h = refl
+end-case (model.Miss a b) h = refl
 
 -- the rows that are printed are those of the run before the first miss, up to the horizon
 rows-met :
@@ -190,7 +186,7 @@ words-made ws r v p l j s = go (r .answer) refl
       whole =
           rest-sound p ok ∙ s .whole (λ h. (f, near, λ q u b. rows .1 q u (subst (λ (x : ℕ). u < x) ends b)))
           ∙ ap₂ (λ (x : Verdict) (n : ℕ). firstLine (saidBy x) ++ rowLines (tableIn r) 0 n) is ends
-          ∙ ap (λ (x : Said). firstLine x ++ rowLines (tableIn r) 0 (rowsPrinted (verdict (tableIn r)) (horizon (tableIn r)))) (said-told (verdict (tableIn r)))
+          ∙ ap (λ (x : Said). firstLine x ++ rowLines (tableIn r) 0 (rowsPrinted (verdict (tableIn r)) (horizon (tableIn r)))) (said-case (judged (verdict (tableIn r))))
           ∙ printed-is (tableIn r) ∙ ap printed (same-table ws r l e)
           ∙ sym (ap (λ (a : Answer). printedBy a (tableOf ws)) passes);
     }
@@ -199,22 +195,22 @@ words-made ws r v p l j s = go (r .answer) refl
         f = fit ws r l e
 
         passes : answerOf ws ≡ Passed
-        passes = passed-exact ws .1 (l .passed .0 e)
+        passes = passed-exact ws .1 (l .passed .0 (ap loadTold e))
 
-        is : v ≡ told (verdict (tableIn r))
-        is = j .value ∙ passed-is ws passes ∙ ap (λ (x : Table). told (verdict x)) (sym (same-table ws r l e))
+        is : v ≡ caseOf (judged (verdict (tableIn r)))
+        is = j .value ∙ passed-is ws passes ∙ ap (λ (x : Table). caseOf (judged (verdict x))) (sym (same-table ws r l e))
 
         rows : (rowsPrinted (verdict (tableIn r)) (horizon (tableIn r)) ≤ horizon (tableIn r)) × ((q u : ℕ) → u < rowsPrinted (verdict (tableIn r)) (horizon (tableIn r)) → ¬ Missed (tableIn r) q u)
         rows = rows-met (tableIn r) (f .sound) (verdict (tableIn r)) refl
 
         ends : endOf v (r .horizon) ≡ rowsPrinted (verdict (tableIn r)) (horizon (tableIn r))
-        ends = ap₂ (λ (x : Verdict) (h : ℕ). endOf x h) is (f .horizon) ∙ end-told (verdict (tableIn r)) (horizon (tableIn r))
+        ends = ap₂ (λ (x : Verdict) (h : ℕ). endOf x h) is (f .horizon) ∙ end-case (verdict (tableIn r)) (horizon (tableIn r))
 
         near : endOf v (r .horizon) ≤ r .horizon
         near = omega (arith, ends, rows .0, f .horizon)
 
         ok : sound p ≡ true
-        ok = s .sound (load-sound ws r l) (omega (arith, near, l .holds e .horizon-most))
+        ok = s .sound (load-sound ws r l) (omega (arith, near, l .holds (ap loadTold e) .horizon-most))
 
         printed-is : (x : Table) → firstLine (judged (verdict x)) ++ rowLines x 0 (rowsPrinted (verdict x) (horizon x)) ≡ printed x
         printed-is x = unfold printed in refl
@@ -226,7 +222,7 @@ words-made ws r v p l j s = go (r .answer) refl
     }
       where
         refuses : answerOf ws ≡ Refused n q
-        refuses = refusal-exact ws n q .1 (l .refused n q .0 e)
+        refuses = refusal-exact ws n q .1 (l .refused n q .0 (ap loadTold e))
 
         is : v ≡ judge.Refused n q
         is = j .value ∙ refused-is ws n q refuses

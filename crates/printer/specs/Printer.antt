@@ -12,7 +12,7 @@ use Rattle.full.specs.Machine.{Machine, machine}
 use Rattle.judge.specs.declared.Verdict.{Verdict}
 use Rattle.judge.specs.Judged.{tableIn, Fit}
 use Rattle.text.specs.Output.{firstLine, rowLines, printedBy, output}
-use Rattle.text.specs.Said.{saidBy}
+use Rattle.judge.specs.Said.{saidBy}
 use Rattle.text.specs.Written.{Put}
 use Rattle.printer.specs.Rows.{Numbers, numbersIn, Stand, next, lineIn, linesIn}
 use Rattle.printer.specs.Sound.{tableSound, sound, Safe}

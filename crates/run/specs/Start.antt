@@ -6,10 +6,12 @@ use Prim.Native.Nat.{ℕ, _-_}
 use lib.ListN.{length, replicate}
 use Rattle.model.specs.Task as model
 use Rattle.model.specs.Book as book
+use Rattle.model.specs.Verdict as verdict
 use Rattle.table.specs.Words.{rule, tableOf}
 use Rattle.table.specs.Numbers.{Applies, FirstOf, NoneOf}
 use Rattle.judge.specs.declared.Verdict.{Verdict}
 use Rattle.judge.specs.declared.Verdict.the-variants as judge
+use Rattle.judge.specs.Said.{judged, saidBy}
 use Rattle.judge.specs.Judged.{verdictOf}
 use Rattle.run.specs.declared.Run.{Run}
 use Rattle.run.specs.declared.Answer.{Answer}
@@ -37,7 +39,7 @@ pub data StartApplies (ws : List ℕ) : ℕ → ℕ → Type 0 where
   -- 1 to 9
   as-table : (n p : ℕ) → Applies ws n p → StartApplies ws n p
   -- 13. Start: the verdict is Miss.
-  thirteen : (t p : ℕ) → verdictOf ws ≡ judge.Miss t p → StartApplies ws 13 0
+  thirteen : (t p : ℕ) → saidBy (verdictOf ws) ≡ judged (verdict.Miss t p) → StartApplies ws 13 0
 
 -- by the judge's verdict: Firm and Full are taken, Miss is 13, and 1 to 9 turn down as they do there
 abbrev pub byVerdict : Verdict → Answer

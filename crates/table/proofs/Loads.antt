@@ -17,7 +17,7 @@ use Rattle.table.specs.Task.{taskOf, tasksOf, noTask, InLimits}
 use Rattle.table.specs.Words.{cores, rule, count, tableOf}
 use Rattle.table.specs.Limits.{taskNumber, taskOut, horizonOut}
 use Rattle.table.specs.Answer.{headerNumber, firstOut, byHorizon, byTasks, endingOf, byWalk, answerOf}
-use Rattle.table.specs.Load.{placed, places, passing, refusal, answered, tableWith, loadOf}
+use Rattle.table.specs.Load.{placed, places, passing, refusal, loadedBy, tableWith, loadOf}
 use Rattle.table.proofs.Places.{tasks-length, task-at}
 use Rattle.table.proofs.Tasks.{table-length}
 use Rattle.table.proofs.FirstOut.{out-lowest}
@@ -48,11 +48,11 @@ pub horizon-test : (s : model.Table) (start period : ℕ) → start ≡ lastS (s
 unfolding horizon
 horizon-test s start period e f = rw (e, f) (exceeds-capped 10000000 (lastS (s .tasks)) (hyperperiod (s .tasks)))
 
-pub by-far : (s : model.Table) (l : Loaded) → horizonOut (horizon s) ≡ true → answered (byHorizon s) l ≡ refusal 9 0
+pub by-far : (s : model.Table) (l : Loaded) → horizonOut (horizon s) ≡ true → loadedBy (byHorizon s) l ≡ refusal 9 0
 unfolding byHorizon
 by-far s l e = rw e
 
-pub by-near : (s : model.Table) (l : Loaded) → horizonOut (horizon s) ≡ false → answered (byHorizon s) l ≡ l
+pub by-near : (s : model.Table) (l : Loaded) → horizonOut (horizon s) ≡ false → loadedBy (byHorizon s) l ≡ l
 unfolding byHorizon
 by-near s l e = rw e
 
@@ -74,11 +74,11 @@ made m r tasks count start period there whole e f near =
 -- THE TASKS
 
 module _ (s : model.Table) (l : Loaded) (place : ℕ) (out : firstOut (s .cores) (s .tasks) ≡ place) where
-  pub by-number : place < length (s .tasks) → answered (byTasks s) l ≡ refusal (taskNumber (s .cores) (model.task s place)) (suc place)
+  pub by-number : place < length (s .tasks) → loadedBy (byTasks s) l ≡ refusal (taskNumber (s .cores) (model.task s place)) (suc place)
   unfolding byTasks
   by-number h = rw (out, lt-ltb place (length (s .tasks)) h)
 
-  pub by-none : length (s .tasks) ≤ place → answered (byTasks s) l ≡ answered (byHorizon s) l
+  pub by-none : length (s .tasks) ≤ place → loadedBy (byTasks s) l ≡ loadedBy (byHorizon s) l
   unfolding byTasks
   by-none h = rw (out, le-ltb place (length (s .tasks)) h)
 
@@ -107,13 +107,13 @@ module _ (ws : List ℕ) (fine : headerNumber ws ≡ 0) where
   unfolding loadOf answerOf byWalk
   load-again e = rw (fine, e)
 
-  pub load-tasks : endingOf ws ≡ Whole → loadOf ws ≡ answered (byTasks (tableOf ws)) (passing (rule ws) (tableOf ws))
+  pub load-tasks : endingOf ws ≡ Whole → loadOf ws ≡ loadedBy (byTasks (tableOf ws)) (passing (rule ws) (tableOf ws))
   unfolding loadOf answerOf byWalk
   load-tasks e = rw (fine, e)
 
   pub load-whole : endingOf ws ≡ Whole → (tasks : List Task) (many : ℕ) → tasks ≡ places (tableOf ws .tasks) → many ≡ count ws
-      → answered (byTasks (tableWith (cores ws) (rule ws) (tasksOf tasks many))) (passing (rule ws) (tableWith (cores ws) (rule ws) (tasksOf tasks many))) ≡ loadOf ws
+      → loadedBy (byTasks (tableWith (cores ws) (rule ws) (tasksOf tasks many))) (passing (rule ws) (tableWith (cores ws) (rule ws) (tasksOf tasks many))) ≡ loadOf ws
   load-whole e tasks many h n =
-      ap (λ (τs : List model.Task). answered (byTasks (tableWith (cores ws) (rule ws) τs)) (passing (rule ws) (tableWith (cores ws) (rule ws) τs))) (walked-tasks ws tasks many h n)
-      ∙ ap (λ (s : model.Table). answered (byTasks s) (passing (rule ws) s)) (table-with ws)
+      ap (λ (τs : List model.Task). loadedBy (byTasks (tableWith (cores ws) (rule ws) τs)) (passing (rule ws) (tableWith (cores ws) (rule ws) τs))) (walked-tasks ws tasks many h n)
+      ∙ ap (λ (s : model.Table). loadedBy (byTasks s) (passing (rule ws) s)) (table-with ws)
       ∙ sym (load-tasks e)

@@ -5,6 +5,7 @@ use mathlib.Core.List.{List, map, _++_}
 use Prim.Native.Nat.{ℕ, _-_, _≤_}
 use lib.ListN.{length, drop, replicate}
 use Rattle.model.specs.Task as model
+use Rattle.model.specs.Book as book
 use Rattle.model.specs.Horizon.{lastS, hyperperiod, horizon}
 use Rattle.table.specs.declared.Task.{Task}
 use Rattle.table.specs.declared.Answer.{Answer}
@@ -46,13 +47,13 @@ refusal n p =
     record { answer = Refused n p; count = 0; cores = 0; rule = 0; tasks = replicate 32 noTask; start = 0; period = 0; horizon = 0 }
 
 -- by the answer: what passes, or the refusal
-abbrev pub answered : Answer → Loaded → Loaded
-answered Passed l = l
-answered (Refused n p) l = refusal n p
+abbrev pub loadedBy : Answer → Loaded → Loaded
+loadedBy Passed l = l
+loadedBy (Refused n p) l = refusal n p
 
 -- what `load` gives of the words
 unfoldable pub loadOf : List ℕ → Loaded
-loadOf ws = answered (answerOf ws) (passing (word ws 2) (tableOf ws))
+loadOf ws = loadedBy (answerOf ws) (passing (word ws 2) (tableOf ws))
 
 -- what a table that passed holds
 pub record Holds (ws : List ℕ) (r : Loaded) : Type 0 where
@@ -71,17 +72,22 @@ pub record Holds (ws : List ℕ) (r : Loaded) : Type 0 where
   pub horizon : r .horizon ≡ horizon (tableOf ws)
   pub horizon-most : r .horizon ≤ 10000000
 
+-- the answer that each case is: taken where the table passes, or refused with number and position
+abbrev pub loadTold : Answer → book.Answer
+loadTold Passed = book.taken
+loadTold (Refused n p) = book.refused n p
+
 -- what `load` promises of the words
 pub record LoadOf (ws : List ℕ) (r : Loaded) : Type 0 where
   -- its value
   pub value : r ≡ loadOf ws
   -- refused with n and p exactly if number n applies with position p and no earlier one does; passed exactly if none applies
-  pub refused : (n p : ℕ) → (r .answer ≡ Refused n p) ↔ First ws n p
-  pub passed : (r .answer ≡ Passed) ↔ NoneApplies ws
+  pub refused : (n p : ℕ) → (loadTold (r .answer) ≡ book.refused n p) ↔ First ws n p
+  pub passed : (loadTold (r .answer) ≡ book.taken) ↔ NoneApplies ws
   -- in a refusal all else is zero
-  pub zeros : (n p : ℕ) → r .answer ≡ Refused n p → r ≡ refusal n p
+  pub zeros : (n p : ℕ) → loadTold (r .answer) ≡ book.refused n p → r ≡ refusal n p
   -- in a table that passed the rest is the table
-  pub holds : r .answer ≡ Passed → Holds ws r
+  pub holds : loadTold (r .answer) ≡ book.taken → Holds ws r
 
 -- the tasks on so many cores, with the rule of this number
 abbrev pub tableWith : ℕ → ℕ → List model.Task → model.Table

@@ -4,7 +4,7 @@ ghost use Prim.Native.Nat.{_≤_, _+_};
 ghost use Rattle.table.specs.Task.{tasksOf, InLimits};
 ghost use Rattle.table.specs.Limits.{horizonOut};
 ghost use Rattle.table.specs.Answer.{firstOut, byHorizon, byTasks};
-ghost use Rattle.table.specs.Load.{places, refusal, passing, answered, tableWith};
+ghost use Rattle.table.specs.Load.{places, refusal, passing, loadedBy, tableWith};
 use crate::Answer;
 use crate::Loaded;
 use crate::Task;
@@ -43,7 +43,7 @@ fn horizon_out(start: u32, period: u32) -> bool
 // A table whose tasks are within their limits: number 9, or the table.
 fn by_horizon(cores: u32, rule: u32, tasks: [Task; 32], count: usize) -> Loaded
     requires { ⌜ 1 ≤ count ⌝ ∗ ⌜ count ≤ 32 ⌝ ∗ ⌜ InLimits tasks count ⌝ ∗ ⌜ tasks ≡ places (tasksOf tasks count) ⌝ }
-    ensures { λ r. ⌜ r ≡ answered (byHorizon (tableWith cores rule (tasksOf tasks count))) (passing rule (tableWith cores rule (tasksOf tasks count))) ⌝ }
+    ensures { λ r. ⌜ r ≡ loadedBy (byHorizon (tableWith cores rule (tasksOf tasks count))) (passing rule (tableWith cores rule (tasksOf tasks count))) ⌝ }
 {
     let start = crate::start::last_start(tasks, count);
     let period = crate::hyperperiod::hyperperiod(tasks, count);
@@ -81,7 +81,7 @@ fn first_out(cores: u32, tasks: [Task; 32], count: usize) -> usize
 // A table whose chain ends: number 7 or 8 of the first task that breaks one, or by the horizon.
 pub(crate) fn by_tasks(cores: u32, rule: u32, tasks: [Task; 32], count: usize) -> Loaded
     requires { ⌜ 1 ≤ count ⌝ ∗ ⌜ count ≤ 32 ⌝ ∗ ⌜ tasks ≡ places (tasksOf tasks count) ⌝ }
-    ensures { λ r. ⌜ r ≡ answered (byTasks (tableWith cores rule (tasksOf tasks count))) (passing rule (tableWith cores rule (tasksOf tasks count))) ⌝ }
+    ensures { λ r. ⌜ r ≡ loadedBy (byTasks (tableWith cores rule (tasksOf tasks count))) (passing rule (tableWith cores rule (tasksOf tasks count))) ⌝ }
 {
     let place = first_out(cores, tasks, count);
     if place < count {

@@ -7,10 +7,11 @@ use Rattle.model.specs.Task.{Table}
 use Rattle.model.specs.Book.{full, rowOf}
 use Rattle.model.specs.Horizon.{horizon}
 use Rattle.model.specs.Verdict.{Verdict, Firm, Full, Miss, verdict}
-use Rattle.table.specs.declared.Answer as loaded
+use Rattle.table.specs.declared.Answer.{Answer}
 use Rattle.table.specs.declared.Answer.the-variants.{Passed, Refused}
 use Rattle.table.specs.Words.{tableOf}
 use Rattle.table.specs.Answer.{answerOf}
+use Rattle.judge.specs.Said.{Said, judged, refused}
 use Rattle.text.specs.Decimal.{decimal}
 use Rattle.text.specs.Format.{newline, Words, words, noText, wordsOf}
 
@@ -32,13 +33,8 @@ fields (n ∷ ns) = space ∷ (decimal n ++ fields ns)
 unfoldable pub lineOf : List ℕ → List ℕ → List ℕ
 lineOf begin ns = begin ++ (fields ns ++ (newline ∷ []))
 
--- what the first line says: a verdict, or a refusal with number and position
-pub data Answer : Type 0 where
-  judged : Verdict → Answer
-  refused : ℕ → ℕ → Answer
-
 -- a Firm table begins `firm`, S, P; a Full one `full`, S, P; a miss `miss`, tick, position; a refusal is `refused`, number, position
-unfoldable pub firstLine : Answer → List ℕ
+unfoldable pub firstLine : Said → List ℕ
 firstLine (judged (Firm s p)) = lineOf (letters "firm") (s ∷ p ∷ [])
 firstLine (judged (Full s p)) = lineOf (letters "full") (s ∷ p ∷ [])
 firstLine (judged (Miss t p)) = lineOf (letters "miss") (t ∷ p ∷ [])
@@ -64,7 +60,7 @@ unfoldable pub printed : Table → List ℕ
 printed s = firstLine (judged (verdict s)) ++ rowLines s 0 (rowsPrinted (verdict s) (horizon s))
 
 -- a table that passes is printed; a refusal is one line and nothing more
-abbrev pub printedBy : loaded.Answer → Table → List ℕ
+abbrev pub printedBy : Answer → Table → List ℕ
 printedBy Passed s = printed s
 printedBy (Refused n p) s = firstLine (refused n p)
 

@@ -1,19 +1,11 @@
--- What the first line says of the judge's answer, and how many rows follow it.
+-- How many rows follow what the judge said.
 use Prim.Native.Nat.{ℕ}
-use Rattle.model.specs.Verdict as model
 use Rattle.judge.specs.declared.Verdict.{Verdict}
-use Rattle.judge.specs.declared.Verdict.the-variants.{Firm, Full, Miss, Refused}
-use Rattle.text.specs.Output.{Answer, judged, refused, rowsPrinted}
-
--- the verdict, or the refusal with number and position
-abbrev pub saidBy : Verdict → Answer
-saidBy (Firm s p) = judged (model.Firm s p)
-saidBy (Full s p) = judged (model.Full s p)
-saidBy (Miss t p) = judged (model.Miss t p)
-saidBy (Refused n p) = refused n p
+use Rattle.judge.specs.Said.{Said, judged, refused, saidBy}
+use Rattle.text.specs.Output.{rowsPrinted}
 
 -- the rows printed after what the first line says; none after a refusal
-abbrev rowsAfter : Answer → ℕ → ℕ
+abbrev rowsAfter : Said → ℕ → ℕ
 rowsAfter (judged v) h = rowsPrinted v h
 rowsAfter (refused n p) h = 0
 
