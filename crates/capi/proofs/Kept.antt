@@ -100,6 +100,15 @@ fits-moved f r h = record {
   past = drop-mapFirst _ (r .count) (r .tasks) ∙ h .past;
 }
 
+-- what an advance returns fits, taken or refused
+pub fits-advanced : (r : Run) (x : ℕ) → Fits r → Fits (advanceOf r x .run)
+unfolding advanceOf
+fits-advanced r x f = go (advanceAnswer r x)
+  where
+    go : (a : Answer) → Fits (byAnswer a (moved (bit x) r) r)
+    go Taken = fits-moved (bit x) r f
+    go (Refused n p) = f
+
 -- a run that fits, written into a long buffer up to its count, is held there
 pub fits-written : (r : Run) (ws : List ℕ) → Fits r → runWords ≤ length ws → decode (overwritten (r .count) r ws) ≡ run r
 fits-written r ws f h =

@@ -6,3 +6,5 @@ mod Putting
 mod Keeping
 pub mod Kept
 pub mod Listed
+pub mod Past
+pub mod Fourteen

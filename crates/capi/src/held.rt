@@ -18,7 +18,9 @@ const HEAD: usize = 3;
 const EACH: usize = 8;
 // Where a place has the three words of its phase.
 const KIND: usize = 5;
+
 const FIRST: usize = KIND + 1;
+
 const SECOND: usize = KIND + 2;
 // The places of a run.
 pub(crate) const PLACES: usize = 32;
