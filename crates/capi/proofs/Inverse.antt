@@ -59,36 +59,33 @@ unfolding encodeTo
 length-to n r h = let a = length-words (take n (r .tasks)) in let b = length-take-le n (r .tasks) h in omega arith
 
 -- a run whose places below the count are written comes back cleared, whatever stands behind them in a buffer that is long enough
-module _
-    (n : ℕ) (r : Run) (behind : List ℕ) (all : length (r .tasks) ≡ places) (few : r .count ≤ n) (most : n ≤ places)
-    (long : runWords ≤ length (encodeTo n r ++ behind))
-  where
-    abbrev written : List ℕ
-    written = placesWords (take n (r .tasks)) ++ behind
+module _ (n : ℕ) (r : Run) (behind : List ℕ) (all : length (r .tasks) ≡ places) (few : r .count ≤ n) (most : n ≤ places) (long : runWords ≤ length (encodeTo n r ++ behind)) where
+  abbrev written : List ℕ
+  written = placesWords (take n (r .tasks)) ++ behind
 
-    within : r .count ≤ length (take n (r .tasks))
-    within = let l = length-take-le n (r .tasks) (omega arith) in omega arith
+  within : r .count ≤ length (take n (r .tasks))
+  within = let l = length-take-le n (r .tasks) (omega arith) in omega arith
 
-    count-back : countWord (r .count) ≡ r .count
-    count-back = ap (λ (t : Bool). cond t (r .count) 33) (le-leb (r .count) places (omega arith))
+  count-back : countWord (r .count) ≡ r .count
+  count-back = ap (λ (t : Bool). cond t (r .count) 33) (le-leb (r .count) places (omega arith))
 
-    holds-encoded : holds (encodeTo n r ++ behind) ≡ true
-    unfolding holds encodeTo
-    holds-encoded =
-        and-both (leb runWords (length (encodeTo n r ++ behind))) _
-        (le-leb runWords (length (encodeTo n r ++ behind)) long)
-        (subst (λ (k : ℕ). leb k places && arePlaces k written ≡ true) (sym count-back)
-        (and-both (leb (r .count) places) _ (le-leb (r .count) places (omega arith)) (places-are (r .count) (take n (r .tasks)) behind within)))
+  holds-encoded : holds (encodeTo n r ++ behind) ≡ true
+  unfolding holds encodeTo
+  holds-encoded =
+      and-both (leb runWords (length (encodeTo n r ++ behind))) _
+      (le-leb runWords (length (encodeTo n r ++ behind)) long)
+      (subst (λ (k : ℕ). leb k places && arePlaces k written ≡ true) (sym count-back)
+      (and-both (leb (r .count) places) _ (le-leb (r .count) places (omega arith)) (places-are (r .count) (take n (r .tasks)) behind within)))
 
-    run-back : runIn (encodeTo n r ++ behind) ≡ cleared r
-    unfolding runIn encodeTo
-    run-back =
-        ap (λ (k : ℕ). record { rule = r .rule; cores = r .cores; count = k; tasks = padded k (placesIn k written) }) count-back
-        ∙ ap (λ (ts : List Task). record { rule = r .rule; cores = r .cores; count = r .count; tasks = padded (r .count) ts })
-        (places-back (r .count) (take n (r .tasks)) behind within ∙ take-take (r .count) n (r .tasks) few)
+  run-back : runIn (encodeTo n r ++ behind) ≡ cleared r
+  unfolding runIn encodeTo
+  run-back =
+      ap (λ (k : ℕ). record { rule = r .rule; cores = r .cores; count = k; tasks = padded k (placesIn k written) }) count-back
+      ∙ ap (λ (ts : List Task). record { rule = r .rule; cores = r .cores; count = r .count; tasks = padded (r .count) ts })
+      (places-back (r .count) (take n (r .tasks)) behind within ∙ take-take (r .count) n (r .tasks) few)
 
-    pub decode-to : decode (encodeTo n r ++ behind) ≡ run (cleared r)
-    decode-to = ap (λ (t : Bool). cond t (run (runIn (encodeTo n r ++ behind))) none) holds-encoded ∙ ap run run-back
+  pub decode-to : decode (encodeTo n r ++ behind) ≡ run (cleared r)
+  decode-to = ap (λ (t : Bool). cond t (run (runIn (encodeTo n r ++ behind))) none) holds-encoded ∙ ap run run-back
 
 -- so does the run of 32 places and a count of at most 32 from its encoding
 pub decode-encode : (r : Run) → length (r .tasks) ≡ places → r .count ≤ places → (behind : List ℕ) → decode (encode r ++ behind) ≡ run (cleared r)

@@ -2,17 +2,20 @@
 -- whatever stands behind it, it is decoded to that run (`fits-written`).
 use mathlib.Core.Path.{_≡_, refl, sym, ap, _∙_}
 use mathlib.Core.List.{List, _++_}
-use Prim.Native.Nat.{ℕ, _≤_}
+use Prim.Native.Nat.{ℕ, _-_, _≤_}
 use native.Mathlib.Omega.{arith}
-use lib.ListN.{length, getD, take, drop, take-append-drop}
-use lib.Seq.{getD-take, take-at, drop-at}
+use lib.ListN.{length, getD, take, drop, replicate, take-append-drop}
+use lib.Seq.{length-take-le, getD-take, take-at, drop-at}
 use Rattle.run.specs.declared.Answer.{Answer}
 use Rattle.run.specs.declared.Answer.the-variants.{Taken, Refused}
 use Rattle.run.specs.declared.Run.{Run}
 use Rattle.run.specs.declared.Advanced.{Advanced}
 use Rattle.run.specs.Answer.{byAnswer}
 use Rattle.run.specs.Advance.{advanceOf}
-use Rattle.capi.specs.Encoding.{places, wordsTo, runWords, encodeTo, overwritten, countIn, runIn, Held, run, none, decode}
+use Rattle.run.specs.Past.{Unread}
+use Rattle.run.proofs.Past.{past-unread}
+use Rattle.phase.specs.Task.{unused}
+use Rattle.capi.specs.Encoding.{places, wordsTo, runWords, encodeTo, overwritten, countIn, runIn, Held, run, none, decode, cleared}
 use Rattle.capi.specs.Runs.{rowFrom, advanceFrom}
 use Rattle.capi.specs.Past.{usedIn, SameUsed, WordsUnread}
 use Rattle.capi.proofs.Inverse.{length-to, held-run, encode-decode}
@@ -33,6 +36,18 @@ held-used ws r e =
     let k = wordsTo (r .count) in
     ap (λ (n : ℕ). take (wordsTo n) ws) (sym (held-count ws r e))
     ∙ (ap (take k) (sym (encode-decode ws r e)) ∙ take-at (encodeTo (r .count) r) (drop k ws) k (length-to (r .count) r (omega arith)))
+
+-- a run that is cleared, as it is when it comes back from its encoding, is the run up to its count: it gets equal rows and answers
+pub cleared-unread : (r : Run) → length (r .tasks) ≡ places → r .count ≤ places → (x : ℕ) → Unread r (cleared r) x
+cleared-unread r all few x =
+    let n = r .count in
+    past-unread r (cleared r)
+    (record {
+      rule = refl;
+      cores = refl;
+      count = refl;
+      tasks = sym (take-at (take n (r .tasks)) (replicate (places - n) unused) n (length-take-le n (r .tasks) (omega arith)));
+    }) x
 
 -- NOT READ
 

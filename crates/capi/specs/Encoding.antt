@@ -22,13 +22,15 @@ headWords = 3
 abbrev pub eachWords : ℕ
 eachWords = 8
 
--- where a place has the three words of its phase
+-- where a place has the kind of its phase ..
 abbrev pub kindAt : ℕ
 kindAt = 5
 
+-- .. its first number ..
 abbrev pub firstAt : ℕ
 firstAt = kindAt + 1
 
+-- .. and its second
 abbrev pub secondAt : ℕ
 secondAt = kindAt + 2
 
@@ -138,6 +140,7 @@ pub data Held : Type 0 where
   run : Run → Held
   none : Held
 
+-- the run where it holds one
 abbrev pub decode : List ℕ → Held
 decode ws = cond (holds ws) (run (runIn ws)) none
 

@@ -16,11 +16,11 @@ use run::Run;
 const HEAD: usize = 3;
 // The words of a place.
 const EACH: usize = 8;
-// Where a place has the three words of its phase.
+// Where a place has the kind of its phase ..
 const KIND: usize = 5;
-
+// .. its first number ..
 const FIRST: usize = KIND + 1;
-
+// .. and its second.
 const SECOND: usize = KIND + 2;
 // The places of a run.
 pub(crate) const PLACES: usize = 32;
