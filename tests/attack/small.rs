@@ -1,5 +1,5 @@
 //! Every way of ending jobs early within the first ticks of a small table, the run kept in words beside the book.
-use crate::book::{self, Cab, WORKING};
+use crate::book::{self, phase_at, Cab, WORKING};
 use crate::calls::{same, same_run, Tried};
 use crate::rng::Rng;
 use crate::tables;
@@ -39,7 +39,7 @@ fn nodes(cab: &Cab, ticks: usize, limit: u64) -> u64 {
 
 /// The phase kinds of the first places.
 fn kinds(words: &[u32; RUN_WORDS]) -> impl Iterator<Item = u32> + '_ {
-    (0..words[2] as usize).map(|place| words[8 + 8 * place])
+    (0..words[2] as usize).map(|place| words[phase_at(place)])
 }
 
 struct Search<'a> {
