@@ -12,7 +12,7 @@ extern "C" {
 #endif
 
 /* What every call returns: the call is answered, or a lent slice is too short and everything is as found.
-   Short `rows` of a plan are 11 instead, and fewer than 259 words lent to row or advance are no run: 14. */
+   Short `rows` of a plan are 11 instead, and too few words for a run lent to row or advance are no run: 14. */
 #define SIVORANDRA_ANSWERED 0u
 #define SIVORANDRA_SHORT 1u
 
@@ -54,22 +54,22 @@ uint32_t sivorandra_replay(const uint32_t *words, size_t words_len,
                            uint8_t *row, size_t row_len,
                            uint32_t *answer, size_t answer_len);
 
-/* Starts the run of the table in `words`: done or refused. Taken or refused, it writes all 259 words of the run that start returns:
-   places past the count are zeros and Resting(0), and a refused start returns a run of all zeros with every phase Resting(0), which
-   every later call turns down with 14. */
+/* Starts the run of the table in `words`: done or refused. Taken or refused, it writes all SIVORANDRA_RUN_WORDS words of the run that start
+   returns: places past the count are zeros and Resting(0), and a refused start returns a run of all zeros with every phase Resting(0),
+   which every later call turns down with 14. */
 uint32_t sivorandra_start(const uint32_t *words, size_t words_len,
                           uint32_t *run, size_t run_len,
                           uint32_t *answer, size_t answer_len);
 
 /* The row of the present tick: done or refused. Taken or refused, it writes all 64 bytes of the row that is returned: bytes past the
-   core count are 0, and a refused row is 64 zeros. Words that are no run are refused with 14: fewer than 259, a count above 32, or no
-   phase in a place below the count. Places past the count are not read. */
+   core count are 0, and a refused row is 64 zeros. Words that are no run are refused with 14: too few, a count above 32, or no phase
+   in a place below the count. Places past the count are not read. */
 uint32_t sivorandra_row(const uint32_t *run, size_t run_len,
                         uint8_t *row, size_t row_len,
                         uint32_t *answer, size_t answer_len);
 
 /* Takes the run one tick on: done, or refused and `run` as found. Words that are no run are refused with 14, as by row. A taken advance
-   writes the first 3 + 8 * count words; places past the count are neither read nor changed.
+   writes the head and the places below the count; places past it are neither read nor changed.
    Bit p of `reports` says that the job of position p + 1, which works in this tick, ends after it. */
 uint32_t sivorandra_advance(uint32_t *run, size_t run_len, uint32_t reports,
                             uint32_t *answer, size_t answer_len);

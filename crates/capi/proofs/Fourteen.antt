@@ -20,8 +20,8 @@ use Rattle.run.specs.Advance.{advanceAnswer, advanceOf}
 use Rattle.run.proofs.Limits.{run-decides}
 use Rattle.capi.specs.Encoding.{headWords, eachWords, kindAt, secondAt, places, wordsTo, runWords, isPhase, isPlace, arePlaces, countIn, holds, runIn, Held, run, none, decode}
 use Rattle.capi.specs.Runs.{rowFrom, advanceFrom}
-use Rattle.capi.specs.Fourteen.{NoPhase, NoPlace, NoRun, short, many, no-place, BufferOut}
-use Rattle.capi.proofs.Places.{place-at, held-short, held-many, held-by}
+use Rattle.capi.specs.Fourteen.{NoPhase, NoRun, short, many, no-place, BufferOut}
+use Rattle.capi.proofs.Places.{place-at, by-held, held-short, held-many, held-by}
 
 -- NO PLACE
 
@@ -109,16 +109,13 @@ module _ (ws : List ℕ) where
       by-length true h y = by-count (leb-true runWords (length ws) h) (leb (countIn ws) places) refl y
       by-length false h y = held-short ws (leb-false runWords (length ws) h)
 
-  by-held : {t : Bool} → holds ws ≡ t → decode ws ≡ cond t (run (runIn ws)) none
-  by-held e = ap (λ (t : Bool). cond t (run (runIn ws)) none) e
-
   -- a buffer is decoded to no run exactly if it holds none
   pub no-run-exact : (decode ws ≡ none) ↔ NoRun ws
-  no-run-exact = (λ e. there (holds ws) refl e, λ x. by-held (no-run-back x))
+  no-run-exact = (λ e. there (holds ws) refl e, λ x. by-held ws (no-run-back x))
     where
       there : (t : Bool) → holds ws ≡ t → decode ws ≡ none → NoRun ws
       there true h e =
-          let same : run (runIn ws) ≡ none = sym (by-held h) ∙ e in
+          let same : run (runIn ws) ≡ none = sym (by-held ws h) ∙ e in
           absurd (let z : _≡_ {A = ℕ} 0 1 = cc in omega arith)
       there false h e = no-run h
 

@@ -21,7 +21,7 @@ use Rattle.run.specs.Numbers.{RunOut}
 use Rattle.capi.specs.declared.told.Told.{Told}
 use Rattle.capi.specs.Told.{says}
 use Rattle.capi.specs.Encoding.{headWords, eachWords, kindAt, firstAt, secondAt, places, wordsTo, runWords, ofPhase, placeWith, placeWords, placesWords, countWord, encodeTo, encode, overwritten, phaseOf, isPhase, placeIn, isPlace, placesIn, arePlaces, countIn, holds, padded, runIn, run, none, decode, cleared}
-use Rattle.capi.proofs.Places.{length-words, length-read, held-long, held-few, held-places}
+use Rattle.capi.proofs.Places.{length-words, length-read, by-held, held-long, held-few, held-places}
 
 -- WHAT IS ENCODED IS DECODED
 
@@ -85,7 +85,7 @@ module _ (n : ℕ) (r : Run) (behind : List ℕ) (all : length (r .tasks) ≡ pl
       (places-back (r .count) (take n (r .tasks)) behind within ∙ take-take (r .count) n (r .tasks) few)
 
   pub decode-to : decode (encodeTo n r ++ behind) ≡ run (cleared r)
-  decode-to = ap (λ (t : Bool). cond t (run (runIn (encodeTo n r ++ behind))) none) holds-encoded ∙ ap run run-back
+  decode-to = by-held (encodeTo n r ++ behind) holds-encoded ∙ ap run run-back
 
 -- so does the run of 32 places and a count of at most 32 from its encoding
 pub decode-encode : (r : Run) → length (r .tasks) ≡ places → r .count ≤ places → (behind : List ℕ) → decode (encode r ++ behind) ≡ run (cleared r)
@@ -173,10 +173,10 @@ held-run ws r e = go (holds ws) refl
   where
     go : (t : Bool) → holds ws ≡ t → (holds ws ≡ true) × (runIn ws ≡ r)
     go true h =
-        let same : run (runIn ws) ≡ run r = sym (ap (λ (t : Bool). cond t (run (runIn ws)) none) h) ∙ e in
+        let same : run (runIn ws) ≡ run r = sym (by-held ws h) ∙ e in
         (h, cc)
     go false h =
-        let same : none ≡ run r = sym (ap (λ (t : Bool). cond t (run (runIn ws)) none) h) ∙ e in
+        let same : none ≡ run r = sym (by-held ws h) ∙ e in
         absurd (let z : _≡_ {A = ℕ} 0 1 = cc in omega arith)
 
 -- to encode it again changes no word

@@ -1,6 +1,6 @@
 -- What the calls on a run in a buffer leave, by whether there is room and by what the buffer holds.
 use mathlib.Core.Path.{_≡_, refl, sym, ap, _∙_}
-use mathlib.Core.Bool.{Bool, true, false, _&&_, cond}
+use mathlib.Core.Bool.{true, false, _&&_}
 use mathlib.Core.List.{List, [], _∷_, _++_}
 use Prim.Native.Nat.{ℕ, _≤_, _<_}
 use native.Mathlib.Omega.{arith}
@@ -21,10 +21,10 @@ use Rattle.run.specs.Row.{noBytes, rowOf}
 use Rattle.run.specs.Advance.{advanceAnswer, advanceOf}
 use Rattle.capi.specs.Told.{ofAnswer, written}
 use Rattle.capi.specs.Calls.{left, byRoom, room}
-use Rattle.capi.specs.Encoding.{places, runWords, overwritten, countIn, holds, runIn, Held, run, none, decode}
+use Rattle.capi.specs.Encoding.{places, runWords, overwritten, countIn, holds, runIn, Held, run, decode}
 use Rattle.capi.specs.Runs.{startCall, rowFrom, rowCall, Advance, kept, advanceFrom, advanceCall}
 use Rattle.capi.proofs.Calls.{both}
-use Rattle.capi.proofs.Places.{held-few}
+use Rattle.capi.proofs.Places.{by-held, held-few}
 
 -- THE ROOM FOR AN ANSWER AND FOR n MORE
 
@@ -110,14 +110,11 @@ count-kept r x = go (advanceAnswer r x)
     go (Refused n p) = refl
 
 module _ (ws : List ℕ) where
-  by-held : {t : Bool} → holds ws ≡ t → decode ws ≡ cond t (run (runIn ws)) none
-  by-held e = ap (λ (t : Bool). cond t (run (runIn ws)) none) e
-
   pub row-held : {w : Row} {r : Run} → holds ws ≡ true → r ≡ runIn ws → w ≡ rowOf r → w ≡ rowFrom (decode ws)
-  row-held h e p = p ∙ (ap rowOf e ∙ ap rowFrom (sym (by-held h)))
+  row-held h e p = p ∙ (ap rowOf e ∙ ap rowFrom (sym (by-held ws h)))
 
   pub row-none : holds ws ≡ false → _≡_ {A = Row} (record { answer = Refused 14 0; bytes = noBytes }) (rowFrom (decode ws))
-  row-none h = ap rowFrom (sym (by-held h))
+  row-none h = ap rowFrom (sym (by-held ws h))
 
   module _ (x : ℕ) where
     -- the run that an advance returns has as few places as the buffer says
@@ -132,7 +129,7 @@ module _ (ws : List ℕ) where
     by-advance : (a : Advanced) (r : Run) → holds ws ≡ true → r ≡ runIn ws → a ≡ advanceOf r x → kept (a .answer) (a .run) ws ≡ advanceFrom (decode ws) x ws
     by-advance a r h e p =
         ap (λ (v : Advanced). kept (v .answer) (v .run) ws) (p ∙ ap (λ (q : Run). advanceOf q x) e)
-        ∙ ap (λ (v : Held). advanceFrom v x ws) (sym (by-held h))
+        ∙ ap (λ (v : Held). advanceFrom v x ws) (sym (by-held ws h))
 
     pub advance-taken :
         (a : Advanced) (r : Run) {new : List ℕ} → holds ws ≡ true → r ≡ runIn ws → a ≡ advanceOf r x → a .answer ≡ Taken
@@ -147,4 +144,4 @@ module _ (ws : List ℕ) where
     advance-refused a r h e p t = ap (λ (v : Answer). kept v (a .run) ws) (sym t) ∙ by-advance a r h e p
 
     pub advance-none : holds ws ≡ false → _≡_ {A = Advance} (record { answer = Refused 14 0; buffer = ws }) (advanceFrom (decode ws) x ws)
-    advance-none h = ap (λ (v : Held). advanceFrom v x ws) (sym (by-held h))
+    advance-none h = ap (λ (v : Held). advanceFrom v x ws) (sym (by-held ws h))

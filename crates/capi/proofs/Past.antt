@@ -9,13 +9,12 @@ use lib.Seq.{length-take-le, getD-take, take-at, drop-at}
 use Rattle.run.specs.declared.Answer.{Answer}
 use Rattle.run.specs.declared.Answer.the-variants.{Taken, Refused}
 use Rattle.run.specs.declared.Run.{Run}
-use Rattle.run.specs.declared.Advanced.{Advanced}
 use Rattle.run.specs.Answer.{byAnswer}
 use Rattle.run.specs.Advance.{advanceOf}
 use Rattle.run.specs.Past.{Unread}
 use Rattle.run.proofs.Past.{past-unread}
 use Rattle.phase.specs.Task.{unused}
-use Rattle.capi.specs.Encoding.{places, wordsTo, runWords, encodeTo, overwritten, countIn, runIn, Held, run, none, decode, cleared}
+use Rattle.capi.specs.Encoding.{places, wordsTo, encodeTo, overwritten, countIn, runIn, Held, run, none, decode, cleared}
 use Rattle.capi.specs.Runs.{rowFrom, advanceFrom}
 use Rattle.capi.specs.Past.{usedIn, SameUsed, WordsUnread}
 use Rattle.capi.proofs.Inverse.{length-to, held-run, encode-decode}

@@ -1,6 +1,6 @@
 -- The words of places: one place more, written, read or looked at.
 use mathlib.Core.Path.{_≡_, refl, ap, _∙_}
-use mathlib.Core.Bool.{Bool, true, false, _&&_}
+use mathlib.Core.Bool.{Bool, true, false, _&&_, cond}
 use mathlib.Core.List.{List, [], _∷_, _++_}
 use Prim.Native.Nat.{ℕ, zero, suc, _+_, _*_, _≤_, _<_}
 use native.Mathlib.Omega.{arith}
@@ -10,7 +10,7 @@ use lib.Dec.{leb}
 use borrow.Author.Tests.{le-leb, lt-leb, leb-true}
 use Rattle.model.proofs.Bools.{and-left, and-right}
 use Rattle.phase.specs.declared.Task.{Task}
-use Rattle.capi.specs.Encoding.{headWords, eachWords, kindAt, secondAt, places, runWords, placeWords, placesWords, isPhase, placeIn, isPlace, placesIn, arePlaces, countIn, holds}
+use Rattle.capi.specs.Encoding.{headWords, eachWords, kindAt, secondAt, places, runWords, placeWords, placesWords, isPhase, placeIn, isPlace, placesIn, arePlaces, countIn, holds, runIn, run, none, decode}
 
 -- written
 pub words-more : (ts : List Task) (t : Task) → placesWords (ts ++ (t ∷ [])) ≡ placesWords ts ++ placeWords t
@@ -71,6 +71,10 @@ module _ (ws : List ℕ) (h : runWords ≤ length ws) where
   pub held-by : countIn ws ≤ places → holds ws ≡ arePlaces (countIn ws) (drop headWords ws)
   unfolding holds
   held-by l = simp (le-leb runWords (length ws) h, le-leb (countIn ws) places l)
+
+-- what a buffer is decoded to, by whether it holds a run
+pub by-held : (ws : List ℕ) {t : Bool} → holds ws ≡ t → decode ws ≡ cond t (run (runIn ws)) none
+by-held ws e = ap (λ (t : Bool). cond t (run (runIn ws)) none) e
 
 -- what a buffer that holds a run has
 module _ (ws : List ℕ) (e : holds ws ≡ true) where
