@@ -6,7 +6,7 @@ use mathlib.Core.List.{List, [], _++_, map, append-nil}
 use Prim.Native.Nat.{ℕ, _-_, _≤_}
 use native.Mathlib.Omega.{arith}
 use lib.ListN.{length, take, drop, replicate, length-append, length-drop, length-map, length-replicate, take-append-drop}
-use lib.Seq.{drop-at}
+use lib.Seq.{take-at, drop-at}
 use Rattle.model.specs.Search.{bit}
 use Rattle.model.specs.Task as model
 use Rattle.table.specs.Words.{rule, tableOf}
@@ -26,7 +26,7 @@ use Rattle.run.proofs.StartExact.{start-of}
 use Rattle.run.proofs.ByVerdict.{start-taken, start-refused}
 use Rattle.run.proofs.Cases.{advance-taken, advance-refused}
 use Rattle.capi.specs.Encoding.{headWords, places, wordsTo, runWords, encodeTo, encode, overwritten, placesIn, countIn, holds, runIn, Held, run, decode, cleared}
-use Rattle.capi.specs.Runs.{advanceFrom}
+use Rattle.capi.specs.Runs.{startedIn, advanceFrom}
 use Rattle.capi.proofs.Places.{length-read, held-long, held-few}
 use Rattle.capi.proofs.Inverse.{length-to, decode-to, decode-encode, few-accepted, held-run}
 
@@ -64,8 +64,15 @@ fits-start ws = go (startAnswer ws) refl
     go (Refused n p) e =
         subst (λ (s : Started). Fits (s .run)) (sym (start-refused ws n p e)) (record { all = refl; few = omega arith; past = refl })
 
--- what start writes is the run that it returns
-pub start-held : (ws buffer : List ℕ) → decode (overwritten places (startOf ws .run) buffer) ≡ run (startOf ws .run)
+-- start writes all words of the run that it returns, whatever stood there
+pub start-whole : (ws buffer : List ℕ) → take runWords (startedIn ws buffer) ≡ encode (startOf ws .run)
+start-whole ws buffer =
+    let r = startOf ws .run in
+    let all = fits-start ws .all in
+    take-at (encode r) (drop runWords buffer) runWords (length-to places r (omega arith))
+
+-- and what it writes is decoded to that run
+pub start-held : (ws buffer : List ℕ) → decode (startedIn ws buffer) ≡ run (startOf ws .run)
 start-held ws buffer =
     let f = fits-start ws in
     decode-encode (startOf ws .run) (f .all) (f .few) (drop runWords buffer) ∙ ap run (clear-fits (startOf ws .run) f)

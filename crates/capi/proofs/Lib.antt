@@ -8,3 +8,4 @@ pub mod Kept
 pub mod Listed
 pub mod Past
 pub mod Fourteen
+pub mod Examples

@@ -16,12 +16,15 @@ use Rattle.capi.specs.Told.{ofAnswer, written}
 use Rattle.capi.specs.Calls.{Left, byRoom, room}
 use Rattle.capi.specs.Encoding.{places, runWords, overwritten, Held, run, none, decode}
 
--- start: the run that it returns, taken or refused, with all its places
+-- the buffer after a start: the run that it returns, taken or refused, with all its places
+abbrev pub startedIn : List ℕ → List ℕ → List ℕ
+startedIn ws buffer = overwritten places (startOf ws .run) buffer
+
+-- start: the run, and the answer
 unfoldable pub startCall : List ℕ → List ℕ → List ℕ → Left
 startCall ws buffer answer =
-    let s = startOf ws in
     byRoom (room answer && leb runWords (length buffer))
-    (overwritten places (s .run) buffer ∷ (written (ofAnswer (s .answer)) answer ∷ []))
+    (startedIn ws buffer ∷ (written (ofAnswer (startOf ws .answer)) answer ∷ []))
     (buffer ∷ (answer ∷ []))
 
 -- the row of the run that a buffer holds; 14 where it holds none
