@@ -2,6 +2,7 @@
 //! `attack --seed N` begins with the seed N, which a difference has named. The last line is 'N passed, M failed'.
 mod book;
 mod calls;
+mod empty;
 mod hand;
 mod lists;
 mod random;
@@ -149,7 +150,7 @@ fn main() {
     println!("attack: seed {seed}");
     let begun = Instant::now();
     let mut counts = Counts::default();
-    let fixed = [vectors::all(), hand::all(&mut counts)].concat();
+    let fixed = [vectors::all(), empty::all(), hand::all(&mut counts)].concat();
     if !fixed.iter().any(|(name, _)| name.starts_with("vector")) {
         counts.count(Err("no plan vector".into()));
     }

@@ -70,7 +70,7 @@ pub extern "C" fn sivorandra_replay(
     1
 }
 
-// The run of a table's words as it starts, into the first 259 words of `run`: case 0, or 3 Refused number position and the run that start returns then.
+// The run of a table's words as it starts, all its words, into the front of `run`: case 0, or 3 Refused number position and the run of all zeros.
 #[no_mangle]
 pub extern "C" fn sivorandra_start(words: &[u32], run: &mut [u32], answer: &mut [u32]) -> u32
     ensures { λ r. ⌜ record { value = r; lent = now (run .exit) ∷ (now (answer .exit) ∷ []) } ≡ startCall (now (words .entry)) (now (run .entry)) (now (answer .entry)) ⌝ }
@@ -78,12 +78,12 @@ pub extern "C" fn sivorandra_start(words: &[u32], run: &mut [u32], answer: &mut 
     if answer.len() < 3 {
         return 1;
     }
-    if run.len() < 259 {
+    if run.len() < held::WORDS {
         return 1;
     }
     let started = run::start(words);
     let first = started.run;
-    held::put_run(first, run);
+    held::put_run(first, held::PLACES, run);
     let given = started.answer;
     let told = told::of_answer(given);
     told::put(told, answer);
