@@ -1,5 +1,5 @@
 //! The lists of one small table beside each other, at one tick: how far each job is in each of them, as the library's runs say it.
-use crate::book::WORKING;
+use crate::book::{phase_at, WORKING};
 use crate::calls::Tried;
 use crate::Counts;
 use sivorandra::RUN_WORDS;
@@ -47,12 +47,12 @@ impl List {
         let tick = self.sets.len() as u32;
         next.sets.push(set);
         for place in 0..before[2] as usize {
-            let (task, phase) = (&before[3 + 8 * place..][..5], &before[8 + 8 * place..][..3]);
+            let (task, phase) = (&before[phase_at(place) - 5..][..5], &before[phase_at(place)..][..3]);
             if phase[0] != WORKING {
                 continue;
             }
             let number = (tick - phase[1] - task[0]) / task[4];
-            let then = &after[8 + 8 * place..][..3];
+            let then = &after[phase_at(place)..][..3];
             let goes_on = then[0] == WORKING && then[1] == phase[1] + 1;
             let line = if goes_on { Line { had: then[2], ended: false } } else { Line { had: phase[2] + 1, ended: true } };
             next.jobs[self.per_place * place + number as usize] = line;
