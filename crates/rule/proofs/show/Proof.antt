@@ -26,7 +26,7 @@ row-of-requires c κs = search needs
 
 returns : tie.Need-returns
 returns c =
-    let g = c .before .before .before in
+    let g = c .before .before in
     let f = g .before in
     let a = f .before .args in
     let few : min (a .cores) 64 ≡ a .cores = omega arith in
