@@ -3,7 +3,7 @@ use mathlib.Core.Path.{_≡_, refl, sym, ap, _∙_}
 use mathlib.Core.Logic.{_⊎_, inl, inr, ⊎-elim}
 use mathlib.Core.Bool.{Bool, true, false, _&&_}
 use mathlib.Core.List.{List, [], _++_, map}
-use Prim.Native.Nat.{ℕ, _+_, _-_, _^_, _≤_, _<_}
+use Prim.Native.Nat.{ℕ, _+_, _-_, _^_, _≤_, _<_, min}
 use native.Mathlib.Omega.{arith}
 use lib.Bits.{bitAnd, and-lt}
 use lib.Count.{ones}
@@ -19,12 +19,20 @@ use Rattle.model.proofs.Bools.{and-left, and-right, not-true-false}
 use Rattle.model.proofs.Lists.{getD-zeros}
 use Rattle.model.proofs.Digits.{and-bit}
 use Rattle.rule.specs.Cores.{cores}
-use Rattle.rule.specs.Shares.{GrantedAs}
+use Rattle.rule.specs.Shares.{GrantedAs, granted}
 use Rattle.rule.specs.Painted.{shown}
 use Rattle.rule.proofs.Ascending.{Range, range-up, In, kept-same, kept-none}
 use Rattle.rule.proofs.Cores.{setOf, cores-none, cores-range, cores-length, set-cores, cores-memb}
 use Rattle.rule.proofs.Granting.{idle, apart, width-or-none}
 use Rattle.rule.proofs.Rows.{shown-grants}
+
+-- the free set of the first n of 64 cores
+pub first-free : (f n : ℕ) → n ≤ 64 → cores f ≡ upFrom 0 (min n 64) → cores f ≡ upFrom 0 n
+first-free f n h e = let all : min n 64 ≡ n = omega arith in e ∙ ap (upFrom 0) all
+
+-- who is given cores of that set
+pub granted-first : (r : Rule) (bs : List Claimant) (f n : ℕ) → n ≤ 64 → cores f ≡ upFrom 0 (min n 64) → (p : ℕ) → granted r bs (cores f) p ≡ granted r bs (upFrom 0 n) p
+granted-first r bs f n h e p = ap (λ (l : List ℕ). granted r bs l p) (first-free f n h e)
 
 -- a set with no cores is 0
 pub no-cores : (n : ℕ) → n < 2 ^ 64 → cores n ≡ [] → n ≡ 0
