@@ -21,7 +21,7 @@ use Rattle.table.specs.Numbers.{NoneApplies}
 use Rattle.table.specs.Answer.{answerOf}
 use Rattle.table.specs.Load.{LoadOf, Holds, loadTold}
 use Rattle.table.proofs.Exact.{refusal-exact, passed-exact}
-use Rattle.table.proofs.Passed.{passed-rule, passed-sound, passed-inside}
+use Rattle.table.proofs.Passed.{passed-cores, passed-rule, passed-sound, passed-inside}
 use Rattle.judge.specs.declared.Verdict.{Verdict}
 use Rattle.judge.specs.declared.Verdict.the-variants.{Firm, Full, Miss, Refused}
 use Rattle.judge.specs.Said.{Said, judged, saidBy, caseOf}
@@ -198,6 +198,7 @@ module _ (ws : List ℕ) (r : Loaded) (l : LoadOf ws r) (e : r .answer ≡ Passe
   fit = record {
     places = places;
     few = h .count-from .1;
+    narrow = omega (arith, h .cores, passed-cores ws none .1);
     sound = subst AllSound (sym same-table) (passed-sound ws none);
     short = λ p q. subst (λ (s : Table). p < length (s .tasks) → task s p .period ≤ 1000000) (sym same-table) (λ i. passed-inside ws none p i .period-from .1) (omega (arith, h .count, ap (λ (s : Table). length (s .tasks)) same-table));
     start = h .start ∙ ap (λ (s : Table). lastS (s .tasks)) (sym same-table);

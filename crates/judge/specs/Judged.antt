@@ -60,6 +60,7 @@ tableIn t = record { tasks = tasksOf (t .tasks) (t .count); cores = t .cores; ru
 pub record Fit (t : Loaded) : Type 0 where
   pub places : length (t .tasks) ≡ 32
   pub few : t .count ≤ 32
+  pub narrow : t .cores ≤ 64
   pub sound : AllSound (tableIn t)
   pub short : (p : ℕ) → p < t .count → task (tableIn t) p .period ≤ 1000000
   pub start : t .start ≡ lastS (tableIn t .tasks)

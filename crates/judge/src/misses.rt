@@ -15,6 +15,7 @@ pub fn first_miss(table: Loaded, end: u32) -> Missed
     requires { ⌜ Fit table × (end ≤ table .horizon + 1) ⌝ }
     ensures { λ r. ⌜ MissedOf (tableIn table) end r ⌝ }
 {
+    let free = rule::first_cores(table.cores);
     let count = table.count;
     let tasks = table.tasks;
     let columns = full::columns::columns_of(tasks);
@@ -61,7 +62,7 @@ pub fn first_miss(table: Loaded, end: u32) -> Missed
             }
         }
         if claiming != chosen {
-            granted = rule::choose(table.rule, table.cores, claiming, &width);
+            granted = rule::choose(table.rule, free, claiming, &width);
             chosen = claiming;
         }
         claiming = full::work(granted, claiming, &mut left, &mut moment, &next);

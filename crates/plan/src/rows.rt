@@ -26,6 +26,7 @@ pub(crate) fn write(table: Loaded, a: u32, b: u32, out: &mut [u8])
     requires { ⌜ Fit table × (table .cores ≤ 64) × (b ≤ table .horizon) × (any b (missedIn (tableIn table)) ≡ false) × ((b - a) * table .cores ≤ length (now out)) ⌝ }
     ensures { λ _. ⌜ now (out .exit) ≡ over (tableIn table) a b (now (out .entry)) ⌝ }
 {
+    let free = rule::first_cores(table.cores);
     let cores = table.cores as usize;
     let count = table.count;
     let tasks = table.tasks;
@@ -63,7 +64,7 @@ pub(crate) fn write(table: Loaded, a: u32, b: u32, out: &mut [u8])
             bell = due.bell;
         }
         if claiming != chosen {
-            granted = rule::choose(table.rule, table.cores, claiming, &width);
+            granted = rule::choose(table.rule, free, claiming, &width);
             chosen = claiming;
         }
         if a <= tick {

@@ -87,7 +87,8 @@ fn next_line(
     let mut granted = pace.granted;
     let mut size = pace.text;
     if claiming != pace.chosen {
-        granted = rule::choose(rule, cores, claiming, width);
+        let free = rule::first_cores(cores);
+        granted = rule::choose(rule, free, claiming, width);
         size = cells::put_cells(rule, cores, claiming, width, count, text);
     }
     let ready = row::put_row(line, tick, text, size);

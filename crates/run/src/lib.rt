@@ -123,7 +123,8 @@ impl Run {
         let late = self.first_late();
         let claims = self.claims();
         let widths = claims.widths;
-        let granted = rule::choose(self.rule, self.cores, claims.claiming, &widths);
+        let free = rule::first_cores(self.cores);
+        let granted = rule::choose(self.rule, free, claims.claiming, &widths);
         let ending = reports & (granted & claims.working);
         let answer = in_order(late < self.count, late as u32 + 1, ending == reports);
         match answer {

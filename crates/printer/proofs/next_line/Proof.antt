@@ -7,6 +7,9 @@ use mathlib.Core.Logic.{⊎-elim}
 use mathlib.Core.Path.{_≡_, sym, ap, _∙_, subst₂}
 use Prim.Native.Nat.{ℕ}
 use Rattle.model.specs.Search.{bit}
+use Rattle.model.specs.Task.{ruleOf}
+use Rattle.model.specs.Grants.{claimants}
+use Rattle.rule.proofs.Sets.{granted-first}
 use Rattle.full.specs.Machine.{Machine, machine, Owed}
 use Rattle.printer.specs.Rows.{Numbers, numbers, Stand, after, bellAfter, grantedIn}
 use Rattle.printer.specs.Printer.{standAt}
@@ -48,7 +51,8 @@ granted-of c =
     let s = c .before .before .before in
     let j = c .before .before in
     ⊎-elim
-    (λ w. w .5 ∙ chosen-anew (nums s) (stand s) (j .if1 .claiming) _ (claims-of j) (w .0 .taken) (w .1 .ok) (w .1 .ensures))
+    (λ w. w .6 ∙ chosen-anew (nums s) (stand s) (j .if1 .claiming) _ (claims-of j) (w .0 .taken) (w .2 .ok)
+    (λ q. w .2 .ensures q ∙ granted-first (ruleOf (s .args .rule)) (claimants (s .args .width .now) (bit (j .if1 .claiming))) _ (s .args .cores) (s .pre .safe .cores) (w .1 .ensures) q))
     (λ w. w .2 ∙ kept (nums s) (stand s) (j .if1 .claiming) (claims-of j) (w .0 .left) .0)
     (c .if2 .came)
 
@@ -59,8 +63,8 @@ text-of c =
     let goal : ℕ → List ℕ → Type 0 = Text (nums s) (stand s) in
     ⊎-elim
     (λ w.
-    subst₂ goal (sym (w .6)) (sym (w .4))
-    (text-put (nums s) (stand s) (j .if1 .claiming) _ _ _ (claims-of j) (w .0 .taken) (s .pre .wide) (w .3 .ensures)))
+    subst₂ goal (sym (w .7)) (sym (w .5))
+    (text-put (nums s) (stand s) (j .if1 .claiming) _ _ _ (claims-of j) (w .0 .taken) (s .pre .wide) (w .4 .ensures)))
     (λ w.
     subst₂ goal (sym (w .3)) (sym (w .1))
     (kept (nums s) (stand s) (j .if1 .claiming) (claims-of j) (w .0 .left) .1, s .pre .text, s .pre .wide))
@@ -69,12 +73,15 @@ text-of c =
 release-due-requires : tie.Need-release-due-requires
 release-due-requires c κs = in-range _ _ _ _ _ (c .before .before .before .before .pre)
 
+first-cores-requires : tie.Need-first-cores-requires
+first-cores-requires c κs = search needs
+
 choose-requires : tie.Need-choose-requires
 choose-requires c κs = search needs
 
 put-cells-requires : tie.Need-put-cells-requires
 put-cells-requires c κs =
-    let h = c .before .before .before .before .before .pre in
+    let h = c .before .before .before .before .before .before .pre in
     (h .safe .cores, h .safe .few, omega (arith, h .wide))
 
 put-row-requires : tie.Need-put-row-requires
@@ -101,4 +108,4 @@ returns c =
     (after-of j .0) (after-of j .1) (granted-of k) (text-of k) (c .work .ensures) (c .before .before .before .before .put-row .ensures)
 
 pub next-line-spec : {M : Type 1} → statement M
-next-line-spec = tie.close (tie.spec release-due-requires choose-requires put-cells-requires put-row-requires work-requires add-t35 returns)
+next-line-spec = tie.close (tie.spec release-due-requires first-cores-requires choose-requires put-cells-requires put-row-requires work-requires add-t35 returns)

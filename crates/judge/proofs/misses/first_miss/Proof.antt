@@ -11,8 +11,10 @@ use lib.ListN as list
 use Rattle.model.specs.Search.{bit, upFrom}
 use Rattle.model.specs.Task.{task, ruleOf}
 use Rattle.model.specs.Task as model
-use Rattle.model.specs.Grants.{claimants}
+use Rattle.model.specs.Grants.{Claimant, claimants}
+use Rattle.rule.specs.Cores.{cores}
 use Rattle.rule.specs.Shares.{granted}
+use Rattle.rule.proofs.Sets.{granted-first}
 use Rattle.table.specs.declared.Task.{Task}
 use Rattle.table.specs.declared.Loaded.{Loaded}
 use Rattle.table.specs.Task.{taskOf, noTask}
@@ -27,28 +29,33 @@ use Rattle.judge.proofs.misses.first_miss.Statement.{statement}
 use Rattle.judge.proofs.misses.first_miss.Tie as tie
 
 abbrev Inv-loop : tie.InvT-loop
-Inv-loop table end count width length deadline period left₀ moment₀ next₀ claiming₀ chosen granted bell₀ tick i₀ left moment next claiming bell i =
+Inv-loop table end free count width length deadline period left₀ moment₀ next₀ claiming₀ chosen granted bell₀ tick i₀ left moment next claiming bell i =
     Walking table (machine left moment next claiming) bell tick i
 
 abbrev μ-loop : tie.MeasureT-loop
-μ-loop table end count width length deadline period left₀ moment₀ next₀ claiming₀ chosen granted bell₀ tick i₀ left moment next claiming bell i = count - i
+μ-loop table end free count width length deadline period left₀ moment₀ next₀ claiming₀ chosen granted bell₀ tick i₀ left moment next claiming bell i = count - i
 
 abbrev Inv-ticks : tie.InvT-ticks
-Inv-ticks table end count width length deadline period left₀ moment₀ next₀ claiming₀ chosen₀ granted₀ bell₀ tick₀ left moment next claiming chosen granted bell tick =
+Inv-ticks table end free count width length deadline period left₀ moment₀ next₀ claiming₀ chosen₀ granted₀ bell₀ tick₀ left moment next claiming chosen granted bell tick =
     Before table (machine left moment next claiming) bell tick × Chosen table chosen granted × (tick ≤ end)
 
 abbrev μ-ticks : tie.MeasureT-ticks
-μ-ticks table end count width length deadline period left₀ moment₀ next₀ claiming₀ chosen₀ granted₀ bell₀ tick₀ left moment next claiming chosen granted bell tick = end - tick
+μ-ticks table end free count width length deadline period left₀ moment₀ next₀ claiming₀ chosen₀ granted₀ bell₀ tick₀ left moment next claiming chosen granted bell tick = end - tick
 
 -- THE PLACES. The table, what is known of it, and the columns made of it
 abbrev table-of : tie.After-period Inv-loop μ-loop Inv-ticks μ-ticks → Loaded
-table-of c = c .before .before .before .before .before .before .before .args .table
+table-of c = c .before .before .before .before .before .before .before .before .args .table
 
 fit-of : (c : tie.After-period Inv-loop μ-loop Inv-ticks μ-ticks) → Fit (table-of c)
-fit-of c = c .before .before .before .before .before .before .before .pre .0
+fit-of c = c .before .before .before .before .before .before .before .before .pre .0
 
 columns : (c : tie.After-period Inv-loop μ-loop Inv-ticks μ-ticks) → c .before .before .before .before .before .columns-of .result ≡ columnsOf (table-of c .tasks)
 columns c = c .before .before .before .before .before .columns-of .ensures
+
+-- the free set is that of the table's cores
+free-of : (c : tie.After-period Inv-loop μ-loop Inv-ticks μ-ticks) (bs : List Claimant) (q : ℕ)
+    → granted (ruleOf (table-of c .rule)) bs (cores (c .before .before .before .before .before .before .before .first-cores .result)) q ≡ granted (ruleOf (table-of c .rule)) bs (upFrom 0 (table-of c .cores)) q
+free-of c bs = granted-first (ruleOf (table-of c .rule)) bs (c .before .before .before .before .before .before .before .first-cores .result) (table-of c .cores) (fit-of c .narrow) (c .before .before .before .before .before .before .before .first-cores .ensures)
 
 -- in the walk: the place is one of the table's, and one of 32
 inside : (c : tie.In-loop Inv-loop μ-loop Inv-ticks μ-ticks) → c .before .loop .i < 32
@@ -103,7 +110,7 @@ after-of c =
 -- ticks of the loop are small
 small : (c : tie.Else1 Inv-loop μ-loop Inv-ticks μ-ticks) → c .before .ticks .tick ≤ 1000000000
 small c =
-    let start = c .before .before .before .before .before .before .before .before .before in
+    let start = c .before .before .before .before .before .before .before .before .before .before in
     omega (arith, c .if1 .left, start .pre .1, start .pre .0 .limit)
 
 -- the set of granted places is that of the claimants: it was just chosen, or they are those it was chosen for
@@ -119,6 +126,7 @@ chosen-of c =
     subst (λ (g : ℕ). Chosen t k g) (sym (w .4))
     (λ q.
     w .2 .ensures q
+    ∙ free-of p (claimants (p .before .before .before .before .before .columns-of .result .width) (bit k)) q
     ∙ ap (λ (x : Columns). granted (ruleOf (t .rule)) (claimants (x .width) (bit k)) (upFrom 0 (t .cores)) q) (columns p)))
     (λ w.
     subst₂ (λ (x g : ℕ). Chosen t x g) (sym (w .0 .left)) (sym (w .2)) (c .before .before .before .ticks .inv .1))
@@ -134,6 +142,9 @@ kept-of c = ⊎-elim
     (c .if5 .came)
 
 -- THE ANSWERS
+first-cores-requires : tie.Need-first-cores-requires Inv-loop μ-loop Inv-ticks μ-ticks
+first-cores-requires c κs = search needs
+
 columns-of-requires : tie.Need-columns-of-requires Inv-loop μ-loop Inv-ticks μ-ticks
 columns-of-requires c κs = search needs
 
@@ -290,6 +301,7 @@ first-miss-spec =
     μ-loop
     Inv-ticks
     μ-ticks
+    first-cores-requires
     columns-of-requires
     ticks-holds
     loop-holds

@@ -10,9 +10,11 @@ use Prim.Native.Nat.{ℕ, _+_, _-_, _*_, _≤_}
 use lib.ListN as list
 use Rattle.model.specs.Search.{bit, upFrom}
 use Rattle.model.specs.Task.{ruleOf}
-use Rattle.model.specs.Grants.{claimants}
+use Rattle.model.specs.Grants.{Claimant, claimants}
 use Rattle.model.specs.Book.{Missed}
+use Rattle.rule.specs.Cores.{cores}
 use Rattle.rule.specs.Shares.{granted}
+use Rattle.rule.proofs.Sets.{granted-first}
 use Rattle.table.specs.declared.Loaded.{Loaded}
 use Rattle.full.specs.declared.columns.Columns.{Columns}
 use Rattle.full.specs.Fields.{columnsOf}
@@ -27,38 +29,43 @@ use Rattle.plan.proofs.rows.write.Statement.{statement}
 use Rattle.plan.proofs.rows.write.Tie as tie
 
 abbrev Inv-loop : tie.InvT-loop
-Inv-loop table a b out₀ cores count width length deadline period left₀ moment₀ next₀ claiming₀ chosen₀ granted₀ shown₀ row₀ bell₀ at₀ tick₀ out left moment next claiming chosen granted shown row bell at tick =
+Inv-loop table a b out₀ free cores count width length deadline period left₀ moment₀ next₀ claiming₀ chosen₀ granted₀ shown₀ row₀ bell₀ at₀ tick₀ out left moment next claiming chosen granted shown row bell at tick =
     Before table (machine left moment next claiming) bell tick × Chosen table chosen granted × RowFor table shown row × (tick ≤ b)
     × Filled table a tick at out₀ out
 
 abbrev μ-loop : tie.MeasureT-loop
-μ-loop table a b out₀ cores count width length deadline period left₀ moment₀ next₀ claiming₀ chosen₀ granted₀ shown₀ row₀ bell₀ at₀ tick₀ out left moment next claiming chosen granted shown row bell at tick =
+μ-loop table a b out₀ free cores count width length deadline period left₀ moment₀ next₀ claiming₀ chosen₀ granted₀ shown₀ row₀ bell₀ at₀ tick₀ out left moment next claiming chosen granted shown row bell at tick =
     b - tick
 
 -- THE PLACES. The table, what is known of it, and the columns made of it
 abbrev table-of : tie.After-show Inv-loop μ-loop → Loaded
-table-of c = c .before .before .before .before .before .before .before .before .before .before .before .args .table
+table-of c = c .before .before .before .before .before .before .before .before .before .before .before .before .args .table
 
 abbrev first-of : tie.After-show Inv-loop μ-loop → ℕ
-first-of c = c .before .before .before .before .before .before .before .before .before .before .before .args .a
+first-of c = c .before .before .before .before .before .before .before .before .before .before .before .before .args .a
 
 abbrev last-of : tie.After-show Inv-loop μ-loop → ℕ
-last-of c = c .before .before .before .before .before .before .before .before .before .before .before .args .b
+last-of c = c .before .before .before .before .before .before .before .before .before .before .before .before .args .b
 
 abbrev found-of : tie.After-show Inv-loop μ-loop → List ℕ
-found-of c = c .before .before .before .before .before .before .before .before .before .before .before .args .out .now
+found-of c = c .before .before .before .before .before .before .before .before .before .before .before .before .args .out .now
 
 fit-of : (c : tie.After-show Inv-loop μ-loop) → Fit (table-of c)
-fit-of c = c .before .before .before .before .before .before .before .before .before .before .before .pre .0
+fit-of c = c .before .before .before .before .before .before .before .before .before .before .before .before .pre .0
 
 cores-of : (c : tie.After-show Inv-loop μ-loop) → table-of c .cores ≤ 64
-cores-of c = c .before .before .before .before .before .before .before .before .before .before .before .pre .1
+cores-of c = c .before .before .before .before .before .before .before .before .before .before .before .before .pre .1
 
 enough-of : (c : tie.After-show Inv-loop μ-loop) → (last-of c - first-of c) * table-of c .cores ≤ list.length (found-of c)
-enough-of c = c .before .before .before .before .before .before .before .before .before .before .before .pre .4
+enough-of c = c .before .before .before .before .before .before .before .before .before .before .before .before .pre .4
 
 columns : (c : tie.After-show Inv-loop μ-loop) → c .before .before .before .before .before .before .before .columns-of .result ≡ columnsOf (table-of c .tasks)
 columns c = c .before .before .before .before .before .before .before .columns-of .ensures
+
+-- the free set is that of the table's cores
+free-of : (c : tie.After-show Inv-loop μ-loop) (bs : List Claimant) (q : ℕ)
+    → granted (ruleOf (table-of c .rule)) bs (cores (c .before .before .before .before .before .before .before .before .before .before .before .first-cores .result)) q ≡ granted (ruleOf (table-of c .rule)) bs (upFrom 0 (table-of c .cores)) q
+free-of c bs = granted-first (ruleOf (table-of c .rule)) bs _ (table-of c .cores) (cores-of c) (c .before .before .before .before .before .before .before .before .before .before .before .first-cores .ensures)
 
 -- the row made for a set of claimants, by the columns
 row-made :
@@ -67,12 +74,12 @@ row-made c k bytes e = subst (λ (x : Columns). RowBy (table-of c) (x .width) k 
 
 -- in the loop: ticks are small, and no deadline of the tick is missed
 small : (c : tie.In-loop Inv-loop μ-loop) → c .before .loop .tick ≤ 1000000000
-small c = omega (arith, c .loop-test .taken, fit-of (c .before .before) .limit, c .before .before .before .before .before .before .before .before .before .before .before .before .before .pre .2)
+small c = omega (arith, c .loop-test .taken, fit-of (c .before .before) .limit, c .before .before .before .before .before .before .before .before .before .before .before .before .before .before .pre .2)
 
 met : (c : tie.In-loop Inv-loop μ-loop) (p : ℕ) → ¬ Missed (tableIn (table-of (c .before .before))) p (c .before .loop .tick)
 met c p =
     let h = c .before .before in
-    all-met (tableIn (table-of h)) (fit-of h .sound) (last-of h) (c .before .before .before .before .before .before .before .before .before .before .before .before .before .pre .3) p (c .before .loop .tick) (c .loop-test .taken)
+    all-met (tableIn (table-of h)) (fit-of h .sound) (last-of h) (c .before .before .before .before .before .before .before .before .before .before .before .before .before .before .pre .3) p (c .before .loop .tick) (c .loop-test .taken)
 
 -- after the due moments, or where none was due
 after-of :
@@ -107,6 +114,7 @@ chosen-of c =
     subst (λ (g : ℕ). Chosen t k g) (sym (w .4))
     (λ q.
     w .2 .ensures q
+    ∙ free-of h (claimants (h .before .before .before .before .before .before .before .columns-of .result .width) (bit k)) q
     ∙ ap (λ (x : Columns). granted (ruleOf (t .rule)) (claimants (x .width) (bit k)) (upFrom 0 (t .cores)) q) (columns h)))
     (λ w. subst₂ (λ (x g : ℕ). Chosen t x g) (sym (w .0 .left)) (sym (w .2)) (c .before .before .before .loop .inv .1))
     (c .if2 .came)
@@ -167,6 +175,9 @@ filled-of c =
     (c .if3 .came)
 
 -- THE ANSWERS
+first-cores-requires : tie.Need-first-cores-requires Inv-loop μ-loop
+first-cores-requires c κs = search needs
+
 cast-cores : tie.Need-cast-cores Inv-loop μ-loop
 cast-cores c = search needs
 
@@ -174,7 +185,7 @@ columns-of-requires : tie.Need-columns-of-requires Inv-loop μ-loop
 columns-of-requires c κs = search needs
 
 show-requires : tie.Need-show-requires Inv-loop μ-loop
-show-requires c κs = (c .before .before .before .before .before .before .before .before .before .before .pre .1, c .before .before .before .before .before .before .before .before .before .before .pre .0 .few)
+show-requires c κs = (c .before .before .before .before .before .before .before .before .before .before .before .pre .1, c .before .before .before .before .before .before .before .before .before .before .before .pre .0 .few)
 
 loop-holds : tie.Need-loop-holds Inv-loop μ-loop
 loop-holds c = (
@@ -262,6 +273,7 @@ write-spec =
     (tie.spec
     Inv-loop
     μ-loop
+    first-cores-requires
     cast-cores
     columns-of-requires
     show-requires
