@@ -102,7 +102,7 @@ few-accepted r fine = go (leb (r .count) places) refl
     go true e = leb-true (r .count) places e
     go false e = absurd (fine (inl (λ f. let h = leb-false (r .count) places e in let l = f .1 in omega arith)))
 
--- .. so every run that 14 accepts comes back
+-- .. so every run that 14 accepts comes back cleared; `cleared-unread` says that it gets equal rows and answers
 pub decode-accepted : (r : Run) → length (r .tasks) ≡ places → (¬ RunOut r) → decode (encode r) ≡ run (cleared r)
 decode-accepted r all fine =
     ap decode (sym (append-nil (encode r))) ∙ decode-encode r all (few-accepted r fine) []
