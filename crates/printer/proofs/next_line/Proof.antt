@@ -96,8 +96,8 @@ work-requires c κs =
     let s = j .before in
     subst₂ (λ (g : ℕ) (m : Machine). Owed (bit g) m) (sym (granted-of k)) (sym (after-of j .0)) (granted-owed (nums s) (stand s) (s .pre .safe))
 
-add-t35 : tie.Need-add-t35
-add-t35 c = omega (arith, c .before .before .before .before .before .before .before .before .before .before .before .pre .tick)
+add-t36 : tie.Need-add-t36
+add-t36 c = omega (arith, c .before .before .before .before .before .before .before .before .before .before .before .pre .tick)
 
 returns : tie.Need-returns
 returns c =
@@ -108,4 +108,4 @@ returns c =
     (after-of j .0) (after-of j .1) (granted-of k) (text-of k) (c .work .ensures) (c .before .before .before .before .put-row .ensures)
 
 pub next-line-spec : {M : Type 1} → statement M
-next-line-spec = tie.close (tie.spec release-due-requires first-cores-requires choose-requires put-cells-requires put-row-requires work-requires add-t35 returns)
+next-line-spec = tie.close (tie.spec release-due-requires first-cores-requires choose-requires put-cells-requires put-row-requires work-requires add-t36 returns)

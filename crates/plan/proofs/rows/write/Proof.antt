@@ -64,8 +64,8 @@ columns c = c .before .before .before .before .before .before .before .columns-o
 
 -- the free set is that of the table's cores
 free-of : (c : tie.After-show Inv-loop μ-loop) (bs : List Claimant) (q : ℕ)
-    → granted (ruleOf (table-of c .rule)) bs (cores (c .before .before .before .before .before .before .before .before .before .before .before .first-cores .result)) q ≡ granted (ruleOf (table-of c .rule)) bs (upFrom 0 (table-of c .cores)) q
-free-of c bs = granted-first (ruleOf (table-of c .rule)) bs _ (table-of c .cores) (cores-of c) (c .before .before .before .before .before .before .before .before .before .before .before .first-cores .ensures)
+    → granted (ruleOf (table-of c .rule)) bs (cores (c .before .before .before .before .before .before .before .before .before .before .first-cores .result)) q ≡ granted (ruleOf (table-of c .rule)) bs (upFrom 0 (table-of c .cores)) q
+free-of c bs = granted-first (ruleOf (table-of c .rule)) bs _ (table-of c .cores) (cores-of c) (c .before .before .before .before .before .before .before .before .before .before .first-cores .ensures)
 
 -- the row made for a set of claimants, by the columns
 row-made :

@@ -39,7 +39,7 @@ chosen c p =
     let w = c .before .before .before .before in
     let r = w .before .before .before .before .args .self in
     c .choose .ensures p
-    ∙ granted-first (ruleIn r) (claimants (w .claims .result .widths) (bit (w .claims .result .claiming))) _ (r .cores) (few-cores r (passes (w .before .before))) (c .before .first-cores .ensures) p
+    ∙ granted-first (ruleIn r) (claimants (w .claims .result .widths) (bit (w .claims .result .claiming))) _ (r .cores) (few-cores r (passes (w .before .before))) (c .before .before .first-cores .ensures) p
     ∙ has-cores r (w .claims .result) (w .claims .ensures) p
 
 -- 16 is looked at by one test of sets
