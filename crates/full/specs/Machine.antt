@@ -7,7 +7,7 @@ use Prim.Native.Nat.{ℕ, zero, suc, _+_, _-_, _^_, _<_, min}
 use lib.ListN.{length, getD, set, replicate}
 use lib.Dec.{eqb, ltb}
 use Rattle.model.specs.Search.{bit}
-use Rattle.full.specs.Places.{each, setOf}
+use Rattle.full.specs.Places.{part, each, setOf}
 
 -- for each of 32 places: the ticks that its job is still owed, 0 where none claims; its next moment, the job's deadline while it claims and
 -- else the next release; its next release. And the set of the places that claim. A place past the count never claims.
@@ -20,6 +20,10 @@ pub record Machine : Type 0 where
 -- a machine of its parts
 abbrev pub machine : List ℕ → List ℕ → List ℕ → ℕ → Machine
 machine l m n c = record { left = l; moment = m; next = n; claiming = c }
+
+-- a machine whose places' numbers stand in one list: the ticks left first, then the moments, then the next releases
+abbrev pub machineOf : List ℕ → ℕ → Machine
+machineOf places c = machine (part 0 places) (part 32 places) (part 64 places) c
 
 -- a machine of 32 places
 pub record Sized (m : Machine) : Type 0 where

@@ -2,6 +2,11 @@
 use mathlib.Core.Bool.{Bool, cond}
 use mathlib.Core.List.{List, [], _∷_}
 use Prim.Native.Nat.{ℕ, zero, suc, _+_, _*_}
+use lib.ListN.{take, drop}
+
+-- the numbers of the 32 places that stand one after the other from k on, in a list that has several for each place
+unfoldable pub part : ℕ → List ℕ → List ℕ
+part k xs = take 32 (drop k xs)
 
 -- what stands at each place, changed by f, which is told the place
 unfoldable pub each : (ℕ → ℕ → ℕ) → List ℕ → List ℕ

@@ -14,8 +14,9 @@ use Rattle.table.specs.declared.Loaded.{Loaded}
 use Rattle.table.specs.declared.Task.{Task}
 use Rattle.table.specs.Task.{taskOf, noTask}
 use Rattle.table.proofs.Inside.{inside-test}
-use Rattle.full.specs.Machine.{machine, Sized}
-use Rattle.printer.specs.Rows.{numbersIn}
+use Rattle.full.specs.Places.{part}
+use Rattle.full.specs.Machine.{machineOf, Sized}
+use Rattle.full.specs.Stand.{numbersIn}
 use Rattle.printer.specs.Sound.{outAt, tableSound, owed, within, sound, Safe}
 use Rattle.printer.specs.Printer.{standOf}
 use Rattle.printer.specs.declared.Printer.{Printer}
@@ -23,13 +24,13 @@ use Rattle.printer.specs.declared.Printer.{Printer}
 -- the limits of a sound printer, one by one
 pub record Limits (p : Printer) : Type 0 where
   pub table : tableSound (p .table) ≡ true
-  pub tick : p .pace .tick ≤ p .end
+  pub tick : p .stage .pace .tick ≤ p .end
   pub end : p .end ≤ 10000000
-  pub ready : p .pace .ready ≤ 267
-  pub given : p .given ≤ p .pace .ready
-  pub text : p .pace .text ≤ 257
-  pub claims : within (p .pace .claiming) (owed (p .left)) ≡ true
-  pub chosen : within (p .pace .granted) (p .pace .chosen) ≡ true
+  pub ready : p .stage .ready ≤ 267
+  pub given : p .given ≤ p .stage .ready
+  pub text : p .stage .text ≤ 257
+  pub claims : within (p .stage .pace .claiming) (owed (part 0 (p .places))) ≡ true
+  pub chosen : within (p .stage .pace .granted) (p .stage .pace .chosen) ≡ true
 
 -- the test that is left where the first of two holds
 rest-of : (a b : Bool) → a && b ≡ true → (a ≡ true) × (b ≡ true)
@@ -38,13 +39,13 @@ rest-of a b e = (and-left a b e, and-right a b e)
 pub sound-limits : (p : Printer) → sound p ≡ true → Limits p
 unfolding sound
 sound-limits p e =
-    let h = within (p .pace .granted) (p .pace .chosen) in
-    let g = within (p .pace .claiming) (owed (p .left)) in
-    let f = leb (p .pace .text) 257 in
-    let d = leb (p .given) (p .pace .ready) in
-    let c = leb (p .pace .ready) 267 in
+    let h = within (p .stage .pace .granted) (p .stage .pace .chosen) in
+    let g = within (p .stage .pace .claiming) (owed (part 0 (p .places))) in
+    let f = leb (p .stage .text) 257 in
+    let d = leb (p .given) (p .stage .ready) in
+    let c = leb (p .stage .ready) 267 in
     let b = leb (p .end) 10000000 in
-    let a = leb (p .pace .tick) (p .end) in
+    let a = leb (p .stage .pace .tick) (p .end) in
     let x₀ = rest-of (tableSound (p .table)) (a && (b && (c && (d && (f && (g && h)))))) e in
     let x₁ = rest-of a (b && (c && (d && (f && (g && h))))) (x₀ .1) in
     let x₂ = rest-of b (c && (d && (f && (g && h)))) (x₁ .1) in
@@ -53,11 +54,11 @@ sound-limits p e =
     let x₅ = rest-of f (g && h) (x₄ .1) in
     record {
       table = x₀ .0;
-      tick = leb-true (p .pace .tick) (p .end) (x₁ .0);
+      tick = leb-true (p .stage .pace .tick) (p .end) (x₁ .0);
       end = leb-true (p .end) 10000000 (x₂ .0);
-      ready = leb-true (p .pace .ready) 267 (x₃ .0);
-      given = leb-true (p .given) (p .pace .ready) (x₄ .0);
-      text = leb-true (p .pace .text) 257 (x₅ .0);
+      ready = leb-true (p .stage .ready) 267 (x₃ .0);
+      given = leb-true (p .given) (p .stage .ready) (x₄ .0);
+      text = leb-true (p .stage .text) 257 (x₅ .0);
       claims = and-left g h (x₅ .1);
       chosen = and-right g h (x₅ .1);
     }
@@ -65,19 +66,19 @@ sound-limits p e =
 pub limits-sound : (p : Printer) → Limits p → sound p ≡ true
 unfolding sound
 limits-sound p l =
-    let h = within (p .pace .granted) (p .pace .chosen) in
-    let g = within (p .pace .claiming) (owed (p .left)) in
-    let f = leb (p .pace .text) 257 in
-    let d = leb (p .given) (p .pace .ready) in
-    let c = leb (p .pace .ready) 267 in
+    let h = within (p .stage .pace .granted) (p .stage .pace .chosen) in
+    let g = within (p .stage .pace .claiming) (owed (part 0 (p .places))) in
+    let f = leb (p .stage .text) 257 in
+    let d = leb (p .given) (p .stage .ready) in
+    let c = leb (p .stage .ready) 267 in
     let b = leb (p .end) 10000000 in
-    let a = leb (p .pace .tick) (p .end) in
+    let a = leb (p .stage .pace .tick) (p .end) in
     and-both (tableSound (p .table)) (a && (b && (c && (d && (f && (g && h)))))) (l .table)
-    (and-both a (b && (c && (d && (f && (g && h))))) (le-leb (p .pace .tick) (p .end) (l .tick))
+    (and-both a (b && (c && (d && (f && (g && h))))) (le-leb (p .stage .pace .tick) (p .end) (l .tick))
     (and-both b (c && (d && (f && (g && h)))) (le-leb (p .end) 10000000 (l .end))
-    (and-both c (d && (f && (g && h))) (le-leb (p .pace .ready) 267 (l .ready))
-    (and-both d (f && (g && h)) (le-leb (p .given) (p .pace .ready) (l .given))
-    (and-both f (g && h) (le-leb (p .pace .text) 257 (l .text)) (and-both g h (l .claims) (l .chosen)))))))
+    (and-both c (d && (f && (g && h))) (le-leb (p .stage .ready) 267 (l .ready))
+    (and-both d (f && (g && h)) (le-leb (p .given) (p .stage .ready) (l .given))
+    (and-both f (g && h) (le-leb (p .stage .text) 257 (l .text)) (and-both g h (l .claims) (l .chosen)))))))
 
 -- A SOUND TABLE
 
@@ -119,7 +120,7 @@ module _ (t : Loaded) where
 
 -- the arrays that its type gives a printer
 pub record Arrays (p : Printer) : Type 0 where
-  pub sized : Sized (machine (p .left) (p .moment) (p .next) (p .pace .claiming))
+  pub sized : Sized (machineOf (p .places) (p .stage .pace .claiming))
   pub wide : length (p .row) ≡ 257
   pub long : length (p .line) ≡ 267
 

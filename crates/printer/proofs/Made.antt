@@ -1,7 +1,7 @@
 -- A printer as it is made: all that is printed for the words, and so for the bytes, is still to be handed out.
 use native.Mathlib.Omega.{arith}
 use mathlib.Core.Path.{_≡_, refl, sym, ap, ap₂, _∙_, subst, subst⁻¹}
-use mathlib.Core.List.{List, [], _++_, append-nil}
+use mathlib.Core.List.{List, [], _++_, append-nil, map}
 use mathlib.Core.Bool.{true, false}
 use mathlib.Core.Logic.{inl, inr, ⊎-elim}
 use native.Mathlib.Nat.{eq-zero-or-pos}
@@ -33,14 +33,14 @@ use Rattle.table.proofs.Inside.{Inside}
 use Rattle.table.proofs.Passed.{passed-cores, passed-inside}
 use Rattle.table.proofs.Places.{task-at}
 use Rattle.table.proofs.Tests.{task-decides}
-use Rattle.full.specs.declared.columns.Columns.{Columns}
-use Rattle.full.specs.Fields.{columnsOf}
-use Rattle.full.specs.Machine.{started}
+use Rattle.full.specs.declared.machine.Pace.{Pace}
+use Rattle.full.specs.Places.{part}
+use Rattle.full.specs.Stand.{numbersIn, Stand, standAt, begun}
 use Rattle.judge.specs.declared.Verdict.{Verdict}
 use Rattle.judge.specs.declared.Verdict.the-variants as judge
 use Rattle.judge.specs.Said.{Said, judged, refused, saidBy, caseOf}
 use Rattle.judge.specs.Judged.{Judged, tableIn, Fit}
-use Rattle.judge.proofs.Ticks.{Before, at-start, chosen-none}
+use Rattle.judge.proofs.Follows.{follows-start}
 use Rattle.judge.proofs.Promise.{said-case, fit, same-table, passed-is, refused-is}
 use Rattle.text.specs.Format.{mostNumbers, Words, words, noText, wordsOf}
 use Rattle.text.specs.Input.{inputOf, ReadOf}
@@ -48,14 +48,14 @@ use Rattle.text.specs.Output.{firstLine, rowLines, rowsPrinted, printed, printe
 use Rattle.text.specs.Written.{Put}
 use Rattle.printer.specs.Cells.{cells}
 use Rattle.text.specs.Said.{endOf}
-use Rattle.printer.specs.Rows.{numbersIn, linesIn}
+use Rattle.printer.specs.Rows.{textOf, linesIn}
 use Rattle.printer.specs.Sound.{outAt, tableSound, owed, within, sound}
-use Rattle.printer.specs.Printer.{standOf, toCome, StartOf, WordsPrinter, MadeFrom}
+use Rattle.printer.specs.Printer.{standOf, textKept, toCome, StartOf, WordsPrinter, MadeFrom}
 use Rattle.text.specs.declared.Input.{Input}
 use Rattle.printer.specs.declared.Printer.{Printer}
 use Rattle.text.proofs.Writing.{put-front}
 use Rattle.printer.proofs.Limits.{limits-sound, none-out}
-use Rattle.printer.proofs.Follows.{Follows, rows-follow}
+use Rattle.printer.proofs.Follows.{rows-follow}
 use Rattle.printer.proofs.Hand.{rest-sound}
 
 -- THE START
@@ -66,54 +66,62 @@ none-within b = eq-eqb (bitAnd 0 b) 0 (and-zero-l b)
 
 -- the first line is written, and the run stands before tick 0
 module _
-    (t : Loaded) (e : ℕ) (v : Verdict) (columns : Columns) (c : columns ≡ columnsOf (t .tasks)) (row line : List ℕ) (size ready : ℕ)
-    (p : (Put (replicate 257 0) 0 (cells (t .rule) (t .cores) (take (t .count) (columns .width)) 0) row size) × (size ≤ 257))
+    (t : Loaded) (e : ℕ) (v : Verdict) (pace : Pace) (places : List ℕ) (m : standAt pace places ≡ begun t) (widths : List ℕ)
+    (w : widths ≡ map (λ x. x .width) (t .tasks)) (row line : List ℕ) (size ready : ℕ)
+    (p : (Put (replicate 257 0) 0 (cells (t .rule) (t .cores) (take (t .count) widths) 0) row size) × (size ≤ 257))
     (q : (Put (replicate 267 0) 0 (firstLine (saidBy v)) line ready) × (ready ≤ 267))
   where
     abbrev first : Printer
     first = record {
       table = t;
       end = e;
-      left = replicate 32 0;
-      moment = columns .offset;
-      next = columns .offset;
-      pace = record { tick = 0; claiming = 0; bell = 0; chosen = 0; granted = 0; text = size; ready = ready };
+      places = places;
+      stage = record { pace = pace; text = size; ready = ready };
       row = row;
       line = line;
       given = 0;
     }
 
-    follows : Fit t → Follows t (standOf first)
-    follows fit = record {
-      before = subst (λ (o : List ℕ). Before t (started o) 0 0) (sym (ap (λ (x : Columns). x .offset) c)) (at-start t fit);
-      chosen = chosen-none t;
-      text = put-front (p .0) ∙ ap (λ (x : Columns). cells (t .rule) (t .cores) (take (t .count) (x .width)) 0) c;
-    }
+    kept : textKept first ≡ textOf (numbersIn t) 0
+    kept = put-front (p .0) ∙ ap (λ (x : List ℕ). cells (t .rule) (t .cores) (take (t .count) x) 0) w
 
-    rows : (0 < e → Fit t × (e ≤ t .horizon) × ((q u : ℕ) → u < e → ¬ Missed (tableIn t) q u)) → linesIn (numbersIn t) e (standOf first) ≡ rowLines (tableIn t) 0 e
+    rows :
+        (0 < e → Fit t × (e ≤ t .horizon) × ((q u : ℕ) → u < e → ¬ Missed (tableIn t) q u))
+        → linesIn (numbersIn t) e (begun t) (textKept first) ≡ rowLines (tableIn t) 0 e
     rows f =
         ⊎-elim
-        (λ (z : e ≡ 0). let none : linesIn (numbersIn t) 0 (standOf first) ≡ rowLines (tableIn t) 0 0 = unfold linesIn rowLines in refl in
-        subst⁻¹ (λ (k : ℕ). linesIn (numbersIn t) k (standOf first) ≡ rowLines (tableIn t) 0 k) z none)
-        (λ (l : 0 < e). rows-follow t (f l .0) e (standOf first) (follows (f l .0)) (omega (arith, f l .1)) (λ q u b. f l .2 q u (omega arith)))
+        (λ (z : e ≡ 0). let none : linesIn (numbersIn t) 0 (begun t) (textKept first) ≡ rowLines (tableIn t) 0 0 = unfold linesIn rowLines in refl in
+        subst⁻¹ (λ (k : ℕ). linesIn (numbersIn t) k (begun t) (textKept first) ≡ rowLines (tableIn t) 0 k) z none)
+        (λ (l : 0 < e). rows-follow t (f l .0) e (begun t) (textKept first) (follows-start t (f l .0)) kept (λ q u b. f l .2 q u (omega arith)))
         (eq-zero-or-pos e)
+
+    -- the pace's numbers
+    tick : pace .tick ≡ 0
+    tick = ap (λ (s : Stand). s .tick) m
+
+    claims : pace .claiming ≡ 0
+    claims = ap (λ (s : Stand). s .machine .claiming) m
+
+    granted : pace .granted ≡ 0
+    granted = ap (λ (s : Stand). s .granted) m
 
     pub start-of : StartOf t e v first
     start-of = record {
       sound = λ ok few. limits-sound first (record {
         table = ok;
-        tick = omega arith;
+        tick = omega (arith, tick);
         end = few;
         ready = q .1;
         given = omega arith;
         text = p .1;
-        claims = none-within (owed (replicate 32 0));
-        chosen = none-within 0;
+        claims = rw claims (none-within (owed (part 0 places)));
+        chosen = rw granted (none-within (pace .chosen));
       });
       whole = λ f. unfold toCome in
           let z : ready - 0 ≡ ready = omega arith in
-          let y : e - 0 ≡ e = omega arith in
-          ap₂ (λ (i j : ℕ). take i line ++ linesIn (numbersIn t) j (standOf first)) z y ∙ ap₂ (λ (x y : List ℕ). x ++ y) (put-front (q .0)) (rows f);
+          let y : e - pace .tick ≡ e = omega (arith, tick) in
+          ap₂ (λ (i j : ℕ). take i line ++ linesIn (numbersIn t) j (standOf first) (textKept first)) z y
+          ∙ ap₂ (λ (x y : List ℕ). x ++ y) (put-front (q .0)) (ap (λ (s : Stand). linesIn (numbersIn t) e s (textKept first)) m ∙ rows f);
     }
 
 -- THE WORDS

@@ -18,7 +18,7 @@ use Rattle.full.specs.Machine.{Machine, released, releasedDue, Owed, finishes, 
 use Rattle.full.proofs.Moves.{released-sized, released-own, released-other, released-past, worked-sized, worked-left, worked-claims, worked-past}
 use Rattle.full.proofs.Sets.{set-has, set-past, set-lt}
 use Rattle.rule.specs.Shares.{granted}
-use Rattle.printer.specs.Rows.{Numbers, Stand, after, unchanged, choice, grantedIn, next}
+use Rattle.full.specs.Stand.{Numbers, Stand, after, unchanged, choice, grantedIn, next, Steppable}
 use Rattle.printer.specs.Sound.{within, owed, Safe}
 
 -- SETS WITHIN SETS
@@ -175,3 +175,12 @@ module _ (n : Numbers) (s : Stand) (h : Safe n s) where
     where
       worked-small : worked (bit (grantedIn n s)) (after n s) .claiming < 2 ^ 32
       worked-small = unfold worked in set-lt 32 (λ p. bit (after n s .claiming) p && not (finishes (bit (grantedIn n s)) (after n s) p))
+
+  -- and this one, where its tick is not the last of all
+  pub safe-steppable : s .tick < 10000000 → Steppable n s
+  safe-steppable l = record {
+    few = h .few;
+    fits = λ p b. let t = h .times p b in (omega (arith, t .1), omega (arith, t .2));
+    tick = omega arith;
+    owed = granted-owed;
+  }

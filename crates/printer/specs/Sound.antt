@@ -12,9 +12,9 @@ use Rattle.model.specs.Search.{any}
 use Rattle.table.specs.declared.Loaded.{Loaded}
 use Rattle.table.specs.Limits.{taskOut}
 use Rattle.table.specs.Task.{taskOf, noTask}
-use Rattle.full.specs.Places.{setOf}
+use Rattle.full.specs.Places.{part, setOf}
 use Rattle.full.specs.Machine.{Sized}
-use Rattle.printer.specs.Rows.{Numbers, Stand}
+use Rattle.full.specs.Stand.{Numbers, Stand}
 use Rattle.printer.specs.declared.Printer.{Printer}
 
 -- 7 or 8 turns the task at place p down
@@ -38,12 +38,12 @@ within a b = eqb (bitAnd a b) a
 unfoldable pub sound : Printer → Bool
 sound p =
     tableSound (p .table)
-    && (leb (p .pace .tick) (p .end)
+    && (leb (p .stage .pace .tick) (p .end)
     && (leb (p .end) 10000000
-    && (leb (p .pace .ready) 267
-    && (leb (p .given) (p .pace .ready)
-    && (leb (p .pace .text) 257
-    && (within (p .pace .claiming) (owed (p .left)) && within (p .pace .granted) (p .pace .chosen)))))))
+    && (leb (p .stage .ready) 267
+    && (leb (p .given) (p .stage .ready)
+    && (leb (p .stage .text) 257
+    && (within (p .stage .pace .claiming) (owed (part 0 (p .places))) && within (p .stage .pace .granted) (p .stage .pace .chosen)))))))
 
 -- what a run needs so that it can be stepped
 pub record Safe (n : Numbers) (s : Stand) : Type 0 where

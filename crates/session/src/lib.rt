@@ -35,13 +35,6 @@ pub struct Fed {
     pub length: usize,
 }
 
-// The smaller of two counts.
-fn smaller(a: usize, b: usize) -> usize
-    ensures { λ r. ⌜ r ≡ min a b ⌝ }
-{
-    if a < b { a } else { b }
-}
-
 // A session that is over.
 fn over(session: Session, taken: usize, length: usize) -> Fed
     ensures { λ r. ⌜ r ≡ overWith session taken length ⌝ }
@@ -76,7 +69,7 @@ fn feed_table(session: Session, chunk: &[u8], out: &mut [u8; 267]) -> Fed
     let mut bytes = session.bytes;
     let from = session.from;
     let end = text::line::end_from(chunk, 0);
-    let count = smaller(end, 2148 - session.held);
+    let count = text::smaller(end, 2148 - session.held);
     let held = text::row::copy(chunk, 0, count, &mut bytes, session.held);
     if held == 2148 {
         let length = replies::say_refused(1, 0, out);
@@ -138,7 +131,7 @@ fn feed_operations(session: Session, chunk: &[u8], out: &mut [u8; 267]) -> Fed
     }
     let mut bytes = session.bytes;
     let end = text::line::end_from(chunk, 0);
-    let count = smaller(end, 13 - session.held);
+    let count = text::smaller(end, 13 - session.held);
     let held = text::row::copy(chunk, 0, count, &mut bytes, session.held);
     if held == 13 {
         let length = replies::say_word(b"not an operation", out);

@@ -53,7 +53,7 @@ fn say_cores(cores: u32, bytes: [u8; 64], out: &mut [u8; 267]) -> usize
     ensures { λ r. ⌜ Said (lineOf (letters "row") (take cores bytes)) (now (out .entry)) (now (out .exit)) r ⌝ }
 {
     let mut text = [0u8; 257];
-    let count = crate::smaller(cores as usize, 64);
+    let count = text::smaller(cores as usize, 64);
     let size = row::spell(bytes, count, &mut text);
     let start = row::copy(b"row", 0, 3, out, 0);
     row::copy(&text, 0, size, out, start)

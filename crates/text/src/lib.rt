@@ -1,5 +1,6 @@
 // Decimal lines in: the words of a table from the bytes that the program is given. The modules write lines.
 ghost use mathlib.Core.Path.{_≡_};
+ghost use Prim.Native.Nat.{min};
 ghost use Rattle.text.specs.Format.{noText};
 ghost use Rattle.text.specs.Input.{inputOf, ReadOf};
 
@@ -55,4 +56,11 @@ pub fn read(bytes: &[u8]) -> Input
         count: count,
         words: words,
     }
+}
+
+// The smaller of two counts.
+pub fn smaller(a: usize, b: usize) -> usize
+    ensures { λ r. ⌜ r ≡ min a b ⌝ }
+{
+    if a < b { a } else { b }
 }
