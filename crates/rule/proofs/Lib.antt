@@ -4,5 +4,6 @@ pub mod Cores
 pub mod Runs
 pub mod Granting
 pub mod Choosing
+pub mod Serving
 pub mod Rows
 pub mod Sets
