@@ -123,6 +123,7 @@ module _ (t : Loaded) (fit : Fit t) where
     pub steppable : s .tick ≤ 1000000000 → Steppable n s
     steppable l = record {
       few = fit .few;
+      narrow = fit .narrow;
       fits = λ p b.
           let inside : p < length (book .tasks) = omega (arith, size t fit) in (
             omega (arith, columns .deadlines p inside, fit .short p b, fit .sound p inside .constrained),

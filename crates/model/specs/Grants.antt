@@ -39,11 +39,6 @@ unfoldable pub grants : Rule → List Claimant → List ℕ → List (List ℕ)
 grants r [] free = []
 grants r (b ∷ bs) free = given b free ∷ grants r bs (left r b free)
 
--- the free cores that are still open to choosing after all of them
-unfoldable pub remaining : Rule → List Claimant → List ℕ → List ℕ
-remaining r [] free = free
-remaining r (b ∷ bs) free = remaining r bs (left r b free)
-
 -- a task is given cores: its list is not empty
 abbrev pub some : List ℕ → Bool
 some [] = false

@@ -180,6 +180,7 @@ module _ (n : Numbers) (s : Stand) (h : Safe n s) where
   pub safe-steppable : s .tick < 10000000 → Steppable n s
   safe-steppable l = record {
     few = h .few;
+    narrow = h .cores;
     fits = λ p b. let t = h .times p b in (omega (arith, t .1), omega (arith, t .2));
     tick = omega arith;
     owed = granted-owed;

@@ -65,8 +65,8 @@ work-requires c κs =
     let s = j .before in
     subst₂ (λ (g : ℕ) (m : Machine). Owed (bit g) m) (sym (granted-of k)) (sym (after-of j .0)) (s .pre .owed)
 
-add-t15 : tie.Need-add-t15
-add-t15 c = search needs
+add-t16 : tie.Need-add-t16
+add-t16 c = search needs
 
 returns : tie.Need-returns
 returns c =
@@ -77,4 +77,4 @@ returns c =
     (granted-of k) (c .work .ensures)
 
 pub step-spec : {M : Type 1} → statement M
-step-spec = tie.close (tie.spec release-due-requires first-cores-requires choose-requires work-requires add-t15 returns)
+step-spec = tie.close (tie.spec release-due-requires first-cores-requires choose-requires work-requires add-t16 returns)
