@@ -13,3 +13,4 @@ pub mod PlaceSets
 pub mod RunOut
 pub mod Shown
 pub mod Written
+pub mod NoWords
