@@ -5,13 +5,12 @@ use mathlib.Core.Path.{_≡_, refl, sym, ap, _∙_}
 use Prim.Native.Nat.{ℕ, _-_, _≤_, _<_}
 use native.Mathlib.Omega.{arith}
 use lib.ListN.{length, getD, take, drop}
-use lib.Seq.{take-all, take-append-seam}
+use lib.Seq.{take-all}
 use lib.Dec.{eqb, leb}
 use borrow.Author.Tests.{le-leb, lt-leb, leb-true, ne-eqb}
-use Rattle.text.specs.Format.{mostBytes, Words, words, noText, wordsOf}
-use Rattle.text.specs.Input.{inputOf, foundIn}
+use Rattle.text.specs.Format.{mostBytes, wordsOf, numbersIn}
+use Rattle.text.specs.Input.{foundIn}
 use Rattle.text.specs.Output.{letters, lineOf}
-use Rattle.text.specs.declared.Input.{Input}
 use Rattle.run.specs.declared.Run.{Run}
 use Rattle.run.specs.declared.Answer.{Answer}
 use Rattle.run.specs.declared.Answer.the-variants.{Taken, Refused}
@@ -25,7 +24,7 @@ use Rattle.session.specs.declared.Session.{Session}
 use Rattle.session.specs.declared.operations.Operation.{Operation}
 use Rattle.session.specs.declared.operations.Operation.the-variants.{Advance, Row, Nothing}
 use Rattle.session.specs.Operation.{operationOf, advanceBy, plain, answerLine, shownLine, said, runAfter, isLast}
-use Rattle.session.specs.Talk.{tooMany, isDashes, numbersIn, startLine, opened, replies}
+use Rattle.session.specs.Talk.{tooMany, isDashes, startLine, opened, replies}
 use Rattle.session.specs.Session.{stageOf, Said, OpenedOf}
 use Rattle.session.proofs.Talking.{nil-right, tooLong, opened-long}
 
@@ -142,14 +141,6 @@ no-dashes (a ∷ b ∷ []) e = absurd (e refl)
 no-dashes (a ∷ b ∷ c ∷ l) e = refl
 
 -- THE TABLE
-
--- the numbers that were read
-pub numbers-read : (r : Input) (bs : List ℕ) → r ≡ inputOf (wordsOf bs) → take (r .count) (r .words) ≡ numbersIn (wordsOf bs)
-numbers-read r bs e = ap (λ (i : Input). take (i .count) (i .words)) e ∙ go (wordsOf bs)
-  where
-    go : (w : Words) → take (inputOf w .count) (inputOf w .words) ≡ numbersIn w
-    go (words ws) = take-append-seam ws _
-    go noText = refl
 
 pub opened-refused :
     (table before after : List ℕ) (run : Run) (n : ℕ) → mostBytes < length table → Said tooLong before after n

@@ -9,11 +9,11 @@ use lib.Dec.{leb}
 use borrow.Author.Tests.{leb-false}
 use Rattle.run.specs.Start.{startOf}
 use Rattle.run.proofs.NoWords.{no-words}
-use Rattle.text.specs.Format.{mostBytes, Words, wordsOf}
+use Rattle.text.specs.Format.{mostBytes, Words, wordsOf, numbersIn}
 use Rattle.text.specs.Output.{letters}
 use Rattle.text.proofs.Exact.{long-refused}
 use Rattle.session.specs.Operation.{answerLine}
-use Rattle.session.specs.Talk.{numbersIn, startLine, replies, opened}
+use Rattle.session.specs.Talk.{startLine, replies, opened}
 use Rattle.session.specs.Session.{Begins}
 use Rattle.session.proofs.Talking.{tooLong, opened-long, begins-with}
 

@@ -5,7 +5,7 @@ use mathlib.Core.List.{List, [], _∷_, _++_}
 use Prim.Native.Nat.{ℕ, _+_}
 use lib.ListN.{length}
 use lib.Dec.{eqb, leb}
-use Rattle.text.specs.Format.{newline, mostBytes, Words, words, noText, wordsOf}
+use Rattle.text.specs.Format.{newline, mostBytes, wordsOf, numbersIn}
 use Rattle.text.specs.Output.{letters, lineOf}
 use Rattle.run.specs.declared.Run.{Run}
 use Rattle.run.specs.Start.{startOf}
@@ -35,11 +35,6 @@ linesFrom e l (b ∷ bs) = cond (eqb b newline) (l ∷ linesFrom e [] bs) (lines
 unfoldable pub replies : Run → List (List ℕ) → List ℕ
 replies r [] = []
 replies r (l ∷ ls) = said (operationOf l) r ++ cond (isLast (operationOf l)) [] (replies (runAfter (operationOf l) r) ls)
-
--- the numbers of a text; a text that is no table's has none, which start turns down with `refused 1 0`
-abbrev pub numbersIn : Words → List ℕ
-numbersIn (words ws) = ws
-numbersIn noText = []
 
 -- start's answer
 unfoldable pub startLine : List ℕ → List ℕ

@@ -1,7 +1,7 @@
 // The table of a session, and the run that it starts.
 ghost use mathlib.Core.Path.{_≡_};
-ghost use Rattle.session.specs.Talk.{isDashes, numbersIn};
-ghost use Rattle.text.specs.Format.{wordsOf};
+ghost use Rattle.session.specs.Talk.{isDashes};
+ghost use Rattle.text.specs.Format.{wordsOf, numbersIn};
 ghost use Rattle.run.specs.Start.{startOf};
 ghost use Rattle.session.specs.Session.{OpenedOf};
 ghost use mathlib.Core.Bool.{cond};

@@ -34,11 +34,12 @@ fn print(start: Printer) -> Sent
             return sent;
         }
         sent = stream::send(sent.count, &buffer[..length]);
-        if !sent.whole {
+        if sent.whole {
+            let next = piece.printer;
+            printer = next;
+        } else {
             return sent;
         }
-        let next = piece.printer;
-        printer = next;
     }
 }
 

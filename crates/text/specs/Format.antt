@@ -57,6 +57,11 @@ pub data Words : Type 0 where
   words : List ℕ → Words
   noText : Words
 
+-- the numbers of a text; what is no table's text has none, which are turned down with `refused 1 0`
+abbrev pub numbersIn : Words → List ℕ
+numbersIn (words ws) = ws
+numbersIn noText = []
+
 -- every line says a number, and there are at most 195: the numbers of the lines
 unfoldable pub wordsOf : List ℕ → Words
 wordsOf bs = cond (all isNumber (lines bs) && leb (length (lines bs)) mostNumbers) (words (map value (lines bs))) noText
