@@ -40,8 +40,7 @@ fn talk(start: Session, chunk: &[u8]) -> Turn
         at += fed.taken;
         let length = fed.length;
         sent = stream::send(sent.count, &out[..length]);
-        if sent.whole {
-        } else {
+        if sent.whole {} else {
             return Turn {
                 session: session,
                 sent: sent,

@@ -8,8 +8,8 @@ ghost use Rattle.stream.specs.Answered.{Answered};
 use judge::Verdict;
 use stream::Reading;
 use stream::Sent;
-use text::row::LINE;
 use text::ENOUGH;
+use text::row::LINE;
 
 // What came of it: the buffer and what was read into it, and what was printed.
 struct Outcome {

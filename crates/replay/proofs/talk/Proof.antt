@@ -56,8 +56,7 @@ loop-less c = let m = moves (c .before .before .before .before .before) in omega
 loop-again : tie.Need-loop-again Inv-loop μ-loop
 loop-again c =
     let f = c .before .before .before .before .before in
-    let l = f .before .before .before .before .loop in
-    (
+    let l = f .before .before .before .before .loop in (
       talk-on _ _ _ _ (l .at) (l .session) (l .sent) _ (f .feed .result) (l .inv .0) (f .feed .ensures) (c .before .send .ensures) (c .if1 .taken),
       moves f .0,
       omega (arith, f .feed .ensures .same, l .inv .2),
