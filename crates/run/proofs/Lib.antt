@@ -14,3 +14,4 @@ pub mod RunOut
 pub mod Shown
 pub mod Written
 pub mod OffChain
+pub mod NoWords

@@ -99,9 +99,9 @@ lines =
     ∷ line (header 1 1 1 ++ entry 0 0 1 1 1 1 ++ 0 ∷ []) (refusal 1 0)
     -- the rule 1, 2 or 3; the head
     ∷ ruled 0 3 ∷ ruled 1 4 ∷ ruled 2 4 ∷ ruled 3 4 ∷ ruled 4 3
-    -- every number at its least, and every number at its most; 0 and 65 cores
-    ∷ fits 1 (t 0 1 1 1 1)
-    ∷ fits 64 (t 1000000 64 1000000 1000000 1000000)
+    -- every number at its least, and every number at its most (the task below it is turned down, so that P is not computed); 0 and 65 cores
+    ∷ fits 1 (t 0 1 1 1 1) ∷ fits 64 (t 0 64 1 1 1)
+    ∷ line (header 1 64 1 ++ entry 2 1000000 64 1000000 1000000 1000000 ++ entry 0 0 0 1 1 1) (refusal 7 2)
     ∷ breaks 2 0 0 (t 0 1 1 1 1) ∷ breaks 2 0 65 (t 0 1 1 1 1)
     -- a width 0, and one above the cores
     ∷ breaks 7 1 64 (t 0 0 1 1 1) ∷ breaks 7 1 64 (t 0 65 1 1 1) ∷ breaks 7 1 1 (t 0 2 1 1 1)

@@ -1,7 +1,7 @@
 -- What the program prints (scope, end of 'The table of examples'): the verdict, then a line for each row; every line ends with a newline.
 use mathlib.Core.List.{List, [], _∷_, _++_}
 use Prim.Native.Char.{code}
-use Prim.Native.Nat.{ℕ, zero, suc}
+use Prim.Native.Nat.{ℕ, zero, suc, _+_, _*_}
 use Prim.Native.String.{String}
 use Rattle.model.specs.Task.{Table}
 use Rattle.model.specs.Book.{full, rowOf}
@@ -13,7 +13,7 @@ use Rattle.table.specs.Words.{tableOf}
 use Rattle.table.specs.Answer.{answerOf}
 use Rattle.judge.specs.Said.{Said, judged, refused}
 use Rattle.text.specs.Decimal.{decimal}
-use Rattle.text.specs.Format.{newline, Words, words, noText, wordsOf}
+use Rattle.text.specs.Format.{newline, mostDigits, Words, words, noText, wordsOf}
 
 -- the bytes of a word of plain letters
 abbrev pub letters : String → List ℕ
@@ -32,6 +32,14 @@ fields (n ∷ ns) = space ∷ (decimal n ++ fields ns)
 -- a line that begins so and has these numbers
 unfoldable pub lineOf : List ℕ → List ℕ → List ℕ
 lineOf begin ns = begin ++ (fields ns ++ (newline ∷ []))
+
+-- the most bytes that the cells of a row can take: for each of 64 cores a space and the three digits of a byte, and a newline
+abbrev pub longestCells : ℕ
+longestCells = 64 * (1 + 3) + 1
+
+-- the most bytes that a line can take: a tick and the cells of its row
+abbrev pub longestLine : ℕ
+longestLine = mostDigits + longestCells
 
 -- a Firm table begins `firm`, S, P; a Full one `full`, S, P; a miss `miss`, tick, position; a refusal is `refused`, number, position
 unfoldable pub firstLine : Said → List ℕ

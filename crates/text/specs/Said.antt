@@ -1,8 +1,11 @@
--- How many rows follow what the judge said.
+-- What the first line says, and how many rows follow it, by the judge's answer.
+use mathlib.Core.List.{List}
 use Prim.Native.Nat.{ℕ}
 use Rattle.judge.specs.declared.Verdict.{Verdict}
 use Rattle.judge.specs.Said.{Said, judged, refused, saidBy}
-use Rattle.text.specs.Output.{rowsPrinted}
+use Rattle.judge.specs.Judged.{verdictOf}
+use Rattle.text.specs.Format.{wordsOf, numbersIn}
+use Rattle.text.specs.Output.{firstLine, rowsPrinted}
 
 -- the rows printed after what the first line says; none after a refusal
 abbrev rowsAfter : Said → ℕ → ℕ
@@ -12,3 +15,7 @@ rowsAfter (refused n p) h = 0
 -- the rows printed of a table whose horizon is h, by the judge's answer
 abbrev pub endOf : Verdict → ℕ → ℕ
 endOf v h = rowsAfter (saidBy v) h
+
+-- the first line that is printed for the bytes that a program reads (`first-printed`)
+unfoldable pub firstFor : List ℕ → List ℕ
+firstFor bs = firstLine (saidBy (verdictOf (numbersIn (wordsOf bs))))

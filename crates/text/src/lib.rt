@@ -11,18 +11,30 @@ pub mod line; // line.rt: where a line ends and which number it says
 
 use line::Found;
 
+// How many numbers a table's text may have: the words of a header and of 32 records.
+pub const NUMBERS: usize = 195;
+
+// How many digits a line may have.
+pub const DIGITS: usize = 10;
+
+// How many bytes a table's text can have.
+pub const BYTES: usize = (DIGITS + 1) * NUMBERS;
+
+// How many bytes of an input are enough to tell all that is printed for it: one more.
+pub const ENOUGH: usize = BYTES + 1;
+
 // What was read: whether it is a table's text, and its numbers, zeros past the count; all zeros where it is none.
 pub struct Input {
     pub accepted: bool,
     pub count: usize,
-    pub words: [u32; 195],
+    pub words: [u32; NUMBERS],
 }
 
 // No table's text.
 fn no_text() -> Input
     ensures { λ r. ⌜ r ≡ inputOf noText ⌝ }
 {
-    let words = [0u32; 195];
+    let words = [0u32; NUMBERS];
     Input {
         accepted: false,
         count: 0,
@@ -34,7 +46,7 @@ fn no_text() -> Input
 pub fn read(bytes: &[u8]) -> Input
     ensures { λ r. ⌜ ReadOf (now (bytes .entry)) r ⌝ }
 {
-    let mut words = [0u32; 195];
+    let mut words = [0u32; NUMBERS];
     let mut count: usize = 0;
     let mut at: usize = 0;
     while at < bytes.len() {
@@ -42,7 +54,7 @@ pub fn read(bytes: &[u8]) -> Input
         match line::number(&bytes[at..end]) {
             Found::Nothing => return no_text(),
             Found::Value(number) => {
-                if count == 195 {
+                if count == NUMBERS {
                     return no_text();
                 }
                 words[count] = number;
