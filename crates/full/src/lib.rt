@@ -122,16 +122,18 @@ pub fn step(
         claiming = due.claiming;
         bell = due.bell;
     }
+    let mut chosen = pace.chosen;
     let mut granted = pace.granted;
-    if claiming != pace.chosen {
+    if claiming != chosen {
         granted = rule::choose(setting.rule, setting.cores, claiming, width);
+        chosen = claiming;
     }
     let after = work(granted, claiming, places);
     Pace {
         tick: tick + 1,
         bell: bell,
         claiming: after,
-        chosen: claiming,
+        chosen: chosen,
         granted: granted,
     }
 }
