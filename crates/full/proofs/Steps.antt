@@ -55,14 +55,15 @@ module _ (n : Numbers) (s : Stand) where
 
   -- the tick is entered
   pub step-taken :
-      (m₁ m₂ : Machine) (bell granted : ℕ) → m₁ ≡ after n s → bell ≡ bellAfter n s → granted ≡ grantedIn n s → m₂ ≡ worked (bit granted) m₁
-      → record { tick = s .tick + 1; machine = m₂; bell = bell; chosen = m₁ .claiming; granted = granted } ≡ next n s
+      (m₁ m₂ : Machine) (bell chosen granted : ℕ) → m₁ ≡ after n s → bell ≡ bellAfter n s → chosen ≡ after n s .claiming → granted ≡ grantedIn n s
+      → m₂ ≡ worked (bit granted) m₁
+      → record { tick = s .tick + 1; machine = m₂; bell = bell; chosen = chosen; granted = granted } ≡ next n s
   unfolding next
-  step-taken m₁ m₂ bell granted em eb eg w = λ i. record {
+  step-taken m₁ m₂ bell chosen granted em eb ec eg w = λ i. record {
     tick = s .tick + 1;
     machine = (w ∙ ap₂ (λ (g : ℕ) (m : Machine). worked (bit g) m) eg em) i;
     bell = eb i;
-    chosen = em i .claiming;
+    chosen = ec i;
     granted = eg i;
   }
 

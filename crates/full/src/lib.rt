@@ -14,10 +14,12 @@ pub mod machine; // machine.rt: the machine, and how it starts
 
 // The places' array has the ticks left of each place first, then its next moment, then its next release.
 pub const MOMENT: usize = 32;
+
 pub const NEXT: usize = 64;
 
 // The array of times has the length of each place first, then its deadline, then its period.
 pub const DEADLINE: usize = 32;
+
 pub const PERIOD: usize = 64;
 
 // Releases a job of a place at this tick, and answers the set of claimants with the place in it.
@@ -120,17 +122,19 @@ pub fn step(
         claiming = due.claiming;
         bell = due.bell;
     }
+    let mut chosen = pace.chosen;
     let mut granted = pace.granted;
-    if claiming != pace.chosen {
+    if claiming != chosen {
         let free = rule::first_cores(setting.cores);
         granted = rule::choose(setting.rule, free, claiming, width);
+        chosen = claiming;
     }
     let after = work(granted, claiming, places);
     Pace {
         tick: tick + 1,
         bell: bell,
         claiming: after,
-        chosen: claiming,
+        chosen: chosen,
         granted: granted,
     }
 }

@@ -59,7 +59,14 @@ fn next_line(
     let next = full::step(setting, width, times, pace, places);
     let mut size = stage.text;
     if next.chosen != pace.chosen {
-        size = cells::put_cells(setting.rule, setting.cores, next.chosen, width, setting.count, text);
+        size = cells::put_cells(
+            setting.rule,
+            setting.cores,
+            next.chosen,
+            width,
+            setting.count,
+            text,
+        );
     }
     let ready = row::put_row(line, pace.tick, text, size);
     Stage {

@@ -69,6 +69,7 @@ impl Printer {
             & ((pace.tick <= self.end)
                 & ((self.end <= 10_000_000)
                     & ((stage.ready <= 267)
-                        & ((self.given <= stage.ready) & ((stage.text <= 257) & (claims & chosen))))))
+                        & ((self.given <= stage.ready)
+                            & ((stage.text <= 257) & (claims & chosen))))))
     }
 }

@@ -22,7 +22,7 @@ pub struct Walked {
 }
 
 // No task: what stands past the count.
-fn no_task() -> Task
+pub(crate) fn no_task() -> Task
     ensures { λ r. ⌜ r ≡ noTask ⌝ }
 {
     Task {

@@ -13,13 +13,7 @@ use crate::Task;
 pub(crate) fn refused(number: u32, position: u32) -> Loaded
     ensures { λ r. ⌜ r ≡ refusal number position ⌝ }
 {
-    let none = Task {
-        offset: 0,
-        width: 0,
-        length: 0,
-        deadline: 0,
-        period: 0,
-    };
+    let none = crate::chain::no_task();
     let tasks = [none; 32];
     Loaded {
         answer: Answer::Refused(number, position),

@@ -84,11 +84,11 @@ returns c =
     let deadline = sym (part-at 32 (a .times .now) (a .place) inside) in
     let period = sym (part-at 64 (a .times .now) (a .place) inside) in
     let claims =
-        ap (bitOr (a .claiming)) (shifted-one 32 (a .place) inside) ∙ set-with (a .claiming) (a .place) (s .fits .claiming .fits) inside in
+    ap (bitOr (a .claiming)) (shifted-one 32 (a .place) inside) ∙ set-with (a .claiming) (a .place) (s .fits .claiming .fits) inside in
     stored-all (a .places .now) _ (a .place) _ _ _ inside
     ∙ λ i.
-        machine (set (part 0 (a .places .now)) (a .place) (length i)) (set (part 32 (a .places .now)) (a .place) (a .tick + deadline i))
-        (set (part 64 (a .places .now)) (a .place) (a .tick + period i)) (claims i)
+    machine (set (part 0 (a .places .now)) (a .place) (length i)) (set (part 32 (a .places .now)) (a .place) (a .tick + deadline i))
+    (set (part 64 (a .places .now)) (a .place) (a .tick + period i)) (claims i)
 
 pub release-spec : {M : Type 1} → statement M
 release-spec =

@@ -39,15 +39,21 @@ claims-of : (c : tie.Joined1) → c .if1 .claiming ≡ after (nums (c .before)) 
 claims-of c = ap (λ (m : Machine). m .claiming) (after-of c .0)
 
 -- who is granted cores: kept, or chosen anew
-granted-of : (c : tie.Joined2) → c .if2 .granted ≡ grantedIn (nums (c .before .before .before)) (stand (c .before .before .before))
+granted-of : (c : tie.Joined2) → c .if2 .granted ≡ grantedIn (nums (c .before .before)) (stand (c .before .before))
 granted-of c =
-    let s = c .before .before .before in
-    let j = c .before .before in
+    let s = c .before .before in
+    let j = c .before in
     ⊎-elim
-    (λ w. w .3 ∙ chosen-anew (nums s) (stand s) (j .if1 .claiming) _ (claims-of j) (w .0 .taken) (w .2 .ok)
+    (λ w. w .4 ∙ chosen-anew (nums s) (stand s) (j .if1 .claiming) _ (claims-of j) (w .0 .taken) (w .2 .ok)
     (λ q. w .2 .ensures q ∙ granted-first (ruleOf (nums s .rule)) (claimants (nums s .widths) (bit (j .if1 .claiming))) _ (nums s .cores) (s .pre .narrow) (w .1 .ensures) q))
-    (λ w. w .1 ∙ chosen-kept (nums s) (stand s) (j .if1 .claiming) (claims-of j) (w .0 .left))
+    (λ w. w .2 ∙ chosen-kept (nums s) (stand s) (j .if1 .claiming) (claims-of j) (w .0 .left))
     (c .if2 .came)
+
+-- and for whom they were chosen
+chosen-of : (c : tie.Joined2) → c .if2 .chosen ≡ after (nums (c .before .before)) (stand (c .before .before)) .claiming
+chosen-of c =
+    let j = c .before in
+    ⊎-elim (λ w. w .3 ∙ claims-of j) (λ w. w .1 ∙ (sym (w .0 .left) ∙ claims-of j)) (c .if2 .came)
 
 release-due-requires : tie.Need-release-due-requires
 release-due-requires c κs = search needs
@@ -61,20 +67,20 @@ choose-requires c κs = search needs
 work-requires : tie.Need-work-requires
 work-requires c κs =
     let k = c .before in
-    let j = k .before .before in
+    let j = k .before in
     let s = j .before in
     subst₂ (λ (g : ℕ) (m : Machine). Owed (bit g) m) (sym (granted-of k)) (sym (after-of j .0)) (s .pre .owed)
 
-add-t16 : tie.Need-add-t16
-add-t16 c = search needs
+add-t17 : tie.Need-add-t17
+add-t17 c = search needs
 
 returns : tie.Need-returns
 returns c =
     let k = c .before .before in
-    let j = k .before .before in
+    let j = k .before in
     let s = j .before in
-    step-taken (nums s) (stand s) (machineOf (j .if1 .places) (j .if1 .claiming)) _ (j .if1 .bell) (k .if2 .granted) (after-of j .0) (after-of j .1)
-    (granted-of k) (c .work .ensures)
+    step-taken (nums s) (stand s) (machineOf (j .if1 .places) (j .if1 .claiming)) _ (j .if1 .bell) (k .if2 .chosen) (k .if2 .granted) (after-of j .0) (after-of j .1)
+    (chosen-of k) (granted-of k) (c .work .ensures)
 
 pub step-spec : {M : Type 1} → statement M
-step-spec = tie.close (tie.spec release-due-requires first-cores-requires choose-requires work-requires add-t16 returns)
+step-spec = tie.close (tie.spec release-due-requires first-cores-requires choose-requires work-requires add-t17 returns)

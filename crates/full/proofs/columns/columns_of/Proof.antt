@@ -107,7 +107,7 @@ returns c =
     let t = s .args .table in
     let e : l .i ≡ 32 = omega arith in
     let whole : (f : Task → ℕ) (xs : List ℕ) → Filled f (t .tasks) (l .i) xs → xs ≡ map f (t .tasks) =
-        λ f xs p. filled-all f (t .tasks) (all s) xs (subst (λ (n : ℕ). Filled f (t .tasks) n xs) e p) in
+    λ f xs p. filled-all f (t .tasks) (all s) xs (subst (λ (n : ℕ). Filled f (t .tasks) n xs) e p) in
     λ j. record {
       rule = t .rule;
       cores = t .cores;

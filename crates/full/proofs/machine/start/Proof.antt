@@ -93,7 +93,7 @@ returns c =
     let ts = s .args .table .tasks in
     let e : l .i ≡ 32 = omega arith in
     let whole : (xs : List ℕ) → Filled (λ t. t .offset) ts (l .i) xs → xs ≡ map (λ t. t .offset) ts =
-        λ xs p. filled-all (λ t. t .offset) ts (all s) xs (subst (λ (n : ℕ). Filled (λ t. t .offset) ts n xs) e p) in (
+    λ xs p. filled-all (λ t. t .offset) ts (all s) xs (subst (λ (n : ℕ). Filled (λ t. t .offset) ts n xs) e p) in (
       λ j. record {
         tick = 0;
         machine = same-machine {c = 0} {c′ = 0} (l .inv .1) (whole (part 32 (l .places)) (l .inv .2)) (whole (part 64 (l .places)) (l .inv .3)) refl j;

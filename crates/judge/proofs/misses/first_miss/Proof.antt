@@ -95,8 +95,8 @@ start-requires c κs = search needs
 ticks-holds : tie.Need-ticks-holds Inv-loop μ-loop Inv-ticks μ-ticks
 ticks-holds c =
     λ t b.
-        let e : c .before .before .start .result .pace .tick ≡ 0 = ap (λ (x : Stand). x .tick) (b .stand) in
-        (subst (Follows t) (sym (b .stand)) (follows-start t (b .fit)), omega arith)
+    let e : c .before .before .start .result .pace .tick ≡ 0 = ap (λ (x : Stand). x .tick) (b .stand) in
+    (subst (Follows t) (sym (b .stand)) (follows-start t (b .fit)), omega arith)
 
 loop-holds : tie.Need-loop-holds Inv-loop μ-loop Inv-ticks μ-ticks
 loop-holds c =
