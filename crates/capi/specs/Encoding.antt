@@ -11,6 +11,7 @@ use Rattle.phase.specs.Task.{unused}
 use Rattle.run.specs.declared.Run.{Run}
 use Rattle.capi.specs.declared.told.Told.{Told}
 use Rattle.capi.specs.Told.{says}
+use Rattle.model.specs.Sizes.{mostTasks}
 
 -- THE SIZES
 
@@ -36,7 +37,7 @@ secondAt = kindAt + 2
 
 -- the places of a run
 abbrev pub places : ℕ
-places = 32
+places = mostTasks
 
 -- the words of the head and n places
 abbrev pub wordsTo : ℕ → ℕ

@@ -15,6 +15,7 @@ use Rattle.run.specs.Advance.{advanceOf}
 use Rattle.capi.specs.Told.{ofAnswer, written}
 use Rattle.capi.specs.Calls.{Left, byRoom, room}
 use Rattle.capi.specs.Encoding.{places, runWords, overwritten, Held, run, none, decode}
+use Rattle.model.specs.Sizes.{mostCores}
 
 -- the buffer after a start: the run that it returns, taken or refused, with all its places
 abbrev pub startedIn : List ℕ → List ℕ → List ℕ
@@ -36,8 +37,8 @@ rowFrom none = record { answer = Refused 14 0; bytes = noBytes }
 unfoldable pub rowCall : List ℕ → List ℕ → List ℕ → Left
 rowCall buffer row answer =
     let w = rowFrom (decode buffer) in
-    byRoom (room answer && leb 64 (length row))
-    ((w .bytes ++ drop 64 row) ∷ (written (ofAnswer (w .answer)) answer ∷ []))
+    byRoom (room answer && leb mostCores (length row))
+    ((w .bytes ++ drop mostCores row) ∷ (written (ofAnswer (w .answer)) answer ∷ []))
     (row ∷ (answer ∷ []))
 
 -- an advance's answer, and the buffer afterwards

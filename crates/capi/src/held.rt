@@ -5,7 +5,9 @@ ghost use Prim.Native.Nat.{_+_, _≤_};
 ghost use lib.ListN.{length, drop};
 ghost use Rattle.capi.specs.Encoding.{eachWords, places, runWords, ofPhase, placeWith, countWord, overwritten, phaseOf, isPhase, placeIn, countIn, holds, runIn, decode};
 ghost use Rattle.capi.specs.Runs.{rowFrom, advanceFrom};
+ghost use Rattle.model.specs.Sizes.{mostCores};
 use crate::told::Told;
+use model::ROW;
 use phase::Phase;
 use phase::Task;
 use run::Answer;
@@ -23,7 +25,7 @@ const FIRST: usize = KIND + 1;
 // .. and its second.
 const SECOND: usize = KIND + 2;
 // The places of a run.
-pub(crate) const PLACES: usize = 32;
+pub(crate) const PLACES: usize = model::MOST_TASKS;
 // The words of a run.
 pub(crate) const WORDS: usize = HEAD + EACH * PLACES;
 
@@ -187,7 +189,7 @@ pub(crate) fn row_of(words: &[u32]) -> Row
         let held = run_in(words);
         return held.row();
     }
-    let bytes = [0u8; 64];
+    let bytes = [0u8; ROW];
     Row {
         answer: Answer::Refused(14, 0),
         bytes: bytes,
@@ -195,12 +197,12 @@ pub(crate) fn row_of(words: &[u32]) -> Row
 }
 
 // Writes the row's 64 bytes; what stands behind them stays.
-pub(crate) fn put_row(bytes: [u8; 64], row: &mut [u8])
-    requires { ⌜ 64 ≤ length (now row) ⌝ }
-    ensures { λ r. ⌜ now (row .exit) ≡ bytes ++ drop 64 (now (row .entry)) ⌝ }
+pub(crate) fn put_row(bytes: [u8; ROW], row: &mut [u8])
+    requires { ⌜ mostCores ≤ length (now row) ⌝ }
+    ensures { λ r. ⌜ now (row .exit) ≡ bytes ++ drop mostCores (now (row .entry)) ⌝ }
 {
     let mut i: usize = 0;
-    while i < 64 {
+    while i < ROW {
         row[i] = bytes[i];
         i += 1;
     }

@@ -7,6 +7,7 @@ ghost use mathlib.Core.List.{[], _∷_};
 ghost use Rattle.capi.specs.Calls.{judgeCall, planCall};
 ghost use Rattle.capi.specs.Replays.{replayCall};
 ghost use Rattle.capi.specs.Runs.{startCall, rowCall, advanceCall};
+use model::ROW;
 
 mod held; // held.rt: a run in a lent buffer of words
 mod replays; // replays.rt: what a replay says
@@ -98,7 +99,7 @@ pub extern "C" fn sivorandra_row(run: &[u32], row: &mut [u8], answer: &mut [u32]
     if answer.len() < 3 {
         return 1;
     }
-    if row.len() < 64 {
+    if row.len() < ROW {
         return 1;
     }
     let shown = held::row_of(run);

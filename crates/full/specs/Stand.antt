@@ -9,9 +9,10 @@ use lib.ListN.{getD}
 use Rattle.model.specs.Search.{bit, upFrom}
 use Rattle.model.specs.Task.{ruleOf}
 use Rattle.model.specs.Grants.{claimants}
+use Rattle.model.specs.Sizes.{mostCores, mostTasks}
 use Rattle.table.specs.declared.Loaded.{Loaded}
 use Rattle.rule.specs.Shares.{granted}
-use Rattle.full.specs.Places.{part, setOf}
+use Rattle.full.specs.Places.{part, setOf, second, third}
 use Rattle.full.specs.Machine.{Machine, machineOf, started, releasedDue, earliest, Owed, worked}
 use Rattle.full.specs.declared.machine.Pace.{Pace}
 use Rattle.full.specs.declared.columns.Setting.{Setting}
@@ -34,8 +35,8 @@ numbersBy x v times = record {
   count = x .count;
   widths = v;
   lengths = part 0 times;
-  deadlines = part 32 times;
-  periods = part 64 times;
+  deadlines = part second times;
+  periods = part third times;
 }
 
 -- .. of a table that was loaded, place by place
@@ -81,7 +82,7 @@ unchanged n s = eqb (after n s .claiming) (s .chosen)
 
 -- the set of the places that the rule gives cores where those of the set c claim
 abbrev pub choice : Numbers → ℕ → ℕ
-choice n c = setOf 32 (granted (ruleOf (n .rule)) (claimants (n .widths) (bit c)) (upFrom 0 (n .cores)))
+choice n c = setOf mostTasks (granted (ruleOf (n .rule)) (claimants (n .widths) (bit c)) (upFrom 0 (n .cores)))
 
 -- who is granted cores: kept, or chosen anew
 unfoldable pub grantedIn : Numbers → Stand → ℕ
@@ -99,8 +100,8 @@ next n s = record {
 
 -- a run that can be stepped: there are at most 32 tasks and 64 cores, its sums stay small, and who is granted cores is owed ticks
 pub record Steppable (n : Numbers) (s : Stand) : Type 0 where
-  pub few : n .count ≤ 32
-  pub narrow : n .cores ≤ 64
+  pub few : n .count ≤ mostTasks
+  pub narrow : n .cores ≤ mostCores
   pub fits : (p : ℕ) → p < n .count → (s .tick + getD (n .deadlines) p 0 < 2 ^ 32) × (s .tick + getD (n .periods) p 0 < 2 ^ 32)
   pub tick : s .tick + 1 < 2 ^ 32
   pub owed : Owed (bit (grantedIn n s)) (after n s)

@@ -1,5 +1,7 @@
 ghost use mathlib.Core.Path.{_≡_};
 ghost use Rattle.full.specs.Stand.{numbersBy, numbersIn};
+use crate::TRIPLE;
+use model::MOST_TASKS;
 use table::Loaded;
 
 // What stays as it is in a run, beside the tasks: the rule, how many cores there are, and how many tasks.
@@ -12,8 +14,8 @@ pub struct Setting {
 // The numbers of a table that its run is stepped with; in `times` the lengths stand first, then the deadlines, then the periods.
 pub struct Columns {
     pub setting: Setting,
-    pub width: [u32; 32],
-    pub times: [u32; 96],
+    pub width: [u32; MOST_TASKS],
+    pub times: [u32; TRIPLE],
 }
 
 // The numbers of a table, place by place.
@@ -21,10 +23,10 @@ pub fn columns_of(table: Loaded) -> Columns
     ensures { λ r. ⌜ numbersBy (r .setting) (r .width) (r .times) ≡ numbersIn table ⌝ }
 {
     let tasks = table.tasks;
-    let mut width = [0u32; 32];
-    let mut times = [0u32; 96];
+    let mut width = [0u32; MOST_TASKS];
+    let mut times = [0u32; TRIPLE];
     let mut i: usize = 0;
-    while i < 32 {
+    while i < MOST_TASKS {
         let task = tasks[i];
         width[i] = task.width;
         times[i] = task.length;

@@ -3,35 +3,41 @@ ghost use mathlib.Core.Path.{_≡_};
 ghost use Prim.Native.Nat.{ℕ, _+_, _≤_, _<_, _^_, min};
 ghost use lib.ListN.{getD};
 ghost use Rattle.model.specs.Search.{bit};
-ghost use Rattle.full.specs.Places.{part};
+ghost use Rattle.model.specs.Sizes.{mostTasks};
+ghost use Rattle.full.specs.Places.{part, second, third};
 ghost use Rattle.full.specs.Machine.{machineOf, released, DueMoments, Owed, worked};
 ghost use Rattle.full.specs.Stand.{numbersBy, standAt, Steppable, next};
 use columns::Setting;
+use crate::TRIPLE;
 use machine::Pace;
+use model::MOST_TASKS;
 
 pub mod columns; // columns.rt: the table's numbers, as the machine is stepped with them
 pub mod machine; // machine.rt: the machine, and how it starts
 
 // The places' array has the ticks left of each place first, then its next moment, then its next release.
-pub const MOMENT: usize = 32;
+pub const MOMENT: usize = MOST_TASKS;
 
-pub const NEXT: usize = 64;
+pub const NEXT: usize = 2 * MOST_TASKS;
 
 // The array of times has the length of each place first, then its deadline, then its period.
-pub const DEADLINE: usize = 32;
+pub const DEADLINE: usize = MOST_TASKS;
 
-pub const PERIOD: usize = 64;
+pub const PERIOD: usize = 2 * MOST_TASKS;
+
+// How long both arrays are.
+pub const TRIPLE: usize = 3 * MOST_TASKS;
 
 // Releases a job of a place at this tick, and answers the set of claimants with the place in it.
 pub fn release(
     place: usize,
     tick: u32,
     claiming: u32,
-    times: &[u32; 96],
-    places: &mut [u32; 96],
+    times: &[u32; TRIPLE],
+    places: &mut [u32; TRIPLE],
 ) -> u32
-    requires { ⌜ (place < 32) × (tick + getD (part 32 (now times)) place 0 < 2 ^ 32) × (tick + getD (part 64 (now times)) place 0 < 2 ^ 32) ⌝ }
-    ensures { λ r. ⌜ machineOf (now (places .exit)) r ≡ released place tick (getD (part 0 (now (times .entry))) place 0) (getD (part 32 (now (times .entry))) place 0) (getD (part 64 (now (times .entry))) place 0) (machineOf (now (places .entry)) claiming) ⌝ }
+    requires { ⌜ (place < mostTasks) × (tick + getD (part second (now times)) place 0 < 2 ^ 32) × (tick + getD (part third (now times)) place 0 < 2 ^ 32) ⌝ }
+    ensures { λ r. ⌜ machineOf (now (places .exit)) r ≡ released place tick (getD (part 0 (now (times .entry))) place 0) (getD (part second (now (times .entry))) place 0) (getD (part third (now (times .entry))) place 0) (machineOf (now (places .entry)) claiming) ⌝ }
 {
     let deadline = times[DEADLINE + place];
     let period = times[PERIOD + place];
@@ -59,14 +65,14 @@ pub fn release_due(
     tick: u32,
     count: usize,
     claiming: u32,
-    times: &[u32; 96],
-    places: &mut [u32; 96],
+    times: &[u32; TRIPLE],
+    places: &mut [u32; TRIPLE],
 ) -> Due
-    requires { ⌜ (count ≤ 32) × ((p : ℕ) → p < count → (tick + getD (part 32 (now times)) p 0 < 2 ^ 32) × (tick + getD (part 64 (now times)) p 0 < 2 ^ 32)) ⌝ }
-    ensures { λ r. ⌜ DueMoments tick count (part 0 (now (times .entry))) (part 32 (now (times .entry))) (part 64 (now (times .entry))) (machineOf (now (places .entry)) claiming) (machineOf (now (places .exit)) (r .claiming)) (r .bell) ⌝ }
+    requires { ⌜ (count ≤ mostTasks) × ((p : ℕ) → p < count → (tick + getD (part second (now times)) p 0 < 2 ^ 32) × (tick + getD (part third (now times)) p 0 < 2 ^ 32)) ⌝ }
+    ensures { λ r. ⌜ DueMoments tick count (part 0 (now (times .entry))) (part second (now (times .entry))) (part third (now (times .entry))) (machineOf (now (places .entry)) claiming) (machineOf (now (places .exit)) (r .claiming)) (r .bell) ⌝ }
 {
     let mut set = claiming;
-    let mut bell: u32 = 4294967295;
+    let mut bell: u32 = u32::MAX;
     let mut i: usize = 0;
     while i < count {
         if places[MOMENT + i] == tick {
@@ -82,7 +88,7 @@ pub fn release_due(
 }
 
 // A tick of the places that are granted cores, and answers the set of those that still claim after it.
-pub fn work(granted: u32, claiming: u32, places: &mut [u32; 96]) -> u32
+pub fn work(granted: u32, claiming: u32, places: &mut [u32; TRIPLE]) -> u32
     requires { ⌜ Owed (bit granted) (machineOf (now places) claiming) ⌝ }
     ensures { λ r. ⌜ machineOf (now (places .exit)) r ≡ worked (bit granted) (machineOf (now (places .entry)) claiming) ⌝ }
 {
@@ -106,10 +112,10 @@ pub fn work(granted: u32, claiming: u32, places: &mut [u32; 96]) -> u32
 // One tick, for runs in which nobody is late: the due moments where the bell has rung, the choice where the claimants have changed, the work.
 pub fn step(
     setting: Setting,
-    width: &[u32; 32],
-    times: &[u32; 96],
+    width: &[u32; MOST_TASKS],
+    times: &[u32; TRIPLE],
     pace: Pace,
-    places: &mut [u32; 96],
+    places: &mut [u32; TRIPLE],
 ) -> Pace
     requires { ⌜ Steppable (numbersBy setting (now width) (now times)) (standAt pace (now places)) ⌝ }
     ensures { λ r. ⌜ standAt r (now (places .exit)) ≡ next (numbersBy setting (now (width .entry)) (now (times .entry))) (standAt pace (now (places .entry))) ⌝ }

@@ -10,6 +10,7 @@ use Rattle.model.specs.Book.{NeverMissed}
 use Rattle.model.specs.Horizon.{lastS, hyperperiod, horizon}
 use Rattle.model.specs.Verdict.{firm, Rising, FirstMiss, verdict}
 use Rattle.model.specs.Verdict as model
+use Rattle.model.specs.Sizes.{mostCores, mostTasks}
 use Rattle.table.specs.declared.Answer.{Answer}
 use Rattle.table.specs.declared.Answer.the-variants.{Passed}
 use Rattle.table.specs.declared.Answer.the-variants as table
@@ -18,6 +19,7 @@ use Rattle.table.specs.Task.{tasksOf}
 use Rattle.table.specs.Words.{rule, tableOf}
 use Rattle.table.specs.Numbers.{First, NoneApplies}
 use Rattle.table.specs.Answer.{answerOf}
+use Rattle.table.specs.Limits.{mostTime}
 use Rattle.judge.specs.declared.Verdict.{Verdict}
 use Rattle.judge.specs.declared.Verdict.the-variants.{Firm, Full}
 use Rattle.judge.specs.Said.{Said, judged, saidBy, caseOf}
@@ -58,11 +60,11 @@ tableIn t = record { tasks = tasksOf (t .tasks) (t .count); cores = t .cores; ru
 
 -- what the run needs of it
 pub record Fit (t : Loaded) : Type 0 where
-  pub places : length (t .tasks) ≡ 32
-  pub few : t .count ≤ 32
-  pub narrow : t .cores ≤ 64
+  pub places : length (t .tasks) ≡ mostTasks
+  pub few : t .count ≤ mostTasks
+  pub narrow : t .cores ≤ mostCores
   pub sound : AllSound (tableIn t)
-  pub short : (p : ℕ) → p < t .count → task (tableIn t) p .period ≤ 1000000
+  pub short : (p : ℕ) → p < t .count → task (tableIn t) p .period ≤ mostTime
   pub start : t .start ≡ lastS (tableIn t .tasks)
   pub period : t .period ≡ hyperperiod (tableIn t .tasks)
   pub horizon : t .horizon ≡ horizon (tableIn t)

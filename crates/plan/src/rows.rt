@@ -5,13 +5,15 @@ ghost use lib.ListN.{length};
 ghost use lib.Seq.{paste};
 ghost use Rattle.model.specs.Search.{any};
 ghost use Rattle.model.specs.Verdict.{missedIn};
+ghost use Rattle.model.specs.Sizes.{mostCores};
 ghost use Rattle.judge.specs.Judged.{tableIn, Fit};
 ghost use Rattle.plan.specs.Plan.{over};
+use model::ROW;
 use table::Loaded;
 
 // Puts the first `count` bytes of a row into the buffer, from byte `at` on.
-fn put(row: [u8; 64], count: usize, at: usize, out: &mut [u8])
-    requires { ⌜ (count ≤ 64) × (at + count ≤ length (now out)) ⌝ }
+fn put(row: [u8; ROW], count: usize, at: usize, out: &mut [u8])
+    requires { ⌜ (count ≤ mostCores) × (at + count ≤ length (now out)) ⌝ }
     ensures { λ _. ⌜ now (out .exit) ≡ paste (now (out .entry)) at row count ⌝ }
 {
     let mut i: usize = 0;
@@ -23,7 +25,7 @@ fn put(row: [u8; 64], count: usize, at: usize, out: &mut [u8])
 
 // Writes rows `a` up to but not including `b` of a full-length run that meets every deadline before `b`.
 pub(crate) fn write(table: Loaded, a: u32, b: u32, out: &mut [u8])
-    requires { ⌜ Fit table × (table .cores ≤ 64) × (b ≤ table .horizon) × (any b (missedIn (tableIn table)) ≡ false) × ((b - a) * table .cores ≤ length (now out)) ⌝ }
+    requires { ⌜ Fit table × (table .cores ≤ mostCores) × (b ≤ table .horizon) × (any b (missedIn (tableIn table)) ≡ false) × ((b - a) * table .cores ≤ length (now out)) ⌝ }
     ensures { λ _. ⌜ now (out .exit) ≡ over (tableIn table) a b (now (out .entry)) ⌝ }
 {
     let cores = table.cores as usize;
@@ -35,7 +37,7 @@ pub(crate) fn write(table: Loaded, a: u32, b: u32, out: &mut [u8])
     let mut pace = machine.pace;
     let mut places = machine.places;
     let mut shown: u32 = 0;
-    let mut row = [0u8; 64];
+    let mut row = [0u8; ROW];
     let mut at: usize = 0;
     while pace.tick < b {
         let tick = pace.tick;

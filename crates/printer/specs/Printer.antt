@@ -8,10 +8,11 @@ use Rattle.model.specs.Book.{Missed}
 use Rattle.table.specs.declared.Loaded.{Loaded}
 use Rattle.table.specs.Words.{tableOf}
 use Rattle.table.specs.Answer.{answerOf}
+use Rattle.table.specs.Limits.{mostHorizon}
 use Rattle.full.specs.Stand.{Numbers, numbersIn, Stand, standAt, next}
 use Rattle.judge.specs.declared.Verdict.{Verdict}
 use Rattle.judge.specs.Judged.{tableIn, Fit}
-use Rattle.text.specs.Output.{firstLine, rowLines, printedBy, output}
+use Rattle.text.specs.Output.{firstLine, rowLines, printedBy, output, longestCells, longestLine}
 use Rattle.judge.specs.Said.{saidBy}
 use Rattle.text.specs.Written.{Put}
 use Rattle.printer.specs.Rows.{textIn, lineIn, linesIn}
@@ -41,26 +42,26 @@ rest p = cond (sound p) (toCome p) []
 -- a run that can be stepped, with arrays for its texts, before the last tick of all
 pub record Stepping (n : Numbers) (x : Stage) (places row old : List ℕ) : Type 0 where
   pub safe : Safe n (standAt (x .pace) places)
-  pub tick : x .pace .tick < 10000000
-  pub text : x .text ≤ 257
-  pub wide : length row ≡ 257
-  pub long : length old ≡ 267
+  pub tick : x .pace .tick < mostHorizon
+  pub text : x .text ≤ longestCells
+  pub wide : length row ≡ longestCells
+  pub long : length old ≡ longestLine
 
 -- one tick on: the line of the tick is written, and the run stands before the next; `kept` is the text that was kept
 pub record Stepped (n : Numbers) (s : Stand) (kept old : List ℕ) (x′ : Stage) (places′ row′ new : List ℕ) : Type 0 where
   pub stand : standAt (x′ .pace) places′ ≡ next n s
   pub keeps : take (x′ .text) row′ ≡ textIn n s kept
   pub line : Put old 0 (lineIn n s kept) new (x′ .ready)
-  pub ready : x′ .ready ≤ 267
-  pub text : x′ .text ≤ 257
-  pub wide : length row′ ≡ 257
-  pub long : length new ≡ 267
+  pub ready : x′ .ready ≤ longestLine
+  pub text : x′ .text ≤ longestCells
+  pub wide : length row′ ≡ longestCells
+  pub long : length new ≡ longestLine
 
 -- A NEW PRINTER
 
 -- of a table's rows up to e, with the verdict's line before them
 pub record StartOf (t : Loaded) (e : ℕ) (v : Verdict) (p : Printer) : Type 0 where
-  pub sound : tableSound t ≡ true → e ≤ 10000000 → sound p ≡ true
+  pub sound : tableSound t ≡ true → e ≤ mostHorizon → sound p ≡ true
   pub whole :
       (0 < e → Fit t × (e ≤ t .horizon) × ((q u : ℕ) → u < e → ¬ Missed (tableIn t) q u))
       → toCome p ≡ firstLine (saidBy v) ++ rowLines (tableIn t) 0 e

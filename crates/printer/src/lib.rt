@@ -6,15 +6,20 @@ ghost use lib.ListN.{take};
 ghost use Rattle.full.specs.Stand.{numbersBy, standAt};
 ghost use Rattle.printer.specs.Sound.{sound};
 ghost use Rattle.printer.specs.Printer.{Stepping, Stepped, StartOf, WordsPrinter, MadeFrom, PieceOf};
+ghost use Rattle.model.specs.Sizes.{mostCores, mostTasks};
 
 mod cells; // cells.rt: the text of a row's cores
 mod sound; // sound.rt: whether a printer can be stepped
 
+use full::TRIPLE;
 use full::columns::Setting;
 use full::machine::Pace;
 use judge::Verdict;
+use model::MOST_TASKS;
 use table::Loaded;
 use text::first;
+use text::row::CELLS;
+use text::row::LINE;
 use text::row;
 
 // Where the printing stands: the pace of its run, how long the text of the row is, and how long the line.
@@ -29,10 +34,10 @@ pub struct Stage {
 pub struct Printer {
     pub table: Loaded,
     pub end: u32,
-    pub places: [u32; 96],
+    pub places: [u32; TRIPLE],
     pub stage: Stage,
-    pub row: [u8; 257],
-    pub line: [u8; 267],
+    pub row: [u8; CELLS],
+    pub line: [u8; LINE],
     pub given: usize,
 }
 
@@ -45,12 +50,12 @@ pub struct Piece {
 // Writes the line of a tick, and takes the run one tick on.
 fn next_line(
     setting: Setting,
-    width: &[u32; 32],
-    times: &[u32; 96],
+    width: &[u32; MOST_TASKS],
+    times: &[u32; TRIPLE],
     stage: Stage,
-    places: &mut [u32; 96],
-    text: &mut [u8; 257],
-    line: &mut [u8; 267],
+    places: &mut [u32; TRIPLE],
+    text: &mut [u8; CELLS],
+    line: &mut [u8; LINE],
 ) -> Stage
     requires { ⌜ Stepping (numbersBy setting (now width) (now times)) stage (now places) (now text) (now line) ⌝ }
     ensures { λ r. ⌜ Stepped (numbersBy setting (now (width .entry)) (now (times .entry))) (standAt (stage .pace) (now (places .entry))) (take (stage .text) (now (text .entry))) (now (line .entry)) r (now (places .exit)) (now (text .exit)) (now (line .exit)) ⌝ }
@@ -78,16 +83,16 @@ fn next_line(
 
 // The printer of a verdict's line and of the rows of its table up to a tick.
 fn start(table: Loaded, end: u32, verdict: Verdict) -> Printer
-    requires { ⌜ (table .cores ≤ 64) × (table .count ≤ 32) ⌝ }
+    requires { ⌜ (table .cores ≤ mostCores) × (table .count ≤ mostTasks) ⌝ }
     ensures { λ r. ⌜ StartOf table end verdict r ⌝ }
 {
     let columns = full::columns::columns_of(table);
     let width = columns.width;
     let machine = full::machine::start(table);
     let places = machine.places;
-    let mut text = [0u8; 257];
+    let mut text = [0u8; CELLS];
     let size = cells::put_cells(table.rule, table.cores, 0, &width, table.count, &mut text);
-    let mut line = [0u8; 267];
+    let mut line = [0u8; LINE];
     let ready = first::put_first(&mut line, verdict);
     let pace = machine.pace;
     let stage = Stage {

@@ -3,7 +3,13 @@ ghost use mathlib.Core.Path.{_≡_};
 ghost use Rattle.full.specs.Places.{part};
 ghost use Rattle.printer.specs.Sound.{tableSound, owed, within, sound};
 use crate::Printer;
+use full::TRIPLE;
+use model::MOST_CORES;
+use model::MOST_TASKS;
 use table::Loaded;
+use table::limits::MOST_HORIZON;
+use text::row::CELLS;
+use text::row::LINE;
 
 // Whether a table's count, core count and tasks are in their limits.
 fn table_sound(table: Loaded) -> bool
@@ -11,10 +17,10 @@ fn table_sound(table: Loaded) -> bool
 {
     let count = table.count;
     let cores = table.cores;
-    if 32 < count {
+    if MOST_TASKS < count {
         return false;
     }
-    if 64 < cores {
+    if MOST_CORES < cores {
         return false;
     }
     let tasks = table.tasks;
@@ -30,11 +36,11 @@ fn table_sound(table: Loaded) -> bool
 }
 
 // The set of the places that are owed ticks.
-fn owed(places: [u32; 96]) -> u32
+fn owed(places: [u32; TRIPLE]) -> u32
     ensures { λ r. ⌜ r ≡ owed (part 0 places) ⌝ }
 {
     let mut set: u32 = 0;
-    let mut i: usize = 32;
+    let mut i: usize = MOST_TASKS;
     while 0 < i {
         i -= 1;
         let ticks = places[i];
@@ -67,9 +73,9 @@ impl Printer {
         let chosen = within(pace.granted, pace.chosen);
         fits
             & ((pace.tick <= self.end)
-                & ((self.end <= 10_000_000)
-                    & ((stage.ready <= 267)
+                & ((self.end <= MOST_HORIZON)
+                    & ((stage.ready <= LINE)
                         & ((self.given <= stage.ready)
-                            & ((stage.text <= 257) & (claims & chosen))))))
+                            & ((stage.text <= CELLS) & (claims & chosen))))))
     }
 }

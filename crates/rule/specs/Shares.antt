@@ -7,6 +7,7 @@ use lib.Dec.{leb}
 use lib.ListN.{getD, take, drop, replicate}
 use Rattle.model.specs.Task.{Rule}
 use Rattle.model.specs.Grants.{Claimant, endsChoosing, grants, some}
+use Rattle.model.specs.Sizes.{mostTasks}
 use Rattle.rule.specs.Cores.{cores}
 use Rattle.rule.specs.declared.Served.{Served}
 use Rattle.rule.specs.declared.Served.the-variants.{Takes, Passed, Ends}
@@ -31,7 +32,7 @@ leftBy Ends width free = []
 -- all claimants of a tick, taken in priority order: the cores of each place, and no set past the count
 pub record GrantedAs (r : Rule) (bs : List Claimant) (count free : ℕ) (sets : List ℕ) : Type 0 where
   pub gives : map cores (take count sets) ≡ grants r bs (cores free)
-  pub none : drop count sets ≡ replicate (32 - count) 0
+  pub none : drop count sets ≡ replicate (mostTasks - count) 0
 
 -- place p is given cores: it is in the row of the tick
 abbrev pub granted : Rule → List Claimant → List ℕ → ℕ → Bool

@@ -7,15 +7,19 @@ ghost use Rattle.model.specs.Search.{bit, memb, upFrom};
 ghost use Rattle.model.specs.Task.{ruleOf};
 ghost use Rattle.model.specs.Grants.{claimants, grants};
 ghost use Rattle.model.specs.Row.{row};
+ghost use Rattle.model.specs.Sizes.{mostCores, mostTasks};
 ghost use Rattle.rule.specs.Cores.{kept, cores};
 ghost use Rattle.rule.specs.Shares.{served, GrantedAs, granted};
 ghost use Rattle.rule.specs.Painted.{painted, shown};
+use model::MOST_CORES;
+use model::MOST_TASKS;
+use model::ROW;
 
 // The first `count` cores, of 64.
 pub fn first_cores(count: u32) -> u64
-    ensures { λ r. ⌜ cores r ≡ upFrom 0 (min count 64) ⌝ }
+    ensures { λ r. ⌜ cores r ≡ upFrom 0 (min count mostCores) ⌝ }
 {
-    if count < 64 {
+    if count < MOST_CORES {
         (1u64 << count) - 1
     } else {
         0xffff_ffff_ffff_ffff
@@ -66,7 +70,7 @@ pub fn serve(rule: u32, free: u32, width: u32) -> Served
 }
 
 // The set of positions that are given cores, of the set that claims; bit 0 is for position 1. The free cores are counted once.
-pub fn choose(rule: u32, free: u64, claims: u32, widths: &[u32; 32]) -> u32
+pub fn choose(rule: u32, free: u64, claims: u32, widths: &[u32; MOST_TASKS]) -> u32
     ensures { λ r. ⌜ ((p : ℕ) → bit r p ≡ granted (ruleOf rule) (claimants (now (widths .entry)) (bit claims)) (cores free) p) ⌝ }
 {
     let mut chosen: u32 = 0;
@@ -93,18 +97,18 @@ pub fn choose(rule: u32, free: u64, claims: u32, widths: &[u32; 32]) -> u32
 }
 
 // How many widths there are. A reference does not tell its reader the length of its array; this does.
-fn places(widths: [u32; 32]) -> usize
-    ensures { λ r. ⌜ (r ≡ 32) × (length widths ≡ 32) ⌝ }
+fn places(widths: [u32; MOST_TASKS]) -> usize
+    ensures { λ r. ⌜ (r ≡ mostTasks) × (length widths ≡ mostTasks) ⌝ }
 {
-    32
+    MOST_TASKS
 }
 
 // The set of cores of each of the first `count` positions, 0 where it is given none; `claims` is the set that claims, bit 0 for position 1.
-pub fn grants(rule: u32, free: u64, claims: u32, widths: &[u32; 32], count: usize) -> [u64; 32]
+pub fn grants(rule: u32, free: u64, claims: u32, widths: &[u32; MOST_TASKS], count: usize) -> [u64; MOST_TASKS]
     ensures { λ r. ⌜ GrantedAs (ruleOf rule) (claimants (take count (now (widths .entry))) (bit claims)) count free r ⌝ }
 {
     let all = places(*widths);
-    let mut sets = [0u64; 32];
+    let mut sets = [0u64; MOST_TASKS];
     let mut set = free;
     let mut left = u64::count_ones(free);
     let mut rest = claims;
@@ -131,7 +135,7 @@ pub fn grants(rule: u32, free: u64, claims: u32, widths: &[u32; 32], count: usiz
 }
 
 // The row with a mark on each core of a set.
-pub fn paint(row: [u8; 64], set: u64, mark: u8) -> [u8; 64]
+pub fn paint(row: [u8; ROW], set: u64, mark: u8) -> [u8; ROW]
     ensures { λ r. ⌜ r ≡ painted row mark (cores set) ⌝ }
 {
     let mut out = row;
@@ -145,8 +149,8 @@ pub fn paint(row: [u8; 64], set: u64, mark: u8) -> [u8; 64]
 }
 
 // The row with each position on its cores; the first set is that of position `first`.
-pub fn row_of(start: [u8; 64], first: u8, sets: &[u64; 32], count: usize) -> [u8; 64]
-    requires { ⌜ (count ≤ 32) × (first + count ≤ 256) ⌝ }
+pub fn row_of(start: [u8; ROW], first: u8, sets: &[u64; MOST_TASKS], count: usize) -> [u8; ROW]
+    requires { ⌜ (count ≤ mostTasks) × (first + count ≤ 256) ⌝ }
     ensures { λ r. ⌜ r ≡ shown start first (map cores (take count (now (sets .entry)))) ⌝ }
 {
     let mut out = start;
@@ -160,13 +164,13 @@ pub fn row_of(start: [u8; 64], first: u8, sets: &[u64; 32], count: usize) -> [u8
 }
 
 // The row of a tick in which the places of a set claim the first `cores` cores: core 0 first, the position or 0; bytes past the core count are 0.
-pub fn show(rule: u32, cores: u32, claiming: u32, widths: &[u32; 32], count: usize) -> [u8; 64]
-    requires { ⌜ (cores ≤ 64) × (count ≤ 32) ⌝ }
-    ensures { λ r. ⌜ r ≡ row cores (grants (ruleOf rule) (claimants (take count (now (widths .entry))) (bit claiming)) (upFrom 0 cores)) ++ replicate (64 - cores) 0 ⌝ }
+pub fn show(rule: u32, cores: u32, claiming: u32, widths: &[u32; MOST_TASKS], count: usize) -> [u8; ROW]
+    requires { ⌜ (cores ≤ mostCores) × (count ≤ mostTasks) ⌝ }
+    ensures { λ r. ⌜ r ≡ row cores (grants (ruleOf rule) (claimants (take count (now (widths .entry))) (bit claiming)) (upFrom 0 cores)) ++ replicate (mostCores - cores) 0 ⌝ }
 {
     let free = first_cores(cores);
     let sets = grants(rule, free, claiming, widths, count);
-    row_of([0u8; 64], 1, &sets, count)
+    row_of([0u8; ROW], 1, &sets, count)
 }
 
 // The cores of a set that another does not have.

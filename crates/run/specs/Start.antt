@@ -7,6 +7,7 @@ use lib.ListN.{length, replicate}
 use Rattle.model.specs.Task as model
 use Rattle.model.specs.Book as book
 use Rattle.model.specs.Verdict as verdict
+use Rattle.model.specs.Sizes.{mostTasks}
 use Rattle.table.specs.Words.{rule, tableOf}
 use Rattle.table.specs.Numbers.{Applies, FirstOf, NoneOf}
 use Rattle.judge.specs.declared.Verdict.{Verdict}
@@ -27,12 +28,12 @@ startedRun n s = record {
   rule = n;
   cores = s .cores;
   count = length (s .tasks);
-  tasks = map startTask (s .tasks) ++ replicate (32 - length (s .tasks)) unused;
+  tasks = map startTask (s .tasks) ++ replicate (mostTasks - length (s .tasks)) unused;
 }
 
 -- a run of all zeros with every phase Resting(0), which 14 turns down (`empty-run-out`)
 abbrev pub emptyRun : Run
-emptyRun = record { rule = 0; cores = 0; count = 0; tasks = replicate 32 unused }
+emptyRun = record { rule = 0; cores = 0; count = 0; tasks = replicate mostTasks unused }
 
 -- number n applies to a start from the words, with position p
 pub data StartApplies (ws : List ℕ) : ℕ → ℕ → Type 0 where

@@ -6,7 +6,7 @@ use lib.ListN.{take}
 use lib.Dec.{eqb}
 use Rattle.text.specs.Format.{newline, mostDigits}
 use Rattle.text.specs.Input.{foundIn}
-use Rattle.text.specs.Output.{letters, lineOf}
+use Rattle.text.specs.Output.{letters, lineOf, space}
 use Rattle.text.specs.declared.line.Found.{Found}
 use Rattle.text.specs.declared.line.Found.the-variants as found
 use Rattle.run.specs.declared.Run.{Run}
@@ -30,7 +30,7 @@ advanceBy found.Nothing = Nothing
 unfoldable pub operationOf : List ℕ → Operation
 operationOf [] = Nothing
 operationOf (b ∷ []) = cond (eqb b 114) Row Nothing
-operationOf (b ∷ s ∷ digits) = cond (eqb b 97 && eqb s 32) (advanceBy (foundIn digits)) Nothing
+operationOf (b ∷ s ∷ digits) = cond (eqb b 97 && eqb s space) (advanceBy (foundIn digits)) Nothing
 
 -- a line that is only a word
 unfoldable pub plain : List ℕ → List ℕ

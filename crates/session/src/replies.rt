@@ -7,6 +7,7 @@ ghost use Rattle.text.specs.Output.{letters, lineOf};
 ghost use Rattle.session.specs.Operation.{plain, answerLine, shownLine, said, runAfter, isLast};
 ghost use Rattle.session.specs.Session.{Said};
 use crate::operations::Operation;
+use model::ROW;
 use run::Answer;
 use run::Row;
 use run::Run;
@@ -51,11 +52,11 @@ pub(crate) fn say_answer(word: &[u8], answer: Answer, out: &mut [u8; LINE]) -> u
 }
 
 // Writes the positions of the first cores of a row.
-fn say_cores(cores: u32, bytes: [u8; 64], out: &mut [u8; LINE]) -> usize
+fn say_cores(cores: u32, bytes: [u8; ROW], out: &mut [u8; LINE]) -> usize
     ensures { λ r. ⌜ Said (lineOf (letters "row") (take cores bytes)) (now (out .entry)) (now (out .exit)) r ⌝ }
 {
     let mut text = [0u8; CELLS];
-    let count = text::smaller(cores as usize, 64);
+    let count = text::smaller(cores as usize, ROW);
     let size = row::spell(bytes, count, &mut text);
     let start = row::copy(b"row", 0, 3, out, 0);
     row::copy(&text, 0, size, out, start)

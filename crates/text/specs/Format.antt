@@ -5,6 +5,8 @@ use mathlib.Core.List.{List, [], _∷_, _++_, map}
 use Prim.Native.Nat.{ℕ, _+_, _*_, _≤_}
 use lib.ListN.{length}
 use lib.Dec.{leb, eqb}
+use Rattle.model.specs.Sizes.{mostTasks, mostWord}
+use Rattle.table.specs.Words.{headerWords, recordWords}
 use Rattle.text.specs.Decimal.{all, isDigit, Digits, value, decimal}
 
 -- a newline
@@ -13,11 +15,11 @@ newline = 10
 
 -- the largest number that a line may say
 abbrev pub largest : ℕ
-largest = 4294967295
+largest = mostWord
 
 -- how many numbers a text may have: the words of a header and of 32 records
 abbrev pub mostNumbers : ℕ
-mostNumbers = 195
+mostNumbers = headerWords + recordWords * mostTasks
 
 -- how many digits a line may have
 abbrev pub mostDigits : ℕ

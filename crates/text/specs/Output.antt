@@ -7,6 +7,7 @@ use Rattle.model.specs.Task.{Table}
 use Rattle.model.specs.Book.{full, rowOf}
 use Rattle.model.specs.Horizon.{horizon}
 use Rattle.model.specs.Verdict.{Verdict, Firm, Full, Miss, verdict}
+use Rattle.model.specs.Sizes.{mostCores}
 use Rattle.table.specs.declared.Answer.{Answer}
 use Rattle.table.specs.declared.Answer.the-variants.{Passed, Refused}
 use Rattle.table.specs.Words.{tableOf}
@@ -35,7 +36,7 @@ lineOf begin ns = begin ++ (fields ns ++ (newline ∷ []))
 
 -- the most bytes that the cells of a row can take: for each of 64 cores a space and the three digits of a byte, and a newline
 abbrev pub longestCells : ℕ
-longestCells = 64 * (1 + 3) + 1
+longestCells = mostCores * (1 + 3) + 1
 
 -- the most bytes that a line can take: a tick and the cells of its row
 abbrev pub longestLine : ℕ

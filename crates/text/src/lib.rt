@@ -12,7 +12,7 @@ pub mod line; // line.rt: where a line ends and which number it says
 use line::Found;
 
 // How many numbers a table's text may have: the words of a header and of 32 records.
-pub const NUMBERS: usize = 195;
+pub const NUMBERS: usize = table::HEADER + table::RECORD * model::MOST_TASKS;
 
 // How many digits a line may have.
 pub const DIGITS: usize = 10;

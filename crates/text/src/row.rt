@@ -5,10 +5,12 @@ ghost use Rattle.text.specs.Decimal.{decimal};
 ghost use Rattle.text.specs.Format.{newline};
 ghost use Rattle.text.specs.Output.{fields, longestCells, longestLine};
 ghost use Rattle.text.specs.Written.{Put};
+ghost use Rattle.model.specs.Sizes.{mostCores};
 use crate::decimal;
+use model::ROW;
 
 // The most bytes that the cells of a row can take: for each of 64 cores a space and the three digits of a byte, and a newline.
-pub const CELLS: usize = 64 * (1 + 3) + 1;
+pub const CELLS: usize = ROW * (1 + 3) + 1;
 
 // The most bytes that a line can take: a tick and the cells of its row.
 pub const LINE: usize = crate::DIGITS + CELLS;
@@ -44,8 +46,8 @@ fn put_byte(text: &mut [u8], at: usize, number: u8) -> usize
 }
 
 // Writes the positions of the first `cores` cores, a space before each, and a newline; the answer is where they end.
-pub fn spell(row: [u8; 64], cores: usize, text: &mut [u8]) -> usize
-    requires { ⌜ (cores ≤ 64) × (longestCells ≤ length (now text)) ⌝ }
+pub fn spell(row: [u8; ROW], cores: usize, text: &mut [u8]) -> usize
+    requires { ⌜ (cores ≤ mostCores) × (longestCells ≤ length (now text)) ⌝ }
     ensures { λ r. ⌜ (Put (now (text .entry)) 0 (fields (take cores row) ++ (newline ∷ [])) (now (text .exit)) r) × (r ≤ longestCells) ⌝ }
 {
     let mut at: usize = 0;
