@@ -18,9 +18,9 @@ use judge::Verdict;
 use model::MOST_TASKS;
 use table::Loaded;
 use text::first;
+use text::row;
 use text::row::CELLS;
 use text::row::LINE;
-use text::row;
 
 // Where the printing stands: the pace of its run, how long the text of the row is, and how long the line.
 pub struct Stage {

@@ -104,7 +104,13 @@ fn places(widths: [u32; MOST_TASKS]) -> usize
 }
 
 // The set of cores of each of the first `count` positions, 0 where it is given none; `claims` is the set that claims, bit 0 for position 1.
-pub fn grants(rule: u32, free: u64, claims: u32, widths: &[u32; MOST_TASKS], count: usize) -> [u64; MOST_TASKS]
+pub fn grants(
+    rule: u32,
+    free: u64,
+    claims: u32,
+    widths: &[u32; MOST_TASKS],
+    count: usize,
+) -> [u64; MOST_TASKS]
     ensures { λ r. ⌜ GrantedAs (ruleOf rule) (claimants (take count (now (widths .entry))) (bit claims)) count free r ⌝ }
 {
     let all = places(*widths);
@@ -164,7 +170,13 @@ pub fn row_of(start: [u8; ROW], first: u8, sets: &[u64; MOST_TASKS], count: usiz
 }
 
 // The row of a tick in which the places of a set claim the first `cores` cores: core 0 first, the position or 0; bytes past the core count are 0.
-pub fn show(rule: u32, cores: u32, claiming: u32, widths: &[u32; MOST_TASKS], count: usize) -> [u8; ROW]
+pub fn show(
+    rule: u32,
+    cores: u32,
+    claiming: u32,
+    widths: &[u32; MOST_TASKS],
+    count: usize,
+) -> [u8; ROW]
     requires { ⌜ (cores ≤ mostCores) × (count ≤ mostTasks) ⌝ }
     ensures { λ r. ⌜ r ≡ row cores (grants (ruleOf rule) (claimants (take count (now (widths .entry))) (bit claiming)) (upFrom 0 cores)) ++ replicate (mostCores - cores) 0 ⌝ }
 {

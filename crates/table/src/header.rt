@@ -1,7 +1,6 @@
 // Numbers 1 to 4.
 ghost use mathlib.Core.Path.{_≡_};
 ghost use Rattle.table.specs.Answer.{headerNumber};
-
 use crate::HEADER;
 use crate::RECORD;
 use model::MOST_TASKS;

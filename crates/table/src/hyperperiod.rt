@@ -12,6 +12,7 @@ use model::MOST_TASKS;
 
 // The longest horizon, in 64 bits, and one tick more.
 pub(crate) const LIMIT: u64 = MOST_HORIZON as u64;
+
 const PAST: u32 = MOST_HORIZON + 1;
 
 // The greatest common divisor.

@@ -13,6 +13,7 @@ use model::MOST_TASKS;
 
 // How many words the header has, and how many each record.
 pub const HEADER: usize = 3;
+
 pub const RECORD: usize = 6;
 
 // A task of the table: offset O, width v, length C, deadline D, period T.

@@ -3,7 +3,6 @@ ghost use mathlib.Core.Path.{_≡_};
 ghost use Rattle.table.specs.Task.{taskOf};
 ghost use Rattle.table.specs.Limits.{coresOut, ruleOut, widthOut, timesOut, taskNumber};
 use crate::Task;
-use crate::limits::MOST_TIME;
 use model::MOST_CORES;
 
 // The largest O, C and T.
