@@ -7,7 +7,6 @@ ghost use Rattle.model.specs.Sizes.{mostTasks};
 ghost use Rattle.full.specs.Places.{part, second, third};
 ghost use Rattle.full.specs.Machine.{machineOf, released, DueMoments, Owed, worked};
 ghost use Rattle.full.specs.Stand.{numbersBy, standAt, Steppable, next};
-use crate::TRIPLE;
 use columns::Setting;
 use machine::Pace;
 use model::MOST_TASKS;
