@@ -5,30 +5,25 @@ use Prim.Native.Nat.{ℕ}
 use native.Mathlib.Omega.{arith}
 use lib.ListN.{take}
 use Rattle.model.specs.Task.{Table}
-use Rattle.model.specs.Verdict.{Verdict, Firm, Full, Miss, verdict}
+use Rattle.model.specs.Verdict.{verdict}
 use Rattle.model.specs.Horizon.{horizon}
 use Rattle.table.specs.declared.Answer as loaded
 use Rattle.table.specs.declared.Answer.the-variants.{Passed, Refused}
 use Rattle.table.specs.Words.{tableOf}
 use Rattle.table.specs.Answer.{answerOf, headerNumber}
-use Rattle.judge.specs.Judged as judge
-use Rattle.judge.specs.Judged.{verdictOf}
+use Rattle.judge.specs.Judged.{judgedBy, verdictOf}
+use Rattle.judge.specs.Said.{judged, saidBy, caseOf}
+use Rattle.judge.proofs.Promise.{said-case}
 use Rattle.text.specs.Format.{enoughBytes, Words, words, noText, wordsOf, numbersIn}
-use Rattle.text.specs.Output.{judged, firstLine, rowLines, rowsPrinted, printed, printedBy, outputOf, output}
-use Rattle.text.specs.Said.{saidBy, firstFor}
+use Rattle.text.specs.Output.{firstLine, rowLines, rowsPrinted, printed, printedBy, outputOf, output}
+use Rattle.text.specs.Said.{firstFor}
 use Rattle.text.proofs.Exact.{first-enough}
 
--- what the line says of a verdict of the model
-said-told : (v : Verdict) → saidBy (judge.told v) ≡ judged v
-said-told (Firm s p) = refl
-said-told (Full s p) = refl
-said-told (Miss t p) = refl
-
 -- by what is answered to the words
-first-of : (a : loaded.Answer) (s : Table) → (rows : List ℕ) × (printedBy a s ≡ firstLine (saidBy (judge.judged a s)) ++ rows)
+first-of : (a : loaded.Answer) (s : Table) → (rows : List ℕ) × (printedBy a s ≡ firstLine (saidBy (caseOf (judgedBy a s))) ++ rows)
 unfolding printed
-first-of Passed s = (rowLines s 0 (rowsPrinted (verdict s) (horizon s)), ap (λ x. firstLine x ++ rowLines s 0 (rowsPrinted (verdict s) (horizon s))) (sym (said-told (verdict s))))
-first-of (Refused n p) s = ([], sym (append-nil (firstLine (saidBy (judge.judged (Refused n p) s)))))
+first-of Passed s = (rowLines s 0 (rowsPrinted (verdict s) (horizon s)), ap (λ x. firstLine x ++ rowLines s 0 (rowsPrinted (verdict s) (horizon s))) (sym (said-case (judged (verdict s)))))
+first-of (Refused n p) s = ([], sym (append-nil (firstLine (saidBy (caseOf (judgedBy (Refused n p) s))))))
 
 -- no numbers are turned down with 1, as what is no table's text
 first-none : (rows : List ℕ) × (outputOf noText ≡ firstLine (saidBy (verdictOf [])) ++ rows)
