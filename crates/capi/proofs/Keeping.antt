@@ -14,6 +14,7 @@ use Rattle.run.specs.declared.Run.{Run}
 use Rattle.run.specs.declared.Started.{Started}
 use Rattle.run.specs.declared.Advanced.{Advanced}
 use Rattle.model.specs.Search.{bit}
+use Rattle.model.specs.Sizes.{mostCores}
 use Rattle.run.specs.Run.{moved}
 use Rattle.run.specs.Answer.{byAnswer}
 use Rattle.run.specs.Start.{startOf}
@@ -65,21 +66,21 @@ module _ (ws buffer answer : List ℕ) where
 module _ (buffer row answer : List ℕ) where
   pub row-narrow : length answer < 3 → rowCall buffer row answer ≡ left 1 (row ∷ (answer ∷ []))
   unfolding rowCall
-  row-narrow h = narrow 64 row answer _ _ h
+  row-narrow h = narrow mostCores row answer _ _ h
 
-  pub row-short : 3 ≤ length answer → length row < 64 → rowCall buffer row answer ≡ left 1 (row ∷ (answer ∷ []))
+  pub row-short : 3 ≤ length answer → length row < mostCores → rowCall buffer row answer ≡ left 1 (row ∷ (answer ∷ []))
   unfolding rowCall
-  row-short h l = short 64 row answer _ _ h l
+  row-short h l = short mostCores row answer _ _ h l
 
   pub row-room :
-      (w : Row) {k m : List ℕ} → 3 ≤ length answer → 64 ≤ length row → w ≡ rowFrom (decode buffer) → k ≡ w .bytes ++ drop 64 row
+      (w : Row) {k m : List ℕ} → 3 ≤ length answer → mostCores ≤ length row → w ≡ rowFrom (decode buffer) → k ≡ w .bytes ++ drop mostCores row
       → m ≡ written (ofAnswer (w .answer)) answer → left 0 (k ∷ (m ∷ [])) ≡ rowCall buffer row answer
   unfolding rowCall
   row-room w h l e p q =
       both
-      (p ∙ ap (λ (v : Row). v .bytes ++ drop 64 row) e)
+      (p ∙ ap (λ (v : Row). v .bytes ++ drop mostCores row) e)
       (q ∙ ap (λ (v : Row). written (ofAnswer (v .answer)) answer) e)
-      ∙ sym (roomy 64 row answer _ _ h l)
+      ∙ sym (roomy mostCores row answer _ _ h l)
 
 -- ADVANCE
 

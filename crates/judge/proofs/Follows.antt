@@ -12,6 +12,7 @@ use Rattle.model.specs.Task.{Table, task, ruleOf}
 use Rattle.model.specs.Grants.{claimants, grants, some}
 use Rattle.model.specs.Book.{Missed}
 use Rattle.model.proofs.Grants.{grants-length}
+use Rattle.model.specs.Sizes.{mostTasks}
 use Rattle.table.specs.declared.Task.{Task}
 use Rattle.table.specs.declared.Loaded.{Loaded}
 use Rattle.full.specs.Machine.{Machine, releasedDue, earliest, finishes, worked}
@@ -78,7 +79,7 @@ module _ (t : Loaded) (fit : Fit t) where
 
   -- the set that the rule chooses
   choice-chosen : (c : ℕ) → Chosen t c (choice n c)
-  choice-chosen c p = go (leb 32 p) refl
+  choice-chosen c p = go (leb mostTasks p) refl
     where
       f : ℕ → Bool
       f = granted (ruleOf (t .rule)) (claimants (n .widths) (bit c)) (upFrom 0 (t .cores))
@@ -86,15 +87,15 @@ module _ (t : Loaded) (fit : Fit t) where
       gs : List (List ℕ)
       gs = grants (ruleOf (t .rule)) (claimants (n .widths) (bit c)) (upFrom 0 (t .cores))
 
-      wide : length gs ≡ 32
+      wide : length gs ≡ mostTasks
       wide =
           grants-length (ruleOf (t .rule)) (n .widths) (bit c) (upFrom 0 (t .cores)) ∙ length-map (t .tasks) (λ (x : Task). x .width) ∙ fit .places
 
-      go : (x : Bool) → leb 32 p ≡ x → bit (choice n c) p ≡ f p
+      go : (x : Bool) → leb mostTasks p ≡ x → bit (choice n c) p ≡ f p
       go true q =
-          let l : length gs ≤ p = omega (arith, wide, leb-true 32 p q) in
-          set-past 32 f p (leb-true 32 p q) ∙ sym (ap some (List·getD-eq-default gs [] l))
-      go false q = set-has 32 f p (leb-false 32 p q)
+          let l : length gs ≤ p = omega (arith, wide, leb-true mostTasks p q) in
+          set-past mostTasks f p (leb-true mostTasks p q) ∙ sym (ap some (List·getD-eq-default gs [] l))
+      go false q = set-has mostTasks f p (leb-false mostTasks p q)
 
   module _ (s : Stand) (h : Follows t s) (met : (q : ℕ) → ¬ Missed book q (s .tick)) where
     -- after the due moments
@@ -141,7 +142,7 @@ module _ (t : Loaded) (fit : Fit t) where
           next-tick t fit (after n s) (worked (bit (grantedIn n s)) (after n s)) (bellAfter n s) (s .tick) (grantedIn n s) (h .before .met) looked
           chosen refl;
       chosen = chosen;
-      small = set-lt 32 (λ p. bit (after n s .claiming) p && not (finishes (bit (grantedIn n s)) (after n s) p));
+      small = set-lt mostTasks (λ p. bit (after n s .claiming) p && not (finishes (bit (grantedIn n s)) (after n s) p));
     }
 
     pub follows-on : (s′ : Stand) → s′ ≡ next n s → Follows t s′

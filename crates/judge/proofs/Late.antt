@@ -15,6 +15,7 @@ use Rattle.model.specs.Task.{Table, task}
 use Rattle.model.specs.Book.{full, Missed}
 use Rattle.model.specs.Verdict.{FirstMiss}
 use Rattle.model.proofs.Digits.{bit-none, Turn, turn}
+use Rattle.model.specs.Sizes.{mostTasks}
 use Rattle.table.specs.declared.Loaded.{Loaded}
 use Rattle.full.specs.Machine.{Machine}
 use Rattle.full.specs.Stand.{Stand}
@@ -38,8 +39,8 @@ pub look-begins : (m : Machine) (t : ℕ) → m .claiming < 2 ^ 32 → Looking m
 look-begins m t l = record { claims = λ q e. e; seen = λ q e f. absurd (true≢false (sym e ∙ f)); small = l }
 
 module _ (m : Machine) (t rest : ℕ) (h : Looking m t rest) (some : 0 < rest) where
-  pub at-first : Turn 32 rest
-  at-first = turn 32 rest some (h .small)
+  pub at-first : Turn mostTasks rest
+  at-first = turn mostTasks rest some (h .small)
 
   off : (q : ℕ) → bit (bitAnd rest (rest - 1)) q ≡ bit (rest - 2 ^ first rest) q
   off q = ap (λ (x : ℕ). bit x q) (at-first .after)

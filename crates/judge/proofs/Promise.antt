@@ -11,6 +11,7 @@ use Rattle.model.specs.Horizon.{lastS, hyperperiod, horizon}
 use Rattle.model.specs.Verdict.{Exact, FirmRule, verdict}
 use Rattle.model.specs.Verdict as model
 use Rattle.model.proofs.Verdict.{verdict-exact}
+use Rattle.model.specs.Sizes.{mostTasks}
 use Rattle.table.specs.declared.Answer.{Answer}
 use Rattle.table.specs.declared.Answer.the-variants.{Passed}
 use Rattle.table.specs.declared.Answer.the-variants as table
@@ -22,6 +23,7 @@ use Rattle.table.specs.Answer.{answerOf}
 use Rattle.table.specs.Load.{LoadOf, Holds, loadTold}
 use Rattle.table.proofs.Exact.{refusal-exact, passed-exact}
 use Rattle.table.proofs.Passed.{passed-cores, passed-rule, passed-sound, passed-inside}
+use Rattle.table.specs.Limits.{mostTime}
 use Rattle.judge.specs.declared.Verdict.{Verdict}
 use Rattle.judge.specs.declared.Verdict.the-variants.{Firm, Full, Miss, Refused}
 use Rattle.judge.specs.Said.{Said, judged, saidBy, caseOf}
@@ -186,11 +188,11 @@ module _ (ws : List ℕ) (r : Loaded) (l : LoadOf ws r) (e : r .answer ≡ Passe
       tasks′ = h .tasks
 
   -- of 32 places
-  places : length (r .tasks) ≡ 32
+  places : length (r .tasks) ≡ mostTasks
   places =
       let front : length (take (r .count) (r .tasks)) ≡ r .count = sym (length-map (take (r .count) (r .tasks)) taskOf) ∙ (ap length (h .tasks) ∙ sym (h .count)) in
       let whole : length (take (r .count) (r .tasks) ++ drop (r .count) (r .tasks)) ≡ length (r .tasks) = ap length (take-append-drop (r .count) (r .tasks)) in
-      let back : length (drop (r .count) (r .tasks)) ≡ 32 - r .count = ap length (h .past) ∙ length-replicate (32 - r .count) noTask in
+      let back : length (drop (r .count) (r .tasks)) ≡ mostTasks - r .count = ap length (h .past) ∙ length-replicate (mostTasks - r .count) noTask in
       omega (arith, length-append (take (r .count) (r .tasks)) (drop (r .count) (r .tasks)), whole, front, back, h .count-from)
 
   -- and fit to be run
@@ -200,7 +202,7 @@ module _ (ws : List ℕ) (r : Loaded) (l : LoadOf ws r) (e : r .answer ≡ Passe
     few = h .count-from .1;
     narrow = omega (arith, h .cores, passed-cores ws none .1);
     sound = subst AllSound (sym same-table) (passed-sound ws none);
-    short = λ p q. subst (λ (s : Table). p < length (s .tasks) → task s p .period ≤ 1000000) (sym same-table) (λ i. passed-inside ws none p i .period-from .1) (omega (arith, h .count, ap (λ (s : Table). length (s .tasks)) same-table));
+    short = λ p q. subst (λ (s : Table). p < length (s .tasks) → task s p .period ≤ mostTime) (sym same-table) (λ i. passed-inside ws none p i .period-from .1) (omega (arith, h .count, ap (λ (s : Table). length (s .tasks)) same-table));
     start = h .start ∙ ap (λ (s : Table). lastS (s .tasks)) (sym same-table);
     period = h .period ∙ ap (λ (s : Table). hyperperiod (s .tasks)) (sym same-table);
     horizon = h .horizon ∙ ap horizon (sym same-table);

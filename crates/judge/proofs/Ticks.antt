@@ -14,6 +14,7 @@ use Rattle.model.specs.Task as model
 use Rattle.model.specs.Grants.{claimants, some}
 use Rattle.model.specs.Book.{full, inRow, Missed, widths}
 use Rattle.model.proofs.Grants.{grants-nobody}
+use Rattle.model.specs.Sizes.{mostTasks}
 use Rattle.table.specs.declared.Task.{Task}
 use Rattle.table.specs.declared.Loaded.{Loaded}
 use Rattle.table.specs.Task.{taskOf, noTask}
@@ -59,7 +60,7 @@ module _ (t : Loaded) (fit : Fit t) where
   pub size : length (s .tasks) ≡ t .count
   size = tasks-length (t .tasks) (t .count) (omega (arith, fit .few, fit .places))
 
-  pub few : length (s .tasks) ≤ 32
+  pub few : length (s .tasks) ≤ mostTasks
   few = omega (arith, size, fit .few)
 
   -- a field of a task, from its column

@@ -8,6 +8,7 @@ use Rattle.model.specs.Task.{Table, AllSound}
 use Rattle.model.specs.Book.{Book, book, rowOf, full}
 use Rattle.model.specs.Book as model
 use Rattle.model.proofs.FullLength.{full-length}
+use Rattle.model.specs.Sizes.{mostCores}
 use Rattle.table.specs.declared.Answer.{Answer}
 use Rattle.table.specs.declared.Answer.the-variants as answer
 use Rattle.table.specs.declared.Loaded.{Loaded}
@@ -82,7 +83,7 @@ module _ (ws : List ℕ) (a b : ℕ) (old new : List ℕ) where
       go (Refused n p) x = ap length (found n p (ap planTold x))
 
 -- a table that passed has at most 64 cores
-pub cores-most : (ws : List ℕ) (r : Loaded) → LoadOf ws r → r .answer ≡ answer.Passed → r .cores ≤ 64
+pub cores-most : (ws : List ℕ) (r : Loaded) → LoadOf ws r → r .answer ≡ answer.Passed → r .cores ≤ mostCores
 cores-most ws r l e = omega (arith, l .holds (ap loadTold e) .cores, passed-cores ws (l .passed .0 (ap loadTold e)) .1)
 
 module _ (ws : List ℕ) (r : Loaded) (l : LoadOf ws r) (a b : ℕ) (old new : List ℕ) where

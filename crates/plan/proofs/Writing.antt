@@ -16,6 +16,7 @@ use Rattle.model.specs.Task.{Table, ruleOf}
 use Rattle.model.specs.Grants.{claimants, grants}
 use Rattle.model.specs.Row.{owner, row}
 use Rattle.model.specs.Book.{rowOf, full, widths}
+use Rattle.model.specs.Sizes.{mostCores}
 use Rattle.table.specs.declared.Loaded.{Loaded}
 use Rattle.full.specs.Machine.{Machine}
 use Rattle.full.proofs.Alike.{row-alike}
@@ -27,7 +28,7 @@ use Rattle.plan.proofs.Buffer.{over-none, over-more, with-length}
 -- the bytes of a tick in which the places of the set c claim, by a column of widths
 abbrev pub RowBy : Loaded → List ℕ → ℕ → List ℕ → Type 0
 RowBy t v c bytes =
-    bytes ≡ row (t .cores) (grants (ruleOf (t .rule)) (claimants (take (t .count) v) (bit c)) (upFrom 0 (t .cores))) ++ replicate (64 - t .cores) 0
+    bytes ≡ row (t .cores) (grants (ruleOf (t .rule)) (claimants (take (t .count) v) (bit c)) (upFrom 0 (t .cores))) ++ replicate (mostCores - t .cores) 0
 
 -- by the table's widths
 abbrev pub RowFor : Loaded → ℕ → List ℕ → Type 0
@@ -109,14 +110,14 @@ zeros-join : (m n : ℕ) → zeros m ++ zeros n ≡ zeros (m + n)
 zeros-join zero n = ap zeros (sym (zero-add n))
 zeros-join (suc m) n = ap (λ (l : List ℕ). 0 ∷ l) (zeros-join m n) ∙ ap zeros (sym (suc-add m n))
 
-pub row-begins : (t : Loaded) → t .cores ≤ 64 → RowFor t 0 (replicate 64 0)
+pub row-begins : (t : Loaded) → t .cores ≤ mostCores → RowFor t 0 (replicate mostCores 0)
 unfolding row
 row-begins t l =
-    let e : t .cores + (64 - t .cores) ≡ 64 = omega arith in
+    let e : t .cores + (mostCores - t .cores) ≡ mostCores = omega arith in
     sym
-    (ap (λ (l : List ℕ). l ++ replicate (64 - t .cores) 0)
+    (ap (λ (l : List ℕ). l ++ replicate (mostCores - t .cores) 0)
     (zeros-of (λ c. owner c 1 given) 0 (t .cores) (λ c. owner-none c 1 given (λ q. grants-none (ruleOf (t .rule)) ws (bit 0) (upFrom 0 (t .cores)) q (bit-none q))))
-    ∙ (zeros-join (t .cores) (64 - t .cores) ∙ ap zeros e))
+    ∙ (zeros-join (t .cores) (mostCores - t .cores) ∙ ap zeros e))
   where
     ws : List ℕ
     ws = take (t .count) (map (λ x. x .width) (t .tasks))
@@ -134,7 +135,7 @@ module _ (t : Loaded) (fit : Fit t) where
       → take (t .cores) bytes ≡ rowOf s (full s tick)
   row-bytes m bell tick bytes a e =
       ap (take (t .cores)) e
-      ∙ (take-at (row (t .cores) given) (replicate (64 - t .cores) 0) (t .cores) (row-length (t .cores) given)
+      ∙ (take-at (row (t .cores) given) (replicate (mostCores - t .cores) 0) (t .cores) (row-length (t .cores) given)
       ∙ row-alike s (fit .sound) tick m (a .ready) (take (t .count) (map (λ x. x .width) (t .tasks))) same)
     where
       given : List (List ℕ)

@@ -20,6 +20,7 @@ use Rattle.model.specs.Verdict.{FirstMiss, verdict}
 use Rattle.model.specs.Verdict as model
 use Rattle.model.proofs.Horizon.{horizon-enough}
 use Rattle.model.proofs.Verdict.{verdict-exact}
+use Rattle.model.specs.Sizes.{mostCores, mostTasks}
 use Rattle.table.specs.declared.Answer.{Answer}
 use Rattle.table.specs.declared.Answer.the-variants.{Passed, Refused}
 use Rattle.table.specs.declared.Loaded.{Loaded}
@@ -44,7 +45,7 @@ use Rattle.judge.proofs.Follows.{follows-start}
 use Rattle.judge.proofs.Promise.{said-case, fit, same-table, passed-is, refused-is}
 use Rattle.text.specs.Format.{mostNumbers, Words, words, noText, wordsOf}
 use Rattle.text.specs.Input.{inputOf, ReadOf}
-use Rattle.text.specs.Output.{firstLine, rowLines, rowsPrinted, printed, printedBy, outputOf, output}
+use Rattle.text.specs.Output.{firstLine, rowLines, rowsPrinted, printed, printedBy, outputOf, output, longestCells, longestLine}
 use Rattle.text.specs.Written.{Put}
 use Rattle.printer.specs.Cells.{cells}
 use Rattle.text.specs.Said.{endOf}
@@ -68,8 +69,8 @@ none-within b = eq-eqb (bitAnd 0 b) 0 (and-zero-l b)
 module _
     (t : Loaded) (e : ℕ) (v : Verdict) (pace : Pace) (places : List ℕ) (m : standAt pace places ≡ begun t) (widths : List ℕ)
     (w : widths ≡ map (λ x. x .width) (t .tasks)) (row line : List ℕ) (size ready : ℕ)
-    (p : (Put (replicate 257 0) 0 (cells (t .rule) (t .cores) (take (t .count) widths) 0) row size) × (size ≤ 257))
-    (q : (Put (replicate 267 0) 0 (firstLine (saidBy v)) line ready) × (ready ≤ 267))
+    (p : (Put (replicate longestCells 0) 0 (cells (t .rule) (t .cores) (take (t .count) widths) 0) row size) × (size ≤ longestCells))
+    (q : (Put (replicate longestLine 0) 0 (firstLine (saidBy v)) line ready) × (ready ≤ longestLine))
   where
     abbrev first : Printer
     first = record {
@@ -127,10 +128,10 @@ module _
 -- THE WORDS
 
 -- what was loaded is small enough to be printed
-pub load-small : (ws : List ℕ) (r : Loaded) → LoadOf ws r → (r .cores ≤ 64) × (r .count ≤ 32)
+pub load-small : (ws : List ℕ) (r : Loaded) → LoadOf ws r → (r .cores ≤ mostCores) × (r .count ≤ mostTasks)
 load-small ws r l = go (r .answer) refl
   where
-    go : (a : Answer) → r .answer ≡ a → (r .cores ≤ 64) × (r .count ≤ 32)
+    go : (a : Answer) → r .answer ≡ a → (r .cores ≤ mostCores) × (r .count ≤ mostTasks)
     go Passed e =
         let h = l .holds (ap loadTold e) in
         (omega (arith, h .cores, passed-cores ws (l .passed .0 (ap loadTold e)) .1), h .count-from .1)

@@ -11,11 +11,12 @@ use Rattle.full.specs.Stand.{Numbers, Stand, after, unchanged}
 use Rattle.text.specs.Decimal.{decimal}
 use Rattle.text.specs.Written.{Put}
 use Rattle.text.proofs.Writing.{put-length, put-front}
+use Rattle.text.specs.Output.{longestCells}
 use Rattle.printer.specs.Rows.{textOf, textIn, lineIn}
 
 -- the text of a row in its array
 abbrev pub Text : Numbers → Stand → List ℕ → ℕ → List ℕ → Type 0
-Text n s kept text row = (take text row ≡ textIn n s kept) × (text ≤ 257) × (length row ≡ 257)
+Text n s kept text row = (take text row ≡ textIn n s kept) × (text ≤ longestCells) × (length row ≡ longestCells)
 
 module _ (n : Numbers) (s : Stand) (kept : List ℕ) where
   text-by : (b : Bool) → unchanged n s ≡ b → cond b kept (textOf n (after n s .claiming)) ≡ textIn n s kept
@@ -28,8 +29,8 @@ module _ (n : Numbers) (s : Stand) (kept : List ℕ) where
 
   -- or made anew
   pub text-put :
-      (c text : ℕ) (row row′ : List ℕ) → c ≡ after n s .claiming → (c ≡ s .chosen → ⊥) → length row ≡ 257
-      → (Put row 0 (textOf n c) row′ text) × (text ≤ 257) → Text n s kept text row′
+      (c text : ℕ) (row row′ : List ℕ) → c ≡ after n s .claiming → (c ≡ s .chosen → ⊥) → length row ≡ longestCells
+      → (Put row 0 (textOf n c) row′ text) × (text ≤ longestCells) → Text n s kept text row′
   text-put c text row row′ x ne wide q = (
     put-front (q .0) ∙ (ap (textOf n) x ∙ text-by false (ne-eqb (after n s .claiming) (s .chosen) (λ h. ne (x ∙ h)))),
     q .1,

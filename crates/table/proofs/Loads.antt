@@ -9,13 +9,14 @@ use lib.Seq.{take-at, drop-at}
 use borrow.Author.Tests.{ne-eqb, lt-ltb, le-ltb, ltb-false}
 use Rattle.model.specs.Task as model
 use Rattle.model.specs.Horizon.{lastS, hyperperiod, horizon}
+use Rattle.model.specs.Sizes.{mostTasks}
 use Rattle.table.specs.declared.Task.{Task}
 use Rattle.table.specs.declared.Answer.the-variants.{Passed}
 use Rattle.table.specs.declared.Loaded.{Loaded}
 use Rattle.table.specs.declared.chain.Ending.the-variants.{Past, Again, Whole}
 use Rattle.table.specs.Task.{taskOf, tasksOf, noTask, InLimits}
 use Rattle.table.specs.Words.{cores, rule, count, tableOf}
-use Rattle.table.specs.Limits.{taskNumber, taskOut, horizonOut}
+use Rattle.table.specs.Limits.{taskNumber, taskOut, horizonOut, mostHorizon}
 use Rattle.table.specs.Answer.{headerNumber, firstOut, byHorizon, byTasks, endingOf, byWalk, answerOf}
 use Rattle.table.specs.Load.{placed, places, passing, refusal, loadedBy, tableWith, loadOf}
 use Rattle.table.proofs.Places.{tasks-length, task-at}
@@ -31,22 +32,22 @@ placed-back (τ ∷ τs) = ap {B = List model.Task} (λ ts. τ ∷ ts) (placed-b
 
 pub places-tasks : (τs : List model.Task) → tasksOf (places τs) (length τs) ≡ τs
 places-tasks τs =
-    ap (map taskOf) (take-at (map placed τs) (replicate (32 - length τs) noTask) (length τs) (length-map τs placed)) ∙ placed-back τs
+    ap (map taskOf) (take-at (map placed τs) (replicate (mostTasks - length τs) noTask) (length τs) (length-map τs placed)) ∙ placed-back τs
 
 -- so the places of a walk that ended at the zero hold the tasks of the words
 pub walked-tasks : (ws : List ℕ) (tasks : List Task) (many : ℕ) → tasks ≡ places (tableOf ws .tasks) → many ≡ count ws → tasksOf tasks many ≡ tableOf ws .tasks
 walked-tasks ws tasks many e n = rw (e, n ∙ sym (table-length ws)) (places-tasks (tableOf ws .tasks))
 
-pub places-past : (τs : List model.Task) → drop (length τs) (places τs) ≡ replicate (32 - length τs) noTask
-places-past τs = drop-at (map placed τs) (replicate (32 - length τs) noTask) (length τs) (length-map τs placed)
+pub places-past : (τs : List model.Task) → drop (length τs) (places τs) ≡ replicate (mostTasks - length τs) noTask
+places-past τs = drop-at (map placed τs) (replicate (mostTasks - length τs) noTask) (length τs) (length-map τs placed)
 
 -- THE HORIZON
 
 -- P capped decides 9 ..
-pub horizon-test : (s : model.Table) (start period : ℕ) → start ≡ lastS (s .tasks) → period ≡ min (hyperperiod (s .tasks)) 10000001
+pub horizon-test : (s : model.Table) (start period : ℕ) → start ≡ lastS (s .tasks) → period ≡ min (hyperperiod (s .tasks)) (mostHorizon + 1)
     → horizonOut (start + period) ≡ horizonOut (horizon s)
 unfolding horizon
-horizon-test s start period e f = rw (e, f) (exceeds-capped 10000000 (lastS (s .tasks)) (hyperperiod (s .tasks)))
+horizon-test s start period e f = rw (e, f) (exceeds-capped mostHorizon (lastS (s .tasks)) (hyperperiod (s .tasks)))
 
 pub by-far : (s : model.Table) (l : Loaded) → horizonOut (horizon s) ≡ true → loadedBy (byHorizon s) l ≡ refusal 9 0
 unfolding byHorizon
@@ -58,16 +59,16 @@ by-near s l e = rw e
 
 -- .. and where it does not exceed, the table is made of it
 pub made : (m r : ℕ) (tasks : List Task) (count start period : ℕ) → count ≤ length tasks → tasks ≡ places (tasksOf tasks count)
-    → start ≡ lastS (tasksOf tasks count) → period ≡ min (hyperperiod (tasksOf tasks count)) 10000001 → horizonOut (start + period) ≡ false
+    → start ≡ lastS (tasksOf tasks count) → period ≡ min (hyperperiod (tasksOf tasks count)) (mostHorizon + 1) → horizonOut (start + period) ≡ false
     → _≡_ {A = Loaded}
     (record { answer = Passed; count = count; cores = m; rule = r; tasks = tasks; start = start; period = period; horizon = start + period })
     (passing r (tableWith m r (tasksOf tasks count)))
 unfolding horizon
 made m r tasks count start period there whole e f near =
     let counted = sym (tasks-length tasks count there) in
-    let most : start + period ≤ 10000000 = ltb-false 10000000 (start + period) near in
+    let most : start + period ≤ mostHorizon = ltb-false mostHorizon (start + period) near in
     let exact : period ≡ hyperperiod (tasksOf tasks count) =
-    f ∙ capped-exact 10000000 start (hyperperiod (tasksOf tasks count)) (omega arith) in
+    f ∙ capped-exact mostHorizon start (hyperperiod (tasksOf tasks count)) (omega arith) in
     let sum : start + period ≡ lastS (tasksOf tasks count) + hyperperiod (tasksOf tasks count) = omega arith in
     λ i. record { answer = Passed; count = counted i; cores = m; rule = r; tasks = whole i; start = e i; period = exact i; horizon = sum i }
 

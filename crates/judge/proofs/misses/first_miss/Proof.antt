@@ -9,9 +9,10 @@ use mathlib.Core.List.{List}
 use Prim.Native.Nat.{ℕ, _+_, _-_, _≤_, _<_}
 use lib.ListN.{getD}
 use Rattle.model.specs.Book.{Missed}
+use Rattle.model.specs.Sizes.{mostTasks}
 use Rattle.table.specs.declared.Loaded.{Loaded}
 use Rattle.full.specs.Machine.{machineOf}
-use Rattle.full.specs.Places.{part}
+use Rattle.full.specs.Places.{part, second}
 use Rattle.full.specs.Stand.{Numbers, Stand, standAt, Steppable, next}
 use Rattle.full.proofs.Parts.{part-at}
 use Rattle.full.proofs.Steps.{tick-on}
@@ -70,11 +71,11 @@ small : (e : tie.Else1 Inv-loop μ-loop Inv-ticks μ-ticks) → e .before .befor
 small e = omega (arith, early e, e .before .before .before .before .before .before .before .before .before .before .pre .1, e .before .before .before .before .before .before .before .before .before .before .pre .0 .limit)
 
 -- in the walk: the first claimant that is left is one of 32 places
-inside : (c : tie.In-loop Inv-loop μ-loop Inv-ticks μ-ticks) → first (c .before .loop .rest) < 32
+inside : (c : tie.In-loop Inv-loop μ-loop Inv-ticks μ-ticks) → first (c .before .loop .rest) < mostTasks
 inside c = at-first _ _ (c .before .loop .rest) (c .before .loop .inv) (c .loop-test .taken) .place
 
-moment : (c : tie.In-loop Inv-loop μ-loop Inv-ticks μ-ticks) (xs : List ℕ) → getD (part 32 xs) (first (c .before .loop .rest)) 0 ≡ getD xs (32 + first (c .before .loop .rest)) 0
-moment c xs = part-at 32 xs (first (c .before .loop .rest)) (inside c)
+moment : (c : tie.In-loop Inv-loop μ-loop Inv-ticks μ-ticks) (xs : List ℕ) → getD (part second xs) (first (c .before .loop .rest)) 0 ≡ getD xs (mostTasks + first (c .before .loop .rest)) 0
+moment c xs = part-at mostTasks xs (first (c .before .loop .rest)) (inside c)
 
 -- where the walk has ended or was not needed no deadline of the tick is missed
 met : (c : tie.Joined2 Inv-loop μ-loop Inv-ticks μ-ticks) (t : Loaded) → Of (c .before .before .before .before .before) t → (q : ℕ) → ¬ Missed (tableIn t) q (c .before .before .before .before .ticks .pace .tick)

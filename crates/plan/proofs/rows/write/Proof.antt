@@ -9,6 +9,7 @@ use native.Mathlib.Nat.{mul-le-mul}
 use Prim.Native.Nat.{ℕ, _+_, _-_, _*_, _≤_}
 use lib.ListN as list
 use Rattle.model.specs.Book.{Missed}
+use Rattle.model.specs.Sizes.{mostCores}
 use Rattle.table.specs.declared.Loaded.{Loaded}
 use Rattle.full.specs.Stand.{Numbers, numbersBy, numbersIn, Stand, standAt, after, bellAfter, Steppable, next}
 use Rattle.full.proofs.Steps.{tick-on, chosen-on}
@@ -43,7 +44,7 @@ found-of p = p .before .before .before .before .before .before .before .before .
 fit-of : (p : tie.After-places Inv-loop μ-loop) → Fit (table-of p)
 fit-of p = p .before .before .before .before .before .before .before .before .before .pre .0
 
-cores-of : (p : tie.After-places Inv-loop μ-loop) → table-of p .cores ≤ 64
+cores-of : (p : tie.After-places Inv-loop μ-loop) → table-of p .cores ≤ mostCores
 cores-of p = p .before .before .before .before .before .before .before .before .before .pre .1
 
 enough-of : (p : tie.After-places Inv-loop μ-loop) → (last-of p - first-of p) * table-of p .cores ≤ list.length (found-of p)

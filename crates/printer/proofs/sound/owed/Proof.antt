@@ -9,15 +9,16 @@ use Rattle.full.proofs.Parts.{front-at}
 use Rattle.printer.proofs.Owed.{owedFrom, owed-none, owed-all, owed-room, owed-with, owed-without}
 use Rattle.printer.proofs.sound.owed.Statement.{statement}
 use Rattle.printer.proofs.sound.owed.Tie as tie
+use Rattle.model.specs.Sizes.{mostTasks}
 
 abbrev Inv-loop : tie.InvT-loop
-Inv-loop places set₀ i₀ set i = (i ≤ 32) × (set ≡ owedFrom (part 0 places) i)
+Inv-loop places set₀ i₀ set i = (i ≤ mostTasks) × (set ≡ owedFrom (part 0 places) i)
 
 abbrev μ-loop : tie.MeasureT-loop
 μ-loop places set₀ i₀ set i = i
 
 -- place i - 1 is looked at
-module _ (places : List ℕ) (i set : ℕ) (h : (i ≤ 32) × (set ≡ owedFrom (part 0 places) i)) (l : 0 < i) where
+module _ (places : List ℕ) (i set : ℕ) (h : (i ≤ mostTasks) × (set ≡ owedFrom (part 0 places) i)) (l : 0 < i) where
   is : set ≡ owedFrom (part 0 places) (i - 1 + 1)
   is = let e : i ≡ i - 1 + 1 = omega arith in h .1 ∙ ap (owedFrom (part 0 places)) e
 

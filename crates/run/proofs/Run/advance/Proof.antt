@@ -9,6 +9,7 @@ use lib.Dec.{eqb}
 use borrow.Author.Needs.{needs}
 use Rattle.model.specs.Search.{bit}
 use Rattle.model.specs.Grants.{claimants}
+use Rattle.model.specs.Sizes.{mostTasks}
 use Rattle.rule.proofs.Sets.{granted-first}
 use Rattle.run.specs.declared.Run.{Run}
 use Rattle.run.specs.declared.Advanced.{Advanced}
@@ -28,7 +29,7 @@ passes : (c : tie.Else1) → runOut (c .before .before .args .self) ≡ false
 passes c = sym (c .before .out .ensures) ∙ c .if1 .left
 
 -- the first late place is at most the count
-late-few : (c : tie.After-first-late) → c .first-late .result ≤ 32
+late-few : (c : tie.After-first-late) → c .first-late .result ≤ mostTasks
 late-few c =
     let r = c .before .before .before .args .self in
     omega (arith, c .first-late .ensures, late-most r, few r (passes (c .before)))
@@ -55,7 +56,7 @@ within c =
     let w = c .before .before .before .before in
     let s = w .before .before .before .before in
     outside (s .args .reports) (bitAnd (c .choose .result) (w .claims .result .working)) (reportableAt (s .args .self))
-    (may-end (s .args .self) (w .claims .result) (w .claims .ensures) (c .choose .result) (chosen c)) 32 (s .fits .reports .fits)
+    (may-end (s .args .self) (w .claims .result) (w .claims .ensures) (c .choose .result) (chosen c)) mostTasks (s .fits .reports .fits)
 
 -- the answer is the definition's
 told : (c : tie.After-in-order) → (let s = c .before .before .before .before .before .before .before .before .before .before .before in c .in-order .result ≡ advanceAnswer (s .args .self) (s .args .reports))
