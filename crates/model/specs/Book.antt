@@ -103,7 +103,7 @@ reportable s b p = inRow s b p && not (b .job p (newest (task s p) (b .tick)) .e
 unfoldable pub misreported : Table → Book → ℕ → Bool
 misreported s b x = any x (λ p. bit x p && not (reportable s b p))
 
--- what an advance is answered: taken, or refused with number and position
+-- what a call is answered: taken, or refused with number and position
 pub data Answer : Type 0 where
   taken : Answer
   refused : ℕ → ℕ → Answer
