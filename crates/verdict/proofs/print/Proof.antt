@@ -7,7 +7,8 @@ use lib.ListN.{length}
 use lib.Seq.{length-take-le}
 use Rattle.judge.specs.declared.Verdict.{Verdict}
 use Rattle.text.specs.Output.{firstLine}
-use Rattle.text.specs.Said.{saidBy, firstFor}
+use Rattle.judge.specs.Said.{saidBy}
+use Rattle.text.specs.Said.{firstFor}
 use Rattle.text.proofs.Writing.{put-front}
 use Rattle.stream.specs.Sent.{SentOf}
 use borrow.Author.Needs.{needs}
