@@ -8,6 +8,8 @@ use std::hint::black_box;
 
 const TICKS: usize = 50_000;
 const RUNS: usize = 5;
+/// The words of a run: rule, cores and count, and eight for each of the 32 places.
+const RUN_WORDS: usize = 3 + 8 * 32;
 
 extern "C" {
     fn clock_gettime(clock: i32, time: *mut [i64; 2]) -> i32;
@@ -314,15 +316,15 @@ fn times(words: &[u32], list: &[u32]) -> [f64; 9] {
     });
     black_box(shown);
 
-    let mut kept = [0; 259];
+    let mut kept = [0; RUN_WORDS];
     let mut keep = |rows: bool| {
         best(|| unsafe {
-            sivorandra_start(words.as_ptr(), words.len(), kept.as_mut_ptr(), 259, answer.as_mut_ptr(), 3);
+            sivorandra_start(words.as_ptr(), words.len(), kept.as_mut_ptr(), RUN_WORDS, answer.as_mut_ptr(), 3);
             for &bits in list {
                 if rows {
-                    sivorandra_row(kept.as_ptr(), 259, shown.as_mut_ptr(), 64, answer.as_mut_ptr(), 3);
+                    sivorandra_row(kept.as_ptr(), RUN_WORDS, shown.as_mut_ptr(), 64, answer.as_mut_ptr(), 3);
                 }
-                sivorandra_advance(kept.as_mut_ptr(), 259, bits, answer.as_mut_ptr(), 3);
+                sivorandra_advance(kept.as_mut_ptr(), RUN_WORDS, bits, answer.as_mut_ptr(), 3);
             }
         })
     };

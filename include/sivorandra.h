@@ -1,5 +1,5 @@
 /* Sivorandra, a proved timing judge for tables of gang tasks: link libcapi.a.
-   A slice is a pointer and its length in elements; pointers are never NULL, and slices lent for writing overlap no other.
+   A slice is a pointer and its length in elements; with length 0 the pointer may be NULL. Slices lent for writing overlap no other.
    No call keeps a pointer, takes memory or writes anywhere but into the slices lent for writing. */
 #ifndef SIVORANDRA_H
 #define SIVORANDRA_H
@@ -12,7 +12,7 @@ extern "C" {
 #endif
 
 /* What every call returns: the call is answered, or a lent slice is too short and everything is as found.
-   Short `rows` of a plan are 11 instead, and fewer than 259 words lent to row or advance are no run: 14. */
+   Short `rows` of a plan are 11 instead, and too few words for a run lent to row or advance are no run: 14. */
 #define SIVORANDRA_ANSWERED 0u
 #define SIVORANDRA_SHORT 1u
 
@@ -25,8 +25,13 @@ extern "C" {
 #define SIVORANDRA_REFUSED 3u     /* number, 1 to 16, and position */
 #define SIVORANDRA_ROW_REFUSED 4u /* the last row of a replay: number and position */
 
-/* The words that a run kept between calls takes, and the bytes of its row: core 0 first, the position or 0 for idle. */
-#define SIVORANDRA_RUN_WORDS 259
+/* The words that a run kept between calls takes: rule, cores and count, then 32 places of which the first count are used; a place is
+   O, v, C, D, T, the kind of its phase (0 Coming, 1 Working, 2 Holding, 3 Resting) and its two numbers, 0 for one that it does not have. */
+#define SIVORANDRA_RUN_HEAD_WORDS 3
+#define SIVORANDRA_RUN_PLACE_WORDS 8
+#define SIVORANDRA_RUN_WORDS (SIVORANDRA_RUN_HEAD_WORDS + SIVORANDRA_RUN_PLACE_WORDS * 32)
+
+/* The bytes of a row: core 0 first, the position or 0 for idle. */
 #define SIVORANDRA_ROW_BYTES 64
 
 /* The verdict on the table in `words`: firm, full, miss or refused. */
@@ -49,18 +54,22 @@ uint32_t sivorandra_replay(const uint32_t *words, size_t words_len,
                            uint8_t *row, size_t row_len,
                            uint32_t *answer, size_t answer_len);
 
-/* Starts the run of the table in `words`, into 259 words of `run`: done, or refused and a run that every call turns down. */
+/* Starts the run of the table in `words`: done or refused. Taken or refused, it writes all SIVORANDRA_RUN_WORDS words of the run that start
+   returns: places past the count are zeros and Resting(0), and a refused start returns a run of all zeros with every phase Resting(0),
+   which every later call turns down with 14. */
 uint32_t sivorandra_start(const uint32_t *words, size_t words_len,
                           uint32_t *run, size_t run_len,
                           uint32_t *answer, size_t answer_len);
 
-/* The row of the present tick into 64 bytes of `row`: done, or refused and 64 zeros.
-   Words that are no run are refused with 14; all 32 places must hold phases, those past the count too. */
+/* The row of the present tick: done or refused. Taken or refused, it writes all 64 bytes of the row that is returned: bytes past the
+   core count are 0, and a refused row is 64 zeros. Words that are no run are refused with 14: too few, a count above 32, or no phase
+   in a place below the count. Places past the count are not read. */
 uint32_t sivorandra_row(const uint32_t *run, size_t run_len,
                         uint8_t *row, size_t row_len,
                         uint32_t *answer, size_t answer_len);
 
-/* Takes the run one tick on: done, or refused and `run` as found. Words that are no run are refused with 14.
+/* Takes the run one tick on: done, or refused and `run` as found. Words that are no run are refused with 14, as by row. A taken advance
+   writes the head and the places below the count; places past it are neither read nor changed.
    Bit p of `reports` says that the job of position p + 1, which works in this tick, ends after it. */
 uint32_t sivorandra_advance(uint32_t *run, size_t run_len, uint32_t reports,
                             uint32_t *answer, size_t answer_len);

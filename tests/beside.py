@@ -7,6 +7,8 @@ import sys
 import tempfile
 
 ROOT = pathlib.Path(__file__).resolve().parents[1]
+LONGEST = 300  # bytes of anything that a failing test shows
+BLOCK = 1 << 16
 passed = failed = 0
 
 
@@ -40,17 +42,37 @@ def vectors(kind):
             yield f"vector {number}", (folder / f"{number}.in").read_bytes(), (folder / f"{number}.out").read_bytes()
 
 
+def cut(said):
+    """What was said, as it is shown where a test fails: at most 300 bytes of it."""
+    shown = repr(said[:LONGEST]) if isinstance(said, (bytes, str)) else repr(said)[:LONGEST]
+    return shown + (f" and {len(said) - LONGEST} more" if isinstance(said, (bytes, str)) and len(said) > LONGEST else "")
+
+
+def difference(expected, got):
+    """Where two texts first differ: the number of the line, and that line of each."""
+    if not (isinstance(expected, bytes) and isinstance(got, bytes)):
+        return f"expected {cut(expected)}, got {cut(got)}"
+    at = 0
+    while at < min(len(expected), len(got)) and expected[at:at + BLOCK] == got[at:at + BLOCK]:
+        at += BLOCK
+    at += len(os.path.commonprefix([expected[at:at + BLOCK], got[at:at + BLOCK]]))
+    start = expected.rfind(b"\n", 0, at) + 1
+    line = expected.count(b"\n", 0, at) + 1
+    lines = [cut(text[start:].split(b"\n", 1)[0]) if start < len(text) else "the end" for text in (expected, got)]
+    return f"line {line}: expected {lines[0]}, got {lines[1]}"
+
+
 def check(name, holds, why=""):
     global passed, failed
     if holds:
         passed += 1
     else:
         failed += 1
-        print(f"{name}: {why}")
+        print(f"{name}: {why if len(why) <= 12 * LONGEST else cut(why)}")
 
 
 def compare(name, text, expected, got):
-    check(name, expected == got, f"expected {expected!r}, got {got!r}, for {text!r}")
+    check(name, expected == got, f"{difference(expected, got)}, for {cut(text)}")
 
 
 def case(answer):

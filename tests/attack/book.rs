@@ -4,7 +4,7 @@
 
 include!("../gangsim.rs");
 
-use sivorandra::{Refusal as Refused, Verdict as Judged, ROW_BYTES, RUN_WORDS};
+use sivorandra::{Refusal as Refused, Verdict as Judged, RUN_HEAD_WORDS, RUN_PLACE_WORDS, ROW_BYTES, RUN_WORDS};
 
 pub type Said<T> = Result<T, Refused>;
 
@@ -75,7 +75,12 @@ impl Clone for Cab<'_> {
     }
 }
 
-/// A phase as the words of a run keep it: its kind and its two numbers.
+/// Where the words of a run have the phase of a place: its kind and its two numbers.
+pub const fn phase_at(place: usize) -> usize {
+    RUN_HEAD_WORDS + RUN_PLACE_WORDS * place + 5
+}
+
+/// The kinds.
 pub const COMING: u32 = 0;
 pub const WORKING: u32 = 1;
 pub const HOLDING: u32 = 2;
@@ -131,8 +136,8 @@ impl Cab<'_> {
         words[2] = table.tasks.len() as u32;
         for (place, task) in table.tasks.iter().enumerate() {
             let [kind, first, second] = self.phase(place);
-            let eight = [task.offset as u32, task.width, task.length, task.deadline as u32, task.period as u32, kind, first, second];
-            words[3 + 8 * place..][..8].copy_from_slice(&eight);
+            let now = [task.offset as u32, task.width, task.length, task.deadline as u32, task.period as u32, kind, first, second];
+            words[RUN_HEAD_WORDS + RUN_PLACE_WORDS * place..][..RUN_PLACE_WORDS].copy_from_slice(&now);
         }
         words
     }
@@ -145,7 +150,7 @@ pub fn table_of(run: &[u32; RUN_WORDS]) -> Known {
         2 => Rule::Limited,
         _ => Rule::Idling,
     };
-    let places = run[3..].chunks(8).take(run[2] as usize);
+    let places = run[RUN_HEAD_WORDS..].chunks(RUN_PLACE_WORDS).take(run[2] as usize);
     let tasks = places.map(|w| Task { offset: w[0].into(), width: w[1], length: w[2], deadline: w[3].into(), period: w[4].into() }).collect();
     Known { table: Table { cores: run[1], rule, tasks, last_s: 0, hyperperiod: 1 }, verdict: Verdict::Full { s: 0, p: 1 } }
 }
@@ -156,7 +161,7 @@ impl Known {
         let mut ledger = Ledger::new(&self.table);
         ledger.tick = MOST_HORIZON;
         for (place, task) in self.table.tasks.iter().enumerate() {
-            let [kind, first, second] = run[8 + 8 * place..][..3] else { unreachable!() };
+            let [kind, first, second] = run[phase_at(place)..][..3] else { unreachable!() };
             if kind == COMING {
                 ledger.next_release[place] = ledger.tick + u64::from(first);
                 continue;

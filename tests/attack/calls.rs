@@ -1,5 +1,5 @@
 //! The C functions, each with its lent slices inside larger ones: what stands around them must stay.
-use crate::book::Said;
+use crate::book::{phase_at, Said, RESTING};
 use crate::rng::Rng;
 use sivorandra::{Refusal, Verdict, ROW_BYTES, RUN_WORDS};
 use std::fmt::Debug;
@@ -35,10 +35,10 @@ pub fn same_run(what: &str, expected: &[u32; RUN_WORDS], got: &[u32; RUN_WORDS])
 /// The run that a refused start hands out: all zeros, every phase Resting(0).
 pub const NO_RUN: [u32; RUN_WORDS] = {
     let mut words = [0; RUN_WORDS];
-    let mut kind = 8;
-    while kind < RUN_WORDS {
-        words[kind] = crate::book::RESTING;
-        kind += 8;
+    let mut place = 0;
+    while phase_at(place) < RUN_WORDS {
+        words[phase_at(place)] = RESTING;
+        place += 1;
     }
     words
 };

@@ -1,19 +1,19 @@
 //! Runs built by hand: number 14 at each limit, 15, and what no started run shows.
-use crate::book::{self, COMING, HOLDING, RESTING, WORKING};
+use crate::book::{self, phase_at, COMING, HOLDING, RESTING, WORKING};
 use crate::calls::{same, same_run, Kept, Tried};
 use crate::rng::Rng;
 use crate::Counts;
-use sivorandra::{Refusal, Run, RUN_WORDS};
+use sivorandra::{Refusal, Run, RUN_HEAD_WORDS, RUN_PLACE_WORDS, RUN_WORDS};
 
 /// O, v, C, D, T, and the phase: its kind and two numbers.
-type Place = [u32; 8];
+type Place = [u32; RUN_PLACE_WORDS];
 type Words = [u32; RUN_WORDS];
 
 /// A run of these places; past the count zeros and Resting(0).
 fn run(rule: u32, cores: u32, places: &[Place]) -> Words {
     let mut words = [0; RUN_WORDS];
-    words[..3].copy_from_slice(&[rule, cores, places.len() as u32]);
-    for (at, place) in words[3..].chunks_mut(8).enumerate() {
+    words[..RUN_HEAD_WORDS].copy_from_slice(&[rule, cores, places.len() as u32]);
+    for (at, place) in words[RUN_HEAD_WORDS..].chunks_mut(RUN_PLACE_WORDS).enumerate() {
         place.copy_from_slice(places.get(at).unwrap_or(&[0, 0, 0, 0, 0, RESTING, 0, 0]));
     }
     words
@@ -42,8 +42,8 @@ fn turned_down(words: &Words) -> bool {
                 _ => within(z, 1, t - 1),
             }
     };
-    let all = words[3..].chunks(8);
-    !(within(count, 1, 32) && within(cores, 1, 64) && within(rule, 1, 3) && all.clone().all(is_phase) && all.take(count as usize).all(fits))
+    let mut used = words[RUN_HEAD_WORDS..].chunks(RUN_PLACE_WORDS).take(count as usize);
+    !(within(count, 1, 32) && within(cores, 1, 64) && within(rule, 1, 3) && used.all(|place| is_phase(place) && fits(place)))
 }
 
 const OUT: Refusal = Refusal { number: 14, position: 0 };
@@ -108,23 +108,24 @@ fn place(rng: &mut Rng, rule: u32, cores: u32) -> Place {
     [o, v, c, d, t, phase[0], phase[1], phase[2]]
 }
 
-/// A random run built by hand, at times with a fault, and with anything that is a phase past the count.
+/// Anything in the places past the count.
+fn litter(rng: &mut Rng, words: &mut Words) {
+    let used = RUN_HEAD_WORDS + RUN_PLACE_WORDS * words[2] as usize;
+    let ones = rng.once_in(8);
+    words[used..].fill_with(|| if ones { u32::MAX } else if rng.once_in(4) { rng.from(0, 4) } else { rng.word() });
+}
+
+/// A random run built by hand, at times with a fault, and with anything past the count.
 pub fn case(seed: u64, counts: &mut Counts) -> Tried<()> {
     let mut rng = Rng::new(seed);
     let (rule, cores) = (rng.pick(&[1, 2, 3, 3]), rng.pick(&[1, 2, 3, 4, 8, 64]));
     let count = if rng.once_in(8) { rng.from(1, 32) } else { rng.from(1, 5) };
     let places: Vec<Place> = (0..count).map(|_| place(&mut rng, rule, cores)).collect();
     let mut words = run(rule, cores, &places);
-    for past in words[3..].chunks_mut(8).skip(count as usize) {
-        past.fill_with(|| rng.word());
-        past[5] = rng.from(COMING, RESTING);
-        if past[5] == COMING || past[5] == RESTING {
-            past[7] = 0;
-        }
-    }
+    litter(&mut rng, &mut words);
     if rng.once_in(3) {
-        let place = 3 + 8 * rng.below(count as usize);
-        let w = words[place..][..8].to_vec();
+        let place = RUN_HEAD_WORDS + RUN_PLACE_WORDS * rng.below(count as usize);
+        let w = words[place..][..RUN_PLACE_WORDS].to_vec();
         match rng.below(6) {
             0 => words[0] = near(&mut rng, &[1, 3, u32::MAX]),
             1 => words[1] = near(&mut rng, &[1, 64, w[1]]),
@@ -135,7 +136,7 @@ pub fn case(seed: u64, counts: &mut Counts) -> Tried<()> {
         }
     }
     let ticks = 1 + rng.below(10);
-    compare(&mut rng, counts, &words, ticks).map_err(|why| format!("seed {seed}, run built by hand: {why}\n  run {:?}", &words[..3 + 8 * (count as usize + 1).min(32)]))
+    compare(&mut rng, counts, &words, ticks).map_err(|why| format!("seed {seed}, run built by hand: {why}\n  run {:?}", &words[..RUN_HEAD_WORDS + RUN_PLACE_WORDS * (count as usize + 1).min(32)]))
 }
 
 /// The limits of one place: what is inside, and what is outside by one number.
@@ -215,8 +216,8 @@ fn limits() -> Vec<(String, Words, Words)> {
         ("count within what is built".into(), one, head(2, 2, one)),
         ("Holding under rule 3, not 1".into(), run(3, 2, &[PLAIN, holding]), run(1, 2, &[PLAIN, holding])),
         ("Holding under rule 3, not 2".into(), run(3, 2, &[PLAIN, holding]), run(2, 2, &[PLAIN, holding])),
-        ("kinds past the count too".into(), one, head(8 + 8 * 31, 4, one)),
-        ("second numbers past the count too".into(), one, head(10 + 8 * 31, 1, one)),
+        ("kinds below the count alone".into(), head(phase_at(31), 4, one), head(phase_at(0), 4, one)),
+        ("second numbers below the count alone".into(), head(phase_at(31) + 2, 1, one), head(phase_at(0), COMING, one)),
     ]);
     limits
 }
@@ -251,7 +252,7 @@ fn lateness(counts: &mut Counts) -> Tried<()> {
                 same("advance", expected, answer)?;
                 same_run("the late run", &words, held.words())?;
             }
-            words[3 + 8 * 5 + 1] = 5;
+            words[RUN_HEAD_WORDS + RUN_PLACE_WORDS * 5 + 1] = 5;
             same("14 before 15", Err(OUT), Run::from_words(words).advance(0))?;
         }
     }
@@ -305,6 +306,31 @@ fn held_back() -> Tried<()> {
     same("the row after the hold", Ok([2, 0]), held.row().map(|row| [row[0], row[1]]))
 }
 
+/// Random words past the count, for every count that leaves places there: row and advance answer as with zeros, and these words come back unchanged.
+fn past_the_count(counts: &mut Counts, count: u32) -> Tried<()> {
+    let mut rng = Rng::new(count.into());
+    for rule in 1..=3 {
+        let places: Vec<Place> = (0..count).map(|_| place(&mut rng, rule, 8)).collect();
+        let clean = run(rule, 8, &places);
+        let mut littered = clean;
+        litter(&mut rng, &mut littered);
+        let (mut plain, mut held) = (Run::from_words(clean), Run::from_words(littered));
+        for _ in 0..4 {
+            same("row", plain.row(), held.row())?;
+            let any = rng.word();
+            let set = rng.pick(&[0, 1, any]);
+            let answer = plain.advance(set);
+            counts.answer(&answer);
+            same("advance", answer, held.advance(set))?;
+            let used = RUN_HEAD_WORDS + RUN_PLACE_WORDS * count as usize;
+            same("the words up to the count", &plain.words()[..used], &held.words()[..used])?;
+            same("the words past the count", &littered[used..], &held.words()[used..])?;
+        }
+        compare(&mut rng, counts, &littered, 4)?;
+    }
+    Ok(())
+}
+
 /// Each fixed run by name, and whether the library does with it what it should.
 pub fn all(counts: &mut Counts) -> Vec<(String, Tried<()>)> {
     let mut done = Vec::new();
@@ -317,5 +343,8 @@ pub fn all(counts: &mut Counts) -> Vec<(String, Tried<()>)> {
         done.push((format!("{name}, rule {rule}"), a_move(rule, place, reports, phase)));
     }
     done.push(("a hold holds others back".into(), held_back()));
+    for count in 1..32 {
+        done.push((format!("anything past a count of {count}"), past_the_count(counts, count)));
+    }
     done
 }

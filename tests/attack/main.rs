@@ -2,7 +2,9 @@
 //! `attack --seed N` begins with the seed N, which a difference has named. The last line is 'N passed, M failed'.
 mod book;
 mod calls;
+mod empty;
 mod hand;
+mod lists;
 mod random;
 mod rng;
 mod small;
@@ -28,6 +30,9 @@ const THREADS: usize = 2;
 const MOST_PRINTED: u64 = 20;
 /// At least so many small tables are searched.
 const FEWEST_SEARCHED: usize = 200;
+/// At least so many pairs of lists are compared of which the first has no longer job: those on firm tables, and those of full tables in which it is behind.
+const FEWEST_ABREAST: u64 = 100_000;
+const FEWEST_OVERTAKEN: u64 = 1_000;
 
 /// What was seen, of the library's answers.
 #[derive(Default)]
@@ -48,6 +53,9 @@ pub struct Counts {
     nodes: u64,
     /// Nodes at which a deadline is missed.
     ends: u64,
+    /// Pairs of lists of which the first has no longer job: on firm tables, where it must be abreast, and on full ones, where it is behind.
+    abreast: u64,
+    overtaken: u64,
     searched: HashSet<Vec<u32>>,
 }
 
@@ -95,6 +103,8 @@ impl Counts {
         self.runs += other.runs;
         self.nodes += other.nodes;
         self.ends += other.ends;
+        self.abreast += other.abreast;
+        self.overtaken += other.overtaken;
         self.searched.extend(other.searched);
     }
 
@@ -140,7 +150,7 @@ fn main() {
     println!("attack: seed {seed}");
     let begun = Instant::now();
     let mut counts = Counts::default();
-    let fixed = [vectors::all(), hand::all(&mut counts)].concat();
+    let fixed = [vectors::all(), empty::all(), hand::all(&mut counts)].concat();
     if !fixed.iter().any(|(name, _)| name.starts_with("vector")) {
         counts.count(Err("no plan vector".into()));
     }
@@ -167,9 +177,10 @@ fn main() {
             }
         }
     });
-    let Counts { tables, firm, full, miss, plans, replays, late, advances, runs, nodes, ends, .. } = counts;
+    let Counts { tables, firm, full, miss, plans, replays, late, advances, runs, nodes, ends, abreast, overtaken, .. } = counts;
     println!("attack: {tables} tables (firm {firm}, full {full}, miss {miss}), {plans} plans, {replays} replays ({late} to a missed deadline), {advances} advances, {runs} runs built by hand");
     println!("attack: {} small tables searched, {nodes} nodes ({ends} at a missed deadline)", counts.searched.len());
+    println!("attack: {abreast} pairs of lists of firm tables with no longer job in the first, which is abreast; {overtaken} of full tables, where it is behind");
     let often: Vec<String> = (1..17).map(|number| format!("{number}: {}", counts.numbers[number])).collect();
     println!("attack: numbers among the answers: {}", often.join(", "));
     if long.is_none() {
@@ -179,6 +190,8 @@ fn main() {
         }
         let searched = counts.searched.len();
         counts.count(if searched >= FEWEST_SEARCHED { Ok(()) } else { Err(format!("only {searched} small tables")) });
+        counts.count(if abreast >= FEWEST_ABREAST { Ok(()) } else { Err(format!("only {abreast} pairs of lists of firm tables with no longer job in the first")) });
+        counts.count(if overtaken >= FEWEST_OVERTAKEN { Ok(()) } else { Err(format!("only {overtaken} pairs of lists of full tables with no longer job in the first, which is behind")) });
     }
     println!("attack: {:.0} s", begun.elapsed().as_secs_f64());
     println!("{} passed, {} failed", counts.passed, counts.failed);

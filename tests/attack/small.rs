@@ -1,10 +1,11 @@
 //! Every way of ending jobs early within the first ticks of a small table, the run kept in words beside the book.
-use crate::book::{self, Cab, WORKING};
+use crate::book::{self, Cab};
 use crate::calls::{same, same_run, Tried};
+use crate::lists::{self, List};
 use crate::rng::Rng;
 use crate::tables;
 use crate::Counts;
-use sivorandra::{Refusal, Run, Verdict, RUN_WORDS};
+use sivorandra::{Refusal, Run, Verdict};
 
 const TICKS: usize = 12;
 /// Tables with fewer or more nodes are left out.
@@ -37,20 +38,15 @@ fn nodes(cab: &Cab, ticks: usize, limit: u64) -> u64 {
     count
 }
 
-/// The phase kinds of the first places.
-fn kinds(words: &[u32; RUN_WORDS]) -> impl Iterator<Item = u32> + '_ {
-    (0..words[2] as usize).map(|place| words[8 + 8 * place])
-}
-
-struct Search<'a> {
+struct Search {
     firm: bool,
-    /// The full-length run at each tick.
-    full: &'a [Run],
+    /// The list that is being tried, and all lists so far, by their ticks.
     list: Vec<u32>,
+    lists: Vec<Vec<List>>,
 }
 
-impl Search<'_> {
-    fn visit(&mut self, run: &Run, cab: &mut Cab, counts: &mut Counts) -> Tried<()> {
+impl Search {
+    fn visit(&mut self, run: &Run, cab: &mut Cab, list: List, counts: &mut Counts) -> Tried<()> {
         counts.nodes += 1;
         let tick = self.list.len();
         same_run("the run", &cab.words(run.words()), run.words())?;
@@ -59,19 +55,16 @@ impl Search<'_> {
         counts.answer(&row.map(|_| ()));
         if self.firm {
             same("the row of a firm table is shown", Ok(()), row.map(|_| ()))?;
-            for (place, (full, here)) in kinds(self.full[tick].words()).zip(kinds(run.words())).enumerate() {
-                if full != WORKING && here == WORKING {
-                    return Err(format!("position {} is behind the full-length run", place + 1));
-                }
-            }
         }
         if row.is_err() {
             counts.ends += 1;
+            self.lists[tick].push(list);
             let mut next = run.clone();
             same("advance of a run that has missed", row.map(|_| ()), next.advance(0))?;
             return same_run("a run that has missed", run.words(), next.words());
         }
         if tick == TICKS {
+            self.lists[tick].push(list);
             return Ok(());
         }
         let may = cab.may_report();
@@ -89,9 +82,10 @@ impl Search<'_> {
             same("advance", Ok(()), answer)?;
             let mut book = cab.clone();
             same("the book's advance", Ok(()), book.advance(set))?;
-            self.visit(&next, &mut book, counts)?;
+            self.visit(&next, &mut book, list.with(set, run.words(), next.words()), counts)?;
             self.list.pop();
         }
+        self.lists[tick].push(list);
         Ok(())
     }
 }
@@ -115,16 +109,11 @@ pub fn case(seed: u64, counts: &mut Counts) -> Tried<()> {
         let mut list = Vec::new();
         let searched = (|| {
             let run = Run::start(&words).map_err(|refusal| format!("start: {refusal:?}"))?;
-            let mut full = vec![run.clone()];
-            for tick in 0..TICKS {
-                let mut next = full[tick].clone();
-                next.advance(0).map_err(|refusal| format!("the full-length run: {refusal:?}"))?;
-                full.push(next);
-            }
-            let mut search = Search { firm, full: &full, list: Vec::new() };
-            let visited = search.visit(&run, &mut cab, counts);
+            let mut search = Search { firm, list: Vec::new(), lists: vec![Vec::new(); TICKS + 1] };
+            let visited = search.visit(&run, &mut cab, List::empty(run.words(), TICKS), counts);
             list = search.list;
-            visited
+            visited?;
+            search.lists.iter().try_for_each(|lists| lists::compare(firm, lists, counts))
         })();
         counts.searched.insert(words.clone());
         return searched.map_err(|why| format!("seed {seed}, small table: {why}\n  table {words:?}\n  list {list:?}"));

@@ -5,8 +5,12 @@
 
 /// The bytes of a run's row: core 0 first, the position or 0 for idle.
 pub const ROW_BYTES: usize = 64;
-/// The words that a run takes.
-pub const RUN_WORDS: usize = 259;
+/// The words of a run in front of its places: rule, cores and count.
+pub const RUN_HEAD_WORDS: usize = 3;
+/// The words of a place: O, v, C, D, T, the kind of its phase (0 Coming, 1 Working, 2 Holding, 3 Resting) and its two numbers, 0 for one that it does not have.
+pub const RUN_PLACE_WORDS: usize = 8;
+/// The words that a run takes: it has 32 places, of which the first count are used.
+pub const RUN_WORDS: usize = RUN_HEAD_WORDS + RUN_PLACE_WORDS * 32;
 
 /// The verdict on a table that is not refused.
 #[derive(Clone, Copy, Debug, PartialEq, Eq)]
@@ -33,7 +37,7 @@ pub struct Replay {
     pub row: Result<[u8; ROW_BYTES], Refusal>,
 }
 
-/// A run in the cab. Its words can be kept anywhere and read back: words that are no run are refused with 14.
+/// A run in the cab. Its words can be kept anywhere and read back: words that are no run are refused with 14. Places past the count are neither read nor changed.
 #[derive(Clone, Debug, PartialEq, Eq)]
 pub struct Run {
     words: [u32; RUN_WORDS],

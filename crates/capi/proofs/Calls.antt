@@ -8,7 +8,7 @@ use lib.Dec.{leb}
 use borrow.Author.Tests.{le-leb, lt-leb}
 use Rattle.table.specs.Words.{tableOf}
 use Rattle.judge.specs.Judged.{verdictOf}
-use Rattle.plan.specs.Plan.{plannedOf, bufferOf}
+use Rattle.plan.specs.Plan.{plannedOf, planTold, bufferOf}
 use Rattle.capi.specs.Told.{ofVerdict, ofPlanned, written}
 use Rattle.capi.specs.Calls.{left, byRoom, judgeCall, planCall}
 
@@ -35,7 +35,7 @@ module _ (ws answer : List ℕ) where
 module _ (ws : List ℕ) (a b : ℕ) (rows answer : List ℕ) where
   pub plan-room :
       3 ≤ length answer
-      → planCall ws a b rows answer ≡ left 0 (bufferOf (plannedOf ws a b (length rows)) (tableOf ws) a b rows ∷ (written (ofPlanned (plannedOf ws a b (length rows))) answer ∷ []))
+      → planCall ws a b rows answer ≡ left 0 (bufferOf (planTold (plannedOf ws a b (length rows))) (tableOf ws) a b rows ∷ (written (ofPlanned (plannedOf ws a b (length rows))) answer ∷ []))
   unfolding planCall
   plan-room h = with-room answer _ _ h
 

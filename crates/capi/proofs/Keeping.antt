@@ -1,8 +1,9 @@
 -- What the calls on a run in a buffer leave, by whether there is room and by what the buffer holds.
-use mathlib.Core.Path.{_≡_, sym, ap, _∙_}
-use mathlib.Core.Bool.{Bool, true, false, _&&_, cond}
+use mathlib.Core.Path.{_≡_, refl, sym, ap, _∙_}
+use mathlib.Core.Bool.{true, false, _&&_}
 use mathlib.Core.List.{List, [], _∷_, _++_}
 use Prim.Native.Nat.{ℕ, _≤_, _<_}
+use native.Mathlib.Omega.{arith}
 use lib.ListN.{length, drop}
 use lib.Dec.{leb}
 use borrow.Author.Tests.{le-leb, lt-leb}
@@ -12,14 +13,19 @@ use Rattle.run.specs.declared.Row.{Row}
 use Rattle.run.specs.declared.Run.{Run}
 use Rattle.run.specs.declared.Started.{Started}
 use Rattle.run.specs.declared.Advanced.{Advanced}
+use Rattle.model.specs.Search.{bit}
+use Rattle.model.specs.Sizes.{mostCores}
+use Rattle.run.specs.Run.{moved}
+use Rattle.run.specs.Answer.{byAnswer}
 use Rattle.run.specs.Start.{startOf}
 use Rattle.run.specs.Row.{noBytes, rowOf}
-use Rattle.run.specs.Advance.{advanceOf}
+use Rattle.run.specs.Advance.{advanceAnswer, advanceOf}
 use Rattle.capi.specs.Told.{ofAnswer, written}
 use Rattle.capi.specs.Calls.{left, byRoom, room}
-use Rattle.capi.specs.Encoding.{encode, holds, runIn, Held, run, none, decode}
+use Rattle.capi.specs.Encoding.{places, runWords, overwritten, countIn, holds, runIn, Held, run, decode}
 use Rattle.capi.specs.Runs.{startCall, rowFrom, rowCall, Advance, kept, advanceFrom, advanceCall}
 use Rattle.capi.proofs.Calls.{both}
+use Rattle.capi.proofs.Places.{by-held, held-few}
 
 -- THE ROOM FOR AN ANSWER AND FOR n MORE
 
@@ -39,42 +45,42 @@ module _ (n : ℕ) (buffer answer : List ℕ) (lent found : List (List ℕ)) whe
 module _ (ws buffer answer : List ℕ) where
   pub start-narrow : length answer < 3 → startCall ws buffer answer ≡ left 1 (buffer ∷ (answer ∷ []))
   unfolding startCall
-  start-narrow h = narrow 259 buffer answer _ _ h
+  start-narrow h = narrow runWords buffer answer _ _ h
 
-  pub start-short : 3 ≤ length answer → length buffer < 259 → startCall ws buffer answer ≡ left 1 (buffer ∷ (answer ∷ []))
+  pub start-short : 3 ≤ length answer → length buffer < runWords → startCall ws buffer answer ≡ left 1 (buffer ∷ (answer ∷ []))
   unfolding startCall
-  start-short h l = short 259 buffer answer _ _ h l
+  start-short h l = short runWords buffer answer _ _ h l
 
   pub start-room :
-      (s : Started) {k m : List ℕ} → 3 ≤ length answer → 259 ≤ length buffer → s ≡ startOf ws → k ≡ encode (s .run) ++ drop 259 buffer
+      (s : Started) {k m : List ℕ} → 3 ≤ length answer → runWords ≤ length buffer → s ≡ startOf ws → k ≡ overwritten places (s .run) buffer
       → m ≡ written (ofAnswer (s .answer)) answer → left 0 (k ∷ (m ∷ [])) ≡ startCall ws buffer answer
   unfolding startCall
   start-room s h l e p q =
       both
-      (p ∙ ap (λ (t : Started). encode (t .run) ++ drop 259 buffer) e)
+      (p ∙ ap (λ (t : Started). overwritten places (t .run) buffer) e)
       (q ∙ ap (λ (t : Started). written (ofAnswer (t .answer)) answer) e)
-      ∙ sym (roomy 259 buffer answer _ _ h l)
+      ∙ sym (roomy runWords buffer answer _ _ h l)
 
 -- ROW
 
 module _ (buffer row answer : List ℕ) where
   pub row-narrow : length answer < 3 → rowCall buffer row answer ≡ left 1 (row ∷ (answer ∷ []))
   unfolding rowCall
-  row-narrow h = narrow 64 row answer _ _ h
+  row-narrow h = narrow mostCores row answer _ _ h
 
-  pub row-short : 3 ≤ length answer → length row < 64 → rowCall buffer row answer ≡ left 1 (row ∷ (answer ∷ []))
+  pub row-short : 3 ≤ length answer → length row < mostCores → rowCall buffer row answer ≡ left 1 (row ∷ (answer ∷ []))
   unfolding rowCall
-  row-short h l = short 64 row answer _ _ h l
+  row-short h l = short mostCores row answer _ _ h l
 
   pub row-room :
-      (w : Row) {k m : List ℕ} → 3 ≤ length answer → 64 ≤ length row → w ≡ rowFrom (decode buffer) → k ≡ w .bytes ++ drop 64 row
+      (w : Row) {k m : List ℕ} → 3 ≤ length answer → mostCores ≤ length row → w ≡ rowFrom (decode buffer) → k ≡ w .bytes ++ drop mostCores row
       → m ≡ written (ofAnswer (w .answer)) answer → left 0 (k ∷ (m ∷ [])) ≡ rowCall buffer row answer
   unfolding rowCall
   row-room w h l e p q =
       both
-      (p ∙ ap (λ (v : Row). v .bytes ++ drop 64 row) e)
+      (p ∙ ap (λ (v : Row). v .bytes ++ drop mostCores row) e)
       (q ∙ ap (λ (v : Row). written (ofAnswer (v .answer)) answer) e)
-      ∙ sym (roomy 64 row answer _ _ h l)
+      ∙ sym (roomy mostCores row answer _ _ h l)
 
 -- ADVANCE
 
@@ -95,26 +101,40 @@ module _ (buffer answer : List ℕ) (x : ℕ) where
 
 -- WHAT A BUFFER HOLDS
 
-module _ (ws : List ℕ) where
-  by-held : {t : Bool} → holds ws ≡ t → decode ws ≡ cond t (run (runIn ws)) none
-  by-held e = ap (λ (t : Bool). cond t (run (runIn ws)) none) e
+-- an advance keeps the count
+pub count-kept : (r : Run) (x : ℕ) → advanceOf r x .run .count ≡ r .count
+unfolding advanceOf moved
+count-kept r x = go (advanceAnswer r x)
+  where
+    go : (a : Answer) → byAnswer a (moved (bit x) r) r .count ≡ r .count
+    go Taken = unfold moved in refl
+    go (Refused n p) = refl
 
+module _ (ws : List ℕ) where
   pub row-held : {w : Row} {r : Run} → holds ws ≡ true → r ≡ runIn ws → w ≡ rowOf r → w ≡ rowFrom (decode ws)
-  row-held h e p = p ∙ (ap rowOf e ∙ ap rowFrom (sym (by-held h)))
+  row-held h e p = p ∙ (ap rowOf e ∙ ap rowFrom (sym (by-held ws h)))
 
   pub row-none : holds ws ≡ false → _≡_ {A = Row} (record { answer = Refused 14 0; bytes = noBytes }) (rowFrom (decode ws))
-  row-none h = ap rowFrom (sym (by-held h))
+  row-none h = ap rowFrom (sym (by-held ws h))
 
   module _ (x : ℕ) where
+    -- the run that an advance returns has as few places as the buffer says
+    pub advance-few : (a : Advanced) (r : Run) → holds ws ≡ true → r ≡ runIn ws → a ≡ advanceOf r x → a .run .count ≤ places
+    unfolding runIn
+    advance-few a r h e p =
+        let same : a .run .count ≡ countIn ws = ap (λ (v : Advanced). v .run .count) p ∙ (count-kept r x ∙ ap (λ (q : Run). q .count) e) in
+        let few = held-few ws h in
+        omega arith
+
     -- an advance of the run that the buffer holds
     by-advance : (a : Advanced) (r : Run) → holds ws ≡ true → r ≡ runIn ws → a ≡ advanceOf r x → kept (a .answer) (a .run) ws ≡ advanceFrom (decode ws) x ws
     by-advance a r h e p =
         ap (λ (v : Advanced). kept (v .answer) (v .run) ws) (p ∙ ap (λ (q : Run). advanceOf q x) e)
-        ∙ ap (λ (v : Held). advanceFrom v x ws) (sym (by-held h))
+        ∙ ap (λ (v : Held). advanceFrom v x ws) (sym (by-held ws h))
 
     pub advance-taken :
         (a : Advanced) (r : Run) {new : List ℕ} → holds ws ≡ true → r ≡ runIn ws → a ≡ advanceOf r x → a .answer ≡ Taken
-        → new ≡ encode (a .run) ++ drop 259 ws → _≡_ {A = Advance} (record { answer = Taken; buffer = new }) (advanceFrom (decode ws) x ws)
+        → new ≡ overwritten (a .run .count) (a .run) ws → _≡_ {A = Advance} (record { answer = Taken; buffer = new }) (advanceFrom (decode ws) x ws)
     advance-taken a r h e p t n =
         ap (λ (l : List ℕ). record { answer = Taken; buffer = l }) n
         ∙ (ap (λ (v : Answer). kept v (a .run) ws) (sym t) ∙ by-advance a r h e p)
@@ -125,4 +145,4 @@ module _ (ws : List ℕ) where
     advance-refused a r h e p t = ap (λ (v : Answer). kept v (a .run) ws) (sym t) ∙ by-advance a r h e p
 
     pub advance-none : holds ws ≡ false → _≡_ {A = Advance} (record { answer = Refused 14 0; buffer = ws }) (advanceFrom (decode ws) x ws)
-    advance-none h = ap (λ (v : Held). advanceFrom v x ws) (sym (by-held h))
+    advance-none h = ap (λ (v : Held). advanceFrom v x ws) (sym (by-held ws h))

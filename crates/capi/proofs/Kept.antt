@@ -1,77 +1,130 @@
 -- The calls on a buffer are the calls on the run that it holds: what start writes and what an advance leaves is decoded to the run that they return.
 -- (A row asked goes by the run that is decoded, by its definition.)
 use mathlib.Core.Path.{_≡_, refl, sym, ap, subst, _∙_}
-use mathlib.Core.Bool.{Bool, true, _&&_}
-use mathlib.Core.List.{List, _++_, map}
+use mathlib.Core.Bool.{Bool, true}
+use mathlib.Core.List.{List, [], _++_, map, append-nil}
 use Prim.Native.Nat.{ℕ, _-_, _≤_}
 use native.Mathlib.Omega.{arith}
-use lib.ListN.{length, getD, drop, replicate, length-append, length-map, length-replicate}
-use lib.Dec.{leb}
-use borrow.Author.Tests.{leb-true}
+use lib.ListN.{length, take, drop, replicate, length-append, length-drop, length-map, length-replicate, take-append-drop}
+use lib.Seq.{take-at, drop-at}
 use Rattle.model.specs.Search.{bit}
 use Rattle.model.specs.Task as model
-use Rattle.model.proofs.Bools.{and-left, and-right}
 use Rattle.table.specs.Words.{rule, tableOf}
 use Rattle.run.specs.declared.Answer.{Answer}
 use Rattle.run.specs.declared.Answer.the-variants.{Taken, Refused}
 use Rattle.run.specs.declared.Run.{Run}
 use Rattle.run.specs.declared.Started.{Started}
 use Rattle.run.specs.declared.Advanced.{Advanced}
+use Rattle.phase.specs.declared.Task.{Task}
 use Rattle.phase.specs.Task.{unused, startTask}
 use Rattle.run.specs.Run.{moved}
 use Rattle.run.specs.Answer.{told, byAnswer}
 use Rattle.run.specs.Start.{startedRun, startAnswer, startOf}
 use Rattle.run.specs.Advance.{advanceAnswer, advanceOf}
-use Rattle.run.proofs.Places.{length-mapFirst}
+use Rattle.run.proofs.Places.{length-mapFirst, drop-mapFirst}
 use Rattle.run.proofs.StartExact.{start-of}
 use Rattle.run.proofs.ByVerdict.{start-taken, start-refused}
 use Rattle.run.proofs.Cases.{advance-taken, advance-refused}
-use Rattle.capi.specs.Encoding.{encode, arePlaces, holds, runIn, Held, run, decode}
-use Rattle.capi.specs.Runs.{advanceFrom}
-use Rattle.capi.proofs.Places.{length-read}
-use Rattle.capi.proofs.Inverse.{few-accepted, held-run, decode-encode}
+use Rattle.capi.specs.Encoding.{headWords, places, wordsTo, runWords, encodeTo, encode, overwritten, placesIn, countIn, holds, runIn, Held, run, decode, cleared}
+use Rattle.capi.specs.Runs.{startedIn, advanceFrom}
+use Rattle.capi.proofs.Places.{length-read, held-long, held-few}
+use Rattle.capi.proofs.Inverse.{length-to, decode-to, decode-encode, few-accepted, held-run}
 
--- a run that a buffer can hold
-record Fits (r : Run) : Type 0 where
-  places : length (r .tasks) ≡ 32
-  few : r .count ≤ 32
+-- a run as a buffer holds it: 32 places, of which those past the count are clear
+pub record Fits (r : Run) : Type 0 where
+  pub all : length (r .tasks) ≡ places
+  pub few : r .count ≤ places
+  pub past : drop (r .count) (r .tasks) ≡ replicate (places - r .count) unused
+
+-- such a run is as it is when it is cleared
+pub clear-fits : (r : Run) → Fits r → cleared r ≡ r
+clear-fits r f =
+    ap (λ (ts : List Task). record { rule = r .rule; cores = r .cores; count = r .count; tasks = ts })
+    (ap (λ (l : List Task). take (r .count) (r .tasks) ++ l) (sym (f .past)) ∙ take-append-drop (r .count) (r .tasks))
 
 -- START
 
-fits-started : (n : ℕ) (s : model.Table) → startedRun n s .count ≤ 32 → Fits (startedRun n s)
+fits-started : (n : ℕ) (s : model.Table) → startedRun n s .count ≤ places → Fits (startedRun n s)
 unfolding startedRun
 fits-started n s h =
-    let a = length-append (map startTask (s .tasks)) (replicate (32 - length (s .tasks)) unused) in
+    let rest = replicate (places - length (s .tasks)) unused in
+    let a = length-append (map startTask (s .tasks)) rest in
     let b = length-map (s .tasks) startTask in
-    let c = length-replicate (32 - length (s .tasks)) unused in
-    record { places = omega arith; few = h }
+    let c = length-replicate (places - length (s .tasks)) unused in
+    record { all = omega arith; few = h; past = drop-at (map startTask (s .tasks)) rest (length (s .tasks)) b }
 
-fits-start : (ws : List ℕ) → Fits (startOf ws .run)
+pub fits-start : (ws : List ℕ) → Fits (startOf ws .run)
 fits-start ws = go (startAnswer ws) refl
   where
     go : (a : Answer) → startAnswer ws ≡ a → Fits (startOf ws .run)
     go Taken e =
         let v = start-taken ws e in
         let few = few-accepted (startOf ws .run) (start-of ws (startOf ws) refl .passes (ap (λ (s : Started). told (s .answer)) v)) in
-        subst (λ (s : Started). Fits (s .run)) (sym v) (fits-started (rule ws) (tableOf ws) (subst (λ (s : Started). s .run .count ≤ 32) v few))
+        subst (λ (s : Started). Fits (s .run)) (sym v) (fits-started (rule ws) (tableOf ws) (subst (λ (s : Started). s .run .count ≤ places) v few))
     go (Refused n p) e =
-        subst (λ (s : Started). Fits (s .run)) (sym (start-refused ws n p e)) (record { places = refl; few = omega arith })
+        subst (λ (s : Started). Fits (s .run)) (sym (start-refused ws n p e)) (record { all = refl; few = omega arith; past = refl })
 
--- what start writes is the run that it returns
-pub start-held : (ws buffer : List ℕ) → decode (encode (startOf ws .run) ++ drop 259 buffer) ≡ run (startOf ws .run)
-start-held ws buffer = let f = fits-start ws in decode-encode (startOf ws .run) (f .places) (f .few) (drop 259 buffer)
+-- start writes all words of the run that it returns, whatever stood there
+pub start-whole : (ws buffer : List ℕ) → take runWords (startedIn ws buffer) ≡ encode (startOf ws .run)
+start-whole ws buffer =
+    let r = startOf ws .run in
+    let all = fits-start ws .all in
+    take-at (encode r) (drop runWords buffer) runWords (length-to places r (omega arith))
+
+-- and what it writes is decoded to that run
+pub start-held : (ws buffer : List ℕ) → decode (startedIn ws buffer) ≡ run (startOf ws .run)
+start-held ws buffer =
+    let f = fits-start ws in
+    decode-encode (startOf ws .run) (f .all) (f .few) (drop runWords buffer) ∙ ap run (clear-fits (startOf ws .run) f)
+
+-- so its encoding is decoded to the run itself
+pub started-back : (ws : List ℕ) → decode (encode (startOf ws .run)) ≡ run (startOf ws .run)
+started-back ws = ap decode (sym (append-nil (encode (startOf ws .run)))) ∙ start-held ws []
 
 -- ADVANCE
 
 fits-held : (ws : List ℕ) → holds ws ≡ true → Fits (runIn ws)
-unfolding holds runIn
+unfolding runIn
 fits-held ws e =
-    let more = and-right (leb 259 (length ws)) (leb (getD ws 2 0) 32 && arePlaces 32 (drop 3 ws)) e in
-    record { places = length-read 32 (drop 3 ws); few = leb-true (getD ws 2 0) 32 (and-left (leb (getD ws 2 0) 32) (arePlaces 32 (drop 3 ws)) more) }
+    let n = countIn ws in
+    let few = held-few ws e in
+    let read = placesIn n (drop headWords ws) in
+    let rest = replicate (places - n) unused in
+    let a = length-append read rest in
+    let b = length-read n (drop headWords ws) in
+    let c = length-replicate (places - n) unused in
+    record { all = omega arith; few = few; past = drop-at read rest n b }
+
+-- a run that a buffer holds fits, and the buffer is long enough
+pub held-fits : (ws : List ℕ) (r : Run) → decode ws ≡ run r → Fits r × (runWords ≤ length ws)
+held-fits ws r e = let h = held-run ws r e in (subst Fits (h .1) (fits-held ws (h .0)), held-long ws (h .0))
 
 fits-moved : (f : ℕ → Bool) (r : Run) → Fits r → Fits (moved f r)
 unfolding moved
-fits-moved f r h = record { places = length-mapFirst _ (r .count) (r .tasks) ∙ h .places; few = h .few }
+fits-moved f r h = record {
+  all = length-mapFirst _ (r .count) (r .tasks) ∙ h .all;
+  few = h .few;
+  past = drop-mapFirst _ (r .count) (r .tasks) ∙ h .past;
+}
+
+-- what an advance returns fits, taken or refused
+pub fits-advanced : (r : Run) (x : ℕ) → Fits r → Fits (advanceOf r x .run)
+unfolding advanceOf
+fits-advanced r x f = go (advanceAnswer r x)
+  where
+    go : (a : Answer) → Fits (byAnswer a (moved (bit x) r) r)
+    go Taken = fits-moved (bit x) r f
+    go (Refused n p) = f
+
+-- a run that fits, written into a long buffer up to its count, is held there
+pub fits-written : (r : Run) (ws : List ℕ) → Fits r → runWords ≤ length ws → decode (overwritten (r .count) r ws) ≡ run r
+fits-written r ws f h =
+    let few = f .few in
+    let all = f .all in
+    let a = length-append (encodeTo (r .count) r) (drop (wordsTo (r .count)) ws) in
+    let b = length-to (r .count) r (omega arith) in
+    let c = length-drop (wordsTo (r .count)) ws in
+    decode-to (r .count) r (drop (wordsTo (r .count)) ws) all (omega arith) few (omega arith) ∙ ap run (clear-fits r f)
 
 -- the answer to an advance of the buffer is that of the run that it holds, and the buffer afterwards holds the run that the advance returns
 pub advance-held :
@@ -82,14 +135,11 @@ advance-held ws r x e = (
   ap (λ (h : Held). decode (advanceFrom h x ws .buffer)) e ∙ go (advanceAnswer r x) refl,
 )
   where
-    fits : Fits r
-    fits = let h = held-run ws r e in subst Fits (h .1) (fits-held ws (h .0))
-
     After : Advanced → Type 0
-    After v = decode (byAnswer (v .answer) (encode (v .run) ++ drop 259 ws) ws) ≡ run (v .run)
+    After v = decode (byAnswer (v .answer) (overwritten (v .run .count) (v .run) ws) ws) ≡ run (v .run)
 
     go : (a : Answer) → advanceAnswer r x ≡ a → After (advanceOf r x)
     go Taken t =
-        let f = fits-moved (bit x) r fits in
-        subst After (sym (advance-taken r x t)) (decode-encode (moved (bit x) r) (f .places) (f .few) (drop 259 ws))
+        let f = held-fits ws r e in
+        subst After (sym (advance-taken r x t)) (fits-written (moved (bit x) r) ws (fits-moved (bit x) r (f .0)) (f .1))
     go (Refused n p) t = subst After (sym (advance-refused r x n p t)) e

@@ -6,3 +6,6 @@ mod Putting
 mod Keeping
 pub mod Kept
 pub mod Listed
+pub mod Past
+pub mod Fourteen
+pub mod Examples

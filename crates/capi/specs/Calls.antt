@@ -6,7 +6,7 @@ use lib.ListN.{length}
 use lib.Dec.{leb}
 use Rattle.table.specs.Words.{tableOf}
 use Rattle.judge.specs.Judged.{verdictOf}
-use Rattle.plan.specs.Plan.{plannedOf, bufferOf}
+use Rattle.plan.specs.Plan.{plannedOf, planTold, bufferOf}
 use Rattle.capi.specs.Told.{ofVerdict, ofPlanned, written}
 
 -- the return value, and the lent slices in the order of the parameters
@@ -33,4 +33,4 @@ judgeCall ws answer = byRoom (room answer) (written (ofVerdict (verdictOf ws)) a
 unfoldable pub planCall : List ℕ → ℕ → ℕ → List ℕ → List ℕ → Left
 planCall ws a b rows answer =
     let v = plannedOf ws a b (length rows) in
-    byRoom (room answer) (bufferOf v (tableOf ws) a b rows ∷ (written (ofPlanned v) answer ∷ [])) (rows ∷ (answer ∷ []))
+    byRoom (room answer) (bufferOf (planTold v) (tableOf ws) a b rows ∷ (written (ofPlanned v) answer ∷ [])) (rows ∷ (answer ∷ []))

@@ -1,15 +1,51 @@
--- A run in a lent buffer: 259 words, rule, cores and count, then eight words for each of the 32 places.
+-- A run in a lent buffer: rule, cores and count, then eight words for each of the 32 places. What stands past the count is not looked at.
 use mathlib.Core.Bool.{Bool, true, _&&_, _||_, cond}
 use mathlib.Core.List.{List, [], _∷_, _++_}
-use Prim.Native.Nat.{ℕ, zero, suc}
-use lib.ListN.{length, getD, drop}
+use Prim.Native.Nat.{ℕ, zero, suc, _+_, _*_, _-_}
+use lib.ListN.{length, getD, take, drop, replicate}
 use lib.Dec.{leb, eqb}
 use Rattle.phase.specs.declared.Phase.{Phase}
 use Rattle.phase.specs.declared.Phase.the-variants.{Coming, Working, Holding, Resting}
 use Rattle.phase.specs.declared.Task.{Task}
+use Rattle.phase.specs.Task.{unused}
 use Rattle.run.specs.declared.Run.{Run}
 use Rattle.capi.specs.declared.told.Told.{Told}
 use Rattle.capi.specs.Told.{says}
+use Rattle.model.specs.Sizes.{mostTasks}
+
+-- THE SIZES
+
+-- the words in front of the places: rule, cores and count
+abbrev pub headWords : ℕ
+headWords = 3
+
+-- the words of a place
+abbrev pub eachWords : ℕ
+eachWords = 8
+
+-- where a place has the kind of its phase ..
+abbrev pub kindAt : ℕ
+kindAt = 5
+
+-- .. its first number ..
+abbrev pub firstAt : ℕ
+firstAt = kindAt + 1
+
+-- .. and its second
+abbrev pub secondAt : ℕ
+secondAt = kindAt + 2
+
+-- the places of a run
+abbrev pub places : ℕ
+places = mostTasks
+
+-- the words of the head and n places
+abbrev pub wordsTo : ℕ → ℕ
+wordsTo n = headWords + eachWords * n
+
+-- the words of a run
+abbrev pub runWords : ℕ
+runWords = wordsTo places
 
 -- THE ENCODING
 
@@ -20,23 +56,34 @@ ofPhase (Working z u) = says 1 z u
 ofPhase (Holding z u) = says 2 z u
 ofPhase (Resting z) = says 3 z 0
 
-abbrev pub eight : Task → Told → List ℕ
-eight t ph = t .offset ∷ (t .width ∷ (t .length ∷ (t .deadline ∷ (t .period ∷ (ph .kind ∷ (ph .first ∷ (ph .second ∷ [])))))))
+-- a task's five words, and the three of a phase
+abbrev pub placeWith : Task → Told → List ℕ
+placeWith t ph = t .offset ∷ (t .width ∷ (t .length ∷ (t .deadline ∷ (t .period ∷ (ph .kind ∷ (ph .first ∷ (ph .second ∷ [])))))))
 
 -- a place: offset, width, length, deadline, period, and the phase
 abbrev pub placeWords : Task → List ℕ
-placeWords t = eight t (ofPhase (t .phase))
+placeWords t = placeWith t (ofPhase (t .phase))
 
+-- places, one after the other
 unfoldable pub placesWords : List Task → List ℕ
 placesWords [] = []
 placesWords (t ∷ ts) = placeWords t ++ placesWords ts
 
 -- the count in a word; a count above 32, which no run that 14 accepts has, is written as 33
 abbrev pub countWord : ℕ → ℕ
-countWord n = cond (leb n 32) n 33
+countWord n = cond (leb n places) n 33
 
-unfoldable pub encode : Run → List ℕ
-encode r = r .rule ∷ (r .cores ∷ (countWord (r .count) ∷ placesWords (r .tasks)))
+-- the head of a run and its first n places
+unfoldable pub encodeTo : ℕ → Run → List ℕ
+encodeTo n r = r .rule ∷ (r .cores ∷ (countWord (r .count) ∷ placesWords (take n (r .tasks))))
+
+-- a run in words: the head and all places
+abbrev pub encode : Run → List ℕ
+encode r = encodeTo places r
+
+-- a buffer after the head and the first n places of a run are written into it: what stands behind them stays
+abbrev pub overwritten : ℕ → Run → List ℕ → List ℕ
+overwritten n r ws = encodeTo n r ++ drop (wordsTo n) ws
 
 -- THE DECODING
 
@@ -48,7 +95,7 @@ phaseOf k a b = cond (eqb k 0) (Coming a) (cond (eqb k 1) (Working a b) (cond (e
 abbrev pub isPhase : ℕ → ℕ → Bool
 isPhase k b = leb k 3 && ((eqb k 1 || eqb k 2) || eqb b 0)
 
--- the place whose eight words stand in front
+-- the place whose words stand in front
 abbrev pub placeIn : List ℕ → Task
 placeIn ws = record {
   offset = getD ws 0 0;
@@ -56,33 +103,48 @@ placeIn ws = record {
   length = getD ws 2 0;
   deadline = getD ws 3 0;
   period = getD ws 4 0;
-  phase = phaseOf (getD ws 5 0) (getD ws 6 0) (getD ws 7 0);
+  phase = phaseOf (getD ws kindAt 0) (getD ws firstAt 0) (getD ws secondAt 0);
 }
 
+-- they are a place: they have a phase
 abbrev pub isPlace : List ℕ → Bool
-isPlace ws = isPhase (getD ws 5 0) (getD ws 7 0)
+isPlace ws = isPhase (getD ws kindAt 0) (getD ws secondAt 0)
 
 -- the first n places
 unfoldable pub placesIn : ℕ → List ℕ → List Task
 placesIn zero ws = []
-placesIn (suc n) ws = placeIn ws ∷ placesIn n (drop 8 ws)
+placesIn (suc n) ws = placeIn ws ∷ placesIn n (drop eachWords ws)
 
+-- each of them is one
 unfoldable pub arePlaces : ℕ → List ℕ → Bool
 arePlaces zero ws = true
-arePlaces (suc n) ws = isPlace ws && arePlaces n (drop 8 ws)
+arePlaces (suc n) ws = isPlace ws && arePlaces n (drop eachWords ws)
 
--- a buffer holds a run: it has 259 words, the count is at most 32, and every phase is one
+-- the count that a buffer says
+abbrev pub countIn : List ℕ → ℕ
+countIn ws = getD ws 2 0
+
+-- a buffer holds a run: it has the words of one, the count is at most 32, and every phase below the count is one
 unfoldable pub holds : List ℕ → Bool
-holds ws = leb 259 (length ws) && (leb (getD ws 2 0) 32 && arePlaces 32 (drop 3 ws))
+holds ws = leb runWords (length ws) && (leb (countIn ws) places && arePlaces (countIn ws) (drop headWords ws))
+
+-- these tasks in front, and zeros and Resting(0) in the places past them
+abbrev pub padded : ℕ → List Task → List Task
+padded n ts = ts ++ replicate (places - n) unused
 
 -- the run that stands in front of the buffer
 unfoldable pub runIn : List ℕ → Run
-runIn ws = record { rule = getD ws 0 0; cores = getD ws 1 0; count = getD ws 2 0; tasks = placesIn 32 (drop 3 ws) }
+runIn ws = record { rule = getD ws 0 0; cores = getD ws 1 0; count = countIn ws; tasks = padded (countIn ws) (placesIn (countIn ws) (drop headWords ws)) }
 
 -- what a buffer holds
 pub data Held : Type 0 where
   run : Run → Held
   none : Held
 
+-- the run where it holds one
 abbrev pub decode : List ℕ → Held
 decode ws = cond (holds ws) (run (runIn ws)) none
+
+-- a run with its places past the count cleared: zeros and Resting(0), as start leaves them
+abbrev pub cleared : Run → Run
+cleared r = record { rule = r .rule; cores = r .cores; count = r .count; tasks = padded (r .count) (take (r .count) (r .tasks)) }

@@ -4,3 +4,5 @@ pub mod Replays
 pub mod Encoding
 pub mod Runs
 pub mod Lists
+pub mod Past
+pub mod Fourteen

@@ -14,14 +14,18 @@ use Rattle.run.specs.Row.{noBytes, rowOf}
 use Rattle.run.specs.Advance.{advanceOf}
 use Rattle.capi.specs.Told.{ofAnswer, written}
 use Rattle.capi.specs.Calls.{Left, byRoom, room}
-use Rattle.capi.specs.Encoding.{encode, Held, run, none, decode}
+use Rattle.capi.specs.Encoding.{places, runWords, overwritten, Held, run, none, decode}
+use Rattle.model.specs.Sizes.{mostCores}
 
--- start: the run that it returns, taken or refused, in the first 259 words
+-- the buffer after a start: the run that it returns, taken or refused, with all its places
+abbrev pub startedIn : List ℕ → List ℕ → List ℕ
+startedIn ws buffer = overwritten places (startOf ws .run) buffer
+
+-- start: the run, and the answer
 unfoldable pub startCall : List ℕ → List ℕ → List ℕ → Left
 startCall ws buffer answer =
-    let s = startOf ws in
-    byRoom (room answer && leb 259 (length buffer))
-    ((encode (s .run) ++ drop 259 buffer) ∷ (written (ofAnswer (s .answer)) answer ∷ []))
+    byRoom (room answer && leb runWords (length buffer))
+    (startedIn ws buffer ∷ (written (ofAnswer (startOf ws .answer)) answer ∷ []))
     (buffer ∷ (answer ∷ []))
 
 -- the row of the run that a buffer holds; 14 where it holds none
@@ -33,8 +37,8 @@ rowFrom none = record { answer = Refused 14 0; bytes = noBytes }
 unfoldable pub rowCall : List ℕ → List ℕ → List ℕ → Left
 rowCall buffer row answer =
     let w = rowFrom (decode buffer) in
-    byRoom (room answer && leb 64 (length row))
-    ((w .bytes ++ drop 64 row) ∷ (written (ofAnswer (w .answer)) answer ∷ []))
+    byRoom (room answer && leb mostCores (length row))
+    ((w .bytes ++ drop mostCores row) ∷ (written (ofAnswer (w .answer)) answer ∷ []))
     (row ∷ (answer ∷ []))
 
 -- an advance's answer, and the buffer afterwards
@@ -42,9 +46,9 @@ pub record Advance : Type 0 where
   pub answer : Answer
   pub buffer : List ℕ
 
--- the run one tick on in the first 259 words; a refusal leaves the buffer as found
+-- the run one tick on, with the places below its count; a refusal leaves the buffer as found
 abbrev pub kept : Answer → Run → List ℕ → Advance
-kept a r ws = record { answer = a; buffer = byAnswer a (encode r ++ drop 259 ws) ws }
+kept a r ws = record { answer = a; buffer = byAnswer a (overwritten (r .count) r ws) ws }
 
 -- an advance of the run that a buffer holds; 14 where it holds none
 abbrev pub advanceFrom : Held → ℕ → List ℕ → Advance

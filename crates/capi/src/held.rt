@@ -1,16 +1,33 @@
-// A run in a lent buffer of 259 words.
+// A run in a lent buffer of words: its head, and then its places, of which those past the count are neither read nor changed by row and advance.
 ghost use mathlib.Core.Path.{_≡_};
 ghost use mathlib.Core.List.{_++_};
 ghost use Prim.Native.Nat.{_+_, _≤_};
 ghost use lib.ListN.{length, drop};
-ghost use Rattle.capi.specs.Encoding.{ofPhase, eight, countWord, encode, phaseOf, isPhase, placeIn, holds, runIn, decode};
+ghost use Rattle.capi.specs.Encoding.{eachWords, places, runWords, ofPhase, placeWith, countWord, overwritten, phaseOf, isPhase, placeIn, countIn, holds, runIn, decode};
 ghost use Rattle.capi.specs.Runs.{rowFrom, advanceFrom};
+ghost use Rattle.model.specs.Sizes.{mostCores};
 use crate::told::Told;
+use model::ROW;
 use phase::Phase;
 use phase::Task;
 use run::Answer;
 use run::Row;
 use run::Run;
+
+// The words in front of the places: rule, cores and count.
+const HEAD: usize = 3;
+// The words of a place.
+const EACH: usize = 8;
+// Where a place has the kind of its phase ..
+const KIND: usize = 5;
+// .. its first number ..
+const FIRST: usize = KIND + 1;
+// .. and its second.
+const SECOND: usize = KIND + 2;
+// The places of a run.
+pub(crate) const PLACES: usize = model::MOST_TASKS;
+// The words of a run.
+pub(crate) const WORDS: usize = HEAD + EACH * PLACES;
 
 // A phase in three words.
 fn of_phase(phase: Phase) -> Told
@@ -40,41 +57,41 @@ fn of_phase(phase: Phase) -> Told
     }
 }
 
-// Writes a place with its phase into the first eight words.
+// Writes a place with its phase into the first words.
 fn put_place(task: Task, phase: Told, words: &mut [u32])
-    requires { ⌜ 8 ≤ length (now words) ⌝ }
-    ensures { λ r. ⌜ now (words .exit) ≡ eight task phase ++ drop 8 (now (words .entry)) ⌝ }
+    requires { ⌜ eachWords ≤ length (now words) ⌝ }
+    ensures { λ r. ⌜ now (words .exit) ≡ placeWith task phase ++ drop eachWords (now (words .entry)) ⌝ }
 {
     words[0] = task.offset;
     words[1] = task.width;
     words[2] = task.length;
     words[3] = task.deadline;
     words[4] = task.period;
-    words[5] = phase.kind;
-    words[6] = phase.first;
-    words[7] = phase.second;
+    words[KIND] = phase.kind;
+    words[FIRST] = phase.first;
+    words[SECOND] = phase.second;
 }
 
 // The count in a word.
 fn count_word(count: usize) -> u32
     ensures { λ r. ⌜ r ≡ countWord count ⌝ }
 {
-    if count <= 32 { count as u32 } else { 33 }
+    if count <= PLACES { count as u32 } else { 33 }
 }
 
-// Writes the run into the first 259 words; what stands behind them stays.
-pub(crate) fn put_run(run: Run, words: &mut [u32])
-    requires { ⌜ 259 ≤ length (now words) ⌝ }
-    ensures { λ r. ⌜ now (words .exit) ≡ encode run ++ drop 259 (now (words .entry)) ⌝ }
+// Writes the head and the first `shown` places of the run; what stands behind them stays.
+pub(crate) fn put_run(run: Run, shown: usize, words: &mut [u32])
+    requires { ⌜ (shown ≤ places) × (runWords ≤ length (now words)) ⌝ }
+    ensures { λ r. ⌜ now (words .exit) ≡ overwritten shown run (now (words .entry)) ⌝ }
 {
     words[0] = run.rule;
     words[1] = run.cores;
     words[2] = count_word(run.count);
     let mut i: usize = 0;
-    while i < 32 {
+    while i < shown {
         let task = run.tasks[i];
         let phase = task.phase;
-        let at = 3 + 8 * i;
+        let at = HEAD + EACH * i;
         put_place(task, of_phase(phase), &mut words[at..]);
         i += 1;
     }
@@ -103,12 +120,12 @@ fn phase_of(kind: u32, first: u32, second: u32) -> Phase
     Phase::Resting(first)
 }
 
-// The place whose eight words begin at `at`.
+// The place whose words begin at `at`.
 fn place_in(words: &[u32], at: usize) -> Task
-    requires { ⌜ at + 8 ≤ length (now words) ⌝ }
+    requires { ⌜ at + eachWords ≤ length (now words) ⌝ }
     ensures { λ r. ⌜ r ≡ placeIn (drop at (now (words .entry))) ⌝ }
 {
-    let phase = phase_of(words[at + 5], words[at + 6], words[at + 7]);
+    let phase = phase_of(words[at + KIND], words[at + FIRST], words[at + SECOND]);
     Task {
         offset: words[at],
         width: words[at + 1],
@@ -119,20 +136,21 @@ fn place_in(words: &[u32], at: usize) -> Task
     }
 }
 
-// Whether the buffer holds a run.
+// Whether the buffer holds a run: the places past its count are not looked at.
 pub(crate) fn holds(words: &[u32]) -> bool
     ensures { λ r. ⌜ r ≡ holds (now (words .entry)) ⌝ }
 {
-    if words.len() < 259 {
+    if words.len() < WORDS {
         return false;
     }
-    if 32 < words[2] {
+    let count = words[2] as usize;
+    if PLACES < count {
         return false;
     }
     let mut i: usize = 0;
-    while i < 32 {
-        let at = 3 + 8 * i;
-        if is_phase(words[at + 5], words[at + 7]) {
+    while i < count {
+        let at = HEAD + EACH * i;
+        if is_phase(words[at + KIND], words[at + SECOND]) {
             i += 1;
         } else {
             return false;
@@ -141,23 +159,24 @@ pub(crate) fn holds(words: &[u32]) -> bool
     true
 }
 
-// The run that stands in front of the buffer.
+// The run that stands in front of the buffer; past its count zeros and Resting(0).
 pub(crate) fn run_in(words: &[u32]) -> Run
-    requires { ⌜ 259 ≤ length (now words) ⌝ }
+    requires { ⌜ (runWords ≤ length (now words)) × (countIn (now words) ≤ places) ⌝ }
     ensures { λ r. ⌜ r ≡ runIn (now (words .entry)) ⌝ }
 {
-    let first = place_in(words, 3);
-    let mut tasks = [first; 32];
+    let count = words[2] as usize;
+    let unused = phase::starts::unused();
+    let mut tasks = [unused; PLACES];
     let mut i: usize = 0;
-    while i < 32 {
-        let place = place_in(words, 3 + 8 * i);
+    while i < count {
+        let place = place_in(words, HEAD + EACH * i);
         tasks[i] = place;
         i += 1;
     }
     Run {
         rule: words[0],
         cores: words[1],
-        count: words[2] as usize,
+        count: count,
         tasks: tasks,
     }
 }
@@ -170,7 +189,7 @@ pub(crate) fn row_of(words: &[u32]) -> Row
         let held = run_in(words);
         return held.row();
     }
-    let bytes = [0u8; 64];
+    let bytes = [0u8; ROW];
     Row {
         answer: Answer::Refused(14, 0),
         bytes: bytes,
@@ -178,18 +197,18 @@ pub(crate) fn row_of(words: &[u32]) -> Row
 }
 
 // Writes the row's 64 bytes; what stands behind them stays.
-pub(crate) fn put_row(bytes: [u8; 64], row: &mut [u8])
-    requires { ⌜ 64 ≤ length (now row) ⌝ }
-    ensures { λ r. ⌜ now (row .exit) ≡ bytes ++ drop 64 (now (row .entry)) ⌝ }
+pub(crate) fn put_row(bytes: [u8; ROW], row: &mut [u8])
+    requires { ⌜ mostCores ≤ length (now row) ⌝ }
+    ensures { λ r. ⌜ now (row .exit) ≡ bytes ++ drop mostCores (now (row .entry)) ⌝ }
 {
     let mut i: usize = 0;
-    while i < 64 {
+    while i < ROW {
         row[i] = bytes[i];
         i += 1;
     }
 }
 
-// Advances the run that the buffer holds; 14 where it holds none.
+// Advances the run that the buffer holds, and leaves the words past its count; 14 where it holds none.
 pub(crate) fn advance(words: &mut [u32], reports: u32) -> Answer
     ensures { λ r. ⌜ record { answer = r; buffer = now (words .exit) } ≡ advanceFrom (decode (now (words .entry))) reports (now (words .entry)) ⌝ }
 {
@@ -200,7 +219,7 @@ pub(crate) fn advance(words: &mut [u32], reports: u32) -> Answer
         match answer {
             Answer::Taken => {
                 let next = advanced.run;
-                put_run(next, words);
+                put_run(next, next.count, words);
                 return Answer::Taken;
             }
             Answer::Refused(number, position) => {

@@ -7,6 +7,7 @@ ghost use mathlib.Core.List.{[], _∷_};
 ghost use Rattle.capi.specs.Calls.{judgeCall, planCall};
 ghost use Rattle.capi.specs.Replays.{replayCall};
 ghost use Rattle.capi.specs.Runs.{startCall, rowCall, advanceCall};
+use model::ROW;
 
 mod held; // held.rt: a run in a lent buffer of words
 mod replays; // replays.rt: what a replay says
@@ -70,7 +71,7 @@ pub extern "C" fn sivorandra_replay(
     1
 }
 
-// The run of a table's words as it starts, into the first 259 words of `run`: case 0, or 3 Refused number position and the run that start returns then.
+// The run of a table's words as it starts, all its words, into the front of `run`: case 0, or 3 Refused number position and the run of all zeros.
 #[no_mangle]
 pub extern "C" fn sivorandra_start(words: &[u32], run: &mut [u32], answer: &mut [u32]) -> u32
     ensures { λ r. ⌜ record { value = r; lent = now (run .exit) ∷ (now (answer .exit) ∷ []) } ≡ startCall (now (words .entry)) (now (run .entry)) (now (answer .entry)) ⌝ }
@@ -78,12 +79,12 @@ pub extern "C" fn sivorandra_start(words: &[u32], run: &mut [u32], answer: &mut 
     if answer.len() < 3 {
         return 1;
     }
-    if run.len() < 259 {
+    if run.len() < held::WORDS {
         return 1;
     }
     let started = run::start(words);
     let first = started.run;
-    held::put_run(first, run);
+    held::put_run(first, held::PLACES, run);
     let given = started.answer;
     let told = told::of_answer(given);
     told::put(told, answer);
@@ -98,7 +99,7 @@ pub extern "C" fn sivorandra_row(run: &[u32], row: &mut [u8], answer: &mut [u32]
     if answer.len() < 3 {
         return 1;
     }
-    if row.len() < 64 {
+    if row.len() < ROW {
         return 1;
     }
     let shown = held::row_of(run);

@@ -7,6 +7,7 @@ use Rattle.model.proofs.Firm.{firm-kept}
 use Rattle.table.specs.Words.{tableOf}
 use Rattle.table.proofs.Passed.{passed-sound}
 use Rattle.judge.specs.declared.Verdict.the-variants.{Firm}
+use Rattle.judge.specs.Said.{saidBy}
 use Rattle.judge.specs.Judged.{verdictOf}
 use Rattle.judge.proofs.Promise.{judged-exact, firm-words}
 use Rattle.run.specs.Answer.{told}
@@ -18,7 +19,7 @@ use Rattle.demand.proofs.Follows.{follows}
 -- THEOREM (demand 3): for the words of every table that the judge calls Firm, and every list of report sets
 pub demand-3 : (ws : List ℕ) (S P : ℕ) → verdictOf ws ≡ Firm S P → (xs : List ℕ) → Demand ws xs
 demand-3 ws S P firm xs =
-    let says = judged-exact ws .firm S P .0 firm in
+    let says = judged-exact ws .firm S P .0 (ap saidBy firm) in
     record {
       started = started;
       follows = follows ws started xs;

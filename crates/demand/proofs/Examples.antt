@@ -1,5 +1,5 @@
 -- The marked lines of the table of examples through `replay`: what its contract says of the words of a line's table and of the line's report sets is what the line says.
--- So B with its report shows figure 2's right side (001) row by row, up to the miss; and B3 with the same report shows the rows that it shows without.
+-- So B with its report shows the right side of figure 2 of Goossens and Berten row by row, up to the miss; and B3 with the same report shows the rows that it shows without.
 use mathlib.Core.Path.{_≡_, refl, sym, ap, _∙_}
 use mathlib.Core.List.{List, [], _∷_, map, _++_}
 use Prim.Native.Nat.{ℕ, zero, suc, _≤_}

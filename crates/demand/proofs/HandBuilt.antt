@@ -1,5 +1,5 @@
 -- Runs built by hand, computed from the definitions: B and B3 with their report, by phases; a first release to come; a hold that ends at D;
--- and a phase at each limit of 14, inside and outside.
+-- and each limit of 14 from both sides: the count, the cores, the rule, the width, the times, the phases.
 use mathlib.Core.List.{List, [], _∷_, map}
 use mathlib.Core.Path.{_≡_, refl}
 use Prim.Native.Nat.{ℕ}
@@ -76,9 +76,21 @@ on2 a b = record { answer = Taken; bytes = a ∷ b ∷ replicate 62 0 }
 abbrev no : ℕ → ℕ → Row
 no n p = record { answer = Refused n p; bytes = noBytes }
 
--- one task (2, 1, 3, 4, 6) on one core in a phase, under a rule, and what its row is answered
+-- a run and what its row is answered
+abbrev asked : Run → Row → Line
+asked r w = record { from = r; reports = []; gets = []; shows = w ∷ []; ends = r }
+
+-- one task (2, 1, 3, 4, 6) on one core in a phase, under a rule
 abbrev limit : ℕ → Phase → Row → Line
-limit r ph w = record { from = one r 1 (t 2 1 3 4 6 ph); reports = []; gets = []; shows = w ∷ []; ends = one r 1 (t 2 1 3 4 6 ph) }
+limit r ph w = asked (one r 1 (t 2 1 3 4 6 ph)) w
+
+-- a count of so many tasks, which rest, on one core; there is a task at each place below it
+abbrev resters : ℕ → Row → Line
+resters n w = asked (record { rule = 1; cores = 1; count = n; tasks = replicate 33 (t 2 1 3 4 6 (Resting 1)) }) w
+
+-- one task (O, v, C, D, T) in a phase, on so many cores
+abbrev sized : ℕ → Task → Row → Line
+sized m a w = asked (one 1 m a) w
 
 abbrev pub lines : List Line
 lines =
@@ -122,7 +134,24 @@ lines =
       shows = on1 1 ∷ on1 1 ∷ [];
       ends = two 3 1 (t 0 1 3 3 4 (Working 1 1)) (t 0 1 3 3 5 (Resting 3));
     }
-    -- the limits of 14: Coming 1 to O
+    -- the limits of 14: the count 1 to 32
+    ∷ resters 0 (no 14 0) ∷ resters 1 (on1 0) ∷ resters 32 (on1 0) ∷ resters 33 (no 14 0)
+    -- the rule 1, 2 or 3
+    ∷ limit 0 (Resting 1) (no 14 0) ∷ limit 1 (Resting 1) (on1 0) ∷ limit 2 (Resting 1) (on1 0) ∷ limit 3 (Resting 1) (on1 0) ∷ limit 4 (Resting 1) (no 14 0)
+    -- every number at its least, and every number at its most; 0 and 65 cores
+    ∷ sized 1 (t 0 1 1 1 1 (Working 0 0)) (on1 1)
+    ∷ sized 64 (t 1000000 64 1000000 1000000 1000000 (Working 0 0)) (record { answer = Taken; bytes = replicate 64 1 })
+    ∷ sized 0 (t 2 1 3 4 6 (Resting 1)) (no 14 0) ∷ sized 65 (t 2 1 3 4 6 (Resting 1)) (no 14 0)
+    -- a width 0, and one above the cores
+    ∷ sized 1 (t 2 0 3 4 6 (Resting 1)) (no 14 0) ∷ sized 1 (t 2 2 3 4 6 (Resting 1)) (no 14 0)
+    -- O above 1,000,000; C and T 0, and above 1,000,000
+    ∷ sized 1 (t 1000001 1 3 4 6 (Resting 1)) (no 14 0)
+    ∷ sized 1 (t 2 1 0 4 6 (Resting 1)) (no 14 0) ∷ sized 1 (t 2 1 1000001 4 6 (Resting 1)) (no 14 0)
+    ∷ sized 1 (t 2 1 3 0 0 (Working 0 0)) (no 14 0) ∷ sized 1 (t 2 1 3 1 0 (Working 0 0)) (no 14 0) ∷ sized 1 (t 2 1 3 4 1000001 (Resting 1)) (no 14 0)
+    -- D 0, 1, T and T + 1
+    ∷ sized 1 (t 2 1 3 0 6 (Resting 1)) (no 14 0) ∷ sized 1 (t 2 1 3 1 6 (Resting 1)) (on1 0)
+    ∷ sized 1 (t 2 1 3 6 6 (Resting 1)) (on1 0) ∷ sized 1 (t 2 1 3 7 6 (Resting 1)) (no 14 0)
+    -- Coming 1 to O
     ∷ limit 1 (Coming 0) (no 14 0) ∷ limit 1 (Coming 1) (on1 0) ∷ limit 1 (Coming 2) (on1 0) ∷ limit 1 (Coming 3) (no 14 0)
     -- Working z 0 to D, where z = D passes 14 and is 15; u below C and at most z
     ∷ limit 1 (Working 0 0) (on1 1) ∷ limit 1 (Working 4 0) (no 15 1) ∷ limit 1 (Working 5 0) (no 14 0)

@@ -12,6 +12,7 @@ use borrow.Author.Tests.{le-leb, lt-leb, leb-true}
 use Rattle.model.proofs.Lists.{map-map}
 use Rattle.model.specs.Book as model
 use Rattle.model.proofs.Bools.{and-left, and-right, and-both}
+use Rattle.model.specs.Sizes.{mostCores}
 use Rattle.table.specs.Numbers.{FirstOf, NoneOf}
 use Rattle.run.specs.declared.Run.{Run}
 use Rattle.run.specs.declared.Answer.{Answer}
@@ -40,7 +41,7 @@ written r xs numbers bytes =
     record {
       answer = rowCase (rowOf (after r xs) .answer);
       numbers = codes r xs ++ drop (length xs) numbers;
-      bytes = rowOf (after r xs) .bytes ++ drop 64 bytes;
+      bytes = rowOf (after r xs) .bytes ++ drop mostCores bytes;
     }
 
 module _ (r : Run) (xs numbers bytes : List ℕ) where
@@ -48,13 +49,13 @@ module _ (r : Run) (xs numbers bytes : List ℕ) where
   unfolding played
   played-few h = rw (lt-leb (length xs) (length numbers) h) refl
 
-  pub played-narrow : length bytes < 64 → played r xs numbers bytes ≡ tooShort numbers bytes
+  pub played-narrow : length bytes < mostCores → played r xs numbers bytes ≡ tooShort numbers bytes
   unfolding played
-  played-narrow h = rw (lt-leb 64 (length bytes) h, and-false (leb (length xs) (length numbers))) refl
+  played-narrow h = rw (lt-leb mostCores (length bytes) h, and-false (leb (length xs) (length numbers))) refl
 
-  pub played-room : length xs ≤ length numbers → 64 ≤ length bytes → played r xs numbers bytes ≡ written r xs numbers bytes
+  pub played-room : length xs ≤ length numbers → mostCores ≤ length bytes → played r xs numbers bytes ≡ written r xs numbers bytes
   unfolding played
-  played-room h k = rw (le-leb (length xs) (length numbers) h, le-leb 64 (length bytes) k) refl
+  played-room h k = rw (le-leb (length xs) (length numbers) h, le-leb mostCores (length bytes) k) refl
 
 -- ---- by the start
 
@@ -70,14 +71,14 @@ module _ (ws xs numbers bytes : List ℕ) where
 -- ---- what a replay promises
 
 -- the room that the test finds
-room-of : (xs numbers bytes : List ℕ) → (leb (length xs) (length numbers) && leb 64 (length bytes)) ≡ true → Room xs numbers bytes
+room-of : (xs numbers bytes : List ℕ) → (leb (length xs) (length numbers) && leb mostCores (length bytes)) ≡ true → Room xs numbers bytes
 room-of xs numbers bytes e = (
-  leb-true (length xs) (length numbers) (and-left (leb (length xs) (length numbers)) (leb 64 (length bytes)) e),
-  leb-true 64 (length bytes) (and-right (leb (length xs) (length numbers)) (leb 64 (length bytes)) e),
+  leb-true (length xs) (length numbers) (and-left (leb (length xs) (length numbers)) (leb mostCores (length bytes)) e),
+  leb-true mostCores (length bytes) (and-right (leb (length xs) (length numbers)) (leb mostCores (length bytes)) e),
 )
 
-room-test : (xs numbers bytes : List ℕ) → Room xs numbers bytes → (leb (length xs) (length numbers) && leb 64 (length bytes)) ≡ true
-room-test xs numbers bytes h = and-both (leb (length xs) (length numbers)) (leb 64 (length bytes)) (le-leb (length xs) (length numbers) (h .0)) (le-leb 64 (length bytes) (h .1))
+room-test : (xs numbers bytes : List ℕ) → Room xs numbers bytes → (leb (length xs) (length numbers) && leb mostCores (length bytes)) ≡ true
+room-test xs numbers bytes h = and-both (leb (length xs) (length numbers)) (leb mostCores (length bytes)) (le-leb (length xs) (length numbers) (h .0)) (le-leb mostCores (length bytes) (h .1))
 
 -- a row's case is neither a refused start nor short
 case-refused : (a : Answer) (n p : ℕ) → rowCase a ≡ replayed.Refused n p → ⊥
@@ -99,7 +100,7 @@ case-said w = go (w .answer)
 module _ (r : Run) (xs numbers bytes : List ℕ) where
   play-refused : (n p : ℕ) → played r xs numbers bytes .answer ≡ replayed.Refused n p → ⊥
   unfolding played
-  play-refused n p e = go (leb (length xs) (length numbers) && leb 64 (length bytes)) e
+  play-refused n p e = go (leb (length xs) (length numbers) && leb mostCores (length bytes)) e
     where
       go : (t : Bool) → cond t (written r xs numbers bytes) (tooShort numbers bytes) .answer ≡ replayed.Refused n p → ⊥
       go true q = case-refused (rowOf (after r xs) .answer) n p q
@@ -107,18 +108,18 @@ module _ (r : Run) (xs numbers bytes : List ℕ) where
 
   play-short : played r xs numbers bytes .answer ≡ replayed.Short → (¬ Room xs numbers bytes) × (played r xs numbers bytes ≡ tooShort numbers bytes)
   unfolding played
-  play-short e = go (leb (length xs) (length numbers) && leb 64 (length bytes)) refl e
+  play-short e = go (leb (length xs) (length numbers) && leb mostCores (length bytes)) refl e
     where
-      go : (t : Bool) → (leb (length xs) (length numbers) && leb 64 (length bytes)) ≡ t → cond t (written r xs numbers bytes) (tooShort numbers bytes) .answer ≡ replayed.Short
+      go : (t : Bool) → (leb (length xs) (length numbers) && leb mostCores (length bytes)) ≡ t → cond t (written r xs numbers bytes) (tooShort numbers bytes) .answer ≡ replayed.Short
           → (¬ Room xs numbers bytes) × (cond t (written r xs numbers bytes) (tooShort numbers bytes) ≡ tooShort numbers bytes)
       go true q s = absurd (case-short (rowOf (after r xs) .answer) s)
       go false q s = (λ h. true≢false (sym (room-test xs numbers bytes h) ∙ q), refl)
 
   short-play : ¬ Room xs numbers bytes → played r xs numbers bytes ≡ tooShort numbers bytes
   unfolding played
-  short-play n = go (leb (length xs) (length numbers) && leb 64 (length bytes)) refl
+  short-play n = go (leb (length xs) (length numbers) && leb mostCores (length bytes)) refl
     where
-      go : (t : Bool) → (leb (length xs) (length numbers) && leb 64 (length bytes)) ≡ t → cond t (written r xs numbers bytes) (tooShort numbers bytes) ≡ tooShort numbers bytes
+      go : (t : Bool) → (leb (length xs) (length numbers) && leb mostCores (length bytes)) ≡ t → cond t (written r xs numbers bytes) (tooShort numbers bytes) ≡ tooShort numbers bytes
       go true q = absurd (n (room-of xs numbers bytes q))
       go false q = refl
 
@@ -194,8 +195,8 @@ module _ (ws xs numbers bytes : List ℕ) where
   by-the-book : NoneOf (StartApplies ws) → Room xs numbers bytes → ByTheBook ws xs numbers bytes (written (begun ws) xs numbers bytes)
   by-the-book h room = record {
     each-answer = ap (λ (l : List ℕ). l ++ drop (length xs) numbers) (sym (map-map code told (answers (begun ws) xs)) ∙ ap (map code) (f .each-answer));
-    row-after = ap (rowSaid (rowCase (last .answer))) (take-at (last .bytes) (drop 64 bytes) 64 (shown-length (after (begun ws) xs))) ∙ (case-said last ∙ f .row-after);
-    behind = drop-at (last .bytes) (drop 64 bytes) 64 (shown-length (after (begun ws) xs));
+    row-after = ap (rowSaid (rowCase (last .answer))) (take-at (last .bytes) (drop mostCores bytes) mostCores (shown-length (after (begun ws) xs))) ∙ (case-said last ∙ f .row-after);
+    behind = drop-at (last .bytes) (drop mostCores bytes) mostCores (shown-length (after (begun ws) xs));
   }
     where
       f : Follows ws xs

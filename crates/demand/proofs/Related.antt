@@ -20,6 +20,7 @@ use Rattle.model.proofs.Bools.{same-test}
 use Rattle.model.proofs.Search.{least-lowest, any-same, least-same}
 use Rattle.model.proofs.Grants.{claimants-same, runs}
 use Rattle.model.proofs.Faithful.{late-exact}
+use Rattle.model.specs.Sizes.{mostTasks}
 use Rattle.phase.specs.declared.Phase.{Phase}
 use Rattle.phase.specs.declared.Task.{Task}
 use Rattle.run.specs.declared.Run.{Run}
@@ -84,10 +85,10 @@ related-start n s e ok = record {
   same-count = refl;
   same-tasks =
       ap (λ (l : List Task). map taskOf l)
-      (take-at (map startTask (s .tasks)) (replicate (32 - length (s .tasks)) unused) (length (s .tasks)) (length-map (s .tasks) startTask))
+      (take-at (map startTask (s .tasks)) (replicate (mostTasks - length (s .tasks)) unused) (length (s .tasks)) (length-map (s .tasks) startTask))
       ∙ started-tasks (s .tasks);
   tied = λ p l.
-      subst (λ (t : Task). Tied (s .rule) (task s p) 0 (λ k. fresh) (t .phase)) (sym (started-at (s .tasks) (replicate (32 - length (s .tasks)) unused) p l))
+      subst (λ (t : Task). Tied (s .rule) (task s p) 0 (λ k. fresh) (t .phase)) (sym (started-at (s .tasks) (replicate (mostTasks - length (s .tasks)) unused) p l))
       (tied-start (s .rule) (task s p) (ok p l));
 }
 

@@ -8,6 +8,7 @@ use Prim.Native.Nat.{ℕ, _+_, _*_, _≤_}
 use lib.ListN.{length, take, drop}
 use lib.Dec.{leb}
 use Rattle.model.specs.Book as model
+use Rattle.model.specs.Sizes.{mostCores, mostTasks}
 use Rattle.table.specs.Limits.{From}
 use Rattle.table.specs.Words.{tableOf}
 use Rattle.table.specs.Numbers.{FirstOf, NoneOf}
@@ -30,7 +31,7 @@ code (model.refused n p) = n * 256 + p
 -- an answer that an advance may give: taken, or a number up to 16 with a position up to 32
 abbrev pub Small : model.Answer → Type 0
 Small model.taken = Unit {0}
-Small (model.refused n p) = From 1 16 n × (p ≤ 32)
+Small (model.refused n p) = From 1 16 n × (p ≤ mostTasks)
 
 -- the answers of a run to a list of report sets, as numbers
 abbrev pub codes : Run → List ℕ → List ℕ
@@ -38,7 +39,7 @@ codes r xs = map (λ a. code (told a)) (answers r xs)
 
 -- the lent slices have room: a number for each report set, and 64 bytes
 abbrev pub Room : List ℕ → List ℕ → List ℕ → Type 0
-Room xs numbers bytes = (length xs ≤ length numbers) × (64 ≤ length bytes)
+Room xs numbers bytes = (length xs ≤ length numbers) × (mostCores ≤ length bytes)
 
 -- what a replay gives: its answer, and the lent slices afterwards
 pub record Outcome : Type 0 where
@@ -61,11 +62,11 @@ rowSaid replayed.Short bytes = model.rowRefused 0 0
 -- a run that has started: the answers and the row after the list are written, and what stands behind them stays; too short: everything as found
 unfoldable pub played : Run → List ℕ → List ℕ → List ℕ → Outcome
 played r xs numbers bytes =
-    cond (leb (length xs) (length numbers) && leb 64 (length bytes))
+    cond (leb (length xs) (length numbers) && leb mostCores (length bytes))
     (record {
       answer = rowCase (rowOf (after r xs) .answer);
       numbers = codes r xs ++ drop (length xs) numbers;
-      bytes = rowOf (after r xs) .bytes ++ drop 64 bytes;
+      bytes = rowOf (after r xs) .bytes ++ drop mostCores bytes;
     })
     (record { answer = replayed.Short; numbers = numbers; bytes = bytes })
 
@@ -83,9 +84,9 @@ pub record ByTheBook (ws xs numbers bytes : List ℕ) (o : Outcome) : Type 0 whe
   -- each answer, and what stands behind them as found
   pub each-answer : o .numbers ≡ map code (model.answersFrom (tableOf ws) model.emptyBook xs) ++ drop (length xs) numbers
   -- the row asked after the list, or its refusal
-  pub row-after : rowSaid (o .answer) (take 64 (o .bytes)) ≡ askedIn64 (model.asked (tableOf ws) (model.book (tableOf ws) xs))
+  pub row-after : rowSaid (o .answer) (take mostCores (o .bytes)) ≡ askedIn64 (model.asked (tableOf ws) (model.book (tableOf ws) xs))
   -- what stands behind the row, as found
-  pub behind : drop 64 (o .bytes) ≡ drop 64 bytes
+  pub behind : drop mostCores (o .bytes) ≡ drop mostCores bytes
 
 -- what a replay of the words with the report sets xs promises
 pub record ReplayOf (ws xs numbers bytes : List ℕ) (o : Outcome) : Type 0 where

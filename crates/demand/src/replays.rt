@@ -6,7 +6,9 @@ ghost use lib.ListN.{length, drop};
 ghost use Rattle.run.specs.Answer.{told};
 ghost use Rattle.demand.specs.Advances.{after};
 ghost use Rattle.demand.specs.Replay.{code, Small, codes, rowCase, played};
+ghost use Rattle.model.specs.Sizes.{mostCores};
 use crate::Replayed;
+use model::ROW;
 use run::Answer;
 use run::Run;
 
@@ -40,12 +42,12 @@ fn advances(run: Run, reports: &[u32], numbers: &mut [u32]) -> Run
 }
 
 // The row is written, and what stands behind it stays.
-fn put(row: [u8; 64], bytes: &mut [u8])
-    requires { ⌜ 64 ≤ length (now bytes) ⌝ }
-    ensures { λ r. ⌜ now (bytes .exit) ≡ row ++ drop 64 (now (bytes .entry)) ⌝ }
+fn put(row: [u8; ROW], bytes: &mut [u8])
+    requires { ⌜ mostCores ≤ length (now bytes) ⌝ }
+    ensures { λ r. ⌜ now (bytes .exit) ≡ row ++ drop mostCores (now (bytes .entry)) ⌝ }
 {
     let mut i: usize = 0;
-    while i < 64 {
+    while i < ROW {
         bytes[i] = row[i];
         i += 1;
     }
@@ -68,7 +70,7 @@ pub(crate) fn play(run: Run, reports: &[u32], numbers: &mut [u32], bytes: &mut [
     if numbers.len() < reports.len() {
         return Replayed::Short;
     }
-    if bytes.len() < 64 {
+    if bytes.len() < ROW {
         return Replayed::Short;
     }
     let last = advances(run, reports, numbers);

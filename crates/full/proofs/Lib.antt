@@ -3,6 +3,7 @@ pub mod Places
 pub mod Sets
 pub mod Place
 pub mod Moves
+pub mod Parts
 pub mod Served
 pub mod Turn
 pub mod Tied
@@ -12,3 +13,4 @@ pub mod Walk
 pub mod Alike
 pub mod Follows
 pub mod Fields
+pub mod Steps

@@ -1,7 +1,8 @@
 -- A turn of the walk over the granted places: the lowest is taken off the set and served.
 use mathlib.Core.Path.{_≡_, refl, sym, ap, _∙_, subst}
 use mathlib.Core.Bool.{Bool, true, false, not, _&&_, and-true}
-use Prim.Native.Nat.{ℕ, _-_, _*_, _%_, _^_, _≤_, _<_}
+use mathlib.Core.List.{List}
+use Prim.Native.Nat.{ℕ, _+_, _-_, _*_, _%_, _^_, _≤_, _<_}
 use native.Mathlib.Omega.{arith}
 use lib.Count.{trailingZeros}
 use lib.Dec.{eqb}
@@ -11,7 +12,9 @@ use borrow.Author.Tests.{eq-eqb, ne-eqb}
 use Rattle.model.specs.Search.{bit}
 use Rattle.model.proofs.Bools.{and-left}
 use Rattle.model.proofs.Digits.{shifted-one, Without, without, Lowest, lowest-of}
-use Rattle.full.specs.Machine.{Machine, machine, Owed, worked}
+use Rattle.full.specs.Places.{part}
+use Rattle.full.specs.Machine.{Machine, machine, machineOf, Owed, worked}
+use Rattle.full.proofs.Parts.{front-at, part-at, store-left, store-moment}
 use Rattle.full.proofs.Served.{unserved-left, served-on, served-out}
 
 -- the places of a set that are off what is left of it
@@ -130,3 +133,42 @@ module _
         finished last =
             served-out before after m (first rest) off on same (low .0) (have .0)
             (eq-eqb (getD (m .left) (first rest) 0) 1 (omega (arith, still, have .1)))
+
+-- A turn on a machine whose numbers stand in one list
+module _ (granted rest : ℕ) (m₀ : Machine) (xs : List ℕ) (c : ℕ) (w : Turn granted rest m₀ (machineOf xs c)) where
+  has : getD (part 0 xs) (first rest) 0 ≡ getD xs (first rest) 0
+  has = front-at xs (first rest) (w .below)
+
+  abbrev less : ℕ
+  less = getD xs (first rest) 0 - 1
+
+  -- one tick less is left
+  abbrev one-less : List ℕ
+  one-less = set xs (first rest) less
+
+  pub list-owed : 1 ≤ getD xs (first rest) 0
+  list-owed = omega (arith, has, w .owed)
+
+  pub list-member : less ≡ 0 → digit rest ≤ c
+  list-member e = w .member (omega (arith, has))
+
+  pub list-on : (less ≡ 0 → ⊥) → machineOf one-less c ≡ worked (taken granted (rest - digit rest)) m₀
+  list-on ne =
+      store-left xs c (first rest) less (w .below)
+      ∙ (ap (λ (x : ℕ). machine (set (part 0 xs) (first rest) (x - 1)) (part 32 xs) (part 64 xs) c) (sym has)
+      ∙ w .on (λ e. ne (omega (arith, has))))
+
+  pub list-out :
+      less ≡ 0
+      → machineOf (set one-less (32 + first rest) (getD one-less (64 + first rest) 0)) (c - digit rest) ≡ worked (taken granted (rest - digit rest)) m₀
+  list-out e =
+      store-moment one-less (c - digit rest) (first rest) (getD one-less (64 + first rest) 0) (w .below)
+      ∙ (ap (λ (x : ℕ). machine (part 0 one-less) (set (part 32 one-less) (first rest) x) (part 64 one-less) (c - digit rest))
+      (sym (part-at 64 one-less (first rest) (w .below)))
+      ∙ (ap (λ (m : Machine). machine (m .left) (set (m .moment) (first rest) (getD (m .next) (first rest) 0)) (m .next) (c - digit rest))
+      (store-left xs c (first rest) less (w .below))
+      ∙ (ap
+      (λ (x : ℕ).
+      machine (set (part 0 xs) (first rest) (x - 1)) (set (part 32 xs) (first rest) (getD (part 64 xs) (first rest) 0)) (part 64 xs) (c - digit rest))
+      (sym has)
+      ∙ w .out (omega (arith, has)))))

@@ -1,3 +1,3 @@
 pub mod Places
 pub mod Machine
-pub mod Fields
+pub mod Stand

@@ -7,7 +7,8 @@ use Prim.Native.Nat.{ℕ, zero, suc, _+_, _-_, _^_, _<_, min}
 use lib.ListN.{length, getD, set, replicate}
 use lib.Dec.{eqb, ltb}
 use Rattle.model.specs.Search.{bit}
-use Rattle.full.specs.Places.{each, setOf}
+use Rattle.model.specs.Sizes.{mostTasks}
+use Rattle.full.specs.Places.{part, each, setOf, second, third}
 
 -- for each of 32 places: the ticks that its job is still owed, 0 where none claims; its next moment, the job's deadline while it claims and
 -- else the next release; its next release. And the set of the places that claim. A place past the count never claims.
@@ -21,15 +22,19 @@ pub record Machine : Type 0 where
 abbrev pub machine : List ℕ → List ℕ → List ℕ → ℕ → Machine
 machine l m n c = record { left = l; moment = m; next = n; claiming = c }
 
+-- a machine whose places' numbers stand in one list: the ticks left first, then the moments, then the next releases
+abbrev pub machineOf : List ℕ → ℕ → Machine
+machineOf places c = machine (part 0 places) (part second places) (part third places) c
+
 -- a machine of 32 places
 pub record Sized (m : Machine) : Type 0 where
-  pub left : length (m .left) ≡ 32
-  pub moment : length (m .moment) ≡ 32
-  pub next : length (m .next) ≡ 32
+  pub left : length (m .left) ≡ mostTasks
+  pub moment : length (m .moment) ≡ mostTasks
+  pub next : length (m .next) ≡ mostTasks
 
 -- before tick 0: nobody claims, and each task's first job is released at its O
 abbrev pub started : List ℕ → Machine
-started offsets = machine (replicate 32 0) offsets offsets 0
+started offsets = machine (replicate mostTasks 0) offsets offsets 0
 
 -- scope: a job's deadline is missed if it has not ended at t = r + D. The place is at its moment, and ticks are still owed
 abbrev pub overdue : ℕ → Machine → ℕ → Bool
@@ -41,7 +46,7 @@ released p t C D T m = record {
   left = set (m .left) p C;
   moment = set (m .moment) p (t + D);
   next = set (m .next) p (t + T);
-  claiming = setOf 32 (λ q. eqb q p || bit (m .claiming) q);
+  claiming = setOf mostTasks (λ q. eqb q p || bit (m .claiming) q);
 }
 
 -- the due moments of tick t, looked at in the first n places, where nobody is late: a job is released in each place whose moment it is.
@@ -77,5 +82,5 @@ worked granted m = record {
   left = each (λ p l. cond (granted p) (l - 1) l) (m .left);
   moment = each (λ p d. cond (finishes granted m p) (getD (m .next) p 0) d) (m .moment);
   next = m .next;
-  claiming = setOf 32 (λ p. bit (m .claiming) p && not (finishes granted m p));
+  claiming = setOf mostTasks (λ p. bit (m .claiming) p && not (finishes granted m p));
 }

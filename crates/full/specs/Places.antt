@@ -2,6 +2,22 @@
 use mathlib.Core.Bool.{Bool, cond}
 use mathlib.Core.List.{List, [], _∷_}
 use Prim.Native.Nat.{ℕ, zero, suc, _+_, _*_}
+use lib.ListN.{take, drop}
+use Rattle.model.specs.Sizes.{mostTasks}
+
+-- a list with three numbers for each place has those of one kind after those of another: where the second and the third kind begin, and how long it is
+abbrev pub second : ℕ
+second = mostTasks
+
+abbrev pub third : ℕ
+third = 2 * mostTasks
+
+abbrev pub triple : ℕ
+triple = 3 * mostTasks
+
+-- the numbers of the 32 places that stand one after the other from k on, in a list that has several for each place
+unfoldable pub part : ℕ → List ℕ → List ℕ
+part k xs = take mostTasks (drop k xs)
 
 -- what stands at each place, changed by f, which is told the place
 unfoldable pub each : (ℕ → ℕ → ℕ) → List ℕ → List ℕ

@@ -1,40 +1,47 @@
 ghost use mathlib.Core.Path.{_≡_};
-ghost use Rattle.full.specs.Fields.{columnsOf};
-use table::Task;
+ghost use Rattle.full.specs.Stand.{numbersBy, numbersIn};
+use crate::TRIPLE;
+use model::MOST_TASKS;
+use table::Loaded;
 
-// The numbers of 32 tasks, one array for each field.
-pub struct Columns {
-    pub offset: [u32; 32],
-    pub width: [u32; 32],
-    pub length: [u32; 32],
-    pub deadline: [u32; 32],
-    pub period: [u32; 32],
+// What stays as it is in a run, beside the tasks: the rule, how many cores there are, and how many tasks.
+pub struct Setting {
+    pub rule: u32,
+    pub cores: u32,
+    pub count: usize,
 }
 
-// The fields of the tasks, place by place.
-pub fn columns_of(tasks: [Task; 32]) -> Columns
-    ensures { λ r. ⌜ r ≡ columnsOf tasks ⌝ }
+// The numbers of a table that its run is stepped with; in `times` the lengths stand first, then the deadlines, then the periods.
+pub struct Columns {
+    pub setting: Setting,
+    pub width: [u32; MOST_TASKS],
+    pub times: [u32; TRIPLE],
+}
+
+// The numbers of a table, place by place.
+pub fn columns_of(table: Loaded) -> Columns
+    ensures { λ r. ⌜ numbersBy (r .setting) (r .width) (r .times) ≡ numbersIn table ⌝ }
 {
-    let mut offset = [0u32; 32];
-    let mut width = [0u32; 32];
-    let mut length = [0u32; 32];
-    let mut deadline = [0u32; 32];
-    let mut period = [0u32; 32];
+    let tasks = table.tasks;
+    let mut width = [0u32; MOST_TASKS];
+    let mut times = [0u32; TRIPLE];
     let mut i: usize = 0;
-    while i < 32 {
+    while i < MOST_TASKS {
         let task = tasks[i];
-        offset[i] = task.offset;
         width[i] = task.width;
-        length[i] = task.length;
-        deadline[i] = task.deadline;
-        period[i] = task.period;
+        times[i] = task.length;
+        times[crate::DEADLINE + i] = task.deadline;
+        times[crate::PERIOD + i] = task.period;
         i += 1;
     }
+    let setting = Setting {
+        rule: table.rule,
+        cores: table.cores,
+        count: table.count,
+    };
     Columns {
-        offset: offset,
+        setting: setting,
         width: width,
-        length: length,
-        deadline: deadline,
-        period: period,
+        times: times,
     }
 }

@@ -1,29 +1,48 @@
+// The full-length run as a fast machine: one array with three numbers for each of 32 places, lent, and a pace by value.
 ghost use mathlib.Core.Path.{_≡_};
 ghost use Prim.Native.Nat.{ℕ, _+_, _≤_, _<_, _^_, min};
 ghost use lib.ListN.{getD};
 ghost use Rattle.model.specs.Search.{bit};
-ghost use Rattle.full.specs.Machine.{machine, released, DueMoments, Owed, worked};
+ghost use Rattle.model.specs.Sizes.{mostTasks};
+ghost use Rattle.full.specs.Places.{part, second, third};
+ghost use Rattle.full.specs.Machine.{machineOf, released, DueMoments, Owed, worked};
+ghost use Rattle.full.specs.Stand.{numbersBy, standAt, Steppable, next};
+use columns::Setting;
+use machine::Pace;
+use model::MOST_TASKS;
 
-pub mod columns;
+pub mod columns; // columns.rt: the table's numbers, as the machine is stepped with them
+pub mod machine; // machine.rt: the machine, and how it starts
+
+// The places' array has the ticks left of each place first, then its next moment, then its next release.
+pub const MOMENT: usize = MOST_TASKS;
+
+pub const NEXT: usize = 2 * MOST_TASKS;
+
+// The array of times has the length of each place first, then its deadline, then its period.
+pub const DEADLINE: usize = MOST_TASKS;
+
+pub const PERIOD: usize = 2 * MOST_TASKS;
+
+// How long both arrays are.
+pub const TRIPLE: usize = 3 * MOST_TASKS;
 
 // Releases a job of a place at this tick, and answers the set of claimants with the place in it.
 pub fn release(
     place: usize,
     tick: u32,
-    length: u32,
-    deadline: u32,
-    period: u32,
     claiming: u32,
-    left: &mut [u32; 32],
-    moment: &mut [u32; 32],
-    next: &mut [u32; 32],
+    times: &[u32; TRIPLE],
+    places: &mut [u32; TRIPLE],
 ) -> u32
-    requires { ⌜ (place < 32) × (tick + deadline < 2 ^ 32) × (tick + period < 2 ^ 32) ⌝ }
-    ensures { λ r. ⌜ machine (now (left .exit)) (now (moment .exit)) (now (next .exit)) r ≡ released place tick length deadline period (machine (now (left .entry)) (now (moment .entry)) (now (next .entry)) claiming) ⌝ }
+    requires { ⌜ (place < mostTasks) × (tick + getD (part second (now times)) place 0 < 2 ^ 32) × (tick + getD (part third (now times)) place 0 < 2 ^ 32) ⌝ }
+    ensures { λ r. ⌜ machineOf (now (places .exit)) r ≡ released place tick (getD (part 0 (now (times .entry))) place 0) (getD (part second (now (times .entry))) place 0) (getD (part third (now (times .entry))) place 0) (machineOf (now (places .entry)) claiming) ⌝ }
 {
-    left[place] = length;
-    moment[place] = tick + deadline;
-    next[place] = tick + period;
+    let deadline = times[DEADLINE + place];
+    let period = times[PERIOD + place];
+    places[place] = times[place];
+    places[MOMENT + place] = tick + deadline;
+    places[NEXT + place] = tick + period;
     claiming | (1u32 << place)
 }
 
@@ -44,35 +63,21 @@ pub struct Due {
 pub fn release_due(
     tick: u32,
     count: usize,
-    length: &[u32; 32],
-    deadline: &[u32; 32],
-    period: &[u32; 32],
     claiming: u32,
-    left: &mut [u32; 32],
-    moment: &mut [u32; 32],
-    next: &mut [u32; 32],
+    times: &[u32; TRIPLE],
+    places: &mut [u32; TRIPLE],
 ) -> Due
-    requires { ⌜ (count ≤ 32) × ((p : ℕ) → p < count → (tick + getD (now deadline) p 0 < 2 ^ 32) × (tick + getD (now period) p 0 < 2 ^ 32)) ⌝ }
-    ensures { λ r. ⌜ DueMoments tick count (now (length .entry)) (now (deadline .entry)) (now (period .entry)) (machine (now (left .entry)) (now (moment .entry)) (now (next .entry)) claiming) (machine (now (left .exit)) (now (moment .exit)) (now (next .exit)) (r .claiming)) (r .bell) ⌝ }
+    requires { ⌜ (count ≤ mostTasks) × ((p : ℕ) → p < count → (tick + getD (part second (now times)) p 0 < 2 ^ 32) × (tick + getD (part third (now times)) p 0 < 2 ^ 32)) ⌝ }
+    ensures { λ r. ⌜ DueMoments tick count (part 0 (now (times .entry))) (part second (now (times .entry))) (part third (now (times .entry))) (machineOf (now (places .entry)) claiming) (machineOf (now (places .exit)) (r .claiming)) (r .bell) ⌝ }
 {
     let mut set = claiming;
-    let mut bell: u32 = 4294967295;
+    let mut bell: u32 = u32::MAX;
     let mut i: usize = 0;
     while i < count {
-        if moment[i] == tick {
-            set = release(
-                i,
-                tick,
-                length[i],
-                deadline[i],
-                period[i],
-                set,
-                left,
-                moment,
-                next,
-            );
+        if places[MOMENT + i] == tick {
+            set = release(i, tick, set, times, places);
         }
-        bell = sooner(bell, moment[i]);
+        bell = sooner(bell, places[MOMENT + i]);
         i += 1;
     }
     Due {
@@ -82,15 +87,9 @@ pub fn release_due(
 }
 
 // A tick of the places that are granted cores, and answers the set of those that still claim after it.
-pub fn work(
-    granted: u32,
-    claiming: u32,
-    left: &mut [u32; 32],
-    moment: &mut [u32; 32],
-    next: &[u32; 32],
-) -> u32
-    requires { ⌜ Owed (bit granted) (machine (now left) (now moment) (now next) claiming) ⌝ }
-    ensures { λ r. ⌜ machine (now (left .exit)) (now (moment .exit)) (now (next .entry)) r ≡ worked (bit granted) (machine (now (left .entry)) (now (moment .entry)) (now (next .entry)) claiming) ⌝ }
+pub fn work(granted: u32, claiming: u32, places: &mut [u32; TRIPLE]) -> u32
+    requires { ⌜ Owed (bit granted) (machineOf (now places) claiming) ⌝ }
+    ensures { λ r. ⌜ machineOf (now (places .exit)) r ≡ worked (bit granted) (machineOf (now (places .entry)) claiming) ⌝ }
 {
     let mut rest = granted;
     let mut set = claiming;
@@ -99,12 +98,48 @@ pub fn work(
         let member = 1u32 << place;
         rest -= member;
         let at = place as usize;
-        let ticks = left[at] - 1;
-        left[at] = ticks;
+        let ticks = places[at] - 1;
+        places[at] = ticks;
         if ticks == 0 {
             set -= member;
-            moment[at] = next[at];
+            places[MOMENT + at] = places[NEXT + at];
         }
     }
     set
+}
+
+// One tick, for runs in which nobody is late: the due moments where the bell has rung, the choice where the claimants have changed, the work.
+pub fn step(
+    setting: Setting,
+    width: &[u32; MOST_TASKS],
+    times: &[u32; TRIPLE],
+    pace: Pace,
+    places: &mut [u32; TRIPLE],
+) -> Pace
+    requires { ⌜ Steppable (numbersBy setting (now width) (now times)) (standAt pace (now places)) ⌝ }
+    ensures { λ r. ⌜ standAt r (now (places .exit)) ≡ next (numbersBy setting (now (width .entry)) (now (times .entry))) (standAt pace (now (places .entry))) ⌝ }
+{
+    let tick = pace.tick;
+    let mut claiming = pace.claiming;
+    let mut bell = pace.bell;
+    if bell <= tick {
+        let due = release_due(tick, setting.count, claiming, times, places);
+        claiming = due.claiming;
+        bell = due.bell;
+    }
+    let mut chosen = pace.chosen;
+    let mut granted = pace.granted;
+    if claiming != chosen {
+        let free = rule::first_cores(setting.cores);
+        granted = rule::choose(setting.rule, free, claiming, width);
+        chosen = claiming;
+    }
+    let after = work(granted, claiming, places);
+    Pace {
+        tick: tick + 1,
+        bell: bell,
+        claiming: after,
+        chosen: chosen,
+        granted: granted,
+    }
 }

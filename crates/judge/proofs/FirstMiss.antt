@@ -1,6 +1,6 @@
 -- The first miss before a tick: what the search finds, and what the verdict makes of it.
 use native.Mathlib.Omega.{arith}
-use mathlib.Core.Path.{_≡_, refl}
+use mathlib.Core.Path.{_≡_, refl, sym, ap, _∙_}
 use mathlib.Core.Bool.{Bool, true, false, cond}
 use Prim.Native.Nat.{ℕ, suc, _<_}
 use lib.ListN.{length}
@@ -15,9 +15,11 @@ use Rattle.model.proofs.Search.{any-of, none-any, least-is}
 use Rattle.model.proofs.Faithful.{missed-exact, missed-in-exact}
 use Rattle.table.specs.declared.Loaded.{Loaded}
 use Rattle.judge.specs.declared.Verdict.the-variants.{Firm, Full}
+use Rattle.judge.specs.declared.misses.Missed as missed
 use Rattle.judge.specs.declared.misses.Missed.the-variants.{Never, At}
-use Rattle.judge.specs.Judged.{told, tableIn, Fit, acceptedOf}
-use Rattle.judge.specs.FirstMiss.{missedBefore, answered}
+use Rattle.judge.specs.Said.{judged, caseOf}
+use Rattle.judge.specs.Judged.{tableIn, Fit, acceptedOf}
+use Rattle.judge.specs.FirstMiss.{missedBefore, noMiss, firstAt, missTold, MissedOf, byMiss}
 
 module _ (s : Table) (ok : AllSound s) where
   -- a deadline missed before b is found
@@ -34,13 +36,13 @@ module _ (s : Table) (ok : AllSound s) where
 
   -- WHAT IS FOUND
 
-  pub by-none : (b : ℕ) → ((p t : ℕ) → t < b → ¬ Missed s p t) → Never ≡ missedBefore s b
+  is-none : (b : ℕ) → ((p t : ℕ) → t < b → ¬ Missed s p t) → Never ≡ missedBefore s b
   unfolding missedBefore
-  by-none b met = rw (none-missed b met)
+  is-none b met = rw (none-missed b met)
 
-  pub by-first : (b t p : ℕ) → t < b → FirstMiss s t p → At t p ≡ missedBefore s b
+  is-first : (b t p : ℕ) → t < b → FirstMiss s t p → At t p ≡ missedBefore s b
   unfolding missedBefore
-  by-first b t p h f =
+  is-first b t p h f =
       let q : ℕ = f .place .0 in
       let below : q < length (s .tasks) = f .missed .0 in
       let some : any b (missedIn s) ≡ true = found b q t h (f .missed) in
@@ -50,6 +52,32 @@ module _ (s : Table) (ok : AllSound s) where
       least-is (length (s .tasks)) (missedAt s t) q below (missed-exact s ok t q below .1 (f .missed))
       (λ x l. not-true-false (missedAt s t x) (λ e. f .no-higher x l (missed-exact s ok t x (omega arith) .0 e))) in
       rw (some, tick, place, f .place .1)
+
+  -- what is found is what is promised
+  settled :
+      (b : ℕ) (m : missed.Missed) → m ≡ missedBefore s b
+      → ((t p : ℕ) → missTold m ≡ firstAt t p → FirstMiss s t p × (t < b)) → (missTold m ≡ noMiss → (p t : ℕ) → t < b → ¬ Missed s p t)
+      → MissedOf s b m
+  settled b m e first none = record {
+    value = e;
+    first = λ t p. (first t p, λ x. ap missTold (e ∙ sym (is-first b t p (x .1) (x .0))));
+    none = (none, λ met. ap missTold (e ∙ sym (is-none b met)));
+  }
+
+  pub by-none : (b : ℕ) → ((p t : ℕ) → t < b → ¬ Missed s p t) → MissedOf s b Never
+  by-none b met = settled b Never (is-none b met) (λ t p e. absurd (apart e)) (λ e. met)
+    where
+      apart : {t p : ℕ} → noMiss ≡ firstAt t p → ⊥
+      apart e = let z : _≡_ {A = ℕ} 0 1 = cc in omega arith
+
+  pub by-first : (b t p : ℕ) → t < b → FirstMiss s t p → MissedOf s b (At t p)
+  by-first b t p h f = settled b (At t p) (is-first b t p h f) same (λ e. absurd (apart e))
+    where
+      same : (u q : ℕ) → firstAt t p ≡ firstAt u q → FirstMiss s u q × (u < b)
+      same u q e = let i : t ≡ u = cc in let j : p ≡ q = cc in (rw (i, j) at f, omega arith)
+
+      apart : firstAt t p ≡ noMiss → ⊥
+      apart e = let z : _≡_ {A = ℕ} 0 1 = cc in omega arith
 
 -- none is found exactly if the test says no
 pub never-found : (s : Table) (b : ℕ) → missedBefore s b ≡ Never → any b (missedIn s) ≡ false
@@ -72,7 +100,7 @@ one-found s b u q = go (any b (missedIn s)) (least b (missedIn s)) (suc (least (
 
 by-search :
     (s : Table)
-    → answered (missedBefore s (suc (horizon s))) (cond (firm (s .rule) (s .tasks)) (Firm (lastS (s .tasks)) (hyperperiod (s .tasks))) (Full (lastS (s .tasks)) (hyperperiod (s .tasks)))) ≡ told (verdict s)
+    → byMiss (missedBefore s (suc (horizon s))) (cond (firm (s .rule) (s .tasks)) (Firm (lastS (s .tasks)) (hyperperiod (s .tasks))) (Full (lastS (s .tasks)) (hyperperiod (s .tasks)))) ≡ caseOf (judged (verdict s))
 unfolding missedBefore verdict firstMiss
 by-search s = go (any (suc (horizon s)) (missedIn s)) (firm (s .rule) (s .tasks))
   where
@@ -83,11 +111,11 @@ by-search s = go (any (suc (horizon s)) (missedIn s)) (firm (s .rule) (s .tasks)
     p = suc (least (length (s .tasks)) (missedAt s t))
 
     go : (m f : Bool)
-        → answered (cond m (At t p) Never) (cond f (Firm (lastS (s .tasks)) (hyperperiod (s .tasks))) (Full (lastS (s .tasks)) (hyperperiod (s .tasks))))
-        ≡ told (cond m (model.Miss t p) (cond f (model.Firm (lastS (s .tasks)) (hyperperiod (s .tasks))) (model.Full (lastS (s .tasks)) (hyperperiod (s .tasks)))))
+        → byMiss (cond m (At t p) Never) (cond f (Firm (lastS (s .tasks)) (hyperperiod (s .tasks))) (Full (lastS (s .tasks)) (hyperperiod (s .tasks))))
+        ≡ caseOf (judged (cond m (model.Miss t p) (cond f (model.Firm (lastS (s .tasks)) (hyperperiod (s .tasks))) (model.Full (lastS (s .tasks)) (hyperperiod (s .tasks))))))
     go true f = refl
     go false true = refl
     go false false = refl
 
-pub verdict-by : (t : Loaded) → Fit t → answered (missedBefore (tableIn t) (suc (t .horizon))) (acceptedOf t) ≡ told (verdict (tableIn t))
+pub verdict-by : (t : Loaded) → Fit t → byMiss (missedBefore (tableIn t) (suc (t .horizon))) (acceptedOf t) ≡ caseOf (judged (verdict (tableIn t)))
 verdict-by t fit = rw (fit .start, fit .period, fit .horizon) (by-search (tableIn t))

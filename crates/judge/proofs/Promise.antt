@@ -11,6 +11,7 @@ use Rattle.model.specs.Horizon.{lastS, hyperperiod, horizon}
 use Rattle.model.specs.Verdict.{Exact, FirmRule, verdict}
 use Rattle.model.specs.Verdict as model
 use Rattle.model.proofs.Verdict.{verdict-exact}
+use Rattle.model.specs.Sizes.{mostTasks}
 use Rattle.table.specs.declared.Answer.{Answer}
 use Rattle.table.specs.declared.Answer.the-variants.{Passed}
 use Rattle.table.specs.declared.Answer.the-variants as table
@@ -19,36 +20,39 @@ use Rattle.table.specs.Task.{taskOf, tasksOf, noTask}
 use Rattle.table.specs.Words.{rule, tableOf}
 use Rattle.table.specs.Numbers.{NoneApplies}
 use Rattle.table.specs.Answer.{answerOf}
-use Rattle.table.specs.Load.{LoadOf, Holds}
+use Rattle.table.specs.Load.{LoadOf, Holds, loadTold}
 use Rattle.table.proofs.Exact.{refusal-exact, passed-exact}
-use Rattle.table.proofs.Passed.{passed-rule, passed-sound, passed-inside}
+use Rattle.table.proofs.Passed.{passed-cores, passed-rule, passed-sound, passed-inside}
+use Rattle.table.specs.Limits.{mostTime}
 use Rattle.judge.specs.declared.Verdict.{Verdict}
 use Rattle.judge.specs.declared.Verdict.the-variants.{Firm, Full, Miss, Refused}
-use Rattle.judge.specs.Judged.{told, judged, verdictOf, FirmWords, Judged, tableIn, Fit, acceptedOf}
-use Rattle.judge.specs.FirstMiss.{missedBefore, answered}
+use Rattle.judge.specs.Said.{Said, judged, saidBy, caseOf}
+use Rattle.judge.specs.Said as said
+use Rattle.judge.specs.Judged.{judgedBy, verdictOf, FirmWords, Judged, tableIn, Fit, acceptedOf}
+use Rattle.judge.specs.FirstMiss.{missedBefore, byMiss}
 use Rattle.judge.proofs.FirstMiss.{verdict-by}
 
 -- THE CASES OF THE ANSWER
 
-told-firm : (v : model.Verdict) (a b : ℕ) → told v ≡ Firm a b → v ≡ model.Firm a b
-told-firm (model.Firm x y) a b e = cc
-told-firm (model.Full x y) a b e = let z : _≡_ {A = ℕ} 0 1 = cc in absurd (omega arith)
-told-firm (model.Miss x y) a b e = let z : _≡_ {A = ℕ} 0 1 = cc in absurd (omega arith)
+-- the case that says a thing says it, and a case is that of what it says
+pub said-case : (x : Said) → saidBy (caseOf x) ≡ x
+said-case (judged (model.Firm a b)) = refl
+said-case (judged (model.Full a b)) = refl
+said-case (judged (model.Miss a b)) = refl
+said-case (said.refused n p) = refl
 
-told-full : (v : model.Verdict) (a b : ℕ) → told v ≡ Full a b → v ≡ model.Full a b
-told-full (model.Firm x y) a b e = let z : _≡_ {A = ℕ} 0 1 = cc in absurd (omega arith)
-told-full (model.Full x y) a b e = cc
-told-full (model.Miss x y) a b e = let z : _≡_ {A = ℕ} 0 1 = cc in absurd (omega arith)
+pub case-said : (v : Verdict) → caseOf (saidBy v) ≡ v
+case-said (Firm a b) = refl
+case-said (Full a b) = refl
+case-said (Miss a b) = refl
+case-said (Refused n p) = refl
 
-told-miss : (v : model.Verdict) (a b : ℕ) → told v ≡ Miss a b → v ≡ model.Miss a b
-told-miss (model.Firm x y) a b e = let z : _≡_ {A = ℕ} 0 1 = cc in absurd (omega arith)
-told-miss (model.Full x y) a b e = let z : _≡_ {A = ℕ} 0 1 = cc in absurd (omega arith)
-told-miss (model.Miss x y) a b e = cc
+-- one verdict is said at most, and none where it is refused
+same-verdict : {v w : model.Verdict} → judged v ≡ judged w → v ≡ w
+same-verdict e = cc
 
-told-refused : (v : model.Verdict) (a b : ℕ) → ¬ (told v ≡ Refused a b)
-told-refused (model.Firm x y) a b e = let z : _≡_ {A = ℕ} 0 1 = cc in omega arith
-told-refused (model.Full x y) a b e = let z : _≡_ {A = ℕ} 0 1 = cc in omega arith
-told-refused (model.Miss x y) a b e = let z : _≡_ {A = ℕ} 0 1 = cc in omega arith
+not-refused : {v : model.Verdict} {n p : ℕ} → judged v ≡ said.refused n p → ⊥
+not-refused e = let z : _≡_ {A = ℕ} 0 1 = cc in omega arith
 
 -- THE CONDITION FOR FIRM, by the rule's number
 
@@ -83,38 +87,35 @@ firm-words ws none = (says, found)
 
 -- THE PROMISE
 
-pub passed-is : (ws : List ℕ) → answerOf ws ≡ Passed → verdictOf ws ≡ told (verdict (tableOf ws))
+pub passed-is : (ws : List ℕ) → answerOf ws ≡ Passed → verdictOf ws ≡ caseOf (judged (verdict (tableOf ws)))
 unfolding verdictOf
-passed-is ws e = ap (λ (a : Answer). judged a (tableOf ws)) e
+passed-is ws e = ap (λ (a : Answer). caseOf (judgedBy a (tableOf ws))) e
 
 pub refused-is : (ws : List ℕ) (n p : ℕ) → answerOf ws ≡ table.Refused n p → verdictOf ws ≡ Refused n p
 unfolding verdictOf
-refused-is ws n p e = ap (λ (a : Answer). judged a (tableOf ws)) e
+refused-is ws n p e = ap (λ (a : Answer). caseOf (judgedBy a (tableOf ws))) e
 
 -- words that pass
 by-passed : (ws : List ℕ) → answerOf ws ≡ Passed → Judged ws (verdictOf ws)
 by-passed ws e = record {
   value = refl;
-  refused = λ n p. (
-    λ q. absurd (told-refused (verdict s) n p (sym is ∙ q)),
-    λ f. absurd (none n p (f .0)),
-  );
+  refused = λ n p. (λ q. absurd (not-refused (sym is ∙ q)), λ f. absurd (none n p (f .0)));
   accepted = (
     λ x. (none, x-never (x .0) (x .1) (x .2)),
     λ y. let z = exact .accepted .1 (y .1) in
-        (z .0, z .1, ⊎-elim (λ q. inl (is ∙ ap told q)) (λ q. inr (is ∙ ap told q)) (z .2)),
+        (z .0, z .1, ⊎-elim (λ q. inl (is ∙ ap judged q)) (λ q. inr (is ∙ ap judged q)) (z .2)),
   );
   miss = λ t p. (
-    λ q. (none, exact .miss t p .0 (told-miss (verdict s) t p (sym is ∙ q))),
-    λ y. is ∙ ap told (exact .miss t p .1 (y .1)),
+    λ q. (none, exact .miss t p .0 (same-verdict (sym is ∙ q))),
+    λ y. is ∙ ap judged (exact .miss t p .1 (y .1)),
   );
   firm = λ a b. (
-    λ q. let z = exact .firm a b .0 (told-firm (verdict s) a b (sym is ∙ q)) in (none, z .0, firm-words ws none .0 (z .1), z .2, z .3),
-    λ y. is ∙ ap told (exact .firm a b .1 (y .1, firm-words ws none .1 (y .2), y .3, y .4)),
+    λ q. let z = exact .firm a b .0 (same-verdict (sym is ∙ q)) in (none, z .0, firm-words ws none .0 (z .1), z .2, z .3),
+    λ y. is ∙ ap judged (exact .firm a b .1 (y .1, firm-words ws none .1 (y .2), y .3, y .4)),
   );
   full = λ a b. (
-    λ q. let z = exact .full a b .0 (told-full (verdict s) a b (sym is ∙ q)) in (none, z .0, (λ w. z .1 (firm-words ws none .1 w)), z .2, z .3),
-    λ y. is ∙ ap told (exact .full a b .1 (y .1, (λ w. y .2 (firm-words ws none .0 w)), y .3, y .4)),
+    λ q. let z = exact .full a b .0 (same-verdict (sym is ∙ q)) in (none, z .0, (λ w. z .1 (firm-words ws none .1 w)), z .2, z .3),
+    λ y. is ∙ ap judged (exact .full a b .1 (y .1, (λ w. y .2 (firm-words ws none .0 w)), y .3, y .4)),
   );
 }
   where
@@ -124,15 +125,15 @@ by-passed ws e = record {
     none : NoneApplies ws
     none = passed-exact ws .0 e
 
-    is : verdictOf ws ≡ told (verdict s)
-    is = passed-is ws e
+    is : saidBy (verdictOf ws) ≡ judged (verdict s)
+    is = ap saidBy (passed-is ws e) ∙ said-case (judged (verdict s))
 
     exact : Exact s (verdict s)
     exact = verdict-exact s (passed-sound ws none)
 
-    x-never : (a b : ℕ) → (verdictOf ws ≡ Firm a b) ⊎ (verdictOf ws ≡ Full a b) → NeverMissed s
-    x-never a b (inl q) = exact .accepted .0 (a, b, inl (told-firm (verdict s) a b (sym is ∙ q)))
-    x-never a b (inr q) = exact .accepted .0 (a, b, inr (told-full (verdict s) a b (sym is ∙ q)))
+    x-never : (a b : ℕ) → (saidBy (verdictOf ws) ≡ judged (model.Firm a b)) ⊎ (saidBy (verdictOf ws) ≡ judged (model.Full a b)) → NeverMissed s
+    x-never a b (inl q) = exact .accepted .0 (a, b, inl (same-verdict (sym is ∙ q)))
+    x-never a b (inr q) = exact .accepted .0 (a, b, inr (same-verdict (sym is ∙ q)))
 
 -- words that a number turns down
 by-refused : (ws : List ℕ) (m q : ℕ) → answerOf ws ≡ table.Refused m q → Judged ws (verdictOf ws)
@@ -140,35 +141,26 @@ by-refused ws m q e = record {
   value = refl;
   refused = λ n p. (
     λ x. refusal-exact ws n p .0 (e ∙ same n p (sym is ∙ x)),
-    λ f. refused-is ws n p (refusal-exact ws n p .1 f),
+    λ f. ap saidBy (refused-is ws n p (refusal-exact ws n p .1 f)),
   );
   accepted = (λ x. absurd (neither (x .0) (x .1) (x .2)), λ y. absurd (some (y .0)));
-  miss = λ t p. (λ x. absurd (no-miss t p (sym is ∙ x)), λ y. absurd (some (y .0)));
-  firm = λ a b. (λ x. absurd (no-firm a b (sym is ∙ x)), λ y. absurd (some (y .0)));
-  full = λ a b. (λ x. absurd (no-full a b (sym is ∙ x)), λ y. absurd (some (y .0)));
+  miss = λ t p. (λ x. absurd (not-refused (sym x ∙ is)), λ y. absurd (some (y .0)));
+  firm = λ a b. (λ x. absurd (not-refused (sym x ∙ is)), λ y. absurd (some (y .0)));
+  full = λ a b. (λ x. absurd (not-refused (sym x ∙ is)), λ y. absurd (some (y .0)));
 }
   where
-    is : verdictOf ws ≡ Refused m q
-    is = refused-is ws m q e
+    is : saidBy (verdictOf ws) ≡ said.refused m q
+    is = ap saidBy (refused-is ws m q e)
 
     some : ¬ NoneApplies ws
     some none = none m q (refusal-exact ws m q .0 e .0)
 
-    same : (n p : ℕ) → Refused m q ≡ Refused n p → table.Refused m q ≡ table.Refused n p
+    same : (n p : ℕ) → said.refused m q ≡ said.refused n p → table.Refused m q ≡ table.Refused n p
     same n p x = cc
 
-    no-firm : (a b : ℕ) → ¬ (Refused m q ≡ Firm a b)
-    no-firm a b x = let z : _≡_ {A = ℕ} 0 1 = cc in omega arith
-
-    no-full : (a b : ℕ) → ¬ (Refused m q ≡ Full a b)
-    no-full a b x = let z : _≡_ {A = ℕ} 0 1 = cc in omega arith
-
-    no-miss : (a b : ℕ) → ¬ (Refused m q ≡ Miss a b)
-    no-miss a b x = let z : _≡_ {A = ℕ} 0 1 = cc in omega arith
-
-    neither : (a b : ℕ) → ¬ ((verdictOf ws ≡ Firm a b) ⊎ (verdictOf ws ≡ Full a b))
-    neither a b (inl x) = no-firm a b (sym is ∙ x)
-    neither a b (inr x) = no-full a b (sym is ∙ x)
+    neither : (a b : ℕ) → ¬ ((saidBy (verdictOf ws) ≡ judged (model.Firm a b)) ⊎ (saidBy (verdictOf ws) ≡ judged (model.Full a b)))
+    neither a b (inl x) = not-refused (sym x ∙ is)
+    neither a b (inr x) = not-refused (sym x ∙ is)
 
 -- THE THEOREM: the verdict of the words is what is promised
 pub judged-exact : (ws : List ℕ) → Judged ws (verdictOf ws)
@@ -182,10 +174,10 @@ judged-exact ws = go (answerOf ws) refl
 
 module _ (ws : List ℕ) (r : Loaded) (l : LoadOf ws r) (e : r .answer ≡ Passed) where
   h : Holds ws r
-  h = l .holds e
+  h = l .holds (ap loadTold e)
 
   none : NoneApplies ws
-  none = l .passed .0 e
+  none = l .passed .0 (ap loadTold e)
 
   -- it is the table of the words
   pub same-table : tableIn r ≡ tableOf ws
@@ -196,11 +188,11 @@ module _ (ws : List ℕ) (r : Loaded) (l : LoadOf ws r) (e : r .answer ≡ Passe
       tasks′ = h .tasks
 
   -- of 32 places
-  places : length (r .tasks) ≡ 32
+  places : length (r .tasks) ≡ mostTasks
   places =
       let front : length (take (r .count) (r .tasks)) ≡ r .count = sym (length-map (take (r .count) (r .tasks)) taskOf) ∙ (ap length (h .tasks) ∙ sym (h .count)) in
       let whole : length (take (r .count) (r .tasks) ++ drop (r .count) (r .tasks)) ≡ length (r .tasks) = ap length (take-append-drop (r .count) (r .tasks)) in
-      let back : length (drop (r .count) (r .tasks)) ≡ 32 - r .count = ap length (h .past) ∙ length-replicate (32 - r .count) noTask in
+      let back : length (drop (r .count) (r .tasks)) ≡ mostTasks - r .count = ap length (h .past) ∙ length-replicate (mostTasks - r .count) noTask in
       omega (arith, length-append (take (r .count) (r .tasks)) (drop (r .count) (r .tasks)), whole, front, back, h .count-from)
 
   -- and fit to be run
@@ -208,8 +200,9 @@ module _ (ws : List ℕ) (r : Loaded) (l : LoadOf ws r) (e : r .answer ≡ Passe
   fit = record {
     places = places;
     few = h .count-from .1;
+    narrow = omega (arith, h .cores, passed-cores ws none .1);
     sound = subst AllSound (sym same-table) (passed-sound ws none);
-    short = λ p q. subst (λ (s : Table). p < length (s .tasks) → task s p .period ≤ 1000000) (sym same-table) (λ i. passed-inside ws none p i .period-from .1) (omega (arith, h .count, ap (λ (s : Table). length (s .tasks)) same-table));
+    short = λ p q. subst (λ (s : Table). p < length (s .tasks) → task s p .period ≤ mostTime) (sym same-table) (λ i. passed-inside ws none p i .period-from .1) (omega (arith, h .count, ap (λ (s : Table). length (s .tasks)) same-table));
     start = h .start ∙ ap (λ (s : Table). lastS (s .tasks)) (sym same-table);
     period = h .period ∙ ap (λ (s : Table). hyperperiod (s .tasks)) (sym same-table);
     horizon = h .horizon ∙ ap horizon (sym same-table);
@@ -217,11 +210,11 @@ module _ (ws : List ℕ) (r : Loaded) (l : LoadOf ws r) (e : r .answer ≡ Passe
   }
 
   -- so the verdict on it is that of the words
-  pub run-value : (v : Verdict) → v ≡ answered (missedBefore (tableIn r) (suc (r .horizon))) (acceptedOf r) → Judged ws v
+  pub run-value : (v : Verdict) → v ≡ byMiss (missedBefore (tableIn r) (suc (r .horizon))) (acceptedOf r) → Judged ws v
   run-value v q =
-      subst (Judged ws) (passed-is ws (passed-exact ws .1 none) ∙ (ap (λ (s : Table). told (verdict s)) (sym same-table) ∙ sym (q ∙ verdict-by r fit)))
+      subst (Judged ws) (passed-is ws (passed-exact ws .1 none) ∙ (ap (λ (s : Table). caseOf (judged (verdict s))) (sym same-table) ∙ sym (q ∙ verdict-by r fit)))
       (judged-exact ws)
 
 -- a refusal is the verdict of the words
 pub refused-value : (ws : List ℕ) (r : Loaded) → LoadOf ws r → (n p : ℕ) → r .answer ≡ table.Refused n p → Judged ws (Refused n p)
-refused-value ws r l n p e = subst (Judged ws) (judged-exact ws .refused n p .1 (l .refused n p .0 e)) (judged-exact ws)
+refused-value ws r l n p e = subst (Judged ws) (refused-is ws n p (refusal-exact ws n p .1 (l .refused n p .0 (ap loadTold e)))) (judged-exact ws)

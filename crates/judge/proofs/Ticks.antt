@@ -1,11 +1,11 @@
--- The run tick by tick: what holds before the due moments of a tick, along the walk over them, and after it.
+-- The machine tick by tick: what holds before the due moments of a tick, and after them.
 use native.Mathlib.Omega.{arith}
 use mathlib.Core.Path.{_≡_, refl, sym, ap, _∙_, subst}
 use mathlib.Core.List.{List, [], _∷_, map}
 use mathlib.Core.Logic.{⊎-elim}
 use native.Mathlib.Nat.{eq-or-lt-of-le}
 use native.Mathlib.Numerals.{add-one}
-use Prim.Native.Nat.{ℕ, zero, suc, _+_, _≤_, _<_, min}
+use Prim.Native.Nat.{ℕ, zero, suc, _+_, _≤_, _<_}
 use lib.ListN.{length, getD, take, length-map, List·getD-map}
 use Rattle.model.proofs.Digits.{bit-none}
 use Rattle.model.specs.Search.{bit, upFrom}
@@ -13,16 +13,16 @@ use Rattle.model.specs.Task.{Table, task, ruleOf}
 use Rattle.model.specs.Task as model
 use Rattle.model.specs.Grants.{claimants, some}
 use Rattle.model.specs.Book.{full, inRow, Missed, widths}
-use Rattle.model.specs.Verdict.{FirstMiss}
 use Rattle.model.proofs.Grants.{grants-nobody}
+use Rattle.model.specs.Sizes.{mostTasks}
 use Rattle.table.specs.declared.Task.{Task}
 use Rattle.table.specs.declared.Loaded.{Loaded}
 use Rattle.table.specs.Task.{taskOf, noTask}
 use Rattle.table.proofs.Places.{tasks-length, task-at}
-use Rattle.full.specs.Machine.{Machine, started, released, worked, Owed}
-use Rattle.full.proofs.Tied.{Walked, Tied, Ready, tied-start, walk-pass, walk-release, tick-keeps}
-use Rattle.full.proofs.Bell.{Bell, bell-more, bell-release, bell-tick, quiet}
-use Rattle.full.proofs.Late.{late-missed, passed-met}
+use Rattle.full.specs.Machine.{Machine, started, worked, Owed}
+use Rattle.full.proofs.Tied.{Tied, Ready, tied-start, tick-keeps}
+use Rattle.full.proofs.Bell.{Bell, bell-tick, quiet}
+use Rattle.full.proofs.Late.{passed-met}
 use Rattle.full.proofs.Alike.{row-places, row-owed}
 use Rattle.rule.specs.Shares.{granted}
 use Rattle.judge.specs.Judged.{tableIn, Fit}
@@ -38,12 +38,6 @@ pub record Before (t : Loaded) (m : Machine) (bell tick : ℕ) : Type 0 where
   pub tied : Tied (tableIn t) tick m
   pub rings : Bell (length (tableIn t .tasks)) bell m
   pub met : (p u : ℕ) → u < tick → ¬ Missed (tableIn t) p u
-
--- the walk over them has come to place i
-pub record Walking (t : Loaded) (m : Machine) (bell tick i : ℕ) : Type 0 where
-  pub walked : Walked (tableIn t) tick i m
-  pub rings : Bell i bell m
-  pub inside : i ≤ length (tableIn t .tasks)
 
 -- after them: no deadline of the tick is missed
 pub record After (t : Loaded) (m : Machine) (bell tick : ℕ) : Type 0 where
@@ -66,7 +60,7 @@ module _ (t : Loaded) (fit : Fit t) where
   pub size : length (s .tasks) ≡ t .count
   size = tasks-length (t .tasks) (t .count) (omega (arith, fit .few, fit .places))
 
-  few : length (s .tasks) ≤ 32
+  pub few : length (s .tasks) ≤ mostTasks
   few = omega (arith, size, fit .few)
 
   -- a field of a task, from its column
@@ -79,52 +73,6 @@ module _ (t : Loaded) (fit : Fit t) where
     rings = λ p l. omega arith;
     met = λ p u h. absurd (omega arith);
   }
-
-  -- THE WALK
-
-  pub walk-begins : (m : Machine) (bell tick : ℕ) → Before t m bell tick → Walking t m 4294967295 tick 0
-  walk-begins m bell tick b = record { walked = b .tied; rings = λ p l. absurd (omega arith); inside = omega arith }
-
-  -- a place that is not due
-  pub walk-passes :
-      (m : Machine) (bell tick i : ℕ) → Walking t m bell tick i → i < length (s .tasks) → (getD (m .moment) i 0 ≡ tick → ⊥)
-      → Walking t m (min bell (getD (m .moment) i 0)) tick (i + 1)
-  walk-passes m bell tick i w l ne =
-      rw add-one (record {
-        walked = walk-pass s (fit .sound) few tick i m (w .walked) l ne;
-        rings = bell-more i bell (min bell (getD (m .moment) i 0)) m (w .rings) (omega arith) (omega arith);
-        inside = l;
-      })
-
-  -- a place that is due and owes nothing
-  pub walk-releases :
-      (m m′ : Machine) (bell tick i C D T : ℕ) → Walking t m bell tick i → i < length (s .tasks) → getD (m .moment) i 0 ≡ tick → getD (m .left) i 0 ≤ 0
-      → C ≡ task s i .length → D ≡ task s i .deadline → T ≡ task s i .period → m′ ≡ released i tick C D T m
-      → Walking t m′ (min bell (getD (m′ .moment) i 0)) tick (i + 1)
-  walk-releases m m′ bell tick i C D T w l at none eC eD eT e =
-      rw add-one (subst (λ (x : Machine). Walking t x (min bell (getD (x .moment) i 0)) tick (suc i)) (sym e) (record {
-        walked = walk-release s (fit .sound) few tick i m (w .walked) l at (omega arith) C D T eC eD eT;
-        rings =
-            bell-more i bell (min bell (getD (released i tick C D T m .moment) i 0)) (released i tick C D T m)
-            (bell-release i bell m (w .rings) i tick C D T (omega arith)) (omega arith) (omega arith);
-        inside = l;
-      }))
-
-  -- a place that is due and still owed ticks: the first miss
-  pub walk-misses :
-      (m : Machine) (bell tick i : ℕ) → ((p u : ℕ) → u < tick → ¬ Missed s p u) → Walking t m bell tick i
-      → i < length (s .tasks) → getD (m .moment) i 0 ≡ tick → 0 < getD (m .left) i 0 → FirstMiss s tick (i + 1)
-  walk-misses m bell tick i met w l at some = record {
-    place = (i, add-one i);
-    missed = late-missed s (fit .sound) tick i m (w .walked) i l (omega arith) at some;
-    no-earlier = met;
-    no-higher = λ q h. passed-met s (fit .sound) tick i m (w .walked) q h;
-  }
-
-  pub walk-ends : (m : Machine) (bell tick i : ℕ) → Walking t m bell tick i → length (s .tasks) ≤ i → After t m bell tick
-  walk-ends m bell tick i w past =
-      let e : i ≡ length (s .tasks) = omega (arith, w .inside) in
-      record { ready = subst (λ (n : ℕ). Walked s tick n m) e (w .walked); rings = subst (λ (n : ℕ). Bell n bell m) e (w .rings) }
 
   -- before the bell there is nothing to look at
   pub walk-skipped : (m : Machine) (bell tick : ℕ) → Before t m bell tick → tick < bell → After t m bell tick
@@ -141,7 +89,7 @@ module _ (t : Loaded) (fit : Fit t) where
   -- A TICK
 
   -- the widths' column begins with the table's widths
-  same-widths : take (length (s .tasks)) (map (λ x. x .width) (t .tasks)) ≡ widths s
+  pub same-widths : take (length (s .tasks)) (map (λ x. x .width) (t .tasks)) ≡ widths s
   same-widths = ap (λ (n : ℕ). take n (map (λ x. x .width) (t .tasks))) size ∙ front (t .count) (t .tasks)
 
   chosen-row : (m : Machine) (bell tick g : ℕ) → After t m bell tick → Chosen t (m .claiming) g → (p : ℕ) → bit g p ≡ inRow s (full s tick) p

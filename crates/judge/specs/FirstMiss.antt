@@ -1,10 +1,13 @@
--- The first missed deadline before a tick.
+-- The first missed deadline before a tick, and what is promised of it.
+use mathlib.Core.Path.{_≡_}
+use mathlib.Core.Logic.{_↔_}
 use mathlib.Core.Bool.{cond}
-use Prim.Native.Nat.{ℕ, suc}
+use Prim.Native.Nat.{ℕ, suc, _<_}
 use lib.ListN.{length}
 use Rattle.model.specs.Search.{any, least}
 use Rattle.model.specs.Task.{Table}
-use Rattle.model.specs.Verdict.{missedAt, missedIn}
+use Rattle.model.specs.Book as book
+use Rattle.model.specs.Verdict.{missedAt, missedIn, FirstMiss}
 use Rattle.judge.specs.declared.Verdict.{Verdict}
 use Rattle.judge.specs.declared.Verdict.the-variants.{Miss}
 use Rattle.judge.specs.declared.misses.Missed.{Missed}
@@ -18,7 +21,26 @@ missedBefore s b =
     (At (least b (missedIn s)) (suc (least (length (s .tasks)) (missedAt s (least b (missedIn s))))))
     Never
 
--- the answer to it: a miss, and where there is none the answer v
-abbrev pub answered : Missed → Verdict → Verdict
-answered Never v = v
-answered (At t p) v = Miss t p
+-- what is found, in the scope's words: no deadline is missed, or the first at a tick, of a position
+pub data Found : Type 0 where
+  noMiss : Found
+  firstAt : ℕ → ℕ → Found
+
+-- what each case says: Never no miss, At tick and position
+abbrev pub missTold : Missed → Found
+missTold Never = noMiss
+missTold (At t p) = firstAt t p
+
+-- what is promised of the search before tick b of the full-length run of table s
+pub record MissedOf (s : Table) (b : ℕ) (m : Missed) : Type 0 where
+  -- its value
+  pub value : m ≡ missedBefore s b
+  -- at t, of p, exactly if (t, p) is the first miss and t is before b
+  pub first : (t p : ℕ) → (missTold m ≡ firstAt t p) ↔ (FirstMiss s t p × (t < b))
+  -- none exactly if no deadline is missed before b
+  pub none : (missTold m ≡ noMiss) ↔ ((p t : ℕ) → t < b → ¬ book.Missed s p t)
+
+-- the verdict by it: a miss, and where there is none the verdict v
+abbrev pub byMiss : Missed → Verdict → Verdict
+byMiss Never v = v
+byMiss (At t p) v = Miss t p

@@ -10,6 +10,7 @@ use Rattle.model.specs.Book.{NeverMissed}
 use Rattle.model.specs.Horizon.{lastS, hyperperiod, horizon}
 use Rattle.model.specs.Verdict.{firm, Rising, FirstMiss, verdict}
 use Rattle.model.specs.Verdict as model
+use Rattle.model.specs.Sizes.{mostCores, mostTasks}
 use Rattle.table.specs.declared.Answer.{Answer}
 use Rattle.table.specs.declared.Answer.the-variants.{Passed}
 use Rattle.table.specs.declared.Answer.the-variants as table
@@ -18,23 +19,20 @@ use Rattle.table.specs.Task.{tasksOf}
 use Rattle.table.specs.Words.{rule, tableOf}
 use Rattle.table.specs.Numbers.{First, NoneApplies}
 use Rattle.table.specs.Answer.{answerOf}
+use Rattle.table.specs.Limits.{mostTime}
 use Rattle.judge.specs.declared.Verdict.{Verdict}
-use Rattle.judge.specs.declared.Verdict.the-variants.{Firm, Full, Miss, Refused}
+use Rattle.judge.specs.declared.Verdict.the-variants.{Firm, Full}
+use Rattle.judge.specs.Said.{Said, judged, saidBy, caseOf}
+use Rattle.judge.specs.Said as said
 
--- the cases of the answer carry the scope's values: Firm and Full S and P, Miss tick and position ..
-abbrev pub told : model.Verdict → Verdict
-told (model.Firm s p) = Firm s p
-told (model.Full s p) = Full s p
-told (model.Miss t p) = Miss t p
-
--- .. and Refused number and position
-abbrev pub judged : Answer → Table → Verdict
-judged Passed s = told (verdict s)
-judged (table.Refused n p) s = Refused n p
+-- by the table's answer: the verdict on one that passes, or its refusal with number and position
+abbrev pub judgedBy : Answer → Table → Said
+judgedBy Passed s = judged (verdict s)
+judgedBy (table.Refused n p) s = said.refused n p
 
 -- the verdict of a table's words
 unfoldable pub verdictOf : List ℕ → Verdict
-verdictOf ws = judged (answerOf ws) (tableOf ws)
+verdictOf ws = caseOf (judgedBy (answerOf ws) (tableOf ws))
 
 -- the scope's condition for firm: rule 2 or 3, or rule 1 with widths that never fall
 abbrev pub FirmWords : List ℕ → Type 0
@@ -44,15 +42,15 @@ FirmWords ws = (rule ws ≡ 2) ⊎ ((rule ws ≡ 3) ⊎ ((rule ws ≡ 1) × Risi
 pub record Judged (ws : List ℕ) (v : Verdict) : Type 0 where
   -- it is the verdict of the words
   pub value : v ≡ verdictOf ws
-  -- Refused n p exactly if n is the first number that applies, at p
-  pub refused : (n p : ℕ) → (v ≡ Refused n p) ↔ First ws n p
+  -- refused with n and p exactly if n is the first number that applies, at p
+  pub refused : (n p : ℕ) → (saidBy v ≡ said.refused n p) ↔ First ws n p
   -- Firm or Full exactly if no number applies and no deadline of the full-length run is missed at any tick
-  pub accepted : ((s p : ℕ) × ((v ≡ Firm s p) ⊎ (v ≡ Full s p))) ↔ (NoneApplies ws × NeverMissed (tableOf ws))
+  pub accepted : ((s p : ℕ) × ((saidBy v ≡ judged (model.Firm s p)) ⊎ (saidBy v ≡ judged (model.Full s p)))) ↔ (NoneApplies ws × NeverMissed (tableOf ws))
   -- Miss t p exactly if no number applies and (t, p) is the earliest missed deadline, at equal ticks the first in priority
-  pub miss : (t p : ℕ) → (v ≡ Miss t p) ↔ (NoneApplies ws × FirstMiss (tableOf ws) t p)
+  pub miss : (t p : ℕ) → (saidBy v ≡ judged (model.Miss t p)) ↔ (NoneApplies ws × FirstMiss (tableOf ws) t p)
   -- an accepted table is Firm exactly for rules 2 and 3 and for rule 1 with widths never falling; S and P as defined
-  pub firm : (s p : ℕ) → (v ≡ Firm s p) ↔ (NoneApplies ws × NeverMissed (tableOf ws) × FirmWords ws × (s ≡ lastS (tableOf ws .tasks)) × (p ≡ hyperperiod (tableOf ws .tasks)))
-  pub full : (s p : ℕ) → (v ≡ Full s p) ↔ (NoneApplies ws × NeverMissed (tableOf ws) × (¬ FirmWords ws) × (s ≡ lastS (tableOf ws .tasks)) × (p ≡ hyperperiod (tableOf ws .tasks)))
+  pub firm : (s p : ℕ) → (saidBy v ≡ judged (model.Firm s p)) ↔ (NoneApplies ws × NeverMissed (tableOf ws) × FirmWords ws × (s ≡ lastS (tableOf ws .tasks)) × (p ≡ hyperperiod (tableOf ws .tasks)))
+  pub full : (s p : ℕ) → (saidBy v ≡ judged (model.Full s p)) ↔ (NoneApplies ws × NeverMissed (tableOf ws) × (¬ FirmWords ws) × (s ≡ lastS (tableOf ws .tasks)) × (p ≡ hyperperiod (tableOf ws .tasks)))
 
 -- THE RUN, on a table that passed
 
@@ -62,10 +60,11 @@ tableIn t = record { tasks = tasksOf (t .tasks) (t .count); cores = t .cores; ru
 
 -- what the run needs of it
 pub record Fit (t : Loaded) : Type 0 where
-  pub places : length (t .tasks) ≡ 32
-  pub few : t .count ≤ 32
+  pub places : length (t .tasks) ≡ mostTasks
+  pub few : t .count ≤ mostTasks
+  pub narrow : t .cores ≤ mostCores
   pub sound : AllSound (tableIn t)
-  pub short : (p : ℕ) → p < t .count → task (tableIn t) p .period ≤ 1000000
+  pub short : (p : ℕ) → p < t .count → task (tableIn t) p .period ≤ mostTime
   pub start : t .start ≡ lastS (tableIn t .tasks)
   pub period : t .period ≡ hyperperiod (tableIn t .tasks)
   pub horizon : t .horizon ≡ horizon (tableIn t)

@@ -2,10 +2,12 @@ ghost use mathlib.Core.Path.{_≡_};
 ghost use Prim.Native.Nat.{suc, _≤_};
 ghost use Rattle.model.specs.Task.{ruleOf};
 ghost use Rattle.model.specs.Verdict.{rising, firm};
+ghost use Rattle.model.specs.Sizes.{mostTasks};
 ghost use Rattle.table.specs.Task.{tasksOf};
-ghost use Rattle.judge.specs.FirstMiss.{missedBefore, answered};
+ghost use Rattle.judge.specs.FirstMiss.{missedBefore, byMiss};
 ghost use Rattle.judge.specs.Judged.{Judged, tableIn, Fit, acceptedOf};
 use misses::Missed;
+use model::MOST_TASKS;
 use table::Answer;
 use table::Loaded;
 use table::Task;
@@ -21,8 +23,8 @@ pub enum Verdict {
 }
 
 // Whether widths never fall along the first `count` tasks.
-fn rising(tasks: [Task; 32], count: usize) -> bool
-    requires { ⌜ count ≤ 32 ⌝ }
+fn rising(tasks: [Task; MOST_TASKS], count: usize) -> bool
+    requires { ⌜ count ≤ mostTasks ⌝ }
     ensures { λ r. ⌜ r ≡ rising (tasksOf tasks count) ⌝ }
 {
     let mut i: usize = 1;
@@ -39,7 +41,7 @@ fn rising(tasks: [Task; 32], count: usize) -> bool
 
 // Whether the rule and the widths keep their promise for shorter jobs too: rules 2 and 3, and any other where widths never fall.
 fn is_firm(table: Loaded) -> bool
-    requires { ⌜ table .count ≤ 32 ⌝ }
+    requires { ⌜ table .count ≤ mostTasks ⌝ }
     ensures { λ r. ⌜ r ≡ firm (ruleOf (table .rule)) (tasksOf (table .tasks) (table .count)) ⌝ }
 {
     let rule = table.rule;
@@ -55,7 +57,7 @@ fn is_firm(table: Loaded) -> bool
 
 // The verdict on a table that misses no deadline.
 fn accepted(table: Loaded) -> Verdict
-    requires { ⌜ table .count ≤ 32 ⌝ }
+    requires { ⌜ table .count ≤ mostTasks ⌝ }
     ensures { λ r. ⌜ r ≡ acceptedOf table ⌝ }
 {
     if is_firm(table) {
@@ -67,7 +69,7 @@ fn accepted(table: Loaded) -> Verdict
 // The verdict of the full-length run: its first miss up to and including the horizon, or accepted.
 fn run(table: Loaded) -> Verdict
     requires { ⌜ Fit table ⌝ }
-    ensures { λ r. ⌜ r ≡ answered (missedBefore (tableIn table) (suc (table .horizon))) (acceptedOf table) ⌝ }
+    ensures { λ r. ⌜ r ≡ byMiss (missedBefore (tableIn table) (suc (table .horizon))) (acceptedOf table) ⌝ }
 {
     let missed = misses::first_miss(table, table.horizon + 1);
     match missed {

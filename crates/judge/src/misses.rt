@@ -1,8 +1,7 @@
 // The full-length run of a table that passed, up to its first missed deadline.
-ghost use mathlib.Core.Path.{_≡_};
 ghost use Prim.Native.Nat.{_+_, _≤_};
 ghost use Rattle.judge.specs.Judged.{tableIn, Fit};
-ghost use Rattle.judge.specs.FirstMiss.{missedBefore};
+ghost use Rattle.judge.specs.FirstMiss.{MissedOf};
 use table::Loaded;
 
 // Tick and position of the first deadline missed, or none.
@@ -14,58 +13,30 @@ pub enum Missed {
 // The first deadline that the full-length run misses before tick `end`, at equal ticks the first in priority.
 pub fn first_miss(table: Loaded, end: u32) -> Missed
     requires { ⌜ Fit table × (end ≤ table .horizon + 1) ⌝ }
-    ensures { λ r. ⌜ r ≡ missedBefore (tableIn table) end ⌝ }
+    ensures { λ r. ⌜ MissedOf (tableIn table) end r ⌝ }
 {
-    let count = table.count;
-    let tasks = table.tasks;
-    let columns = full::columns::columns_of(tasks);
-    let offset = columns.offset;
+    let columns = full::columns::columns_of(table);
+    let setting = columns.setting;
     let width = columns.width;
-    let length = columns.length;
-    let deadline = columns.deadline;
-    let period = columns.period;
-    let mut left = [0u32; 32];
-    let mut moment = offset;
-    let mut next = offset;
-    let mut claiming: u32 = 0;
-    let mut chosen: u32 = 0;
-    let mut granted: u32 = 0;
-    let mut bell: u32 = 0;
-    let mut tick: u32 = 0;
+    let times = columns.times;
+    let machine = full::machine::start(table);
+    let mut pace = machine.pace;
+    let mut places = machine.places;
     'ticks: loop {
-        if tick == end {
+        if pace.tick == end {
             break 'ticks Missed::Never;
         }
-        if bell <= tick {
-            bell = 4294967295;
-            let mut i: usize = 0;
-            while i < count {
-                if moment[i] == tick {
-                    if 0 < left[i] {
-                        let position = i as u32 + 1;
-                        break 'ticks Missed::At(tick, position);
-                    }
-                    claiming = full::release(
-                        i,
-                        tick,
-                        length[i],
-                        deadline[i],
-                        period[i],
-                        claiming,
-                        &mut left,
-                        &mut moment,
-                        &mut next,
-                    );
+        if pace.bell <= pace.tick {
+            let mut rest = pace.claiming;
+            while 0 < rest {
+                let place = u32::trailing_zeros(rest);
+                let at = place as usize;
+                if places[full::MOMENT + at] == pace.tick {
+                    break 'ticks Missed::At(pace.tick, place + 1);
                 }
-                bell = full::sooner(bell, moment[i]);
-                i += 1;
+                rest &= rest - 1;
             }
         }
-        if claiming != chosen {
-            granted = rule::choose(table.rule, table.cores, claiming, &width);
-            chosen = claiming;
-        }
-        claiming = full::work(granted, claiming, &mut left, &mut moment, &next);
-        tick += 1;
+        pace = full::step(setting, &width, &times, pace, &mut places);
     }
 }

@@ -1,10 +1,10 @@
--- The lines of the scope's table of examples that are marked *, and one report that is refused by 16, computed from the definitions.
+-- The lines of the scope's table of examples that are marked *, and lines of our own for what those leave open (16, two positions late at once), computed from the definitions.
 -- A line's advances go on where start would refuse the table by 13 (A2, F): the book of a list is defined for every table.
 use mathlib.Core.Bool.{false, true}
 use mathlib.Core.List.{List, [], map, _∷_}
 use mathlib.Core.Path.{refl, _≡_}
 use Prim.Native.Nat.{ℕ}
-use Rattle.model.specs.Book.{Answer, Asked, answer, answersFrom, asked, claims, emptyBook, enter, fresh, full, late, misreported, refused, reportable, rowRefused, rowsFrom, served, shown, step, taken, work}
+use Rattle.model.specs.Book.{Answer, Asked, answer, answersFrom, asked, claims, emptyBook, enter, fresh, full, late, misreported, refused, reportable, rowRefused, rowsFrom, served, shown, step, taken, takenFrom, takenOf, work}
 use Rattle.model.specs.Grants.{claimants, given, grants, left}
 use Rattle.model.specs.Horizon.{S, horizon, hyperperiod, lcm}
 use Rattle.model.specs.Row.{owner, row}
@@ -75,11 +75,20 @@ lines =
     ∷ line (B greedy) (Full 0 4) (1 ∷ 0 ∷ 0 ∷ []) (taken ∷ taken ∷ refused 15 3 ∷ []) (two 1 3 ∷ two 2 2 ∷ rowRefused 15 3 ∷ rowRefused 15 3 ∷ [])
     -- a report for a position that is not in the row
     ∷ line (B greedy) (Full 0 4) (2 ∷ 0 ∷ []) (refused 16 0 ∷ taken ∷ []) (two 1 3 ∷ two 1 3 ∷ two 1 3 ∷ [])
+    -- two positions are late at one tick: 15 with the lowest; and 15 comes before 16, for bits that may not be set
+    ∷ line (on 3 greedy (t 0 1 3 3 4 ∷ t 0 3 1 4 4 ∷ t 0 1 2 2 4 ∷ t 0 1 2 2 4 ∷ [])) (Full 0 4) (1 ∷ 0 ∷ 0 ∷ 8 ∷ 16 ∷ [])
+    (taken ∷ taken ∷ refused 15 3 ∷ refused 15 3 ∷ refused 15 3 ∷ [])
+    (three 1 3 4 ∷ three 2 2 2 ∷ rowRefused 15 3 ∷ rowRefused 15 3 ∷ rowRefused 15 3 ∷ rowRefused 15 3 ∷ [])
+    -- two positions miss at one tick: the verdict names the first in priority
+    ∷ line (on 1 greedy (t 0 1 1 2 2 ∷ t 0 1 2 2 2 ∷ t 0 1 1 2 2 ∷ [])) (Miss 2 2) (0 ∷ 0 ∷ 0 ∷ []) (taken ∷ taken ∷ refused 15 2 ∷ [])
+    (shown (1 ∷ []) ∷ shown (2 ∷ []) ∷ rowRefused 15 2 ∷ rowRefused 15 2 ∷ [])
     -- B2
     ∷ line (B limited) (Miss 2 3) [] [] (two 1 0 ∷ [])
     -- B3: the report changes no row
     ∷ line (B idling) (Firm 0 4) (0 ∷ 0 ∷ 0 ∷ 0 ∷ []) (taken ∷ taken ∷ taken ∷ taken ∷ []) b3
     ∷ line (B idling) (Firm 0 4) (1 ∷ 0 ∷ 0 ∷ 0 ∷ []) (taken ∷ taken ∷ taken ∷ taken ∷ []) b3
+    -- a holder has cores and is not reported again
+    ∷ line (B idling) (Firm 0 4) (1 ∷ 1 ∷ 0 ∷ []) (taken ∷ refused 16 0 ∷ taken ∷ []) (two 1 3 ∷ two 1 3 ∷ two 1 3 ∷ two 1 0 ∷ [])
     -- C and C2
     ∷ line (on 2 greedy (t 0 1 2 4 4 ∷ t 0 2 2 4 4 ∷ t 0 1 1 4 4 ∷ [])) (Full 0 4) [] [] (two 1 3 ∷ [])
     ∷ line (on 2 greedy (t 0 1 2 4 4 ∷ t 0 1 1 4 4 ∷ t 0 2 2 4 4 ∷ [])) (Firm 0 4) [] [] (two 1 2 ∷ [])
@@ -98,3 +107,8 @@ examples = refl
 pub window : map (λ n. claims greedy (t 1 1 5 3 5) 0 n fresh) (upFrom 0 6) ≡ false ∷ true ∷ true ∷ true ∷ false ∷ false ∷ []
 unfolding claims upFrom
 window = refl
+
+-- of these advances of B the second and the third are taken: the first is refused by 16, the last two by 15
+pub dropped : takenOf (B greedy) (2 ∷ 1 ∷ 0 ∷ 0 ∷ 8 ∷ []) ≡ 1 ∷ 0 ∷ []
+unfolding takenFrom enter answer late misreported reportable any least step served work claims claimants grants given left memb upFrom
+dropped = refl

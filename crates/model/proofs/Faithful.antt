@@ -2,12 +2,12 @@
 use mathlib.Core.Bool.{_&&_, Bool, false, not, true, true≢false}
 use mathlib.Core.List.{List, [], _∷_}
 use mathlib.Core.Logic.{_↔_}
-use mathlib.Core.Path.{refl, subst, sym, _∙_, _≡_}
-use Prim.Native.Nat.{_*_, _+_, _<_, suc, ℕ, _≤_}
+use mathlib.Core.Path.{ap, refl, subst, sym, _∙_, _≡_}
+use Prim.Native.Nat.{_+_, _<_, suc, ℕ, _≤_}
 use native.Mathlib.Nat.{add-zero, le-antisymm, le-of-eq, le-trans, mul-le-mul-left, mul-one, zero-add}
 use native.Mathlib.Omega.{arith}
 use lib.Dec.{eqb, leb}
-use lib.ListN.{length}
+use lib.ListN.{length, replicate}
 use borrow.Author.Tests.{eq-eqb, eqb-true, le-leb, leb-false, leb-true, not-true}
 use Rattle.model.proofs.Bools.{and-both, and-left, and-right, not-true-false}
 use Rattle.model.proofs.Digits.{bit-high}
@@ -15,9 +15,9 @@ use Rattle.model.proofs.FullLength.{late-job}
 use Rattle.model.proofs.Jobs.{after-release, before-due, newest-is}
 use Rattle.model.proofs.Runs.{full-tick, missed-at}
 use Rattle.model.proofs.Search.{any-of, any-some}
-use Rattle.model.proofs.Starts.{S-release, hyperperiod-divides, hyperperiod-least, release-first, release-from}
-use Rattle.model.specs.Book.{Answer, Book, Job, Missed, answer, answersFrom, book, bookFrom, claims, emptyBook, enter, entered, full, jobClaims, late, misreported, refused, reportable, step, taken, takenIn, taskClaims}
-use Rattle.model.specs.Horizon.{Later, S, hyperperiod, releaseFrom}
+use Rattle.model.proofs.Starts.{Periods, S-release, hyperperiod-divides, hyperperiod-least, hyperperiod-pos, release-first, release-from}
+use Rattle.model.specs.Book.{AllTaken, Answer, Book, Job, Missed, answer, answersFrom, book, bookFrom, claims, emptyBook, enter, entered, full, jobClaims, keep, late, misreported, refused, reportable, step, taken, takenFrom, takenIn, takenOf, taskClaims}
+use Rattle.model.specs.Horizon.{Later, LeastCommonMultiple, S, hyperperiod, releaseFrom}
 use Rattle.model.specs.Search.{bit}
 use Rattle.model.specs.Task.{AllSound, Rule, Sound, Table, Task, due, newest, release, task}
 use Rattle.model.specs.Verdict.{missedAt, missedIn}
@@ -125,6 +125,48 @@ tick-from s (x ∷ xs) b = go (answer s b x) (tick-from s xs)
 pub tick-taken : (s : Table) (xs : List ℕ) → book s xs .tick ≡ takenIn (answersFrom s emptyBook xs)
 tick-taken s xs = tick-from s xs emptyBook ∙ zero-add (takenIn (answersFrom s emptyBook xs))
 
+-- THE TAKEN ADVANCES of a list: the book of these alone is the book of the list ..
+taken-book-from : (s : Table) (xs : List ℕ) (b : Book) → bookFrom s b (takenFrom s b xs) ≡ bookFrom s b xs
+unfolding bookFrom takenFrom enter
+taken-book-from s [] b = refl
+taken-book-from s (x ∷ xs) b = go (answer s b x) refl (taken-book-from s xs)
+  where
+    go : (w : Answer) → answer s b x ≡ w → ((b : Book) → bookFrom s b (takenFrom s b xs) ≡ bookFrom s b xs)
+        → bookFrom s b (keep w x (takenFrom s (entered w (step s (bit x) b) b) xs)) ≡ bookFrom s (entered w (step s (bit x) b) b) xs
+    go taken e ih = ap (λ (w : Answer). bookFrom s (entered w (step s (bit x) b) b) (takenFrom s (step s (bit x) b) xs)) e ∙ ih (step s (bit x) b)
+    go (refused n p) e ih = ih b
+
+pub taken-book : (s : Table) (xs : List ℕ) → book s (takenOf s xs) ≡ book s xs
+taken-book s xs = taken-book-from s xs emptyBook
+
+-- .. each of them is taken ..
+taken-all-from : (s : Table) (xs : List ℕ) (b : Book) → AllTaken s b (takenFrom s b xs)
+unfolding answersFrom takenFrom enter
+taken-all-from s [] b = refl
+taken-all-from s (x ∷ xs) b = go (answer s b x) refl (taken-all-from s xs)
+  where
+    go : (w : Answer) → answer s b x ≡ w → ((b : Book) → AllTaken s b (takenFrom s b xs))
+        → AllTaken s b (keep w x (takenFrom s (entered w (step s (bit x) b) b) xs))
+    go taken e ih =
+        ap (λ (w : Answer). w ∷ answersFrom s (entered w (step s (bit x) b) b) (takenFrom s (step s (bit x) b) xs)) e
+        ∙ ap (λ (ws : List Answer). taken ∷ ws) (ih (step s (bit x) b))
+    go (refused n p) e ih = ih b
+
+pub taken-all : (s : Table) (xs : List ℕ) → AllTaken s emptyBook (takenOf s xs)
+taken-all s xs = taken-all-from s xs emptyBook
+
+-- .. and of a list whose advances are all taken none is dropped
+taken-same-from : (s : Table) (xs : List ℕ) (b : Book) → AllTaken s b xs → takenFrom s b xs ≡ xs
+unfolding answersFrom takenFrom enter
+taken-same-from s [] b e = refl
+taken-same-from s (x ∷ xs) b e =
+    let h : answer s b x ≡ taken = cc in
+    let t : answersFrom s (entered (answer s b x) (step s (bit x) b) b) xs ≡ replicate (length xs) taken = cc in
+    rw h (ap (λ (l : List ℕ). x ∷ l) (taken-same-from s xs (step s (bit x) b) (rw h at t)))
+
+pub taken-same : (s : Table) (xs : List ℕ) → AllTaken s emptyBook xs → takenOf s xs ≡ xs
+taken-same s xs e = taken-same-from s xs emptyBook e
+
 -- S AND P
 
 -- S of position 1 is its O
@@ -145,12 +187,12 @@ S-later s ok p l =
       offset = λ h. le-antisymm (omega (arith, at-zero h)) (omega arith);
     }
 
--- P is a common multiple of the periods ..
-pub P-multiple : (s : Table) → AllSound s → (p : ℕ) → p < length (s .tasks) → (m : ℕ) × (hyperperiod (s .tasks) ≡ m * task s p .period)
-P-multiple s ok p l = hyperperiod-divides (s .tasks) p (λ q h. le-trans (ok q h .deadline-pos) (ok q h .constrained)) l
-
--- .. and the least that is not 0
-pub P-least :
-    (s : Table) → AllSound s → (n : ℕ) → 0 < n → ((p : ℕ) → p < length (s .tasks) → (m : ℕ) × (n ≡ m * task s p .period))
-    → hyperperiod (s .tasks) ≤ n
-P-least s ok n h d = hyperperiod-least (s .tasks) (λ q l. le-trans (ok q l .deadline-pos) (ok q l .constrained)) n h d
+-- P is the least of the positive common multiples of the periods
+pub P-exact : (s : Table) → AllSound s → LeastCommonMultiple (s .tasks) (hyperperiod (s .tasks))
+P-exact s ok =
+    let periods : Periods (s .tasks) = λ p l. le-trans (ok p l .deadline-pos) (ok p l .constrained) in
+    record {
+      positive = hyperperiod-pos (s .tasks);
+      common = λ p. hyperperiod-divides (s .tasks) p periods;
+      least = hyperperiod-least (s .tasks) periods;
+    }

@@ -1,5 +1,5 @@
 -- The model's full-length run is the scope's: the book of a list whose report sets are all empty, up to the first miss.
-use mathlib.Core.Bool.{_&&_, Bool, false, not, true, true≢false}
+use mathlib.Core.Bool.{_&&_, Bool, cond, false, not, true, true≢false}
 use mathlib.Core.Logic.{_↔_, ⊎-elim}
 use mathlib.Core.Path.{ap, fun-ext, refl, subst, sym, _∙_, _≡_}
 use Prim.Native.Nat.{_+_, _<_, suc, zero, ℕ, _≤_}
@@ -12,8 +12,8 @@ use Rattle.model.proofs.Bools.{and-left, and-right, not-true-false}
 use Rattle.model.proofs.Digits.{bit-none}
 use Rattle.model.proofs.Runs.{full-stays, full-tick, missed-at}
 use Rattle.model.proofs.Search.{any-some, least-none, none-any}
-use Rattle.model.specs.Book.{Book, Missed, Misses, NeverMissed, answer, book, bookFrom, enter, firstLate, full, late, misreported, none, step, taken}
-use Rattle.model.specs.Search.{any}
+use Rattle.model.specs.Book.{Book, Missed, Misses, NeverMissed, answer, book, bookFrom, enter, entered, firstLate, full, late, misreported, none, refused, step, taken}
+use Rattle.model.specs.Search.{any, bit}
 use Rattle.model.specs.Task.{Table, due, task}
 
 -- a late place has a job that is due and has not ended
@@ -75,6 +75,42 @@ full-length s n h = go-on s n 0 (λ t p g l. none t p (omega arith) l) ∙ ap (f
   where
     none : (t p : ℕ) → t < n → p < length (s .tasks) → late s (full s t) p ≡ false
     none t p g l = not-true-false (late s (full s t) p) (λ e. let x = late-missed s t p l e in h p (x .0) (omega arith) (x .2))
+
+-- PAST A MISS the book of empty report sets stays: it is always the full-length run at its own tick
+
+-- an empty report set is taken where nobody is late, and else refused
+pub enter-empty : (s : Table) (b : Book) → enter s 0 b ≡ cond (ltb (firstLate s b) (length (s .tasks))) b (step s none b)
+unfolding enter answer misreported any
+enter-empty s b = go (ltb (firstLate s b) (length (s .tasks)))
+  where
+    go : (t : Bool) → entered (cond t (refused 15 (suc (firstLate s b))) taken) (step s (bit 0) b) b ≡ cond t b (step s none b)
+    go true = refl
+    go false = ap (λ (f : ℕ → Bool). step s f b) (fun-ext bit-none)
+
+pub empty-more :
+    (s : Table) (n : ℕ) (b : Book)
+    → bookFrom s b (replicate (suc n) 0) ≡ bookFrom s (cond (ltb (firstLate s b) (length (s .tasks))) b (step s none b)) (replicate n 0)
+unfolding bookFrom
+empty-more s n b = ap (λ (b : Book). bookFrom s b (replicate n 0)) (enter-empty s b)
+
+stays-full : (s : Table) (n t : ℕ) → (u : ℕ) × (bookFrom s (full s t) (replicate n 0) ≡ full s u)
+stays-full s zero t = unfold bookFrom in (t, refl)
+stays-full s (suc n) t =
+    let x = go (ltb (firstLate s (full s t)) (length (s .tasks))) (stays-full s n t) (stays-full s n (suc t)) in
+    (x .0, empty-more s n (full s t) ∙ x .1)
+  where
+    go : (b : Bool)
+        → (u : ℕ) × (bookFrom s (full s t) (replicate n 0) ≡ full s u)
+        → (u : ℕ) × (bookFrom s (full s (suc t)) (replicate n 0) ≡ full s u)
+        → (u : ℕ) × (bookFrom s (cond b (full s t) (step s none (full s t))) (replicate n 0) ≡ full s u)
+    go true x y = x
+    go false x y = unfold full in y
+
+pub empty-full : (s : Table) (n : ℕ) → book s (replicate n 0) ≡ full s (book s (replicate n 0) .tick)
+unfolding full
+empty-full s n =
+    let x = stays-full s n 0 in
+    x .1 ∙ ap (full s) (sym (ap (λ (b : Book). b .tick) (x .1) ∙ full-tick s (x .0)))
 
 -- so no deadline is ever missed exactly if none is in the book of any number of empty report sets
 pub never-missed-exact : (s : Table) → NeverMissed s ↔ ((n p : ℕ) → ¬ Misses s (book s (replicate n 0)) p)

@@ -1,16 +1,18 @@
 -- Idling: at full length it gives the rows of greedy, and whatever is reported it gives the rows of its full-length run.
-use mathlib.Core.Bool.{Bool, cond, false, true}
+use mathlib.Core.Bool.{Bool, cond, false, false≢true, true, true≢false}
 use mathlib.Core.List.{List, [], _∷_}
 use mathlib.Core.Logic.{inl, inr}
-use mathlib.Core.Path.{ap, refl, subst, _∙_, _≡_}
+use mathlib.Core.Path.{ap, refl, subst, sym, _∙_, _≡_}
 use Prim.Native.Nat.{suc, zero, ℕ, _≤_}
-use lib.ListN.{length-map}
+use lib.Dec.{ltb}
+use lib.ListN.{length, length-map, replicate}
 use borrow.Author.Tests.{le-ltb}
+use Rattle.model.proofs.FullLength.{empty-full, empty-more}
 use Rattle.model.proofs.Grants.{claimants-same}
 use Rattle.model.proofs.Jobs.{mk}
 use Rattle.model.proofs.Runs.{full-claimed}
 use Rattle.model.proofs.Sustain.{abreast-full, same-task-claims}
-use Rattle.model.specs.Book.{Book, book, claims, full, grantsOf, jobClaims, none, rowOf, served, step, taskClaims, widths, work}
+use Rattle.model.specs.Book.{Book, asked, book, bookFrom, claims, firstLate, full, grantsOf, jobClaims, late, none, rowOf, served, step, taskClaims, widths, work}
 use Rattle.model.specs.Grants.{Claimant, claimants, given, grants, left}
 use Rattle.model.specs.Row.{row}
 use Rattle.model.specs.Search.{upFrom}
@@ -68,11 +70,55 @@ module _ (τs : List Task) (m : ℕ) where
   same-full zero = refl
   same-full (suc n) = same-step n (same-full n)
 
+  -- the same places are late under both, so the books of empty report sets stay at the same tick
+  same-late : (t : ℕ) → ltb (firstLate I (full I t)) (length τs) ≡ ltb (firstLate G (full G t)) (length τs)
+  unfolding late
+  same-late t = ap (λ (b : Book). ltb (firstLate I b) (length τs)) (same-full t)
+
+  same-books : (n t : ℕ) → bookFrom I (full I t) (replicate n 0) ≡ bookFrom G (full G t) (replicate n 0)
+  same-books zero t = unfold bookFrom in same-full t
+  same-books (suc n) t =
+      empty-more I n (full I t)
+      ∙ (go (ltb (firstLate I (full I t)) (length τs)) (ltb (firstLate G (full G t)) (length τs)) (same-late t) (same-books n t) (same-books n (suc t))
+      ∙ sym (empty-more G n (full G t)))
+    where
+      go : (a b : Bool) → a ≡ b
+          → bookFrom I (full I t) (replicate n 0) ≡ bookFrom G (full G t) (replicate n 0)
+          → bookFrom I (full I (suc t)) (replicate n 0) ≡ bookFrom G (full G (suc t)) (replicate n 0)
+          → bookFrom I (cond a (full I t) (step I none (full I t))) (replicate n 0) ≡ bookFrom G (cond b (full G t) (step G none (full G t))) (replicate n 0)
+      go true true e x y = x
+      go false false e x y = unfold full in y
+      go true false e x y = absurd (true≢false e)
+      go false true e x y = absurd (false≢true e)
+
+  same-asked : (b : Book) → rowOf I b ≡ rowOf G b → asked I b ≡ asked G b
+  unfolding asked late
+  same-asked b e = rw e
+
 -- THE THEOREM: at full length idling and greedy give equal rows
 pub idling-greedy : (τs : List Task) (m n : ℕ) → rowOf (under idling τs m) (full (under idling τs m) n) ≡ rowOf (under greedy τs m) (full (under greedy τs m) n)
 idling-greedy τs m n = ap (row m) (same-grants τs m n (same-full τs m n))
 
--- THE THEOREM (001, definition 16): under idling the cores, and so the row, of any book are those of the full-length run at its tick
+-- the same of the books of n empty report sets, past a miss too: the books are equal ..
+pub idling-greedy-books : (τs : List Task) (m n : ℕ) → book (under idling τs m) (replicate n 0) ≡ book (under greedy τs m) (replicate n 0)
+unfolding full
+idling-greedy-books τs m n = same-books τs m n 0
+
+-- .. and so is what a row asked is answered, the row or 15 with its position
+pub idling-greedy-asked :
+    (τs : List Task) (m n : ℕ)
+    → asked (under idling τs m) (book (under idling τs m) (replicate n 0)) ≡ asked (under greedy τs m) (book (under greedy τs m) (replicate n 0))
+idling-greedy-asked τs m n =
+    let i : Table = under idling τs m in
+    let g : Table = under greedy τs m in
+    let b : Book = book i (replicate n 0) in
+    let e : b ≡ book g (replicate n 0) = idling-greedy-books τs m n in
+    let at : b ≡ full i (b .tick) = empty-full i n in
+    let at′ : b ≡ full g (b .tick) =
+    e ∙ (empty-full g n ∙ ap (λ (c : Book). full g (c .tick)) (sym e)) in
+    same-asked τs m b (ap (rowOf i) at ∙ (idling-greedy τs m (b .tick) ∙ ap (rowOf g) (sym at′))) ∙ ap (asked g) e
+
+-- THE THEOREM (Goossens and Berten, definition 16): under idling the cores, and so the row, of any book are those of the full-length run at its tick
 pub idling-grants : (s : Table) → AllSound s → s .rule ≡ idling → (xs : List ℕ) → grantsOf s (book s xs) ≡ grantsOf s (full s (book s xs .tick))
 idling-grants s ok e xs =
     ap (λ (x : List Claimant). grants (s .rule) x (upFrom 0 (s .cores)))

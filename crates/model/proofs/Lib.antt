@@ -7,6 +7,7 @@ pub mod Jobs
 pub mod Grants
 pub mod Rows
 pub mod Runs
+pub mod Compare
 pub mod FullLength
 pub mod Multiples
 pub mod Starts

@@ -2,19 +2,21 @@
 use mathlib.Core.Bool.{Bool, cond, false, true}
 use mathlib.Core.List.{List, [], map, _∷_}
 use mathlib.Core.Logic.{inl, inr, _⊎_, ⊎-elim}
-use mathlib.Core.Path.{ap, ap₂, refl, subst, sym, _∙_, _≡_}
+use mathlib.Core.Path.{ap, ap₂, refl, subst, subst₂, sym, _∙_, _≡_}
 use Prim.Native.Nat.{_+_, _<_, suc, zero, ℕ, _≤_}
 use native.Mathlib.Nat.{le-refl}
 use native.Mathlib.Omega.{arith}
 use lib.Dec.{leb, ltb}
-use lib.ListN.{getD, length, replicate, take}
+use lib.ListN.{getD, replicate, take}
 use lib.Pow.{high}
 use lib.Seq.{getD-take}
 use borrow.Author.Tests.{le-ltb, leb-false, leb-true, lt-ltb}
+use Rattle.model.proofs.FullLength.{empty-full}
 use Rattle.model.proofs.Grants.{claimants-prefix, claimants-take, grants-take}
-use Rattle.model.specs.Book.{Book, answer, answersFrom, book, bookFrom, emptyBook, enter, entered, full, grantsOf, jobClaims, none, served, step, taken, taskClaims, widths}
+use Rattle.model.proofs.Runs.{book-run, run}
+use Rattle.model.specs.Book.{Book, book, emptyBook, full, grantsOf, jobClaims, none, served, step, takenOf, taskClaims, widths}
 use Rattle.model.specs.Grants.{claimants}
-use Rattle.model.specs.Local.{Alike, AllTaken, SameCores, SameReports, upTo}
+use Rattle.model.specs.Local.{Alike, SameCores, SameReports, upTo}
 use Rattle.model.specs.Row.{owner, row}
 use Rattle.model.specs.Search.{bit, memb, upFrom}
 use Rattle.model.specs.Task.{Table, Task, newest, nobody, task}
@@ -145,31 +147,32 @@ module _ (n : ℕ) (s s′ : Table) (al : Alike n s s′) where
   full-agree zero = start-agree
   full-agree (suc t) = same-step none none (λ q l. refl) (full s t) (full s′ t) (full-agree t)
 
-  lists-agree :
+  runs-agree :
       (xs ys : List ℕ) → SameReports n xs ys → (b b′ : Book) → Agree n b b′
-      → AllTaken s b xs → AllTaken s′ b′ ys → Agree n (bookFrom s b xs) (bookFrom s′ b′ ys)
-  unfolding SameReports bookFrom answersFrom enter
-  lists-agree [] [] r b b′ ag e e′ = ag
-  lists-agree [] (y ∷ ys) r b b′ ag e e′ = absurd r
-  lists-agree (x ∷ xs) [] r b b′ ag e e′ = absurd r
-  lists-agree (x ∷ xs) (y ∷ ys) r b b′ ag e e′ =
-      let h : answer s b x ≡ taken = cc in
-      let h′ : answer s′ b′ y ≡ taken = cc in
-      rw (h, h′)
-      (lists-agree xs ys (r .1) (step s (bit x) b) (step s′ (bit y) b′) (same-step (bit x) (bit y) (r .0) b b′ ag)
-      (rest s b x xs h e) (rest s′ b′ y ys h′ e′))
-    where
-      rest : (s : Table) (b : Book) (x : ℕ) (xs : List ℕ) → answer s b x ≡ taken
-          → answer s b x ∷ answersFrom s (entered (answer s b x) (step s (bit x) b) b) xs ≡ taken ∷ replicate (length xs) taken
-          → AllTaken s (step s (bit x) b) xs
-      rest s b x xs h e = let t : answersFrom s (entered (answer s b x) (step s (bit x) b) b) xs ≡ replicate (length xs) taken = cc in rw h at t
+      → Agree n (run s b (map bit xs)) (run s′ b′ (map bit ys))
+  unfolding SameReports run
+  runs-agree [] [] r b b′ ag = ag
+  runs-agree [] (y ∷ ys) r b b′ ag = absurd r
+  runs-agree (x ∷ xs) [] r b b′ ag = absurd r
+  runs-agree (x ∷ xs) (y ∷ ys) r b b′ ag =
+      runs-agree xs ys (r .1) (step s (bit x) b) (step s′ (bit y) b′) (same-step (bit x) (bit y) (r .0) b b′ ag)
 
   -- THE THEOREM, for the full-length runs
   pub local-full : (t : ℕ) → SameCores n s (full s t) s′ (full s′ t)
   local-full t = shown-alike (full s t) (full s′ t) (full-agree t)
 
-  -- THE THEOREM, for two lists of equal length, all taken, whose report sets agree on positions 1 to n
-  pub local-lists :
-      (xs ys : List ℕ) → SameReports n xs ys → AllTaken s emptyBook xs → AllTaken s′ emptyBook ys
-      → SameCores n s (book s xs) s′ (book s′ ys)
-  local-lists xs ys r e e′ = shown-alike (book s xs) (book s′ ys) (lists-agree xs ys r emptyBook emptyBook start-agree e e′)
+  -- the same of books of empty report sets: at every tick that both reach (up to the first miss, all: `full-length`)
+  pub local-empty :
+      (t u : ℕ) → book s (replicate t 0) .tick ≡ book s′ (replicate u 0) .tick
+      → SameCores n s (book s (replicate t 0)) s′ (book s′ (replicate u 0))
+  local-empty t u e =
+      subst₂ (λ (a b : Book). SameCores n s a s′ b)
+      (sym (empty-full s t)) (sym (empty-full s′ u ∙ ap (full s′) (sym e)))
+      (local-full (book s (replicate t 0) .tick))
+
+  -- THE THEOREM, for any two lists whose taken advances agree on positions 1 to n; what is refused changes nothing and is dropped
+  pub local-lists : (xs ys : List ℕ) → SameReports n (takenOf s xs) (takenOf s′ ys) → SameCores n s (book s xs) s′ (book s′ ys)
+  local-lists xs ys r =
+      shown-alike (book s xs) (book s′ ys)
+      (subst₂ (Agree n) (sym (book-run s xs emptyBook)) (sym (book-run s′ ys emptyBook))
+      (runs-agree (takenOf s xs) (takenOf s′ ys) r emptyBook emptyBook start-agree))

@@ -1,14 +1,15 @@
 -- Books as runs of advances that are all entered: their ticks, what holds of every line, and the book of a list as such a run.
 use mathlib.Core.Bool.{Bool, false, false≢true, true}
-use mathlib.Core.List.{List, [], _∷_}
-use mathlib.Core.Path.{ap, refl, sym, _∙_, _≡_}
+use mathlib.Core.List.{List, [], map, _∷_}
+use mathlib.Core.Path.{ap, fun-ext, refl, subst, sym, _∙_, _≡_}
 use Prim.Native.Nat.{_+_, _<_, suc, zero, ℕ, _≤_}
 use native.Mathlib.Nat.{add-suc, add-zero, le-trans, zero-add}
 use native.Mathlib.Omega.{arith}
 use lib.ListN.{length, replicate}
 use Rattle.model.proofs.Bools.{and-left, not-true-false}
+use Rattle.model.proofs.Digits.{bit-none}
 use Rattle.model.proofs.Jobs.{Good, after-release, good-fresh, good-next, mk, next, next-ended, whole-next}
-use Rattle.model.specs.Book.{Answer, Book, Missed, answer, book, bookFrom, emptyBook, enter, entered, fresh, full, inRow, jobClaims, none, refused, served, step, taken, work}
+use Rattle.model.specs.Book.{Answer, Book, Missed, answer, book, bookFrom, emptyBook, enter, entered, fresh, full, inRow, jobClaims, keep, none, refused, served, step, taken, takenFrom, takenOf, work}
 use Rattle.model.specs.Search.{bit}
 use Rattle.model.specs.Task.{AllSound, Table, due, release, task}
 
@@ -71,13 +72,33 @@ unfolding run full
 full-run s zero = refl
 full-run s (suc n) = step-last s n emptyBook ∙ ap (step s none) (full-run s n)
 
+-- every job that has ended in a book has had C ticks
+abbrev pub WholeBook : Table → Book → Type 0
+WholeBook s b = (p k : ℕ) → b .job p k .ended ≡ true → task s p .length ≤ b .job p k .had
+
+whole-step : (s : Table) (b : Book) → WholeBook s b → WholeBook s (step s none b)
+unfolding step
+whole-step s b w p k =
+    whole-next (task s p .length) (served s b p k) (b .job p k .had) (b .job p k .claimed) (b .job p k .ended) (w p k)
+
 -- in it a job ends only at C ticks, and stays ended
-pub full-whole : (s : Table) (n p k : ℕ) → full s n .job p k .ended ≡ true → task s p .length ≤ full s n .job p k .had
-unfolding full step
+pub full-whole : (s : Table) (n : ℕ) → WholeBook s (full s n)
+unfolding full
 full-whole s zero p k e = absurd (false≢true e)
-full-whole s (suc n) p k e =
-    whole-next (task s p .length) (served s (full s n) p k) (full s n .job p k .had) (full s n .job p k .claimed) (full s n .job p k .ended)
-    (full-whole s n p k) e
+full-whole s (suc n) p k e = whole-step s (full s n) (full-whole s n) p k e
+
+-- and so in the book of empty report sets, past a miss too
+whole-from : (s : Table) (n : ℕ) (b : Book) → WholeBook s b → WholeBook s (bookFrom s b (replicate n 0))
+unfolding bookFrom enter
+whole-from s zero b w = w
+whole-from s (suc n) b w = whole-from s n (enter s 0 b) (go (answer s b 0))
+  where
+    go : (a : Answer) → WholeBook s (entered a (step s (bit 0) b) b)
+    go taken = subst (λ (f : ℕ → Bool). WholeBook s (step s f b)) (sym (fun-ext bit-none)) (whole-step s b w)
+    go (refused n p) = w
+
+pub whole-empty : (s : Table) (n : ℕ) → WholeBook s (book s (replicate n 0))
+whole-empty s n = whole-from s n emptyBook (λ p k e. absurd (false≢true e))
 
 -- the ticks claimed are no fewer than those had
 had-claimed : (C : ℕ) (f s : Bool) (h c : ℕ) (e : Bool) → h ≤ c → next C f s (mk h c e) .had ≤ next C f s (mk h c e) .claimed
@@ -109,23 +130,22 @@ run-tick s [] b = sym (add-zero (b .tick))
 run-tick s (f ∷ fs) b = run-tick s fs (step s f b) ∙ omega arith
 
 -- THE REFUSING LISTS: the book of a list is the run of those of its advances that are taken
-unfoldable pub keep : Answer → (ℕ → Bool) → List (ℕ → Bool) → List (ℕ → Bool)
-keep taken f fs = f ∷ fs
-keep (refused n p) f fs = fs
-
-unfoldable pub kept : Table → Book → List ℕ → List (ℕ → Bool)
-kept s b [] = []
-kept s b (x ∷ xs) = keep (answer s b x) (bit x) (kept s (enter s x b) xs)
-
-pub book-run : (s : Table) (xs : List ℕ) (b : Book) → bookFrom s b xs ≡ run s b (kept s b xs)
-unfolding bookFrom kept keep run enter
+pub book-run : (s : Table) (xs : List ℕ) (b : Book) → bookFrom s b xs ≡ run s b (map bit (takenFrom s b xs))
+unfolding bookFrom takenFrom run enter
 book-run s [] b = refl
 book-run s (x ∷ xs) b = go (answer s b x) (book-run s xs)
   where
-    go : (w : Answer) → ((b : Book) → bookFrom s b xs ≡ run s b (kept s b xs))
-        → bookFrom s (entered w (step s (bit x) b) b) xs ≡ run s b (keep w (bit x) (kept s (entered w (step s (bit x) b) b) xs))
+    go : (w : Answer) → ((b : Book) → bookFrom s b xs ≡ run s b (map bit (takenFrom s b xs)))
+        → bookFrom s (entered w (step s (bit x) b) b) xs ≡ run s b (map bit (keep w x (takenFrom s (entered w (step s (bit x) b) b) xs)))
     go taken ih = ih (step s (bit x) b)
     go (refused n p) ih = ih b
 
-pub book-tick : (s : Table) (xs : List ℕ) → length (kept s emptyBook xs) ≡ book s xs .tick
-book-tick s xs = sym (ap (λ (b : Book). b .tick) (book-run s xs emptyBook) ∙ (run-tick s (kept s emptyBook xs) emptyBook ∙ zero-add (length (kept s emptyBook xs))))
+-- the list's tick is how many are taken
+pub book-tick : (s : Table) (xs : List ℕ) → length (map bit (takenOf s xs)) ≡ book s xs .tick
+book-tick s xs =
+    sym (ap (λ (b : Book). b .tick) (book-run s xs emptyBook) ∙ (run-tick s (map bit (takenOf s xs)) emptyBook ∙ zero-add (length (map bit (takenOf s xs)))))
+
+-- so every line of it is good
+pub good-book : (s : Table) → AllSound s → (xs : List ℕ) → GoodBook s (book s xs)
+good-book s ok xs =
+    subst (GoodBook s) (sym (book-run s xs emptyBook)) (good-run s ok (map bit (takenOf s xs)) emptyBook (good-start s ok))

@@ -7,7 +7,7 @@ use native.Mathlib.Nat.{div-add-mod', div-mul-cancel, dvd-mul-left, dvd-trans, o
 use native.Mathlib.Omega.{arith}
 use lib.ListN.{getD, length, take}
 use Rattle.model.proofs.Multiples.{lcm-assoc, lcm-comm, lcm-divides, lcm-left, lcm-pos, lcm-right}
-use Rattle.model.specs.Horizon.{S, hyperperiod, lastS, lcm, releaseFrom}
+use Rattle.model.specs.Horizon.{CommonMultiple, S, hyperperiod, lastS, lcm, releaseFrom}
 use Rattle.model.specs.Task.{Task, nobody, release}
 
 -- every period is positive
@@ -74,9 +74,7 @@ hyperperiod-common (τ ∷ τs) h n d =
     lcm-divides (τ .period) (hyperperiod τs) n (h 0 (omega arith)) (hyperperiod-pos τs) (d 0 (omega arith))
     (hyperperiod-common τs (λ p l. h (suc p) (omega arith)) n (λ p l. d (suc p) (omega arith)))
 
-pub hyperperiod-least :
-    (τs : List Task) → Periods τs → (n : ℕ) → 0 < n → ((p : ℕ) → p < length τs → (m : ℕ) × (n ≡ m * getD τs p nobody .period))
-    → hyperperiod τs ≤ n
+pub hyperperiod-least : (τs : List Task) → Periods τs → (n : ℕ) → 0 < n → CommonMultiple τs n → hyperperiod τs ≤ n
 hyperperiod-least τs h n pos d =
     le-of-dvd pos
     (hyperperiod-common τs h n

@@ -1,43 +1,26 @@
 -- Sustainability: under a firm rule, of two runs at one tick of which the first has no longer job, the first is behind on none.
 -- Whoever runs in the longer run and still claims in the shorter one runs there too.
 use mathlib.Core.Bool.{Bool, false, false≢true, true}
-use mathlib.Core.List.{List, [], _∷_}
-use mathlib.Core.Logic.{inl, inr, _⊎_}
+use mathlib.Core.List.{List, [], map, _∷_}
+use mathlib.Core.Logic.{inl, inr}
 use mathlib.Core.Path.{ap, refl, subst, subst₂, sym, _∙_, _≡_}
 use Prim.Native.Nat.{_<_, suc, ℕ}
 use native.Mathlib.Nat.{suc-inj, suc-ne-zero}
 use native.Mathlib.Omega.{arith}
 use lib.ListN.{List·getD-map, getD, length, length-map, length-replicate, replicate}
 use Rattle.model.proofs.Bools.{and-both, and-left, and-right, not-false-true}
+use Rattle.model.proofs.Compare.{none-longer}
 use Rattle.model.proofs.Grants.{RisingList, claimants-same, greedy-limited, limited-mono}
-use Rattle.model.proofs.Jobs.{Good, Letting, abreast, after-release, before-due, claims-less, claims-open, idle-claims, longer-left, longer-right, newest-is, next-claimed}
-use Rattle.model.proofs.Runs.{GoodBook, book-run, book-tick, full-run, full-whole, good-run, good-start, good-step, kept, run}
-use Rattle.model.specs.Book.{Book, book, claims, emptyBook, fresh, full, inRow, jobClaims, none, served, step, taskClaims, widths}
+use Rattle.model.proofs.Jobs.{Letting, abreast, after-release, before-due, claims-less, claims-open, idle-claims, longer-left, longer-right, newest-is, next-claimed}
+use Rattle.model.proofs.Runs.{GoodBook, book-run, book-tick, full-run, full-whole, good-run, good-start, good-step, run}
+use Rattle.model.specs.Book.{Book, book, claims, emptyBook, fresh, full, inRow, jobClaims, none, served, step, takenOf, taskClaims, widths}
 use Rattle.model.specs.Compare.{Behind, Longer, NoneBehind, NoneLonger}
 use Rattle.model.specs.Grants.{claimants, grants, some}
-use Rattle.model.specs.Search.{upFrom}
+use Rattle.model.specs.Search.{bit, upFrom}
 use Rattle.model.specs.Task.{AllSound, Rule, Table, greedy, idling, limited, newest, nobody, task}
 use Rattle.model.specs.Verdict.{FirmRule, Rising}
--- fewer claims take no cores from a task that still claims
-use mathlib.Core.Bool.{Bool, false, false≢true, true}
-use mathlib.Core.List.{List, [], _∷_}
-use mathlib.Core.Logic.{inl, inr, _⊎_}
-use mathlib.Core.Path.{ap, refl, subst, subst₂, sym, _∙_, _≡_}
-use Prim.Native.Nat.{_<_, suc, ℕ}
-use native.Mathlib.Nat.{suc-inj, suc-ne-zero}
-use native.Mathlib.Omega.{arith}
-use lib.ListN.{getD, length, length-replicate, replicate}
-use Rattle.model.proofs.Bools.{and-both, and-left, and-right, not-false-true}
-use Rattle.model.proofs.Grants.{RisingList, claimants-same, greedy-limited, limited-mono}
-use Rattle.model.proofs.Jobs.{Good, Letting, abreast, after-release, before-due, claims-less, claims-open, idle-claims, longer-left, longer-right, newest-is, next-claimed}
-use Rattle.model.proofs.Runs.{GoodBook, book-run, book-tick, full-run, full-whole, good-run, good-start, good-step, kept, run}
-use Rattle.model.specs.Book.{Book, book, claims, fresh, full, inRow, jobClaims, none, served, emptyBook, step, taskClaims}
-use Rattle.model.specs.Compare.{Behind, Longer, NoneBehind, NoneLonger}
-use Rattle.model.specs.Grants.{claimants, grants, some}
-use Rattle.model.specs.Search.{upFrom}
-use Rattle.model.specs.Task.{AllSound, Rule, Table, greedy, idling, limited, newest, task}
-use Rattle.model.specs.Verdict.{FirmRule}
 
+-- fewer claims take no cores from a task that still claims
 abbrev pub GrantsMono : Rule → List ℕ → Type 0
 GrantsMono r ws =
     (c d : ℕ → Bool) (F : List ℕ) → ((q : ℕ) → q < length ws → c q ≡ true → d q ≡ true)
@@ -188,24 +171,12 @@ module _ (s : Table) (ok : AllSound s) where
       never (o, inr d) = omega arith
 
 module _ (s : Table) (ok : AllSound s) where
-  -- no job of any run is longer than at full length
-  none-longer : (fs : List (ℕ → Bool)) → NoneLonger s (run s emptyBook fs) (full s (length fs))
-  none-longer fs p k l (e, x) = go x
-    where
-      ga : Good (task s p .length) (run s emptyBook fs .job p k)
-      ga = good-run s ok fs emptyBook (good-start s ok) p k l
-
-      go : (full s (length fs) .job p k .had < run s emptyBook fs .job p k .had)
-          ⊎ ((run s emptyBook fs .job p k .had ≡ full s (length fs) .job p k .had) × (run s emptyBook fs .job p k .ended ≡ false)) → ⊥
-      go (inl h) = omega (arith, ga .within, full-whole s (length fs) p k e)
-      go (inr h) = omega (arith, ga .short (h .1), h .0, full-whole s (length fs) p k e)
-
-  -- so a run goes abreast of the full-length run
+  -- no job of a run is longer than at full length, so a run goes abreast of the full-length run
   abreast-run : Kind s → (fs : List (ℕ → Bool)) → Abreast s (run s emptyBook fs) (full s (length fs))
   abreast-run kd fs =
       subst (λ (b : Book). NoneLonger s (run s emptyBook fs) b → Abreast s (run s emptyBook fs) b) (full-run s (length fs))
       (two-runs s ok kd fs (replicate (length fs) none) (sym (length-replicate (length fs) none)) emptyBook emptyBook (start-abreast s ok))
-      (none-longer fs)
+      (none-longer s (run s emptyBook fs) (full s (length fs)) (good-run s ok fs emptyBook (good-start s ok)) (full-whole s (length fs)))
 
   -- THE SAME OF LISTS OF REPORT SETS, refused advances included
   module _ (firmly : FirmRule s) where
@@ -215,13 +186,13 @@ module _ (s : Table) (ok : AllSound s) where
         → NoneLonger s (book s xs) (book s ys) → Abreast s (book s xs) (book s ys)
     abreast-lists xs ys e =
         subst₂ (λ (a b : Book). NoneLonger s a b → Abreast s a b) (sym (book-run s xs emptyBook)) (sym (book-run s ys emptyBook))
-        (two-runs s ok (kind s firmly) (kept s emptyBook xs) (kept s emptyBook ys) (book-tick s xs ∙ (e ∙ sym (book-tick s ys))) emptyBook emptyBook (start-abreast s ok))
+        (two-runs s ok (kind s firmly) (map bit (takenOf s xs)) (map bit (takenOf s ys)) (book-tick s xs ∙ (e ∙ sym (book-tick s ys))) emptyBook emptyBook (start-abreast s ok))
 
     -- a list and the full-length run
     pub abreast-full : (xs : List ℕ) → Abreast s (book s xs) (full s (book s xs .tick))
     abreast-full xs =
         subst (λ (n : ℕ). Abreast s (book s xs) (full s n)) (book-tick s xs)
-        (subst (λ (b : Book). Abreast s b (full s (length (kept s emptyBook xs)))) (sym (book-run s xs emptyBook)) (abreast-run (kind s firmly) (kept s emptyBook xs)))
+        (subst (λ (b : Book). Abreast s b (full s (length (map bit (takenOf s xs))))) (sym (book-run s xs emptyBook)) (abreast-run (kind s firmly) (map bit (takenOf s xs))))
 
     -- what the full-length run has finished is finished
     pub finished : (xs : List ℕ) (p k : ℕ) → p < length (s .tasks) → full s (book s xs .tick) .job p k .ended ≡ true → book s xs .job p k .ended ≡ true

@@ -3,7 +3,7 @@ use mathlib.Core.Bool.{Bool, true, false, not, _&&_, _||_, cond}
 use mathlib.Core.List.{List, [], _∷_, map}
 use mathlib.Core.Path.{_≡_}
 use Prim.Native.Nat.{ℕ, zero, suc, _<_}
-use lib.ListN.{length, getD}
+use lib.ListN.{length, getD, replicate}
 use lib.Dec.{leb, ltb}
 use Rattle.model.specs.Search.{any, least, bit, upFrom}
 use Rattle.model.specs.Task.{Task, Rule, greedy, limited, idling, Table, task, release, due, newest}
@@ -103,7 +103,7 @@ reportable s b p = inRow s b p && not (b .job p (newest (task s p) (b .tick)) .e
 unfoldable pub misreported : Table → Book → ℕ → Bool
 misreported s b x = any x (λ p. bit x p && not (reportable s b p))
 
--- what an advance is answered: taken, or refused with number and position
+-- what a call is answered: taken, or refused with number and position
 pub data Answer : Type 0 where
   taken : Answer
   refused : ℕ → ℕ → Answer
@@ -154,6 +154,24 @@ unfoldable pub takenIn : List Answer → ℕ
 takenIn [] = 0
 takenIn (taken ∷ ws) = suc (takenIn ws)
 takenIn (refused n p ∷ ws) = takenIn ws
+
+-- a report set goes before the others if its advance is taken, and is dropped if it is refused
+abbrev pub keep : Answer → ℕ → List ℕ → List ℕ
+keep taken x xs = x ∷ xs
+keep (refused n p) x xs = xs
+
+-- the report sets of those advances of the list that are taken, from book b on
+unfoldable pub takenFrom : Table → Book → List ℕ → List ℕ
+takenFrom s b [] = []
+takenFrom s b (x ∷ xs) = keep (answer s b x) x (takenFrom s (enter s x b) xs)
+
+-- the taken advances of a list: the book of these alone is the book of the list (`taken-book`)
+abbrev pub takenOf : Table → List ℕ → List ℕ
+takenOf s xs = takenFrom s emptyBook xs
+
+-- every advance of the list is taken, from book b on (it is so of `takenOf`, and then nothing is dropped: `taken-all`, `taken-same`)
+abbrev pub AllTaken : Table → Book → List ℕ → Type 0
+AllTaken s b xs = answersFrom s b xs ≡ replicate (length xs) taken
 
 -- the row asked before each advance of the list, and after the last
 unfoldable pub rowsFrom : Table → Book → List ℕ → List Asked

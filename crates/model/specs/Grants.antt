@@ -1,4 +1,4 @@
--- Who runs in a tick, from who claims (scope, section 'Who runs in a tick'; 001, definitions 5 and 18). Idling chooses as greedy does; its claims are in Book.antt.
+-- Who runs in a tick, from who claims (scope, section 'Who runs in a tick'; Goossens and Berten, definitions 5 and 18). Idling chooses as greedy does; its claims are in Book.antt.
 use mathlib.Core.Bool.{Bool, true, false, _&&_, cond}
 use mathlib.Core.List.{List, [], _∷_}
 use Prim.Native.Nat.{ℕ, suc}
@@ -38,11 +38,6 @@ left r b free = cond (fits b free) (drop (b .width) free) (cond (b .claims && en
 unfoldable pub grants : Rule → List Claimant → List ℕ → List (List ℕ)
 grants r [] free = []
 grants r (b ∷ bs) free = given b free ∷ grants r bs (left r b free)
-
--- the free cores that are still open to choosing after all of them
-unfoldable pub remaining : Rule → List Claimant → List ℕ → List ℕ
-remaining r [] free = free
-remaining r (b ∷ bs) free = remaining r bs (left r b free)
 
 -- a task is given cores: its list is not empty
 abbrev pub some : List ℕ → Bool

@@ -1,7 +1,7 @@
--- How far the judge looks (scope, 'Look-ahead and verdict'; 001, theorem 25): S, P and the horizon.
+-- How far the judge looks (scope, 'Look-ahead and verdict'; Goossens and Berten, theorem 25): S, P and the horizon.
 use mathlib.Core.List.{List, [], _∷_}
 use mathlib.Core.Path.{_≡_}
-use Prim.Native.Nat.{_%_, _*_, _+_, _-_, _/_, suc, zero, ℕ, _≤_}
+use Prim.Native.Nat.{_%_, _*_, _+_, _-_, _/_, _<_, suc, zero, ℕ, _≤_}
 use lib.Dec.{eqb}
 use lib.ListN.{getD, length}
 use Rattle.model.specs.Search.{least}
@@ -24,7 +24,7 @@ lastS τs = S τs (length τs - 1)
 unfoldable pub lcm : ℕ → ℕ → ℕ
 lcm a b = suc (least a (λ k. eqb (suc k * b % a) 0)) * b
 
--- P, the hyperperiod: the least common multiple of the periods (`hyperperiod-least`)
+-- P, the hyperperiod: the least common multiple of the periods (`P-exact`)
 unfoldable pub hyperperiod : List Task → ℕ
 hyperperiod [] = 1
 hyperperiod (τ ∷ τs) = lcm (τ .period) (hyperperiod τs)
@@ -39,3 +39,13 @@ pub record Later (τ : Task) (before here : ℕ) : Type 0 where
   pub not-before : before ≤ here
   pub first : (k : ℕ) → before ≤ release τ k → here ≤ release τ k
   pub offset : before ≤ τ .offset → here ≡ τ .offset
+
+-- n is a multiple of the period of every task
+abbrev pub CommonMultiple : List Task → ℕ → Type 0
+CommonMultiple τs n = (p : ℕ) → p < length τs → (m : ℕ) × (n ≡ m * getD τs p nobody .period)
+
+-- n is the least common multiple of the periods: of their positive common multiples the least (`P-exact` shows it of P)
+pub record LeastCommonMultiple (τs : List Task) (n : ℕ) : Type 0 where
+  pub positive : 0 < n
+  pub common : CommonMultiple τs n
+  pub least : (m : ℕ) → 0 < m → CommonMultiple τs m → n ≤ m

@@ -5,13 +5,13 @@ use mathlib.Core.Path.{_≡_}
 use Prim.Native.Nat.{_<_, ℕ}
 use lib.ListN.{length, replicate}
 use Rattle.model.specs.Book.{Misses, answer, asked, book, refused, rowRefused}
-use Rattle.model.specs.Compare.{NoneBehind, NoneLonger}
+use Rattle.model.specs.Compare.{KeepsAbreast}
 use Rattle.model.specs.Task.{Table}
 
 -- what is claimed of a list xs of report sets
 pub record Kept (s : Table) (xs : List ℕ) : Type 0 where
   -- of two lists at one tick, if no job is longer in the first, the first is behind on no job
-  pub abreast : (ys : List ℕ) → book s xs .tick ≡ book s ys .tick → NoneLonger s (book s xs) (book s ys) → NoneBehind s (book s xs) (book s ys)
+  pub abreast : (ys : List ℕ) → KeepsAbreast s xs ys
   -- every job that the full-length run, the book of empty report sets, has finished by the same tick is finished
   pub finished :
       (p k : ℕ) → p < length (s .tasks)

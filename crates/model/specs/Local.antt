@@ -1,11 +1,11 @@
--- No task changes the core of a task above it (scope, 'Who runs in a tick'): what is compared. `local-full` and `local-lists` show it.
+-- No task changes the core of a task above it (scope, 'Who runs in a tick'): what is compared. `local-full`, `local-empty` and `local-lists` show it.
 use mathlib.Core.Bool.{cond}
 use mathlib.Core.List.{List, [], map, _∷_}
 use mathlib.Core.Path.{_≡_}
 use Prim.Native.Nat.{_<_, ℕ}
 use lib.Dec.{leb}
-use lib.ListN.{getD, length, replicate, take}
-use Rattle.model.specs.Book.{Book, answersFrom, grantsOf, rowOf, taken}
+use lib.ListN.{getD, take}
+use Rattle.model.specs.Book.{Book, grantsOf, rowOf}
 use Rattle.model.specs.Search.{bit}
 use Rattle.model.specs.Task.{Table}
 
@@ -21,10 +21,6 @@ SameReports n [] [] = Unit {0}
 SameReports n [] (y ∷ ys) = ⊥
 SameReports n (x ∷ xs) [] = ⊥
 SameReports n (x ∷ xs) (y ∷ ys) = ((q : ℕ) → q < n → bit x q ≡ bit y q) × SameReports n xs ys
-
--- every advance of the list is taken
-abbrev pub AllTaken : Table → Book → List ℕ → Type 0
-AllTaken s b xs = answersFrom s b xs ≡ replicate (length xs) taken
 
 -- a row as positions 1 to n see it: the bytes of positions below them read 0
 abbrev pub upTo : ℕ → ℕ → ℕ

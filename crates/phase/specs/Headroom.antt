@@ -2,10 +2,11 @@
 use Prim.Native.Nat.{_<_, _≤_}
 use Rattle.phase.specs.declared.Phase.{Phase}
 use Rattle.phase.specs.declared.Phase.the-variants.{Coming, Working, Holding, Resting}
+use Rattle.model.specs.Sizes.{mostWord}
 
 -- one tick can be taken from what is left, or added to what is counted
 abbrev pub Roomy : Phase → Type 0
 Roomy (Coming left) = 1 ≤ left
-Roomy (Working z u) = (z < 4294967295) × (u < 4294967295)
-Roomy (Holding z u) = (z < 4294967295) × (u < 4294967295)
-Roomy (Resting z) = z < 4294967295
+Roomy (Working z u) = (z < mostWord) × (u < mostWord)
+Roomy (Holding z u) = (z < mostWord) × (u < mostWord)
+Roomy (Resting z) = z < mostWord

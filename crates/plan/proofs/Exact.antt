@@ -23,7 +23,7 @@ use Rattle.table.proofs.Passed.{passed-sound}
 use Rattle.plan.specs.declared.Planned.{Planned}
 use Rattle.plan.specs.declared.Planned.the-variants.{Written, Refused}
 use Rattle.plan.specs.Numbers.{RangeOut, BufferOut, MissOut, Applies, words, ten, eleven, twelve, First, NoneApplies}
-use Rattle.plan.specs.Plan.{byPlan, told, plannedOf}
+use Rattle.plan.specs.Plan.{byPlan, plannedBy, plannedOf}
 use Rattle.plan.proofs.Late.{miss-decides}
 
 -- WHAT IS RIGHT OF AN ANSWER
@@ -113,7 +113,7 @@ module _ (ws : List ℕ) (a b bytes : ℕ) where
   unfolding plannedOf
   right = go (answerOf ws) refl
     where
-      go : (x : Answer) → answerOf ws ≡ x → Right (told x (byPlan s a b bytes))
+      go : (x : Answer) → answerOf ws ≡ x → Right (plannedBy x (byPlan s a b bytes))
       go answer.Passed e = right-plan (passed-exact ws .0 e)
       go (answer.Refused n p) e = by-words n p (refusal-exact ws n p .0 e)
 

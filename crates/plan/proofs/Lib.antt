@@ -4,3 +4,5 @@ pub mod Buffer
 pub mod Writing
 pub mod Cases
 pub mod Promise
+pub mod OffChain
+pub mod Examples

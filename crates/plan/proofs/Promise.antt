@@ -6,12 +6,14 @@ use Prim.Native.Nat.{ℕ, _+_, _-_, _*_, _≤_, _<_}
 use lib.ListN.{length, getD, replicate}
 use Rattle.model.specs.Task.{Table, AllSound}
 use Rattle.model.specs.Book.{Book, book, rowOf, full}
+use Rattle.model.specs.Book as model
 use Rattle.model.proofs.FullLength.{full-length}
+use Rattle.model.specs.Sizes.{mostCores}
 use Rattle.table.specs.declared.Answer.{Answer}
 use Rattle.table.specs.declared.Answer.the-variants as answer
 use Rattle.table.specs.declared.Loaded.{Loaded}
 use Rattle.table.specs.Words.{tableOf}
-use Rattle.table.specs.Load.{LoadOf}
+use Rattle.table.specs.Load.{LoadOf, loadTold}
 use Rattle.table.proofs.Exact.{refusal-exact, passed-exact}
 use Rattle.table.proofs.Passed.{passed-cores, passed-sound}
 use Rattle.judge.specs.Judged.{tableIn}
@@ -20,10 +22,19 @@ use Rattle.judge.proofs.Promise.{same-table}
 use Rattle.plan.specs.declared.Planned.{Planned}
 use Rattle.plan.specs.declared.Planned.the-variants.{Written, Refused}
 use Rattle.plan.specs.Numbers.{NoneApplies, words, eleven, twelve}
-use Rattle.plan.specs.Plan.{byPlan, told, plannedOf, bufferOf, PlanOf}
+use Rattle.plan.specs.Plan.{byPlan, plannedBy, plannedOf, over, planTold, bufferOf, PlanOf}
 use Rattle.plan.proofs.Late.{miss-decides}
 use Rattle.plan.proofs.Exact.{refused-exact, written-exact}
 use Rattle.plan.proofs.Buffer.{with-length, over-at, over-past}
+
+-- what is told of an answer determines it
+pub told-written : (v : Planned) → planTold v ≡ model.taken → v ≡ Written
+told-written Written e = refl
+told-written (Refused n p) e = absurd (let z : _≡_ {A = ℕ} 0 1 = cc in omega arith)
+
+pub told-refused : (v : Planned) (n p : ℕ) → planTold v ≡ model.refused n p → v ≡ Refused n p
+told-refused Written n p e = absurd (let z : _≡_ {A = ℕ} 0 1 = cc in omega arith)
+told-refused (Refused m q) n p e = cc
 
 module _ (ws : List ℕ) (a b : ℕ) (old new : List ℕ) where
   abbrev s : Table
@@ -44,61 +55,55 @@ module _ (ws : List ℕ) (a b : ℕ) (old new : List ℕ) where
       not-less : {m n : ℕ} → ¬ (m < n) → n ≤ m
       not-less h = omega arith
 
-  by-value : (v : Planned) → v ≡ plannedOf ws a b (length old) → new ≡ bufferOf v s a b old → PlanOf ws a b old new v
-  by-value Written e f = record {
+  by-value : (v : Planned) → v ≡ plannedOf ws a b (length old) → new ≡ bufferOf (planTold v) s a b old → PlanOf ws a b old new v
+  by-value v e f = record {
     value = e;
-    refused = λ n p. (λ x. refused-exact ws a b (length old) n p .0 (sym e ∙ x), λ x. e ∙ refused-exact ws a b (length old) n p .1 x);
-    written = (λ x. none, λ x. refl);
+    refused = λ n p. (λ x. refused-exact ws a b (length old) n p .0 (sym e ∙ told-refused v n p x), λ x. ap planTold (e ∙ refused-exact ws a b (length old) n p .1 x));
+    written = (none, λ x. ap planTold (e ∙ written-exact ws a b (length old) .1 x));
     buffer = f;
     byte = λ x t c h k l.
-        ap (λ (z : List ℕ). getD z ((t - a) * s .cores + c) 0) f
-        ∙ (over-at s a b t c old h k l ∙ ap (λ (z : Book). getD (rowOf s z) c 0) (sym (same-book none t k)));
-    past = λ x i h. ap (λ (z : List ℕ). getD z i 0) f ∙ over-past s a b i old h;
-    size = ap length f ∙ with-length s a (b - a) old (long none);
-    found = λ n p x. absurd (apart x);
+        ap (λ (z : List ℕ). getD z ((t - a) * s .cores + c) 0) (rows x)
+        ∙ (over-at s a b t c old h k l ∙ ap (λ (z : Book). getD (rowOf s z) c 0) (sym (same-book (none x) t k)));
+    past = λ x i h. ap (λ (z : List ℕ). getD z i 0) (rows x) ∙ over-past s a b i old h;
+    size = go v refl;
+    found = found;
   }
     where
-      none : NoneApplies ws a b (length old)
-      none = written-exact ws a b (length old) .0 (sym e)
+      none : planTold v ≡ model.taken → NoneApplies ws a b (length old)
+      none x = written-exact ws a b (length old) .0 (sym e ∙ told-written v x)
 
-      apart : {n p : ℕ} → Written ≡ Refused n p → ⊥
-      apart x = let z : _≡_ {A = ℕ} 0 1 = cc in omega arith
-  by-value (Refused m q) e f = record {
-    value = e;
-    refused = λ n p. (λ x. refused-exact ws a b (length old) n p .0 (sym e ∙ x), λ x. e ∙ refused-exact ws a b (length old) n p .1 x);
-    written = (λ x. absurd (apart x), λ x. e ∙ written-exact ws a b (length old) .1 x);
-    buffer = f;
-    byte = λ x. absurd (apart x);
-    past = λ x. absurd (apart x);
-    size = ap length f;
-    found = λ n p x. f;
-  }
-    where
-      apart : Refused m q ≡ Written → ⊥
-      apart x = let z : _≡_ {A = ℕ} 0 1 = cc in omega arith
+      rows : planTold v ≡ model.taken → new ≡ over s a b old
+      rows x = f ∙ ap (λ (z : model.Answer). bufferOf z s a b old) x
+
+      found : (n p : ℕ) → planTold v ≡ model.refused n p → new ≡ old
+      found n p x = f ∙ ap (λ (z : model.Answer). bufferOf z s a b old) x
+
+      go : (w : Planned) → v ≡ w → length new ≡ length old
+      go Written x = ap length (rows (ap planTold x)) ∙ with-length s a (b - a) old (long (none (ap planTold x)))
+      go (Refused n p) x = ap length (found n p (ap planTold x))
 
 -- a table that passed has at most 64 cores
-pub cores-most : (ws : List ℕ) (r : Loaded) → LoadOf ws r → r .answer ≡ answer.Passed → r .cores ≤ 64
-cores-most ws r l e = omega (arith, l .holds e .cores, passed-cores ws (l .passed .0 e) .1)
+pub cores-most : (ws : List ℕ) (r : Loaded) → LoadOf ws r → r .answer ≡ answer.Passed → r .cores ≤ mostCores
+cores-most ws r l e = omega (arith, l .holds (ap loadTold e) .cores, passed-cores ws (l .passed .0 (ap loadTold e)) .1)
 
 module _ (ws : List ℕ) (r : Loaded) (l : LoadOf ws r) (a b : ℕ) (old new : List ℕ) where
   -- what is answered of it is answered of the words
   pub passed-plan :
       (v : Planned) → r .answer ≡ answer.Passed
-      → (v ≡ byPlan (tableIn r) a b (length old)) × (new ≡ bufferOf v (tableIn r) a b old) → PlanOf ws a b old new v
+      → (v ≡ byPlan (tableIn r) a b (length old)) × (new ≡ bufferOf (planTold v) (tableIn r) a b old) → PlanOf ws a b old new v
   passed-plan v e x =
       by-value ws a b old new v (x .0 ∙ (ap (λ (s : Table). byPlan s a b (length old)) same ∙ sym is))
-      (x .1 ∙ ap (λ (s : Table). bufferOf v s a b old) same)
+      (x .1 ∙ ap (λ (s : Table). bufferOf (planTold v) s a b old) same)
     where
       same : tableIn r ≡ tableOf ws
       same = same-table ws r l e
 
       is : plannedOf ws a b (length old) ≡ byPlan (tableOf ws) a b (length old)
-      is = unfold plannedOf in ap (λ (y : Answer). told y (byPlan (tableOf ws) a b (length old))) (passed-exact ws .1 (l .passed .0 e))
+      is = unfold plannedOf in ap (λ (y : Answer). plannedBy y (byPlan (tableOf ws) a b (length old))) (passed-exact ws .1 (l .passed .0 (ap loadTold e)))
 
   -- a refusal of the table is the plan's, and the buffer is as found
   pub refused-plan : (n p : ℕ) → r .answer ≡ answer.Refused n p → new ≡ old → PlanOf ws a b old new (Refused n p)
   refused-plan n p e same = by-value ws a b old new (Refused n p) (sym is) same
     where
       is : plannedOf ws a b (length old) ≡ Refused n p
-      is = unfold plannedOf in ap (λ (y : Answer). told y (byPlan (tableOf ws) a b (length old))) (refusal-exact ws n p .1 (l .refused n p .0 e))
+      is = unfold plannedOf in ap (λ (y : Answer). plannedBy y (byPlan (tableOf ws) a b (length old))) (refusal-exact ws n p .1 (l .refused n p .0 (ap loadTold e)))

@@ -1,37 +1,34 @@
--- The writing tick by tick: the machine after the due moments, the row that its claimants give, and the buffer.
+-- The writing tick by tick: the row that the claimants of a tick give, and the buffer.
 use native.Mathlib.Omega.{arith}
-use native.Mathlib.Nat.{mul-le-mul-right, le-trans, suc-mul}
+use native.Mathlib.Nat.{mul-le-mul-right, le-trans, suc-mul, zero-add, suc-add}
 use native.Mathlib.Numerals.{add-one}
-use mathlib.Core.Path.{_≡_, refl, sym, ap, _∙_, subst}
-use mathlib.Core.List.{List, _++_, map}
-use Prim.Native.Nat.{ℕ, suc, _+_, _-_, _*_, _^_, _≤_, _<_}
-use lib.ListN.{length, getD, take, replicate, length-map}
+use mathlib.Core.Path.{_≡_, refl, sym, ap, ap₂, _∙_}
+use mathlib.Core.Bool.{cond}
+use mathlib.Core.List.{List, [], _∷_, _++_, map}
+use Prim.Native.Nat.{ℕ, zero, suc, _+_, _-_, _*_, _≤_, _<_}
+use lib.ListN.{length, getD, take, replicate}
 use lib.Seq.{paste, take-at, take-take}
 use Rattle.model.proofs.Rows.{row-length}
-use Rattle.model.specs.Search.{bit, upFrom}
+use Rattle.model.proofs.Digits.{bit-none}
+use Rattle.model.proofs.Grants.{grants-none}
+use Rattle.model.specs.Search.{bit, memb, upFrom}
 use Rattle.model.specs.Task.{Table, ruleOf}
 use Rattle.model.specs.Grants.{claimants, grants}
-use Rattle.model.specs.Row.{row}
-use Rattle.model.specs.Book.{rowOf, full, Missed, widths}
+use Rattle.model.specs.Row.{owner, row}
+use Rattle.model.specs.Book.{rowOf, full, widths}
+use Rattle.model.specs.Sizes.{mostCores}
 use Rattle.table.specs.declared.Loaded.{Loaded}
-use Rattle.full.specs.declared.columns.Columns.{Columns}
-use Rattle.full.specs.Fields.{columnsOf}
-use Rattle.full.specs.Machine.{Machine, releasedDue, earliest, DueMoments}
-use Rattle.full.proofs.Tied.{Ready}
-use Rattle.full.proofs.Tied as tied
-use Rattle.full.proofs.Bell.{Bell}
-use Rattle.full.proofs.Walk.{earliest-bell}
-use Rattle.full.proofs.Follows.{ready}
-use Rattle.full.proofs.Alike.{widths-first, row-alike}
+use Rattle.full.specs.Machine.{Machine}
+use Rattle.full.proofs.Alike.{row-alike}
 use Rattle.judge.specs.Judged.{tableIn, Fit}
-use Rattle.judge.proofs.Ticks.{size, column, Before, After}
+use Rattle.judge.proofs.Ticks.{size, same-widths, After}
 use Rattle.plan.specs.Plan.{over}
 use Rattle.plan.proofs.Buffer.{over-none, over-more, with-length}
 
 -- the bytes of a tick in which the places of the set c claim, by a column of widths
 abbrev pub RowBy : Loaded → List ℕ → ℕ → List ℕ → Type 0
 RowBy t v c bytes =
-    bytes ≡ row (t .cores) (grants (ruleOf (t .rule)) (claimants (take (t .count) v) (bit c)) (upFrom 0 (t .cores))) ++ replicate (64 - t .cores) 0
+    bytes ≡ row (t .cores) (grants (ruleOf (t .rule)) (claimants (take (t .count) v) (bit c)) (upFrom 0 (t .cores))) ++ replicate (mostCores - t .cores) 0
 
 -- by the table's widths
 abbrev pub RowFor : Loaded → ℕ → List ℕ → Type 0
@@ -92,59 +89,45 @@ filled-more t a b tick at at′ old out out′ row f h k enough e ea eo =
         ∙ (ap (λ (n : ℕ). paste (over (tableIn t) a tick old) n row (t .cores)) (f .next)
         ∙ over-more (tableIn t) a tick old row h e))
 
+-- THE ROW
+
+-- the row where nobody claims: no core has an owner
+owner-none : (c p : ℕ) (gs : List (List ℕ)) → ((q : ℕ) → getD gs q [] ≡ []) → owner c p gs ≡ 0
+unfolding owner memb
+owner-none c p [] h = refl
+owner-none c p (g ∷ gs) h =
+    ap (λ (l : List ℕ). cond (memb c l) p (owner c (suc p) gs)) (h 0) ∙ owner-none c (suc p) gs (λ q. h (suc q))
+
+zeros-of : (f : ℕ → ℕ) (k m : ℕ) → ((c : ℕ) → f c ≡ 0) → map f (upFrom k m) ≡ replicate m 0
+unfolding upFrom
+zeros-of f k zero h = refl
+zeros-of f k (suc m) h = ap₂ (λ (x : ℕ) (l : List ℕ). x ∷ l) (h k) (zeros-of f (suc k) m h)
+
+abbrev zeros : ℕ → List ℕ
+zeros n = replicate n 0
+
+zeros-join : (m n : ℕ) → zeros m ++ zeros n ≡ zeros (m + n)
+zeros-join zero n = ap zeros (sym (zero-add n))
+zeros-join (suc m) n = ap (λ (l : List ℕ). 0 ∷ l) (zeros-join m n) ∙ ap zeros (sym (suc-add m n))
+
+pub row-begins : (t : Loaded) → t .cores ≤ mostCores → RowFor t 0 (replicate mostCores 0)
+unfolding row
+row-begins t l =
+    let e : t .cores + (mostCores - t .cores) ≡ mostCores = omega arith in
+    sym
+    (ap (λ (l : List ℕ). l ++ replicate (mostCores - t .cores) 0)
+    (zeros-of (λ c. owner c 1 given) 0 (t .cores) (λ c. owner-none c 1 given (λ q. grants-none (ruleOf (t .rule)) ws (bit 0) (upFrom 0 (t .cores)) q (bit-none q))))
+    ∙ (zeros-join (t .cores) (mostCores - t .cores) ∙ ap zeros e))
+  where
+    ws : List ℕ
+    ws = take (t .count) (map (λ x. x .width) (t .tasks))
+
+    given : List (List ℕ)
+    given = grants (ruleOf (t .rule)) (claimants ws (bit 0)) (upFrom 0 (t .cores))
+
 module _ (t : Loaded) (fit : Fit t) where
   abbrev s : Table
   s = tableIn t
-
-  few : length (s .tasks) ≤ 32
-  few = omega (arith, size t fit, fit .few)
-
-  first-widths : take (length (s .tasks)) (map (λ x. x .width) (t .tasks)) ≡ widths s
-  first-widths =
-      widths-first s (map (λ x. x .width) (t .tasks)) (omega (arith, few, length-map (t .tasks) (λ x. x .width), fit .places))
-      (column t fit (λ x. x .width) (λ τ. τ .width) (λ x. refl))
-
-  -- the columns are the table's
-  pub columns-are : tied.Columns s (map (λ x. x .offset) (t .tasks)) (map (λ x. x .width) (t .tasks)) (map (λ x. x .length) (t .tasks)) (map (λ x. x .deadline) (t .tasks)) (map (λ x. x .period) (t .tasks))
-  columns-are = record {
-    places = length-map (t .tasks) (λ x. x .offset) ∙ fit .places;
-    offsets = column t fit (λ x. x .offset) (λ τ. τ .offset) (λ x. refl);
-    first-widths = first-widths;
-    lengths = column t fit (λ x. x .length) (λ τ. τ .length) (λ x. refl);
-    deadlines = column t fit (λ x. x .deadline) (λ τ. τ .deadline) (λ x. refl);
-    periods = column t fit (λ x. x .period) (λ τ. τ .period) (λ x. refl);
-  }
-
-  -- moments to come fit in 32 binary digits
-  pub moments-fit :
-      (tick : ℕ) → tick ≤ 1000000000 → (x : Columns) → x ≡ columnsOf (t .tasks) → (p : ℕ) → p < t .count
-      → (tick + getD (x .deadline) p 0 < 2 ^ 32) × (tick + getD (x .period) p 0 < 2 ^ 32)
-  moments-fit tick h x e p l =
-      subst (λ (y : Columns). (tick + getD (y .deadline) p 0 < 2 ^ 32) × (tick + getD (y .period) p 0 < 2 ^ 32)) (sym e)
-      (omega (arith, columns-are .deadlines p l′, fit .short p l, fit .sound p l′ .constrained), omega (arith, columns-are .periods p l′, fit .short p l))
-    where
-      l′ : p < length (s .tasks)
-      l′ = omega (arith, size t fit)
-
-  -- after the due moments of a tick at which no deadline is missed
-  pub due-after :
-      (m m′ : Machine) (bell bell′ tick : ℕ) → Before t m bell tick → ((p : ℕ) → ¬ Missed s p tick)
-      → (x : Columns) → x ≡ columnsOf (t .tasks) → DueMoments tick (t .count) (x .length) (x .deadline) (x .period) m m′ bell′
-      → After t m′ bell′ tick
-  due-after m m′ bell bell′ tick b met x e given = record {
-    ready =
-        subst (λ (y : Machine). Ready s tick y)
-        (ap (λ (n : ℕ). releasedDue tick (map (λ x. x .length) (t .tasks)) (map (λ x. x .deadline) (t .tasks)) (map (λ x. x .period) (t .tasks)) n m) (size t fit) ∙ sym (d .machines))
-        (ready s (fit .sound) few (map (λ x. x .offset) (t .tasks)) (map (λ x. x .width) (t .tasks)) (map (λ x. x .length) (t .tasks)) (map (λ x. x .deadline) (t .tasks)) (map (λ x. x .period) (t .tasks))
-        columns-are tick m (b .tied) met);
-    rings =
-        subst (λ (n : ℕ). Bell (length (s .tasks)) n m′)
-        (ap (λ (n : ℕ). earliest n (m′ .moment)) (size t fit) ∙ sym (d .bell))
-        (earliest-bell (length (s .tasks)) m′);
-  }
-    where
-      d : DueMoments tick (t .count) (map (λ x. x .length) (t .tasks)) (map (λ x. x .deadline) (t .tasks)) (map (λ x. x .period) (t .tasks)) m m′ bell′
-      d = subst (λ (y : Columns). DueMoments tick (t .count) (y .length) (y .deadline) (y .period) m m′ bell′) e given
 
   -- the row that the claimants give is the book's
   pub row-bytes :
@@ -152,11 +135,11 @@ module _ (t : Loaded) (fit : Fit t) where
       → take (t .cores) bytes ≡ rowOf s (full s tick)
   row-bytes m bell tick bytes a e =
       ap (take (t .cores)) e
-      ∙ (take-at (row (t .cores) given) (replicate (64 - t .cores) 0) (t .cores) (row-length (t .cores) given)
+      ∙ (take-at (row (t .cores) given) (replicate (mostCores - t .cores) 0) (t .cores) (row-length (t .cores) given)
       ∙ row-alike s (fit .sound) tick m (a .ready) (take (t .count) (map (λ x. x .width) (t .tasks))) same)
     where
       given : List (List ℕ)
       given = grants (ruleOf (t .rule)) (claimants (take (t .count) (map (λ x. x .width) (t .tasks))) (bit (m .claiming))) (upFrom 0 (t .cores))
 
       same : take (length (s .tasks)) (take (t .count) (map (λ x. x .width) (t .tasks))) ≡ widths s
-      same = take-take (length (s .tasks)) (t .count) (map (λ x. x .width) (t .tasks)) (omega (arith, size t fit)) ∙ first-widths
+      same = take-take (length (s .tasks)) (t .count) (map (λ x. x .width) (t .tasks)) (omega (arith, size t fit)) ∙ same-widths t fit

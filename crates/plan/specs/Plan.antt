@@ -9,6 +9,7 @@ use lib.Dec.{ltb}
 use Rattle.model.specs.Search.{any}
 use Rattle.model.specs.Task.{Table}
 use Rattle.model.specs.Book.{book, rowOf}
+use Rattle.model.specs.Book as model
 use Rattle.model.specs.Horizon.{horizon}
 use Rattle.model.specs.Verdict.{missedIn}
 use Rattle.table.specs.declared.Answer.{Answer}
@@ -27,39 +28,44 @@ byPlan s a b bytes =
     (cond (ltb bytes ((b - a) * s .cores)) (Refused 11 0)
     (cond (any b (missedIn s)) (Refused 12 0) Written))
 
--- the cases of the answer: a refusal of the table carries its number and position, else by the plan's own numbers
-abbrev pub told : Answer → Planned → Planned
-told table.Passed v = v
-told (table.Refused n p) v = Refused n p
+-- by the table's answer: a refusal with its number and position, else the answer v by the plan's own numbers
+abbrev pub plannedBy : Answer → Planned → Planned
+plannedBy table.Passed v = v
+plannedBy (table.Refused n p) v = Refused n p
 
 -- what the plan answers of the words, a, b and a buffer of so many bytes
 unfoldable pub plannedOf : List ℕ → ℕ → ℕ → ℕ → Planned
-plannedOf ws a b bytes = told (answerOf ws) (byPlan (tableOf ws) a b bytes)
+plannedOf ws a b bytes = plannedBy (answerOf ws) (byPlan (tableOf ws) a b bytes)
 
 -- the rows over the first bytes of the buffer, and after the last row the bytes as found
 abbrev pub over : Table → ℕ → ℕ → List ℕ → List ℕ
 over s a b old = rowsOf s a b ++ drop ((b - a) * s .cores) old
 
--- the buffer afterwards: the rows where they are written, and as found in a refusal
-abbrev pub bufferOf : Planned → Table → ℕ → ℕ → List ℕ → List ℕ
-bufferOf Written s a b old = over s a b old
-bufferOf (Refused n p) s a b old = old
+-- the answer that each case is: taken where the rows are written, or refused with number and position
+abbrev pub planTold : Planned → model.Answer
+planTold Written = model.taken
+planTold (Refused n p) = model.refused n p
+
+-- the buffer afterwards: the rows where the plan is taken, and as found in a refusal
+abbrev pub bufferOf : model.Answer → Table → ℕ → ℕ → List ℕ → List ℕ
+bufferOf model.taken s a b old = over s a b old
+bufferOf (model.refused n p) s a b old = old
 
 -- what is promised of the answer v to the words, a and b with a buffer that was `old` and is `new`
 pub record PlanOf (ws : List ℕ) (a b : ℕ) (old new : List ℕ) (v : Planned) : Type 0 where
   -- its value
   pub value : v ≡ plannedOf ws a b (length old)
-  -- Refused n p exactly if n is the first number that applies, at p; written exactly if none applies
-  pub refused : (n p : ℕ) → (v ≡ Refused n p) ↔ First ws a b (length old) n p
-  pub written : (v ≡ Written) ↔ NoneApplies ws a b (length old)
+  -- refused with n and p exactly if n is the first number that applies, at p; taken, so that the rows are written, exactly if none applies
+  pub refused : (n p : ℕ) → (planTold v ≡ model.refused n p) ↔ First ws a b (length old) n p
+  pub written : (planTold v ≡ model.taken) ↔ NoneApplies ws a b (length old)
   -- the buffer afterwards
-  pub buffer : new ≡ bufferOf v (tableOf ws) a b old
+  pub buffer : new ≡ bufferOf (planTold v) (tableOf ws) a b old
   -- byte by byte: the byte of core c in row t is that of the row of the book of t empty report sets ..
   pub byte :
-      v ≡ Written → (t c : ℕ) → a ≤ t → t < b → c < tableOf ws .cores
+      planTold v ≡ model.taken → (t c : ℕ) → a ≤ t → t < b → c < tableOf ws .cores
       → getD new ((t - a) * tableOf ws .cores + c) 0 ≡ getD (rowOf (tableOf ws) (book (tableOf ws) (replicate t 0))) c 0
   -- .. and nothing after the last row is touched
-  pub past : v ≡ Written → (i : ℕ) → (b - a) * tableOf ws .cores ≤ i → getD new i 0 ≡ getD old i 0
+  pub past : planTold v ≡ model.taken → (i : ℕ) → (b - a) * tableOf ws .cores ≤ i → getD new i 0 ≡ getD old i 0
   pub size : length new ≡ length old
   -- a refusal leaves the buffer as found
-  pub found : (n p : ℕ) → v ≡ Refused n p → new ≡ old
+  pub found : (n p : ℕ) → planTold v ≡ model.refused n p → new ≡ old

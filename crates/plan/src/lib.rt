@@ -3,7 +3,8 @@ ghost use mathlib.Core.Path.{_≡_};
 ghost use Prim.Native.Nat.{_≤_};
 ghost use lib.ListN.{length};
 ghost use Rattle.judge.specs.Judged.{tableIn, Fit};
-ghost use Rattle.plan.specs.Plan.{byPlan, bufferOf, PlanOf};
+ghost use Rattle.plan.specs.Plan.{byPlan, planTold, bufferOf, PlanOf};
+ghost use Rattle.model.specs.Sizes.{mostCores};
 use judge::misses::Missed;
 use table::Answer;
 use table::Loaded;
@@ -18,8 +19,8 @@ pub enum Planned {
 
 // The plan of a table that passed: number 10, 11 or 12, or the rows.
 fn by_table(table: Loaded, a: u32, b: u32, out: &mut [u8]) -> Planned
-    requires { ⌜ Fit table × (table .cores ≤ 64) ⌝ }
-    ensures { λ r. ⌜ (r ≡ byPlan (tableIn table) a b (length (now (out .entry)))) × (now (out .exit) ≡ bufferOf r (tableIn table) a b (now (out .entry))) ⌝ }
+    requires { ⌜ Fit table × (table .cores ≤ mostCores) ⌝ }
+    ensures { λ r. ⌜ (r ≡ byPlan (tableIn table) a b (length (now (out .entry)))) × (now (out .exit) ≡ bufferOf (planTold r) (tableIn table) a b (now (out .entry))) ⌝ }
 {
     if b < a {
         return Planned::Refused(10, 0);

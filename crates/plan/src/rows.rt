@@ -5,13 +5,15 @@ ghost use lib.ListN.{length};
 ghost use lib.Seq.{paste};
 ghost use Rattle.model.specs.Search.{any};
 ghost use Rattle.model.specs.Verdict.{missedIn};
+ghost use Rattle.model.specs.Sizes.{mostCores};
 ghost use Rattle.judge.specs.Judged.{tableIn, Fit};
 ghost use Rattle.plan.specs.Plan.{over};
+use model::ROW;
 use table::Loaded;
 
 // Puts the first `count` bytes of a row into the buffer, from byte `at` on.
-fn put(row: [u8; 64], count: usize, at: usize, out: &mut [u8])
-    requires { ⌜ (count ≤ 64) × (at + count ≤ length (now out)) ⌝ }
+fn put(row: [u8; ROW], count: usize, at: usize, out: &mut [u8])
+    requires { ⌜ (count ≤ mostCores) × (at + count ≤ length (now out)) ⌝ }
     ensures { λ _. ⌜ now (out .exit) ≡ paste (now (out .entry)) at row count ⌝ }
 {
     let mut i: usize = 0;
@@ -23,59 +25,31 @@ fn put(row: [u8; 64], count: usize, at: usize, out: &mut [u8])
 
 // Writes rows `a` up to but not including `b` of a full-length run that meets every deadline before `b`.
 pub(crate) fn write(table: Loaded, a: u32, b: u32, out: &mut [u8])
-    requires { ⌜ Fit table × (table .cores ≤ 64) × (b ≤ table .horizon) × (any b (missedIn (tableIn table)) ≡ false) × ((b - a) * table .cores ≤ length (now out)) ⌝ }
+    requires { ⌜ Fit table × (table .cores ≤ mostCores) × (b ≤ table .horizon) × (any b (missedIn (tableIn table)) ≡ false) × ((b - a) * table .cores ≤ length (now out)) ⌝ }
     ensures { λ _. ⌜ now (out .exit) ≡ over (tableIn table) a b (now (out .entry)) ⌝ }
 {
     let cores = table.cores as usize;
-    let count = table.count;
-    let tasks = table.tasks;
-    let columns = full::columns::columns_of(tasks);
-    let offset = columns.offset;
+    let columns = full::columns::columns_of(table);
+    let setting = columns.setting;
     let width = columns.width;
-    let length = columns.length;
-    let deadline = columns.deadline;
-    let period = columns.period;
-    let mut left = [0u32; 32];
-    let mut moment = offset;
-    let mut next = offset;
-    let mut claiming: u32 = 0;
-    let mut chosen: u32 = 0;
-    let mut granted: u32 = 0;
+    let times = columns.times;
+    let machine = full::machine::start(table);
+    let mut pace = machine.pace;
+    let mut places = machine.places;
     let mut shown: u32 = 0;
-    let mut row = rule::show(table.rule, table.cores, 0, &width, count);
-    let mut bell: u32 = 0;
+    let mut row = [0u8; ROW];
     let mut at: usize = 0;
-    let mut tick: u32 = 0;
-    while tick < b {
-        if bell <= tick {
-            let due = full::release_due(
-                tick,
-                count,
-                &length,
-                &deadline,
-                &period,
-                claiming,
-                &mut left,
-                &mut moment,
-                &mut next,
-            );
-            claiming = due.claiming;
-            bell = due.bell;
-        }
-        if claiming != chosen {
-            granted = rule::choose(table.rule, table.cores, claiming, &width);
-            chosen = claiming;
-        }
+    while pace.tick < b {
+        let tick = pace.tick;
+        pace = full::step(setting, &width, &times, pace, &mut places);
         if a <= tick {
-            if claiming != shown {
-                let fresh = rule::show(table.rule, table.cores, claiming, &width, count);
+            if pace.chosen != shown {
+                let fresh = rule::show(table.rule, table.cores, pace.chosen, &width, table.count);
                 row = fresh;
-                shown = claiming;
+                shown = pace.chosen;
             }
             put(row, cores, at, out);
             at += cores;
         }
-        claiming = full::work(granted, claiming, &mut left, &mut moment, &next);
-        tick += 1;
     }
 }

@@ -6,19 +6,16 @@ use Prim.Native.Nat.{ℕ, zero, suc, _+_, _-_, _≤_, _<_, min}
 use native.Mathlib.Omega.{arith}
 use lib.ListN.{length, take, drop, length-take, length-drop}
 use lib.Seq.{take-append-le, drop-append-le, take-take, drop-drop, take-add, take-nil, drop-nil, length-take-le}
-use Rattle.table.specs.declared.Loaded.{Loaded}
-use Rattle.full.specs.declared.columns.Columns.{Columns}
-use Rattle.full.specs.Fields.{columnsOf}
-use Rattle.full.specs.Machine.{machine}
+use Rattle.full.specs.Stand.{Numbers, numbersIn, Stand, next}
+use Rattle.full.proofs.Steps.{tick-on}
 use Rattle.text.specs.Written.{Put}
 use Rattle.text.proofs.Writing.{put-none, put-then, put-length, put-front}
-use Rattle.printer.specs.Rows.{Numbers, numbers, numbersIn, lineIn, next, linesIn}
+use Rattle.printer.specs.Rows.{textIn, lineIn, linesIn}
 use Rattle.printer.specs.Sound.{sound, Safe}
-use Rattle.printer.specs.Printer.{standOf, toCome, rest, PieceOf, Stepping, Stepped}
+use Rattle.printer.specs.Printer.{standOf, textKept, toCome, rest, PieceOf, Stepping, Stepped}
 use Rattle.printer.specs.declared.Printer.{Printer}
-use Rattle.printer.specs.declared.Pace.{Pace}
+use Rattle.printer.specs.declared.Stage.{Stage}
 use Rattle.printer.proofs.Safe.{safe-next}
-use Rattle.printer.proofs.Step.{tick-on}
 use Rattle.printer.proofs.Limits.{Limits, limits-sound, Arrays, limits-safe}
 
 -- a sound printer has all that is to come to hand out, another has nothing
@@ -56,32 +53,32 @@ hand-start p buffer k a = record { limits = k; arrays = a; left = refl; bytes = 
 
 -- a printer that has handed out so much of its line
 abbrev pub at-given : Printer → ℕ → Printer
-at-given p g = record { table = p .table; end = p .end; left = p .left; moment = p .moment; next = p .next; pace = p .pace; row = p .row; line = p .line; given = g }
+at-given p g = record { table = p .table; end = p .end; places = p .places; stage = p .stage; row = p .row; line = p .line; given = g }
 
 -- a part of the line is the next of what is left, and the rest comes after it
-module _ (p : Printer) (k : Limits p) (a : Arrays p) (part : ℕ) (h : part ≤ p .pace .ready - p .given) where
+module _ (p : Printer) (k : Limits p) (a : Arrays p) (part : ℕ) (h : part ≤ p .stage .ready - p .given) where
   abbrev line-left : List ℕ
   line-left = drop (p .given) (p .line)
 
-  long : length (take (p .pace .ready - p .given) line-left) ≡ p .pace .ready - p .given
-  long = length-take-le (p .pace .ready - p .given) line-left (omega (arith, length-drop (p .given) (p .line), a .long, k .ready))
+  long : length (take (p .stage .ready - p .given) line-left) ≡ p .stage .ready - p .given
+  long = length-take-le (p .stage .ready - p .given) line-left (omega (arith, length-drop (p .given) (p .line), a .long, k .ready))
 
   pub part-taken : take part (toCome p) ≡ take part line-left
   unfolding toCome
   part-taken =
-      take-append-le part (take (p .pace .ready - p .given) line-left) _ (omega (arith, long))
-      ∙ take-take part (p .pace .ready - p .given) line-left h
+      take-append-le part (take (p .stage .ready - p .given) line-left) _ (omega (arith, long))
+      ∙ take-take part (p .stage .ready - p .given) line-left h
 
   pub part-left : toCome (at-given p (p .given + part)) ≡ drop part (toCome p)
   unfolding toCome
   part-left =
-      let e : p .pace .ready - p .given ≡ part + (p .pace .ready - (p .given + part)) = omega arith in
-      let f : drop part (take (p .pace .ready - p .given) line-left) ≡ take (p .pace .ready - (p .given + part)) (drop (p .given + part) (p .line)) =
-      ap (λ (n : ℕ). drop part (take n line-left)) e ∙ drop-front part (p .pace .ready - (p .given + part)) line-left
-      ∙ ap (take (p .pace .ready - (p .given + part))) (drop-drop part (p .given) (p .line)) in
+      let e : p .stage .ready - p .given ≡ part + (p .stage .ready - (p .given + part)) = omega arith in
+      let f : drop part (take (p .stage .ready - p .given) line-left) ≡ take (p .stage .ready - (p .given + part)) (drop (p .given + part) (p .line)) =
+      ap (λ (n : ℕ). drop part (take n line-left)) e ∙ drop-front part (p .stage .ready - (p .given + part)) line-left
+      ∙ ap (take (p .stage .ready - (p .given + part))) (drop-drop part (p .given) (p .line)) in
       sym
-      (drop-append-le part (take (p .pace .ready - p .given) line-left) _ (omega (arith, long))
-      ∙ ap (λ (l : List ℕ). l ++ linesIn (numbersIn (p .table)) (p .end - p .pace .tick) (standOf p)) f)
+      (drop-append-le part (take (p .stage .ready - p .given) line-left) _ (omega (arith, long))
+      ∙ ap (λ (l : List ℕ). l ++ linesIn (numbersIn (p .table)) (p .end - p .stage .pace .tick) (standOf p) (textKept p)) f)
 
   part-limits : Limits (at-given p (p .given + part))
   part-limits = record {
@@ -100,7 +97,7 @@ module _ (p : Printer) (k : Limits p) (a : Arrays p) (part : ℕ) (h : part ≤ 
 
 -- where a part ends
 part-ends :
-    (p : Printer) (after after′ : List ℕ) (at at′ part : ℕ) → Limits p → Arrays p → part ≤ p .pace .ready - p .given
+    (p : Printer) (after after′ : List ℕ) (at at′ part : ℕ) → Limits p → Arrays p → part ≤ p .stage .ready - p .given
     → Put after at (take part (drop (p .given) (p .line))) after′ at′ → at′ ≡ at + part
 part-ends p after after′ at at′ part k a few q =
     q .ends ∙ ap (λ (n : ℕ). at + n)
@@ -109,15 +106,15 @@ part-ends p after after′ at at′ part k a few q =
 -- where the line is not at its end after it, the buffer is full
 pub part-fills :
     (p₀ p : Printer) (before after after′ : List ℕ) (at at′ part : ℕ) → Handing p₀ p before after at
-    → part ≡ min (p .pace .ready - p .given) (length after - at) → Put after at (take part (drop (p .given) (p .line))) after′ at′
-    → p .given + part < p .pace .ready → at′ ≡ length before
+    → part ≡ min (p .stage .ready - p .given) (length after - at) → Put after at (take part (drop (p .given) (p .line))) after′ at′
+    → p .given + part < p .stage .ready → at′ ≡ length before
 part-fills p₀ p before after after′ at at′ part h e q l =
     omega (arith, part-ends p after after′ at at′ part (h .limits) (h .arrays) (omega arith) q, h .same, h .room)
 
 -- a part of the line is handed out
 pub hand-part :
     (p₀ p : Printer) (before after after′ : List ℕ) (at at′ part : ℕ) → Handing p₀ p before after at
-    → part ≡ min (p .pace .ready - p .given) (length after - at) → Put after at (take part (drop (p .given) (p .line))) after′ at′
+    → part ≡ min (p .stage .ready - p .given) (length after - at) → Put after at (take part (drop (p .given) (p .line))) after′ at′
     → Handing p₀ (at-given p (p .given + part)) before after′ at′
 hand-part p₀ p before after after′ at at′ part h e q = record {
   limits = part-limits p (h .limits) (h .arrays) part few;
@@ -129,7 +126,7 @@ hand-part p₀ p before after after′ at at′ part h e q = record {
   same = put-length q (omega (arith, h .same, room′)) ∙ h .same;
 }
   where
-    few : part ≤ p .pace .ready - p .given
+    few : part ≤ p .stage .ready - p .given
     few = omega arith
 
     ends : at′ ≡ at + part
@@ -145,16 +142,12 @@ hand-part p₀ p before after after′ at at′ part h e q = record {
 
 -- THE NEXT ROW
 
--- the table's own numbers, by its columns
-abbrev pub numbersBy : Loaded → Columns → Numbers
-numbersBy t c = numbers (t .rule) (t .cores) (t .count) (c .width) (c .length) (c .deadline) (c .period)
-
 -- a row can be stepped
 pub stepping-of :
-    (p : Printer) (columns : Columns) → columns ≡ columnsOf (p .table .tasks) → Limits p → Arrays p → p .pace .tick < p .end
-    → Stepping (numbersBy (p .table) columns) (machine (p .left) (p .moment) (p .next) (p .pace .claiming)) (p .pace) (p .row) (p .line)
-stepping-of p columns e k a l = record {
-  safe = subst (λ (n : Numbers). Safe n (standOf p)) (sym (ap (numbersBy (p .table)) e)) (limits-safe p k a);
+    (p : Printer) (n : Numbers) → n ≡ numbersIn (p .table) → Limits p → Arrays p → p .stage .pace .tick < p .end
+    → Stepping n (p .stage) (p .places) (p .row) (p .line)
+stepping-of p n e k a l = record {
+  safe = subst (λ (n : Numbers). Safe n (standOf p)) (sym e) (limits-safe p k a);
   tick = omega (arith, k .end);
   text = k .text;
   wide = a .wide;
@@ -163,22 +156,22 @@ stepping-of p columns e k a l = record {
 
 -- the line is handed out, and the next is made
 module _
-    (p : Printer) (k : Limits p) (a : Arrays p) (over : p .pace .ready ≤ p .given) (l : p .pace .tick < p .end) (left moment next′ : List ℕ) (pace : Pace) (row line : List ℕ)
-    (s : Stepped (numbersIn (p .table)) (standOf p) (p .line) (machine left moment next′ (pace .claiming)) pace row line)
+    (p : Printer) (k : Limits p) (a : Arrays p) (over : p .stage .ready ≤ p .given) (l : p .stage .pace .tick < p .end) (stage : Stage) (places row line : List ℕ)
+    (s : Stepped (numbersIn (p .table)) (standOf p) (textKept p) (p .line) stage places row line)
   where
     abbrev n : Numbers
     n = numbersIn (p .table)
 
     abbrev t : ℕ
-    t = p .pace .tick
+    t = p .stage .pace .tick
 
     abbrev stepped : Printer
-    stepped = record { table = p .table; end = p .end; left = left; moment = moment; next = next′; pace = pace; row = row; line = line; given = 0 }
+    stepped = record { table = p .table; end = p .end; places = places; stage = stage; row = row; line = line; given = 0 }
 
     safe : Safe n (standOf stepped)
     safe = subst (Safe n) (sym (s .stand)) (safe-next n (standOf p) (limits-safe p k a))
 
-    one : pace .tick ≡ t + 1
+    one : stage .pace .tick ≡ t + 1
     one = tick-on n (standOf p) (standOf stepped) (s .stand)
 
     step-limits : Limits stepped
@@ -196,32 +189,37 @@ module _
     step-arrays : Arrays stepped
     step-arrays = record { sized = safe .sized; wide = s .wide; long = s .long }
 
-    new : toCome stepped ≡ lineIn n (standOf p) ++ linesIn n (p .end - suc t) (next n (standOf p))
-    new = unfold toCome in
-        let z : pace .ready - 0 ≡ pace .ready = omega arith in
-        let y : p .end - pace .tick ≡ p .end - suc t = omega (arith, one) in
-        ap₂ (λ (x y : List ℕ). x ++ y) (ap (λ (i : ℕ). take i line) z ∙ put-front (s .line)) (ap₂ (linesIn n) y (s .stand))
+    -- the next line and the lines after it
+    abbrev lines : List ℕ
+    lines = lineIn n (standOf p) (textKept p) ++ linesIn n (p .end - suc t) (next n (standOf p)) (textIn n (standOf p) (textKept p))
 
-    old : toCome p ≡ lineIn n (standOf p) ++ linesIn n (p .end - suc t) (next n (standOf p))
+    new : toCome stepped ≡ lines
+    new = unfold toCome in
+        let z : stage .ready - 0 ≡ stage .ready = omega arith in
+        let y : p .end - stage .pace .tick ≡ p .end - suc t = omega (arith, one) in
+        ap₂ (λ (x y : List ℕ). x ++ y) (ap (λ (i : ℕ). take i line) z ∙ put-front (s .line))
+        (ap₂ (λ (i : ℕ) (x : Stand). linesIn n i x (take (stage .text) row)) y (s .stand) ∙ ap (linesIn n (p .end - suc t) (next n (standOf p))) (s .keeps))
+
+    old : toCome p ≡ lines
     old = unfold toCome linesIn in
-        let z : p .pace .ready - p .given ≡ 0 = omega arith in
+        let z : p .stage .ready - p .given ≡ 0 = omega arith in
         let e : p .end - t ≡ suc (p .end - suc t) = omega arith in
-        ap₂ (λ (i j : ℕ). take i (drop (p .given) (p .line)) ++ linesIn n j (standOf p)) z e
+        ap₂ (λ (i j : ℕ). take i (drop (p .given) (p .line)) ++ linesIn n j (standOf p) (textKept p)) z e
 
     step-same : toCome stepped ≡ toCome p
     step-same = new ∙ sym old
 
 pub hand-step :
-    (p₀ p : Printer) (before after : List ℕ) (at : ℕ) → Handing p₀ p before after at → p .pace .ready ≤ p .given → p .pace .tick < p .end
-    → (columns : Columns) → columns ≡ columnsOf (p .table .tasks) → (left moment next′ : List ℕ) (pace : Pace) (row line : List ℕ)
-    → Stepped (numbersBy (p .table) columns) (standOf p) (p .line) (machine left moment next′ (pace .claiming)) pace row line
-    → Handing p₀ (record { table = p .table; end = p .end; left = left; moment = moment; next = next′; pace = pace; row = row; line = line; given = 0 }) before after at
-hand-step p₀ p before after at h over l columns e left moment next′ pace row line q =
-    let s = subst (λ (n : Numbers). Stepped n (standOf p) (p .line) (machine left moment next′ (pace .claiming)) pace row line) (ap (numbersBy (p .table)) e) q in
+    (p₀ p : Printer) (before after : List ℕ) (at : ℕ) → Handing p₀ p before after at → p .stage .ready ≤ p .given → p .stage .pace .tick < p .end
+    → (n : Numbers) → n ≡ numbersIn (p .table) → (stage : Stage) (places row line : List ℕ)
+    → Stepped n (standOf p) (textKept p) (p .line) stage places row line
+    → Handing p₀ (record { table = p .table; end = p .end; places = places; stage = stage; row = row; line = line; given = 0 }) before after at
+hand-step p₀ p before after at h over l n e stage places row line q =
+    let s = subst (λ (n : Numbers). Stepped n (standOf p) (textKept p) (p .line) stage places row line) e q in
     record {
-      limits = step-limits p (h .limits) (h .arrays) over l left moment next′ pace row line s;
-      arrays = step-arrays p (h .limits) (h .arrays) over l left moment next′ pace row line s;
-      left = step-same p (h .limits) (h .arrays) over l left moment next′ pace row line s ∙ h .left;
+      limits = step-limits p (h .limits) (h .arrays) over l stage places row line s;
+      arrays = step-arrays p (h .limits) (h .arrays) over l stage places row line s;
+      left = step-same p (h .limits) (h .arrays) over l stage places row line s ∙ h .left;
       bytes = h .bytes;
       room = h .room;
       same = h .same;
@@ -258,7 +256,7 @@ hand-full p₀ p before after at ok h e = piece-of p₀ p before after at ok h (
 
 -- or nothing is left
 pub hand-done :
-    (p₀ p : Printer) (before after : List ℕ) (at : ℕ) → sound p₀ ≡ true → Handing p₀ p before after at → p .pace .ready ≤ p .given → p .pace .tick ≡ p .end
+    (p₀ p : Printer) (before after : List ℕ) (at : ℕ) → sound p₀ ≡ true → Handing p₀ p before after at → p .stage .ready ≤ p .given → p .stage .pace .tick ≡ p .end
     → PieceOf p₀ before after (record { printer = p; length = at })
 hand-done p₀ p before after at ok h over e =
     piece-of p₀ p before after at ok h
@@ -266,9 +264,9 @@ hand-done p₀ p before after at ok h over e =
   where
     none : toCome p ≡ []
     none = unfold toCome linesIn in
-        let z : p .pace .ready - p .given ≡ 0 = omega arith in
-        let y : p .end - p .pace .tick ≡ 0 = omega arith in
-        ap₂ (λ (i j : ℕ). take i (drop (p .given) (p .line)) ++ linesIn (numbersIn (p .table)) j (standOf p)) z y
+        let z : p .stage .ready - p .given ≡ 0 = omega arith in
+        let y : p .end - p .stage .pace .tick ≡ 0 = omega arith in
+        ap₂ (λ (i j : ℕ). take i (drop (p .given) (p .line)) ++ linesIn (numbersIn (p .table)) j (standOf p) (textKept p)) z y
 
 -- a printer that is not sound is handed back as it is
 pub piece-refused : (p : Printer) (buffer : List ℕ) → sound p ≡ false → PieceOf p buffer buffer (record { printer = p; length = 0 })

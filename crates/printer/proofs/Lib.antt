@@ -6,3 +6,4 @@ pub mod Follows
 pub mod Hand
 pub mod Made
 pub mod Pieces
+pub mod Front

@@ -10,26 +10,30 @@ use borrow.Author.Tests.{leb-true, le-leb, lt-leb, not-true}
 use Rattle.model.specs.Search.{any}
 use Rattle.model.proofs.Bools.{and-left, and-right, and-both}
 use Rattle.model.proofs.Search.{any-of, none-any, none-at}
+use Rattle.model.specs.Sizes.{mostCores, mostTasks}
 use Rattle.table.specs.declared.Loaded.{Loaded}
 use Rattle.table.specs.declared.Task.{Task}
 use Rattle.table.specs.Task.{taskOf, noTask}
 use Rattle.table.proofs.Inside.{inside-test}
-use Rattle.full.specs.Machine.{machine, Sized}
-use Rattle.printer.specs.Rows.{numbersIn}
+use Rattle.table.specs.Limits.{mostHorizon, mostTime}
+use Rattle.full.specs.Places.{part}
+use Rattle.full.specs.Machine.{machineOf, Sized}
+use Rattle.full.specs.Stand.{numbersIn}
 use Rattle.printer.specs.Sound.{outAt, tableSound, owed, within, sound, Safe}
 use Rattle.printer.specs.Printer.{standOf}
 use Rattle.printer.specs.declared.Printer.{Printer}
+use Rattle.text.specs.Output.{longestCells, longestLine}
 
 -- the limits of a sound printer, one by one
 pub record Limits (p : Printer) : Type 0 where
   pub table : tableSound (p .table) ≡ true
-  pub tick : p .pace .tick ≤ p .end
-  pub end : p .end ≤ 10000000
-  pub ready : p .pace .ready ≤ 267
-  pub given : p .given ≤ p .pace .ready
-  pub text : p .pace .text ≤ 257
-  pub claims : within (p .pace .claiming) (owed (p .left)) ≡ true
-  pub chosen : within (p .pace .granted) (p .pace .chosen) ≡ true
+  pub tick : p .stage .pace .tick ≤ p .end
+  pub end : p .end ≤ mostHorizon
+  pub ready : p .stage .ready ≤ longestLine
+  pub given : p .given ≤ p .stage .ready
+  pub text : p .stage .text ≤ longestCells
+  pub claims : within (p .stage .pace .claiming) (owed (part 0 (p .places))) ≡ true
+  pub chosen : within (p .stage .pace .granted) (p .stage .pace .chosen) ≡ true
 
 -- the test that is left where the first of two holds
 rest-of : (a b : Bool) → a && b ≡ true → (a ≡ true) × (b ≡ true)
@@ -38,13 +42,13 @@ rest-of a b e = (and-left a b e, and-right a b e)
 pub sound-limits : (p : Printer) → sound p ≡ true → Limits p
 unfolding sound
 sound-limits p e =
-    let h = within (p .pace .granted) (p .pace .chosen) in
-    let g = within (p .pace .claiming) (owed (p .left)) in
-    let f = leb (p .pace .text) 257 in
-    let d = leb (p .given) (p .pace .ready) in
-    let c = leb (p .pace .ready) 267 in
-    let b = leb (p .end) 10000000 in
-    let a = leb (p .pace .tick) (p .end) in
+    let h = within (p .stage .pace .granted) (p .stage .pace .chosen) in
+    let g = within (p .stage .pace .claiming) (owed (part 0 (p .places))) in
+    let f = leb (p .stage .text) longestCells in
+    let d = leb (p .given) (p .stage .ready) in
+    let c = leb (p .stage .ready) longestLine in
+    let b = leb (p .end) mostHorizon in
+    let a = leb (p .stage .pace .tick) (p .end) in
     let x₀ = rest-of (tableSound (p .table)) (a && (b && (c && (d && (f && (g && h)))))) e in
     let x₁ = rest-of a (b && (c && (d && (f && (g && h))))) (x₀ .1) in
     let x₂ = rest-of b (c && (d && (f && (g && h)))) (x₁ .1) in
@@ -53,11 +57,11 @@ sound-limits p e =
     let x₅ = rest-of f (g && h) (x₄ .1) in
     record {
       table = x₀ .0;
-      tick = leb-true (p .pace .tick) (p .end) (x₁ .0);
-      end = leb-true (p .end) 10000000 (x₂ .0);
-      ready = leb-true (p .pace .ready) 267 (x₃ .0);
-      given = leb-true (p .given) (p .pace .ready) (x₄ .0);
-      text = leb-true (p .pace .text) 257 (x₅ .0);
+      tick = leb-true (p .stage .pace .tick) (p .end) (x₁ .0);
+      end = leb-true (p .end) mostHorizon (x₂ .0);
+      ready = leb-true (p .stage .ready) longestLine (x₃ .0);
+      given = leb-true (p .given) (p .stage .ready) (x₄ .0);
+      text = leb-true (p .stage .text) longestCells (x₅ .0);
       claims = and-left g h (x₅ .1);
       chosen = and-right g h (x₅ .1);
     }
@@ -65,63 +69,63 @@ sound-limits p e =
 pub limits-sound : (p : Printer) → Limits p → sound p ≡ true
 unfolding sound
 limits-sound p l =
-    let h = within (p .pace .granted) (p .pace .chosen) in
-    let g = within (p .pace .claiming) (owed (p .left)) in
-    let f = leb (p .pace .text) 257 in
-    let d = leb (p .given) (p .pace .ready) in
-    let c = leb (p .pace .ready) 267 in
-    let b = leb (p .end) 10000000 in
-    let a = leb (p .pace .tick) (p .end) in
+    let h = within (p .stage .pace .granted) (p .stage .pace .chosen) in
+    let g = within (p .stage .pace .claiming) (owed (part 0 (p .places))) in
+    let f = leb (p .stage .text) longestCells in
+    let d = leb (p .given) (p .stage .ready) in
+    let c = leb (p .stage .ready) longestLine in
+    let b = leb (p .end) mostHorizon in
+    let a = leb (p .stage .pace .tick) (p .end) in
     and-both (tableSound (p .table)) (a && (b && (c && (d && (f && (g && h)))))) (l .table)
-    (and-both a (b && (c && (d && (f && (g && h))))) (le-leb (p .pace .tick) (p .end) (l .tick))
-    (and-both b (c && (d && (f && (g && h)))) (le-leb (p .end) 10000000 (l .end))
-    (and-both c (d && (f && (g && h))) (le-leb (p .pace .ready) 267 (l .ready))
-    (and-both d (f && (g && h)) (le-leb (p .given) (p .pace .ready) (l .given))
-    (and-both f (g && h) (le-leb (p .pace .text) 257 (l .text)) (and-both g h (l .claims) (l .chosen)))))))
+    (and-both a (b && (c && (d && (f && (g && h))))) (le-leb (p .stage .pace .tick) (p .end) (l .tick))
+    (and-both b (c && (d && (f && (g && h)))) (le-leb (p .end) mostHorizon (l .end))
+    (and-both c (d && (f && (g && h))) (le-leb (p .stage .ready) longestLine (l .ready))
+    (and-both d (f && (g && h)) (le-leb (p .given) (p .stage .ready) (l .given))
+    (and-both f (g && h) (le-leb (p .stage .text) longestCells (l .text)) (and-both g h (l .claims) (l .chosen)))))))
 
 -- A SOUND TABLE
 
 pub record TableLimits (t : Loaded) : Type 0 where
-  pub few : t .count ≤ 32
-  pub cores : t .cores ≤ 64
+  pub few : t .count ≤ mostTasks
+  pub cores : t .cores ≤ mostCores
   pub tasks : (p : ℕ) → p < t .count → outAt t p ≡ false
 
 pub table-limits : (t : Loaded) → tableSound t ≡ true → TableLimits t
 unfolding tableSound
 table-limits t e =
-    let x = rest-of (leb (t .count) 32) (leb (t .cores) 64 && not (any (t .count) (outAt t))) e in
-    let y = rest-of (leb (t .cores) 64) (not (any (t .count) (outAt t))) (x .1) in
+    let x = rest-of (leb (t .count) mostTasks) (leb (t .cores) mostCores && not (any (t .count) (outAt t))) e in
+    let y = rest-of (leb (t .cores) mostCores) (not (any (t .count) (outAt t))) (x .1) in
     record {
-      few = leb-true (t .count) 32 (x .0);
-      cores = leb-true (t .cores) 64 (y .0);
+      few = leb-true (t .count) mostTasks (x .0);
+      cores = leb-true (t .cores) mostCores (y .0);
       tasks = λ p l. none-at (t .count) (outAt t) p (not-true (any (t .count) (outAt t)) (y .1)) l;
     }
 
 -- .. as code finds it out
 module _ (t : Loaded) where
-  table-by : (a b c : Bool) → leb (t .count) 32 ≡ a → leb (t .cores) 64 ≡ b → any (t .count) (outAt t) ≡ c → tableSound t ≡ a && (b && not c)
+  table-by : (a b c : Bool) → leb (t .count) mostTasks ≡ a → leb (t .cores) mostCores ≡ b → any (t .count) (outAt t) ≡ c → tableSound t ≡ a && (b && not c)
   unfolding tableSound
   table-by a b c ea eb ec = rw (ea, eb, ec)
 
-  pub many-out : 32 < t .count → tableSound t ≡ false
-  many-out l = table-by false (leb (t .cores) 64) (any (t .count) (outAt t)) (lt-leb (t .count) 32 l) refl refl
+  pub many-out : mostTasks < t .count → tableSound t ≡ false
+  many-out l = table-by false (leb (t .cores) mostCores) (any (t .count) (outAt t)) (lt-leb (t .count) mostTasks l) refl refl
 
-  pub wide-out : t .count ≤ 32 → 64 < t .cores → tableSound t ≡ false
-  wide-out k l = table-by true false (any (t .count) (outAt t)) (le-leb (t .count) 32 k) (lt-leb (t .cores) 64 l) refl
+  pub wide-out : t .count ≤ mostTasks → mostCores < t .cores → tableSound t ≡ false
+  wide-out k l = table-by true false (any (t .count) (outAt t)) (le-leb (t .count) mostTasks k) (lt-leb (t .cores) mostCores l) refl
 
-  pub task-out : t .count ≤ 32 → t .cores ≤ 64 → (i : ℕ) → i < t .count → outAt t i ≡ true → tableSound t ≡ false
-  task-out k l i b e = table-by true true true (le-leb (t .count) 32 k) (le-leb (t .cores) 64 l) (any-of (t .count) (outAt t) i b e)
+  pub task-out : t .count ≤ mostTasks → t .cores ≤ mostCores → (i : ℕ) → i < t .count → outAt t i ≡ true → tableSound t ≡ false
+  task-out k l i b e = table-by true true true (le-leb (t .count) mostTasks k) (le-leb (t .cores) mostCores l) (any-of (t .count) (outAt t) i b e)
 
-  pub none-out : t .count ≤ 32 → t .cores ≤ 64 → ((i : ℕ) → i < t .count → outAt t i ≡ false) → tableSound t ≡ true
-  none-out k l f = table-by true true false (le-leb (t .count) 32 k) (le-leb (t .cores) 64 l) (none-any (t .count) (outAt t) f)
+  pub none-out : t .count ≤ mostTasks → t .cores ≤ mostCores → ((i : ℕ) → i < t .count → outAt t i ≡ false) → tableSound t ≡ true
+  none-out k l f = table-by true true false (le-leb (t .count) mostTasks k) (le-leb (t .cores) mostCores l) (none-any (t .count) (outAt t) f)
 
 -- A SOUND RUN
 
 -- the arrays that its type gives a printer
 pub record Arrays (p : Printer) : Type 0 where
-  pub sized : Sized (machine (p .left) (p .moment) (p .next) (p .pace .claiming))
-  pub wide : length (p .row) ≡ 257
-  pub long : length (p .line) ≡ 267
+  pub sized : Sized (machineOf (p .places) (p .stage .pace .claiming))
+  pub wide : length (p .row) ≡ longestCells
+  pub long : length (p .line) ≡ longestLine
 
 pub limits-safe : (p : Printer) → Limits p → Arrays p → Safe (numbersIn (p .table)) (standOf p)
 limits-safe p l a = record {
@@ -141,8 +145,8 @@ limits-safe p l a = record {
 
     times :
         (q : ℕ) → q < p .table .count
-        → (0 < getD (map (λ x. x .length) (p .table .tasks)) q 0) × (getD (map (λ x. x .deadline) (p .table .tasks)) q 0 ≤ 1000000)
-        × (getD (map (λ x. x .period) (p .table .tasks)) q 0 ≤ 1000000)
+        → (0 < getD (map (λ x. x .length) (p .table .tasks)) q 0) × (getD (map (λ x. x .deadline) (p .table .tasks)) q 0 ≤ mostTime)
+        × (getD (map (λ x. x .period) (p .table .tasks)) q 0 ≤ mostTime)
     times q b =
         let i = inside-test (p .table .cores) (taskOf (getD (p .table .tasks) q noTask)) (t .tasks q b) in
         let eC = column (λ x. x .length) q in

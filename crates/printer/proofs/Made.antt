@@ -1,7 +1,7 @@
 -- A printer as it is made: all that is printed for the words, and so for the bytes, is still to be handed out.
 use native.Mathlib.Omega.{arith}
 use mathlib.Core.Path.{_≡_, refl, sym, ap, ap₂, _∙_, subst, subst⁻¹}
-use mathlib.Core.List.{List, [], _++_, append-nil}
+use mathlib.Core.List.{List, [], _++_, append-nil, map}
 use mathlib.Core.Bool.{true, false}
 use mathlib.Core.Logic.{inl, inr, ⊎-elim}
 use native.Mathlib.Nat.{eq-zero-or-pos}
@@ -20,12 +20,13 @@ use Rattle.model.specs.Verdict.{FirstMiss, verdict}
 use Rattle.model.specs.Verdict as model
 use Rattle.model.proofs.Horizon.{horizon-enough}
 use Rattle.model.proofs.Verdict.{verdict-exact}
+use Rattle.model.specs.Sizes.{mostCores, mostTasks}
 use Rattle.table.specs.declared.Answer.{Answer}
 use Rattle.table.specs.declared.Answer.the-variants.{Passed, Refused}
 use Rattle.table.specs.declared.Loaded.{Loaded}
 use Rattle.table.specs.Words.{cores, tableOf}
 use Rattle.table.specs.Answer.{answerOf, headerNumber}
-use Rattle.table.specs.Load.{LoadOf, refusal}
+use Rattle.table.specs.Load.{loadTold, LoadOf, refusal}
 use Rattle.table.proofs.Exact.{refusal-exact, passed-exact}
 use Rattle.table.specs.Limits.{taskOut}
 use Rattle.table.specs.Task.{taskOf, noTask}
@@ -33,28 +34,29 @@ use Rattle.table.proofs.Inside.{Inside}
 use Rattle.table.proofs.Passed.{passed-cores, passed-inside}
 use Rattle.table.proofs.Places.{task-at}
 use Rattle.table.proofs.Tests.{task-decides}
-use Rattle.full.specs.declared.columns.Columns.{Columns}
-use Rattle.full.specs.Fields.{columnsOf}
-use Rattle.full.specs.Machine.{started}
+use Rattle.full.specs.declared.machine.Pace.{Pace}
+use Rattle.full.specs.Places.{part}
+use Rattle.full.specs.Stand.{numbersIn, Stand, standAt, begun}
 use Rattle.judge.specs.declared.Verdict.{Verdict}
 use Rattle.judge.specs.declared.Verdict.the-variants as judge
-use Rattle.judge.specs.Judged.{told, Judged, tableIn, Fit}
-use Rattle.judge.proofs.Ticks.{Before, at-start, chosen-none}
-use Rattle.judge.proofs.Promise.{fit, same-table, passed-is, refused-is}
+use Rattle.judge.specs.Said.{Said, judged, refused, saidBy, caseOf}
+use Rattle.judge.specs.Judged.{Judged, tableIn, Fit}
+use Rattle.judge.proofs.Follows.{follows-start}
+use Rattle.judge.proofs.Promise.{said-case, fit, same-table, passed-is, refused-is}
 use Rattle.text.specs.Format.{mostNumbers, Words, words, noText, wordsOf}
 use Rattle.text.specs.Input.{inputOf, ReadOf}
-use Rattle.text.specs.Output.{Answer as Said, judged, refused, firstLine, rowLines, rowsPrinted, printed, printedBy, outputOf, output}
+use Rattle.text.specs.Output.{firstLine, rowLines, rowsPrinted, printed, printedBy, outputOf, output, longestCells, longestLine}
 use Rattle.text.specs.Written.{Put}
 use Rattle.printer.specs.Cells.{cells}
-use Rattle.text.specs.Said.{saidBy, endOf}
-use Rattle.printer.specs.Rows.{numbersIn, linesIn}
+use Rattle.text.specs.Said.{endOf}
+use Rattle.printer.specs.Rows.{textOf, linesIn}
 use Rattle.printer.specs.Sound.{outAt, tableSound, owed, within, sound}
-use Rattle.printer.specs.Printer.{standOf, toCome, StartOf, WordsPrinter, MadeFrom}
+use Rattle.printer.specs.Printer.{standOf, textKept, toCome, StartOf, WordsPrinter, MadeFrom}
 use Rattle.text.specs.declared.Input.{Input}
 use Rattle.printer.specs.declared.Printer.{Printer}
 use Rattle.text.proofs.Writing.{put-front}
 use Rattle.printer.proofs.Limits.{limits-sound, none-out}
-use Rattle.printer.proofs.Follows.{Follows, rows-follow}
+use Rattle.printer.proofs.Follows.{rows-follow}
 use Rattle.printer.proofs.Hand.{rest-sound}
 
 -- THE START
@@ -65,68 +67,76 @@ none-within b = eq-eqb (bitAnd 0 b) 0 (and-zero-l b)
 
 -- the first line is written, and the run stands before tick 0
 module _
-    (t : Loaded) (e : ℕ) (v : Verdict) (columns : Columns) (c : columns ≡ columnsOf (t .tasks)) (row line : List ℕ) (size ready : ℕ)
-    (p : (Put (replicate 257 0) 0 (cells (t .rule) (t .cores) (take (t .count) (columns .width)) 0) row size) × (size ≤ 257))
-    (q : (Put (replicate 267 0) 0 (firstLine (saidBy v)) line ready) × (ready ≤ 267))
+    (t : Loaded) (e : ℕ) (v : Verdict) (pace : Pace) (places : List ℕ) (m : standAt pace places ≡ begun t) (widths : List ℕ)
+    (w : widths ≡ map (λ x. x .width) (t .tasks)) (row line : List ℕ) (size ready : ℕ)
+    (p : (Put (replicate longestCells 0) 0 (cells (t .rule) (t .cores) (take (t .count) widths) 0) row size) × (size ≤ longestCells))
+    (q : (Put (replicate longestLine 0) 0 (firstLine (saidBy v)) line ready) × (ready ≤ longestLine))
   where
     abbrev first : Printer
     first = record {
       table = t;
       end = e;
-      left = replicate 32 0;
-      moment = columns .offset;
-      next = columns .offset;
-      pace = record { tick = 0; claiming = 0; bell = 0; chosen = 0; granted = 0; text = size; ready = ready };
+      places = places;
+      stage = record { pace = pace; text = size; ready = ready };
       row = row;
       line = line;
       given = 0;
     }
 
-    follows : Fit t → Follows t (standOf first)
-    follows fit = record {
-      before = subst (λ (o : List ℕ). Before t (started o) 0 0) (sym (ap (λ (x : Columns). x .offset) c)) (at-start t fit);
-      chosen = chosen-none t;
-      text = put-front (p .0) ∙ ap (λ (x : Columns). cells (t .rule) (t .cores) (take (t .count) (x .width)) 0) c;
-    }
+    kept : textKept first ≡ textOf (numbersIn t) 0
+    kept = put-front (p .0) ∙ ap (λ (x : List ℕ). cells (t .rule) (t .cores) (take (t .count) x) 0) w
 
-    rows : (0 < e → Fit t × (e ≤ t .horizon) × ((q u : ℕ) → u < e → ¬ Missed (tableIn t) q u)) → linesIn (numbersIn t) e (standOf first) ≡ rowLines (tableIn t) 0 e
+    rows :
+        (0 < e → Fit t × (e ≤ t .horizon) × ((q u : ℕ) → u < e → ¬ Missed (tableIn t) q u))
+        → linesIn (numbersIn t) e (begun t) (textKept first) ≡ rowLines (tableIn t) 0 e
     rows f =
         ⊎-elim
-        (λ (z : e ≡ 0). let none : linesIn (numbersIn t) 0 (standOf first) ≡ rowLines (tableIn t) 0 0 = unfold linesIn rowLines in refl in
-        subst⁻¹ (λ (k : ℕ). linesIn (numbersIn t) k (standOf first) ≡ rowLines (tableIn t) 0 k) z none)
-        (λ (l : 0 < e). rows-follow t (f l .0) e (standOf first) (follows (f l .0)) (omega (arith, f l .1)) (λ q u b. f l .2 q u (omega arith)))
+        (λ (z : e ≡ 0). let none : linesIn (numbersIn t) 0 (begun t) (textKept first) ≡ rowLines (tableIn t) 0 0 = unfold linesIn rowLines in refl in
+        subst⁻¹ (λ (k : ℕ). linesIn (numbersIn t) k (begun t) (textKept first) ≡ rowLines (tableIn t) 0 k) z none)
+        (λ (l : 0 < e). rows-follow t (f l .0) e (begun t) (textKept first) (follows-start t (f l .0)) kept (λ q u b. f l .2 q u (omega arith)))
         (eq-zero-or-pos e)
+
+    -- the pace's numbers
+    tick : pace .tick ≡ 0
+    tick = ap (λ (s : Stand). s .tick) m
+
+    claims : pace .claiming ≡ 0
+    claims = ap (λ (s : Stand). s .machine .claiming) m
+
+    granted : pace .granted ≡ 0
+    granted = ap (λ (s : Stand). s .granted) m
 
     pub start-of : StartOf t e v first
     start-of = record {
       sound = λ ok few. limits-sound first (record {
         table = ok;
-        tick = omega arith;
+        tick = omega (arith, tick);
         end = few;
         ready = q .1;
         given = omega arith;
         text = p .1;
-        claims = none-within (owed (replicate 32 0));
-        chosen = none-within 0;
+        claims = rw claims (none-within (owed (part 0 places)));
+        chosen = rw granted (none-within (pace .chosen));
       });
       whole = λ f. unfold toCome in
           let z : ready - 0 ≡ ready = omega arith in
-          let y : e - 0 ≡ e = omega arith in
-          ap₂ (λ (i j : ℕ). take i line ++ linesIn (numbersIn t) j (standOf first)) z y ∙ ap₂ (λ (x y : List ℕ). x ++ y) (put-front (q .0)) (rows f);
+          let y : e - pace .tick ≡ e = omega (arith, tick) in
+          ap₂ (λ (i j : ℕ). take i line ++ linesIn (numbersIn t) j (standOf first) (textKept first)) z y
+          ∙ ap₂ (λ (x y : List ℕ). x ++ y) (put-front (q .0)) (ap (λ (s : Stand). linesIn (numbersIn t) e s (textKept first)) m ∙ rows f);
     }
 
 -- THE WORDS
 
 -- what was loaded is small enough to be printed
-pub load-small : (ws : List ℕ) (r : Loaded) → LoadOf ws r → (r .cores ≤ 64) × (r .count ≤ 32)
+pub load-small : (ws : List ℕ) (r : Loaded) → LoadOf ws r → (r .cores ≤ mostCores) × (r .count ≤ mostTasks)
 load-small ws r l = go (r .answer) refl
   where
-    go : (a : Answer) → r .answer ≡ a → (r .cores ≤ 64) × (r .count ≤ 32)
+    go : (a : Answer) → r .answer ≡ a → (r .cores ≤ mostCores) × (r .count ≤ mostTasks)
     go Passed e =
-        let h = l .holds e in
-        (omega (arith, h .cores, passed-cores ws (l .passed .0 e) .1), h .count-from .1)
+        let h = l .holds (ap loadTold e) in
+        (omega (arith, h .cores, passed-cores ws (l .passed .0 (ap loadTold e)) .1), h .count-from .1)
     go (Refused n p) e =
-        let z : r ≡ refusal n p = l .zeros n p e in
+        let z : r ≡ refusal n p = l .zeros n p (ap loadTold e) in
         (omega (arith, ap (λ (x : Loaded). x .cores) z), omega (arith, ap (λ (x : Loaded). x .count) z))
 
 -- a task that is within its limits is not turned down
@@ -147,22 +157,17 @@ load-sound ws r l = go (r .answer) refl
       where
         fine : (p : ℕ) → p < r .count → outAt r p ≡ false
         fine p b =
-            let h = l .holds e in
-            let i = passed-inside ws (l .passed .0 e) p (omega (arith, h .count)) in
+            let h = l .holds (ap loadTold e) in
+            let i = passed-inside ws (l .passed .0 (ap loadTold e)) p (omega (arith, h .count)) in
             let same : taskOf (getD (r .tasks) p noTask) ≡ task (tableOf ws) p =
             sym (task-at (r .tasks) (r .count) p b) ∙ ap (λ (τs : List plain.Task). getD τs p plain.nobody) (h .tasks) in
             ap₂ (λ (m : ℕ) (τ : plain.Task). taskOut m τ) (h .cores) same ∙ inside-in (cores ws) (task (tableOf ws) p) i
-    go (Refused n p) e = subst⁻¹ (λ (x : Loaded). tableSound x ≡ true) (l .zeros n p e) (unfold tableSound any in refl)
+    go (Refused n p) e = subst⁻¹ (λ (x : Loaded). tableSound x ≡ true) (l .zeros n p (ap loadTold e)) (unfold tableSound any in refl)
 
-said-told : (v : model.Verdict) → saidBy (told v) ≡ judged v
-said-told (model.Firm a b) = refl
-said-told (model.Full a b) = refl
-said-told (model.Miss a b) = refl
-
-end-told : (v : model.Verdict) (h : ℕ) → endOf (told v) h ≡ rowsPrinted v h
-end-told (model.Firm a b) h = refl
-end-told (model.Full a b) h = refl
-end-told (model.Miss a b) h = refl
+end-case : (v : model.Verdict) (h : ℕ) → endOf (caseOf (judged v)) h ≡ rowsPrinted v h
+end-case (model.Firm a b) h = refl
+end-case (model.Full a b) h = refl
+end-case (model.Miss a b) h = refl
 
 -- the rows that are printed are those of the run before the first miss, up to the horizon
 rows-met :
@@ -190,7 +195,7 @@ words-made ws r v p l j s = go (r .answer) refl
       whole =
           rest-sound p ok ∙ s .whole (λ h. (f, near, λ q u b. rows .1 q u (subst (λ (x : ℕ). u < x) ends b)))
           ∙ ap₂ (λ (x : Verdict) (n : ℕ). firstLine (saidBy x) ++ rowLines (tableIn r) 0 n) is ends
-          ∙ ap (λ (x : Said). firstLine x ++ rowLines (tableIn r) 0 (rowsPrinted (verdict (tableIn r)) (horizon (tableIn r)))) (said-told (verdict (tableIn r)))
+          ∙ ap (λ (x : Said). firstLine x ++ rowLines (tableIn r) 0 (rowsPrinted (verdict (tableIn r)) (horizon (tableIn r)))) (said-case (judged (verdict (tableIn r))))
           ∙ printed-is (tableIn r) ∙ ap printed (same-table ws r l e)
           ∙ sym (ap (λ (a : Answer). printedBy a (tableOf ws)) passes);
     }
@@ -199,22 +204,22 @@ words-made ws r v p l j s = go (r .answer) refl
         f = fit ws r l e
 
         passes : answerOf ws ≡ Passed
-        passes = passed-exact ws .1 (l .passed .0 e)
+        passes = passed-exact ws .1 (l .passed .0 (ap loadTold e))
 
-        is : v ≡ told (verdict (tableIn r))
-        is = j .value ∙ passed-is ws passes ∙ ap (λ (x : Table). told (verdict x)) (sym (same-table ws r l e))
+        is : v ≡ caseOf (judged (verdict (tableIn r)))
+        is = j .value ∙ passed-is ws passes ∙ ap (λ (x : Table). caseOf (judged (verdict x))) (sym (same-table ws r l e))
 
         rows : (rowsPrinted (verdict (tableIn r)) (horizon (tableIn r)) ≤ horizon (tableIn r)) × ((q u : ℕ) → u < rowsPrinted (verdict (tableIn r)) (horizon (tableIn r)) → ¬ Missed (tableIn r) q u)
         rows = rows-met (tableIn r) (f .sound) (verdict (tableIn r)) refl
 
         ends : endOf v (r .horizon) ≡ rowsPrinted (verdict (tableIn r)) (horizon (tableIn r))
-        ends = ap₂ (λ (x : Verdict) (h : ℕ). endOf x h) is (f .horizon) ∙ end-told (verdict (tableIn r)) (horizon (tableIn r))
+        ends = ap₂ (λ (x : Verdict) (h : ℕ). endOf x h) is (f .horizon) ∙ end-case (verdict (tableIn r)) (horizon (tableIn r))
 
         near : endOf v (r .horizon) ≤ r .horizon
         near = omega (arith, ends, rows .0, f .horizon)
 
         ok : sound p ≡ true
-        ok = s .sound (load-sound ws r l) (omega (arith, near, l .holds e .horizon-most))
+        ok = s .sound (load-sound ws r l) (omega (arith, near, l .holds (ap loadTold e) .horizon-most))
 
         printed-is : (x : Table) → firstLine (judged (verdict x)) ++ rowLines x 0 (rowsPrinted (verdict x) (horizon x)) ≡ printed x
         printed-is x = unfold printed in refl
@@ -226,7 +231,7 @@ words-made ws r v p l j s = go (r .answer) refl
     }
       where
         refuses : answerOf ws ≡ Refused n q
-        refuses = refusal-exact ws n q .1 (l .refused n q .0 e)
+        refuses = refusal-exact ws n q .1 (l .refused n q .0 (ap loadTold e))
 
         is : v ≡ judge.Refused n q
         is = j .value ∙ refused-is ws n q refuses

@@ -11,6 +11,7 @@ use borrow.Author.Tests.{lt-ltb, le-ltb}
 use Rattle.full.specs.Places.{setOf}
 use Rattle.full.proofs.Sets.{set-lt}
 use Rattle.printer.specs.Sound.{owed}
+use Rattle.model.specs.Sizes.{mostTasks}
 
 -- a set is the same where its test is
 same-set : (n : ℕ) (f g : ℕ → Bool) → ((p : ℕ) → f p ≡ g p) → setOf n f ≡ setOf n g
@@ -21,27 +22,27 @@ same-set (suc n) f g e =
 
 -- the places from i on, counted from i
 unfoldable pub owedFrom : List ℕ → ℕ → ℕ
-owedFrom left i = setOf (32 - i) (λ p. ltb 0 (getD left (i + p) 0))
+owedFrom left i = setOf (mostTasks - i) (λ p. ltb 0 (getD left (i + p) 0))
 
-pub owed-none : (left : List ℕ) → 0 ≡ owedFrom left 32
+pub owed-none : (left : List ℕ) → 0 ≡ owedFrom left mostTasks
 unfolding owedFrom setOf
 owed-none left = refl
 
 pub owed-all : (left : List ℕ) → owedFrom left 0 ≡ owed left
 unfolding owedFrom
 owed-all left =
-    same-set 32 (λ p. ltb 0 (getD left (0 + p) 0)) (λ p. ltb 0 (getD left p 0))
+    same-set mostTasks (λ p. ltb 0 (getD left (0 + p) 0)) (λ p. ltb 0 (getD left p 0))
     (λ p. let e : 0 + p ≡ p = omega arith in ap (λ (q : ℕ). ltb 0 (getD left q 0)) e)
 
 -- one place more, below the others
-module _ (left : List ℕ) (i : ℕ) (h : i < 32) where
+module _ (left : List ℕ) (i : ℕ) (h : i < mostTasks) where
   owed-more : (b : Bool) → ltb 0 (getD left i 0) ≡ b → owedFrom left i ≡ cond b 1 0 + 2 * owedFrom left (i + 1)
   unfolding owedFrom setOf
   owed-more b e =
-      let n : 32 - i ≡ suc (32 - (i + 1)) = omega arith in
+      let n : mostTasks - i ≡ suc (mostTasks - (i + 1)) = omega arith in
       ap (λ (k : ℕ). setOf k (λ p. ltb 0 (getD left (i + p) 0))) n
       ∙ ap₂ (λ (x : Bool) (y : ℕ). cond x 1 0 + 2 * y) first
-      (same-set (32 - (i + 1)) (λ p. ltb 0 (getD left (i + suc p) 0)) (λ p. ltb 0 (getD left (i + 1 + p) 0))
+      (same-set (mostTasks - (i + 1)) (λ p. ltb 0 (getD left (i + suc p) 0)) (λ p. ltb 0 (getD left (i + 1 + p) 0))
       (λ p. let s : i + suc p ≡ i + 1 + p = omega arith in ap (λ (q : ℕ). ltb 0 (getD left q 0)) s))
     where
       first : ltb 0 (getD left (i + 0) 0) ≡ b
@@ -51,8 +52,8 @@ module _ (left : List ℕ) (i : ℕ) (h : i < 32) where
   pub owed-room : owedFrom left (i + 1) * 2 + 1 < 2 ^ 32
   unfolding owedFrom
   owed-room =
-      let s = set-lt (32 - (i + 1)) (λ p. ltb 0 (getD left (i + 1 + p) 0)) in
-      let m : 2 ^ (32 - (i + 1)) ≤ 2 ^ 31 = pow-mono {i = 32 - (i + 1)} {j = 31} (omega arith) in
+      let s = set-lt (mostTasks - (i + 1)) (λ p. ltb 0 (getD left (i + 1 + p) 0)) in
+      let m : 2 ^ (mostTasks - (i + 1)) ≤ 2 ^ 31 = pow-mono {i = mostTasks - (i + 1)} {j = 31} (omega arith) in
       omega arith
 
   pub owed-with : 0 < getD left i 0 → owedFrom left (i + 1) * 2 + 1 ≡ owedFrom left i

@@ -14,12 +14,14 @@ use Rattle.model.specs.Grants.{claimants, some}
 use Rattle.model.proofs.Bools.{and-left, and-right, not-false-true}
 use Rattle.model.proofs.Digits.{and-bit, same-digits}
 use Rattle.model.proofs.Grants.{grants-none}
+use Rattle.model.specs.Sizes.{mostTasks}
 use Rattle.full.specs.Machine.{Machine, released, releasedDue, Owed, finishes, worked, Sized}
 use Rattle.full.proofs.Moves.{released-sized, released-own, released-other, released-past, worked-sized, worked-left, worked-claims, worked-past}
 use Rattle.full.proofs.Sets.{set-has, set-past, set-lt}
 use Rattle.rule.specs.Shares.{granted}
-use Rattle.printer.specs.Rows.{Numbers, Stand, after, unchanged, choice, grantedIn, next}
+use Rattle.full.specs.Stand.{Numbers, Stand, after, unchanged, choice, grantedIn, next, Steppable}
 use Rattle.printer.specs.Sound.{within, owed, Safe}
+use Rattle.table.specs.Limits.{mostHorizon}
 
 -- SETS WITHIN SETS
 
@@ -28,7 +30,7 @@ within-bit a b p e h =
     and-right (bit a p) (bit b p) (sym (and-bit a b p) ∙ ap (λ (x : ℕ). bit x p) (eqb-true (bitAnd a b) a e) ∙ h)
 
 pub within-of : (a b : ℕ) → a < 2 ^ 32 → ((p : ℕ) → bit a p ≡ true → bit b p ≡ true) → within a b ≡ true
-within-of a b small h = eq-eqb (bitAnd a b) a (same-digits 32 (bitAnd a b) a (omega (arith, and-le-l a b)) small (λ p l. and-bit a b p ∙ go p (bit a p) refl))
+within-of a b small h = eq-eqb (bitAnd a b) a (same-digits mostTasks (bitAnd a b) a (omega (arith, and-le-l a b)) small (λ p l. and-bit a b p ∙ go p (bit a p) refl))
   where
     go : (p : ℕ) (x : Bool) → bit a p ≡ x → x && bit b p ≡ x
     go p true e = h p e
@@ -38,43 +40,43 @@ within-of a b small h = eq-eqb (bitAnd a b) a (same-digits 32 (bitAnd a b) a (om
 
 -- every claimant of a machine is one of its 32 places, and is owed ticks
 abbrev pub ClaimsOwed : Machine → Type 0
-ClaimsOwed m = (p : ℕ) → bit (m .claiming) p ≡ true → (p < 32) × (0 < getD (m .left) p 0)
+ClaimsOwed m = (p : ℕ) → bit (m .claiming) p ≡ true → (p < mostTasks) × (0 < getD (m .left) p 0)
 
 pub claims-owed : (m : Machine) → within (m .claiming) (owed (m .left)) ≡ true → ClaimsOwed m
-claims-owed m e p h = go (leb 32 p) refl
+claims-owed m e p h = go (leb mostTasks p) refl
   where
     there : bit (owed (m .left)) p ≡ true
     there = within-bit (m .claiming) (owed (m .left)) p e h
 
-    go : (x : Bool) → leb 32 p ≡ x → (p < 32) × (0 < getD (m .left) p 0)
-    go true q = absurd (true≢false (sym there ∙ set-past 32 (λ p. ltb 0 (getD (m .left) p 0)) p (leb-true 32 p q)))
+    go : (x : Bool) → leb mostTasks p ≡ x → (p < mostTasks) × (0 < getD (m .left) p 0)
+    go true q = absurd (true≢false (sym there ∙ set-past mostTasks (λ p. ltb 0 (getD (m .left) p 0)) p (leb-true mostTasks p q)))
     go false q =
-        let l : p < 32 = leb-false 32 p q in
-        (l, ltb-true 0 (getD (m .left) p 0) (sym (set-has 32 (λ p. ltb 0 (getD (m .left) p 0)) p l) ∙ there))
+        let l : p < mostTasks = leb-false mostTasks p q in
+        (l, ltb-true 0 (getD (m .left) p 0) (sym (set-has mostTasks (λ p. ltb 0 (getD (m .left) p 0)) p l) ∙ there))
 
 pub owed-claims : (m : Machine) → m .claiming < 2 ^ 32 → ClaimsOwed m → within (m .claiming) (owed (m .left)) ≡ true
 owed-claims m small h =
     within-of (m .claiming) (owed (m .left)) small
-    (λ p e. set-has 32 (λ p. ltb 0 (getD (m .left) p 0)) p (h p e .0) ∙ lt-ltb 0 (getD (m .left) p 0) (h p e .1))
+    (λ p e. set-has mostTasks (λ p. ltb 0 (getD (m .left) p 0)) p (h p e .0) ∙ lt-ltb 0 (getD (m .left) p 0) (h p e .1))
 
 -- a release
-released-owed : (i t C D T : ℕ) (m : Machine) → Sized m → i < 32 → 0 < C → ClaimsOwed m → ClaimsOwed (released i t C D T m)
-released-owed i t C D T m z l c h p e = go (leb 32 p) refl (eqb p i) refl
+released-owed : (i t C D T : ℕ) (m : Machine) → Sized m → i < mostTasks → 0 < C → ClaimsOwed m → ClaimsOwed (released i t C D T m)
+released-owed i t C D T m z l c h p e = go (leb mostTasks p) refl (eqb p i) refl
   where
-    go : (x : Bool) → leb 32 p ≡ x → (y : Bool) → eqb p i ≡ y → (p < 32) × (0 < getD (released i t C D T m .left) p 0)
-    go true q y f = absurd (true≢false (sym e ∙ released-past i t C D T m p (leb-true 32 p q)))
+    go : (x : Bool) → leb mostTasks p ≡ x → (y : Bool) → eqb p i ≡ y → (p < mostTasks) × (0 < getD (released i t C D T m .left) p 0)
+    go true q y f = absurd (true≢false (sym e ∙ released-past i t C D T m p (leb-true mostTasks p q)))
     go false q true f =
         let own : getD (released i t C D T m .left) p 0 ≡ C =
         ap (λ (x : ℕ). getD (released i t C D T m .left) x 0) (eqb-true p i f) ∙ released-own i t C D T m z l .0 in
-        (leb-false 32 p q, omega arith)
+        (leb-false mostTasks p q, omega arith)
     go false q false f =
-        let b : p < 32 = leb-false 32 p q in
+        let b : p < mostTasks = leb-false mostTasks p q in
         let o = released-other i t C D T m p (eqb-false p i f) b in
         (b, subst (λ (x : ℕ). 0 < x) (sym (o .left)) (h p (sym (o .claims) ∙ e) .1))
 
 -- the due moments of a tick
 due-owed :
-    (t : ℕ) (C D T : List ℕ) (n : ℕ) (m : Machine) → Sized m → n ≤ 32 → ((p : ℕ) → p < n → 0 < getD C p 0) → ClaimsOwed m
+    (t : ℕ) (C D T : List ℕ) (n : ℕ) (m : Machine) → Sized m → n ≤ mostTasks → ((p : ℕ) → p < n → 0 < getD C p 0) → ClaimsOwed m
     → Sized (releasedDue t C D T n m) × ClaimsOwed (releasedDue t C D T n m)
 unfolding releasedDue
 due-owed t C D T zero m z l c h = (z, h)
@@ -93,7 +95,7 @@ due-owed t C D T (suc n) m z l c h =
 
 -- a tick
 worked-owed : (g : ℕ → Bool) (m : Machine) → Sized m → ClaimsOwed m → ClaimsOwed (worked g m)
-worked-owed g m z h p e = go (leb 32 p) refl
+worked-owed g m z h p e = go (leb mostTasks p) refl
   where
     L : ℕ
     L = getD (m .left) p 0
@@ -105,27 +107,27 @@ worked-owed g m z h p e = go (leb 32 p) refl
         omega arith
     by-grant false q = h p (and-left (bit (m .claiming) p) true q) .1
 
-    go : (x : Bool) → leb 32 p ≡ x → (p < 32) × (0 < getD (worked g m .left) p 0)
-    go true q = absurd (true≢false (sym e ∙ worked-past g m p (leb-true 32 p q)))
+    go : (x : Bool) → leb mostTasks p ≡ x → (p < mostTasks) × (0 < getD (worked g m .left) p 0)
+    go true q = absurd (true≢false (sym e ∙ worked-past g m p (leb-true mostTasks p q)))
     go false q =
-        let l : p < 32 = leb-false 32 p q in
+        let l : p < mostTasks = leb-false mostTasks p q in
         (l, subst (λ (x : ℕ). 0 < x) (sym (worked-left g m z p l)) (by-grant (g p) (sym (worked-claims g m z p l) ∙ e)))
 
 -- A STEP
 
 -- who is chosen is among the claimants
 choice-claims : (n : Numbers) (c p : ℕ) → bit (choice n c) p ≡ true → bit c p ≡ true
-choice-claims n c p e = go (leb 32 p) refl
+choice-claims n c p e = go (leb mostTasks p) refl
   where
     f : ℕ → Bool
     f = granted (ruleOf (n .rule)) (claimants (n .widths) (bit c)) (upFrom 0 (n .cores))
 
-    go : (x : Bool) → leb 32 p ≡ x → bit c p ≡ true
-    go true q = absurd (true≢false (sym e ∙ set-past 32 f p (leb-true 32 p q)))
+    go : (x : Bool) → leb mostTasks p ≡ x → bit c p ≡ true
+    go true q = absurd (true≢false (sym e ∙ set-past mostTasks f p (leb-true mostTasks p q)))
     go false q =
         not-false-true (bit c p)
         (λ z. absurd (false≢true (sym (ap some (grants-none (ruleOf (n .rule)) (n .widths) (bit c) (upFrom 0 (n .cores)) p z))
-        ∙ (sym (set-has 32 f p (leb-false 32 p q)) ∙ e))))
+        ∙ (sym (set-has mostTasks f p (leb-false mostTasks p q)) ∙ e))))
 
 module _ (n : Numbers) (s : Stand) (h : Safe n s) where
   -- after the due moments
@@ -150,7 +152,7 @@ module _ (n : Numbers) (s : Stand) (h : Safe n s) where
       go true e = subst (λ (c : ℕ). within (s .granted) c ≡ true) (sym (eqb-true (after n s .claiming) (s .chosen) e)) (h .kept)
       go false e =
           within-of (choice n (after n s .claiming)) (after n s .claiming)
-          (set-lt 32 (granted (ruleOf (n .rule)) (claimants (n .widths) (bit (after n s .claiming))) (upFrom 0 (n .cores))))
+          (set-lt mostTasks (granted (ruleOf (n .rule)) (claimants (n .widths) (bit (after n s .claiming))) (upFrom 0 (n .cores))))
           (choice-claims n (after n s .claiming))
 
   -- and so is owed ticks
@@ -174,4 +176,14 @@ module _ (n : Numbers) (s : Stand) (h : Safe n s) where
   }
     where
       worked-small : worked (bit (grantedIn n s)) (after n s) .claiming < 2 ^ 32
-      worked-small = unfold worked in set-lt 32 (λ p. bit (after n s .claiming) p && not (finishes (bit (grantedIn n s)) (after n s) p))
+      worked-small = unfold worked in set-lt mostTasks (λ p. bit (after n s .claiming) p && not (finishes (bit (grantedIn n s)) (after n s) p))
+
+  -- and this one, where its tick is not the last of all
+  pub safe-steppable : s .tick < mostHorizon → Steppable n s
+  safe-steppable l = record {
+    few = h .few;
+    narrow = h .cores;
+    fits = λ p b. let t = h .times p b in (omega (arith, t .1), omega (arith, t .2));
+    tick = omega arith;
+    owed = granted-owed;
+  }

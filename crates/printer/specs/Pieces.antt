@@ -1,4 +1,5 @@
--- A whole sequence of pieces: a printer is asked for one piece after the other, each into a buffer of its own size. What is claimed of it is `Printed`; the law is `pieces`.
+-- A whole sequence of pieces: a printer is asked for one piece after the other, each into a buffer of its own size. What is claimed of it is `Printed`; the laws are `pieces` and, of an input of
+-- which only the front is read, `front-pieces`.
 use mathlib.Core.List.{List, [], _∷_, _++_}
 use mathlib.Core.Path.{_≡_}
 use Prim.Native.Nat.{ℕ, _+_, _≤_, _<_}

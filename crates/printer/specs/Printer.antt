@@ -8,30 +8,30 @@ use Rattle.model.specs.Book.{Missed}
 use Rattle.table.specs.declared.Loaded.{Loaded}
 use Rattle.table.specs.Words.{tableOf}
 use Rattle.table.specs.Answer.{answerOf}
-use Rattle.full.specs.Machine.{Machine, machine}
+use Rattle.table.specs.Limits.{mostHorizon}
+use Rattle.full.specs.Stand.{Numbers, numbersIn, Stand, standAt, next}
 use Rattle.judge.specs.declared.Verdict.{Verdict}
 use Rattle.judge.specs.Judged.{tableIn, Fit}
-use Rattle.text.specs.Output.{firstLine, rowLines, printedBy, output}
-use Rattle.text.specs.Said.{saidBy}
+use Rattle.text.specs.Output.{firstLine, rowLines, printedBy, output, longestCells, longestLine}
+use Rattle.judge.specs.Said.{saidBy}
 use Rattle.text.specs.Written.{Put}
-use Rattle.printer.specs.Rows.{Numbers, numbersIn, Stand, next, lineIn, linesIn}
+use Rattle.printer.specs.Rows.{textIn, lineIn, linesIn}
 use Rattle.printer.specs.Sound.{tableSound, sound, Safe}
-use Rattle.printer.specs.declared.Pace.{Pace}
+use Rattle.printer.specs.declared.Stage.{Stage}
 use Rattle.printer.specs.declared.Printer.{Printer}
 use Rattle.printer.specs.declared.Piece.{Piece}
 
--- the run that a machine, a pace and the text of a row are
-abbrev pub standAt : Machine → Pace → List ℕ → Stand
-standAt m p row = record { tick = p .tick; machine = m; bell = p .bell; chosen = p .chosen; granted = p .granted; text = take (p .text) row }
-
--- a printer's run
+-- a printer's run, and the text of the row that it keeps
 abbrev pub standOf : Printer → Stand
-standOf p = standAt (machine (p .left) (p .moment) (p .next) (p .pace .claiming)) (p .pace) (p .row)
+standOf p = standAt (p .stage .pace) (p .places)
+
+abbrev pub textKept : Printer → List ℕ
+textKept p = take (p .stage .text) (p .row)
 
 -- the rest of its line, and the lines of the rows to come
 unfoldable pub toCome : Printer → List ℕ
 toCome p =
-    take (p .pace .ready - p .given) (drop (p .given) (p .line)) ++ linesIn (numbersIn (p .table)) (p .end - p .pace .tick) (standOf p)
+    take (p .stage .ready - p .given) (drop (p .given) (p .line)) ++ linesIn (numbersIn (p .table)) (p .end - p .stage .pace .tick) (standOf p) (textKept p)
 
 -- what a printer still has to hand out: where it is sound, all that; else nothing
 unfoldable pub rest : Printer → List ℕ
@@ -40,27 +40,28 @@ rest p = cond (sound p) (toCome p) []
 -- ONE ROW
 
 -- a run that can be stepped, with arrays for its texts, before the last tick of all
-pub record Stepping (n : Numbers) (m : Machine) (p : Pace) (row old : List ℕ) : Type 0 where
-  pub safe : Safe n (standAt m p row)
-  pub tick : p .tick < 10000000
-  pub text : p .text ≤ 257
-  pub wide : length row ≡ 257
-  pub long : length old ≡ 267
+pub record Stepping (n : Numbers) (x : Stage) (places row old : List ℕ) : Type 0 where
+  pub safe : Safe n (standAt (x .pace) places)
+  pub tick : x .pace .tick < mostHorizon
+  pub text : x .text ≤ longestCells
+  pub wide : length row ≡ longestCells
+  pub long : length old ≡ longestLine
 
--- one tick on: the line of the tick is written, and the run stands before the next
-pub record Stepped (n : Numbers) (s : Stand) (old : List ℕ) (m′ : Machine) (p′ : Pace) (row′ new : List ℕ) : Type 0 where
-  pub stand : standAt m′ p′ row′ ≡ next n s
-  pub line : Put old 0 (lineIn n s) new (p′ .ready)
-  pub ready : p′ .ready ≤ 267
-  pub text : p′ .text ≤ 257
-  pub wide : length row′ ≡ 257
-  pub long : length new ≡ 267
+-- one tick on: the line of the tick is written, and the run stands before the next; `kept` is the text that was kept
+pub record Stepped (n : Numbers) (s : Stand) (kept old : List ℕ) (x′ : Stage) (places′ row′ new : List ℕ) : Type 0 where
+  pub stand : standAt (x′ .pace) places′ ≡ next n s
+  pub keeps : take (x′ .text) row′ ≡ textIn n s kept
+  pub line : Put old 0 (lineIn n s kept) new (x′ .ready)
+  pub ready : x′ .ready ≤ longestLine
+  pub text : x′ .text ≤ longestCells
+  pub wide : length row′ ≡ longestCells
+  pub long : length new ≡ longestLine
 
 -- A NEW PRINTER
 
 -- of a table's rows up to e, with the verdict's line before them
 pub record StartOf (t : Loaded) (e : ℕ) (v : Verdict) (p : Printer) : Type 0 where
-  pub sound : tableSound t ≡ true → e ≤ 10000000 → sound p ≡ true
+  pub sound : tableSound t ≡ true → e ≤ mostHorizon → sound p ≡ true
   pub whole :
       (0 < e → Fit t × (e ≤ t .horizon) × ((q u : ℕ) → u < e → ¬ Missed (tableIn t) q u))
       → toCome p ≡ firstLine (saidBy v) ++ rowLines (tableIn t) 0 e

@@ -9,13 +9,15 @@ use lib.Bits.{bitAnd}
 use lib.Dec.{eqb, ltb, leb}
 use lib.ListN.{getD}
 use Rattle.model.specs.Search.{any}
+use Rattle.model.specs.Sizes.{mostCores, mostTasks}
 use Rattle.table.specs.declared.Loaded.{Loaded}
-use Rattle.table.specs.Limits.{taskOut}
+use Rattle.table.specs.Limits.{taskOut, mostHorizon, mostTime}
 use Rattle.table.specs.Task.{taskOf, noTask}
-use Rattle.full.specs.Places.{setOf}
+use Rattle.full.specs.Places.{part, setOf}
 use Rattle.full.specs.Machine.{Sized}
-use Rattle.printer.specs.Rows.{Numbers, Stand}
+use Rattle.full.specs.Stand.{Numbers, Stand}
 use Rattle.printer.specs.declared.Printer.{Printer}
+use Rattle.text.specs.Output.{longestCells, longestLine}
 
 -- 7 or 8 turns the task at place p down
 abbrev pub outAt : Loaded → ℕ → Bool
@@ -23,11 +25,11 @@ outAt t p = taskOut (t .cores) (taskOf (getD (t .tasks) p noTask))
 
 -- at most 32 tasks and at most 64 cores, and no task below the count that 7 or 8 turns down
 unfoldable pub tableSound : Loaded → Bool
-tableSound t = leb (t .count) 32 && (leb (t .cores) 64 && not (any (t .count) (outAt t)))
+tableSound t = leb (t .count) mostTasks && (leb (t .cores) mostCores && not (any (t .count) (outAt t)))
 
 -- the set of the places that are owed ticks
 abbrev pub owed : List ℕ → ℕ
-owed left = setOf 32 (λ p. ltb 0 (getD left p 0))
+owed left = setOf mostTasks (λ p. ltb 0 (getD left p 0))
 
 -- every place of the set a is in the set b
 abbrev pub within : ℕ → ℕ → Bool
@@ -38,18 +40,18 @@ within a b = eqb (bitAnd a b) a
 unfoldable pub sound : Printer → Bool
 sound p =
     tableSound (p .table)
-    && (leb (p .pace .tick) (p .end)
-    && (leb (p .end) 10000000
-    && (leb (p .pace .ready) 267
-    && (leb (p .given) (p .pace .ready)
-    && (leb (p .pace .text) 257
-    && (within (p .pace .claiming) (owed (p .left)) && within (p .pace .granted) (p .pace .chosen)))))))
+    && (leb (p .stage .pace .tick) (p .end)
+    && (leb (p .end) mostHorizon
+    && (leb (p .stage .ready) longestLine
+    && (leb (p .given) (p .stage .ready)
+    && (leb (p .stage .text) longestCells
+    && (within (p .stage .pace .claiming) (owed (part 0 (p .places))) && within (p .stage .pace .granted) (p .stage .pace .chosen)))))))
 
 -- what a run needs so that it can be stepped
 pub record Safe (n : Numbers) (s : Stand) : Type 0 where
-  pub few : n .count ≤ 32
-  pub cores : n .cores ≤ 64
-  pub times : (p : ℕ) → p < n .count → (0 < getD (n .lengths) p 0) × (getD (n .deadlines) p 0 ≤ 1000000) × (getD (n .periods) p 0 ≤ 1000000)
+  pub few : n .count ≤ mostTasks
+  pub cores : n .cores ≤ mostCores
+  pub times : (p : ℕ) → p < n .count → (0 < getD (n .lengths) p 0) × (getD (n .deadlines) p 0 ≤ mostTime) × (getD (n .periods) p 0 ≤ mostTime)
   pub sized : Sized (s .machine)
   pub owed : within (s .machine .claiming) (owed (s .machine .left)) ≡ true
   pub kept : within (s .granted) (s .chosen) ≡ true

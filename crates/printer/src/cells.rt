@@ -1,7 +1,10 @@
 ghost use Prim.Native.Nat.{_≤_};
 ghost use lib.ListN.{length, take};
 ghost use Rattle.text.specs.Written.{Put};
+ghost use Rattle.text.specs.Output.{longestCells};
 ghost use Rattle.printer.specs.Cells.{cells};
+ghost use Rattle.model.specs.Sizes.{mostCores, mostTasks};
+use model::MOST_TASKS;
 use text::row;
 
 // Writes the positions of the cores, and a newline, where the places of the set `claims` claim; the answer is where they end.
@@ -9,12 +12,12 @@ pub(crate) fn put_cells(
     rule: u32,
     cores: u32,
     claims: u32,
-    widths: &[u32; 32],
+    widths: &[u32; MOST_TASKS],
     count: usize,
     text: &mut [u8],
 ) -> usize
-    requires { ⌜ (cores ≤ 64) × (count ≤ 32) × (257 ≤ length (now text)) ⌝ }
-    ensures { λ r. ⌜ (Put (now (text .entry)) 0 (cells rule cores (take count (now (widths .entry))) claims) (now (text .exit)) r) × (r ≤ 257) ⌝ }
+    requires { ⌜ (cores ≤ mostCores) × (count ≤ mostTasks) × (longestCells ≤ length (now text)) ⌝ }
+    ensures { λ r. ⌜ (Put (now (text .entry)) 0 (cells rule cores (take count (now (widths .entry))) claims) (now (text .exit)) r) × (r ≤ longestCells) ⌝ }
 {
     let row = rule::show(rule, cores, claims, widths, count);
     row::spell(row, cores as usize, text)

@@ -1,28 +1,30 @@
 // Everything that the program prints for an input, piece by piece.
 ghost use mathlib.Core.Bool.{true};
 ghost use mathlib.Core.Path.{_≡_};
-ghost use Prim.Native.Nat.{_≤_, min};
-ghost use Rattle.full.specs.Machine.{machine};
-ghost use Rattle.printer.specs.Rows.{numbers};
+ghost use Prim.Native.Nat.{_≤_};
+ghost use lib.ListN.{take};
+ghost use Rattle.full.specs.Stand.{numbersBy, standAt};
 ghost use Rattle.printer.specs.Sound.{sound};
-ghost use Rattle.printer.specs.Printer.{standAt, Stepping, Stepped, StartOf, WordsPrinter, MadeFrom, PieceOf};
+ghost use Rattle.printer.specs.Printer.{Stepping, Stepped, StartOf, WordsPrinter, MadeFrom, PieceOf};
+ghost use Rattle.model.specs.Sizes.{mostCores, mostTasks};
 
 mod cells; // cells.rt: the text of a row's cores
 mod sound; // sound.rt: whether a printer can be stepped
 
+use full::TRIPLE;
+use full::columns::Setting;
+use full::machine::Pace;
 use judge::Verdict;
+use model::MOST_TASKS;
 use table::Loaded;
 use text::first;
 use text::row;
+use text::row::CELLS;
+use text::row::LINE;
 
-// Where a run stands before a tick: the set of claimants, the bell, the claimants that the kept choice and text are for,
-// who is granted cores, how long the text of the row is, and how long the line.
-pub struct Pace {
-    pub tick: u32,
-    pub claiming: u32,
-    pub bell: u32,
-    pub chosen: u32,
-    pub granted: u32,
+// Where the printing stands: the pace of its run, how long the text of the row is, and how long the line.
+pub struct Stage {
+    pub pace: Pace,
     pub text: usize,
     pub ready: usize,
 }
@@ -32,12 +34,10 @@ pub struct Pace {
 pub struct Printer {
     pub table: Loaded,
     pub end: u32,
-    pub left: [u32; 32],
-    pub moment: [u32; 32],
-    pub next: [u32; 32],
-    pub pace: Pace,
-    pub row: [u8; 257],
-    pub line: [u8; 267],
+    pub places: [u32; TRIPLE],
+    pub stage: Stage,
+    pub row: [u8; CELLS],
+    pub line: [u8; LINE],
     pub given: usize,
 }
 
@@ -49,97 +49,62 @@ pub struct Piece {
 
 // Writes the line of a tick, and takes the run one tick on.
 fn next_line(
-    rule: u32,
-    cores: u32,
-    count: usize,
-    width: &[u32; 32],
-    length: &[u32; 32],
-    deadline: &[u32; 32],
-    period: &[u32; 32],
-    pace: Pace,
-    left: &mut [u32; 32],
-    moment: &mut [u32; 32],
-    next: &mut [u32; 32],
-    text: &mut [u8; 257],
-    line: &mut [u8; 267],
-) -> Pace
-    requires { ⌜ Stepping (numbers rule cores count (now width) (now length) (now deadline) (now period)) (machine (now left) (now moment) (now next) (pace .claiming)) pace (now text) (now line) ⌝ }
-    ensures { λ r. ⌜ Stepped (numbers rule cores count (now (width .entry)) (now (length .entry)) (now (deadline .entry)) (now (period .entry))) (standAt (machine (now (left .entry)) (now (moment .entry)) (now (next .entry)) (pace .claiming)) pace (now (text .entry))) (now (line .entry)) (machine (now (left .exit)) (now (moment .exit)) (now (next .exit)) (r .claiming)) r (now (text .exit)) (now (line .exit)) ⌝ }
+    setting: Setting,
+    width: &[u32; MOST_TASKS],
+    times: &[u32; TRIPLE],
+    stage: Stage,
+    places: &mut [u32; TRIPLE],
+    text: &mut [u8; CELLS],
+    line: &mut [u8; LINE],
+) -> Stage
+    requires { ⌜ Stepping (numbersBy setting (now width) (now times)) stage (now places) (now text) (now line) ⌝ }
+    ensures { λ r. ⌜ Stepped (numbersBy setting (now (width .entry)) (now (times .entry))) (standAt (stage .pace) (now (places .entry))) (take (stage .text) (now (text .entry))) (now (line .entry)) r (now (places .exit)) (now (text .exit)) (now (line .exit)) ⌝ }
 {
-    let tick = pace.tick;
-    let mut claiming = pace.claiming;
-    let mut bell = pace.bell;
-    if bell <= tick {
-        let due = full::release_due(
-            tick,
-            count,
-            length,
-            deadline,
-            period,
-            claiming,
-            left,
-            moment,
-            next,
+    let pace = stage.pace;
+    let next = full::step(setting, width, times, pace, places);
+    let mut size = stage.text;
+    if next.chosen != pace.chosen {
+        size = cells::put_cells(
+            setting.rule,
+            setting.cores,
+            next.chosen,
+            width,
+            setting.count,
+            text,
         );
-        claiming = due.claiming;
-        bell = due.bell;
     }
-    let mut granted = pace.granted;
-    let mut size = pace.text;
-    if claiming != pace.chosen {
-        granted = rule::choose(rule, cores, claiming, width);
-        size = cells::put_cells(rule, cores, claiming, width, count, text);
-    }
-    let ready = row::put_row(line, tick, text, size);
-    let after = full::work(granted, claiming, left, moment, next);
-    Pace {
-        tick: tick + 1,
-        claiming: after,
-        bell: bell,
-        chosen: claiming,
-        granted: granted,
+    let ready = row::put_row(line, pace.tick, text, size);
+    Stage {
+        pace: next,
         text: size,
         ready: ready,
     }
 }
 
-// The smaller of two counts.
-fn smaller(a: usize, b: usize) -> usize
-    ensures { λ r. ⌜ r ≡ min a b ⌝ }
-{
-    if a < b { a } else { b }
-}
-
 // The printer of a verdict's line and of the rows of its table up to a tick.
 fn start(table: Loaded, end: u32, verdict: Verdict) -> Printer
-    requires { ⌜ (table .cores ≤ 64) × (table .count ≤ 32) ⌝ }
+    requires { ⌜ (table .cores ≤ mostCores) × (table .count ≤ mostTasks) ⌝ }
     ensures { λ r. ⌜ StartOf table end verdict r ⌝ }
 {
-    let tasks = table.tasks;
-    let columns = full::columns::columns_of(tasks);
-    let offset = columns.offset;
+    let columns = full::columns::columns_of(table);
     let width = columns.width;
-    let mut text = [0u8; 257];
+    let machine = full::machine::start(table);
+    let places = machine.places;
+    let mut text = [0u8; CELLS];
     let size = cells::put_cells(table.rule, table.cores, 0, &width, table.count, &mut text);
-    let mut line = [0u8; 267];
+    let mut line = [0u8; LINE];
     let ready = first::put_first(&mut line, verdict);
-    let left = [0u32; 32];
-    let pace = Pace {
-        tick: 0,
-        claiming: 0,
-        bell: 0,
-        chosen: 0,
-        granted: 0,
+    let pace = machine.pace;
+    let stage = Stage {
+        pace: pace,
         text: size,
         ready: ready,
     };
     Printer {
         table: table,
         end: end,
-        left: left,
-        moment: offset,
-        next: offset,
-        pace: pace,
+        places: places,
+        stage: stage,
         row: text,
         line: line,
         given: 0,
@@ -175,42 +140,32 @@ impl Printer {
     {
         let table = self.table;
         let end = self.end;
-        let tasks = table.tasks;
-        let columns = full::columns::columns_of(tasks);
+        let columns = full::columns::columns_of(table);
+        let setting = columns.setting;
         let width = columns.width;
-        let length = columns.length;
-        let deadline = columns.deadline;
-        let period = columns.period;
-        let mut left = self.left;
-        let mut moment = self.moment;
-        let mut next = self.next;
-        let mut pace = self.pace;
+        let times = columns.times;
+        let mut places = self.places;
+        let mut stage = self.stage;
         let mut text = self.row;
         let mut line = self.line;
         let mut given = self.given;
         let mut at: usize = 0;
         loop {
-            let part = smaller(pace.ready - given, buffer.len() - at);
+            let part = text::smaller(stage.ready - given, buffer.len() - at);
             at = row::copy(&line, given, part, buffer, at);
             given += part;
-            if given < pace.ready {
+            if given < stage.ready {
                 break;
             }
-            if pace.tick == end {
+            if stage.pace.tick == end {
                 break;
             }
-            pace = next_line(
-                table.rule,
-                table.cores,
-                table.count,
+            stage = next_line(
+                setting,
                 &width,
-                &length,
-                &deadline,
-                &period,
-                pace,
-                &mut left,
-                &mut moment,
-                &mut next,
+                &times,
+                stage,
+                &mut places,
                 &mut text,
                 &mut line,
             );
@@ -219,10 +174,8 @@ impl Printer {
         let printer = Printer {
             table: table,
             end: end,
-            left: left,
-            moment: moment,
-            next: next,
-            pace: pace,
+            places: places,
+            stage: stage,
             row: text,
             line: line,
             given: given,

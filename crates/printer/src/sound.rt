@@ -1,8 +1,15 @@
 // Whether the numbers of a printer are in their limits, whoever made it.
 ghost use mathlib.Core.Path.{_≡_};
+ghost use Rattle.full.specs.Places.{part};
 ghost use Rattle.printer.specs.Sound.{tableSound, owed, within, sound};
 use crate::Printer;
+use full::TRIPLE;
+use model::MOST_CORES;
+use model::MOST_TASKS;
 use table::Loaded;
+use table::limits::MOST_HORIZON;
+use text::row::CELLS;
+use text::row::LINE;
 
 // Whether a table's count, core count and tasks are in their limits.
 fn table_sound(table: Loaded) -> bool
@@ -10,10 +17,10 @@ fn table_sound(table: Loaded) -> bool
 {
     let count = table.count;
     let cores = table.cores;
-    if 32 < count {
+    if MOST_TASKS < count {
         return false;
     }
-    if 64 < cores {
+    if MOST_CORES < cores {
         return false;
     }
     let tasks = table.tasks;
@@ -29,14 +36,14 @@ fn table_sound(table: Loaded) -> bool
 }
 
 // The set of the places that are owed ticks.
-fn owed(left: [u32; 32]) -> u32
-    ensures { λ r. ⌜ r ≡ owed left ⌝ }
+fn owed(places: [u32; TRIPLE]) -> u32
+    ensures { λ r. ⌜ r ≡ owed (part 0 places) ⌝ }
 {
     let mut set: u32 = 0;
-    let mut i: usize = 32;
+    let mut i: usize = MOST_TASKS;
     while 0 < i {
         i -= 1;
-        let ticks = left[i];
+        let ticks = places[i];
         set *= 2;
         if 0 < ticks {
             set += 1;
@@ -58,15 +65,17 @@ impl Printer {
         ensures { λ r. ⌜ r ≡ sound self ⌝ }
     {
         let table = self.table;
-        let pace = self.pace;
-        let left = self.left;
+        let stage = self.stage;
+        let pace = stage.pace;
+        let places = self.places;
         let fits = table_sound(table);
-        let claims = within(pace.claiming, owed(left));
+        let claims = within(pace.claiming, owed(places));
         let chosen = within(pace.granted, pace.chosen);
         fits
             & ((pace.tick <= self.end)
-                & ((self.end <= 10_000_000)
-                    & ((pace.ready <= 267)
-                        & ((self.given <= pace.ready) & ((pace.text <= 257) & (claims & chosen))))))
+                & ((self.end <= MOST_HORIZON)
+                    & ((stage.ready <= LINE)
+                        & ((self.given <= stage.ready)
+                            & ((stage.text <= CELLS) & (claims & chosen))))))
     }
 }

@@ -1,77 +1,119 @@
 // Reads a table, a line `--` and operations from standard input as they come, and prints the answers of the run.
-ghost use Prim.Native.Nat.{_≤_};
-use libc::STDERR_FILENO;
-use libc::STDIN_FILENO;
-use libc::STDOUT_FILENO;
+ghost use mathlib.Core.List.{[]};
+ghost use Rattle.session.specs.Talk.{nothing};
+ghost use Rattle.session.specs.Session.{spoken};
+ghost use Rattle.stream.specs.Sent.{SentOf};
+ghost use Rattle.replay.specs.Turns.{TurnOf, HeardOf};
 use session::Session;
+use stream::Reading;
+use stream::Sent;
+use text::row::LINE;
 
-// What came of a part of the input: the session after it, and whether the program goes on.
+// What came of a part of the input: the session after it, what was written, and whether it reads again.
 struct Turn {
     session: Session,
-    goes_on: bool,
+    sent: Sent,
+    again: bool,
 }
 
-// Feeds the first bytes of a chunk to a session, and writes what it says.
-fn talk(start: Session, chunk: [u8; 4096], count: usize) -> Turn
-    requires { ⌜ count ≤ 4096 ⌝ }
+// What came of a read.
+struct Heard {
+    reading: Reading,
+    turn: Turn,
+}
+
+// Feeds a chunk to a session, and writes what it says.
+fn talk(start: Session, chunk: &[u8]) -> Turn
+    ensures { λ r. ⌜ TurnOf start (now (chunk .entry)) r ⌝ }
 {
     let mut session = start;
-    let mut out = [0u8; 267];
+    let mut sent = Sent {
+        count: 0,
+        whole: true,
+    };
+    let mut out = [0u8; LINE];
     let mut at: usize = 0;
-    while at < count {
-        let fed = session.feed(&chunk[at..count], &mut out);
+    while at < chunk.len() {
+        let fed = session.feed(&chunk[at..], &mut out);
         let next = fed.session;
         session = next;
         at += fed.taken;
-        if !io::write_all(STDOUT_FILENO, &out[..fed.length]) {
+        let length = fed.length;
+        sent = stream::send(sent.count, &out[..length]);
+        if sent.whole {} else {
             return Turn {
                 session: session,
-                goes_on: false,
+                sent: sent,
+                again: false,
             };
         }
     }
     Turn {
         session: session,
-        goes_on: !session.is_over(),
+        sent: sent,
+        again: !session.is_over(),
     }
 }
 
 // Writes what is said at the end of the input.
-fn finish(session: Session) {
-    let mut out = [0u8; 267];
+fn finish(session: Session) -> Sent
+    ensures { λ r. ⌜ SentOf 0 (spoken session nothing []) r ⌝ }
+{
+    let mut out = [0u8; LINE];
     let length = session.end(&mut out);
-    io::write_all(STDOUT_FILENO, &out[..length]);
+    stream::send(0, &out[..length])
 }
 
 // Reads once, and writes what is said to what came.
-fn listen(session: Session) -> Turn {
-    let mut chunk = io::buffer();
-    let got = libc::read(STDIN_FILENO, &mut chunk);
-    if got < 0 {
-        io::write_all(STDERR_FILENO, b"replay: standard input could not be read\n");
-        return Turn {
+fn listen(session: Session, chunk: &mut [u8]) -> Heard
+    ensures { λ r. ⌜ HeardOf session (now (chunk .exit)) r ⌝ }
+{
+    let reading = stream::read(chunk, 0);
+    if reading.failed {
+        stream::say_unread(b"replay");
+        let sent = Sent {
+            count: 0,
+            whole: true,
+        };
+        let turn = Turn {
             session: session,
-            goes_on: false,
+            sent: sent,
+            again: false,
+        };
+        return Heard {
+            reading: reading,
+            turn: turn,
         };
     }
-    if got == 0 {
-        finish(session);
-        return Turn {
+    if reading.ended {
+        let sent = finish(session);
+        let turn = Turn {
             session: session,
-            goes_on: false,
+            sent: sent,
+            again: false,
+        };
+        return Heard {
+            reading: reading,
+            turn: turn,
         };
     }
-    let count = io::count(got, &chunk);
-    talk(session, chunk, count)
+    let held = reading.held;
+    let turn = talk(session, &chunk[..held]);
+    Heard {
+        reading: reading,
+        turn: turn,
+    }
 }
 
 // A proved loop has to end, and nothing says that standard input does: the turns are counted down from a number that no run uses up.
 fn main() {
     let mut session = Session::new();
+    let mut chunk = io::buffer();
     let mut turns = u64::MAX;
     while turns > 0 {
-        let turn = listen(session);
-        if !turn.goes_on {
+        let heard = listen(session, &mut chunk);
+        let turn = heard.turn;
+        if !turn.again {
             return;
         }
         let next = turn.session;

@@ -8,7 +8,7 @@ use lib.ListN.{length, take, drop, getD, length-drop}
 use lib.Dec.{leb, ltb, eqb, eqb·suc-suc, eqb·zero-suc, eqb·suc-zero}
 use borrow.Author.Tests.{le-leb, lt-leb}
 use Rattle.model.specs.Task.{Rule}
-use Rattle.model.specs.Grants.{Claimant, claimants, endsChoosing, given, left, grants, remaining, some}
+use Rattle.model.specs.Grants.{Claimant, claimants, endsChoosing, given, left, grants, some}
 use Rattle.model.specs.Search.{bit, upFrom}
 use Rattle.model.proofs.Bools.{and-left}
 use Rattle.model.proofs.Grants.{claimant, claimants-same, grants-none, grants-nobody}
@@ -45,13 +45,6 @@ module _ (r : Rule) where
   abbrev share : List Claimant → List ℕ → ℕ → List ℕ
   share bs free p = getD (grants r bs free) p []
 
-  -- no one claims: all are left
-  pub nobody-left : (ws : List ℕ) (c : ℕ → Bool) (free : List ℕ) → ((i : ℕ) → c i ≡ false) → remaining r (claimants ws c) free ≡ free
-  unfolding remaining claimants
-  nobody-left [] c free h = refl
-  nobody-left (w ∷ ws) c free h =
-      ap (remaining r (claimants ws (lower c))) (unclaimed r (claimant (c 0) w) free (h 0) .1) ∙ nobody-left ws (lower c) free (λ i. h (suc i))
-
   -- the highest place does not claim
   module _ (w : ℕ) (ws : List ℕ) (c : ℕ → Bool) (free : List ℕ) (h : c 0 ≡ false) where
     idle-zero : share (claimants (w ∷ ws) c) free 0 ≡ []
@@ -61,10 +54,6 @@ module _ (r : Rule) where
     idle-suc : (p : ℕ) → share (claimants (w ∷ ws) c) free (suc p) ≡ share (claimants ws (lower c)) free p
     unfolding grants claimants
     idle-suc p = ap (λ (l : List ℕ). share (claimants ws (lower c)) l p) (unclaimed r (claimant (c 0) w) free h .1)
-
-    idle-left : remaining r (claimants (w ∷ ws) c) free ≡ remaining r (claimants ws (lower c)) free
-    unfolding remaining claimants
-    idle-left = ap (remaining r (claimants ws (lower c))) (unclaimed r (claimant (c 0) w) free h .1)
 
   -- a task of no width is given nothing, and leaves all
   no-width : (free : List ℕ) → (given (claimant true 0) free ≡ []) × (left r (claimant true 0) free ≡ free)
@@ -98,19 +87,6 @@ module _ (r : Rule) where
       ∙ first-given q ws (lower c) (lower d) free p (first-later f)
       ∙ ap (λ (l : List ℕ). cond (eqb p q) (given b free) [] ++ l) (sym (idle-suc w ws d (left r b free) (f .others 0 (λ e. omega arith) ∙ o) p))
       ∙ ap (λ (t : Bool). cond t (given b free) [] ++ share (claimants (w ∷ ws) d) (left r b free) (suc p)) (sym (eqb·suc-suc p q))
-
-  pub first-left : (q : ℕ) (ws : List ℕ) (c d : ℕ → Bool) (free : List ℕ) → First c d q
-      → remaining r (claimants ws c) free ≡ remaining r (claimants ws d) (left r (claimant true (getD ws q 0)) free)
-  unfolding remaining claimants
-  first-left q [] c d free f = sym (no-width free .1)
-  first-left zero (w ∷ ws) c d free f =
-      ap (λ (t : Bool). remaining r (claimants ws (lower c)) (left r (claimant t w) free)) (f .here)
-      ∙ ap (λ (bs : List Claimant). remaining r bs (left r (claimant true w) free)) (claimants-same ws (lower c) (lower d) (λ i k. sym (f .others (suc i) (λ e. omega arith))))
-      ∙ sym (idle-left w ws d (left r (claimant true w) free) (f .gone))
-  first-left (suc q) (w ∷ ws) c d free f =
-      let o = f .below 0 (omega arith) in
-      let b = claimant true (getD ws q 0) in
-      idle-left w ws c free o ∙ first-left q ws (lower c) (lower d) free (first-later f) ∙ sym (idle-left w ws d (left r b free) (f .others 0 (λ e. omega arith) ∙ o))
 
   -- places that do not claim may be left out at the end
   pub only-first : (n : ℕ) (ws : List ℕ) (c : ℕ → Bool) (free : List ℕ) (p : ℕ) → ((i : ℕ) → n ≤ i → c i ≡ false)

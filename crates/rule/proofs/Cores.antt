@@ -19,7 +19,7 @@ use Rattle.rule.proofs.Ascending.{Range, range-weaken, range-take, rang
 -- ---- the cores, digit by digit
 
 -- the digit b says whether the core c stands in front of the rest
-abbrev named : ℕ → ℕ → List ℕ → List ℕ
+abbrev pub named : ℕ → ℕ → List ℕ → List ℕ
 named zero c l = l
 named (suc b) c l = c ∷ l
 
@@ -126,7 +126,7 @@ set-cores n h = ap setOf (cores-digits n) ∙ set-from (coresFrom 64 0 n) ∙ se
 
 -- ---- and the cores of that set
 
-out : (d at n m : ℕ) → n ≡ 2 * m → coresFrom (suc d) at n ≡ coresFrom d (suc at) m
+pub out : (d at n m : ℕ) → n ≡ 2 * m → coresFrom (suc d) at n ≡ coresFrom d (suc at) m
 unfolding coresFrom
 out d at n m e = ap₂ (λ (b h : ℕ). named b at (coresFrom d (suc at) h)) (even-half n m e .0) (even-half n m e .1)
 
@@ -237,7 +237,7 @@ cores-memb n c h = memb-kept (bit n) c (upFrom 0 64) ∙ ap (λ (t : Bool). t &&
 
 -- ---- all of the first m cores
 
-none-from : (d at : ℕ) → coresFrom d at 0 ≡ []
+pub none-from : (d at : ℕ) → coresFrom d at 0 ≡ []
 unfolding coresFrom
 none-from zero at = refl
 none-from (suc d) at = none-from d (suc at)

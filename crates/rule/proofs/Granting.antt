@@ -9,12 +9,14 @@ use native.Mathlib.Omega.{arith}
 use lib.ListN.{length, take, drop, getD, length-drop}
 use lib.Seq.{length-take-le}
 use lib.Dec.{leb, ltb}
-use borrow.Author.Tests.{leb-true, lt-ltb}
+use borrow.Author.Tests.{leb-true, leb-false, le-leb, lt-leb, lt-ltb}
 use Rattle.model.specs.Task.{Rule}
 use Rattle.model.specs.Grants.{Claimant, fits, endsChoosing, given, left, grants, some}
 use Rattle.model.proofs.Bools.{and-right}
 use Rattle.model.proofs.Grants.{given-nothing, left-nothing}
-use Rattle.rule.specs.Shares.{granted}
+use Rattle.rule.specs.Shares.{served, givenBy, leftBy, granted}
+use Rattle.rule.specs.declared.Served.{Served}
+use Rattle.rule.specs.declared.Served.the-variants.{Takes, Passed, Ends}
 use Rattle.rule.proofs.Ascending.{Range, range-drop, In, not-in-none, in-take, in-drop, split-apart}
 
 -- ---- the four cases of a claimant
@@ -40,17 +42,58 @@ module _ (r : Rule) (b : Claimant) (free : List ℕ) where
   unfolding given left
   passed e f g = rw (e, f, g) (refl, refl)
 
+-- ---- what the rule's answers to a claimant say
+
+module _ (r : Rule) (free width : ℕ) where
+  pub takes : served r free width ≡ Takes → width ≤ free
+  takes = go (leb width free) refl (endsChoosing r)
+    where
+      go : (t : Bool) → leb width free ≡ t → (u : Bool) → cond t Takes (cond u Ends Passed) ≡ Takes → width ≤ free
+      go true h u e = leb-true width free h
+      go false h true e = let z : _≡_ {A = ℕ} 0 1 = cc in absurd (omega arith)
+      go false h false e = let z : _≡_ {A = ℕ} 0 1 = cc in absurd (omega arith)
+
+  pub passes : served r free width ≡ Passed → (free < width) × (endsChoosing r ≡ false)
+  passes = go (leb width free) refl (endsChoosing r) refl
+    where
+      go : (t : Bool) → leb width free ≡ t → (u : Bool) → endsChoosing r ≡ u → cond t Takes (cond u Ends Passed) ≡ Passed → (free < width) × (endsChoosing r ≡ false)
+      go true h u k e = let z : _≡_ {A = ℕ} 0 1 = cc in absurd (omega arith)
+      go false h true k e = let z : _≡_ {A = ℕ} 0 1 = cc in absurd (omega arith)
+      go false h false k e = (leb-false width free h, k)
+
+  pub ends : served r free width ≡ Ends → (free < width) × (endsChoosing r ≡ true)
+  ends = go (leb width free) refl (endsChoosing r) refl
+    where
+      go : (t : Bool) → leb width free ≡ t → (u : Bool) → endsChoosing r ≡ u → cond t Takes (cond u Ends Passed) ≡ Ends → (free < width) × (endsChoosing r ≡ true)
+      go true h u k e = let z : _≡_ {A = ℕ} 0 1 = cc in absurd (omega arith)
+      go false h true k e = (leb-false width free h, k)
+      go false h false k e = let z : _≡_ {A = ℕ} 0 1 = cc in absurd (omega arith)
+
+-- each answer means what its definition says: what the claimant is given of any list of free cores, and what it leaves
+pub answer-means : (r : Rule) (width : ℕ) (free : List ℕ) (s : Served) → served r (length free) width ≡ s
+    → Case r (record { claims = true; width = width }) free (givenBy s width free) (leftBy s width free)
+answer-means r width free Takes e = fitting r (record { claims = true; width = width }) free refl (le-leb width (length free) (takes r (length free) width e))
+answer-means r width free Passed e =
+    let p = passes r (length free) width e in
+    passed r (record { claims = true; width = width }) free refl (lt-leb width (length free) (p .0)) (p .1)
+answer-means r width free Ends e =
+    let p = ends r (length free) width e in
+    ended r (record { claims = true; width = width }) free refl (lt-leb width (length free) (p .0)) (p .1)
+
 -- ---- nothing is given of nothing
 
 pub same-either : (t : Bool) (l : List ℕ) → cond t l l ≡ l
 same-either true l = refl
 same-either false l = refl
 
-pub none-granted : (r : Rule) (bs : List Claimant) (p : ℕ) → granted r bs [] p ≡ false
+pub none-given : (r : Rule) (bs : List Claimant) (p : ℕ) → getD (grants r bs []) p [] ≡ []
 unfolding grants
-none-granted r [] p = refl
-none-granted r (b ∷ bs) zero = ap some (given-nothing b)
-none-granted r (b ∷ bs) (suc p) = ap (λ (l : List ℕ). granted r bs l p) (left-nothing r b) ∙ none-granted r bs p
+none-given r [] p = refl
+none-given r (b ∷ bs) zero = given-nothing b
+none-given r (b ∷ bs) (suc p) = ap (λ (l : List ℕ). getD (grants r bs l) p []) (left-nothing r b) ∙ none-given r bs p
+
+pub none-granted : (r : Rule) (bs : List Claimant) (p : ℕ) → granted r bs [] p ≡ false
+none-granted r bs p = ap some (none-given r bs p)
 
 -- ---- who is given cores depends on the number of free cores alone
 

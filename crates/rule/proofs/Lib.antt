@@ -1,7 +1,9 @@
 pub mod Examples
 pub mod Ascending
 pub mod Cores
+pub mod Runs
 pub mod Granting
 pub mod Choosing
+pub mod Serving
 pub mod Rows
 pub mod Sets

@@ -3,7 +3,7 @@ use mathlib.Core.Path.{_≡_, refl, sym, ap, _∙_}
 use mathlib.Core.Logic.{_⊎_, inl, inr, ⊎-elim}
 use mathlib.Core.Bool.{Bool, true, false, _&&_}
 use mathlib.Core.List.{List, [], _++_, map}
-use Prim.Native.Nat.{ℕ, _+_, _-_, _^_, _≤_, _<_}
+use Prim.Native.Nat.{ℕ, _+_, _-_, _^_, _≤_, _<_, min}
 use native.Mathlib.Omega.{arith}
 use lib.Bits.{bitAnd, and-lt}
 use lib.Count.{ones}
@@ -19,13 +19,20 @@ use Rattle.model.proofs.Bools.{and-left, and-right, not-true-false}
 use Rattle.model.proofs.Lists.{getD-zeros}
 use Rattle.model.proofs.Digits.{and-bit}
 use Rattle.rule.specs.Cores.{cores}
-use Rattle.rule.specs.Shares.{GrantedAs}
+use Rattle.rule.specs.Shares.{GrantedAs, granted}
 use Rattle.rule.specs.Painted.{shown}
-use Rattle.rule.specs.declared.Granted.{Granted}
 use Rattle.rule.proofs.Ascending.{Range, range-up, In, kept-same, kept-none}
 use Rattle.rule.proofs.Cores.{setOf, cores-none, cores-range, cores-length, set-cores, cores-memb}
 use Rattle.rule.proofs.Granting.{idle, apart, width-or-none}
 use Rattle.rule.proofs.Rows.{shown-grants}
+
+-- the free set of the first n of 64 cores
+pub first-free : (f n : ℕ) → n ≤ 64 → cores f ≡ upFrom 0 (min n 64) → cores f ≡ upFrom 0 n
+first-free f n h e = let all : min n 64 ≡ n = omega arith in e ∙ ap (upFrom 0) all
+
+-- who is given cores of that set
+pub granted-first : (r : Rule) (bs : List Claimant) (f n : ℕ) → n ≤ 64 → cores f ≡ upFrom 0 (min n 64) → (p : ℕ) → granted r bs (cores f) p ≡ granted r bs (upFrom 0 n) p
+granted-first r bs f n h e p = ap (λ (l : List ℕ). granted r bs l p) (first-free f n h e)
 
 -- a set with no cores is 0
 pub no-cores : (n : ℕ) → n < 2 ^ 64 → cores n ≡ [] → n ≡ 0
@@ -41,34 +48,34 @@ no-common a b h k f =
     and-bit a b c ∙ not-true-false (bit a c && bit b c) (λ e. f c (cores-memb a c l ∙ and-left (bit a c) (bit b c) e) (cores-memb b c l ∙ and-right (bit a c) (bit b c) e)))
     ∙ kept-none (upFrom 0 64))
 
-module _ (r : Rule) (bs : List Claimant) (count free : ℕ) (g : Granted) (h : GrantedAs r bs count free g) where
+module _ (r : Rule) (bs : List Claimant) (count free : ℕ) (sets : List ℕ) (h : GrantedAs r bs count free sets) where
   -- the set of each place has the cores that the model grants it
-  pub sets-at : (p : ℕ) → cores (getD (g .sets) p 0) ≡ getD (grants r bs (cores free)) p []
+  pub sets-at : (p : ℕ) → cores (getD sets p 0) ≡ getD (grants r bs (cores free)) p []
   sets-at p = go (ltb p count) refl
     where
-      go : (t : Bool) → ltb p count ≡ t → cores (getD (g .sets) p 0) ≡ getD (grants r bs (cores free)) p []
+      go : (t : Bool) → ltb p count ≡ t → cores (getD sets p 0) ≡ getD (grants r bs (cores free)) p []
       go true e =
-          ap cores (sym (getD-take count (g .sets) p 0 (ltb-true p count e)))
-          ∙ sym (List·getD-map cores (take count (g .sets)) p 0)
-          ∙ ap (getD (map cores (take count (g .sets))) p) cores-none ∙ ap (λ (l : List (List ℕ)). getD l p []) (h .gives)
+          ap cores (sym (getD-take count sets p 0 (ltb-true p count e)))
+          ∙ sym (List·getD-map cores (take count sets) p 0)
+          ∙ ap (getD (map cores (take count sets)) p) cores-none ∙ ap (λ (l : List (List ℕ)). getD l p []) (h .gives)
       go false e =
           let k : count ≤ p = ltb-false p count e in
           let z : p ≡ count + (p - count) = omega arith in
-          let n : length (grants r bs (cores free)) ≤ p = omega (arith, ap length (h .gives), length-map (take count (g .sets)) cores, length-take count (g .sets)) in
-          ap cores (ap (λ (i : ℕ). getD (g .sets) i 0) z ∙ sym (getD-drop count (g .sets) (p - count) 0) ∙ ap (λ (l : List ℕ). getD l (p - count) 0) (h .none) ∙ getD-zeros (32 - count) (p - count))
+          let n : length (grants r bs (cores free)) ≤ p = omega (arith, ap length (h .gives), length-map (take count sets) cores, length-take count sets) in
+          ap cores (ap (λ (i : ℕ). getD sets i 0) z ∙ sym (getD-drop count sets (p - count) 0) ∙ ap (λ (l : List ℕ). getD l (p - count) 0) (h .none) ∙ getD-zeros (32 - count) (p - count))
           ∙ cores-none ∙ sym (List·getD-eq-default (grants r bs (cores free)) [] n)
 
   -- no core is in two of the sets
-  pub sets-apart : (c i j : ℕ) → i < j → In c (cores (getD (g .sets) i 0)) → In c (cores (getD (g .sets) j 0)) → ⊥
+  pub sets-apart : (c i j : ℕ) → i < j → In c (cores (getD sets i 0)) → In c (cores (getD sets j 0)) → ⊥
   sets-apart c i j l = rw (sets-at i, sets-at j) (apart r 64 bs (cores free) (cores-range free) c i j l)
 
-  pub sets-disjoint : (i j : ℕ) → i < j → getD (g .sets) i 0 < 2 ^ 64 → getD (g .sets) j 0 < 2 ^ 64 → bitAnd (getD (g .sets) i 0) (getD (g .sets) j 0) ≡ 0
-  sets-disjoint i j l h k = no-common (getD (g .sets) i 0) (getD (g .sets) j 0) h k (λ c. sets-apart c i j l)
+  pub sets-disjoint : (i j : ℕ) → i < j → getD sets i 0 < 2 ^ 64 → getD sets j 0 < 2 ^ 64 → bitAnd (getD sets i 0) (getD sets j 0) ≡ 0
+  sets-disjoint i j l h k = no-common (getD sets i 0) (getD sets j 0) h k (λ c. sets-apart c i j l)
 
   -- each counts its width or nothing
-  pub sets-width : (p : ℕ) → getD (g .sets) p 0 < 2 ^ 64 → (ones (getD (g .sets) p 0) ≡ getD bs p idle .width) ⊎ (getD (g .sets) p 0 ≡ 0)
+  pub sets-width : (p : ℕ) → getD sets p 0 < 2 ^ 64 → (ones (getD sets p 0) ≡ getD bs p idle .width) ⊎ (getD sets p 0 ≡ 0)
   sets-width p k =
-      let s = getD (g .sets) p 0 in
+      let s = getD sets p 0 in
       ⊎-elim
       (λ e. inl (sym (cores-length s k) ∙ ap length (sets-at p) ∙ e))
       (λ e. inr (no-cores s k (sets-at p ∙ e)))
@@ -76,5 +83,5 @@ module _ (r : Rule) (bs : List Claimant) (count free : ℕ) (g : Granted) (h : G
 
   -- over a row of zeros they show the model's row
   pub sets-row : (m : ℕ) → m ≤ 64 → Range 0 m (cores free)
-      → shown (replicate 64 0) 1 (map cores (take count (g .sets))) ≡ row m (grants r bs (cores free)) ++ replicate (64 - m) 0
+      → shown (replicate 64 0) 1 (map cores (take count sets)) ≡ row m (grants r bs (cores free)) ++ replicate (64 - m) 0
   sets-row m k o = ap (shown (replicate 64 0) 1) (h .gives) ∙ shown-grants r bs 64 m (cores free) k o

@@ -3,6 +3,7 @@ use mathlib.Core.Bool.{Bool, cond}
 use mathlib.Core.List.{List, [], _∷_}
 use Prim.Native.Nat.{ℕ}
 use Rattle.model.specs.Search.{bit, upFrom}
+use Rattle.model.specs.Sizes.{mostCores}
 
 -- the numbers of a list that pass the test, in their order
 unfoldable pub kept : (ℕ → Bool) → List ℕ → List ℕ
@@ -11,4 +12,4 @@ kept f (c ∷ l) = cond (f c) (c ∷ kept f l) (kept f l)
 
 -- the cores of a set in ascending order: the numbers below 64 that are in it
 unfoldable pub cores : ℕ → List ℕ
-cores n = kept (bit n) (upFrom 0 64)
+cores n = kept (bit n) (upFrom 0 mostCores)

@@ -1,25 +1,38 @@
 -- What the tick rule promises (scope, 'Who runs in a tick'), in the model's words; a set of cores is spoken of by the list of its cores.
 use mathlib.Core.Path.{_≡_}
-use mathlib.Core.Bool.{Bool}
+use mathlib.Core.Bool.{Bool, cond}
 use mathlib.Core.List.{List, [], map}
 use Prim.Native.Nat.{ℕ, _-_}
+use lib.Dec.{leb}
 use lib.ListN.{getD, take, drop, replicate}
 use Rattle.model.specs.Task.{Rule}
-use Rattle.model.specs.Grants.{Claimant, given, left, grants, remaining, some}
+use Rattle.model.specs.Grants.{Claimant, endsChoosing, grants, some}
+use Rattle.model.specs.Sizes.{mostTasks}
 use Rattle.rule.specs.Cores.{cores}
-use Rattle.rule.specs.declared.Share.{Share}
-use Rattle.rule.specs.declared.Granted.{Granted}
+use Rattle.rule.specs.declared.Served.{Served}
+use Rattle.rule.specs.declared.Served.the-variants.{Takes, Passed, Ends}
 
--- one claimant: a task whose width fits takes the lowest-numbered free cores; what it leaves to those below it is the model's
-pub record SharedAs (r : Rule) (b : Claimant) (free : ℕ) (s : Share) : Type 0 where
-  pub gives : cores (s .cores) ≡ given b (cores free)
-  pub leaves : cores (s .left) ≡ left r b (cores free)
+-- what the rule says to a claimant of this width where so many cores are free: a width that fits takes its cores; one that doesn't ends the
+-- tick's choosing or is passed over
+abbrev pub served : Rule → ℕ → ℕ → Served
+served r free width = cond (leb width free) Takes (cond (endsChoosing r) Ends Passed)
 
--- all claimants of a tick, taken in priority order: the cores of each place, no set past the count, and the cores that remain
-pub record GrantedAs (r : Rule) (bs : List Claimant) (count free : ℕ) (g : Granted) : Type 0 where
-  pub gives : map cores (take count (g .sets)) ≡ grants r bs (cores free)
-  pub none : drop count (g .sets) ≡ replicate (32 - count) 0
-  pub leaves : cores (g .left) ≡ remaining r bs (cores free)
+-- what each answer gives a claimant of this width, of the free cores
+abbrev pub givenBy : Served → ℕ → List ℕ → List ℕ
+givenBy Takes width free = take width free
+givenBy Passed width free = []
+givenBy Ends width free = []
+
+-- and what it leaves to the claimants below it
+abbrev pub leftBy : Served → ℕ → List ℕ → List ℕ
+leftBy Takes width free = drop width free
+leftBy Passed width free = free
+leftBy Ends width free = []
+
+-- all claimants of a tick, taken in priority order: the cores of each place, and no set past the count
+pub record GrantedAs (r : Rule) (bs : List Claimant) (count free : ℕ) (sets : List ℕ) : Type 0 where
+  pub gives : map cores (take count sets) ≡ grants r bs (cores free)
+  pub none : drop count sets ≡ replicate (mostTasks - count) 0
 
 -- place p is given cores: it is in the row of the tick
 abbrev pub granted : Rule → List Claimant → List ℕ → ℕ → Bool

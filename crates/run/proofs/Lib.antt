@@ -13,3 +13,5 @@ pub mod PlaceSets
 pub mod RunOut
 pub mod Shown
 pub mod Written
+pub mod OffChain
+pub mod NoWords

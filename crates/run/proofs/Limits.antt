@@ -9,6 +9,7 @@ use Rattle.model.proofs.Search.{none-any, none-at}
 use Rattle.model.specs.Search.{any}
 use Rattle.model.specs.Task as model
 use Rattle.model.proofs.Bools.{or-right-false}
+use Rattle.model.specs.Sizes.{mostTasks}
 use Rattle.table.specs.Limits.{from, coresOut, ruleOut, taskOut}
 use Rattle.table.proofs.Decide.{Decides, decides-not, decides-or, decides-any}
 use Rattle.table.proofs.Tests.{from-decides, cores-decides, rule-decides, task-decides}
@@ -32,7 +33,7 @@ place-decides r p =
 pub run-decides : (r : Run) → Decides (runOut r) (RunOut r)
 unfolding runOut
 run-decides r =
-    decides-or _ _ _ _ (decides-not _ _ (from-decides 1 32 (r .count)))
+    decides-or _ _ _ _ (decides-not _ _ (from-decides 1 mostTasks (r .count)))
     (decides-or _ _ _ _ (cores-decides (r .cores))
     (decides-or _ _ _ _ (rule-decides (r .rule))
     (decides-any (r .count) (placeOut r) (PlaceOut r) (place-decides r))))
@@ -45,7 +46,7 @@ or-left-false false b e = refl
 
 -- the parts of 14 that a run passes
 pub record Passes (r : Run) : Type 0 where
-  pub count : from 1 32 (r .count) ≡ true
+  pub count : from 1 mostTasks (r .count) ≡ true
   pub cores : coresOut (r .cores) ≡ false
   pub rule : ruleOut (r .rule) ≡ false
   pub tasks : (p : ℕ) → p < r .count → taskOut (r .cores) (taskAt r p) ≡ false
@@ -54,7 +55,7 @@ pub record Passes (r : Run) : Type 0 where
 pub passes-if : (r : Run) → runOut r ≡ false → Passes r
 unfolding runOut
 passes-if r e = record {
-  count = not-false (from 1 32 (r .count)) (or-left-false (not (from 1 32 (r .count))) (coresOut (r .cores) || (ruleOut (r .rule) || any (r .count) (placeOut r))) e);
+  count = not-false (from 1 mostTasks (r .count)) (or-left-false (not (from 1 mostTasks (r .count))) (coresOut (r .cores) || (ruleOut (r .rule) || any (r .count) (placeOut r))) e);
   cores = or-left-false (coresOut (r .cores)) (ruleOut (r .rule) || any (r .count) (placeOut r)) e1;
   rule = or-left-false (ruleOut (r .rule)) (any (r .count) (placeOut r)) e2;
   tasks = λ p l. or-left-false (taskOut (r .cores) (taskAt r p)) (not (phaseIn (ruleIn r) (taskAt r p) (phaseAt r p))) (at p l);
@@ -65,7 +66,7 @@ passes-if r e = record {
 }
   where
     e1 : coresOut (r .cores) || (ruleOut (r .rule) || any (r .count) (placeOut r)) ≡ false
-    e1 = or-right-false (not (from 1 32 (r .count))) (coresOut (r .cores) || (ruleOut (r .rule) || any (r .count) (placeOut r))) e
+    e1 = or-right-false (not (from 1 mostTasks (r .count))) (coresOut (r .cores) || (ruleOut (r .rule) || any (r .count) (placeOut r))) e
 
     e2 : ruleOut (r .rule) || any (r .count) (placeOut r) ≡ false
     e2 = or-right-false (coresOut (r .cores)) (ruleOut (r .rule) || any (r .count) (placeOut r)) e1

@@ -7,7 +7,8 @@ use borrow.Author.Tests.{not-false}
 use Rattle.model.specs.Search.{any, least}
 use Rattle.model.proofs.Search.{least-below, least-none}
 use Rattle.model.specs.Task as model
-use Rattle.table.specs.Limits.{from, coresOut, ruleOut}
+use Rattle.model.specs.Sizes.{mostCores, mostTasks}
+use Rattle.table.specs.Limits.{from, coresOut, ruleOut, mostTime}
 use Rattle.table.proofs.Tests.{from-decides}
 use Rattle.table.proofs.Inside.{inside-test}
 use Rattle.phase.specs.declared.Phase.{Phase}
@@ -22,7 +23,7 @@ use Rattle.run.proofs.Limits.{or-left-false, passes-if}
 -- ---- the head, then the places
 
 abbrev pub headOut : Run → Bool
-headOut r = not (from 1 32 (r .count)) || (coresOut (r .cores) || ruleOut (r .rule))
+headOut r = not (from 1 mostTasks (r .count)) || (coresOut (r .cores) || ruleOut (r .rule))
 
 first-out : (a b c d : Bool) → a || (b || c) ≡ true → a || (b || (c || d)) ≡ true
 first-out true b c d e = refl
@@ -39,32 +40,32 @@ last-out false false false d e = refl
 module _ (r : Run) where
   pub out-by-head : headOut r ≡ true → runOut r ≡ true
   unfolding runOut
-  out-by-head e = first-out (not (from 1 32 (r .count))) (coresOut (r .cores)) (ruleOut (r .rule)) (any (r .count) (placeOut r)) e
+  out-by-head e = first-out (not (from 1 mostTasks (r .count))) (coresOut (r .cores)) (ruleOut (r .rule)) (any (r .count) (placeOut r)) e
 
   pub out-by-place : headOut r ≡ false → runOut r ≡ any (r .count) (placeOut r)
   unfolding runOut
-  out-by-place e = last-out (not (from 1 32 (r .count))) (coresOut (r .cores)) (ruleOut (r .rule)) (any (r .count) (placeOut r)) e
+  out-by-place e = last-out (not (from 1 mostTasks (r .count))) (coresOut (r .cores)) (ruleOut (r .rule)) (any (r .count) (placeOut r)) e
 
-  pub head-few : headOut r ≡ false → r .count ≤ 32
+  pub head-few : headOut r ≡ false → r .count ≤ mostTasks
   head-few e =
-      from-decides 1 32 (r .count) .0
-      (not-false (from 1 32 (r .count)) (or-left-false (not (from 1 32 (r .count))) (coresOut (r .cores) || ruleOut (r .rule)) e)) .1
+      from-decides 1 mostTasks (r .count) .0
+      (not-false (from 1 mostTasks (r .count)) (or-left-false (not (from 1 mostTasks (r .count))) (coresOut (r .cores) || ruleOut (r .rule)) e)) .1
 
 -- ---- what a run that passes 14 has
 
 -- a phase within its limits leaves room, where O, D and T are at most 1,000,000
-room : (r : model.Rule) (τ : model.Task) (ph : Phase) → τ .offset ≤ 1000000 → τ .deadline ≤ 1000000 → τ .period ≤ 1000000 → PhaseIn r τ ph → Roomy ph
+room : (r : model.Rule) (τ : model.Task) (ph : Phase) → τ .offset ≤ mostTime → τ .deadline ≤ mostTime → τ .period ≤ mostTime → PhaseIn r τ ph → Roomy ph
 room r τ (Coming left) o d t h = h .0
 room r τ (Working z u) o d t h = (omega arith, omega arith)
 room r τ (Holding z u) o d t h = (omega arith, omega arith)
 room r τ (Resting z) o d t h = omega arith
 
 module _ (r : Run) (e : runOut r ≡ false) where
-  pub few : r .count ≤ 32
-  few = from-decides 1 32 (r .count) .0 (passes-if r e .count) .1
+  pub few : r .count ≤ mostTasks
+  few = from-decides 1 mostTasks (r .count) .0 (passes-if r e .count) .1
 
-  pub few-cores : r .cores ≤ 64
-  few-cores = from-decides 1 64 (r .cores) .0 (not-false (from 1 64 (r .cores)) (passes-if r e .cores)) .1
+  pub few-cores : r .cores ≤ mostCores
+  few-cores = from-decides 1 mostCores (r .cores) .0 (not-false (from 1 mostCores (r .cores)) (passes-if r e .cores)) .1
 
   -- each place leaves room for one more tick
   pub roomy : (p : ℕ) → p < r .count → Roomy (phaseAt r p)

@@ -1,11 +1,12 @@
 -- Start is refused with n and p exactly if n is the first of 1 to 9 and 13 that applies, with position p; and taken exactly if none applies.
-use mathlib.Core.Path.{_≡_, refl, sym, subst, _∙_}
+use mathlib.Core.Path.{_≡_, refl, sym, ap, subst, _∙_}
 use mathlib.Core.Bool.{true}
 use mathlib.Core.List.{List}
 use mathlib.Core.Logic.{_↔_}
 use Prim.Native.Nat.{ℕ}
 use native.Mathlib.Omega.{arith}
 use Rattle.model.specs.Book as model
+use Rattle.model.specs.Verdict as verdict
 use Rattle.table.specs.Words.{rule, tableOf}
 use Rattle.table.specs.Numbers.{Earlier, FirstOf, NoneOf}
 use Rattle.table.specs.Numbers as table-numbers
@@ -13,6 +14,7 @@ use Rattle.table.proofs.Decide.{fails}
 use Rattle.table.proofs.Order.{not-before-itself, later, number-most}
 use Rattle.judge.specs.declared.Verdict.{Verdict}
 use Rattle.judge.specs.declared.Verdict.the-variants.{Firm, Full, Miss, Refused}
+use Rattle.judge.specs.Said.{judged, saidBy}
 use Rattle.judge.specs.Judged.{Judged, verdictOf}
 use Rattle.judge.proofs.Promise.{judged-exact}
 use Rattle.run.specs.declared.Run.{Run}
@@ -38,14 +40,14 @@ module _ (ws : List ℕ) where
       earlier m q e (as-table i j h) = f .1 m q e h
       earlier m q e (thirteen t j h) = later 13 0 n p (omega (arith, number-most ws n p (f .0))) e
 
-  start-13 : table-numbers.NoneApplies ws → (t p : ℕ) → verdictOf ws ≡ Miss t p → FirstOf (StartApplies ws) 13 0
+  start-13 : table-numbers.NoneApplies ws → (t p : ℕ) → saidBy (verdictOf ws) ≡ judged (verdict.Miss t p) → FirstOf (StartApplies ws) 13 0
   start-13 none t p e = (thirteen t p e, earlier)
     where
       earlier : (m q : ℕ) → Earlier m q 13 0 → ¬ StartApplies ws m q
       earlier m q x (as-table i j h) = none m q h
       earlier m q x (thirteen u j h) = not-before-itself 13 0 x
 
-  start-none : table-numbers.NoneApplies ws → ((t p : ℕ) → ¬ (verdictOf ws ≡ Miss t p)) → NoneOf (StartApplies ws)
+  start-none : table-numbers.NoneApplies ws → ((t p : ℕ) → ¬ (saidBy (verdictOf ws) ≡ judged (verdict.Miss t p))) → NoneOf (StartApplies ws)
   start-none none never m q (as-table i j h) = none m q h
   start-none none never m q (thirteen t j h) = never t j h
 
@@ -53,20 +55,20 @@ module _ (ws : List ℕ) where
   unfolding startAnswer
   start-right = go (verdictOf ws) refl
     where
-      judged : Judged ws (verdictOf ws)
-      judged = judged-exact ws
+      promised : Judged ws (verdictOf ws)
+      promised = judged-exact ws
 
-      firm-not-miss : {a b t p : ℕ} → Firm a b ≡ Miss t p → ⊥
+      firm-not-miss : {a b t p : ℕ} → judged (verdict.Firm a b) ≡ judged (verdict.Miss t p) → ⊥
       firm-not-miss e = let z : _≡_ {A = ℕ} 0 1 = cc in omega arith
 
-      full-not-miss : {a b t p : ℕ} → Full a b ≡ Miss t p → ⊥
+      full-not-miss : {a b t p : ℕ} → judged (verdict.Full a b) ≡ judged (verdict.Miss t p) → ⊥
       full-not-miss e = let z : _≡_ {A = ℕ} 0 1 = cc in omega arith
 
       go : (v : Verdict) → verdictOf ws ≡ v → Right (StartApplies ws) (byVerdict v)
-      go (Firm a b) e = start-none (judged .firm a b .0 e .0) (λ t p f. firm-not-miss (sym e ∙ f))
-      go (Full a b) e = start-none (judged .full a b .0 e .0) (λ t p f. full-not-miss (sym e ∙ f))
-      go (Miss t p) e = start-13 (judged .miss t p .0 e .0) t p e
-      go (Refused n p) e = as-start n p (judged .refused n p .0 e)
+      go (Firm a b) e = start-none (promised .firm a b .0 (ap saidBy e) .0) (λ t p f. firm-not-miss (sym (ap saidBy e) ∙ f))
+      go (Full a b) e = start-none (promised .full a b .0 (ap saidBy e) .0) (λ t p f. full-not-miss (sym (ap saidBy e) ∙ f))
+      go (Miss t p) e = start-13 (promised .miss t p .0 (ap saidBy e) .0) t p (ap saidBy e)
+      go (Refused n p) e = as-start n p (promised .refused n p .0 (ap saidBy e))
 
   -- THE LAW OF A START
   pub start-exact : (n p : ℕ) → (told (startOf ws .answer) ≡ model.refused n p) ↔ FirstOf (StartApplies ws) n p

@@ -10,6 +10,7 @@ use lib.ListN.{length, getD, replicate}
 use Rattle.model.specs.Task.{task, nobody}
 use Rattle.model.specs.Task as model
 use Rattle.model.proofs.Bools.{not-true-false}
+use Rattle.model.specs.Sizes.{mostTasks}
 use Rattle.table.specs.Words.{cores, rule, tableOf}
 use Rattle.table.specs.Limits.{coresOut, ruleOut, taskOut}
 use Rattle.table.specs.Numbers.{NoneApplies, two, three}
@@ -54,7 +55,7 @@ module _ (ws : List ℕ) (none : NoneApplies ws) where
   pub start-passes : Passes (startedRun (rule ws) (tableOf ws))
   unfolding startedRun
   start-passes = record {
-    count = from-decides 1 32 (length (tableOf ws .tasks)) .1 (passed-count ws none);
+    count = from-decides 1 mostTasks (length (tableOf ws .tasks)) .1 (passed-count ws none);
     cores = rw same-cores cores-in;
     rule = rule-in;
     tasks = λ p l. rw (at p l, same-cores) (task-in p l);
@@ -64,5 +65,5 @@ module _ (ws : List ℕ) (none : NoneApplies ws) where
   }
     where
       at : (p : ℕ) → p < length (tableOf ws .tasks)
-          → getD (map startTask (tableOf ws .tasks) ++ replicate (32 - length (tableOf ws .tasks)) unused) p pastEnd ≡ startTask (task (tableOf ws) p)
-      at p l = started-at (tableOf ws .tasks) (replicate (32 - length (tableOf ws .tasks)) unused) p l
+          → getD (map startTask (tableOf ws .tasks) ++ replicate (mostTasks - length (tableOf ws .tasks)) unused) p pastEnd ≡ startTask (task (tableOf ws) p)
+      at p l = started-at (tableOf ws .tasks) (replicate (mostTasks - length (tableOf ws .tasks)) unused) p l

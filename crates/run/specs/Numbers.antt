@@ -7,6 +7,7 @@ use Prim.Native.Nat.{ℕ, suc, _≤_, _<_}
 use lib.ListN.{getD}
 use lib.Dec.{ltb}
 use Rattle.model.specs.Search.{any, least, bit}
+use Rattle.model.specs.Sizes.{mostTasks}
 use Rattle.table.specs.Limits.{From, from, CoresOut, coresOut, RuleOut, ruleOut, WidthOut, TimesOut}
 use Rattle.phase.specs.declared.Phase.the-variants.{Working}
 use Rattle.run.specs.declared.Run.{Run}
@@ -22,7 +23,7 @@ PlaceOut r p = (WidthOut (r .cores) (taskAt r p) ⊎ TimesOut (taskAt r p)) ⊎ 
 
 -- the run's count is not 1 to 32, its core count or rule is out of range, a task breaks 7 or 8, or a phase is outside the limits
 abbrev pub RunOut : Run → Type 0
-RunOut r = (¬ From 1 32 (r .count)) ⊎ (CoresOut (r .cores) ⊎ (RuleOut (r .rule) ⊎ ((p : ℕ) × (p < r .count) × PlaceOut r p)))
+RunOut r = (¬ From 1 mostTasks (r .count)) ⊎ (CoresOut (r .cores) ⊎ (RuleOut (r .rule) ⊎ ((p : ℕ) × (p < r .count) × PlaceOut r p)))
 
 -- the task at place p is Working at z = D
 abbrev pub Late : Run → ℕ → Type 0
@@ -58,7 +59,7 @@ placeOut r p = outIn (r .cores) (ruleIn r) (placeAt r p)
 
 -- 14 (`run-decides`)
 unfoldable pub runOut : Run → Bool
-runOut r = not (from 1 32 (r .count)) || (coresOut (r .cores) || (ruleOut (r .rule) || any (r .count) (placeOut r)))
+runOut r = not (from 1 mostTasks (r .count)) || (coresOut (r .cores) || (ruleOut (r .rule) || any (r .count) (placeOut r)))
 
 -- 15 of one place (`late-decides`)
 abbrev pub lateAt : Run → ℕ → Bool

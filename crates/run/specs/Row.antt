@@ -8,6 +8,7 @@ use lib.ListN.{replicate}
 use lib.Dec.{ltb}
 use Rattle.model.specs.Row.{row}
 use Rattle.model.specs.Book as model
+use Rattle.model.specs.Sizes.{mostCores}
 use Rattle.table.specs.Numbers.{FirstOf, NoneOf}
 use Rattle.run.specs.declared.Run.{Run}
 use Rattle.run.specs.declared.Answer.{Answer}
@@ -27,7 +28,7 @@ bytesIn r = in64 (row (r .cores) (grantsIn r))
 
 -- 64 zeros
 abbrev pub noBytes : List ℕ
-noBytes = replicate 64 0
+noBytes = replicate mostCores 0
 
 -- the row; where refused, all zeros
 unfoldable pub rowOf : Run → Row

@@ -6,10 +6,13 @@ use Prim.Native.Nat.{ℕ, _-_}
 use lib.ListN.{length, replicate}
 use Rattle.model.specs.Task as model
 use Rattle.model.specs.Book as book
+use Rattle.model.specs.Verdict as verdict
+use Rattle.model.specs.Sizes.{mostTasks}
 use Rattle.table.specs.Words.{rule, tableOf}
 use Rattle.table.specs.Numbers.{Applies, FirstOf, NoneOf}
 use Rattle.judge.specs.declared.Verdict.{Verdict}
 use Rattle.judge.specs.declared.Verdict.the-variants as judge
+use Rattle.judge.specs.Said.{judged, saidBy}
 use Rattle.judge.specs.Judged.{verdictOf}
 use Rattle.run.specs.declared.Run.{Run}
 use Rattle.run.specs.declared.Answer.{Answer}
@@ -25,19 +28,19 @@ startedRun n s = record {
   rule = n;
   cores = s .cores;
   count = length (s .tasks);
-  tasks = map startTask (s .tasks) ++ replicate (32 - length (s .tasks)) unused;
+  tasks = map startTask (s .tasks) ++ replicate (mostTasks - length (s .tasks)) unused;
 }
 
 -- a run of all zeros with every phase Resting(0), which 14 turns down (`empty-run-out`)
 abbrev pub emptyRun : Run
-emptyRun = record { rule = 0; cores = 0; count = 0; tasks = replicate 32 unused }
+emptyRun = record { rule = 0; cores = 0; count = 0; tasks = replicate mostTasks unused }
 
 -- number n applies to a start from the words, with position p
 pub data StartApplies (ws : List ℕ) : ℕ → ℕ → Type 0 where
   -- 1 to 9
   as-table : (n p : ℕ) → Applies ws n p → StartApplies ws n p
   -- 13. Start: the verdict is Miss.
-  thirteen : (t p : ℕ) → verdictOf ws ≡ judge.Miss t p → StartApplies ws 13 0
+  thirteen : (t p : ℕ) → saidBy (verdictOf ws) ≡ judged (verdict.Miss t p) → StartApplies ws 13 0
 
 -- by the judge's verdict: Firm and Full are taken, Miss is 13, and 1 to 9 turn down as they do there
 abbrev pub byVerdict : Verdict → Answer

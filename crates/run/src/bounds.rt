@@ -3,13 +3,15 @@ ghost use mathlib.Core.Bool.{_||_, not};
 ghost use Prim.Native.Nat.{_≤_};
 ghost use Rattle.table.specs.Limits.{from, coresOut, ruleOut};
 ghost use Rattle.run.specs.Numbers.{runOut, firstLateIn};
+ghost use Rattle.model.specs.Sizes.{mostTasks};
 use crate::Run;
+use model::MOST_TASKS;
 
 // Whether a run's count, core count or rule is out of range.
 fn head_out(count: usize, cores: u32, rule: u32) -> bool
-    ensures { λ r. ⌜ r ≡ not (from 1 32 count) || (coresOut cores || ruleOut rule) ⌝ }
+    ensures { λ r. ⌜ r ≡ not (from 1 mostTasks count) || (coresOut cores || ruleOut rule) ⌝ }
 {
-    !((1 <= count) & (count <= 32))
+    !((1 <= count) & (count <= MOST_TASKS))
         | (table::limits::cores_out(cores) | table::limits::rule_out(rule))
 }
 
@@ -38,7 +40,7 @@ impl Run {
 
     // The first place whose task is Working at its deadline (number 15), or the count.
     pub(crate) fn first_late(self) -> usize
-        requires { ⌜ self .count ≤ 32 ⌝ }
+        requires { ⌜ self .count ≤ mostTasks ⌝ }
         ensures { λ r. ⌜ r ≡ firstLateIn self ⌝ }
     {
         let run = self;

@@ -13,6 +13,8 @@ mod sets; // sets.rt: sets of places
 mod starts; // starts.rt: the run of a table as it starts
 
 use judge::Verdict;
+use model::MOST_TASKS;
+use model::ROW;
 use phase::Task;
 
 // A run: the rule's number, the core count, and the tasks in priority order, of which the first count are used.
@@ -20,7 +22,7 @@ pub struct Run {
     pub rule: u32,
     pub cores: u32,
     pub count: usize,
-    pub tasks: [Task; 32],
+    pub tasks: [Task; MOST_TASKS],
 }
 
 // What a call is answered: taken, or refused with number and position.
@@ -44,7 +46,7 @@ pub struct Advanced {
 // What a row asked gives: the answer, and one byte a core, the position or 0 for idle; bytes past the core count are 0.
 pub struct Row {
     pub answer: Answer,
-    pub bytes: [u8; 64],
+    pub bytes: [u8; ROW],
 }
 
 // The run of a table's words as it starts; or the first of 1 to 9 that applies, or 13 where the verdict is Miss, and the run of all zeros.
@@ -77,7 +79,7 @@ fn in_order(late: bool, position: u32, within: bool) -> Answer
 fn row_refused(number: u32, position: u32) -> Row
     ensures { λ r. ⌜ r ≡ record { answer = Refused number position; bytes = noBytes } ⌝ }
 {
-    let bytes = [0u8; 64];
+    let bytes = [0u8; ROW];
     Row {
         answer: Answer::Refused(number, position),
         bytes: bytes,
@@ -123,7 +125,8 @@ impl Run {
         let late = self.first_late();
         let claims = self.claims();
         let widths = claims.widths;
-        let granted = rule::choose(self.rule, self.cores, claims.claiming, &widths);
+        let free = rule::first_cores(self.cores);
+        let granted = rule::choose(self.rule, free, claims.claiming, &widths);
         let ending = reports & (granted & claims.working);
         let answer = in_order(late < self.count, late as u32 + 1, ending == reports);
         match answer {

@@ -3,10 +3,11 @@ ghost use mathlib.Core.Bool.{_||_, _&&_};
 ghost use Prim.Native.Nat.{ℕ, _<_};
 ghost use lib.Dec.{eqb};
 ghost use Rattle.model.specs.Search.{bit};
+ghost use Rattle.model.specs.Sizes.{mostTasks};
 
 // Whether a place is in a set, bit 0 for position 1.
 pub(crate) fn has(set: u32, place: u32) -> bool
-    requires { ⌜ place < 32 ⌝ }
+    requires { ⌜ place < mostTasks ⌝ }
     ensures { λ r. ⌜ r ≡ bit set place ⌝ }
 {
     (set >> place) % 2 == 1
@@ -14,7 +15,7 @@ pub(crate) fn has(set: u32, place: u32) -> bool
 
 // The set with a place added where `on` is true.
 pub(crate) fn with(set: u32, place: u32, on: bool) -> u32
-    requires { ⌜ place < 32 ⌝ }
+    requires { ⌜ place < mostTasks ⌝ }
     ensures { λ r. ⌜ ((p : ℕ) → bit r p ≡ bit set p || (on && eqb p place)) ⌝ }
 {
     if on { set | (1u32 << place) } else { set }

@@ -7,16 +7,18 @@ ghost use Rattle.table.specs.Numbers.{NoneApplies};
 ghost use Rattle.run.specs.declared.Answer.the-variants.{Taken, Refused};
 ghost use Rattle.table.specs.Task as table;
 ghost use Rattle.run.specs.Start.{startedRun, emptyRun};
+ghost use Rattle.model.specs.Sizes.{mostTasks};
 use crate::Answer;
 use crate::Run;
 use crate::Started;
+use model::MOST_TASKS;
 
 // The run of all zeros with every phase Resting(0).
 fn empty() -> Run
     ensures { λ r. ⌜ r ≡ emptyRun ⌝ }
 {
     let place = phase::starts::unused();
-    let tasks = [place; 32];
+    let tasks = [place; MOST_TASKS];
     Run {
         rule: 0,
         cores: 0,
@@ -26,12 +28,12 @@ fn empty() -> Run
 }
 
 // The run of a table's first `count` tasks as it starts.
-fn started(rule: u32, cores: u32, tasks: [table::Task; 32], count: usize) -> Run
-    requires { ⌜ count ≤ 32 ⌝ }
+fn started(rule: u32, cores: u32, tasks: [table::Task; MOST_TASKS], count: usize) -> Run
+    requires { ⌜ count ≤ mostTasks ⌝ }
     ensures { λ r. ⌜ r ≡ startedRun rule (tableWith cores rule (table.tasksOf tasks count)) ⌝ }
 {
     let place = phase::starts::unused();
-    let mut places = [place; 32];
+    let mut places = [place; MOST_TASKS];
     let mut i: usize = 0;
     while i < count {
         let task = tasks[i];

@@ -19,8 +19,8 @@ use Rattle.session.specs.declared.Stage.the-variants.{Table, Operations,
 use Rattle.session.specs.declared.Session.{Session}
 use Rattle.session.specs.declared.Fed.{Fed}
 use Rattle.session.specs.declared.open.Opened.{Opened}
-use Rattle.session.specs.Operation.{operationOf, said, runAfter, isLast}
-use Rattle.session.specs.Talk.{Ahead, nothing, unknown, linesFrom, replies, isDashes, talkFrom}
+use Rattle.session.specs.Operation.{noneLong, operationOf, said, runAfter, isLast}
+use Rattle.session.specs.Talk.{tooMany, Ahead, nothing, unknown, linesFrom, replies, isDashes, talkFrom}
 use Rattle.session.specs.Session.{spokenIn, spoken, stageOf, Begins, FedBy, stageAfter, Said, OpenedOf, overWith}
 use Rattle.session.proofs.Saying.{said-nothing}
 use Rattle.session.proofs.Replying.{stage-within, table-not-over}
@@ -31,11 +31,11 @@ abbrev pub session : Stage → List ℕ → ℕ → ℕ → Run → Session
 session stage bytes from held run = record { stage = stage; bytes = bytes; from = from; held = held; run = run }
 
 -- the stage of a session whose numbers are within its bytes
-within : (stage : Stage) (s : Session) → s .stage ≡ stage → s .from ≤ s .held → s .held ≤ 2148 → stageOf s ≡ stage
-within stage s e f h = rw (le-leb (s .from) (s .held) f, le-leb (s .held) 2148 h) e
+within : (stage : Stage) (s : Session) → s .stage ≡ stage → s .from ≤ s .held → s .held ≤ tooMany → stageOf s ≡ stage
+within stage s e f h = rw (le-leb (s .from) (s .held) f, le-leb (s .held) tooMany h) e
 
 pub speaks :
-    (stage : Stage) (s : Session) (e : Ahead) (bs : List ℕ) → s .stage ≡ stage → s .from ≤ s .held → s .held ≤ 2148 → spoken s e bs ≡ spokenIn stage s e bs
+    (stage : Stage) (s : Session) (e : Ahead) (bs : List ℕ) → s .stage ≡ stage → s .from ≤ s .held → s .held ≤ tooMany → spoken s e bs ≡ spokenIn stage s e bs
 unfolding spoken
 speaks stage s e bs q f h = ap (λ (t : Stage). spokenIn t s e bs) (within stage s q f h)
 
@@ -90,7 +90,7 @@ over-silent s taken length e bs = refl
 pub nothing-due : (s : Session) → spoken s unknown [] ≡ []
 nothing-due s = by-stage (stageOf s) refl
   where
-    in-table : s .from ≤ s .held → s .held ≤ 2148 → spokenIn Table s unknown [] ≡ []
+    in-table : s .from ≤ s .held → s .held ≤ tooMany → spokenIn Table s unknown [] ≡ []
     in-table f h =
         spoken-table s unknown []
         ∙ due-none (take (s .from) (s .bytes)) (take (s .held - s .from) (drop (s .from) (s .bytes)))
@@ -157,7 +157,7 @@ part-front (suc i) (suc n) (x ∷ l) = let e : n - i ≡ suc n - suc i = omega a
 -- A PART OF THE CHUNK IS HELD: as much of its first line as there is room for
 
 module _
-    (s : Session) (chunk bytes : List ℕ) (most end count held : ℕ) (wide : length (s .bytes) ≡ 2148) (room : s .held ≤ most) (fits : most ≤ 2148)
+    (s : Session) (chunk bytes : List ℕ) (most end count held : ℕ) (wide : length (s .bytes) ≡ tooMany) (room : s .held ≤ most) (fits : most ≤ tooMany)
     (e : end ≡ 0 + lineLength (drop 0 chunk)) (m : count ≡ min end (most - s .held)) (p : Put (s .bytes) (s .held) (take count (drop 0 chunk)) bytes held)
   where
     some : count ≤ lineLength chunk
@@ -172,7 +172,7 @@ module _
     pub held-most : held ≤ most
     held-most = omega (arith, now-held, m, room)
 
-    pub still-wide : length bytes ≡ 2148
+    pub still-wide : length bytes ≡ tooMany
     still-wide = put-length p (omega (arith, held-most, fits, wide)) ∙ wide
 
     -- what is held now: what was, and the part
@@ -232,68 +232,68 @@ module _
 -- THE CASES OF A CHUNK
 
 module _
-    (s : Session) (chunk bytes before after : List ℕ) (end count held : ℕ) (wide : length (s .bytes) ≡ 2148) (f : s .from ≤ s .held) (room : s .held ≤ 2148)
-    (e : end ≡ 0 + lineLength (drop 0 chunk)) (m : count ≡ min end (2148 - s .held)) (p : Put (s .bytes) (s .held) (take count (drop 0 chunk)) bytes held)
+    (s : Session) (chunk bytes before after : List ℕ) (end count held : ℕ) (wide : length (s .bytes) ≡ tooMany) (f : s .from ≤ s .held) (room : s .held ≤ tooMany)
+    (e : end ≡ 0 + lineLength (drop 0 chunk)) (m : count ≡ min end (tooMany - s .held)) (p : Put (s .bytes) (s .held) (take count (drop 0 chunk)) bytes held)
   where
-    fits : 2148 ≤ 2148
+    fits : tooMany ≤ tooMany
     fits = omega arith
 
     sum : held ≡ s .held + count
-    sum = now-held s chunk bytes 2148 end count held wide room fits e m p
+    sum = now-held s chunk bytes tooMany end count held wide room fits e m p
 
-    wide′ : length bytes ≡ 2148
-    wide′ = still-wide s chunk bytes 2148 end count held wide room fits e m p
+    wide′ : length bytes ≡ tooMany
+    wide′ = still-wide s chunk bytes tooMany end count held wide room fits e m p
 
     -- the bytes of the table and of its last line are all that is held
     all-held : length (take (s .from) bytes) + length (take (held - s .from) (drop (s .from) bytes)) ≡ held
     all-held =
         ap₂ (λ (x y : ℕ). x + y) (length-take-le (s .from) bytes (omega (arith, f, room, wide′)))
-        (length-take-le (held - s .from) (drop (s .from) bytes) (omega (arith, length-drop (s .from) bytes, held-most s chunk bytes 2148 end count held wide room fits e m p, wide′)))
+        (length-take-le (held - s .from) (drop (s .from) bytes) (omega (arith, length-drop (s .from) bytes, held-most s chunk bytes tooMany end count held wide room fits e m p, wide′)))
         ∙ omega (arith, f, sum)
 
     -- no room is left: the table is too long
-    pub table-full : (n : ℕ) (r : Fed) → held ≡ 2148 → Said tooLong before after n → r ≡ overWith s (length chunk) n → FedBy (spokenIn Table s) chunk before after r
+    pub table-full : (n : ℕ) (r : Fed) → held ≡ tooMany → Said tooLong before after n → r ≡ overWith s (length chunk) n → FedBy (spokenIn Table s) chunk before after r
     table-full n r h w q =
         subst (λ (x : Fed). FedBy (spokenIn Table s) chunk before after x) (sym q)
         (fed-over (spokenIn Table s) s chunk before after tooLong n w
-        (whole s chunk bytes 2148 end count held wide room fits e m p (λ cs. spokenIn Table s nothing cs ≡ tooLong)
-        (λ bs. table-on s chunk bytes 2148 end count held wide room fits e m p f nothing bs ∙ talk-long (take (s .from) bytes) line bs long))
-        (whole s chunk bytes 2148 end count held wide room fits e m p (λ cs. Begins (spokenIn Table s unknown cs) tooLong)
+        (whole s chunk bytes tooMany end count held wide room fits e m p (λ cs. spokenIn Table s nothing cs ≡ tooLong)
+        (λ bs. table-on s chunk bytes tooMany end count held wide room fits e m p f nothing bs ∙ talk-long (take (s .from) bytes) line bs long))
+        (whole s chunk bytes tooMany end count held wide room fits e m p (λ cs. Begins (spokenIn Table s unknown cs) tooLong)
         (λ bs.
-        subst (λ (x : List ℕ). Begins x tooLong) (sym (table-on s chunk bytes 2148 end count held wide room fits e m p f unknown bs))
+        subst (λ (x : List ℕ). Begins x tooLong) (sym (table-on s chunk bytes tooMany end count held wide room fits e m p f unknown bs))
         (due-long (take (s .from) bytes) line bs long))))
       where
         line : List ℕ
         line = take (held - s .from) (drop (s .from) bytes)
 
-        long : 2148 ≤ length (take (s .from) bytes) + length line
+        long : tooMany ≤ length (take (s .from) bytes) + length line
         long = omega (arith, all-held, h)
 
     -- the chunk ends within the line
     pub table-held :
-        (held ≡ 2148 → ⊥) → count ≡ length chunk
+        (held ≡ tooMany → ⊥) → count ≡ length chunk
         → FedBy (spokenIn Table s) chunk before before (record { session = session Table bytes (s .from) held (s .run); taken = count; length = 0 })
     table-held n q =
         fed (spokenIn Table s) chunk before before [] _ (omega arith) (λ o. omega (arith, q, o)) (said-nothing before)
         (λ x bs.
-        table-on s chunk bytes 2148 end count held wide room fits e m p f x bs
-        ∙ sym (speaks Table (session Table bytes (s .from) held (s .run)) x bs refl (omega (arith, f, sum)) (held-most s chunk bytes 2148 end count held wide room fits e m p) ∙ spoken-table _ x bs))
+        table-on s chunk bytes tooMany end count held wide room fits e m p f x bs
+        ∙ sym (speaks Table (session Table bytes (s .from) held (s .run)) x bs refl (omega (arith, f, sum)) (held-most s chunk bytes tooMany end count held wide room fits e m p) ∙ spoken-table _ x bs))
 
     -- the line ends: what comes is read after a newline
     line-ends :
-        (held ≡ 2148 → ⊥) → (count ≡ length chunk → ⊥) → (x : Ahead) (bs : List ℕ)
+        (held ≡ tooMany → ⊥) → (count ≡ length chunk → ⊥) → (x : Ahead) (bs : List ℕ)
         → spokenIn Table s x (take (count + 1) chunk ++ bs) ≡ talkFrom x (take (s .from) bytes) (take (held - s .from) (drop (s .from) bytes)) (newline ∷ bs)
     line-ends n q x bs =
-        ap (spokenIn Table s x) (to-newline s chunk bytes 2148 end count held wide room fits e m p n q bs)
-        ∙ table-on s chunk bytes 2148 end count held wide room fits e m p f x (newline ∷ bs)
+        ap (spokenIn Table s x) (to-newline s chunk bytes tooMany end count held wide room fits e m p n q bs)
+        ∙ table-on s chunk bytes tooMany end count held wide room fits e m p f x (newline ∷ bs)
 
     -- it is `--`: the run is opened
     pub table-opened :
-        (o : Opened) (stage : Stage) → (held ≡ 2148 → ⊥) → (count ≡ length chunk → ⊥) → isDashes (take (held - s .from) (drop (s .from) bytes)) ≡ true
+        (o : Opened) (stage : Stage) → (held ≡ tooMany → ⊥) → (count ≡ length chunk → ⊥) → isDashes (take (held - s .from) (drop (s .from) bytes)) ≡ true
         → OpenedOf (take (s .from) bytes) before after o → stage ≡ stageAfter (o .over)
         → FedBy (spokenIn Table s) chunk before after (record { session = session stage bytes 0 0 (o .run); taken = count + 1; length = o .length })
     table-opened o stage n q d w g =
-        fed (spokenIn Table s) chunk before after (take (o .length) after) _ (omega (arith, ended s chunk bytes 2148 end count held wide room fits e m p n q)) (λ l. omega arith)
+        fed (spokenIn Table s) chunk before after (take (o .length) after) _ (omega (arith, ended s chunk bytes tooMany end count held wide room fits e m p n q)) (λ l. omega arith)
         (record { room = w .room; same = w .same; behind = w .behind; front = refl })
         (λ x bs.
         line-ends n q x bs ∙ talk-dashes x (take (s .from) bytes) (take (held - s .from) (drop (s .from) bytes)) bs d ∙ w .text (linesFrom x [] bs)
@@ -301,17 +301,17 @@ module _
 
     -- it is one more line of the table
     pub table-more :
-        (held ≡ 2148 → ⊥) → (count ≡ length chunk → ⊥) → isDashes (take (held - s .from) (drop (s .from) bytes)) ≡ false
+        (held ≡ tooMany → ⊥) → (count ≡ length chunk → ⊥) → isDashes (take (held - s .from) (drop (s .from) bytes)) ≡ false
         → FedBy (spokenIn Table s) chunk before before (record { session = session Table (set bytes held newline) (held + 1) (held + 1) (s .run); taken = count + 1; length = 0 })
     table-more n q d =
-        fed (spokenIn Table s) chunk before before [] _ (omega (arith, ended s chunk bytes 2148 end count held wide room fits e m p n q)) (λ l. omega arith) (said-nothing before)
+        fed (spokenIn Table s) chunk before before [] _ (omega (arith, ended s chunk bytes tooMany end count held wide room fits e m p n q)) (λ l. omega arith) (said-nothing before)
         (λ x bs.
         line-ends n q x bs ∙ talk-line x (take (s .from) bytes) (take (held - s .from) (drop (s .from) bytes)) bs d
         ∙ ap₂ (λ (y z : List ℕ). talkFrom x y z bs) lines none
         ∙ sym (speaks Table (session Table (set bytes held newline) (held + 1) (held + 1) (s .run)) x bs refl (omega arith) more ∙ spoken-table _ x bs))
       where
-        more : held + 1 ≤ 2148
-        more = omega (arith, held-most s chunk bytes 2148 end count held wide room fits e m p, n)
+        more : held + 1 ≤ tooMany
+        more = omega (arith, held-most s chunk bytes tooMany end count held wide room fits e m p, n)
 
         whole-line : take held bytes ≡ take (s .from) bytes ++ take (held - s .from) (drop (s .from) bytes)
         whole-line = let k : held ≡ s .from + (held - s .from) = omega (arith, f, sum) in ap (λ (j : ℕ). take j bytes) k ∙ take-add (s .from) (held - s .from) bytes
@@ -326,52 +326,52 @@ module _
         none = let k : 0 ≡ held + 1 - (held + 1) = omega arith in ap (λ (j : ℕ). take j (drop (held + 1) (set bytes held newline))) k
 
 module _
-    (s : Session) (chunk bytes before after : List ℕ) (end count held : ℕ) (wide : length (s .bytes) ≡ 2148) (room : s .held ≤ 13)
-    (e : end ≡ 0 + lineLength (drop 0 chunk)) (m : count ≡ min end (13 - s .held)) (p : Put (s .bytes) (s .held) (take count (drop 0 chunk)) bytes held)
+    (s : Session) (chunk bytes before after : List ℕ) (end count held : ℕ) (wide : length (s .bytes) ≡ tooMany) (room : s .held ≤ noneLong)
+    (e : end ≡ 0 + lineLength (drop 0 chunk)) (m : count ≡ min end (noneLong - s .held)) (p : Put (s .bytes) (s .held) (take count (drop 0 chunk)) bytes held)
   where
-    few-bytes : 13 ≤ 2148
+    few-bytes : noneLong ≤ tooMany
     few-bytes = omega arith
 
     held-length : length (take held bytes) ≡ held
-    held-length = length-take-le held bytes (omega (arith, held-most s chunk bytes 13 end count held wide room few-bytes e m p, still-wide s chunk bytes 13 end count held wide room few-bytes e m p))
+    held-length = length-take-le held bytes (omega (arith, held-most s chunk bytes noneLong end count held wide room few-bytes e m p, still-wide s chunk bytes noneLong end count held wide room few-bytes e m p))
 
     -- the line is longer than any operation
-    pub operation-full : (n : ℕ) (r : Fed) → held ≡ 13 → Said noOperation before after n → r ≡ overWith s (length chunk) n → FedBy (spokenIn Operations s) chunk before after r
+    pub operation-full : (n : ℕ) (r : Fed) → held ≡ noneLong → Said noOperation before after n → r ≡ overWith s (length chunk) n → FedBy (spokenIn Operations s) chunk before after r
     operation-full n r h w q =
         subst (λ (x : Fed). FedBy (spokenIn Operations s) chunk before after x) (sym q)
         (fed-over (spokenIn Operations s) s chunk before after noOperation n w
-        (whole s chunk bytes 13 end count held wide room few-bytes e m p (λ cs. spokenIn Operations s nothing cs ≡ noOperation)
-        (λ bs. operations-on s chunk bytes 13 end count held wide room few-bytes e m p nothing bs ∙ replies-long (s .run) (take held bytes) bs long))
-        (whole s chunk bytes 13 end count held wide room few-bytes e m p (λ cs. Begins (spokenIn Operations s unknown cs) noOperation)
+        (whole s chunk bytes noneLong end count held wide room few-bytes e m p (λ cs. spokenIn Operations s nothing cs ≡ noOperation)
+        (λ bs. operations-on s chunk bytes noneLong end count held wide room few-bytes e m p nothing bs ∙ replies-long (s .run) (take held bytes) bs long))
+        (whole s chunk bytes noneLong end count held wide room few-bytes e m p (λ cs. Begins (spokenIn Operations s unknown cs) noOperation)
         (λ bs.
-        subst (λ (x : List ℕ). Begins x noOperation) (sym (operations-on s chunk bytes 13 end count held wide room few-bytes e m p unknown bs))
+        subst (λ (x : List ℕ). Begins x noOperation) (sym (operations-on s chunk bytes noneLong end count held wide room few-bytes e m p unknown bs))
         (replies-due (s .run) (take held bytes) bs long))))
       where
-        long : 13 ≤ length (take held bytes)
+        long : noneLong ≤ length (take held bytes)
         long = omega (arith, held-length, h)
 
     -- the chunk ends within the line
     pub operation-held :
-        (held ≡ 13 → ⊥) → count ≡ length chunk
+        (held ≡ noneLong → ⊥) → count ≡ length chunk
         → FedBy (spokenIn Operations s) chunk before before (record { session = session Operations bytes 0 held (s .run); taken = count; length = 0 })
     operation-held n q =
         fed (spokenIn Operations s) chunk before before [] _ (omega arith) (λ o. omega (arith, q, o)) (said-nothing before)
         (λ x bs.
-        operations-on s chunk bytes 13 end count held wide room few-bytes e m p x bs
-        ∙ sym (speaks Operations (session Operations bytes 0 held (s .run)) x bs refl (omega arith) (omega (arith, held-most s chunk bytes 13 end count held wide room few-bytes e m p)) ∙ spoken-operations _ x bs))
+        operations-on s chunk bytes noneLong end count held wide room few-bytes e m p x bs
+        ∙ sym (speaks Operations (session Operations bytes 0 held (s .run)) x bs refl (omega arith) (omega (arith, held-most s chunk bytes noneLong end count held wide room few-bytes e m p)) ∙ spoken-operations _ x bs))
 
     -- the line ends
     line-asked :
-        (held ≡ 13 → ⊥) → (count ≡ length chunk → ⊥) → (x : Ahead) (bs : List ℕ)
+        (held ≡ noneLong → ⊥) → (count ≡ length chunk → ⊥) → (x : Ahead) (bs : List ℕ)
         → spokenIn Operations s x (take (count + 1) chunk ++ bs) ≡ replies (s .run) (take held bytes ∷ linesFrom x [] bs)
     line-asked n q x bs =
-        ap (spokenIn Operations s x) (to-newline s chunk bytes 13 end count held wide room few-bytes e m p n q bs)
-        ∙ operations-on s chunk bytes 13 end count held wide room few-bytes e m p x (newline ∷ bs)
+        ap (spokenIn Operations s x) (to-newline s chunk bytes noneLong end count held wide room few-bytes e m p n q bs)
+        ∙ operations-on s chunk bytes noneLong end count held wide room few-bytes e m p x (newline ∷ bs)
         ∙ ap (replies (s .run)) (lines-line x (take held bytes) bs)
 
     -- it is no operation
     pub operation-none :
-        (n : ℕ) (r : Fed) → (held ≡ 13 → ⊥) → (count ≡ length chunk → ⊥) → isLast (operationOf (take held bytes)) ≡ true
+        (n : ℕ) (r : Fed) → (held ≡ noneLong → ⊥) → (count ≡ length chunk → ⊥) → isLast (operationOf (take held bytes)) ≡ true
         → Said (said (operationOf (take held bytes)) (s .run)) before after n → r ≡ overWith s (length chunk) n → FedBy (spokenIn Operations s) chunk before after r
     operation-none n r h q l w z =
         subst (λ (x : Fed). FedBy (spokenIn Operations s) chunk before after x) (sym z)
@@ -385,19 +385,19 @@ module _
 
     -- it is one, and is answered
     pub operation-done :
-        (n : ℕ) (run : Run) → (held ≡ 13 → ⊥) → (count ≡ length chunk → ⊥) → isLast (operationOf (take held bytes)) ≡ false
+        (n : ℕ) (run : Run) → (held ≡ noneLong → ⊥) → (count ≡ length chunk → ⊥) → isLast (operationOf (take held bytes)) ≡ false
         → Said (said (operationOf (take held bytes)) (s .run)) before after n → run ≡ runAfter (operationOf (take held bytes)) (s .run)
         → FedBy (spokenIn Operations s) chunk before after (record { session = session Operations bytes 0 0 run; taken = count + 1; length = n })
     operation-done n run h q l w z =
         fed (spokenIn Operations s) chunk before after (said (operationOf (take held bytes)) (s .run)) _
-        (omega (arith, ended s chunk bytes 13 end count held wide room few-bytes e m p h q)) (λ o. omega arith) w
+        (omega (arith, ended s chunk bytes noneLong end count held wide room few-bytes e m p h q)) (λ o. omega arith) w
         (λ x bs.
         line-asked h q x bs ∙ replies-line (s .run) (take held bytes) (linesFrom x [] bs) l
         ∙ ap (λ (y : List ℕ). said (operationOf (take held bytes)) (s .run) ++ y) (ap (λ (y : Run). replies y (linesFrom x [] bs)) (sym z) ∙ spoken-after x false bytes run bs))
 
 -- a session that holds a line longer than any operation
 pub operation-long :
-    (s : Session) (chunk before after : List ℕ) (n : ℕ) (r : Fed) → length (s .bytes) ≡ 2148 → s .held ≤ 2148 → 13 ≤ s .held → Said noOperation before after n
+    (s : Session) (chunk before after : List ℕ) (n : ℕ) (r : Fed) → length (s .bytes) ≡ tooMany → s .held ≤ tooMany → noneLong ≤ s .held → Said noOperation before after n
     → r ≡ overWith s (length chunk) n → FedBy (spokenIn Operations s) chunk before after r
 unfolding spokenIn
 operation-long s chunk before after n r wide h l w q =
@@ -406,5 +406,5 @@ operation-long s chunk before after n r wide h l w q =
     (λ bs. replies-long (s .run) (take (s .held) (s .bytes)) (chunk ++ bs) long)
     (λ bs. replies-due (s .run) (take (s .held) (s .bytes)) (chunk ++ bs) long))
   where
-    long : 13 ≤ length (take (s .held) (s .bytes))
+    long : noneLong ≤ length (take (s .held) (s .bytes))
     long = omega (arith, l, length-take-le (s .held) (s .bytes) (omega (arith, h, wide)))

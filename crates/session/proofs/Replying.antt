@@ -5,13 +5,12 @@ use mathlib.Core.Path.{_≡_, refl, sym, ap, _∙_}
 use Prim.Native.Nat.{ℕ, _-_, _≤_, _<_}
 use native.Mathlib.Omega.{arith}
 use lib.ListN.{length, getD, take, drop}
-use lib.Seq.{take-all, take-append-seam}
+use lib.Seq.{take-all}
 use lib.Dec.{eqb, leb}
 use borrow.Author.Tests.{le-leb, lt-leb, leb-true, ne-eqb}
-use Rattle.text.specs.Format.{Words, words, noText, wordsOf}
-use Rattle.text.specs.Input.{inputOf, foundIn}
+use Rattle.text.specs.Format.{mostBytes, wordsOf, numbersIn}
+use Rattle.text.specs.Input.{foundIn}
 use Rattle.text.specs.Output.{letters, lineOf}
-use Rattle.text.specs.declared.Input.{Input}
 use Rattle.run.specs.declared.Run.{Run}
 use Rattle.run.specs.declared.Answer.{Answer}
 use Rattle.run.specs.declared.Answer.the-variants.{Taken, Refused}
@@ -25,7 +24,7 @@ use Rattle.session.specs.declared.Session.{Session}
 use Rattle.session.specs.declared.operations.Operation.{Operation}
 use Rattle.session.specs.declared.operations.Operation.the-variants.{Advance, Row, Nothing}
 use Rattle.session.specs.Operation.{operationOf, advanceBy, plain, answerLine, shownLine, said, runAfter, isLast}
-use Rattle.session.specs.Talk.{isDashes, numbersIn, startLine, opened, replies}
+use Rattle.session.specs.Talk.{tooMany, isDashes, startLine, opened, replies}
 use Rattle.session.specs.Session.{stageOf, Said, OpenedOf}
 use Rattle.session.proofs.Talking.{nil-right, tooLong, opened-long}
 
@@ -143,16 +142,8 @@ no-dashes (a ∷ b ∷ c ∷ l) e = refl
 
 -- THE TABLE
 
--- the numbers that were read
-pub numbers-read : (r : Input) (bs : List ℕ) → r ≡ inputOf (wordsOf bs) → take (r .count) (r .words) ≡ numbersIn (wordsOf bs)
-numbers-read r bs e = ap (λ (i : Input). take (i .count) (i .words)) e ∙ go (wordsOf bs)
-  where
-    go : (w : Words) → take (inputOf w .count) (inputOf w .words) ≡ numbersIn w
-    go (words ws) = take-append-seam ws _
-    go noText = refl
-
 pub opened-refused :
-    (table before after : List ℕ) (run : Run) (n : ℕ) → 2145 < length table → Said tooLong before after n
+    (table before after : List ℕ) (run : Run) (n : ℕ) → mostBytes < length table → Said tooLong before after n
     → OpenedOf table before after (record { run = run; length = n; over = true })
 opened-refused table before after run n h s = record {
   room = s .room;
@@ -162,7 +153,7 @@ opened-refused table before after run n h s = record {
 }
 
 pub opened-run :
-    (table before after : List ℕ) (s : Started) (n : ℕ) → length table ≤ 2145 → s ≡ startOf (numbersIn (wordsOf table))
+    (table before after : List ℕ) (s : Started) (n : ℕ) → length table ≤ mostBytes → s ≡ startOf (numbersIn (wordsOf table))
     → Said (answerLine (letters "ok") (s .answer)) before after n → OpenedOf table before after (record { run = s .run; length = n; over = false })
 unfolding opened startLine
 opened-run table before after s n h e w = record {
@@ -170,7 +161,7 @@ opened-run table before after s n h e w = record {
   same = w .same;
   behind = w .behind;
   text = λ ls.
-      rw (le-leb (length table) 2145 h)
+      rw (le-leb (length table) mostBytes h)
       (ap (λ (x : Started). answerLine (letters "ok") (x .answer) ++ replies (x .run) ls) (sym e) ∙ ap (λ (x : List ℕ). x ++ replies (s .run) ls) (sym (w .front)));
 }
 
@@ -179,24 +170,24 @@ opened-run table before after s n h e w = record {
 pub stage-left : (s : Session) → s .held < s .from → Over ≡ stageOf s
 stage-left s h = rw (lt-leb (s .from) (s .held) h)
 
-pub stage-long : (s : Session) → 2148 < s .held → Over ≡ stageOf s
-stage-long s h = rw (lt-leb (s .held) 2148 h) (go (leb (s .from) (s .held)))
+pub stage-long : (s : Session) → tooMany < s .held → Over ≡ stageOf s
+stage-long s h = rw (lt-leb (s .held) tooMany h) (go (leb (s .from) (s .held)))
   where
     go : (t : Bool) → Over ≡ cond (t && false) (s .stage) Over
     go true = refl
     go false = refl
 
-pub stage-in : (s : Session) → s .from ≤ s .held → s .held ≤ 2148 → s .stage ≡ stageOf s
-stage-in s f h = rw (le-leb (s .from) (s .held) f, le-leb (s .held) 2148 h)
+pub stage-in : (s : Session) → s .from ≤ s .held → s .held ≤ tooMany → s .stage ≡ stageOf s
+stage-in s f h = rw (le-leb (s .from) (s .held) f, le-leb (s .held) tooMany h)
 
 -- a session that is not over has its numbers within its bytes
-pub stage-within : (s : Session) → (stageOf s ≡ Over → ⊥) → (s .from ≤ s .held) × (s .held ≤ 2148)
-stage-within s = go (leb (s .from) (s .held)) (leb (s .held) 2148) refl refl
+pub stage-within : (s : Session) → (stageOf s ≡ Over → ⊥) → (s .from ≤ s .held) × (s .held ≤ tooMany)
+stage-within s = go (leb (s .from) (s .held)) (leb (s .held) tooMany) refl refl
   where
     go :
-        (t u : Bool) → leb (s .from) (s .held) ≡ t → leb (s .held) 2148 ≡ u → (cond (t && u) (s .stage) Over ≡ Over → ⊥)
-        → (s .from ≤ s .held) × (s .held ≤ 2148)
-    go true true e f n = (leb-true (s .from) (s .held) e, leb-true (s .held) 2148 f)
+        (t u : Bool) → leb (s .from) (s .held) ≡ t → leb (s .held) tooMany ≡ u → (cond (t && u) (s .stage) Over ≡ Over → ⊥)
+        → (s .from ≤ s .held) × (s .held ≤ tooMany)
+    go true true e f n = (leb-true (s .from) (s .held) e, leb-true (s .held) tooMany f)
     go true false e f n = absurd (n refl)
     go false u e f n = absurd (n refl)
 

@@ -9,14 +9,14 @@ use lib.ListN.{length, take, length-append}
 use lib.Seq.{append-snoc}
 use lib.Dec.{eqb, leb}
 use borrow.Author.Tests.{lt-leb}
-use Rattle.text.specs.Format.{newline}
+use Rattle.text.specs.Format.{mostBytes, newline}
 use Rattle.text.specs.Input.{lineLength, foundIn}
 use Rattle.text.specs.Output.{letters, lineOf}
 use Rattle.text.proofs.Numbers.{found-nothing}
 use Rattle.run.specs.declared.Run.{Run}
 use Rattle.session.specs.declared.operations.Operation.the-variants.{Nothing}
-use Rattle.session.specs.Operation.{advanceBy, operationOf, plain, said, runAfter, isLast}
-use Rattle.session.specs.Talk.{Ahead, nothing, unknown, lastLine, linesFrom, replies, opened, isDashes, unclosed, talkFrom}
+use Rattle.session.specs.Operation.{noneLong, advanceBy, operationOf, plain, said, runAfter, isLast}
+use Rattle.session.specs.Talk.{tooMany, Ahead, nothing, unknown, lastLine, linesFrom, replies, opened, isDashes, unclosed, talkFrom}
 use Rattle.session.specs.Session.{Begins}
 
 pub nil-right : (l : List ℕ) → l ++ [] ≡ l
@@ -55,9 +55,9 @@ lines-more e l (b ∷ chunk) (suc k) bs h = go (eqb b newline) h (lines-more e (
 abbrev pub tooLong : List ℕ
 tooLong = lineOf (letters "refused") (1 ∷ 0 ∷ [])
 
-pub opened-long : (d : List ℕ) (ls : List (List ℕ)) → 2145 < length d → opened d ls ≡ tooLong
+pub opened-long : (d : List ℕ) (ls : List (List ℕ)) → mostBytes < length d → opened d ls ≡ tooLong
 unfolding opened
-opened-long d ls h = rw (lt-leb (length d) 2145 h)
+opened-long d ls h = rw (lt-leb (length d) mostBytes h)
 
 -- a line `--` has two bytes
 dashes-two : (l : List ℕ) → isDashes l ≡ true → length l ≡ 2
@@ -72,7 +72,7 @@ pub begins-with : {a b : List ℕ} → b ≡ a → Begins a b
 begins-with {a} e = ([], e ∙ sym (nil-right a))
 
 -- 2,148 bytes with no line `--` decide: whatever comes, the table is too long ..
-pub talk-long : (d l bs : List ℕ) → 2148 ≤ length d + length l → talkFrom nothing d l bs ≡ tooLong
+pub talk-long : (d l bs : List ℕ) → tooMany ≤ length d + length l → talkFrom nothing d l bs ≡ tooLong
 unfolding talkFrom unclosed
 talk-long d l [] h = go (isDashes l) refl
   where
@@ -92,9 +92,9 @@ talk-long d l (b ∷ bs) h =
     go false u e x y = y
 
 -- .. and nothing else can be due
-pub due-long : (d l bs : List ℕ) → 2148 ≤ length d + length l → Begins (talkFrom unknown d l bs) tooLong
+pub due-long : (d l bs : List ℕ) → tooMany ≤ length d + length l → Begins (talkFrom unknown d l bs) tooLong
 unfolding talkFrom unclosed
-due-long d l [] h = go (leb 2149 (length d + length l))
+due-long d l [] h = go (leb (tooMany + 1) (length d + length l))
   where
     go : (t : Bool) → Begins (cond t tooLong []) tooLong
     go true = begins-with refl
@@ -112,9 +112,9 @@ due-long d l (b ∷ bs) h =
     go false u e x y = y
 
 -- fewer bytes, and no line `--`: nothing is due
-pub due-none : (d l : List ℕ) → length d + length l ≤ 2148 → talkFrom unknown d l [] ≡ []
+pub due-none : (d l : List ℕ) → length d + length l ≤ tooMany → talkFrom unknown d l [] ≡ []
 unfolding talkFrom unclosed
-due-none d l h = rw (lt-leb 2149 (length d + length l) (omega arith))
+due-none d l h = rw (lt-leb (tooMany + 1) (length d + length l) (omega arith))
 
 -- a line ends: `--` opens the run, any other is one more of the table
 pub talk-dashes : (e : Ahead) (d l bs : List ℕ) → isDashes l ≡ true → talkFrom e d l (newline ∷ bs) ≡ opened d (linesFrom e [] bs)
@@ -133,7 +133,7 @@ talk-end d l = refl
 -- THE OPERATIONS
 
 -- an operation has at most twelve bytes: a letter, a space and ten digits
-long-none : (l : List ℕ) → 13 ≤ length l → operationOf l ≡ Nothing
+long-none : (l : List ℕ) → noneLong ≤ length l → operationOf l ≡ Nothing
 unfolding operationOf
 long-none [] h = absurd (not-suc-le-zero h)
 long-none (a ∷ []) h = absurd (not-suc-le-zero (le-of-suc-le-suc h))
@@ -152,7 +152,7 @@ unfolding replies said
 replies-none r l ls e = rw e (nil-right noOperation)
 
 -- 13 bytes of a line decide: whatever comes, it is no operation ..
-pub replies-long : (r : Run) (l bs : List ℕ) → 13 ≤ length l → replies r (linesFrom nothing l bs) ≡ noOperation
+pub replies-long : (r : Run) (l bs : List ℕ) → noneLong ≤ length l → replies r (linesFrom nothing l bs) ≡ noOperation
 unfolding linesFrom lastLine
 replies-long r [] [] h = absurd (not-suc-le-zero h)
 replies-long r (b ∷ l) [] h = replies-none r (b ∷ l) [] (long-none (b ∷ l) h)
@@ -165,7 +165,7 @@ replies-long r l (b ∷ bs) h = go (eqb b newline) (replies-long r (l ++ (b ∷ 
     go false x = x
 
 -- .. and nothing else can be due
-pub replies-due : (r : Run) (l bs : List ℕ) → 13 ≤ length l → Begins (replies r (linesFrom unknown l bs)) noOperation
+pub replies-due : (r : Run) (l bs : List ℕ) → noneLong ≤ length l → Begins (replies r (linesFrom unknown l bs)) noOperation
 unfolding linesFrom lastLine replies
 replies-due r l [] h = (noOperation, refl)
 replies-due r l (b ∷ bs) h = go (eqb b newline) (replies-due r (l ++ (b ∷ [])) bs (omega (arith, length-append l (b ∷ []))))

@@ -1,12 +1,12 @@
 -- What a line after the table asks of the run, and what is said to it.
 use mathlib.Core.Bool.{Bool, true, false, _&&_, cond}
 use mathlib.Core.List.{List, [], _∷_, _++_}
-use Prim.Native.Nat.{ℕ}
+use Prim.Native.Nat.{ℕ, _+_}
 use lib.ListN.{take}
 use lib.Dec.{eqb}
-use Rattle.text.specs.Format.{newline}
+use Rattle.text.specs.Format.{newline, mostDigits}
 use Rattle.text.specs.Input.{foundIn}
-use Rattle.text.specs.Output.{letters, lineOf}
+use Rattle.text.specs.Output.{letters, lineOf, space}
 use Rattle.text.specs.declared.line.Found.{Found}
 use Rattle.text.specs.declared.line.Found.the-variants as found
 use Rattle.run.specs.declared.Run.{Run}
@@ -17,6 +17,10 @@ use Rattle.run.specs.Row.{rowOf}
 use Rattle.session.specs.declared.operations.Operation.{Operation}
 use Rattle.session.specs.declared.operations.Operation.the-variants.{Advance, Row, Nothing}
 
+-- a line of so many bytes is no operation: one more than a letter, a space and the digits of a number
+abbrev pub noneLong : ℕ
+noneLong = 2 + mostDigits + 1
+
 -- an advance with the report set that is found
 abbrev pub advanceBy : Found → Operation
 advanceBy (found.Value n) = Advance n
@@ -26,7 +30,7 @@ advanceBy found.Nothing = Nothing
 unfoldable pub operationOf : List ℕ → Operation
 operationOf [] = Nothing
 operationOf (b ∷ []) = cond (eqb b 114) Row Nothing
-operationOf (b ∷ s ∷ digits) = cond (eqb b 97 && eqb s 32) (advanceBy (foundIn digits)) Nothing
+operationOf (b ∷ s ∷ digits) = cond (eqb b 97 && eqb s space) (advanceBy (foundIn digits)) Nothing
 
 -- a line that is only a word
 unfoldable pub plain : List ℕ → List ℕ

@@ -5,7 +5,7 @@ use mathlib.Core.Path.{_≡_}
 use Prim.Native.Nat.{ℕ, _-_, _≤_, _<_}
 use lib.ListN.{length, take, drop}
 use lib.Dec.{leb}
-use Rattle.session.specs.Talk.{Ahead, nothing, unknown, linesFrom, replies, opened, talkFrom, talk, due}
+use Rattle.session.specs.Talk.{tooMany, Ahead, nothing, unknown, linesFrom, replies, opened, talkFrom, talk, due}
 use Rattle.session.specs.declared.Stage.{Stage}
 use Rattle.session.specs.declared.Stage.the-variants.{Table, Operations, Over}
 use Rattle.session.specs.declared.Session.{Session}
@@ -20,7 +20,7 @@ spokenIn Over s e bs = []
 
 -- the stage of a session; one whose numbers are outside its bytes is over
 abbrev pub stageOf : Session → Stage
-stageOf s = cond (leb (s .from) (s .held) && leb (s .held) 2148) (s .stage) Over
+stageOf s = cond (leb (s .from) (s .held) && leb (s .held) tooMany) (s .stage) Over
 
 -- nothing is said any more
 abbrev pub isOver : Stage → Bool

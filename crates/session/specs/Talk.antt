@@ -5,11 +5,15 @@ use mathlib.Core.List.{List, [], _∷_, _++_}
 use Prim.Native.Nat.{ℕ, _+_}
 use lib.ListN.{length}
 use lib.Dec.{eqb, leb}
-use Rattle.text.specs.Format.{newline, Words, words, noText, wordsOf}
+use Rattle.text.specs.Format.{newline, mostBytes, wordsOf, numbersIn}
 use Rattle.text.specs.Output.{letters, lineOf}
 use Rattle.run.specs.declared.Run.{Run}
 use Rattle.run.specs.Start.{startOf}
 use Rattle.session.specs.Operation.{operationOf, answerLine, said, runAfter, isLast}
+
+-- so many bytes with no line `--` in them are too many for a table: the longest text, the two dashes, and one more
+abbrev pub tooMany : ℕ
+tooMany = mostBytes + 3
 
 -- what lies ahead of the bytes that have come: nothing, the input ends; or nobody knows
 pub data Ahead : Type 0 where
@@ -32,11 +36,6 @@ unfoldable pub replies : Run → List (List ℕ) → List ℕ
 replies r [] = []
 replies r (l ∷ ls) = said (operationOf l) r ++ cond (isLast (operationOf l)) [] (replies (runAfter (operationOf l) r) ls)
 
--- the numbers of a text; a text that is no table's has none, which start turns down with `refused 1 0`
-abbrev pub numbersIn : Words → List ℕ
-numbersIn (words ws) = ws
-numbersIn noText = []
-
 -- start's answer
 unfoldable pub startLine : List ℕ → List ℕ
 startLine ws = answerLine (letters "ok") (startOf ws .answer)
@@ -44,7 +43,7 @@ startLine ws = answerLine (letters "ok") (startOf ws .answer)
 -- what is said to a table's text, and to the lines after it; a text longer than any table can be is `refused 1 0` and ends the session
 unfoldable pub opened : List ℕ → List (List ℕ) → List ℕ
 opened table ls =
-    cond (leb (length table) 2145)
+    cond (leb (length table) mostBytes)
     (startLine (numbersIn (wordsOf table)) ++ replies (startOf (numbersIn (wordsOf table)) .run) ls)
     (lineOf (letters "refused") (1 ∷ 0 ∷ []))
 
@@ -59,7 +58,7 @@ isDashes (a ∷ b ∷ c ∷ l) = false
 -- what stands before a last line `--`, or all of it; else nothing yet, but the refusal once 2,149 bytes have come
 unfoldable pub unclosed : Ahead → List ℕ → List ℕ → List ℕ
 unclosed nothing table l = opened (cond (isDashes l) table (table ++ l)) []
-unclosed unknown table l = cond (leb 2149 (length table + length l)) (lineOf (letters "refused") (1 ∷ 0 ∷ [])) []
+unclosed unknown table l = cond (leb (tooMany + 1) (length table + length l)) (lineOf (letters "refused") (1 ∷ 0 ∷ [])) []
 
 -- what is said where the whole lines `table` and the bytes l of one more stand before the bytes bs: the first line `--` ends the table
 unfoldable pub talkFrom : Ahead → List ℕ → List ℕ → List ℕ → List ℕ

@@ -3,7 +3,7 @@ ghost use mathlib.Core.Path.{_≡_};
 ghost use mathlib.Core.List.{[]};
 ghost use Prim.Native.Nat.{_≤_, min};
 ghost use Rattle.session.specs.declared.Stage.the-variants.{Table, Operations};
-ghost use Rattle.session.specs.Talk.{nothing};
+ghost use Rattle.session.specs.Talk.{tooMany, nothing};
 ghost use Rattle.session.specs.Session.{Said, spokenIn, stageOf, isOver, stageAfter, FedBy, FedOf, LastOf, NewOf, overWith};
 
 mod open; // open.rt: the table, and the run that it starts
@@ -11,6 +11,13 @@ pub mod operations; // operations.rt: what a line asks
 mod replies; // replies.rt: what is said to an operation
 
 use run::Run;
+use text::row::LINE;
+
+// So many bytes with no line `--` in them are too many for a table: the longest text, the two dashes, and one more.
+pub const TOO_MANY: usize = text::BYTES + 3;
+
+// A line of so many bytes is no operation: one more than a letter, a space and the digits of a number.
+const NONE_LONG: usize = 2 + text::DIGITS + 1;
 
 // What the bytes that come are read as: the table, the operations, or nothing any more.
 pub enum Stage {
@@ -22,7 +29,7 @@ pub enum Stage {
 // Where a session stands: the bytes that it holds and their count, where the last line of the table's begins, and the run.
 pub struct Session {
     pub stage: Stage,
-    pub bytes: [u8; 2148],
+    pub bytes: [u8; TOO_MANY],
     pub from: usize,
     pub held: usize,
     pub run: Run,
@@ -33,13 +40,6 @@ pub struct Fed {
     pub session: Session,
     pub taken: usize,
     pub length: usize,
-}
-
-// The smaller of two counts.
-fn smaller(a: usize, b: usize) -> usize
-    ensures { λ r. ⌜ r ≡ min a b ⌝ }
-{
-    if a < b { a } else { b }
 }
 
 // A session that is over.
@@ -69,16 +69,16 @@ fn stage_after(over: bool) -> Stage
 }
 
 // A chunk of the table: up to the end of its first line, or as much as there is room for.
-fn feed_table(session: Session, chunk: &[u8], out: &mut [u8; 267]) -> Fed
-    requires { ⌜ (session .from ≤ session .held) × (session .held ≤ 2148) ⌝ }
+fn feed_table(session: Session, chunk: &[u8], out: &mut [u8; LINE]) -> Fed
+    requires { ⌜ (session .from ≤ session .held) × (session .held ≤ tooMany) ⌝ }
     ensures { λ r. ⌜ FedBy (spokenIn Table session) (now (chunk .entry)) (now (out .entry)) (now (out .exit)) r ⌝ }
 {
     let mut bytes = session.bytes;
     let from = session.from;
     let end = text::line::end_from(chunk, 0);
-    let count = smaller(end, 2148 - session.held);
+    let count = text::smaller(end, TOO_MANY - session.held);
     let held = text::row::copy(chunk, 0, count, &mut bytes, session.held);
-    if held == 2148 {
+    if held == TOO_MANY {
         let length = replies::say_refused(1, 0, out);
         return over(session, chunk.len(), length);
     }
@@ -128,19 +128,19 @@ fn feed_table(session: Session, chunk: &[u8], out: &mut [u8; 267]) -> Fed
 }
 
 // A chunk of the operations: up to the end of its first line; a line longer than any operation is none.
-fn feed_operations(session: Session, chunk: &[u8], out: &mut [u8; 267]) -> Fed
-    requires { ⌜ session .held ≤ 2148 ⌝ }
+fn feed_operations(session: Session, chunk: &[u8], out: &mut [u8; LINE]) -> Fed
+    requires { ⌜ session .held ≤ tooMany ⌝ }
     ensures { λ r. ⌜ FedBy (spokenIn Operations session) (now (chunk .entry)) (now (out .entry)) (now (out .exit)) r ⌝ }
 {
-    if 13 <= session.held {
+    if NONE_LONG <= session.held {
         let length = replies::say_word(b"not an operation", out);
         return over(session, chunk.len(), length);
     }
     let mut bytes = session.bytes;
     let end = text::line::end_from(chunk, 0);
-    let count = smaller(end, 13 - session.held);
+    let count = text::smaller(end, NONE_LONG - session.held);
     let held = text::row::copy(chunk, 0, count, &mut bytes, session.held);
-    if held == 13 {
+    if held == NONE_LONG {
         let length = replies::say_word(b"not an operation", out);
         return over(session, chunk.len(), length);
     }
@@ -177,8 +177,8 @@ fn feed_operations(session: Session, chunk: &[u8], out: &mut [u8; 267]) -> Fed
 }
 
 // The end of the input in the table: what is said to it.
-fn end_table(session: Session, out: &mut [u8; 267]) -> usize
-    requires { ⌜ (session .from ≤ session .held) × (session .held ≤ 2148) ⌝ }
+fn end_table(session: Session, out: &mut [u8; LINE]) -> usize
+    requires { ⌜ (session .from ≤ session .held) × (session .held ≤ tooMany) ⌝ }
     ensures { λ r. ⌜ Said (spokenIn Table session nothing []) (now (out .entry)) (now (out .exit)) r ⌝ }
 {
     let bytes = session.bytes;
@@ -190,8 +190,8 @@ fn end_table(session: Session, out: &mut [u8; 267]) -> usize
 }
 
 // The end of the input in the operations: what is said to a last line that lacks its newline.
-fn end_operations(session: Session, out: &mut [u8; 267]) -> usize
-    requires { ⌜ session .held ≤ 2148 ⌝ }
+fn end_operations(session: Session, out: &mut [u8; LINE]) -> usize
+    requires { ⌜ session .held ≤ tooMany ⌝ }
     ensures { λ r. ⌜ Said (spokenIn Operations session nothing []) (now (out .entry)) (now (out .exit)) r ⌝ }
 {
     let bytes = session.bytes;
@@ -211,7 +211,7 @@ fn stage_of(session: Session) -> Stage
     if session.held < session.from {
         return Stage::Over;
     }
-    if 2148 < session.held {
+    if TOO_MANY < session.held {
         return Stage::Over;
     }
     session.stage
@@ -226,7 +226,7 @@ impl Session {
         let started = run::start(&none);
         let run = started.run;
         let stage = Stage::Table;
-        let bytes = [0u8; 2148];
+        let bytes = [0u8; TOO_MANY];
         Session {
             stage: stage,
             bytes: bytes,
@@ -237,7 +237,7 @@ impl Session {
     }
 
     // Takes bytes of a chunk, at least one where there is one, and writes what is said to them.
-    pub fn feed(self, chunk: &[u8], out: &mut [u8; 267]) -> Fed
+    pub fn feed(self, chunk: &[u8], out: &mut [u8; LINE]) -> Fed
         ensures { λ r. ⌜ FedOf self (now (chunk .entry)) (now (out .entry)) (now (out .exit)) r ⌝ }
     {
         let stage = stage_of(self);
@@ -261,7 +261,7 @@ impl Session {
     }
 
     // Writes what is said where no more bytes come.
-    pub fn end(self, out: &mut [u8; 267]) -> usize
+    pub fn end(self, out: &mut [u8; LINE]) -> usize
         ensures { λ r. ⌜ LastOf self (now (out .entry)) (now (out .exit)) r ⌝ }
     {
         let stage = stage_of(self);

@@ -1,7 +1,7 @@
 // The table of a session, and the run that it starts.
 ghost use mathlib.Core.Path.{_≡_};
-ghost use Rattle.session.specs.Talk.{isDashes, numbersIn};
-ghost use Rattle.text.specs.Format.{wordsOf};
+ghost use Rattle.session.specs.Talk.{isDashes};
+ghost use Rattle.text.specs.Format.{wordsOf, numbersIn};
 ghost use Rattle.run.specs.Start.{startOf};
 ghost use Rattle.session.specs.Session.{OpenedOf};
 ghost use mathlib.Core.Bool.{cond};
@@ -10,6 +10,7 @@ ghost use lib.ListN.{length, take, drop};
 use crate::replies;
 use run::Run;
 use run::Started;
+use text::row::LINE;
 
 // What was said to the table, its run, and whether the session is over.
 pub struct Opened {
@@ -50,13 +51,13 @@ fn start(table: &[u8]) -> Started
 }
 
 // Starts the run of a table's text, and writes start's answer; a text longer than any table can be is turned down, and ends the session.
-pub(crate) fn begin(table: &[u8], out: &mut [u8; 267]) -> Opened
+pub(crate) fn begin(table: &[u8], out: &mut [u8; LINE]) -> Opened
     ensures { λ r. ⌜ OpenedOf (now (table .entry)) (now (out .entry)) (now (out .exit)) r ⌝ }
 {
     let started = start(table);
     let answer = started.answer;
     let run = started.run;
-    if 2145 < table.len() {
+    if text::BYTES < table.len() {
         let length = replies::say_refused(1, 0, out);
         return Opened {
             run: run,

@@ -7,11 +7,14 @@ ghost use Rattle.text.specs.Output.{letters, lineOf};
 ghost use Rattle.session.specs.Operation.{plain, answerLine, shownLine, said, runAfter, isLast};
 ghost use Rattle.session.specs.Session.{Said};
 use crate::operations::Operation;
+use model::ROW;
 use run::Answer;
 use run::Row;
 use run::Run;
 use text::first;
 use text::row;
+use text::row::CELLS;
+use text::row::LINE;
 
 // What was said, and the run after it; whether that was the last.
 pub struct Reply {
@@ -21,14 +24,14 @@ pub struct Reply {
 }
 
 // Writes a refusal with number and position; the answer is where it ends.
-pub(crate) fn say_refused(number: u32, position: u32, out: &mut [u8; 267]) -> usize
+pub(crate) fn say_refused(number: u32, position: u32, out: &mut [u8; LINE]) -> usize
     ensures { λ r. ⌜ Said (lineOf (letters "refused") (number ∷ position ∷ [])) (now (out .entry)) (now (out .exit)) r ⌝ }
 {
     first::put_pair(out, b"refused", number, position)
 }
 
 // Writes a word and a newline; the answer is where they end.
-pub(crate) fn say_word(word: &[u8], out: &mut [u8; 267]) -> usize
+pub(crate) fn say_word(word: &[u8], out: &mut [u8; LINE]) -> usize
     requires { ⌜ length (now word) ≤ 16 ⌝ }
     ensures { λ r. ⌜ Said (plain (now (word .entry))) (now (out .entry)) (now (out .exit)) r ⌝ }
 {
@@ -38,7 +41,7 @@ pub(crate) fn say_word(word: &[u8], out: &mut [u8; 267]) -> usize
 }
 
 // Writes an answer: the word where it is taken.
-pub(crate) fn say_answer(word: &[u8], answer: Answer, out: &mut [u8; 267]) -> usize
+pub(crate) fn say_answer(word: &[u8], answer: Answer, out: &mut [u8; LINE]) -> usize
     requires { ⌜ length (now word) ≤ 16 ⌝ }
     ensures { λ r. ⌜ Said (answerLine (now (word .entry)) answer) (now (out .entry)) (now (out .exit)) r ⌝ }
 {
@@ -49,18 +52,18 @@ pub(crate) fn say_answer(word: &[u8], answer: Answer, out: &mut [u8; 267]) -> us
 }
 
 // Writes the positions of the first cores of a row.
-fn say_cores(cores: u32, bytes: [u8; 64], out: &mut [u8; 267]) -> usize
+fn say_cores(cores: u32, bytes: [u8; ROW], out: &mut [u8; LINE]) -> usize
     ensures { λ r. ⌜ Said (lineOf (letters "row") (take cores bytes)) (now (out .entry)) (now (out .exit)) r ⌝ }
 {
-    let mut text = [0u8; 257];
-    let count = crate::smaller(cores as usize, 64);
+    let mut text = [0u8; CELLS];
+    let count = text::smaller(cores as usize, ROW);
     let size = row::spell(bytes, count, &mut text);
     let start = row::copy(b"row", 0, 3, out, 0);
     row::copy(&text, 0, size, out, start)
 }
 
 // Writes a row, or its refusal.
-fn say_row(cores: u32, row: Row, out: &mut [u8; 267]) -> usize
+fn say_row(cores: u32, row: Row, out: &mut [u8; LINE]) -> usize
     ensures { λ r. ⌜ Said (shownLine cores (row .answer) (row .bytes)) (now (out .entry)) (now (out .exit)) r ⌝ }
 {
     let answer = row.answer;
@@ -72,7 +75,7 @@ fn say_row(cores: u32, row: Row, out: &mut [u8; 267]) -> usize
 }
 
 // Does an operation, and writes what is said to it.
-pub(crate) fn answer(run: Run, operation: Operation, out: &mut [u8; 267]) -> Reply
+pub(crate) fn answer(run: Run, operation: Operation, out: &mut [u8; LINE]) -> Reply
     ensures { λ r. ⌜ Said (said operation run) (now (out .entry)) (now (out .exit)) (r .length) × (r .run ≡ runAfter operation run) × (r .last ≡ isLast operation) ⌝ }
 {
     match operation {

@@ -1,54 +1,75 @@
 // Reads a table from standard input, and prints its verdict and rows.
 ghost use Prim.Native.Nat.{_≤_};
-use libc::STDERR_FILENO;
-use libc::STDIN_FILENO;
-use libc::STDOUT_FILENO;
+ghost use lib.ListN.{take};
+ghost use Rattle.text.specs.Output.{output};
+ghost use Rattle.printer.specs.Printer.{rest};
+ghost use Rattle.stream.specs.Sent.{SentOf};
+ghost use Rattle.stream.specs.Answered.{Answered};
 use printer::Printer;
+use stream::Reading;
+use stream::Sent;
+use text::ENOUGH;
+
+// What came of it: the buffer and what was read into it, and what was printed.
+struct Outcome {
+    bytes: [u8; ENOUGH],
+    reading: Reading,
+    sent: Sent,
+}
 
 // Writes the pieces of a printer until there are no more, or until a write fails.
-fn print(start: Printer) {
+fn print(start: Printer) -> Sent
+    ensures { λ r. ⌜ SentOf 0 (rest start) r ⌝ }
+{
     let mut printer = start;
     let mut buffer = io::large_buffer();
+    let mut sent = Sent {
+        count: 0,
+        whole: true,
+    };
     loop {
         let piece = printer.piece(&mut buffer);
         let length = piece.length;
         if length == 0 {
-            return;
+            return sent;
         }
-        if io::write_all(STDOUT_FILENO, &buffer[..length]) {
+        sent = stream::send(sent.count, &buffer[..length]);
+        if sent.whole {
             let next = piece.printer;
             printer = next;
         } else {
-            return;
+            return sent;
         }
     }
 }
 
-// The output for the first bytes that were read.
-fn answer(bytes: [u8; 2146], count: usize)
-    requires { ⌜ count ≤ 2146 ⌝ }
+// Reads standard input until its end, or until it is longer than any table can be, and prints what is printed for it; a read that fails is said, and nothing is printed.
+fn answer() -> Outcome
+    ensures { λ r. ⌜ Answered output (r .bytes) (r .reading) (r .sent) ⌝ }
 {
-    print(Printer::new(&bytes[..count]));
+    let mut bytes = [0u8; ENOUGH];
+    let reading = stream::fill(&mut bytes, 0);
+    if reading.failed {
+        stream::say_unread(b"sivorandra");
+        let sent = Sent {
+            count: 0,
+            whole: true,
+        };
+        return Outcome {
+            bytes: bytes,
+            reading: reading,
+            sent: sent,
+        };
+    }
+    let held = reading.held;
+    let sent = print(Printer::new(&bytes[..held]));
+    Outcome {
+        bytes: bytes,
+        reading: reading,
+        sent: sent,
+    }
 }
 
-// Standard input is read until its end, or until it is longer than any table can be; a read that fails is said, and nothing is printed.
 fn main() {
-    let mut bytes = [0u8; 2146];
-    let mut held: usize = 0;
-    while held < 2146 {
-        let got = libc::read(STDIN_FILENO, &mut bytes[held..2146]);
-        if got < 0 {
-            io::write_all(
-                STDERR_FILENO,
-                b"sivorandra: standard input could not be read\n",
-            );
-            return;
-        }
-        let count = io::count(got, &bytes[held..2146]);
-        if count == 0 {
-            break;
-        }
-        held += count;
-    }
-    answer(bytes, held);
+    answer();
 }

@@ -15,7 +15,7 @@ use Rattle.table.specs.declared.chain.Ending.the-variants.{Past, Again, 
 use Rattle.table.specs.declared.Answer.{Answer}
 use Rattle.table.specs.declared.Answer.the-variants.{Passed, Refused}
 use Rattle.table.specs.Words.{head, cores, rule, taskAt, tableOf}
-use Rattle.table.specs.Limits.{CoresOut, RuleOut, WidthOut, TimesOut, HorizonOut, coresOut, ruleOut, widthOut, timesOut, taskNumber, taskOut, horizonOut}
+use Rattle.table.specs.Limits.{CoresOut, RuleOut, WidthOut, TimesOut, HorizonOut, coresOut, ruleOut, widthOut, timesOut, taskNumber, taskOut, horizonOut, mostHorizon}
 use Rattle.table.specs.Numbers.{WordsOut, Position, Applies, one, two, three, four, five, six, seven, eight, nine, place, Earlier, First, NoneApplies}
 use Rattle.table.specs.Answer.{wordsOut, headerNumber, pastAt, againAt, lastStep, firstOut, byHorizon, byTasks, endingOf, byEnding, byWalk, answerOf}
 use Rattle.table.proofs.Decide.{Decides, holds, fails, decides-lt}
@@ -90,7 +90,7 @@ unfolding byHorizon
 horizon-right ws b = go (horizonOut (horizon (tableOf ws))) refl
   where
     far : Decides (horizonOut (horizon (tableOf ws))) (HorizonOut (horizon (tableOf ws)))
-    far = decides-lt 10000000 (horizon (tableOf ws))
+    far = decides-lt mostHorizon (horizon (tableOf ws))
 
     none : ¬ HorizonOut (horizon (tableOf ws)) → NoneApplies ws
     none never n p a =

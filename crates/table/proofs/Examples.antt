@@ -1,10 +1,10 @@
--- Tables in words, computed from the definitions: example A, and what numbers 1 to 9 turn down.
+-- Tables in words, computed from the definitions: example A, what numbers 1 to 9 turn down, and each limit of 2, 3, 7 and 8 from both sides.
 use mathlib.Core.Path.{_≡_, refl}
 use mathlib.Core.List.{List, [], _∷_, map, _++_}
-use Prim.Native.Nat.{ℕ, suc}
+use Prim.Native.Nat.{ℕ, suc, _+_}
 use lib.ListN.{length, replicate}
 use Rattle.model.specs.Search.{any, least, upFrom}
-use Rattle.model.specs.Task.{Table, greedy}
+use Rattle.model.specs.Task.{Task, Table, greedy}
 use Rattle.model.specs.Horizon.{S, lcm, hyperperiod, horizon}
 use Rattle.model.proofs.Examples.{t, on, A}
 use Rattle.table.specs.declared.Answer.the-variants.{Passed}
@@ -70,6 +70,21 @@ long o = header 1 1 1 ++ chained 8 1 low ++ entry 0 o 1 1 1 19
 abbrev longTable : ℕ → Table
 longTable o = on 1 greedy (map (λ p. t 0 1 1 1 p) low ++ (t o 1 1 1 19 ∷ []))
 
+-- the words of one task on m cores, under rule 1
+abbrev alone : ℕ → Task → List ℕ
+alone m τ = header 1 m 1 ++ entry 0 (τ .offset) (τ .width) (τ .length) (τ .deadline) (τ .period)
+
+-- it passes; it is refused, with number n and position p
+abbrev fits : ℕ → Task → Line
+fits m τ = line (alone m τ) (passes (on m greedy (τ ∷ [])) (τ .offset) (τ .period) (τ .offset + τ .period))
+
+abbrev breaks : ℕ → ℕ → ℕ → Task → Line
+breaks n p m τ = line (alone m τ) (refusal n p)
+
+-- a header of this rule and the head 0, which number 4 turns down where the rule passes 3
+abbrev ruled : ℕ → ℕ → Line
+ruled r n = line (header 0 1 r ++ entry 0 0 1 1 1 1) (refusal n 0)
+
 abbrev pub lines : List Line
 lines =
     line wordsA (passes (A greedy) 0 5 5)
@@ -82,9 +97,20 @@ lines =
     ∷ line (header 1 1 1 ++ entry 1 0 1 1 1 1) (refusal 6 0)
     -- the rest is no whole number of records
     ∷ line (header 1 1 1 ++ entry 0 0 1 1 1 1 ++ 0 ∷ []) (refusal 1 0)
-    -- the rule; the head
-    ∷ line (header 0 1 4 ++ entry 0 0 1 1 1 1) (refusal 3 0)
-    ∷ line (header 0 1 1 ++ entry 0 0 1 1 1 1) (refusal 4 0)
+    -- the rule 1, 2 or 3; the head
+    ∷ ruled 0 3 ∷ ruled 1 4 ∷ ruled 2 4 ∷ ruled 3 4 ∷ ruled 4 3
+    -- every number at its least, and every number at its most (the task below it is turned down, so that P is not computed); 0 and 65 cores
+    ∷ fits 1 (t 0 1 1 1 1) ∷ fits 64 (t 0 64 1 1 1)
+    ∷ line (header 1 64 1 ++ entry 2 1000000 64 1000000 1000000 1000000 ++ entry 0 0 0 1 1 1) (refusal 7 2)
+    ∷ breaks 2 0 0 (t 0 1 1 1 1) ∷ breaks 2 0 65 (t 0 1 1 1 1)
+    -- a width 0, and one above the cores
+    ∷ breaks 7 1 64 (t 0 0 1 1 1) ∷ breaks 7 1 64 (t 0 65 1 1 1) ∷ breaks 7 1 1 (t 0 2 1 1 1)
+    -- O above 1,000,000; C and T 0, and above 1,000,000
+    ∷ breaks 8 1 1 (t 1000001 1 1 1 1)
+    ∷ breaks 8 1 1 (t 0 1 0 1 1) ∷ breaks 8 1 1 (t 0 1 1000001 1 1)
+    ∷ breaks 8 1 1 (t 0 1 1 0 0) ∷ breaks 8 1 1 (t 0 1 1 1 0) ∷ breaks 8 1 1 (t 0 1 1 1 1000001)
+    -- D 0, 1, T and T + 1; C may exceed D
+    ∷ breaks 8 1 1 (t 0 1 1 0 7) ∷ fits 1 (t 0 1 1 1 7) ∷ fits 1 (t 0 1 8 7 7) ∷ breaks 8 1 1 (t 0 1 1 8 7)
     -- the chain 1, 2, 3 of two records; the chain 2, 1, 2
     ∷ line (header 1 1 1 ++ entry 2 0 1 1 1 1 ++ entry 3 0 1 1 1 1) (refusal 5 0)
     ∷ line (header 2 1 1 ++ entry 2 0 1 1 1 1 ++ entry 1 0 1 1 1 1) (refusal 6 0)

@@ -14,6 +14,7 @@ use Rattle.table.specs.Numbers.{WordsOut}
 use Rattle.table.specs.Answer.{wordsOut, headerNumber}
 use Rattle.table.proofs.Decide.{fails}
 use Rattle.table.proofs.Tests.{words-decides, cores-decides, rule-decides}
+use Rattle.model.specs.Sizes.{mostTasks}
 
 -- none of 1 to 4 applies
 pub record HeaderFine (ws : List ℕ) : Type 0 where
@@ -43,5 +44,5 @@ header-fine ws = go (wordsOut ws) refl (coresOut (cores ws)) refl (ruleOut (rule
 pub words-long : (ws : List ℕ) → ¬ WordsOut ws → 3 ≤ length ws
 words-long ws n = let long : ¬ (length ws < 3) = λ l. n (inl l) in omega arith
 
-pub words-few : (ws : List ℕ) → ¬ WordsOut ws → records ws ≤ 32
-words-few ws n = let few : ¬ (32 < records ws) = λ l. n (inr (inr l)) in omega arith
+pub words-few : (ws : List ℕ) → ¬ WordsOut ws → records ws ≤ mostTasks
+words-few ws n = let few : ¬ (mostTasks < records ws) = λ l. n (inr (inr l)) in omega arith

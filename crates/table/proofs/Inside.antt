@@ -5,16 +5,16 @@ use mathlib.Core.Logic.{_⊎_, inl, inr}
 use Prim.Native.Nat.{ℕ, _≤_, _<_}
 use native.Mathlib.Omega.{arith}
 use Rattle.model.specs.Task.{Task, Sound}
-use Rattle.table.specs.Limits.{From, from, WidthOut, TimesOut, taskOut}
+use Rattle.table.specs.Limits.{From, from, WidthOut, TimesOut, taskOut, mostTime}
 use Rattle.table.proofs.Decide.{stable, fails}
 use Rattle.table.proofs.Tests.{from-decides, task-decides}
 
 -- v 1 to the core count; O 0 to 1,000,000; C and T 1 to 1,000,000; D 1 to T
 pub record Inside (m : ℕ) (τ : Task) : Type 0 where
   pub width-from : From 1 m (τ .width)
-  pub offset-most : τ .offset ≤ 1000000
-  pub length-from : From 1 1000000 (τ .length)
-  pub period-from : From 1 1000000 (τ .period)
+  pub offset-most : τ .offset ≤ mostTime
+  pub length-from : From 1 mostTime (τ .length)
+  pub period-from : From 1 mostTime (τ .period)
   pub deadline-from : From 1 (τ .period) (τ .deadline)
 
 within : (a b x : ℕ) → ¬ (¬ From a b x) → From a b x
@@ -24,12 +24,12 @@ pub inside : (m : ℕ) (τ : Task) → ¬ (WidthOut m τ ⊎ TimesOut τ) → In
 inside m τ n =
     let zero : ¬ (τ .width ≡ 0) = λ e. n (inl (inl e)) in
     let wide : ¬ (m < τ .width) = λ e. n (inl (inr e)) in
-    let late : ¬ (1000000 < τ .offset) = λ e. n (inr (inl e)) in
+    let late : ¬ (mostTime < τ .offset) = λ e. n (inr (inl e)) in
     record {
       width-from = omega arith;
       offset-most = omega arith;
-      length-from = within 1 1000000 (τ .length) (λ e. n (inr (inr (inl e))));
-      period-from = within 1 1000000 (τ .period) (λ e. n (inr (inr (inr (inl e)))));
+      length-from = within 1 mostTime (τ .length) (λ e. n (inr (inr (inl e))));
+      period-from = within 1 mostTime (τ .period) (λ e. n (inr (inr (inr (inl e)))));
       deadline-from = within 1 (τ .period) (τ .deadline) (λ e. n (inr (inr (inr (inr e)))));
     }
 

@@ -9,15 +9,16 @@ use lib.Seq.{take-at, drop-at}
 use borrow.Author.Tests.{ne-eqb, lt-ltb, le-ltb, ltb-false}
 use Rattle.model.specs.Task as model
 use Rattle.model.specs.Horizon.{lastS, hyperperiod, horizon}
+use Rattle.model.specs.Sizes.{mostTasks}
 use Rattle.table.specs.declared.Task.{Task}
 use Rattle.table.specs.declared.Answer.the-variants.{Passed}
 use Rattle.table.specs.declared.Loaded.{Loaded}
 use Rattle.table.specs.declared.chain.Ending.the-variants.{Past, Again, Whole}
 use Rattle.table.specs.Task.{taskOf, tasksOf, noTask, InLimits}
 use Rattle.table.specs.Words.{cores, rule, count, tableOf}
-use Rattle.table.specs.Limits.{taskNumber, taskOut, horizonOut}
+use Rattle.table.specs.Limits.{taskNumber, taskOut, horizonOut, mostHorizon}
 use Rattle.table.specs.Answer.{headerNumber, firstOut, byHorizon, byTasks, endingOf, byWalk, answerOf}
-use Rattle.table.specs.Load.{placed, places, passing, refusal, answered, tableWith, loadOf}
+use Rattle.table.specs.Load.{placed, places, passing, refusal, loadedBy, tableWith, loadOf}
 use Rattle.table.proofs.Places.{tasks-length, task-at}
 use Rattle.table.proofs.Tasks.{table-length}
 use Rattle.table.proofs.FirstOut.{out-lowest}
@@ -31,54 +32,54 @@ placed-back (τ ∷ τs) = ap {B = List model.Task} (λ ts. τ ∷ ts) (placed-b
 
 pub places-tasks : (τs : List model.Task) → tasksOf (places τs) (length τs) ≡ τs
 places-tasks τs =
-    ap (map taskOf) (take-at (map placed τs) (replicate (32 - length τs) noTask) (length τs) (length-map τs placed)) ∙ placed-back τs
+    ap (map taskOf) (take-at (map placed τs) (replicate (mostTasks - length τs) noTask) (length τs) (length-map τs placed)) ∙ placed-back τs
 
 -- so the places of a walk that ended at the zero hold the tasks of the words
 pub walked-tasks : (ws : List ℕ) (tasks : List Task) (many : ℕ) → tasks ≡ places (tableOf ws .tasks) → many ≡ count ws → tasksOf tasks many ≡ tableOf ws .tasks
 walked-tasks ws tasks many e n = rw (e, n ∙ sym (table-length ws)) (places-tasks (tableOf ws .tasks))
 
-pub places-past : (τs : List model.Task) → drop (length τs) (places τs) ≡ replicate (32 - length τs) noTask
-places-past τs = drop-at (map placed τs) (replicate (32 - length τs) noTask) (length τs) (length-map τs placed)
+pub places-past : (τs : List model.Task) → drop (length τs) (places τs) ≡ replicate (mostTasks - length τs) noTask
+places-past τs = drop-at (map placed τs) (replicate (mostTasks - length τs) noTask) (length τs) (length-map τs placed)
 
 -- THE HORIZON
 
 -- P capped decides 9 ..
-pub horizon-test : (s : model.Table) (start period : ℕ) → start ≡ lastS (s .tasks) → period ≡ min (hyperperiod (s .tasks)) 10000001
+pub horizon-test : (s : model.Table) (start period : ℕ) → start ≡ lastS (s .tasks) → period ≡ min (hyperperiod (s .tasks)) (mostHorizon + 1)
     → horizonOut (start + period) ≡ horizonOut (horizon s)
 unfolding horizon
-horizon-test s start period e f = rw (e, f) (exceeds-capped 10000000 (lastS (s .tasks)) (hyperperiod (s .tasks)))
+horizon-test s start period e f = rw (e, f) (exceeds-capped mostHorizon (lastS (s .tasks)) (hyperperiod (s .tasks)))
 
-pub by-far : (s : model.Table) (l : Loaded) → horizonOut (horizon s) ≡ true → answered (byHorizon s) l ≡ refusal 9 0
+pub by-far : (s : model.Table) (l : Loaded) → horizonOut (horizon s) ≡ true → loadedBy (byHorizon s) l ≡ refusal 9 0
 unfolding byHorizon
 by-far s l e = rw e
 
-pub by-near : (s : model.Table) (l : Loaded) → horizonOut (horizon s) ≡ false → answered (byHorizon s) l ≡ l
+pub by-near : (s : model.Table) (l : Loaded) → horizonOut (horizon s) ≡ false → loadedBy (byHorizon s) l ≡ l
 unfolding byHorizon
 by-near s l e = rw e
 
 -- .. and where it does not exceed, the table is made of it
 pub made : (m r : ℕ) (tasks : List Task) (count start period : ℕ) → count ≤ length tasks → tasks ≡ places (tasksOf tasks count)
-    → start ≡ lastS (tasksOf tasks count) → period ≡ min (hyperperiod (tasksOf tasks count)) 10000001 → horizonOut (start + period) ≡ false
+    → start ≡ lastS (tasksOf tasks count) → period ≡ min (hyperperiod (tasksOf tasks count)) (mostHorizon + 1) → horizonOut (start + period) ≡ false
     → _≡_ {A = Loaded}
     (record { answer = Passed; count = count; cores = m; rule = r; tasks = tasks; start = start; period = period; horizon = start + period })
     (passing r (tableWith m r (tasksOf tasks count)))
 unfolding horizon
 made m r tasks count start period there whole e f near =
     let counted = sym (tasks-length tasks count there) in
-    let most : start + period ≤ 10000000 = ltb-false 10000000 (start + period) near in
+    let most : start + period ≤ mostHorizon = ltb-false mostHorizon (start + period) near in
     let exact : period ≡ hyperperiod (tasksOf tasks count) =
-    f ∙ capped-exact 10000000 start (hyperperiod (tasksOf tasks count)) (omega arith) in
+    f ∙ capped-exact mostHorizon start (hyperperiod (tasksOf tasks count)) (omega arith) in
     let sum : start + period ≡ lastS (tasksOf tasks count) + hyperperiod (tasksOf tasks count) = omega arith in
     λ i. record { answer = Passed; count = counted i; cores = m; rule = r; tasks = whole i; start = e i; period = exact i; horizon = sum i }
 
 -- THE TASKS
 
 module _ (s : model.Table) (l : Loaded) (place : ℕ) (out : firstOut (s .cores) (s .tasks) ≡ place) where
-  pub by-number : place < length (s .tasks) → answered (byTasks s) l ≡ refusal (taskNumber (s .cores) (model.task s place)) (suc place)
+  pub by-number : place < length (s .tasks) → loadedBy (byTasks s) l ≡ refusal (taskNumber (s .cores) (model.task s place)) (suc place)
   unfolding byTasks
   by-number h = rw (out, lt-ltb place (length (s .tasks)) h)
 
-  pub by-none : length (s .tasks) ≤ place → answered (byTasks s) l ≡ answered (byHorizon s) l
+  pub by-none : length (s .tasks) ≤ place → loadedBy (byTasks s) l ≡ loadedBy (byHorizon s) l
   unfolding byTasks
   by-none h = rw (out, le-ltb place (length (s .tasks)) h)
 
@@ -107,13 +108,13 @@ module _ (ws : List ℕ) (fine : headerNumber ws ≡ 0) where
   unfolding loadOf answerOf byWalk
   load-again e = rw (fine, e)
 
-  pub load-tasks : endingOf ws ≡ Whole → loadOf ws ≡ answered (byTasks (tableOf ws)) (passing (rule ws) (tableOf ws))
+  pub load-tasks : endingOf ws ≡ Whole → loadOf ws ≡ loadedBy (byTasks (tableOf ws)) (passing (rule ws) (tableOf ws))
   unfolding loadOf answerOf byWalk
   load-tasks e = rw (fine, e)
 
   pub load-whole : endingOf ws ≡ Whole → (tasks : List Task) (many : ℕ) → tasks ≡ places (tableOf ws .tasks) → many ≡ count ws
-      → answered (byTasks (tableWith (cores ws) (rule ws) (tasksOf tasks many))) (passing (rule ws) (tableWith (cores ws) (rule ws) (tasksOf tasks many))) ≡ loadOf ws
+      → loadedBy (byTasks (tableWith (cores ws) (rule ws) (tasksOf tasks many))) (passing (rule ws) (tableWith (cores ws) (rule ws) (tasksOf tasks many))) ≡ loadOf ws
   load-whole e tasks many h n =
-      ap (λ (τs : List model.Task). answered (byTasks (tableWith (cores ws) (rule ws) τs)) (passing (rule ws) (tableWith (cores ws) (rule ws) τs))) (walked-tasks ws tasks many h n)
-      ∙ ap (λ (s : model.Table). answered (byTasks s) (passing (rule ws) s)) (table-with ws)
+      ap (λ (τs : List model.Task). loadedBy (byTasks (tableWith (cores ws) (rule ws) τs)) (passing (rule ws) (tableWith (cores ws) (rule ws) τs))) (walked-tasks ws tasks many h n)
+      ∙ ap (λ (s : model.Table). loadedBy (byTasks s) (passing (rule ws) s)) (table-with ws)
       ∙ sym (load-tasks e)

@@ -18,7 +18,7 @@ use Rattle.table.specs.Words.{cores, rule, records, field, next, met, co
 use Rattle.table.specs.Limits.{From}
 use Rattle.table.specs.Numbers.{EndAt, Reaches}
 use Rattle.table.specs.Answer.{headerNumber, pastAt, againAt, stopsAt, lastStep, endingOf, byTasks, answerOf}
-use Rattle.table.specs.Load.{passing, refusal, answered, loadOf}
+use Rattle.table.specs.Load.{passing, refusal, loadedBy, loadOf}
 use Rattle.table.specs.OffChain.{SameOnChain}
 use Rattle.table.proofs.Walk.{last-reached, last-stops, last-ends, stops-there, ends-there, five-decides, six-decides}
 use Rattle.table.proofs.Tasks.{table-length, table-at}
@@ -147,8 +147,8 @@ module _ (ws us : List ℕ) (s : SameOnChain ws us) where
   by-ending false p false a h =
       let e = ending-whole ws p a in
       load-tasks ws h e
-      ∙ ap (λ (x : Table). answered (byTasks x) (passing (rule ws) x)) (same-table p a)
-      ∙ ap (λ (r : ℕ). answered (byTasks (tableOf us)) (passing r (tableOf us))) (s .header 2 (omega arith))
+      ∙ ap (λ (x : Table). loadedBy (byTasks x) (passing (rule ws) x)) (same-table p a)
+      ∙ ap (λ (r : ℕ). loadedBy (byTasks (tableOf us)) (passing r (tableOf us))) (s .header 2 (omega arith))
       ∙ sym (load-tasks us (sym same-header ∙ h) (sym same-ending ∙ e))
 
   by-header : (t : Bool) → eqb (headerNumber ws) 0 ≡ t → loadOf ws ≡ loadOf us

@@ -9,9 +9,10 @@ use lib.ListN.{length}
 use Rattle.model.specs.Task.{task, AllSound}
 use Rattle.model.specs.Horizon.{horizon}
 use Rattle.model.proofs.Bools.{not-true-false}
+use Rattle.model.specs.Sizes.{mostCores, mostTasks}
 use Rattle.table.specs.declared.chain.Ending.the-variants.{Past, Again, Whole}
 use Rattle.table.specs.Words.{head, cores, rule, met, count, taskAt, tableOf}
-use Rattle.table.specs.Limits.{From, from}
+use Rattle.table.specs.Limits.{From, from, mostHorizon}
 use Rattle.table.specs.Numbers.{WordsOut, EndAt, one, two, three, four, seven, eight, nine, NoneApplies}
 use Rattle.table.specs.Answer.{headerNumber, pastAt, againAt, lastStep, endingOf}
 use Rattle.table.proofs.Decide.{stable, decides-eq, decides-or}
@@ -24,7 +25,7 @@ use Rattle.table.proofs.Inside.{Inside, inside, inside-sound}
 -- THE COUNT
 
 -- a chain that ends at the zero and has a head has 1 to 32 records, of at most 32
-count-from : (ws : List ℕ) → ¬ WordsOut ws → ¬ (head ws ≡ 0) → pastAt ws (lastStep ws) ≡ false → againAt ws (lastStep ws) ≡ false → From 1 32 (count ws)
+count-from : (ws : List ℕ) → ¬ WordsOut ws → ¬ (head ws ≡ 0) → pastAt ws (lastStep ws) ≡ false → againAt ws (lastStep ws) ≡ false → From 1 mostTasks (count ws)
 unfolding met
 count-from ws w headed p a =
     let few = words-few ws w in
@@ -33,11 +34,11 @@ count-from ws w headed p a =
     let some : ¬ (lastStep ws ≡ 0) = λ z. headed (subst (EndAt ws) z (last-ends ws p a)) in
     omega arith
 
-pub whole-count : (ws : List ℕ) → headerNumber ws ≡ 0 → endingOf ws ≡ Whole → From 1 32 (count ws)
+pub whole-count : (ws : List ℕ) → headerNumber ws ≡ 0 → endingOf ws ≡ Whole → From 1 mostTasks (count ws)
 unfolding endingOf
 whole-count ws h = go (pastAt ws (lastStep ws)) refl (againAt ws (lastStep ws)) refl
   where
-    go : (t : Bool) → pastAt ws (lastStep ws) ≡ t → (u : Bool) → againAt ws (lastStep ws) ≡ u → cond t Past (cond u Again Whole) ≡ Whole → From 1 32 (count ws)
+    go : (t : Bool) → pastAt ws (lastStep ws) ≡ t → (u : Bool) → againAt ws (lastStep ws) ≡ u → cond t Past (cond u Again Whole) ≡ Whole → From 1 mostTasks (count ws)
     go true p u a e = let z : _≡_ {A = ℕ} 0 1 = cc in absurd (omega arith)
     go false p true a e = let z : _≡_ {A = ℕ} 0 1 = cc in absurd (omega arith)
     go false p false a e = let fine = header-fine ws h in count-from ws (fine .words-in) (fine .headed) p a
@@ -46,7 +47,7 @@ whole-count ws h = go (pastAt ws (lastStep ws)) refl (againAt ws (lastStep ws)) 
 
 module _ (ws : List ℕ) (none : NoneApplies ws) where
   -- 1 to 32 tasks
-  pub passed-count : From 1 32 (length (tableOf ws .tasks))
+  pub passed-count : From 1 mostTasks (length (tableOf ws .tasks))
   passed-count =
       let n = table-length ws in
       rw n (count-from ws (λ h. none 1 0 (one h)) (λ h. none 4 0 (four h))
@@ -54,8 +55,8 @@ module _ (ws : List ℕ) (none : NoneApplies ws) where
       (not-true-false (againAt ws (lastStep ws)) (λ e. none 6 0 (six-decides ws .0 e))))
 
   -- 1 to 64 cores
-  pub passed-cores : From 1 64 (cores ws)
-  passed-cores = stable (from 1 64 (cores ws)) (From 1 64 (cores ws)) (from-decides 1 64 (cores ws)) (λ h. none 2 0 (two h))
+  pub passed-cores : From 1 mostCores (cores ws)
+  passed-cores = stable (from 1 mostCores (cores ws)) (From 1 mostCores (cores ws)) (from-decides 1 mostCores (cores ws)) (λ h. none 2 0 (two h))
 
   -- rule 1, 2 or 3
   pub passed-rule : (rule ws ≡ 1) ⊎ ((rule ws ≡ 2) ⊎ (rule ws ≡ 3))
@@ -83,5 +84,5 @@ module _ (ws : List ℕ) (none : NoneApplies ws) where
   passed-widths p l = passed-inside p l .width-from .1
 
   -- the horizon is at most 10,000,000
-  pub passed-horizon : horizon (tableOf ws) ≤ 10000000
-  passed-horizon = let near : ¬ (10000000 < horizon (tableOf ws)) = λ h. none 9 0 (nine h) in omega arith
+  pub passed-horizon : horizon (tableOf ws) ≤ mostHorizon
+  passed-horizon = let near : ¬ (mostHorizon < horizon (tableOf ws)) = λ h. none 9 0 (nine h) in omega arith

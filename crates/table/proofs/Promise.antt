@@ -2,25 +2,36 @@
 use mathlib.Core.Path.{_≡_, refl, sym, ap, _∙_, subst}
 use mathlib.Core.List.{List}
 use Prim.Native.Nat.{ℕ}
+use native.Mathlib.Omega.{arith}
+use Rattle.model.specs.Book as book
 use Rattle.table.specs.declared.Answer.{Answer}
 use Rattle.table.specs.declared.Answer.the-variants.{Passed, Refused}
 use Rattle.table.specs.declared.Loaded.{Loaded}
 use Rattle.table.specs.Words.{word, tableOf}
 use Rattle.table.specs.Numbers.{NoneApplies}
 use Rattle.table.specs.Answer.{answerOf}
-use Rattle.table.specs.Load.{passing, refusal, answered, loadOf, Holds, LoadOf}
+use Rattle.table.specs.Load.{passing, refusal, loadedBy, loadOf, Holds, loadTold, LoadOf}
 use Rattle.table.proofs.Exact.{refusal-exact, passed-exact}
 use Rattle.table.proofs.Passed.{passed-count, passed-horizon}
 use Rattle.table.proofs.Loads.{places-tasks, places-past}
 
-answered-answer : (a : Answer) (l : Loaded) → l .answer ≡ Passed → answered a l .answer ≡ a
-answered-answer Passed l e = e
-answered-answer (Refused n p) l e = refl
+-- what is told of an answer determines it
+pub told-passed : (a : Answer) → loadTold a ≡ book.taken → a ≡ Passed
+told-passed Passed e = refl
+told-passed (Refused n p) e = absurd (let z : _≡_ {A = ℕ} 0 1 = cc in omega arith)
+
+pub told-refused : (a : Answer) (n p : ℕ) → loadTold a ≡ book.refused n p → a ≡ Refused n p
+told-refused Passed n p e = absurd (let z : _≡_ {A = ℕ} 0 1 = cc in omega arith)
+told-refused (Refused m q) n p e = cc
+
+loaded-answer : (a : Answer) (l : Loaded) → l .answer ≡ Passed → loadedBy a l .answer ≡ a
+loaded-answer Passed l e = e
+loaded-answer (Refused n p) l e = refl
 
 -- the answer is the answer of the words
 pub load-answer : (ws : List ℕ) → loadOf ws .answer ≡ answerOf ws
 unfolding loadOf
-load-answer ws = answered-answer (answerOf ws) (passing (word ws 2) (tableOf ws)) refl
+load-answer ws = loaded-answer (answerOf ws) (passing (word ws 2) (tableOf ws)) refl
 
 -- what passes holds the table
 passing-holds : (ws : List ℕ) → NoneApplies ws → Holds ws (passing (word ws 2) (tableOf ws))
@@ -49,10 +60,12 @@ load-passing ws e = rw e
 pub promise : (ws : List ℕ) (r : Loaded) → r ≡ loadOf ws → LoadOf ws r
 promise ws r e =
     let says : r .answer ≡ answerOf ws = ap (λ (l : Loaded). l .answer) e ∙ load-answer ws in
+    let passes : loadTold (r .answer) ≡ book.taken → answerOf ws ≡ Passed = λ q. sym says ∙ told-passed (r .answer) q in
+    let refuses : (n p : ℕ) → loadTold (r .answer) ≡ book.refused n p → answerOf ws ≡ Refused n p = λ n p q. sym says ∙ told-refused (r .answer) n p q in
     record {
       value = e;
-      refused = λ n p. (λ q. refusal-exact ws n p .0 (sym says ∙ q), λ f. says ∙ refusal-exact ws n p .1 f);
-      passed = (λ q. passed-exact ws .0 (sym says ∙ q), λ none. says ∙ passed-exact ws .1 none);
-      zeros = λ n p q. e ∙ load-zeros ws n p (sym says ∙ q);
-      holds = λ q. subst (Holds ws) (sym (e ∙ load-passing ws (sym says ∙ q))) (passing-holds ws (passed-exact ws .0 (sym says ∙ q)));
+      refused = λ n p. (λ q. refusal-exact ws n p .0 (refuses n p q), λ f. ap loadTold (says ∙ refusal-exact ws n p .1 f));
+      passed = (λ q. passed-exact ws .0 (passes q), λ none. ap loadTold (says ∙ passed-exact ws .1 none));
+      zeros = λ n p q. e ∙ load-zeros ws n p (refuses n p q);
+      holds = λ q. subst (Holds ws) (sym (e ∙ load-passing ws (passes q))) (passing-holds ws (passed-exact ws .0 (passes q)));
     }

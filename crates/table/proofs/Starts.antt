@@ -10,9 +10,11 @@ use lib.Dec.{ltb}
 use borrow.Author.Tests.{ltb-true, ltb-false}
 use Rattle.model.specs.Task as model
 use Rattle.model.specs.Horizon.{releaseFrom, S, lastS}
+use Rattle.model.specs.Sizes.{mostTasks}
 use Rattle.table.specs.declared.Task.{Task}
 use Rattle.table.specs.Task.{taskOf, tasksOf, noTask, Within, InLimits}
 use Rattle.table.proofs.Places.{tasks-length, task-at}
+use Rattle.table.specs.Limits.{mostTime}
 
 -- the ticks of t since an offset, by arithmetic alone: with 2^26 added first, the quotient by 2^26 says whether t has
 -- reached the offset, and the rest by how much
@@ -39,18 +41,18 @@ release-bound τ t = omega (arith, div-mul-le-self (t - τ .offset + (τ .period
 
 module _ (tasks : List Task) (count : ℕ) (limits : InLimits tasks count) where
   -- each position adds less than a period to S
-  pub S-bound : (p : ℕ) → p < count → S (tasksOf tasks count) p ≤ suc p * 1000000
+  pub S-bound : (p : ℕ) → p < count → S (tasksOf tasks count) p ≤ suc p * mostTime
   unfolding S
   S-bound zero h =
-      subst⁻¹ (λ (τ : model.Task). τ .offset ≤ 1 * 1000000) (task-at tasks count 0 h) (omega (arith, limits 0 h .offset-most))
+      subst⁻¹ (λ (τ : model.Task). τ .offset ≤ 1 * mostTime) (task-at tasks count 0 h) (omega (arith, limits 0 h .offset-most))
   S-bound (suc p) h =
       let within : Within (getD tasks (suc p) noTask) = limits (suc p) h in
-      let before : S (tasksOf tasks count) p ≤ suc p * 1000000 = S-bound p (omega arith) in
-      subst⁻¹ (λ (τ : model.Task). releaseFrom τ (S (tasksOf tasks count) p) ≤ suc (suc p) * 1000000) (task-at tasks count (suc p) h)
+      let before : S (tasksOf tasks count) p ≤ suc p * mostTime = S-bound p (omega arith) in
+      subst⁻¹ (λ (τ : model.Task). releaseFrom τ (S (tasksOf tasks count) p) ≤ suc (suc p) * mostTime) (task-at tasks count (suc p) h)
       (le-trans (release-bound (taskOf (getD tasks (suc p) noTask)) (S (tasksOf tasks count) p)) (omega arith))
 
   -- the last S of at most 32 tasks is at most 32,000,000
-  pub lastS-bound : 1 ≤ count → count ≤ 32 → count ≤ length tasks → lastS (tasksOf tasks count) ≤ 32000000
+  pub lastS-bound : 1 ≤ count → count ≤ mostTasks → count ≤ length tasks → lastS (tasksOf tasks count) ≤ 32000000
   lastS-bound some few there =
       rw (tasks-length tasks count there) (omega (arith, S-bound (count - 1) (omega arith)))
 

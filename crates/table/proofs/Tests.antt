@@ -7,8 +7,9 @@ use Prim.Native.Nat.{ℕ, _-_, _%_, _≤_}
 use lib.ListN.{length}
 use lib.Dec.{leb, eqb}
 use Rattle.model.specs.Task.{Task}
+use Rattle.model.specs.Sizes.{mostCores, mostTasks}
 use Rattle.table.specs.Words.{records, met}
-use Rattle.table.specs.Limits.{From, from, CoresOut, coresOut, RuleOut, ruleOut, WidthOut, widthOut, TimesOut, timesOut, taskOut}
+use Rattle.table.specs.Limits.{From, from, CoresOut, coresOut, RuleOut, ruleOut, WidthOut, widthOut, TimesOut, timesOut, taskOut, mostTime}
 use Rattle.table.specs.Numbers.{WordsOut, EndAt, PastAt, AgainAt}
 use Rattle.table.specs.Answer.{wordsOut, pastAt, againAt, stopsAt}
 use Rattle.table.proofs.Decide.{Decides, decides-le, decides-lt, decides-eq, decides-not, decides-and, decides-or, decides-any}
@@ -22,10 +23,10 @@ out-decides a b x = decides-not (from a b x) (From a b x) (from-decides a b x)
 pub words-decides : (ws : List ℕ) → Decides (wordsOut ws) (WordsOut ws)
 words-decides ws =
     decides-or _ _ _ _ (decides-lt (length ws) 3)
-    (decides-or _ _ _ _ (decides-not _ _ (decides-eq ((length ws - 3) % 6) 0)) (decides-lt 32 (records ws)))
+    (decides-or _ _ _ _ (decides-not _ _ (decides-eq ((length ws - 3) % 6) 0)) (decides-lt mostTasks (records ws)))
 
 pub cores-decides : (m : ℕ) → Decides (coresOut m) (CoresOut m)
-cores-decides m = out-decides 1 64 m
+cores-decides m = out-decides 1 mostCores m
 
 pub rule-decides : (n : ℕ) → Decides (ruleOut n) (RuleOut n)
 rule-decides n = decides-not _ _ (decides-or _ _ _ _ (decides-eq n 1) (decides-or _ _ _ _ (decides-eq n 2) (decides-eq n 3)))
@@ -35,9 +36,9 @@ width-decides m τ = decides-or _ _ _ _ (decides-eq (τ .width) 0) (decides-lt m
 
 pub times-decides : (τ : Task) → Decides (timesOut τ) (TimesOut τ)
 times-decides τ =
-    decides-or _ _ _ _ (decides-lt 1000000 (τ .offset))
-    (decides-or _ _ _ _ (out-decides 1 1000000 (τ .length))
-    (decides-or _ _ _ _ (out-decides 1 1000000 (τ .period)) (out-decides 1 (τ .period) (τ .deadline))))
+    decides-or _ _ _ _ (decides-lt mostTime (τ .offset))
+    (decides-or _ _ _ _ (out-decides 1 mostTime (τ .length))
+    (decides-or _ _ _ _ (out-decides 1 mostTime (τ .period)) (out-decides 1 (τ .period) (τ .deadline))))
 
 -- a task is turned down exactly if 7 or 8 applies to it; the number is 7 where 7 does, and else 8
 task-out-is : (s t : Bool) → not (eqb (cond s 7 (cond t 8 0)) 0) ≡ s || t

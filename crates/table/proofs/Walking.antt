@@ -13,6 +13,7 @@ use borrow.Author.Tests.{eq-eqb, ne-eqb, eqb-true, eqb-false, le-ltb}
 use Rattle.model.specs.Search.{any, upFrom}
 use Rattle.model.proofs.Search.{none-any}
 use Rattle.model.proofs.Lists.{up-length, up-more, map-more, map-map}
+use Rattle.model.specs.Sizes.{mostTasks}
 use Rattle.table.specs.declared.Task.{Task}
 use Rattle.table.specs.declared.chain.Ending.the-variants.{Past, Again, Whole}
 use Rattle.table.specs.Task.{noTask}
@@ -31,24 +32,24 @@ metTask ws j = placed (taskOfRecord ws (met ws j))
 
 -- 32 places, of which the first k hold the tasks met
 abbrev pub placesTo : List ℕ → ℕ → List Task
-placesTo ws k = map (metTask ws) (upFrom 0 k) ++ replicate (32 - k) noTask
+placesTo ws k = map (metTask ws) (upFrom 0 k) ++ replicate (mostTasks - k) noTask
 
 -- the walk has come to step k, where it meets `at`
 pub record Walking (ws : List ℕ) (tasks : List Task) (seen : List Bool) (k at : ℕ) : Type 0 where
   pub reached : Reaches ws k
   pub here : at ≡ met ws k
   pub tasked : tasks ≡ placesTo ws k
-  pub marks : length seen ≡ 32
-  pub marked : (n : ℕ) → n < 32 → getD seen n false ≡ any k (λ j. eqb (met ws j) (suc n))
+  pub marks : length seen ≡ mostTasks
+  pub marked : (n : ℕ) → n < mostTasks → getD seen n false ≡ any k (λ j. eqb (met ws j) (suc n))
 
-pub walking-none : (ws : List ℕ) → Walking ws (replicate 32 noTask) (replicate 32 false) 0 (head ws)
+pub walking-none : (ws : List ℕ) → Walking ws (replicate mostTasks noTask) (replicate mostTasks false) 0 (head ws)
 unfolding met any upFrom
 walking-none ws = record {
   reached = λ j l. absurd (not-suc-le-zero l);
   here = refl;
   tasked = refl;
   marks = refl;
-  marked = λ n l. getD-replicate 32 n false false l;
+  marked = λ n l. getD-replicate mostTasks n false false l;
 }
 
 -- where the chain ends, these are all its tasks
@@ -65,7 +66,7 @@ again-not-whole : Again ≡ Whole → ⊥
 again-not-whole e = let z : _≡_ {A = ℕ} 0 1 = cc in omega arith
 
 module _ (ws : List ℕ) (tasks : List Task) (seen : List Bool) (k at : ℕ) (w : Walking ws tasks seen k at) where
-  module _ (some : at ≡ 0 → ⊥) (inside : at ≤ records ws) (few : records ws ≤ 32) where
+  module _ (some : at ≡ 0 → ⊥) (inside : at ≤ records ws) (few : records ws ≤ mostTasks) where
     -- the mark of the record met says whether it is met again
     mark : getD seen (at - 1) false ≡ againAt ws k
     mark =
@@ -88,25 +89,25 @@ module _ (ws : List ℕ) (tasks : List Task) (seen : List Bool) (k at : ℕ) (w 
       tasked-more : set tasks k (placed (taskOfRecord ws at)) ≡ placesTo ws (suc k)
       tasked-more =
           let room = walking-room in
-          let left : 32 - k ≡ suc (32 - suc k) = omega arith in
+          let left : mostTasks - k ≡ suc (mostTasks - suc k) = omega arith in
           let long : length (map (metTask ws) (upFrom 0 k)) ≡ k = length-map (upFrom 0 k) (metTask ws) ∙ up-length 0 k in
-          let before : tasks ≡ map (metTask ws) (upFrom 0 k) ++ replicate (suc (32 - suc k)) noTask = w .tasked ∙ ap (λ (m : ℕ). map (metTask ws) (upFrom 0 k) ++ replicate m noTask) left in
+          let before : tasks ≡ map (metTask ws) (upFrom 0 k) ++ replicate (suc (mostTasks - suc k)) noTask = w .tasked ∙ ap (λ (m : ℕ). map (metTask ws) (upFrom 0 k) ++ replicate m noTask) left in
           let more : map (metTask ws) (upFrom 0 (suc k)) ≡ map (metTask ws) (upFrom 0 k) ++ (metTask ws k ∷ []) =
           ap (map (metTask ws)) (up-more 0 k) ∙ map-more (metTask ws) (upFrom 0 k) (0 + k) ∙ ap (λ (m : ℕ). map (metTask ws) (upFrom 0 k) ++ (metTask ws m ∷ [])) (zero-add k) in
           ap (λ (ts : List Task). set ts k (placed (taskOfRecord ws at))) before
-          ∙ set-at (map (metTask ws) (upFrom 0 k)) noTask (replicate (32 - suc k) noTask) (placed (taskOfRecord ws at)) k long
-          ∙ ap (λ (n : ℕ). map (metTask ws) (upFrom 0 k) ++ (placed (taskOfRecord ws n) ∷ replicate (32 - suc k) noTask)) (w .here)
-          ∙ sym (append-assoc (map (metTask ws) (upFrom 0 k)) (metTask ws k ∷ []) (replicate (32 - suc k) noTask))
-          ∙ ap (λ (ts : List Task). ts ++ replicate (32 - suc k) noTask) (sym more)
+          ∙ set-at (map (metTask ws) (upFrom 0 k)) noTask (replicate (mostTasks - suc k) noTask) (placed (taskOfRecord ws at)) k long
+          ∙ ap (λ (n : ℕ). map (metTask ws) (upFrom 0 k) ++ (placed (taskOfRecord ws n) ∷ replicate (mostTasks - suc k) noTask)) (w .here)
+          ∙ sym (append-assoc (map (metTask ws) (upFrom 0 k)) (metTask ws k ∷ []) (replicate (mostTasks - suc k) noTask))
+          ∙ ap (λ (ts : List Task). ts ++ replicate (mostTasks - suc k) noTask) (sym more)
 
-      marked-more : (n : ℕ) → n < 32 → getD (set seen (at - 1) true) n false ≡ any (suc k) (λ j. eqb (met ws j) (suc n))
+      marked-more : (n : ℕ) → n < mostTasks → getD (set seen (at - 1) true) n false ≡ any (suc k) (λ j. eqb (met ws j) (suc n))
       unfolding any
       marked-more n l = go (eqb n (at - 1)) refl
         where
           h : at ≡ met ws k
           h = w .here
 
-          m : length seen ≡ 32
+          m : length seen ≡ mostTasks
           m = w .marks
 
           go : (t : Bool) → eqb n (at - 1) ≡ t → getD (set seen (at - 1) true) n false ≡ (any k (λ j. eqb (met ws j) (suc n)) || eqb (met ws k) (suc n))

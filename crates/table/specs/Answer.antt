@@ -8,7 +8,8 @@ use lib.Dec.{eqb, ltb}
 use Rattle.model.specs.Search.{any, least}
 use Rattle.model.specs.Task.{Task, Table, task, nobody}
 use Rattle.model.specs.Horizon.{horizon}
-use Rattle.table.specs.Words.{head, cores, rule, records, met, tableOf}
+use Rattle.model.specs.Sizes.{mostTasks}
+use Rattle.table.specs.Words.{headerWords, recordWords, head, cores, rule, records, met, tableOf}
 use Rattle.table.specs.Limits.{coresOut, ruleOut, taskNumber, taskOut, horizonOut}
 use Rattle.table.specs.declared.chain.Ending.{Ending}
 use Rattle.table.specs.declared.chain.Ending.the-variants.{Past, Again, Whole}
@@ -17,7 +18,7 @@ use Rattle.table.specs.declared.Answer.the-variants.{Passed, Refused}
 
 -- 1 as a test (`words-decides`)
 abbrev pub wordsOut : List ℕ → Bool
-wordsOut ws = ltb (length ws) 3 || (not (eqb ((length ws - 3) % 6) 0) || ltb 32 (records ws))
+wordsOut ws = ltb (length ws) headerWords || (not (eqb ((length ws - headerWords) % recordWords) 0) || ltb mostTasks (records ws))
 
 -- the first of the numbers 1 to 4 that applies, or 0
 unfoldable pub headerNumber : List ℕ → ℕ

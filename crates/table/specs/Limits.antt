@@ -5,6 +5,15 @@ use mathlib.Core.Logic.{_⊎_}
 use Prim.Native.Nat.{ℕ, _≤_, _<_}
 use lib.Dec.{eqb, ltb, leb}
 use Rattle.model.specs.Task.{Task}
+use Rattle.model.specs.Sizes.{mostCores}
+
+-- O, C and T are at most 1,000,000
+abbrev pub mostTime : ℕ
+mostTime = 1000000
+
+-- the horizon is at most 10,000,000
+abbrev pub mostHorizon : ℕ
+mostHorizon = 10000000
 
 -- x is a to b
 abbrev pub From : ℕ → ℕ → ℕ → Type 0
@@ -16,11 +25,11 @@ from a b x = leb a x && leb x b
 
 -- 2: the core count is not 1 to 64
 abbrev pub CoresOut : ℕ → Type 0
-CoresOut m = ¬ From 1 64 m
+CoresOut m = ¬ From 1 mostCores m
 
 -- .. as a test (`cores-decides`)
 abbrev pub coresOut : ℕ → Bool
-coresOut m = not (from 1 64 m)
+coresOut m = not (from 1 mostCores m)
 
 -- 3: the rule is not 1, 2 or 3
 abbrev pub RuleOut : ℕ → Type 0
@@ -41,14 +50,14 @@ widthOut m τ = eqb (τ .width) 0 || ltb m (τ .width)
 -- 8: a task's O, C, T or D is outside its limits: O 0 to 1,000,000; C and T 1 to 1,000,000; D 1 to T
 abbrev pub TimesOut : Task → Type 0
 TimesOut τ =
-    (1000000 < τ .offset)
-    ⊎ ((¬ From 1 1000000 (τ .length)) ⊎ ((¬ From 1 1000000 (τ .period)) ⊎ (¬ From 1 (τ .period) (τ .deadline))))
+    (mostTime < τ .offset)
+    ⊎ ((¬ From 1 mostTime (τ .length)) ⊎ ((¬ From 1 mostTime (τ .period)) ⊎ (¬ From 1 (τ .period) (τ .deadline))))
 
 -- .. as a test (`times-decides`)
 abbrev pub timesOut : Task → Bool
 timesOut τ =
-    ltb 1000000 (τ .offset)
-    || (not (from 1 1000000 (τ .length)) || (not (from 1 1000000 (τ .period)) || not (from 1 (τ .period) (τ .deadline))))
+    ltb mostTime (τ .offset)
+    || (not (from 1 mostTime (τ .length)) || (not (from 1 mostTime (τ .period)) || not (from 1 (τ .period) (τ .deadline))))
 
 -- the number that turns a task down, within a task 7 first; 0 where neither does
 abbrev pub taskNumber : ℕ → Task → ℕ
@@ -60,8 +69,8 @@ taskOut m τ = not (eqb (taskNumber m τ) 0)
 
 -- 9: the horizon exceeds 10,000,000
 abbrev pub HorizonOut : ℕ → Type 0
-HorizonOut h = 10000000 < h
+HorizonOut h = mostHorizon < h
 
 -- .. as a test
 abbrev pub horizonOut : ℕ → Bool
-horizonOut h = ltb 10000000 h
+horizonOut h = ltb mostHorizon h

@@ -5,7 +5,9 @@ use mathlib.Core.List.{List, map, _++_}
 use Prim.Native.Nat.{ℕ, _-_, _≤_}
 use lib.ListN.{length, drop, replicate}
 use Rattle.model.specs.Task as model
+use Rattle.model.specs.Book as book
 use Rattle.model.specs.Horizon.{lastS, hyperperiod, horizon}
+use Rattle.model.specs.Sizes.{mostTasks}
 use Rattle.table.specs.declared.Task.{Task}
 use Rattle.table.specs.declared.Answer.{Answer}
 use Rattle.table.specs.declared.Answer.the-variants.{Passed, Refused}
@@ -14,7 +16,7 @@ use Rattle.table.specs.declared.chain.Ending.the-variants.{Whole}
 use Rattle.table.specs.declared.chain.Walked.{Walked}
 use Rattle.table.specs.Task.{noTask, tasksOf}
 use Rattle.table.specs.Words.{word, count, tableOf}
-use Rattle.table.specs.Limits.{From}
+use Rattle.table.specs.Limits.{From, mostHorizon}
 use Rattle.table.specs.Numbers.{First, NoneApplies}
 use Rattle.table.specs.Answer.{answerOf, endingOf}
 
@@ -24,7 +26,7 @@ placed τ = record { offset = τ .offset; width = τ .width; length = τ .length
 
 -- 32 places: the tasks in priority order, then zeros
 abbrev pub places : List model.Task → List Task
-places τs = map placed τs ++ replicate (32 - length τs) noTask
+places τs = map placed τs ++ replicate (mostTasks - length τs) noTask
 
 -- a table that passes, whose rule has number r
 abbrev pub passing : ℕ → model.Table → Loaded
@@ -43,45 +45,50 @@ passing r s =
 -- a refusal: all else is zero
 abbrev pub refusal : ℕ → ℕ → Loaded
 refusal n p =
-    record { answer = Refused n p; count = 0; cores = 0; rule = 0; tasks = replicate 32 noTask; start = 0; period = 0; horizon = 0 }
+    record { answer = Refused n p; count = 0; cores = 0; rule = 0; tasks = replicate mostTasks noTask; start = 0; period = 0; horizon = 0 }
 
 -- by the answer: what passes, or the refusal
-abbrev pub answered : Answer → Loaded → Loaded
-answered Passed l = l
-answered (Refused n p) l = refusal n p
+abbrev pub loadedBy : Answer → Loaded → Loaded
+loadedBy Passed l = l
+loadedBy (Refused n p) l = refusal n p
 
 -- what `load` gives of the words
 unfoldable pub loadOf : List ℕ → Loaded
-loadOf ws = answered (answerOf ws) (passing (word ws 2) (tableOf ws))
+loadOf ws = loadedBy (answerOf ws) (passing (word ws 2) (tableOf ws))
 
 -- what a table that passed holds
 pub record Holds (ws : List ℕ) (r : Loaded) : Type 0 where
   -- as many tasks as the chain has, 1 to 32
   pub count : r .count ≡ length (tableOf ws .tasks)
-  pub count-from : From 1 32 (r .count)
+  pub count-from : From 1 mostTasks (r .count)
   -- the core count and the rule's number
   pub cores : r .cores ≡ word ws 1
   pub rule : r .rule ≡ word ws 2
   -- the tasks in priority order, and zeros past the count
   pub tasks : tasksOf (r .tasks) (r .count) ≡ tableOf ws .tasks
-  pub past : drop (r .count) (r .tasks) ≡ replicate (32 - r .count) noTask
+  pub past : drop (r .count) (r .tasks) ≡ replicate (mostTasks - r .count) noTask
   -- the last S, P and the horizon
   pub start : r .start ≡ lastS (tableOf ws .tasks)
   pub period : r .period ≡ hyperperiod (tableOf ws .tasks)
   pub horizon : r .horizon ≡ horizon (tableOf ws)
-  pub horizon-most : r .horizon ≤ 10000000
+  pub horizon-most : r .horizon ≤ mostHorizon
+
+-- the answer that each case is: taken where the table passes, or refused with number and position
+abbrev pub loadTold : Answer → book.Answer
+loadTold Passed = book.taken
+loadTold (Refused n p) = book.refused n p
 
 -- what `load` promises of the words
 pub record LoadOf (ws : List ℕ) (r : Loaded) : Type 0 where
   -- its value
   pub value : r ≡ loadOf ws
   -- refused with n and p exactly if number n applies with position p and no earlier one does; passed exactly if none applies
-  pub refused : (n p : ℕ) → (r .answer ≡ Refused n p) ↔ First ws n p
-  pub passed : (r .answer ≡ Passed) ↔ NoneApplies ws
+  pub refused : (n p : ℕ) → (loadTold (r .answer) ≡ book.refused n p) ↔ First ws n p
+  pub passed : (loadTold (r .answer) ≡ book.taken) ↔ NoneApplies ws
   -- in a refusal all else is zero
-  pub zeros : (n p : ℕ) → r .answer ≡ Refused n p → r ≡ refusal n p
+  pub zeros : (n p : ℕ) → loadTold (r .answer) ≡ book.refused n p → r ≡ refusal n p
   -- in a table that passed the rest is the table
-  pub holds : r .answer ≡ Passed → Holds ws r
+  pub holds : loadTold (r .answer) ≡ book.taken → Holds ws r
 
 -- the tasks on so many cores, with the rule of this number
 abbrev pub tableWith : ℕ → ℕ → List model.Task → model.Table

@@ -7,12 +7,13 @@ use Prim.Native.Nat.{ℕ, _-_, _%_, _<_}
 use lib.ListN.{length}
 use lib.Dec.{eqb}
 use Rattle.model.specs.Horizon.{horizon}
-use Rattle.table.specs.Words.{head, cores, rule, records, met, count, taskAt, tableOf}
+use Rattle.model.specs.Sizes.{mostTasks}
+use Rattle.table.specs.Words.{headerWords, recordWords, head, cores, rule, records, met, count, taskAt, tableOf}
 use Rattle.table.specs.Limits.{From, CoresOut, RuleOut, WidthOut, TimesOut, HorizonOut}
 
 -- the slice has fewer than 3 words, or the rest is no whole number of records, or there are more than 32
 abbrev pub WordsOut : List ℕ → Type 0
-WordsOut ws = (length ws < 3) ⊎ (((length ws - 3) % 6 ≡ 0 → ⊥) ⊎ (32 < records ws))
+WordsOut ws = (length ws < headerWords) ⊎ (((length ws - headerWords) % recordWords ≡ 0 → ⊥) ⊎ (mostTasks < records ws))
 
 -- what the walk can meet at step k: the zero that ends the chain, a number past the last record, a record again
 abbrev pub EndAt : List ℕ → ℕ → Type 0

@@ -4,6 +4,7 @@ use Prim.Native.Nat.{ℕ, _≤_, _<_}
 use lib.ListN.{getD, take}
 use Rattle.model.specs.Task as model
 use Rattle.table.specs.declared.Task.{Task}
+use Rattle.table.specs.Limits.{mostTime}
 
 -- a task's five numbers, as the model has them
 abbrev pub taskOf : Task → model.Task
@@ -19,9 +20,9 @@ noTask = record { offset = 0; width = 0; length = 0; deadline = 0; period = 0 }
 
 -- the limits on one task that finding S and P asks for: O at most 1,000,000, T from 1 to 1,000,000
 pub record Within (t : Task) : Type 0 where
-  pub offset-most : t .offset ≤ 1000000
+  pub offset-most : t .offset ≤ mostTime
   pub period-least : 1 ≤ t .period
-  pub period-most : t .period ≤ 1000000
+  pub period-most : t .period ≤ mostTime
 
 -- each of the first count tasks is within them
 abbrev pub InLimits : List Task → ℕ → Type 0

@@ -6,6 +6,14 @@ use lib.Dec.{eqb}
 use Rattle.model.specs.Search.{least, upFrom}
 use Rattle.model.specs.Task.{Task, Table, ruleOf}
 
+-- the header has three words
+abbrev pub headerWords : ℕ
+headerWords = 3
+
+-- a record has six
+abbrev pub recordWords : ℕ
+recordWords = 6
+
 -- word i, counted from 0
 abbrev pub word : List ℕ → ℕ → ℕ
 word ws i = getD ws i 0
@@ -22,13 +30,13 @@ cores ws = word ws 1
 abbrev pub rule : List ℕ → ℕ
 rule ws = word ws 2
 
--- records of six words follow: how many there are
+-- records follow: how many there are
 abbrev pub records : List ℕ → ℕ
-records ws = (length ws - 3) / 6
+records ws = (length ws - headerWords) / recordWords
 
 -- word j of record n, records numbered from 1
 abbrev pub field : List ℕ → ℕ → ℕ → ℕ
-field ws n j = word ws (3 + (n - 1) * 6 + j)
+field ws n j = word ws (headerWords + (n - 1) * recordWords + j)
 
 -- next is the number of the record one priority lower
 abbrev pub next : List ℕ → ℕ → ℕ

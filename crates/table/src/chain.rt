@@ -5,7 +5,10 @@ ghost use Rattle.table.specs.Task.{noTask};
 ghost use Rattle.table.specs.Words.{records, taskOfRecord};
 ghost use Rattle.table.specs.Answer.{headerNumber};
 ghost use Rattle.table.specs.Load.{placed, WalkOf};
+use crate::HEADER;
+use crate::RECORD;
 use crate::Task;
+use model::MOST_TASKS;
 
 // How a walk along the chain ends: at the zero, at a number past the last record, at a record met again.
 pub enum Ending {
@@ -18,11 +21,11 @@ pub enum Ending {
 pub struct Walked {
     pub ending: Ending,
     pub count: usize,
-    pub tasks: [Task; 32],
+    pub tasks: [Task; MOST_TASKS],
 }
 
 // No task: what stands past the count.
-fn no_task() -> Task
+pub(crate) fn no_task() -> Task
     ensures { λ r. ⌜ r ≡ noTask ⌝ }
 {
     Task {
@@ -39,7 +42,7 @@ fn task_of(words: &[u32], number: usize) -> Task
     requires { ⌜ 1 ≤ number ⌝ ∗ ⌜ number ≤ records (now words) ⌝ }
     ensures { λ r. ⌜ r ≡ placed (taskOfRecord (now (words .entry)) number) ⌝ }
 {
-    let at = 3 + (number - 1) * 6;
+    let at = HEADER + (number - 1) * RECORD;
     Task {
         offset: words[at + 1],
         width: words[at + 2],
@@ -54,10 +57,10 @@ pub(crate) fn walk(words: &[u32]) -> Walked
     requires { ⌜ headerNumber (now words) ≡ 0 ⌝ }
     ensures { λ r. ⌜ WalkOf (now (words .entry)) r ⌝ }
 {
-    let records = (words.len() - 3) / 6;
+    let records = (words.len() - HEADER) / RECORD;
     let none = no_task();
-    let mut tasks = [none; 32];
-    let mut seen = [false; 32];
+    let mut tasks = [none; MOST_TASKS];
+    let mut seen = [false; MOST_TASKS];
     let mut count: usize = 0;
     let mut at = words[0] as usize;
     loop {
@@ -86,7 +89,7 @@ pub(crate) fn walk(words: &[u32]) -> Walked
         seen[index] = true;
         let task = task_of(words, at);
         tasks[count] = task;
-        at = words[3 + index * 6] as usize;
+        at = words[HEADER + index * RECORD] as usize;
         count += 1;
     }
 }

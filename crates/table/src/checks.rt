@@ -4,23 +4,20 @@ ghost use Prim.Native.Nat.{_≤_, _+_};
 ghost use Rattle.table.specs.Task.{tasksOf, InLimits};
 ghost use Rattle.table.specs.Limits.{horizonOut};
 ghost use Rattle.table.specs.Answer.{firstOut, byHorizon, byTasks};
-ghost use Rattle.table.specs.Load.{places, refusal, passing, answered, tableWith};
+ghost use Rattle.table.specs.Load.{places, refusal, passing, loadedBy, tableWith};
+ghost use Rattle.model.specs.Sizes.{mostTasks};
 use crate::Answer;
 use crate::Loaded;
 use crate::Task;
+use crate::hyperperiod::LIMIT;
+use model::MOST_TASKS;
 
 // A refusal, with zeros beside it.
 pub(crate) fn refused(number: u32, position: u32) -> Loaded
     ensures { λ r. ⌜ r ≡ refusal number position ⌝ }
 {
-    let none = Task {
-        offset: 0,
-        width: 0,
-        length: 0,
-        deadline: 0,
-        period: 0,
-    };
-    let tasks = [none; 32];
+    let none = crate::chain::no_task();
+    let tasks = [none; MOST_TASKS];
     Loaded {
         answer: Answer::Refused(number, position),
         count: 0,
@@ -33,17 +30,17 @@ pub(crate) fn refused(number: u32, position: u32) -> Loaded
     }
 }
 
-// Whether the last S and P reach past tick 10,000,000 (number 9).
+// Whether the last S and P reach past the longest horizon (number 9).
 fn horizon_out(start: u32, period: u32) -> bool
     ensures { λ r. ⌜ r ≡ horizonOut (start + period) ⌝ }
 {
-    10_000_000 < start as u64 + period as u64
+    LIMIT < start as u64 + period as u64
 }
 
 // A table whose tasks are within their limits: number 9, or the table.
-fn by_horizon(cores: u32, rule: u32, tasks: [Task; 32], count: usize) -> Loaded
-    requires { ⌜ 1 ≤ count ⌝ ∗ ⌜ count ≤ 32 ⌝ ∗ ⌜ InLimits tasks count ⌝ ∗ ⌜ tasks ≡ places (tasksOf tasks count) ⌝ }
-    ensures { λ r. ⌜ r ≡ answered (byHorizon (tableWith cores rule (tasksOf tasks count))) (passing rule (tableWith cores rule (tasksOf tasks count))) ⌝ }
+fn by_horizon(cores: u32, rule: u32, tasks: [Task; MOST_TASKS], count: usize) -> Loaded
+    requires { ⌜ 1 ≤ count ⌝ ∗ ⌜ count ≤ mostTasks ⌝ ∗ ⌜ InLimits tasks count ⌝ ∗ ⌜ tasks ≡ places (tasksOf tasks count) ⌝ }
+    ensures { λ r. ⌜ r ≡ loadedBy (byHorizon (tableWith cores rule (tasksOf tasks count))) (passing rule (tableWith cores rule (tasksOf tasks count))) ⌝ }
 {
     let start = crate::start::last_start(tasks, count);
     let period = crate::hyperperiod::hyperperiod(tasks, count);
@@ -63,8 +60,8 @@ fn by_horizon(cores: u32, rule: u32, tasks: [Task; 32], count: usize) -> Loaded
 }
 
 // The first place with a task that 7 or 8 turns down, or the count.
-fn first_out(cores: u32, tasks: [Task; 32], count: usize) -> usize
-    requires { ⌜ count ≤ 32 ⌝ }
+fn first_out(cores: u32, tasks: [Task; MOST_TASKS], count: usize) -> usize
+    requires { ⌜ count ≤ mostTasks ⌝ }
     ensures { λ r. ⌜ r ≡ firstOut cores (tasksOf tasks count) ⌝ }
 {
     let mut place: usize = 0;
@@ -79,9 +76,9 @@ fn first_out(cores: u32, tasks: [Task; 32], count: usize) -> usize
 }
 
 // A table whose chain ends: number 7 or 8 of the first task that breaks one, or by the horizon.
-pub(crate) fn by_tasks(cores: u32, rule: u32, tasks: [Task; 32], count: usize) -> Loaded
-    requires { ⌜ 1 ≤ count ⌝ ∗ ⌜ count ≤ 32 ⌝ ∗ ⌜ tasks ≡ places (tasksOf tasks count) ⌝ }
-    ensures { λ r. ⌜ r ≡ answered (byTasks (tableWith cores rule (tasksOf tasks count))) (passing rule (tableWith cores rule (tasksOf tasks count))) ⌝ }
+pub(crate) fn by_tasks(cores: u32, rule: u32, tasks: [Task; MOST_TASKS], count: usize) -> Loaded
+    requires { ⌜ 1 ≤ count ⌝ ∗ ⌜ count ≤ mostTasks ⌝ ∗ ⌜ tasks ≡ places (tasksOf tasks count) ⌝ }
+    ensures { λ r. ⌜ r ≡ loadedBy (byTasks (tableWith cores rule (tasksOf tasks count))) (passing rule (tableWith cores rule (tasksOf tasks count))) ⌝ }
 {
     let place = first_out(cores, tasks, count);
     if place < count {

@@ -1,13 +1,19 @@
 // P, the least common multiple of the periods.
 ghost use mathlib.Core.Path.{_≡_};
-ghost use Prim.Native.Nat.{_≤_, min};
+ghost use Prim.Native.Nat.{_+_, _≤_, min};
 ghost use Rattle.model.specs.Horizon.{hyperperiod};
+ghost use Rattle.model.specs.Sizes.{mostTasks};
 ghost use Rattle.table.specs.Task.{tasksOf, InLimits};
 ghost use Rattle.table.specs.Gcd.{Gcd};
+ghost use Rattle.table.specs.Limits.{mostHorizon};
 use crate::Task;
+use crate::limits::MOST_HORIZON;
+use model::MOST_TASKS;
 
-// The longest horizon that passes number 9.
-const LIMIT: u64 = 10_000_000;
+// The longest horizon, in 64 bits, and one tick more.
+pub(crate) const LIMIT: u64 = MOST_HORIZON as u64;
+
+const PAST: u32 = MOST_HORIZON + 1;
 
 // The greatest common divisor.
 pub(crate) fn gcd(a: u64, b: u64) -> u64
@@ -23,10 +29,10 @@ pub(crate) fn gcd(a: u64, b: u64) -> u64
     x
 }
 
-// P, or 10,000,001 where it is above 10,000,000.
-pub(crate) fn hyperperiod(tasks: [Task; 32], count: usize) -> u32
-    requires { ⌜ count ≤ 32 ⌝ ∗ ⌜ InLimits tasks count ⌝ }
-    ensures { λ r. ⌜ r ≡ min (hyperperiod (tasksOf tasks count)) 10000001 ⌝ }
+// P, or one more than the longest horizon where it is above that.
+pub(crate) fn hyperperiod(tasks: [Task; MOST_TASKS], count: usize) -> u32
+    requires { ⌜ count ≤ mostTasks ⌝ ∗ ⌜ InLimits tasks count ⌝ }
+    ensures { λ r. ⌜ r ≡ min (hyperperiod (tasksOf tasks count)) (mostHorizon + 1) ⌝ }
 {
     let mut multiple: u64 = 1;
     let mut i = 0;
@@ -34,7 +40,7 @@ pub(crate) fn hyperperiod(tasks: [Task; 32], count: usize) -> u32
         let period = tasks[i].period as u64;
         multiple = multiple / gcd(multiple, period) * period;
         if LIMIT < multiple {
-            return 10_000_001;
+            return PAST;
         }
         i += 1;
     }

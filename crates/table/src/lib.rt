@@ -9,6 +9,12 @@ mod start; // start.rt: S, where the repeat starts
 mod hyperperiod; // hyperperiod.rt: P, the least common multiple of the periods
 
 use chain::Ending;
+use model::MOST_TASKS;
+
+// How many words the header has, and how many each record.
+pub const HEADER: usize = 3;
+
+pub const RECORD: usize = 6;
 
 // A task of the table: offset O, width v, length C, deadline D, period T.
 pub struct Task {
@@ -31,7 +37,7 @@ pub struct Loaded {
     pub count: usize,
     pub cores: u32,
     pub rule: u32,
-    pub tasks: [Task; 32],
+    pub tasks: [Task; MOST_TASKS],
     pub start: u32,
     pub period: u32,
     pub horizon: u32,

@@ -3,12 +3,19 @@ ghost use mathlib.Core.Path.{_≡_};
 ghost use Rattle.table.specs.Task.{taskOf};
 ghost use Rattle.table.specs.Limits.{coresOut, ruleOut, widthOut, timesOut, taskNumber};
 use crate::Task;
+use model::MOST_CORES;
+
+// The largest O, C and T.
+pub const MOST_TIME: u32 = 1_000_000;
+
+// The longest horizon.
+pub const MOST_HORIZON: u32 = 10_000_000;
 
 // Whether the core count is not 1 to 64 (number 2).
 pub fn cores_out(cores: u32) -> bool
     ensures { λ r. ⌜ r ≡ coresOut cores ⌝ }
 {
-    !((1 <= cores) & (cores <= 64))
+    !((1 <= cores) & (cores <= MOST_CORES))
 }
 
 // Whether the rule is not 1, 2 or 3 (number 3).
@@ -29,9 +36,9 @@ fn width_out(cores: u32, task: Task) -> bool
 fn times_out(task: Task) -> bool
     ensures { λ r. ⌜ r ≡ timesOut (taskOf task) ⌝ }
 {
-    (1_000_000 < task.offset)
-        | (!((1 <= task.length) & (task.length <= 1_000_000))
-            | (!((1 <= task.period) & (task.period <= 1_000_000))
+    (MOST_TIME < task.offset)
+        | (!((1 <= task.length) & (task.length <= MOST_TIME))
+            | (!((1 <= task.period) & (task.period <= MOST_TIME))
                 | !((1 <= task.deadline) & (task.deadline <= task.period))))
 }
 

@@ -2,8 +2,10 @@
 ghost use mathlib.Core.Path.{_≡_};
 ghost use Prim.Native.Nat.{_≤_};
 ghost use Rattle.model.specs.Horizon.{releaseFrom, lastS};
+ghost use Rattle.model.specs.Sizes.{mostTasks};
 ghost use Rattle.table.specs.Task.{taskOf, tasksOf, Within, InLimits};
 use crate::Task;
+use model::MOST_TASKS;
 
 // Above every offset, and above every tick that is asked for.
 const FAR: u32 = 67_108_864;
@@ -23,8 +25,8 @@ pub(crate) fn release_from(task: Task, t: u32) -> u32
 }
 
 // The last S.
-pub(crate) fn last_start(tasks: [Task; 32], count: usize) -> u32
-    requires { ⌜ 1 ≤ count ⌝ ∗ ⌜ count ≤ 32 ⌝ ∗ ⌜ InLimits tasks count ⌝ }
+pub(crate) fn last_start(tasks: [Task; MOST_TASKS], count: usize) -> u32
+    requires { ⌜ 1 ≤ count ⌝ ∗ ⌜ count ≤ mostTasks ⌝ ∗ ⌜ InLimits tasks count ⌝ }
     ensures { λ r. ⌜ r ≡ lastS (tasksOf tasks count) ⌝ }
 {
     let mut start = tasks[0].offset;

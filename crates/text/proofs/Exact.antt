@@ -12,7 +12,7 @@ use lib.Dec.{leb}
 use borrow.Author.Tests.{leb-true, leb-false, le-leb}
 use Rattle.model.proofs.Bools.{and-left, and-right, and-both}
 use Rattle.text.specs.Decimal.{all, value}
-use Rattle.text.specs.Format.{newline, mostNumbers, lines, Number, isNumber, Words, words, noText, wordsOf, Lines, none, last, line, IsText}
+use Rattle.text.specs.Format.{newline, mostNumbers, mostBytes, enoughBytes, lines, Number, isNumber, Words, words, noText, wordsOf, Lines, none, last, line, IsText}
 use Rattle.text.specs.Input.{lineLength}
 use Rattle.text.specs.Output.{output, outputOf}
 use Rattle.text.proofs.Lines.{line-within, line-split, lines-first, lines-line, lines-last}
@@ -109,12 +109,12 @@ lines-short none = omega arith
 lines-short (last {l} n) = omega (arith, n .short)
 lines-short (line {l} {bs} n t) = let ih = lines-short t in omega (arith, n .short, length-append l (newline ∷ bs))
 
--- more than 2145 bytes are no table's text
-pub long-refused : (bs : List ℕ) → 2145 < length bs → wordsOf bs ≡ noText
+-- more than 2,145 bytes are no table's text
+pub long-refused : (bs : List ℕ) → mostBytes < length bs → wordsOf bs ≡ noText
 long-refused bs h = no-text-exact bs .1 (λ ws x. let s = lines-short (x .lines) in let m = x .most in omega arith)
 
--- so the first 2146 bytes of an input are enough
-pub first-enough : (bs : List ℕ) (k : ℕ) → 2145 < k → wordsOf (take k bs) ≡ wordsOf bs
+-- so the first 2,146 bytes of an input are enough
+pub first-enough : (bs : List ℕ) (k : ℕ) → mostBytes < k → wordsOf (take k bs) ≡ wordsOf bs
 first-enough bs k h = go (leb (length bs) k) refl
   where
     go : (t : Bool) → leb (length bs) k ≡ t → wordsOf (take k bs) ≡ wordsOf bs
@@ -125,6 +125,6 @@ first-enough bs k h = go (leb (length bs) k) refl
         long-refused (take k bs) (omega arith) ∙ sym (long-refused bs (omega arith))
 
 -- .. for all that is printed
-pub output-enough : (bs : List ℕ) → output (take 2146 bs) ≡ output bs
+pub output-enough : (bs : List ℕ) → output (take enoughBytes bs) ≡ output bs
 unfolding output
-output-enough bs = ap outputOf (first-enough bs 2146 (omega arith))
+output-enough bs = ap outputOf (first-enough bs enoughBytes (omega arith))

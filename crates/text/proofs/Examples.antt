@@ -12,7 +12,8 @@ use Rattle.model.specs.Verdict.{firm, firstMiss, missedAt, missedIn, rising, ve
 use Rattle.model.proofs.Examples.{A, on, t}
 use Rattle.text.specs.Decimal.{all, value, decimal, lastDigits, digitCount, digitsWithin}
 use Rattle.text.specs.Format.{Words, words, noText, wordsOf, lines, isNumber}
-use Rattle.text.specs.Output.{letters, fields, lineOf, firstLine, rowLine, rowLines, printed, refused}
+use Rattle.judge.specs.Said.{refused}
+use Rattle.text.specs.Output.{letters, fields, lineOf, firstLine, rowLine, rowLines, printed}
 
 -- a text and what it is read as
 pub record Case : Type 0 where

@@ -8,6 +8,7 @@ pub mod Decimals
 pub mod ReadOf
 pub mod Canonical
 pub mod FirstLine
+pub mod FirstPrinted
 pub mod Writing
 pub mod Spelling
 pub mod Examples

@@ -6,7 +6,7 @@ use Prim.Native.Nat.{ℕ, _-_}
 use native.Mathlib.Omega.{arith}
 use lib.ListN.{length, take, replicate}
 use lib.Seq.{take-append-seam, drop-append-seam}
-use Rattle.text.specs.Format.{mostNumbers, Words, words, noText, wordsOf}
+use Rattle.text.specs.Format.{mostNumbers, Words, words, noText, wordsOf, numbersIn}
 use Rattle.text.specs.Input.{placed, inputOf, ReadOf}
 use Rattle.text.specs.declared.Input.{Input}
 use Rattle.text.proofs.Exact.{text-exact, no-text-exact}
@@ -45,3 +45,11 @@ read-of bs r e = subst⁻¹ (ReadOf bs) e (go (wordsOf bs) refl)
     go : (w : Words) → wordsOf bs ≡ w → ReadOf bs (inputOf w)
     go (words ws) q = accepted bs ws q
     go noText q = turned-down bs q
+
+-- the numbers that were read
+pub numbers-read : (r : Input) (bs : List ℕ) → r ≡ inputOf (wordsOf bs) → take (r .count) (r .words) ≡ numbersIn (wordsOf bs)
+numbers-read r bs e = ap (λ (i : Input). take (i .count) (i .words)) e ∙ go (wordsOf bs)
+  where
+    go : (w : Words) → take (inputOf w .count) (inputOf w .words) ≡ numbersIn w
+    go (words ws) = take-append-seam ws _
+    go noText = refl

@@ -2,9 +2,11 @@
 -- Other characters, an empty line, a line of more than ten digits, a number above 4,294,967,295 or more than 195 numbers are turned down.
 use mathlib.Core.Bool.{Bool, _&&_, cond}
 use mathlib.Core.List.{List, [], _∷_, _++_, map}
-use Prim.Native.Nat.{ℕ, _≤_}
+use Prim.Native.Nat.{ℕ, _+_, _*_, _≤_}
 use lib.ListN.{length}
 use lib.Dec.{leb, eqb}
+use Rattle.model.specs.Sizes.{mostTasks, mostWord}
+use Rattle.table.specs.Words.{headerWords, recordWords}
 use Rattle.text.specs.Decimal.{all, isDigit, Digits, value, decimal}
 
 -- a newline
@@ -13,11 +15,23 @@ newline = 10
 
 -- the largest number that a line may say
 abbrev pub largest : ℕ
-largest = 4294967295
+largest = mostWord
 
 -- how many numbers a text may have: the words of a header and of 32 records
 abbrev pub mostNumbers : ℕ
-mostNumbers = 195
+mostNumbers = headerWords + recordWords * mostTasks
+
+-- how many digits a line may have
+abbrev pub mostDigits : ℕ
+mostDigits = 10
+
+-- how many bytes a table's text can have: so many lines of so many digits and a newline (`long-refused`)
+abbrev pub mostBytes : ℕ
+mostBytes = (mostDigits + 1) * mostNumbers
+
+-- how many bytes of an input are enough: one more than a table's text can have (`output-enough`)
+abbrev pub enoughBytes : ℕ
+enoughBytes = mostBytes + 1
 
 -- a byte in front of the first line
 abbrev pub joined : ℕ → List (List ℕ) → List (List ℕ)
@@ -32,18 +46,23 @@ lines (b ∷ bs) = cond (eqb b newline) ([] ∷ lines bs) (joined b (lines bs))
 -- a line says a number: it has one to ten digits and nothing else, and the number is at most 4,294,967,295
 pub record Number (l : List ℕ) : Type 0 where
   pub some : 1 ≤ length l
-  pub short : length l ≤ 10
+  pub short : length l ≤ mostDigits
   pub digits : Digits l
   pub fits : value l ≤ largest
 
 -- .. the test (`number-exact`)
 unfoldable pub isNumber : List ℕ → Bool
-isNumber l = leb 1 (length l) && (leb (length l) 10 && (all isDigit l && leb (value l) largest))
+isNumber l = leb 1 (length l) && (leb (length l) mostDigits && (all isDigit l && leb (value l) largest))
 
 -- the numbers of a text, or that it is no table's text
 pub data Words : Type 0 where
   words : List ℕ → Words
   noText : Words
+
+-- the numbers of a text; what is no table's text has none, which are turned down with `refused 1 0`
+abbrev pub numbersIn : Words → List ℕ
+numbersIn (words ws) = ws
+numbersIn noText = []
 
 -- every line says a number, and there are at most 195: the numbers of the lines
 unfoldable pub wordsOf : List ℕ → Words

@@ -1,18 +1,20 @@
 -- What the program prints (scope, end of 'The table of examples'): the verdict, then a line for each row; every line ends with a newline.
 use mathlib.Core.List.{List, [], _∷_, _++_}
 use Prim.Native.Char.{code}
-use Prim.Native.Nat.{ℕ, zero, suc}
+use Prim.Native.Nat.{ℕ, zero, suc, _+_, _*_}
 use Prim.Native.String.{String}
 use Rattle.model.specs.Task.{Table}
 use Rattle.model.specs.Book.{full, rowOf}
 use Rattle.model.specs.Horizon.{horizon}
 use Rattle.model.specs.Verdict.{Verdict, Firm, Full, Miss, verdict}
-use Rattle.table.specs.declared.Answer as loaded
+use Rattle.model.specs.Sizes.{mostCores}
+use Rattle.table.specs.declared.Answer.{Answer}
 use Rattle.table.specs.declared.Answer.the-variants.{Passed, Refused}
 use Rattle.table.specs.Words.{tableOf}
 use Rattle.table.specs.Answer.{answerOf}
+use Rattle.judge.specs.Said.{Said, judged, refused}
 use Rattle.text.specs.Decimal.{decimal}
-use Rattle.text.specs.Format.{newline, Words, words, noText, wordsOf}
+use Rattle.text.specs.Format.{newline, mostDigits, Words, words, noText, wordsOf}
 
 -- the bytes of a word of plain letters
 abbrev pub letters : String → List ℕ
@@ -32,13 +34,16 @@ fields (n ∷ ns) = space ∷ (decimal n ++ fields ns)
 unfoldable pub lineOf : List ℕ → List ℕ → List ℕ
 lineOf begin ns = begin ++ (fields ns ++ (newline ∷ []))
 
--- what the first line says: a verdict, or a refusal with number and position
-pub data Answer : Type 0 where
-  judged : Verdict → Answer
-  refused : ℕ → ℕ → Answer
+-- the most bytes that the cells of a row can take: for each of 64 cores a space and the three digits of a byte, and a newline
+abbrev pub longestCells : ℕ
+longestCells = mostCores * (1 + 3) + 1
+
+-- the most bytes that a line can take: a tick and the cells of its row
+abbrev pub longestLine : ℕ
+longestLine = mostDigits + longestCells
 
 -- a Firm table begins `firm`, S, P; a Full one `full`, S, P; a miss `miss`, tick, position; a refusal is `refused`, number, position
-unfoldable pub firstLine : Answer → List ℕ
+unfoldable pub firstLine : Said → List ℕ
 firstLine (judged (Firm s p)) = lineOf (letters "firm") (s ∷ p ∷ [])
 firstLine (judged (Full s p)) = lineOf (letters "full") (s ∷ p ∷ [])
 firstLine (judged (Miss t p)) = lineOf (letters "miss") (t ∷ p ∷ [])
@@ -64,7 +69,7 @@ unfoldable pub printed : Table → List ℕ
 printed s = firstLine (judged (verdict s)) ++ rowLines s 0 (rowsPrinted (verdict s) (horizon s))
 
 -- a table that passes is printed; a refusal is one line and nothing more
-abbrev pub printedBy : loaded.Answer → Table → List ℕ
+abbrev pub printedBy : Answer → Table → List ℕ
 printedBy Passed s = printed s
 printedBy (Refused n p) s = firstLine (refused n p)
 

@@ -3,9 +3,10 @@ ghost use mathlib.Core.List.{[], _∷_};
 ghost use Prim.Native.Nat.{_+_, _≤_};
 ghost use lib.ListN.{length};
 ghost use Rattle.text.specs.Decimal.{decimal};
-ghost use Rattle.text.specs.Output.{space, lineOf, firstLine};
+ghost use Rattle.text.specs.Output.{space, lineOf, longestLine, firstLine};
 ghost use Rattle.text.specs.Written.{Put};
-ghost use Rattle.text.specs.Said.{saidBy, endOf};
+ghost use Rattle.judge.specs.Said.{saidBy};
+ghost use Rattle.text.specs.Said.{endOf};
 use crate::decimal;
 use crate::row;
 use judge::Verdict;
@@ -21,8 +22,8 @@ pub fn put_field(line: &mut [u8], at: usize, number: u32) -> usize
 
 // Writes a line of a word and two numbers; the answer is where it ends.
 pub fn put_pair(line: &mut [u8], word: &[u8], first: u32, second: u32) -> usize
-    requires { ⌜ (length (now word) ≤ 7) × (267 ≤ length (now line)) ⌝ }
-    ensures { λ r. ⌜ (Put (now (line .entry)) 0 (lineOf (now (word .entry)) (first ∷ second ∷ [])) (now (line .exit)) r) × (r ≤ 267) ⌝ }
+    requires { ⌜ (length (now word) ≤ 7) × (longestLine ≤ length (now line)) ⌝ }
+    ensures { λ r. ⌜ (Put (now (line .entry)) 0 (lineOf (now (word .entry)) (first ∷ second ∷ [])) (now (line .exit)) r) × (r ≤ longestLine) ⌝ }
 {
     let start = row::copy(word, 0, word.len(), line, 0);
     let middle = put_field(line, start, first);
@@ -33,8 +34,8 @@ pub fn put_pair(line: &mut [u8], word: &[u8], first: u32, second: u32) -> usize
 
 // Writes the first line, which says the verdict; the answer is where it ends.
 pub fn put_first(line: &mut [u8], verdict: Verdict) -> usize
-    requires { ⌜ 267 ≤ length (now line) ⌝ }
-    ensures { λ r. ⌜ (Put (now (line .entry)) 0 (firstLine (saidBy verdict)) (now (line .exit)) r) × (r ≤ 267) ⌝ }
+    requires { ⌜ longestLine ≤ length (now line) ⌝ }
+    ensures { λ r. ⌜ (Put (now (line .entry)) 0 (firstLine (saidBy verdict)) (now (line .exit)) r) × (r ≤ longestLine) ⌝ }
 {
     match verdict {
         Verdict::Firm(start, period) => put_pair(line, b"firm", start, period),

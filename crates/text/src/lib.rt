@@ -1,5 +1,6 @@
 // Decimal lines in: the words of a table from the bytes that the program is given. The modules write lines.
 ghost use mathlib.Core.Path.{_≡_};
+ghost use Prim.Native.Nat.{min};
 ghost use Rattle.text.specs.Format.{noText};
 ghost use Rattle.text.specs.Input.{inputOf, ReadOf};
 
@@ -10,18 +11,30 @@ pub mod line; // line.rt: where a line ends and which number it says
 
 use line::Found;
 
+// How many numbers a table's text may have: the words of a header and of 32 records.
+pub const NUMBERS: usize = table::HEADER + table::RECORD * model::MOST_TASKS;
+
+// How many digits a line may have.
+pub const DIGITS: usize = 10;
+
+// How many bytes a table's text can have.
+pub const BYTES: usize = (DIGITS + 1) * NUMBERS;
+
+// How many bytes of an input are enough to tell all that is printed for it: one more.
+pub const ENOUGH: usize = BYTES + 1;
+
 // What was read: whether it is a table's text, and its numbers, zeros past the count; all zeros where it is none.
 pub struct Input {
     pub accepted: bool,
     pub count: usize,
-    pub words: [u32; 195],
+    pub words: [u32; NUMBERS],
 }
 
 // No table's text.
 fn no_text() -> Input
     ensures { λ r. ⌜ r ≡ inputOf noText ⌝ }
 {
-    let words = [0u32; 195];
+    let words = [0u32; NUMBERS];
     Input {
         accepted: false,
         count: 0,
@@ -33,7 +46,7 @@ fn no_text() -> Input
 pub fn read(bytes: &[u8]) -> Input
     ensures { λ r. ⌜ ReadOf (now (bytes .entry)) r ⌝ }
 {
-    let mut words = [0u32; 195];
+    let mut words = [0u32; NUMBERS];
     let mut count: usize = 0;
     let mut at: usize = 0;
     while at < bytes.len() {
@@ -41,7 +54,7 @@ pub fn read(bytes: &[u8]) -> Input
         match line::number(&bytes[at..end]) {
             Found::Nothing => return no_text(),
             Found::Value(number) => {
-                if count == 195 {
+                if count == NUMBERS {
                     return no_text();
                 }
                 words[count] = number;
@@ -55,4 +68,11 @@ pub fn read(bytes: &[u8]) -> Input
         count: count,
         words: words,
     }
+}
+
+// The smaller of two counts.
+pub fn smaller(a: usize, b: usize) -> usize
+    ensures { λ r. ⌜ r ≡ min a b ⌝ }
+{
+    if a < b { a } else { b }
 }

@@ -3,6 +3,9 @@ ghost use Prim.Native.Nat.{_+_};
 ghost use lib.ListN.{drop};
 ghost use Rattle.text.specs.Input.{lineLength, foundIn};
 
+// The largest number that a line may say.
+const LARGEST: u64 = u32::MAX as u64;
+
 // The number that a line says, if it says one.
 pub enum Found {
     Value(u32),
@@ -30,7 +33,7 @@ pub fn number(line: &[u8]) -> Found
     if line.len() < 1 {
         return Found::Nothing;
     }
-    if 10 < line.len() {
+    if crate::DIGITS < line.len() {
         return Found::Nothing;
     }
     let mut value: u64 = 0;
@@ -46,7 +49,7 @@ pub fn number(line: &[u8]) -> Found
         value = value * 10 + (byte - b'0') as u64;
         i += 1;
     }
-    if 4_294_967_295 < value {
+    if LARGEST < value {
         return Found::Nothing;
     }
     Found::Value(value as u32)

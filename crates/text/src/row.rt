@@ -3,9 +3,17 @@ ghost use Prim.Native.Nat.{_+_, _≤_};
 ghost use lib.ListN.{length, take, drop};
 ghost use Rattle.text.specs.Decimal.{decimal};
 ghost use Rattle.text.specs.Format.{newline};
-ghost use Rattle.text.specs.Output.{fields};
+ghost use Rattle.text.specs.Output.{fields, longestCells, longestLine};
 ghost use Rattle.text.specs.Written.{Put};
+ghost use Rattle.model.specs.Sizes.{mostCores};
 use crate::decimal;
+use model::ROW;
+
+// The most bytes that the cells of a row can take: for each of 64 cores a space and the three digits of a byte, and a newline.
+pub const CELLS: usize = ROW * (1 + 3) + 1;
+
+// The most bytes that a line can take: a tick and the cells of its row.
+pub const LINE: usize = crate::DIGITS + CELLS;
 
 // Writes `count` bytes, those of `from` that begin at `start`, into `to` from `at` on; the answer is where they end.
 pub fn copy(from: &[u8], start: usize, count: usize, to: &mut [u8], at: usize) -> usize
@@ -38,9 +46,9 @@ fn put_byte(text: &mut [u8], at: usize, number: u8) -> usize
 }
 
 // Writes the positions of the first `cores` cores, a space before each, and a newline; the answer is where they end.
-pub fn spell(row: [u8; 64], cores: usize, text: &mut [u8]) -> usize
-    requires { ⌜ (cores ≤ 64) × (257 ≤ length (now text)) ⌝ }
-    ensures { λ r. ⌜ (Put (now (text .entry)) 0 (fields (take cores row) ++ (newline ∷ [])) (now (text .exit)) r) × (r ≤ 257) ⌝ }
+pub fn spell(row: [u8; ROW], cores: usize, text: &mut [u8]) -> usize
+    requires { ⌜ (cores ≤ mostCores) × (longestCells ≤ length (now text)) ⌝ }
+    ensures { λ r. ⌜ (Put (now (text .entry)) 0 (fields (take cores row) ++ (newline ∷ [])) (now (text .exit)) r) × (r ≤ longestCells) ⌝ }
 {
     let mut at: usize = 0;
     let mut core: usize = 0;
@@ -55,8 +63,8 @@ pub fn spell(row: [u8; 64], cores: usize, text: &mut [u8]) -> usize
 
 // Writes the line of a row: the tick, and the text of its cores; the answer is where it ends.
 pub fn put_row(line: &mut [u8], tick: u32, text: &[u8], count: usize) -> usize
-    requires { ⌜ (count ≤ length (now text)) × (count ≤ 257) × (267 ≤ length (now line)) ⌝ }
-    ensures { λ r. ⌜ (Put (now (line .entry)) 0 (decimal tick ++ take count (now (text .entry))) (now (line .exit)) r) × (r ≤ 267) ⌝ }
+    requires { ⌜ (count ≤ length (now text)) × (count ≤ longestCells) × (longestLine ≤ length (now line)) ⌝ }
+    ensures { λ r. ⌜ (Put (now (line .entry)) 0 (decimal tick ++ take count (now (text .entry))) (now (line .exit)) r) × (r ≤ longestLine) ⌝ }
 {
     let at = decimal::put(line, 0, tick);
     copy(text, 0, count, line, at)

@@ -1,44 +1,69 @@
 // Reads a table from standard input, one decimal number a line, and prints the verdict line alone.
-ghost use Prim.Native.Nat.{_≤_};
+ghost use mathlib.Core.Path.{_≡_};
+ghost use Rattle.text.specs.Format.{wordsOf, numbersIn};
+ghost use Rattle.text.specs.Said.{firstFor};
+ghost use Rattle.judge.specs.Judged.{verdictOf};
+ghost use Rattle.stream.specs.Sent.{SentOf};
+ghost use Rattle.stream.specs.Answered.{Answered};
 use judge::Verdict;
-use libc::STDIN_FILENO;
-use libc::STDOUT_FILENO;
+use stream::Reading;
+use stream::Sent;
+use text::ENOUGH;
+use text::row::LINE;
 
-// A verdict's word and its two numbers.
-fn line(word: &[u8], first: u32, second: u32) {
-    io::write_all(STDOUT_FILENO, word);
-    io::write_all(STDOUT_FILENO, b" ");
-    io::print_decimal(STDOUT_FILENO, first as u64);
-    io::write_all(STDOUT_FILENO, b" ");
-    io::print_decimal(STDOUT_FILENO, second as u64);
-    io::write_all(STDOUT_FILENO, b"\n");
+// What came of it: the buffer and what was read into it, and what was printed.
+struct Outcome {
+    bytes: [u8; ENOUGH],
+    reading: Reading,
+    sent: Sent,
 }
 
-fn show(words: &[u32]) {
-    let verdict = judge::judge(words);
-    match verdict {
-        Verdict::Firm(s, p) => line(b"firm", s, p),
-        Verdict::Full(s, p) => line(b"full", s, p),
-        Verdict::Miss(tick, position) => line(b"miss", tick, position),
-        Verdict::Refused(number, position) => line(b"refused", number, position),
-    }
-}
-
-// The words of a table's text.
-fn show_first(words: [u32; 195], count: usize)
-    requires { ⌜ count ≤ 195 ⌝ }
+// The verdict on a table's text; what is none has no numbers, and those are refused as it is: 1 0.
+fn verdict_on(bytes: &[u8]) -> Verdict
+    ensures { λ r. ⌜ r ≡ verdictOf (numbersIn (wordsOf (now (bytes .entry)))) ⌝ }
 {
-    show(&words[..count]);
+    let input = text::read(bytes);
+    let words = input.words;
+    let count = input.count;
+    judge::judge(&words[..count])
+}
+
+// Writes the verdict's line.
+fn print(bytes: &[u8]) -> Sent
+    ensures { λ r. ⌜ SentOf 0 (firstFor (now (bytes .entry))) r ⌝ }
+{
+    let mut line = [0u8; LINE];
+    let length = text::first::put_first(&mut line, verdict_on(bytes));
+    stream::send(0, &line[..length])
+}
+
+// Reads standard input until its end, or until it is longer than any table can be, and prints the verdict on it; a read that fails is said, and nothing is printed.
+fn answer() -> Outcome
+    ensures { λ r. ⌜ Answered firstFor (r .bytes) (r .reading) (r .sent) ⌝ }
+{
+    let mut bytes = [0u8; ENOUGH];
+    let reading = stream::fill(&mut bytes, 0);
+    if reading.failed {
+        stream::say_unread(b"verdict");
+        let sent = Sent {
+            count: 0,
+            whole: true,
+        };
+        return Outcome {
+            bytes: bytes,
+            reading: reading,
+            sent: sent,
+        };
+    }
+    let held = reading.held;
+    let sent = print(&bytes[..held]);
+    Outcome {
+        bytes: bytes,
+        reading: reading,
+        sent: sent,
+    }
 }
 
 fn main() {
-    let mut bytes = [0u8; 2146];
-    let count = io::read_full(STDIN_FILENO, &mut bytes);
-    let input = text::read(&bytes[..count]);
-    if input.accepted {
-        let words = input.words;
-        show_first(words, input.count);
-    } else {
-        line(b"refused", 1, 0);
-    }
+    answer();
 }

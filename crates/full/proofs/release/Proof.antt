@@ -1,39 +1,72 @@
 -- `full::release` meets its contract: each store is the definition's, and the set with one digit more is the set with the place in it.
 -- Assumes nothing.
 use borrow.Author.Needs.{needs}
-use mathlib.Core.Path.{ap, _∙_}
+use native.Mathlib.Omega.{arith}
+use mathlib.Core.Path.{_≡_, sym, ap, _∙_}
 use Prim.Native.Nat.{ℕ, _+_}
 use lib.Bits.{bitOr}
-use lib.ListN.{set}
+use lib.ListN.{getD, set}
 use Rattle.model.proofs.Digits.{shifted-one}
+use Rattle.full.specs.Places.{part}
 use Rattle.full.specs.Machine.{machine, released}
 use Rattle.full.proofs.Sets.{set-with}
+use Rattle.full.proofs.Parts.{front-at, part-at, stored-all}
 use Rattle.full.proofs.release.Statement.{statement}
 use Rattle.full.proofs.release.Tie as tie
 
-mul-left : tie.Need-mul-left
-mul-left c = search needs
+add-deadline : tie.Need-add-deadline
+add-deadline c = search needs
 
-element-write-left : tie.Need-element-write-left
-element-write-left c = search needs
+mul-deadline : tie.Need-mul-deadline
+mul-deadline c = search needs
 
-add-moment : tie.Need-add-moment
-add-moment c = search needs
+element-copy-out-deadline : tie.Need-element-copy-out-deadline
+element-copy-out-deadline c = omega arith
 
-mul-moment : tie.Need-mul-moment
-mul-moment c = search needs
+add-period : tie.Need-add-period
+add-period c = search needs
 
-element-write-moment : tie.Need-element-write-moment
-element-write-moment c = search needs
+mul-period : tie.Need-mul-period
+mul-period c = search needs
 
-add-next : tie.Need-add-next
-add-next c = search needs
+element-copy-out-period : tie.Need-element-copy-out-period
+element-copy-out-period c = omega arith
 
-mul-next : tie.Need-mul-next
-mul-next c = search needs
+mul-places : tie.Need-mul-places
+mul-places c = search needs
 
-element-write-next : tie.Need-element-write-next
-element-write-next c = search needs
+element-copy-out-places : tie.Need-element-copy-out-places
+element-copy-out-places c = omega arith
+
+mul-places-2 : tie.Need-mul-places-2
+mul-places-2 c = search needs
+
+element-write-places : tie.Need-element-write-places
+element-write-places c = omega arith
+
+add-places : tie.Need-add-places
+add-places c = let s = c .before .before .before in omega (arith, s .pre .1, part-at 32 (s .args .times .now) (s .args .place) (s .pre .0))
+
+add-places-2 : tie.Need-add-places-2
+add-places-2 c = search needs
+
+mul-places-3 : tie.Need-mul-places-3
+mul-places-3 c = search needs
+
+element-write-places-2 : tie.Need-element-write-places-2
+element-write-places-2 c = omega arith
+
+add-places-3 : tie.Need-add-places-3
+add-places-3 c = let s = c .before .before .before in omega (arith, s .pre .2, part-at 64 (s .args .times .now) (s .args .place) (s .pre .0))
+
+add-places-4 : tie.Need-add-places-4
+add-places-4 c = search needs
+
+mul-places-4 : tie.Need-mul-places-4
+mul-places-4 c = search needs
+
+element-write-places-3 : tie.Need-element-write-places-3
+element-write-places-3 c = omega arith
 
 cast-result : tie.Need-cast-result
 cast-result c = search needs
@@ -44,22 +77,41 @@ shl-result c = search needs
 returns : tie.Need-returns
 unfolding released
 returns c =
-    let a = c .args in
-    ap (λ (x : ℕ). machine (set (a .left .now) (a .place) (a .length)) (set (a .moment .now) (a .place) (a .tick + a .deadline)) (set (a .next .now) (a .place) (a .tick + a .period)) x)
-    (ap (bitOr (a .claiming)) (shifted-one 32 (a .place) (c .pre .0)) ∙ set-with (a .claiming) (a .place) (c .fits .claiming .fits) (c .pre .0))
+    let s = c .before .before .before in
+    let a = s .args in
+    let inside = s .pre .0 in
+    let length = sym (front-at (a .times .now) (a .place) inside) in
+    let deadline = sym (part-at 32 (a .times .now) (a .place) inside) in
+    let period = sym (part-at 64 (a .times .now) (a .place) inside) in
+    let claims =
+    ap (bitOr (a .claiming)) (shifted-one 32 (a .place) inside) ∙ set-with (a .claiming) (a .place) (s .fits .claiming .fits) inside in
+    stored-all (a .places .now) _ (a .place) _ _ _ inside
+    ∙ λ i.
+    machine (set (part 0 (a .places .now)) (a .place) (length i)) (set (part 32 (a .places .now)) (a .place) (a .tick + deadline i))
+    (set (part 64 (a .places .now)) (a .place) (a .tick + period i)) (claims i)
 
 pub release-spec : {M : Type 1} → statement M
 release-spec =
     tie.close
     (tie.spec
-    mul-left
-    element-write-left
-    add-moment
-    mul-moment
-    element-write-moment
-    add-next
-    mul-next
-    element-write-next
+    add-deadline
+    mul-deadline
+    element-copy-out-deadline
+    add-period
+    mul-period
+    element-copy-out-period
+    mul-places
+    element-copy-out-places
+    mul-places-2
+    element-write-places
+    add-places
+    add-places-2
+    mul-places-3
+    element-write-places-2
+    add-places-3
+    add-places-4
+    mul-places-4
+    element-write-places-3
     cast-result
     shl-result
     returns)

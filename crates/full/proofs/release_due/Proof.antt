@@ -1,64 +1,58 @@
 -- `full::release_due` meets its contract: after each turn the machine is the one in which the places so far have been looked at, and the bell
 -- is the earliest of their moments. Assumes nothing.
 use borrow.Author.Needs.{needs}
-use mathlib.Core.Path.{_≡_, refl, sym, ap, _∙_}
+use mathlib.Core.Path.{_≡_, refl, sym, ap, ap₂, _∙_}
 use mathlib.Core.Logic.{⊎-elim}
-use Prim.Native.Nat.{ℕ, _-_, _≤_}
+use mathlib.Core.List.{List}
+use Prim.Native.Nat.{ℕ, _-_, _≤_, _<_, min}
 use native.Mathlib.Numerals.{add-one}
 use native.Mathlib.Omega.{arith}
-use Rattle.full.specs.Machine.{machine, releasedDue, earliest}
-use Rattle.full.proofs.Moves.{same-machine}
+use Rattle.full.specs.Places.{part}
+use Rattle.full.specs.Machine.{Machine, machineOf, releasedDue, earliest}
+use Rattle.full.proofs.Parts.{part-at}
 use Rattle.full.proofs.Walk.{Looked, due-release, due-pass, earliest-more}
 use Rattle.full.proofs.release_due.Statement.{statement}
 use Rattle.full.proofs.release_due.Tie as tie
 
 abbrev Inv-loop : tie.InvT-loop
-Inv-loop tick count length deadline period claiming left₀ moment₀ next₀ set₀ bell₀ i₀ left moment next set bell i =
-    (i ≤ count) × (machine left moment next set ≡ releasedDue tick length deadline period i (machine left₀ moment₀ next₀ claiming))
-    × (bell ≡ earliest i moment)
+Inv-loop tick count claiming times places₀ set₀ bell₀ i₀ places set bell i =
+    (i ≤ count) × (machineOf places set ≡ releasedDue tick (part 0 times) (part 32 times) (part 64 times) i (machineOf places₀ claiming))
+    × (bell ≡ earliest i (part 32 places))
 
 abbrev μ-loop : tie.MeasureT-loop
-μ-loop tick count length deadline period claiming left₀ moment₀ next₀ set₀ bell₀ i₀ left moment next set bell i = count - i
+μ-loop tick count claiming times places₀ set₀ bell₀ i₀ places set bell i = count - i
 
 loop-holds : tie.Need-loop-holds Inv-loop μ-loop
 unfolding releasedDue earliest
 loop-holds c = (omega arith, refl, refl)
 
+-- in the loop the place is one of 32
+inside : (c : tie.In-loop Inv-loop μ-loop) → c .before .loop .i < 32
+inside c = omega (arith, c .loop-test .taken, c .before .before .pre .0)
+
+add-if1 : tie.Need-add-if1 Inv-loop μ-loop
+add-if1 c = omega (arith, inside c)
+
 mul-if1 : tie.Need-mul-if1 Inv-loop μ-loop
-mul-if1 c = omega arith
+mul-if1 c = omega (arith, inside c)
 
 element-copy-out-if1 : tie.Need-element-copy-out-if1 Inv-loop μ-loop
-element-copy-out-if1 c = omega arith
-
-mul-release : tie.Need-mul-release Inv-loop μ-loop
-mul-release c = omega arith
-
-element-copy-out-release : tie.Need-element-copy-out-release Inv-loop μ-loop
-element-copy-out-release c = omega arith
-
-mul-release-2 : tie.Need-mul-release-2 Inv-loop μ-loop
-mul-release-2 c = omega arith
-
-element-copy-out-release-2 : tie.Need-element-copy-out-release-2 Inv-loop μ-loop
-element-copy-out-release-2 c = omega arith
-
-mul-release-3 : tie.Need-mul-release-3 Inv-loop μ-loop
-mul-release-3 c = omega arith
-
-element-copy-out-release-3 : tie.Need-element-copy-out-release-3 Inv-loop μ-loop
-element-copy-out-release-3 c = omega arith
+element-copy-out-if1 c = omega (arith, inside c)
 
 release-requires : tie.Need-release-requires Inv-loop μ-loop
 release-requires c κs =
-    let l = c .before .before .before .before .before .before .before .before .before in
-    let fits = l .before .pre .1 (l .loop .i) (omega arith) in
-    (omega arith, fits .0, fits .1)
+    let l = c .before .before .before .before in
+    let fits = l .before .pre .1 (l .loop .i) (c .before .before .before .loop-test .taken) in
+    (inside (c .before .before .before), fits .0, fits .1)
+
+add-sooner : tie.Need-add-sooner Inv-loop μ-loop
+add-sooner c = omega (arith, inside (c .before .before))
 
 mul-sooner : tie.Need-mul-sooner Inv-loop μ-loop
-mul-sooner c = omega arith
+mul-sooner c = omega (arith, inside (c .before .before))
 
 element-copy-out-sooner : tie.Need-element-copy-out-sooner Inv-loop μ-loop
-element-copy-out-sooner c = omega arith
+element-copy-out-sooner c = omega (arith, inside (c .before .before))
 
 sooner-requires : tie.Need-sooner-requires Inv-loop μ-loop
 sooner-requires c κs = search needs
@@ -73,34 +67,38 @@ loop-less c = omega arith
 at-join :
     (c : tie.Joined1 Inv-loop μ-loop)
     → Looked (c .before .before .before .before .args .tick)
-    (c .before .before .before .before .args .length .now) (c .before .before .before .before .args .deadline .now) (c .before .before .before .before .args .period .now)
+    (part 0 (c .before .before .before .before .args .times .now)) (part 32 (c .before .before .before .before .args .times .now)) (part 64 (c .before .before .before .before .args .times .now))
     (c .before .before .before .loop .i)
-    (machine (c .before .before .before .before .args .left .now) (c .before .before .before .before .args .moment .now) (c .before .before .before .before .args .next .now) (c .before .before .before .before .args .claiming))
-    (machine (c .before .before .before .loop .left) (c .before .before .before .loop .moment) (c .before .before .before .loop .next) (c .before .before .before .loop .set))
-    (machine (c .if1 .left) (c .if1 .moment) (c .if1 .next) (c .if1 .set))
+    (machineOf (c .before .before .before .before .args .places .now) (c .before .before .before .before .args .claiming))
+    (machineOf (c .before .before .before .loop .places) (c .before .before .before .loop .set))
+    (machineOf (c .if1 .places) (c .if1 .set))
 at-join c =
     let a = c .before .before .before .before .args in
     let l = c .before .before .before .loop in
-    let start = machine (a .left .now) (a .moment .now) (a .next .now) (a .claiming) in
-    let before = machine (l .left) (l .moment) (l .next) (l .set) in
-    let after = machine (c .if1 .left) (c .if1 .moment) (c .if1 .next) (c .if1 .set) in
+    let start = machineOf (a .places .now) (a .claiming) in
+    let before = machineOf (l .places) (l .set) in
+    let after = machineOf (c .if1 .places) (c .if1 .set) in
+    let moment = part-at 32 (l .places) (l .i) (inside (c .before .before)) in
     ⊎-elim
     (λ w.
-    due-release (a .tick) (a .length .now) (a .deadline .now) (a .period .now) (l .i) start before (l .inv .1) after (w .0 .taken)
-    (same-machine (w .8) (w .9) (w .10) (w .11) ∙ w .7 .ensures))
+    due-release (a .tick) (part 0 (a .times .now)) (part 32 (a .times .now)) (part 64 (a .times .now)) (l .i) start before (l .inv .1) after
+    (moment ∙ w .0 .taken) (ap₂ machineOf (w .3) (w .4) ∙ w .2 .ensures))
     (λ w.
-    due-pass (a .tick) (a .length .now) (a .deadline .now) (a .period .now) (l .i) start before (l .inv .1) after (w .0 .left)
-    (same-machine (w .1) (w .2) (w .3) (w .4)))
+    due-pass (a .tick) (part 0 (a .times .now)) (part 32 (a .times .now)) (part 64 (a .times .now)) (l .i) start before (l .inv .1) after
+    (λ e. w .0 .left (sym moment ∙ e)) (ap₂ machineOf (w .1) (w .2)))
     (c .if1 .came)
 
 loop-again : tie.Need-loop-again Inv-loop μ-loop
 loop-again c =
     let j = at-join (c .before .before) in
     let l = c .before .before .before .before .before .loop in
-    let a = c .before .before .before .before .before .before .args in (
+    let moments = part 32 (c .before .before .if1 .places) in
+    let moment = part-at 32 (c .before .before .if1 .places) (l .i) (inside (c .before .before .before .before)) in (
       omega arith,
       rw add-one (j .machines),
-      rw add-one (earliest-more (l .i) (c .before .before .if1 .moment) (l .bell) (c .sooner .result) (l .inv .2 ∙ sym (j .same)) (c .sooner .ensures)),
+      rw add-one
+          (earliest-more (l .i) moments (l .bell) (c .sooner .result) (l .inv .2 ∙ sym (j .same))
+          (c .sooner .ensures ∙ ap (min (l .bell)) (sym moment))),
     )
 
 returns : tie.Need-returns Inv-loop μ-loop
@@ -112,8 +110,8 @@ returns c =
       machines =
           l .inv .1
           ∙ ap
-          (λ (n : ℕ). releasedDue (a .tick) (a .length .now) (a .deadline .now) (a .period .now) n (machine (a .left .now) (a .moment .now) (a .next .now) (a .claiming))) e;
-      bell = l .inv .2 ∙ ap (λ (n : ℕ). earliest n (l .moment)) e;
+          (λ (n : ℕ). releasedDue (a .tick) (part 0 (a .times .now)) (part 32 (a .times .now)) (part 64 (a .times .now)) n (machineOf (a .places .now) (a .claiming))) e;
+      bell = l .inv .2 ∙ ap (λ (n : ℕ). earliest n (part 32 (l .places))) e;
     }
 
 pub release-due-spec : {M : Type 1} → statement M
@@ -123,15 +121,11 @@ release-due-spec =
     Inv-loop
     μ-loop
     loop-holds
+    add-if1
     mul-if1
     element-copy-out-if1
-    mul-release
-    element-copy-out-release
-    mul-release-2
-    element-copy-out-release-2
-    mul-release-3
-    element-copy-out-release-3
     release-requires
+    add-sooner
     mul-sooner
     element-copy-out-sooner
     sooner-requires

@@ -6,19 +6,19 @@ use Prim.Native.Nat.{ℕ, _≤_}
 use native.Mathlib.Omega.{arith}
 use Rattle.model.specs.Search.{bit}
 use Rattle.model.proofs.Digits.{bit-none}
-use Rattle.full.specs.Machine.{machine, worked}
+use Rattle.full.specs.Machine.{machineOf, worked}
 use Rattle.full.proofs.Served.{served-none, served-same}
-use Rattle.full.proofs.Turn.{taken, Turn, turn}
+use Rattle.full.proofs.Turn.{taken, Turn, turn, list-owed, list-member, list-on, list-out}
 use Rattle.full.proofs.work.Statement.{statement}
 use Rattle.full.proofs.work.Tie as tie
 
 abbrev Inv-loop : tie.InvT-loop
-Inv-loop granted claiming left₀ moment₀ next rest₀ set₀ left moment rest set =
+Inv-loop granted claiming places₀ rest₀ set₀ places rest set =
     (rest ≤ granted) × ((p : ℕ) → bit rest p ≡ true → bit granted p ≡ true)
-    × (machine left moment next set ≡ worked (taken granted rest) (machine left₀ moment₀ next claiming))
+    × (machineOf places set ≡ worked (taken granted rest) (machineOf places₀ claiming))
 
 abbrev μ-loop : tie.MeasureT-loop
-μ-loop granted claiming left₀ moment₀ next rest₀ set₀ left moment rest set = rest
+μ-loop granted claiming places₀ rest₀ set₀ places rest set = rest
 
 loop-holds : tie.Need-loop-holds Inv-loop μ-loop
 loop-holds c =
@@ -26,7 +26,7 @@ loop-holds c =
       omega arith,
       λ p e. e,
       sym
-          (served-none (taken (a .granted) (a .granted)) (machine (a .left .now) (a .moment .now) (a .next .now) (a .claiming)) (c .fits .claiming .fits)
+          (served-none (taken (a .granted) (a .granted)) (machineOf (a .places .now) (a .claiming)) (c .fits .claiming .fits)
           (λ p. none-taken (bit (a .granted) p))),
     )
   where
@@ -38,13 +38,13 @@ loop-holds c =
 at-turn :
     (c : tie.In-loop Inv-loop μ-loop)
     → Turn (c .before .before .args .granted) (c .before .loop .rest)
-    (machine (c .before .before .args .left .now) (c .before .before .args .moment .now) (c .before .before .args .next .now) (c .before .before .args .claiming))
-    (machine (c .before .loop .left) (c .before .loop .moment) (c .before .before .args .next .now) (c .before .loop .set))
+    (machineOf (c .before .before .args .places .now) (c .before .before .args .claiming))
+    (machineOf (c .before .loop .places) (c .before .loop .set))
 at-turn c =
     let a = c .before .before .args in
     let l = c .before .loop in
-    subst (Turn (a .granted) (l .rest) (machine (a .left .now) (a .moment .now) (a .next .now) (a .claiming))) (sym (l .inv .2))
-    (turn (a .granted) (l .rest) (machine (a .left .now) (a .moment .now) (a .next .now) (a .claiming))
+    subst (Turn (a .granted) (l .rest) (machineOf (a .places .now) (a .claiming))) (sym (l .inv .2))
+    (turn (a .granted) (l .rest) (machineOf (a .places .now) (a .claiming))
     (c .loop-test .taken) (omega (arith, l .inv .0, c .before .before .fits .granted)) (l .inv .1) (c .before .before .pre))
 
 shl-member : tie.Need-shl-member Inv-loop μ-loop
@@ -60,31 +60,37 @@ mul-ticks : tie.Need-mul-ticks Inv-loop μ-loop
 mul-ticks c = omega (arith, at-turn c .below)
 
 element-copy-out-ticks : tie.Need-element-copy-out-ticks Inv-loop μ-loop
-element-copy-out-ticks c = at-turn c .below
+element-copy-out-ticks c = omega (arith, at-turn c .below)
 
 sub-ticks : tie.Need-sub-ticks Inv-loop μ-loop
-sub-ticks c = at-turn (c .before) .owed
+sub-ticks c = list-owed _ _ _ _ _ (at-turn (c .before))
 
-mul-left : tie.Need-mul-left Inv-loop μ-loop
-mul-left c = omega (arith, at-turn (c .before) .below)
+mul-places : tie.Need-mul-places Inv-loop μ-loop
+mul-places c = omega (arith, at-turn (c .before) .below)
 
-element-write-left : tie.Need-element-write-left Inv-loop μ-loop
-element-write-left c = at-turn (c .before) .below
+element-write-places : tie.Need-element-write-places Inv-loop μ-loop
+element-write-places c = omega (arith, at-turn (c .before) .below)
 
 sub-set : tie.Need-sub-set Inv-loop μ-loop
-sub-set c = at-turn (c .before .before) .member (c .if1 .taken)
+sub-set c = list-member _ _ _ _ _ (at-turn (c .before .before)) (c .if1 .taken)
 
-mul-moment : tie.Need-mul-moment Inv-loop μ-loop
-mul-moment c = omega (arith, at-turn (c .before .before) .below)
+add-places : tie.Need-add-places Inv-loop μ-loop
+add-places c = omega (arith, at-turn (c .before .before) .below)
 
-element-copy-out-moment : tie.Need-element-copy-out-moment Inv-loop μ-loop
-element-copy-out-moment c = at-turn (c .before .before) .below
+mul-places-2 : tie.Need-mul-places-2 Inv-loop μ-loop
+mul-places-2 c = omega (arith, at-turn (c .before .before) .below)
 
-mul-moment-2 : tie.Need-mul-moment-2 Inv-loop μ-loop
-mul-moment-2 c = omega (arith, at-turn (c .before .before .before) .below)
+element-copy-out-places : tie.Need-element-copy-out-places Inv-loop μ-loop
+element-copy-out-places c = omega (arith, at-turn (c .before .before) .below)
 
-element-write-moment : tie.Need-element-write-moment Inv-loop μ-loop
-element-write-moment c = at-turn (c .before .before .before) .below
+add-places-2 : tie.Need-add-places-2 Inv-loop μ-loop
+add-places-2 c = omega (arith, at-turn (c .before .before .before) .below)
+
+mul-places-3 : tie.Need-mul-places-3 Inv-loop μ-loop
+mul-places-3 c = omega (arith, at-turn (c .before .before .before) .below)
+
+element-write-places-2 : tie.Need-element-write-places-2 Inv-loop μ-loop
+element-write-places-2 c = omega (arith, at-turn (c .before .before .before) .below)
 
 loop-less : tie.Need-loop-less Inv-loop μ-loop
 loop-less c = omega (arith, at-turn (c .before .before .before) .some, at-turn (c .before .before .before) .within)
@@ -92,7 +98,7 @@ loop-less c = omega (arith, at-turn (c .before .before .before) .some, at-turn (
 loop-again : tie.Need-loop-again Inv-loop μ-loop
 loop-again c =
     let w = at-turn (c .before .before .before) in
-    (omega (arith, c .before .before .before .before .loop .inv .0), w .subset, w .out (c .before .if1 .taken))
+    (omega (arith, c .before .before .before .before .loop .inv .0), w .subset, list-out _ _ _ _ _ w (c .before .if1 .taken))
 
 loop-less-2 : tie.Need-loop-less-2 Inv-loop μ-loop
 loop-less-2 c = omega (arith, at-turn (c .before .before) .some, at-turn (c .before .before) .within)
@@ -100,7 +106,7 @@ loop-less-2 c = omega (arith, at-turn (c .before .before) .some, at-turn (c .bef
 loop-again-2 : tie.Need-loop-again-2 Inv-loop μ-loop
 loop-again-2 c =
     let w = at-turn (c .before .before) in
-    (omega (arith, c .before .before .before .loop .inv .0), w .subset, w .on (c .if1 .left))
+    (omega (arith, c .before .before .before .loop .inv .0), w .subset, list-on _ _ _ _ _ w (c .if1 .left))
 
 -- nothing is left of the set, so all of it is taken
 returns : tie.Need-returns Inv-loop μ-loop
@@ -109,7 +115,7 @@ returns c =
     let l = c .before .loop in
     let z : l .rest ≡ 0 = omega (arith, c .loop-test .left) in
     l .inv .2
-    ∙ served-same (taken (a .granted) (l .rest)) (bit (a .granted)) (machine (a .left .now) (a .moment .now) (a .next .now) (a .claiming))
+    ∙ served-same (taken (a .granted) (l .rest)) (bit (a .granted)) (machineOf (a .places .now) (a .claiming))
     (λ p. ap (λ (b : Bool). bit (a .granted) p && not b) (ap (λ (x : ℕ). bit x p) z ∙ bit-none p) ∙ and-true (bit (a .granted) p))
 
 pub work-spec : {M : Type 1} → statement M
@@ -125,13 +131,15 @@ work-spec =
     mul-ticks
     element-copy-out-ticks
     sub-ticks
-    mul-left
-    element-write-left
+    mul-places
+    element-write-places
     sub-set
-    mul-moment
-    element-copy-out-moment
-    mul-moment-2
-    element-write-moment
+    add-places
+    mul-places-2
+    element-copy-out-places
+    add-places-2
+    mul-places-3
+    element-write-places-2
     loop-less
     loop-again
     loop-less-2

@@ -55,7 +55,7 @@ write-requires c κs =
       p .0,
       p .1,
       c .before .before .before .before .before .before .if2 .left,
-      never-found (tableIn (x .table)) (x .b) (sym (c .before .before .before .first-miss .ensures) ∙ c .before .enum-told .given .1),
+      never-found (tableIn (x .table)) (x .b) (sym (c .before .before .before .first-miss .ensures .value) ∙ c .before .enum-told .given .1),
       c .before .before .before .before .if3 .left,
     )
 
@@ -70,7 +70,7 @@ returns-4 c =
     let f = c .before .before .before .before .before .before in
     let x = f .before .before .before .before .before .before .before .args in
     let p = f .before .before .before .before .before .before .before .pre in
-    let none = never-found (tableIn (x .table)) (x .b) (sym (f .first-miss .ensures) ∙ c .before .before .before .before .enum-told .given .1) in (
+    let none = never-found (tableIn (x .table)) (x .b) (sym (f .first-miss .ensures .value) ∙ c .before .before .before .before .enum-told .given .1) in (
       long-enough (tableIn (x .table)) (x .a) (x .b) (length (x .out .now)) (f .before .before .before .before .before .if1 .left) (omega (arith, f .before .before .before .if2 .left, p .0 .horizon)) (f .before .if3 .left) false none,
       c .before .before .write .ensures,
     )
@@ -80,7 +80,7 @@ returns-5 c =
     let f = c .before .before in
     let x = f .before .before .before .before .before .before .before .args in
     let p = f .before .before .before .before .before .before .before .pre in
-    let some = one-found (tableIn (x .table)) (x .b) _ _ (sym (f .first-miss .ensures) ∙ c .enum-told2 .given .1) in
+    let some = one-found (tableIn (x .table)) (x .b) _ _ (sym (f .first-miss .ensures .value) ∙ c .enum-told2 .given .1) in
     (long-enough (tableIn (x .table)) (x .a) (x .b) (length (x .out .now)) (f .before .before .before .before .before .if1 .left) (omega (arith, f .before .before .before .if2 .left, p .0 .horizon)) (f .before .if3 .left) true some, refl)
 
 pub by-table-spec : {M : Type 1} → statement M

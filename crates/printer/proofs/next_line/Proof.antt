@@ -1,104 +1,75 @@
--- `printer::next_line` meets its contract: it steps as the definitions do, whether the due moments were looked at or the bell had not rung, and whether
--- choice and text are kept or made anew; and who is granted cores is owed ticks. Assumes nothing.
+-- `printer::next_line` meets its contract: the run is stepped, its text is kept or made anew with the choice, and the line of the tick is written.
+-- Assumes nothing.
 use borrow.Author.Needs.{needs}
 use native.Mathlib.Omega.{arith}
 use mathlib.Core.List.{List}
 use mathlib.Core.Logic.{⊎-elim}
-use mathlib.Core.Path.{_≡_, sym, ap, _∙_, subst₂}
+use mathlib.Core.Path.{_≡_, sym, _∙_, subst₂}
 use Prim.Native.Nat.{ℕ}
-use Rattle.model.specs.Search.{bit}
-use Rattle.full.specs.Machine.{Machine, machine, Owed}
-use Rattle.printer.specs.Rows.{Numbers, numbers, Stand, after, bellAfter, grantedIn}
-use Rattle.printer.specs.Printer.{standAt}
-use Rattle.printer.proofs.Safe.{granted-owed}
-use Rattle.full.proofs.Moves.{same-machine}
-use Rattle.printer.proofs.Step.{due-looked, due-skipped, kept, chosen-anew, Text, text-put, step-taken, in-range}
+use lib.ListN.{take}
+use Rattle.full.specs.Stand.{Numbers, numbersBy, Stand, standAt, after}
+use Rattle.full.proofs.Steps.{chosen-on}
+use Rattle.text.proofs.Writing.{put-length}
+use Rattle.printer.proofs.Safe.{safe-steppable}
+use Rattle.printer.proofs.Step.{Text, text-kept, text-put, line-put}
 use Rattle.printer.proofs.next_line.Statement.{statement}
 use Rattle.printer.proofs.next_line.Tie as tie
 
--- the table's numbers, and the run where the function begins
+-- the table's numbers, the run where the function begins, and the text that it keeps
 abbrev nums : tie.Start → Numbers
-nums s = numbers (s .args .rule) (s .args .cores) (s .args .count) (s .args .width .now) (s .args .length .now) (s .args .deadline .now) (s .args .period .now)
+nums s = numbersBy (s .args .setting) (s .args .width .now) (s .args .times .now)
 
 abbrev stand : tie.Start → Stand
-stand s = standAt (machine (s .args .left .now) (s .args .moment .now) (s .args .next .now) (s .args .pace .claiming)) (s .args .pace) (s .args .text .now)
+stand s = standAt (s .args .stage .pace) (s .args .places .now)
 
--- after the due moments
-abbrev ready : tie.Joined1 → Machine
-ready c = machine (c .if1 .left) (c .if1 .moment) (c .if1 .next) (c .if1 .claiming)
+abbrev kept : tie.Start → List ℕ
+kept s = take (s .args .stage .text) (s .args .text .now)
 
-after-of : (c : tie.Joined1) → (ready c ≡ after (nums (c .before)) (stand (c .before))) × (c .if1 .bell ≡ bellAfter (nums (c .before)) (stand (c .before)))
-after-of c =
+-- the choice of the step is for the claimants of the tick
+claims : (c : tie.After-step) → c .step .result .chosen ≡ after (nums (c .before .before .before)) (stand (c .before .before .before)) .claiming
+claims c = chosen-on _ _ _ (c .step .ensures)
+
+-- the text of the row: kept, or made anew
+text-of : (c : tie.Joined1) → Text (nums (c .before .before .before .before .before .before)) (stand (c .before .before .before .before .before .before)) (kept (c .before .before .before .before .before .before)) (c .if1 .size) (c .if1 .text)
+text-of c =
+    let s = c .before .before .before .before .before .before in
+    let g = c .before .before .before in
+    let goal : ℕ → List ℕ → Type 0 = Text (nums s) (stand s) (kept s) in
     ⊎-elim
     (λ w.
-    let d = due-looked (nums (c .before)) (stand (c .before)) _ _ (w .0 .taken) (w .4 .ensures) in
-    (same-machine (w .5) (w .6) (w .7) (w .8) ∙ d .0, w .9 ∙ d .1))
+    subst₂ goal (sym (w .4)) (sym (w .3))
+    (text-put (nums s) (stand s) (kept s) (g .step .result .chosen) _ _ _ (claims g) (w .0 .taken) (s .pre .wide) (w .2 .ensures)))
     (λ w.
-    let d = due-skipped (nums (c .before)) (stand (c .before)) (w .0 .left) in
-    (same-machine (w .1) (w .2) (w .3) (w .4) ∙ d .0, w .5 ∙ d .1))
+    subst₂ goal (sym (w .2)) (sym (w .1))
+    (text-kept (nums s) (stand s) (kept s) (g .step .result .chosen) (claims g) (w .0 .left), s .pre .text, s .pre .wide))
     (c .if1 .came)
 
--- the claimants
-claims-of : (c : tie.Joined1) → c .if1 .claiming ≡ after (nums (c .before)) (stand (c .before)) .claiming
-claims-of c = ap (λ (m : Machine). m .claiming) (after-of c .0)
-
--- who is granted cores, and the text of the row: kept, or made anew
-granted-of : (c : tie.Joined2) → c .if2 .granted ≡ grantedIn (nums (c .before .before .before)) (stand (c .before .before .before))
-granted-of c =
-    let s = c .before .before .before in
-    let j = c .before .before in
-    ⊎-elim
-    (λ w. w .5 ∙ chosen-anew (nums s) (stand s) (j .if1 .claiming) _ (claims-of j) (w .0 .taken) (w .1 .ok) (w .1 .ensures))
-    (λ w. w .2 ∙ kept (nums s) (stand s) (j .if1 .claiming) (claims-of j) (w .0 .left) .0)
-    (c .if2 .came)
-
-text-of : (c : tie.Joined2) → Text (nums (c .before .before .before)) (stand (c .before .before .before)) (c .if2 .size) (c .if2 .text)
-text-of c =
-    let s = c .before .before .before in
-    let j = c .before .before in
-    let goal : ℕ → List ℕ → Type 0 = Text (nums s) (stand s) in
-    ⊎-elim
-    (λ w.
-    subst₂ goal (sym (w .6)) (sym (w .4))
-    (text-put (nums s) (stand s) (j .if1 .claiming) _ _ _ (claims-of j) (w .0 .taken) (s .pre .wide) (w .3 .ensures)))
-    (λ w.
-    subst₂ goal (sym (w .3)) (sym (w .1))
-    (kept (nums s) (stand s) (j .if1 .claiming) (claims-of j) (w .0 .left) .1, s .pre .text, s .pre .wide))
-    (c .if2 .came)
-
-release-due-requires : tie.Need-release-due-requires
-release-due-requires c κs = in-range _ _ _ _ _ (c .before .before .before .before .pre)
-
-choose-requires : tie.Need-choose-requires
-choose-requires c κs = search needs
+step-requires : tie.Need-step-requires
+step-requires c κs = let s = c .before .before in safe-steppable (nums s) (stand s) (s .pre .safe) (s .pre .tick)
 
 put-cells-requires : tie.Need-put-cells-requires
-put-cells-requires c κs =
-    let h = c .before .before .before .before .before .pre in
-    (h .safe .cores, h .safe .few, omega (arith, h .wide))
+put-cells-requires c κs = let s = c .before .before .before .before .before .before .before in (s .pre .safe .cores, s .pre .safe .few, omega (arith, s .pre .wide))
 
 put-row-requires : tie.Need-put-row-requires
 put-row-requires c κs =
     let x = text-of (c .before .before .before) in
-    (omega (arith, x .1, x .2), x .1, omega (arith, c .before .before .before .before .before .before .pre .long))
-
-work-requires : tie.Need-work-requires
-work-requires c κs =
-    let j = c .before .before .before .before .before .before .before .before .before in
-    let k = c .before .before .before .before .before .before .before in
-    let s = j .before in
-    subst₂ (λ (g : ℕ) (m : Machine). Owed (bit g) m) (sym (granted-of k)) (sym (after-of j .0)) (granted-owed (nums s) (stand s) (s .pre .safe))
-
-add-t35 : tie.Need-add-t35
-add-t35 c = omega (arith, c .before .before .before .before .before .before .before .before .before .before .before .pre .tick)
+    (omega (arith, x .1, x .2), x .1, omega (arith, c .before .before .before .before .before .before .before .before .before .pre .long))
 
 returns : tie.Need-returns
 returns c =
-    let j = c .before .before .before .before .before .before .before .before .before .before in
-    let k = c .before .before .before .before .before .before .before .before in
-    let s = j .before in
-    step-taken (nums s) (stand s) (s .args .line .now) (ready j) _ (j .if1 .bell) (k .if2 .granted) (k .if2 .size) _ (k .if2 .text) _ (s .pre .long)
-    (after-of j .0) (after-of j .1) (granted-of k) (text-of k) (c .work .ensures) (c .before .before .before .before .put-row .ensures)
+    let j = c .before .before .before .before in
+    let s = c .before .before .before .before .before .before .before .before .before .before in
+    let t = text-of j in
+    let l = c .put-row .ensures in
+    record {
+      stand = c .before .before .before .before .before .before .before .step .ensures;
+      keeps = t .0;
+      line = line-put (nums s) (stand s) (kept s) (j .if1 .size) (c .put-row .result) (j .if1 .text) (s .args .line .now) _ (t .0) (l .0);
+      ready = l .1;
+      text = t .1;
+      wide = t .2;
+      long = put-length (l .0) (omega (arith, s .pre .long, l .1)) ∙ s .pre .long;
+    }
 
 pub next-line-spec : {M : Type 1} → statement M
-next-line-spec = tie.close (tie.spec release-due-requires choose-requires put-cells-requires put-row-requires work-requires add-t35 returns)
+next-line-spec = tie.close (tie.spec step-requires put-cells-requires put-row-requires returns)

@@ -1,12 +1,17 @@
 -- `printer::start` meets its contract: the first line is written, and the run stands before tick 0 with the text of no claimants.
 -- Assumes nothing.
 use borrow.Author.Needs.{needs}
+use mathlib.Core.Path.{ap}
+use Rattle.full.specs.Stand.{Numbers}
 use Rattle.printer.proofs.Made.{start-of}
 use Rattle.printer.proofs.start.Statement.{statement}
 use Rattle.printer.proofs.start.Tie as tie
 
 columns-of-requires : tie.Need-columns-of-requires
 columns-of-requires c κs = search needs
+
+start-requires : tie.Need-start-requires
+start-requires c κs = search needs
 
 slice-aggregate-put-cells : tie.Need-slice-aggregate-put-cells
 slice-aggregate-put-cells c = search needs
@@ -22,16 +27,21 @@ put-first-requires c κs = search needs
 
 returns : tie.Need-returns
 returns c =
-    let s = c .before .before .before .before .before .before .before .before .before .before .before in
-    start-of (s .args .table) (s .args .end) (s .args .verdict) (c .before .before .before .before .before .before .before .before .before .columns-of .result) (c .before .before .before .before .before .before .before .before .before .columns-of .ensures)
-    (c .before .before .before .before .put-cells .last .1 .1 .1 .1 .1 .0) (c .before .put-first .last .0) (c .before .before .before .before .put-cells .result) (c .before .put-first .result)
-    (c .before .before .before .before .put-cells .ensures) (c .before .put-first .ensures)
+    let s = c .before .before .before .before .before .before .before .before .before .before .before .before in
+    let machine = c .before .before .before .before .before .before .before .before .before .start in
+    let columns = c .before .before .before .before .before .before .before .before .before .before .before .columns-of in
+    let text = c .before .before .before .before .before .put-cells in
+    let line = c .before .before .put-first in
+    start-of (s .args .table) (s .args .end) (s .args .verdict) (machine .result .pace) (machine .result .places) (machine .ensures .0)
+    (columns .result .width) (ap (λ (n : Numbers). n .widths) (columns .ensures)) (text .last .1 .1 .1 .1 .1 .0) (line .last .0) (text .result)
+    (line .result) (text .ensures) (line .ensures)
 
 pub start-spec : {M : Type 1} → statement M
 start-spec =
     tie.close
     (tie.spec
     columns-of-requires
+    start-requires
     slice-aggregate-put-cells
     put-cells-requires
     slice-aggregate-put-first

@@ -1,31 +1,30 @@
--- `replay::finish` is safe: no more is written than was said. Assumes nothing.
-use borrow.Author.Needs.{needs}
+-- `replay::finish` meets its contract: what is sent is what was said at the front of the buffer. Assumes nothing.
 use native.Mathlib.Omega.{arith}
-use mathlib.Core.Path.{sym}
-use lib.ListN.{length}
+use mathlib.Core.List.{List}
+use mathlib.Core.Path.{sym, subst}
+use Prim.Native.Nat.{ℕ}
 use lib.Seq.{length-take-le}
+use Rattle.stream.specs.Sent.{SentOf}
+use borrow.Author.Needs.{needs}
 use Rattle.replay.proofs.finish.Statement.{statement}
 use Rattle.replay.proofs.finish.Tie as tie
-use Prim.Native.Nat.{_≤_}
-
-within : (c : tie.After-end) → c .end .result ≤ length (c .end .last .1 .0)
-within c = omega (arith, c .end .ensures .room, c .end .ensures .same)
 
 end-requires : tie.Need-end-requires
 end-requires c κs = search needs
 
 array-share-prefix-out : tie.Need-array-share-prefix-out
-array-share-prefix-out c = within c
+array-share-prefix-out c = search needs
 
-slice-aggregate-write-all : tie.Need-slice-aggregate-write-all
-slice-aggregate-write-all c = sym (length-take-le (c .before .end .result) (c .before .end .last .1 .0) (within (c .before)))
+slice-aggregate-send : tie.Need-slice-aggregate-send
+slice-aggregate-send c = sym (length-take-le (c .before .end .result) (c .before .end .last .1 .0) (omega (arith, c .before .end .ensures .room, c .before .end .ensures .same)))
 
-write-all-requires : tie.Need-write-all-requires
-write-all-requires c κs = search needs
+send-requires : tie.Need-send-requires
+send-requires c κs = search needs
 
 returns : tie.Need-returns
-returns c = search needs
+returns c = subst (λ (l : List ℕ). SentOf 0 l (c .send .result)) (c .before .before .end .ensures .front) (c .send .ensures)
 
 pub finish-spec : {M : Type 1} → statement M
 finish-spec =
-    tie.close (tie.spec end-requires array-share-prefix-out slice-aggregate-write-all write-all-requires returns)
+    tie.close
+    (tie.spec end-requires array-share-prefix-out slice-aggregate-send send-requires returns)

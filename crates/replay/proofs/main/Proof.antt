@@ -1,20 +1,28 @@
 -- `replay::main` is safe and ends: the measure is the number of turns that are left. Assumes nothing.
 use borrow.Author.Needs.{needs}
 use native.Mathlib.Omega.{arith}
+use mathlib.Core.Path.{_≡_, sym}
+use lib.ListN.{length}
 use Rattle.replay.proofs.main.Statement.{statement}
 use Rattle.replay.proofs.main.Tie as tie
 
 abbrev Inv-loop : tie.InvT-loop
-Inv-loop session₀ turns₀ session turns = Unit {0}
+Inv-loop session₀ chunk₀ turns₀ session chunk turns = length chunk ≡ 4096
 
 abbrev μ-loop : tie.MeasureT-loop
-μ-loop session₀ turns₀ session turns = turns
+μ-loop session₀ chunk₀ turns₀ session chunk turns = turns
 
 new-requires : tie.Need-new-requires Inv-loop μ-loop
 new-requires c κs = search needs
 
+buffer-requires : tie.Need-buffer-requires Inv-loop μ-loop
+buffer-requires c κs = search needs
+
 loop-holds : tie.Need-loop-holds Inv-loop μ-loop
-loop-holds c = tt
+loop-holds c = search needs
+
+slice-aggregate-listen : tie.Need-slice-aggregate-listen Inv-loop μ-loop
+slice-aggregate-listen c = search needs
 
 listen-requires : tie.Need-listen-requires Inv-loop μ-loop
 listen-requires c κs = search needs
@@ -23,13 +31,13 @@ returns : tie.Need-returns Inv-loop μ-loop
 returns c = search needs
 
 sub-turns : tie.Need-sub-turns Inv-loop μ-loop
-sub-turns c = omega arith
+sub-turns c = search needs
 
 loop-less : tie.Need-loop-less Inv-loop μ-loop
-loop-less c = omega arith
+loop-less c = search needs
 
 loop-again : tie.Need-loop-again Inv-loop μ-loop
-loop-again c = tt
+loop-again c = search needs
 
 returns-2 : tie.Need-returns-2 Inv-loop μ-loop
 returns-2 c = search needs
@@ -41,7 +49,9 @@ main-spec =
     Inv-loop
     μ-loop
     new-requires
+    buffer-requires
     loop-holds
+    slice-aggregate-listen
     listen-requires
     returns
     sub-turns

@@ -1,32 +1,30 @@
--- `replay::talk` is safe and ends: each part that is fed takes at least a byte of the chunk. Assumes nothing.
+-- `replay::talk` meets its contract and ends: each part that is fed takes at least a byte of the chunk, and what is said to it is sent. Assumes nothing.
 use borrow.Author.Needs.{needs}
 use native.Mathlib.Omega.{arith}
-use mathlib.Core.Path.{_≡_, sym}
+use mathlib.Core.Bool.{not}
+use mathlib.Core.Path.{_≡_, refl, sym, ap}
 use Prim.Native.Nat.{_+_, _-_, _≤_, _<_}
-use lib.ListN.{length, drop, length-drop, length-take}
+use lib.ListN.{length, take, drop, length-drop, length-take}
 use lib.Seq.{length-take-le}
+use Rattle.text.specs.Output.{longestLine}
+use Rattle.replay.proofs.Turning.{SoFar, so-far-none, talk-on, talk-stopped, talk-moves, turn-whole}
 use Rattle.replay.proofs.talk.Statement.{statement}
 use Rattle.replay.proofs.talk.Tie as tie
 
 abbrev Inv-loop : tie.InvT-loop
-Inv-loop count chunk session₀ out₀ at₀ session out at = (at ≤ count) × (length out ≡ 267)
+Inv-loop chunk session₀ sent₀ out₀ at₀ session sent out at = SoFar session₀ chunk (drop at chunk) session sent × (at ≤ length chunk) × (length out ≡ longestLine)
 
 abbrev μ-loop : tie.MeasureT-loop
-μ-loop count chunk session₀ out₀ at₀ session out at = count - at
+μ-loop chunk session₀ sent₀ out₀ at₀ session sent out at = length chunk - at
 
 -- at least a byte is taken, and no more than there are
-part : (c : tie.After-feed Inv-loop μ-loop) → (c .before .before .before .before .before .loop .at + c .feed .result .taken ≤ 4096) × (0 < c .feed .result .taken)
-part c =
-    let l = c .before .before .before .before .before .loop in
-    let a = c .before .before .before .before .before .before .args in
-    let w : length (a .t2) ≡ 4096 = search needs in
-    let n = length-take (a .count - l .at) (drop (l .at) (a .t2)) in
-    let d = length-drop (l .at) (a .t2) in
-    let h = c .before .before .before .before .before .before .pre in
-    (omega (arith, c .feed .ensures .taken, n, d, w, h), c .feed .ensures .moves (omega (arith, n, d, w, h)))
+moves : (c : tie.After-feed Inv-loop μ-loop) → (c .before .before .before .before .loop .at + c .feed .result .taken ≤ length (c .before .before .before .before .before .before .args .chunk .now)) × (0 < c .feed .result .taken)
+moves c =
+    let l = c .before .before .before .before .loop in
+    talk-moves (c .before .before .before .before .before .before .args .chunk .now) _ _ (l .at) (l .session) (c .feed .result) (c .feed .ensures) (omega arith)
 
 loop-holds : tie.Need-loop-holds Inv-loop μ-loop
-loop-holds c = search needs
+loop-holds c = (so-far-none _ _, omega arith, refl)
 
 sub-feed : tie.Need-sub-feed Inv-loop μ-loop
 sub-feed c = search needs
@@ -41,31 +39,43 @@ feed-requires : tie.Need-feed-requires Inv-loop μ-loop
 feed-requires c κs = search needs
 
 add-at : tie.Need-add-at Inv-loop μ-loop
-add-at c = omega (arith, part (c .before .before) .0)
+add-at c = omega (arith, moves (c .before .before) .0)
 
 array-share-prefix-out : tie.Need-array-share-prefix-out Inv-loop μ-loop
 array-share-prefix-out c = omega (arith, c .before .before .feed .ensures .room, c .before .before .feed .ensures .same)
 
-slice-aggregate-write-all : tie.Need-slice-aggregate-write-all Inv-loop μ-loop
-slice-aggregate-write-all c = sym (length-take-le _ _ (omega (arith, c .before .before .before .feed .ensures .room, c .before .before .before .feed .ensures .same)))
+slice-aggregate-send : tie.Need-slice-aggregate-send Inv-loop μ-loop
+slice-aggregate-send c = sym (length-take-le _ _ (omega (arith, c .before .before .before .feed .ensures .room, c .before .before .before .feed .ensures .same)))
 
-write-all-requires : tie.Need-write-all-requires Inv-loop μ-loop
-write-all-requires c κs = search needs
-
-returns : tie.Need-returns Inv-loop μ-loop
-returns c = search needs
+send-requires : tie.Need-send-requires Inv-loop μ-loop
+send-requires c κs = search needs
 
 loop-less : tie.Need-loop-less Inv-loop μ-loop
-loop-less c = let p = part (c .before .before .before .before .before) in omega (arith, p .0, p .1)
+loop-less c = let m = moves (c .before .before .before .before .before) in omega (arith, m .0, m .1)
 
 loop-again : tie.Need-loop-again Inv-loop μ-loop
-loop-again c = search needs
+loop-again c =
+    let f = c .before .before .before .before .before in
+    let l = f .before .before .before .before .loop in (
+      talk-on _ _ _ _ (l .at) (l .session) (l .sent) _ (f .feed .result) (l .inv .0) (f .feed .ensures) (c .before .send .ensures) (c .if1 .taken),
+      moves f .0,
+      omega (arith, f .feed .ensures .same, l .inv .2),
+    )
+
+returns : tie.Need-returns Inv-loop μ-loop
+returns c =
+    let f = c .before .before .before .before .before in
+    let l = f .before .before .before .before .loop in
+    talk-stopped _ _ _ _ (l .at) (l .session) (l .sent) _ (f .feed .result) (l .inv .0) (f .feed .ensures) (c .before .send .ensures) (c .if1 .left)
 
 is-over-requires : tie.Need-is-over-requires Inv-loop μ-loop
 is-over-requires c κs = search needs
 
 returns-2 : tie.Need-returns-2 Inv-loop μ-loop
-returns-2 c = search needs
+returns-2 c =
+    let l = c .before .before .loop in
+    let a = c .before .before .before .before .args .chunk .now in
+    turn-whole _ a (drop (l .at) a) (l .session) (l .sent) _ (l .inv .0) (omega (arith, length-drop (l .at) a)) (ap not (c .is-over .ensures))
 
 pub talk-spec : {M : Type 1} → statement M
 talk-spec =
@@ -80,10 +90,10 @@ talk-spec =
     feed-requires
     add-at
     array-share-prefix-out
-    slice-aggregate-write-all
-    write-all-requires
-    returns
+    slice-aggregate-send
+    send-requires
     loop-less
     loop-again
+    returns
     is-over-requires
     returns-2)

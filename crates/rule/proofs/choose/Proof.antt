@@ -10,27 +10,35 @@ use Prim.Native.Nat.{ℕ, _-_, _^_, _≤_, _<_}
 use lib.Bits.{bitOr}
 use lib.Count.{trailingZeros}
 use lib.Dec.{eqb, ltb}
-use lib.ListN.{getD}
+use lib.ListN.{length, getD}
 use Rattle.model.specs.Task.{Rule, ruleOf}
 use Rattle.model.specs.Search.{bit}
-use Rattle.model.specs.Grants.{endsChoosing}
+use Rattle.model.specs.Grants.{claimants, endsChoosing}
 use Rattle.model.proofs.Digits.{Lowest, Turn, turn, shifted-one, or-bit, bit-power, bit-none}
-use Rattle.rule.proofs.Choosing.{places, places-none, places-fits, places-passed, places-ended}
+use Rattle.rule.proofs.Choosing.{places, places-on, places-none, places-fits, places-passed, places-ended}
+use Rattle.rule.specs.Cores.{cores}
+use Rattle.rule.specs.Shares.{served, granted}
+use Rattle.rule.proofs.Cores.{cores-length}
+use Rattle.rule.proofs.Granting.{takes, passes, ends}
 use Rattle.rule.proofs.choose.Statement.{statement}
 use Rattle.rule.proofs.choose.Tie as tie
 
 abbrev Inv-loop : tie.InvT-loop
-Inv-loop rule free claims widths ends chosen₀ left₀ rest₀ chosen left rest =
-    (rest < 2 ^ 32) × ((p : ℕ) → bit chosen p || places (ruleOf rule) widths rest left p ≡ places (ruleOf rule) widths claims free p)
+Inv-loop rule free claims widths chosen₀ left₀ rest₀ chosen left rest =
+    (rest < 2 ^ 32) × ((p : ℕ) → bit chosen p || places (ruleOf rule) widths rest left p ≡ granted (ruleOf rule) (claimants widths (bit claims)) (cores free) p)
 
 abbrev μ-loop : tie.MeasureT-loop
-μ-loop rule free claims widths ends chosen₀ left₀ rest₀ chosen left rest = rest
+μ-loop rule free claims widths chosen₀ left₀ rest₀ chosen left rest = rest
 
-ends-choosing-requires : tie.Need-ends-choosing-requires Inv-loop μ-loop
-ends-choosing-requires c κs = search needs
-
+-- the free cores are counted
 loop-holds : tie.Need-loop-holds Inv-loop μ-loop
-loop-holds c = (c .before .fits .claims .fits, λ p. rw bit-none)
+loop-holds c =
+    let a = c .args in (
+      c .fits .claims .fits,
+      λ p. rw bit-none
+          (ap (λ (n : ℕ). places (ruleOf (a .rule)) (a .widths .now) (a .claims) n p) (sym (cores-length (a .free) (c .fits .free .fits)))
+          ∙ places-on (ruleOf (a .rule)) (a .widths .now) (a .claims) p (cores (a .free))),
+    )
 
 -- ---- one turn, at the lowest digit q of the rest x; y is the rest after it
 
@@ -63,10 +71,6 @@ module _ (r : Rule) (ws : List ℕ) (x y q n chosen : ℕ) (l : Lowest x q) (e :
 at-turn : (c : tie.In-loop Inv-loop μ-loop) → Turn 32 (c .before .loop .rest)
 at-turn c = turn 32 (c .before .loop .rest) (c .loop-test .taken) (c .before .loop .inv .0)
 
--- what the rule does with a misfit
-ends : (c : tie.In-loop Inv-loop μ-loop) → c .before .before .ends-choosing .result ≡ endsChoosing (ruleOf (c .before .before .before .args .rule))
-ends c = c .before .before .ends-choosing .ensures
-
 sub-rest : tie.Need-sub-rest Inv-loop μ-loop
 sub-rest c = omega arith
 
@@ -79,56 +83,83 @@ mul-width c = omega (arith, at-turn c .place)
 element-copy-out-width : tie.Need-element-copy-out-width Inv-loop μ-loop
 element-copy-out-width c = at-turn c .place
 
+serve-requires : tie.Need-serve-requires Inv-loop μ-loop
+serve-requires c κs = search needs
+
+enum-told : tie.Need-enum-told Inv-loop μ-loop
+enum-told c = search needs
+
+-- what the rule said to it
+said : (c : tie.After-serve Inv-loop μ-loop)
+    → c .serve .result ≡ served (ruleOf (c .before .before .before .before .args .rule)) (c .before .before .before .loop .left) (getD (c .before .before .before .before .args .widths .now) (trailingZeros 32 (c .before .before .before .loop .rest)) 0)
+said c = c .serve .ensures
+
+sub-left : tie.Need-sub-left Inv-loop μ-loop
+sub-left c =
+    let l = c .before .before .before .before .before .loop in
+    let a = c .before .before .before .before .before .before .args in
+    takes (ruleOf (a .rule)) (l .left) (getD (a .widths .now) (trailingZeros 32 (l .rest)) 0) (sym (said (c .before .before)) ∙ c .enum-told .given .1)
+
 shl-chosen : tie.Need-shl-chosen Inv-loop μ-loop
-shl-chosen c = at-turn (c .before .before .before) .place
+shl-chosen c = at-turn (c .before .before .before .before .before) .place
 
 loop-less : tie.Need-loop-less Inv-loop μ-loop
-loop-less c = at-turn (c .before .before .before) .falls
+loop-less c = at-turn (c .before .before .before .before .before) .falls
 
 loop-again : tie.Need-loop-again Inv-loop μ-loop
 loop-again c =
-    let t = c .before .before .before in
-    let a = t .before .before .before .args in
+    let t = c .before .before .before .before .before in
+    let a = t .before .before .args in
     let l = t .before .loop in (
       omega (arith, at-turn t .falls),
-      λ p. given-turn (ruleOf (a .rule)) (a .widths .now) (l .rest) _ (trailingZeros 32 (l .rest)) (l .left) (l .chosen) (at-turn t .lowest) (at-turn t .after) p _ (shifted-one 32 (trailingZeros 32 (l .rest)) (at-turn t .place)) (c .before .if1 .taken) (c .if2 .taken) ∙ l .inv .1 p,
+      λ p. given-turn (ruleOf (a .rule)) (a .widths .now) (l .rest) _ (trailingZeros 32 (l .rest)) (l .left) (l .chosen) (at-turn t .lowest) (at-turn t .after) p _ (shifted-one 32 (trailingZeros 32 (l .rest)) (at-turn t .place)) (sub-left (c .before)) (c .if1 .taken) ∙ l .inv .1 p,
     )
 
 loop-less-2 : tie.Need-loop-less-2 Inv-loop μ-loop
-loop-less-2 c = at-turn (c .before .before .before) .falls
+loop-less-2 c = at-turn (c .before .before .before .before .before) .falls
 
 loop-again-2 : tie.Need-loop-again-2 Inv-loop μ-loop
 loop-again-2 c =
-    let t = c .before .before .before in
-    let a = t .before .before .before .args in
+    let t = c .before .before .before .before .before in
+    let a = t .before .before .args in
     let l = t .before .loop in (
       omega (arith, at-turn t .falls),
-      λ p. empty-turn (ruleOf (a .rule)) (a .widths .now) (l .rest) _ (trailingZeros 32 (l .rest)) (l .left) (l .chosen) (at-turn t .lowest) (at-turn t .after) p (c .before .if1 .taken) (c .if2 .left) ∙ l .inv .1 p,
+      λ p. empty-turn (ruleOf (a .rule)) (a .widths .now) (l .rest) _ (trailingZeros 32 (l .rest)) (l .left) (l .chosen) (at-turn t .lowest) (at-turn t .after) p (sub-left (c .before)) (c .if1 .left) ∙ l .inv .1 p,
     )
 
-returns : tie.Need-returns Inv-loop μ-loop
-returns c p =
-    let t = c .before .before .before in
-    let a = t .before .before .before .args in
-    let l = t .before .loop in
-    ended-turn (ruleOf (a .rule)) (a .widths .now) (l .rest) _ (trailingZeros 32 (l .rest)) (l .left) (l .chosen) (at-turn t .lowest) (at-turn t .after) p (c .before .if1 .left) (sym (ends t) ∙ c .if3 .taken) ∙ l .inv .1 p
+enum-told-2 : tie.Need-enum-told-2 Inv-loop μ-loop
+enum-told-2 c = search needs
 
 loop-less-3 : tie.Need-loop-less-3 Inv-loop μ-loop
-loop-less-3 c = at-turn (c .before .before .before) .falls
+loop-less-3 c = at-turn (c .before .before .before .before) .falls
 
 loop-again-3 : tie.Need-loop-again-3 Inv-loop μ-loop
 loop-again-3 c =
-    let t = c .before .before .before in
-    let a = t .before .before .before .args in
-    let l = t .before .loop in (
+    let t = c .before .before .before .before in
+    let a = t .before .before .args in
+    let l = t .before .loop in
+    let q = trailingZeros 32 (l .rest) in
+    let w = passes (ruleOf (a .rule)) (l .left) (getD (a .widths .now) q 0) (sym (said (c .before .before)) ∙ c .enum-told2 .given .1) in (
       omega (arith, at-turn t .falls),
-      λ p. passed-turn (ruleOf (a .rule)) (a .widths .now) (l .rest) _ (trailingZeros 32 (l .rest)) (l .left) (l .chosen) (at-turn t .lowest) (at-turn t .after) p (c .before .if1 .left) (sym (ends t) ∙ c .if3 .left) ∙ l .inv .1 p,
+      λ p. passed-turn (ruleOf (a .rule)) (a .widths .now) (l .rest) _ q (l .left) (l .chosen) (at-turn t .lowest) (at-turn t .after) p (w .0) (w .1) ∙ l .inv .1 p,
     )
+
+enum-told-3 : tie.Need-enum-told-3 Inv-loop μ-loop
+enum-told-3 c = search needs
+
+returns : tie.Need-returns Inv-loop μ-loop
+returns c p =
+    let t = c .before .before .before .before in
+    let a = t .before .before .args in
+    let l = t .before .loop in
+    let q = trailingZeros 32 (l .rest) in
+    let w = ends (ruleOf (a .rule)) (l .left) (getD (a .widths .now) q 0) (sym (said (c .before .before)) ∙ c .enum-told3 .given .1) in
+    ended-turn (ruleOf (a .rule)) (a .widths .now) (l .rest) _ q (l .left) (l .chosen) (at-turn t .lowest) (at-turn t .after) p (w .0) (w .1) ∙ l .inv .1 p
 
 returns-2 : tie.Need-returns-2 Inv-loop μ-loop
 returns-2 c p =
     let l = c .before .loop in
-    let a = c .before .before .before .args in
+    let a = c .before .before .args in
     let z : l .rest ≡ 0 = omega arith in
     sym (or-false (bit (l .chosen) p))
     ∙ ap (λ (t : Bool). bit (l .chosen) p || t) (sym (places-none (ruleOf (a .rule)) (a .widths .now) (l .left) p))
@@ -140,18 +171,22 @@ choose-spec =
     (tie.spec
     Inv-loop
     μ-loop
-    ends-choosing-requires
     loop-holds
     sub-rest
     cast-width
     mul-width
     element-copy-out-width
+    serve-requires
+    enum-told
+    sub-left
     shl-chosen
     loop-less
     loop-again
     loop-less-2
     loop-again-2
-    returns
+    enum-told-2
     loop-less-3
     loop-again-3
+    enum-told-3
+    returns
     returns-2)

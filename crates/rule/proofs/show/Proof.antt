@@ -3,7 +3,7 @@ use borrow.Author.Needs.{needs}
 use native.Mathlib.Omega.{arith}
 use mathlib.Core.Path.{_≡_, sym, ap, _∙_, subst}
 use mathlib.Core.List.{List, _++_}
-use Prim.Native.Nat.{ℕ, _-_, min}
+use Prim.Native.Nat.{ℕ, _-_}
 use lib.ListN.{take, replicate}
 use Rattle.model.specs.Search.{bit, upFrom}
 use Rattle.model.specs.Task.{ruleOf}
@@ -11,7 +11,7 @@ use Rattle.model.specs.Grants.{claimants, grants}
 use Rattle.model.specs.Row.{row}
 use Rattle.rule.specs.Cores.{cores}
 use Rattle.rule.proofs.Ascending.{Range, range-up}
-use Rattle.rule.proofs.Sets.{sets-row}
+use Rattle.rule.proofs.Sets.{first-free, sets-row}
 use Rattle.rule.proofs.show.Statement.{statement}
 use Rattle.rule.proofs.show.Tie as tie
 
@@ -26,11 +26,10 @@ row-of-requires c κs = search needs
 
 returns : tie.Need-returns
 returns c =
-    let g = c .before .before .before in
+    let g = c .before .before in
     let f = g .before in
     let a = f .before .args in
-    let few : min (a .cores) 64 ≡ a .cores = omega arith in
-    let all : cores (f .first-cores .result) ≡ upFrom 0 (a .cores) = f .first-cores .ensures ∙ ap (upFrom 0) few in
+    let all : cores (f .first-cores .result) ≡ upFrom 0 (a .cores) = first-free (f .first-cores .result) (a .cores) (omega arith) (f .first-cores .ensures) in
     c .row-of .ensures
     ∙ (sets-row (ruleOf (a .rule)) (claimants (take (a .count) (a .widths .now)) (bit (a .claiming))) (a .count) (f .first-cores .result) (g .grants .result) (g .grants .ensures)
     (a .cores) (omega arith) (subst (Range 0 (a .cores)) (sym all) (range-up 0 (a .cores) (a .cores) (omega arith)))

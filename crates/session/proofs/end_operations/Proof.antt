@@ -9,7 +9,7 @@ use Rattle.session.specs.declared.Session.{Session}
 use Rattle.session.specs.declared.Stage.the-variants.{Operations}
 use Rattle.session.specs.declared.operations.Operation.{Operation}
 use Rattle.session.specs.Operation.{operationOf, said}
-use Rattle.session.specs.Talk.{nothing, linesFrom, replies}
+use Rattle.session.specs.Talk.{tooMany, nothing, linesFrom, replies}
 use Rattle.session.specs.Session.{spokenIn}
 use Rattle.session.proofs.Saying.{said-nothing, said-of}
 use Rattle.session.proofs.Talking.{replies-end, replies-silent}
@@ -23,7 +23,7 @@ silent s e = spoken-operations s nothing [] ∙ ap (λ (n : ℕ). replies (s .ru
 
 -- a last line that lacks its newline
 last-line :
-    (s : Session) → length (s .bytes) ≡ 2148 → s .held ≤ 2148 → (s .held ≡ 0 → ⊥)
+    (s : Session) → length (s .bytes) ≡ tooMany → s .held ≤ tooMany → (s .held ≡ 0 → ⊥)
     → spokenIn Operations s nothing [] ≡ said (operationOf (take (s .held) (s .bytes))) (s .run)
 last-line s w h z = spoken-operations s nothing [] ∙ go (take (s .held) (s .bytes)) (length-take-le (s .held) (s .bytes) (omega (arith, w, h)))
   where
@@ -35,10 +35,10 @@ returns : tie.Need-returns
 returns c = said-of (sym (silent (c .before .before .args .session) (c .if1 .taken))) (said-nothing (c .before .before .args .out .now))
 
 array-share-prefix-bytes : tie.Need-array-share-prefix-bytes
-array-share-prefix-bytes c = let w : length (c .before .before .before .args .session .bytes) ≡ 2148 = search needs in omega (arith, w, c .before .before .before .pre)
+array-share-prefix-bytes c = let w : length (c .before .before .before .args .session .bytes) ≡ tooMany = search needs in omega (arith, w, c .before .before .before .pre)
 
 slice-aggregate-asked : tie.Need-slice-aggregate-asked
-slice-aggregate-asked c = let w : length (c .before .before .before .before .args .session .bytes) ≡ 2148 = search needs in sym (length-take-le _ _ (omega (arith, w, c .before .before .before .before .pre)))
+slice-aggregate-asked c = let w : length (c .before .before .before .before .args .session .bytes) ≡ tooMany = search needs in sym (length-take-le _ _ (omega (arith, w, c .before .before .before .before .pre)))
 
 asked-requires : tie.Need-asked-requires
 asked-requires c κs = search needs
@@ -47,7 +47,7 @@ answer-requires : tie.Need-answer-requires
 answer-requires c κs = search needs
 
 returns-2 : tie.Need-returns-2
-returns-2 c = let w : length (c .before .before .before .before .before .before .before .args .session .bytes) ≡ 2148 = search needs in said-of (ap (λ (o : Operation). said o (c .before .before .before .before .before .before .before .args .session .run)) (c .before .before .asked .ensures) ∙ sym (last-line (c .before .before .before .before .before .before .before .args .session) w (c .before .before .before .before .before .before .before .pre) (c .before .before .before .before .before .if1 .left))) (c .answer .ensures .0)
+returns-2 c = let w : length (c .before .before .before .before .before .before .before .args .session .bytes) ≡ tooMany = search needs in said-of (ap (λ (o : Operation). said o (c .before .before .before .before .before .before .before .args .session .run)) (c .before .before .asked .ensures) ∙ sym (last-line (c .before .before .before .before .before .before .before .args .session) w (c .before .before .before .before .before .before .before .pre) (c .before .before .before .before .before .if1 .left))) (c .answer .ensures .0)
 
 pub end-operations-spec : {M : Type 1} → statement M
 end-operations-spec =

@@ -9,7 +9,7 @@ use lib.Seq.{length-take-le, take-add}
 use Rattle.session.specs.declared.Session.{Session}
 use Rattle.session.specs.declared.Stage.the-variants.{Table}
 use Rattle.session.specs.declared.open.Opened.{Opened}
-use Rattle.session.specs.Talk.{nothing, isDashes, opened, replies}
+use Rattle.session.specs.Talk.{tooMany, nothing, isDashes, opened, replies}
 use Rattle.session.specs.Session.{spokenIn, Said, OpenedOf}
 use Rattle.session.proofs.Talking.{nil-right, talk-end}
 use Rattle.session.proofs.Feeding.{spoken-table}
@@ -18,7 +18,7 @@ use Rattle.session.proofs.end_table.Tie as tie
 
 -- the table's end is within the bytes
 end-within :
-    (s : Session) (end : ℕ) → length (s .bytes) ≡ 2148 → s .from ≤ s .held → s .held ≤ 2148
+    (s : Session) (end : ℕ) → length (s .bytes) ≡ tooMany → s .from ≤ s .held → s .held ≤ tooMany
     → end ≡ cond (isDashes (take (s .held - s .from) (drop (s .from) (s .bytes)))) (s .from) (s .held) → end ≤ length (s .bytes)
 end-within s end w f h e = go (isDashes (take (s .held - s .from) (drop (s .from) (s .bytes)))) e
   where
@@ -59,13 +59,13 @@ slice-aggregate-table-end : tie.Need-slice-aggregate-table-end
 slice-aggregate-table-end c = search needs
 
 table-end-requires : tie.Need-table-end-requires
-table-end-requires c κs = let w : length (c .before .before .args .session .bytes) ≡ 2148 = search needs in (c .before .before .pre .0, omega (arith, c .before .before .pre .1, w))
+table-end-requires c κs = let w : length (c .before .before .args .session .bytes) ≡ tooMany = search needs in (c .before .before .pre .0, omega (arith, c .before .before .pre .1, w))
 
 array-share-prefix-bytes : tie.Need-array-share-prefix-bytes
-array-share-prefix-bytes c = let w : length (c .before .before .before .args .session .bytes) ≡ 2148 = search needs in end-within (c .before .before .before .args .session) _ w (c .before .before .before .pre .0) (c .before .before .before .pre .1) (c .table-end .ensures)
+array-share-prefix-bytes c = let w : length (c .before .before .before .args .session .bytes) ≡ tooMany = search needs in end-within (c .before .before .before .args .session) _ w (c .before .before .before .pre .0) (c .before .before .before .pre .1) (c .table-end .ensures)
 
 slice-aggregate-begin : tie.Need-slice-aggregate-begin
-slice-aggregate-begin c = let w : length (c .before .before .before .before .args .session .bytes) ≡ 2148 = search needs in sym (length-take-le (c .before .table-end .result) _ (end-within (c .before .before .before .before .args .session) _ w (c .before .before .before .before .pre .0) (c .before .before .before .before .pre .1) (c .before .table-end .ensures)))
+slice-aggregate-begin c = let w : length (c .before .before .before .before .args .session .bytes) ≡ tooMany = search needs in sym (length-take-le (c .before .table-end .result) _ (end-within (c .before .before .before .before .args .session) _ w (c .before .before .before .before .pre .0) (c .before .before .before .before .pre .1) (c .before .table-end .ensures)))
 
 begin-requires : tie.Need-begin-requires
 begin-requires c κs = search needs

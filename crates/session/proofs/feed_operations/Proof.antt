@@ -8,11 +8,12 @@ use Rattle.text.proofs.Lines.{line-within}
 use Rattle.session.proofs.Saying.{said-of}
 use Rattle.session.proofs.Feeding.{operation-long, operation-full, operation-held, operation-none, operation-done, still-wide, held-most}
 use Rattle.session.specs.declared.operations.Operation.{Operation}
-use Rattle.session.specs.Operation.{said, runAfter, isLast}
+use Rattle.session.specs.Operation.{noneLong, said, runAfter, isLast}
 use Rattle.session.proofs.feed_operations.Statement.{statement}
 use Rattle.session.proofs.feed_operations.Tie as tie
+use Rattle.session.specs.Talk.{tooMany}
 
-wide : (c : tie.After-struct-known) → length (c .before .before .args .session .bytes) ≡ 2148
+wide : (c : tie.After-struct-known) → length (c .before .before .args .session .bytes) ≡ tooMany
 wide c = search needs
 
 slice-aggregate-say-word : tie.Need-slice-aggregate-say-word
@@ -25,7 +26,7 @@ over-requires : tie.Need-over-requires
 over-requires c κs = search needs
 
 returns : tie.Need-returns
-returns c = let w : length (c .before .before .before .before .before .before .before .args .session .bytes) ≡ 2148 = search needs in operation-long (c .before .before .before .before .before .before .before .args .session) (c .before .before .before .before .before .before .before .args .chunk .now) (c .before .before .before .before .before .before .before .args .out .now) _ _ _ w (c .before .before .before .before .before .before .before .pre) (c .before .before .before .before .if1 .taken) (c .before .say-word .ensures) (c .over .ensures)
+returns c = let w : length (c .before .before .before .before .before .before .before .args .session .bytes) ≡ tooMany = search needs in operation-long (c .before .before .before .before .before .before .before .args .session) (c .before .before .before .before .before .before .before .args .chunk .now) (c .before .before .before .before .before .before .before .args .out .now) _ _ _ w (c .before .before .before .before .before .before .before .pre) (c .before .before .before .before .if1 .taken) (c .before .say-word .ensures) (c .over .ensures)
 
 end-from-requires : tie.Need-end-from-requires
 end-from-requires c κs = search needs
@@ -40,7 +41,7 @@ slice-aggregate-copy : tie.Need-slice-aggregate-copy
 slice-aggregate-copy c = search needs
 
 copy-requires : tie.Need-copy-requires
-copy-requires c κs = let w : length (c .before .before .before .before .before .before .before .before .args .session .bytes) ≡ 2148 = search needs in (omega (arith, c .before .smaller .ensures, c .before .before .before .end-from .ensures, line-within (c .before .before .before .before .before .before .before .before .args .chunk .now)), omega (arith, c .before .smaller .ensures, c .before .before .before .before .before .before .before .before .pre, w))
+copy-requires c κs = let w : length (c .before .before .before .before .before .before .before .before .args .session .bytes) ≡ tooMany = search needs in (omega (arith, c .before .smaller .ensures, c .before .before .before .end-from .ensures, line-within (c .before .before .before .before .before .before .before .before .args .chunk .now)), omega (arith, c .before .smaller .ensures, c .before .before .before .before .before .before .before .before .pre, w))
 
 slice-aggregate-say-word-2 : tie.Need-slice-aggregate-say-word-2
 slice-aggregate-say-word-2 c = search needs
@@ -53,21 +54,21 @@ over-requires-2 c κs = search needs
 
 returns-2 : tie.Need-returns-2
 returns-2 c =
-    let w : length (c .before .before .before .before .before .before .before .before .before .before .before .before .before .before .before .args .session .bytes) ≡ 2148 = search needs in
+    let w : length (c .before .before .before .before .before .before .before .before .before .before .before .before .before .before .before .args .session .bytes) ≡ tooMany = search needs in
     operation-full (c .before .before .before .before .before .before .before .before .before .before .before .before .before .before .before .args .session) (c .before .before .before .before .before .before .before .before .before .before .before .before .before .before .before .args .chunk .now) _ (c .before .before .before .before .before .before .before .before .before .before .before .before .before .before .before .args .out .now) _ _ _ _ w (omega (arith, c .before .before .before .before .before .before .before .before .before .before .before .before .if1 .left)) (c .before .before .before .before .before .before .before .before .before .before .end-from .ensures) (c .before .before .before .before .before .before .before .before .smaller .ensures) (c .before .before .before .before .before .before .copy .ensures)
     _ _ (c .before .before .before .before .if2 .taken) (c .before .say-word2 .ensures) (c .over2 .ensures)
 
 returns-3 : tie.Need-returns-3
 returns-3 c =
-    let w : length (c .before .before .before .before .before .before .before .before .before .before .before .before .before .args .session .bytes) ≡ 2148 = search needs in
+    let w : length (c .before .before .before .before .before .before .before .before .before .before .before .before .before .args .session .bytes) ≡ tooMany = search needs in
     operation-held (c .before .before .before .before .before .before .before .before .before .before .before .before .before .args .session) (c .before .before .before .before .before .before .before .before .before .before .before .before .before .args .chunk .now) _ (c .before .before .before .before .before .before .before .before .before .before .before .before .before .args .out .now) (c .before .before .before .before .before .before .before .before .before .before .before .before .before .args .out .now) _ _ _ w (omega (arith, c .before .before .before .before .before .before .before .before .before .before .if1 .left)) (c .before .before .before .before .before .before .before .before .end-from .ensures) (c .before .before .before .before .before .before .smaller .ensures) (c .before .before .before .before .copy .ensures)
     (c .before .before .if2 .left) (c .if3 .taken)
 
 array-share-prefix-bytes : tie.Need-array-share-prefix-bytes
-array-share-prefix-bytes c = let w : length (c .before .before .before .before .before .before .before .before .before .before .before .before .before .args .session .bytes) ≡ 2148 = search needs in let v = still-wide (c .before .before .before .before .before .before .before .before .before .before .before .before .before .args .session) (c .before .before .before .before .before .before .before .before .before .before .before .before .before .args .chunk .now) _ 13 _ _ _ w (omega (arith, c .before .before .before .before .before .before .before .before .before .before .if1 .left)) (omega arith) (c .before .before .before .before .before .before .before .before .end-from .ensures) (c .before .before .before .before .before .before .smaller .ensures) (c .before .before .before .before .copy .ensures) in let h = held-most (c .before .before .before .before .before .before .before .before .before .before .before .before .before .args .session) (c .before .before .before .before .before .before .before .before .before .before .before .before .before .args .chunk .now) _ 13 _ _ _ w (omega (arith, c .before .before .before .before .before .before .before .before .before .before .if1 .left)) (omega arith) (c .before .before .before .before .before .before .before .before .end-from .ensures) (c .before .before .before .before .before .before .smaller .ensures) (c .before .before .before .before .copy .ensures) in omega (arith, v, h)
+array-share-prefix-bytes c = let w : length (c .before .before .before .before .before .before .before .before .before .before .before .before .before .args .session .bytes) ≡ tooMany = search needs in let v = still-wide (c .before .before .before .before .before .before .before .before .before .before .before .before .before .args .session) (c .before .before .before .before .before .before .before .before .before .before .before .before .before .args .chunk .now) _ noneLong _ _ _ w (omega (arith, c .before .before .before .before .before .before .before .before .before .before .if1 .left)) (omega arith) (c .before .before .before .before .before .before .before .before .end-from .ensures) (c .before .before .before .before .before .before .smaller .ensures) (c .before .before .before .before .copy .ensures) in let h = held-most (c .before .before .before .before .before .before .before .before .before .before .before .before .before .args .session) (c .before .before .before .before .before .before .before .before .before .before .before .before .before .args .chunk .now) _ noneLong _ _ _ w (omega (arith, c .before .before .before .before .before .before .before .before .before .before .if1 .left)) (omega arith) (c .before .before .before .before .before .before .before .before .end-from .ensures) (c .before .before .before .before .before .before .smaller .ensures) (c .before .before .before .before .copy .ensures) in omega (arith, v, h)
 
 slice-aggregate-asked : tie.Need-slice-aggregate-asked
-slice-aggregate-asked c = let w : length (c .before .before .before .before .before .before .before .before .before .before .before .before .before .before .args .session .bytes) ≡ 2148 = search needs in let v = still-wide (c .before .before .before .before .before .before .before .before .before .before .before .before .before .before .args .session) (c .before .before .before .before .before .before .before .before .before .before .before .before .before .before .args .chunk .now) _ 13 _ _ _ w (omega (arith, c .before .before .before .before .before .before .before .before .before .before .before .if1 .left)) (omega arith) (c .before .before .before .before .before .before .before .before .before .end-from .ensures) (c .before .before .before .before .before .before .before .smaller .ensures) (c .before .before .before .before .before .copy .ensures) in let h = held-most (c .before .before .before .before .before .before .before .before .before .before .before .before .before .before .args .session) (c .before .before .before .before .before .before .before .before .before .before .before .before .before .before .args .chunk .now) _ 13 _ _ _ w (omega (arith, c .before .before .before .before .before .before .before .before .before .before .before .if1 .left)) (omega arith) (c .before .before .before .before .before .before .before .before .before .end-from .ensures) (c .before .before .before .before .before .before .before .smaller .ensures) (c .before .before .before .before .before .copy .ensures) in sym (length-take-le _ _ (omega (arith, v, h)))
+slice-aggregate-asked c = let w : length (c .before .before .before .before .before .before .before .before .before .before .before .before .before .before .args .session .bytes) ≡ tooMany = search needs in let v = still-wide (c .before .before .before .before .before .before .before .before .before .before .before .before .before .before .args .session) (c .before .before .before .before .before .before .before .before .before .before .before .before .before .before .args .chunk .now) _ noneLong _ _ _ w (omega (arith, c .before .before .before .before .before .before .before .before .before .before .before .if1 .left)) (omega arith) (c .before .before .before .before .before .before .before .before .before .end-from .ensures) (c .before .before .before .before .before .before .before .smaller .ensures) (c .before .before .before .before .before .copy .ensures) in let h = held-most (c .before .before .before .before .before .before .before .before .before .before .before .before .before .before .args .session) (c .before .before .before .before .before .before .before .before .before .before .before .before .before .before .args .chunk .now) _ noneLong _ _ _ w (omega (arith, c .before .before .before .before .before .before .before .before .before .before .before .if1 .left)) (omega arith) (c .before .before .before .before .before .before .before .before .before .end-from .ensures) (c .before .before .before .before .before .before .before .smaller .ensures) (c .before .before .before .before .before .copy .ensures) in sym (length-take-le _ _ (omega (arith, v, h)))
 
 asked-requires : tie.Need-asked-requires
 asked-requires c κs = search needs

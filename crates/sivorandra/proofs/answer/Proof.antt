@@ -1,16 +1,40 @@
--- `sivorandra::answer` is safe: the part lent has as many bytes as the count says. Assumes nothing.
+-- `sivorandra::answer` meets its contract: the printer is made from all that the buffer holds, and that is enough of the input. Assumes nothing.
+use borrow.Author.Needs.{needs}
 use native.Mathlib.Omega.{arith}
-use mathlib.Core.Path.{sym}
+use mathlib.Core.Path.{refl, sym, subst}
+use mathlib.Core.List.{List}
+use Prim.Native.Nat.{ℕ}
 use lib.Seq.{length-take-le}
+use Rattle.text.specs.Output.{output}
+use Rattle.text.proofs.Exact.{output-enough}
+use Rattle.stream.specs.Sent.{SentOf}
+use Rattle.stream.proofs.Answering.{answered, unanswered}
 use borrow.Author.Needs.{needs}
 use Rattle.sivorandra.proofs.answer.Statement.{statement}
 use Rattle.sivorandra.proofs.answer.Tie as tie
+
+slice-aggregate-fill : tie.Need-slice-aggregate-fill
+slice-aggregate-fill c = search needs
+
+fill-requires : tie.Need-fill-requires
+fill-requires c κs = search needs
+
+slice-aggregate-say-unread : tie.Need-slice-aggregate-say-unread
+slice-aggregate-say-unread c = search needs
+
+say-unread-requires : tie.Need-say-unread-requires
+say-unread-requires c κs = search needs
+
+returns : tie.Need-returns
+returns c = unanswered output _ (c .before .before .before .before .fill .result) _ (c .before .before .if1 .taken) refl
 
 array-share-prefix-bytes : tie.Need-array-share-prefix-bytes
 array-share-prefix-bytes c = search needs
 
 slice-aggregate-new : tie.Need-slice-aggregate-new
-slice-aggregate-new c = sym (length-take-le (c .before .args .count) _ (omega arith))
+slice-aggregate-new c =
+    let h = c .before .before .before in
+    sym (length-take-le (h .fill .result .held) (h .fill .last .0) (omega (arith, h .fill .ensures .behind .most, h .fill .ensures .behind .same)))
 
 new-requires : tie.Need-new-requires
 new-requires c κs = search needs
@@ -18,10 +42,23 @@ new-requires c κs = search needs
 print-requires : tie.Need-print-requires
 print-requires c κs = search needs
 
-returns : tie.Need-returns
-returns c = search needs
+returns-2 : tie.Need-returns-2
+returns-2 c =
+    let h = c .before .before .before .before .before in
+    answered output _ (h .fill .last .0) (h .fill .result) (c .print .result) output-enough (h .fill .ensures) (c .before .before .before .if1 .left)
+    (subst (λ (l : List ℕ). SentOf 0 l (c .print .result)) (c .before .new .ensures .whole) (c .print .ensures))
 
 pub answer-spec : {M : Type 1} → statement M
 answer-spec =
     tie.close
-    (tie.spec array-share-prefix-bytes slice-aggregate-new new-requires print-requires returns)
+    (tie.spec
+    slice-aggregate-fill
+    fill-requires
+    slice-aggregate-say-unread
+    say-unread-requires
+    returns
+    array-share-prefix-bytes
+    slice-aggregate-new
+    new-requires
+    print-requires
+    returns-2)

@@ -1,8 +1,8 @@
 -- `capi::held::advance` meets its contract: an advance of the run that the buffer holds, or 14.
 -- Assumes nothing.
 use mathlib.Core.Path.{sym, _∙_}
-use Rattle.capi.proofs.Places.{held-long}
-use Rattle.capi.proofs.Keeping.{advance-taken, advance-refused, advance-none}
+use Rattle.capi.proofs.Places.{held-long, held-few}
+use Rattle.capi.proofs.Keeping.{advance-few, advance-taken, advance-refused, advance-none}
 use borrow.Author.Needs.{needs}
 use Rattle.capi.proofs.held.advance.Statement.{statement}
 use Rattle.capi.proofs.held.advance.Tie as tie
@@ -14,7 +14,9 @@ run-in-requires : tie.Need-run-in-requires
 run-in-requires c κs =
     let t = c .before in
     let h = t .before in
-    held-long (h .before .before .before .args .words .now) (sym (h .holds .ensures) ∙ t .if1 .taken)
+    let ws = h .before .before .before .args .words .now in
+    let e = sym (h .holds .ensures) ∙ t .if1 .taken in
+    (held-long ws e, held-few ws e)
 
 advance-requires : tie.Need-advance-requires
 advance-requires c κs = search needs
@@ -24,9 +26,13 @@ enum-told c = search needs
 
 put-run-requires : tie.Need-put-run-requires
 put-run-requires c κs =
-    let t = c .before .before .before .before .before .before .before in
+    let v = c .before .before .before .before in
+    let r = v .before in
+    let t = r .before .before in
     let h = t .before in
-    held-long (h .before .before .before .args .words .now) (sym (h .holds .ensures) ∙ t .if1 .taken)
+    let a = h .before .before .before .args in
+    let e = sym (h .holds .ensures) ∙ t .if1 .taken in
+    (advance-few (a .words .now) (a .reports) (v .advance .result) (r .run-in .result) e (r .run-in .ensures) (v .advance .ensures .value), held-long (a .words .now) e)
 
 same-length : tie.Need-same-length
 same-length c = search needs

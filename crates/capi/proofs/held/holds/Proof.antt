@@ -1,32 +1,38 @@
 -- `capi::held::holds` meets its contract. The loop's invariant: the places from here on decide (`look-on`).
 -- Assumes nothing.
-use mathlib.Core.Path.{_≡_, refl, sym, ap, _∙_}
-use Prim.Native.Nat.{ℕ, _+_, _*_, _-_, _≤_}
+use mathlib.Core.Path.{_≡_, sym, ap, _∙_}
+use Prim.Native.Nat.{ℕ, _+_, _-_, _≤_}
 use native.Mathlib.Omega.{arith}
 use lib.ListN.{drop}
 use borrow.Author.Needs.{needs}
-use Rattle.capi.specs.Encoding.{arePlaces}
+use Rattle.capi.specs.Encoding.{headWords, eachWords, wordsTo, arePlaces, countIn}
 use Rattle.capi.proofs.Places.{look-on, look-stop, none-left, place-at, held-short, held-many, held-by}
 use Rattle.capi.proofs.held.holds.Statement.{statement}
 use Rattle.capi.proofs.held.holds.Tie as tie
 
 abbrev Inv-loop : tie.InvT-loop
-Inv-loop words i₀ i = (i ≤ 32) × (arePlaces 32 (drop 3 words) ≡ arePlaces (32 - i) (drop (3 + 8 * i) words))
+Inv-loop words count i₀ i = (i ≤ count) × (arePlaces count (drop headWords words) ≡ arePlaces (count - i) (drop (wordsTo i) words))
 
 abbrev μ-loop : tie.MeasureT-loop
-μ-loop words i₀ i = 32 - i
+μ-loop words count i₀ i = count - i
 
 returns : tie.Need-returns Inv-loop μ-loop
 returns c = sym (held-short (c .before .before .args .words .now) (c .if1 .taken))
 
-shared-slice-read-if2 : tie.Need-shared-slice-read-if2 Inv-loop μ-loop
-shared-slice-read-if2 c = omega arith
+shared-slice-read-count : tie.Need-shared-slice-read-count Inv-loop μ-loop
+shared-slice-read-count c = omega arith
+
+cast-count : tie.Need-cast-count Inv-loop μ-loop
+cast-count c = omega (arith, c .shared-slice-known2 .given 2)
 
 returns-2 : tie.Need-returns-2 Inv-loop μ-loop
 returns-2 c = sym (held-many (c .before .before .before .before .args .words .now) (c .before .before .if1 .left) (c .if2 .taken))
 
 loop-holds : tie.Need-loop-holds Inv-loop μ-loop
-loop-holds c = (omega arith, refl)
+loop-holds c =
+    let ws = c .before .before .before .before .args .words .now in
+    let e : countIn ws ≡ countIn ws - 0 = omega arith in
+    (omega arith, ap (λ (k : ℕ). arePlaces k (drop headWords ws)) e)
 
 mul-at : tie.Need-mul-at Inv-loop μ-loop
 mul-at c = omega arith
@@ -67,8 +73,9 @@ loop-again c =
     let s = p .before .before .before .before in
     let ws = s .before .before .before .before .before .args .words .now in
     let i = s .loop .i in
-    let e : 3 + 8 * i + 8 ≡ 3 + 8 * (i + 1) = omega arith in
-    (omega arith, s .loop .inv .1 ∙ (look-on (32 - i) (32 - (i + 1)) (3 + 8 * i) ws (omega arith) (place-at ws (3 + 8 * i) ∙ (sym (p .is-phase .ensures) ∙ c .if3 .taken)) ∙ ap (λ (k : ℕ). arePlaces (32 - (i + 1)) (drop k ws)) e))
+    let n = countIn ws in
+    let e : wordsTo i + eachWords ≡ wordsTo (i + 1) = omega arith in
+    (omega arith, s .loop .inv .1 ∙ (look-on (n - i) (n - (i + 1)) (wordsTo i) ws (omega arith) (place-at ws (wordsTo i) ∙ (sym (p .is-phase .ensures) ∙ c .if3 .taken)) ∙ ap (λ (k : ℕ). arePlaces (n - (i + 1)) (drop k ws)) e))
 
 returns-3 : tie.Need-returns-3 Inv-loop μ-loop
 returns-3 c =
@@ -77,19 +84,20 @@ returns-3 c =
     let f = s .before in
     let ws = f .before .before .before .before .args .words .now in
     let i = s .loop .i in
+    let n = countIn ws in
     sym
     (held-by ws (f .before .before .if1 .left) (f .if2 .left)
-    ∙ (s .loop .inv .1 ∙ look-stop (32 - i) (32 - (i + 1)) (3 + 8 * i) ws (omega arith) (place-at ws (3 + 8 * i) ∙ (sym (p .is-phase .ensures) ∙ c .if3 .left))))
+    ∙ (s .loop .inv .1 ∙ look-stop (n - i) (n - (i + 1)) (wordsTo i) ws (omega arith) (place-at ws (wordsTo i) ∙ (sym (p .is-phase .ensures) ∙ c .if3 .left))))
 
 returns-4 : tie.Need-returns-4 Inv-loop μ-loop
 returns-4 c =
     let s = c .before in
     let f = s .before in
     let ws = f .before .before .before .before .args .words .now in
-    let e : 32 - s .loop .i ≡ 0 = omega arith in
+    let e : countIn ws - s .loop .i ≡ 0 = omega arith in
     sym
     (held-by ws (f .before .before .if1 .left) (f .if2 .left)
-    ∙ (s .loop .inv .1 ∙ (ap (λ (k : ℕ). arePlaces k (drop (3 + 8 * s .loop .i) ws)) e ∙ none-left (drop (3 + 8 * s .loop .i) ws))))
+    ∙ (s .loop .inv .1 ∙ (ap (λ (k : ℕ). arePlaces k (drop (wordsTo (s .loop .i)) ws)) e ∙ none-left (drop (wordsTo (s .loop .i)) ws))))
 
 pub holds-spec : {M : Type 1} → statement M
 holds-spec =
@@ -98,7 +106,8 @@ holds-spec =
     Inv-loop
     μ-loop
     returns
-    shared-slice-read-if2
+    shared-slice-read-count
+    cast-count
     returns-2
     loop-holds
     mul-at

@@ -1,9 +1,9 @@
--- `capi::held::put_place` meets its contract: eight stores from the front (`sets-eq`).
+-- `capi::held::put_place` meets its contract: a store for each word from the front (`sets-eq`).
 -- Assumes nothing.
 use native.Mathlib.Omega.{arith}
 use lib.ListN.{length-set}
 use lib.Seq.{sets-eq}
-use Rattle.capi.specs.Encoding.{eight}
+use Rattle.capi.specs.Encoding.{placeWith}
 use borrow.Author.Needs.{needs}
 use Rattle.capi.proofs.held.put_place.Statement.{statement}
 use Rattle.capi.proofs.held.put_place.Tie as tie
@@ -39,7 +39,7 @@ returns : tie.Need-returns
 returns c =
     let t = c .args .task in
     let ph = c .args .phase in
-    sets-eq (eight t ph) (c .args .words .now) 0 (omega arith)
+    sets-eq (placeWith t ph) (c .args .words .now) 0 (omega arith)
 
 pub put-place-spec : {M : Type 1} → statement M
 put-place-spec =

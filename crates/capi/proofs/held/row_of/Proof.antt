@@ -1,7 +1,7 @@
 -- `capi::held::row_of` meets its contract: the row of the run that the buffer holds, or 14.
 -- Assumes nothing.
 use mathlib.Core.Path.{sym, _∙_}
-use Rattle.capi.proofs.Places.{held-long}
+use Rattle.capi.proofs.Places.{held-long, held-few}
 use Rattle.capi.proofs.Keeping.{row-held, row-none}
 use borrow.Author.Needs.{needs}
 use Rattle.capi.proofs.held.row_of.Statement.{statement}
@@ -13,7 +13,9 @@ holds-requires c κs = search needs
 run-in-requires : tie.Need-run-in-requires
 run-in-requires c κs =
     let h = c .before in
-    held-long (h .before .before .args .words .now) (sym (h .holds .ensures) ∙ c .if1 .taken)
+    let ws = h .before .before .args .words .now in
+    let e = sym (h .holds .ensures) ∙ c .if1 .taken in
+    (held-long ws e, held-few ws e)
 
 row-requires : tie.Need-row-requires
 row-requires c κs = search needs

@@ -13,6 +13,7 @@ use Rattle.demand.specs.Replay.{rowCase, Outcome}
 use Rattle.demand.proofs.Outcomes.{played-few, played-narrow, played-room}
 use Rattle.demand.proofs.replays.play.Statement.{statement}
 use Rattle.demand.proofs.replays.play.Tie as tie
+use Rattle.model.specs.Sizes.{mostCores}
 
 -- an outcome, part by part
 outcome : {x y : Replayed} {k l m n : List ℕ} → x ≡ y → k ≡ l → m ≡ n → _≡_ {A = Outcome} (record { answer = x; numbers = k; bytes = m }) (record { answer = y; numbers = l; bytes = n })
@@ -57,7 +58,7 @@ returns-3 c =
     outcome
     (c .row-case .ensures ∙ ap (λ (q : Row). rowCase (q .answer)) row)
     (v .advances .ensures .1)
-    (u .put .ensures ∙ ap (λ (q : Row). q .bytes ++ drop 64 (a .bytes .now)) row)
+    (u .put .ensures ∙ ap (λ (q : Row). q .bytes ++ drop mostCores (a .bytes .now)) row)
     ∙ sym (played-room (a .run) (a .reports .now) (a .numbers .now) (a .bytes .now) (f .before .if1 .left) (f .if2 .left))
 
 pub play-spec : {M : Type 1} → statement M

@@ -10,12 +10,13 @@ use borrow.Author.Needs.{needs}
 use Rattle.run.proofs.Written.{written-more, take-more}
 use Rattle.demand.proofs.replays.put.Statement.{statement}
 use Rattle.demand.proofs.replays.put.Tie as tie
+use Rattle.model.specs.Sizes.{mostCores}
 
 abbrev Inv-loop : tie.InvT-loop
-Inv-loop bytes₀ row i₀ bytes i = (i ≤ 64) × ((length bytes ≡ length bytes₀) × (bytes ≡ take i row ++ drop i bytes₀))
+Inv-loop bytes₀ row i₀ bytes i = (i ≤ mostCores) × ((length bytes ≡ length bytes₀) × (bytes ≡ take i row ++ drop i bytes₀))
 
 abbrev μ-loop : tie.MeasureT-loop
-μ-loop bytes₀ row i₀ bytes i = 64 - i
+μ-loop bytes₀ row i₀ bytes i = mostCores - i
 
 loop-holds : tie.Need-loop-holds Inv-loop μ-loop
 loop-holds c = search needs
@@ -37,7 +38,7 @@ loop-again c =
     let s = c .before in
     let a = s .before .args in
     let i = s .loop .i in
-    let len : length (a .t1) ≡ 64 = search needs in
+    let len : length (a .t1) ≡ mostCores = search needs in
     let n : length (take i (a .t1)) ≡ i = length-take-le i (a .t1) (omega arith) in
     let more = written-more (take i (a .t1)) (a .bytes .now) i (getD (a .t1) i 0) 0 n (omega arith) in
     (omega arith, (simp length-set (s .loop .inv .1 .0), simp (s .loop .inv .1 .1) (more ∙ ap (λ (l : List ℕ). l ++ drop (i + 1) (a .bytes .now)) (sym (take-more (a .t1) i 0 (omega arith))))))
@@ -49,9 +50,9 @@ returns : tie.Need-returns Inv-loop μ-loop
 returns c =
     let s = c .before in
     let a = s .before .args in
-    let len : length (a .t1) ≡ 64 = search needs in
-    let e : s .loop .i ≡ 64 = omega arith in
-    s .loop .inv .1 .1 ∙ (ap (λ (k : ℕ). take k (a .t1) ++ drop k (a .bytes .now)) e ∙ ap (λ (l : List ℕ). l ++ drop 64 (a .bytes .now)) (take-all 64 (a .t1) (omega arith)))
+    let len : length (a .t1) ≡ mostCores = search needs in
+    let e : s .loop .i ≡ mostCores = omega arith in
+    s .loop .inv .1 .1 ∙ (ap (λ (k : ℕ). take k (a .t1) ++ drop k (a .bytes .now)) e ∙ ap (λ (l : List ℕ). l ++ drop mostCores (a .bytes .now)) (take-all mostCores (a .t1) (omega arith)))
 
 pub put-spec : {M : Type 1} → statement M
 put-spec =

@@ -9,9 +9,10 @@ use lib.ListN.{length, getD, set, length-set}
 use lib.Seq.{paste, paste-zero, paste-suc}
 use Rattle.plan.proofs.rows.put.Statement.{statement}
 use Rattle.plan.proofs.rows.put.Tie as tie
+use Rattle.model.specs.Sizes.{mostCores}
 
 abbrev Inv-loop : tie.InvT-loop
-Inv-loop count at out₀ row i₀ out i = (i ≤ count) × (length row ≡ 64) × (length out ≡ length out₀) × (out ≡ paste out₀ at row i)
+Inv-loop count at out₀ row i₀ out i = (i ≤ count) × (length row ≡ mostCores) × (length out ≡ length out₀) × (out ≡ paste out₀ at row i)
 
 abbrev μ-loop : tie.MeasureT-loop
 μ-loop count at out₀ row i₀ out i = count - i

@@ -10,6 +10,7 @@ use Rattle.model.specs.Search.{bit, upFrom}
 use Rattle.model.specs.Task.{ruleOf}
 use Rattle.model.specs.Grants.{claimants, grants}
 use Rattle.model.specs.Row.{row}
+use Rattle.model.specs.Sizes.{mostCores}
 use Rattle.text.specs.Format.{newline}
 use Rattle.text.specs.Output.{fields}
 use Rattle.text.specs.Written.{Put}
@@ -33,7 +34,7 @@ returns c =
     let a = c .before .before .before .before .before .before .args in
     let s = c .before .before .spell in
     let gs = grants (ruleOf (a .rule)) (claimants (take (a .count) (a .widths .now)) (bit (a .claims))) (upFrom 0 (a .cores)) in
-    let e = ap (take (a .cores)) (c .before .before .before .before .show .ensures) ∙ take-at (row (a .cores) gs) (replicate (64 - a .cores) 0) (a .cores) (row-length (a .cores) gs) in
+    let e = ap (take (a .cores)) (c .before .before .before .before .show .ensures) ∙ take-at (row (a .cores) gs) (replicate (mostCores - a .cores) 0) (a .cores) (row-length (a .cores) gs) in
     (subst (λ (xs : List ℕ). Put (a .text .now) 0 (fields xs ++ (newline ∷ [])) (s .last .1 .1 .0) (s .result)) e (s .ensures .0), s .ensures .1)
 
 pub put-cells-spec : {M : Type 1} → statement M

@@ -4,28 +4,36 @@ use mathlib.Core.Path.{_≡_, ap, _∙_}
 use mathlib.Core.List.{List}
 use Prim.Native.Nat.{ℕ, _+_, _*_, _-_, _^_, _≤_, _<_}
 use lib.ListN.{getD}
+use Rattle.full.specs.Places.{part}
+use Rattle.full.proofs.Parts.{front-at}
 use Rattle.printer.proofs.Owed.{owedFrom, owed-none, owed-all, owed-room, owed-with, owed-without}
 use Rattle.printer.proofs.sound.owed.Statement.{statement}
 use Rattle.printer.proofs.sound.owed.Tie as tie
+use Rattle.model.specs.Sizes.{mostTasks}
 
 abbrev Inv-loop : tie.InvT-loop
-Inv-loop left set₀ i₀ set i = (i ≤ 32) × (set ≡ owedFrom left i)
+Inv-loop places set₀ i₀ set i = (i ≤ mostTasks) × (set ≡ owedFrom (part 0 places) i)
 
 abbrev μ-loop : tie.MeasureT-loop
-μ-loop left set₀ i₀ set i = i
+μ-loop places set₀ i₀ set i = i
 
 -- place i - 1 is looked at
-module _ (left : List ℕ) (i set : ℕ) (h : (i ≤ 32) × (set ≡ owedFrom left i)) (l : 0 < i) where
-  is : set ≡ owedFrom left (i - 1 + 1)
-  is = let e : i ≡ i - 1 + 1 = omega arith in h .1 ∙ ap (owedFrom left) e
+module _ (places : List ℕ) (i set : ℕ) (h : (i ≤ mostTasks) × (set ≡ owedFrom (part 0 places) i)) (l : 0 < i) where
+  is : set ≡ owedFrom (part 0 places) (i - 1 + 1)
+  is = let e : i ≡ i - 1 + 1 = omega arith in h .1 ∙ ap (owedFrom (part 0 places)) e
+
+  has : getD (part 0 places) (i - 1) 0 ≡ getD places (i - 1) 0
+  has = front-at places (i - 1) (omega arith)
 
   fits-on : (set * 2 < 2 ^ 32) × (set * 2 + 1 < 2 ^ 32)
-  fits-on = let r = owed-room left (i - 1) (omega arith) in (omega (arith, is), omega (arith, is))
+  fits-on = let r = owed-room (part 0 places) (i - 1) (omega arith) in (omega (arith, is), omega (arith, is))
 
-  one-on : (0 < getD left (i - 1) 0 → set * 2 + 1 ≡ owedFrom left (i - 1)) × (getD left (i - 1) 0 ≤ 0 → set * 2 ≡ owedFrom left (i - 1))
+  one-on :
+      (0 < getD places (i - 1) 0 → set * 2 + 1 ≡ owedFrom (part 0 places) (i - 1))
+      × (getD places (i - 1) 0 ≤ 0 → set * 2 ≡ owedFrom (part 0 places) (i - 1))
   one-on = (
-    λ b. ap (λ (x : ℕ). x * 2 + 1) is ∙ owed-with left (i - 1) (omega arith) b,
-    λ b. ap (λ (x : ℕ). x * 2) is ∙ owed-without left (i - 1) (omega arith) b,
+    λ b. ap (λ (x : ℕ). x * 2 + 1) is ∙ owed-with (part 0 places) (i - 1) (omega arith) (omega (arith, has)),
+    λ b. ap (λ (x : ℕ). x * 2) is ∙ owed-without (part 0 places) (i - 1) (omega arith) (omega (arith, has)),
   )
 
 loop-holds : tie.Need-loop-holds Inv-loop μ-loop

@@ -8,14 +8,17 @@ use lib.Bits.{bitAnd}
 use lib.Dec.{eqb}
 use borrow.Author.Needs.{needs}
 use Rattle.model.specs.Search.{bit}
+use Rattle.model.specs.Grants.{claimants}
+use Rattle.model.specs.Sizes.{mostTasks}
+use Rattle.rule.proofs.Sets.{granted-first}
 use Rattle.run.specs.declared.Run.{Run}
 use Rattle.run.specs.declared.Advanced.{Advanced}
 use Rattle.run.specs.declared.Answer.the-variants.{Taken}
-use Rattle.run.specs.Run.{hasCores}
+use Rattle.run.specs.Run.{ruleIn, hasCores}
 use Rattle.run.specs.Numbers.{runOut, reportableAt, misreportedIn}
 use Rattle.run.specs.Advance.{advanceAnswer}
 use Rattle.run.proofs.Exact.{advance-of}
-use Rattle.run.proofs.RunOut.{few, late-most}
+use Rattle.run.proofs.RunOut.{few, few-cores, late-most}
 use Rattle.run.proofs.Chosen.{has-cores, may-end, outside}
 use Rattle.run.proofs.Cases.{advance-out, advance-answer, advance-taken, advance-refused}
 use Rattle.run.proofs.Run.advance.Statement.{statement}
@@ -26,37 +29,40 @@ passes : (c : tie.Else1) → runOut (c .before .before .args .self) ≡ false
 passes c = sym (c .before .out .ensures) ∙ c .if1 .left
 
 -- the first late place is at most the count
-late-few : (c : tie.After-first-late) → c .first-late .result ≤ 32
+late-few : (c : tie.After-first-late) → c .first-late .result ≤ mostTasks
 late-few c =
     let r = c .before .before .before .args .self in
     omega (arith, c .first-late .ensures, late-most r, few r (passes (c .before)))
 
 -- the set that the choosing gives
-chosen : (c : tie.After-choose) → (p : ℕ) → bit (c .choose .result) p ≡ hasCores (c .before .before .before .before .before .before .before .args .self) p
+chosen : (c : tie.After-choose) → (p : ℕ) → bit (c .choose .result) p ≡ hasCores (c .before .before .before .before .before .before .before .before .args .self) p
 chosen c p =
-    let w = c .before .before .before in
-    c .choose .ensures p ∙ has-cores (w .before .before .before .before .args .self) (w .claims .result) (w .claims .ensures) p
+    let w = c .before .before .before .before in
+    let r = w .before .before .before .before .args .self in
+    c .choose .ensures p
+    ∙ granted-first (ruleIn r) (claimants (w .claims .result .widths) (bit (w .claims .result .claiming))) _ (r .cores) (few-cores r (passes (w .before .before))) (c .before .before .first-cores .ensures) p
+    ∙ has-cores r (w .claims .result) (w .claims .ensures) p
 
 -- 16 is looked at by one test of sets
 abbrev inside : tie.After-choose → Bool
 inside c =
-    let w = c .before .before .before in
+    let w = c .before .before .before .before in
     let x = w .before .before .before .before .args .reports in
     eqb (bitAnd x (bitAnd (c .choose .result) (w .claims .result .working))) x
 
-within : (c : tie.After-choose) → (let s = c .before .before .before .before .before .before .before in misreportedIn (s .args .self) (s .args .reports) ≡ not (inside c))
+within : (c : tie.After-choose) → (let s = c .before .before .before .before .before .before .before .before in misreportedIn (s .args .self) (s .args .reports) ≡ not (inside c))
 unfolding misreportedIn
 within c =
-    let w = c .before .before .before in
+    let w = c .before .before .before .before in
     let s = w .before .before .before .before in
     outside (s .args .reports) (bitAnd (c .choose .result) (w .claims .result .working)) (reportableAt (s .args .self))
-    (may-end (s .args .self) (w .claims .result) (w .claims .ensures) (c .choose .result) (chosen c)) 32 (s .fits .reports .fits)
+    (may-end (s .args .self) (w .claims .result) (w .claims .ensures) (c .choose .result) (chosen c)) mostTasks (s .fits .reports .fits)
 
 -- the answer is the definition's
-told : (c : tie.After-in-order) → (let s = c .before .before .before .before .before .before .before .before .before .before in c .in-order .result ≡ advanceAnswer (s .args .self) (s .args .reports))
+told : (c : tie.After-in-order) → (let s = c .before .before .before .before .before .before .before .before .before .before .before in c .in-order .result ≡ advanceAnswer (s .args .self) (s .args .reports))
 told c =
     let h = c .before .before .before in
-    let w = h .before .before .before in
+    let w = h .before .before .before .before in
     let f = w .before in
     let s = f .before .before .before in
     let a = advance-answer (s .args .self) (s .args .reports) (passes (f .before)) (inside h) (within h) in
@@ -85,14 +91,17 @@ first-late-requires c κs = few (c .before .before .args .self) (passes c)
 claims-requires : tie.Need-claims-requires
 claims-requires c κs = few (c .before .before .before .args .self) (passes (c .before))
 
+first-cores-requires : tie.Need-first-cores-requires
+first-cores-requires c κs = search needs
+
 choose-requires : tie.Need-choose-requires
 choose-requires c κs = search needs
 
 cast-in-order : tie.Need-cast-in-order
-cast-in-order c = omega (arith, late-few (c .before .before .before .before .before .before))
+cast-in-order c = omega (arith, late-few (c .before .before .before .before .before .before .before))
 
 add-in-order : tie.Need-add-in-order
-add-in-order c = omega (arith, late-few (c .before .before .before .before .before .before))
+add-in-order c = omega (arith, late-few (c .before .before .before .before .before .before .before))
 
 in-order-requires : tie.Need-in-order-requires
 in-order-requires c κs = search needs
@@ -103,7 +112,7 @@ enum-told c = search needs
 moved-requires : tie.Need-moved-requires
 moved-requires c κs =
     let h = c .before .before .before .before .before in
-    (passes (h .before .before .before .before .before), chosen h)
+    (passes (h .before .before .before .before .before .before), chosen h)
 
 enum-known-answer : tie.Need-enum-known-answer
 enum-known-answer c = search needs
@@ -114,14 +123,14 @@ refused-requires-2 c κs = search needs
 returns-2 : tie.Need-returns-2
 returns-2 c =
     let o = c .before .before .before in
-    let a = o .before .before .before .before .before .before .before .before .before .before .args in
+    let a = o .before .before .before .before .before .before .before .before .before .before .before .args in
     advance-of (a .self) (a .reports) (taken (c .moved .result))
     (ap taken (c .moved .ensures) ∙ sym (advance-taken (a .self) (a .reports) (sym (told o) ∙ c .before .enum-told .given .1)))
 
 returns-3 : tie.Need-returns-3
 returns-3 c =
     let o = c .before .before .before .before in
-    let a = o .before .before .before .before .before .before .before .before .before .before .args in
+    let a = o .before .before .before .before .before .before .before .before .before .before .before .args in
     advance-of (a .self) (a .reports) (c .refused2 .result)
     (c .refused2 .ensures ∙ sym (advance-refused (a .self) (a .reports) _ _ (sym (told o) ∙ c .before .before .answer .given .1)))
 
@@ -134,6 +143,7 @@ advance-spec =
     returns
     first-late-requires
     claims-requires
+    first-cores-requires
     choose-requires
     cast-in-order
     add-in-order

@@ -8,6 +8,7 @@ use lib.ListN.{length, getD, length-set, length-map}
 use lib.Dec.{ltb}
 use borrow.Author.Needs.{needs}
 use Rattle.model.specs.Search.{bit}
+use Rattle.model.specs.Sizes.{mostTasks}
 use Rattle.phase.specs.Phase.{claiming, working}
 use Rattle.phase.specs.Task.{pastEnd}
 use Rattle.run.specs.Run.{phaseAt}
@@ -17,7 +18,7 @@ use Rattle.run.proofs.Run.claims.Tie as tie
 
 abbrev Inv-loop : tie.InvT-loop
 Inv-loop run count claiming₀ working₀ widths₀ i₀ c w ws i =
-    (i ≤ count) × ((length ws ≡ 32)
+    (i ≤ count) × ((length ws ≡ mostTasks)
     × (((p : ℕ) → bit c p ≡ ltb p i && claiming (phaseAt run p))
     × (((p : ℕ) → bit w p ≡ ltb p i && working (phaseAt run p))
     × ((p : ℕ) → p < i → getD ws p 0 ≡ getD (run .tasks) p pastEnd .width))))
@@ -89,7 +90,7 @@ returns c =
     let s = c .before in
     let r = s .before .args .self in
     let e : s .loop .i ≡ r .count = omega arith in
-    let len : length (r .tasks) ≡ 32 = simp length-map at (s .before .good .0 .1 .1 .1 .1 .1 .0 .1 .0 .1) in
+    let len : length (r .tasks) ≡ mostTasks = simp length-map at (s .before .good .0 .1 .1 .1 .1 .1 .0 .1 .0 .1) in
     record { claimed = rw e at (s .loop .inv .1 .1 .0); worked = rw e at (s .loop .inv .1 .1 .1 .0); width = widths-stored r (s .loop .widths) (s .before .pre) (s .loop .inv .1 .0) len (rw e at (s .loop .inv .1 .1 .1 .1)) }
 
 pub claims-spec : {M : Type 1} → statement M

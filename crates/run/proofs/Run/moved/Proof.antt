@@ -9,6 +9,7 @@ use native.Mathlib.Nat.{le-refl}
 use lib.ListN.{length, getD, length-map}
 use borrow.Author.Needs.{needs}
 use Rattle.model.specs.Search.{bit}
+use Rattle.model.specs.Sizes.{mostTasks}
 use Rattle.run.specs.declared.Run.{Run}
 use Rattle.phase.specs.declared.Task.{Task}
 use Rattle.phase.specs.Task.{nextTask, pastEnd}
@@ -31,7 +32,7 @@ movedTo reported r n = record {
 }
 
 abbrev Inv-loop : tie.InvT-loop
-Inv-loop granted reports run₀ rule count i₀ run i = (i ≤ count) × ((count ≤ 32) × (run ≡ movedTo (bit reports) run₀ i))
+Inv-loop granted reports run₀ rule count i₀ run i = (i ≤ count) × ((count ≤ mostTasks) × (run ≡ movedTo (bit reports) run₀ i))
 
 abbrev μ-loop : tie.MeasureT-loop
 μ-loop granted reports run₀ rule count i₀ run i = count - i
@@ -80,7 +81,7 @@ loop-again c =
     let r = s .before .args .self in
     let i = s .loop .i in
     let f = movesAt (bit (s .before .args .reports)) r in
-    let len : length (r .tasks) ≡ 32 = simp length-map at (s .before .good .0 .1 .1 .1 .1 .1 .0 .1 .0 .1) in
+    let len : length (r .tasks) ≡ mostTasks = simp length-map at (s .before .good .0 .1 .1 .1 .1 .1 .0 .1 .0 .1) in
     let past = mapFirst-past f i (r .tasks) i pastEnd (le-refl i) in
     let e : c .next .result ≡ f i (getD (r .tasks) i pastEnd) =
     simp (c .next .ensures, c .before .before .has .ensures, c .before .has2 .ensures, s .before .pre .1 i, s .loop .inv .1 .1, past) in

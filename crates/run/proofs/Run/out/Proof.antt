@@ -7,13 +7,14 @@ use native.Mathlib.Omega.{arith}
 use borrow.Author.Needs.{needs}
 use borrow.Author.Count.{below-more}
 use Rattle.model.proofs.Search.{none-any, any-of}
+use Rattle.model.specs.Sizes.{mostTasks}
 use Rattle.run.specs.Numbers.{placeOut}
 use Rattle.run.proofs.RunOut.{out-by-head, out-by-place, head-few}
 use Rattle.run.proofs.Run.out.Statement.{statement}
 use Rattle.run.proofs.Run.out.Tie as tie
 
 abbrev Inv-loop : tie.InvT-loop
-Inv-loop run rule cores count i₀ i = (i ≤ count) × ((count ≤ 32) × ((k : ℕ) → k < i → placeOut run k ≡ false))
+Inv-loop run rule cores count i₀ i = (i ≤ count) × ((count ≤ mostTasks) × ((k : ℕ) → k < i → placeOut run k ≡ false))
 
 abbrev μ-loop : tie.MeasureT-loop
 μ-loop run rule cores count i₀ i = count - i

@@ -8,6 +8,7 @@ use lib.ListN.{length, getD, take, drop, replicate, length-map}
 use lib.Seq.{length-take-le}
 use borrow.Author.Needs.{needs}
 use Rattle.model.proofs.Lists.{map-more}
+use Rattle.model.specs.Sizes.{mostTasks}
 use Rattle.table.specs.declared.Task as table
 use Rattle.table.specs.Task.{taskOf, tasksOf, noTask}
 use Rattle.phase.specs.declared.Task.{Task}
@@ -37,7 +38,7 @@ made rule cores count tasks = record { rule = rule; cores = cores; count = count
 
 abbrev Inv-loop : tie.InvT-loop
 Inv-loop rule cores count tasks places₀ i₀ places i =
-    (i ≤ count) × (places ≡ starting tasks i ++ drop i (replicate 32 unused))
+    (i ≤ count) × (places ≡ starting tasks i ++ drop i (replicate mostTasks unused))
 
 abbrev μ-loop : tie.MeasureT-loop
 μ-loop rule cores count tasks places₀ i₀ places i = count - i
@@ -74,9 +75,9 @@ loop-again c =
     let s = c .before .before .before in
     let tasks = s .before .before .args .t3 in
     let i = s .loop .i in
-    let len : length tasks ≡ 32 = search needs in
-    let more = written-more (starting tasks i) (replicate 32 unused) i (startTask (taskOf (getD tasks i noTask))) pastEnd (length-starting tasks i (omega arith)) (omega arith) in
-    (omega arith, simp (s .loop .inv .1, c .start-task .ensures) (more ∙ ap (λ (l : List Task). l ++ drop (i + 1) (replicate 32 unused)) (sym (starting-more tasks i (omega arith)))))
+    let len : length tasks ≡ mostTasks = search needs in
+    let more = written-more (starting tasks i) (replicate mostTasks unused) i (startTask (taskOf (getD tasks i noTask))) pastEnd (length-starting tasks i (omega arith)) (omega arith) in
+    (omega arith, simp (s .loop .inv .1, c .start-task .ensures) (more ∙ ap (λ (l : List Task). l ++ drop (i + 1) (replicate mostTasks unused)) (sym (starting-more tasks i (omega arith)))))
 
 returns : tie.Need-returns Inv-loop μ-loop
 unfolding startedRun
@@ -84,13 +85,13 @@ returns c =
     let s = c .before in
     let a = s .before .before .args in
     let e : s .loop .i ≡ a .count = omega arith in
-    let len : length (a .t3) ≡ 32 = search needs in
+    let len : length (a .t3) ≡ mostTasks = search needs in
     let few = s .before .before .pre in
     let n : length (tasksOf (a .t3) (a .count)) ≡ a .count = length-map (take (a .count) (a .t3)) taskOf ∙ length-take-le (a .count) (a .t3) (omega arith) in
-    let tasks : s .loop .places ≡ starting (a .t3) (a .count) ++ replicate (32 - a .count) unused =
-    s .loop .inv .1 ∙ (ap (λ (k : ℕ). starting (a .t3) k ++ drop k (replicate 32 unused)) e ∙ ap (λ (l : List Task). starting (a .t3) (a .count) ++ l) (drop-equal 32 (a .count) unused)) in
+    let tasks : s .loop .places ≡ starting (a .t3) (a .count) ++ replicate (mostTasks - a .count) unused =
+    s .loop .inv .1 ∙ (ap (λ (k : ℕ). starting (a .t3) k ++ drop k (replicate mostTasks unused)) e ∙ ap (λ (l : List Task). starting (a .t3) (a .count) ++ l) (drop-equal mostTasks (a .count) unused)) in
     ap (made (a .rule) (a .cores) (a .count)) tasks
-    ∙ ap (λ (k : ℕ). made (a .rule) (a .cores) k (starting (a .t3) (a .count) ++ replicate (32 - k) unused)) (sym n)
+    ∙ ap (λ (k : ℕ). made (a .rule) (a .cores) k (starting (a .t3) (a .count) ++ replicate (mostTasks - k) unused)) (sym n)
 
 pub started-spec : {M : Type 1} → statement M
 started-spec =

@@ -4,7 +4,7 @@ use mathlib.Core.Path.{_≡_, sym, ap, _∙_}
 use lib.ListN.{length}
 use lib.Seq.{length-take-le}
 use Rattle.run.specs.Start.{startOf}
-use Rattle.session.proofs.Replying.{numbers-read}
+use Rattle.text.proofs.ReadOf.{numbers-read}
 use Rattle.session.proofs.open.start.Statement.{statement}
 use Rattle.session.proofs.open.start.Tie as tie
 

@@ -12,31 +12,32 @@ use lib.Dec.{leb}
 use lib.Seq.{take-all}
 use borrow.Author.Tests.{leb-true, leb-false}
 use Rattle.text.specs.Format.{newline}
-use Rattle.text.specs.Output.{letters, fields, lineOf}
+use Rattle.text.specs.Output.{longestCells, longestLine, letters, fields, lineOf}
 use Rattle.text.proofs.Writing.{put-then, put-front}
 use Rattle.session.proofs.replies.say_cores.Statement.{statement}
 use Rattle.session.proofs.replies.say_cores.Tie as tie
+use Rattle.model.specs.Sizes.{mostCores}
 
 -- a row has 64 bytes
-take-most : (cores count : ℕ) (bytes : List ℕ) → length bytes ≡ 64 → count ≡ min cores 64 → take count bytes ≡ take cores bytes
-take-most cores count bytes w e = go (leb cores 64) refl
+take-most : (cores count : ℕ) (bytes : List ℕ) → length bytes ≡ mostCores → count ≡ min cores mostCores → take count bytes ≡ take cores bytes
+take-most cores count bytes w e = go (leb cores mostCores) refl
   where
-    go : (t : Bool) → leb cores 64 ≡ t → take count bytes ≡ take cores bytes
-    go true h = let k : count ≡ cores = omega (arith, e, leb-true cores 64 h) in ap (λ (n : ℕ). take n bytes) k
+    go : (t : Bool) → leb cores mostCores ≡ t → take count bytes ≡ take cores bytes
+    go true h = let k : count ≡ cores = omega (arith, e, leb-true cores mostCores h) in ap (λ (n : ℕ). take n bytes) k
     go false h =
-        let l : 64 < cores = leb-false cores 64 h in
+        let l : mostCores < cores = leb-false cores mostCores h in
         take-all count bytes (omega (arith, e, l, w)) ∙ sym (take-all cores bytes (omega (arith, l, w)))
 
 cores-said :
-    (cores : ℕ) (bytes before blank text middle after : List ℕ) (count size start end : ℕ) → length before ≡ 267 → length bytes ≡ 64 → count ≡ min cores 64
-    → Put blank 0 (fields (take count bytes) ++ (newline ∷ [])) text size → size ≤ 257 → Put before 0 (letters "row") middle start
+    (cores : ℕ) (bytes before blank text middle after : List ℕ) (count size start end : ℕ) → length before ≡ longestLine → length bytes ≡ mostCores → count ≡ min cores mostCores
+    → Put blank 0 (fields (take count bytes) ++ (newline ∷ [])) text size → size ≤ longestCells → Put before 0 (letters "row") middle start
     → Put middle start (take size (drop 0 text)) after end → Said (lineOf (letters "row") (take cores bytes)) before after end
 unfolding lineOf
 cores-said cores bytes before blank text middle after count size start end w v e p s q r =
     let k : take size text ≡ fields (take cores bytes) ++ (newline ∷ []) =
     put-front p ∙ ap (λ (l : List ℕ). fields l ++ (newline ∷ [])) (take-most cores count bytes v e) in
-    let n : length (take size text) ≤ 257 = omega (arith, s, length-take size text) in
-    let m : end ≤ 267 = omega (arith, q .ends, r .ends, n) in
+    let n : length (take size text) ≤ longestCells = omega (arith, s, length-take size text) in
+    let m : end ≤ longestLine = omega (arith, q .ends, r .ends, n) in
     subst (λ (l : List ℕ). Said (letters "row" ++ l) before after end) k (said-put (put-then q r (omega (arith, m, w))) (omega (arith, m, w)))
 
 smaller-requires : tie.Need-smaller-requires
@@ -63,8 +64,8 @@ copy-requires-2 c κs = search needs
 returns : tie.Need-returns
 returns c =
     let a = c .before .before .before .before .before .before .before .before .before .before .args in
-    let w : length (a .out .now) ≡ 267 = search needs in
-    let v : length (a .bytes) ≡ 64 = search needs in
+    let w : length (a .out .now) ≡ longestLine = search needs in
+    let v : length (a .bytes) ≡ mostCores = search needs in
     cores-said (a .cores) (a .bytes) (a .out .now) _ _ _ _ _ _ _ _ w v (c .before .before .before .before .before .before .before .before .before .smaller .ensures) (c .before .before .before .before .before .before .before .spell .ensures .0) (c .before .before .before .before .before .before .before .spell .ensures .1) (c .before .before .before .copy .ensures) (c .copy2 .ensures)
 
 pub say-cores-spec : {M : Type 1} → statement M

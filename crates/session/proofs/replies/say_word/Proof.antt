@@ -12,12 +12,13 @@ use Rattle.session.specs.Session.{Said}
 use Rattle.session.proofs.Saying.{said-put}
 use Rattle.session.proofs.replies.say_word.Statement.{statement}
 use Rattle.session.proofs.replies.say_word.Tie as tie
+use Rattle.text.specs.Output.{longestLine}
 
 ends : (word before after : List ℕ) (n : ℕ) → Put before 0 (take (length word) (drop 0 word)) after n → n ≡ length word
 ends word before after n p = let q = subst (λ (x : List ℕ). Put before 0 x after n) (take-length word) p in omega (arith, q .ends)
 
 word-said :
-    (word before after : List ℕ) (n : ℕ) → length before ≡ 267 → length word ≤ 16 → Put before 0 (take (length word) (drop 0 word)) after n
+    (word before after : List ℕ) (n : ℕ) → length before ≡ longestLine → length word ≤ 16 → Put before 0 (take (length word) (drop 0 word)) after n
     → Said (plain word) before (set after n 10) (n + 1)
 unfolding plain
 word-said word before after n w h p =
@@ -35,7 +36,7 @@ add-result : tie.Need-add-result
 add-result c = omega (arith, ends (c .before .before .before .args .word .now) _ _ _ (c .copy .ensures), c .before .before .before .pre)
 
 returns : tie.Need-returns
-returns c = let w : length (c .before .before .before .args .out .now) ≡ 267 = search needs in word-said (c .before .before .before .args .word .now) (c .before .before .before .args .out .now) _ _ w (c .before .before .before .pre) (c .copy .ensures)
+returns c = let w : length (c .before .before .before .args .out .now) ≡ longestLine = search needs in word-said (c .before .before .before .args .word .now) (c .before .before .before .args .out .now) _ _ w (c .before .before .before .pre) (c .copy .ensures)
 
 pub say-word-spec : {M : Type 1} → statement M
 say-word-spec = tie.close (tie.spec copy-requires element-write-out add-result returns)

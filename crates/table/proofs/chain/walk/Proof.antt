@@ -12,6 +12,7 @@ use Rattle.table.proofs.HeaderFine.{header-fine, words-long, words-few}
 use Rattle.table.proofs.Walking.{Walking, walking-none, walking-again, walking-room, walking-more, walked-past, walked-again, walked-whole}
 use Rattle.table.proofs.chain.walk.Statement.{statement}
 use Rattle.table.proofs.chain.walk.Tie as tie
+use Rattle.model.specs.Sizes.{mostTasks}
 
 abbrev Inv-loop : tie.InvT-loop
 Inv-loop words records tasks₀ seen₀ count₀ at₀ tasks seen count at = Walking words tasks seen count at
@@ -23,7 +24,7 @@ abbrev μ-loop : tie.MeasureT-loop
 long : (c : tie.After-shared-slice-known Inv-loop μ-loop) → 3 ≤ length (now (c .before .args .words))
 long c = let ws = now (c .before .args .words) in words-long ws (header-fine ws (c .before .pre) .words-in)
 
-few : (c : tie.At-loop Inv-loop μ-loop) → records (now (c .before .before .before .before .args .words)) ≤ 32
+few : (c : tie.At-loop Inv-loop μ-loop) → records (now (c .before .before .before .before .args .words)) ≤ mostTasks
 few c =
     let s = c .before .before .before .before in
     let ws = now (s .args .words) in

@@ -7,8 +7,9 @@ use borrow.Author.Tests.{ltb-false}
 use native.Mathlib.Omega.{arith}
 use lib.ListN.{length}
 use Rattle.model.specs.Horizon.{horizon}
+use Rattle.model.specs.Sizes.{mostTasks}
 use Rattle.table.specs.Task.{tasksOf}
-use Rattle.table.specs.Limits.{horizonOut}
+use Rattle.table.specs.Limits.{horizonOut, mostHorizon}
 use Rattle.table.specs.Load.{tableWith, passing}
 use Rattle.table.proofs.Loads.{horizon-test, by-far, by-near, made}
 use Rattle.table.proofs.checks.by_horizon.Statement.{statement}
@@ -42,7 +43,7 @@ returns c =
     c .refused .ensures ∙ sym (by-far s (passing (a .rule) s) (sym (test t) ∙ sym (t .horizon-out .ensures) ∙ c .before .if1 .taken))
 
 add-t9 : tie.Need-add-t9
-add-t9 c = omega (arith, ltb-false 10000000 (c .before .before .before .last-start .result + c .before .before .hyperperiod .result) (sym (c .before .horizon-out .ensures) ∙ c .if1 .left))
+add-t9 c = omega (arith, ltb-false mostHorizon (c .before .before .before .last-start .result + c .before .before .hyperperiod .result) (sym (c .before .horizon-out .ensures) ∙ c .if1 .left))
 
 returns-2 : tie.Need-returns-2
 returns-2 c =
@@ -50,7 +51,7 @@ returns-2 c =
     let a = t .before .before .before .args in
     let s = tableWith (a .cores) (a .rule) (tasksOf (a .tasks) (a .count)) in
     let near = sym (t .horizon-out .ensures) ∙ c .if1 .left in
-    let there : length (a .tasks) ≡ 32 = search needs in
+    let there : length (a .tasks) ≡ mostTasks = search needs in
     made (a .cores) (a .rule) (a .tasks) (a .count) _ _ (omega arith) (t .before .before .before .pre .1 .1 .1) (t .before .before .last-start .ensures) (t .before .hyperperiod .ensures) near
     ∙ sym (by-near s (passing (a .rule) s) (sym (test t) ∙ near))
 

@@ -6,6 +6,7 @@ use native.Mathlib.Omega.{arith}
 use native.Mathlib.Numerals.{add-one}
 use lib.ListN.{length}
 use Rattle.model.specs.Task as model
+use Rattle.model.specs.Sizes.{mostTasks}
 use Rattle.table.specs.Task.{tasksOf}
 use Rattle.table.specs.Limits.{taskNumber}
 use Rattle.table.specs.Load.{tableWith, passing}
@@ -20,7 +21,7 @@ table c = tableWith (c .before .args .cores) (c .before .args .rule) (tasksOf (c
 
 counted : (c : tie.After-first-out) → length (tasksOf (c .before .args .t3) (c .before .args .count)) ≡ c .before .args .count
 counted c =
-    let there : length (c .before .args .t3) ≡ 32 = search needs in
+    let there : length (c .before .args .t3) ≡ mostTasks = search needs in
     tasks-length (c .before .args .t3) (c .before .args .count) (omega arith)
 
 first-out-requires : tie.Need-first-out-requires

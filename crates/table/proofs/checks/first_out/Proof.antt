@@ -14,6 +14,7 @@ use Rattle.table.specs.Limits.{taskOut}
 use Rattle.table.proofs.FirstOut.{out-here, out-none}
 use Rattle.table.proofs.checks.first_out.Statement.{statement}
 use Rattle.table.proofs.checks.first_out.Tie as tie
+use Rattle.model.specs.Sizes.{mostTasks}
 
 abbrev Inv-loop : tie.InvT-loop
 Inv-loop cores count tasks place₀ place = (place ≤ count) × ((p : ℕ) → p < place → taskOut cores (taskOf (getD tasks p noTask)) ≡ false)
@@ -37,7 +38,7 @@ returns : tie.Need-returns Inv-loop μ-loop
 returns c =
     let s = c .before .before .before .before in
     let a = s .before .args in
-    let there : length (a .t2) ≡ 32 = search needs in
+    let there : length (a .t2) ≡ mostTasks = search needs in
     let out : taskOut (a .cores) (taskOf (getD (a .t2) (s .loop .place) noTask)) ≡ true =
     ap not (ap (λ (n : ℕ). eqb n 0) (sym (c .before .task-number .ensures)) ∙ ne-eqb (c .before .task-number .result) 0 (c .if1 .taken)) in
     out-here (a .cores) (a .t2) (a .count) (omega arith) (s .loop .place) (omega arith) (s .loop .inv .1) out
@@ -56,7 +57,7 @@ loop-again c =
 returns-2 : tie.Need-returns-2 Inv-loop μ-loop
 returns-2 c =
     let a = c .before .before .args in
-    let there : length (a .t2) ≡ 32 = search needs in
+    let there : length (a .t2) ≡ mostTasks = search needs in
     let all : c .before .loop .place ≡ a .count = omega arith in
     all ∙ out-none (a .cores) (a .t2) (a .count) (omega arith) (rw all at (c .before .loop .inv .1))
 

@@ -9,13 +9,15 @@ use lib.Dec.{lit<}
 use lib.ListN.{length, getD, take}
 use Rattle.model.specs.Horizon.{hyperperiod}
 use Rattle.model.proofs.Starts.{hyperperiod-pos}
+use Rattle.model.specs.Sizes.{mostTasks}
 use Rattle.table.specs.Task.{tasksOf, noTask, Within}
 use Rattle.table.proofs.Hyperperiods.{hyperperiod-next, hyperperiod-over, hyperperiod-all}
 use Rattle.table.proofs.hyperperiod.hyperperiod.Statement.{statement}
 use Rattle.table.proofs.hyperperiod.hyperperiod.Tie as tie
+use Rattle.table.specs.Limits.{mostHorizon}
 
 abbrev Inv-loop : tie.InvT-loop
-Inv-loop count tasks multiple₀ i₀ multiple i = (i ≤ count) × (multiple ≤ 10000000) × (multiple ≡ hyperperiod (take i (tasksOf tasks count)))
+Inv-loop count tasks multiple₀ i₀ multiple i = (i ≤ count) × (multiple ≤ mostHorizon) × (multiple ≡ hyperperiod (take i (tasksOf tasks count)))
 
 abbrev μ-loop : tie.MeasureT-loop
 μ-loop count tasks multiple₀ i₀ multiple i = count - i
@@ -48,7 +50,7 @@ mul-multiple c =
     record { fits = lt-of-le-of-lt (mul-le-mul (le-trans (div-le-self (s .loop .multiple) (c .gcd .result)) (s .loop .inv .1)) (within .period-most)) (lit< tt) }
 
 there : (c : tie.Start Inv-loop μ-loop) → c .args .count ≤ length (c .args .t1)
-there c = let all : length (c .args .t1) ≡ 32 = search needs in omega arith
+there c = let all : length (c .args .t1) ≡ mostTasks = search needs in omega arith
 
 -- the product is the hyperperiod of one task more
 next :
@@ -66,8 +68,8 @@ returns : tie.Need-returns Inv-loop μ-loop
 returns c =
     let s = c .before .before .before in
     let a = s .before .args in
-    hyperperiod-over (a .t1) (a .count) (s .before .pre .1) (there (s .before)) 10000000 (s .loop .i + 1)
-    (subst (λ (n : ℕ). 10000000 < n) (next (c .before)) (c .if1 .taken))
+    hyperperiod-over (a .t1) (a .count) (s .before .pre .1) (there (s .before)) mostHorizon (s .loop .i + 1)
+    (subst (λ (n : ℕ). mostHorizon < n) (next (c .before)) (c .if1 .taken))
 
 add-i : tie.Need-add-i Inv-loop μ-loop
 add-i c = omega arith

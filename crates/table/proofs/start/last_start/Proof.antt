@@ -7,6 +7,7 @@ use native.Mathlib.Omega.{arith}
 use lib.ListN.{length, getD}
 use Rattle.model.specs.Task as model
 use Rattle.model.specs.Horizon.{releaseFrom, S}
+use Rattle.model.specs.Sizes.{mostTasks}
 use Rattle.table.specs.Task.{taskOf, tasksOf, noTask}
 use Rattle.table.proofs.Places.{tasks-length, task-at}
 use Rattle.table.proofs.Starts.{S-bound, S-next}
@@ -60,7 +61,7 @@ loop-again c =
 returns : tie.Need-returns Inv-loop μ-loop
 returns c =
     let a = c .before .before .args in
-    let there : length (a .t1) ≡ 32 = search needs in
+    let there : length (a .t1) ≡ mostTasks = search needs in
     let count : length (tasksOf (a .t1) (a .count)) ≡ a .count = tasks-length (a .t1) (a .count) (omega arith) in
     c .before .loop .inv .2 ∙ ap (S (tasksOf (a .t1) (a .count))) (omega arith)
 

@@ -3,7 +3,7 @@
 use mathlib.Core.Path.{sym, subst}
 use Rattle.judge.specs.declared.Verdict.{Verdict}
 use Rattle.text.specs.Output.{firstLine}
-use Rattle.text.specs.Said.{saidBy}
+use Rattle.judge.specs.Said.{saidBy}
 use Rattle.text.specs.Written.{Put}
 use borrow.Author.Needs.{needs}
 use Rattle.text.proofs.first.put_first.Statement.{statement}

@@ -1,0 +1,188 @@
+-- Number 14 of a buffer has the causes listed and no other: the places below the count decide whether it holds a run, and the run's own 14 the rest.
+-- (`no-run-exact`: what holds no run; `row-fourteen` and `advance-fourteen`: what is answered.)
+use mathlib.Core.Path.{_≡_, refl, sym, ap, _∙_}
+use mathlib.Core.Bool.{Bool, true, false, _&&_, cond, true≢false}
+use mathlib.Core.List.{List}
+use mathlib.Core.Logic.{_⊎_, inl, inr, ⊎-elim, _↔_}
+use Prim.Native.Nat.{ℕ, zero, suc, _+_, _*_, _≤_, _<_}
+use native.Mathlib.Nat.{not-suc-le-zero, le-of-suc-le-suc}
+use native.Mathlib.Omega.{arith}
+use lib.ListN.{length, getD, drop}
+use lib.Seq.{drop-drop}
+use lib.Dec.{leb, ltb}
+use borrow.Author.Tests.{leb-true, leb-false, lt-leb, eqb-false, ne-eqb}
+use Rattle.run.specs.declared.Answer.{Answer}
+use Rattle.run.specs.declared.Answer.the-variants.{Taken, Refused}
+use Rattle.run.specs.declared.Run.{Run}
+use Rattle.run.specs.Numbers.{RunOut, runOut, firstLateIn, misreportedIn}
+use Rattle.run.specs.Row.{rowAnswer, rowOf}
+use Rattle.run.specs.Advance.{advanceAnswer, advanceOf}
+use Rattle.run.proofs.Limits.{run-decides}
+use Rattle.capi.specs.Encoding.{headWords, eachWords, kindAt, secondAt, places, wordsTo, runWords, isPhase, isPlace, arePlaces, countIn, holds, runIn, Held, run, none, decode}
+use Rattle.capi.specs.Runs.{rowFrom, advanceFrom}
+use Rattle.capi.specs.Fourteen.{NoPhase, NoRun, short, many, no-place, BufferOut}
+use Rattle.capi.proofs.Places.{place-at, by-held, held-short, held-many, held-by}
+
+-- NO PLACE
+
+positive : (b : ℕ) → (b ≡ 0 → ⊥) → 0 < b
+positive zero n = absurd (n refl)
+positive (suc b) n = omega arith
+
+no-phase : (k b : ℕ) → isPhase k b ≡ false → NoPhase k b
+no-phase zero b e = inr (inl refl, positive b (eqb-false b 0 e))
+no-phase (suc zero) b e = absurd (true≢false e)
+no-phase (suc (suc zero)) b e = absurd (true≢false e)
+no-phase (suc (suc (suc zero))) b e = inr (inr refl, positive b (eqb-false b 0 e))
+no-phase (suc (suc (suc (suc k)))) b e = inl (omega arith)
+
+no-phase-back : (k b : ℕ) → NoPhase k b → isPhase k b ≡ false
+no-phase-back k b (inl h) = simp (lt-leb k 3 h)
+no-phase-back k b (inr (inl e, h)) = ap (λ (n : ℕ). isPhase n b) e ∙ ne-eqb b 0 (λ z. omega arith)
+no-phase-back k b (inr (inr e, h)) = ap (λ (n : ℕ). isPhase n b) e ∙ ne-eqb b 0 (λ z. omega arith)
+
+-- ONE OF SEVERAL PLACES
+
+and-false : (a b : Bool) → a && b ≡ false → (a ≡ false) ⊎ (b ≡ false)
+and-false true b e = inr e
+and-false false b e = inl refl
+
+right-false : (a b : Bool) → b ≡ false → a && b ≡ false
+right-false true b e = e
+right-false false b e = refl
+
+-- place p from the second place on
+after-first : (p : ℕ) (ws : List ℕ) → isPlace (drop (eachWords * p) (drop eachWords ws)) ≡ isPlace (drop (eachWords * suc p) ws)
+after-first p ws =
+    let e : eachWords + eachWords * p ≡ eachWords * suc p = omega arith in
+    ap isPlace (drop-drop (eachWords * p) eachWords ws ∙ ap (λ (k : ℕ). drop k ws) e)
+
+some-not : (n : ℕ) (ws : List ℕ) → arePlaces n ws ≡ false → (p : ℕ) × (p < n) × (isPlace (drop (eachWords * p) ws) ≡ false)
+unfolding arePlaces
+some-not zero ws e = absurd (true≢false e)
+some-not (suc n) ws e =
+    ⊎-elim
+    (λ h. (0, omega arith, h))
+    (λ h. let r = some-not n (drop eachWords ws) h in let l = r .1 in (suc (r .0), omega arith, sym (after-first (r .0) ws) ∙ r .2))
+    (and-false (isPlace ws) (arePlaces n (drop eachWords ws)) e)
+
+not-all : (n : ℕ) (ws : List ℕ) (p : ℕ) → p < n → isPlace (drop (eachWords * p) ws) ≡ false → arePlaces n ws ≡ false
+unfolding arePlaces
+not-all zero ws p l h = absurd (not-suc-le-zero l)
+not-all (suc n) ws zero l h = ap (λ (t : Bool). t && arePlaces n (drop eachWords ws)) h
+not-all (suc n) ws (suc p) l h =
+    right-false (isPlace ws) (arePlaces n (drop eachWords ws)) (not-all n (drop eachWords ws) p (le-of-suc-le-suc l) (after-first p ws ∙ h))
+
+-- NO RUN
+
+module _ (ws : List ℕ) where
+  -- the words of place p, in the buffer
+  in-buffer : (p : ℕ) → isPlace (drop (eachWords * p) (drop headWords ws)) ≡ isPhase (getD ws (wordsTo p + kindAt) 0) (getD ws (wordsTo p + secondAt) 0)
+  in-buffer p = ap isPlace (drop-drop (eachWords * p) headWords ws) ∙ place-at ws (wordsTo p)
+
+  no-run : holds ws ≡ false → NoRun ws
+  no-run e = by-length (leb runWords (length ws)) refl
+    where
+      by-count : runWords ≤ length ws → (t : Bool) → leb (countIn ws) places ≡ t → NoRun ws
+      by-count h true c =
+          let l = leb-true (countIn ws) places c in
+          let q = some-not (countIn ws) (drop headWords ws) (sym (held-by ws h l) ∙ e) in
+          no-place (q .0) (q .1) (no-phase _ _ (sym (in-buffer (q .0)) ∙ q .2))
+      by-count h false c = many (leb-false (countIn ws) places c)
+
+      by-length : (t : Bool) → leb runWords (length ws) ≡ t → NoRun ws
+      by-length true h = by-count (leb-true runWords (length ws) h) (leb (countIn ws) places) refl
+      by-length false h = short (leb-false runWords (length ws) h)
+
+  no-run-back : NoRun ws → holds ws ≡ false
+  no-run-back x = by-length (leb runWords (length ws)) refl x
+    where
+      by-count : (h : runWords ≤ length ws) (t : Bool) → leb (countIn ws) places ≡ t → NoRun ws → holds ws ≡ false
+      by-count h true c (short l) = absurd (omega arith)
+      by-count h true c (many l) = held-many ws h l
+      by-count h true c (no-place p l n) =
+          held-by ws h (leb-true (countIn ws) places c)
+          ∙ not-all (countIn ws) (drop headWords ws) p l (in-buffer p ∙ no-phase-back _ _ n)
+      by-count h false c y = held-many ws h (leb-false (countIn ws) places c)
+
+      by-length : (t : Bool) → leb runWords (length ws) ≡ t → NoRun ws → holds ws ≡ false
+      by-length true h y = by-count (leb-true runWords (length ws) h) (leb (countIn ws) places) refl y
+      by-length false h y = held-short ws (leb-false runWords (length ws) h)
+
+  -- a buffer is decoded to no run exactly if it holds none
+  pub no-run-exact : (decode ws ≡ none) ↔ NoRun ws
+  no-run-exact = (λ e. there (holds ws) refl e, λ x. by-held ws (no-run-back x))
+    where
+      there : (t : Bool) → holds ws ≡ t → decode ws ≡ none → NoRun ws
+      there true h e =
+          let same : run (runIn ws) ≡ none = sym (by-held ws h) ∙ e in
+          absurd (let z : _≡_ {A = ℕ} 0 1 = cc in omega arith)
+      there false h e = no-run h
+
+-- 14
+
+-- what 14 comes before is not 14
+fourteen-by : (t : Bool) (a : Answer) → (a ≡ Refused 14 0 → ⊥) → cond t (Refused 14 0) a ≡ Refused 14 0 → t ≡ true
+fourteen-by true a n e = refl
+fourteen-by false a n e = absurd (n e)
+
+not-taken : Taken ≡ Refused 14 0 → ⊥
+not-taken e = let z : _≡_ {A = ℕ} 0 1 = cc in omega arith
+
+not-number : (n p : ℕ) → (n ≡ 14 → ⊥) → Refused n p ≡ Refused 14 0 → ⊥
+not-number n p h e = h cc
+
+not-late : (t : Bool) (p : ℕ) (a : Answer) → (a ≡ Refused 14 0 → ⊥) → cond t (Refused 15 p) a ≡ Refused 14 0 → ⊥
+not-late true p a n e = not-number 15 p (λ z. omega arith) e
+not-late false p a n e = n e
+
+not-misreported : (t : Bool) → cond t (Refused 16 0) Taken ≡ Refused 14 0 → ⊥
+not-misreported true e = not-number 16 0 (λ z. omega arith) e
+not-misreported false e = not-taken e
+
+module _ (r : Run) where
+  row-out : rowAnswer r ≡ Refused 14 0 → RunOut r
+  unfolding rowAnswer
+  row-out e =
+      run-decides r .0 (fourteen-by (runOut r) _ (not-late (ltb (firstLateIn r) (r .count)) (suc (firstLateIn r)) Taken not-taken) e)
+
+  row-out-back : RunOut r → rowAnswer r ≡ Refused 14 0
+  unfolding rowAnswer
+  row-out-back h = simp (run-decides r .1 h)
+
+  advance-out : (x : ℕ) → advanceAnswer r x ≡ Refused 14 0 → RunOut r
+  unfolding advanceAnswer
+  advance-out x e =
+      run-decides r .0
+      (fourteen-by (runOut r) _
+      (not-late (ltb (firstLateIn r) (r .count)) (suc (firstLateIn r)) (cond (misreportedIn r x) (Refused 16 0) Taken) (not-misreported (misreportedIn r x))) e)
+
+  advance-out-back : (x : ℕ) → RunOut r → advanceAnswer r x ≡ Refused 14 0
+  unfolding advanceAnswer
+  advance-out-back x h = simp (run-decides r .1 h)
+
+module _ (ws : List ℕ) where
+  -- an answer that goes by what the buffer holds is 14 exactly if 14 applies to the buffer
+  by-buffer :
+      (f : Held → Answer) → f none ≡ Refused 14 0 → (f (run (runIn ws)) ≡ Refused 14 0 → RunOut (runIn ws)) → (RunOut (runIn ws) → f (run (runIn ws)) ≡ Refused 14 0)
+      → (f (decode ws) ≡ Refused 14 0) ↔ BufferOut ws
+  by-buffer f n there back = (λ e. forth (holds ws) refl e, λ x. from (holds ws) refl x)
+    where
+      forth : (t : Bool) → holds ws ≡ t → f (decode ws) ≡ Refused 14 0 → BufferOut ws
+      forth true h e = inr (there (sym (ap f (by-held ws h)) ∙ e))
+      forth false h e = inl (no-run ws h)
+
+      from : (t : Bool) → holds ws ≡ t → BufferOut ws → f (decode ws) ≡ Refused 14 0
+      from true h (inl x) = absurd (true≢false (sym h ∙ no-run-back ws x))
+      from true h (inr x) = ap f (by-held ws h) ∙ back x
+      from false h x = ap f (by-held ws h) ∙ n
+
+  -- a row of the buffer is refused with 14 exactly if 14 applies to the buffer
+  pub row-fourteen : (rowFrom (decode ws) .answer ≡ Refused 14 0) ↔ BufferOut ws
+  unfolding rowOf
+  row-fourteen = by-buffer (λ h. rowFrom h .answer) refl (row-out (runIn ws)) (row-out-back (runIn ws))
+
+  -- and so is an advance
+  pub advance-fourteen : (x : ℕ) → (advanceFrom (decode ws) x ws .answer ≡ Refused 14 0) ↔ BufferOut ws
+  unfolding advanceOf
+  advance-fourteen x = by-buffer (λ h. advanceFrom h x ws .answer) refl (advance-out (runIn ws) x) (advance-out-back (runIn ws) x)

@@ -1,0 +1,26 @@
+-- Number 14 for a run in a buffer: when row and advance answer it. `row-fourteen` and `advance-fourteen` show that these are all its causes.
+use mathlib.Core.Path.{_≡_}
+use mathlib.Core.List.{List}
+use mathlib.Core.Logic.{_⊎_}
+use Prim.Native.Nat.{ℕ, _+_, _<_}
+use lib.ListN.{length, getD}
+use Rattle.run.specs.Numbers.{RunOut}
+use Rattle.capi.specs.Encoding.{kindAt, secondAt, places, wordsTo, runWords, countIn, runIn}
+
+-- no phase has this kind and this second number: the kind is above 3, or it is 0 or 3 (Coming, Resting) and the second number is not 0
+abbrev pub NoPhase : ℕ → ℕ → Type 0
+NoPhase k b = (3 < k) ⊎ (((k ≡ 0) ⊎ (k ≡ 3)) × (0 < b))
+
+-- the words of place p are no place
+abbrev pub NoPlace : List ℕ → ℕ → Type 0
+NoPlace ws p = NoPhase (getD ws (wordsTo p + kindAt) 0) (getD ws (wordsTo p + secondAt) 0)
+
+-- a buffer holds no run: it is too short for one, its count is above 32, or the words of a place below the count are none
+pub data NoRun (ws : List ℕ) : Type 0 where
+  short : length ws < runWords → NoRun ws
+  many : places < countIn ws → NoRun ws
+  no-place : (p : ℕ) → p < countIn ws → NoPlace ws p → NoRun ws
+
+-- 14 of a buffer: it holds no run, or 14 turns down the run that it holds
+abbrev pub BufferOut : List ℕ → Type 0
+BufferOut ws = NoRun ws ⊎ RunOut (runIn ws)

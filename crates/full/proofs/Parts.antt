@@ -1,0 +1,99 @@
+-- A list that has several numbers for each of 32 places: a store in one part of it, and a read. The machine of such a list.
+use mathlib.Core.Path.{_≡_, refl, sym, ap, _∙_}
+use mathlib.Core.List.{List, [], _∷_}
+use Prim.Native.Nat.{ℕ, zero, suc, _+_, _-_, _≤_, _<_}
+use native.Mathlib.Nat.{zero-add, suc-add, not-suc-le-zero, le-of-suc-le-suc}
+use native.Mathlib.Omega.{arith}
+use lib.ListN.{length, getD, set, take, drop, length-take, length-drop}
+use lib.Seq.{getD-take, getD-drop, take-set-le, length-take-le}
+use Rattle.full.specs.Places.{part}
+use Rattle.full.specs.Machine.{Machine, machine, machineOf, Sized}
+use Rattle.full.proofs.Moves.{same-machine}
+
+-- a store in the front, and in the rest, of a list
+take-set : (n : ℕ) (xs : List ℕ) (i v : ℕ) → take n (set xs i v) ≡ set (take n xs) i v
+take-set zero xs i v = refl
+take-set (suc n) [] i v = refl
+take-set (suc n) (x ∷ xs) zero v = refl
+take-set (suc n) (x ∷ xs) (suc i) v = ap (λ (l : List ℕ). x ∷ l) (take-set n xs i v)
+
+drop-set : (k : ℕ) (xs : List ℕ) (i v : ℕ) → drop k (set xs (k + i) v) ≡ set (drop k xs) i v
+drop-set zero xs i v = ap (λ (j : ℕ). set xs j v) (zero-add i)
+drop-set (suc k) [] i v = refl
+drop-set (suc k) (x ∷ xs) i v = ap (λ (j : ℕ). drop (suc k) (set (x ∷ xs) j v)) (suc-add k i) ∙ drop-set k xs i v
+
+drop-set-lt : (k : ℕ) (xs : List ℕ) (i v : ℕ) → i < k → drop k (set xs i v) ≡ drop k xs
+drop-set-lt zero xs i v h = absurd (not-suc-le-zero h)
+drop-set-lt (suc k) [] i v h = refl
+drop-set-lt (suc k) (x ∷ xs) zero v h = refl
+drop-set-lt (suc k) (x ∷ xs) (suc i) v h = drop-set-lt k xs i v (le-of-suc-le-suc h)
+
+-- a store before the rest leaves it, and one at k + i is one at i of it
+drop-set-ge : (k : ℕ) (xs : List ℕ) (i v : ℕ) → k ≤ i → drop k (set xs i v) ≡ set (drop k xs) (i - k) v
+drop-set-ge k xs i v h =
+    let e : i ≡ k + (i - k) = omega arith in
+    ap (λ (j : ℕ). drop k (set xs j v)) e ∙ drop-set k xs (i - k) v
+
+-- PARTS
+
+pub part-at : (k : ℕ) (xs : List ℕ) (p : ℕ) → p < 32 → getD (part k xs) p 0 ≡ getD xs (k + p) 0
+unfolding part
+part-at k xs p h = getD-take 32 (drop k xs) p 0 h ∙ getD-drop k xs p 0
+
+pub front-at : (xs : List ℕ) (p : ℕ) → p < 32 → getD (part 0 xs) p 0 ≡ getD xs p 0
+unfolding part
+front-at xs p h = getD-take 32 xs p 0 h
+
+pub part-set : (k : ℕ) (xs : List ℕ) (p v : ℕ) → part k (set xs (k + p) v) ≡ set (part k xs) p v
+unfolding part
+part-set k xs p v = ap (take 32) (drop-set k xs p v) ∙ take-set 32 (drop k xs) p v
+
+pub part-before : (k : ℕ) (xs : List ℕ) (i v : ℕ) → k + 32 ≤ i → part k (set xs i v) ≡ part k xs
+unfolding part
+part-before k xs i v h =
+    ap (take 32) (drop-set-ge k xs i v (omega arith)) ∙ take-set-le 32 (drop k xs) (i - k) v (omega arith)
+
+pub part-after : (k : ℕ) (xs : List ℕ) (i v : ℕ) → i < k → part k (set xs i v) ≡ part k xs
+unfolding part
+part-after k xs i v h = ap (take 32) (drop-set-lt k xs i v h)
+
+pub part-length : (k : ℕ) (xs : List ℕ) → k + 32 ≤ length xs → length (part k xs) ≡ 32
+unfolding part
+part-length k xs h = length-take-le 32 (drop k xs) (omega (arith, length-drop k xs))
+
+-- THE MACHINE of a list of 96
+
+-- a store at each of its parts
+module _ (xs : List ℕ) (c p v : ℕ) (h : p < 32) where
+  pub store-left : machineOf (set xs p v) c ≡ machine (set (part 0 xs) p v) (part 32 xs) (part 64 xs) c
+  store-left = same-machine (unfold part in take-set 32 xs p v) (part-after 32 xs p v (omega arith)) (part-after 64 xs p v (omega arith)) refl
+
+  pub store-moment : machineOf (set xs (32 + p) v) c ≡ machine (part 0 xs) (set (part 32 xs) p v) (part 64 xs) c
+  store-moment = same-machine (part-before 0 xs (32 + p) v (omega arith)) (part-set 32 xs p v) (part-after 64 xs (32 + p) v (omega arith)) refl
+
+  pub store-next : machineOf (set xs (64 + p) v) c ≡ machine (part 0 xs) (part 32 xs) (set (part 64 xs) p v) c
+  store-next = same-machine (part-before 0 xs (64 + p) v (omega arith)) (part-before 32 xs (64 + p) v (omega arith)) (part-set 64 xs p v) refl
+
+-- a store at all three parts, as a release makes it
+pub stored-all :
+    (xs : List ℕ) (c p v w x : ℕ) → p < 32
+    → machineOf (set (set (set xs p v) (32 + p) w) (64 + p) x) c ≡ machine (set (part 0 xs) p v) (set (part 32 xs) p w) (set (part 64 xs) p x) c
+stored-all xs c p v w x h =
+    store-next (set (set xs p v) (32 + p) w) c p x h
+    ∙ (ap (λ (m : Machine). machine (m .left) (m .moment) (set (m .next) p x) c) (store-moment (set xs p v) c p w h)
+    ∙ ap (λ (m : Machine). machine (m .left) (set (m .moment) p w) (set (m .next) p x) c) (store-left xs c p v h))
+
+-- .. and at the last two, as the start makes it
+pub stored-later :
+    (xs : List ℕ) (c p w x : ℕ) → p < 32
+    → machineOf (set (set xs (32 + p) w) (64 + p) x) c ≡ machine (part 0 xs) (set (part 32 xs) p w) (set (part 64 xs) p x) c
+stored-later xs c p w x h =
+    store-next (set xs (32 + p) w) c p x h
+    ∙ ap (λ (m : Machine). machine (m .left) (m .moment) (set (m .next) p x) c) (store-moment xs c p w h)
+
+pub sized-of : (xs : List ℕ) (c : ℕ) → length xs ≡ 96 → Sized (machineOf xs c)
+sized-of xs c e = record {
+  left = part-length 0 xs (omega arith);
+  moment = part-length 32 xs (omega arith);
+  next = part-length 64 xs (omega arith);
+}

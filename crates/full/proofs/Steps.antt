@@ -1,0 +1,77 @@
+-- One tick as code takes it is the step of the definitions: the due moments looked at or the bell not rung, the choice kept or made anew.
+use mathlib.Core.Path.{_≡_, sym, ap, ap₂, _∙_}
+use mathlib.Core.Bool.{Bool, true, false, cond}
+use Prim.Native.Nat.{ℕ, _+_, _^_, _≤_, _<_}
+use lib.Dec.{leb, eqb}
+use borrow.Author.Tests.{le-leb, lt-leb, eq-eqb, ne-eqb}
+use Rattle.model.specs.Search.{bit, upFrom}
+use Rattle.model.specs.Task.{ruleOf}
+use Rattle.model.specs.Grants.{claimants}
+use Rattle.rule.specs.Shares.{granted}
+use Rattle.full.specs.Machine.{Machine, releasedDue, earliest, DueMoments, worked}
+use Rattle.full.specs.Stand.{Numbers, Stand, after, bellAfter, choice, grantedIn, next}
+use Rattle.full.proofs.Sets.{set-is}
+
+module _ (n : Numbers) (s : Stand) where
+  abbrev due : Machine
+  due = releasedDue (s .tick) (n .lengths) (n .deadlines) (n .periods) (n .count) (s .machine)
+
+  after-by : (b : Bool) → leb (s .bell) (s .tick) ≡ b → cond b due (s .machine) ≡ after n s
+  unfolding after
+  after-by b e = ap (λ (x : Bool). cond x due (s .machine)) (sym e)
+
+  bell-by : (b : Bool) → leb (s .bell) (s .tick) ≡ b → cond b (earliest (n .count) (after n s .moment)) (s .bell) ≡ bellAfter n s
+  unfolding bellAfter
+  bell-by b e = ap (λ (x : Bool). cond x (earliest (n .count) (after n s .moment)) (s .bell)) (sym e)
+
+  -- the due moments are looked at
+  pub due-looked :
+      (m′ : Machine) (bell′ : ℕ) → s .bell ≤ s .tick → DueMoments (s .tick) (n .count) (n .lengths) (n .deadlines) (n .periods) (s .machine) m′ bell′
+      → (m′ ≡ after n s) × (bell′ ≡ bellAfter n s)
+  due-looked m′ bell′ l d =
+      let e = le-leb (s .bell) (s .tick) l in
+      let x : m′ ≡ after n s = d .machines ∙ after-by true e in
+      (x, d .bell ∙ ap (λ (m : Machine). earliest (n .count) (m .moment)) x ∙ bell-by true e)
+
+  -- or the bell has not rung
+  pub due-skipped : s .tick < s .bell → (s .machine ≡ after n s) × (s .bell ≡ bellAfter n s)
+  due-skipped l = let e = lt-leb (s .bell) (s .tick) l in (after-by false e, bell-by false e)
+
+  granted-by : (b : Bool) → eqb (after n s .claiming) (s .chosen) ≡ b → cond b (s .granted) (choice n (after n s .claiming)) ≡ grantedIn n s
+  unfolding grantedIn
+  granted-by b e = ap (λ (x : Bool). cond x (s .granted) (choice n (after n s .claiming))) (sym e)
+
+  -- the choice is kept
+  pub chosen-kept : (c : ℕ) → c ≡ after n s .claiming → c ≡ s .chosen → s .granted ≡ grantedIn n s
+  chosen-kept c x h = granted-by true (eq-eqb (after n s .claiming) (s .chosen) (sym x ∙ h))
+
+  -- or made anew
+  pub chosen-anew :
+      (c g : ℕ) → c ≡ after n s .claiming → (c ≡ s .chosen → ⊥) → g < 2 ^ 32
+      → ((q : ℕ) → bit g q ≡ granted (ruleOf (n .rule)) (claimants (n .widths) (bit c)) (upFrom 0 (n .cores)) q) → g ≡ grantedIn n s
+  chosen-anew c g x ne small e =
+      set-is 32 g (granted (ruleOf (n .rule)) (claimants (n .widths) (bit c)) (upFrom 0 (n .cores))) small (λ i l. e i) ∙ ap (choice n) x
+      ∙ granted-by false (ne-eqb (after n s .claiming) (s .chosen) (λ h. ne (x ∙ h)))
+
+  -- the tick is entered
+  pub step-taken :
+      (m₁ m₂ : Machine) (bell chosen granted : ℕ) → m₁ ≡ after n s → bell ≡ bellAfter n s → chosen ≡ after n s .claiming → granted ≡ grantedIn n s
+      → m₂ ≡ worked (bit granted) m₁
+      → record { tick = s .tick + 1; machine = m₂; bell = bell; chosen = chosen; granted = granted } ≡ next n s
+  unfolding next
+  step-taken m₁ m₂ bell chosen granted em eb ec eg w = λ i. record {
+    tick = s .tick + 1;
+    machine = (w ∙ ap₂ (λ (g : ℕ) (m : Machine). worked (bit g) m) eg em) i;
+    bell = eb i;
+    chosen = ec i;
+    granted = eg i;
+  }
+
+-- the tick is the next, and the claimants of the tick are those that the choice is kept for
+pub tick-on : (n : Numbers) (s s′ : Stand) → s′ ≡ next n s → s′ .tick ≡ s .tick + 1
+unfolding next
+tick-on n s s′ e = ap (λ (x : Stand). x .tick) e
+
+pub chosen-on : (n : Numbers) (s s′ : Stand) → s′ ≡ next n s → s′ .chosen ≡ after n s .claiming
+unfolding next
+chosen-on n s s′ e = ap (λ (x : Stand). x .chosen) e

@@ -1,0 +1,14 @@
+-- The sizes that everything shares (scope, 'The table'): the most tasks and cores that a table has, and the largest word.
+use Prim.Native.Nat.{ℕ}
+
+-- at most 32 records, and so at most 32 tasks
+abbrev pub mostTasks : ℕ
+mostTasks = 32
+
+-- at most 64 cores
+abbrev pub mostCores : ℕ
+mostCores = 64
+
+-- words are 32-bit numbers: the largest
+abbrev pub mostWord : ℕ
+mostWord = 4294967295

@@ -1,0 +1,67 @@
+-- `replay::listen` meets its contract: the session is fed what the read brought. Assumes nothing.
+use native.Mathlib.Omega.{arith}
+use mathlib.Core.Path.{refl, sym}
+use lib.Seq.{length-take-le}
+use Rattle.replay.proofs.Turning.{heard-unread, heard-end, heard-bytes}
+use borrow.Author.Needs.{needs}
+use Rattle.replay.proofs.listen.Statement.{statement}
+use Rattle.replay.proofs.listen.Tie as tie
+
+read-requires : tie.Need-read-requires
+read-requires c κs = search needs
+
+slice-aggregate-say-unread : tie.Need-slice-aggregate-say-unread
+slice-aggregate-say-unread c = search needs
+
+say-unread-requires : tie.Need-say-unread-requires
+say-unread-requires c κs = search needs
+
+same-length : tie.Need-same-length
+same-length c = search needs
+
+returns : tie.Need-returns
+returns c = heard-unread _ _ _ (c .before .before .if1 .taken) refl refl
+
+finish-requires : tie.Need-finish-requires
+finish-requires c κs = search needs
+
+same-length-2 : tie.Need-same-length-2
+same-length-2 c = search needs
+
+returns-2 : tie.Need-returns-2
+returns-2 c = heard-end _ _ _ (c .before .before .if1 .left) (c .before .if2 .taken) (c .finish .ensures) refl
+
+slice-reshare-prefix-talk : tie.Need-slice-reshare-prefix-talk
+slice-reshare-prefix-talk c = search needs
+
+slice-aggregate-talk : tie.Need-slice-aggregate-talk
+slice-aggregate-talk c =
+    let h = c .before .before .before .before .before in
+    sym (length-take-le (h .read .result .held) (h .read .last .0) (omega (arith, h .read .ensures .behind .most, h .read .ensures .behind .same)))
+
+talk-requires : tie.Need-talk-requires
+talk-requires c κs = search needs
+
+same-length-3 : tie.Need-same-length-3
+same-length-3 c = search needs
+
+returns-3 : tie.Need-returns-3
+returns-3 c = heard-bytes _ _ _ (c .before .before .before .if1 .left) (c .before .before .if2 .left) (c .talk .ensures)
+
+pub listen-spec : {M : Type 1} → statement M
+listen-spec =
+    tie.close
+    (tie.spec
+    read-requires
+    slice-aggregate-say-unread
+    say-unread-requires
+    same-length
+    returns
+    finish-requires
+    same-length-2
+    returns-2
+    slice-reshare-prefix-talk
+    slice-aggregate-talk
+    talk-requires
+    same-length-3
+    returns-3)

@@ -1,0 +1,16 @@
+-- How many bytes were handed to writes that took them.
+use mathlib.Core.Bool.{true, false}
+use mathlib.Core.List.{List}
+use mathlib.Core.Path.{_≡_}
+use Prim.Native.Nat.{ℕ, _+_, _<_, min}
+use lib.ListN.{length}
+use Rattle.stream.specs.declared.Sent.{Sent}
+
+-- a count that stops at the largest number that it can be
+abbrev pub counted : ℕ → ℕ
+counted n = min n 18446744073709551615
+
+-- after n bytes writes were handed these: they took all of them; or they took so many, and what stands behind those they did not take
+pub record SentOf (n : ℕ) (bytes : List ℕ) (r : Sent) : Type 0 where
+  pub all : r .whole ≡ true → r .count ≡ counted (n + length bytes)
+  pub part : r .whole ≡ false → (k : ℕ) × (k < length bytes) × (r .count ≡ counted (n + k))

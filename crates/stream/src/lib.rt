@@ -1,0 +1,103 @@
+// Reading standard input and writing standard output, with counts of what was moved.
+ghost use mathlib.Core.Path.{_≡_};
+ghost use Prim.Native.Nat.{_+_, _≤_};
+ghost use lib.ListN.{length};
+ghost use Rattle.stream.specs.Reading.{ReadOf, FilledOf};
+ghost use Rattle.stream.specs.Sent.{counted, SentOf};
+use libc::STDERR_FILENO;
+use libc::STDIN_FILENO;
+use libc::STDOUT_FILENO;
+
+// How many bytes a buffer holds, whether a read said that the input has ended, and whether one failed.
+pub struct Reading {
+    pub held: usize,
+    pub ended: bool,
+    pub failed: bool,
+}
+
+// How many bytes writes have taken, and whether they took all that they were last handed.
+pub struct Sent {
+    pub count: usize,
+    pub whole: bool,
+}
+
+// Reads once, behind the bytes that the buffer holds.
+pub fn read(buffer: &mut [u8], held: usize) -> Reading
+    requires { ⌜ held ≤ length (now buffer) ⌝ }
+    ensures { λ r. ⌜ ReadOf held (now (buffer .entry)) (now (buffer .exit)) r ⌝ }
+{
+    let got = libc::read(STDIN_FILENO, &mut buffer[held..]);
+    if got < 0 {
+        return Reading {
+            held: held,
+            ended: false,
+            failed: true,
+        };
+    }
+    let count = io::count(got, &buffer[held..]);
+    Reading {
+        held: held + count,
+        ended: count == 0,
+        failed: false,
+    }
+}
+
+// Reads on behind the bytes that the buffer holds, until it is full, the input ends or a read fails.
+pub fn fill(buffer: &mut [u8], held: usize) -> Reading
+    requires { ⌜ held ≤ length (now buffer) ⌝ }
+    ensures { λ r. ⌜ FilledOf held (now (buffer .entry)) (now (buffer .exit)) r ⌝ }
+{
+    let mut reading = Reading {
+        held: held,
+        ended: false,
+        failed: false,
+    };
+    while reading.held < buffer.len() {
+        reading = read(buffer, reading.held);
+        if reading.ended {
+            return reading;
+        }
+        if reading.failed {
+            return reading;
+        }
+    }
+    reading
+}
+
+// A count and more, which stops at the largest number that a count can be.
+fn add(count: usize, more: usize) -> usize
+    ensures { λ r. ⌜ r ≡ counted (count + more) ⌝ }
+{
+    if usize::MAX - count < more {
+        return usize::MAX;
+    }
+    count + more
+}
+
+// Hands bytes to writes until all are taken or a write takes none, after `count` bytes that were taken before.
+pub fn send(count: usize, bytes: &[u8]) -> Sent
+    ensures { λ r. ⌜ SentOf count (now (bytes .entry)) r ⌝ }
+{
+    let mut at: usize = 0;
+    while at < bytes.len() {
+        let got = libc::write(STDOUT_FILENO, &bytes[at..]);
+        let taken = io::count(got, &bytes[at..]);
+        if taken == 0 {
+            return Sent {
+                count: add(count, at),
+                whole: false,
+            };
+        }
+        at += taken;
+    }
+    Sent {
+        count: add(count, at),
+        whole: true,
+    }
+}
+
+// Says on standard error that a program could not read its input.
+pub fn say_unread(name: &[u8]) {
+    io::write_all(STDERR_FILENO, name);
+    io::write_all(STDERR_FILENO, b": standard input could not be read\n");
+}

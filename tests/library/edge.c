@@ -1,0 +1,257 @@
+/* Hostile calls of the library from C, each beside what the header says of it: NULL with length 0, lengths around every limit,
+   counts and words of all ones, anything past the count. Every slice lies between guards, which must stay.
+   Prints each call that differs; the last line is 'N calls, M wrong'. */
+#include <stdio.h>
+#include <string.h>
+#include "sivorandra.h"
+
+enum { RUN = SIVORANDRA_RUN_WORDS, ROW = SIVORANDRA_ROW_BYTES, HEAD = SIVORANDRA_RUN_HEAD_WORDS, PLACE = SIVORANDRA_RUN_PLACE_WORDS };
+enum { GUARD = 8, MOST = 300, KIND = HEAD + 5, TABLE = 21, USED = HEAD + PLACE * 3 };
+static const uint32_t ONES = 0xffffffffu;
+
+/* head, cores, rule; then for each record: next, offset, width, length, deadline, period */
+static const uint32_t full[TABLE] = { 1, 3, 1, 2, 0, 2, 2, 5, 5, 3, 0, 2, 3, 5, 5, 0, 0, 1, 4, 5, 5 };
+static const uint32_t miss[TABLE] = { 1, 2, 2, 2, 0, 1, 3, 3, 4, 3, 0, 2, 1, 4, 4, 0, 0, 1, 2, 2, 4 };
+static const uint8_t rows[] = { 1, 1, 3, 1, 1, 3, 2, 2, 3, 2, 2, 3, 2, 2, 0 };
+
+/* A slice to lend, and what must stand there after the call; NULL where it has no length and says so. */
+typedef struct { uint32_t now[MOST], want[MOST]; size_t len; int null; } Words;
+typedef struct { uint8_t now[MOST], want[MOST]; size_t len; int null; } Bytes;
+
+static unsigned calls, wrong;
+
+static uint32_t *words_at(Words *w) { return w->null ? NULL : w->now + GUARD; }
+static uint8_t *bytes_at(Bytes *b) { return b->null ? NULL : b->now + GUARD; }
+
+static void words(Words *w, size_t len, const uint32_t *first, size_t n)
+{
+    for (size_t i = 0; i < MOST; i++)
+        w->now[i] = 0xa5a50000u + (uint32_t)i;
+    if (n)
+        memcpy(w->now + GUARD, first, n * sizeof *first);
+    memcpy(w->want, w->now, sizeof w->now);
+    w->len = len;
+    w->null = 0;
+}
+
+static void bytes(Bytes *b, size_t len)
+{
+    memset(b->now, 0xa5, sizeof b->now);
+    memcpy(b->want, b->now, sizeof b->now);
+    b->len = len;
+    b->null = 0;
+}
+
+static Words run, answer, numbers;
+static Bytes row;
+
+/* Every lent slice afresh: room for what a call writes, and a run of the table in `run`. */
+static void fresh(void)
+{
+    static uint32_t started[RUN];
+    uint32_t three[3];
+    sivorandra_start(full, TABLE, started, RUN, three, 3);
+    words(&run, RUN, started, RUN);
+    words(&answer, 3, NULL, 0);
+    words(&numbers, 2, NULL, 0);
+    bytes(&row, ROW);
+}
+
+/* What must stand in the answer's first words. */
+static void answered(uint32_t kind, uint32_t first, uint32_t second)
+{
+    uint32_t three[3] = { kind, first, second };
+    memcpy(answer.want + GUARD, three, sizeof three);
+}
+
+static void refused(uint32_t number) { answered(SIVORANDRA_REFUSED, number, 0); }
+
+/* What must stand in the first words of the run, or in the first bytes of the row. */
+static void run_words(const uint32_t *first, size_t n) { memcpy(run.want + GUARD, first, n * sizeof *first); }
+static void row_bytes(const uint8_t *first, size_t n)
+{
+    memset(row.want + GUARD, 0, ROW);
+    if (n)
+        memcpy(row.want + GUARD, first, n);
+}
+
+/* So many words of the run lent. */
+static void set(size_t at, size_t n, uint32_t word)
+{
+    for (size_t i = GUARD + at; i < GUARD + at + n; i++)
+        run.now[i] = run.want[i] = word;
+}
+
+/* The run of a refused start: all zeros, every phase Resting(0). */
+static void no_run(void)
+{
+    uint32_t none[RUN] = { 0 };
+    for (size_t at = KIND; at < RUN; at += PLACE)
+        none[at] = 3;
+    run_words(none, RUN);
+}
+
+/* The value must be this, and every lent slice as wanted. */
+static void expect(const char *what, uint32_t value, uint32_t got)
+{
+    int same = value == got && !memcmp(run.now, run.want, sizeof run.now) && !memcmp(answer.now, answer.want, sizeof answer.now)
+        && !memcmp(numbers.now, numbers.want, sizeof numbers.now) && !memcmp(row.now, row.want, sizeof row.now);
+    calls++;
+    if (same)
+        return;
+    wrong++;
+    printf("%s: value %u, answer %u %u %u\n", what, (unsigned)got, (unsigned)answer.now[GUARD], (unsigned)answer.now[GUARD + 1], (unsigned)answer.now[GUARD + 2]);
+}
+
+#define ANSWER words_at(&answer), answer.len
+static uint32_t judge(const uint32_t *table, size_t len) { return sivorandra_judge(table, len, ANSWER); }
+static uint32_t plan(const uint32_t *table, size_t len, uint32_t a, uint32_t b) { return sivorandra_plan(table, len, a, b, bytes_at(&row), row.len, ANSWER); }
+static uint32_t replay(const uint32_t *table, size_t len, const uint32_t *reports, size_t n)
+{
+    return sivorandra_replay(table, len, reports, n, words_at(&numbers), numbers.len, bytes_at(&row), row.len, ANSWER);
+}
+static uint32_t start(const uint32_t *table, size_t len) { return sivorandra_start(table, len, words_at(&run), run.len, ANSWER); }
+static uint32_t shown(void) { return sivorandra_row(words_at(&run), run.len, bytes_at(&row), row.len, ANSWER); }
+static uint32_t advance(uint32_t reports) { return sivorandra_advance(words_at(&run), run.len, reports, ANSWER); }
+
+/* A slice of length 0 whose pointer is NULL. */
+#define NONE(slice) ((slice).len = 0, (slice).null = 1)
+
+/* NULL for each slice of each function, and for all of them. */
+static void nulls(void)
+{
+    static const uint32_t reports[2] = { 0, 0 };
+    fresh(), refused(1), expect("judge: no words", 0, judge(NULL, 0));
+    fresh(), NONE(answer), expect("judge: no answer", 1, judge(full, TABLE));
+    fresh(), NONE(answer), expect("judge: nothing", 1, judge(NULL, 0));
+    fresh(), refused(1), expect("plan: no words", 0, plan(NULL, 0, 0, 0));
+    fresh(), NONE(row), answered(0, 0, 0), expect("plan: no rows, none asked", 0, plan(full, TABLE, 0, 0));
+    fresh(), NONE(row), refused(11), expect("plan: no rows, one asked", 0, plan(full, TABLE, 0, 1));
+    fresh(), NONE(answer), expect("plan: no answer", 1, plan(full, TABLE, 0, 5));
+    fresh(), NONE(row), NONE(answer), expect("plan: nothing", 1, plan(NULL, 0, 0, 5));
+    fresh(), refused(1), expect("replay: no words", 0, replay(NULL, 0, reports, 2));
+    fresh(), answered(0, 0, 0), row_bytes(rows, 3), expect("replay: no reports", 0, replay(full, TABLE, NULL, 0));
+    fresh(), NONE(numbers), answered(0, 0, 0), row_bytes(rows, 3), expect("replay: no reports, no numbers", 0, replay(full, TABLE, NULL, 0));
+    fresh(), NONE(numbers), expect("replay: reports, no numbers", 1, replay(full, TABLE, reports, 2));
+    fresh(), NONE(row), expect("replay: no row", 1, replay(full, TABLE, reports, 2));
+    fresh(), NONE(answer), expect("replay: no answer", 1, replay(full, TABLE, reports, 2));
+    fresh(), NONE(numbers), NONE(row), refused(1), expect("replay: nothing but an answer", 0, replay(NULL, 0, NULL, 0));
+    fresh(), refused(1), no_run(), expect("start: no words", 0, start(NULL, 0));
+    fresh(), NONE(run), expect("start: no run", 1, start(full, TABLE));
+    fresh(), NONE(answer), expect("start: no answer", 1, start(full, TABLE));
+    fresh(), NONE(run), refused(14), row_bytes(NULL, 0), expect("row: no run", 0, shown());
+    fresh(), NONE(row), expect("row: no row", 1, shown());
+    fresh(), NONE(answer), expect("row: no answer", 1, shown());
+    fresh(), NONE(run), refused(14), expect("advance: no run", 0, advance(0));
+    fresh(), NONE(answer), expect("advance: no answer", 1, advance(0));
+    fresh(), NONE(run), NONE(answer), expect("advance: nothing", 1, advance(ONES));
+}
+
+/* A table of too few, too many or senseless words. */
+static void tables(void)
+{
+    static const struct { size_t len; uint32_t number; } lens[] = {
+        { 0, 1 }, { 1, 1 }, { 2, 1 }, { 3, 5 }, { 4, 1 }, { 8, 1 }, { 9, 5 }, { 15, 5 }, { 20, 1 },
+    };
+    static uint32_t ones[1 << 20];
+    memset(ones, 0xff, sizeof ones);
+    for (size_t i = 0; i < sizeof lens / sizeof lens[0]; i++) {
+        fresh(), refused(lens[i].number), expect("judge: fewer words", 0, judge(full, lens[i].len));
+        fresh(), refused(lens[i].number), expect("plan: fewer words", 0, plan(full, lens[i].len, ONES, 0));
+        fresh(), refused(lens[i].number), no_run(), expect("start: fewer words", 0, start(full, lens[i].len));
+    }
+    static const struct { size_t len; uint32_t number; } many[] = { { 3, 2 }, { 195, 2 }, { 196, 1 }, { 201, 1 }, { 1 << 20, 1 } };
+    for (size_t i = 0; i < sizeof many / sizeof many[0]; i++) {
+        fresh(), refused(many[i].number), expect("judge: all ones", 0, judge(ones, many[i].len));
+        fresh(), refused(many[i].number), no_run(), expect("start: all ones", 0, start(ones, many[i].len));
+        fresh(), refused(many[i].number), expect("replay: all ones", 0, replay(ones, many[i].len, ones, 1 << 20));
+    }
+    fresh(), answered(SIVORANDRA_FULL, 0, 5), expect("judge", 0, judge(full, TABLE));
+    fresh(), answered(SIVORANDRA_MISS, 2, 3), expect("judge: a miss", 0, judge(miss, TABLE));
+    fresh(), refused(13), no_run(), expect("start: a miss", 0, start(miss, TABLE));
+    fresh(), refused(13), expect("replay: a miss", 0, replay(miss, TABLE, ones, 2));
+}
+
+/* Bounds of a plan. */
+static void bounds(void)
+{
+    static const struct { uint32_t a, b; size_t len; uint32_t number; } asked[] = {
+        { 0, 5, 15, 0 }, { 0, 5, 16, 0 }, { 0, 5, 14, 11 }, { 5, 5, 0, 0 }, { 4, 5, 3, 0 }, { 4, 5, 2, 11 }, { 1, 0, 64, 10 }, { 0, 6, 64, 10 },
+        { 6, 6, 64, 10 }, { 0, 0xffffffffu, 64, 10 }, { 0xffffffffu, 0xffffffffu, 64, 10 }, { 0xffffffffu, 0, 64, 10 }, { 6, 5, 0, 10 },
+    };
+    for (size_t i = 0; i < sizeof asked / sizeof asked[0]; i++) {
+        uint32_t a = asked[i].a, b = asked[i].b;
+        fresh(), row.len = asked[i].len;
+        if (asked[i].number)
+            refused(asked[i].number);
+        else
+            answered(0, 0, 0), memcpy(row.want + GUARD, rows + 3 * a, 3 * (b - a));
+        expect("plan: bounds", 0, plan(full, TABLE, a, b));
+    }
+    fresh(), answered(0, 0, 0), memcpy(row.want + GUARD, "\1\0\1\0", 4), expect("plan: up to a miss", 0, plan(miss, TABLE, 0, 2));
+    fresh(), refused(12), expect("plan: past a miss", 0, plan(miss, TABLE, 0, 3));
+}
+
+/* The lengths of the slices that a call writes to. */
+static void lengths(void)
+{
+    static const size_t lens[] = { 0, 1, 2, 3, 4, 63, 64, 65, 258, 259, 260 };
+    uint32_t first[RUN], next[RUN];
+    uint32_t three[3];
+    sivorandra_start(full, TABLE, first, RUN, three, 3);
+    memcpy(next, first, sizeof first);
+    sivorandra_advance(next, RUN, 0, three, 3);
+    for (size_t i = 0; i < sizeof lens / sizeof lens[0]; i++) {
+        size_t len = lens[i];
+        int holds = len >= RUN, shows = len >= ROW, says = len >= 3;
+        fresh(), words(&run, len, NULL, 0);
+        if (holds)
+            answered(0, 0, 0), run_words(first, RUN);
+        expect("start: words of the run", !holds, start(full, TABLE));
+        fresh(), run.len = len, holds ? answered(0, 0, 0) : refused(14), row_bytes(rows, holds ? 3 : 0), expect("row: words of the run", 0, shown());
+        fresh(), run.len = len, holds ? answered(0, 0, 0) : refused(14), run_words(holds ? next : first, RUN), expect("advance: words of the run", 0, advance(0));
+        fresh(), row.len = len;
+        if (shows)
+            answered(0, 0, 0), row_bytes(rows, 3);
+        expect("row: bytes of the row", !shows, shown());
+        fresh(), answer.len = len;
+        if (says)
+            answered(0, 0, 0), run_words(next, RUN);
+        expect("advance: words of the answer", !says, advance(0));
+    }
+}
+
+/* Runs built by hand: heads and phases that are none, and anything past the count. */
+static void built(void)
+{
+    static const uint32_t faults[][2] = {
+        { 0, 0 }, { 0, 4 }, { 0, 0xffffffffu }, { 1, 0 }, { 1, 65 }, { 1, 0xffffffffu }, { 2, 0 }, { 2, 4 }, { 2, 33 }, { 2, 0xffffffffu },
+        { KIND, 2 }, { KIND, 4 }, { KIND, 0xffffffffu }, { KIND + 1, 0xffffffffu }, { KIND + 2, 0xffffffffu },
+    };
+    for (size_t i = 0; i < sizeof faults / sizeof faults[0]; i++) {
+        fresh(), set(faults[i][0], 1, faults[i][1]), refused(14), row_bytes(NULL, 0), expect("row: a fault", 0, shown());
+        fresh(), set(faults[i][0], 1, faults[i][1]), refused(14), expect("advance: a fault", 0, advance(ONES));
+    }
+    fresh(), set(0, RUN, 0), refused(14), row_bytes(NULL, 0), expect("row: all zeros", 0, shown());
+    fresh(), set(0, RUN, 0), refused(14), expect("advance: all zeros", 0, advance(0));
+    fresh(), set(0, RUN, ONES), refused(14), row_bytes(NULL, 0), expect("row: all ones", 0, shown());
+    fresh(), set(0, RUN, ONES), refused(14), expect("advance: all ones", 0, advance(0));
+    uint32_t next[RUN], three[3];
+    fresh(), memcpy(next, run.now + GUARD, sizeof next), sivorandra_advance(next, RUN, 1, three, 3);
+    for (size_t at = USED; at < RUN; at += PLACE - 1) {
+        fresh(), set(at, 1, ONES), answered(0, 0, 0), row_bytes(rows, 3), expect("row: a word past the count", 0, shown());
+        fresh(), set(at, 1, ONES), answered(0, 0, 0), run_words(next, USED), expect("advance: a word past the count", 0, advance(1));
+    }
+    fresh(), set(USED, RUN - USED, ONES), answered(0, 0, 0), row_bytes(rows, 3), expect("row: ones past the count", 0, shown());
+    fresh(), set(USED, RUN - USED, ONES), answered(0, 0, 0), run_words(next, USED), expect("advance: ones past the count", 0, advance(1));
+    fresh(), refused(16), expect("advance: every report", 0, advance(ONES));
+    fresh(), refused(16), expect("advance: a report past the count", 0, advance(8));
+    fresh(), refused(16), expect("advance: a report of one that waits", 0, advance(2));
+}
+
+int main(void)
+{
+    nulls(), tables(), bounds(), lengths(), built();
+    printf("%u calls, %u wrong\n", calls, wrong);
+    return wrong != 0;
+}
