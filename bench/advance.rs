@@ -22,7 +22,7 @@ extern "C" {
 
 #[allow(dead_code)]
 mod simulator {
-    include!("../tests/gangsim.rs");
+    include!("simulator.rs");
 
     /// The book's answers to a list of report sets, and the row of every tick where `rows` is set.
     pub fn advances(words: &[u32], reports: &[u32], rows: bool, numbers: &mut [u32]) {

@@ -30,7 +30,7 @@ def rust(source, work):
 def heavy():
     """The simulator and the peer, and the paths of the heavy tables, in a folder that goes away."""
     with tempfile.TemporaryDirectory() as work:
-        gangsim, peer = rust(ROOT / "tests" / "gangsim.rs", work), rust(HERE / "peer.rs", work)
+        gangsim, peer = rust(HERE / "simulator.rs", work), rust(HERE / "peer.rs", work)
         tables = pathlib.Path(work) / "tables"
         subprocess.run([sys.executable, str(HERE / "tables.py"), str(tables), gangsim], check=True)
         yield gangsim, peer, sorted(tables.iterdir())

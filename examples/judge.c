@@ -1,4 +1,4 @@
-/* The table of tables/a.txt from C: its verdict, its rows, and two ticks of a run in which the job of position 1 ends early.
+/* The table of tables/a.txt from C: its verdict, why where it misses, its rows, and two ticks of a run in which the job of position 1 ends early.
    gcc -Iinclude examples/judge.c target/staticlib/libcapi.a -o judge */
 #include <stdio.h>
 #include "sivorandra.h"
@@ -38,6 +38,12 @@ int main(void)
     printf("%s %u %u\n", words[answer[0]], (unsigned)answer[1], (unsigned)answer[2]);
 
     uint32_t ticks = answer[0] == SIVORANDRA_MISS ? answer[1] : answer[1] + answer[2];
+    if (answer[0] == SIVORANDRA_MISS) {
+        uint8_t sentence[SIVORANDRA_SENTENCE_BYTES];
+        if (!fine(sivorandra_sentence(table, WORDS, sentence, sizeof sentence, answer, 3), answer))
+            return 1;
+        printf("%.*s\n", (int)answer[1], (const char *)sentence);
+    }
     uint8_t rows[5 * CORES];
     if (!fine(sivorandra_plan(table, WORDS, 0, ticks, rows, sizeof rows, answer, 3), answer))
         return 1;

@@ -1,5 +1,5 @@
-//! The table of tables/a.txt from Rust: its verdict, its rows, and two ticks of a run in which the job of position 1 ends early.
-use sivorandra::{judge, plan, Refusal, Run, Verdict};
+//! The table of tables/a.txt from Rust: its verdict, why where it misses, its rows, and two ticks of a run in which the job of position 1 ends early.
+use sivorandra::{judge, plan, sentence, Refusal, Run, Verdict};
 
 // head, cores, rule; then for each record: next, offset, width, length, deadline, period
 const TABLE: [u32; 21] = [
@@ -27,6 +27,7 @@ fn show() -> Result<(), Refusal> {
         }
         Verdict::Miss { tick, position } => {
             println!("miss {tick} {position}");
+            println!("{}", sentence(&TABLE)?);
             tick
         }
     };

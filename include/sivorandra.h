@@ -22,8 +22,10 @@ extern "C" {
 #define SIVORANDRA_FIRM 0u        /* from sivorandra_judge: S and P */
 #define SIVORANDRA_FULL 1u        /* S and P */
 #define SIVORANDRA_MISS 2u        /* tick and position */
-#define SIVORANDRA_REFUSED 3u     /* number, 1 to 16, and position */
+#define SIVORANDRA_LENGTH 0u      /* from sivorandra_sentence: the sentence's length, and 0 */
+#define SIVORANDRA_REFUSED 3u     /* number, 1 to 18, and position */
 #define SIVORANDRA_ROW_REFUSED 4u /* the last row of a replay: number and position */
+#define SIVORANDRA_NO_SENTENCE 5u /* from sivorandra_facts: 0 and 0 */
 
 /* The words that a run kept between calls takes: rule, cores and count, then 32 places of which the first count are used; a place is
    O, v, C, D, T, the kind of its phase (0 Coming, 1 Working, 2 Holding, 3 Resting) and its two numbers, 0 for one that it does not have. */
@@ -33,6 +35,14 @@ extern "C" {
 
 /* The bytes of a row: core 0 first, the position or 0 for idle. */
 #define SIVORANDRA_ROW_BYTES 64
+
+/* No sentence is longer: a buffer of so many bytes is never refused with 18. */
+#define SIVORANDRA_SENTENCE_BYTES 698
+
+/* The words of the facts of a miss: position, tick, ticks had, C, then for positions 1 to 32 in how many of the late job's waiting ticks the
+   task ran, 0 for one that the sentence does not name. */
+#define SIVORANDRA_FACT_HEAD_WORDS 4
+#define SIVORANDRA_FACT_WORDS (SIVORANDRA_FACT_HEAD_WORDS + 32)
 
 /* The verdict on the table in `words`: firm, full, miss or refused. */
 uint32_t sivorandra_judge(const uint32_t *words, size_t words_len,
@@ -73,6 +83,21 @@ uint32_t sivorandra_row(const uint32_t *run, size_t run_len,
    Bit p of `reports` says that the job of position p + 1, which works in this tick, ends after it. */
 uint32_t sivorandra_advance(uint32_t *run, size_t run_len, uint32_t reports,
                             uint32_t *answer, size_t answer_len);
+
+/* Writes the miss of the table in `words` as a sentence at the front of `buffer`, with no newline and no NUL: its length, or refused. Bytes
+   behind the sentence stay, and a refusal leaves `buffer` as found; 17 says that the table has no miss, 18 that `buffer` is shorter than
+   the sentence. `task 3 misses at tick 5 with 3 of 4 ticks; task 1 ran 2.`: the late task, the tick, the ticks that its job had out of C,
+   and each task above that ran in waiting ticks of it, with their number. */
+uint32_t sivorandra_sentence(const uint32_t *words, size_t words_len,
+                             uint8_t *buffer, size_t buffer_len,
+                             uint32_t *answer, size_t answer_len);
+
+/* Reads a sentence back: done, or no sentence. It writes all SIVORANDRA_FACT_WORDS words, all zeros where the bytes are no sentence: position
+   1 to 32, fewer ticks had than C, the tasks named above the late one and in order, their counts above 0, every number below 2^64 and without
+   zeros in front, and nothing before or behind. */
+uint32_t sivorandra_facts(const uint8_t *bytes, size_t bytes_len,
+                          uint64_t *facts, size_t facts_len,
+                          uint32_t *answer, size_t answer_len);
 
 #ifdef __cplusplus
 }

@@ -9,6 +9,7 @@ import tempfile
 ROOT = pathlib.Path(__file__).resolve().parents[1]
 LONGEST = 300  # bytes of anything that a failing test shows
 BLOCK = 1 << 16
+STAGE = "101"  # the last request that the project has
 passed = failed = 0
 
 
@@ -26,11 +27,11 @@ def said(command, text):
 
 @contextlib.contextmanager
 def simulator():
-    """The path of tests/gangsim.rs, built."""
+    """The first words of a command of tests/gangsim.rs, built: its path, and the last request that it is to follow."""
     with tempfile.TemporaryDirectory() as work:
         built = os.path.join(work, "gangsim")
-        subprocess.run(["rustc", "-O", "-o", built, str(ROOT / "tests" / "gangsim.rs")], check=True, stderr=subprocess.DEVNULL)
-        yield built
+        subprocess.run(["rustc", "--edition", "2021", "-O", "-o", built, str(ROOT / "tests" / "gangsim.rs")], check=True, stderr=subprocess.DEVNULL)
+        yield [built, "--stage", STAGE]
 
 
 def vectors(kind):

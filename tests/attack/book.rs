@@ -2,7 +2,7 @@
 //! `words` says in which phases the scope's section 'The run in the cab' puts them.
 #![allow(dead_code)]
 
-include!("../gangsim.rs");
+include!("../../bench/simulator.rs");
 
 use sivorandra::{Refusal as Refused, Verdict as Judged, RUN_HEAD_WORDS, RUN_PLACE_WORDS, ROW_BYTES, RUN_WORDS};
 

@@ -112,6 +112,7 @@ static uint32_t replay(const uint32_t *table, size_t len, const uint32_t *report
 }
 static uint32_t start(const uint32_t *table, size_t len) { return sivorandra_start(table, len, words_at(&run), run.len, ANSWER); }
 static uint32_t shown(void) { return sivorandra_row(words_at(&run), run.len, bytes_at(&row), row.len, ANSWER); }
+static uint32_t sentence(const uint32_t *table, size_t len) { return sivorandra_sentence(table, len, bytes_at(&row), row.len, ANSWER); }
 static uint32_t advance(uint32_t reports) { return sivorandra_advance(words_at(&run), run.len, reports, ANSWER); }
 
 /* A slice of length 0 whose pointer is NULL. */
@@ -145,6 +146,49 @@ static void nulls(void)
     fresh(), NONE(run), refused(14), expect("advance: no run", 0, advance(0));
     fresh(), NONE(answer), expect("advance: no answer", 1, advance(0));
     fresh(), NONE(run), NONE(answer), expect("advance: nothing", 1, advance(ONES));
+}
+
+/* The sentence and its facts: lengths around every limit, and NULL for each slice. `row` is the buffer. */
+static void sentences(void)
+{
+    static const uint32_t late[9] = { 1, 1, 1, 0, 0, 1, 2, 1, 1 };
+    static const char said[] = "task 1 misses at tick 1 with 1 of 2 ticks.";
+    enum { LENGTH = sizeof said - 1, FACTS = SIVORANDRA_FACT_WORDS };
+    static const uint64_t told[4] = { 1, 1, 1, 2 };
+    for (size_t len = 0; len <= LENGTH + 2; len++) {
+        fresh(), row.len = len;
+        if (len < LENGTH)
+            refused(18);
+        else
+            answered(SIVORANDRA_LENGTH, LENGTH, 0), memcpy(row.want + GUARD, said, LENGTH);
+        expect("sentence: a buffer of every length", 0, sentence(late, 9));
+    }
+    fresh(), NONE(row), refused(18), expect("sentence: no buffer", 0, sentence(late, 9));
+    fresh(), NONE(row), refused(17), expect("sentence: no buffer, no miss", 0, sentence(full, TABLE));
+    fresh(), refused(17), expect("sentence: no miss", 0, sentence(full, TABLE));
+    fresh(), NONE(row), refused(1), expect("sentence: no words", 0, sentence(NULL, 0));
+    fresh(), NONE(answer), expect("sentence: no answer", 1, sentence(late, 9));
+    fresh(), answer.len = 2, expect("sentence: a short answer", 1, sentence(late, 9));
+
+    static const size_t lens[] = { 0, FACTS - 1, FACTS, FACTS + 1 };
+    for (size_t i = 0; i < 8; i++) {
+        uint64_t facts[FACTS + 2], want[FACTS + 2];
+        size_t len = lens[i / 2], length = i % 2 ? LENGTH : LENGTH - 1;
+        for (size_t k = 0; k < FACTS + 2; k++)
+            facts[k] = want[k] = 0xa5a5a5a5a5a5a5a5u + k;
+        fresh();
+        if (len >= FACTS) {
+            memset(want, 0, FACTS * sizeof want[0]);
+            if (length == LENGTH)
+                memcpy(want, told, sizeof told);
+            answered(length == LENGTH ? SIVORANDRA_DONE : SIVORANDRA_NO_SENTENCE, 0, 0);
+        }
+        uint32_t got = sivorandra_facts((const uint8_t *)said, length, len ? facts : NULL, len, ANSWER);
+        expect("facts", len < FACTS, memcmp(facts, want, sizeof facts) ? 2 : got);
+    }
+    uint64_t none[FACTS] = { 0 };
+    fresh(), answered(SIVORANDRA_NO_SENTENCE, 0, 0), expect("facts: no bytes", 0, sivorandra_facts(NULL, 0, none, FACTS, ANSWER));
+    fresh(), NONE(answer), expect("facts: no answer", 1, sivorandra_facts(NULL, 0, none, FACTS, ANSWER));
 }
 
 /* A table of too few, too many or senseless words. */
@@ -251,7 +295,7 @@ static void built(void)
 
 int main(void)
 {
-    nulls(), tables(), bounds(), lengths(), built();
+    nulls(), sentences(), tables(), bounds(), lengths(), built();
     printf("%u calls, %u wrong\n", calls, wrong);
     return wrong != 0;
 }

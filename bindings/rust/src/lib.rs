@@ -12,6 +12,11 @@ pub const RUN_PLACE_WORDS: usize = 8;
 /// The words that a run takes: it has 32 places, of which the first count are used.
 pub const RUN_WORDS: usize = RUN_HEAD_WORDS + RUN_PLACE_WORDS * 32;
 
+/// No sentence is longer: a buffer of so many bytes is never refused with 18.
+pub const SENTENCE_BYTES: usize = 698;
+/// The words of facts in front of the counts: position, tick, ticks had, and C.
+const FACT_HEAD_WORDS: usize = 4;
+
 /// The verdict on a table that is not refused.
 #[derive(Clone, Copy, Debug, PartialEq, Eq)]
 pub enum Verdict {
@@ -23,7 +28,7 @@ pub enum Verdict {
     Miss { tick: u32, position: u32 },
 }
 
-/// What is turned down: one of the scope's numbers, 1 to 16, and a position, or 0.
+/// What is turned down: one of the scope's numbers, 1 to 18, and a position, or 0.
 #[derive(Clone, Copy, Debug, PartialEq, Eq)]
 pub struct Refusal {
     pub number: u32,
@@ -43,6 +48,21 @@ pub struct Run {
     words: [u32; RUN_WORDS],
 }
 
+/// What a sentence says of a miss.
+#[derive(Clone, Copy, Debug, PartialEq, Eq)]
+pub struct Facts {
+    /// The position of the late task.
+    pub position: u32,
+    /// The tick of the miss.
+    pub tick: u64,
+    /// The ticks that its job had ..
+    pub had: u64,
+    /// .. out of C.
+    pub length: u64,
+    /// In how many of its waiting ticks the task at position p + 1 ran; 0 for one that is not named.
+    pub ran: [u64; 32],
+}
+
 #[link(name = "capi", kind = "static")]
 extern "C" {
     fn sivorandra_judge(words: *const u32, words_len: usize, answer: *mut u32, answer_len: usize) -> u32;
@@ -50,6 +70,8 @@ extern "C" {
     fn sivorandra_replay(words: *const u32, words_len: usize, reports: *const u32, reports_len: usize, numbers: *mut u32, numbers_len: usize, row: *mut u8, row_len: usize, answer: *mut u32, answer_len: usize) -> u32;
     fn sivorandra_start(words: *const u32, words_len: usize, run: *mut u32, run_len: usize, answer: *mut u32, answer_len: usize) -> u32;
     fn sivorandra_row(run: *const u32, run_len: usize, row: *mut u8, row_len: usize, answer: *mut u32, answer_len: usize) -> u32;
+    fn sivorandra_sentence(words: *const u32, words_len: usize, buffer: *mut u8, buffer_len: usize, answer: *mut u32, answer_len: usize) -> u32;
+    fn sivorandra_facts(bytes: *const u8, bytes_len: usize, facts: *mut u64, facts_len: usize, answer: *mut u32, answer_len: usize) -> u32;
     fn sivorandra_advance(run: *mut u32, run_len: usize, reports: u32, answer: *mut u32, answer_len: usize) -> u32;
 }
 
@@ -82,6 +104,31 @@ pub fn judge(words: &[u32]) -> Result<Verdict, Refusal> {
 /// Writes rows `a` up to but not including `b` of the full-length run into `rows`, one byte a core.
 pub fn plan(words: &[u32], a: u32, b: u32, rows: &mut [u8]) -> Result<(), Refusal> {
     done(ask(|answer, len| unsafe { sivorandra_plan(words.as_ptr(), words.len(), a, b, rows.as_mut_ptr(), rows.len(), answer, len) }))
+}
+
+/// Writes the miss of a table's words as a sentence at the front of `buffer`, and gives its length. A refusal leaves the buffer as found: 17 where the table has no miss, 18 where the buffer is shorter than the sentence.
+pub fn sentence_in(words: &[u32], buffer: &mut [u8]) -> Result<usize, Refusal> {
+    let [case, first, second] = ask(|answer, len| unsafe { sivorandra_sentence(words.as_ptr(), words.len(), buffer.as_mut_ptr(), buffer.len(), answer, len) });
+    match case {
+        0 => Ok(first as usize),
+        _ => Err(Refusal { number: first, position: second }),
+    }
+}
+
+/// The miss of a table's words in a sentence; 17 where the table has no miss.
+pub fn sentence(words: &[u32]) -> Result<String, Refusal> {
+    let mut buffer = [0; SENTENCE_BYTES];
+    let length = sentence_in(words, &mut buffer)?;
+    Ok(buffer[..length].iter().map(|&byte| byte as char).collect())
+}
+
+/// The facts that a sentence says; none where the bytes are no sentence.
+pub fn facts_of(bytes: &[u8]) -> Option<Facts> {
+    let mut words = [0; FACT_HEAD_WORDS + 32];
+    let [case, ..] = ask(|answer, len| unsafe { sivorandra_facts(bytes.as_ptr(), bytes.len(), words.as_mut_ptr(), words.len(), answer, len) });
+    let mut ran = [0; 32];
+    ran.copy_from_slice(&words[FACT_HEAD_WORDS..]);
+    (case == 0).then_some(Facts { position: words[0] as u32, tick: words[1], had: words[2], length: words[3], ran })
 }
 
 /// Starts a run, advances it by each set of reports, and asks its row.

@@ -6,3 +6,4 @@ pub mod Runs
 pub mod Lists
 pub mod Past
 pub mod Fourteen
+pub mod Sentences

@@ -1,13 +1,18 @@
 -- An answer in three words: the case and its two numbers, 0 where it has none.
 use mathlib.Core.List.{List, _∷_}
-use Prim.Native.Nat.{ℕ}
+use mathlib.Core.Path.{_≡_}
+use Prim.Native.Nat.{ℕ, _≤_}
 use lib.ListN.{drop}
+use Rattle.model.specs.Sizes.{mostWord}
 use Rattle.judge.specs.declared.Verdict.{Verdict}
 use Rattle.judge.specs.declared.Verdict.the-variants as judge
 use Rattle.plan.specs.declared.Planned.{Planned}
 use Rattle.plan.specs.declared.Planned.the-variants as plan
 use Rattle.run.specs.declared.Answer.{Answer}
 use Rattle.run.specs.declared.Answer.the-variants as run
+use Rattle.sentence.specs.declared.Spoken.{Spoken}
+use Rattle.sentence.specs.declared.Spoken.the-variants as sentence
+use Rattle.sentence.specs.Spoken.{spokenTold, ofLength}
 use Rattle.capi.specs.declared.told.Told.{Told}
 
 -- a case and its two numbers
@@ -30,6 +35,15 @@ ofPlanned (plan.Refused n p) = says 3 n p
 abbrev pub ofAnswer : Answer → Told
 ofAnswer run.Taken = says 0 0 0
 ofAnswer (run.Refused n p) = says 3 n p
+
+-- the sentence: 0 its length, 3 Refused number position
+abbrev pub ofSpoken : Spoken → Told
+ofSpoken (sentence.Length n) = says 0 n 0
+ofSpoken (sentence.Refused n p) = says 3 n p
+
+-- a length fits in a word
+abbrev pub Fits : Spoken → Type 0
+Fits v = (n : ℕ) → spokenTold v ≡ ofLength n → n ≤ mostWord
 
 -- the lent slice afterwards: the three words, and behind them what stood there
 abbrev pub written : Told → List ℕ → List ℕ

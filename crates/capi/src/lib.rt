@@ -7,8 +7,10 @@ ghost use mathlib.Core.List.{[], _∷_};
 ghost use Rattle.capi.specs.Calls.{judgeCall, planCall};
 ghost use Rattle.capi.specs.Replays.{replayCall};
 ghost use Rattle.capi.specs.Runs.{startCall, rowCall, advanceCall};
+ghost use Rattle.capi.specs.Sentences.{sentenceCall, factsCall};
 use model::ROW;
 
+mod facts; // facts.rt: the facts of a miss in a lent buffer of words
 mod held; // held.rt: a run in a lent buffer of words
 mod replays; // replays.rt: what a replay says
 mod told; // told.rt: an answer in three words
@@ -122,6 +124,40 @@ pub extern "C" fn sivorandra_advance(run: &mut [u32], reports: u32, answer: &mut
     }
     let given = held::advance(run, reports);
     let told = told::of_answer(given);
+    told::put(told, answer);
+    0
+}
+
+// The miss of a table's words in a sentence at the front of `buffer`: case 0 and its length, or 3 Refused number position and the buffer as found.
+#[no_mangle]
+pub extern "C" fn sivorandra_sentence(words: &[u32], buffer: &mut [u8], answer: &mut [u32]) -> u32
+    ensures { λ r. ⌜ record { value = r; lent = now (buffer .exit) ∷ (now (answer .exit) ∷ []) } ≡ sentenceCall (now (words .entry)) (now (buffer .entry)) (now (answer .entry)) ⌝ }
+{
+    if answer.len() < 3 {
+        return 1;
+    }
+    let spoken = sentence::sentence(words, buffer);
+    let told = told::of_spoken(spoken);
+    told::put(told, answer);
+    0
+}
+
+// The facts that the bytes of a sentence say into the first 36 words of `facts`: position, tick, ticks had, C, and the counts of positions 1 to 32,
+// 0 for one that is not named. Case 0; 5 where the bytes are no sentence, and 36 zeros.
+#[no_mangle]
+pub extern "C" fn sivorandra_facts(bytes: &[u8], facts: &mut [u64], answer: &mut [u32]) -> u32
+    ensures { λ r. ⌜ record { value = r; lent = now (facts .exit) ∷ (now (answer .exit) ∷ []) } ≡ factsCall (now (bytes .entry)) (now (facts .entry)) (now (answer .entry)) ⌝ }
+{
+    if answer.len() < 3 {
+        return 1;
+    }
+    if facts.len() < facts::WORDS {
+        return 1;
+    }
+    let found = sentence::facts_of(bytes);
+    let held = found.facts;
+    facts::put_facts(held, facts);
+    let told = facts::of_found(found.found);
     told::put(told, answer);
     0
 }

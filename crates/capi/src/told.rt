@@ -2,10 +2,11 @@
 ghost use mathlib.Core.Path.{_≡_};
 ghost use Prim.Native.Nat.{_≤_};
 ghost use lib.ListN.{length};
-ghost use Rattle.capi.specs.Told.{ofVerdict, ofPlanned, ofAnswer, written};
+ghost use Rattle.capi.specs.Told.{ofVerdict, ofPlanned, ofAnswer, ofSpoken, Fits, written};
 use judge::Verdict;
 use plan::Planned;
 use run::Answer;
+use sentence::Spoken;
 
 // The case and its two numbers, 0 where it has none.
 pub struct Told {
@@ -71,6 +72,25 @@ pub(crate) fn of_answer(answer: Answer) -> Told
             second: 0,
         },
         Answer::Refused(number, position) => Told {
+            kind: 3,
+            first: number,
+            second: position,
+        },
+    }
+}
+
+// What the sentence answers: its length, or a refusal.
+pub(crate) fn of_spoken(spoken: Spoken) -> Told
+    requires { ⌜ Fits spoken ⌝ }
+    ensures { λ r. ⌜ r ≡ ofSpoken spoken ⌝ }
+{
+    match spoken {
+        Spoken::Length(length) => Told {
+            kind: 0,
+            first: length as u32,
+            second: 0,
+        },
+        Spoken::Refused(number, position) => Told {
             kind: 3,
             first: number,
             second: position,

@@ -54,24 +54,57 @@ off-both false b e = refl
 on-first : (a b : Bool) → a ≡ true → b ≡ false → a && not b ≡ true
 on-first a b d e = rw (d, e)
 
+-- the lowest place of what is left of a set is taken off: it is the one place more that is taken
+pub record Off (granted rest : ℕ) : Type 0 where
+  pub below : first rest < 32
+  pub here : bit rest (first rest) ≡ true
+  pub one : digit rest ≡ 2 ^ first rest
+  pub some : 0 < digit rest
+  pub within : digit rest ≤ rest
+  pub subset : (q : ℕ) → bit (rest - digit rest) q ≡ true → bit granted q ≡ true
+  pub off : taken granted rest (first rest) ≡ false
+  pub on : taken granted (rest - digit rest) (first rest) ≡ true
+  pub same : (q : ℕ) → (q ≡ first rest → ⊥) → taken granted (rest - digit rest) q ≡ taken granted rest q
+
+module _ (granted rest : ℕ) (some : 0 < rest) (fits : rest < 2 ^ 32) (subset : (q : ℕ) → bit rest q ≡ true → bit granted q ≡ true) where
+  low : (first rest < 32) × Lowest rest (first rest)
+  low = lowest-of 32 rest some fits
+
+  one : digit rest ≡ 2 ^ first rest
+  one = shifted-one 32 (first rest) (low .0)
+
+  out-of : Without rest (first rest)
+  out-of = without rest (first rest) (low .1 .here)
+
+  others : (q : ℕ) → bit (rest - digit rest) q ≡ bit rest q && not (eqb q (first rest))
+  others q = ap (λ (b : ℕ). bit (rest - b) q) one ∙ out-of .others q
+
+  pub taken-off : Off granted rest
+  taken-off = record {
+    below = low .0;
+    here = low .1 .here;
+    one = one;
+    some = omega (arith, one, pow-pos (first rest));
+    within = omega (arith, one, out-of .within);
+    subset = λ q e. subset q (and-left (bit rest q) (not (eqb q (first rest))) (sym (others q) ∙ e));
+    off = off-both (bit granted (first rest)) (bit rest (first rest)) (low .1 .here);
+    on =
+        on-first (bit granted (first rest)) (bit (rest - digit rest) (first rest)) (subset (first rest) (low .1 .here))
+        (others (first rest) ∙ off-both (bit rest (first rest)) (eqb (first rest) (first rest)) (eq-eqb (first rest) (first rest) refl));
+    same = λ q ne.
+        ap (λ (b : Bool). bit granted q && not b)
+        (others q ∙ (ap (λ (b : Bool). bit rest q && not b) (ne-eqb q (first rest) ne) ∙ and-true (bit rest q)));
+  }
+
 module _
     (granted rest : ℕ) (m : Machine) (some : 0 < rest) (fits : rest < 2 ^ 32)
     (subset : (q : ℕ) → bit rest q ≡ true → bit granted q ≡ true) (owed : Owed (bit granted) m)
   where
-    low : (first rest < 32) × Lowest rest (first rest)
-    low = lowest-of 32 rest some fits
-
-    one : digit rest ≡ 2 ^ first rest
-    one = shifted-one 32 (first rest) (low .0)
-
-    out-of : Without rest (first rest)
-    out-of = without rest (first rest) (low .1 .here)
-
-    others : (q : ℕ) → bit (rest - digit rest) q ≡ bit rest q && not (eqb q (first rest))
-    others q = ap (λ (b : ℕ). bit (rest - b) q) one ∙ out-of .others q
+    w : Off granted rest
+    w = taken-off granted rest some fits subset
 
     have : (bit (m .claiming) (first rest) ≡ true) × (0 < getD (m .left) (first rest) 0)
-    have = owed (first rest) (subset (first rest) (low .1 .here))
+    have = owed (first rest) (subset (first rest) (w .here))
 
     abbrev before : ℕ → Bool
     before = taken granted rest
@@ -79,36 +112,23 @@ module _
     abbrev after : ℕ → Bool
     after = taken granted (rest - digit rest)
 
-    off : before (first rest) ≡ false
-    off = off-both (bit granted (first rest)) (bit rest (first rest)) (low .1 .here)
-
-    on : after (first rest) ≡ true
-    on =
-        on-first (bit granted (first rest)) (bit (rest - digit rest) (first rest)) (subset (first rest) (low .1 .here))
-        (others (first rest) ∙ off-both (bit rest (first rest)) (eqb (first rest) (first rest)) (eq-eqb (first rest) (first rest) refl))
-
-    same : (q : ℕ) → (q ≡ first rest → ⊥) → after q ≡ before q
-    same q ne =
-        ap (λ (b : Bool). bit granted q && not b)
-        (others q ∙ (ap (λ (b : Bool). bit rest q && not b) (ne-eqb q (first rest) ne) ∙ and-true (bit rest q)))
-
     still : getD (worked before m .left) (first rest) 0 ≡ getD (m .left) (first rest) 0
-    still = unserved-left before after m (first rest) off on same
+    still = unserved-left before after m (first rest) (w .off) (w .on) (w .same)
 
     pub turn : Turn granted rest m (worked before m)
     unfolding worked
     turn = record {
-      below = low .0;
-      some = omega (arith, one, pow-pos (first rest));
-      within = omega (arith, one, out-of .within);
-      subset = λ q e. subset q (and-left (bit rest q) (not (eqb q (first rest))) (sym (others q) ∙ e));
+      below = w .below;
+      some = w .some;
+      within = w .within;
+      subset = w .subset;
       owed = omega (arith, still, have .1);
       on = λ more.
           subst (λ (x : ℕ). machine (set (worked before m .left) (first rest) (x - 1)) (worked before m .moment) (m .next) (worked before m .claiming) ≡ worked after m)
           (sym still)
-          (served-on before after m (first rest) off on same
+          (served-on before after m (first rest) (w .off) (w .on) (w .same)
           (ne-eqb (getD (m .left) (first rest) 0) 1 (λ e. more (omega (arith, still)))));
-      member = λ last. omega (arith, one, finished last .0);
+      member = λ last. omega (arith, w .one, finished last .0);
       out = λ last.
           subst
           (λ (x : ℕ).
@@ -121,7 +141,7 @@ module _
           machine (set (worked before m .left) (first rest) (getD (m .left) (first rest) 0 - 1))
           (set (worked before m .moment) (first rest) (getD (m .next) (first rest) 0)) (m .next) (worked before m .claiming - b)
           ≡ worked after m)
-          (sym one) (finished last .1));
+          (sym (w .one)) (finished last .1));
     }
       where
         finished :
@@ -131,7 +151,7 @@ module _
             (set (worked before m .moment) (first rest) (getD (m .next) (first rest) 0)) (m .next) (worked before m .claiming - 2 ^ first rest)
             ≡ worked after m)
         finished last =
-            served-out before after m (first rest) off on same (low .0) (have .0)
+            served-out before after m (first rest) (w .off) (w .on) (w .same) (w .below) (have .0)
             (eq-eqb (getD (m .left) (first rest) 0) 1 (omega (arith, still, have .1)))
 
 -- A turn on a machine whose numbers stand in one list

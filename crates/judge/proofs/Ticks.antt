@@ -92,7 +92,8 @@ module _ (t : Loaded) (fit : Fit t) where
   pub same-widths : take (length (s .tasks)) (map (λ x. x .width) (t .tasks)) ≡ widths s
   same-widths = ap (λ (n : ℕ). take n (map (λ x. x .width) (t .tasks))) size ∙ front (t .count) (t .tasks)
 
-  chosen-row : (m : Machine) (bell tick g : ℕ) → After t m bell tick → Chosen t (m .claiming) g → (p : ℕ) → bit g p ≡ inRow s (full s tick) p
+  -- who is granted cores is in the row
+  pub chosen-row : (m : Machine) (bell tick g : ℕ) → After t m bell tick → Chosen t (m .claiming) g → (p : ℕ) → bit g p ≡ inRow s (full s tick) p
   chosen-row m bell tick g a e p = e p ∙ row-places s (fit .sound) tick m (a .ready) (map (λ x. x .width) (t .tasks)) same-widths p
 
   pub chosen-owed : (m : Machine) (bell tick g : ℕ) → After t m bell tick → Chosen t (m .claiming) g → Owed (bit g) m

@@ -35,7 +35,7 @@ lastDigits (suc k) n = lastDigits k (n / 10) ++ ((48 + n % 10) ∷ [])
 -- how many digits n has, at most k
 unfoldable pub digitsWithin : ℕ → ℕ → ℕ
 digitsWithin zero n = 0
-digitsWithin (suc k) n = let more = digitsWithin k (n / 10) in cond (ltb n 10) 1 (suc more)
+digitsWithin (suc k) n = let more = suc (digitsWithin k (n / 10)) in cond (ltb n 10) 1 more
 
 -- how many digits n has: 1 below 10, else one more than n / 10 has (`count-one`, `count-more`)
 unfoldable pub digitCount : ℕ → ℕ

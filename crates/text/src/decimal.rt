@@ -5,7 +5,7 @@ ghost use Rattle.text.specs.Decimal.{digitCount, decimal};
 ghost use Rattle.text.specs.Written.{Put};
 
 // How many digits a number has.
-fn digits(number: u32) -> usize
+fn digits(number: u64) -> usize
     ensures { λ r. ⌜ r ≡ digitCount number ⌝ }
 {
     let mut left = number;
@@ -18,7 +18,7 @@ fn digits(number: u32) -> usize
 }
 
 // Writes a number in decimal into the line from `at` on; the answer is where it ends.
-pub fn put(line: &mut [u8], at: usize, number: u32) -> usize
+pub fn put(line: &mut [u8], at: usize, number: u64) -> usize
     requires { ⌜ at + digitCount number ≤ length (now line) ⌝ }
     ensures { λ r. ⌜ Put (now (line .entry)) at (decimal number) (now (line .exit)) r ⌝ }
 {

@@ -17,7 +17,7 @@ pub fn put_field(line: &mut [u8], at: usize, number: u32) -> usize
     ensures { λ r. ⌜ (Put (now (line .entry)) at (space ∷ decimal number) (now (line .exit)) r) × (r ≤ at + 11) ⌝ }
 {
     line[at] = b' ';
-    decimal::put(line, at + 1, number)
+    decimal::put(line, at + 1, number as u64)
 }
 
 // Writes a line of a word and two numbers; the answer is where it ends.

@@ -42,7 +42,7 @@ fn put_byte(text: &mut [u8], at: usize, number: u8) -> usize
         text[at + 1] = b'0' + number % 10;
         return at + 2;
     }
-    decimal::put(text, at, number as u32)
+    decimal::put(text, at, number as u64)
 }
 
 // Writes the positions of the first `cores` cores, a space before each, and a newline; the answer is where they end.
@@ -66,6 +66,6 @@ pub fn put_row(line: &mut [u8], tick: u32, text: &[u8], count: usize) -> usize
     requires { ⌜ (count ≤ length (now text)) × (count ≤ longestCells) × (longestLine ≤ length (now line)) ⌝ }
     ensures { λ r. ⌜ (Put (now (line .entry)) 0 (decimal tick ++ take count (now (text .entry))) (now (line .exit)) r) × (r ≤ longestLine) ⌝ }
 {
-    let at = decimal::put(line, 0, tick);
+    let at = decimal::put(line, 0, tick as u64);
     copy(text, 0, count, line, at)
 }

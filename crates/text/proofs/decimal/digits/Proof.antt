@@ -18,7 +18,7 @@ loop-holds : tie.Need-loop-holds Inv-loop μ-loop
 loop-holds c = omega arith
 
 add-count : tie.Need-add-count Inv-loop μ-loop
-add-count c = let n = c .before .before .args .number in omega (arith, count-most 9 n (omega arith))
+add-count c = let n = c .before .before .args .number in omega (arith, count-most 19 n (omega arith))
 
 loop-less : tie.Need-loop-less Inv-loop μ-loop
 loop-less c = omega arith

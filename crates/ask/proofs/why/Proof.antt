@@ -1,0 +1,72 @@
+-- `ask::why` meets its contract: a sentence is followed by a newline, and else the verdict's line is put (Asking).
+-- Assumes nothing.
+use native.Mathlib.Omega.{arith}
+use borrow.Author.Needs.{needs}
+use Rattle.ask.proofs.Asking.{leaves-room, why-sentence, why-verdict}
+use Rattle.ask.proofs.why.Statement.{statement}
+use Rattle.ask.proofs.why.Tie as tie
+
+sentence-requires : tie.Need-sentence-requires
+sentence-requires c κs = search needs
+
+enum-known-spoken : tie.Need-enum-known-spoken
+enum-known-spoken c = search needs
+
+slice-write-line : tie.Need-slice-write-line
+slice-write-line c =
+    let s = c .before .before .before .before .before in
+    let g = s .before .before .before .before in
+    leaves-room (g .args .words .now) (g .args .line .now) _ (s .sentence .result) (s .sentence .ensures) (g .pre) _ (c .before .spoken .given .1)
+
+add-result : tie.Need-add-result
+add-result c =
+    let s = c .before .before .before .before .before in
+    let g = s .before .before .before .before in
+    let k = why-sentence (g .args .words .now) (g .args .line .now) _ (s .sentence .result) (s .sentence .ensures) (g .pre) _ (c .before .spoken .given .1) in
+    omega (arith, k .0)
+
+enum-told : tie.Need-enum-told
+enum-told c = search needs
+
+judge-requires : tie.Need-judge-requires
+judge-requires c κs = search needs
+
+put-first-requires : tie.Need-put-first-requires
+put-first-requires c κs = search needs
+
+same-length : tie.Need-same-length
+same-length c = search needs
+
+returns : tie.Need-returns
+returns c =
+    let s = c .before .before .before .before .before in
+    let g = s .before .before .before .before in
+    why-sentence (g .args .words .now) (g .args .line .now) _ (s .sentence .result) (s .sentence .ensures) (g .pre) _ (c .before .spoken .given .1)
+
+same-length-2 : tie.Need-same-length-2
+same-length-2 c = search needs
+
+returns-2 : tie.Need-returns-2
+returns-2 c =
+    let s = c .before .before .before .before .before .before .before .before .before in
+    let g = s .before .before .before .before in
+    let p = c .before .before .put-first in (
+      omega (arith, p .ensures .1),
+      why-verdict (g .args .words .now) (g .args .line .now) _ (s .sentence .result) (s .sentence .ensures) (g .pre) _ _ (c .before .before .before .before .before .enum-told .given .1) _ (c .before .before .before .before .judge .ensures .value) (p .ensures .0),
+    )
+
+pub why-spec : {M : Type 1} → statement M
+why-spec =
+    tie.close
+    (tie.spec
+    sentence-requires
+    enum-known-spoken
+    slice-write-line
+    add-result
+    enum-told
+    judge-requires
+    put-first-requires
+    same-length
+    returns
+    same-length-2
+    returns-2)

@@ -1,0 +1,66 @@
+-- `capi::sivorandra_facts` meets its contract: the facts that are read back and the answer are put where there is room.
+-- Assumes nothing.
+use mathlib.Core.Path.{sym, ap, _∙_}
+use borrow.Author.Needs.{needs}
+use Rattle.capi.specs.declared.told.Told.{Told}
+use Rattle.capi.specs.Told.{written}
+use Rattle.capi.proofs.Sentences.{facts-narrow, facts-short, facts-room}
+use Rattle.capi.proofs.sivorandra_facts.Statement.{statement}
+use Rattle.capi.proofs.sivorandra_facts.Tie as tie
+
+returns : tie.Need-returns
+returns c =
+    let a = c .before .before .before .before .args in
+    sym (facts-narrow (a .bytes .now) (a .facts .now) (a .answer .now) (c .if1 .taken))
+
+returns-2 : tie.Need-returns-2
+returns-2 c =
+    let a = c .before .before .before .before .before .args in
+    sym (facts-short (a .bytes .now) (a .facts .now) (a .answer .now) (c .before .if1 .left) (c .if2 .taken))
+
+facts-of-requires : tie.Need-facts-of-requires
+facts-of-requires c κs = search needs
+
+put-facts-requires : tie.Need-put-facts-requires
+put-facts-requires c κs = search needs
+
+of-found-requires : tie.Need-of-found-requires
+of-found-requires c κs = search needs
+
+put-requires : tie.Need-put-requires
+put-requires c κs = search needs
+
+same-length : tie.Need-same-length
+same-length c = search needs
+
+same-length-2 : tie.Need-same-length-2
+same-length-2 c = search needs
+
+returns-3 : tie.Need-returns-3
+returns-3 c =
+    let p = c .before .before in
+    let o = p .before .before in
+    let r = o .before .before .before in
+    let s = r .before .before .before in
+    let e = s .before in
+    let a = e .before .before .before .before .before .args in
+    facts-room (a .bytes .now) (a .facts .now) (a .answer .now) (e .before .if1 .left) (s .facts-of .result)
+    (e .if2 .left)
+    (s .facts-of .ensures)
+    (r .put-facts .ensures .1)
+    (r .put-facts .ensures .0)
+    (p .put .ensures ∙ ap (λ (t : Told). written t (a .answer .now)) (o .of-found .ensures))
+
+pub sivorandra-facts-spec : {M : Type 1} → statement M
+sivorandra-facts-spec =
+    tie.close
+    (tie.spec
+    returns
+    returns-2
+    facts-of-requires
+    put-facts-requires
+    of-found-requires
+    put-requires
+    same-length
+    same-length-2
+    returns-3)

@@ -1,0 +1,47 @@
+-- `capi::sivorandra_sentence` meets its contract: buffer and answer are the sentence's, and its three words are put where there is room.
+-- Assumes nothing.
+use mathlib.Core.Path.{sym, ap, _∙_}
+use native.Mathlib.Omega.{arith}
+use borrow.Author.Needs.{needs}
+use Rattle.capi.specs.declared.told.Told.{Told}
+use Rattle.capi.specs.Told.{written}
+use Rattle.capi.proofs.Sentences.{sentence-fits, sentence-narrow, sentence-room}
+use Rattle.capi.proofs.sivorandra_sentence.Statement.{statement}
+use Rattle.capi.proofs.sivorandra_sentence.Tie as tie
+
+returns : tie.Need-returns
+returns c =
+    let a = c .before .before .before .before .args in
+    sym (sentence-narrow (a .words .now) (a .buffer .now) (a .answer .now) (c .if1 .taken))
+
+sentence-requires : tie.Need-sentence-requires
+sentence-requires c κs = search needs
+
+of-spoken-requires : tie.Need-of-spoken-requires
+of-spoken-requires c κs = sentence-fits _ _ _ (c .before .before .sentence .result) (c .before .before .sentence .ensures)
+
+put-requires : tie.Need-put-requires
+put-requires c κs = search needs
+
+same-length : tie.Need-same-length
+same-length c = search needs
+
+same-length-2 : tie.Need-same-length-2
+same-length-2 c = search needs
+
+returns-2 : tie.Need-returns-2
+returns-2 c =
+    let p = c .before .before in
+    let o = p .before .before in
+    let q = o .before .before .before in
+    let e = q .before .before in
+    let a = e .before .before .before .before .args in
+    sentence-room (a .words .now) (a .buffer .now) (a .answer .now) (q .sentence .result)
+    (e .if1 .left)
+    (q .sentence .ensures)
+    (p .put .ensures ∙ ap (λ (t : Told). written t (a .answer .now)) (o .of-spoken .ensures))
+
+pub sivorandra-sentence-spec : {M : Type 1} → statement M
+sivorandra-sentence-spec =
+    tie.close
+    (tie.spec returns sentence-requires of-spoken-requires put-requires same-length same-length-2 returns-2)

@@ -1,0 +1,51 @@
+// The facts of a miss in a lent buffer of words.
+ghost use mathlib.Core.List.{_++_};
+ghost use mathlib.Core.Path.{_≡_};
+ghost use Prim.Native.Nat.{_≤_};
+ghost use lib.ListN.{length, drop};
+ghost use Rattle.model.specs.Sizes.{mostTasks};
+ghost use Rattle.capi.specs.Sentences.{factWords, inWords, ofFound};
+use crate::told::Told;
+use sentence::Facts;
+
+// The words in front of the counts: position, tick, ticks had, and C.
+const HEAD: usize = 4;
+// The counts, one for each position.
+const COUNTS: usize = model::MOST_TASKS;
+// The words of facts.
+pub(crate) const WORDS: usize = HEAD + COUNTS;
+
+// Read back, or no sentence.
+pub(crate) fn of_found(found: bool) -> Told
+    ensures { λ r. ⌜ r ≡ ofFound found ⌝ }
+{
+    if found {
+        return Told {
+            kind: 0,
+            first: 0,
+            second: 0,
+        };
+    }
+    Told {
+        kind: 5,
+        first: 0,
+        second: 0,
+    }
+}
+
+// Writes the words of facts; what stands behind them stays.
+pub(crate) fn put_facts(facts: Facts, words: &mut [u64])
+    requires { ⌜ factWords ≤ length (now words) ⌝ }
+    ensures { λ r. ⌜ (now (words .exit) ≡ inWords (facts .position) (facts .tick) (facts .had) (facts .length) (facts .ran) ++ drop factWords (now (words .entry))) × (length (facts .ran) ≡ mostTasks) ⌝ }
+{
+    let ran = facts.ran;
+    let mut i: usize = 0;
+    while i < COUNTS {
+        words[HEAD + i] = ran[i];
+        i += 1;
+    }
+    words[0] = facts.position as u64;
+    words[1] = facts.tick;
+    words[2] = facts.had;
+    words[3] = facts.length;
+}

@@ -1,0 +1,111 @@
+-- The counting pass over the machine: a run that stands as the table's full-length run does, with the waiting ticks counted so far, and what is left of
+-- the late job at the end.
+use mathlib.Core.Path.{_≡_, refl, sym, ap, _∙_, subst}
+use mathlib.Core.Bool.{Bool, true, false, not}
+use mathlib.Core.List.{List, map}
+use Prim.Native.Nat.{ℕ, suc, _+_, _-_, _≤_, _<_}
+use native.Mathlib.Numerals.{add-one}
+use native.Mathlib.Omega.{arith}
+use lib.ListN.{length, getD, replicate}
+use Rattle.model.specs.Search.{bit, upFrom}
+use Rattle.model.specs.Task.{Table, AllSound, Task, task, release, due}
+use Rattle.model.specs.Book.{Book, Job, full, inRow, Missed}
+use Rattle.model.specs.Verdict.{FirstMiss}
+use Rattle.model.proofs.Jobs.{newest-is}
+use Rattle.table.specs.declared.Loaded.{Loaded}
+use Rattle.full.specs.Machine.{Machine}
+use Rattle.full.specs.Stand.{numbersIn, Stand, begun, after, bellAfter, next}
+use Rattle.full.proofs.Late.{missed-late}
+use Rattle.full.proofs.Place.{TiedAt}
+use Rattle.full.proofs.Steps.{tick-on, chosen-on}
+use Rattle.full.proofs.Tied.{Tied}
+use Rattle.judge.specs.Judged.{tableIn, Fit}
+use Rattle.judge.proofs.Ticks.{Chosen, chosen-row}
+use Rattle.judge.proofs.Follows.{Follows, follows-start, looked, follows-on}
+use Rattle.sentence.specs.Counting.{added}
+use Rattle.sentence.specs.Waiting.{bookAt, releaseOf, lateJob, hadBy}
+use Rattle.sentence.proofs.Waiting.{missed-here, same-book, Counted, counted-start, counted-pass, counted-add, waits-before, waits-after}
+
+-- WHAT IS LEFT OF THE LATE JOB
+
+module _ (s : Table) (ok : AllSound s) (t p : ℕ) (f : FirstMiss s t (suc p)) (m : Machine) (h : Tied s t m) where
+  abbrev left : ℕ
+  left = getD (m .left) p 0
+
+  -- C is what it had and what is left
+  pub left-had : (left ≤ task s p .length) × (task s p .length - left ≡ hadBy s t p)
+  left-had = go (bit (m .claiming) p) (h .waiting p below (omega arith))
+    where
+      below : p < length (s .tasks)
+      below = missed-here s ok t p f .0
+
+      late : (getD (m .moment) p 0 ≡ t) × (0 < left)
+      late = missed-late s ok t 0 m h p below (omega arith) (missed-here s ok t p f)
+
+      go : (c : Bool) → TiedAt (task s p) t (full s t .job p) left (getD (m .moment) p 0) (getD (m .next) p 0) c
+          → (left ≤ task s p .length) × (task s p .length - left ≡ hadBy s t p)
+      go true w =
+          let own : lateJob s t p ≡ w .number =
+          newest-is (task s p) (w .number) (releaseOf s t p) (ok p below .constrained) (omega (arith, w .deadline, late .0)) (omega (arith, w .deadline, late .0, ok p below .deadline-pos)) in
+          let had : hadBy s t p ≡ w .had =
+          ap (λ (b : Book). b .job p (lateJob s t p) .had) (same-book s ok t p f t (omega arith))
+          ∙ (ap (λ (k : ℕ). full s t .job p k .had) own ∙ ap (λ (j : Job). j .had) (w .line)) in
+          (omega (arith, w .whole), omega (arith, w .whole, had))
+      go false w = absurd (omega (arith, late .1, w .none))
+
+-- TICK BY TICK
+
+-- before a tick, up to that of the miss
+pub record Counting (t : Loaded) (tick place : ℕ) (x : Stand) (ran : List ℕ) : Type 0 where
+  pub follows : Follows t x
+  pub within : x .tick ≤ tick
+  pub counted : Counted (tableIn t) tick place (x .tick) ran
+
+module _ (t : Loaded) (fit : Fit t) (tick place : ℕ) (f : FirstMiss (tableIn t) tick (suc place)) where
+  abbrev s : Table
+  s = tableIn t
+
+  pub counting-start : Counting t tick place (begun t) (replicate 32 0)
+  counting-start = record { follows = follows-start t fit; within = omega arith; counted = counted-start s tick place }
+
+  module _ (x : Stand) (ran : List ℕ) (c : Counting t tick place x ran) (before : x .tick < tick) where
+    -- no deadline of the tick is missed
+    pub met-here : (q : ℕ) → ¬ Missed s q (x .tick)
+    met-here q = f .no-earlier q (x .tick) before
+
+    module _ (y : Stand) (e : y ≡ next (numbersIn t) x) where
+      on : Follows t y
+      on = follows-on t fit x (c .follows) met-here y e
+
+      tick-next : y .tick ≡ suc (x .tick)
+      tick-next = tick-on (numbersIn t) x y e ∙ omega arith
+
+      -- who is granted cores is in the row of the book
+      pub granted-row : (q : ℕ) → bit (y .granted) q ≡ inRow s (bookAt s (x .tick)) q
+      granted-row q =
+          chosen-row t fit (after (numbersIn t) x) (bellAfter (numbersIn t) x) (x .tick) (y .granted) (looked t fit x (c .follows) met-here)
+          (subst (λ (n : ℕ). Chosen t n (y .granted)) (chosen-on (numbersIn t) x y e) (on .chosen)) q
+          ∙ ap (λ (b : Book). inRow s b q) (sym (same-book s (fit .sound) tick place f (x .tick) (omega arith)))
+
+      counting-next : (new : List ℕ) → Counted s tick place (suc (x .tick)) new → Counting t tick place y new
+      counting-next new d = record {
+        follows = on;
+        within = omega (arith, tick-next);
+        counted = subst (λ (n : ℕ). Counted s tick place n new) (sym tick-next) d;
+      }
+
+      -- before the late job's release
+      pub counting-early : x .tick < releaseOf s tick place → Counting t tick place y ran
+      counting-early l = counting-next ran (counted-pass s tick place (x .tick) ran (c .counted) (waits-before s tick place (x .tick) l))
+
+      -- it runs
+      pub counting-runs : releaseOf s tick place ≤ x .tick → bit (y .granted) place ≡ true → Counting t tick place y ran
+      counting-runs l g =
+          counting-next ran
+          (counted-pass s tick place (x .tick) ran (c .counted) (waits-after s tick place (x .tick) true l (sym (granted-row place) ∙ g)))
+
+      -- it waits
+      pub counting-waits : releaseOf s tick place ≤ x .tick → bit (y .granted) place ≡ false → Counting t tick place y (added (y .granted) ran)
+      counting-waits l g =
+          counting-next (added (y .granted) ran)
+          (counted-add s tick place (x .tick) (y .granted) ran (c .counted) (waits-after s tick place (x .tick) false l (sym (granted-row place) ∙ g)) granted-row)

@@ -1,0 +1,97 @@
+-- `sentence::by_table` meets its contract: what the search finds is said, and 17 is answered where it finds nothing. Assumes nothing.
+use borrow.Author.Needs.{needs}
+use mathlib.Core.Path.{_≡_, refl, sym, ap, _∙_, subst}
+use mathlib.Core.List.{List}
+use Prim.Native.Nat.{ℕ, suc, _+_, _-_, _≤_, _<_}
+use native.Mathlib.Omega.{arith}
+use lib.ListN.{length}
+use Rattle.model.specs.Horizon.{horizon}
+use Rattle.model.specs.Verdict.{FirstMiss}
+use Rattle.table.specs.declared.Loaded.{Loaded}
+use Rattle.judge.specs.Judged.{tableIn, Fit}
+use Rattle.judge.specs.declared.misses.Missed.{Missed}
+use Rattle.judge.specs.declared.misses.Missed.the-variants.{Never, At}
+use Rattle.judge.specs.FirstMiss.{missedBefore, MissedOf, missTold}
+use Rattle.judge.proofs.FirstMiss.{never-found, one-found}
+use Rattle.sentence.specs.Facts.{Facts}
+use Rattle.sentence.specs.Waiting.{factsIn}
+use Rattle.sentence.specs.Spoken.{byBuffer, spokenTold, leftIn}
+use Rattle.sentence.proofs.Speaking.{by-never, by-found, found-facts}
+use Rattle.sentence.proofs.by_table.Statement.{statement}
+use Rattle.sentence.proofs.by_table.Tie as tie
+
+-- what the search found, up to and including the horizon
+to-horizon : (t : Loaded) → Fit t → (m : Missed) → MissedOf (tableIn t) (t .horizon + 1) m → m ≡ missedBefore (tableIn t) (suc (horizon (tableIn t)))
+to-horizon t fit m o = let e : t .horizon + 1 ≡ suc (horizon (tableIn t)) = omega (arith, fit .horizon) in o .value ∙ ap (missedBefore (tableIn t)) e
+
+first-of : (t : Loaded) (m : Missed) → MissedOf (tableIn t) (t .horizon + 1) m → (u p : ℕ) → m ≡ At u p
+    → FirstMiss (tableIn t) u (suc (p - 1)) × (u ≤ t .horizon) × (1 ≤ p)
+first-of t m o u p e =
+    let f = o .first u p .0 (ap missTold e) in
+    let some : 1 ≤ p = omega (arith, f .0 .place .1) in
+    let same : p ≡ suc (p - 1) = omega arith in
+    (subst (FirstMiss (tableIn t) u) same (f .0), omega (arith, f .1), some)
+
+add-first-miss : tie.Need-add-first-miss
+add-first-miss c = search needs
+
+first-miss-requires : tie.Need-first-miss-requires
+first-miss-requires c κs = search needs
+
+enum-told : tie.Need-enum-told
+enum-told c = search needs
+
+enum-known-missed : tie.Need-enum-known-missed
+enum-known-missed c = search needs
+
+cast-say : tie.Need-cast-say
+cast-say c = search needs
+
+sub-say : tie.Need-sub-say
+sub-say c =
+    let k = c .before .before .before in
+    let x = c .before .before .before .before .before .before in
+    first-of (x .args .table) (k .first-miss .result) (k .first-miss .ensures) _ _ (c .before .missed .given .1) .2
+
+say-requires : tie.Need-say-requires
+say-requires c κs =
+    let k = c .before .before .before .before in
+    let x = c .before .before .before .before .before .before .before in
+    let f = first-of (x .args .table) (k .first-miss .result) (k .first-miss .ensures) _ _ (c .before .before .missed .given .1) in
+    (x .pre .0, f .0, f .1, x .pre .1)
+
+returns : tie.Need-returns
+returns c =
+    let x = c .before .before .before .before .before in
+    let k = c .before .before in
+    (by-never (tableIn (x .args .table)) (length (x .args .buffer .now)) (never-found _ _ (sym (to-horizon (x .args .table) (x .pre .0) (k .first-miss .result) (k .first-miss .ensures)) ∙ c .enum-told .given .1)), refl)
+
+same-length : tie.Need-same-length
+same-length c = search needs
+
+returns-2 : tie.Need-returns-2
+returns-2 c =
+    let x = c .before .before .before .before .before .before .before .before .before .before in
+    let k = c .before .before .before .before .before .before .before in
+    let t = x .args .table in
+    let e = sym (to-horizon t (x .pre .0) (k .first-miss .result) (k .first-miss .ensures)) ∙ c .before .before .before .before .before .missed .given .1 in
+    let same = found-facts (tableIn t) _ _ e in
+    let done = c .before .before .say .ensures in (
+      done .0 ∙ ap (λ (f : Facts). byBuffer f (length (x .args .buffer .now))) same ∙ by-found (tableIn t) (length (x .args .buffer .now)) (one-found _ _ _ _ e),
+      done .1 ∙ ap (λ (f : Facts). leftIn (spokenTold (c .before .before .say .result)) f (x .args .buffer .now)) same,
+    )
+
+pub by-table-spec : {M : Type 1} → statement M
+by-table-spec =
+    tie.close
+    (tie.spec
+    add-first-miss
+    first-miss-requires
+    enum-told
+    enum-known-missed
+    cast-say
+    sub-say
+    say-requires
+    returns
+    same-length
+    returns-2)

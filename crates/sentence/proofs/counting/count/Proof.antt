@@ -1,0 +1,262 @@
+-- `sentence::counting::count` meets its contract: before each tick the run stands as the table's full-length run does, and the waiting ticks so far are
+-- counted (`Counting`); at the end what is left of C is what the late job did not have. Assumes nothing.
+use borrow.Author.Needs.{needs}
+use mathlib.Core.Path.{_≡_, refl, sym, ap, _∙_, subst}
+use mathlib.Core.List.{List}
+use Prim.Native.Nat.{ℕ, suc, _+_, _-_, _≤_, _<_}
+use native.Mathlib.Omega.{arith}
+use borrow.Author.Tests.{not-true, not-false}
+use lib.ListN.{length, getD, replicate}
+use Rattle.model.specs.Task.{Task, task}
+use Rattle.model.specs.Verdict.{FirstMiss}
+use Rattle.table.specs.declared.Loaded.{Loaded}
+use Rattle.table.specs.Task.{taskOf, noTask}
+use Rattle.table.proofs.Places.{task-at}
+use Rattle.full.specs.Stand.{Numbers, numbersIn, Stand, standAt, Steppable, next}
+use Rattle.full.specs.Machine.{machineOf}
+use Rattle.full.proofs.Parts.{front-at}
+use Rattle.full.proofs.Steps.{tick-on}
+use Rattle.full.proofs.Tied.{Tied}
+use Rattle.judge.specs.Judged.{tableIn, Fit}
+use Rattle.judge.proofs.Ticks.{size}
+use Rattle.judge.proofs.Follows.{Begins, steppable}
+use Rattle.sentence.specs.Facts.{named}
+use Rattle.sentence.specs.Waiting.{releaseOf, hadBy}
+use Rattle.sentence.proofs.Waiting.{missed-here, deadline-within, Counted, counted-small, counted-named}
+use Rattle.sentence.proofs.Standing.{left-had, Counting, counting-start, met-here, counting-early, counting-runs, counting-waits}
+use Rattle.sentence.proofs.counting.count.Statement.{statement}
+use Rattle.sentence.proofs.counting.count.Tie as tie
+
+-- of every table whose run begins so and that misses here first
+abbrev Inv-loop : tie.InvT-loop
+Inv-loop tick place late release setting width times pace₀ places₀ ran₀ pace places ran =
+    (t : Loaded) → Begins t setting width times pace₀ places₀ → FirstMiss (tableIn t) tick (suc place) → release ≡ releaseOf (tableIn t) tick place
+    → Counting t tick place (standAt pace places) ran
+
+abbrev μ-loop : tie.MeasureT-loop
+μ-loop tick place late release setting width times pace₀ places₀ ran₀ pace places ran = tick - pace .tick
+
+-- THE PLACES. What the function is given
+abbrev table-of : tie.After-places Inv-loop μ-loop → Loaded
+table-of p = p .before .before .before .before .before .before .before .before .before .before .args .table
+
+abbrev tick-of : tie.After-places Inv-loop μ-loop → ℕ
+tick-of p = p .before .before .before .before .before .before .before .before .before .before .args .tick
+
+abbrev place-of : tie.After-places Inv-loop μ-loop → ℕ
+place-of p = p .before .before .before .before .before .before .before .before .before .before .args .place
+
+-- the run begins as that of table t does
+abbrev Of : tie.After-places Inv-loop μ-loop → Loaded → Type 0
+Of p t =
+    Begins t (p .before .before .before .before .before .before .columns-of .result .setting) (p .before .before .before .before .before .before .columns-of .result .width)
+    (p .before .before .before .before .before .before .columns-of .result .times) (p .before .before .start .result .pace) (p .before .before .start .result .places)
+
+own : (p : tie.After-places Inv-loop μ-loop) → Of p (table-of p)
+own p = record {
+  fit = p .before .before .before .before .before .before .before .before .before .before .pre .0;
+  numbers = p .before .before .before .before .before .before .columns-of .ensures;
+  stand = p .before .before .start .ensures .0;
+}
+
+-- the place is one of the table's
+inside : (t : Loaded) (fit : Fit t) (tick place : ℕ) → FirstMiss (tableIn t) tick (suc place) → (place < t .count) × (place < 32)
+inside t fit tick place f =
+    let l = missed-here (tableIn t) (fit .sound) tick place f .0 in
+    (omega (arith, size t fit), omega (arith, size t fit, fit .few))
+
+-- the task there
+same-task : (t : Loaded) (fit : Fit t) (tick place : ℕ) → FirstMiss (tableIn t) tick (suc place) → task (tableIn t) place ≡ taskOf (getD (t .tasks) place noTask)
+same-task t fit tick place f = task-at (t .tasks) (t .count) place (inside t fit tick place f .0)
+
+-- before each tick
+counting-of : (k : tie.At-loop Inv-loop μ-loop) → Counting (table-of (k .before)) (tick-of (k .before)) (place-of (k .before)) (standAt (k .loop .pace) (k .loop .places)) (k .loop .ran)
+counting-of k =
+    let p = k .before in
+    let x = p .before .before .before .before .before .before .before .before .before .before in
+    k .loop .inv (table-of p) (own p) (x .pre .1) (ap (λ (τ : Task). tick-of p - τ .deadline) (sym (same-task (table-of p) (x .pre .0) (tick-of p) (place-of p) (x .pre .1))))
+
+-- a tick is taken
+stepped : (g : tie.After-step Inv-loop μ-loop) (t : Loaded) → Of (g .before .before .before .before .before .before .before) t
+    → standAt (g .step .result) (g .step .last .1 .1 .1 .1 .0) ≡ next (numbersIn t) (standAt (g .before .before .before .before .before .before .loop .pace) (g .before .before .before .before .before .before .loop .places))
+stepped g t b = g .step .ensures ∙ ap (λ (n : Numbers). next n (standAt (g .before .before .before .before .before .before .loop .pace) (g .before .before .before .before .before .before .loop .places))) (b .numbers)
+
+on : (g : tie.After-step Inv-loop μ-loop) → g .step .result .tick ≡ g .before .before .before .before .before .before .loop .pace .tick + 1
+on g = tick-on _ _ _ (g .step .ensures)
+
+-- at the end: the tick is that of the miss, and what is left of the late job
+at-tick : (e : tie.Else1 Inv-loop μ-loop) → e .before .before .loop .pace .tick ≡ tick-of (e .before .before .before)
+at-tick e = omega (arith, counting-of (e .before .before) .within, e .if1 .left)
+
+counted-end : (e : tie.Else1 Inv-loop μ-loop) → Counted (tableIn (table-of (e .before .before .before))) (tick-of (e .before .before .before)) (place-of (e .before .before .before)) (tick-of (e .before .before .before)) (e .before .before .loop .ran)
+counted-end e =
+    subst (λ (n : ℕ). Counted (tableIn (table-of (e .before .before .before))) (tick-of (e .before .before .before)) (place-of (e .before .before .before)) n (e .before .before .loop .ran)) (at-tick e)
+    (counting-of (e .before .before) .counted)
+
+at-end : (e : tie.Else1 Inv-loop μ-loop)
+    → (getD (e .before .before .loop .places) (place-of (e .before .before .before)) 0 ≤ getD (table-of (e .before .before .before) .tasks) (place-of (e .before .before .before)) noTask .length)
+    × (getD (table-of (e .before .before .before) .tasks) (place-of (e .before .before .before)) noTask .length - getD (e .before .before .loop .places) (place-of (e .before .before .before)) 0
+    ≡ hadBy (tableIn (table-of (e .before .before .before))) (tick-of (e .before .before .before)) (place-of (e .before .before .before)))
+at-end e =
+    let k = e .before .before in
+    let p = k .before in
+    let x = p .before .before .before .before .before .before .before .before .before .before in
+    let t = table-of p in
+    let h = left-had (tableIn t) (x .pre .0 .sound) (tick-of p) (place-of p) (x .pre .1) (machineOf (k .loop .places) (k .loop .pace .claiming))
+    (subst (λ (n : ℕ). Tied (tableIn t) n (machineOf (k .loop .places) (k .loop .pace .claiming))) (at-tick e) (counting-of k .follows .before .tied)) in
+    let same = ap (λ (τ : Task). τ .length) (same-task t (x .pre .0) (tick-of p) (place-of p) (x .pre .1)) in
+    let at = front-at (k .loop .places) (place-of p) (inside t (x .pre .0) (tick-of p) (place-of p) (x .pre .1) .1) in
+    (omega (arith, same, at, h .0), omega (arith, same, at, h .1))
+
+mul-late : tie.Need-mul-late Inv-loop μ-loop
+mul-late c = let x = c .before in omega (arith, inside (x .args .table) (x .pre .0) (x .args .tick) (x .args .place) (x .pre .1) .1)
+
+array-copy-out-late : tie.Need-array-copy-out-late Inv-loop μ-loop
+array-copy-out-late c = let x = c .before in inside (x .args .table) (x .pre .0) (x .args .tick) (x .args .place) (x .pre .1) .1
+
+sub-release : tie.Need-sub-release Inv-loop μ-loop
+sub-release c =
+    let x = c .before .before .before in
+    subst (λ (τ : Task). τ .deadline ≤ x .args .tick) (same-task (x .args .table) (x .pre .0) (x .args .tick) (x .args .place) (x .pre .1))
+    (deadline-within (tableIn (x .args .table)) (x .pre .0 .sound) (x .args .tick) (x .args .place) (x .pre .1))
+
+columns-of-requires : tie.Need-columns-of-requires Inv-loop μ-loop
+columns-of-requires c κs = search needs
+
+start-requires : tie.Need-start-requires Inv-loop μ-loop
+start-requires c κs = search needs
+
+loop-holds : tie.Need-loop-holds Inv-loop μ-loop
+loop-holds c =
+    λ t b f r. subst (λ (y : Stand). Counting t (tick-of c) (place-of c) y (replicate 32 0)) (sym (b .stand)) (counting-start t (b .fit) (tick-of c) (place-of c) f)
+
+step-requires : tie.Need-step-requires Inv-loop μ-loop
+step-requires c κs =
+    let k = c .before .before .before .before .before in
+    let p = k .before in
+    let x = p .before .before .before .before .before .before .before .before .before .before in
+    subst (λ (n : Numbers). Steppable n (standAt (k .loop .pace) (k .loop .places))) (sym (own p .numbers))
+    (steppable (table-of p) (x .pre .0) (standAt (k .loop .pace) (k .loop .places)) (counting-of k .follows)
+    (met-here (table-of p) (x .pre .0) (tick-of p) (place-of p) (x .pre .1) (standAt (k .loop .pace) (k .loop .places)) (k .loop .ran) (counting-of k) (c .before .before .before .if1 .taken))
+    (omega (arith, c .before .before .before .if1 .taken, x .pre .2, x .pre .0 .limit)))
+
+has-requires : tie.Need-has-requires Inv-loop μ-loop
+has-requires c κs = let x = c .before .before .before .before .before .before .before .before .before .before .before .before .before .before .before .before .before .before in inside (x .args .table) (x .pre .0) (x .args .tick) (x .args .place) (x .pre .1) .1
+
+add-requires : tie.Need-add-requires Inv-loop μ-loop
+add-requires c κs =
+    λ q.
+    let k = c .before .before .before .before .before .before .before .before .before .before in
+    omega (arith, counted-small _ _ _ _ _ (counting-of k .counted) q, counting-of k .within, k .before .before .before .before .before .before .before .before .before .before .before .fits .tick)
+
+loop-less : tie.Need-loop-less Inv-loop μ-loop
+loop-less c = let g = c .before .before .before .before .before in omega (arith, on g, g .before .before .before .before .if1 .taken)
+
+loop-again : tie.Need-loop-again Inv-loop μ-loop
+loop-again c =
+    λ t b f r.
+    let g = c .before .before .before .before .before in
+    let k = g .before .before .before .before .before .before in
+    let p = k .before in
+    subst (λ (l : List ℕ). Counting t (tick-of p) (place-of p) (standAt (g .step .result) (g .step .last .1 .1 .1 .1 .0)) l) (sym (c .add .ensures))
+    (counting-waits t (b .fit) (tick-of p) (place-of p) f (standAt (k .loop .pace) (k .loop .places)) (k .loop .ran) (k .loop .inv t b f r) (g .before .before .before .before .if1 .taken) _ (stepped g t b) (omega (arith, r, c .before .before .before .before .if2 .taken)) (sym (c .before .before .before .has .ensures) ∙ not-true _ (c .before .before .if3 .taken)))
+
+loop-less-2 : tie.Need-loop-less-2 Inv-loop μ-loop
+loop-less-2 c = let g = c .before .before .before in omega (arith, on g, g .before .before .before .before .if1 .taken)
+
+loop-again-2 : tie.Need-loop-again-2 Inv-loop μ-loop
+loop-again-2 c =
+    λ t b f r.
+    let g = c .before .before .before in
+    let k = g .before .before .before .before .before .before in
+    let p = k .before in
+    counting-runs t (b .fit) (tick-of p) (place-of p) f (standAt (k .loop .pace) (k .loop .places)) (k .loop .ran) (k .loop .inv t b f r) (g .before .before .before .before .if1 .taken) _ (stepped g t b) (omega (arith, r, c .before .before .if2 .taken)) (sym (c .before .has .ensures) ∙ not-false _ (c .if3 .left))
+
+loop-less-3 : tie.Need-loop-less-3 Inv-loop μ-loop
+loop-less-3 c = let g = c .before in omega (arith, on g, g .before .before .before .before .if1 .taken)
+
+loop-again-3 : tie.Need-loop-again-3 Inv-loop μ-loop
+loop-again-3 c =
+    λ t b f r.
+    let g = c .before in
+    let k = g .before .before .before .before .before .before in
+    let p = k .before in
+    counting-early t (b .fit) (tick-of p) (place-of p) f (standAt (k .loop .pace) (k .loop .places)) (k .loop .ran) (k .loop .inv t b f r) (g .before .before .before .before .if1 .taken) _ (stepped g t b) (omega (arith, r, c .if2 .left))
+
+cast-position : tie.Need-cast-position Inv-loop μ-loop
+cast-position c = let x = c .before .before .before .before .before .before .before .before .before .before .before .before .before in omega (arith, inside (x .args .table) (x .pre .0) (x .args .tick) (x .args .place) (x .pre .1) .1)
+
+add-position : tie.Need-add-position Inv-loop μ-loop
+add-position c = let x = c .before .before .before .before .before .before .before .before .before .before .before .before .before in omega (arith, inside (x .args .table) (x .pre .0) (x .args .tick) (x .args .place) (x .pre .1) .1)
+
+mul-had : tie.Need-mul-had Inv-loop μ-loop
+mul-had c = let x = c .before .before .before .before .before .before .before .before .before .before .before .before .before in omega (arith, inside (x .args .table) (x .pre .0) (x .args .tick) (x .args .place) (x .pre .1) .1)
+
+array-read-had : tie.Need-array-read-had Inv-loop μ-loop
+array-read-had c = let x = c .before .before .before .before .before .before .before .before .before .before .before .before .before in omega (arith, inside (x .args .table) (x .pre .0) (x .args .tick) (x .args .place) (x .pre .1) .1)
+
+sub-had : tie.Need-sub-had Inv-loop μ-loop
+sub-had c = at-end (c .before) .0
+
+counts-above-requires : tie.Need-counts-above-requires Inv-loop μ-loop
+counts-above-requires c κs =
+    let k = c .before .before .before in
+    let x = c .before .before .before .before .before .before .before .before .before .before .before .before .before .before in
+    let l = inside (x .args .table) (x .pre .0) (x .args .tick) (x .args .place) (x .pre .1) .1 in
+    (omega arith, counting-of k .counted .size)
+
+cast-t37 : tie.Need-cast-t37 Inv-loop μ-loop
+cast-t37 c = search needs
+
+cast-t38 : tie.Need-cast-t38 Inv-loop μ-loop
+cast-t38 c = search needs
+
+returns : tie.Need-returns Inv-loop μ-loop
+returns c =
+    let e = c .before .before .before in
+    let k = e .before .before in
+    let p = k .before in
+    let x = p .before .before .before .before .before .before .before .before .before .before in
+    let t = table-of p in
+    let same = same-task t (x .pre .0) (tick-of p) (place-of p) (x .pre .1) in
+    let w = at-end e in
+    let position : place-of p + 1 ≡ suc (place-of p) = omega arith in
+    let others = ap named (c .before .counts-above .ensures) ∙ counted-named (tableIn t) (tick-of p) (place-of p) (k .loop .ran) (counted-end e) (omega (arith, inside t (x .pre .0) (tick-of p) (place-of p) (x .pre .1) .1)) in
+    λ i. record {
+      position = position i;
+      tick = tick-of p;
+      had = w .1 i;
+      length = ap (λ (τ : Task). τ .length) (sym same) i;
+      others = others i;
+    }
+
+pub count-spec : {M : Type 1} → statement M
+count-spec =
+    tie.close
+    (tie.spec
+    Inv-loop
+    μ-loop
+    mul-late
+    array-copy-out-late
+    sub-release
+    columns-of-requires
+    start-requires
+    loop-holds
+    step-requires
+    has-requires
+    add-requires
+    loop-less
+    loop-again
+    loop-less-2
+    loop-again-2
+    loop-less-3
+    loop-again-3
+    cast-position
+    add-position
+    mul-had
+    array-read-had
+    sub-had
+    counts-above-requires
+    cast-t37
+    cast-t38
+    returns)

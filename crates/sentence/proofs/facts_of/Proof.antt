@@ -1,0 +1,62 @@
+-- `sentence::facts_of` meets its contract: the head and the parts make the sentence, or there is none (Finding).
+-- Assumes nothing.
+use mathlib.Core.Path.{refl}
+use native.Mathlib.Omega.{arith}
+use borrow.Author.Tests.{not-true, not-false}
+use Rattle.sentence.proofs.Finding.{facts-found, facts-none, headless, partless, whole}
+use borrow.Author.Needs.{needs}
+use Rattle.sentence.proofs.facts_of.Statement.{statement}
+use Rattle.sentence.proofs.facts_of.Tie as tie
+
+read-head-requires : tie.Need-read-head-requires
+read-head-requires c κs = search needs
+
+no-facts-requires : tie.Need-no-facts-requires
+no-facts-requires c κs = search needs
+
+returns : tie.Need-returns
+returns c =
+    let bs = c .before .before .before .before .before .args .bytes .now in
+    let h = c .before .before .before .read-head in
+    facts-none bs _ (c .no-facts .ensures) (headless bs (h .result) (h .ensures) (not-true _ (c .before .if1 .taken)))
+
+read-parts-requires : tie.Need-read-parts-requires
+read-parts-requires c κs =
+    let h = c .before .before .read-head in
+    (h .ensures .within, h .ensures .there (not-false _ (c .if1 .left)) .0 .last)
+
+no-facts-requires-2 : tie.Need-no-facts-requires-2
+no-facts-requires-2 c κs = search needs
+
+returns-2 : tie.Need-returns-2
+returns-2 c =
+    let bs = c .before .before .before .before .before .before .before .before .args .bytes .now in
+    let h = c .before .before .before .before .before .before .read-head in
+    let p = c .before .before .before .read-parts in
+    facts-none bs _ (c .no-facts2 .ensures) (partless bs (h .result) (h .ensures) (p .result) (p .ensures) (not-true _ (c .before .if2 .taken)))
+
+cast-t6 : tie.Need-cast-t6
+cast-t6 c =
+    let h = c .before .before .before .before .before .before .before .read-head in
+    let l = h .ensures .there (not-false _ (c .before .before .before .before .before .if1 .left)) .0 .last in
+    omega (arith, l)
+
+returns-3 : tie.Need-returns-3
+returns-3 c =
+    let bs = c .before .before .before .before .before .before .before .before .before .args .bytes .now in
+    let h = c .before .before .before .before .before .before .before .read-head in
+    let p = c .before .before .before .before .read-parts in
+    facts-found bs _ refl (whole bs (h .result) (h .ensures) (p .result) (p .ensures) (not-false _ (c .before .before .before .before .before .if1 .left)) (not-false _ (c .before .before .if2 .left)))
+
+pub facts-of-spec : {M : Type 1} → statement M
+facts-of-spec =
+    tie.close
+    (tie.spec
+    read-head-requires
+    no-facts-requires
+    returns
+    read-parts-requires
+    no-facts-requires-2
+    returns-2
+    cast-t6
+    returns-3)

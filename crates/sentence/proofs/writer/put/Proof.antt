@@ -1,0 +1,185 @@
+-- `sentence::writer::put` meets its contract: piece after piece, each has room since the whole sentence has.
+-- Assumes nothing.
+use mathlib.Core.List.{List, []}
+use mathlib.Core.Path.{_≡_, subst, _∙_}
+use Prim.Native.Nat.{ℕ, _+_, _≤_}
+use native.Mathlib.Omega.{arith}
+use lib.ListN.{length, set, length-set}
+use Rattle.text.specs.Output.{letters}
+use Rattle.text.specs.Written.{Put}
+use Rattle.text.proofs.Writing.{put-one, put-length}
+use Rattle.sentence.specs.Facts.{factsBy}
+use Rattle.sentence.specs.Sentence.{parts}
+use Rattle.sentence.proofs.Putting.{room-after, put-both, second, third, fourth, pieces, room-1, room-2, room-3, room-4, room-5, room-6, room-7}
+use borrow.Author.Needs.{needs}
+use Rattle.sentence.proofs.writer.put.Statement.{statement}
+use Rattle.sentence.proofs.writer.put.Tie as tie
+
+slice-aggregate-put-field : tie.Need-slice-aggregate-put-field
+slice-aggregate-put-field c = search needs
+
+cast-put-field : tie.Need-cast-put-field
+cast-put-field c = search needs
+
+put-field-requires : tie.Need-put-field-requires
+put-field-requires c κs =
+    let a = c .before .before .before .before .before .args in
+    let f = factsBy (a .facts) in
+    let n = length (a .line .now) in
+    let h = c .before .before .before .before .before .pre in
+    room-1 f n h
+
+slice-aggregate-put-field-2 : tie.Need-slice-aggregate-put-field-2
+slice-aggregate-put-field-2 c = search needs
+
+put-field-requires-2 : tie.Need-put-field-requires-2
+put-field-requires-2 c κs =
+    let a = c .before .before .before .before .before .before .before .before .before .before .args in
+    let f = factsBy (a .facts) in
+    let n = length (a .line .now) in
+    let h = c .before .before .before .before .before .before .before .before .before .before .pre in
+    let p1 = c .before .before .before .before .put-field .ensures in
+    room-after (second f) p1 (room-2 f n h)
+
+slice-aggregate-put-field-3 : tie.Need-slice-aggregate-put-field-3
+slice-aggregate-put-field-3 c = search needs
+
+put-field-requires-3 : tie.Need-put-field-requires-3
+put-field-requires-3 c κs =
+    let a = c .before .before .before .before .before .before .before .before .before .before .before .before .before .before .before .args in
+    let f = factsBy (a .facts) in
+    let n = length (a .line .now) in
+    let h = c .before .before .before .before .before .before .before .before .before .before .before .before .before .before .before .pre in
+    let p1 = c .before .before .before .before .before .before .before .before .before .put-field .ensures in
+    let p2 = put-both p1 (c .before .before .before .before .put-field2 .ensures) (room-2 f n h) in
+    room-after (third f) p2 (room-3 f n h)
+
+slice-aggregate-put-field-4 : tie.Need-slice-aggregate-put-field-4
+slice-aggregate-put-field-4 c = search needs
+
+put-field-requires-4 : tie.Need-put-field-requires-4
+put-field-requires-4 c κs =
+    let a = c .before .before .before .before .before .before .before .before .before .before .before .before .before .before .before .before .before .before .before .before .args in
+    let f = factsBy (a .facts) in
+    let n = length (a .line .now) in
+    let h = c .before .before .before .before .before .before .before .before .before .before .before .before .before .before .before .before .before .before .before .before .pre in
+    let p1 = c .before .before .before .before .before .before .before .before .before .before .before .before .before .before .put-field .ensures in
+    let p2 = put-both p1 (c .before .before .before .before .before .before .before .before .before .put-field2 .ensures) (room-2 f n h) in
+    let p3 = put-both p2 (c .before .before .before .before .put-field3 .ensures) (room-3 f n h) in
+    room-after (fourth f) p3 (room-4 f n h)
+
+slice-aggregate-copy : tie.Need-slice-aggregate-copy
+slice-aggregate-copy c = search needs
+
+copy-requires : tie.Need-copy-requires
+copy-requires c κs =
+    let a = c .before .before .before .before .before .before .before .before .before .before .before .before .before .before .before .before .before .before .before .before .before .before .before .before .before .args in
+    let f = factsBy (a .facts) in
+    let n = length (a .line .now) in
+    let h = c .before .before .before .before .before .before .before .before .before .before .before .before .before .before .before .before .before .before .before .before .before .before .before .before .before .pre in
+    let p1 = c .before .before .before .before .before .before .before .before .before .before .before .before .before .before .before .before .before .before .before .put-field .ensures in
+    let p2 = put-both p1 (c .before .before .before .before .before .before .before .before .before .before .before .before .before .before .put-field2 .ensures) (room-2 f n h) in
+    let p3 = put-both p2 (c .before .before .before .before .before .before .before .before .before .put-field3 .ensures) (room-3 f n h) in
+    let p4 = put-both p3 (c .before .before .before .before .put-field4 .ensures) (room-4 f n h) in
+    (omega arith, room-after (letters " ticks") p4 (room-5 f n h))
+
+put-parts-requires : tie.Need-put-parts-requires
+put-parts-requires c κs =
+    let a = c .before .before .before .before .before .before .before .before .before .before .before .before .before .before .before .before .before .before .before .before .before .before .before .before .before .before .before .before .before .args in
+    let f = factsBy (a .facts) in
+    let n = length (a .line .now) in
+    let h = c .before .before .before .before .before .before .before .before .before .before .before .before .before .before .before .before .before .before .before .before .before .before .before .before .before .before .before .before .before .pre in
+    let p1 = c .before .before .before .before .before .before .before .before .before .before .before .before .before .before .before .before .before .before .before .before .before .before .before .put-field .ensures in
+    let p2 = put-both p1 (c .before .before .before .before .before .before .before .before .before .before .before .before .before .before .before .before .before .before .put-field2 .ensures) (room-2 f n h) in
+    let p3 = put-both p2 (c .before .before .before .before .before .before .before .before .before .before .before .before .before .put-field3 .ensures) (room-3 f n h) in
+    let p4 = put-both p3 (c .before .before .before .before .before .before .before .before .put-field4 .ensures) (room-4 f n h) in
+    let p5 = put-both p4 (c .before .before .before .copy .ensures) (room-5 f n h) in
+    room-after (parts (f .others) []) p5 (room-6 f n h)
+
+slice-write-line : tie.Need-slice-write-line
+slice-write-line c =
+    let a = c .before .before .before .before .before .before .before .before .before .before .before .before .before .before .before .before .before .before .before .before .before .before .before .before .before .before .before .before .before .before .before .before .args in
+    let f = factsBy (a .facts) in
+    let n = length (a .line .now) in
+    let h = c .before .before .before .before .before .before .before .before .before .before .before .before .before .before .before .before .before .before .before .before .before .before .before .before .before .before .before .before .before .before .before .before .pre in
+    let p1 = c .before .before .before .before .before .before .before .before .before .before .before .before .before .before .before .before .before .before .before .before .before .before .before .before .before .before .put-field .ensures in
+    let p2 = put-both p1 (c .before .before .before .before .before .before .before .before .before .before .before .before .before .before .before .before .before .before .before .before .before .put-field2 .ensures) (room-2 f n h) in
+    let p3 = put-both p2 (c .before .before .before .before .before .before .before .before .before .before .before .before .before .before .before .before .put-field3 .ensures) (room-3 f n h) in
+    let p4 = put-both p3 (c .before .before .before .before .before .before .before .before .before .before .before .put-field4 .ensures) (room-4 f n h) in
+    let p5 = put-both p4 (c .before .before .before .before .before .before .copy .ensures) (room-5 f n h) in
+    let p6 = put-both p5 (c .before .before .put-parts .ensures) (room-6 f n h) in
+    let q = c .before .before .put-parts in
+    let r : q .result + 1 ≤ length (q .last .0) = room-after (letters ".") p6 (room-7 f n h) in
+    omega (arith, r)
+
+add-result : tie.Need-add-result
+add-result c =
+    let a = c .before .before .before .before .before .before .before .before .before .before .before .before .before .before .before .before .before .before .before .before .before .before .before .before .before .before .before .before .before .before .before .before .args in
+    let f = factsBy (a .facts) in
+    let n = length (a .line .now) in
+    let h = c .before .before .before .before .before .before .before .before .before .before .before .before .before .before .before .before .before .before .before .before .before .before .before .before .before .before .before .before .before .before .before .before .pre in
+    let p1 = c .before .before .before .before .before .before .before .before .before .before .before .before .before .before .before .before .before .before .before .before .before .before .before .before .before .before .put-field .ensures in
+    let p2 = put-both p1 (c .before .before .before .before .before .before .before .before .before .before .before .before .before .before .before .before .before .before .before .before .before .put-field2 .ensures) (room-2 f n h) in
+    let p3 = put-both p2 (c .before .before .before .before .before .before .before .before .before .before .before .before .before .before .before .before .put-field3 .ensures) (room-3 f n h) in
+    let p4 = put-both p3 (c .before .before .before .before .before .before .before .before .before .before .before .put-field4 .ensures) (room-4 f n h) in
+    let p5 = put-both p4 (c .before .before .before .before .before .before .copy .ensures) (room-5 f n h) in
+    let p6 = put-both p5 (c .before .before .put-parts .ensures) (room-6 f n h) in
+    let q = c .before .before .put-parts in
+    let r : q .result + 1 ≤ length (q .last .0) = room-after (letters ".") p6 (room-7 f n h) in
+    let e : length (q .last .0) ≡ n = put-length p6 (omega (arith, p6 .ends, room-6 f n h)) in
+    omega (arith, r, e, c .before .before .before .before .before .before .before .before .before .before .before .before .before .before .before .before .before .before .before .before .before .before .before .before .before .before .before .before .before .before .before .before)
+
+same-length : tie.Need-same-length
+same-length c =
+    let a = c .before .before .before .before .before .before .before .before .before .before .before .before .before .before .before .before .before .before .before .before .before .before .before .before .before .before .before .before .before .before .before .before .args in
+    let f = factsBy (a .facts) in
+    let n = length (a .line .now) in
+    let h = c .before .before .before .before .before .before .before .before .before .before .before .before .before .before .before .before .before .before .before .before .before .before .before .before .before .before .before .before .before .before .before .before .pre in
+    let p1 = c .before .before .before .before .before .before .before .before .before .before .before .before .before .before .before .before .before .before .before .before .before .before .before .before .before .before .put-field .ensures in
+    let p2 = put-both p1 (c .before .before .before .before .before .before .before .before .before .before .before .before .before .before .before .before .before .before .before .before .before .put-field2 .ensures) (room-2 f n h) in
+    let p3 = put-both p2 (c .before .before .before .before .before .before .before .before .before .before .before .before .before .before .before .before .put-field3 .ensures) (room-3 f n h) in
+    let p4 = put-both p3 (c .before .before .before .before .before .before .before .before .before .before .before .put-field4 .ensures) (room-4 f n h) in
+    let p5 = put-both p4 (c .before .before .before .before .before .before .copy .ensures) (room-5 f n h) in
+    let p6 = put-both p5 (c .before .before .put-parts .ensures) (room-6 f n h) in
+    let q = c .before .before .put-parts in
+    let r : q .result + 1 ≤ length (q .last .0) = room-after (letters ".") p6 (room-7 f n h) in
+    let e : length (q .last .0) ≡ n = put-length p6 (omega (arith, p6 .ends, room-6 f n h)) in
+    length-set (q .last .0) (q .result) 46 ∙ e
+
+returns : tie.Need-returns
+returns c =
+    let a = c .before .before .before .before .before .before .before .before .before .before .before .before .before .before .before .before .before .before .before .before .before .before .before .before .before .before .before .before .before .before .before .before .args in
+    let f = factsBy (a .facts) in
+    let n = length (a .line .now) in
+    let h = c .before .before .before .before .before .before .before .before .before .before .before .before .before .before .before .before .before .before .before .before .before .before .before .before .before .before .before .before .before .before .before .before .pre in
+    let p1 = c .before .before .before .before .before .before .before .before .before .before .before .before .before .before .before .before .before .before .before .before .before .before .before .before .before .before .put-field .ensures in
+    let p2 = put-both p1 (c .before .before .before .before .before .before .before .before .before .before .before .before .before .before .before .before .before .before .before .before .before .put-field2 .ensures) (room-2 f n h) in
+    let p3 = put-both p2 (c .before .before .before .before .before .before .before .before .before .before .before .before .before .before .before .before .put-field3 .ensures) (room-3 f n h) in
+    let p4 = put-both p3 (c .before .before .before .before .before .before .before .before .before .before .before .put-field4 .ensures) (room-4 f n h) in
+    let p5 = put-both p4 (c .before .before .before .before .before .before .copy .ensures) (room-5 f n h) in
+    let p6 = put-both p5 (c .before .before .put-parts .ensures) (room-6 f n h) in
+    let q = c .before .before .put-parts in
+    let r : q .result + 1 ≤ length (q .last .0) = room-after (letters ".") p6 (room-7 f n h) in
+    subst (λ (x : List ℕ). Put (a .line .now) 0 x (set (q .last .0) (q .result) 46) (q .result + 1)) (pieces f)
+    (put-both p6 (put-one (q .last .0) (q .result) 46 (omega (arith, r))) (room-7 f n h))
+
+pub put-spec : {M : Type 1} → statement M
+put-spec =
+    tie.close
+    (tie.spec
+    slice-aggregate-put-field
+    cast-put-field
+    put-field-requires
+    slice-aggregate-put-field-2
+    put-field-requires-2
+    slice-aggregate-put-field-3
+    put-field-requires-3
+    slice-aggregate-put-field-4
+    put-field-requires-4
+    slice-aggregate-copy
+    copy-requires
+    put-parts-requires
+    slice-write-line
+    add-result
+    same-length
+    returns)

@@ -1,0 +1,71 @@
+-- `sentence::writer::put_part` meets its contract: a count of 0 is left out, any other has its two fields.
+-- Assumes nothing.
+use mathlib.Core.List.{List, _++_}
+use mathlib.Core.Path.{sym, subst}
+use Prim.Native.Nat.{ℕ, _+_, _≤_}
+use lib.ListN.{length}
+use Rattle.text.specs.Decimal.{decimal}
+use Rattle.text.specs.Output.{letters}
+use Rattle.text.specs.Written.{Put}
+use Rattle.text.proofs.Writing.{put-none}
+use Rattle.sentence.proofs.Putting.{room-after, put-both, part-none, part-some, room-first}
+use borrow.Author.Needs.{needs}
+use Rattle.sentence.proofs.writer.put_part.Statement.{statement}
+use Rattle.sentence.proofs.writer.put_part.Tie as tie
+
+returns : tie.Need-returns
+returns c =
+    let a = c .before .before .args in
+    subst (λ (s : List ℕ). Put (a .line .now) (a .at) s (a .line .now) (a .at)) (sym (part-none (a .place) (a .count) (c .if1 .taken))) (put-none (a .line .now) (a .at))
+
+slice-aggregate-put-field : tie.Need-slice-aggregate-put-field
+slice-aggregate-put-field c = search needs
+
+add-put-field : tie.Need-add-put-field
+add-put-field c = search needs
+
+put-field-requires : tie.Need-put-field-requires
+put-field-requires c κs =
+    let a = c .before .before .before .before .args in
+    let s = letters "; task " ++ decimal (a .place + 1) in
+    let u = letters " ran " ++ decimal (a .count) in
+    let e = part-some (a .place) (a .count) (c .before .before .if1 .left) in
+    let r : a .at + length (s ++ u) ≤ length (a .line .now) = subst (λ (x : List ℕ). a .at + length x ≤ length (a .line .now)) e (c .before .before .before .before .pre .1) in
+    room-first (a .at) (length (a .line .now)) s u r
+
+slice-aggregate-put-field-2 : tie.Need-slice-aggregate-put-field-2
+slice-aggregate-put-field-2 c = search needs
+
+put-field-requires-2 : tie.Need-put-field-requires-2
+put-field-requires-2 c κs =
+    let a = c .before .before .before .before .before .before .before .before .before .args in
+    let s = letters "; task " ++ decimal (a .place + 1) in
+    let u = letters " ran " ++ decimal (a .count) in
+    let e = part-some (a .place) (a .count) (c .before .before .before .before .before .before .before .if1 .left) in
+    let r : a .at + length (s ++ u) ≤ length (a .line .now) = subst (λ (x : List ℕ). a .at + length x ≤ length (a .line .now)) e (c .before .before .before .before .before .before .before .before .before .pre .1) in
+    room-after u (c .before .before .before .before .put-field .ensures) r
+
+same-length : tie.Need-same-length
+same-length c = search needs
+
+returns-2 : tie.Need-returns-2
+returns-2 c =
+    let a = c .before .before .before .before .before .before .before .before .before .before .before .before .args in
+    let s = letters "; task " ++ decimal (a .place + 1) in
+    let u = letters " ran " ++ decimal (a .count) in
+    let e = part-some (a .place) (a .count) (c .before .before .before .before .before .before .before .before .before .before .if1 .left) in
+    let r : a .at + length (s ++ u) ≤ length (a .line .now) = subst (λ (x : List ℕ). a .at + length x ≤ length (a .line .now)) e (c .before .before .before .before .before .before .before .before .before .before .before .before .pre .1) in
+    subst (λ (x : List ℕ). Put (a .line .now) (a .at) x (c .before .before .put-field2 .last .0) (c .before .before .put-field2 .result)) (sym e) (put-both (c .before .before .before .before .before .before .before .put-field .ensures) (c .before .before .put-field2 .ensures) r)
+
+pub put-part-spec : {M : Type 1} → statement M
+put-part-spec =
+    tie.close
+    (tie.spec
+    returns
+    slice-aggregate-put-field
+    add-put-field
+    put-field-requires
+    slice-aggregate-put-field-2
+    put-field-requires-2
+    same-length
+    returns-2)

@@ -1,0 +1,9 @@
+pub mod Facts
+pub mod Sentence
+pub mod Unsaid
+pub mod Limits
+pub mod Reading
+pub mod Waiting
+pub mod Counting
+pub mod Numbers
+pub mod Spoken
