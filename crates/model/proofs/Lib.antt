@@ -18,3 +18,4 @@ pub mod Idling
 pub mod Local
 pub mod Faithful
 pub mod Verdict
+pub mod Fence
