@@ -5,7 +5,7 @@ use mathlib.Core.List.{[], _∷_, map}
 use Rattle.model.specs.Search.{bit, memb, upFrom}
 use Rattle.model.specs.Task.{greedy, limited}
 use Rattle.model.specs.Grants.{claimants, given, left, grants}
-use Rattle.rule.specs.Cores.{kept, cores}
+use Rattle.cores.specs.Cores.{kept, cores}
 use Rattle.rule.specs.Shares.{granted}
 use Rattle.rule.specs.Painted.{painted, shown}
 

@@ -16,10 +16,10 @@ use Rattle.model.specs.Grants.{Claimant, grants}
 use Rattle.model.proofs.Bools.{not-true-false}
 use Rattle.model.proofs.Rows.{row-length}
 use Rattle.model.proofs.Lists.{up-length}
-use Rattle.rule.specs.Cores.{cores}
+use Rattle.cores.specs.Cores.{cores}
 use Rattle.rule.specs.Painted.{painted, shown}
-use Rattle.rule.proofs.Ascending.{Range, getD-up, In, in-below}
-use Rattle.rule.proofs.Cores.{cores-none}
+use Rattle.cores.proofs.Ascending.{Range, getD-up, In, in-below}
+use Rattle.cores.proofs.Cores.{cores-none}
 use Rattle.rule.proofs.Granting.{Apart, apart, in-grants}
 
 -- ---- one mark

@@ -18,11 +18,11 @@ use Rattle.model.specs.Search.{bit, upFrom}
 use Rattle.model.proofs.Bools.{and-left, and-right, not-true-false}
 use Rattle.model.proofs.Lists.{getD-zeros}
 use Rattle.model.proofs.Digits.{and-bit}
-use Rattle.rule.specs.Cores.{cores}
+use Rattle.cores.specs.Cores.{cores}
 use Rattle.rule.specs.Shares.{GrantedAs, granted}
 use Rattle.rule.specs.Painted.{shown}
-use Rattle.rule.proofs.Ascending.{Range, range-up, In, kept-same, kept-none}
-use Rattle.rule.proofs.Cores.{setOf, cores-none, cores-range, cores-length, set-cores, cores-memb}
+use Rattle.cores.proofs.Ascending.{Range, range-up, In, kept-same, kept-none}
+use Rattle.cores.proofs.Cores.{setOf, cores-none, cores-range, cores-length, set-cores, cores-memb}
 use Rattle.rule.proofs.Granting.{idle, apart, width-or-none}
 use Rattle.rule.proofs.Rows.{shown-grants}
 

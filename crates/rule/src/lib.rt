@@ -8,46 +8,12 @@ ghost use Rattle.model.specs.Task.{ruleOf};
 ghost use Rattle.model.specs.Grants.{claimants, grants};
 ghost use Rattle.model.specs.Row.{row};
 ghost use Rattle.model.specs.Sizes.{mostCores, mostTasks};
-ghost use Rattle.rule.specs.Cores.{kept, cores};
+ghost use Rattle.cores.specs.Cores.{kept, cores};
 ghost use Rattle.rule.specs.Shares.{served, GrantedAs, granted};
 ghost use Rattle.rule.specs.Painted.{painted, shown};
 use model::MOST_CORES;
 use model::MOST_TASKS;
 use model::ROW;
-
-// The first `count` cores, of 64.
-pub fn first_cores(count: u32) -> u64
-    ensures { λ r. ⌜ cores r ≡ upFrom 0 (min count mostCores) ⌝ }
-{
-    if count < MOST_CORES {
-        (1u64 << count) - 1
-    } else {
-        0xffff_ffff_ffff_ffff
-    }
-}
-
-// The smaller of two numbers of cores.
-fn fewer(a: u32, b: u32) -> u32
-    ensures { λ r. ⌜ r ≡ min a b ⌝ }
-{
-    if a < b { a } else { b }
-}
-
-// The set of the `width` lowest-numbered free cores; all of them where there are fewer. A whole run of free cores is taken at a stroke.
-pub fn lowest(free: u64, width: u32) -> u64
-    ensures { λ r. ⌜ cores r ≡ take width (cores free) ⌝ }
-{
-    let mut rest = free;
-    let mut wanted = width;
-    while 0 < wanted && 0 < rest {
-        let first = u64::trailing_zeros(rest);
-        let run = u64::trailing_zeros(!(rest >> first));
-        let piece = fewer(run, wanted);
-        rest -= first_cores(piece) << first;
-        wanted -= piece;
-    }
-    free - rest
-}
 
 // What the tick rule says to a claimant: it takes its cores, it is passed over, or it ends the tick's choosing.
 pub enum Served {
@@ -183,11 +149,4 @@ pub fn show(
     let free = first_cores(cores);
     let sets = grants(rule, free, claiming, widths, count);
     row_of([0u8; ROW], 1, &sets, count)
-}
-
-// The cores of a set that another does not have.
-pub fn without(all: u64, fence: u64) -> u64
-    ensures { λ r. ⌜ cores r ≡ kept (λ c. not (memb c (cores fence))) (cores all) ⌝ }
-{
-    all & (all ^ fence)
 }

@@ -9,8 +9,8 @@ use Rattle.model.specs.Search.{bit, upFrom}
 use Rattle.model.specs.Task.{ruleOf}
 use Rattle.model.specs.Grants.{claimants, grants}
 use Rattle.model.specs.Row.{row}
-use Rattle.rule.specs.Cores.{cores}
-use Rattle.rule.proofs.Ascending.{Range, range-up}
+use Rattle.cores.specs.Cores.{cores}
+use Rattle.cores.proofs.Ascending.{Range, range-up}
 use Rattle.rule.proofs.Sets.{first-free, sets-row}
 use Rattle.rule.proofs.show.Statement.{statement}
 use Rattle.rule.proofs.show.Tie as tie

@@ -1,4 +1,4 @@
--- `rule::first_cores` meets its contract: the number below a power of two has all the digits below it.
+-- `cores::first_cores` meets its contract: the number below a power of two has all the digits below it.
 -- Assumes nothing.
 use borrow.Author.Needs.{needs}
 use native.Mathlib.Omega.{arith}
@@ -7,10 +7,10 @@ use Prim.Native.Nat.{ℕ, _-_, _^_, _≤_, min}
 use lib.Pow.{pow-pos}
 use Rattle.model.specs.Search.{upFrom}
 use Rattle.model.proofs.Digits.{shifted-one}
-use Rattle.rule.specs.Cores.{cores}
-use Rattle.rule.proofs.Cores.{cores-up}
-use Rattle.rule.proofs.first_cores.Statement.{statement}
-use Rattle.rule.proofs.first_cores.Tie as tie
+use Rattle.cores.specs.Cores.{cores}
+use Rattle.cores.proofs.Cores.{cores-up}
+use Rattle.cores.proofs.first_cores.Statement.{statement}
+use Rattle.cores.proofs.first_cores.Tie as tie
 
 up-to : (m count : ℕ) → m ≤ 64 → min count 64 ≡ m → cores (2 ^ m - 1) ≡ upFrom 0 (min count 64)
 up-to m count h e = cores-up m h ∙ ap (upFrom 0) (sym e)

@@ -1,7 +1,7 @@
 -- Ascending lists of numbers: take, drop and membership in them, the numbers from i up, and those of a list that pass a test.
 use mathlib.Core.Path.{_≡_, refl, sym, ap, ap₂, _∙_}
 use mathlib.Core.Logic.{_⊎_, inl, inr, ⊎-elim}
-use mathlib.Core.Bool.{Bool, true, false, _&&_, _||_, cond, or-true, false≢true}
+use mathlib.Core.Bool.{Bool, true, false, _&&_, _||_, or-true, false≢true}
 use mathlib.Core.List.{List, [], _∷_, map}
 use Prim.Native.Nat.{ℕ, zero, suc, _+_, _≤_, _<_}
 use native.Mathlib.Nat.{eq-or-lt-of-le}
@@ -9,9 +9,8 @@ use native.Mathlib.Omega.{arith}
 use lib.ListN.{length, getD, take, drop}
 use lib.Dec.{eqb, ltb}
 use borrow.Author.Tests.{eqb-true, eq-eqb, ne-eqb, ltb-true, ltb-false}
-use Rattle.model.specs.Search.{memb, upFrom}
+use Rattle.model.specs.Search.{kept, keptIf, memb, upFrom}
 use Rattle.model.proofs.Lists.{up-length, up-at, map-at}
-use Rattle.rule.specs.Cores.{kept}
 
 -- an ascending list whose entries are at least lo and below hi
 abbrev pub Range : ℕ → ℕ → List ℕ → Type 0
@@ -116,7 +115,7 @@ memb-kept f c (x ∷ l) = go (f x) refl (eqb c x) refl (memb-kept f c l)
     neither true e = refl
     neither false e = sym e
 
-    go : (t : Bool) → f x ≡ t → (u : Bool) → eqb c x ≡ u → memb c (kept f l) ≡ memb c l && f c → memb c (cond t (x ∷ kept f l) (kept f l)) ≡ (u || memb c l) && f c
+    go : (t : Bool) → f x ≡ t → (u : Bool) → eqb c x ≡ u → memb c (kept f l) ≡ memb c l && f c → memb c (keptIf t x (kept f l)) ≡ (u || memb c l) && f c
     go true p true q ih = rw q (sym (ap f (eqb-true c x q) ∙ p))
     go true p false q ih = rw q ih
     go false p true q ih = ih ∙ neither (memb c l) (ap f (eqb-true c x q) ∙ p)
@@ -127,15 +126,15 @@ unfolding kept
 kept-kept f g [] = refl
 kept-kept f g (x ∷ l) = go (g x) (kept-kept f g l)
   where
-    go : (t : Bool) → kept f (kept g l) ≡ kept (λ c. g c && f c) l → kept f (cond t (x ∷ kept g l) (kept g l)) ≡ cond (t && f x) (x ∷ kept (λ c. g c && f c) l) (kept (λ c. g c && f c) l)
-    go true ih = ap (λ (m : List ℕ). cond (f x) (x ∷ m) m) ih
+    go : (t : Bool) → kept f (kept g l) ≡ kept (λ c. g c && f c) l → kept f (keptIf t x (kept g l)) ≡ keptIf (t && f x) x (kept (λ c. g c && f c) l)
+    go true ih = ap (λ (m : List ℕ). keptIf (f x) x m) ih
     go false ih = ih
 
 -- tests that agree below hi keep the same
 pub kept-same : (f g : ℕ → Bool) (lo hi : ℕ) (l : List ℕ) → Range lo hi l → ((c : ℕ) → c < hi → f c ≡ g c) → kept f l ≡ kept g l
 unfolding kept
 kept-same f g lo hi [] r h = refl
-kept-same f g lo hi (x ∷ l) r h = ap₂ (λ (t : Bool) (m : List ℕ). cond t (x ∷ m) m) (h x (r .1)) (kept-same f g (suc x) hi l (r .2) h)
+kept-same f g lo hi (x ∷ l) r h = ap₂ (λ (t : Bool) (m : List ℕ). keptIf t x m) (h x (r .1)) (kept-same f g (suc x) hi l (r .2) h)
 
 pub kept-none : (l : List ℕ) → kept (λ c. false) l ≡ []
 unfolding kept

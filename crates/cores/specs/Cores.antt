@@ -1,14 +1,8 @@
 -- A set of cores is one 64-bit number, core 0 its lowest digit (scope, 'Layers': the free set). Contracts speak of the list of its cores, lowest first.
-use mathlib.Core.Bool.{Bool, cond}
-use mathlib.Core.List.{List, [], _∷_}
+use mathlib.Core.List.{List}
 use Prim.Native.Nat.{ℕ}
-use Rattle.model.specs.Search.{bit, upFrom}
+use Rattle.model.specs.Search.{bit, kept, upFrom}
 use Rattle.model.specs.Sizes.{mostCores}
-
--- the numbers of a list that pass the test, in their order
-unfoldable pub kept : (ℕ → Bool) → List ℕ → List ℕ
-kept f [] = []
-kept f (c ∷ l) = cond (f c) (c ∷ kept f l) (kept f l)
 
 -- the cores of a set in ascending order: the numbers below 64 that are in it
 unfoldable pub cores : ℕ → List ℕ

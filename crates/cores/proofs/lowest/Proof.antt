@@ -1,4 +1,4 @@
--- `rule::lowest` meets its contract: each turn takes a piece of the first run off the rest, so the rest is the free cores from the place on that is taken up to.
+-- `cores::lowest` meets its contract: each turn takes a piece of the first run off the rest, so the rest is the free cores from the place on that is taken up to.
 -- Assumes nothing.
 use borrow.Author.Needs.{needs}
 use borrow.Author.Tests.{ltb-true, ltb-false}
@@ -9,11 +9,11 @@ use mathlib.Core.Logic.{⊎-elim}
 use Prim.Native.Nat.{ℕ, _+_, _-_, _*_, _%_, _^_, _≤_, _<_}
 use lib.ListN.{drop}
 use lib.Seq.{drop-drop, drop-nil}
-use Rattle.rule.specs.Cores.{cores}
-use Rattle.rule.proofs.Cores.{cores-none, front-of}
-use Rattle.rule.proofs.Runs.{firstOf, runOf, some-run, taken-off}
-use Rattle.rule.proofs.lowest.Statement.{statement}
-use Rattle.rule.proofs.lowest.Tie as tie
+use Rattle.cores.specs.Cores.{cores}
+use Rattle.cores.proofs.Cores.{cores-none, front-of}
+use Rattle.cores.proofs.Runs.{firstOf, runOf, some-run, taken-off}
+use Rattle.cores.proofs.lowest.Statement.{statement}
+use Rattle.cores.proofs.lowest.Tie as tie
 
 abbrev Inv-loop : tie.InvT-loop
 Inv-loop free width rest₀ wanted₀ rest wanted = (wanted ≤ width) × (rest ≤ free) × (cores rest ≡ drop (width - wanted) (cores free))

@@ -1,6 +1,6 @@
 -- A set and its list of cores: the two directions undo each other, and what ones, trailing zeros, take and drop say of them.
 use mathlib.Core.Path.{_≡_, refl, sym, ap, ap₂, _∙_, subst}
-use mathlib.Core.Bool.{Bool, _&&_, cond, true-and}
+use mathlib.Core.Bool.{Bool, _&&_, true-and}
 use mathlib.Core.Logic.{⊎-elim}
 use mathlib.Core.List.{List, [], _∷_, _++_}
 use Prim.Native.Nat.{ℕ, zero, suc, _+_, _-_, _*_, _/_, _%_, _^_, _≤_, _<_}
@@ -11,10 +11,10 @@ use lib.ListN.{length, take, drop, take-append-drop}
 use lib.Count.{ones, ones-step, trailingZeros}
 use lib.Dec.{eqb}
 use lib.Pow.{pow-pos, ones-lt}
-use Rattle.model.specs.Search.{bit, memb, upFrom}
+use Rattle.model.specs.Search.{bit, kept, keptIf, memb, upFrom}
 use Rattle.model.proofs.Digits.{bit-zero, bit-suc, even-half, odd-half, half, tz-out, tz-into}
-use Rattle.rule.specs.Cores.{kept, cores}
-use Rattle.rule.proofs.Ascending.{Range, range-weaken, range-take, range-drop, memb-up, memb-kept}
+use Rattle.cores.specs.Cores.{cores}
+use Rattle.cores.proofs.Ascending.{Range, range-weaken, range-take, range-drop, memb-up, memb-kept}
 
 -- ---- the cores, digit by digit
 
@@ -28,10 +28,10 @@ unfoldable pub coresFrom : ℕ → ℕ → ℕ → List ℕ
 coresFrom zero c n = []
 coresFrom (suc d) c n = named (n % 2) c (coresFrom d (suc c) (n / 2))
 
-named-cond : (b c : ℕ) (l : List ℕ) → b < 2 → cond (eqb b 1) (c ∷ l) l ≡ named b c l
-named-cond zero c l h = refl
-named-cond (suc zero) c l h = refl
-named-cond (suc (suc b)) c l h = absurd (omega arith)
+named-kept : (b c : ℕ) (l : List ℕ) → b < 2 → keptIf (eqb b 1) c l ≡ named b c l
+named-kept zero c l h = refl
+named-kept (suc zero) c l h = refl
+named-kept (suc (suc b)) c l h = absurd (omega arith)
 
 kept-digits : (f : ℕ → Bool) (d c n : ℕ) → ((i : ℕ) → f (c + i) ≡ bit n i) → kept f (upFrom c d) ≡ coresFrom d c n
 unfolding kept upFrom coresFrom
@@ -39,7 +39,7 @@ kept-digits f zero c n h = refl
 kept-digits f (suc d) c n h =
     let first : f c ≡ eqb (n % 2) 1 = ap f (sym (add-zero c)) ∙ h 0 ∙ bit-zero n in
     let rest : kept f (upFrom (suc c) d) ≡ coresFrom d (suc c) (n / 2) = kept-digits f d (suc c) (n / 2) (λ i. ap f (next i) ∙ h (suc i) ∙ bit-suc n i) in
-    ap₂ (λ (q : Bool) (l : List ℕ). cond q (c ∷ l) l) first rest ∙ named-cond (n % 2) c (coresFrom d (suc c) (n / 2)) (omega arith)
+    ap₂ (λ (q : Bool) (l : List ℕ). keptIf q c l) first rest ∙ named-kept (n % 2) c (coresFrom d (suc c) (n / 2)) (omega arith)
   where
     next : (i : ℕ) → suc c + i ≡ c + suc i
     next i = omega arith

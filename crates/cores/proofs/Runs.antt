@@ -14,8 +14,8 @@ use lib.Pow.{pow-pos, pow-mono, shr-le, shr-lt}
 use Rattle.model.specs.Search.{upFrom}
 use Rattle.model.proofs.Digits.{half, tz-out, tz-into, lowest-of}
 use Rattle.model.proofs.Lists.{up-length}
-use Rattle.rule.specs.Cores.{cores}
-use Rattle.rule.proofs.Cores.{named, coresFrom, cores-digits, none-from, out, into, setOf, set-cores, cores-up}
+use Rattle.cores.specs.Cores.{cores}
+use Rattle.cores.proofs.Cores.{named, coresFrom, cores-digits, none-from, out, into, setOf, set-cores, cores-up}
 
 -- ---- the ones that a set begins with
 

@@ -1,0 +1,4 @@
+pub mod Examples
+pub mod Ascending
+pub mod Cores
+pub mod Runs
