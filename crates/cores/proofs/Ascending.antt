@@ -97,6 +97,13 @@ unfolding memb
 memb-past c lo hi [] r h = refl
 memb-past c lo hi (x ∷ l) r h = rw (ne-eqb c x (λ e. omega arith)) (memb-past c (suc x) hi l (r .2) h)
 
+pub memb-first : (c n : ℕ) → memb c (upFrom 0 n) ≡ ltb c n
+memb-first c n = go (ltb c n) refl
+  where
+    go : (t : Bool) → ltb c n ≡ t → memb c (upFrom 0 n) ≡ t
+    go true e = memb-up c 0 n (omega arith) (omega (arith, ltb-true c n e))
+    go false e = memb-past c 0 n (upFrom 0 n) (range-up 0 n n (omega arith)) (ltb-false c n e)
+
 pub in-below : (c lo hi : ℕ) (l : List ℕ) → Range lo hi l → In c l → c < hi
 in-below c lo hi l r h = go (ltb c hi) refl
   where
@@ -129,6 +136,15 @@ kept-kept f g (x ∷ l) = go (g x) (kept-kept f g l)
     go : (t : Bool) → kept f (kept g l) ≡ kept (λ c. g c && f c) l → kept f (keptIf t x (kept g l)) ≡ keptIf (t && f x) x (kept (λ c. g c && f c) l)
     go true ih = ap (λ (m : List ℕ). keptIf (f x) x m) ih
     go false ih = ih
+
+pub range-kept : (f : ℕ → Bool) (lo hi : ℕ) (l : List ℕ) → Range lo hi l → Range lo hi (kept f l)
+unfolding kept
+range-kept f lo hi [] r = tt
+range-kept f lo hi (x ∷ l) r = go (f x) (range-kept f (suc x) hi l (r .2))
+  where
+    go : (t : Bool) → Range (suc x) hi (kept f l) → Range lo hi (keptIf t x (kept f l))
+    go true k = (r .0, r .1, k)
+    go false k = range-weaken (kept f l) (omega arith) (omega arith) k
 
 -- tests that agree below hi keep the same
 pub kept-same : (f g : ℕ → Bool) (lo hi : ℕ) (l : List ℕ) → Range lo hi l → ((c : ℕ) → c < hi → f c ≡ g c) → kept f l ≡ kept g l

@@ -4,6 +4,7 @@ use mathlib.Core.List.{List, map}
 use Prim.Native.Nat.{ℕ}
 use lib.ListN.{length, getD}
 use Rattle.model.specs.Search.{bit, kept, upFrom}
+use Rattle.model.specs.Sizes.{fencedByte}
 use Rattle.model.specs.Task.{Table}
 
 -- those cores of a list that are not in the fence
@@ -24,4 +25,4 @@ justOpen s = record { tasks = s .tasks; cores = length (openCores s); fence = 0;
 
 -- a row of the unfenced cores alone, spread over the m cores: 255 on a fenced one, and on another the byte of its place among the unfenced
 unfoldable pub spread : ℕ → ℕ → List ℕ → List ℕ
-spread fence m bytes = map (λ c. cond (bit fence c) 255 (getD bytes (length (unfenced fence c)) 0)) (upFrom 0 m)
+spread fence m bytes = map (λ c. cond (bit fence c) fencedByte (getD bytes (length (unfenced fence c)) 0)) (upFrom 0 m)

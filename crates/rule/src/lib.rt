@@ -1,17 +1,17 @@
 ghost use mathlib.Core.Path.{_≡_};
-ghost use mathlib.Core.Bool.{not};
 ghost use mathlib.Core.List.{map, _++_};
-ghost use Prim.Native.Nat.{ℕ, _+_, _-_, _≤_, min};
+ghost use Prim.Native.Nat.{ℕ, _+_, _-_, _≤_};
 ghost use lib.ListN.{length, take, replicate};
-ghost use Rattle.model.specs.Search.{bit, memb, upFrom};
+ghost use Rattle.model.specs.Search.{bit};
 ghost use Rattle.model.specs.Task.{ruleOf};
+ghost use Rattle.model.specs.Fence.{unfenced};
 ghost use Rattle.model.specs.Grants.{claimants, grants};
 ghost use Rattle.model.specs.Row.{row};
 ghost use Rattle.model.specs.Sizes.{mostCores, mostTasks};
-ghost use Rattle.cores.specs.Cores.{kept, cores};
+ghost use Rattle.cores.specs.Cores.{cores};
 ghost use Rattle.rule.specs.Shares.{served, GrantedAs, granted};
 ghost use Rattle.rule.specs.Painted.{painted, shown};
-use model::MOST_CORES;
+use model::FENCED;
 use model::MOST_TASKS;
 use model::ROW;
 
@@ -91,7 +91,7 @@ pub fn grants(
             let width = widths[at];
             match serve(rule, left, width) {
                 Served::Takes => {
-                    let taken = lowest(set, width);
+                    let taken = cores::lowest(set, width);
                     sets[at] = taken;
                     set -= taken;
                     left -= width;
@@ -135,18 +135,22 @@ pub fn row_of(start: [u8; ROW], first: u8, sets: &[u64; MOST_TASKS], count: usiz
     out
 }
 
-// The row of a tick in which the places of a set claim the first `cores` cores: core 0 first, the position or 0; bytes past the core count are 0.
+// The row of a tick in which the places of a set claim the cores outside the fence: core 0 first, the position or 0, 255 on a fenced core;
+// bytes past the core count are 0.
 pub fn show(
     rule: u32,
     cores: u32,
+    fence: u64,
     claiming: u32,
     widths: &[u32; MOST_TASKS],
     count: usize,
 ) -> [u8; ROW]
     requires { ⌜ (cores ≤ mostCores) × (count ≤ mostTasks) ⌝ }
-    ensures { λ r. ⌜ r ≡ row cores (grants (ruleOf rule) (claimants (take count (now (widths .entry))) (bit claiming)) (upFrom 0 cores)) ++ replicate (mostCores - cores) 0 ⌝ }
+    ensures { λ r. ⌜ r ≡ row fence cores (grants (ruleOf rule) (claimants (take count (now (widths .entry))) (bit claiming)) (unfenced fence cores)) ++ replicate (mostCores - cores) 0 ⌝ }
 {
-    let free = first_cores(cores);
+    let free = cores::open_cores(cores, fence);
     let sets = grants(rule, free, claiming, widths, count);
-    row_of([0u8; ROW], 1, &sets, count)
+    let fenced = cores::without(cores::first_cores(cores), free);
+    let start = paint([0u8; ROW], fenced, FENCED);
+    row_of(start, 1, &sets, count)
 }
