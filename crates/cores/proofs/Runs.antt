@@ -136,7 +136,7 @@ piece-of n m p h k =
     }
 
 -- the first m cores as a set
-first-set : (r m : ℕ) → r < 2 ^ 64 → m ≤ 64 → cores r ≡ upFrom 0 (min m 64) → r ≡ 2 ^ m - 1
+pub first-set : (r m : ℕ) → r < 2 ^ 64 → m ≤ 64 → cores r ≡ upFrom 0 (min m 64) → r ≡ 2 ^ m - 1
 first-set r m h k e =
     let all : min m 64 ≡ m = omega arith in
     sym (set-cores r h) ∙ ap setOf (e ∙ ap (upFrom 0) all ∙ sym (cores-up m k)) ∙ set-cores (2 ^ m - 1) (omega (arith, pow-mono k, pow-pos m))

@@ -1,9 +1,9 @@
 // Sets of cores: one 64-bit number, core 0 its lowest digit.
 ghost use mathlib.Core.Path.{_≡_};
 ghost use Prim.Native.Nat.{min};
-ghost use lib.ListN.{length, take};
+ghost use lib.ListN.{take};
 ghost use Rattle.model.specs.Search.{upFrom};
-ghost use Rattle.model.specs.Fence.{outside, unfenced};
+ghost use Rattle.model.specs.Fence.{openCount, outside, unfenced};
 ghost use Rattle.model.specs.Sizes.{mostCores};
 ghost use Rattle.cores.specs.Cores.{cores};
 use model::MOST_CORES;
@@ -58,7 +58,7 @@ pub fn open_cores(count: u32, fence: u64) -> u64
 
 // How many cores below the count are outside the fence.
 pub fn open_count(count: u32, fence: u64) -> u32
-    ensures { λ r. ⌜ r ≡ length (unfenced fence (min count mostCores)) ⌝ }
+    ensures { λ r. ⌜ r ≡ openCount fence (min count mostCores) ⌝ }
 {
     u64::count_ones(open_cores(count, fence))
 }

@@ -15,13 +15,17 @@ outside fence cs = kept (λ c. not (bit fence c)) cs
 abbrev pub unfenced : ℕ → ℕ → List ℕ
 unfenced fence m = outside fence (upFrom 0 m)
 
+-- how many they are
+abbrev pub openCount : ℕ → ℕ → ℕ
+openCount fence m = length (unfenced fence m)
+
 -- the cores that the rule gives from, all of them free as a tick begins
 abbrev pub openCores : Table → List ℕ
 openCores s = unfenced (s .fence) (s .cores)
 
 -- the table with just its unfenced cores, and no fence
 abbrev pub justOpen : Table → Table
-justOpen s = record { tasks = s .tasks; cores = length (openCores s); fence = 0; rule = s .rule }
+justOpen s = record { tasks = s .tasks; cores = openCount (s .fence) (s .cores); fence = 0; rule = s .rule }
 
 -- a row of the unfenced cores alone, spread over the m cores: 255 on a fenced one, and on another the byte of its place among the unfenced
 unfoldable pub spread : ℕ → ℕ → List ℕ → List ℕ
