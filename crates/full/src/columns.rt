@@ -4,10 +4,10 @@ use crate::TRIPLE;
 use model::MOST_TASKS;
 use table::Loaded;
 
-// What stays as it is in a run, beside the tasks: the rule, how many cores there are, and how many tasks.
+// What stays as it is in a run, beside the tasks: the rule, the cores that are free as a tick begins, and how many tasks there are.
 pub struct Setting {
     pub rule: u32,
-    pub cores: u32,
+    pub free: u64,
     pub count: usize,
 }
 
@@ -34,9 +34,10 @@ pub fn columns_of(table: Loaded) -> Columns
         times[crate::PERIOD + i] = task.period;
         i += 1;
     }
+    let free = cores::open_cores(table.cores, table.fence);
     let setting = Setting {
         rule: table.rule,
-        cores: table.cores,
+        free: free,
         count: table.count,
     };
     Columns {

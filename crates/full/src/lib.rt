@@ -130,8 +130,7 @@ pub fn step(
     let mut chosen = pace.chosen;
     let mut granted = pace.granted;
     if claiming != chosen {
-        let free = rule::first_cores(setting.cores);
-        granted = rule::choose(setting.rule, free, claiming, width);
+        granted = rule::choose(setting.rule, setting.free, claiming, width);
         chosen = claiming;
     }
     let after = work(granted, claiming, places);
