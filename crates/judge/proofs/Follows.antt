@@ -2,17 +2,18 @@
 use mathlib.Core.Path.{_≡_, refl, sym, ap, _∙_, subst}
 use mathlib.Core.Bool.{Bool, true, false, not, _&&_, cond}
 use mathlib.Core.List.{List, [], map}
-use Prim.Native.Nat.{ℕ, _+_, _^_, _≤_, _<_}
+use Prim.Native.Nat.{ℕ, _+_, _^_, _≤_, _<_, min}
 use native.Mathlib.Omega.{arith}
 use lib.Dec.{leb}
 use lib.ListN.{length, getD, length-map, List·getD-eq-default}
 use borrow.Author.Tests.{leb-true, leb-false, eqb-true}
-use Rattle.model.specs.Search.{bit, upFrom}
+use Rattle.model.specs.Fence.{openCores, unfenced}
+use Rattle.model.specs.Search.{bit}
 use Rattle.model.specs.Task.{Table, task, ruleOf}
 use Rattle.model.specs.Grants.{claimants, grants, some}
 use Rattle.model.specs.Book.{Missed}
 use Rattle.model.proofs.Grants.{grants-length}
-use Rattle.model.specs.Sizes.{mostTasks}
+use Rattle.model.specs.Sizes.{mostCores, mostTasks}
 use Rattle.table.specs.declared.Task.{Task}
 use Rattle.table.specs.declared.Loaded.{Loaded}
 use Rattle.full.specs.Machine.{Machine, releasedDue, earliest, finishes, worked}
@@ -77,19 +78,23 @@ module _ (t : Loaded) (fit : Fit t) where
           due-walked book (fit .sound) (few t fit) (map (λ x. x .offset) (t .tasks)) (n .widths) (n .lengths) (n .deadlines) (n .periods) columns tick m
           (b .tied) met (length (book .tasks)) (omega arith)
 
+  -- the cores that are free as a tick begins
+  pub all-free : n .free ≡ openCores book
+  all-free = let all : min (t .cores) mostCores ≡ t .cores = omega (arith, fit .narrow) in ap (unfenced (t .fence)) all
+
   -- the set that the rule chooses
   choice-chosen : (c : ℕ) → Chosen t c (choice n c)
-  choice-chosen c p = go (leb mostTasks p) refl
+  choice-chosen c p = go (leb mostTasks p) refl ∙ ap (λ (free : List ℕ). granted (ruleOf (t .rule)) (claimants (n .widths) (bit c)) free p) all-free
     where
       f : ℕ → Bool
-      f = granted (ruleOf (t .rule)) (claimants (n .widths) (bit c)) (upFrom 0 (t .cores))
+      f = granted (ruleOf (t .rule)) (claimants (n .widths) (bit c)) (n .free)
 
       gs : List (List ℕ)
-      gs = grants (ruleOf (t .rule)) (claimants (n .widths) (bit c)) (upFrom 0 (t .cores))
+      gs = grants (ruleOf (t .rule)) (claimants (n .widths) (bit c)) (n .free)
 
       wide : length gs ≡ mostTasks
       wide =
-          grants-length (ruleOf (t .rule)) (n .widths) (bit c) (upFrom 0 (t .cores)) ∙ length-map (t .tasks) (λ (x : Task). x .width) ∙ fit .places
+          grants-length (ruleOf (t .rule)) (n .widths) (bit c) (n .free) ∙ length-map (t .tasks) (λ (x : Task). x .width) ∙ fit .places
 
       go : (x : Bool) → leb mostTasks p ≡ x → bit (choice n c) p ≡ f p
       go true q =
@@ -124,7 +129,6 @@ module _ (t : Loaded) (fit : Fit t) where
     pub steppable : s .tick ≤ 1000000000 → Steppable n s
     steppable l = record {
       few = fit .few;
-      narrow = fit .narrow;
       fits = λ p b.
           let inside : p < length (book .tasks) = omega (arith, size t fit) in (
             omega (arith, columns .deadlines p inside, fit .short p b, fit .sound p inside .constrained),

@@ -182,7 +182,7 @@ module _ (ws : List ℕ) (r : Loaded) (l : LoadOf ws r) (e : r .answer ≡ Passe
   -- it is the table of the words
   pub same-table : tableIn r ≡ tableOf ws
   unfolding tableOf
-  same-table = λ i. record { tasks = tasks′ i; cores = h .cores i; rule = ruleOf (h .rule i) }
+  same-table = λ i. record { tasks = tasks′ i; cores = h .cores i; fence = h .fence i; rule = ruleOf (h .rule i) }
     where
       tasks′ : tasksOf (r .tasks) (r .count) ≡ tableOf ws .tasks
       tasks′ = h .tasks
