@@ -3,7 +3,7 @@
 use mathlib.Core.Path.{_≡_}
 use mathlib.Core.Bool.{Bool, cond}
 use mathlib.Core.List.{List, map}
-use Prim.Native.Nat.{ℕ, _+_, _^_, _≤_, _<_, min}
+use Prim.Native.Nat.{ℕ, _+_, _^_, _≤_, _<_}
 use lib.Dec.{eqb, leb}
 use lib.ListN.{getD}
 use Rattle.model.specs.Search.{bit}
@@ -12,17 +12,17 @@ use Rattle.model.specs.Task.{ruleOf}
 use Rattle.model.specs.Grants.{claimants}
 use Rattle.model.specs.Sizes.{mostCores, mostTasks}
 use Rattle.table.specs.declared.Loaded.{Loaded}
-use Rattle.cores.specs.Cores.{cores}
 use Rattle.rule.specs.Shares.{granted}
 use Rattle.full.specs.Places.{part, setOf, second, third}
 use Rattle.full.specs.Machine.{Machine, machineOf, started, releasedDue, earliest, Owed, worked}
 use Rattle.full.specs.declared.machine.Pace.{Pace}
 use Rattle.full.specs.declared.columns.Setting.{Setting}
 
--- the numbers of a table that its run is stepped with, and the cores that are free as a tick begins
+-- the numbers of a table that its run is stepped with
 pub record Numbers : Type 0 where
   pub rule : ℕ
-  pub free : List ℕ
+  pub cores : ℕ
+  pub fence : ℕ
   pub count : ℕ
   pub widths : List ℕ
   pub lengths : List ℕ
@@ -33,7 +33,8 @@ pub record Numbers : Type 0 where
 abbrev pub numbersBy : Setting → List ℕ → List ℕ → Numbers
 numbersBy x v times = record {
   rule = x .rule;
-  free = cores (x .free);
+  cores = x .cores;
+  fence = x .fence;
   count = x .count;
   widths = v;
   lengths = part 0 times;
@@ -45,7 +46,8 @@ numbersBy x v times = record {
 abbrev pub numbersIn : Loaded → Numbers
 numbersIn t = record {
   rule = t .rule;
-  free = unfenced (t .fence) (min (t .cores) mostCores);
+  cores = t .cores;
+  fence = t .fence;
   count = t .count;
   widths = map (λ x. x .width) (t .tasks);
   lengths = map (λ x. x .length) (t .tasks);
@@ -84,7 +86,7 @@ unchanged n s = eqb (after n s .claiming) (s .chosen)
 
 -- the set of the places that the rule gives cores where those of the set c claim
 abbrev pub choice : Numbers → ℕ → ℕ
-choice n c = setOf mostTasks (granted (ruleOf (n .rule)) (claimants (n .widths) (bit c)) (n .free))
+choice n c = setOf mostTasks (granted (ruleOf (n .rule)) (claimants (n .widths) (bit c)) (unfenced (n .fence) (n .cores)))
 
 -- who is granted cores: kept, or chosen anew
 unfoldable pub grantedIn : Numbers → Stand → ℕ
@@ -100,9 +102,10 @@ next n s = record {
   granted = grantedIn n s;
 }
 
--- a run that can be stepped: there are at most 32 tasks, its sums stay small, and who is granted cores is owed ticks
+-- a run that can be stepped: there are at most 32 tasks and 64 cores, its sums stay small, and who is granted cores is owed ticks
 pub record Steppable (n : Numbers) (s : Stand) : Type 0 where
   pub few : n .count ≤ mostTasks
+  pub narrow : n .cores ≤ mostCores
   pub fits : (p : ℕ) → p < n .count → (s .tick + getD (n .deadlines) p 0 < 2 ^ 32) × (s .tick + getD (n .periods) p 0 < 2 ^ 32)
   pub tick : s .tick + 1 < 2 ^ 32
   pub owed : Owed (bit (grantedIn n s)) (after n s)

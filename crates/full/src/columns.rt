@@ -4,10 +4,11 @@ use crate::TRIPLE;
 use model::MOST_TASKS;
 use table::Loaded;
 
-// What stays as it is in a run, beside the tasks: the rule, the cores that are free as a tick begins, and how many tasks there are.
+// What stays as it is in a run, beside the tasks: the rule, how many cores there are, the fence, and how many tasks.
 pub struct Setting {
     pub rule: u32,
-    pub free: u64,
+    pub cores: u32,
+    pub fence: u64,
     pub count: usize,
 }
 
@@ -34,10 +35,10 @@ pub fn columns_of(table: Loaded) -> Columns
         times[crate::PERIOD + i] = task.period;
         i += 1;
     }
-    let free = cores::open_cores(table.cores, table.fence);
     let setting = Setting {
         rule: table.rule,
-        free: free,
+        cores: table.cores,
+        fence: table.fence,
         count: table.count,
     };
     Columns {

@@ -130,7 +130,8 @@ pub fn step(
     let mut chosen = pace.chosen;
     let mut granted = pace.granted;
     if claiming != chosen {
-        granted = rule::choose(setting.rule, setting.free, claiming, width);
+        let free = cores::open_cores(setting.cores, setting.fence);
+        granted = rule::choose(setting.rule, free, claiming, width);
         chosen = claiming;
     }
     let after = work(granted, claiming, places);

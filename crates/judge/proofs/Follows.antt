@@ -2,18 +2,18 @@
 use mathlib.Core.Path.{_≡_, refl, sym, ap, _∙_, subst}
 use mathlib.Core.Bool.{Bool, true, false, not, _&&_, cond}
 use mathlib.Core.List.{List, [], map}
-use Prim.Native.Nat.{ℕ, _+_, _^_, _≤_, _<_, min}
+use Prim.Native.Nat.{ℕ, _+_, _^_, _≤_, _<_}
 use native.Mathlib.Omega.{arith}
 use lib.Dec.{leb}
 use lib.ListN.{length, getD, length-map, List·getD-eq-default}
 use borrow.Author.Tests.{leb-true, leb-false, eqb-true}
-use Rattle.model.specs.Fence.{openCores, unfenced}
+use Rattle.model.specs.Fence.{openCores}
 use Rattle.model.specs.Search.{bit}
 use Rattle.model.specs.Task.{Table, task, ruleOf}
 use Rattle.model.specs.Grants.{claimants, grants, some}
 use Rattle.model.specs.Book.{Missed}
 use Rattle.model.proofs.Grants.{grants-length}
-use Rattle.model.specs.Sizes.{mostCores, mostTasks}
+use Rattle.model.specs.Sizes.{mostTasks}
 use Rattle.table.specs.declared.Task.{Task}
 use Rattle.table.specs.declared.Loaded.{Loaded}
 use Rattle.full.specs.Machine.{Machine, releasedDue, earliest, finishes, worked}
@@ -78,23 +78,19 @@ module _ (t : Loaded) (fit : Fit t) where
           due-walked book (fit .sound) (few t fit) (map (λ x. x .offset) (t .tasks)) (n .widths) (n .lengths) (n .deadlines) (n .periods) columns tick m
           (b .tied) met (length (book .tasks)) (omega arith)
 
-  -- the cores that are free as a tick begins
-  pub all-free : n .free ≡ openCores book
-  all-free = let all : min (t .cores) mostCores ≡ t .cores = omega (arith, fit .narrow) in ap (unfenced (t .fence)) all
-
   -- the set that the rule chooses
   choice-chosen : (c : ℕ) → Chosen t c (choice n c)
-  choice-chosen c p = go (leb mostTasks p) refl ∙ ap (λ (free : List ℕ). granted (ruleOf (t .rule)) (claimants (n .widths) (bit c)) free p) all-free
+  choice-chosen c p = go (leb mostTasks p) refl
     where
       f : ℕ → Bool
-      f = granted (ruleOf (t .rule)) (claimants (n .widths) (bit c)) (n .free)
+      f = granted (ruleOf (t .rule)) (claimants (n .widths) (bit c)) (openCores book)
 
       gs : List (List ℕ)
-      gs = grants (ruleOf (t .rule)) (claimants (n .widths) (bit c)) (n .free)
+      gs = grants (ruleOf (t .rule)) (claimants (n .widths) (bit c)) (openCores book)
 
       wide : length gs ≡ mostTasks
       wide =
-          grants-length (ruleOf (t .rule)) (n .widths) (bit c) (n .free) ∙ length-map (t .tasks) (λ (x : Task). x .width) ∙ fit .places
+          grants-length (ruleOf (t .rule)) (n .widths) (bit c) (openCores book) ∙ length-map (t .tasks) (λ (x : Task). x .width) ∙ fit .places
 
       go : (x : Bool) → leb mostTasks p ≡ x → bit (choice n c) p ≡ f p
       go true q =
@@ -129,6 +125,7 @@ module _ (t : Loaded) (fit : Fit t) where
     pub steppable : s .tick ≤ 1000000000 → Steppable n s
     steppable l = record {
       few = fit .few;
+      narrow = fit .narrow;
       fits = λ p b.
           let inside : p < length (book .tasks) = omega (arith, size t fit) in (
             omega (arith, columns .deadlines p inside, fit .short p b, fit .sound p inside .constrained),

@@ -69,7 +69,7 @@ none-within b = eq-eqb (bitAnd 0 b) 0 (and-zero-l b)
 module _
     (t : Loaded) (e : ℕ) (v : Verdict) (pace : Pace) (places : List ℕ) (m : standAt pace places ≡ begun t) (widths : List ℕ)
     (w : widths ≡ map (λ x. x .width) (t .tasks)) (row line : List ℕ) (size ready : ℕ)
-    (p : (Put (replicate longestCells 0) 0 (cells (t .rule) (t .cores) (take (t .count) widths) 0) row size) × (size ≤ longestCells))
+    (p : (Put (replicate longestCells 0) 0 (cells (t .rule) (t .cores) (t .fence) (take (t .count) widths) 0) row size) × (size ≤ longestCells))
     (q : (Put (replicate longestLine 0) 0 (firstLine (saidBy v)) line ready) × (ready ≤ longestLine))
   where
     abbrev first : Printer
@@ -84,7 +84,7 @@ module _
     }
 
     kept : textKept first ≡ textOf (numbersIn t) 0
-    kept = put-front (p .0) ∙ ap (λ (x : List ℕ). cells (t .rule) (t .cores) (take (t .count) x) 0) w
+    kept = put-front (p .0) ∙ ap (λ (x : List ℕ). cells (t .rule) (t .cores) (t .fence) (take (t .count) x) 0) w
 
     rows :
         (0 < e → Fit t × (e ≤ t .horizon) × ((q u : ℕ) → u < e → ¬ Missed (tableIn t) q u))

@@ -103,7 +103,7 @@ no-text-exact bs = (λ e ws x. different ws (sym (text-exact bs ws .1 x) ∙ e),
     go (words ws) e h = absurd (h ws (text-exact bs ws .0 e))
     go noText e h = refl
 
--- the longest text: 195 lines of ten digits and a newline
+-- the longest text: 197 lines of ten digits and a newline
 lines-short : {bs ws : List ℕ} → Lines bs ws → length bs ≤ 11 * length ws
 lines-short none = omega arith
 lines-short (last {l} n) = omega (arith, n .short)

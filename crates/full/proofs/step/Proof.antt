@@ -6,6 +6,9 @@ use mathlib.Core.Logic.{⊎-elim}
 use mathlib.Core.Path.{_≡_, sym, ap, ap₂, _∙_, subst₂}
 use Prim.Native.Nat.{ℕ}
 use Rattle.model.specs.Search.{bit}
+use Rattle.model.specs.Task.{ruleOf}
+use Rattle.model.specs.Grants.{claimants}
+use Rattle.rule.proofs.Sets.{granted-open}
 use Rattle.full.specs.Machine.{Machine, machineOf, Owed}
 use Rattle.full.specs.Stand.{Numbers, numbersBy, Stand, standAt, after, bellAfter, grantedIn}
 use Rattle.full.proofs.Steps.{due-looked, due-skipped, chosen-kept, chosen-anew, step-taken}
@@ -41,8 +44,8 @@ granted-of c =
     let s = c .before .before in
     let j = c .before in
     ⊎-elim
-    (λ w. w .3 ∙ chosen-anew (nums s) (stand s) (j .if1 .claiming) _ (claims-of j) (w .0 .taken) (w .1 .ok)
-    (w .1 .ensures))
+    (λ w. w .4 ∙ chosen-anew (nums s) (stand s) (j .if1 .claiming) _ (claims-of j) (w .0 .taken) (w .2 .ok)
+    (λ q. w .2 .ensures q ∙ granted-open (ruleOf (nums s .rule)) (claimants (nums s .widths) (bit (j .if1 .claiming))) _ (nums s .fence) (nums s .cores) (s .pre .narrow) (w .1 .ensures) q))
     (λ w. w .2 ∙ chosen-kept (nums s) (stand s) (j .if1 .claiming) (claims-of j) (w .0 .left))
     (c .if2 .came)
 
@@ -50,10 +53,13 @@ granted-of c =
 chosen-of : (c : tie.Joined2) → c .if2 .chosen ≡ after (nums (c .before .before)) (stand (c .before .before)) .claiming
 chosen-of c =
     let j = c .before in
-    ⊎-elim (λ w. w .2 ∙ claims-of j) (λ w. w .1 ∙ (sym (w .0 .left) ∙ claims-of j)) (c .if2 .came)
+    ⊎-elim (λ w. w .3 ∙ claims-of j) (λ w. w .1 ∙ (sym (w .0 .left) ∙ claims-of j)) (c .if2 .came)
 
 release-due-requires : tie.Need-release-due-requires
 release-due-requires c κs = search needs
+
+open-cores-requires : tie.Need-open-cores-requires
+open-cores-requires c κs = search needs
 
 choose-requires : tie.Need-choose-requires
 choose-requires c κs = search needs
@@ -65,8 +71,8 @@ work-requires c κs =
     let s = j .before in
     subst₂ (λ (g : ℕ) (m : Machine). Owed (bit g) m) (sym (granted-of k)) (sym (after-of j .0)) (s .pre .owed)
 
-add-t16 : tie.Need-add-t16
-add-t16 c = search needs
+add-t17 : tie.Need-add-t17
+add-t17 c = search needs
 
 returns : tie.Need-returns
 returns c =
@@ -77,4 +83,4 @@ returns c =
     (chosen-of k) (granted-of k) (c .work .ensures)
 
 pub step-spec : {M : Type 1} → statement M
-step-spec = tie.close (tie.spec release-due-requires choose-requires work-requires add-t16 returns)
+step-spec = tie.close (tie.spec release-due-requires open-cores-requires choose-requires work-requires add-t17 returns)

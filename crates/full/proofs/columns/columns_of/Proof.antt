@@ -100,20 +100,18 @@ loop-again c =
           (filled-more (λ t. t .period) ts (all s) (l .i) (part 64 (l .times)) inside (l .inv .4)),
     )
 
-open-cores-requires : tie.Need-open-cores-requires Inv-loop μ-loop
-open-cores-requires c κs = search needs
-
 returns : tie.Need-returns Inv-loop μ-loop
 returns c =
-    let s = c .before .before .before .before in
-    let l = c .before .before .loop in
+    let s = c .before .before .before in
+    let l = c .before .loop in
     let t = s .args .table in
     let e : l .i ≡ 32 = omega arith in
     let whole : (f : Task → ℕ) (xs : List ℕ) → Filled f (t .tasks) (l .i) xs → xs ≡ map f (t .tasks) =
     λ f xs p. filled-all f (t .tasks) (all s) xs (subst (λ (n : ℕ). Filled f (t .tasks) n xs) e p) in
     λ j. record {
       rule = t .rule;
-      free = c .open-cores .ensures j;
+      cores = t .cores;
+      fence = t .fence;
       count = t .count;
       widths = whole (λ x. x .width) (l .width) (l .inv .1) j;
       lengths = whole (λ x. x .length) (part 0 (l .times)) (l .inv .2) j;
@@ -143,5 +141,4 @@ columns-of-spec =
     add-i
     loop-less
     loop-again
-    open-cores-requires
     returns)
