@@ -1,18 +1,22 @@
-//! Runs built by hand: number 14 at each limit, 15, and what no started run shows.
+//! Runs built by hand: number 14 at each limit, the fence among them, 15, and what no started run shows.
 use crate::book::{self, phase_at, COMING, HOLDING, RESTING, WORKING};
 use crate::calls::{same, same_run, Kept, Tried};
 use crate::rng::Rng;
 use crate::Counts;
-use sivorandra::{Refusal, Run, RUN_HEAD_WORDS, RUN_PLACE_WORDS, RUN_WORDS};
+use sivorandra::{Refusal, Run, ROW_BYTES, RUN_HEAD_WORDS, RUN_PLACE_WORDS, RUN_WORDS};
 
 /// O, v, C, D, T, and the phase: its kind and two numbers.
 type Place = [u32; RUN_PLACE_WORDS];
 type Words = [u32; RUN_WORDS];
 
-/// A run of these places; past the count zeros and Resting(0).
+/// A run of these places without a fence; past the count zeros and Resting(0).
 fn run(rule: u32, cores: u32, places: &[Place]) -> Words {
+    fenced(rule, cores, 0, places)
+}
+
+fn fenced(rule: u32, cores: u32, fence: u64, places: &[Place]) -> Words {
     let mut words = [0; RUN_WORDS];
-    words[..RUN_HEAD_WORDS].copy_from_slice(&[rule, cores, places.len() as u32]);
+    words[..RUN_HEAD_WORDS].copy_from_slice(&[rule, cores, places.len() as u32, fence as u32, (fence >> 32) as u32]);
     for (at, place) in words[RUN_HEAD_WORDS..].chunks_mut(RUN_PLACE_WORDS).enumerate() {
         place.copy_from_slice(places.get(at).unwrap_or(&[0, 0, 0, 0, 0, RESTING, 0, 0]));
     }
@@ -21,16 +25,19 @@ fn run(rule: u32, cores: u32, places: &[Place]) -> Words {
 
 /// Whether the words hold no run, or number 14 turns it down (scope, 'The run in the cab').
 fn turned_down(words: &Words) -> bool {
-    let [rule, cores, count, ..] = *words;
+    let [rule, cores, count, low, high, ..] = *words;
     let within = |n: u32, low: u32, high: u32| low <= n && n <= high;
     let is_phase = |place: &[u32]| match place[5] {
         COMING | RESTING => place[7] == 0,
         kind => kind == WORKING || kind == HOLDING,
     };
+    let is_fenced = |core: u32| if core < 32 { low >> core & 1 == 1 } else { high >> (core - 32) & 1 == 1 };
+    let unfenced = (0..cores.min(64)).filter(|&core| !is_fenced(core)).count() as u32;
+    let past = (cores.min(64)..64).any(is_fenced);
     let fits = |place: &[u32]| {
         let [o, v, c, d, t, kind, first, u] = place[..] else { unreachable!() };
         let z = first;
-        within(v, 1, cores)
+        within(v, 1, unfenced)
             && o <= 1_000_000
             && within(c, 1, 1_000_000)
             && within(t, 1, 1_000_000)
@@ -43,7 +50,7 @@ fn turned_down(words: &Words) -> bool {
             }
     };
     let mut used = words[RUN_HEAD_WORDS..].chunks(RUN_PLACE_WORDS).take(count as usize);
-    !(within(count, 1, 32) && within(cores, 1, 64) && within(rule, 1, 3) && used.all(|place| is_phase(place) && fits(place)))
+    !(within(count, 1, 32) && within(cores, 1, 64) && within(rule, 1, 3) && !past && unfenced > 0 && used.all(|place| is_phase(place) && fits(place)))
 }
 
 const OUT: Refusal = Refusal { number: 14, position: 0 };
@@ -57,10 +64,10 @@ fn compare(rng: &mut Rng, counts: &mut Counts, words: &Words, ticks: usize) -> T
         counts.answer(&kept.advance(rng, set, Err(OUT))?);
         return Ok(());
     }
-    let known = book::table_of(words);
-    let mut cab = known.book_of(words);
+    let (out, mut cab) = book::built(words);
+    same("14 as the simulator reads it", false, out)?;
     let mut now = *words;
-    same_run("the book", &now, &cab.words(&now))?;
+    same_run("the simulator's run", &now, &cab.words(&now))?;
     for _ in 0..ticks {
         counts.answer(&kept.row(rng, cab.row())?);
         let may = cab.may_report();
@@ -108,6 +115,16 @@ fn place(rng: &mut Rng, rule: u32, cores: u32) -> Place {
     [o, v, c, d, t, phase[0], phase[1], phase[2]]
 }
 
+/// A fence that leaves a core, and how many it leaves.
+fn fence(rng: &mut Rng, cores: u32) -> (u32, u64) {
+    let all = u64::MAX >> (64 - cores);
+    let one = 1 << rng.below(cores as usize);
+    let (any, few) = (rng.next() & all, rng.next() & rng.next() & all);
+    let fence = rng.pick(&[any & !one, few, all & !one, one]);
+    let fence = if fence == all { 0 } else { fence };
+    ((all & !fence).count_ones(), fence)
+}
+
 /// Anything in the places past the count.
 fn litter(rng: &mut Rng, words: &mut Words) {
     let used = RUN_HEAD_WORDS + RUN_PLACE_WORDS * words[2] as usize;
@@ -120,17 +137,20 @@ pub fn case(seed: u64, counts: &mut Counts) -> Tried<()> {
     let mut rng = Rng::new(seed);
     let (rule, cores) = (rng.pick(&[1, 2, 3, 3]), rng.pick(&[1, 2, 3, 4, 8, 64]));
     let count = if rng.once_in(8) { rng.from(1, 32) } else { rng.from(1, 5) };
-    let places: Vec<Place> = (0..count).map(|_| place(&mut rng, rule, cores)).collect();
-    let mut words = run(rule, cores, &places);
+    let (left, fence) = if rng.once_in(2) { (cores, 0) } else { fence(&mut rng, cores) };
+    let places: Vec<Place> = (0..count).map(|_| place(&mut rng, rule, left)).collect();
+    let mut words = fenced(rule, cores, fence, &places);
     litter(&mut rng, &mut words);
     if rng.once_in(3) {
         let place = RUN_HEAD_WORDS + RUN_PLACE_WORDS * rng.below(count as usize);
         let w = words[place..][..RUN_PLACE_WORDS].to_vec();
-        match rng.below(6) {
+        match rng.below(8) {
+            6 => words[1 + rng.below(4)] ^= 1 << rng.below(7),
+            7 => words[rng.pick(&[3, 4])] ^= 1 << rng.below(32),
             0 => words[0] = near(&mut rng, &[1, 3, u32::MAX]),
             1 => words[1] = near(&mut rng, &[1, 64, w[1]]),
             2 => words[2] = near(&mut rng, &[1, 32, count, u32::MAX]),
-            3 => words[place + rng.below(5)] = near(&mut rng, &[1, cores, w[4], w[3], 1_000_000]),
+            3 => words[place + rng.below(5)] = near(&mut rng, &[1, cores, left, w[4], w[3], 1_000_000]),
             4 => words[place + 5] = near(&mut rng, &[0, 3, u32::MAX]),
             _ => words[place + rng.pick(&[6, 7])] = near(&mut rng, &[1, w[0], w[2], w[3], w[4], w[6], u32::MAX]),
         }
@@ -202,7 +222,25 @@ fn limits() -> Vec<(String, Words, Words)> {
     let one = run(1, 2, &[PLAIN]);
     let all = run(2, 64, &[PLAIN; 32]);
     let holding = [5, 1, 4, 6, 8, HOLDING, 3, 2];
+    for core in 0..64 {
+        // a count that reaches the core beside one that ends before it, and a width of the cores outside beside one core more
+        let count = if core == 0 { 2 } else { core + 1 };
+        let wide = |width: u32| [5, width, 4, 6, 8, RESTING, 1, 0];
+        let at = |cores: u32, width: u32| fenced(1, cores, 1 << core, &[wide(width)]);
+        limits.push((format!("no fence past the cores, core {core}"), at(count.max(2), 1), at(core, 1)));
+        limits.push((format!("width at most the cores outside the fence, core {core} of {}", count.max(2)), at(count.max(2), count.max(2) - 1), at(count.max(2), count.max(2))));
+        let all = u64::MAX >> (63 - core);
+        let one = |fence: u64| fenced(2, core + 1, fence, &[wide(1)]);
+        limits.push((format!("no fence of all {} cores", core + 1), one(all >> 1), one(all)));
+        limits.push((format!("no fence of all {} cores, the lowest left", core + 1), one(all & !1), one(all)));
+    }
+    let three = [5, 3, 4, 6, 8, RESTING, 1, 0];
     limits.extend([
+        ("a fence in both words".into(), fenced(1, 64, 1 << 63 | 1, &[PLAIN]), fenced(1, 63, 1 << 63 | 1, &[PLAIN])),
+        ("width at most the cores outside a fence of 64".into(), fenced(3, 64, !0b111 << 8 | 0xff, &[PLAIN, three]), fenced(3, 64, !0b11 << 8 | 0xff, &[PLAIN, three])),
+        ("the width of the last place".into(), fenced(1, 4, 0b0010, &[PLAIN, PLAIN, three]), fenced(1, 4, 0b1010, &[PLAIN, PLAIN, three])),
+        ("the low word first".into(), fenced(1, 34, 1 | 1 << 33, &[PLAIN]), fenced(1, 33, 1 | 1 << 33, &[PLAIN])),
+        ("a fence far".into(), fenced(1, 2, 0, &[PLAIN]), fenced(1, 2, u64::MAX, &[PLAIN])),
         ("rule at least 1".into(), one, head(0, 0, one)),
         ("rule at most 3".into(), head(0, 3, one), head(0, 4, one)),
         ("rule far".into(), head(0, 2, one), head(0, u32::MAX, one)),
@@ -259,6 +297,39 @@ fn lateness(counts: &mut Counts) -> Tried<()> {
     Ok(())
 }
 
+/// The row of a fenced run: 255 on fenced cores, 0 past the count, all zeros where it is refused; and an advance keeps the fence.
+fn rows_with_a_fence() -> Tried<()> {
+    let two = [0, 2, 4, 6, 8, WORKING, 1, 1];
+    let rest = [0, 1, 4, 6, 8, RESTING, 7, 0];
+    let late = [5, 1, 4, 6, 8, WORKING, 6, 1];
+    for (name, words, cores) in [
+        ("the lowest cores outside", fenced(1, 6, 0b010110, &[two, PLAIN]), &[1, 255, 255, 1, 255, 2][..]),
+        ("an idle core among fenced ones", fenced(2, 5, 0b10101, &[PLAIN]), &[255, 1, 255, 0, 255]),
+        ("nobody claims", fenced(3, 4, 0b1001, &[rest]), &[255, 0, 0, 255]),
+        ("the first does not fit beside the second", fenced(2, 5, 0b00110, &[two, two, PLAIN]), &[1, 255, 255, 1, 0]),
+        ("it is passed over", fenced(1, 5, 0b00110, &[two, two, PLAIN]), &[1, 255, 255, 1, 3]),
+    ] {
+        let mut row = [0; ROW_BYTES];
+        row[..cores.len()].copy_from_slice(cores);
+        let mut held = Run::from_words(words);
+        same(name, Ok(row), held.row())?;
+        same(name, Ok(()), held.advance(0))?;
+        same("the head of the run one tick on", &words[..RUN_HEAD_WORDS], &held.words()[..RUN_HEAD_WORDS])?;
+    }
+    let mut rng = Rng::new(1);
+    let upper = fenced(1, 64, u64::MAX << 32, &[[0, 32, 4, 6, 8, WORKING, 1, 1]]);
+    let row = std::array::from_fn(|core| if core < 32 { 1 } else { 255 });
+    for (words, row) in [
+        (upper, Ok(row)),
+        (fenced(1, 3, 0b010, &[late]), Err(Refusal { number: 15, position: 1 })),
+        (fenced(1, 3, 0b111, &[PLAIN]), Err(OUT)),
+        (fenced(4, 3, 0b010, &[PLAIN]), Err(OUT)),
+    ] {
+        let _ = Kept::from(&mut rng, &words).row(&mut rng, row)?;
+    }
+    Ok(())
+}
+
 /// One task on one core: the rule, the place, the reports, and the phase one tick on, as the scope's sentences say.
 fn moves() -> Vec<(&'static str, u32, Place, u32, [u32; 3])> {
     vec![
@@ -311,7 +382,7 @@ fn past_the_count(counts: &mut Counts, count: u32) -> Tried<()> {
     let mut rng = Rng::new(count.into());
     for rule in 1..=3 {
         let places: Vec<Place> = (0..count).map(|_| place(&mut rng, rule, 8)).collect();
-        let clean = run(rule, 8, &places);
+        let clean = if count % 2 == 0 { run(rule, 8, &places) } else { fenced(rule, 40, 0xff_0f0f_ff0f, &places) };
         let mut littered = clean;
         litter(&mut rng, &mut littered);
         let (mut plain, mut held) = (Run::from_words(clean), Run::from_words(littered));
@@ -343,6 +414,7 @@ pub fn all(counts: &mut Counts) -> Vec<(String, Tried<()>)> {
         done.push((format!("{name}, rule {rule}"), a_move(rule, place, reports, phase)));
     }
     done.push(("a hold holds others back".into(), held_back()));
+    done.push(("rows with a fence".into(), rows_with_a_fence()));
     for count in 1..32 {
         done.push((format!("anything past a count of {count}"), past_the_count(counts, count)));
     }
