@@ -1,20 +1,22 @@
 //! Runs built by hand: number 14 at each limit, the fence among them, 15, and what no started run shows.
 use crate::book::{self, phase_at, COMING, HOLDING, RESTING, WORKING};
 use crate::calls::{same, same_run, Kept, Tried};
+use crate::fences;
 use crate::rng::Rng;
 use crate::Counts;
-use sivorandra::{Refusal, Run, ROW_BYTES, RUN_HEAD_WORDS, RUN_PLACE_WORDS, RUN_WORDS};
+use sivorandra::{Refusal, Run, RUN_HEAD_WORDS, RUN_PLACE_WORDS, RUN_WORDS};
 
 /// O, v, C, D, T, and the phase: its kind and two numbers.
-type Place = [u32; RUN_PLACE_WORDS];
-type Words = [u32; RUN_WORDS];
+pub type Place = [u32; RUN_PLACE_WORDS];
+pub type Words = [u32; RUN_WORDS];
 
 /// A run of these places without a fence; past the count zeros and Resting(0).
 fn run(rule: u32, cores: u32, places: &[Place]) -> Words {
     fenced(rule, cores, 0, places)
 }
 
-fn fenced(rule: u32, cores: u32, fence: u64, places: &[Place]) -> Words {
+/// A run of these places with a fence.
+pub fn fenced(rule: u32, cores: u32, fence: u64, places: &[Place]) -> Words {
     let mut words = [0; RUN_WORDS];
     words[..RUN_HEAD_WORDS].copy_from_slice(&[rule, cores, places.len() as u32, fence as u32, (fence >> 32) as u32]);
     for (at, place) in words[RUN_HEAD_WORDS..].chunks_mut(RUN_PLACE_WORDS).enumerate() {
@@ -53,7 +55,7 @@ fn turned_down(words: &Words) -> bool {
     !(within(count, 1, 32) && within(cores, 1, 64) && within(rule, 1, 3) && !past && unfenced > 0 && used.all(|place| is_phase(place) && fits(place)))
 }
 
-const OUT: Refusal = Refusal { number: 14, position: 0 };
+pub const OUT: Refusal = Refusal { number: 14, position: 0 };
 
 /// Row and advance of a run, for some ticks, beside 14 and the book.
 fn compare(rng: &mut Rng, counts: &mut Counts, words: &Words, ticks: usize) -> Tried<()> {
@@ -115,16 +117,6 @@ fn place(rng: &mut Rng, rule: u32, cores: u32) -> Place {
     [o, v, c, d, t, phase[0], phase[1], phase[2]]
 }
 
-/// A fence that leaves a core, and how many it leaves.
-fn fence(rng: &mut Rng, cores: u32) -> (u32, u64) {
-    let all = u64::MAX >> (64 - cores);
-    let one = 1 << rng.below(cores as usize);
-    let (any, few) = (rng.next() & all, rng.next() & rng.next() & all);
-    let fence = rng.pick(&[any & !one, few, all & !one, one]);
-    let fence = if fence == all { 0 } else { fence };
-    ((all & !fence).count_ones(), fence)
-}
-
 /// Anything in the places past the count.
 fn litter(rng: &mut Rng, words: &mut Words) {
     let used = RUN_HEAD_WORDS + RUN_PLACE_WORDS * words[2] as usize;
@@ -137,7 +129,7 @@ pub fn case(seed: u64, counts: &mut Counts) -> Tried<()> {
     let mut rng = Rng::new(seed);
     let (rule, cores) = (rng.pick(&[1, 2, 3, 3]), rng.pick(&[1, 2, 3, 4, 8, 64]));
     let count = if rng.once_in(8) { rng.from(1, 32) } else { rng.from(1, 5) };
-    let (left, fence) = if rng.once_in(2) { (cores, 0) } else { fence(&mut rng, cores) };
+    let (left, fence) = if rng.once_in(2) { (cores, 0) } else { fences::any(&mut rng, cores) };
     let places: Vec<Place> = (0..count).map(|_| place(&mut rng, rule, left)).collect();
     let mut words = fenced(rule, cores, fence, &places);
     litter(&mut rng, &mut words);
@@ -200,7 +192,7 @@ fn place_limits() -> Vec<(&'static str, Place, Place)> {
 }
 
 /// A place that is within its limits whatever the rule.
-const PLAIN: Place = [5, 1, 4, 6, 8, WORKING, 2, 1];
+pub const PLAIN: Place = [5, 1, 4, 6, 8, WORKING, 2, 1];
 
 /// Each limit by name, a run inside and a run outside.
 fn limits() -> Vec<(String, Words, Words)> {
@@ -222,25 +214,8 @@ fn limits() -> Vec<(String, Words, Words)> {
     let one = run(1, 2, &[PLAIN]);
     let all = run(2, 64, &[PLAIN; 32]);
     let holding = [5, 1, 4, 6, 8, HOLDING, 3, 2];
-    for core in 0..64 {
-        // a count that reaches the core beside one that ends before it, and a width of the cores outside beside one core more
-        let count = if core == 0 { 2 } else { core + 1 };
-        let wide = |width: u32| [5, width, 4, 6, 8, RESTING, 1, 0];
-        let at = |cores: u32, width: u32| fenced(1, cores, 1 << core, &[wide(width)]);
-        limits.push((format!("no fence past the cores, core {core}"), at(count.max(2), 1), at(core, 1)));
-        limits.push((format!("width at most the cores outside the fence, core {core} of {}", count.max(2)), at(count.max(2), count.max(2) - 1), at(count.max(2), count.max(2))));
-        let all = u64::MAX >> (63 - core);
-        let one = |fence: u64| fenced(2, core + 1, fence, &[wide(1)]);
-        limits.push((format!("no fence of all {} cores", core + 1), one(all >> 1), one(all)));
-        limits.push((format!("no fence of all {} cores, the lowest left", core + 1), one(all & !1), one(all)));
-    }
-    let three = [5, 3, 4, 6, 8, RESTING, 1, 0];
+    limits.extend(fences::limits());
     limits.extend([
-        ("a fence in both words".into(), fenced(1, 64, 1 << 63 | 1, &[PLAIN]), fenced(1, 63, 1 << 63 | 1, &[PLAIN])),
-        ("width at most the cores outside a fence of 64".into(), fenced(3, 64, !0b111 << 8 | 0xff, &[PLAIN, three]), fenced(3, 64, !0b11 << 8 | 0xff, &[PLAIN, three])),
-        ("the width of the last place".into(), fenced(1, 4, 0b0010, &[PLAIN, PLAIN, three]), fenced(1, 4, 0b1010, &[PLAIN, PLAIN, three])),
-        ("the low word first".into(), fenced(1, 34, 1 | 1 << 33, &[PLAIN]), fenced(1, 33, 1 | 1 << 33, &[PLAIN])),
-        ("a fence far".into(), fenced(1, 2, 0, &[PLAIN]), fenced(1, 2, u64::MAX, &[PLAIN])),
         ("rule at least 1".into(), one, head(0, 0, one)),
         ("rule at most 3".into(), head(0, 3, one), head(0, 4, one)),
         ("rule far".into(), head(0, 2, one), head(0, u32::MAX, one)),
@@ -293,39 +268,6 @@ fn lateness(counts: &mut Counts) -> Tried<()> {
             words[RUN_HEAD_WORDS + RUN_PLACE_WORDS * 5 + 1] = 5;
             same("14 before 15", Err(OUT), Run::from_words(words).advance(0))?;
         }
-    }
-    Ok(())
-}
-
-/// The row of a fenced run: 255 on fenced cores, 0 past the count, all zeros where it is refused; and an advance keeps the fence.
-fn rows_with_a_fence() -> Tried<()> {
-    let two = [0, 2, 4, 6, 8, WORKING, 1, 1];
-    let rest = [0, 1, 4, 6, 8, RESTING, 7, 0];
-    let late = [5, 1, 4, 6, 8, WORKING, 6, 1];
-    for (name, words, cores) in [
-        ("the lowest cores outside", fenced(1, 6, 0b010110, &[two, PLAIN]), &[1, 255, 255, 1, 255, 2][..]),
-        ("an idle core among fenced ones", fenced(2, 5, 0b10101, &[PLAIN]), &[255, 1, 255, 0, 255]),
-        ("nobody claims", fenced(3, 4, 0b1001, &[rest]), &[255, 0, 0, 255]),
-        ("the first does not fit beside the second", fenced(2, 5, 0b00110, &[two, two, PLAIN]), &[1, 255, 255, 1, 0]),
-        ("it is passed over", fenced(1, 5, 0b00110, &[two, two, PLAIN]), &[1, 255, 255, 1, 3]),
-    ] {
-        let mut row = [0; ROW_BYTES];
-        row[..cores.len()].copy_from_slice(cores);
-        let mut held = Run::from_words(words);
-        same(name, Ok(row), held.row())?;
-        same(name, Ok(()), held.advance(0))?;
-        same("the head of the run one tick on", &words[..RUN_HEAD_WORDS], &held.words()[..RUN_HEAD_WORDS])?;
-    }
-    let mut rng = Rng::new(1);
-    let upper = fenced(1, 64, u64::MAX << 32, &[[0, 32, 4, 6, 8, WORKING, 1, 1]]);
-    let row = std::array::from_fn(|core| if core < 32 { 1 } else { 255 });
-    for (words, row) in [
-        (upper, Ok(row)),
-        (fenced(1, 3, 0b010, &[late]), Err(Refusal { number: 15, position: 1 })),
-        (fenced(1, 3, 0b111, &[PLAIN]), Err(OUT)),
-        (fenced(4, 3, 0b010, &[PLAIN]), Err(OUT)),
-    ] {
-        let _ = Kept::from(&mut rng, &words).row(&mut rng, row)?;
     }
     Ok(())
 }
@@ -414,7 +356,7 @@ pub fn all(counts: &mut Counts) -> Vec<(String, Tried<()>)> {
         done.push((format!("{name}, rule {rule}"), a_move(rule, place, reports, phase)));
     }
     done.push(("a hold holds others back".into(), held_back()));
-    done.push(("rows with a fence".into(), rows_with_a_fence()));
+    done.push(("rows with a fence".into(), fences::rows()));
     for count in 1..32 {
         done.push((format!("anything past a count of {count}"), past_the_count(counts, count)));
     }

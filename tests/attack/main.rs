@@ -3,6 +3,7 @@
 mod book;
 mod calls;
 mod empty;
+mod fences;
 mod hand;
 mod lists;
 mod random;
