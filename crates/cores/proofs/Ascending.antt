@@ -137,6 +137,15 @@ kept-kept f g (x ∷ l) = go (g x) (kept-kept f g l)
     go true ih = ap (λ (m : List ℕ). keptIf (f x) x m) ih
     go false ih = ih
 
+pub length-kept : (f : ℕ → Bool) (l : List ℕ) → length (kept f l) ≤ length l
+unfolding kept
+length-kept f [] = omega arith
+length-kept f (x ∷ l) = go (f x) (length-kept f l)
+  where
+    go : (t : Bool) → length (kept f l) ≤ length l → length (keptIf t x (kept f l)) ≤ suc (length l)
+    go true h = omega arith
+    go false h = omega arith
+
 pub range-kept : (f : ℕ → Bool) (lo hi : ℕ) (l : List ℕ) → Range lo hi l → Range lo hi (kept f l)
 unfolding kept
 range-kept f lo hi [] r = tt

@@ -1,4 +1,4 @@
--- What is promised of the verdict of the words follows from the numbers 1 to 9 and from the model's theorem on its verdict.
+-- What is promised of the verdict of the words follows from the numbers of the table and from the model's theorem on its verdict.
 use native.Mathlib.Omega.{arith}
 use mathlib.Core.Path.{_≡_, refl, sym, ap, _∙_, subst}
 use mathlib.Core.List.{List, _++_}

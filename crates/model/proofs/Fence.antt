@@ -157,7 +157,7 @@ unfolding kept upFrom
 unfenced-all i zero = refl
 unfenced-all i (suc n) = rw (bit-none i, unfenced-all (suc i) n)
 
-unfenced-count : (n : ℕ) → length (unfenced 0 n) ≡ n
+pub unfenced-count : (n : ℕ) → length (unfenced 0 n) ≡ n
 unfenced-count n = ap length (unfenced-all 0 n) ∙ up-length 0 n
 
 map-up : (f g : ℕ → ℕ) (i n : ℕ) → ((c : ℕ) → i ≤ c → c < i + n → f c ≡ g c) → map f (upFrom i n) ≡ map g (upFrom i n)
