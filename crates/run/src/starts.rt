@@ -29,13 +29,7 @@ fn empty() -> Run
 }
 
 // The run of a table's first `count` tasks as it starts.
-fn started(
-    rule: u32,
-    cores: u32,
-    fence: u64,
-    tasks: [table::Task; MOST_TASKS],
-    count: usize,
-) -> Run
+fn started(rule: u32, cores: u32, fence: u64, tasks: [table::Task; MOST_TASKS], count: usize) -> Run
     requires { ⌜ count ≤ mostTasks ⌝ }
     ensures { λ r. ⌜ r ≡ startedRun rule (tableWith cores fence rule (table.tasksOf tasks count)) ⌝ }
 {
