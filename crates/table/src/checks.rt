@@ -39,13 +39,7 @@ fn horizon_out(start: u32, period: u32) -> bool
 }
 
 // A table whose tasks are within their limits: number 9, or the table.
-fn by_horizon(
-    cores: u32,
-    fence: u64,
-    rule: u32,
-    tasks: [Task; MOST_TASKS],
-    count: usize,
-) -> Loaded
+fn by_horizon(cores: u32, fence: u64, rule: u32, tasks: [Task; MOST_TASKS], count: usize) -> Loaded
     requires { ⌜ 1 ≤ count ⌝ ∗ ⌜ count ≤ mostTasks ⌝ ∗ ⌜ InLimits tasks count ⌝ ∗ ⌜ tasks ≡ places (tasksOf tasks count) ⌝ }
     ensures { λ r. ⌜ r ≡ loadedBy (byHorizon (tableWith cores fence rule (tasksOf tasks count))) (passing rule (tableWith cores fence rule (tasksOf tasks count))) ⌝ }
 {

@@ -13,7 +13,7 @@ pub const MOST_TIME: u32 = 1_000_000;
 pub const MOST_HORIZON: u32 = 10_000_000;
 
 // The weight of the fence's second word.
-const HIGH: u64 = 4_294_967_296;
+pub const HIGH: u64 = 4_294_967_296;
 
 // Whether the core count is not 1 to 64 (number 2).
 pub fn cores_out(cores: u32) -> bool
