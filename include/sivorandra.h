@@ -43,7 +43,7 @@ extern "C" {
 #define SIVORANDRA_FENCED 255u
 
 /* No sentence is longer: a buffer of so many bytes is never refused with 18. */
-#define SIVORANDRA_SENTENCE_BYTES 698
+#define SIVORANDRA_SENTENCE_BYTES 700
 
 /* The words of the facts of a miss: position, tick, ticks had, C, then for positions 1 to 32 in how many of the late job's waiting ticks the
    task ran, 0 for one that the sentence does not name. */

@@ -33,7 +33,7 @@ REFUSALS = {
     6: ["Along the chain a record is met again: it never ends."],
     7: ["The width v of the task at position {} is 0 or above the number of unfenced cores."],
     8: ["The O, C, D or T of the task at position {} is outside its limits."],
-    9: ["The horizon, the last S plus P, is above 10,000,000 ticks."],
+    9: ["The horizon, the last S plus P, is above 1,000,000,000 ticks."],
     19: ["The fence (words 3 and 4) names a core past the count, or all cores."],
 }
 

@@ -19,7 +19,7 @@ pub const RUN_PLACE_WORDS: usize = 8;
 pub const RUN_WORDS: usize = RUN_HEAD_WORDS + RUN_PLACE_WORDS * 32;
 
 /// No sentence is longer: a buffer of so many bytes is never refused with 18.
-pub const SENTENCE_BYTES: usize = 698;
+pub const SENTENCE_BYTES: usize = 700;
 /// The words of facts in front of the counts: position, tick, ticks had, and C.
 const FACT_HEAD_WORDS: usize = 4;
 
