@@ -15,7 +15,7 @@ use borrow.Author.Tests.{eqb-true, eqb-false, eq-eqb, ne-eqb, lt-ltb, le-ltb, lt
 use Rattle.model.specs.Search.{bit}
 use Rattle.model.proofs.Bools.{same-test}
 use Rattle.model.proofs.Digits.{or-bit, bit-power, bit-none}
-use Rattle.full.proofs.Sets.{set-has, set-past, set-is}
+use Rattle.full.proofs.Sets.{set-has, set-lt, set-past, set-is}
 use Rattle.leap.specs.Stand.{dueAt, soonest}
 
 -- the set of those of the first i places whose moment is t, digit by digit
@@ -33,6 +33,10 @@ due-is t n ms few p = go (leb 32 p) refl
         set-past 32 (λ q. ltb q n && eqb (getD ms q 0) t) p (leb-true 32 p e)
         ∙ ap (λ (b : Bool). b && eqb (getD ms p 0) t) (sym (le-ltb p n (omega (arith, leb-true 32 p e))))
     go false e = set-has 32 (λ q. ltb q n && eqb (getD ms q 0) t) p (leb-false 32 p e)
+
+pub due-small : (t n : ℕ) (ms : List ℕ) → dueAt t n ms < 2 ^ 32
+unfolding dueAt
+due-small t n ms = set-lt 32 (λ p. ltb p n && eqb (getD ms p 0) t)
 
 -- and it is the only one
 pub due-one : (t n : ℕ) (ms : List ℕ) (set : ℕ) → DueTo t n ms set → set ≡ dueAt t n ms

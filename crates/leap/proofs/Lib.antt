@@ -12,3 +12,4 @@ pub mod Lands
 pub mod Taken
 pub mod Late
 pub mod Moments
+pub mod Agree
