@@ -13,3 +13,4 @@ pub mod Taken
 pub mod Late
 pub mod Moments
 pub mod Agree
+pub mod Examples
