@@ -23,7 +23,7 @@ pub extern "C" fn sivorandra_judge(words: &[u32], answer: &mut [u32]) -> u32
     if answer.len() < 3 {
         return 1;
     }
-    let verdict = judge::judge(words);
+    let verdict = quick::judge(words);
     let told = told::of_verdict(verdict);
     told::put(told, answer);
     0
