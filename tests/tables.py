@@ -114,6 +114,15 @@ def chain_of(words):
     return found
 
 
+def stretched(words, times):
+    """The same table with offsets, lengths, deadlines and periods that are so many times as long: so are the ticks of its verdict."""
+    words = list(words)
+    for place in chain_of(words):
+        for at in (1, 3, 4, 5):
+            words[place + at] *= times
+    return words
+
+
 def about_the_limit(rng, words):
     """The words with such periods and offsets that the horizon is the limit, or one or some ticks more or less."""
     pair = rng.choice(NEAR)
