@@ -54,11 +54,11 @@ extern "C" {
 #define SIVORANDRA_MOST_HORIZON 1000000000u
 
 /* The verdict on the table in `words`: firm, full, miss or refused. It goes from one release, end or deadline to the next, or tick by tick,
-   whichever is faster for the table's periods; where these are 10,000 ticks and more, a horizon of 1,000,000,000 takes a fraction of a second. */
+   whichever is faster for the table's periods. */
 uint32_t sivorandra_judge(const uint32_t *words, size_t words_len,
                           uint32_t *answer, size_t answer_len);
 
-/* The same verdict, always tick by tick: some seconds at a horizon of 1,000,000,000. It is there to be compared with the other. */
+/* The same verdict, always tick by tick. It is there to be compared with the other. */
 uint32_t sivorandra_judge_ticks(const uint32_t *words, size_t words_len,
                                 uint32_t *answer, size_t answer_len);
 

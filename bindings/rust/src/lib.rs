@@ -114,7 +114,7 @@ pub fn judge(words: &[u32]) -> Result<Verdict, Refusal> {
     verdict(ask(|answer, len| unsafe { sivorandra_judge(words.as_ptr(), words.len(), answer, len) }))
 }
 
-/// The same verdict, always tick by tick: some seconds at a horizon of 1,000,000,000. It is there to be compared with the other.
+/// The same verdict, always tick by tick. It is there to be compared with the other.
 pub fn judge_ticks(words: &[u32]) -> Result<Verdict, Refusal> {
     verdict(ask(|answer, len| unsafe { sivorandra_judge_ticks(words.as_ptr(), words.len(), answer, len) }))
 }
