@@ -140,7 +140,7 @@ def late_at_once(words):
 
 
 def spoilt(rng, words, printed):
-    """The words with one change that a number from 1 to 9, or 19, may turn down. Where rows are printed, no more than some ten million follow."""
+    """The words with one change that a number from 1 to 9, or 19, may turn down. Where rows are printed, no more than some millions follow."""
     words = list(words)
     kind = rng.randint(0, 12)
     records = (len(words) - HEAD) // RECORD
@@ -160,7 +160,7 @@ def spoilt(rng, words, printed):
     elif kind == 6:
         words[record + rng.randint(1, 5)] = rng.choice([0, 1, 1000000, 1000001, WORD - 1])
     elif kind == 7:
-        periods = rng.choice([[999983, 999979], [128, 78125]] if printed else [[999983, 999979], [128, 78125], [999983, 128, 64], [999979, 250]])
+        periods = rng.choice([[999983, 999979], [64, 15625]] if printed else [[999983, 999979], [128, 78125], [999983, 128, 64], [999979, 250]])
         for at in range(HEAD, len(words), RECORD):
             words[at + 5] = rng.choice(periods)
             words[at + 4] = min(words[at + 4], words[at + 5])
