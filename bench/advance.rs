@@ -3,13 +3,19 @@
 //
 // The library's advance is timed inside `sivorandra_replay`, which moves a run by value through the list. Its row is timed through `sivorandra_row`, which reads
 // the run from its words first; so the sum is an upper bound of what an advance with its row costs.
+//
+// The simulator knows no fence and reads three header words: it gets the same tasks on just the unfenced cores, where every answer is the same.
 
 use std::hint::black_box;
 
 const TICKS: usize = 50_000;
 const RUNS: usize = 5;
-/// The words of a run: rule, cores and count, and eight for each of the 32 places.
-const RUN_WORDS: usize = 3 + 8 * 32;
+/// The words of a table before its records.
+const HEAD: usize = 5;
+/// The words of a run: rule, cores, count and fence, and eight for each of the 32 places.
+const RUN_WORDS: usize = 5 + 8 * 32;
+/// 10 of 64 cores, of both words.
+const FENCE: u64 = 1 | 7 << 12 | 1 << 31 | 1 << 32 | 7 << 45 | 1 << 63;
 
 extern "C" {
     fn clock_gettime(clock: i32, time: *mut [i64; 2]) -> i32;
@@ -62,6 +68,7 @@ struct Task {
 struct Run {
     rule: u32,
     cores: u32,
+    fence: u64,
     count: usize,
     tasks: [Task; 32],
 }
@@ -73,8 +80,8 @@ struct Tick {
 }
 
 impl Task {
-    fn in_limits(&self, rule: u32, cores: u32) -> bool {
-        let numbers = (1..=cores).contains(&self.width) && self.offset <= 1_000_000 && (1..=1_000_000).contains(&self.length) && (1..=1_000_000).contains(&self.period) && (1..=self.period).contains(&self.deadline);
+    fn in_limits(&self, rule: u32, unfenced: u32) -> bool {
+        let numbers = (1..=unfenced).contains(&self.width) && self.offset <= 1_000_000 && (1..=1_000_000).contains(&self.length) && (1..=1_000_000).contains(&self.period) && (1..=self.period).contains(&self.deadline);
         numbers
             && match self.phase {
                 Coming(left) => (1..=self.offset).contains(&left),
@@ -109,10 +116,11 @@ impl Task {
 impl Run {
     fn start(words: &[u32]) -> Run {
         let unused = Task { offset: 0, width: 0, length: 0, deadline: 0, period: 0, phase: Resting(0) };
-        let mut run = Run { rule: words[2], cores: words[1], count: 0, tasks: [unused; 32] };
+        let fence = u64::from(words[3]) | u64::from(words[4]) << 32;
+        let mut run = Run { rule: words[2], cores: words[1], fence, count: 0, tasks: [unused; 32] };
         let mut record = words[0] as usize;
         while record != 0 {
-            let at = 6 * record - 3;
+            let at = HEAD + 6 * (record - 1);
             let offset = words[at + 1];
             let phase = if offset == 0 { Working(0, 0) } else { Coming(offset) };
             run.tasks[run.count] = Task { offset, width: words[at + 2], length: words[at + 3], deadline: words[at + 4], period: words[at + 5], phase };
@@ -127,9 +135,14 @@ impl Run {
         if !(1..=32).contains(&self.count) || !(1..=64).contains(&self.cores) || !(1..=3).contains(&self.rule) {
             return Err(14 * 256);
         }
+        let all = u64::MAX >> (64 - self.cores);
+        if self.fence & !all != 0 || self.fence == all {
+            return Err(14 * 256);
+        }
+        let unfenced = (all & !self.fence).count_ones();
         let (mut claiming, mut working, mut late) = (0u32, 0u32, 0);
         for (place, task) in self.tasks[..self.count].iter().enumerate() {
-            if !task.in_limits(self.rule, self.cores) {
+            if !task.in_limits(self.rule, unfenced) {
                 return Err(14 * 256);
             }
             match task.phase {
@@ -147,7 +160,7 @@ impl Run {
         if late != 0 {
             return Err(15 * 256 + late);
         }
-        let (mut granted, mut free) = (0, self.cores);
+        let (mut granted, mut free) = (0, unfenced);
         while claiming != 0 {
             let place = claiming.trailing_zeros();
             claiming &= claiming - 1;
@@ -194,6 +207,10 @@ impl Run {
             Ok(tick) => tick.granted,
             Err(number) => return number,
         };
+        if self.fence != 0 {
+            self.paint_around(granted, row);
+            return 0;
+        }
         let mut core = 0;
         for (place, task) in self.tasks[..self.count].iter().enumerate() {
             if granted >> place & 1 != 0 {
@@ -203,6 +220,22 @@ impl Run {
             }
         }
         0
+    }
+
+    /// The row with 255 on fenced cores, core by core.
+    fn paint_around(&self, granted: u32, row: &mut [u8; 64]) {
+        for core in 0..self.cores as usize {
+            row[core] = if self.fence >> core & 1 != 0 { 255 } else { 0 };
+        }
+        let mut free = u64::MAX >> (64 - self.cores) & !self.fence;
+        for (place, task) in self.tasks[..self.count].iter().enumerate() {
+            if granted >> place & 1 != 0 {
+                for _ in 0..task.width {
+                    row[free.trailing_zeros() as usize & 63] = place as u8 + 1;
+                    free &= free - 1;
+                }
+            }
+        }
     }
 
     #[inline(never)]
@@ -228,10 +261,10 @@ impl Dice {
 }
 
 /// The words of a table of `count` tasks on 64 cores that the judge calls Firm, with a short horizon.
-fn table(count: u32, rule: u32) -> Vec<u32> {
+fn table(count: u32, rule: u32, fence: u64) -> Vec<u32> {
     let mut dice = Dice(u64::from(count));
     loop {
-        let mut words = vec![1, 64, rule];
+        let mut words = vec![1, 64, rule, fence as u32, (fence >> 32) as u32];
         let mut widths: Vec<u32> = (0..count).map(|_| 1 + dice.below(128 / count.max(4))).collect();
         widths.sort();
         for (place, width) in (1..).zip(widths) {
@@ -245,6 +278,12 @@ fn table(count: u32, rule: u32) -> Vec<u32> {
             return words;
         }
     }
+}
+
+/// The table with just its unfenced cores, as the simulator reads it.
+fn for_simulator(words: &[u32]) -> Vec<u32> {
+    let fenced = words[3].count_ones() + words[4].count_ones();
+    [&[words[0], words[1] - fenced, words[2]], &words[HEAD..]].concat()
 }
 
 /// Report sets that are taken: now and then a job that works in the tick ends early.
@@ -277,9 +316,10 @@ fn times(words: &[u32], list: &[u32]) -> [f64; 9] {
     let ours = best(|| unsafe {
         sivorandra_replay(words.as_ptr(), words.len(), list.as_ptr(), list.len(), numbers.as_mut_ptr(), TICKS, row.as_mut_ptr(), 64, answer.as_mut_ptr(), 3);
     });
-    let simulator = best(|| simulator::advances(words, list, false, &mut others));
+    let three = for_simulator(words);
+    let simulator = best(|| simulator::advances(&three, list, false, &mut others));
     assert_eq!(numbers, others);
-    let simulator_row = best(|| simulator::advances(words, list, true, &mut others));
+    let simulator_row = best(|| simulator::advances(&three, list, true, &mut others));
 
     let mut last = Run::start(words);
     let value = best(|| {
@@ -336,15 +376,16 @@ fn times(words: &[u32], list: &[u32]) -> [f64; 9] {
 fn main() {
     println!("| tasks | | library | simulator | Rust by value | Rust in place | library / simulator | library / by value | library / in place |");
     println!("| --- | --- | --- | --- | --- | --- | --- | --- | --- |");
-    for count in [1, 8, 32] {
+    for (count, fence) in [(1, 0), (8, 0), (32, 0), (32, FENCE)] {
         let mut mean = [0.0; 9];
         for rule in 1..=3 {
-            let words = table(count, rule);
+            let words = table(count, rule, fence);
             let list = reports(&words);
             for (sum, time) in mean.iter_mut().zip(times(&words, &list)) {
                 *sum += time / 3.0;
             }
         }
+        let count = if fence == 0 { count.to_string() } else { format!("{count}, fenced") };
         for (name, at) in [("advance", 0), ("advance with its row", 4)] {
             let [ours, simulator, value, place] = [mean[at], mean[at + 1], mean[at + 2], mean[at + 3]];
             println!("| {count} | {name} | {ours:.0} ns | {simulator:.0} ns | {value:.0} ns | {place:.0} ns | {:.2} | {:.2} | {:.2} |", ours / simulator, ours / value, ours / place);

@@ -28,12 +28,17 @@ def rust(source, work):
 
 @contextlib.contextmanager
 def heavy():
-    """The simulator and the peer, and the paths of the heavy tables, in a folder that goes away."""
+    """The simulator and the peer, and the paths of the heavy tables, in a folder that goes away. `three` says where the simulator's own form of one is."""
     with tempfile.TemporaryDirectory() as work:
         gangsim, peer = rust(HERE / "simulator.rs", work), rust(HERE / "peer.rs", work)
         tables = pathlib.Path(work) / "tables"
         subprocess.run([sys.executable, str(HERE / "tables.py"), str(tables), gangsim], check=True)
-        yield gangsim, peer, sorted(tables.iterdir())
+        yield gangsim, peer, sorted(tables.glob("*.txt"))
+
+
+def three(path):
+    """The table of the same tasks on just the unfenced cores, with three header words: what the simulator reads, and what was read before there was a fence."""
+    return path.parent / "three" / path.name
 
 
 def spent():

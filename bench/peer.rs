@@ -15,6 +15,7 @@ struct Task {
 }
 
 struct Table {
+    /// The cores outside the fence.
     cores: u32,
     rule: u32,
     tasks: Vec<Task>,
@@ -24,13 +25,17 @@ struct Table {
 
 type Refusal = (u32, usize);
 
+/// Words before the records, and of all of them.
+const HEAD: usize = 5;
+const MOST_WORDS: usize = HEAD + 6 * 32;
+
 fn numbers(text: &[u8]) -> Option<Vec<u32>> {
-    let mut numbers = Vec::with_capacity(195);
+    let mut numbers = Vec::with_capacity(MOST_WORDS);
     if text.is_empty() {
         return Some(numbers);
     }
     for line in text.strip_suffix(b"\n").unwrap_or(text).split(|&b| b == b'\n') {
-        if line.is_empty() || line.len() > 10 || !line.iter().all(u8::is_ascii_digit) || numbers.len() == 195 {
+        if line.is_empty() || line.len() > 10 || !line.iter().all(u8::is_ascii_digit) || numbers.len() == MOST_WORDS {
             return None;
         }
         let value = line.iter().fold(0u64, |n, &digit| n * 10 + u64::from(digit - b'0'));
@@ -45,7 +50,7 @@ fn gcd(a: u64, b: u64) -> u64 {
 
 fn load(text: &[u8]) -> Result<Table, Refusal> {
     let words = numbers(text).ok_or((1, 0))?;
-    if words.len() < 3 || (words.len() - 3) % 6 != 0 {
+    if words.len() < HEAD || (words.len() - HEAD) % 6 != 0 {
         return Err((1, 0));
     }
     let (head, cores, rule) = (words[0] as usize, words[1], words[2]);
@@ -55,19 +60,24 @@ fn load(text: &[u8]) -> Result<Table, Refusal> {
     if !(1..=3).contains(&rule) {
         return Err((3, 0));
     }
+    let (all, fence) = (u64::MAX >> (64 - cores), u64::from(words[3]) | u64::from(words[4]) << 32);
+    if fence & !all != 0 || fence == all {
+        return Err((19, 0));
+    }
+    let cores = (all & !fence).count_ones();
     if head == 0 {
         return Err((4, 0));
     }
     let (mut tasks, mut met, mut number) = (Vec::with_capacity(32), 0u64, head);
     while number != 0 {
-        if number > (words.len() - 3) / 6 {
+        if number > (words.len() - HEAD) / 6 {
             return Err((5, 0));
         }
         if met >> number & 1 != 0 {
             return Err((6, 0));
         }
         met |= 1 << number;
-        let record = &words[6 * number - 3..6 * number + 3];
+        let record = &words[HEAD + 6 * (number - 1)..][..6];
         tasks.push(Task { offset: record[1], width: record[2], length: record[3], deadline: record[4], period: record[5] });
         number = record[0] as usize;
     }

@@ -3,9 +3,9 @@
 #include <stdio.h>
 #include "sivorandra.h"
 
-/* head, cores, rule; then for each record: next, offset, width, length, deadline, period */
+/* head, cores, rule, two words of fenced cores; then for each record: next, offset, width, length, deadline, period */
 static const uint32_t table[] = {
-    1, 3, 1,
+    1, 3, 1, 0, 0,
     2, 0, 2, 2, 5, 5,
     3, 0, 2, 3, 5, 5,
     0, 0, 1, 4, 5, 5,

@@ -1,9 +1,9 @@
 //! The table of tables/a.txt from Rust: its verdict, why where it misses, its rows, and two ticks of a run in which the job of position 1 ends early.
 use sivorandra::{judge, plan, sentence, Refusal, Run, Verdict};
 
-// head, cores, rule; then for each record: next, offset, width, length, deadline, period
-const TABLE: [u32; 21] = [
-    1, 3, 1, //
+// head, cores, rule, two words of fenced cores; then for each record: next, offset, width, length, deadline, period
+const TABLE: [u32; 23] = [
+    1, 3, 1, 0, 0, //
     2, 0, 2, 2, 5, 5, //
     3, 0, 2, 3, 5, 5, //
     0, 0, 1, 4, 5, 5,

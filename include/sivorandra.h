@@ -23,18 +23,25 @@ extern "C" {
 #define SIVORANDRA_FULL 1u        /* S and P */
 #define SIVORANDRA_MISS 2u        /* tick and position */
 #define SIVORANDRA_LENGTH 0u      /* from sivorandra_sentence: the sentence's length, and 0 */
-#define SIVORANDRA_REFUSED 3u     /* number, 1 to 18, and position */
+#define SIVORANDRA_REFUSED 3u     /* number, 1 to 19, and position */
 #define SIVORANDRA_ROW_REFUSED 4u /* the last row of a replay: number and position */
 #define SIVORANDRA_NO_SENTENCE 5u /* from sivorandra_facts: 0 and 0 */
 
-/* The words that a run kept between calls takes: rule, cores and count, then 32 places of which the first count are used; a place is
-   O, v, C, D, T, the kind of its phase (0 Coming, 1 Working, 2 Holding, 3 Resting) and its two numbers, 0 for one that it does not have. */
-#define SIVORANDRA_RUN_HEAD_WORDS 3
+/* The words of a table in front of its records: head, cores, rule, and the fence, the set of cores that no task has,
+   its low word first: bit c of the low word is core c, bit c of the high word core 32 + c. */
+#define SIVORANDRA_TABLE_HEAD_WORDS 5
+#define SIVORANDRA_TABLE_RECORD_WORDS 6
+
+/* The words that a run kept between calls takes: rule, cores, count and the fence, its low word first, then 32 places of which the first count
+   are used; a place is O, v, C, D, T, the kind of its phase (0 Coming, 1 Working, 2 Holding, 3 Resting) and its two numbers, 0 for one that
+   it does not have. */
+#define SIVORANDRA_RUN_HEAD_WORDS 5
 #define SIVORANDRA_RUN_PLACE_WORDS 8
 #define SIVORANDRA_RUN_WORDS (SIVORANDRA_RUN_HEAD_WORDS + SIVORANDRA_RUN_PLACE_WORDS * 32)
 
-/* The bytes of a row: core 0 first, the position or 0 for idle. */
+/* The bytes of a row: core 0 first, the position, 0 for idle, or 255 for a fenced core. */
 #define SIVORANDRA_ROW_BYTES 64
+#define SIVORANDRA_FENCED 255u
 
 /* No sentence is longer: a buffer of so many bytes is never refused with 18. */
 #define SIVORANDRA_SENTENCE_BYTES 698
@@ -48,7 +55,7 @@ extern "C" {
 uint32_t sivorandra_judge(const uint32_t *words, size_t words_len,
                           uint32_t *answer, size_t answer_len);
 
-/* Writes rows a up to but not including b of the full-length run into `rows`, one byte a core: done or refused.
+/* Writes rows a up to but not including b of the full-length run into `rows`, one byte a core, fenced ones too: done or refused.
    A refusal leaves `rows` as found; 11 says that `rows` is too short. Bytes behind the last row stay. */
 uint32_t sivorandra_plan(const uint32_t *words, size_t words_len, uint32_t a, uint32_t b,
                          uint8_t *rows, size_t rows_len,
@@ -72,8 +79,8 @@ uint32_t sivorandra_start(const uint32_t *words, size_t words_len,
                           uint32_t *answer, size_t answer_len);
 
 /* The row of the present tick: done or refused. Taken or refused, it writes all 64 bytes of the row that is returned: bytes past the
-   core count are 0, and a refused row is 64 zeros. Words that are no run are refused with 14: too few, a count above 32, or no phase
-   in a place below the count. Places past the count are not read. */
+   core count are 0, and a refused row is 64 zeros, on fenced cores too. Words that are no run are refused with 14: too few, a count above
+   32, or no phase in a place below the count. Places past the count are not read. */
 uint32_t sivorandra_row(const uint32_t *run, size_t run_len,
                         uint8_t *row, size_t row_len,
                         uint32_t *answer, size_t answer_len);

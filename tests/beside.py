@@ -9,7 +9,7 @@ import tempfile
 ROOT = pathlib.Path(__file__).resolve().parents[1]
 LONGEST = 300  # bytes of anything that a failing test shows
 BLOCK = 1 << 16
-STAGE = "101"  # the last request that the project has
+STAGE = "102"  # the last request that the project has
 passed = failed = 0
 
 
@@ -34,12 +34,12 @@ def simulator():
         yield [built, "--stage", STAGE]
 
 
-def vectors(kind):
-    """The name, the input and the output of each vector of a kind."""
+def vectors(*kinds):
+    """The name, the input and the output of each vector of these kinds."""
     folder = ROOT / "tests" / "vectors"
     for line in (folder / "INDEX").read_text().splitlines():
         number, its = line.split()[:2]
-        if its == kind:
+        if its in kinds:
             yield f"vector {number}", (folder / f"{number}.in").read_bytes(), (folder / f"{number}.out").read_bytes()
 
 

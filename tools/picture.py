@@ -1,8 +1,8 @@
 #!/usr/bin/env python3
 """Draws what the program prints for a table as an SVG 1.1: picture.py PROGRAM... < table > out.svg
 
-It decides nothing. The cells are the program's rows and the words are the program's verdict; releases, deadlines and the numbers
-beside each task are the table's. The program's output is read as a stream: only the rows that are drawn are kept."""
+It decides nothing. The cells are the program's rows and the words are the program's verdict; releases, deadlines, the fence and the
+numbers beside each task are the table's. The program's output is read as a stream: only the rows that are drawn are kept."""
 import collections
 import colorsys
 import contextlib
@@ -12,8 +12,10 @@ import subprocess
 import sys
 from xml.sax.saxutils import escape, quoteattr
 
-LONGEST = 2146  # bytes: no table is longer, and the program reads no more
+LONGEST = 2168  # bytes: no table is longer, and the program reads no more
 MOST = 100  # ticks in one picture
+HEAD, RECORD = 5, 6  # words of a table and of a record
+FENCED = 255  # on a fenced core in every row
 
 Task = collections.namedtuple("Task", "O v C D T")
 RULES = {1: "greedy", 2: "limited", 3: "idling"}
@@ -23,15 +25,16 @@ VERDICTS = {
     "miss": "Miss: the task at position {1} misses its deadline at tick {0}",
 }
 REFUSALS = {
-    1: ["This is no table: it is not one decimal number a line,", "or not 3 words and then at most 32 whole records of six."],
+    1: ["This is no table: it is not one decimal number a line,", "or not 5 words and then at most 32 whole records of six."],
     2: ["The core count (word 1) is not 1 to 64."],
     3: ["The rule (word 2) is not 1, 2 or 3."],
     4: ["The head (word 0) is zero: the chain has no record."],
     5: ["Along the chain a number past the last record is met."],
     6: ["Along the chain a record is met again: it never ends."],
-    7: ["The width v of the task at position {} is 0 or above the core count."],
+    7: ["The width v of the task at position {} is 0 or above the number of unfenced cores."],
     8: ["The O, C, D or T of the task at position {} is outside its limits."],
     9: ["The horizon, the last S plus P, is above 10,000,000 ticks."],
+    19: ["The fence (words 3 and 4) names a core past the count, or all cores."],
 }
 
 
@@ -40,15 +43,15 @@ class Trouble(Exception):
     pass
 
 
-# The core count, the rule and the tasks of a table that the program took, in the order of its chain.
+# The core count, the rule, the fenced cores and the tasks of a table that the program took, in the order of its chain.
 def table_of(text):
     words = [int(line) for line in text.split()]
     tasks, at = [], words[0]
     while at and len(tasks) < 32:
-        record = words[3 + (at - 1) * 6:][:6]
+        record = words[HEAD + (at - 1) * RECORD:][:RECORD]
         tasks.append(Task(*record[1:]))
         at = record[0]
-    return words[1], words[2], tasks
+    return words[1], words[2], {core for core in range(words[1]) if words[3 + core // 32] >> core % 32 & 1}, tasks
 
 
 # The first and the last tick to draw, and what they are in words.
@@ -66,11 +69,12 @@ def stretch(word, first, second):
 
 
 # The rows of a stretch of ticks, from the program's lines.
-def rows_of(lines, start, end, cores, count):
+def rows_of(lines, start, end, cores, fenced, count):
     rows = []
     for tick, line in zip(range(start, end), itertools.islice(lines, start, None)):
         numbers = [int(field) for field in line.split()]
-        if numbers[:1] != [tick] or len(numbers) != cores + 1 or max(numbers[1:]) > count:
+        strange = lambda core, number: number != FENCED if core in fenced else number > count
+        if numbers[:1] != [tick] or len(numbers) != cores + 1 or any(strange(core, number) for core, number in enumerate(numbers[1:])):
             raise Trouble(f"the program's row of tick {tick} is {line!r}")
         rows.append(numbers[1:])
     if len(rows) != end - start:
@@ -156,9 +160,9 @@ MONO = {"font_size": 10, "font_family": "DejaVu Sans Mono, Menlo, Consolas, mono
 
 # The chart of a stretch of ticks: cores over ticks, below it a strip for each task.
 class Chart(Sheet):
-    def __init__(self, cores, tasks, start, end, rows):
+    def __init__(self, cores, fenced, tasks, start, end, rows):
         super().__init__()
-        self.cores, self.tasks, self.start, self.end, self.rows = cores, tasks, start, end, rows
+        self.cores, self.fenced, self.tasks, self.start, self.end, self.rows = cores, sorted(fenced), tasks, start, end, rows
         self.wide = min(80, max(12, 960 / (end - start)))
         self.high = next(size for most, size in ((8, 28), (16, 20), (32, 15), (64, 12)) if cores <= most)
         self.strip = 24 if len(tasks) <= 12 else 18
@@ -181,7 +185,7 @@ class Chart(Sheet):
     # The cells. In the group `rows` x is the tick since the first, y the core.
     def cells(self):
         ticks, found = self.end - self.start, collections.defaultdict(list)
-        for core in range(self.cores):
+        for core in sorted(set(range(self.cores)) - set(self.fenced)):
             for position, at, length in runs([row[core] for row in self.rows], self.start, self.tasks):
                 found[position].append((at, core, length))
         with self.group(id="rows", transform=f"translate({self.left} {self.top}) scale({self.wide} {self.high})"):
@@ -191,12 +195,17 @@ class Chart(Sheet):
                 with self.group(id=f"p{position}", fill=colour(position)[0]):
                     for at, core, length in found[position]:
                         self.add("rect", x=at, y=core, width=length, height=1)
+            if self.fenced:
+                with self.group(id="fenced", fill="#fff"):
+                    for core in self.fenced:
+                        self.add("rect", x=0, y=core, width=ticks, height=1)
         with self.group(stroke="#fff", stroke_width=0.6):
             for tick in range(self.start + 1, self.end):
                 self.add("line", x1=self.x(tick), x2=self.x(tick), y1=self.top, y2=self.under)
         with self.group(stroke="#fff", stroke_width=1.2):
             for core in range(1, self.cores):
                 self.add("line", x1=self.x(self.start), x2=self.x(self.end), y1=self.top + core * self.high, y2=self.top + core * self.high)
+        self.hatch()
         size = min(14, self.high - 2, self.wide * 0.75)
         for position in sorted(found):
             with self.group(fill=colour(position)[1], text_anchor="middle", font_size=round(size, 1)):
@@ -208,6 +217,14 @@ class Chart(Sheet):
         with self.group(fill="#333", text_anchor="end"):
             for core in range(0, self.cores, 1 if self.high >= 15 else 4):
                 self.text(self.left - 6, self.top + core * self.high + self.high / 2 + 4, f"core {core}", 11, text_anchor="end")
+
+    # The rows of fenced cores, hatched from end to end.
+    def hatch(self):
+        if self.fenced:
+            self.parts.append('<defs><pattern id="hatch" width="8" height="8" patternUnits="userSpaceOnUse">'
+                              '<path d="M-2 2L2 -2M0 8L8 0M6 10L10 6" stroke="#777" stroke-width="1.4" fill="none"/></pattern></defs>')
+        for core in self.fenced:
+            self.add("rect", x=self.x(self.start), y=self.top + core * self.high, width=round((self.end - self.start) * self.wide, 2), height=self.high, fill="url(#hatch)")
 
     # The strips: for each task its numbers, the time from release to deadline, the ticks in which it runs, its releases and deadlines.
     def strips(self, late):
@@ -266,6 +283,9 @@ class Chart(Sheet):
         self.add("rect", x=150, y=y - 8, width=20, height=8, fill="#d8d8d8")
         self.text(175, y, "from release to deadline; coloured where the task runs")
         self.text(16, y + 18, "The number in a cell is the position of the task that has the core; an empty cell is an idle core.")
+        if self.fenced:
+            self.add("rect", x=16, y=y + 27, width=28, height=12, fill="url(#hatch)", stroke="#888")
+            self.text(50, y + 37, "a fenced core: it belongs to the hydraulics, and no task has it")
 
 
 def number_of(count, thing):
@@ -274,12 +294,13 @@ def number_of(count, thing):
 
 # The picture of a verdict that is no refusal, and of the rows that it needs from the program's lines.
 def chart(word, first, second, table, lines):
-    cores, rule, tasks = table
+    cores, rule, fenced, tasks = table
     start, end, about = stretch(word, first, second)
-    sheet = Chart(cores, tasks, start, end, rows_of(lines, start, end, cores, len(tasks)))
+    sheet = Chart(cores, fenced, tasks, start, end, rows_of(lines, start, end, cores, fenced, len(tasks)))
     title = VERDICTS[word].format(first, second)
     sheet.text(16, 28, title, 17, font_weight="bold")
-    sheet.text(16, 50, f"{number_of(len(tasks), 'task')} on {number_of(cores, 'core')}, rule {rule} ({RULES[rule]})" + ("" if word == "miss" else f"; S is {first}, P is {second}"), 13)
+    kept = f", {len(fenced)} of them fenced" if fenced else ""
+    sheet.text(16, 50, f"{number_of(len(tasks), 'task')} on {number_of(cores, 'core')}{kept}, rule {rule} ({RULES[rule]})" + ("" if word == "miss" else f"; S is {first}, P is {second}"), 13)
     sheet.text(16, 69, f"Ticks {start} to {end}: {about}.", 13)
     sheet.cells()
     if word == "miss":

@@ -1,15 +1,23 @@
-//! The simulator by another hand, as it stands, and what the tests ask of it. It keeps jobs and no phases;
-//! `words` says in which phases the scope's section 'The run in the cab' puts them.
+//! The simulator by another hand, as it stands, and what the tests ask of it: the answers are those of its book, which keeps jobs and no phases,
+//! and the words of a run those of its run, which keeps phases; the two must agree.
 #![allow(dead_code)]
 
-include!("../../bench/simulator.rs");
+include!("../gangsim.rs");
 
-use sivorandra::{Refusal as Refused, Verdict as Judged, RUN_HEAD_WORDS, RUN_PLACE_WORDS, ROW_BYTES, RUN_WORDS};
+use sivorandra::{Refusal as Refused, Verdict as Judged, ROW_BYTES, RUN_HEAD_WORDS, RUN_PLACE_WORDS, RUN_WORDS};
+
+/// The last request that the project has.
+const REQUEST: u32 = 102;
+
+/// Lets the simulator read tables as the last request does.
+pub fn begin() {
+    STAGE.store(REQUEST, Ordering::Relaxed);
+}
 
 pub type Said<T> = Result<T, Refused>;
 
 fn said(refusal: Refusal) -> Refused {
-    Refused { number: refusal.number, position: refusal.position as u32 }
+    Refused { number: refusal.number, position: refusal.place as u32 }
 }
 
 /// The numbers of a table's text.
@@ -50,29 +58,31 @@ impl Known {
     pub fn plan(&self, a: u32, b: u32, bytes: usize) -> Said<Vec<u8>> {
         check_plan(&self.table, a.into(), b.into(), bytes as u64).map_err(said)?;
         let mut rows = Vec::new();
-        let taken = each_row(&self.table, a.into(), b.into(), |_, row| {
-            rows.extend_from_slice(row);
-            Ok(())
-        });
-        taken.expect("rows go into memory");
+        each_row(&self.table, a.into(), b.into(), |_, row| rows.extend_from_slice(row));
         Ok(rows)
     }
 
-    pub fn start(&self) -> Said<Cab<'_>> {
-        Ok(Cab { book: Book::start(&self.table).map_err(said)? })
+    pub fn start(&self) -> Said<Cab> {
+        match self.verdict {
+            Verdict::Miss { .. } => Err(Refused { number: 13, position: 0 }),
+            _ => Ok(Cab { book: Some(Book::begin(&self.table)), run: Run::begin(&self.table) }),
+        }
+    }
+
+    /// The table with just its unfenced cores: its words, and the places of these cores.
+    pub fn just_unfenced(words: &[u32]) -> (Vec<u32>, Vec<usize>) {
+        let fence = fence_in(&words[3..]);
+        let free: Vec<usize> = (0..words[1] as usize).filter(|&core| !bit(fence, core)).collect();
+        let mut just = words.to_vec();
+        just[1] = free.len() as u32;
+        just[3..5].fill(0);
+        (just, free)
     }
 }
 
-/// The book of a run.
-pub struct Cab<'a> {
-    book: Book<'a>,
-}
-
-impl Clone for Cab<'_> {
-    fn clone(&self) -> Self {
-        let ledger = &self.book.ledger;
-        Cab { book: Book { ledger: Ledger { job: ledger.job.clone(), next_release: ledger.next_release.clone(), ..*ledger } } }
-    }
+/// Two words as a set of cores, the low word first.
+fn fence_in(words: &[u32]) -> u64 {
+    u64::from(words[0]) | u64::from(words[1]) << 32
 }
 
 /// Where the words of a run have the phase of a place: its kind and its two numbers.
@@ -86,94 +96,106 @@ pub const WORKING: u32 = 1;
 pub const HOLDING: u32 = 2;
 pub const RESTING: u32 = 3;
 
-impl Cab<'_> {
-    pub fn row(&mut self) -> Said<[u8; ROW_BYTES]> {
-        let cores = self.book.row().map_err(said)?;
-        let mut row = [0; ROW_BYTES];
-        row[..cores.len()].copy_from_slice(&cores);
-        Ok(row)
+/// A list of advances so far: the book, where the run was started, and the run.
+pub struct Cab {
+    book: Option<Book>,
+    run: Run,
+}
+
+impl Clone for Cab {
+    fn clone(&self) -> Self {
+        let copy = |book: &Book| Book { table: book.table.clone(), t: book.t, jobs: book.jobs.clone(), empty_from: book.empty_from.clone() };
+        Cab { book: self.book.as_ref().map(copy), run: self.run.clone() }
+    }
+}
+
+impl Cab {
+    pub fn row(&self) -> Said<[u8; ROW_BYTES]> {
+        let row = self.run.row(0).map_err(said);
+        if let Some(book) = &self.book {
+            let by_book = book.row(0).map_err(said).map(|cores| {
+                let mut row = [0; ROW_BYTES];
+                row[..cores.len()].copy_from_slice(&cores);
+                row
+            });
+            assert_eq!(by_book, row, "the simulator's book and its run have different rows");
+        }
+        row
     }
 
     pub fn advance(&mut self, reports: u32) -> Said<()> {
-        self.book.advance(reports.into()).map_err(said)
+        let next = self.run.advance(reports.into(), 0).map_err(said);
+        if let Some(book) = &mut self.book {
+            let by_book = book.advance(reports.into(), 0).map_err(said);
+            assert_eq!(by_book, next.as_ref().map(|_| ()).map_err(|refusal| *refusal), "the simulator's book and its run have different answers");
+        }
+        self.run = next?;
+        Ok(())
     }
 
     /// The set of positions that may be reported; none where a deadline is missed.
-    pub fn may_report(&mut self) -> u32 {
-        let Ok(granted) = self.book.grants() else { return 0 };
-        (0..self.book.ledger.table.tasks.len()).filter(|&place| self.book.ledger.works(place)).fold(0, |set, place| set | 1 << place) & granted
-    }
-
-    fn phase(&self, place: usize) -> [u32; 3] {
-        let ledger = &self.book.ledger;
-        let task = &ledger.table.tasks[place];
-        let Some(job) = ledger.job[place] else {
-            let left = ledger.next_release[place] - ledger.tick;
-            return if left == 0 { [WORKING, 0, 0] } else { [COMING, left as u32, 0] };
-        };
-        let z = ledger.tick - job.release;
-        if !job.ended {
-            [WORKING, z as u32, job.had]
-        } else if z == task.period {
-            [WORKING, 0, 0]
-        } else if ledger.table.rule == Rule::Idling && job.claimed < task.length && z < task.deadline {
-            [HOLDING, z as u32, job.claimed]
-        } else {
-            [RESTING, z as u32, 0]
-        }
+    pub fn may_report(&self) -> u32 {
+        let Ok(tick) = self.run.tick(0) else { return 0 };
+        let may = |place: usize| matches!(tick.phases[place], Phase::Working { .. }) && tick.sets[place] != 0;
+        (0..self.run.n()).filter(|&place| may(place)).fold(0, |set, place| set | 1 << place)
     }
 
     /// The words of the run, over `before` of which the places past the count stay.
     pub fn words(&self, before: &[u32; RUN_WORDS]) -> [u32; RUN_WORDS] {
-        let table = self.book.ledger.table;
-        let mut words = *before;
-        words[0] = match table.rule {
-            Rule::Greedy => 1,
-            Rule::Limited => 2,
-            Rule::Idling => 3,
+        encoded(&self.run, before)
+    }
+}
+
+/// The words of a run; its places past the count stay as they are in `before`.
+fn encoded(run: &Run, before: &[u32; RUN_WORDS]) -> [u32; RUN_WORDS] {
+    let mut words = *before;
+    words[..RUN_HEAD_WORDS].copy_from_slice(&[run.rule, run.cores, run.count as u32, run.fence as u32, (run.fence >> 32) as u32]);
+    for place in 0..run.n().min(PLACES) {
+        let task = &run.tasks[place];
+        let (kind, first, second) = match run.phases[place] {
+            Phase::Coming(left) => (COMING, left, 0),
+            Phase::Working { z, had, .. } => (WORKING, z, had),
+            Phase::Holding { z, u } => (HOLDING, z, u),
+            Phase::Resting(z) => (RESTING, z, 0),
         };
-        words[1] = table.cores;
-        words[2] = table.tasks.len() as u32;
-        for (place, task) in table.tasks.iter().enumerate() {
-            let [kind, first, second] = self.phase(place);
-            let now = [task.offset as u32, task.width, task.length, task.deadline as u32, task.period as u32, kind, first, second];
-            words[RUN_HEAD_WORDS + RUN_PLACE_WORDS * place..][..RUN_PLACE_WORDS].copy_from_slice(&now);
+        let now = [task.offset, task.width, task.length, task.deadline, task.period, kind.into(), first, second];
+        for (at, number) in now.into_iter().enumerate() {
+            words[RUN_HEAD_WORDS + RUN_PLACE_WORDS * place + at] = number as u32;
         }
-        words
     }
+    words
 }
 
-/// The table of a run that 14 accepts, built by hand; S and P play no part in it.
-pub fn table_of(run: &[u32; RUN_WORDS]) -> Known {
-    let rule = match run[0] {
-        1 => Rule::Greedy,
-        2 => Rule::Limited,
-        _ => Rule::Idling,
-    };
-    let places = run[RUN_HEAD_WORDS..].chunks(RUN_PLACE_WORDS).take(run[2] as usize);
-    let tasks = places.map(|w| Task { offset: w[0].into(), width: w[1], length: w[2], deadline: w[3].into(), period: w[4].into() }).collect();
-    Known { table: Table { cores: run[1], rule, tasks, last_s: 0, hyperperiod: 1 }, verdict: Verdict::Full { s: 0, p: 1 } }
+/// The run in words whose phases below the count are phases; past it zeros and Resting(0).
+fn decoded(words: &[u32; RUN_WORDS]) -> Run {
+    let mut run = Run::zeros();
+    (run.rule, run.cores, run.count, run.fence) = (words[0], words[1], words[2].into(), fence_in(&words[3..]));
+    for place in 0..run.n().min(PLACES) {
+        let [offset, width, length, deadline, period, kind, first, second] = std::array::from_fn(|at| u64::from(words[RUN_HEAD_WORDS + RUN_PLACE_WORDS * place + at]));
+        run.tasks[place] = Task { offset, width, length, deadline, period, width2: width };
+        run.phases[place] = match kind as u32 {
+            COMING => Phase::Coming(first),
+            WORKING => Phase::Working { z: first, had: second, reserved: second },
+            HOLDING => Phase::Holding { z: first, u: second },
+            _ => Phase::Resting(first),
+        };
+    }
+    run
 }
 
-impl Known {
-    /// The book in which the jobs are as far as the phases of the run say.
-    pub fn book_of(&self, run: &[u32; RUN_WORDS]) -> Cab<'_> {
-        let mut ledger = Ledger::new(&self.table);
-        ledger.tick = MOST_HORIZON;
-        for (place, task) in self.table.tasks.iter().enumerate() {
-            let [kind, first, second] = run[phase_at(place)..][..3] else { unreachable!() };
-            if kind == COMING {
-                ledger.next_release[place] = ledger.tick + u64::from(first);
-                continue;
-            }
-            let release = ledger.tick - u64::from(first);
-            let claimed = if kind == RESTING { task.length } else { second };
-            ledger.job[place] = Some(Job { release, had: claimed, claimed, ended: kind != WORKING });
-            ledger.next_release[place] = release + task.period;
-            if kind != RESTING {
-                ledger.claiming |= 1 << place;
-            }
-        }
-        Cab { book: Book { ledger } }
-    }
+/// A run built by hand whose words hold a run: whether 14 turns it down, and the list that begins with it.
+pub fn built(words: &[u32; RUN_WORDS]) -> (bool, Cab) {
+    let run = decoded(words);
+    (run.check14().is_err(), Cab { book: None, run })
+}
+
+/// A run built by hand, as text: its words, and the operations after it.
+pub fn built_from(text: &[u8], none: &[u32; RUN_WORDS]) -> ([u32; RUN_WORDS], Vec<String>) {
+    let (before, operations) = split_input(text);
+    (encoded(&state_from(&before).run, none), operations)
+}
+
+/// The run in words, as text.
+pub fn text_of(words: &[u32; RUN_WORDS]) -> String {
+    run_text(&decoded(words))
 }

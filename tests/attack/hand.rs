@@ -1,18 +1,24 @@
-//! Runs built by hand: number 14 at each limit, 15, and what no started run shows.
+//! Runs built by hand: number 14 at each limit, the fence among them, 15, and what no started run shows.
 use crate::book::{self, phase_at, COMING, HOLDING, RESTING, WORKING};
 use crate::calls::{same, same_run, Kept, Tried};
+use crate::fences;
 use crate::rng::Rng;
 use crate::Counts;
 use sivorandra::{Refusal, Run, RUN_HEAD_WORDS, RUN_PLACE_WORDS, RUN_WORDS};
 
 /// O, v, C, D, T, and the phase: its kind and two numbers.
-type Place = [u32; RUN_PLACE_WORDS];
-type Words = [u32; RUN_WORDS];
+pub type Place = [u32; RUN_PLACE_WORDS];
+pub type Words = [u32; RUN_WORDS];
 
-/// A run of these places; past the count zeros and Resting(0).
+/// A run of these places without a fence; past the count zeros and Resting(0).
 fn run(rule: u32, cores: u32, places: &[Place]) -> Words {
+    fenced(rule, cores, 0, places)
+}
+
+/// A run of these places with a fence.
+pub fn fenced(rule: u32, cores: u32, fence: u64, places: &[Place]) -> Words {
     let mut words = [0; RUN_WORDS];
-    words[..RUN_HEAD_WORDS].copy_from_slice(&[rule, cores, places.len() as u32]);
+    words[..RUN_HEAD_WORDS].copy_from_slice(&[rule, cores, places.len() as u32, fence as u32, (fence >> 32) as u32]);
     for (at, place) in words[RUN_HEAD_WORDS..].chunks_mut(RUN_PLACE_WORDS).enumerate() {
         place.copy_from_slice(places.get(at).unwrap_or(&[0, 0, 0, 0, 0, RESTING, 0, 0]));
     }
@@ -21,16 +27,19 @@ fn run(rule: u32, cores: u32, places: &[Place]) -> Words {
 
 /// Whether the words hold no run, or number 14 turns it down (scope, 'The run in the cab').
 fn turned_down(words: &Words) -> bool {
-    let [rule, cores, count, ..] = *words;
+    let [rule, cores, count, low, high, ..] = *words;
     let within = |n: u32, low: u32, high: u32| low <= n && n <= high;
     let is_phase = |place: &[u32]| match place[5] {
         COMING | RESTING => place[7] == 0,
         kind => kind == WORKING || kind == HOLDING,
     };
+    let is_fenced = |core: u32| if core < 32 { low >> core & 1 == 1 } else { high >> (core - 32) & 1 == 1 };
+    let unfenced = (0..cores.min(64)).filter(|&core| !is_fenced(core)).count() as u32;
+    let past = (cores.min(64)..64).any(is_fenced);
     let fits = |place: &[u32]| {
         let [o, v, c, d, t, kind, first, u] = place[..] else { unreachable!() };
         let z = first;
-        within(v, 1, cores)
+        within(v, 1, unfenced)
             && o <= 1_000_000
             && within(c, 1, 1_000_000)
             && within(t, 1, 1_000_000)
@@ -43,10 +52,10 @@ fn turned_down(words: &Words) -> bool {
             }
     };
     let mut used = words[RUN_HEAD_WORDS..].chunks(RUN_PLACE_WORDS).take(count as usize);
-    !(within(count, 1, 32) && within(cores, 1, 64) && within(rule, 1, 3) && used.all(|place| is_phase(place) && fits(place)))
+    !(within(count, 1, 32) && within(cores, 1, 64) && within(rule, 1, 3) && !past && unfenced > 0 && used.all(|place| is_phase(place) && fits(place)))
 }
 
-const OUT: Refusal = Refusal { number: 14, position: 0 };
+pub const OUT: Refusal = Refusal { number: 14, position: 0 };
 
 /// Row and advance of a run, for some ticks, beside 14 and the book.
 fn compare(rng: &mut Rng, counts: &mut Counts, words: &Words, ticks: usize) -> Tried<()> {
@@ -57,10 +66,10 @@ fn compare(rng: &mut Rng, counts: &mut Counts, words: &Words, ticks: usize) -> T
         counts.answer(&kept.advance(rng, set, Err(OUT))?);
         return Ok(());
     }
-    let known = book::table_of(words);
-    let mut cab = known.book_of(words);
+    let (out, mut cab) = book::built(words);
+    same("14 as the simulator reads it", false, out)?;
     let mut now = *words;
-    same_run("the book", &now, &cab.words(&now))?;
+    same_run("the simulator's run", &now, &cab.words(&now))?;
     for _ in 0..ticks {
         counts.answer(&kept.row(rng, cab.row())?);
         let may = cab.may_report();
@@ -120,17 +129,20 @@ pub fn case(seed: u64, counts: &mut Counts) -> Tried<()> {
     let mut rng = Rng::new(seed);
     let (rule, cores) = (rng.pick(&[1, 2, 3, 3]), rng.pick(&[1, 2, 3, 4, 8, 64]));
     let count = if rng.once_in(8) { rng.from(1, 32) } else { rng.from(1, 5) };
-    let places: Vec<Place> = (0..count).map(|_| place(&mut rng, rule, cores)).collect();
-    let mut words = run(rule, cores, &places);
+    let (left, fence) = if rng.once_in(2) { (cores, 0) } else { fences::any(&mut rng, cores) };
+    let places: Vec<Place> = (0..count).map(|_| place(&mut rng, rule, left)).collect();
+    let mut words = fenced(rule, cores, fence, &places);
     litter(&mut rng, &mut words);
     if rng.once_in(3) {
         let place = RUN_HEAD_WORDS + RUN_PLACE_WORDS * rng.below(count as usize);
         let w = words[place..][..RUN_PLACE_WORDS].to_vec();
-        match rng.below(6) {
+        match rng.below(8) {
+            6 => words[1 + rng.below(4)] ^= 1 << rng.below(7),
+            7 => words[rng.pick(&[3, 4])] ^= 1 << rng.below(32),
             0 => words[0] = near(&mut rng, &[1, 3, u32::MAX]),
             1 => words[1] = near(&mut rng, &[1, 64, w[1]]),
             2 => words[2] = near(&mut rng, &[1, 32, count, u32::MAX]),
-            3 => words[place + rng.below(5)] = near(&mut rng, &[1, cores, w[4], w[3], 1_000_000]),
+            3 => words[place + rng.below(5)] = near(&mut rng, &[1, cores, left, w[4], w[3], 1_000_000]),
             4 => words[place + 5] = near(&mut rng, &[0, 3, u32::MAX]),
             _ => words[place + rng.pick(&[6, 7])] = near(&mut rng, &[1, w[0], w[2], w[3], w[4], w[6], u32::MAX]),
         }
@@ -180,7 +192,7 @@ fn place_limits() -> Vec<(&'static str, Place, Place)> {
 }
 
 /// A place that is within its limits whatever the rule.
-const PLAIN: Place = [5, 1, 4, 6, 8, WORKING, 2, 1];
+pub const PLAIN: Place = [5, 1, 4, 6, 8, WORKING, 2, 1];
 
 /// Each limit by name, a run inside and a run outside.
 fn limits() -> Vec<(String, Words, Words)> {
@@ -202,6 +214,7 @@ fn limits() -> Vec<(String, Words, Words)> {
     let one = run(1, 2, &[PLAIN]);
     let all = run(2, 64, &[PLAIN; 32]);
     let holding = [5, 1, 4, 6, 8, HOLDING, 3, 2];
+    limits.extend(fences::limits());
     limits.extend([
         ("rule at least 1".into(), one, head(0, 0, one)),
         ("rule at most 3".into(), head(0, 3, one), head(0, 4, one)),
@@ -311,7 +324,7 @@ fn past_the_count(counts: &mut Counts, count: u32) -> Tried<()> {
     let mut rng = Rng::new(count.into());
     for rule in 1..=3 {
         let places: Vec<Place> = (0..count).map(|_| place(&mut rng, rule, 8)).collect();
-        let clean = run(rule, 8, &places);
+        let clean = if count % 2 == 0 { run(rule, 8, &places) } else { fenced(rule, 40, 0xff_0f0f_ff0f, &places) };
         let mut littered = clean;
         litter(&mut rng, &mut littered);
         let (mut plain, mut held) = (Run::from_words(clean), Run::from_words(littered));
@@ -343,6 +356,7 @@ pub fn all(counts: &mut Counts) -> Vec<(String, Tried<()>)> {
         done.push((format!("{name}, rule {rule}"), a_move(rule, place, reports, phase)));
     }
     done.push(("a hold holds others back".into(), held_back()));
+    done.push(("rows with a fence".into(), fences::rows()));
     for count in 1..32 {
         done.push((format!("anything past a count of {count}"), past_the_count(counts, count)));
     }

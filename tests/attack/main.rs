@@ -3,6 +3,7 @@
 mod book;
 mod calls;
 mod empty;
+mod fences;
 mod hand;
 mod lists;
 mod random;
@@ -33,6 +34,10 @@ const FEWEST_SEARCHED: usize = 200;
 /// At least so many pairs of lists are compared of which the first has no longer job: those on firm tables, and those of full tables in which it is behind.
 const FEWEST_ABREAST: u64 = 100_000;
 const FEWEST_OVERTAKEN: u64 = 1_000;
+/// At least so many tables with a fence are not refused, and so many with one in the second word, and so many with one that leaves one core.
+const FEWEST_FENCED: u64 = 1_000;
+/// The numbers that the calls tried here can answer; 17 and 18 are the sentence's.
+const NUMBERS: [usize; 17] = [1, 2, 3, 4, 5, 6, 7, 8, 9, 10, 11, 12, 13, 14, 15, 16, 19];
 
 /// What was seen, of the library's answers.
 #[derive(Default)]
@@ -42,7 +47,11 @@ pub struct Counts {
     firm: u64,
     full: u64,
     miss: u64,
-    numbers: [u64; 17],
+    /// Tables that are not refused and have a fence; of these, those with a fence in the second word, and those with one core left.
+    fenced: u64,
+    second: u64,
+    alone: u64,
+    numbers: [u64; 20],
     tables: u64,
     plans: u64,
     replays: u64,
@@ -62,7 +71,7 @@ pub struct Counts {
 impl Counts {
     pub fn answer(&mut self, answer: &Said<()>) {
         if let Err(refusal) = answer {
-            self.numbers[refusal.number.min(16) as usize] += 1;
+            self.numbers[refusal.number.min(19) as usize] += 1;
         }
     }
 
@@ -95,6 +104,9 @@ impl Counts {
         self.firm += other.firm;
         self.full += other.full;
         self.miss += other.miss;
+        self.fenced += other.fenced;
+        self.second += other.second;
+        self.alone += other.alone;
         self.tables += other.tables;
         self.plans += other.plans;
         self.replays += other.replays;
@@ -148,11 +160,14 @@ fn main() {
         std::process::exit(2);
     };
     println!("attack: seed {seed}");
+    book::begin();
     let begun = Instant::now();
     let mut counts = Counts::default();
     let fixed = [vectors::all(), empty::all(), hand::all(&mut counts)].concat();
-    if !fixed.iter().any(|(name, _)| name.starts_with("vector")) {
-        counts.count(Err("no plan vector".into()));
+    for (what, is_run) in [("plan", false), ("run", true)] {
+        if !fixed.iter().any(|(name, _)| name.starts_with("vector") && name.ends_with("a run") == is_run) {
+            counts.count(Err(format!("no {what} vector")));
+        }
     }
     for (name, tried) in fixed {
         counts.count(tried.map_err(|why| format!("{name}: {why}")));
@@ -177,16 +192,20 @@ fn main() {
             }
         }
     });
-    let Counts { tables, firm, full, miss, plans, replays, late, advances, runs, nodes, ends, abreast, overtaken, .. } = counts;
+    let Counts { tables, firm, full, miss, fenced, second, alone, plans, replays, late, advances, runs, nodes, ends, abreast, overtaken, .. } = counts;
     println!("attack: {tables} tables (firm {firm}, full {full}, miss {miss}), {plans} plans, {replays} replays ({late} to a missed deadline), {advances} advances, {runs} runs built by hand");
     println!("attack: {} small tables searched, {nodes} nodes ({ends} at a missed deadline)", counts.searched.len());
     println!("attack: {abreast} pairs of lists of firm tables with no longer job in the first, which is abreast; {overtaken} of full tables, where it is behind");
-    let often: Vec<String> = (1..17).map(|number| format!("{number}: {}", counts.numbers[number])).collect();
+    println!("attack: {fenced} of the tables that are not refused have a fence, {second} of them in the second word, {alone} that leaves one core");
+    let often: Vec<String> = NUMBERS.map(|number| format!("{number}: {}", counts.numbers[number])).to_vec();
     println!("attack: numbers among the answers: {}", often.join(", "));
     if long.is_none() {
-        for number in 1..17 {
+        for number in NUMBERS {
             let seen = counts.numbers[number] > 0;
             counts.count(if seen { Ok(()) } else { Err(format!("{number} was never answered")) });
+        }
+        for (what, seen) in [("", fenced), (" in the second word", second), (" that leaves one core", alone)] {
+            counts.count(if seen >= FEWEST_FENCED { Ok(()) } else { Err(format!("only {seen} tables with a fence{what}")) });
         }
         let searched = counts.searched.len();
         counts.count(if searched >= FEWEST_SEARCHED { Ok(()) } else { Err(format!("only {searched} small tables")) });

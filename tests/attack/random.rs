@@ -1,10 +1,10 @@
 //! Verdict, plan, replay and the run in words beside the simulator, on one random table.
-use crate::book::{self, Known, Said};
+use crate::book::{self, Cab, Known, Said};
 use crate::calls::{self, same, Kept, Lent, Tried};
 use crate::rng::Rng;
 use crate::tables;
 use crate::Counts;
-use sivorandra::{Refusal, Replay, Run, Verdict, ROW_BYTES};
+use sivorandra::{Refusal, Replay, Run, Verdict, FENCED, ROW_BYTES};
 
 /// A list of at most so many advances.
 const MOST_ADVANCES: u32 = 60;
@@ -92,13 +92,13 @@ fn compare_runs(rng: &mut Rng, counts: &mut Counts, words: &[u32], known: &Said<
     let unmade = Refusal { number: 14, position: 0 };
     let mut row: Said<[u8; ROW_BYTES]> = Err(unmade);
     for at in 0..=length {
-        row = begun.as_mut().map_or(Err(unmade), |cab| cab.row());
+        row = begun.as_ref().map_or(Err(unmade), Cab::row);
         let shown = kept.row(rng, row).map_err(|why| format!("after {at} advances: {why}"))?;
         counts.answer(&shown);
         if at == length || (begun.is_err() && at == 2) {
             break;
         }
-        let set = begun.as_mut().map_or(at, |cab| reports(rng, cab.may_report(), often));
+        let set = begun.as_ref().map_or(at, |cab| reports(rng, cab.may_report(), often));
         list.push(set);
         let answer = begun.as_mut().map_or(Err(unmade), |cab| cab.advance(set));
         if let (Ok(cab), Ok(())) = (&begun, answer) {
@@ -120,6 +120,33 @@ fn compare_runs(rng: &mut Rng, counts: &mut Counts, words: &[u32], known: &Said<
     same("replay in Rust", bound, sivorandra::replay(words, list))
 }
 
+/// A table that passes 9 has the verdict of the one with just its unfenced cores, and its first rows are those of that one, spread over these cores with 255 between.
+fn compare_unfenced(counts: &mut Counts, words: &[u32], verdict: Said<Verdict>) -> Tried<()> {
+    let (just, free) = Known::just_unfenced(words);
+    if just == words {
+        return Ok(());
+    }
+    counts.fenced += 1;
+    counts.second += u64::from(words[4] != 0);
+    counts.alone += u64::from(free.len() == 1);
+    same("the verdict with just the unfenced cores", verdict, sivorandra::judge(&just))?;
+    let last = match verdict {
+        Ok(Verdict::Firm { start, period } | Verdict::Full { start, period }) => start + period,
+        Ok(Verdict::Miss { tick, .. }) => tick,
+        Err(_) => 0,
+    };
+    let (ticks, cores) = (last.min(20), words[1] as usize);
+    let (mut rows, mut others) = (vec![1; ticks as usize * cores], vec![1; ticks as usize * free.len()]);
+    same("the rows", Ok(()), sivorandra::plan(words, 0, ticks, &mut rows))?;
+    same("the rows with just the unfenced cores", Ok(()), sivorandra::plan(&just, 0, ticks, &mut others))?;
+    for (tick, (row, other)) in rows.chunks(cores).zip(others.chunks(free.len())).enumerate() {
+        let mut spread = vec![FENCED; cores];
+        free.iter().zip(other).for_each(|(&core, &position)| spread[core] = position);
+        same(&format!("the row of tick {tick} beside that with just the unfenced cores"), &spread[..], row)?;
+    }
+    Ok(())
+}
+
 /// One random table; the error says what differs on what.
 pub fn case(seed: u64, counts: &mut Counts) -> Tried<()> {
     let mut rng = Rng::new(seed);
@@ -135,6 +162,9 @@ fn compare(rng: &mut Rng, counts: &mut Counts, words: &[u32], list: &mut Vec<u32
     same("verdict", expected, got)?;
     same("verdict in Rust", expected, sivorandra::judge(words))?;
     counts.verdict(&got);
+    if known.is_ok() {
+        compare_unfenced(counts, words, got)?;
+    }
     compare_plans(rng, counts, words, &known)?;
     compare_runs(rng, counts, words, &known, list)
 }

@@ -28,7 +28,7 @@ fn nodes(cab: &Cab, ticks: usize, limit: u64) -> u64 {
     if ticks == 0 {
         return count;
     }
-    let may = cab.clone().may_report();
+    let may = cab.may_report();
     for set in subsets(may) {
         let mut next = cab.clone();
         if next.advance(set).is_ok() && count <= limit {
@@ -46,7 +46,7 @@ struct Search {
 }
 
 impl Search {
-    fn visit(&mut self, run: &Run, cab: &mut Cab, list: List, counts: &mut Counts) -> Tried<()> {
+    fn visit(&mut self, run: &Run, cab: &Cab, list: List, counts: &mut Counts) -> Tried<()> {
         counts.nodes += 1;
         let tick = self.list.len();
         same_run("the run", &cab.words(run.words()), run.words())?;
@@ -82,7 +82,7 @@ impl Search {
             same("advance", Ok(()), answer)?;
             let mut book = cab.clone();
             same("the book's advance", Ok(()), book.advance(set))?;
-            self.visit(&next, &mut book, list.with(set, run.words(), next.words()), counts)?;
+            self.visit(&next, &book, list.with(set, run.words(), next.words()), counts)?;
             self.list.pop();
         }
         self.lists[tick].push(list);
@@ -101,7 +101,7 @@ pub fn case(seed: u64, counts: &mut Counts) -> Tried<()> {
             Verdict::Full { .. } => false,
             Verdict::Miss { .. } => continue,
         };
-        let Ok(mut cab) = known.start() else { continue };
+        let Ok(cab) = known.start() else { continue };
         let size = nodes(&cab, TICKS, MOST_NODES);
         if !(FEWEST_NODES..=MOST_NODES).contains(&size) {
             continue;
@@ -110,7 +110,7 @@ pub fn case(seed: u64, counts: &mut Counts) -> Tried<()> {
         let searched = (|| {
             let run = Run::start(&words).map_err(|refusal| format!("start: {refusal:?}"))?;
             let mut search = Search { firm, list: Vec::new(), lists: vec![Vec::new(); TICKS + 1] };
-            let visited = search.visit(&run, &mut cab, List::empty(run.words(), TICKS), counts);
+            let visited = search.visit(&run, &cab, List::empty(run.words(), TICKS), counts);
             list = search.list;
             visited?;
             search.lists.iter().try_for_each(|lists| lists::compare(firm, lists, counts))

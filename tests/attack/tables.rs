@@ -1,5 +1,6 @@
-//! Random tables: small and tight ones, wide ones, long ones, with permuted records, records off the chain, and faults for each number 1 to 9.
+//! Random tables: small and tight ones, wide ones, long ones, with a fence and without, with permuted records, records off the chain, and faults for each number 1 to 9 and 19.
 use crate::rng::Rng;
+use sivorandra::{TABLE_HEAD_WORDS as HEAD, TABLE_RECORD_WORDS as RECORD};
 
 /// A task: O, v, C, D, T.
 type Task = [u32; 5];
@@ -20,33 +21,62 @@ fn tasks(rng: &mut Rng, most: u32, cores: u32, periods: &[u32], share: u32) -> V
     (0..count).map(|_| task(rng, cores, periods, share)).collect()
 }
 
-/// The words of the tasks in priority order, in records of any order, with others off the chain.
-fn words(rng: &mut Rng, cores: u32, rule: u32, tasks: &[Task]) -> Vec<u32> {
+/// The set of the cores below a count.
+fn all_of(cores: u32) -> u64 {
+    if cores < 64 { (1 << cores) - 1 } else { u64::MAX }
+}
+
+/// A core count and a fence that leaves so many of the cores: none in every second table.
+fn among(rng: &mut Rng, left: u32) -> (u32, u64) {
+    if left == 64 || rng.once_in(2) {
+        return (left, 0);
+    }
+    let any = rng.from(left + 1, 64);
+    let cores = rng.pick(&[left + 1, (left + 32).min(64), any, 64]);
+    let mut fenced: Vec<u32> = (0..cores).collect();
+    rng.shuffle(&mut fenced);
+    (cores, fenced[left as usize..].iter().fold(0, |fence, core| fence | 1 << core))
+}
+
+/// The fence of a table's words, and how many of its cores are outside.
+pub fn fence_of(words: &[u32]) -> (u64, u32) {
+    let fence = u64::from(words[3]) | u64::from(words[4]) << 32;
+    (fence, (all_of(words[1]) & !fence).count_ones())
+}
+
+fn set_fence(words: &mut [u32], fence: u64) {
+    (words[3], words[4]) = (fence as u32, (fence >> 32) as u32);
+}
+
+/// The words of the tasks in priority order on so many cores, among which fenced ones may stand, in records of any order, with others off the chain.
+fn words(rng: &mut Rng, left: u32, rule: u32, tasks: &[Task]) -> Vec<u32> {
+    let (cores, fence) = among(rng, left);
     let off = if rng.once_in(2) { 0 } else { rng.below(3).min(32 - tasks.len()) };
     let mut places: Vec<usize> = (1..=tasks.len() + off).collect();
     rng.shuffle(&mut places);
-    let mut words = vec![places[0] as u32, cores, rule];
-    words.extend((0..6 * places.len()).map(|_| rng.word()));
+    let mut words = vec![places[0] as u32, cores, rule, 0, 0];
+    set_fence(&mut words, fence);
+    words.extend((0..RECORD * places.len()).map(|_| rng.word()));
     for (at, task) in tasks.iter().enumerate() {
-        let record = &mut words[3 + 6 * (places[at] - 1)..][..6];
+        let record = &mut words[HEAD + RECORD * (places[at] - 1)..][..RECORD];
         record[0] = if at + 1 < tasks.len() { places[at + 1] as u32 } else { 0 };
         record[1..].copy_from_slice(task);
     }
     words
 }
 
-/// A fault that one of 1 to 9 may turn down.
+/// A fault that one of 1 to 9, or 19, may turn down.
 fn spoil(rng: &mut Rng, words: &mut Vec<u32>) {
-    let records = words.len().saturating_sub(3) / 6;
+    let records = words.len().saturating_sub(HEAD) / RECORD;
     if records == 0 {
         return;
     }
-    let record = 3 + 6 * rng.below(records);
-    match rng.below(11) {
+    let record = HEAD + RECORD * rng.below(records);
+    match rng.below(13) {
         0 => words.truncate(rng.below(words.len())),
         1 => {
             let room = 32usize.saturating_sub(records);
-            let more = rng.pick(&[1, 5, 6, 6 * room, 6 * room + 6, 6 * 32, 6000]);
+            let more = rng.pick(&[1, RECORD - 1, RECORD, RECORD * room, RECORD * (room + 1), RECORD * 32, RECORD * 1000]);
             words.extend((0..more).map(|_| rng.word()));
         }
         2 => words[1] = rng.pick(&[0, 65, 64, u32::MAX]),
@@ -54,9 +84,18 @@ fn spoil(rng: &mut Rng, words: &mut Vec<u32>) {
         4 => words[0] = rng.pick(&[0, 0, 33, records as u32 + 1, u32::MAX]),
         5 => words[record] = rng.from(0, records as u32 + 1),
         6 => words[record] = rng.pick(&[33, u32::MAX, 1 << 31]),
-        7 => words[record + 2] = rng.pick(&[0, 1, words[1], words[1].wrapping_add(1), u32::MAX]),
+        7 => {
+            let left = fence_of(words).1;
+            words[record + 2] = rng.pick(&[0, 1, left, left + 1, words[1], words[1].wrapping_add(1), u32::MAX]);
+        }
         8 => words[record + 1 + rng.below(5)] = rng.pick(&[0, 1, 1_000_000, 1_000_001, u32::MAX]),
         9 => words[record + 4] = words[record + 5].wrapping_add(rng.from(0, 1)),
+        10 | 11 => {
+            let (all, fence, any) = (all_of(words[1]), fence_of(words).0, rng.next());
+            let one = 1 << rng.below(64);
+            let next = 1u64.checked_shl(words[1]).unwrap_or(0);
+            set_fence(words, rng.pick(&[all, all >> 1, all & !1, all | next, next, fence | next, one, fence | one, fence.rotate_left(32), u64::MAX, any]));
+        }
         _ => {
             let at = rng.below(words.len());
             words[at] = rng.word();

@@ -1,8 +1,9 @@
-//! The examples through replay, and the plan vectors: INDEX has lines 'NNN plan A B LEN'; NNN.in is the table's text, NNN.out what is to be printed.
+//! The examples through replay, the plan vectors, and those of runs built by hand: INDEX has lines 'NAME plan A B LEN' and 'NAME run'; NAME.in is the table's text,
+//! or the run's and then operations, NAME.out what is to be printed.
 use crate::book;
 use crate::calls::{self, same, Lent, Tried};
 use crate::rng::Rng;
-use sivorandra::{Refusal, ROW_BYTES};
+use sivorandra::{Refusal, Run, ROW_BYTES};
 use std::fs;
 
 /// What the library's plan gives, printed a row a line.
@@ -27,6 +28,34 @@ fn one(number: &str, a: &str, b: &str, len: &str) -> Tried<()> {
     let parse = |word: &str| word.parse::<u32>().map_err(|why| why.to_string());
     let got = printed(&text, parse(a)?, parse(b)?, parse(len)? as usize)?;
     same(&format!("for {:?}", String::from_utf8_lossy(&text)), String::from_utf8_lossy(&expected), got.into())
+}
+
+/// What the library says to the operations on a run built by hand: `r` a row, `a REPORTS` an advance, `p` the run as text.
+fn operated(text: &[u8]) -> Tried<String> {
+    let (words, operations) = book::built_from(text, &calls::NO_RUN);
+    let mut run = Run::from_words(words);
+    let mut out = String::new();
+    let refused = |Refusal { number, position }| format!("refused {number} {position}\n");
+    for operation in operations {
+        out += &match operation.split_once(' ') {
+            None if operation == "p" => book::text_of(run.words()),
+            None => run.row().map_or_else(refused, |row| {
+                let cores = run.words()[1] as usize;
+                format!("row {}\n", row[..cores].iter().map(u8::to_string).collect::<Vec<_>>().join(" "))
+            }),
+            Some((_, reports)) => {
+                let reports = reports.parse().map_err(|_| format!("no operation: {operation}"))?;
+                run.advance(reports).map_or_else(refused, |()| "taken\n".into())
+            }
+        };
+    }
+    Ok(out)
+}
+
+fn one_run(name: &str) -> Tried<()> {
+    let read = |end| fs::read(format!("tests/vectors/{name}.{end}")).map_err(|why| why.to_string());
+    let (text, expected) = (read("in")?, read("out")?);
+    same(&format!("for {:?}", String::from_utf8_lossy(&text)), String::from_utf8_lossy(&expected), operated(&text)?.into())
 }
 
 /// Example B with its report, that the job of position 1 ends after tick 0 (figure 2, right side), and B3 with the same, through replay.
@@ -58,6 +87,7 @@ pub fn all() -> Vec<(String, Tried<()>)> {
     let index = fs::read_to_string("tests/vectors/INDEX").unwrap_or_default();
     let plans = index.lines().filter_map(|line| match line.split(' ').collect::<Vec<_>>()[..] {
         [number, "plan", a, b, len] => Some((format!("vector {number}"), one(number, a, b, len))),
+        [name, "run"] => Some((format!("vector {name}, a run"), one_run(name))),
         _ => None,
     });
     plans.chain(examples()).collect()

@@ -1,17 +1,17 @@
 /* Hostile calls of the library from C, each beside what the header says of it: NULL with length 0, lengths around every limit,
-   counts and words of all ones, anything past the count. Every slice lies between guards, which must stay.
+   counts and words of all ones, fences, anything past the count. Every slice lies between guards, which must stay.
    Prints each call that differs; the last line is 'N calls, M wrong'. */
 #include <stdio.h>
 #include <string.h>
 #include "sivorandra.h"
 
 enum { RUN = SIVORANDRA_RUN_WORDS, ROW = SIVORANDRA_ROW_BYTES, HEAD = SIVORANDRA_RUN_HEAD_WORDS, PLACE = SIVORANDRA_RUN_PLACE_WORDS };
-enum { GUARD = 8, MOST = 300, KIND = HEAD + 5, TABLE = 21, USED = HEAD + PLACE * 3 };
+enum { GUARD = 8, MOST = 300, KIND = HEAD + 5, TABLE = 23, USED = HEAD + PLACE * 3 };
 static const uint32_t ONES = 0xffffffffu;
 
-/* head, cores, rule; then for each record: next, offset, width, length, deadline, period */
-static const uint32_t full[TABLE] = { 1, 3, 1, 2, 0, 2, 2, 5, 5, 3, 0, 2, 3, 5, 5, 0, 0, 1, 4, 5, 5 };
-static const uint32_t miss[TABLE] = { 1, 2, 2, 2, 0, 1, 3, 3, 4, 3, 0, 2, 1, 4, 4, 0, 0, 1, 2, 2, 4 };
+/* head, cores, rule, two words of fenced cores; then for each record: next, offset, width, length, deadline, period */
+static const uint32_t full[TABLE] = { 1, 3, 1, 0, 0, 2, 0, 2, 2, 5, 5, 3, 0, 2, 3, 5, 5, 0, 0, 1, 4, 5, 5 };
+static const uint32_t miss[TABLE] = { 1, 2, 2, 0, 0, 2, 0, 1, 3, 3, 4, 3, 0, 2, 1, 4, 4, 0, 0, 1, 2, 2, 4 };
 static const uint8_t rows[] = { 1, 1, 3, 1, 1, 3, 2, 2, 3, 2, 2, 3, 2, 2, 0 };
 
 /* A slice to lend, and what must stand there after the call; NULL where it has no length and says so. */
@@ -151,7 +151,8 @@ static void nulls(void)
 /* The sentence and its facts: lengths around every limit, and NULL for each slice. `row` is the buffer. */
 static void sentences(void)
 {
-    static const uint32_t late[9] = { 1, 1, 1, 0, 0, 1, 2, 1, 1 };
+    enum { LATE = 11 };
+    static const uint32_t late[LATE] = { 1, 1, 1, 0, 0, 0, 0, 1, 2, 1, 1 };
     static const char said[] = "task 1 misses at tick 1 with 1 of 2 ticks.";
     enum { LENGTH = sizeof said - 1, FACTS = SIVORANDRA_FACT_WORDS };
     static const uint64_t told[4] = { 1, 1, 1, 2 };
@@ -161,14 +162,14 @@ static void sentences(void)
             refused(18);
         else
             answered(SIVORANDRA_LENGTH, LENGTH, 0), memcpy(row.want + GUARD, said, LENGTH);
-        expect("sentence: a buffer of every length", 0, sentence(late, 9));
+        expect("sentence: a buffer of every length", 0, sentence(late, LATE));
     }
-    fresh(), NONE(row), refused(18), expect("sentence: no buffer", 0, sentence(late, 9));
+    fresh(), NONE(row), refused(18), expect("sentence: no buffer", 0, sentence(late, LATE));
     fresh(), NONE(row), refused(17), expect("sentence: no buffer, no miss", 0, sentence(full, TABLE));
     fresh(), refused(17), expect("sentence: no miss", 0, sentence(full, TABLE));
     fresh(), NONE(row), refused(1), expect("sentence: no words", 0, sentence(NULL, 0));
-    fresh(), NONE(answer), expect("sentence: no answer", 1, sentence(late, 9));
-    fresh(), answer.len = 2, expect("sentence: a short answer", 1, sentence(late, 9));
+    fresh(), NONE(answer), expect("sentence: no answer", 1, sentence(late, LATE));
+    fresh(), answer.len = 2, expect("sentence: a short answer", 1, sentence(late, LATE));
 
     static const size_t lens[] = { 0, FACTS - 1, FACTS, FACTS + 1 };
     for (size_t i = 0; i < 8; i++) {
@@ -195,7 +196,7 @@ static void sentences(void)
 static void tables(void)
 {
     static const struct { size_t len; uint32_t number; } lens[] = {
-        { 0, 1 }, { 1, 1 }, { 2, 1 }, { 3, 5 }, { 4, 1 }, { 8, 1 }, { 9, 5 }, { 15, 5 }, { 20, 1 },
+        { 0, 1 }, { 1, 1 }, { 2, 1 }, { 3, 1 }, { 4, 1 }, { 5, 5 }, { 6, 1 }, { 10, 1 }, { 11, 5 }, { 17, 5 }, { 21, 1 }, { 22, 1 },
     };
     static uint32_t ones[1 << 20];
     memset(ones, 0xff, sizeof ones);
@@ -204,7 +205,7 @@ static void tables(void)
         fresh(), refused(lens[i].number), expect("plan: fewer words", 0, plan(full, lens[i].len, ONES, 0));
         fresh(), refused(lens[i].number), no_run(), expect("start: fewer words", 0, start(full, lens[i].len));
     }
-    static const struct { size_t len; uint32_t number; } many[] = { { 3, 2 }, { 195, 2 }, { 196, 1 }, { 201, 1 }, { 1 << 20, 1 } };
+    static const struct { size_t len; uint32_t number; } many[] = { { 4, 1 }, { 5, 2 }, { 195, 1 }, { 197, 2 }, { 198, 1 }, { 203, 1 }, { 1 << 20, 1 } };
     for (size_t i = 0; i < sizeof many / sizeof many[0]; i++) {
         fresh(), refused(many[i].number), expect("judge: all ones", 0, judge(ones, many[i].len));
         fresh(), refused(many[i].number), no_run(), expect("start: all ones", 0, start(ones, many[i].len));
@@ -239,7 +240,7 @@ static void bounds(void)
 /* The lengths of the slices that a call writes to. */
 static void lengths(void)
 {
-    static const size_t lens[] = { 0, 1, 2, 3, 4, 63, 64, 65, 258, 259, 260 };
+    static const size_t lens[] = { 0, 1, 2, 3, 4, 5, 63, 64, 65, 259, 260, 261, 262 };
     uint32_t first[RUN], next[RUN];
     uint32_t three[3];
     sivorandra_start(full, TABLE, first, RUN, three, 3);
@@ -270,6 +271,7 @@ static void built(void)
 {
     static const uint32_t faults[][2] = {
         { 0, 0 }, { 0, 4 }, { 0, 0xffffffffu }, { 1, 0 }, { 1, 65 }, { 1, 0xffffffffu }, { 2, 0 }, { 2, 4 }, { 2, 33 }, { 2, 0xffffffffu },
+        { 3, 8 }, { 3, 7 }, { 3, 15 }, { 3, 6 }, { 3, 0xffffffffu }, { 4, 1 }, { 4, 0xffffffffu },
         { KIND, 2 }, { KIND, 4 }, { KIND, 0xffffffffu }, { KIND + 1, 0xffffffffu }, { KIND + 2, 0xffffffffu },
     };
     for (size_t i = 0; i < sizeof faults / sizeof faults[0]; i++) {
@@ -293,9 +295,72 @@ static void built(void)
     fresh(), refused(16), expect("advance: a report of one that waits", 0, advance(2));
 }
 
+/* The table `full` on five cores of which cores 1 and 3 are fenced; and fences that are turned down. */
+static void fences(void)
+{
+    static const uint8_t spread[] = { 1, 255, 1, 255, 3, 1, 255, 1, 255, 3, 2, 255, 2, 255, 3, 2, 255, 2, 255, 3, 2, 255, 2, 255, 0 };
+    enum { FITS = 0, LATE = 1 }; /* the other answers are numbers; 7 comes with position 1 */
+    static const struct { uint32_t cores, low, high, number; } others[] = {
+        { 5, 10, 0, FITS }, { 5, 28, 0, LATE }, { 5, 30, 0, 7 }, { 5, 31, 0, 19 }, { 5, 63, 0, 19 }, { 5, 32, 0, 19 }, { 5, 0, 1, 19 }, { 5, 0, 0xffffffffu, 19 },
+        { 3, 0, 0, FITS }, { 3, 1, 0, LATE }, { 3, 6, 0, 7 }, { 3, 7, 0, 19 }, { 3, 8, 0, 19 }, { 0, 7, 0, 2 }, { 65, 0xffffffffu, 0xffffffffu, 2 },
+        { 64, 0, 0x80000000u, FITS }, { 64, 0xffffffffu, 0x1fffffffu, FITS }, { 64, 0xffffffffu, 0x3fffffffu, LATE }, { 64, 0xffffffffu, 0x7fffffffu, 7 },
+        { 64, 0xffffffffu, 0xffffffffu, 19 }, { 33, 0x3fffffffu, 0, FITS }, { 33, 0, 2, 19 }, { 33, 0xffffffffu, 1, 19 }, { 32, 0xffffffffu, 0, 19 }, { 32, 0, 1, 19 },
+    };
+    uint32_t table[TABLE], first[RUN], next[RUN], three[3];
+    for (size_t i = 0; i < sizeof others / sizeof others[0]; i++) {
+        uint32_t number = others[i].number, position = number == 7;
+        memcpy(table, full, sizeof table), table[1] = others[i].cores, table[3] = others[i].low, table[4] = others[i].high;
+        fresh();
+        if (number == FITS)
+            answered(SIVORANDRA_FULL, 0, 5);
+        else if (number == LATE)
+            answered(SIVORANDRA_MISS, 5, 3);
+        else
+            answered(SIVORANDRA_REFUSED, number, position);
+        expect("judge: a fence", 0, judge(table, TABLE));
+        if (number <= LATE)
+            continue;
+        fresh(), answered(SIVORANDRA_REFUSED, number, position), no_run(), expect("start: a fence", 0, start(table, TABLE));
+        fresh(), answered(SIVORANDRA_REFUSED, number, position), expect("plan: a fence", 0, plan(table, TABLE, 0, 1));
+        fresh(), answered(SIVORANDRA_REFUSED, number, position), expect("sentence: a fence", 0, sentence(table, TABLE));
+    }
+    memcpy(table, full, sizeof table), table[1] = 5, table[3] = 10;
+    fresh(), answered(0, 0, 0), memcpy(row.want + GUARD, spread, sizeof spread), expect("plan: fenced rows", 0, plan(table, TABLE, 0, 5));
+    fresh(), row.len = 24, refused(11), expect("plan: fenced cores count for 11", 0, plan(table, TABLE, 0, 5));
+    fresh(), row.len = 25, answered(0, 0, 0), memcpy(row.want + GUARD, spread, sizeof spread), expect("plan: just room", 0, plan(table, TABLE, 0, 5));
+
+    static const uint32_t head[HEAD] = { 1, 5, 3, 10, 0 }, high[HEAD] = { 1, 34, 3, 0xfffffff0u, 1 };
+    sivorandra_start(full, TABLE, first, RUN, three, 3);
+    memcpy(first, head, sizeof head), memcpy(next, first, sizeof first);
+    fresh(), answered(0, 0, 0), run_words(first, RUN), expect("start: the fence is in the run", 0, start(table, TABLE));
+    sivorandra_advance(next, RUN, 1, three, 3);
+    fresh(), words(&run, RUN, first, RUN), answered(0, 0, 0), row_bytes(spread, 5), expect("row: 255 on fenced cores, 0 past the count", 0, shown());
+    fresh(), words(&run, RUN, first, RUN), answered(0, 0, 0), run_words(next, RUN), run_words(head, HEAD), expect("advance: the fence stays", 0, advance(1));
+    fresh(), words(&run, RUN, next, RUN), answered(0, 0, 0), row_bytes(spread + 10, 5), expect("row: the next one", 0, shown());
+    fresh(), words(&run, RUN, first, RUN), refused(16), expect("advance: refused with a fence", 0, advance(2));
+    fresh(), words(&run, RUN, first, RUN), set(KIND + 1, 1, 5), answered(SIVORANDRA_REFUSED, 15, 1), row_bytes(NULL, 0), expect("row: 15 is all zeros", 0, shown());
+    for (uint32_t low = 0; low < 64; low++) {
+        uint32_t unfenced = 5u - (low & 1) - (low >> 1 & 1) - (low >> 2 & 1) - (low >> 3 & 1) - (low >> 4 & 1);
+        int out = low > 31 || unfenced < 2; /* the widest task has two cores */
+        fresh(), words(&run, RUN, first, RUN), set(3, 1, low), out ? refused(14) : answered(0, 0, 0);
+        uint32_t got = shown();
+        uint8_t want[5] = { 0 };
+        uint32_t free = 0;
+        for (uint32_t core = 0; core < 5 && !out; core++)
+            want[core] = low >> core & 1 ? 255 : ++free <= 2 ? 1 : free == 3 ? (unfenced >= 4 ? 2 : 3) : free == 4 ? 2 : 3;
+        row_bytes(want, 5), expect("row: every fence of six cores on five", 0, got);
+    }
+    uint8_t both[34] = { 1, 1, 2, 2 };
+    memset(both + 4, 255, 29), both[33] = 3;
+    fresh(), words(&run, RUN, first, RUN), run_words(high, HEAD), memcpy(run.now, run.want, sizeof run.now), answered(0, 0, 0), row_bytes(both, 34), expect("row: a fence in both words", 0, shown());
+    fresh(), words(&run, RUN, first, RUN), set(4, 1, 1), refused(14), row_bytes(NULL, 0), expect("row: 14 is all zeros", 0, shown());
+    static const uint32_t reports[2] = { 1, 8 };
+    fresh(), answered(0, 0, 0), numbers.want[GUARD] = 0, numbers.want[GUARD + 1] = 16 * 256, row_bytes(spread + 10, 5), expect("replay: fenced", 0, replay(table, TABLE, reports, 2));
+}
+
 int main(void)
 {
-    nulls(), sentences(), tables(), bounds(), lengths(), built();
+    nulls(), sentences(), tables(), bounds(), lengths(), built(), fences();
     printf("%u calls, %u wrong\n", calls, wrong);
     return wrong != 0;
 }

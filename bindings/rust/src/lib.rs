@@ -3,10 +3,17 @@
 //! With cargo the build script finds the library; with rustc alone:
 //! `rustc --edition 2021 --crate-type rlib --crate-name sivorandra -L native=target/staticlib bindings/rust/src/lib.rs`
 
-/// The bytes of a run's row: core 0 first, the position or 0 for idle.
+/// The bytes of a run's row: core 0 first, the position, 0 for idle, or `FENCED`.
 pub const ROW_BYTES: usize = 64;
-/// The words of a run in front of its places: rule, cores and count.
-pub const RUN_HEAD_WORDS: usize = 3;
+/// What a row has on a fenced core.
+pub const FENCED: u8 = 255;
+/// The words of a table in front of its records: head, cores, rule, and the fence, the set of cores that no task has, its low word first:
+/// bit c of the low word is core c, bit c of the high word core 32 + c.
+pub const TABLE_HEAD_WORDS: usize = 5;
+/// The words of a record: next, O, v, C, D, T.
+pub const TABLE_RECORD_WORDS: usize = 6;
+/// The words of a run in front of its places: rule, cores, count, and the fence, its low word first.
+pub const RUN_HEAD_WORDS: usize = 5;
 /// The words of a place: O, v, C, D, T, the kind of its phase (0 Coming, 1 Working, 2 Holding, 3 Resting) and its two numbers, 0 for one that it does not have.
 pub const RUN_PLACE_WORDS: usize = 8;
 /// The words that a run takes: it has 32 places, of which the first count are used.
@@ -28,7 +35,7 @@ pub enum Verdict {
     Miss { tick: u32, position: u32 },
 }
 
-/// What is turned down: one of the scope's numbers, 1 to 18, and a position, or 0.
+/// What is turned down: one of the scope's numbers, 1 to 19, and a position, or 0.
 #[derive(Clone, Copy, Debug, PartialEq, Eq)]
 pub struct Refusal {
     pub number: u32,
@@ -101,7 +108,7 @@ pub fn judge(words: &[u32]) -> Result<Verdict, Refusal> {
     }
 }
 
-/// Writes rows `a` up to but not including `b` of the full-length run into `rows`, one byte a core.
+/// Writes rows `a` up to but not including `b` of the full-length run into `rows`, one byte a core, fenced ones too.
 pub fn plan(words: &[u32], a: u32, b: u32, rows: &mut [u8]) -> Result<(), Refusal> {
     done(ask(|answer, len| unsafe { sivorandra_plan(words.as_ptr(), words.len(), a, b, rows.as_mut_ptr(), rows.len(), answer, len) }))
 }

@@ -17,10 +17,12 @@ use Rattle.phase.specs.declared.Phase.the-variants.{Coming, Working, Holding, R
 use Rattle.phase.specs.declared.Task.{Task}
 use Rattle.phase.specs.Task.{unused}
 use Rattle.run.specs.declared.Run.{Run}
+use Rattle.model.specs.Sizes.{mostWord}
 use Rattle.run.specs.Numbers.{RunOut}
+use Rattle.table.specs.Words.{fenceOf}
 use Rattle.capi.specs.declared.told.Told.{Told}
 use Rattle.capi.specs.Told.{says}
-use Rattle.capi.specs.Encoding.{headWords, eachWords, kindAt, firstAt, secondAt, places, wordsTo, runWords, ofPhase, placeWith, placeWords, placesWords, countWord, encodeTo, encode, overwritten, phaseOf, isPhase, placeIn, isPlace, placesIn, arePlaces, countIn, holds, padded, runIn, run, none, decode, cleared}
+use Rattle.capi.specs.Encoding.{headWords, eachWords, kindAt, firstAt, secondAt, places, wordsTo, runWords, ofPhase, placeWith, placeWords, placesWords, countWord, lowWord, highWord, fenceIn, encodeTo, encode, overwritten, phaseOf, isPhase, placeIn, isPlace, placesIn, arePlaces, countIn, holds, padded, runIn, run, none, decode, cleared}
 use Rattle.capi.proofs.Places.{length-words, length-read, by-held, held-long, held-few, held-places}
 
 -- WHAT IS ENCODED IS DECODED
@@ -37,7 +39,7 @@ phase-back (Working z u) = refl
 phase-back (Holding z u) = refl
 phase-back (Resting z) = refl
 
-places-are : (n : ℕ) (ts : List Task) (behind : List ℕ) → n ≤ length ts → arePlaces n (placesWords ts ++ behind) ≡ true
+pub places-are : (n : ℕ) (ts : List Task) (behind : List ℕ) → n ≤ length ts → arePlaces n (placesWords ts ++ behind) ≡ true
 unfolding arePlaces placesWords
 places-are zero ts behind h = refl
 places-are (suc n) [] behind h = absurd (not-suc-le-zero h)
@@ -47,11 +49,15 @@ places-are (suc n) (t ∷ ts) behind h =
 withPhase : Task → Phase → Task
 withPhase t ph = record { offset = t .offset; width = t .width; length = t .length; deadline = t .deadline; period = t .period; phase = ph }
 
-places-back : (n : ℕ) (ts : List Task) (behind : List ℕ) → n ≤ length ts → placesIn n (placesWords ts ++ behind) ≡ take n ts
+pub places-back : (n : ℕ) (ts : List Task) (behind : List ℕ) → n ≤ length ts → placesIn n (placesWords ts ++ behind) ≡ take n ts
 unfolding placesIn placesWords withPhase
 places-back zero ts behind h = refl
 places-back (suc n) [] behind h = absurd (not-suc-le-zero h)
 places-back (suc n) (t ∷ ts) behind h = λ i. withPhase t (phase-back (t .phase) i) ∷ places-back n ts behind (le-of-suc-le-suc h) i
+
+-- the two words of a fence
+fence-back : (f : ℕ) → fenceOf (lowWord f) (highWord f) ≡ f
+fence-back f = omega arith
 
 -- the head and n places are so many words
 pub length-to : (n : ℕ) (r : Run) → n ≤ length (r .tasks) → length (encodeTo n r) ≡ wordsTo n
@@ -80,8 +86,8 @@ module _ (n : ℕ) (r : Run) (behind : List ℕ) (all : length (r .tasks) ≡ pl
   run-back : runIn (encodeTo n r ++ behind) ≡ cleared r
   unfolding runIn encodeTo
   run-back =
-      ap (λ (k : ℕ). record { rule = r .rule; cores = r .cores; count = k; tasks = padded k (placesIn k written) }) count-back
-      ∙ ap (λ (ts : List Task). record { rule = r .rule; cores = r .cores; count = r .count; tasks = padded (r .count) ts })
+      (λ i. record { rule = r .rule; cores = r .cores; fence = fence-back (r .fence) i; count = count-back i; tasks = padded (count-back i) (placesIn (count-back i) written) })
+      ∙ ap (λ (ts : List Task). record { rule = r .rule; cores = r .cores; fence = r .fence; count = r .count; tasks = padded (r .count) ts })
       (places-back (r .count) (take n (r .tasks)) behind within ∙ take-take (r .count) n (r .tasks) few)
 
   pub decode-to : decode (encodeTo n r ++ behind) ≡ run (cleared r)
@@ -136,7 +142,7 @@ place-forth : (ws : List ℕ) → eachWords ≤ length ws → isPlace ws ≡ tru
 place-forth ws h e =
     ap (λ (t : Told). placeWith (placeIn ws) t ++ drop eachWords ws) (phase-forth (getD ws kindAt 0) (getD ws firstAt 0) (getD ws secondAt 0) e) ∙ front ws h
 
-places-forth : (n : ℕ) (ws : List ℕ) → eachWords * n ≤ length ws → arePlaces n ws ≡ true → placesWords (placesIn n ws) ++ drop (eachWords * n) ws ≡ ws
+pub places-forth : (n : ℕ) (ws : List ℕ) → eachWords * n ≤ length ws → arePlaces n ws ≡ true → placesWords (placesIn n ws) ++ drop (eachWords * n) ws ≡ ws
 unfolding arePlaces placesIn placesWords
 places-forth zero ws h e = refl
 places-forth (suc n) ws h e =
@@ -148,24 +154,27 @@ places-forth (suc n) ws h e =
     ∙ (ap (λ (l : List ℕ). placeWords (placeIn ws) ++ l) rest
     ∙ place-forth ws (omega arith) (and-left (isPlace ws) (arePlaces n (drop eachWords ws)) e)))
 
-words-back : (ws : List ℕ) → holds ws ≡ true → overwritten (runIn ws .count) (runIn ws) ws ≡ ws
+words-back : (ws : List ℕ) → getD ws 3 0 ≤ mostWord → holds ws ≡ true → overwritten (runIn ws .count) (runIn ws) ws ≡ ws
 unfolding encodeTo runIn
-words-back ws e =
+words-back ws narrow e =
     let n = countIn ws in
     let read = placesIn n (drop headWords ws) in
     let len = held-long ws e in
     let few = held-few ws e in
     let d = length-drop headWords ws in
+    let counted : countWord n ≡ n = ap (λ (t : Bool). cond t n 33) (le-leb n places few) in
     let used : take n (padded n read) ≡ read = take-at read (replicate (places - n) unused) n (length-read n (drop headWords ws)) in
-    ap (λ (k : ℕ). getD ws 0 0 ∷ (getD ws 1 0 ∷ (k ∷ (placesWords (take n (padded n read)) ++ drop (wordsTo n) ws))))
-    (ap (λ (t : Bool). cond t n 33) (le-leb n places few))
-    ∙ (ap (λ (ts : List Task). getD ws 0 0 ∷ (getD ws 1 0 ∷ (n ∷ (placesWords ts ++ drop (wordsTo n) ws)))) used
-    ∙ (ap (λ (l : List ℕ). getD ws 0 0 ∷ (getD ws 1 0 ∷ (n ∷ (placesWords read ++ l)))) (sym (drop-drop (eachWords * n) headWords ws))
-    ∙ (ap (λ (l : List ℕ). getD ws 0 0 ∷ (getD ws 1 0 ∷ (n ∷ l))) (places-forth n (drop headWords ws) (omega arith) (held-places ws e))
+    let low : lowWord (fenceIn ws) ≡ getD ws 3 0 = omega (arith, narrow) in
+    let high : highWord (fenceIn ws) ≡ getD ws 4 0 = omega (arith, narrow) in
+    (λ i. getD ws 0 0 ∷ (getD ws 1 0 ∷ (counted i ∷ (low i ∷ (high i ∷ (placesWords (used i) ++ drop (wordsTo n) ws))))))
+    ∙ (ap (λ (l : List ℕ). getD ws 0 0 ∷ (getD ws 1 0 ∷ (n ∷ (getD ws 3 0 ∷ (getD ws 4 0 ∷ (placesWords read ++ l)))))) (sym (drop-drop (eachWords * n) headWords ws))
+    ∙ (ap (λ (l : List ℕ). getD ws 0 0 ∷ (getD ws 1 0 ∷ (n ∷ (getD ws 3 0 ∷ (getD ws 4 0 ∷ l))))) (places-forth n (drop headWords ws) (omega arith) (held-places ws e))
     ∙ sym
     (drop-cons ws 0 0 (omega arith)
     ∙ ap (λ (l : List ℕ). getD ws 0 0 ∷ l) (drop-cons ws 1 0 (omega arith)
-    ∙ ap (λ (l : List ℕ). getD ws 1 0 ∷ l) (drop-cons ws 2 0 (omega arith)))))))
+    ∙ ap (λ (l : List ℕ). getD ws 1 0 ∷ l) (drop-cons ws 2 0 (omega arith)
+    ∙ ap (λ (l : List ℕ). getD ws 2 0 ∷ l) (drop-cons ws 3 0 (omega arith)
+    ∙ ap (λ (l : List ℕ). getD ws 3 0 ∷ l) (drop-cons ws 4 0 (omega arith))))))))
 
 -- a buffer that is decoded to a run holds it
 pub held-run : (ws : List ℕ) (r : Run) → decode ws ≡ run r → (holds ws ≡ true) × (runIn ws ≡ r)
@@ -179,8 +188,8 @@ held-run ws r e = go (holds ws) refl
         let same : none ≡ run r = sym (by-held ws h) ∙ e in
         absurd (let z : _≡_ {A = ℕ} 0 1 = cc in omega arith)
 
--- to encode it again changes no word
-pub encode-decode : (ws : List ℕ) (r : Run) → decode ws ≡ run r → overwritten (r .count) r ws ≡ ws
-encode-decode ws r e =
+-- to encode it again changes no word, where the fence's low number is a word, as it is in every lent buffer
+pub encode-decode : (ws : List ℕ) → getD ws 3 0 ≤ mostWord → (r : Run) → decode ws ≡ run r → overwritten (r .count) r ws ≡ ws
+encode-decode ws narrow r e =
     let h = held-run ws r e in
-    ap (λ (q : Run). overwritten (q .count) q ws) (sym (h .1)) ∙ words-back ws (h .0)
+    ap (λ (q : Run). overwritten (q .count) q ws) (sym (h .1)) ∙ words-back ws narrow (h .0)

@@ -39,7 +39,7 @@ pub record Fits (r : Run) : Type 0 where
 -- such a run is as it is when it is cleared
 pub clear-fits : (r : Run) → Fits r → cleared r ≡ r
 clear-fits r f =
-    ap (λ (ts : List Task). record { rule = r .rule; cores = r .cores; count = r .count; tasks = ts })
+    ap (λ (ts : List Task). record { rule = r .rule; cores = r .cores; fence = r .fence; count = r .count; tasks = ts })
     (ap (λ (l : List Task). take (r .count) (r .tasks) ++ l) (sym (f .past)) ∙ take-append-drop (r .count) (r .tasks))
 
 -- START

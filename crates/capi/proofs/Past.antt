@@ -1,11 +1,11 @@
--- Words past the count are neither read nor changed. Not read: equal words up to the count are the encoding of one run (`encode-decode`), and
--- whatever stands behind it, it is decoded to that run (`fits-written`).
+-- Words past the count are neither read nor changed. Not read: places of equal words are equal (`same-places`).
 use mathlib.Core.Path.{_≡_, refl, sym, ap, _∙_}
+use mathlib.Core.Bool.{true}
 use mathlib.Core.List.{List, _++_}
-use Prim.Native.Nat.{ℕ, _-_, _≤_}
+use Prim.Native.Nat.{ℕ, _*_, _-_, _≤_, _<_}
 use native.Mathlib.Omega.{arith}
-use lib.ListN.{length, getD, take, drop, replicate, take-append-drop}
-use lib.Seq.{length-take-le, getD-take, take-at, drop-at}
+use lib.ListN.{length, getD, take, drop, length-drop, replicate, take-append-drop}
+use lib.Seq.{length-take-le, getD-take, take-add, take-all, take-at, drop-at}
 use Rattle.run.specs.declared.Answer.{Answer}
 use Rattle.run.specs.declared.Answer.the-variants.{Taken, Refused}
 use Rattle.run.specs.declared.Run.{Run}
@@ -14,27 +14,38 @@ use Rattle.run.specs.Advance.{advanceOf}
 use Rattle.run.specs.Past.{Unread}
 use Rattle.run.proofs.Past.{past-unread}
 use Rattle.phase.specs.Task.{unused}
-use Rattle.capi.specs.Encoding.{places, wordsTo, encodeTo, overwritten, countIn, runIn, Held, run, none, decode, cleared}
+use Rattle.capi.specs.Encoding.{headWords, eachWords, places, wordsTo, placesWords, encodeTo, overwritten, placesIn, arePlaces, countIn, holds, padded, runIn, Held, run, none, decode, cleared}
 use Rattle.capi.specs.Runs.{rowFrom, advanceFrom}
 use Rattle.capi.specs.Past.{usedIn, SameUsed, WordsUnread}
-use Rattle.capi.proofs.Inverse.{length-to, held-run, encode-decode}
+use Rattle.table.specs.Words.{fenceOf}
+use Rattle.capi.proofs.Places.{length-words, length-read, held-by, by-held, held-few, held-places}
+use Rattle.capi.proofs.Inverse.{length-to, held-run, places-are, places-back, places-forth}
 use Rattle.capi.proofs.Keeping.{count-kept}
-use Rattle.capi.proofs.Kept.{Fits, held-fits, fits-written, fits-advanced}
+use Rattle.capi.proofs.Kept.{Fits, held-fits, fits-advanced}
 
 -- the buffer's count is that of the run that it holds
 held-count : (ws : List ℕ) (r : Run) → decode ws ≡ run r → r .count ≡ countIn ws
 unfolding runIn
 held-count ws r e = sym (ap (λ (q : Run). q .count) (held-run ws r e .1))
 
--- the words up to the count are its encoding
-held-used : (ws : List ℕ) (r : Run) → decode ws ≡ run r → take (usedIn ws) ws ≡ encodeTo (r .count) r
-held-used ws r e =
-    let f = held-fits ws r e .0 in
-    let few = f .few in
-    let all = f .all in
-    let k = wordsTo (r .count) in
-    ap (λ (n : ℕ). take (wordsTo n) ws) (sym (held-count ws r e))
-    ∙ (ap (take k) (sym (encode-decode ws r e)) ∙ take-at (encodeTo (r .count) r) (drop k ws) k (length-to (r .count) r (omega arith)))
+-- words that are places are the encoding of these places, and so are words that are equal to them
+pub record SamePlaces (n : ℕ) (ws vs : List ℕ) : Type 0 where
+  pub are : arePlaces n vs ≡ true
+  pub read : placesIn n vs ≡ placesIn n ws
+
+same-places : (n : ℕ) (ws vs : List ℕ) → eachWords * n ≤ length ws → arePlaces n ws ≡ true → take (eachWords * n) ws ≡ take (eachWords * n) vs → SamePlaces n ws vs
+same-places n ws vs h e u =
+    let read = placesIn n ws in
+    let many = length-read n ws in
+    let front : take (eachWords * n) ws ≡ placesWords read =
+    ap (take (eachWords * n)) (sym (places-forth n ws h e))
+    ∙ take-at (placesWords read) (drop (eachWords * n) ws) (eachWords * n) (length-words read ∙ ap (λ (k : ℕ). eachWords * k) many) in
+    let other : placesWords read ++ drop (eachWords * n) vs ≡ vs =
+    ap (λ (l : List ℕ). l ++ drop (eachWords * n) vs) (sym front ∙ u) ∙ take-append-drop (eachWords * n) vs in
+    record {
+      are = ap (arePlaces n) (sym other) ∙ places-are n read (drop (eachWords * n) vs) (omega arith);
+      read = ap (placesIn n) (sym other) ∙ (places-back n read (drop (eachWords * n) vs) (omega arith) ∙ take-all n read (omega arith));
+    }
 
 -- a run that is cleared, as it is when it comes back from its encoding, is the run up to its count: it gets equal rows and answers
 pub cleared-unread : (r : Run) → length (r .tasks) ≡ places → r .count ≤ places → (x : ℕ) → Unread r (cleared r) x
@@ -44,6 +55,7 @@ cleared-unread r all few x =
     (record {
       rule = refl;
       cores = refl;
+      fence = refl;
       count = refl;
       tasks = sym (take-at (take n (r .tasks)) (replicate (places - n) unused) n (length-take-le n (r .tasks) (omega arith)));
     }) x
@@ -63,14 +75,48 @@ module _ (ws vs : List ℕ) (s : SameUsed ws vs) where
     used = ap (λ (n : ℕ). take (wordsTo n) vs) (sym same-count) ∙ (sym (s .used) ∙ ap (λ (n : ℕ). take (wordsTo n) ws) same-count);
   }
 
+  -- a word of the head
+  same-word : (i : ℕ) → i < headWords → getD ws i 0 ≡ getD vs i 0
+  same-word i l =
+      sym (getD-take (usedIn ws) ws i 0 (omega arith))
+      ∙ (ap (λ (l : List ℕ). getD l i 0) (s .used) ∙ getD-take (usedIn ws) vs i 0 (omega arith))
+
+  -- the words of the places below the count
+  behind-head : (l : List ℕ) → headWords ≤ length l → drop headWords (take (usedIn ws) l) ≡ take (eachWords * countIn ws) (drop headWords l)
+  behind-head l h =
+      ap (drop headWords) (take-add headWords (eachWords * countIn ws) l)
+      ∙ drop-at (take headWords l) (take (eachWords * countIn ws) (drop headWords l)) headWords (length-take-le headWords l h)
+
+  module _ (e : holds ws ≡ true) where
+    same-read : SamePlaces (countIn ws) (drop headWords ws) (drop headWords vs)
+    same-read =
+        let few = held-few ws e in
+        let d = length-drop headWords ws in
+        let long = s .long in
+        let other = s .other-long in
+        same-places (countIn ws) (drop headWords ws) (drop headWords vs) (omega arith) (held-places ws e)
+        (sym (behind-head ws (omega arith)) ∙ (ap (drop headWords) (s .used) ∙ behind-head vs (omega arith)))
+
+    also-holds : holds vs ≡ true
+    also-holds =
+        held-by vs (s .other-long) (omega (arith, same-count, held-few ws e))
+        ∙ (ap (λ (n : ℕ). arePlaces n (drop headWords vs)) (sym same-count) ∙ same-read .are)
+
+    same-run : runIn vs ≡ runIn ws
+    unfolding runIn
+    same-run = λ i. record {
+      rule = sym (same-word 0 (omega arith)) i;
+      cores = sym (same-word 1 (omega arith)) i;
+      fence = fenceOf (sym (same-word 3 (omega arith)) i) (sym (same-word 4 (omega arith)) i);
+      count = sym same-count i;
+      tasks = (ap (λ (n : ℕ). padded n (placesIn n (drop headWords vs))) (sym same-count) ∙ ap (padded (countIn ws)) (same-read .read)) i;
+    }
+
   -- a run that the one holds is held by the other
   also-held : (r : Run) → decode ws ≡ run r → decode vs ≡ run r
   also-held r e =
-      let k = wordsTo (r .count) in
-      let at : usedIn ws ≡ k = ap wordsTo (sym (held-count ws r e)) in
-      let first : take k vs ≡ encodeTo (r .count) r = ap (λ (n : ℕ). take n vs) (sym at) ∙ (sym (s .used) ∙ held-used ws r e) in
-      let over : overwritten (r .count) r vs ≡ vs = ap (λ (l : List ℕ). l ++ drop k vs) (sym first) ∙ take-append-drop k vs in
-      ap decode (sym over) ∙ fits-written r vs (held-fits ws r e .0) (s .other-long)
+      let h = held-run ws r e in
+      by-held vs (also-holds (h .0)) ∙ ap run (same-run (h .0) ∙ h .1)
 
 same-held : (ws vs : List ℕ) → SameUsed ws vs → decode ws ≡ decode vs
 same-held ws vs s = go (decode ws) (decode vs) refl refl

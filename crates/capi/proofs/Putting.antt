@@ -2,24 +2,29 @@
 use mathlib.Core.Path.{_≡_, sym, ap, _∙_}
 use mathlib.Core.List.{List, [], _∷_, _++_, append-assoc, append-nil}
 use Prim.Native.Nat.{ℕ, _+_, _-_, _≤_}
-use lib.ListN.{length, take, drop, set}
+use native.Mathlib.Omega.{arith}
+use lib.ListN.{length, length-drop, take, drop, set}
 use lib.Seq.{sets-eq, take-at, drop-at, drop-drop, drop-length}
 use borrow.Rule.Slice.PartAt.{part-to-end}
 use borrow.Rule.Slice.PartMut.{putMid, postOf, post-is}
-use Rattle.capi.specs.Encoding.{headWords, eachWords}
+use Rattle.run.specs.declared.Run.{Run}
+use Rattle.capi.specs.Encoding.{headWords, eachWords, placesWords, encodeTo, overwritten}
 
--- the head's three stores, over a list of at least three words
-module _ (ws : List ℕ) (a b c : ℕ) (h : headWords ≤ length ws) where
-  heads : set (set (set ws 0 a) 1 b) 2 c ≡ a ∷ (b ∷ (c ∷ drop headWords ws))
-  heads = sets-eq (a ∷ (b ∷ (c ∷ []))) ws 0 h
+-- the head's five stores, over a list of at least five words
+pub head-put :
+    (ws : List ℕ) (a b c d e : ℕ) → headWords ≤ length ws
+    → set (set (set (set (set ws 0 a) 1 b) 2 c) 3 d) 4 e ≡ a ∷ (b ∷ (c ∷ (d ∷ (e ∷ drop headWords ws))))
+head-put ws a b c d e h = sets-eq (a ∷ (b ∷ (c ∷ (d ∷ (e ∷ []))))) ws 0 h
 
-  pub head-put : (d : ℕ) → c ≡ d → set (set (set ws 0 a) 1 b) 2 c ≡ a ∷ (b ∷ (d ∷ drop headWords (set (set (set ws 0 a) 1 b) 2 c)))
-  head-put d e =
-      heads ∙ (ap (λ (n : ℕ). a ∷ (b ∷ (n ∷ drop headWords ws))) e ∙ ap (λ (l : List ℕ). a ∷ (b ∷ (d ∷ l))) (sym (ap (drop headWords) heads)))
+-- a buffer whose head was written: what stands behind the head is as it was
+pub head-behind : (ws vs : List ℕ) (r : Run) (n : ℕ) → vs ≡ overwritten 0 r ws → drop (headWords + n) vs ≡ drop (headWords + n) ws
+unfolding encodeTo placesWords
+head-behind ws vs r n e =
+    sym (drop-drop n headWords vs) ∙ (ap (λ (l : List ℕ). drop n (drop headWords l)) e ∙ drop-drop n headWords ws)
 
-  pub head-behind : (n : ℕ) → drop (headWords + n) (set (set (set ws 0 a) 1 b) 2 c) ≡ drop (headWords + n) ws
-  head-behind n =
-      sym (drop-drop n headWords (set (set (set ws 0 a) 1 b) 2 c)) ∙ (ap (λ (l : List ℕ). drop n (drop headWords l)) heads ∙ drop-drop n headWords ws)
+pub head-length : (ws vs : List ℕ) (r : Run) → vs ≡ overwritten 0 r ws → headWords ≤ length ws → length vs ≡ length ws
+unfolding encodeTo placesWords
+head-length ws vs r e h = ap length e ∙ omega (arith, length-drop headWords ws)
 
 -- the words of one more place, written into the part that begins at `at`
 pub put-more :

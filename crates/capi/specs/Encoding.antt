@@ -1,7 +1,7 @@
--- A run in a lent buffer: rule, cores and count, then eight words for each of the 32 places. What stands past the count is not looked at.
+-- A run in a lent buffer: rule, cores, count and the fence in two words, then eight words for each of the 32 places. What stands past the count is not looked at.
 use mathlib.Core.Bool.{Bool, true, _&&_, _||_, cond}
 use mathlib.Core.List.{List, [], _∷_, _++_}
-use Prim.Native.Nat.{ℕ, zero, suc, _+_, _*_, _-_}
+use Prim.Native.Nat.{ℕ, zero, suc, _+_, _*_, _-_, _/_, _%_, _^_}
 use lib.ListN.{length, getD, take, drop, replicate}
 use lib.Dec.{leb, eqb}
 use Rattle.phase.specs.declared.Phase.{Phase}
@@ -9,15 +9,16 @@ use Rattle.phase.specs.declared.Phase.the-variants.{Coming, Working, Holding, R
 use Rattle.phase.specs.declared.Task.{Task}
 use Rattle.phase.specs.Task.{unused}
 use Rattle.run.specs.declared.Run.{Run}
+use Rattle.table.specs.Words.{fenceOf}
 use Rattle.capi.specs.declared.told.Told.{Told}
 use Rattle.capi.specs.Told.{says}
 use Rattle.model.specs.Sizes.{mostTasks}
 
 -- THE SIZES
 
--- the words in front of the places: rule, cores and count
+-- the words in front of the places: rule, cores, count, and the fence in two
 abbrev pub headWords : ℕ
-headWords = 3
+headWords = 5
 
 -- the words of a place
 abbrev pub eachWords : ℕ
@@ -73,9 +74,16 @@ placesWords (t ∷ ts) = placeWords t ++ placesWords ts
 abbrev pub countWord : ℕ → ℕ
 countWord n = cond (leb n places) n 33
 
+-- the fence in two words, low word first
+abbrev pub lowWord : ℕ → ℕ
+lowWord fence = fence % 2 ^ 32
+
+abbrev pub highWord : ℕ → ℕ
+highWord fence = fence / 2 ^ 32
+
 -- the head of a run and its first n places
 unfoldable pub encodeTo : ℕ → Run → List ℕ
-encodeTo n r = r .rule ∷ (r .cores ∷ (countWord (r .count) ∷ placesWords (take n (r .tasks))))
+encodeTo n r = r .rule ∷ (r .cores ∷ (countWord (r .count) ∷ (lowWord (r .fence) ∷ (highWord (r .fence) ∷ placesWords (take n (r .tasks))))))
 
 -- a run in words: the head and all places
 abbrev pub encode : Run → List ℕ
@@ -132,9 +140,13 @@ holds ws = leb runWords (length ws) && (leb (countIn ws) places && arePlaces (co
 abbrev pub padded : ℕ → List Task → List Task
 padded n ts = ts ++ replicate (places - n) unused
 
+-- the fence that a buffer says
+abbrev pub fenceIn : List ℕ → ℕ
+fenceIn ws = fenceOf (getD ws 3 0) (getD ws 4 0)
+
 -- the run that stands in front of the buffer
 unfoldable pub runIn : List ℕ → Run
-runIn ws = record { rule = getD ws 0 0; cores = getD ws 1 0; count = countIn ws; tasks = padded (countIn ws) (placesIn (countIn ws) (drop headWords ws)) }
+runIn ws = record { rule = getD ws 0 0; cores = getD ws 1 0; fence = fenceIn ws; count = countIn ws; tasks = padded (countIn ws) (placesIn (countIn ws) (drop headWords ws)) }
 
 -- what a buffer holds
 pub data Held : Type 0 where
@@ -147,4 +159,4 @@ decode ws = cond (holds ws) (run (runIn ws)) none
 
 -- a run with its places past the count cleared: zeros and Resting(0), as start leaves them
 abbrev pub cleared : Run → Run
-cleared r = record { rule = r .rule; cores = r .cores; count = r .count; tasks = padded (r .count) (take (r .count) (r .tasks)) }
+cleared r = record { rule = r .rule; cores = r .cores; fence = r .fence; count = r .count; tasks = padded (r .count) (take (r .count) (r .tasks)) }

@@ -3,7 +3,7 @@ ghost use mathlib.Core.Path.{_≡_};
 ghost use mathlib.Core.List.{_++_};
 ghost use Prim.Native.Nat.{_+_, _≤_};
 ghost use lib.ListN.{length, drop};
-ghost use Rattle.capi.specs.Encoding.{eachWords, places, runWords, ofPhase, placeWith, countWord, overwritten, phaseOf, isPhase, placeIn, countIn, holds, runIn, decode};
+ghost use Rattle.capi.specs.Encoding.{headWords, eachWords, places, runWords, ofPhase, placeWith, countWord, lowWord, highWord, overwritten, phaseOf, isPhase, placeIn, countIn, holds, runIn, decode};
 ghost use Rattle.capi.specs.Runs.{rowFrom, advanceFrom};
 ghost use Rattle.model.specs.Sizes.{mostCores};
 use crate::told::Told;
@@ -13,9 +13,10 @@ use phase::Task;
 use run::Answer;
 use run::Row;
 use run::Run;
+use table::limits::HIGH;
 
-// The words in front of the places: rule, cores and count.
-const HEAD: usize = 3;
+// The words in front of the places: rule, cores, count, and the fence in two.
+const HEAD: usize = 5;
 // The words of a place.
 const EACH: usize = 8;
 // Where a place has the kind of its phase ..
@@ -79,14 +80,38 @@ fn count_word(count: usize) -> u32
     if count <= PLACES { count as u32 } else { 33 }
 }
 
+// The fence's first word ..
+fn low_word(fence: u64) -> u32
+    ensures { λ r. ⌜ r ≡ lowWord fence ⌝ }
+{
+    (fence % HIGH) as u32
+}
+
+// .. and its second.
+fn high_word(fence: u64) -> u32
+    ensures { λ r. ⌜ r ≡ highWord fence ⌝ }
+{
+    (fence / HIGH) as u32
+}
+
+// Writes the head of the run; what stands behind it stays.
+fn put_head(run: Run, words: &mut [u32])
+    requires { ⌜ headWords ≤ length (now words) ⌝ }
+    ensures { λ r. ⌜ now (words .exit) ≡ overwritten 0 run (now (words .entry)) ⌝ }
+{
+    words[0] = run.rule;
+    words[1] = run.cores;
+    words[2] = count_word(run.count);
+    words[3] = low_word(run.fence);
+    words[4] = high_word(run.fence);
+}
+
 // Writes the head and the first `shown` places of the run; what stands behind them stays.
 pub(crate) fn put_run(run: Run, shown: usize, words: &mut [u32])
     requires { ⌜ (shown ≤ places) × (runWords ≤ length (now words)) ⌝ }
     ensures { λ r. ⌜ now (words .exit) ≡ overwritten shown run (now (words .entry)) ⌝ }
 {
-    words[0] = run.rule;
-    words[1] = run.cores;
-    words[2] = count_word(run.count);
+    put_head(run, words);
     let mut i: usize = 0;
     while i < shown {
         let task = run.tasks[i];
@@ -173,9 +198,11 @@ pub(crate) fn run_in(words: &[u32]) -> Run
         tasks[i] = place;
         i += 1;
     }
+    let fence = table::limits::fence_of(words[3], words[4]);
     Run {
         rule: words[0],
         cores: words[1],
+        fence: fence,
         count: count,
         tasks: tasks,
     }

@@ -2,14 +2,14 @@
 -- So B with its report shows the right side of figure 2 of Goossens and Berten row by row, up to the miss; and B3 with the same report shows the rows that it shows without.
 use mathlib.Core.Path.{_≡_, refl, sym, ap, _∙_}
 use mathlib.Core.List.{List, [], _∷_, map, _++_}
-use Prim.Native.Nat.{ℕ, zero, suc, _≤_}
+use Prim.Native.Nat.{ℕ, zero, suc, _/_, _%_, _^_, _≤_}
 use native.Mathlib.Nat.{not-suc-le-zero, le-of-suc-le-suc}
 use lib.ListN.{length, getD, take, drop}
 use lib.Seq.{length-take-le}
 use Rattle.model.specs.Book.{Book, Answer, taken, refused, Asked, shown, answersFrom, bookFrom, emptyBook, book, enter, asked, rowsFrom, claims, full, served, step, work}
 use Rattle.model.specs.Grants.{claimants, given, grants, left}
 use Rattle.model.specs.Horizon.{S, horizon, hyperperiod, lcm}
-use Rattle.model.specs.Search.{any, least, memb, upFrom}
+use Rattle.model.specs.Search.{any, kept, least, memb, upFrom}
 use Rattle.model.specs.Task.{Table, Task, Rule, greedy, limited, idling}
 use Rattle.model.specs.Verdict.{Verdict, Firm, Full, Miss, firm, firstMiss, missedAt, missedIn, rising, verdict}
 use Rattle.model.proofs.Examples.{Line, worked, lines, examples}
@@ -41,7 +41,7 @@ records n (τ ∷ τ′ ∷ τs) = entry (suc n) τ ++ records (suc n) (τ′ �
 
 -- the words of a line's table
 abbrev pub wordsOf : Line → List ℕ
-wordsOf l = 1 ∷ l .table .cores ∷ numberOf (l .table .rule) ∷ records 1 (l .table .tasks)
+wordsOf l = 1 ∷ l .table .cores ∷ numberOf (l .table .rule) ∷ l .table .fence % 2 ^ 32 ∷ l .table .fence / 2 ^ 32 ∷ records 1 (l .table .tasks)
 
 -- WHAT IS SHOWN OF A LINE
 
@@ -145,7 +145,7 @@ expected : Line → Begins
 expected l = record { table = l .table; start = startSays (l .says) }
 
 starts : map begins lines ≡ map expected lines
-unfolding expected records startOf startAnswer verdictOf answerOf byWalk byTasks byHorizon firstOut endingOf lastStep headerNumber tableOf chain count met verdict firstMiss missedIn missedAt firm rising horizon S hyperperiod lcm least any memb upFrom given left grants claimants claims served work step full
+unfolding expected records startOf startAnswer verdictOf answerOf byWalk byTasks byHorizon firstOut endingOf lastStep headerNumber tableOf chain count met verdict firstMiss missedIn missedAt firm rising horizon S hyperperiod lcm least any memb upFrom kept given left grants claimants claims served work step full
 starts = refl
 
 -- THEOREM: every marked line of the table of examples, through the contract of `replay`

@@ -1,12 +1,12 @@
 -- Runs built by hand, computed from the definitions: B and B3 with their report, by phases; a first release to come; a hold that ends at D;
--- and each limit of 14 from both sides: the count, the cores, the rule, the width, the times, the phases.
-use mathlib.Core.List.{List, [], _∷_, map}
+-- runs with a fence; and each limit of 14 from both sides: the count, the cores, the rule, the fence, the width, the times, the phases.
+use mathlib.Core.List.{List, [], _∷_, _++_, map}
 use mathlib.Core.Path.{_≡_, refl}
-use Prim.Native.Nat.{ℕ}
+use Prim.Native.Nat.{ℕ, _-_, _^_}
 use lib.ListN.{replicate}
 use Rattle.model.specs.Grants.{claimants, given, grants, left}
 use Rattle.model.specs.Row.{owner, row}
-use Rattle.model.specs.Search.{any, least, memb, upFrom}
+use Rattle.model.specs.Search.{any, kept, least, memb, upFrom}
 use Rattle.phase.specs.declared.Phase.{Phase}
 use Rattle.phase.specs.declared.Phase.the-variants.{Coming, Working, Holding, Resting}
 use Rattle.phase.specs.declared.Task.{Task}
@@ -16,6 +16,7 @@ use Rattle.run.specs.declared.Answer.the-variants.{Taken, Refused}
 use Rattle.run.specs.declared.Row.{Row}
 use Rattle.phase.specs.Task.{unused}
 use Rattle.run.specs.Run.{grantsIn, mapFirst, moved}
+use Rattle.run.specs.Answer.{in64}
 use Rattle.run.specs.Numbers.{runOut, firstLateIn, misreportedIn}
 use Rattle.run.specs.Advance.{advanceAnswer, advanceOf}
 use Rattle.run.specs.Row.{rowAnswer, bytesIn, noBytes, rowOf}
@@ -48,19 +49,26 @@ worked l = record {
 abbrev t : ℕ → ℕ → ℕ → ℕ → ℕ → Phase → Task
 t o v c d p ph = record { offset = o; width = v; length = c; deadline = d; period = p; phase = ph }
 
+-- a run of one task on m cores with a fence
+abbrev walled : ℕ → ℕ → ℕ → Task → Run
+walled r m f a = record { rule = r; cores = m; fence = f; count = 1; tasks = a ∷ replicate 31 unused }
+
 -- runs of one, two and three tasks
 abbrev one : ℕ → ℕ → Task → Run
-one r m a = record { rule = r; cores = m; count = 1; tasks = a ∷ replicate 31 unused }
+one r m a = walled r m 0 a
 
 abbrev two : ℕ → ℕ → Task → Task → Run
-two r m a b = record { rule = r; cores = m; count = 2; tasks = a ∷ b ∷ replicate 30 unused }
+two r m a b = record { rule = r; cores = m; fence = 0; count = 2; tasks = a ∷ b ∷ replicate 30 unused }
 
-abbrev three : ℕ → ℕ → Task → Task → Task → Run
-three r m a b c = record { rule = r; cores = m; count = 3; tasks = a ∷ b ∷ c ∷ replicate 29 unused }
+abbrev three : ℕ → ℕ → ℕ → Task → Task → Task → Run
+three r m f a b c = record { rule = r; cores = m; fence = f; count = 3; tasks = a ∷ b ∷ c ∷ replicate 29 unused }
 
--- B as it starts and later, under each rule
+-- B as it starts and later, under each rule, on m cores with a fence
+abbrev fencedB : ℕ → ℕ → ℕ → Phase → Phase → Phase → Run
+fencedB r m f a b c = three r m f (t 0 1 3 3 4 a) (t 0 2 1 4 4 b) (t 0 1 2 2 4 c)
+
 abbrev runB : ℕ → Phase → Phase → Phase → Run
-runB r a b c = three r 2 (t 0 1 3 3 4 a) (t 0 2 1 4 4 b) (t 0 1 2 2 4 c)
+runB r a b c = fencedB r 2 0 a b c
 
 -- E
 abbrev runE : Phase → Phase → Run
@@ -86,11 +94,19 @@ limit r ph w = asked (one r 1 (t 2 1 3 4 6 ph)) w
 
 -- a count of so many tasks, which rest, on one core; there is a task at each place below it
 abbrev resters : ℕ → Row → Line
-resters n w = asked (record { rule = 1; cores = 1; count = n; tasks = replicate 33 (t 2 1 3 4 6 (Resting 1)) }) w
+resters n w = asked (record { rule = 1; cores = 1; fence = 0; count = n; tasks = replicate 33 (t 2 1 3 4 6 (Resting 1)) }) w
 
 -- one task (O, v, C, D, T) in a phase, on so many cores
 abbrev sized : ℕ → Task → Row → Line
 sized m a w = asked (one 1 m a) w
+
+-- a row of these bytes, zeros behind them
+abbrev row64 : List ℕ → Row
+row64 bytes = record { answer = Taken; bytes = in64 bytes }
+
+-- one task of width v, in a tick in which it claims, on m cores with fence f; what its row is answered
+abbrev wall : ℕ → ℕ → ℕ → Row → Line
+wall m f v w = asked (walled 1 m f (t 0 v 3 4 6 (Working 0 0))) w
 
 abbrev pub lines : List Line
 lines =
@@ -134,6 +150,22 @@ lines =
       shows = on1 1 ∷ on1 1 ∷ [];
       ends = two 3 1 (t 0 1 3 3 4 (Working 1 1)) (t 0 1 3 3 5 (Resting 3));
     }
+    -- B on four cores of which 0 and 2 are fenced: as on two cores; what is refused shows no fence
+    ∷ record {
+      from = fencedB 1 4 5 (Working 0 0) (Working 0 0) (Working 0 0);
+      reports = 1 ∷ 4 ∷ 0 ∷ [];
+      gets = Taken ∷ Refused 16 0 ∷ Taken ∷ [];
+      shows = row64 (255 ∷ 1 ∷ 255 ∷ 3 ∷ []) ∷ row64 (255 ∷ 2 ∷ 255 ∷ 2 ∷ []) ∷ row64 (255 ∷ 2 ∷ 255 ∷ 2 ∷ []) ∷ no 15 3 ∷ [];
+      ends = fencedB 1 4 5 (Resting 2) (Resting 2) (Working 2 1);
+    }
+    -- B3 on three cores of which 1 is fenced: held cores with the holder's position
+    ∷ record {
+      from = fencedB 3 3 2 (Working 0 0) (Working 0 0) (Working 0 0);
+      reports = 1 ∷ 0 ∷ [];
+      gets = Taken ∷ Taken ∷ [];
+      shows = row64 (1 ∷ 255 ∷ 3 ∷ []) ∷ row64 (1 ∷ 255 ∷ 3 ∷ []) ∷ row64 (1 ∷ 255 ∷ 0 ∷ []) ∷ [];
+      ends = fencedB 3 3 2 (Holding 2 2) (Working 2 0) (Resting 2);
+    }
     -- the limits of 14: the count 1 to 32
     ∷ resters 0 (no 14 0) ∷ resters 1 (on1 0) ∷ resters 32 (on1 0) ∷ resters 33 (no 14 0)
     -- the rule 1, 2 or 3
@@ -144,6 +176,17 @@ lines =
     ∷ sized 0 (t 2 1 3 4 6 (Resting 1)) (no 14 0) ∷ sized 65 (t 2 1 3 4 6 (Resting 1)) (no 14 0)
     -- a width 0, and one above the cores
     ∷ sized 1 (t 2 0 3 4 6 (Resting 1)) (no 14 0) ∷ sized 1 (t 2 2 3 4 6 (Resting 1)) (no 14 0)
+    -- a fence of a core past the count, and of the last: 5 of 5 cores, 33 of 33, 63 of 63, 63 of 64
+    ∷ wall 5 (2 ^ 5) 1 (no 14 0) ∷ wall 5 (2 ^ 4) 4 (row64 (replicate 4 1 ++ 255 ∷ []))
+    ∷ wall 33 (2 ^ 33) 1 (no 14 0) ∷ wall 33 (2 ^ 32) 32 (row64 (replicate 32 1 ++ 255 ∷ []))
+    ∷ wall 63 (2 ^ 63) 1 (no 14 0) ∷ wall 63 (2 ^ 62) 62 (row64 (replicate 62 1 ++ 255 ∷ []))
+    ∷ wall 64 (2 ^ 63) 63 (row64 (replicate 63 1 ++ 255 ∷ [])) ∷ wall 65 1 1 (no 14 0)
+    -- all cores fenced, and all but one
+    ∷ wall 1 1 1 (no 14 0) ∷ wall 5 31 1 (no 14 0) ∷ wall 5 15 1 (row64 (replicate 4 255 ++ 1 ∷ []))
+    ∷ wall 64 (2 ^ 64 - 1) 1 (no 14 0) ∷ wall 64 (2 ^ 63 - 1) 1 (row64 (replicate 63 255 ++ 1 ∷ []))
+    -- a width of the unfenced cores, and one above them
+    ∷ wall 5 9 3 (row64 (255 ∷ 1 ∷ 1 ∷ 255 ∷ 1 ∷ [])) ∷ wall 5 9 4 (no 14 0)
+    ∷ wall 64 (2 ^ 64 - 2 ^ 32) 32 (row64 (replicate 32 1 ++ replicate 32 255)) ∷ wall 64 (2 ^ 64 - 2 ^ 32) 33 (no 14 0)
     -- O above 1,000,000; C and T 0, and above 1,000,000
     ∷ sized 1 (t 1000001 1 3 4 6 (Resting 1)) (no 14 0)
     ∷ sized 1 (t 2 1 0 4 6 (Resting 1)) (no 14 0) ∷ sized 1 (t 2 1 1000001 4 6 (Resting 1)) (no 14 0)
@@ -166,5 +209,5 @@ lines =
 
 -- every line is what the definitions say
 pub built-runs : map worked lines ≡ lines
-unfolding any least memb upFrom owner row given left grants claimants answers after rows advanceOf advanceAnswer rowOf rowAnswer bytesIn runOut firstLateIn misreportedIn grantsIn mapFirst moved
+unfolding any least memb upFrom kept owner row given left grants claimants answers after rows advanceOf advanceAnswer rowOf rowAnswer bytesIn runOut firstLateIn misreportedIn grantsIn mapFirst moved
 built-runs = refl

@@ -6,6 +6,7 @@ pub mod Stands
 pub mod Words
 pub mod Follows
 pub mod Demand
+pub mod Fenced
 pub mod Listed
 pub mod Codes
 pub mod Outcomes

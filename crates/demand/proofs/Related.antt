@@ -10,7 +10,8 @@ use lib.Seq.{getD-take, take-at}
 use lib.Dec.{ltb}
 use borrow.Author.Tests.{ltb-false, lt-ltb}
 use Rattle.model.proofs.Lists.{map-map}
-use Rattle.model.specs.Search.{least, bit, upFrom}
+use Rattle.model.specs.Fence.{openCores, unfenced}
+use Rattle.model.specs.Search.{least, bit}
 use Rattle.model.specs.Task.{AllSound, Table, task, nobody, Rule, ruleOf, newest}
 use Rattle.model.specs.Task as model
 use Rattle.model.specs.Grants.{Claimant, claimants, grants, left, some}
@@ -39,6 +40,7 @@ use Rattle.demand.proofs.Alike.{late-is, late-has, newest-does}
 pub record Related (s : Table) (b : Book) (r : Run) : Type 0 where
   pub same-rule : ruleIn r ≡ s .rule
   pub same-cores : r .cores ≡ s .cores
+  pub same-fence : r .fence ≡ s .fence
   pub same-count : r .count ≡ length (s .tasks)
   pub same-tasks : map taskOf (take (r .count) (r .tasks)) ≡ s .tasks
   pub tied : (p : ℕ) → p < length (s .tasks) → Tied (s .rule) (task s p) (b .tick) (b .job p) (phaseAt r p)
@@ -66,7 +68,7 @@ pub cores-claims : (r : Run) (p : ℕ) → hasCores r p ≡ true → (p < r .cou
 unfolding grantsIn
 cores-claims r p e =
     let x = claimants-at (widthsIn r) (λ q. claiming (phaseAt r q)) p
-    (grants-claims (ruleIn r) (claimants (widthsIn r) (λ q. claiming (phaseAt r q))) (upFrom 0 (r .cores)) p e) in
+    (grants-claims (ruleIn r) (claimants (widthsIn r) (λ q. claiming (phaseAt r q))) (unfenced (r .fence) (r .cores)) p e) in
     let n : length (widthsIn r) ≡ length (take (r .count) (r .tasks)) = length-map (take (r .count) (r .tasks)) (λ t. t .width) in
     (omega (arith, length-take (r .count) (r .tasks)), x .1)
 
@@ -82,6 +84,7 @@ unfolding startedRun
 related-start n s e ok = record {
   same-rule = e;
   same-cores = refl;
+  same-fence = refl;
   same-count = refl;
   same-tasks =
       ap (λ (l : List Task). map taskOf l)
@@ -155,13 +158,13 @@ module _ (s : Table) (ok : AllSound s) (b : Book) (r : Run) (h : Related s b r) 
     pub same-grants : grantsIn r ≡ grantsOf s b
     unfolding grantsIn
     same-grants =
-        rw (h .same-rule, h .same-cores, same-widths)
-        (ap (λ (bs : List Claimant). grants (s .rule) bs (upFrom 0 (s .cores)))
+        rw (h .same-rule, h .same-cores, h .same-fence, same-widths)
+        (ap (λ (bs : List Claimant). grants (s .rule) bs (openCores s))
         (sym (claimants-same (widths s) (taskClaims s b) (λ p. claiming (phaseAt r p))
         (λ p l. same-claims p (subst (λ (n : ℕ). p < n) (length-map (s .tasks) (λ τ. τ .width)) l)))))
 
-    pub same-row : row (r .cores) (grantsIn r) ≡ rowOf s b
-    same-row = rw (same-grants, h .same-cores)
+    pub same-row : row (r .fence) (r .cores) (grantsIn r) ≡ rowOf s b
+    same-row = rw (same-grants, h .same-cores, h .same-fence)
 
     same-cores-at : (p : ℕ) → hasCores r p ≡ inRow s b p
     same-cores-at p = ap (λ (x : List (List ℕ)). some (getD x p [])) same-grants
@@ -215,6 +218,7 @@ module _ (s : Table) (ok : AllSound s) (b : Book) (r : Run) (h : Related s b r) 
     related-on f = record {
       same-rule = unfold moved in h .same-rule;
       same-cores = unfold moved in h .same-cores;
+      same-fence = unfold moved in h .same-fence;
       same-count = unfold moved in h .same-count;
       same-tasks = unfold moved in take-kept (λ p t. nextTask (ruleIn r) (hasCores r p) (f p) t) (r .count) (r .tasks) (λ p t. refl) ∙ h .same-tasks;
       tied = λ p l. unfold step served in

@@ -7,10 +7,11 @@ use lib.ListN.{length, getD, take, length-map, List·getD-map, List·getD-eq-def
 use lib.Seq.{getD-take, take-at, length-take-le, ext-getD}
 use lib.Dec.{leb}
 use borrow.Author.Tests.{leb-true, leb-false, ltb-true}
+use Rattle.model.specs.Fence.{openCores}
 use Rattle.model.specs.Search.{bit, upFrom}
 use Rattle.model.specs.Task.{Table, task, nobody, AllSound, newest}
 use Rattle.model.specs.Grants.{Claimant, claimants, grants, some}
-use Rattle.model.specs.Row.{owner, row}
+use Rattle.model.specs.Row.{byteOf, owner, row}
 use Rattle.model.specs.Book.{claims, taskClaims, widths, grantsOf, rowOf, inRow, full}
 use Rattle.model.proofs.Bools.{not-false-true}
 use Rattle.full.specs.Machine.{Machine, Owed}
@@ -64,13 +65,13 @@ module _ (s : Table) (ok : AllSound s) (t : ℕ) (m : Machine) (h : Ready s t m)
   module _ (ws : List ℕ) (same : take (length (s .tasks)) ws ≡ widths s) where
     -- the grants by the machine's claimants, whose widths begin with the table's
     abbrev chosen : List (List ℕ)
-    chosen = grants (s .rule) (claimants ws (bit (m .claiming))) (upFrom 0 (s .cores))
+    chosen = grants (s .rule) (claimants ws (bit (m .claiming))) (openCores s)
 
     -- they begin with the book's ..
     pub grants-first : take (length (s .tasks)) chosen ≡ grantsOf s (full s t)
     grants-first =
-        grants-take (s .rule) (length (s .tasks)) (claimants ws (bit (m .claiming))) (upFrom 0 (s .cores))
-        ∙ ap (λ (bs : List Claimant). grants (s .rule) bs (upFrom 0 (s .cores)))
+        grants-take (s .rule) (length (s .tasks)) (claimants ws (bit (m .claiming))) (openCores s)
+        ∙ ap (λ (bs : List Claimant). grants (s .rule) bs (openCores s))
         (claimants-prefix (length (s .tasks)) ws (bit (m .claiming))
         ∙ (ap (λ (vs : List ℕ). claimants vs (bit (m .claiming))) same
         ∙ claimants-same (widths s) (bit (m .claiming)) (taskClaims s (full s t))
@@ -78,14 +79,14 @@ module _ (s : Table) (ok : AllSound s) (t : ℕ) (m : Machine) (h : Ready s t m)
 
     -- .. and past them nobody is given cores
     pub grants-past : (p : ℕ) → length (s .tasks) ≤ p → getD chosen p [] ≡ []
-    grants-past p l = grants-none (s .rule) ws (bit (m .claiming)) (upFrom 0 (s .cores)) p (h .beyond p l)
+    grants-past p l = grants-none (s .rule) ws (bit (m .claiming)) (openCores s) p (h .beyond p l)
 
     -- each place has the cores that the book gives it
     pub grants-alike : (p : ℕ) → getD chosen p [] ≡ getD (grantsOf s (full s t)) p []
     grants-alike p = go (leb (length (s .tasks)) p) refl
       where
         size : length (grantsOf s (full s t)) ≡ length (s .tasks)
-        size = grants-length (s .rule) (widths s) (taskClaims s (full s t)) (upFrom 0 (s .cores)) ∙ length-map (s .tasks) (λ τ. τ .width)
+        size = grants-length (s .rule) (widths s) (taskClaims s (full s t)) (openCores s) ∙ length-map (s .tasks) (λ τ. τ .width)
 
         go : (x : Bool) → leb (length (s .tasks)) p ≡ x → getD chosen p [] ≡ getD (grantsOf s (full s t)) p []
         go true q =
@@ -100,13 +101,13 @@ module _ (s : Table) (ok : AllSound s) (t : ℕ) (m : Machine) (h : Ready s t m)
     row-places p = ap some (grants-alike p)
 
     -- and the row is the book's, core by core
-    pub row-alike : row (s .cores) chosen ≡ rowOf s (full s t)
+    pub row-alike : row (s .fence) (s .cores) chosen ≡ rowOf s (full s t)
     unfolding row
     row-alike =
         map-same (upFrom 0 (s .cores))
-        ∙ ap (λ (gs : List (List ℕ)). map (λ c. owner c 1 gs) (upFrom 0 (s .cores))) grants-first
+        ∙ ap (λ (gs : List (List ℕ)). map (byteOf (s .fence) gs) (upFrom 0 (s .cores))) grants-first
       where
-        map-same : (cs : List ℕ) → map (λ c. owner c 1 chosen) cs ≡ map (λ c. owner c 1 (take (length (s .tasks)) chosen)) cs
+        map-same : (cs : List ℕ) → map (byteOf (s .fence) chosen) cs ≡ map (byteOf (s .fence) (take (length (s .tasks)) chosen)) cs
         map-same [] = refl
         map-same (c ∷ cs) = rw (owner-take c 1 (length (s .tasks)) chosen grants-past, map-same cs)
 
@@ -114,7 +115,7 @@ module _ (s : Table) (ok : AllSound s) (t : ℕ) (m : Machine) (h : Ready s t m)
     pub granted-claims : (p : ℕ) → inRow s (full s t) p ≡ true → bit (m .claiming) p ≡ true
     granted-claims p e =
         not-false-true (bit (m .claiming) p)
-        (λ q. absurd (false≢true (sym (ap some (grants-none (s .rule) ws (bit (m .claiming)) (upFrom 0 (s .cores)) p q)) ∙ (row-places p ∙ e))))
+        (λ q. absurd (false≢true (sym (ap some (grants-none (s .rule) ws (bit (m .claiming)) (openCores s) p q)) ∙ (row-places p ∙ e))))
 
     -- so a set of places that are in the row are owed ticks
     pub row-owed : (granted : ℕ → Bool) → ((p : ℕ) → granted p ≡ inRow s (full s t) p) → Owed granted m

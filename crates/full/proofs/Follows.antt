@@ -4,7 +4,8 @@ use mathlib.Core.List.{List, []}
 use Prim.Native.Nat.{ℕ, zero, suc, _≤_, _<_}
 use native.Mathlib.Omega.{arith}
 use lib.ListN.{length, getD}
-use Rattle.model.specs.Search.{bit, upFrom}
+use Rattle.model.specs.Fence.{openCores}
+use Rattle.model.specs.Search.{bit}
 use Rattle.model.specs.Task.{Table, AllSound}
 use Rattle.model.specs.Grants.{claimants, grants, some}
 use Rattle.model.specs.Book.{Missed}
@@ -15,7 +16,7 @@ use Rattle.full.proofs.Alike.{row-places}
 
 -- the places that the rule gives cores, from the machine's claimants
 abbrev pub granted : Table → List ℕ → Machine → ℕ → Bool
-granted s v m p = some (getD (grants (s .rule) (claimants v (bit (m .claiming))) (upFrom 0 (s .cores))) p [])
+granted s v m p = some (getD (grants (s .rule) (claimants v (bit (m .claiming))) (openCores s)) p [])
 
 -- tick t, from the machine before it: its due moments, then the tick of those who are granted cores
 abbrev pub stepped : Table → List ℕ → List ℕ → List ℕ → List ℕ → ℕ → Machine → Machine

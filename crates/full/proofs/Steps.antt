@@ -4,7 +4,8 @@ use mathlib.Core.Bool.{Bool, true, false, cond}
 use Prim.Native.Nat.{ℕ, _+_, _^_, _≤_, _<_}
 use lib.Dec.{leb, eqb}
 use borrow.Author.Tests.{le-leb, lt-leb, eq-eqb, ne-eqb}
-use Rattle.model.specs.Search.{bit, upFrom}
+use Rattle.model.specs.Fence.{unfenced}
+use Rattle.model.specs.Search.{bit}
 use Rattle.model.specs.Task.{ruleOf}
 use Rattle.model.specs.Grants.{claimants}
 use Rattle.rule.specs.Shares.{granted}
@@ -48,9 +49,9 @@ module _ (n : Numbers) (s : Stand) where
   -- or made anew
   pub chosen-anew :
       (c g : ℕ) → c ≡ after n s .claiming → (c ≡ s .chosen → ⊥) → g < 2 ^ 32
-      → ((q : ℕ) → bit g q ≡ granted (ruleOf (n .rule)) (claimants (n .widths) (bit c)) (upFrom 0 (n .cores)) q) → g ≡ grantedIn n s
+      → ((q : ℕ) → bit g q ≡ granted (ruleOf (n .rule)) (claimants (n .widths) (bit c)) (unfenced (n .fence) (n .cores)) q) → g ≡ grantedIn n s
   chosen-anew c g x ne small e =
-      set-is 32 g (granted (ruleOf (n .rule)) (claimants (n .widths) (bit c)) (upFrom 0 (n .cores))) small (λ i l. e i) ∙ ap (choice n) x
+      set-is 32 g (granted (ruleOf (n .rule)) (claimants (n .widths) (bit c)) (unfenced (n .fence) (n .cores))) small (λ i l. e i) ∙ ap (choice n) x
       ∙ granted-by false (ne-eqb (after n s .claiming) (s .chosen) (λ h. ne (x ∙ h)))
 
   -- the tick is entered

@@ -6,7 +6,8 @@ use mathlib.Core.List.{List, map}
 use Prim.Native.Nat.{ℕ, _+_, _^_, _≤_, _<_}
 use lib.Dec.{eqb, leb}
 use lib.ListN.{getD}
-use Rattle.model.specs.Search.{bit, upFrom}
+use Rattle.model.specs.Search.{bit}
+use Rattle.model.specs.Fence.{unfenced}
 use Rattle.model.specs.Task.{ruleOf}
 use Rattle.model.specs.Grants.{claimants}
 use Rattle.model.specs.Sizes.{mostCores, mostTasks}
@@ -21,6 +22,7 @@ use Rattle.full.specs.declared.columns.Setting.{Setting}
 pub record Numbers : Type 0 where
   pub rule : ℕ
   pub cores : ℕ
+  pub fence : ℕ
   pub count : ℕ
   pub widths : List ℕ
   pub lengths : List ℕ
@@ -32,6 +34,7 @@ abbrev pub numbersBy : Setting → List ℕ → List ℕ → Numbers
 numbersBy x v times = record {
   rule = x .rule;
   cores = x .cores;
+  fence = x .fence;
   count = x .count;
   widths = v;
   lengths = part 0 times;
@@ -44,6 +47,7 @@ abbrev pub numbersIn : Loaded → Numbers
 numbersIn t = record {
   rule = t .rule;
   cores = t .cores;
+  fence = t .fence;
   count = t .count;
   widths = map (λ x. x .width) (t .tasks);
   lengths = map (λ x. x .length) (t .tasks);
@@ -82,7 +86,7 @@ unchanged n s = eqb (after n s .claiming) (s .chosen)
 
 -- the set of the places that the rule gives cores where those of the set c claim
 abbrev pub choice : Numbers → ℕ → ℕ
-choice n c = setOf mostTasks (granted (ruleOf (n .rule)) (claimants (n .widths) (bit c)) (upFrom 0 (n .cores)))
+choice n c = setOf mostTasks (granted (ruleOf (n .rule)) (claimants (n .widths) (bit c)) (unfenced (n .fence) (n .cores)))
 
 -- who is granted cores: kept, or chosen anew
 unfoldable pub grantedIn : Numbers → Stand → ℕ

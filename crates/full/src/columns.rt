@@ -4,10 +4,11 @@ use crate::TRIPLE;
 use model::MOST_TASKS;
 use table::Loaded;
 
-// What stays as it is in a run, beside the tasks: the rule, how many cores there are, and how many tasks.
+// What stays as it is in a run, beside the tasks: the rule, how many cores there are, the fence, and how many tasks.
 pub struct Setting {
     pub rule: u32,
     pub cores: u32,
+    pub fence: u64,
     pub count: usize,
 }
 
@@ -37,6 +38,7 @@ pub fn columns_of(table: Loaded) -> Columns
     let setting = Setting {
         rule: table.rule,
         cores: table.cores,
+        fence: table.fence,
         count: table.count,
     };
     Columns {

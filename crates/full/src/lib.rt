@@ -130,7 +130,7 @@ pub fn step(
     let mut chosen = pace.chosen;
     let mut granted = pace.granted;
     if claiming != chosen {
-        let free = rule::first_cores(setting.cores);
+        let free = cores::open_cores(setting.cores, setting.fence);
         granted = rule::choose(setting.rule, free, claiming, width);
         chosen = claiming;
     }

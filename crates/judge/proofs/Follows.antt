@@ -7,7 +7,8 @@ use native.Mathlib.Omega.{arith}
 use lib.Dec.{leb}
 use lib.ListN.{length, getD, length-map, List·getD-eq-default}
 use borrow.Author.Tests.{leb-true, leb-false, eqb-true}
-use Rattle.model.specs.Search.{bit, upFrom}
+use Rattle.model.specs.Fence.{openCores}
+use Rattle.model.specs.Search.{bit}
 use Rattle.model.specs.Task.{Table, task, ruleOf}
 use Rattle.model.specs.Grants.{claimants, grants, some}
 use Rattle.model.specs.Book.{Missed}
@@ -82,14 +83,14 @@ module _ (t : Loaded) (fit : Fit t) where
   choice-chosen c p = go (leb mostTasks p) refl
     where
       f : ℕ → Bool
-      f = granted (ruleOf (t .rule)) (claimants (n .widths) (bit c)) (upFrom 0 (t .cores))
+      f = granted (ruleOf (t .rule)) (claimants (n .widths) (bit c)) (openCores book)
 
       gs : List (List ℕ)
-      gs = grants (ruleOf (t .rule)) (claimants (n .widths) (bit c)) (upFrom 0 (t .cores))
+      gs = grants (ruleOf (t .rule)) (claimants (n .widths) (bit c)) (openCores book)
 
       wide : length gs ≡ mostTasks
       wide =
-          grants-length (ruleOf (t .rule)) (n .widths) (bit c) (upFrom 0 (t .cores)) ∙ length-map (t .tasks) (λ (x : Task). x .width) ∙ fit .places
+          grants-length (ruleOf (t .rule)) (n .widths) (bit c) (openCores book) ∙ length-map (t .tasks) (λ (x : Task). x .width) ∙ fit .places
 
       go : (x : Bool) → leb mostTasks p ≡ x → bit (choice n c) p ≡ f p
       go true q =

@@ -5,3 +5,4 @@ pub mod Late
 pub mod FirstMiss
 pub mod Promise
 pub mod OffChain
+pub mod Fence

@@ -1,4 +1,4 @@
--- What is promised of the verdict of the words follows from the numbers 1 to 9 and from the model's theorem on its verdict.
+-- What is promised of the verdict of the words follows from the numbers of the table and from the model's theorem on its verdict.
 use native.Mathlib.Omega.{arith}
 use mathlib.Core.Path.{_≡_, refl, sym, ap, _∙_, subst}
 use mathlib.Core.List.{List, _++_}
@@ -182,7 +182,7 @@ module _ (ws : List ℕ) (r : Loaded) (l : LoadOf ws r) (e : r .answer ≡ Passe
   -- it is the table of the words
   pub same-table : tableIn r ≡ tableOf ws
   unfolding tableOf
-  same-table = λ i. record { tasks = tasks′ i; cores = h .cores i; rule = ruleOf (h .rule i) }
+  same-table = λ i. record { tasks = tasks′ i; cores = h .cores i; fence = h .fence i; rule = ruleOf (h .rule i) }
     where
       tasks′ : tasksOf (r .tasks) (r .count) ≡ tableOf ws .tasks
       tasks′ = h .tasks

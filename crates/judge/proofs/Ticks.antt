@@ -8,7 +8,8 @@ use native.Mathlib.Numerals.{add-one}
 use Prim.Native.Nat.{ℕ, zero, suc, _+_, _≤_, _<_}
 use lib.ListN.{length, getD, take, length-map, List·getD-map}
 use Rattle.model.proofs.Digits.{bit-none}
-use Rattle.model.specs.Search.{bit, upFrom}
+use Rattle.model.specs.Fence.{openCores}
+use Rattle.model.specs.Search.{bit}
 use Rattle.model.specs.Task.{Table, task, ruleOf}
 use Rattle.model.specs.Task as model
 use Rattle.model.specs.Grants.{claimants, some}
@@ -46,11 +47,11 @@ pub record After (t : Loaded) (m : Machine) (bell tick : ℕ) : Type 0 where
 
 -- g is the set of places that are granted cores where those of the set c claim
 abbrev pub Chosen : Loaded → ℕ → ℕ → Type 0
-Chosen t c g = (p : ℕ) → bit g p ≡ granted (ruleOf (t .rule)) (claimants (map (λ x. x .width) (t .tasks)) (bit c)) (upFrom 0 (t .cores)) p
+Chosen t c g = (p : ℕ) → bit g p ≡ granted (ruleOf (t .rule)) (claimants (map (λ x. x .width) (t .tasks)) (bit c)) (openCores (tableIn t)) p
 
 -- where nobody claims, nobody is granted cores
 pub chosen-none : (t : Loaded) → Chosen t 0 0
-chosen-none t p = bit-none p ∙ sym (grants-nobody (ruleOf (t .rule)) (map (λ x. x .width) (t .tasks)) (upFrom 0 (t .cores)) p)
+chosen-none t p = bit-none p ∙ sym (grants-nobody (ruleOf (t .rule)) (map (λ x. x .width) (t .tasks)) (openCores (tableIn t)) p)
 
 module _ (t : Loaded) (fit : Fit t) where
   abbrev s : Table

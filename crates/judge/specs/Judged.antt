@@ -56,7 +56,7 @@ pub record Judged (ws : List ℕ) (v : Verdict) : Type 0 where
 
 -- the table that was loaded
 abbrev pub tableIn : Loaded → Table
-tableIn t = record { tasks = tasksOf (t .tasks) (t .count); cores = t .cores; rule = ruleOf (t .rule) }
+tableIn t = record { tasks = tasksOf (t .tasks) (t .count); cores = t .cores; fence = t .fence; rule = ruleOf (t .rule) }
 
 -- what the run needs of it
 pub record Fit (t : Loaded) : Type 0 where

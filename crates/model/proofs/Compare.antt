@@ -17,7 +17,7 @@ use Rattle.model.specs.Book.{Book, Job, answer, book, bookFrom, claims, 
 use Rattle.model.specs.Compare.{Behind, FullLongest, KeepsAbreast, Longer, NoneLonger, behind, longer}
 use Rattle.model.specs.Grants.{claimants, given, grants, left}
 use Rattle.model.specs.Horizon.{S, horizon, hyperperiod, lcm}
-use Rattle.model.specs.Search.{any, least, memb, upFrom}
+use Rattle.model.specs.Search.{any, kept, least, memb, upFrom}
 use Rattle.model.specs.Task.{AllSound, Table, greedy}
 use Rattle.model.specs.Verdict.{Full, firm, firstMiss, missedAt, missedIn, rising, verdict}
 
@@ -155,10 +155,10 @@ sound-B (suc (suc (suc p))) l = absurd (omega arith)
 
 -- at tick 2 the job of position 3 has ended at full length, and has had one tick where position 1 was reported in tick 0
 pub B-behind : Behind (book (B greedy) (1 ∷ 0 ∷ []) .job 2 0) (book (B greedy) (0 ∷ 0 ∷ []) .job 2 0)
-unfolding bookFrom enter answer late misreported reportable any least step served work claims claimants grants given left memb upFrom
+unfolding bookFrom enter answer late misreported reportable any least step served work claims claimants grants given left memb upFrom kept
 B-behind = (refl, inl refl)
 
 -- both lists are at tick 2 and no job is longer in the first, which is behind: B is Full, and is not kept abreast
 pub full-not-abreast : (verdict (B greedy) ≡ Full 0 4) × (¬ KeepsAbreast (B greedy) (1 ∷ 0 ∷ []) (0 ∷ 0 ∷ []))
-unfolding verdict firstMiss missedIn missedAt firm rising horizon S hyperperiod lcm full bookFrom enter answer late misreported reportable any least step served work claims claimants grants given left memb upFrom
+unfolding verdict firstMiss missedIn missedAt firm rising horizon S hyperperiod lcm full bookFrom enter answer late misreported reportable any least step served work claims claimants grants given left memb upFrom kept
 full-not-abreast = (refl, λ h. h refl (full-longest (B greedy) sound-B (1 ∷ 0 ∷ []) 2) 2 0 (omega arith) B-behind)

@@ -58,7 +58,7 @@ bit-past k n i h l =
     let small : n < 2 ^ i = le-trans h (pow-mono l) in
     rw (div-eq-of-lt small)
 
-below-pow : (i : ℕ) → i < 2 ^ i
+pub below-pow : (i : ℕ) → i < 2 ^ i
 below-pow zero = omega arith
 below-pow (suc i) = omega (arith, below-pow i)
 

@@ -1,14 +1,15 @@
--- The lines of the scope's table of examples that are marked *, and lines of our own for what those leave open (16, two positions late at once), computed from the definitions.
+-- The lines of the scope's table of examples that are marked *, and lines of our own for what those leave open (16, two positions late at once, tables with a fence), computed from the definitions.
 -- A line's advances go on where start would refuse the table by 13 (A2, F): the book of a list is defined for every table.
 use mathlib.Core.Bool.{false, true}
 use mathlib.Core.List.{List, [], map, _∷_}
 use mathlib.Core.Path.{refl, _≡_}
 use Prim.Native.Nat.{ℕ}
 use Rattle.model.specs.Book.{Answer, Asked, answer, answersFrom, asked, claims, emptyBook, enter, fresh, full, late, misreported, refused, reportable, rowRefused, rowsFrom, served, shown, step, taken, takenFrom, takenOf, work}
+use Rattle.model.specs.Fence.{justOpen, spread}
 use Rattle.model.specs.Grants.{claimants, given, grants, left}
 use Rattle.model.specs.Horizon.{S, horizon, hyperperiod, lcm}
 use Rattle.model.specs.Row.{owner, row}
-use Rattle.model.specs.Search.{any, least, memb, upFrom}
+use Rattle.model.specs.Search.{any, kept, least, memb, upFrom}
 use Rattle.model.specs.Task.{Rule, Table, Task, greedy, idling, limited}
 use Rattle.model.specs.Verdict.{Firm, Full, Miss, Verdict, firm, firstMiss, missedAt, missedIn, rising, verdict}
 
@@ -18,7 +19,11 @@ t o v c d p = record { offset = o; width = v; length = c; deadline = d; period =
 
 -- a table of m cores under a rule
 abbrev pub on : ℕ → Rule → List Task → Table
-on m r τs = record { tasks = τs; cores = m; rule = r }
+on m r τs = record { tasks = τs; cores = m; fence = 0; rule = r }
+
+-- and with a fence
+abbrev pub fencedOn : ℕ → ℕ → Rule → List Task → Table
+fencedOn m f r τs = record { tasks = τs; cores = m; fence = f; rule = r }
 
 -- the tasks of A, and of B, under each rule
 abbrev pub A : Rule → Table
@@ -96,12 +101,33 @@ lines =
     ∷ line (on 1 limited (t 1 1 1 1 2 ∷ t 0 1 1 2 3 ∷ [])) (Firm 3 6) [] [] (shown (2 ∷ []) ∷ [])
     -- F
     ∷ line (on 1 greedy (t 0 1 2 1 2 ∷ [])) (Miss 1 1) (0 ∷ 0 ∷ []) (taken ∷ refused 15 1 ∷ []) (shown (1 ∷ []) ∷ rowRefused 15 1 ∷ rowRefused 15 1 ∷ [])
+    -- A on five cores of which 0 and 3 are fenced
+    ∷ line (fencedOn 5 9 greedy (A greedy .tasks)) (Full 0 5) (0 ∷ []) (taken ∷ []) (shown (255 ∷ 1 ∷ 1 ∷ 255 ∷ 3 ∷ []) ∷ shown (255 ∷ 1 ∷ 1 ∷ 255 ∷ 3 ∷ []) ∷ [])
+    -- the same under limited, one tick before the miss
+    ∷ line (fencedOn 5 9 limited (A greedy .tasks)) (Miss 5 3) [] [] (shown (255 ∷ 1 ∷ 1 ∷ 255 ∷ 0 ∷ []) ∷ [])
     ∷ []
 
 -- every line is what the definitions say
 pub examples : map worked lines ≡ lines
-unfolding verdict firstMiss missedIn missedAt firm rising horizon S hyperperiod lcm least any memb upFrom owner row given left grants claimants claims served work step late reportable misreported answer asked enter answersFrom rowsFrom full
+unfolding verdict firstMiss missedIn missedAt firm rising horizon S hyperperiod lcm least any memb upFrom kept owner row given left grants claimants claims served work step late reportable misreported answer asked enter answersFrom rowsFrom full
 examples = refl
+
+-- A on five cores with that fence is A with just its unfenced cores, and its rows are A's spread over them; with no fence a table is itself
+pub just-open : justOpen (fencedOn 5 9 greedy (A greedy .tasks)) ≡ A greedy
+unfolding kept upFrom
+just-open = refl
+
+pub just-all : justOpen (A limited) ≡ A limited
+unfolding kept upFrom
+just-all = refl
+
+pub spread-row : spread 9 5 (1 ∷ 1 ∷ 3 ∷ []) ≡ 255 ∷ 1 ∷ 1 ∷ 255 ∷ 3 ∷ []
+unfolding spread kept upFrom
+spread-row = refl
+
+pub spread-none : spread 0 3 (1 ∷ 1 ∷ 3 ∷ []) ≡ 1 ∷ 1 ∷ 3 ∷ []
+unfolding spread kept upFrom
+spread-none = refl
 
 -- a job released at 1 with D 3 claims in ticks 1, 2 and 3, and not when it is due at 4 or later
 pub window : map (λ n. claims greedy (t 1 1 5 3 5) 0 n fresh) (upFrom 0 6) ≡ false ∷ true ∷ true ∷ true ∷ false ∷ false ∷ []
@@ -110,5 +136,5 @@ window = refl
 
 -- of these advances of B the second and the third are taken: the first is refused by 16, the last two by 15
 pub dropped : takenOf (B greedy) (2 ∷ 1 ∷ 0 ∷ 0 ∷ 8 ∷ []) ≡ 1 ∷ 0 ∷ []
-unfolding takenFrom enter answer late misreported reportable any least step served work claims claimants grants given left memb upFrom
+unfolding takenFrom enter answer late misreported reportable any least step served work claims claimants grants given left memb upFrom kept
 dropped = refl

@@ -18,7 +18,7 @@ use Rattle.model.proofs.Starts.{Periods, S-last, S-release, S-rises, hy
 use Rattle.model.specs.Book.{Job, Missed, NeverMissed, claims, full, inRow, jobClaims, served, step, taskClaims, widths}
 use Rattle.model.specs.Grants.{claimants, grants, some}
 use Rattle.model.specs.Horizon.{S, horizon, hyperperiod}
-use Rattle.model.specs.Search.{upFrom}
+use Rattle.model.specs.Fence.{openCores}
 use Rattle.model.specs.Task.{AllSound, Rule, Table, Task, due, newest, release, task}
 
 -- claims at a tick and P later are the same
@@ -122,7 +122,7 @@ module _ (s : Table) (ok : AllSound s) where
     served-repeat k t h same =
         same-and (jobClaims s (full s t) p k) (jobClaims s (full s (t + P)) p (k + m))
         (inRow s (full s t) p) (inRow s (full s (t + P)) p) own
-        (λ c. ap some (row-local (s .rule) (widths s) (upFrom 0 (s .cores)) (taskClaims s (full s t)) (taskClaims s (full s (t + P))) p (all c)))
+        (λ c. ap some (row-local (s .rule) (widths s) (openCores s) (taskClaims s (full s t)) (taskClaims s (full s (t + P))) p (all c)))
       where
         own : jobClaims s (full s t) p k ≡ jobClaims s (full s (t + P)) p (k + m)
         own = rw (full-tick s t, full-tick s (t + P), ← same) (claims-shift (s .rule) (task s p) k m t P (full s t .job p k) e)

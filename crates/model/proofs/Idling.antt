@@ -15,7 +15,7 @@ use Rattle.model.proofs.Sustain.{abreast-full, same-task-claims}
 use Rattle.model.specs.Book.{Book, asked, book, bookFrom, claims, firstLate, full, grantsOf, jobClaims, late, none, rowOf, served, step, taskClaims, widths, work}
 use Rattle.model.specs.Grants.{Claimant, claimants, given, grants, left}
 use Rattle.model.specs.Row.{row}
-use Rattle.model.specs.Search.{upFrom}
+use Rattle.model.specs.Fence.{openCores}
 use Rattle.model.specs.Task.{AllSound, Rule, Table, Task, greedy, idling, newest, task}
 
 -- the rules choose alike
@@ -30,15 +30,15 @@ unfolding claims
 claims-alike τ k t h c false g = refl
 claims-alike τ k t h c true g = rw (le-ltb c (τ .length) (g refl))
 
-abbrev pub under : Rule → List Task → ℕ → Table
-under r τs m = record { tasks = τs; cores = m; rule = r }
+abbrev pub under : Rule → List Task → ℕ → ℕ → Table
+under r τs m f = record { tasks = τs; cores = m; fence = f; rule = r }
 
-module _ (τs : List Task) (m : ℕ) where
+module _ (τs : List Task) (m f : ℕ) where
   abbrev I : Table
-  I = under idling τs m
+  I = under idling τs m f
 
   abbrev G : Table
-  G = under greedy τs m
+  G = under greedy τs m f
 
   same-claims : (n : ℕ) → full I n ≡ full G n → (p k : ℕ) → jobClaims I (full I n) p k ≡ jobClaims G (full G n) p k
   same-claims n e p k =
@@ -48,8 +48,8 @@ module _ (τs : List Task) (m : ℕ) where
 
   same-grants : (n : ℕ) → full I n ≡ full G n → grantsOf I (full I n) ≡ grantsOf G (full G n)
   same-grants n e =
-      choose-alike (claimants (widths I) (taskClaims I (full I n))) (upFrom 0 m)
-      ∙ ap (λ (x : List Claimant). grants greedy x (upFrom 0 m))
+      choose-alike (claimants (widths I) (taskClaims I (full I n))) (openCores I)
+      ∙ ap (λ (x : List Claimant). grants greedy x (openCores I))
       (claimants-same (widths I) (taskClaims I (full I n)) (taskClaims G (full G n))
       (λ q l. same-claims n e q (newest (task I q) (full I n .tick)) ∙ ap (λ (b : Book). jobClaims G (full G n) q (newest (task G q) (b .tick))) e))
 
@@ -96,34 +96,34 @@ module _ (τs : List Task) (m : ℕ) where
   same-asked b e = rw e
 
 -- THE THEOREM: at full length idling and greedy give equal rows
-pub idling-greedy : (τs : List Task) (m n : ℕ) → rowOf (under idling τs m) (full (under idling τs m) n) ≡ rowOf (under greedy τs m) (full (under greedy τs m) n)
-idling-greedy τs m n = ap (row m) (same-grants τs m n (same-full τs m n))
+pub idling-greedy : (τs : List Task) (m f n : ℕ) → rowOf (under idling τs m f) (full (under idling τs m f) n) ≡ rowOf (under greedy τs m f) (full (under greedy τs m f) n)
+idling-greedy τs m f n = ap (row f m) (same-grants τs m f n (same-full τs m f n))
 
 -- the same of the books of n empty report sets, past a miss too: the books are equal ..
-pub idling-greedy-books : (τs : List Task) (m n : ℕ) → book (under idling τs m) (replicate n 0) ≡ book (under greedy τs m) (replicate n 0)
+pub idling-greedy-books : (τs : List Task) (m f n : ℕ) → book (under idling τs m f) (replicate n 0) ≡ book (under greedy τs m f) (replicate n 0)
 unfolding full
-idling-greedy-books τs m n = same-books τs m n 0
+idling-greedy-books τs m f n = same-books τs m f n 0
 
 -- .. and so is what a row asked is answered, the row or 15 with its position
 pub idling-greedy-asked :
-    (τs : List Task) (m n : ℕ)
-    → asked (under idling τs m) (book (under idling τs m) (replicate n 0)) ≡ asked (under greedy τs m) (book (under greedy τs m) (replicate n 0))
-idling-greedy-asked τs m n =
-    let i : Table = under idling τs m in
-    let g : Table = under greedy τs m in
+    (τs : List Task) (m f n : ℕ)
+    → asked (under idling τs m f) (book (under idling τs m f) (replicate n 0)) ≡ asked (under greedy τs m f) (book (under greedy τs m f) (replicate n 0))
+idling-greedy-asked τs m f n =
+    let i : Table = under idling τs m f in
+    let g : Table = under greedy τs m f in
     let b : Book = book i (replicate n 0) in
-    let e : b ≡ book g (replicate n 0) = idling-greedy-books τs m n in
+    let e : b ≡ book g (replicate n 0) = idling-greedy-books τs m f n in
     let at : b ≡ full i (b .tick) = empty-full i n in
     let at′ : b ≡ full g (b .tick) =
     e ∙ (empty-full g n ∙ ap (λ (c : Book). full g (c .tick)) (sym e)) in
-    same-asked τs m b (ap (rowOf i) at ∙ (idling-greedy τs m (b .tick) ∙ ap (rowOf g) (sym at′))) ∙ ap (asked g) e
+    same-asked τs m f b (ap (rowOf i) at ∙ (idling-greedy τs m f (b .tick) ∙ ap (rowOf g) (sym at′))) ∙ ap (asked g) e
 
 -- THE THEOREM (Goossens and Berten, definition 16): under idling the cores, and so the row, of any book are those of the full-length run at its tick
 pub idling-grants : (s : Table) → AllSound s → s .rule ≡ idling → (xs : List ℕ) → grantsOf s (book s xs) ≡ grantsOf s (full s (book s xs .tick))
 idling-grants s ok e xs =
-    ap (λ (x : List Claimant). grants (s .rule) x (upFrom 0 (s .cores)))
+    ap (λ (x : List Claimant). grants (s .rule) x (openCores s))
     (claimants-same (widths s) (taskClaims s (book s xs)) (taskClaims s (full s (book s xs .tick)))
     (λ q h. same-task-claims s ok (book s xs) (full s (book s xs .tick)) (abreast-full s ok (inr (inl e)) xs) e q (rw length-map at h)))
 
 pub idling-rows : (s : Table) → AllSound s → s .rule ≡ idling → (xs : List ℕ) → rowOf s (book s xs) ≡ rowOf s (full s (book s xs .tick))
-idling-rows s ok e xs = ap (row (s .cores)) (idling-grants s ok e xs)
+idling-rows s ok e xs = ap (row (s .fence) (s .cores)) (idling-grants s ok e xs)

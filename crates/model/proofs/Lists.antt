@@ -4,7 +4,7 @@ use mathlib.Core.List.{List, [], _∷_, _++_, map}
 use Prim.Native.Nat.{ℕ, zero, suc, _+_, _<_}
 use native.Mathlib.Omega.{arith}
 use native.Mathlib.Nat.{not-suc-le-zero, le-of-suc-le-suc, add-zero, add-suc, suc-add}
-use lib.ListN.{length, getD, replicate}
+use lib.ListN.{length, getD, replicate, take}
 use Rattle.model.specs.Search.{upFrom}
 
 pub up-length : (i n : ℕ) → length (upFrom i n) ≡ n
@@ -37,6 +37,11 @@ map-at f (x ∷ xs) (suc k) d e l = map-at f xs k d e (le-of-suc-le-suc l)
 pub map-map {ℓ κ μ} : {A : Type ℓ} {B : Type κ} {C : Type μ} (f : B → C) (g : A → B) (xs : List A) → map f (map g xs) ≡ map (λ x. f (g x)) xs
 map-map f g [] = refl
 map-map {C = C} f g (x ∷ xs) = ap {B = List C} (λ l. f (g x) ∷ l) (map-map f g xs)
+
+pub take-map {ℓ κ} : {A : Type ℓ} {B : Type κ} (f : A → B) (n : ℕ) (xs : List A) → take n (map f xs) ≡ map f (take n xs)
+take-map f zero xs = refl
+take-map f (suc n) [] = refl
+take-map {B = B} f (suc n) (x ∷ xs) = ap {B = List B} (λ l. f x ∷ l) (take-map f n xs)
 
 -- zeros everywhere, and past the end
 pub getD-zeros : (n i : ℕ) → _≡_ {A = ℕ} (getD (replicate n 0) i 0) 0

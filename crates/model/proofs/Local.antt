@@ -13,11 +13,13 @@ use lib.Seq.{getD-take}
 use borrow.Author.Tests.{le-ltb, leb-false, leb-true, lt-ltb}
 use Rattle.model.proofs.FullLength.{empty-full}
 use Rattle.model.proofs.Grants.{claimants-prefix, claimants-take, grants-take}
+use Rattle.model.proofs.Lists.{take-map}
 use Rattle.model.proofs.Runs.{book-run, run}
 use Rattle.model.specs.Book.{Book, book, emptyBook, full, grantsOf, jobClaims, none, served, step, takenOf, taskClaims, widths}
+use Rattle.model.specs.Fence.{openCores}
 use Rattle.model.specs.Grants.{claimants}
 use Rattle.model.specs.Local.{Alike, SameCores, SameReports, upTo}
-use Rattle.model.specs.Row.{owner, row}
+use Rattle.model.specs.Row.{byteOf, owner, row}
 use Rattle.model.specs.Search.{bit, memb, upFrom}
 use Rattle.model.specs.Task.{Table, Task, newest, nobody, task}
 
@@ -28,17 +30,12 @@ pub record Agree (n : ℕ) (b b′ : Book) : Type 0 where
 
 -- WHAT THE FIRST PLACES BRING TO A TICK
 
-take-map : (n : ℕ) (τs : List Task) → take n (map (λ τ. τ .width) τs) ≡ map (λ τ. τ .width) (take n τs)
-take-map zero τs = refl
-take-map (suc n) [] = refl
-take-map (suc n) (τ ∷ τs) = ap (λ (l : List ℕ). τ .width ∷ l) (take-map n τs)
-
 claimants-cut :
     (n : ℕ) (τs σs : List Task) (c d : ℕ → Bool) → take n τs ≡ take n σs → ((q : ℕ) → q < n → c q ≡ d q)
     → take n (claimants (map (λ τ. τ .width) τs) c) ≡ take n (claimants (map (λ τ. τ .width) σs) d)
 claimants-cut n τs σs c d e h =
     claimants-prefix n (map (λ τ. τ .width) τs) c
-    ∙ (ap (λ (x : List ℕ). claimants x c) (take-map n τs ∙ (ap (λ (x : List Task). map (λ τ. τ .width) x) e ∙ sym (take-map n σs)))
+    ∙ (ap (λ (x : List ℕ). claimants x c) (take-map (λ (τ : Task). τ .width) n τs ∙ (ap (λ (x : List Task). map (λ τ. τ .width) x) e ∙ sym (take-map (λ (τ : Task). τ .width) n σs)))
     ∙ (sym (claimants-prefix n (map (λ τ. τ .width) σs) c) ∙ claimants-take (map (λ τ. τ .width) σs) n c d h))
 
 -- WHAT THE FIRST PLACES SHOW IN A ROW
@@ -94,13 +91,25 @@ upTo-cut n byte = go (leb byte n) refl
     go true e = rw (lt-ltb byte (1 + n) (omega (arith, leb-true byte n e)))
     go false e = rw (le-ltb byte (1 + n) (omega (arith, leb-false byte n e)))
 
-row-upTo : (n m : ℕ) (gs : List (List ℕ)) → map (upTo n) (row m gs) ≡ row m (take n gs)
+-- the same in two rows, where the first n places have the same cores
+row-upTo :
+    (n f m : ℕ) (gs hs : List (List ℕ)) → take n gs ≡ take n hs
+    → map (upTo n) (row f m gs) ≡ map (upTo n) (row f m hs)
 unfolding row
-row-upTo n m gs = each (upFrom 0 m)
+row-upTo n f m gs hs e = each (upFrom 0 m)
   where
-    each : (cs : List ℕ) → map (upTo n) (map (λ c. owner c 1 gs) cs) ≡ map (λ c. owner c 1 (take n gs)) cs
+    owners : (c : ℕ) → upTo n (owner c 1 gs) ≡ upTo n (owner c 1 hs)
+    owners c =
+        upTo-cut n (owner c 1 gs) ∙ (owner-cut c n 1 gs ∙ (ap (owner c 1) e
+        ∙ sym (upTo-cut n (owner c 1 hs) ∙ owner-cut c n 1 hs)))
+
+    byte : (t : Bool) (c : ℕ) → upTo n (cond t 255 (owner c 1 gs)) ≡ upTo n (cond t 255 (owner c 1 hs))
+    byte true c = refl
+    byte false c = owners c
+
+    each : (cs : List ℕ) → map (upTo n) (map (byteOf f gs) cs) ≡ map (upTo n) (map (byteOf f hs) cs)
     each [] = refl
-    each (c ∷ cs) = ap₂ (λ (x : ℕ) (l : List ℕ). x ∷ l) (upTo-cut n (owner c 1 gs) ∙ owner-cut c n 1 gs) (each cs)
+    each (c ∷ cs) = ap₂ (λ (x : ℕ) (l : List ℕ). x ∷ l) (byte (bit f c) c) (each cs)
 
 module _ (n : ℕ) (s s′ : Table) (al : Alike n s s′) where
   same-task : (p : ℕ) → p < n → task s p ≡ task s′ p
@@ -116,9 +125,9 @@ module _ (n : ℕ) (s s′ : Table) (al : Alike n s s′) where
 
   same-grants : (b b′ : Book) → Agree n b b′ → take n (grantsOf s b) ≡ take n (grantsOf s′ b′)
   same-grants b b′ ag =
-      grants-take (s .rule) n (claimants (widths s) (taskClaims s b)) (upFrom 0 (s .cores))
-      ∙ (rw (claimants-cut n (s .tasks) (s′ .tasks) (taskClaims s b) (taskClaims s′ b′) (al .tasks) (same-claims b b′ ag), al .rules, al .cores)
-      (sym (grants-take (s′ .rule) n (claimants (widths s′) (taskClaims s′ b′)) (upFrom 0 (s′ .cores)))))
+      grants-take (s .rule) n (claimants (widths s) (taskClaims s b)) (openCores s)
+      ∙ (rw (claimants-cut n (s .tasks) (s′ .tasks) (taskClaims s b) (taskClaims s′ b′) (al .tasks) (same-claims b b′ ag), al .rules, al .cores, al .fences)
+      (sym (grants-take (s′ .rule) n (claimants (widths s′) (taskClaims s′ b′)) (openCores s′))))
 
   same-cores : (b b′ : Book) → Agree n b b′ → (p : ℕ) → p < n → getD (grantsOf s b) p [] ≡ getD (grantsOf s′ b′) p []
   same-cores b b′ ag p l =
@@ -129,7 +138,9 @@ module _ (n : ℕ) (s s′ : Table) (al : Alike n s s′) where
   shown-alike : (b b′ : Book) → Agree n b b′ → SameCores n s b s′ b′
   shown-alike b b′ ag = record {
     lists = same-cores b b′ ag;
-    bytes = row-upTo n (s .cores) (grantsOf s b) ∙ (ap₂ row (al .cores) (same-grants b b′ ag) ∙ sym (row-upTo n (s′ .cores) (grantsOf s′ b′)));
+    bytes =
+        row-upTo n (s .fence) (s .cores) (grantsOf s b) (grantsOf s′ b′) (same-grants b b′ ag)
+        ∙ ap₂ (λ (f m : ℕ). map (upTo n) (row f m (grantsOf s′ b′))) (al .fences) (al .cores);
   }
 
   same-step : (f g : ℕ → Bool) → ((q : ℕ) → q < n → f q ≡ g q) → (b b′ : Book) → Agree n b b′ → Agree n (step s f b) (step s′ g b′)

@@ -15,8 +15,9 @@ use Rattle.model.proofs.Jobs.{Letting, abreast, after-release, before-d
 use Rattle.model.proofs.Runs.{GoodBook, book-run, book-tick, full-run, full-whole, good-run, good-start, good-step, run}
 use Rattle.model.specs.Book.{Book, book, claims, emptyBook, fresh, full, inRow, jobClaims, none, served, step, takenOf, taskClaims, widths}
 use Rattle.model.specs.Compare.{Behind, Longer, NoneBehind, NoneLonger}
+use Rattle.model.specs.Fence.{openCores}
 use Rattle.model.specs.Grants.{claimants, grants, some}
-use Rattle.model.specs.Search.{bit, upFrom}
+use Rattle.model.specs.Search.{bit}
 use Rattle.model.specs.Task.{AllSound, Rule, Table, greedy, idling, limited, newest, nobody, task}
 use Rattle.model.specs.Verdict.{FirmRule, Rising}
 
@@ -74,7 +75,7 @@ module _ (s : Table) (ok : AllSound s) where
       (after-release (s .rule) (task s p) k (a .tick) (a .job p k) ca′)
       (before-due (s .rule) (task s p) k (a .tick) (a .job p k) ca′) in
       and-both (jobClaims s a p k) (inRow s a p) ca′
-      (mono (taskClaims s a) (taskClaims s b) (upFrom 0 (s .cores)) subset p
+      (mono (taskClaims s a) (taskClaims s b) (openCores s) subset p
       (subst (λ (m : ℕ). jobClaims s a p m ≡ true) (sym nk) ca′) rb)
     where
       subset : (q : ℕ) → q < length (widths s) → taskClaims s a q ≡ true → taskClaims s b q ≡ true

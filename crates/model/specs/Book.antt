@@ -5,8 +5,9 @@ use mathlib.Core.Path.{_≡_}
 use Prim.Native.Nat.{ℕ, zero, suc, _<_}
 use lib.ListN.{length, getD, replicate}
 use lib.Dec.{leb, ltb}
-use Rattle.model.specs.Search.{any, least, bit, upFrom}
+use Rattle.model.specs.Search.{any, least, bit}
 use Rattle.model.specs.Task.{Task, Rule, greedy, limited, idling, Table, task, release, due, newest}
+use Rattle.model.specs.Fence.{openCores}
 use Rattle.model.specs.Grants.{claimants, grants, some}
 use Rattle.model.specs.Row.{row}
 
@@ -53,13 +54,13 @@ taskClaims s b p = jobClaims s b p (newest (task s p) (b .tick))
 abbrev pub widths : Table → List ℕ
 widths s = map (λ τ. τ .width) (s .tasks)
 
--- from the claims the table's rule gives the cores of each place ..
+-- from the claims the table's rule gives the cores of each place, of those outside the fence ..
 abbrev pub grantsOf : Table → Book → List (List ℕ)
-grantsOf s b = grants (s .rule) (claimants (widths s) (taskClaims s b)) (upFrom 0 (s .cores))
+grantsOf s b = grants (s .rule) (claimants (widths s) (taskClaims s b)) (openCores s)
 
 -- .. and so the row
 abbrev pub rowOf : Table → Book → List ℕ
-rowOf s b = row (s .cores) (grantsOf s b)
+rowOf s b = row (s .fence) (s .cores) (grantsOf s b)
 
 -- place p is in the row
 abbrev pub inRow : Table → Book → ℕ → Bool

@@ -1,6 +1,7 @@
 pub mod Sizes
 pub mod Search
 pub mod Task
+pub mod Fence
 pub mod Grants
 pub mod Row
 pub mod Book

@@ -9,10 +9,11 @@ use Rattle.model.specs.Book.{Book, grantsOf, rowOf}
 use Rattle.model.specs.Search.{bit}
 use Rattle.model.specs.Task.{Table}
 
--- two tables that differ only below position n: the same rule and cores, and the same first n tasks
+-- two tables that differ only below position n: the same rule, cores and fence, and the same first n tasks
 pub record Alike (n : ℕ) (s s′ : Table) : Type 0 where
   pub rules : s .rule ≡ s′ .rule
   pub cores : s .cores ≡ s′ .cores
+  pub fences : s .fence ≡ s′ .fence
   pub tasks : take n (s .tasks) ≡ take n (s′ .tasks)
 
 -- two lists of report sets of equal length that agree on positions 1 to n
@@ -22,7 +23,7 @@ SameReports n [] (y ∷ ys) = ⊥
 SameReports n (x ∷ xs) [] = ⊥
 SameReports n (x ∷ xs) (y ∷ ys) = ((q : ℕ) → q < n → bit x q ≡ bit y q) × SameReports n xs ys
 
--- a row as positions 1 to n see it: the bytes of positions below them read 0
+-- a row as positions 1 to n see it: the bytes of positions below them, and of fenced cores, read 0 (n is below 255)
 abbrev pub upTo : ℕ → ℕ → ℕ
 upTo n byte = cond (leb byte n) byte 0
 

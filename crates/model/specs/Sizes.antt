@@ -1,4 +1,4 @@
--- The sizes that everything shares (scope, 'The table'): the most tasks and cores that a table has, and the largest word.
+-- The sizes that everything shares (scope, 'The table'): the most tasks and cores that a table has, the largest word, and the byte of a fenced core.
 use Prim.Native.Nat.{ℕ}
 
 -- at most 32 records, and so at most 32 tasks
@@ -12,3 +12,7 @@ mostCores = 64
 -- words are 32-bit numbers: the largest
 abbrev pub mostWord : ℕ
 mostWord = 4294967295
+
+-- what a row shows on a fenced core (request 102)
+abbrev pub fencedByte : ℕ
+fencedByte = 255

@@ -1,4 +1,4 @@
--- The abstract table: its tasks in priority order, the core count and the rule.
+-- The abstract table: its tasks in priority order, the core count, the fence and the rule.
 -- Places and jobs count from 0 here: place p is position p + 1, and job k is the paper's job k + 1.
 use mathlib.Core.Bool.{cond}
 use mathlib.Core.List.{List}
@@ -22,10 +22,11 @@ pub data Rule : Type 0 where
 abbrev pub ruleOf : ℕ → Rule
 ruleOf n = cond (eqb n 2) limited (cond (eqb n 3) idling greedy)
 
--- the tasks in priority order, the core count and the rule
+-- the tasks in priority order, the core count, the fence (a set of cores, bit c for core c: Fence.antt) and the rule
 pub record Table : Type 0 where
   pub tasks : List Task
   pub cores : ℕ
+  pub fence : ℕ
   pub rule : Rule
 
 -- no task: what stands past the last place

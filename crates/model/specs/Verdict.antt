@@ -1,4 +1,4 @@
--- The verdict on a table that numbers 1 to 9 do not turn down (scope, 'Look-ahead and verdict').
+-- The verdict on a table that no number turns down (scope, 'Look-ahead and verdict').
 use mathlib.Core.Bool.{_&&_, Bool, cond, not, true}
 use mathlib.Core.List.{List, [], _∷_}
 use mathlib.Core.Logic.{_↔_, _⊎_}
@@ -39,7 +39,7 @@ missedAt s t p = any (suc t) (λ k. eqb (due (task s p) k) t && not (full s t .j
 unfoldable pub missedIn : Table → ℕ → Bool
 missedIn s t = any (length (s .tasks)) (missedAt s t)
 
--- Firm with S and P, Full with S and P, Miss with tick and position; the fourth answer, Refused, is for words that numbers 1 to 9 turn down
+-- Firm with S and P, Full with S and P, Miss with tick and position; the fourth answer, Refused, is for words that a number turns down
 pub data Verdict : Type 0 where
   Firm : ℕ → ℕ → Verdict
   Full : ℕ → ℕ → Verdict

@@ -24,9 +24,9 @@ unused = inPhase (Resting 0) model.nobody
 abbrev pub pastEnd : Task
 pastEnd = inPhase (Coming 0) model.nobody
 
--- the task breaks 7 or 8, or its phase is outside the limits
+-- the task breaks 7 or 8 on so many unfenced cores, or its phase is outside the limits
 abbrev pub outIn : ℕ → model.Rule → Task → Bool
-outIn cores r t = taskOut cores (taskOf t) || not (phaseIn r (taskOf t) (t .phase))
+outIn wide r t = taskOut wide (taskOf t) || not (phaseIn r (taskOf t) (t .phase))
 
 -- a task as it starts
 abbrev pub startTask : model.Task → Task

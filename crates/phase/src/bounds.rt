@@ -23,9 +23,9 @@ impl Task {
         }
     }
 
-    // Whether the task breaks 7 or 8, or its phase is outside the limits.
-    pub fn out(self, rule: u32, cores: u32) -> bool
-        ensures { λ r. ⌜ r ≡ outIn cores (ruleOf rule) self ⌝ }
+    // Whether the task breaks 7 or 8 on so many unfenced cores, or its phase is outside the limits.
+    pub fn out(self, rule: u32, wide: u32) -> bool
+        ensures { λ r. ⌜ r ≡ outIn wide (ruleOf rule) self ⌝ }
     {
         let plain = table::Task {
             offset: self.offset,
@@ -34,7 +34,7 @@ impl Task {
             deadline: self.deadline,
             period: self.period,
         };
-        !(table::limits::task_number(cores, plain) == 0) | !self.phase_in(rule)
+        !(table::limits::task_number(wide, plain) == 0) | !self.phase_in(rule)
     }
 
     // Whether the task is Working at its deadline.

@@ -19,7 +19,7 @@ module _ (s : Table) where
   rows-length t zero = sym (zero-mul (s .cores))
   rows-length t (suc n) =
       length-append (rowOf s (full s t)) (rowsFrom s (suc t) n)
-      ∙ (ap (λ (k : ℕ). k + length (rowsFrom s (suc t) n)) (row-length (s .cores) (grantsOf s (full s t)))
+      ∙ (ap (λ (k : ℕ). k + length (rowsFrom s (suc t) n)) (row-length (s .fence) (s .cores) (grantsOf s (full s t)))
       ∙ (ap (λ (k : ℕ). s .cores + k) (rows-length (suc t) n)
       ∙ (omega arith ∙ sym (suc-mul n (s .cores)))))
 
@@ -82,10 +82,10 @@ module _ (s : Table) where
   rows-at t (suc n) zero c h l =
       let e : zero * s .cores + c ≡ c = omega arith in
       ap (λ (i : ℕ). getD (rowOf s (full s t) ++ rowsFrom s (suc t) n) i 0) e
-      ∙ (List·getD-append (rowOf s (full s t)) (rowsFrom s (suc t) n) 0 c (omega (arith, row-length (s .cores) (grantsOf s (full s t))))
+      ∙ (List·getD-append (rowOf s (full s t)) (rowsFrom s (suc t) n) 0 c (omega (arith, row-length (s .fence) (s .cores) (grantsOf s (full s t))))
       ∙ ap (λ (u : ℕ). getD (rowOf s (full s u)) c 0) (sym (add-zero t)))
   rows-at t (suc n) (suc k) c h l =
-      let e : suc k * s .cores + c ≡ length (rowOf s (full s t)) + (k * s .cores + c) = omega (arith, suc-mul k (s .cores), row-length (s .cores) (grantsOf s (full s t))) in
+      let e : suc k * s .cores + c ≡ length (rowOf s (full s t)) + (k * s .cores + c) = omega (arith, suc-mul k (s .cores), row-length (s .fence) (s .cores) (grantsOf s (full s t))) in
       ap (λ (i : ℕ). getD (rowOf s (full s t) ++ rowsFrom s (suc t) n) i 0) e
       ∙ (getD-append-add (rowOf s (full s t)) (rowsFrom s (suc t) n) (k * s .cores + c) 0
       ∙ (rows-at (suc t) n k c (omega arith) l ∙ ap (λ (u : ℕ). getD (rowOf s (full s u)) c 0) (suc-add t k ∙ sym (add-suc t k))))

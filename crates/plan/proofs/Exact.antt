@@ -38,6 +38,7 @@ module _ (ws : List ℕ) (a b bytes : ℕ) where
 
   -- a number of the table
   by-words : (n p : ℕ) → table.First ws n p → First ws a b bytes n p
+  unfolding place
   by-words n p f = (words n p (f .0), none)
     where
       most : place n < 10
@@ -51,6 +52,7 @@ module _ (ws : List ℕ) (a b bytes : ℕ) where
 
   module _ (passed : table.NoneApplies ws) where
     is-ten : RangeOut s a b → First ws a b bytes 10 0
+    unfolding place
     is-ten y = (ten y, none)
       where
         none : (m q : ℕ) → Earlier m q 10 0 → ¬ Applies ws a b bytes m q
@@ -60,6 +62,7 @@ module _ (ws : List ℕ) (a b bytes : ℕ) where
         none _ _ e (twelve x) = later 12 0 10 0 (omega arith) e
 
     is-eleven : (¬ RangeOut s a b) → BufferOut s a b bytes → First ws a b bytes 11 0
+    unfolding place
     is-eleven h y = (eleven y, none)
       where
         none : (m q : ℕ) → Earlier m q 11 0 → ¬ Applies ws a b bytes m q

@@ -1,14 +1,14 @@
 -- Plans computed from the definitions, of example A, which fits, and of example F, which misses at tick 1: each limit of 10, 11 and 12 from
 -- both sides, and which comes first where two apply.
 use mathlib.Core.Path.{_≡_, refl}
-use mathlib.Core.List.{List, [], _∷_, map}
+use mathlib.Core.List.{List, [], _++_, _∷_, map}
 use Prim.Native.Nat.{ℕ}
-use lib.ListN.{length, replicate}
+use lib.ListN.{drop, length, replicate}
 use Rattle.model.specs.Book.{claims, full, served, step, work}
 use Rattle.model.specs.Grants.{claimants, given, grants, left}
 use Rattle.model.specs.Horizon.{S, horizon, hyperperiod, lcm}
 use Rattle.model.specs.Row.{owner, row}
-use Rattle.model.specs.Search.{any, least, memb, upFrom}
+use Rattle.model.specs.Search.{any, kept, least, memb, upFrom}
 use Rattle.model.specs.Verdict.{missedAt, missedIn}
 use Rattle.table.specs.Words.{met, count, chain, tableOf}
 use Rattle.table.specs.Answer.{headerNumber, lastStep, endingOf, firstOut, byHorizon, byTasks, byWalk, answerOf}
@@ -53,7 +53,14 @@ refuses ws a b n number = record { words = ws; a = a; b = b; lent = lent n; says
 
 -- F: one core, horizon 2, position 1 misses at tick 1
 abbrev wordsF : List ℕ
-wordsF = 1 ∷ 1 ∷ 1 ∷ 0 ∷ 0 ∷ 1 ∷ 2 ∷ 1 ∷ 2 ∷ []
+wordsF = 1 ∷ 1 ∷ 1 ∷ 0 ∷ 0 ∷ 0 ∷ 0 ∷ 1 ∷ 2 ∷ 1 ∷ 2 ∷ []
+
+-- the tasks of A on five cores, of which 0 and 3 are fenced, and of F on 34 cores, of which all but the last are
+abbrev fencedA : List ℕ
+fencedA = 3 ∷ 5 ∷ 1 ∷ 9 ∷ 0 ∷ drop 5 wordsA
+
+abbrev fencedF : List ℕ
+fencedF = 1 ∷ 34 ∷ 1 ∷ 4294967295 ∷ 1 ∷ drop 5 wordsF
 
 abbrev pub lines : List Line
 lines =
@@ -67,10 +74,15 @@ lines =
     ∷ writes wordsF 0 1 1 (1 ∷ []) ∷ refuses wordsF 0 2 2 12 ∷ refuses wordsF 2 2 0 12
     -- 10 before 11, of either cause; 11 before 12; 10 before 12, of either cause; 2 before 10
     ∷ refuses wordsA 0 6 0 10 ∷ refuses wordsF 0 2 1 11 ∷ refuses wordsF 0 3 3 10 ∷ refuses wordsF 3 2 0 10
-    ∷ refuses (1 ∷ 0 ∷ 1 ∷ []) 3 2 0 2
+    ∷ refuses (1 ∷ 0 ∷ 1 ∷ 0 ∷ 0 ∷ []) 3 2 0 2
+    -- 255 on a fenced core, in an idle row too; the buffer's length counts all cores
+    ∷ writes fencedA 4 5 5 (255 ∷ 2 ∷ 2 ∷ 255 ∷ 0 ∷ []) ∷ writes fencedA 2 4 10 (255 ∷ 2 ∷ 2 ∷ 255 ∷ 3 ∷ 255 ∷ 2 ∷ 2 ∷ 255 ∷ 3 ∷ [])
+    ∷ refuses fencedA 2 4 9 11 ∷ refuses fencedA 4 6 10 10
+    -- core 32 is fenced by the second word, and core 33 works
+    ∷ writes fencedF 0 1 35 (replicate 33 255 ++ 1 ∷ 9 ∷ []) ∷ refuses fencedF 0 2 68 12
     ∷ []
 
 -- every line is what the definitions say
 pub examples : map worked lines ≡ lines
-unfolding plannedOf byPlan rowsFrom answerOf byWalk byTasks byHorizon firstOut endingOf lastStep headerNumber tableOf chain count met missedIn missedAt horizon S hyperperiod lcm least any memb upFrom owner row given left grants claimants claims served work step full
+unfolding plannedOf byPlan rowsFrom answerOf byWalk byTasks byHorizon firstOut endingOf lastStep headerNumber tableOf chain count met missedIn missedAt horizon S hyperperiod lcm least any kept memb upFrom owner row given left grants claimants claims served work step full
 examples = refl

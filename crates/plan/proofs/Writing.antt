@@ -1,20 +1,18 @@
 -- The writing tick by tick: the row that the claimants of a tick give, and the buffer.
 use native.Mathlib.Omega.{arith}
-use native.Mathlib.Nat.{mul-le-mul-right, le-trans, suc-mul, zero-add, suc-add}
+use native.Mathlib.Nat.{mul-le-mul-right, le-trans, suc-mul}
 use native.Mathlib.Numerals.{add-one}
-use mathlib.Core.Path.{_≡_, refl, sym, ap, ap₂, _∙_}
-use mathlib.Core.Bool.{cond}
-use mathlib.Core.List.{List, [], _∷_, _++_, map}
-use Prim.Native.Nat.{ℕ, zero, suc, _+_, _-_, _*_, _≤_, _<_}
-use lib.ListN.{length, getD, take, replicate}
+use mathlib.Core.Path.{_≡_, refl, sym, ap, _∙_}
+use mathlib.Core.List.{List, _++_, map}
+use Prim.Native.Nat.{ℕ, suc, _+_, _-_, _*_, _≤_, _<_}
+use lib.ListN.{length, take, replicate}
 use lib.Seq.{paste, take-at, take-take}
 use Rattle.model.proofs.Rows.{row-length}
-use Rattle.model.proofs.Digits.{bit-none}
-use Rattle.model.proofs.Grants.{grants-none}
-use Rattle.model.specs.Search.{bit, memb, upFrom}
+use Rattle.model.specs.Fence.{unfenced}
+use Rattle.model.specs.Search.{bit}
 use Rattle.model.specs.Task.{Table, ruleOf}
 use Rattle.model.specs.Grants.{claimants, grants}
-use Rattle.model.specs.Row.{owner, row}
+use Rattle.model.specs.Row.{row}
 use Rattle.model.specs.Book.{rowOf, full, widths}
 use Rattle.model.specs.Sizes.{mostCores}
 use Rattle.table.specs.declared.Loaded.{Loaded}
@@ -28,7 +26,7 @@ use Rattle.plan.proofs.Buffer.{over-none, over-more, with-length}
 -- the bytes of a tick in which the places of the set c claim, by a column of widths
 abbrev pub RowBy : Loaded → List ℕ → ℕ → List ℕ → Type 0
 RowBy t v c bytes =
-    bytes ≡ row (t .cores) (grants (ruleOf (t .rule)) (claimants (take (t .count) v) (bit c)) (upFrom 0 (t .cores))) ++ replicate (mostCores - t .cores) 0
+    bytes ≡ row (t .fence) (t .cores) (grants (ruleOf (t .rule)) (claimants (take (t .count) v) (bit c)) (unfenced (t .fence) (t .cores))) ++ replicate (mostCores - t .cores) 0
 
 -- by the table's widths
 abbrev pub RowFor : Loaded → ℕ → List ℕ → Type 0
@@ -91,40 +89,6 @@ filled-more t a b tick at at′ old out out′ row f h k enough e ea eo =
 
 -- THE ROW
 
--- the row where nobody claims: no core has an owner
-owner-none : (c p : ℕ) (gs : List (List ℕ)) → ((q : ℕ) → getD gs q [] ≡ []) → owner c p gs ≡ 0
-unfolding owner memb
-owner-none c p [] h = refl
-owner-none c p (g ∷ gs) h =
-    ap (λ (l : List ℕ). cond (memb c l) p (owner c (suc p) gs)) (h 0) ∙ owner-none c (suc p) gs (λ q. h (suc q))
-
-zeros-of : (f : ℕ → ℕ) (k m : ℕ) → ((c : ℕ) → f c ≡ 0) → map f (upFrom k m) ≡ replicate m 0
-unfolding upFrom
-zeros-of f k zero h = refl
-zeros-of f k (suc m) h = ap₂ (λ (x : ℕ) (l : List ℕ). x ∷ l) (h k) (zeros-of f (suc k) m h)
-
-abbrev zeros : ℕ → List ℕ
-zeros n = replicate n 0
-
-zeros-join : (m n : ℕ) → zeros m ++ zeros n ≡ zeros (m + n)
-zeros-join zero n = ap zeros (sym (zero-add n))
-zeros-join (suc m) n = ap (λ (l : List ℕ). 0 ∷ l) (zeros-join m n) ∙ ap zeros (sym (suc-add m n))
-
-pub row-begins : (t : Loaded) → t .cores ≤ mostCores → RowFor t 0 (replicate mostCores 0)
-unfolding row
-row-begins t l =
-    let e : t .cores + (mostCores - t .cores) ≡ mostCores = omega arith in
-    sym
-    (ap (λ (l : List ℕ). l ++ replicate (mostCores - t .cores) 0)
-    (zeros-of (λ c. owner c 1 given) 0 (t .cores) (λ c. owner-none c 1 given (λ q. grants-none (ruleOf (t .rule)) ws (bit 0) (upFrom 0 (t .cores)) q (bit-none q))))
-    ∙ (zeros-join (t .cores) (mostCores - t .cores) ∙ ap zeros e))
-  where
-    ws : List ℕ
-    ws = take (t .count) (map (λ x. x .width) (t .tasks))
-
-    given : List (List ℕ)
-    given = grants (ruleOf (t .rule)) (claimants ws (bit 0)) (upFrom 0 (t .cores))
-
 module _ (t : Loaded) (fit : Fit t) where
   abbrev s : Table
   s = tableIn t
@@ -135,11 +99,11 @@ module _ (t : Loaded) (fit : Fit t) where
       → take (t .cores) bytes ≡ rowOf s (full s tick)
   row-bytes m bell tick bytes a e =
       ap (take (t .cores)) e
-      ∙ (take-at (row (t .cores) given) (replicate (mostCores - t .cores) 0) (t .cores) (row-length (t .cores) given)
+      ∙ (take-at (row (t .fence) (t .cores) given) (replicate (mostCores - t .cores) 0) (t .cores) (row-length (t .fence) (t .cores) given)
       ∙ row-alike s (fit .sound) tick m (a .ready) (take (t .count) (map (λ x. x .width) (t .tasks))) same)
     where
       given : List (List ℕ)
-      given = grants (ruleOf (t .rule)) (claimants (take (t .count) (map (λ x. x .width) (t .tasks))) (bit (m .claiming))) (upFrom 0 (t .cores))
+      given = grants (ruleOf (t .rule)) (claimants (take (t .count) (map (λ x. x .width) (t .tasks))) (bit (m .claiming))) (unfenced (t .fence) (t .cores))
 
       same : take (length (s .tasks)) (take (t .count) (map (λ x. x .width) (t .tasks))) ≡ widths s
       same = take-take (length (s .tasks)) (t .count) (map (λ x. x .width) (t .tasks)) (omega (arith, size t fit)) ∙ same-widths t fit

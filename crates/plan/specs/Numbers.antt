@@ -1,4 +1,4 @@
--- Numbers 1 to 12 for what the plan turns down (scope, 'Numbers for what is turned down'): when each applies, and which is the first.
+-- The table's numbers, and 10 to 12, for what the plan turns down (scope, 'Numbers for what is turned down'): when each applies, and which is the first.
 use mathlib.Core.List.{List}
 use mathlib.Core.Logic.{_⊎_}
 use Prim.Native.Nat.{ℕ, _-_, _*_, _<_}
@@ -23,7 +23,7 @@ MissOut s b = (t : ℕ) × (p : ℕ) × FirstMiss s t p × (t < b)
 
 -- number n applies, with position p, to the words, a, b and a buffer of so many bytes
 pub data Applies (ws : List ℕ) (a b bytes : ℕ) : ℕ → ℕ → Type 0 where
-  -- 1 to 9 as the table's
+  -- those of the table
   words : (n p : ℕ) → table.Applies ws n p → Applies ws a b bytes n p
   -- 10. Plan: a is above b, or b is above the horizon.
   ten : RangeOut (tableOf ws) a b → Applies ws a b bytes 10 0

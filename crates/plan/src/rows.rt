@@ -33,18 +33,26 @@ pub(crate) fn write(table: Loaded, a: u32, b: u32, out: &mut [u8])
     let setting = columns.setting;
     let width = columns.width;
     let times = columns.times;
+    let idle = rule::show(table.rule, table.cores, table.fence, 0, &width, table.count);
     let machine = full::machine::start(table);
     let mut pace = machine.pace;
     let mut places = machine.places;
     let mut shown: u32 = 0;
-    let mut row = [0u8; ROW];
+    let mut row = idle;
     let mut at: usize = 0;
     while pace.tick < b {
         let tick = pace.tick;
         pace = full::step(setting, &width, &times, pace, &mut places);
         if a <= tick {
             if pace.chosen != shown {
-                let fresh = rule::show(table.rule, table.cores, pace.chosen, &width, table.count);
+                let fresh = rule::show(
+                    table.rule,
+                    table.cores,
+                    table.fence,
+                    pace.chosen,
+                    &width,
+                    table.count,
+                );
                 row = fresh;
                 shown = pace.chosen;
             }

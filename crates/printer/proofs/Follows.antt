@@ -43,7 +43,7 @@ module _ (t : Loaded) (fit : Fit t) where
   -- the text of the claimants is that of the row
   cells-row :
       (m : Machine) (bell tick : ℕ) → After t m bell tick
-      → cells (t .rule) (t .cores) (take (t .count) (widthsIn t)) (m .claiming) ≡ fields (rowOf book (full book tick)) ++ (newline ∷ [])
+      → cells (t .rule) (t .cores) (t .fence) (take (t .count) (widthsIn t)) (m .claiming) ≡ fields (rowOf book (full book tick)) ++ (newline ∷ [])
   unfolding cells
   cells-row m bell tick a =
       ap (λ (r : List ℕ). fields r ++ (newline ∷ []))

@@ -7,6 +7,7 @@ use native.Mathlib.Omega.{arith}
 use lib.Dec.{leb}
 use lib.ListN.{length, getD, List·getD-map}
 use borrow.Author.Tests.{leb-true, le-leb, lt-leb, not-true}
+use Rattle.model.specs.Fence.{openCount}
 use Rattle.model.specs.Search.{any}
 use Rattle.model.proofs.Bools.{and-left, and-right, and-both}
 use Rattle.model.proofs.Search.{any-of, none-any, none-at}
@@ -148,7 +149,7 @@ limits-safe p l a = record {
         → (0 < getD (map (λ x. x .length) (p .table .tasks)) q 0) × (getD (map (λ x. x .deadline) (p .table .tasks)) q 0 ≤ mostTime)
         × (getD (map (λ x. x .period) (p .table .tasks)) q 0 ≤ mostTime)
     times q b =
-        let i = inside-test (p .table .cores) (taskOf (getD (p .table .tasks) q noTask)) (t .tasks q b) in
+        let i = inside-test (openCount (p .table .fence) (p .table .cores)) (taskOf (getD (p .table .tasks) q noTask)) (t .tasks q b) in
         let eC = column (λ x. x .length) q in
         let eD = column (λ x. x .deadline) q in
         let eT = column (λ x. x .period) q in (

@@ -10,6 +10,7 @@ use lib.Bits.{bitAnd, and-zero-l}
 use lib.ListN.{length, getD, take, replicate, length-append}
 use lib.Seq.{take-append-seam}
 use borrow.Author.Tests.{eq-eqb}
+use Rattle.model.specs.Fence.{openCount}
 use Rattle.model.specs.Task.{Table, AllSound, task}
 use Rattle.model.specs.Search.{any}
 use Rattle.model.proofs.Bools.{not-true-false}
@@ -24,7 +25,7 @@ use Rattle.model.specs.Sizes.{mostCores, mostTasks}
 use Rattle.table.specs.declared.Answer.{Answer}
 use Rattle.table.specs.declared.Answer.the-variants.{Passed, Refused}
 use Rattle.table.specs.declared.Loaded.{Loaded}
-use Rattle.table.specs.Words.{cores, tableOf}
+use Rattle.table.specs.Words.{cores, fence, tableOf}
 use Rattle.table.specs.Answer.{answerOf, headerNumber}
 use Rattle.table.specs.Load.{loadTold, LoadOf, refusal}
 use Rattle.table.proofs.Exact.{refusal-exact, passed-exact}
@@ -69,7 +70,7 @@ none-within b = eq-eqb (bitAnd 0 b) 0 (and-zero-l b)
 module _
     (t : Loaded) (e : ℕ) (v : Verdict) (pace : Pace) (places : List ℕ) (m : standAt pace places ≡ begun t) (widths : List ℕ)
     (w : widths ≡ map (λ x. x .width) (t .tasks)) (row line : List ℕ) (size ready : ℕ)
-    (p : (Put (replicate longestCells 0) 0 (cells (t .rule) (t .cores) (take (t .count) widths) 0) row size) × (size ≤ longestCells))
+    (p : (Put (replicate longestCells 0) 0 (cells (t .rule) (t .cores) (t .fence) (take (t .count) widths) 0) row size) × (size ≤ longestCells))
     (q : (Put (replicate longestLine 0) 0 (firstLine (saidBy v)) line ready) × (ready ≤ longestLine))
   where
     abbrev first : Printer
@@ -84,7 +85,7 @@ module _
     }
 
     kept : textKept first ≡ textOf (numbersIn t) 0
-    kept = put-front (p .0) ∙ ap (λ (x : List ℕ). cells (t .rule) (t .cores) (take (t .count) x) 0) w
+    kept = put-front (p .0) ∙ ap (λ (x : List ℕ). cells (t .rule) (t .cores) (t .fence) (take (t .count) x) 0) w
 
     rows :
         (0 < e → Fit t × (e ≤ t .horizon) × ((q u : ℕ) → u < e → ¬ Missed (tableIn t) q u))
@@ -161,7 +162,7 @@ load-sound ws r l = go (r .answer) refl
             let i = passed-inside ws (l .passed .0 (ap loadTold e)) p (omega (arith, h .count)) in
             let same : taskOf (getD (r .tasks) p noTask) ≡ task (tableOf ws) p =
             sym (task-at (r .tasks) (r .count) p b) ∙ ap (λ (τs : List plain.Task). getD τs p plain.nobody) (h .tasks) in
-            ap₂ (λ (m : ℕ) (τ : plain.Task). taskOut m τ) (h .cores) same ∙ inside-in (cores ws) (task (tableOf ws) p) i
+            ap₂ (λ (m : ℕ) (τ : plain.Task). taskOut m τ) (ap₂ openCount (h .fence) (h .cores)) same ∙ inside-in (openCount (fence ws) (cores ws)) (task (tableOf ws) p) i
     go (Refused n p) e = subst⁻¹ (λ (x : Loaded). tableSound x ≡ true) (l .zeros n p (ap loadTold e)) (unfold tableSound any in refl)
 
 end-case : (v : model.Verdict) (h : ℕ) → endOf (caseOf (judged v)) h ≡ rowsPrinted v h

@@ -8,7 +8,8 @@ use lib.Bits.{bitAnd, and-le-l}
 use lib.Dec.{eqb, ltb, leb}
 use lib.ListN.{getD}
 use borrow.Author.Tests.{eq-eqb, eqb-true, eqb-false, lt-ltb, ltb-true, leb-true, leb-false}
-use Rattle.model.specs.Search.{bit, upFrom}
+use Rattle.model.specs.Fence.{unfenced}
+use Rattle.model.specs.Search.{bit}
 use Rattle.model.specs.Task.{ruleOf}
 use Rattle.model.specs.Grants.{claimants, some}
 use Rattle.model.proofs.Bools.{and-left, and-right, not-false-true}
@@ -120,13 +121,13 @@ choice-claims : (n : Numbers) (c p : ℕ) → bit (choice n c) p ≡ true → bi
 choice-claims n c p e = go (leb mostTasks p) refl
   where
     f : ℕ → Bool
-    f = granted (ruleOf (n .rule)) (claimants (n .widths) (bit c)) (upFrom 0 (n .cores))
+    f = granted (ruleOf (n .rule)) (claimants (n .widths) (bit c)) (unfenced (n .fence) (n .cores))
 
     go : (x : Bool) → leb mostTasks p ≡ x → bit c p ≡ true
     go true q = absurd (true≢false (sym e ∙ set-past mostTasks f p (leb-true mostTasks p q)))
     go false q =
         not-false-true (bit c p)
-        (λ z. absurd (false≢true (sym (ap some (grants-none (ruleOf (n .rule)) (n .widths) (bit c) (upFrom 0 (n .cores)) p z))
+        (λ z. absurd (false≢true (sym (ap some (grants-none (ruleOf (n .rule)) (n .widths) (bit c) (unfenced (n .fence) (n .cores)) p z))
         ∙ (sym (set-has mostTasks f p (leb-false mostTasks p q)) ∙ e))))
 
 module _ (n : Numbers) (s : Stand) (h : Safe n s) where
@@ -152,7 +153,7 @@ module _ (n : Numbers) (s : Stand) (h : Safe n s) where
       go true e = subst (λ (c : ℕ). within (s .granted) c ≡ true) (sym (eqb-true (after n s .claiming) (s .chosen) e)) (h .kept)
       go false e =
           within-of (choice n (after n s .claiming)) (after n s .claiming)
-          (set-lt mostTasks (granted (ruleOf (n .rule)) (claimants (n .widths) (bit (after n s .claiming))) (upFrom 0 (n .cores))))
+          (set-lt mostTasks (granted (ruleOf (n .rule)) (claimants (n .widths) (bit (after n s .claiming))) (unfenced (n .fence) (n .cores))))
           (choice-claims n (after n s .claiming))
 
   -- and so is owed ticks

@@ -10,7 +10,7 @@ use Rattle.printer.specs.Cells.{cells}
 
 -- the text of the row where the claimants of the set c claim
 abbrev pub textOf : Numbers → ℕ → List ℕ
-textOf n c = cells (n .rule) (n .cores) (take (n .count) (n .widths)) c
+textOf n c = cells (n .rule) (n .cores) (n .fence) (take (n .count) (n .widths)) c
 
 -- the text of the row of a tick: the one that is kept, x, or made anew
 unfoldable pub textIn : Numbers → Stand → List ℕ → List ℕ

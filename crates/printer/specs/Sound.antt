@@ -1,6 +1,6 @@
 -- When a printer is sound: its numbers are in the limits within which it can be stepped. `Printer::new` gives sound ones, a piece leaves a sound one
 -- sound, and one that is not, forged by its caller, has nothing to hand out. The bell, the moments, the next
--- releases, the texts and the rule are not asked for: whatever they are, they say which rows there are. The table's answer, S, P and horizon are not read.
+-- releases, the texts and the rule are not asked for, and the fence only where 7 measures a width: whatever they are, they say which rows there are. The table's answer, S, P and horizon are not read.
 use mathlib.Core.Bool.{Bool, true, not, _&&_}
 use mathlib.Core.List.{List}
 use mathlib.Core.Path.{_≡_}
@@ -8,6 +8,7 @@ use Prim.Native.Nat.{ℕ, _≤_, _<_}
 use lib.Bits.{bitAnd}
 use lib.Dec.{eqb, ltb, leb}
 use lib.ListN.{getD}
+use Rattle.model.specs.Fence.{openCount}
 use Rattle.model.specs.Search.{any}
 use Rattle.model.specs.Sizes.{mostCores, mostTasks}
 use Rattle.table.specs.declared.Loaded.{Loaded}
@@ -21,7 +22,7 @@ use Rattle.text.specs.Output.{longestCells, longestLine}
 
 -- 7 or 8 turns the task at place p down
 abbrev pub outAt : Loaded → ℕ → Bool
-outAt t p = taskOut (t .cores) (taskOf (getD (t .tasks) p noTask))
+outAt t p = taskOut (openCount (t .fence) (t .cores)) (taskOf (getD (t .tasks) p noTask))
 
 -- at most 32 tasks and at most 64 cores, and no task below the count that 7 or 8 turns down
 unfoldable pub tableSound : Loaded → Bool

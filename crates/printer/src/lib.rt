@@ -67,6 +67,7 @@ fn next_line(
         size = cells::put_cells(
             setting.rule,
             setting.cores,
+            setting.fence,
             next.chosen,
             width,
             setting.count,
@@ -91,7 +92,15 @@ fn start(table: Loaded, end: u32, verdict: Verdict) -> Printer
     let machine = full::machine::start(table);
     let places = machine.places;
     let mut text = [0u8; CELLS];
-    let size = cells::put_cells(table.rule, table.cores, 0, &width, table.count, &mut text);
+    let size = cells::put_cells(
+        table.rule,
+        table.cores,
+        table.fence,
+        0,
+        &width,
+        table.count,
+        &mut text,
+    );
     let mut line = [0u8; LINE];
     let ready = first::put_first(&mut line, verdict);
     let pace = machine.pace;

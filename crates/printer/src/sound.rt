@@ -23,11 +23,12 @@ fn table_sound(table: Loaded) -> bool
     if MOST_CORES < cores {
         return false;
     }
+    let wide = cores::open_count(cores, table.fence);
     let tasks = table.tasks;
     let mut i: usize = 0;
     while i < count {
         let task = tasks[i];
-        if table::limits::task_number(cores, task) != 0 {
+        if table::limits::task_number(wide, task) != 0 {
             return false;
         }
         i += 1;

@@ -1,27 +1,12 @@
 -- The definitions, computed on small sets and rows.
 use mathlib.Core.Path.{_≡_, refl}
-use mathlib.Core.Bool.{not}
 use mathlib.Core.List.{[], _∷_, map}
-use Rattle.model.specs.Search.{bit, memb, upFrom}
+use Rattle.model.specs.Search.{bit, kept, memb, upFrom}
 use Rattle.model.specs.Task.{greedy, limited}
 use Rattle.model.specs.Grants.{claimants, given, left, grants}
-use Rattle.rule.specs.Cores.{kept, cores}
+use Rattle.cores.specs.Cores.{cores}
 use Rattle.rule.specs.Shares.{granted}
 use Rattle.rule.specs.Painted.{painted, shown}
-
--- the set 1 + 2 + 8 has the cores 0, 1 and 3, and the largest has all 64
-pub some-cores : cores 11 ≡ 0 ∷ 1 ∷ 3 ∷ []
-unfolding cores kept upFrom
-some-cores = refl
-
-pub all-cores : cores 0xffff_ffff_ffff_ffff ≡ upFrom 0 64
-unfolding cores kept upFrom
-all-cores = refl
-
--- without the cores 1 and 2
-pub fenced : kept (λ c. not (memb c (cores 6))) (cores 11) ≡ 0 ∷ 3 ∷ []
-unfolding cores kept upFrom memb
-fenced = refl
 
 -- widths 2, 2 and 1 on three cores, all claiming: greedy passes the second over, limited ends there
 pub passes-over : map (granted greedy (claimants (2 ∷ 2 ∷ 1 ∷ []) (bit 7)) (cores 7)) (upFrom 0 3) ≡ map (bit 5) (upFrom 0 3)

@@ -17,7 +17,7 @@ use Rattle.model.proofs.Grants.{given-nothing, left-nothing}
 use Rattle.rule.specs.Shares.{served, givenBy, leftBy, granted}
 use Rattle.rule.specs.declared.Served.{Served}
 use Rattle.rule.specs.declared.Served.the-variants.{Takes, Passed, Ends}
-use Rattle.rule.proofs.Ascending.{Range, range-drop, In, not-in-none, in-take, in-drop, split-apart}
+use Rattle.cores.proofs.Ascending.{Range, range-drop, In, not-in-none, in-take, in-drop, split-apart}
 
 -- ---- the four cases of a claimant
 

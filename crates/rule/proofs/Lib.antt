@@ -1,7 +1,4 @@
 pub mod Examples
-pub mod Ascending
-pub mod Cores
-pub mod Runs
 pub mod Granting
 pub mod Choosing
 pub mod Serving

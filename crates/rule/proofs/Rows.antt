@@ -1,6 +1,6 @@
 -- Laws of painted rows: byte by byte, one core or one set more, and the row of the model where no core has two holders.
-use mathlib.Core.Path.{_≡_, refl, sym, ap, _∙_}
-use mathlib.Core.Bool.{Bool, true, false, _||_, cond}
+use mathlib.Core.Path.{_≡_, refl, sym, ap, ap₂, _∙_}
+use mathlib.Core.Bool.{Bool, true, false, not, _&&_, _||_, cond, false≢true}
 use mathlib.Core.List.{List, [], _∷_, _++_, map}
 use Prim.Native.Nat.{ℕ, suc, _+_, _-_, _≤_, _<_}
 use native.Mathlib.Nat.{zero-add}
@@ -9,17 +9,20 @@ use lib.ListN.{length, getD, drop, set, replicate, length-replicate, getD-replic
 use lib.Seq.{ext-getD, getD-append-add, drop-cons, getD-set-same, getD-set-other}
 use lib.Dec.{eqb, ltb}
 use borrow.Author.Tests.{eqb-true, eqb-false, ne-eqb, ltb-true, ltb-false}
-use Rattle.model.specs.Search.{memb, upFrom}
-use Rattle.model.specs.Row.{owner, row}
+use Rattle.model.specs.Search.{bit, memb, upFrom}
+use Rattle.model.specs.Row.{byteOf, owner, row}
+use Rattle.model.specs.Fence.{unfenced}
+use Rattle.model.specs.Sizes.{fencedByte}
 use Rattle.model.specs.Task.{Rule}
 use Rattle.model.specs.Grants.{Claimant, grants}
 use Rattle.model.proofs.Bools.{not-true-false}
 use Rattle.model.proofs.Rows.{row-length}
 use Rattle.model.proofs.Lists.{up-length}
-use Rattle.rule.specs.Cores.{cores}
+use Rattle.cores.specs.Cores.{cores}
 use Rattle.rule.specs.Painted.{painted, shown}
-use Rattle.rule.proofs.Ascending.{Range, getD-up, In, in-below}
-use Rattle.rule.proofs.Cores.{cores-none}
+use Rattle.cores.proofs.Ascending.{getD-up, In, in-below, memb-kept, range-kept, range-up}
+use Rattle.cores.proofs.Cores.{cores-none}
+use Rattle.cores.proofs.Open.{in-open}
 use Rattle.rule.proofs.Granting.{Apart, apart, in-grants}
 
 -- ---- one mark
@@ -119,44 +122,67 @@ module _ (c : ℕ) where
       go false e ih =
           ih ∙ ap (λ (x : ℕ). cond (eqb (owner c (suc p) gs) 0) x (owner c (suc p) gs)) (painted-at start p g c h ∙ ap (λ (t : Bool). cond t p (getD start c 0)) e)
 
--- ---- the model's row
+-- ---- the model's row: over zeros, with the fence's mark on the list F of the fenced cores below m
 
--- over a row of zeros
-pub shown-zeros : (n c : ℕ) (gs : List (List ℕ)) → c < n → Apart gs → getD (shown (replicate n 0) 1 gs) c 0 ≡ owner c 1 gs
-shown-zeros n c gs h a =
-    shown-at c (replicate n 0) 1 gs (omega arith) (omega (arith, length-replicate {A = ℕ} n 0)) a
-    ∙ ap (λ (x : ℕ). cond (eqb (owner c 1 gs) 0) x (owner c 1 gs)) (getD-replicate n c 0 0 h)
-    ∙ go (eqb (owner c 1 gs) 0) refl
-  where
-    go : (t : Bool) → eqb (owner c 1 gs) 0 ≡ t → cond t 0 (owner c 1 gs) ≡ owner c 1 gs
-    go true e = sym (eqb-true (owner c 1 gs) 0 e)
-    go false e = refl
+module _ (n m f : ℕ) (F : List ℕ) (few : m ≤ n) (fenced : (c : ℕ) → c < n → memb c F ≡ ltb c m && bit f c) where
+  abbrev ground : List ℕ
+  ground = painted (replicate n 0) fencedByte F
 
--- the first m bytes are the model's row, and the others 0, where all cores that are given are below m
-pub shown-row : (n m : ℕ) (gs : List (List ℕ)) → m ≤ n → Apart gs → ((c j : ℕ) → In c (getD gs j []) → c < m)
-    → shown (replicate n 0) 1 gs ≡ row m gs ++ replicate (n - m) 0
-unfolding row
-shown-row n m gs h a k =
-    let s : length (shown (replicate n 0) 1 gs) ≡ n = length-shown (replicate n 0) 1 gs ∙ length-replicate {A = ℕ} n 0 in
-    let t : length (map (λ c. owner c 1 gs) (upFrom 0 m)) ≡ m = row-length m gs in
-    ext-getD 0 (shown (replicate n 0) 1 gs) (map (λ c. owner c 1 gs) (upFrom 0 m) ++ replicate (n - m) 0)
-    (omega (arith, s, t, length-append (map (λ c. owner c 1 gs) (upFrom 0 m)) (replicate (n - m) 0), length-replicate {A = ℕ} (n - m) 0))
-    (λ c l. shown-zeros n c gs (omega (arith, s)) a ∙ at c t (omega (arith, s)) (ltb c m) refl)
-  where
-    at : (c : ℕ) → length (map (λ c. owner c 1 gs) (upFrom 0 m)) ≡ m → c < n → (t : Bool) → ltb c m ≡ t → owner c 1 gs ≡ getD (map (λ c. owner c 1 gs) (upFrom 0 m) ++ replicate (n - m) 0) c 0
-    at c t l true e =
-        let q : c < m = ltb-true c m e in
-        sym (List·getD-append (map (λ c. owner c 1 gs) (upFrom 0 m)) (replicate (n - m) 0) 0 c (omega arith)
-        ∙ getD-up (λ c. owner c 1 gs) 0 0 m c q ∙ ap (λ (i : ℕ). owner i 1 gs) (zero-add c))
-    at c t l false e =
-        let q : m ≤ c = ltb-false c m e in
-        let z : c ≡ length (map (λ c. owner c 1 gs) (upFrom 0 m)) + (c - m) = omega arith in
-        nobody-holds c 1 gs (λ j i. let y : c < m = k c j i in omega arith)
-        ∙ sym (ap (λ (i : ℕ). getD (map (λ c. owner c 1 gs) (upFrom 0 m) ++ replicate (n - m) 0) i 0) z
-        ∙ getD-append-add (map (λ c. owner c 1 gs) (upFrom 0 m)) (replicate (n - m) 0) (c - m) 0
-        ∙ getD-replicate (n - m) (c - m) 0 0 (omega arith))
+  ground-length : length ground ≡ n
+  ground-length = length-painted (replicate n 0) fencedByte F ∙ length-replicate {A = ℕ} n 0
 
--- so it is with the grants of free cores below m
-pub shown-grants : (r : Rule) (bs : List Claimant) (n m : ℕ) (free : List ℕ) → m ≤ n → Range 0 m free
-    → shown (replicate n 0) 1 (grants r bs free) ≡ row m (grants r bs free) ++ replicate (n - m) 0
-shown-grants r bs n m free h o = shown-row n m (grants r bs free) h (apart r m bs free o) (λ c j i. in-below c 0 m free o (in-grants r c bs free j i))
+  ground-at : (c : ℕ) → c < n → getD ground c 0 ≡ cond (ltb c m && bit f c) fencedByte 0
+  ground-at c l =
+      painted-at (replicate n 0) fencedByte F c (omega (arith, length-replicate {A = ℕ} n 0))
+      ∙ ap₂ (λ (t : Bool) (x : ℕ). cond t fencedByte x) (fenced c l) (getD-replicate n c 0 0 l)
+
+  -- the first m bytes are the model's row, and the others 0, where all cores that are given are below m and outside the fence
+  pub shown-row : (gs : List (List ℕ)) → Apart gs → ((c j : ℕ) → In c (getD gs j []) → (c < m) × (bit f c ≡ false))
+      → shown ground 1 gs ≡ row f m gs ++ replicate (n - m) 0
+  unfolding row
+  shown-row gs a k =
+      let s : length (shown ground 1 gs) ≡ n = length-shown ground 1 gs ∙ ground-length in
+      let t : length front ≡ m = row-length f m gs in
+      ext-getD 0 (shown ground 1 gs) (front ++ replicate (n - m) 0)
+      (omega (arith, s, t, length-append front (replicate (n - m) 0), length-replicate {A = ℕ} (n - m) 0))
+      (λ c l. let h : c < n = omega (arith, s) in
+      shown-at c ground 1 gs (omega arith) (omega (arith, ground-length)) a
+      ∙ ap (λ (x : ℕ). cond (eqb (owner c 1 gs) 0) x (owner c 1 gs)) (ground-at c h)
+      ∙ (here c (ltb c m) refl (bit f c) refl ∙ sym (behind c t h (ltb c m) refl)))
+    where
+      front : List ℕ
+      front = map (byteOf f gs) (upFrom 0 m)
+
+      -- nobody holds a core past the count or in the fence
+      none : (c : ℕ) → ((c < m) × (bit f c ≡ false) → ⊥) → owner c 1 gs ≡ 0
+      none c x = nobody-holds c 1 gs (λ j i. x (k c j i))
+
+      kept-zero : (x : ℕ) (t : Bool) → eqb x 0 ≡ t → cond t 0 x ≡ x
+      kept-zero x true e = sym (eqb-true x 0 e)
+      kept-zero x false e = refl
+
+      here : (c : ℕ) (t : Bool) → ltb c m ≡ t → (u : Bool) → bit f c ≡ u
+          → cond (eqb (owner c 1 gs) 0) (cond (t && u) fencedByte 0) (owner c 1 gs) ≡ cond t (cond u fencedByte (owner c 1 gs)) 0
+      here c true e true o = rw (none c (λ x. false≢true (sym (x .1) ∙ o)))
+      here c true e false o = kept-zero (owner c 1 gs) (eqb (owner c 1 gs) 0) refl
+      here c false e u o = rw (none c (λ x. let y = ltb-false c m e in omega (arith, x .0)))
+
+      behind : (c : ℕ) → length front ≡ m → c < n → (t : Bool) → ltb c m ≡ t
+          → getD (front ++ replicate (n - m) 0) c 0 ≡ cond t (cond (bit f c) fencedByte (owner c 1 gs)) 0
+      behind c t l true e =
+          let q : c < m = ltb-true c m e in
+          List·getD-append front (replicate (n - m) 0) 0 c (omega arith)
+          ∙ getD-up (byteOf f gs) 0 0 m c q ∙ ap (byteOf f gs) (zero-add c)
+      behind c t l false e =
+          let q : m ≤ c = ltb-false c m e in
+          let z : c ≡ length front + (c - m) = omega arith in
+          ap (λ (i : ℕ). getD (front ++ replicate (n - m) 0) i 0) z
+          ∙ getD-append-add front (replicate (n - m) 0) (c - m) 0
+          ∙ getD-replicate (n - m) (c - m) 0 0 (omega arith)
+
+  -- so it is with the grants of the unfenced cores
+  pub shown-grants : (r : Rule) (bs : List Claimant)
+      → shown ground 1 (grants r bs (unfenced f m)) ≡ row f m (grants r bs (unfenced f m)) ++ replicate (n - m) 0
+  shown-grants r bs =
+      shown-row (grants r bs (unfenced f m)) (apart r m bs (unfenced f m) (range-kept (λ c. not (bit f c)) 0 m (upFrom 0 m) (range-up 0 m m (omega arith))))
+      (λ c j i. in-open f m c (in-grants r c bs (unfenced f m) j i))

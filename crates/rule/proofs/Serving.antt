@@ -16,11 +16,11 @@ use Rattle.model.specs.Grants.{Claimant, claimants, grants}
 use Rattle.model.proofs.Lists.{getD-zeros}
 use Rattle.model.proofs.Digits.{Lowest, bit-none}
 use Rattle.model.proofs.Grants.{claimant, claimants-same, grants-none, grants-length}
-use Rattle.rule.specs.Cores.{cores}
+use Rattle.cores.specs.Cores.{cores}
 use Rattle.rule.specs.Shares.{served, givenBy, leftBy, GrantedAs}
 use Rattle.rule.specs.declared.Served.{Served}
 use Rattle.rule.specs.declared.Served.the-variants.{Takes, Passed, Ends}
-use Rattle.rule.proofs.Cores.{cores-none, cores-length, back-of}
+use Rattle.cores.proofs.Cores.{cores-none, cores-length, back-of}
 use Rattle.rule.proofs.Granting.{Case, answer-means, same-either, none-given}
 use Rattle.rule.proofs.Choosing.{first-of, first-given}
 

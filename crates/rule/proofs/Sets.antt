@@ -14,25 +14,26 @@ use borrow.Author.Tests.{ltb-true, ltb-false}
 use Rattle.model.specs.Task.{Rule}
 use Rattle.model.specs.Grants.{Claimant, grants}
 use Rattle.model.specs.Row.{row}
+use Rattle.model.specs.Fence.{outside, unfenced}
+use Rattle.model.specs.Sizes.{fencedByte}
 use Rattle.model.specs.Search.{bit, upFrom}
 use Rattle.model.proofs.Bools.{and-left, and-right, not-true-false}
 use Rattle.model.proofs.Lists.{getD-zeros}
 use Rattle.model.proofs.Digits.{and-bit}
-use Rattle.rule.specs.Cores.{cores}
+use Rattle.cores.specs.Cores.{cores}
 use Rattle.rule.specs.Shares.{GrantedAs, granted}
-use Rattle.rule.specs.Painted.{shown}
-use Rattle.rule.proofs.Ascending.{Range, range-up, In, kept-same, kept-none}
-use Rattle.rule.proofs.Cores.{setOf, cores-none, cores-range, cores-length, set-cores, cores-memb}
+use Rattle.rule.specs.Painted.{painted, shown}
+use Rattle.cores.proofs.Ascending.{range-up, In, kept-same, kept-none}
+use Rattle.cores.proofs.Cores.{setOf, cores-none, cores-range, cores-length, set-cores, cores-memb}
+use Rattle.cores.proofs.Open.{memb-fenced, open-of}
 use Rattle.rule.proofs.Granting.{idle, apart, width-or-none}
 use Rattle.rule.proofs.Rows.{shown-grants}
 
--- the free set of the first n of 64 cores
-pub first-free : (f n : ℕ) → n ≤ 64 → cores f ≡ upFrom 0 (min n 64) → cores f ≡ upFrom 0 n
-first-free f n h e = let all : min n 64 ≡ n = omega arith in e ∙ ap (upFrom 0) all
-
--- who is given cores of that set
-pub granted-first : (r : Rule) (bs : List Claimant) (f n : ℕ) → n ≤ 64 → cores f ≡ upFrom 0 (min n 64) → (p : ℕ) → granted r bs (cores f) p ≡ granted r bs (upFrom 0 n) p
-granted-first r bs f n h e p = ap (λ (l : List ℕ). granted r bs l p) (first-free f n h e)
+-- who is given cores of the set of the open ones
+pub granted-open :
+    (r : Rule) (bs : List Claimant) (free f n : ℕ) → n ≤ 64 → cores free ≡ unfenced f (min n 64)
+    → (p : ℕ) → granted r bs (cores free) p ≡ granted r bs (unfenced f n) p
+granted-open r bs free f n h e p = ap (λ (l : List ℕ). granted r bs l p) (open-of free f n h e)
 
 -- a set with no cores is 0
 pub no-cores : (n : ℕ) → n < 2 ^ 64 → cores n ≡ [] → n ≡ 0
@@ -81,7 +82,10 @@ module _ (r : Rule) (bs : List Claimant) (count free : ℕ) (sets : List ℕ) (h
       (λ e. inr (no-cores s k (sets-at p ∙ e)))
       (width-or-none r bs (cores free) p)
 
-  -- over a row of zeros they show the model's row
-  pub sets-row : (m : ℕ) → m ≤ 64 → Range 0 m (cores free)
-      → shown (replicate 64 0) 1 (map cores (take count sets)) ≡ row m (grants r bs (cores free)) ++ replicate (64 - m) 0
-  sets-row m k o = ap (shown (replicate 64 0) 1) (h .gives) ∙ shown-grants r bs 64 m (cores free) k o
+  -- over a row of zeros with the fence's mark on the fenced cores they show the model's row
+  pub sets-row : (f m : ℕ) → m ≤ 64 → cores free ≡ unfenced f m
+      → shown (painted (replicate 64 0) fencedByte (outside free (upFrom 0 m))) 1 (map cores (take count sets))
+      ≡ row f m (grants r bs (unfenced f m)) ++ replicate (64 - m) 0
+  sets-row f m k o =
+      ap (shown (painted (replicate 64 0) fencedByte (outside free (upFrom 0 m))) 1) (h .gives ∙ ap (grants r bs) o)
+      ∙ shown-grants 64 m f (outside free (upFrom 0 m)) k (λ c l. memb-fenced free f m c l o) r bs

@@ -8,7 +8,7 @@ use lib.ListN.{getD, take, drop, replicate}
 use Rattle.model.specs.Task.{Rule}
 use Rattle.model.specs.Grants.{Claimant, endsChoosing, grants, some}
 use Rattle.model.specs.Sizes.{mostTasks}
-use Rattle.rule.specs.Cores.{cores}
+use Rattle.cores.specs.Cores.{cores}
 use Rattle.rule.specs.declared.Served.{Served}
 use Rattle.rule.specs.declared.Served.the-variants.{Takes, Passed, Ends}
 

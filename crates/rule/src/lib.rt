@@ -1,53 +1,19 @@
 ghost use mathlib.Core.Path.{_≡_};
-ghost use mathlib.Core.Bool.{not};
 ghost use mathlib.Core.List.{map, _++_};
-ghost use Prim.Native.Nat.{ℕ, _+_, _-_, _≤_, min};
+ghost use Prim.Native.Nat.{ℕ, _+_, _-_, _≤_};
 ghost use lib.ListN.{length, take, replicate};
-ghost use Rattle.model.specs.Search.{bit, memb, upFrom};
+ghost use Rattle.model.specs.Search.{bit};
 ghost use Rattle.model.specs.Task.{ruleOf};
+ghost use Rattle.model.specs.Fence.{unfenced};
 ghost use Rattle.model.specs.Grants.{claimants, grants};
 ghost use Rattle.model.specs.Row.{row};
 ghost use Rattle.model.specs.Sizes.{mostCores, mostTasks};
-ghost use Rattle.rule.specs.Cores.{kept, cores};
+ghost use Rattle.cores.specs.Cores.{cores};
 ghost use Rattle.rule.specs.Shares.{served, GrantedAs, granted};
 ghost use Rattle.rule.specs.Painted.{painted, shown};
-use model::MOST_CORES;
+use model::FENCED;
 use model::MOST_TASKS;
 use model::ROW;
-
-// The first `count` cores, of 64.
-pub fn first_cores(count: u32) -> u64
-    ensures { λ r. ⌜ cores r ≡ upFrom 0 (min count mostCores) ⌝ }
-{
-    if count < MOST_CORES {
-        (1u64 << count) - 1
-    } else {
-        0xffff_ffff_ffff_ffff
-    }
-}
-
-// The smaller of two numbers of cores.
-fn fewer(a: u32, b: u32) -> u32
-    ensures { λ r. ⌜ r ≡ min a b ⌝ }
-{
-    if a < b { a } else { b }
-}
-
-// The set of the `width` lowest-numbered free cores; all of them where there are fewer. A whole run of free cores is taken at a stroke.
-pub fn lowest(free: u64, width: u32) -> u64
-    ensures { λ r. ⌜ cores r ≡ take width (cores free) ⌝ }
-{
-    let mut rest = free;
-    let mut wanted = width;
-    while 0 < wanted && 0 < rest {
-        let first = u64::trailing_zeros(rest);
-        let run = u64::trailing_zeros(!(rest >> first));
-        let piece = fewer(run, wanted);
-        rest -= first_cores(piece) << first;
-        wanted -= piece;
-    }
-    free - rest
-}
 
 // What the tick rule says to a claimant: it takes its cores, it is passed over, or it ends the tick's choosing.
 pub enum Served {
@@ -125,7 +91,7 @@ pub fn grants(
             let width = widths[at];
             match serve(rule, left, width) {
                 Served::Takes => {
-                    let taken = lowest(set, width);
+                    let taken = cores::lowest(set, width);
                     sets[at] = taken;
                     set -= taken;
                     left -= width;
@@ -169,25 +135,22 @@ pub fn row_of(start: [u8; ROW], first: u8, sets: &[u64; MOST_TASKS], count: usiz
     out
 }
 
-// The row of a tick in which the places of a set claim the first `cores` cores: core 0 first, the position or 0; bytes past the core count are 0.
+// The row of a tick in which the places of a set claim the cores outside the fence: core 0 first, the position or 0, 255 on a fenced core;
+// bytes past the core count are 0.
 pub fn show(
     rule: u32,
     cores: u32,
+    fence: u64,
     claiming: u32,
     widths: &[u32; MOST_TASKS],
     count: usize,
 ) -> [u8; ROW]
     requires { ⌜ (cores ≤ mostCores) × (count ≤ mostTasks) ⌝ }
-    ensures { λ r. ⌜ r ≡ row cores (grants (ruleOf rule) (claimants (take count (now (widths .entry))) (bit claiming)) (upFrom 0 cores)) ++ replicate (mostCores - cores) 0 ⌝ }
+    ensures { λ r. ⌜ r ≡ row fence cores (grants (ruleOf rule) (claimants (take count (now (widths .entry))) (bit claiming)) (unfenced fence cores)) ++ replicate (mostCores - cores) 0 ⌝ }
 {
-    let free = first_cores(cores);
+    let free = cores::open_cores(cores, fence);
     let sets = grants(rule, free, claiming, widths, count);
-    row_of([0u8; ROW], 1, &sets, count)
-}
-
-// The cores of a set that another does not have.
-pub fn without(all: u64, fence: u64) -> u64
-    ensures { λ r. ⌜ cores r ≡ kept (λ c. not (memb c (cores fence))) (cores all) ⌝ }
-{
-    all & (all ^ fence)
+    let fenced = cores::without(cores::first_cores(cores), free);
+    let start = paint([0u8; ROW], fenced, FENCED);
+    row_of(start, 1, &sets, count)
 }

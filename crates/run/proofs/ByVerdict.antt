@@ -27,6 +27,6 @@ module _ (ws : List ℕ) where
   start-refused n p e = rw e refl
 
 -- the table that was loaded is that of the words
-pub loaded-table : (ws : List ℕ) (l : Loaded) → Holds ws l → startedRun (l .rule) (tableWith (l .cores) (l .rule) (tasksOf (l .tasks) (l .count))) ≡ startedRun (rule ws) (tableOf ws)
+pub loaded-table : (ws : List ℕ) (l : Loaded) → Holds ws l → startedRun (l .rule) (tableWith (l .cores) (l .fence) (l .rule) (tasksOf (l .tasks) (l .count))) ≡ startedRun (rule ws) (tableOf ws)
 unfolding tableOf
-loaded-table ws l h = rw (h .rule, h .cores, h .tasks) refl
+loaded-table ws l h = rw (h .rule, h .cores, h .fence, h .tasks) refl

@@ -12,7 +12,8 @@ use borrow.Author.Tests.{lt-ltb, le-ltb, eqb-true, eqb-false, ltb-true, ltb-fals
 use Rattle.model.proofs.Digits.{bit-high, bit-zero, bit-suc, half, and-bit}
 use Rattle.model.specs.Task.{Rule}
 use Rattle.model.specs.Grants.{claimants, left, grants, given, some}
-use Rattle.model.specs.Search.{any, bit, upFrom}
+use Rattle.model.specs.Fence.{unfenced}
+use Rattle.model.specs.Search.{any, bit}
 use Rattle.model.proofs.Bools.{not-false-true}
 use Rattle.model.proofs.Grants.{claimants-same}
 use Rattle.model.proofs.Search.{none-any, none-at}
@@ -55,11 +56,11 @@ module _ (r : Run) (c : Claims) (h : ClaimsOf r c) where
   past q l = h .claimed q ∙ ap (λ (t : Bool). t && claiming (phaseAt r q)) (le-ltb q (r .count) l)
 
   -- the set that the choosing gives is that of the places with cores
-  pub has-cores : (p : ℕ) → granted (ruleIn r) (claimants (c .widths) (bit (c .claiming))) (upFrom 0 (r .cores)) p ≡ hasCores r p
+  pub has-cores : (p : ℕ) → granted (ruleIn r) (claimants (c .widths) (bit (c .claiming))) (unfenced (r .fence) (r .cores)) p ≡ hasCores r p
   unfolding grantsIn
   has-cores p =
-      granted-front (ruleIn r) (r .count) (c .widths) (bit (c .claiming)) (λ q. claiming (phaseAt r q)) (upFrom 0 (r .cores)) p below past
-      ∙ ap (λ (ws : List ℕ). granted (ruleIn r) (claimants ws (λ q. claiming (phaseAt r q))) (upFrom 0 (r .cores)) p) (h .width)
+      granted-front (ruleIn r) (r .count) (c .widths) (bit (c .claiming)) (λ q. claiming (phaseAt r q)) (unfenced (r .fence) (r .cores)) p below past
+      ∙ ap (λ (ws : List ℕ). granted (ruleIn r) (claimants ws (λ q. claiming (phaseAt r q))) (unfenced (r .fence) (r .cores)) p) (h .width)
 
   -- the claimants below the count
   pub same-claimants : claimants (take (r .count) (c .widths)) (bit (c .claiming)) ≡ claimants (widthsIn r) (λ q. claiming (phaseAt r q))

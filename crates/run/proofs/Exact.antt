@@ -15,7 +15,7 @@ use Rattle.model.specs.Grants.{some}
 use Rattle.model.specs.Book as model
 use Rattle.model.proofs.Bools.{and-left, and-right, and-both}
 use Rattle.model.proofs.Search.{any-some, any-of, least-found, least-lowest}
-use Rattle.table.specs.Numbers.{Earlier, FirstOf, NoneOf}
+use Rattle.table.specs.Numbers.{place, Earlier, FirstOf, NoneOf}
 use Rattle.table.proofs.Decide.{Decides, fails, decides-not}
 use Rattle.table.proofs.Order.{not-before-itself, later}
 use Rattle.phase.specs.declared.Phase.{Phase}
@@ -110,6 +110,7 @@ module _ (r : Run) where
   first-late p l h = true≢false (sym (late-at p h) ∙ least-lowest (r .count) (lateAt r) p l)
 
   row-14 : runOut r ≡ true → FirstOf (RowApplies r) 14 0
+  unfolding place
   row-14 e = (fourteen (run-decides r .0 e), earlier)
     where
       earlier : (m q : ℕ) → Earlier m q 14 0 → ¬ RowApplies r m q
@@ -117,6 +118,7 @@ module _ (r : Run) where
       earlier m q x (fifteen p l h) = later 15 (suc p) 14 0 (omega arith) x
 
   row-15 : runOut r ≡ false → ltb (firstLateIn r) (r .count) ≡ true → FirstOf (RowApplies r) 15 (suc (firstLateIn r))
+  unfolding place
   row-15 e f = (fifteen (firstLateIn r) below (late-decides r (firstLateIn r) .0 found), earlier)
     where
       below : firstLateIn r < r .count
@@ -189,7 +191,7 @@ module _ (r : Run) where
 
     -- THE LAW OF AN ADVANCE
     advance-right : Right (AdvanceApplies r x) (advanceAnswer r x)
-    unfolding advanceAnswer
+    unfolding advanceAnswer place
     advance-right = go (runOut r) refl (ltb (firstLateIn r) (r .count)) refl (misreportedIn r x) refl
       where
         go : (t : Bool) → runOut r ≡ t → (u : Bool) → ltb (firstLateIn r) (r .count) ≡ u → (v : Bool) → misreportedIn r x ≡ v

@@ -10,16 +10,16 @@ use Rattle.model.specs.Search.{any}
 use Rattle.model.specs.Task as model
 use Rattle.model.proofs.Bools.{or-right-false}
 use Rattle.model.specs.Sizes.{mostTasks}
-use Rattle.table.specs.Limits.{from, coresOut, ruleOut, taskOut}
+use Rattle.table.specs.Limits.{from, coresOut, ruleOut, fenceOut, taskOut}
 use Rattle.table.proofs.Decide.{Decides, decides-not, decides-or, decides-any}
-use Rattle.table.proofs.Tests.{from-decides, cores-decides, rule-decides, task-decides}
+use Rattle.table.proofs.Tests.{from-decides, cores-decides, rule-decides, fence-decides, task-decides}
 use Rattle.table.proofs.Inside.{inside-test, inside-sound}
 use Rattle.phase.specs.declared.Task.{Task}
 use Rattle.run.specs.declared.Run.{Run}
 use Rattle.phase.specs.Phase.{PhaseIn, phaseIn}
 use Rattle.phase.specs.Task.{taskOf, pastEnd, nextTask}
 use Rattle.run.specs.Run.{ruleIn, taskAt, phaseAt, hasCores, mapFirst, moved}
-use Rattle.run.specs.Numbers.{PlaceOut, RunOut, placeOut, runOut, lateAt}
+use Rattle.run.specs.Numbers.{wideIn, PlaceOut, RunOut, placeOut, runOut, lateAt}
 use Rattle.run.proofs.Places.{mapFirst-at}
 use Rattle.phase.proofs.Phases.{phase-decides, next-in}
 
@@ -27,7 +27,7 @@ use Rattle.phase.proofs.Phases.{phase-decides, next-in}
 
 pub place-decides : (r : Run) (p : ℕ) → Decides (placeOut r p) (PlaceOut r p)
 place-decides r p =
-    decides-or _ _ _ _ (task-decides (r .cores) (taskAt r p))
+    decides-or _ _ _ _ (task-decides (wideIn r) (taskAt r p))
     (decides-not _ _ (phase-decides (ruleIn r) (taskAt r p) (phaseAt r p)))
 
 pub run-decides : (r : Run) → Decides (runOut r) (RunOut r)
@@ -36,7 +36,8 @@ run-decides r =
     decides-or _ _ _ _ (decides-not _ _ (from-decides 1 mostTasks (r .count)))
     (decides-or _ _ _ _ (cores-decides (r .cores))
     (decides-or _ _ _ _ (rule-decides (r .rule))
-    (decides-any (r .count) (placeOut r) (PlaceOut r) (place-decides r))))
+    (decides-or _ _ _ _ (fence-decides (r .cores) (r .fence))
+    (decides-any (r .count) (placeOut r) (PlaceOut r) (place-decides r)))))
 
 -- WHAT PASSES IT
 
@@ -49,34 +50,40 @@ pub record Passes (r : Run) : Type 0 where
   pub count : from 1 mostTasks (r .count) ≡ true
   pub cores : coresOut (r .cores) ≡ false
   pub rule : ruleOut (r .rule) ≡ false
-  pub tasks : (p : ℕ) → p < r .count → taskOut (r .cores) (taskAt r p) ≡ false
+  pub fence : fenceOut (r .cores) (r .fence) ≡ false
+  pub tasks : (p : ℕ) → p < r .count → taskOut (wideIn r) (taskAt r p) ≡ false
   pub phases : (p : ℕ) → p < r .count → PhaseIn (ruleIn r) (taskAt r p) (phaseAt r p)
+
+none-of : (a b c d e : Bool) → a || (b || (c || (d || e))) ≡ false → (a ≡ false) × (b ≡ false) × (c ≡ false) × (d ≡ false) × (e ≡ false)
+none-of true b c d e x = absurd (true≢false x)
+none-of false true c d e x = absurd (true≢false x)
+none-of false false true d e x = absurd (true≢false x)
+none-of false false false true e x = absurd (true≢false x)
+none-of false false false false e x = (refl, refl, refl, refl, x)
 
 pub passes-if : (r : Run) → runOut r ≡ false → Passes r
 unfolding runOut
 passes-if r e = record {
-  count = not-false (from 1 mostTasks (r .count)) (or-left-false (not (from 1 mostTasks (r .count))) (coresOut (r .cores) || (ruleOut (r .rule) || any (r .count) (placeOut r))) e);
-  cores = or-left-false (coresOut (r .cores)) (ruleOut (r .rule) || any (r .count) (placeOut r)) e1;
-  rule = or-left-false (ruleOut (r .rule)) (any (r .count) (placeOut r)) e2;
-  tasks = λ p l. or-left-false (taskOut (r .cores) (taskAt r p)) (not (phaseIn (ruleIn r) (taskAt r p) (phaseAt r p))) (at p l);
+  count = not-false (from 1 mostTasks (r .count)) (none .0);
+  cores = none .1;
+  rule = none .2;
+  fence = none .3;
+  tasks = λ p l. or-left-false (taskOut (wideIn r) (taskAt r p)) (not (phaseIn (ruleIn r) (taskAt r p) (phaseAt r p))) (at p l);
   phases = λ p l.
       phase-decides (ruleIn r) (taskAt r p) (phaseAt r p) .0
       (not-false (phaseIn (ruleIn r) (taskAt r p) (phaseAt r p))
-      (or-right-false (taskOut (r .cores) (taskAt r p)) (not (phaseIn (ruleIn r) (taskAt r p) (phaseAt r p))) (at p l)));
+      (or-right-false (taskOut (wideIn r) (taskAt r p)) (not (phaseIn (ruleIn r) (taskAt r p) (phaseAt r p))) (at p l)));
 }
   where
-    e1 : coresOut (r .cores) || (ruleOut (r .rule) || any (r .count) (placeOut r)) ≡ false
-    e1 = or-right-false (not (from 1 mostTasks (r .count))) (coresOut (r .cores) || (ruleOut (r .rule) || any (r .count) (placeOut r))) e
-
-    e2 : ruleOut (r .rule) || any (r .count) (placeOut r) ≡ false
-    e2 = or-right-false (coresOut (r .cores)) (ruleOut (r .rule) || any (r .count) (placeOut r)) e1
+    none : (not (from 1 mostTasks (r .count)) ≡ false) × (coresOut (r .cores) ≡ false) × (ruleOut (r .rule) ≡ false) × (fenceOut (r .cores) (r .fence) ≡ false) × (any (r .count) (placeOut r) ≡ false)
+    none = none-of (not (from 1 mostTasks (r .count))) (coresOut (r .cores)) (ruleOut (r .rule)) (fenceOut (r .cores) (r .fence)) (any (r .count) (placeOut r)) e
 
     at : (p : ℕ) → p < r .count → placeOut r p ≡ false
-    at p l = none-at (r .count) (placeOut r) p (or-right-false (ruleOut (r .rule)) (any (r .count) (placeOut r)) e2) l
+    at p l = none-at (r .count) (placeOut r) p (none .4) l
 
 pub passes-runs : (r : Run) → Passes r → runOut r ≡ false
 unfolding runOut
-passes-runs r h = rw (h .count, h .cores, h .rule) (none-any (r .count) (placeOut r) at)
+passes-runs r h = rw (h .count, h .cores, h .rule, h .fence) (none-any (r .count) (placeOut r) at)
   where
     at : (p : ℕ) → p < r .count → placeOut r p ≡ false
     at p l = rw (h .tasks p l, phase-decides (ruleIn r) (taskAt r p) (phaseAt r p) .1 (h .phases p l))
@@ -88,13 +95,13 @@ sound-if m τ e = inside-sound m τ (inside-test m τ e)
 -- A MOVE PASSES IT AGAIN
 
 -- a place with a task is a place of the array
-in-array : (r : Run) (p : ℕ) → taskOut (r .cores) (taskAt r p) ≡ false → p < length (r .tasks)
+in-array : (r : Run) (p : ℕ) → taskOut (wideIn r) (taskAt r p) ≡ false → p < length (r .tasks)
 in-array r p e = go (leb (length (r .tasks)) p) refl
   where
     go : (x : Bool) → leb (length (r .tasks)) p ≡ x → p < length (r .tasks)
     go false q = leb-false (length (r .tasks)) p q
     go true q =
-        absurd (true≢false (subst (λ (t : Task). taskOut (r .cores) (taskOf t) ≡ false) (List·getD-eq-default (r .tasks) pastEnd (leb-true (length (r .tasks)) p q)) e))
+        absurd (true≢false (subst (λ (t : Task). taskOut (wideIn r) (taskOf t) ≡ false) (List·getD-eq-default (r .tasks) pastEnd (leb-true (length (r .tasks)) p q)) e))
 
 -- the run one tick on passes 14, where nobody is late
 pub moved-passes : (f : ℕ → Bool) (r : Run) → Passes r → ((p : ℕ) → p < r .count → lateAt r p ≡ false) → Passes (moved f r)
@@ -103,10 +110,11 @@ moved-passes f r h n = record {
   count = h .count;
   cores = h .cores;
   rule = h .rule;
+  fence = h .fence;
   tasks = λ p l. rw (at p l) (h .tasks p l);
   phases = λ p l.
       subst (λ (t : Task). PhaseIn (ruleIn r) (taskOf t) (t .phase)) (sym (at p l))
-      (next-in (ruleIn r) (taskAt r p) (sound-if (r .cores) (taskAt r p) (h .tasks p l)) (hasCores r p) (f p) (phaseAt r p) (h .phases p l) (n p l));
+      (next-in (ruleIn r) (taskAt r p) (sound-if (wideIn r) (taskAt r p) (h .tasks p l)) (hasCores r p) (f p) (phaseAt r p) (h .phases p l) (n p l));
 }
   where
     at : (p : ℕ) → p < r .count

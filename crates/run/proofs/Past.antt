@@ -9,7 +9,8 @@ use lib.Seq.{getD-take}
 use lib.Dec.{ltb}
 use borrow.Author.Tests.{ltb-true}
 use Rattle.model.proofs.Search.{any-same, least-same}
-use Rattle.model.specs.Search.{bit, upFrom}
+use Rattle.model.specs.Search.{bit}
+use Rattle.model.specs.Fence.{openCount, unfenced}
 use Rattle.model.specs.Task.{ruleOf}
 use Rattle.model.specs.Grants.{Claimant, claimants, grants}
 use Rattle.model.proofs.Bools.{same-and}
@@ -39,12 +40,12 @@ past-unchanged r x = go (advanceAnswer r x)
     go (Refused n p) = refl
 
 -- NOT READ: two runs that differ only in the tasks past the count
-module _ (rule cores count : ℕ) (ts us : List Task) (e : take count ts ≡ take count us) where
+module _ (rule cores fence count : ℕ) (ts us : List Task) (e : take count ts ≡ take count us) where
   abbrev one : Run
-  one = record { rule = rule; cores = cores; count = count; tasks = ts }
+  one = record { rule = rule; cores = cores; fence = fence; count = count; tasks = ts }
 
   abbrev other : Run
-  other = record { rule = rule; cores = cores; count = count; tasks = us }
+  other = record { rule = rule; cores = cores; fence = fence; count = count; tasks = us }
 
   same-at : (p : ℕ) → p < count → getD ts p pastEnd ≡ getD us p pastEnd
   same-at p l =
@@ -54,7 +55,7 @@ module _ (rule cores count : ℕ) (ts us : List Task) (e : take count ts ≡ tak
   unfolding runOut
   same-out =
       rw (any-same count (placeOut one) (placeOut other)
-      (λ p l. ap (λ (t : Task). taskOut cores (taskOf t) || not (phaseIn (ruleOf rule) (taskOf t) (t .phase))) (same-at p l)))
+      (λ p l. ap (λ (t : Task). taskOut (openCount fence cores) (taskOf t) || not (phaseIn (ruleOf rule) (taskOf t) (t .phase))) (same-at p l)))
 
   same-late : firstLateIn one ≡ firstLateIn other
   unfolding firstLateIn
@@ -63,8 +64,8 @@ module _ (rule cores count : ℕ) (ts us : List Task) (e : take count ts ≡ tak
   same-grants : grantsIn one ≡ grantsIn other
   unfolding grantsIn
   same-grants =
-      ap (λ (l : List Task). grants (ruleOf rule) (claimants (map (λ t. t .width) l) (λ p. claiming (phaseAt one p))) (upFrom 0 cores)) e
-      ∙ ap (λ (bs : List Claimant). grants (ruleOf rule) bs (upFrom 0 cores))
+      ap (λ (l : List Task). grants (ruleOf rule) (claimants (map (λ t. t .width) l) (λ p. claiming (phaseAt one p))) (unfenced fence cores)) e
+      ∙ ap (λ (bs : List Claimant). grants (ruleOf rule) bs (unfenced fence cores))
       (claimants-same (widthsIn other) (λ p. claiming (phaseAt one p)) (λ p. claiming (phaseAt other p))
       (λ p l. ap (λ (t : Task). claiming (t .phase)) (same-at p (omega (arith, length-map (take count us) (λ t. t .width), length-take count us)))))
 
@@ -92,6 +93,7 @@ module _ (rule cores count : ℕ) (ts us : List Task) (e : take count ts ≡ tak
   same-moved f = record {
     rule = refl;
     cores = refl;
+    fence = refl;
     count = refl;
     tasks =
         take-mapFirst (λ p t. nextTask (ruleOf rule) (hasCores one p) (f p) t) (λ p t. nextTask (ruleOf rule) (hasCores other p) (f p) t) count ts us
@@ -107,10 +109,10 @@ module _ (rule cores count : ℕ) (ts us : List Task) (e : take count ts ≡ tak
     where
       go : (a : Answer) → SameBelow (byAnswer a (moved (bit x) one) one) (byAnswer a (moved (bit x) other) other)
       go Taken = same-moved (bit x)
-      go (Refused n p) = record { rule = refl; cores = refl; count = refl; tasks = e }
+      go (Refused n p) = record { rule = refl; cores = refl; fence = refl; count = refl; tasks = e }
 
 pub past-unread : (r s : Run) → SameBelow r s → (x : ℕ) → Unread r s x
 past-unread r s h x =
     subst (λ (v : Run). Unread r v x)
-    (λ i. record { rule = h .rule i; cores = h .cores i; count = h .count i; tasks = s .tasks })
-    (unread (r .rule) (r .cores) (r .count) (r .tasks) (s .tasks) (h .tasks ∙ ap (λ (n : ℕ). take n (s .tasks)) (sym (h .count))) x)
+    (λ i. record { rule = h .rule i; cores = h .cores i; fence = h .fence i; count = h .count i; tasks = s .tasks })
+    (unread (r .rule) (r .cores) (r .fence) (r .count) (r .tasks) (s .tasks) (h .tasks ∙ ap (λ (n : ℕ). take n (s .tasks)) (sym (h .count))) x)

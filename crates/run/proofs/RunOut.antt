@@ -1,14 +1,16 @@
--- Number 14 in the order in which code looks: the count, the core count and the rule, then each place; and the room that a phase leaves for one more tick.
-use mathlib.Core.Path.{_≡_, refl}
-use mathlib.Core.Bool.{Bool, true, false, not, _||_, true≢false, false≢true}
-use Prim.Native.Nat.{ℕ, _≤_, _<_}
+-- Number 14 in the order in which code looks: the count, the core count, the rule and the fence, then each place; and the room that a phase leaves for one more tick.
+use mathlib.Core.Path.{_≡_, refl, ap, _∙_}
+use mathlib.Core.Bool.{Bool, true, false, not, _||_}
+use Prim.Native.Nat.{ℕ, _≤_, _<_, min}
 use native.Mathlib.Omega.{arith}
 use borrow.Author.Tests.{not-false}
+use Rattle.model.specs.Fence.{openCount}
 use Rattle.model.specs.Search.{any, least}
+use Rattle.model.proofs.Bools.{or-right-false}
 use Rattle.model.proofs.Search.{least-below, least-none}
 use Rattle.model.specs.Task as model
 use Rattle.model.specs.Sizes.{mostCores, mostTasks}
-use Rattle.table.specs.Limits.{from, coresOut, ruleOut, mostTime}
+use Rattle.table.specs.Limits.{from, coresOut, ruleOut, fenceOut, mostTime}
 use Rattle.table.proofs.Tests.{from-decides}
 use Rattle.table.proofs.Inside.{inside-test}
 use Rattle.phase.specs.declared.Phase.{Phase}
@@ -17,39 +19,46 @@ use Rattle.run.specs.declared.Run.{Run}
 use Rattle.phase.specs.Phase.{PhaseIn}
 use Rattle.phase.specs.Headroom.{Roomy}
 use Rattle.run.specs.Run.{ruleIn, taskAt, phaseAt}
-use Rattle.run.specs.Numbers.{placeOut, runOut, lateAt, firstLateIn}
+use Rattle.run.specs.Numbers.{wideIn, placeOut, runOut, lateAt, firstLateIn}
 use Rattle.run.proofs.Limits.{or-left-false, passes-if}
 
 -- ---- the head, then the places
 
 abbrev pub headOut : Run → Bool
-headOut r = not (from 1 mostTasks (r .count)) || (coresOut (r .cores) || ruleOut (r .rule))
+headOut r = not (from 1 mostTasks (r .count)) || (coresOut (r .cores) || (ruleOut (r .rule) || fenceOut (r .cores) (r .fence)))
 
-first-out : (a b c d : Bool) → a || (b || c) ≡ true → a || (b || (c || d)) ≡ true
-first-out true b c d e = refl
-first-out false true c d e = refl
-first-out false false true d e = refl
-first-out false false false d e = absurd (false≢true e)
-
-last-out : (a b c d : Bool) → a || (b || c) ≡ false → a || (b || (c || d)) ≡ d
-last-out true b c d e = absurd (true≢false e)
-last-out false true c d e = absurd (true≢false e)
-last-out false false true d e = absurd (true≢false e)
-last-out false false false d e = refl
+head-first : (a b c d e : Bool) → a || (b || (c || (d || e))) ≡ (a || (b || (c || d))) || e
+head-first true b c d e = refl
+head-first false true c d e = refl
+head-first false false true d e = refl
+head-first false false false d e = refl
 
 module _ (r : Run) where
-  pub out-by-head : headOut r ≡ true → runOut r ≡ true
+  by-head : runOut r ≡ headOut r || any (r .count) (placeOut r)
   unfolding runOut
-  out-by-head e = first-out (not (from 1 mostTasks (r .count))) (coresOut (r .cores)) (ruleOut (r .rule)) (any (r .count) (placeOut r)) e
+  by-head = head-first (not (from 1 mostTasks (r .count))) (coresOut (r .cores)) (ruleOut (r .rule)) (fenceOut (r .cores) (r .fence)) (any (r .count) (placeOut r))
+
+  pub out-by-head : headOut r ≡ true → runOut r ≡ true
+  out-by-head e = by-head ∙ ap (λ (t : Bool). t || any (r .count) (placeOut r)) e
 
   pub out-by-place : headOut r ≡ false → runOut r ≡ any (r .count) (placeOut r)
-  unfolding runOut
-  out-by-place e = last-out (not (from 1 mostTasks (r .count))) (coresOut (r .cores)) (ruleOut (r .rule)) (any (r .count) (placeOut r)) e
+  out-by-place e = by-head ∙ ap (λ (t : Bool). t || any (r .count) (placeOut r)) e
 
-  pub head-few : headOut r ≡ false → r .count ≤ mostTasks
-  head-few e =
-      from-decides 1 mostTasks (r .count) .0
-      (not-false (from 1 mostTasks (r .count)) (or-left-false (not (from 1 mostTasks (r .count))) (coresOut (r .cores) || ruleOut (r .rule)) e)) .1
+  module _ (e : headOut r ≡ false) where
+    rest-in : coresOut (r .cores) || (ruleOut (r .rule) || fenceOut (r .cores) (r .fence)) ≡ false
+    rest-in = or-right-false (not (from 1 mostTasks (r .count))) (coresOut (r .cores) || (ruleOut (r .rule) || fenceOut (r .cores) (r .fence))) e
+
+    pub head-few : r .count ≤ mostTasks
+    head-few =
+        from-decides 1 mostTasks (r .count) .0
+        (not-false (from 1 mostTasks (r .count)) (or-left-false (not (from 1 mostTasks (r .count))) (coresOut (r .cores) || (ruleOut (r .rule) || fenceOut (r .cores) (r .fence))) e)) .1
+
+    -- so the unfenced cores, of 64 at most, are those of the core count
+    pub head-wide : openCount (r .fence) (min (r .cores) mostCores) ≡ wideIn r
+    head-wide =
+        let few = from-decides 1 mostCores (r .cores) .0 (not-false (from 1 mostCores (r .cores)) (or-left-false (coresOut (r .cores)) (ruleOut (r .rule) || fenceOut (r .cores) (r .fence)) rest-in)) in
+        let all : min (r .cores) mostCores ≡ r .cores = omega arith in
+        ap (openCount (r .fence)) all
 
 -- ---- what a run that passes 14 has
 
@@ -70,7 +79,7 @@ module _ (r : Run) (e : runOut r ≡ false) where
   -- each place leaves room for one more tick
   pub roomy : (p : ℕ) → p < r .count → Roomy (phaseAt r p)
   roomy p l =
-      let i = inside-test (r .cores) (taskAt r p) (passes-if r e .tasks p l) in
+      let i = inside-test (wideIn r) (taskAt r p) (passes-if r e .tasks p l) in
       room (ruleIn r) (taskAt r p) (phaseAt r p) (i .offset-most) (omega (arith, i .deadline-from, i .period-from)) (i .period-from .1) (passes-if r e .phases p l)
 
 -- the first late place is at most the count

@@ -9,7 +9,8 @@ use lib.Dec.{ltb}
 use Rattle.model.proofs.Rows.{row-length}
 use Rattle.model.specs.Grants.{Claimant, claimants, grants}
 use Rattle.model.specs.Row.{row}
-use Rattle.model.specs.Search.{bit, upFrom}
+use Rattle.model.specs.Fence.{unfenced}
+use Rattle.model.specs.Search.{bit}
 use Rattle.model.specs.Sizes.{mostCores}
 use Rattle.run.specs.declared.Run.{Run}
 use Rattle.run.specs.declared.choosing.Claims.{Claims}
@@ -25,11 +26,11 @@ use Rattle.run.proofs.Chosen.{same-claimants}
 -- what the rule shows for the places that claim is the run's row
 pub bytes-shown :
     (r : Run) (c : Claims) → ClaimsOf r c
-    → row (r .cores) (grants (ruleIn r) (claimants (take (r .count) (c .widths)) (bit (c .claiming))) (upFrom 0 (r .cores))) ++ replicate (mostCores - r .cores) 0 ≡ bytesIn r
+    → row (r .fence) (r .cores) (grants (ruleIn r) (claimants (take (r .count) (c .widths)) (bit (c .claiming))) (unfenced (r .fence) (r .cores))) ++ replicate (mostCores - r .cores) 0 ≡ bytesIn r
 unfolding grantsIn bytesIn
 bytes-shown r c h =
-    ap (λ (bs : List Claimant). row (r .cores) (grants (ruleIn r) bs (upFrom 0 (r .cores))) ++ replicate (mostCores - r .cores) 0) (same-claimants r c h)
-    ∙ ap (λ (n : ℕ). row (r .cores) (grantsIn r) ++ replicate (mostCores - n) 0) (sym (row-length (r .cores) (grantsIn r)))
+    ap (λ (bs : List Claimant). row (r .fence) (r .cores) (grants (ruleIn r) bs (unfenced (r .fence) (r .cores))) ++ replicate (mostCores - r .cores) 0) (same-claimants r c h)
+    ∙ ap (λ (n : ℕ). row (r .fence) (r .cores) (grantsIn r) ++ replicate (mostCores - n) 0) (sym (row-length (r .fence) (r .cores) (grantsIn r)))
 
 -- a row has 64 bytes, shown or not
 pub shown-length : (r : Run) → length (rowOf r .bytes) ≡ mostCores
@@ -41,9 +42,9 @@ shown-length r = by-out (runOut r) refl
 
     in-order : runOut r ≡ false → length (bytesIn r) ≡ mostCores
     in-order e =
-        length-append (row (r .cores) (grantsIn r)) (replicate (mostCores - length (row (r .cores) (grantsIn r))) 0)
-        ∙ (ap (λ (n : ℕ). length (row (r .cores) (grantsIn r)) + n) (length-replicate {A = ℕ} (mostCores - length (row (r .cores) (grantsIn r))) 0)
-        ∙ omega (arith, row-length (r .cores) (grantsIn r), few-cores r e))
+        length-append (row (r .fence) (r .cores) (grantsIn r)) (replicate (mostCores - length (row (r .fence) (r .cores) (grantsIn r))) 0)
+        ∙ (ap (λ (n : ℕ). length (row (r .fence) (r .cores) (grantsIn r)) + n) (length-replicate {A = ℕ} (mostCores - length (row (r .fence) (r .cores) (grantsIn r))) 0)
+        ∙ omega (arith, row-length (r .fence) (r .cores) (grantsIn r), few-cores r e))
 
     by-late : runOut r ≡ false → (t : Bool) → length (byAnswer (cond t (Refused 15 (suc (firstLateIn r))) Taken) (bytesIn r) noBytes) ≡ mostCores
     by-late e true = zeros

@@ -1,4 +1,4 @@
--- Start is refused with n and p exactly if n is the first of 1 to 9 and 13 that applies, with position p; and taken exactly if none applies.
+-- Start is refused with n and p exactly if n is the first of 1 to 9, 19 and 13 that applies, with position p; and taken exactly if none applies.
 use mathlib.Core.Path.{_≡_, refl, sym, ap, subst, _∙_}
 use mathlib.Core.Bool.{true}
 use mathlib.Core.List.{List}
@@ -8,7 +8,7 @@ use native.Mathlib.Omega.{arith}
 use Rattle.model.specs.Book as model
 use Rattle.model.specs.Verdict as verdict
 use Rattle.table.specs.Words.{rule, tableOf}
-use Rattle.table.specs.Numbers.{Earlier, FirstOf, NoneOf}
+use Rattle.table.specs.Numbers.{place, Earlier, FirstOf, NoneOf}
 use Rattle.table.specs.Numbers as table-numbers
 use Rattle.table.proofs.Decide.{fails}
 use Rattle.table.proofs.Order.{not-before-itself, later, number-most}
@@ -32,8 +32,9 @@ unfolding runOut
 empty-run-out = refl
 
 module _ (ws : List ℕ) where
-  -- 13 is not checked before 1 to 9, so the first of these is the first
+  -- 13 is not checked before 1 to 9 and 19, so the first of these is the first
   as-start : (n p : ℕ) → table-numbers.First ws n p → FirstOf (StartApplies ws) n p
+  unfolding place
   as-start n p f = (as-table n p (f .0), earlier)
     where
       earlier : (m q : ℕ) → Earlier m q n p → ¬ StartApplies ws m q
@@ -79,7 +80,7 @@ module _ (ws : List ℕ) where
   unfolding startOf
   start-taken = taken-exact (StartApplies ws) (startAnswer ws) start-right
 
-  -- a start that is taken passes 1 to 9
+  -- a start that is taken passes 1 to 9 and 19
   pub taken-passes : told (startOf ws .answer) ≡ model.taken → table-numbers.NoneApplies ws
   taken-passes e n p h = start-taken .0 e n p (as-table n p h)
 

@@ -1,4 +1,4 @@
--- The run that starts from the words of a table that passes 1 to 9 passes 14.
+-- The run that starts from the words of a table that passes 1 to 9 and 19 passes 14.
 use mathlib.Core.Path.{_≡_, refl, sym, subst}
 use mathlib.Core.Bool.{false}
 use mathlib.Core.List.{List, [], _∷_, map, _++_}
@@ -7,14 +7,15 @@ use Prim.Native.Nat.{ℕ, zero, suc, _-_, _<_}
 use native.Mathlib.Nat.{not-suc-le-zero, le-of-suc-le-suc}
 use native.Mathlib.Omega.{arith}
 use lib.ListN.{length, getD, replicate}
+use Rattle.model.specs.Fence.{openCount}
 use Rattle.model.specs.Task.{task, nobody}
 use Rattle.model.specs.Task as model
 use Rattle.model.proofs.Bools.{not-true-false}
 use Rattle.model.specs.Sizes.{mostTasks}
-use Rattle.table.specs.Words.{cores, rule, tableOf}
-use Rattle.table.specs.Limits.{coresOut, ruleOut, taskOut}
-use Rattle.table.specs.Numbers.{NoneApplies, two, three}
-use Rattle.table.proofs.Tests.{from-decides, cores-decides, rule-decides, task-decides}
+use Rattle.table.specs.Words.{cores, rule, fence, tableOf}
+use Rattle.table.specs.Limits.{coresOut, ruleOut, fenceOut, taskOut}
+use Rattle.table.specs.Numbers.{NoneApplies, two, three, nineteen}
+use Rattle.table.proofs.Tests.{from-decides, cores-decides, rule-decides, fence-decides, task-decides}
 use Rattle.table.proofs.Passed.{passed-count, passed-inside, passed-sound}
 use Rattle.phase.specs.declared.Task.{Task}
 use Rattle.phase.specs.Phase.{PhaseIn}
@@ -30,26 +31,33 @@ started-at (τ ∷ τs) us zero l = refl
 started-at (τ ∷ τs) us (suc p) l = started-at τs us p (le-of-suc-le-suc l)
 
 module _ (ws : List ℕ) (none : NoneApplies ws) where
-  -- 2 and 3
+  -- 2, 3 and 19
   cores-in : coresOut (cores ws) ≡ false
   cores-in = not-true-false (coresOut (cores ws)) (λ e. none 2 0 (two (cores-decides (cores ws) .0 e)))
 
   rule-in : ruleOut (rule ws) ≡ false
   rule-in = not-true-false (ruleOut (rule ws)) (λ e. none 3 0 (three (rule-decides (rule ws) .0 e)))
 
+  fence-in : fenceOut (cores ws) (fence ws) ≡ false
+  fence-in = not-true-false (fenceOut (cores ws) (fence ws)) (λ e. none 19 0 (nineteen (fence-decides (cores ws) (fence ws) .0 e)))
+
   -- 7 and 8
-  task-in : (p : ℕ) → p < length (tableOf ws .tasks) → taskOut (cores ws) (task (tableOf ws) p) ≡ false
+  task-in : (p : ℕ) → p < length (tableOf ws .tasks) → taskOut (openCount (fence ws) (cores ws)) (task (tableOf ws) p) ≡ false
   task-in p l =
-      not-true-false (taskOut (cores ws) (task (tableOf ws) p)) (λ e.
+      not-true-false (taskOut (openCount (fence ws) (cores ws)) (task (tableOf ws) p)) (λ e.
       let i = passed-inside ws none p l in
       ⊎-elim
       (λ w. ⊎-elim (λ x. omega arith) (λ x. omega arith) w)
       (λ w. ⊎-elim (λ x. omega arith) (λ w. ⊎-elim (λ x. x (i .length-from)) (λ w. ⊎-elim (λ x. x (i .period-from)) (λ x. x (i .deadline-from)) w) w) w)
-      (task-decides (cores ws) (task (tableOf ws) p) .0 e))
+      (task-decides (openCount (fence ws) (cores ws)) (task (tableOf ws) p) .0 e))
 
   same-cores : tableOf ws .cores ≡ cores ws
   unfolding tableOf
   same-cores = refl
+
+  same-fence : tableOf ws .fence ≡ fence ws
+  unfolding tableOf
+  same-fence = refl
 
   -- so it passes 14
   pub start-passes : Passes (startedRun (rule ws) (tableOf ws))
@@ -58,7 +66,8 @@ module _ (ws : List ℕ) (none : NoneApplies ws) where
     count = from-decides 1 mostTasks (length (tableOf ws .tasks)) .1 (passed-count ws none);
     cores = rw same-cores cores-in;
     rule = rule-in;
-    tasks = λ p l. rw (at p l, same-cores) (task-in p l);
+    fence = rw (same-cores, same-fence) fence-in;
+    tasks = λ p l. rw (at p l, same-cores, same-fence) (task-in p l);
     phases = λ p l.
         subst (λ (t : Task). PhaseIn (model.ruleOf (rule ws)) (taskOf t) (t .phase)) (sym (at p l))
         (start-in (model.ruleOf (rule ws)) (task (tableOf ws) p) (passed-sound ws none p l));

@@ -7,8 +7,9 @@ use Prim.Native.Nat.{ℕ, suc, _≤_, _<_}
 use lib.ListN.{getD}
 use lib.Dec.{ltb}
 use Rattle.model.specs.Search.{any, least, bit}
+use Rattle.model.specs.Fence.{openCount}
 use Rattle.model.specs.Sizes.{mostTasks}
-use Rattle.table.specs.Limits.{From, from, CoresOut, coresOut, RuleOut, ruleOut, WidthOut, TimesOut}
+use Rattle.table.specs.Limits.{From, from, CoresOut, coresOut, RuleOut, ruleOut, FenceOut, fenceOut, WidthOut, TimesOut}
 use Rattle.phase.specs.declared.Phase.the-variants.{Working}
 use Rattle.run.specs.declared.Run.{Run}
 use Rattle.phase.specs.Phase.{PhaseIn, working, lateIn}
@@ -17,13 +18,19 @@ use Rattle.run.specs.Run.{ruleIn, placeAt, taskAt, phaseAt, grantsIn, ha
 
 -- WHAT EACH NUMBER SAYS
 
+-- what a width is measured against: the number of unfenced cores
+abbrev pub wideIn : Run → ℕ
+wideIn r = openCount (r .fence) (r .cores)
+
 -- the task at place p breaks 7 or 8, or its phase is outside the limits
 abbrev pub PlaceOut : Run → ℕ → Type 0
-PlaceOut r p = (WidthOut (r .cores) (taskAt r p) ⊎ TimesOut (taskAt r p)) ⊎ (¬ PhaseIn (ruleIn r) (taskAt r p) (phaseAt r p))
+PlaceOut r p = (WidthOut (wideIn r) (taskAt r p) ⊎ TimesOut (taskAt r p)) ⊎ (¬ PhaseIn (ruleIn r) (taskAt r p) (phaseAt r p))
 
--- the run's count is not 1 to 32, its core count or rule is out of range, a task breaks 7 or 8, or a phase is outside the limits
+-- the run's count is not 1 to 32, its core count or rule is out of range, its fence breaks 19, a task breaks 7 or 8, or a phase is outside the limits
 abbrev pub RunOut : Run → Type 0
-RunOut r = (¬ From 1 mostTasks (r .count)) ⊎ (CoresOut (r .cores) ⊎ (RuleOut (r .rule) ⊎ ((p : ℕ) × (p < r .count) × PlaceOut r p)))
+RunOut r =
+    (¬ From 1 mostTasks (r .count))
+    ⊎ (CoresOut (r .cores) ⊎ (RuleOut (r .rule) ⊎ (FenceOut (r .cores) (r .fence) ⊎ ((p : ℕ) × (p < r .count) × PlaceOut r p))))
 
 -- the task at place p is Working at z = D
 abbrev pub Late : Run → ℕ → Type 0
@@ -39,7 +46,7 @@ Misreports r x p = (bit x p ≡ true) × ((r .count ≤ p) ⊎ ((¬ Works r p) �
 
 -- number n applies to a row asked of the run, with position p
 pub data RowApplies (r : Run) : ℕ → ℕ → Type 0 where
-  -- 14. Row or advance: the run's count is not 1 to 32, its core count or rule is out of range, a task breaks 7 or 8, or a phase is outside the limits.
+  -- 14. Row or advance: the run's count is not 1 to 32, its core count or rule is out of range, its fence breaks 19, a task breaks 7 or 8, or a phase is outside the limits.
   fourteen : RunOut r → RowApplies r 14 0
   -- 15. Row or advance: some task is Working at z = D.
   fifteen : (p : ℕ) → p < r .count → Late r p → RowApplies r 15 (suc p)
@@ -55,11 +62,13 @@ pub data AdvanceApplies (r : Run) (x : ℕ) : ℕ → ℕ → Type 0 where
 
 -- 14 of one place (`place-decides`)
 abbrev pub placeOut : Run → ℕ → Bool
-placeOut r p = outIn (r .cores) (ruleIn r) (placeAt r p)
+placeOut r p = outIn (wideIn r) (ruleIn r) (placeAt r p)
 
 -- 14 (`run-decides`)
 unfoldable pub runOut : Run → Bool
-runOut r = not (from 1 mostTasks (r .count)) || (coresOut (r .cores) || (ruleOut (r .rule) || any (r .count) (placeOut r)))
+runOut r =
+    not (from 1 mostTasks (r .count))
+    || (coresOut (r .cores) || (ruleOut (r .rule) || (fenceOut (r .cores) (r .fence) || any (r .count) (placeOut r))))
 
 -- 15 of one place (`late-decides`)
 abbrev pub lateAt : Run → ℕ → Bool

@@ -10,6 +10,7 @@ use Rattle.run.specs.Row.{rowOf}
 pub record SameBelow (r s : Run) : Type 0 where
   pub rule : r .rule ≡ s .rule
   pub cores : r .cores ≡ s .cores
+  pub fence : r .fence ≡ s .fence
   pub count : r .count ≡ s .count
   pub tasks : take (r .count) (r .tasks) ≡ take (s .count) (s .tasks)
 

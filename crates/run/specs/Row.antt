@@ -1,4 +1,4 @@
--- The row of a run (scope, 'The run in the cab'): it shows the present tick, held cores with the holder's position.
+-- The row of a run (scope, 'The run in the cab'): it shows the present tick, held cores with the holder's position, fenced ones with 255.
 use mathlib.Core.Path.{_≡_}
 use mathlib.Core.Logic.{_↔_}
 use mathlib.Core.Bool.{cond}
@@ -24,7 +24,7 @@ rowAnswer r = cond (runOut r) (Refused 14 0) (cond (ltb (firstLateIn r) (r .coun
 
 -- the row of the present tick in 64 bytes
 unfoldable pub bytesIn : Run → List ℕ
-bytesIn r = in64 (row (r .cores) (grantsIn r))
+bytesIn r = in64 (row (r .fence) (r .cores) (grantsIn r))
 
 -- 64 zeros
 abbrev pub noBytes : List ℕ

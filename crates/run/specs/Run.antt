@@ -3,8 +3,8 @@ use mathlib.Core.Bool.{Bool}
 use mathlib.Core.List.{List, [], _∷_, map}
 use Prim.Native.Nat.{ℕ, zero, suc}
 use lib.ListN.{getD, take}
-use Rattle.model.specs.Search.{upFrom}
 use Rattle.model.specs.Task as model
+use Rattle.model.specs.Fence.{unfenced}
 use Rattle.model.specs.Grants.{claimants, grants, some}
 use Rattle.phase.specs.declared.Phase.{Phase}
 use Rattle.phase.specs.declared.Task.{Task}
@@ -30,9 +30,9 @@ phaseAt r p = placeAt r p .phase
 abbrev pub widthsIn : Run → List ℕ
 widthsIn r = map (λ t. t .width) (take (r .count) (r .tasks))
 
--- the tasks that work or hold claim; the rule gives the cores of each in the present tick
+-- the tasks that work or hold claim; the rule gives the cores of each in the present tick, from those outside the fence
 unfoldable pub grantsIn : Run → List (List ℕ)
-grantsIn r = grants (ruleIn r) (claimants (widthsIn r) (λ p. claiming (phaseAt r p))) (upFrom 0 (r .cores))
+grantsIn r = grants (ruleIn r) (claimants (widthsIn r) (λ p. claiming (phaseAt r p))) (unfenced (r .fence) (r .cores))
 
 -- the task at place p gets cores in this tick
 abbrev pub hasCores : Run → ℕ → Bool
@@ -49,6 +49,7 @@ unfoldable pub moved : (ℕ → Bool) → Run → Run
 moved reported r = record {
   rule = r .rule;
   cores = r .cores;
+  fence = r .fence;
   count = r .count;
   tasks = mapFirst (λ p t. nextTask (ruleIn r) (hasCores r p) (reported p) t) (r .count) (r .tasks);
 }

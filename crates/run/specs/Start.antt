@@ -1,4 +1,4 @@
--- The start of a run from the words of a table (scope, 'The run in the cab' and numbers 1 to 9 and 13).
+-- The start of a run from the words of a table (scope, 'The run in the cab' and numbers 1 to 9, 13 and 19).
 use mathlib.Core.Path.{_≡_}
 use mathlib.Core.Logic.{_↔_}
 use mathlib.Core.List.{List, map, _++_}
@@ -27,29 +27,30 @@ unfoldable pub startedRun : ℕ → model.Table → Run
 startedRun n s = record {
   rule = n;
   cores = s .cores;
+  fence = s .fence;
   count = length (s .tasks);
   tasks = map startTask (s .tasks) ++ replicate (mostTasks - length (s .tasks)) unused;
 }
 
 -- a run of all zeros with every phase Resting(0), which 14 turns down (`empty-run-out`)
 abbrev pub emptyRun : Run
-emptyRun = record { rule = 0; cores = 0; count = 0; tasks = replicate mostTasks unused }
+emptyRun = record { rule = 0; cores = 0; fence = 0; count = 0; tasks = replicate mostTasks unused }
 
 -- number n applies to a start from the words, with position p
 pub data StartApplies (ws : List ℕ) : ℕ → ℕ → Type 0 where
-  -- 1 to 9
+  -- 1 to 9 and 19
   as-table : (n p : ℕ) → Applies ws n p → StartApplies ws n p
   -- 13. Start: the verdict is Miss.
   thirteen : (t p : ℕ) → saidBy (verdictOf ws) ≡ judged (verdict.Miss t p) → StartApplies ws 13 0
 
--- by the judge's verdict: Firm and Full are taken, Miss is 13, and 1 to 9 turn down as they do there
+-- by the judge's verdict: Firm and Full are taken, Miss is 13, and 1 to 9 and 19 turn down as they do there
 abbrev pub byVerdict : Verdict → Answer
 byVerdict (judge.Firm a b) = Taken
 byVerdict (judge.Full a b) = Taken
 byVerdict (judge.Miss t p) = Refused 13 0
 byVerdict (judge.Refused n p) = Refused n p
 
--- 1 to 9, then 13; else taken
+-- 1 to 9 and 19, then 13; else taken
 unfoldable pub startAnswer : List ℕ → Answer
 startAnswer ws = byVerdict (verdictOf ws)
 

@@ -1,18 +1,19 @@
 ghost use mathlib.Core.Path.{_≡_};
 ghost use mathlib.Core.Bool.{_||_, not};
 ghost use Prim.Native.Nat.{_≤_};
-ghost use Rattle.table.specs.Limits.{from, coresOut, ruleOut};
+ghost use Rattle.table.specs.Limits.{from, coresOut, ruleOut, fenceOut};
 ghost use Rattle.run.specs.Numbers.{runOut, firstLateIn};
 ghost use Rattle.model.specs.Sizes.{mostTasks};
 use crate::Run;
 use model::MOST_TASKS;
 
-// Whether a run's count, core count or rule is out of range.
-fn head_out(count: usize, cores: u32, rule: u32) -> bool
-    ensures { λ r. ⌜ r ≡ not (from 1 mostTasks count) || (coresOut cores || ruleOut rule) ⌝ }
+// Whether a run's count, core count, rule or fence is out of range.
+fn head_out(count: usize, cores: u32, rule: u32, fence: u64) -> bool
+    ensures { λ r. ⌜ r ≡ not (from 1 mostTasks count) || (coresOut cores || (ruleOut rule || fenceOut cores fence)) ⌝ }
 {
     !((1 <= count) & (count <= MOST_TASKS))
-        | (table::limits::cores_out(cores) | table::limits::rule_out(rule))
+        | (table::limits::cores_out(cores)
+            | (table::limits::rule_out(rule) | table::limits::fence_out(cores, fence)))
 }
 
 impl Run {
@@ -24,13 +25,14 @@ impl Run {
         let rule = self.rule;
         let cores = self.cores;
         let count = self.count;
-        if head_out(count, cores, rule) {
+        if head_out(count, cores, rule, self.fence) {
             return true;
         }
+        let wide = cores::open_count(cores, self.fence);
         let mut i: usize = 0;
         while i < count {
             let task = run.tasks[i];
-            if task.out(rule, cores) {
+            if task.out(rule, wide) {
                 return true;
             }
             i += 1;

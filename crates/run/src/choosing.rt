@@ -45,13 +45,20 @@ impl Run {
         }
     }
 
-    // The row of the present tick, core 0 first; bytes past the core count are 0.
+    // The row of the present tick, core 0 first, 255 on a fenced core; bytes past the core count are 0.
     pub(crate) fn bytes(self) -> [u8; ROW]
         requires { ⌜ runOut self ≡ false ⌝ }
         ensures { λ r. ⌜ r ≡ bytesIn self ⌝ }
     {
         let claims = self.claims();
         let widths = claims.widths;
-        rule::show(self.rule, self.cores, claims.claiming, &widths, self.count)
+        rule::show(
+            self.rule,
+            self.cores,
+            self.fence,
+            claims.claiming,
+            &widths,
+            self.count,
+        )
     }
 }

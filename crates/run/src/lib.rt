@@ -1,4 +1,4 @@
-// The run in the cab: rule, core count and the tasks with their phases; start, row and advance.
+// The run in the cab: rule, core count, fence and the tasks with their phases; start, row and advance.
 ghost use mathlib.Core.Path.{_≡_};
 ghost use mathlib.Core.Bool.{cond};
 ghost use Rattle.run.specs.declared.Answer.the-variants.{Taken, Refused};
@@ -17,10 +17,11 @@ use model::MOST_TASKS;
 use model::ROW;
 use phase::Task;
 
-// A run: the rule's number, the core count, and the tasks in priority order, of which the first count are used.
+// A run: the rule's number, the core count, the set of fenced cores, and the tasks in priority order, of which the first count are used.
 pub struct Run {
     pub rule: u32,
     pub cores: u32,
+    pub fence: u64,
     pub count: usize,
     pub tasks: [Task; MOST_TASKS],
 }
@@ -43,13 +44,13 @@ pub struct Advanced {
     pub run: Run,
 }
 
-// What a row asked gives: the answer, and one byte a core, the position or 0 for idle; bytes past the core count are 0.
+// What a row asked gives: the answer, and one byte a core, the position or 0 for idle, 255 on a fenced core; bytes past the core count are 0.
 pub struct Row {
     pub answer: Answer,
     pub bytes: [u8; ROW],
 }
 
-// The run of a table's words as it starts; or the first of 1 to 9 that applies, or 13 where the verdict is Miss, and the run of all zeros.
+// The run of a table's words as it starts; or the first of 1 to 9 and 19 that applies, or 13 where the verdict is Miss, and the run of all zeros.
 pub fn start(words: &[u32]) -> Started
     ensures { λ r. ⌜ StartOf (now (words .entry)) r ⌝ }
 {
@@ -125,7 +126,7 @@ impl Run {
         let late = self.first_late();
         let claims = self.claims();
         let widths = claims.widths;
-        let free = rule::first_cores(self.cores);
+        let free = cores::open_cores(self.cores, self.fence);
         let granted = rule::choose(self.rule, free, claims.claiming, &widths);
         let ending = reports & (granted & claims.working);
         let answer = in_order(late < self.count, late as u32 + 1, ending == reports);

@@ -22,15 +22,16 @@ fn empty() -> Run
     Run {
         rule: 0,
         cores: 0,
+        fence: 0,
         count: 0,
         tasks: tasks,
     }
 }
 
 // The run of a table's first `count` tasks as it starts.
-fn started(rule: u32, cores: u32, tasks: [table::Task; MOST_TASKS], count: usize) -> Run
+fn started(rule: u32, cores: u32, fence: u64, tasks: [table::Task; MOST_TASKS], count: usize) -> Run
     requires { ⌜ count ≤ mostTasks ⌝ }
-    ensures { λ r. ⌜ r ≡ startedRun rule (tableWith cores rule (table.tasksOf tasks count)) ⌝ }
+    ensures { λ r. ⌜ r ≡ startedRun rule (tableWith cores fence rule (table.tasksOf tasks count)) ⌝ }
 {
     let place = phase::starts::unused();
     let mut places = [place; MOST_TASKS];
@@ -44,6 +45,7 @@ fn started(rule: u32, cores: u32, tasks: [table::Task; MOST_TASKS], count: usize
     Run {
         rule: rule,
         cores: cores,
+        fence: fence,
         count: count,
         tasks: places,
     }
@@ -60,14 +62,14 @@ pub(crate) fn refused(number: u32, position: u32) -> Started
     }
 }
 
-// The run of the words of a table that passes 1 to 9, as it starts.
+// The run of the words of a table that passes 1 to 9 and 19, as it starts.
 pub(crate) fn begun(words: &[u32]) -> Started
     requires { ⌜ NoneApplies (now words) ⌝ }
     ensures { λ r. ⌜ r ≡ record { answer = Taken; run = startedRun (rule (now (words .entry))) (tableOf (now (words .entry))) } ⌝ }
 {
     let loaded = table::load(words);
     let tasks = loaded.tasks;
-    let run = started(loaded.rule, loaded.cores, tasks, loaded.count);
+    let run = started(loaded.rule, loaded.cores, loaded.fence, tasks, loaded.count);
     Started {
         answer: Answer::Taken,
         run: run,

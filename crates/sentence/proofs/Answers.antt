@@ -84,6 +84,7 @@ module _ (ws : List ℕ) (bytes : ℕ) where
 
   -- a number of the table
   by-words : (n p : ℕ) → table.First ws n p → First ws bytes n p
+  unfolding place
   by-words n p f = (words n p (f .0), none)
     where
       most : place n < 10
@@ -96,6 +97,7 @@ module _ (ws : List ℕ) (bytes : ℕ) where
 
   module _ (passed : table.NoneApplies ws) where
     is-seventeen : NeverMissed s → First ws bytes 17 0
+    unfolding place
     is-seventeen y = (seventeen y, none)
       where
         none : (m q : ℕ) → Earlier m q 17 0 → ¬ Applies ws bytes m q

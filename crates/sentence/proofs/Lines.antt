@@ -6,7 +6,7 @@ use Prim.Native.String.{String}
 use Rattle.model.specs.Book.{claims, full, served, step, work, bookFrom, enter, answer, late, misreported, reportable}
 use Rattle.model.specs.Grants.{claimants, given, grants, left}
 use Rattle.model.specs.Horizon.{S, horizon, hyperperiod, lcm}
-use Rattle.model.specs.Search.{any, least, memb, upFrom}
+use Rattle.model.specs.Search.{any, kept, least, memb, upFrom}
 use Rattle.model.specs.Verdict.{missedAt, missedIn, firstMiss}
 use Rattle.table.specs.Words.{met, count, chain, tableOf}
 use Rattle.table.specs.Answer.{headerNumber, lastStep, endingOf, firstOut, byHorizon, byTasks, byWalk, answerOf}
@@ -41,14 +41,14 @@ outcome a bs = record { says = a; bytes = bs }
 
 -- F: one core, (0,1,2,1,2), rule 1; A: three cores, rule 2 for A2
 abbrev wordsF : List ℕ
-wordsF = 1 ∷ 1 ∷ 1 ∷ 0 ∷ 0 ∷ 1 ∷ 2 ∷ 1 ∷ 2 ∷ []
+wordsF = 1 ∷ 1 ∷ 1 ∷ 0 ∷ 0 ∷ 0 ∷ 0 ∷ 1 ∷ 2 ∷ 1 ∷ 2 ∷ []
 
 abbrev tableA : ℕ → List ℕ
-tableA rule = 1 ∷ 3 ∷ rule ∷ 2 ∷ 0 ∷ 2 ∷ 2 ∷ 5 ∷ 5 ∷ 3 ∷ 0 ∷ 2 ∷ 3 ∷ 5 ∷ 5 ∷ 0 ∷ 0 ∷ 1 ∷ 4 ∷ 5 ∷ 5 ∷ []
+tableA rule = 1 ∷ 3 ∷ rule ∷ 0 ∷ 0 ∷ 2 ∷ 0 ∷ 2 ∷ 2 ∷ 5 ∷ 5 ∷ 3 ∷ 0 ∷ 2 ∷ 3 ∷ 5 ∷ 5 ∷ 0 ∷ 0 ∷ 1 ∷ 4 ∷ 5 ∷ 5 ∷ []
 
 -- 32 tasks on 64 cores: 31 of width 2, and then one of width 3, which does not fit; all have one tick of one
 abbrev crowd : List ℕ
-crowd = 1 ∷ 64 ∷ 1 ∷ narrow 1 31
+crowd = 1 ∷ 64 ∷ 1 ∷ 0 ∷ 0 ∷ narrow 1 31
   where
     narrow : ℕ → ℕ → List ℕ
     narrow k zero = 0 ∷ 0 ∷ 3 ∷ 1 ∷ 1 ∷ 1 ∷ []
@@ -66,22 +66,25 @@ lines =
     line (tableA 2) 56 (ofLength 56) sentenceA2 ∷ line (tableA 2) 55 (refusedBy 18 0) ""
     ∷ line wordsF 43 (ofLength 42) sentenceF ∷ line wordsF 42 (ofLength 42) sentenceF ∷ line wordsF 41 (refusedBy 18 0) ""
     -- A has no miss: 17 for every buffer, before 18; a number of the table before both
-    ∷ line (tableA 1) 0 (refusedBy 17 0) "" ∷ line (tableA 1) 99 (refusedBy 17 0) "" ∷ line (1 ∷ 0 ∷ 1 ∷ []) 0 (refusedBy 2 0) ""
+    ∷ line (tableA 1) 0 (refusedBy 17 0) "" ∷ line (tableA 1) 99 (refusedBy 17 0) "" ∷ line (1 ∷ 0 ∷ 1 ∷ 0 ∷ 0 ∷ []) 0 (refusedBy 2 0) ""
     -- two late at one tick: the first in priority
-    ∷ misses (1 ∷ 1 ∷ 1 ∷ 2 ∷ 0 ∷ 1 ∷ 1 ∷ 2 ∷ 2 ∷ 3 ∷ 0 ∷ 1 ∷ 2 ∷ 2 ∷ 2 ∷ 0 ∷ 0 ∷ 1 ∷ 1 ∷ 2 ∷ 2 ∷ []) 56
+    ∷ misses (1 ∷ 1 ∷ 1 ∷ 0 ∷ 0 ∷ 2 ∷ 0 ∷ 1 ∷ 1 ∷ 2 ∷ 2 ∷ 3 ∷ 0 ∷ 1 ∷ 2 ∷ 2 ∷ 2 ∷ 0 ∷ 0 ∷ 1 ∷ 1 ∷ 2 ∷ 2 ∷ []) 56
     "task 2 misses at tick 2 with 1 of 2 ticks; task 1 ran 1."
     -- a task above ran four ticks, two of them beside the late job
-    ∷ misses (1 ∷ 2 ∷ 1 ∷ 2 ∷ 0 ∷ 1 ∷ 4 ∷ 4 ∷ 4 ∷ 3 ∷ 0 ∷ 1 ∷ 2 ∷ 4 ∷ 4 ∷ 0 ∷ 0 ∷ 1 ∷ 3 ∷ 4 ∷ 4 ∷ []) 70
+    ∷ misses (1 ∷ 2 ∷ 1 ∷ 0 ∷ 0 ∷ 2 ∷ 0 ∷ 1 ∷ 4 ∷ 4 ∷ 4 ∷ 3 ∷ 0 ∷ 1 ∷ 2 ∷ 4 ∷ 4 ∷ 0 ∷ 0 ∷ 1 ∷ 3 ∷ 4 ∷ 4 ∷ []) 70
     "task 3 misses at tick 4 with 2 of 3 ticks; task 1 ran 2; task 2 ran 2."
     -- a task above ran in a tick before the late job's release, which does not count
-    ∷ misses (1 ∷ 1 ∷ 1 ∷ 2 ∷ 0 ∷ 1 ∷ 2 ∷ 4 ∷ 4 ∷ 0 ∷ 1 ∷ 1 ∷ 2 ∷ 2 ∷ 4 ∷ []) 56 "task 2 misses at tick 3 with 1 of 2 ticks; task 1 ran 1."
+    ∷ misses (1 ∷ 1 ∷ 1 ∷ 0 ∷ 0 ∷ 2 ∷ 0 ∷ 1 ∷ 2 ∷ 4 ∷ 4 ∷ 0 ∷ 1 ∷ 1 ∷ 2 ∷ 2 ∷ 4 ∷ []) 56 "task 2 misses at tick 3 with 1 of 2 ticks; task 1 ran 1."
     -- its job of an earlier release counts from then on
-    ∷ misses (1 ∷ 1 ∷ 1 ∷ 2 ∷ 0 ∷ 1 ∷ 3 ∷ 4 ∷ 4 ∷ 0 ∷ 1 ∷ 1 ∷ 2 ∷ 3 ∷ 4 ∷ []) 56 "task 2 misses at tick 4 with 1 of 2 ticks; task 1 ran 2."
+    ∷ misses (1 ∷ 1 ∷ 1 ∷ 0 ∷ 0 ∷ 2 ∷ 0 ∷ 1 ∷ 3 ∷ 4 ∷ 4 ∷ 0 ∷ 1 ∷ 1 ∷ 2 ∷ 3 ∷ 4 ∷ []) 56 "task 2 misses at tick 4 with 1 of 2 ticks; task 1 ran 2."
     -- a task below that ran meanwhile is not named
-    ∷ misses (1 ∷ 2 ∷ 1 ∷ 2 ∷ 0 ∷ 1 ∷ 3 ∷ 3 ∷ 4 ∷ 3 ∷ 0 ∷ 2 ∷ 1 ∷ 2 ∷ 4 ∷ 0 ∷ 0 ∷ 1 ∷ 1 ∷ 4 ∷ 4 ∷ []) 56
+    ∷ misses (1 ∷ 2 ∷ 1 ∷ 0 ∷ 0 ∷ 2 ∷ 0 ∷ 1 ∷ 3 ∷ 3 ∷ 4 ∷ 3 ∷ 0 ∷ 2 ∷ 1 ∷ 2 ∷ 4 ∷ 0 ∷ 0 ∷ 1 ∷ 1 ∷ 4 ∷ 4 ∷ []) 56
     "task 2 misses at tick 2 with 0 of 1 ticks; task 1 ran 2."
     -- nor is a task above that did not run
-    ∷ misses (1 ∷ 2 ∷ 1 ∷ 2 ∷ 0 ∷ 1 ∷ 2 ∷ 4 ∷ 4 ∷ 3 ∷ 3 ∷ 1 ∷ 1 ∷ 1 ∷ 4 ∷ 4 ∷ 0 ∷ 1 ∷ 2 ∷ 4 ∷ 4 ∷ 0 ∷ 0 ∷ 1 ∷ 2 ∷ 2 ∷ 4 ∷ []) 70
+    ∷ misses (1 ∷ 2 ∷ 1 ∷ 0 ∷ 0 ∷ 2 ∷ 0 ∷ 1 ∷ 2 ∷ 4 ∷ 4 ∷ 3 ∷ 3 ∷ 1 ∷ 1 ∷ 1 ∷ 4 ∷ 4 ∷ 0 ∷ 1 ∷ 2 ∷ 4 ∷ 4 ∷ 0 ∷ 0 ∷ 1 ∷ 2 ∷ 2 ∷ 4 ∷ []) 70
+    "task 4 misses at tick 2 with 0 of 2 ticks; task 1 ran 2; task 3 ran 2."
+    -- the same on four cores of which 0 and 2 are fenced
+    ∷ misses (1 ∷ 4 ∷ 1 ∷ 5 ∷ 0 ∷ 2 ∷ 0 ∷ 1 ∷ 2 ∷ 4 ∷ 4 ∷ 3 ∷ 3 ∷ 1 ∷ 1 ∷ 1 ∷ 4 ∷ 4 ∷ 0 ∷ 1 ∷ 2 ∷ 4 ∷ 4 ∷ 0 ∷ 0 ∷ 1 ∷ 2 ∷ 2 ∷ 4 ∷ []) 70
     "task 4 misses at tick 2 with 0 of 2 ticks; task 1 ran 2; task 3 ran 2."
     -- 32 tasks
     ∷ line crowd 499 (ofLength 499) "task 32 misses at tick 1 with 0 of 1 ticks; task 1 ran 1; task 2 ran 1; task 3 ran 1; task 4 ran 1; task 5 ran 1; task 6 ran 1; task 7 ran 1; task 8 ran 1; task 9 ran 1; task 10 ran 1; task 11 ran 1; task 12 ran 1; task 13 ran 1; task 14 ran 1; task 15 ran 1; task 16 ran 1; task 17 ran 1; task 18 ran 1; task 19 ran 1; task 20 ran 1; task 21 ran 1; task 22 ran 1; task 23 ran 1; task 24 ran 1; task 25 ran 1; task 26 ran 1; task 27 ran 1; task 28 ran 1; task 29 ran 1; task 30 ran 1; task 31 ran 1."
@@ -94,5 +97,5 @@ abbrev pub expected : Line → Outcome
 expected l = outcome (l .says) (letters (l .text))
 
 pub spoken-lines : map computed lines ≡ map expected lines
-unfolding spokenOf byTable byBuffer said head parts namedFrom decimal lastDigits digitCount digitsWithin factsIn missPlace ranWhileWaiting tally firstMiss answerOf byWalk byTasks byHorizon firstOut endingOf lastStep headerNumber tableOf chain count met missedIn missedAt horizon S hyperperiod lcm least any memb upFrom given left grants claimants claims served work step full bookFrom enter answer late misreported reportable
+unfolding spokenOf byTable byBuffer said head parts namedFrom decimal lastDigits digitCount digitsWithin factsIn missPlace ranWhileWaiting tally firstMiss answerOf byWalk byTasks byHorizon firstOut endingOf lastStep headerNumber tableOf chain count met missedIn missedAt horizon S hyperperiod lcm least any kept memb upFrom given left grants claimants claims served work step full bookFrom enter answer late misreported reportable
 spoken-lines = refl

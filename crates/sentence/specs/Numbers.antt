@@ -11,7 +11,7 @@ use Rattle.sentence.specs.Waiting.{factsOf}
 
 -- number n applies, with position p, to the words and a buffer of so many bytes
 pub data Applies (ws : List ℕ) (bytes : ℕ) : ℕ → ℕ → Type 0 where
-  -- 1 to 9 as the table's
+  -- those of the table
   words : (n p : ℕ) → table.Applies ws n p → Applies ws bytes n p
   -- 17. The table has no miss, after 9.
   seventeen : NeverMissed (tableOf ws) → Applies ws bytes 17 0

@@ -41,7 +41,7 @@ unfoldable pub answerLine : List ℕ → Answer → List ℕ
 answerLine word Taken = plain word
 answerLine word (Refused n p) = lineOf (letters "refused") (n ∷ p ∷ [])
 
--- a row is `row` and the cores' positions; or its refusal
+-- a row is `row` and the cores' bytes: positions, 0 where idle, 255 where fenced; or its refusal
 unfoldable pub shownLine : ℕ → Answer → List ℕ → List ℕ
 shownLine cores Taken bytes = lineOf (letters "row") (take cores bytes)
 shownLine cores (Refused n p) bytes = lineOf (letters "refused") (n ∷ p ∷ [])

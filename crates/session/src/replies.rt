@@ -51,7 +51,7 @@ pub(crate) fn say_answer(word: &[u8], answer: Answer, out: &mut [u8; LINE]) -> u
     }
 }
 
-// Writes the positions of the first cores of a row.
+// Writes the bytes of the first cores of a row.
 fn say_cores(cores: u32, bytes: [u8; ROW], out: &mut [u8; LINE]) -> usize
     ensures { λ r. ⌜ Said (lineOf (letters "row") (take cores bytes)) (now (out .entry)) (now (out .exit)) r ⌝ }
 {

@@ -1,5 +1,5 @@
 -- The answer is the first number that applies, with its position, and passed where none applies: each exactly.
-use mathlib.Core.Path.{_≡_, refl, sym, _∙_, subst}
+use mathlib.Core.Path.{_≡_, refl, sym, ap, _∙_, subst}
 use mathlib.Core.Bool.{Bool, true, false, cond, true≢false}
 use mathlib.Core.List.{List}
 use mathlib.Core.Logic.{_⊎_, inl, inr, ⊎-elim, _↔_}
@@ -10,43 +10,45 @@ use lib.ListN.{length, getD}
 use lib.Dec.{eqb, ltb}
 use borrow.Author.Tests.{eqb-true, eqb-false, ltb-true, ltb-false}
 use Rattle.model.specs.Task.{Task, nobody}
+use Rattle.model.specs.Fence.{openCount}
 use Rattle.model.specs.Horizon.{horizon}
 use Rattle.table.specs.declared.chain.Ending.the-variants.{Past, Again, Whole}
 use Rattle.table.specs.declared.Answer.{Answer}
 use Rattle.table.specs.declared.Answer.the-variants.{Passed, Refused}
-use Rattle.table.specs.Words.{head, cores, rule, taskAt, tableOf}
-use Rattle.table.specs.Limits.{CoresOut, RuleOut, WidthOut, TimesOut, HorizonOut, coresOut, ruleOut, widthOut, timesOut, taskNumber, taskOut, horizonOut, mostHorizon}
-use Rattle.table.specs.Numbers.{WordsOut, Position, Applies, one, two, three, four, five, six, seven, eight, nine, place, Earlier, First, NoneApplies}
+use Rattle.table.specs.Words.{head, cores, rule, fence, taskAt, tableOf}
+use Rattle.table.specs.Limits.{CoresOut, RuleOut, FenceOut, WidthOut, TimesOut, HorizonOut, coresOut, ruleOut, fenceOut, widthOut, timesOut, taskNumber, taskOut, horizonOut, mostHorizon}
+use Rattle.table.specs.Numbers.{WordsOut, Position, Applies, one, two, three, nineteen, four, five, six, seven, eight, nine, place, Earlier, First, NoneApplies}
 use Rattle.table.specs.Answer.{wordsOut, headerNumber, pastAt, againAt, lastStep, firstOut, byHorizon, byTasks, endingOf, byEnding, byWalk, answerOf}
 use Rattle.table.proofs.Decide.{Decides, holds, fails, decides-lt}
-use Rattle.table.proofs.Tests.{words-decides, cores-decides, rule-decides, width-decides, times-decides, task-decides}
+use Rattle.table.proofs.Tests.{words-decides, cores-decides, rule-decides, fence-decides, width-decides, times-decides, task-decides}
 use Rattle.table.proofs.Walk.{five-decides, six-decides}
-use Rattle.table.proofs.Order.{earlier-lower, place-of, earlier-task, first-only}
+use Rattle.table.proofs.Order.{shared, numberAt, placed, first-only}
 use Rattle.table.proofs.Tasks.{table-length, table-at}
 use Rattle.table.proofs.FirstOut.{out-found, out-lowest}
 
--- numbers are 1 to 9
-applies-from : (ws : List ℕ) (n p : ℕ) → Applies ws n p → (1 ≤ n) × (n ≤ 9)
-applies-from ws n p (one h) = omega arith
-applies-from ws n p (two h) = omega arith
-applies-from ws n p (three h) = omega arith
-applies-from ws n p (four h) = omega arith
-applies-from ws n p (five k c h) = omega arith
-applies-from ws n p (six k c h) = omega arith
-applies-from ws n p (seven q o h) = omega arith
-applies-from ws n p (eight q o h) = omega arith
-applies-from ws n p (nine h) = omega arith
-
--- no number below n applies
+-- no number of a place before k applies
 abbrev Below : List ℕ → ℕ → Type 0
-Below ws n = (m q : ℕ) → m < n → ¬ Applies ws m q
+Below ws k = (m q : ℕ) → place m < k → ¬ Applies ws m q
 
 below-one : (ws : List ℕ) → Below ws 1
-below-one ws m q l a = let h = applies-from ws m q a in omega arith
+below-one ws m q l a = omega (arith, placed ws m q a .from)
 
-below-more : (ws : List ℕ) (n : ℕ) → Below ws n → ((q : ℕ) → ¬ Applies ws n q) → Below ws (suc n)
-below-more ws n b never m q l a =
-    ⊎-elim (λ (e : m ≡ n). never q (subst (λ (x : ℕ). Applies ws x q) e a)) (λ (e : m < n). b m q e a) (eq-or-lt-of-le (omega arith))
+-- at this place or before it
+at-or-before : (ws : List ℕ) (k m : ℕ) → place m < suc k → (place m ≡ k) ⊎ (place m < k)
+at-or-before ws k m l = eq-or-lt-of-le (omega arith)
+
+below-more : (ws : List ℕ) (k : ℕ) → (k ≡ shared → ⊥) → Below ws k → ((q : ℕ) → ¬ Applies ws (numberAt k) q) → Below ws (suc k)
+below-more ws k other b never m q l a =
+    ⊎-elim
+    (λ (e : place m ≡ k). let only : m ≡ numberAt k = placed ws m q a .alone (λ x. other (sym e ∙ x)) ∙ ap numberAt e in never q (subst (λ (x : ℕ). Applies ws x q) only a))
+    (λ (e : place m < k). b m q e a) (at-or-before ws k m l)
+
+below-tasks : (ws : List ℕ) → Below ws shared → ((q : ℕ) → ¬ Applies ws 7 q) → ((q : ℕ) → ¬ Applies ws 8 q) → Below ws (suc shared)
+below-tasks ws b s e m q l a =
+    ⊎-elim
+    (λ (x : place m ≡ shared).
+    ⊎-elim (λ y. s q (subst (λ (n : ℕ). Applies ws n q) y a)) (λ y. e q (subst (λ (n : ℕ). Applies ws n q) y a)) (placed ws m q a .pair x))
+    (λ (x : place m < shared). b m q x a) (at-or-before ws shared m l)
 
 not-one : (ws : List ℕ) → ¬ WordsOut ws → (q : ℕ) → ¬ Applies ws 1 q
 not-one ws never q (one h) = never h
@@ -57,6 +59,9 @@ not-two ws never q (two h) = never h
 not-three : (ws : List ℕ) → ¬ RuleOut (rule ws) → (q : ℕ) → ¬ Applies ws 3 q
 not-three ws never q (three h) = never h
 
+not-nineteen : (ws : List ℕ) → ¬ FenceOut (cores ws) (fence ws) → (q : ℕ) → ¬ Applies ws 19 q
+not-nineteen ws never q (nineteen h) = never h
+
 not-four : (ws : List ℕ) → ¬ (head ws ≡ 0) → (q : ℕ) → ¬ Applies ws 4 q
 not-four ws never q (four h) = never h
 
@@ -66,7 +71,11 @@ not-five ws never q (five k c h) = never (five k c h)
 not-six : (ws : List ℕ) → ¬ Applies ws 6 0 → (q : ℕ) → ¬ Applies ws 6 q
 not-six ws never q (six k c h) = never (six k c h)
 
-seven-says : (ws : List ℕ) (q : ℕ) → Applies ws 7 q → Position ws q × WidthOut (cores ws) (taskAt ws q)
+-- what a width is measured against
+abbrev wideIn : List ℕ → ℕ
+wideIn ws = openCount (fence ws) (cores ws)
+
+seven-says : (ws : List ℕ) (q : ℕ) → Applies ws 7 q → Position ws q × WidthOut (wideIn ws) (taskAt ws q)
 seven-says ws q (seven p o h) = (o, h)
 
 eight-says : (ws : List ℕ) (q : ℕ) → Applies ws 8 q → Position ws q × TimesOut (taskAt ws q)
@@ -75,9 +84,16 @@ eight-says ws q (eight p o h) = (o, h)
 not-nine : (ws : List ℕ) → ¬ HorizonOut (horizon (tableOf ws)) → (q : ℕ) → ¬ Applies ws 9 q
 not-nine ws never q (nine h) = never h
 
--- a number other than 7 and 8 is the first where no lower one applies
-first-other : (ws : List ℕ) (n : ℕ) → (n ≡ 7 → ⊥) → (n ≡ 8 → ⊥) → Applies ws n 0 → Below ws n → First ws n 0
-first-other ws n s e a b = (a, λ m q l. b m q (earlier-lower m q n s e l))
+-- a number other than 7 and 8 is the first where none of an earlier place applies
+first-other : (ws : List ℕ) (n : ℕ) → (place n ≡ shared → ⊥) → Applies ws n 0 → Below ws (place n) → First ws n 0
+first-other ws n other a b = (a, earlier)
+  where
+    earlier : (m q : ℕ) → Earlier m q n 0 → ¬ Applies ws m q
+    earlier m q (inl l) x = b m q l x
+    earlier m q (inr (e, inl l)) x = omega arith
+    earlier m q (inr (e, inr (z, l))) x =
+        let same : m ≡ n = placed ws m q x .alone (λ y. other (sym e ∙ y)) ∙ (ap numberAt e ∙ sym (placed ws n 0 a .alone other)) in
+        omega (arith, same)
 
 -- what an answer says of the words
 abbrev Right : List ℕ → Answer → Type 0
@@ -86,29 +102,27 @@ Right ws (Refused n p) = First ws n p
 
 -- 9, or passed
 horizon-right : (ws : List ℕ) → Below ws 9 → Right ws (byHorizon (tableOf ws))
-unfolding byHorizon
+unfolding byHorizon place
 horizon-right ws b = go (horizonOut (horizon (tableOf ws))) refl
   where
     far : Decides (horizonOut (horizon (tableOf ws))) (HorizonOut (horizon (tableOf ws)))
     far = decides-lt mostHorizon (horizon (tableOf ws))
 
     none : ¬ HorizonOut (horizon (tableOf ws)) → NoneApplies ws
-    none never n p a =
-        let h = applies-from ws n p a in
-        below-more ws 9 b (not-nine ws never) n p (omega arith) a
+    none never n p a = below-more ws 9 (λ x. omega arith) b (not-nine ws never) n p (placed ws n p a .most) a
 
     go : (t : Bool) → horizonOut (horizon (tableOf ws)) ≡ t → Right ws (cond t (Refused 9 0) Passed)
-    go true e = first-other ws 9 (λ x. omega arith) (λ x. omega arith) (nine (far .0 e)) b
+    go true e = first-other ws 9 (λ x. omega arith) (nine (far .0 e)) b
     go false e = none (fails _ _ far e)
 
 -- neither applies below place i
 abbrev Fine : List ℕ → ℕ → Type 0
-Fine ws i = (j : ℕ) → j < i → taskOut (cores ws) (getD (tableOf ws .tasks) j nobody) ≡ false
+Fine ws i = (j : ℕ) → j < i → taskOut (wideIn ws) (getD (tableOf ws .tasks) j nobody) ≡ false
 
-fine-at : (ws : List ℕ) (i : ℕ) → Fine ws i → (q : ℕ) → q ≤ i → Position ws q → ¬ (WidthOut (cores ws) (taskAt ws q) ⊎ TimesOut (taskAt ws q))
+fine-at : (ws : List ℕ) (i : ℕ) → Fine ws i → (q : ℕ) → q ≤ i → Position ws q → ¬ (WidthOut (wideIn ws) (taskAt ws q) ⊎ TimesOut (taskAt ws q))
 fine-at ws i f q l o =
     let e = table-at ws (q - 1) (omega arith) in
-    rw e at (fails _ _ (task-decides (cores ws) (getD (tableOf ws .tasks) (q - 1) nobody)) (f (q - 1) (omega arith)))
+    rw e at (fails _ _ (task-decides (wideIn ws) (getD (tableOf ws .tasks) (q - 1) nobody)) (f (q - 1) (omega arith)))
 
 not-seven : (ws : List ℕ) (i : ℕ) → Fine ws i → (q : ℕ) → q ≤ i → ¬ Applies ws 7 q
 not-seven ws i f q l a = let x = seven-says ws q a in fine-at ws i f q l (x .0) (inl (x .1))
@@ -116,7 +130,7 @@ not-seven ws i f q l a = let x = seven-says ws q a in fine-at ws i f q l (x .0) 
 not-eight : (ws : List ℕ) (i : ℕ) → Fine ws i → (q : ℕ) → q ≤ i → ¬ Applies ws 8 q
 not-eight ws i f q l a = let x = eight-says ws q a in fine-at ws i f q l (x .0) (inr (x .1))
 
-first-task : (ws : List ℕ) (n i : ℕ) → place n ≡ 7 → Applies ws n (suc i) → Below ws 7 → Fine ws i → (7 < n → ¬ Applies ws 7 (suc i)) → First ws n (suc i)
+first-task : (ws : List ℕ) (n i : ℕ) → place n ≡ shared → Applies ws n (suc i) → Below ws shared → Fine ws i → (7 < n → ¬ Applies ws 7 (suc i)) → First ws n (suc i)
 first-task ws n i s a b f low = (a, earlier)
   where
     same : (m q : ℕ) → (m ≡ 7) ⊎ (m ≡ 8) → ((q < suc i) ⊎ ((q ≡ suc i) × (m < n))) → ¬ Applies ws m q
@@ -125,22 +139,22 @@ first-task ws n i s a b f low = (a, earlier)
         (λ e. not-eight ws i f q (omega arith) (subst (λ (k : ℕ). Applies ws k q) e x))
         m78
     same m q m78 (inr l) x =
-        let at = l .0 in
         let less = l .1 in
         ⊎-elim (λ e. low (omega arith) (subst (Applies ws 7) (l .0) (subst (λ (k : ℕ). Applies ws k q) e x)))
-        (λ e. ⊎-elim (λ y. let z = y .0 in absurd (omega arith)) (λ y. let z = y .1 in absurd (omega arith)) (place-of n))
+        (λ e. ⊎-elim (λ (y : n ≡ 7). absurd (omega arith)) (λ (y : n ≡ 8). absurd (omega arith)) (placed ws n (suc i) a .pair s))
         m78
 
     earlier : (m q : ℕ) → Earlier m q n (suc i) → ¬ Applies ws m q
-    earlier m q l = ⊎-elim (λ z. b m q z) (λ z. same m q (z .0) (z .1)) (earlier-task m q n (suc i) s l)
+    earlier m q (inl l) x = b m q (omega (arith, s)) x
+    earlier m q (inr (e, l)) x = same m q (placed ws m q x .pair (e ∙ s)) l x
 
 -- 7 or 8, or by the horizon
-tasks-right : (ws : List ℕ) → Below ws 7 → Right ws (byTasks (tableOf ws))
-unfolding byTasks tableOf
+tasks-right : (ws : List ℕ) → Below ws shared → Right ws (byTasks (tableOf ws))
+unfolding byTasks tableOf place
 tasks-right ws b = go (ltb out many) refl
   where
     m : ℕ
-    m = cores ws
+    m = wideIn ws
 
     many : ℕ
     many = length (tableOf ws .tasks)
@@ -163,8 +177,8 @@ tasks-right ws b = go (ltb out many) refl
     nine-left : many ≤ out → Below ws 9
     nine-left l =
         let n = table-length ws in
-        below-more ws 8
-        (below-more ws 7 b (λ q a. let o = seven-says ws q a .0 in not-seven ws out fine q (omega arith) a))
+        below-tasks ws b
+        (λ q a. let o = seven-says ws q a .0 in not-seven ws out fine q (omega arith) a)
         (λ q a. let o = eight-says ws q a .0 in not-eight ws out fine q (omega arith) a)
 
     -- a task that is out by its width, or else by its times
@@ -183,43 +197,53 @@ tasks-right ws b = go (ltb out many) refl
     go false e = horizon-right ws (nine-left (ltb-false out many e))
 
 -- 5 or 6, or by the tasks
-walk-right : (ws : List ℕ) → Below ws 5 → Right ws (byWalk ws)
-unfolding byWalk endingOf
+walk-right : (ws : List ℕ) → Below ws 6 → Right ws (byWalk ws)
+unfolding byWalk endingOf place
 walk-right ws b = go (pastAt ws (lastStep ws)) refl (againAt ws (lastStep ws)) refl
   where
-    six-left : pastAt ws (lastStep ws) ≡ false → Below ws 6
-    six-left e = below-more ws 5 b (not-five ws (fails (pastAt ws (lastStep ws)) (Applies ws 5 0) (five-decides ws) e))
+    six-left : pastAt ws (lastStep ws) ≡ false → Below ws 7
+    six-left e = below-more ws 6 (λ x. omega arith) b (not-five ws (fails (pastAt ws (lastStep ws)) (Applies ws 5 0) (five-decides ws) e))
 
-    seven-left : pastAt ws (lastStep ws) ≡ false → againAt ws (lastStep ws) ≡ false → Below ws 7
-    seven-left e f = below-more ws 6 (six-left e) (not-six ws (fails (againAt ws (lastStep ws)) (Applies ws 6 0) (six-decides ws) f))
+    seven-left : pastAt ws (lastStep ws) ≡ false → againAt ws (lastStep ws) ≡ false → Below ws shared
+    seven-left e f = below-more ws 7 (λ x. omega arith) (six-left e) (not-six ws (fails (againAt ws (lastStep ws)) (Applies ws 6 0) (six-decides ws) f))
 
     go : (t : Bool) → pastAt ws (lastStep ws) ≡ t → (u : Bool) → againAt ws (lastStep ws) ≡ u → Right ws (byEnding (cond t Past (cond u Again Whole)) (tableOf ws))
-    go true e u f = first-other ws 5 (λ x. omega arith) (λ x. omega arith) (five-decides ws .0 e) b
-    go false e true f = first-other ws 6 (λ x. omega arith) (λ x. omega arith) (six-decides ws .0 f) (six-left e)
+    go true e u f = first-other ws 5 (λ x. omega arith) (five-decides ws .0 e) b
+    go false e true f = first-other ws 6 (λ x. omega arith) (six-decides ws .0 f) (six-left e)
     go false e false f = tasks-right ws (seven-left e f)
 
--- 1 to 4, or by the walk
+-- a number of the header, or by the walk
 right : (ws : List ℕ) → Right ws (answerOf ws)
-unfolding answerOf headerNumber
-right ws = go (wordsOut ws) refl (coresOut (cores ws)) refl (ruleOut (rule ws)) refl (eqb (head ws) 0) refl
+unfolding answerOf headerNumber place
+right ws = go (wordsOut ws) refl (coresOut (cores ws)) refl (ruleOut (rule ws)) refl (fenceOut (cores ws) (fence ws)) refl (eqb (head ws) 0) refl
   where
-    two-left : wordsOut ws ≡ false → Below ws 2
-    two-left e = below-more ws 1 (below-one ws) (not-one ws (fails (wordsOut ws) (WordsOut ws) (words-decides ws) e))
+    after-one : wordsOut ws ≡ false → Below ws 2
+    after-one e = below-more ws 1 (λ x. omega arith) (below-one ws) (not-one ws (fails (wordsOut ws) (WordsOut ws) (words-decides ws) e))
 
-    three-left : wordsOut ws ≡ false → coresOut (cores ws) ≡ false → Below ws 3
-    three-left e f = below-more ws 2 (two-left e) (not-two ws (fails (coresOut (cores ws)) (CoresOut (cores ws)) (cores-decides (cores ws)) f))
+    after-two : wordsOut ws ≡ false → coresOut (cores ws) ≡ false → Below ws 3
+    after-two e f = below-more ws 2 (λ x. omega arith) (after-one e) (not-two ws (fails (coresOut (cores ws)) (CoresOut (cores ws)) (cores-decides (cores ws)) f))
 
-    four-left : wordsOut ws ≡ false → coresOut (cores ws) ≡ false → ruleOut (rule ws) ≡ false → Below ws 4
-    four-left e f g = below-more ws 3 (three-left e f) (not-three ws (fails (ruleOut (rule ws)) (RuleOut (rule ws)) (rule-decides (rule ws)) g))
+    after-three : wordsOut ws ≡ false → coresOut (cores ws) ≡ false → ruleOut (rule ws) ≡ false → Below ws 4
+    after-three e f g = below-more ws 3 (λ x. omega arith) (after-two e f) (not-three ws (fails (ruleOut (rule ws)) (RuleOut (rule ws)) (rule-decides (rule ws)) g))
 
-    go : (s : Bool) → wordsOut ws ≡ s → (t : Bool) → coresOut (cores ws) ≡ t → (u : Bool) → ruleOut (rule ws) ≡ u → (v : Bool) → eqb (head ws) 0 ≡ v
-        → Right ws (cond (eqb (cond s 1 (cond t 2 (cond u 3 (cond v 4 0)))) 0) (byWalk ws) (Refused (cond s 1 (cond t 2 (cond u 3 (cond v 4 0)))) 0))
-    go true e t f u g v h = first-other ws 1 (λ x. omega arith) (λ x. omega arith) (one (words-decides ws .0 e)) (below-one ws)
-    go false e true f u g v h = first-other ws 2 (λ x. omega arith) (λ x. omega arith) (two (cores-decides (cores ws) .0 f)) (two-left e)
-    go false e false f true g v h = first-other ws 3 (λ x. omega arith) (λ x. omega arith) (three (rule-decides (rule ws) .0 g)) (three-left e f)
-    go false e false f false g true h = first-other ws 4 (λ x. omega arith) (λ x. omega arith) (four (eqb-true (head ws) 0 h)) (four-left e f g)
-    go false e false f false g false h =
-        walk-right ws (below-more ws 4 (four-left e f g) (not-four ws (eqb-false (head ws) 0 h)))
+    fenced : Decides (fenceOut (cores ws) (fence ws)) (FenceOut (cores ws) (fence ws))
+    fenced = fence-decides (cores ws) (fence ws)
+
+    after-nineteen : wordsOut ws ≡ false → coresOut (cores ws) ≡ false → ruleOut (rule ws) ≡ false → fenceOut (cores ws) (fence ws) ≡ false → Below ws 5
+    after-nineteen e f g i =
+        below-more ws 4 (λ x. omega arith) (after-three e f g) (not-nineteen ws (fails (fenceOut (cores ws) (fence ws)) (FenceOut (cores ws) (fence ws)) fenced i))
+
+    go : (s : Bool) → wordsOut ws ≡ s → (t : Bool) → coresOut (cores ws) ≡ t → (u : Bool) → ruleOut (rule ws) ≡ u
+        → (w : Bool) → fenceOut (cores ws) (fence ws) ≡ w → (v : Bool) → eqb (head ws) 0 ≡ v
+        → Right ws
+        (cond (eqb (cond s 1 (cond t 2 (cond u 3 (cond w 19 (cond v 4 0))))) 0) (byWalk ws) (Refused (cond s 1 (cond t 2 (cond u 3 (cond w 19 (cond v 4 0))))) 0))
+    go true e t f u g w i v h = first-other ws 1 (λ x. omega arith) (one (words-decides ws .0 e)) (below-one ws)
+    go false e true f u g w i v h = first-other ws 2 (λ x. omega arith) (two (cores-decides (cores ws) .0 f)) (after-one e)
+    go false e false f true g w i v h = first-other ws 3 (λ x. omega arith) (three (rule-decides (rule ws) .0 g)) (after-two e f)
+    go false e false f false g true i v h = first-other ws 19 (λ x. omega arith) (nineteen (fenced .0 i)) (after-three e f g)
+    go false e false f false g false i true h = first-other ws 4 (λ x. omega arith) (four (eqb-true (head ws) 0 h)) (after-nineteen e f g i)
+    go false e false f false g false i false h =
+        walk-right ws (below-more ws 5 (λ x. omega arith) (after-nineteen e f g i) (not-four ws (eqb-false (head ws) 0 h)))
 
 -- what is right of an answer determines it
 settled : (ws : List ℕ) (a : Answer) → Right ws a → ((n p : ℕ) → (a ≡ Refused n p) ↔ First ws n p) × ((a ≡ Passed) ↔ NoneApplies ws)

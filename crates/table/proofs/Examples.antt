@@ -1,9 +1,9 @@
--- Tables in words, computed from the definitions: example A, what numbers 1 to 9 turn down, and each limit of 2, 3, 7 and 8 from both sides.
+-- Tables in words, computed from the definitions: example A, what each number turns down, and each limit of 2, 3, 19, 7 and 8 from both sides.
 use mathlib.Core.Path.{_≡_, refl}
 use mathlib.Core.List.{List, [], _∷_, map, _++_}
-use Prim.Native.Nat.{ℕ, suc, _+_}
+use Prim.Native.Nat.{ℕ, suc, _+_, _*_, _^_}
 use lib.ListN.{length, replicate}
-use Rattle.model.specs.Search.{any, least, upFrom}
+use Rattle.model.specs.Search.{any, kept, least, upFrom}
 use Rattle.model.specs.Task.{Task, Table, greedy}
 use Rattle.model.specs.Horizon.{S, lcm, hyperperiod, horizon}
 use Rattle.model.proofs.Examples.{t, on, A}
@@ -12,6 +12,7 @@ use Rattle.table.specs.declared.Loaded.{Loaded}
 use Rattle.table.specs.Words.{met, count, chain, tableOf}
 use Rattle.table.specs.Answer.{headerNumber, lastStep, endingOf, firstOut, byHorizon, byTasks, byWalk, answerOf}
 use Rattle.table.specs.Load.{places, refusal, loadOf}
+use Rattle.table.specs.Bare.{bared}
 
 -- a line: the words of a table, and what `load` gives of them
 pub record Line : Type 0 where
@@ -32,6 +33,7 @@ passes s start period horizon =
       answer = Passed;
       count = length (s .tasks);
       cores = s .cores;
+      fence = s .fence;
       rule = 1;
       tasks = places (s .tasks);
       start = start;
@@ -39,9 +41,12 @@ passes s start period horizon =
       horizon = horizon;
     }
 
--- a header, and a record's six words
+-- a header with the two words of a fence, one with an empty fence, and a record's six words
+abbrev fenced : ℕ → ℕ → ℕ → ℕ → ℕ → List ℕ
+fenced h m r low high = h ∷ m ∷ r ∷ low ∷ high ∷ []
+
 abbrev header : ℕ → ℕ → ℕ → List ℕ
-header h m r = h ∷ m ∷ r ∷ []
+header h m r = fenced h m r 0 0
 
 abbrev entry : ℕ → ℕ → ℕ → ℕ → ℕ → ℕ → List ℕ
 entry n o v c d p = n ∷ o ∷ v ∷ c ∷ d ∷ p ∷ []
@@ -81,6 +86,17 @@ fits m τ = line (alone m τ) (passes (on m greedy (τ ∷ [])) (τ .offset) (τ
 abbrev breaks : ℕ → ℕ → ℕ → Task → Line
 breaks n p m τ = line (alone m τ) (refusal n p)
 
+-- one task of width v on m cores with this fence: it passes, or it is refused, with its number and position
+abbrev wall : ℕ → ℕ → ℕ → ℕ → List ℕ
+wall m low high v = fenced 1 m 1 low high ++ entry 0 0 v 1 1 1
+
+abbrev wallOf : ℕ → ℕ → ℕ → ℕ → Line
+wallOf m low high v =
+    line (wall m low high v) (passes (record { tasks = t 0 v 1 1 1 ∷ []; cores = m; fence = low + high * 2 ^ 32; rule = greedy }) 0 1 1)
+
+abbrev walled : ℕ → ℕ → ℕ → ℕ → ℕ → ℕ → Line
+walled m low high p v n = line (wall m low high v) (refusal n p)
+
 -- a header of this rule and the head 0, which number 4 turns down where the rule passes 3
 abbrev ruled : ℕ → ℕ → Line
 ruled r n = line (header 0 1 r ++ entry 0 0 1 1 1 1) (refusal n 0)
@@ -88,10 +104,13 @@ ruled r n = line (header 0 1 r ++ entry 0 0 1 1 1 1) (refusal n 0)
 abbrev pub lines : List Line
 lines =
     line wordsA (passes (A greedy) 0 5 5)
-    -- H: two words; 195 words pass 1, and 201 don't; cores 0 and rule 9 together; head 2 of one record; head 1 and its next 1
+    -- H: two words; 197 words pass 1, and 203 don't; cores 0 and rule 9 together; head 2 of one record; head 1 and its next 1
     ∷ line (3 ∷ 1 ∷ []) (refusal 1 0)
-    ∷ line (replicate 195 0) (refusal 2 0)
-    ∷ line (replicate 201 0) (refusal 1 0)
+    ∷ line (replicate 197 0) (refusal 2 0)
+    ∷ line (replicate 203 0) (refusal 1 0)
+    -- four words, and five
+    ∷ line (1 ∷ 1 ∷ 1 ∷ 0 ∷ []) (refusal 1 0)
+    ∷ line (1 ∷ 1 ∷ 1 ∷ 0 ∷ 0 ∷ []) (refusal 5 0)
     ∷ line (header 1 0 9 ++ entry 0 0 1 1 1 1) (refusal 2 0)
     ∷ line (header 2 1 1 ++ entry 0 0 1 1 1 1) (refusal 5 0)
     ∷ line (header 1 1 1 ++ entry 1 0 1 1 1 1) (refusal 6 0)
@@ -111,6 +130,19 @@ lines =
     ∷ breaks 8 1 1 (t 0 1 1 0 0) ∷ breaks 8 1 1 (t 0 1 1 1 0) ∷ breaks 8 1 1 (t 0 1 1 1 1000001)
     -- D 0, 1, T and T + 1; C may exceed D
     ∷ breaks 8 1 1 (t 0 1 1 0 7) ∷ fits 1 (t 0 1 1 1 7) ∷ fits 1 (t 0 1 8 7 7) ∷ breaks 8 1 1 (t 0 1 1 8 7)
+    -- the fence: of five cores all, all but one, core 5, and cores 5 and 0; core 32 of 33, and 33 of 33, by the second word; all of 64, and all but core 63
+    ∷ walled 5 31 0 0 1 19 ∷ wallOf 5 15 0 1 ∷ walled 5 32 0 0 1 19 ∷ walled 5 33 0 0 1 19
+    ∷ wallOf 33 0 1 32 ∷ walled 33 0 2 0 1 19
+    ∷ walled 64 4294967295 4294967295 0 1 19 ∷ wallOf 64 4294967295 2147483647 1
+    -- one core can have no fence; the empty fence leaves all cores
+    ∷ walled 1 1 0 0 1 19 ∷ wallOf 5 0 0 5
+    -- a width is measured against the unfenced cores: 2 of 5 are left
+    ∷ wallOf 5 25 0 2 ∷ walled 5 25 0 1 3 7
+    -- 2 before 19, 3 before 19, and 19 before 4, 5 and 7
+    ∷ line (fenced 0 65 1 1 0 ++ entry 0 0 1 1 1 1) (refusal 2 0)
+    ∷ line (fenced 0 1 4 1 0 ++ entry 0 0 1 1 1 1) (refusal 3 0)
+    ∷ line (fenced 0 1 1 1 0 ++ entry 0 0 1 1 1 1) (refusal 19 0)
+    ∷ line (fenced 2 1 1 1 0 ++ entry 0 0 0 1 1 1) (refusal 19 0)
     -- the chain 1, 2, 3 of two records; the chain 2, 1, 2
     ∷ line (header 1 1 1 ++ entry 2 0 1 1 1 1 ++ entry 3 0 1 1 1 1) (refusal 5 0)
     ∷ line (header 2 1 1 ++ entry 2 0 1 1 1 1 ++ entry 1 0 1 1 1 1) (refusal 6 0)
@@ -126,7 +158,16 @@ lines =
     ∷ line (header 1 1 1 ++ chained 0 1 (low ++ high)) (refusal 9 0)
     ∷ []
 
+-- the words with just the unfenced cores: three of five, and core 32 of 33
+pub bare-words : bared (fenced 1 5 1 9 0 ++ entry 0 0 3 1 1 1) ≡ header 1 3 1 ++ entry 0 0 3 1 1 1
+unfolding bared kept upFrom
+bare-words = refl
+
+pub bare-last : bared (fenced 1 33 2 4294967295 0 ++ entry 0 0 1 1 1 1) ≡ header 1 1 2 ++ entry 0 0 1 1 1 1
+unfolding bared kept upFrom
+bare-last = refl
+
 -- every line is what the definitions say
 pub examples : map worked lines ≡ lines
-unfolding chained loadOf answerOf byWalk byTasks byHorizon firstOut endingOf lastStep headerNumber tableOf chain count met horizon S hyperperiod lcm least any upFrom
+unfolding chained kept loadOf answerOf byWalk byTasks byHorizon firstOut endingOf lastStep headerNumber tableOf chain count met horizon S hyperperiod lcm least any upFrom
 examples = refl

@@ -1,4 +1,4 @@
--- What a table has whose header passes 1 to 4.
+-- What a table has whose header passes 1, 2, 3, 19 and 4.
 use mathlib.Core.Path.{_≡_, refl}
 use mathlib.Core.Bool.{Bool, true, false, cond}
 use mathlib.Core.List.{List}
@@ -8,41 +8,45 @@ use native.Mathlib.Omega.{arith}
 use lib.ListN.{length}
 use lib.Dec.{eqb}
 use borrow.Author.Tests.{eqb-false}
-use Rattle.table.specs.Words.{head, cores, rule, records}
-use Rattle.table.specs.Limits.{CoresOut, RuleOut, coresOut, ruleOut}
+use Rattle.table.specs.Words.{headerWords, head, cores, rule, fence, records}
+use Rattle.table.specs.Limits.{CoresOut, RuleOut, FenceOut, coresOut, ruleOut, fenceOut}
 use Rattle.table.specs.Numbers.{WordsOut}
 use Rattle.table.specs.Answer.{wordsOut, headerNumber}
 use Rattle.table.proofs.Decide.{fails}
-use Rattle.table.proofs.Tests.{words-decides, cores-decides, rule-decides}
+use Rattle.table.proofs.Tests.{words-decides, cores-decides, rule-decides, fence-decides}
 use Rattle.model.specs.Sizes.{mostTasks}
 
--- none of 1 to 4 applies
+-- none of these applies
 pub record HeaderFine (ws : List ℕ) : Type 0 where
   pub words-in : ¬ WordsOut ws
   pub cores-in : ¬ CoresOut (cores ws)
   pub rule-in : ¬ RuleOut (rule ws)
+  pub fence-in : ¬ FenceOut (cores ws) (fence ws)
   pub headed : ¬ (head ws ≡ 0)
 
 pub header-fine : (ws : List ℕ) → headerNumber ws ≡ 0 → HeaderFine ws
 unfolding headerNumber
-header-fine ws = go (wordsOut ws) refl (coresOut (cores ws)) refl (ruleOut (rule ws)) refl (eqb (head ws) 0) refl
+header-fine ws = go (wordsOut ws) refl (coresOut (cores ws)) refl (ruleOut (rule ws)) refl (fenceOut (cores ws) (fence ws)) refl (eqb (head ws) 0) refl
   where
-    go : (s : Bool) → wordsOut ws ≡ s → (t : Bool) → coresOut (cores ws) ≡ t → (u : Bool) → ruleOut (rule ws) ≡ u → (v : Bool) → eqb (head ws) 0 ≡ v
-        → _≡_ {A = ℕ} (cond s 1 (cond t 2 (cond u 3 (cond v 4 0)))) 0 → HeaderFine ws
-    go true e t f u g v h z = absurd (omega arith)
-    go false e true f u g v h z = absurd (omega arith)
-    go false e false f true g v h z = absurd (omega arith)
-    go false e false f false g true h z = absurd (omega arith)
-    go false e false f false g false h z = record {
+    go : (s : Bool) → wordsOut ws ≡ s → (t : Bool) → coresOut (cores ws) ≡ t → (u : Bool) → ruleOut (rule ws) ≡ u
+        → (w : Bool) → fenceOut (cores ws) (fence ws) ≡ w → (v : Bool) → eqb (head ws) 0 ≡ v
+        → _≡_ {A = ℕ} (cond s 1 (cond t 2 (cond u 3 (cond w 19 (cond v 4 0))))) 0 → HeaderFine ws
+    go true e t f u g w i v h z = absurd (omega arith)
+    go false e true f u g w i v h z = absurd (omega arith)
+    go false e false f true g w i v h z = absurd (omega arith)
+    go false e false f false g true i v h z = absurd (omega arith)
+    go false e false f false g false i true h z = absurd (omega arith)
+    go false e false f false g false i false h z = record {
       words-in = fails (wordsOut ws) (WordsOut ws) (words-decides ws) e;
       cores-in = fails (coresOut (cores ws)) (CoresOut (cores ws)) (cores-decides (cores ws)) f;
       rule-in = fails (ruleOut (rule ws)) (RuleOut (rule ws)) (rule-decides (rule ws)) g;
+      fence-in = fails (fenceOut (cores ws) (fence ws)) (FenceOut (cores ws) (fence ws)) (fence-decides (cores ws) (fence ws)) i;
       headed = eqb-false (head ws) 0 h;
     }
 
--- there are three words at least, and at most 32 records
-pub words-long : (ws : List ℕ) → ¬ WordsOut ws → 3 ≤ length ws
-words-long ws n = let long : ¬ (length ws < 3) = λ l. n (inl l) in omega arith
+-- there are five words at least, and at most 32 records
+pub words-long : (ws : List ℕ) → ¬ WordsOut ws → headerWords ≤ length ws
+words-long ws n = let long : ¬ (length ws < headerWords) = λ l. n (inl l) in omega arith
 
 pub words-few : (ws : List ℕ) → ¬ WordsOut ws → records ws ≤ mostTasks
 words-few ws n = let few : ¬ (mostTasks < records ws) = λ l. n (inr (inr l)) in omega arith

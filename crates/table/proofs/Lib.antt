@@ -18,3 +18,4 @@ pub mod Loads
 pub mod Passed
 pub mod Promise
 pub mod OffChain
+pub mod Bare

@@ -15,9 +15,9 @@ use Rattle.table.specs.declared.Answer.the-variants.{Passed}
 use Rattle.table.specs.declared.Loaded.{Loaded}
 use Rattle.table.specs.declared.chain.Ending.the-variants.{Past, Again, Whole}
 use Rattle.table.specs.Task.{taskOf, tasksOf, noTask, InLimits}
-use Rattle.table.specs.Words.{cores, rule, count, tableOf}
+use Rattle.table.specs.Words.{cores, rule, fence, count, tableOf}
 use Rattle.table.specs.Limits.{taskNumber, taskOut, horizonOut, mostHorizon}
-use Rattle.table.specs.Answer.{headerNumber, firstOut, byHorizon, byTasks, endingOf, byWalk, answerOf}
+use Rattle.table.specs.Answer.{headerNumber, firstOut, wide, byHorizon, byTasks, endingOf, byWalk, answerOf}
 use Rattle.table.specs.Load.{placed, places, passing, refusal, loadedBy, tableWith, loadOf}
 use Rattle.table.proofs.Places.{tasks-length, task-at}
 use Rattle.table.proofs.Tasks.{table-length}
@@ -58,24 +58,24 @@ unfolding byHorizon
 by-near s l e = rw e
 
 -- .. and where it does not exceed, the table is made of it
-pub made : (m r : ℕ) (tasks : List Task) (count start period : ℕ) → count ≤ length tasks → tasks ≡ places (tasksOf tasks count)
+pub made : (m f r : ℕ) (tasks : List Task) (count start period : ℕ) → count ≤ length tasks → tasks ≡ places (tasksOf tasks count)
     → start ≡ lastS (tasksOf tasks count) → period ≡ min (hyperperiod (tasksOf tasks count)) (mostHorizon + 1) → horizonOut (start + period) ≡ false
     → _≡_ {A = Loaded}
-    (record { answer = Passed; count = count; cores = m; rule = r; tasks = tasks; start = start; period = period; horizon = start + period })
-    (passing r (tableWith m r (tasksOf tasks count)))
+    (record { answer = Passed; count = count; cores = m; fence = f; rule = r; tasks = tasks; start = start; period = period; horizon = start + period })
+    (passing r (tableWith m f r (tasksOf tasks count)))
 unfolding horizon
-made m r tasks count start period there whole e f near =
+made m f r tasks count start period there whole e g near =
     let counted = sym (tasks-length tasks count there) in
     let most : start + period ≤ mostHorizon = ltb-false mostHorizon (start + period) near in
     let exact : period ≡ hyperperiod (tasksOf tasks count) =
-    f ∙ capped-exact mostHorizon start (hyperperiod (tasksOf tasks count)) (omega arith) in
+    g ∙ capped-exact mostHorizon start (hyperperiod (tasksOf tasks count)) (omega arith) in
     let sum : start + period ≡ lastS (tasksOf tasks count) + hyperperiod (tasksOf tasks count) = omega arith in
-    λ i. record { answer = Passed; count = counted i; cores = m; rule = r; tasks = whole i; start = e i; period = exact i; horizon = sum i }
+    λ i. record { answer = Passed; count = counted i; cores = m; fence = f; rule = r; tasks = whole i; start = e i; period = exact i; horizon = sum i }
 
 -- THE TASKS
 
-module _ (s : model.Table) (l : Loaded) (place : ℕ) (out : firstOut (s .cores) (s .tasks) ≡ place) where
-  pub by-number : place < length (s .tasks) → loadedBy (byTasks s) l ≡ refusal (taskNumber (s .cores) (model.task s place)) (suc place)
+module _ (s : model.Table) (l : Loaded) (place : ℕ) (out : firstOut (wide s) (s .tasks) ≡ place) where
+  pub by-number : place < length (s .tasks) → loadedBy (byTasks s) l ≡ refusal (taskNumber (wide s) (model.task s place)) (suc place)
   unfolding byTasks
   by-number h = rw (out, lt-ltb place (length (s .tasks)) h)
 
@@ -91,7 +91,7 @@ in-limits m tasks count l p h =
 
 -- THE HEADER AND THE WALK
 
-table-with : (ws : List ℕ) → tableWith (cores ws) (rule ws) (tableOf ws .tasks) ≡ tableOf ws
+table-with : (ws : List ℕ) → tableWith (cores ws) (fence ws) (rule ws) (tableOf ws .tasks) ≡ tableOf ws
 unfolding tableOf
 table-with ws = refl
 
@@ -113,8 +113,8 @@ module _ (ws : List ℕ) (fine : headerNumber ws ≡ 0) where
   load-tasks e = rw (fine, e)
 
   pub load-whole : endingOf ws ≡ Whole → (tasks : List Task) (many : ℕ) → tasks ≡ places (tableOf ws .tasks) → many ≡ count ws
-      → loadedBy (byTasks (tableWith (cores ws) (rule ws) (tasksOf tasks many))) (passing (rule ws) (tableWith (cores ws) (rule ws) (tasksOf tasks many))) ≡ loadOf ws
+      → loadedBy (byTasks (tableWith (cores ws) (fence ws) (rule ws) (tasksOf tasks many))) (passing (rule ws) (tableWith (cores ws) (fence ws) (rule ws) (tasksOf tasks many))) ≡ loadOf ws
   load-whole e tasks many h n =
-      ap (λ (τs : List model.Task). loadedBy (byTasks (tableWith (cores ws) (rule ws) τs)) (passing (rule ws) (tableWith (cores ws) (rule ws) τs))) (walked-tasks ws tasks many h n)
+      ap (λ (τs : List model.Task). loadedBy (byTasks (tableWith (cores ws) (fence ws) (rule ws) τs)) (passing (rule ws) (tableWith (cores ws) (fence ws) (rule ws) τs))) (walked-tasks ws tasks many h n)
       ∙ ap (λ (s : model.Table). loadedBy (byTasks s) (passing (rule ws) s)) (table-with ws)
       ∙ sym (load-tasks e)

@@ -14,7 +14,7 @@ use Rattle.model.proofs.Search.{any-same}
 use Rattle.table.specs.declared.Answer.the-variants.{Passed}
 use Rattle.table.specs.declared.Loaded.{Loaded}
 use Rattle.table.specs.declared.chain.Ending.the-variants.{Past, Again, Whole}
-use Rattle.table.specs.Words.{cores, rule, records, field, next, met, count, taskOfRecord, tableOf}
+use Rattle.table.specs.Words.{headerWords, recordWords, cores, rule, fenceOf, records, field, next, met, count, taskOfRecord, tableOf}
 use Rattle.table.specs.Limits.{From}
 use Rattle.table.specs.Numbers.{EndAt, Reaches}
 use Rattle.table.specs.Answer.{headerNumber, pastAt, againAt, stopsAt, lastStep, endingOf, byTasks, answerOf}
@@ -42,11 +42,11 @@ module _ (ws : List ℕ) where
 
 module _ (ws us : List ℕ) (s : SameOnChain ws us) where
   same-records : records ws ≡ records us
-  same-records = ap (λ (n : ℕ). (n - 3) / 6) (s .size)
+  same-records = ap (λ (n : ℕ). (n - headerWords) / recordWords) (s .size)
 
   same-header : headerNumber ws ≡ headerNumber us
   unfolding headerNumber
-  same-header = rw (s .size, s .header 1 (omega arith), s .header 2 (omega arith), s .header 0 (omega arith))
+  same-header = rw (s .size, s .header 1 (omega arith), s .header 2 (omega arith), s .header 3 (omega arith), s .header 4 (omega arith), s .header 0 (omega arith))
 
   -- up to where it stops the walk meets the same
   reaches-down : (j k : ℕ) → j ≤ k → Reaches ws k → Reaches ws j
@@ -134,7 +134,9 @@ module _ (ws us : List ℕ) (s : SameOnChain ws us) where
         let τs = same-tasks in
         let m = s .header 1 (omega arith) in
         let r = ap ruleOf (s .header 2 (omega arith)) in
-        λ i. record { tasks = τs i; cores = m i; rule = r i }
+        let low = s .header 3 (omega arith) in
+        let high = s .header 4 (omega arith) in
+        λ i. record { tasks = τs i; cores = m i; fence = fenceOf (low i) (high i); rule = r i }
 
   -- by how the walk ends
   by-ending : (t : Bool) → pastAt ws (lastStep ws) ≡ t → (u : Bool) → againAt ws (lastStep ws) ≡ u → headerNumber ws ≡ 0 → loadOf ws ≡ loadOf us

@@ -1,37 +1,44 @@
 -- The order in which the numbers are checked: what comes before a number, and that one number at most is the first.
-use mathlib.Core.Path.{_≡_, refl, sym, _∙_}
-use mathlib.Core.Bool.{Bool, true, false, cond}
+use mathlib.Core.Path.{_≡_, refl, sym}
+use mathlib.Core.Bool.{Bool, true, false, _&&_, cond}
 use mathlib.Core.List.{List}
 use mathlib.Core.Logic.{_⊎_, inl, inr, ⊎-elim}
-use Prim.Native.Nat.{ℕ, _<_}
+use Prim.Native.Nat.{ℕ, _-_, _≤_, _<_}
 use native.Mathlib.Omega.{arith}
 use lib.Dec.{eqb, ltb}
-use borrow.Author.Tests.{eqb-true, eqb-false, ltb-true, ltb-false}
-use Rattle.table.specs.Numbers.{Applies, one, two, three, four, five, six, seven, eight, nine, place, Earlier, FirstOf}
+use borrow.Author.Tests.{ltb-true, ltb-false}
+use Rattle.table.specs.Numbers.{Applies, one, two, three, nineteen, four, five, six, seven, eight, nine, place, Earlier, FirstOf}
 
--- what is checked before a number other than 7 and 8 is a lower one
-pub earlier-lower : (m q n : ℕ) → (n ≡ 7 → ⊥) → (n ≡ 8 → ⊥) → Earlier m q n 0 → m < n
-earlier-lower m q n s e = go (eqb m 8) refl (eqb n 8) refl
-  where
-    go : (t : Bool) → eqb m 8 ≡ t → (u : Bool) → eqb n 8 ≡ u
-        → (cond t 7 m < cond u 7 n) ⊎ ((cond t 7 m ≡ cond u 7 n) × ((q < 0) ⊎ ((q ≡ 0) × (m < n)))) → m < n
-    go t a true b x = absurd (e (eqb-true n 8 b))
-    go true a false b x = let y = eqb-true m 8 a in ⊎-elim (λ l. omega arith) (λ l. let z = l .0 in absurd (s (sym z))) x
-    go false a false b x = ⊎-elim (λ l. l) (λ l. ⊎-elim (λ z. omega arith) (λ z. z .1) (l .1)) x
+-- the place of 7 and 8, which they share
+abbrev pub shared : ℕ
+shared = 8
 
--- 7 and 8: the place of a number, and what is checked before them
-pub place-of : (m : ℕ) → ((m ≡ 8) × (place m ≡ 7)) ⊎ ((m ≡ 8 → ⊥) × (place m ≡ m))
-place-of m = go (eqb m 8) refl
-  where
-    go : (t : Bool) → eqb m 8 ≡ t → ((m ≡ 8) × (cond t 7 m ≡ 7)) ⊎ ((m ≡ 8 → ⊥) × (cond t 7 m ≡ m))
-    go true e = inl (eqb-true m 8 e, refl)
-    go false e = inr (eqb-false m 8 e, refl)
+-- the number at a place that no two share
+abbrev pub numberAt : ℕ → ℕ
+numberAt k = cond (eqb k 4) 19 (cond (ltb 4 k && ltb k shared) (k - 1) k)
 
-pub earlier-task : (m q n p : ℕ) → place n ≡ 7 → Earlier m q n p → (m < 7) ⊎ (((m ≡ 7) ⊎ (m ≡ 8)) × ((q < p) ⊎ ((q ≡ p) × (m < n))))
-earlier-task m q n p s x =
-    ⊎-elim (λ l. inl (⊎-elim (λ y. let a = y .1 in absurd (omega arith)) (λ y. let a = y .1 in omega arith) (place-of m)))
-    (λ l. inr (⊎-elim (λ y. inr (y .0)) (λ y. inl (sym (y .1) ∙ l .0 ∙ s)) (place-of m), l .1))
-    x
+-- a number that applies to a table: it stands at one of the places 1 to 9, and at a place that is not shared it is the only one
+pub record Placed (n : ℕ) : Type 0 where
+  pub from : 1 ≤ place n
+  pub most : place n < 10
+  pub alone : (place n ≡ shared → ⊥) → n ≡ numberAt (place n)
+  pub pair : place n ≡ shared → (n ≡ 7) ⊎ (n ≡ 8)
+
+placed-alone : (n : ℕ) → 1 ≤ place n → place n < 10 → (place n ≡ shared → ⊥) → n ≡ numberAt (place n) → Placed n
+placed-alone n a b c d = record { from = a; most = b; alone = λ x. d; pair = λ x. absurd (c x) }
+
+pub placed : (ws : List ℕ) (n p : ℕ) → Applies ws n p → Placed n
+unfolding place
+placed ws n p (one h) = placed-alone 1 (omega arith) (omega arith) (λ x. omega arith) refl
+placed ws n p (two h) = placed-alone 2 (omega arith) (omega arith) (λ x. omega arith) refl
+placed ws n p (three h) = placed-alone 3 (omega arith) (omega arith) (λ x. omega arith) refl
+placed ws n p (nineteen h) = placed-alone 19 (omega arith) (omega arith) (λ x. omega arith) refl
+placed ws n p (four h) = placed-alone 4 (omega arith) (omega arith) (λ x. omega arith) refl
+placed ws n p (five k c h) = placed-alone 5 (omega arith) (omega arith) (λ x. omega arith) refl
+placed ws n p (six k c h) = placed-alone 6 (omega arith) (omega arith) (λ x. omega arith) refl
+placed ws n p (seven q o h) = record { from = omega arith; most = omega arith; alone = λ x. absurd (x refl); pair = λ x. inl refl }
+placed ws n p (eight q o h) = record { from = omega arith; most = omega arith; alone = λ x. absurd (x refl); pair = λ x. inr refl }
+placed ws n p (nine h) = placed-alone 9 (omega arith) (omega arith) (λ x. omega arith) refl
 
 -- of two numbers one is lower, or they are the same
 order : (a b : ℕ) → (a < b) ⊎ ((b < a) ⊎ (a ≡ b))
@@ -46,21 +53,13 @@ order a b = go (ltb a b) refl (ltb b a) refl
 pub not-before-itself : (n p : ℕ) → ¬ Earlier n p n p
 not-before-itself n p x = ⊎-elim (λ l. omega arith) (λ l. ⊎-elim (λ y. omega arith) (λ y. omega arith) (l .1)) x
 
--- .. nor is a number of a later place; 10 and more come after 1 to 9 ..
+-- .. nor is a number of a later place; the numbers of the plan, the run and the sentence come after those of the table ..
 pub later : (m q n p : ℕ) → place n < place m → ¬ Earlier m q n p
 later m q n p l (inl h) = omega arith
 later m q n p l (inr (e, h)) = omega arith
 
 pub number-most : (ws : List ℕ) (n p : ℕ) → Applies ws n p → place n < 10
-number-most ws n p (one h) = omega arith
-number-most ws n p (two h) = omega arith
-number-most ws n p (three h) = omega arith
-number-most ws n p (four h) = omega arith
-number-most ws n p (five k c h) = omega arith
-number-most ws n p (six k c h) = omega arith
-number-most ws n p (seven q o h) = omega arith
-number-most ws n p (eight q o h) = omega arith
-number-most ws n p (nine h) = omega arith
+number-most ws n p a = placed ws n p a .most
 
 -- .. and of two numbers with their positions one is checked before the other, or they are the same
 ordered : (n p m q : ℕ) → Earlier n p m q ⊎ (Earlier m q n p ⊎ ((n ≡ m) × (p ≡ q)))

@@ -1,4 +1,4 @@
--- What a table has that passes 1 to 9.
+-- What a table has that passes all numbers.
 use mathlib.Core.Path.{_≡_, refl, subst}
 use mathlib.Core.Bool.{Bool, true, false, cond}
 use mathlib.Core.List.{List}
@@ -7,13 +7,14 @@ use Prim.Native.Nat.{ℕ, suc, _-_, _≤_, _<_}
 use native.Mathlib.Omega.{arith}
 use lib.ListN.{length}
 use Rattle.model.specs.Task.{task, AllSound}
+use Rattle.model.specs.Fence.{openCount}
 use Rattle.model.specs.Horizon.{horizon}
 use Rattle.model.proofs.Bools.{not-true-false}
 use Rattle.model.specs.Sizes.{mostCores, mostTasks}
 use Rattle.table.specs.declared.chain.Ending.the-variants.{Past, Again, Whole}
-use Rattle.table.specs.Words.{head, cores, rule, met, count, taskAt, tableOf}
-use Rattle.table.specs.Limits.{From, from, mostHorizon}
-use Rattle.table.specs.Numbers.{WordsOut, EndAt, one, two, three, four, seven, eight, nine, NoneApplies}
+use Rattle.table.specs.Words.{head, cores, rule, fence, met, count, taskAt, tableOf}
+use Rattle.table.specs.Limits.{From, from, FenceOut, mostHorizon}
+use Rattle.table.specs.Numbers.{WordsOut, EndAt, one, two, three, nineteen, four, seven, eight, nine, NoneApplies}
 use Rattle.table.specs.Answer.{headerNumber, pastAt, againAt, lastStep, endingOf}
 use Rattle.table.proofs.Decide.{stable, decides-eq, decides-or}
 use Rattle.table.proofs.Tests.{from-decides}
@@ -65,22 +66,30 @@ module _ (ws : List ℕ) (none : NoneApplies ws) where
       (decides-or _ _ _ _ (decides-eq (rule ws) 1) (decides-or _ _ _ _ (decides-eq (rule ws) 2) (decides-eq (rule ws) 3)))
       (λ h. none 3 0 (three h))
 
+  -- the fence names no core past the count, and not all
+  pub passed-fence : ¬ FenceOut (cores ws) (fence ws)
+  passed-fence h = none 19 0 (nineteen h)
+
+  -- what a width is measured against
+  abbrev wideIn : ℕ
+  wideIn = openCount (fence ws) (cores ws)
+
   -- each task is within its limits
-  pub passed-inside : (p : ℕ) → p < length (tableOf ws .tasks) → Inside (cores ws) (task (tableOf ws) p)
+  pub passed-inside : (p : ℕ) → p < length (tableOf ws .tasks) → Inside wideIn (task (tableOf ws) p)
   passed-inside p l =
       let n = table-length ws in
       let e : suc p - 1 ≡ p = omega arith in
-      let i : Inside (cores ws) (taskAt ws (suc p)) =
-      inside (cores ws) (taskAt ws (suc p))
+      let i : Inside wideIn (taskAt ws (suc p)) =
+      inside wideIn (taskAt ws (suc p))
       (λ x. ⊎-elim (λ h. none 7 (suc p) (seven (suc p) (omega arith) h)) (λ h. none 8 (suc p) (eight (suc p) (omega arith) h)) x) in
       rw (table-at ws p (omega arith)) (rw e at i)
 
   -- so the theorems of the model hold of it
   pub passed-sound : AllSound (tableOf ws)
-  passed-sound p l = inside-sound (cores ws) (task (tableOf ws) p) (passed-inside p l)
+  passed-sound p l = inside-sound wideIn (task (tableOf ws) p) (passed-inside p l)
 
-  -- no width is above the core count
-  pub passed-widths : (p : ℕ) → p < length (tableOf ws .tasks) → task (tableOf ws) p .width ≤ cores ws
+  -- no width is above the number of unfenced cores
+  pub passed-widths : (p : ℕ) → p < length (tableOf ws .tasks) → task (tableOf ws) p .width ≤ wideIn
   passed-widths p l = passed-inside p l .width-from .1
 
   -- the horizon is at most 10,000,000

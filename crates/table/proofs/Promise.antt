@@ -40,6 +40,7 @@ passing-holds ws none = record {
   count = refl;
   count-from = passed-count ws none;
   cores = refl;
+  fence = refl;
   rule = refl;
   tasks = places-tasks (tableOf ws .tasks);
   past = places-past (tableOf ws .tasks);

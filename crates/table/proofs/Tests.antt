@@ -1,17 +1,24 @@
--- The tests of numbers 1 to 9 decide what the numbers say.
-use mathlib.Core.Path.{_≡_, refl}
-use mathlib.Core.Bool.{Bool, true, false, not, _||_, cond}
+-- The tests of the numbers decide what the numbers say.
+use mathlib.Core.Path.{_≡_, refl, sym, ap, subst, _∙_}
+use mathlib.Core.Bool.{Bool, true, false, not, _||_, cond, true≢false}
 use mathlib.Core.List.{List}
-use mathlib.Core.Logic.{_⊎_}
-use Prim.Native.Nat.{ℕ, _-_, _%_, _≤_}
+use mathlib.Core.Logic.{_⊎_, inl, inr, ⊎-elim}
+use Prim.Native.Nat.{ℕ, zero, suc, _-_, _/_, _%_, _^_, _≤_, _<_}
+use native.Mathlib.Nat.{pow-suc, eq-or-lt-of-le}
+use native.Mathlib.Omega.{arith}
+use lib.Count.{trailingZeros}
+use lib.Pow.{pow-pos}
 use lib.ListN.{length}
-use lib.Dec.{leb, eqb}
+use lib.Dec.{leb, ltb, eqb}
+use borrow.Author.Tests.{eqb-true, eq-eqb, le-leb, leb-true, ltb-true, ltb-false}
+use Rattle.model.specs.Search.{bit}
 use Rattle.model.specs.Task.{Task}
 use Rattle.model.specs.Sizes.{mostCores, mostTasks}
-use Rattle.table.specs.Words.{records, met}
-use Rattle.table.specs.Limits.{From, from, CoresOut, coresOut, RuleOut, ruleOut, WidthOut, widthOut, TimesOut, timesOut, taskOut, mostTime}
+use Rattle.table.specs.Words.{headerWords, recordWords, records, met}
+use Rattle.table.specs.Limits.{From, from, CoresOut, coresOut, RuleOut, ruleOut, FenceOut, fenceOut, WidthOut, widthOut, TimesOut, timesOut, taskOut, mostTime}
 use Rattle.table.specs.Numbers.{WordsOut, EndAt, PastAt, AgainAt}
 use Rattle.table.specs.Answer.{wordsOut, pastAt, againAt, stopsAt}
+use Rattle.model.proofs.Digits.{bit-zero, bit-suc, bit-past, odd-half, below-pow, lowest-of}
 use Rattle.table.proofs.Decide.{Decides, decides-le, decides-lt, decides-eq, decides-not, decides-and, decides-or, decides-any}
 
 pub from-decides : (a b x : ℕ) → Decides (from a b x) (From a b x)
@@ -22,14 +29,57 @@ out-decides a b x = decides-not (from a b x) (From a b x) (from-decides a b x)
 
 pub words-decides : (ws : List ℕ) → Decides (wordsOut ws) (WordsOut ws)
 words-decides ws =
-    decides-or _ _ _ _ (decides-lt (length ws) 3)
-    (decides-or _ _ _ _ (decides-not _ _ (decides-eq ((length ws - 3) % 6) 0)) (decides-lt mostTasks (records ws)))
+    decides-or _ _ _ _ (decides-lt (length ws) headerWords)
+    (decides-or _ _ _ _ (decides-not _ _ (decides-eq ((length ws - headerWords) % recordWords) 0)) (decides-lt mostTasks (records ws)))
 
 pub cores-decides : (m : ℕ) → Decides (coresOut m) (CoresOut m)
 cores-decides m = out-decides 1 mostCores m
 
 pub rule-decides : (n : ℕ) → Decides (ruleOut n) (RuleOut n)
 rule-decides n = decides-not _ _ (decides-or _ _ _ _ (decides-eq n 1) (decides-or _ _ _ _ (decides-eq n 2) (decides-eq n 3)))
+
+-- a set whose cores up to m are all there is not below 2^m − 1 ..
+all-there : (m f : ℕ) → ((c : ℕ) → c < m → bit f c ≡ true) → 2 ^ m - 1 ≤ f
+all-there zero f h = omega arith
+all-there (suc m) f h =
+    let odd : f % 2 ≡ 1 = eqb-true (f % 2) 1 (sym (bit-zero f) ∙ h 0 (omega arith)) in
+    let rest : 2 ^ m - 1 ≤ f / 2 = all-there m (f / 2) (λ c l. sym (bit-suc f c) ∙ h (suc c) (omega arith)) in
+    omega (arith, pow-suc 2 m, pow-pos m)
+
+-- .. and 2^m − 1 has them all
+there-all : (m c : ℕ) → c < m → bit (2 ^ m - 1) c ≡ true
+there-all zero c l = absurd (omega arith)
+there-all (suc m) zero l =
+    let odd = odd-half (2 ^ suc m - 1) (2 ^ m - 1) (omega (arith, pow-suc 2 m, pow-pos m)) .0 in
+    bit-zero (2 ^ suc m - 1) ∙ eq-eqb ((2 ^ suc m - 1) % 2) 1 odd
+there-all (suc m) (suc c) l =
+    let half = odd-half (2 ^ suc m - 1) (2 ^ m - 1) (omega (arith, pow-suc 2 m, pow-pos m)) .1 in
+    bit-suc (2 ^ suc m - 1) c ∙ (ap (λ (x : ℕ). bit x c) half ∙ there-all m c (omega arith))
+
+-- a set that is not below 2^m has a core from m on
+some-past : (m f : ℕ) → 2 ^ m ≤ f → (c : ℕ) × (m ≤ c) × (bit f c ≡ true)
+some-past zero f h =
+    let x = lowest-of f f h (below-pow f) in (trailingZeros f f, omega arith, x .1 .here)
+some-past (suc m) f h =
+    let x = some-past m (f / 2) (omega (arith, pow-suc 2 m)) in
+    (suc (x .0), omega (arith, x .1), bit-suc f (x .0) ∙ x .2)
+
+pub fence-decides : (m f : ℕ) → Decides (fenceOut m f) (FenceOut m f)
+fence-decides m f = (λ e. to (leb-true (2 ^ m - 1) f e), λ x. le-leb (2 ^ m - 1) f (from x))
+  where
+    to : 2 ^ m - 1 ≤ f → FenceOut m f
+    to l = ⊎-elim
+        (λ (e : 2 ^ m - 1 ≡ f). inr (λ c b. subst (λ (x : ℕ). bit x c ≡ true) e (there-all m c b)))
+        (λ (g : 2 ^ m - 1 < f). inl (some-past m f (omega arith)))
+        (eq-or-lt-of-le l)
+
+    from : FenceOut m f → 2 ^ m - 1 ≤ f
+    from (inl (c, l, e)) = go (ltb f (2 ^ m)) refl
+      where
+        go : (t : Bool) → ltb f (2 ^ m) ≡ t → 2 ^ m - 1 ≤ f
+        go true b = absurd (true≢false (sym e ∙ bit-past m f c (ltb-true f (2 ^ m) b) l))
+        go false b = omega (arith, ltb-false f (2 ^ m) b)
+    from (inr h) = all-there m f h
 
 pub width-decides : (m : ℕ) (τ : Task) → Decides (widthOut m τ) (WidthOut m τ)
 width-decides m τ = decides-or _ _ _ _ (decides-eq (τ .width) 0) (decides-lt m (τ .width))

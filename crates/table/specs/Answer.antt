@@ -1,4 +1,4 @@
--- What `load` answers, as a value that computes: the tests of numbers 1 to 9 in the scope's order.
+-- What `load` answers, as a value that computes: the tests of the numbers in their order.
 -- That it is the first number that applies, and passed where none does, are the laws `refusal-exact` and `passed-exact`.
 use mathlib.Core.Bool.{Bool, not, _||_, cond}
 use mathlib.Core.List.{List}
@@ -7,10 +7,11 @@ use lib.ListN.{length, getD}
 use lib.Dec.{eqb, ltb}
 use Rattle.model.specs.Search.{any, least}
 use Rattle.model.specs.Task.{Task, Table, task, nobody}
+use Rattle.model.specs.Fence.{openCount}
 use Rattle.model.specs.Horizon.{horizon}
 use Rattle.model.specs.Sizes.{mostTasks}
-use Rattle.table.specs.Words.{headerWords, recordWords, head, cores, rule, records, met, tableOf}
-use Rattle.table.specs.Limits.{coresOut, ruleOut, taskNumber, taskOut, horizonOut}
+use Rattle.table.specs.Words.{headerWords, recordWords, head, cores, rule, fence, records, met, tableOf}
+use Rattle.table.specs.Limits.{coresOut, ruleOut, fenceOut, taskNumber, taskOut, horizonOut}
 use Rattle.table.specs.declared.chain.Ending.{Ending}
 use Rattle.table.specs.declared.chain.Ending.the-variants.{Past, Again, Whole}
 use Rattle.table.specs.declared.Answer.{Answer}
@@ -20,13 +21,14 @@ use Rattle.table.specs.declared.Answer.the-variants.{Passed, Refused}
 abbrev pub wordsOut : List ℕ → Bool
 wordsOut ws = ltb (length ws) headerWords || (not (eqb ((length ws - headerWords) % recordWords) 0) || ltb mostTasks (records ws))
 
--- the first of the numbers 1 to 4 that applies, or 0
+-- the first of the numbers 1, 2, 3, 19 and 4 that applies, or 0
 unfoldable pub headerNumber : List ℕ → ℕ
 headerNumber ws =
     cond (wordsOut ws) 1
     (cond (coresOut (cores ws)) 2
     (cond (ruleOut (rule ws)) 3
-    (cond (eqb (head ws) 0) 4 0)))
+    (cond (fenceOut (cores ws) (fence ws)) 19
+    (cond (eqb (head ws) 0) 4 0))))
 
 -- what the walk meets at step k, as tests: a number past the last record, a record again, or one of these or the zero
 abbrev pub pastAt : List ℕ → ℕ → Bool
@@ -50,11 +52,15 @@ firstOut m τs = least (length τs) (λ p. taskOut m (getD τs p nobody))
 unfoldable pub byHorizon : Table → Answer
 byHorizon s = cond (horizonOut (horizon s)) (Refused 9 0) Passed
 
+-- what a width is measured against: the number of unfenced cores
+abbrev pub wide : Table → ℕ
+wide s = openCount (s .fence) (s .cores)
+
 -- 7 or 8 with the first such position, else by the horizon
 unfoldable pub byTasks : Table → Answer
 byTasks s =
-    cond (ltb (firstOut (s .cores) (s .tasks)) (length (s .tasks)))
-    (Refused (taskNumber (s .cores) (task s (firstOut (s .cores) (s .tasks)))) (suc (firstOut (s .cores) (s .tasks))))
+    cond (ltb (firstOut (wide s) (s .tasks)) (length (s .tasks)))
+    (Refused (taskNumber (wide s) (task s (firstOut (wide s) (s .tasks)))) (suc (firstOut (wide s) (s .tasks))))
     (byHorizon s)
 
 -- how the walk ends: past the last record, at a record again, or at the zero
@@ -70,6 +76,6 @@ byEnding Whole s = byTasks s
 unfoldable pub byWalk : List ℕ → Answer
 byWalk ws = byEnding (endingOf ws) (tableOf ws)
 
--- 1 to 4, else by the walk
+-- a number of the header, else by the walk
 unfoldable pub answerOf : List ℕ → Answer
 answerOf ws = cond (eqb (headerNumber ws) 0) (byWalk ws) (Refused (headerNumber ws) 0)

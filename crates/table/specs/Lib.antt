@@ -6,3 +6,4 @@ pub mod Answer
 pub mod Gcd
 pub mod Load
 pub mod OffChain
+pub mod Bare

@@ -1,9 +1,10 @@
 -- The limits on the header and on a task (scope, 'The table'): for each what it says, and the test that decides it.
 use mathlib.Core.Path.{_≡_}
-use mathlib.Core.Bool.{Bool, not, _&&_, _||_, cond}
+use mathlib.Core.Bool.{Bool, true, not, _&&_, _||_, cond}
 use mathlib.Core.Logic.{_⊎_}
-use Prim.Native.Nat.{ℕ, _≤_, _<_}
+use Prim.Native.Nat.{ℕ, _-_, _^_, _≤_, _<_}
 use lib.Dec.{eqb, ltb, leb}
+use Rattle.model.specs.Search.{bit}
 use Rattle.model.specs.Task.{Task}
 use Rattle.model.specs.Sizes.{mostCores}
 
@@ -39,7 +40,15 @@ RuleOut n = ¬ ((n ≡ 1) ⊎ ((n ≡ 2) ⊎ (n ≡ 3)))
 abbrev pub ruleOut : ℕ → Bool
 ruleOut n = not (eqb n 1 || (eqb n 2 || eqb n 3))
 
--- 7: a task's width is 0 or above the core count
+-- 19: the fence names a core past the count m, or all cores
+abbrev pub FenceOut : ℕ → ℕ → Type 0
+FenceOut m fence = ((c : ℕ) × (m ≤ c) × (bit fence c ≡ true)) ⊎ ((c : ℕ) → c < m → bit fence c ≡ true)
+
+-- .. as a test (`fence-decides`): the set of all cores is 2^m − 1, and a set with a core past the count is larger
+abbrev pub fenceOut : ℕ → ℕ → Bool
+fenceOut m fence = leb (2 ^ m - 1) fence
+
+-- 7: a task's width is 0 or above the number m of unfenced cores
 abbrev pub WidthOut : ℕ → Task → Type 0
 WidthOut m τ = (τ .width ≡ 0) ⊎ (m < τ .width)
 

@@ -15,7 +15,7 @@ use Rattle.table.specs.declared.Loaded.{Loaded}
 use Rattle.table.specs.declared.chain.Ending.the-variants.{Whole}
 use Rattle.table.specs.declared.chain.Walked.{Walked}
 use Rattle.table.specs.Task.{noTask, tasksOf}
-use Rattle.table.specs.Words.{word, count, tableOf}
+use Rattle.table.specs.Words.{word, fence, count, tableOf}
 use Rattle.table.specs.Limits.{From, mostHorizon}
 use Rattle.table.specs.Numbers.{First, NoneApplies}
 use Rattle.table.specs.Answer.{answerOf, endingOf}
@@ -35,6 +35,7 @@ passing r s =
       answer = Passed;
       count = length (s .tasks);
       cores = s .cores;
+      fence = s .fence;
       rule = r;
       tasks = places (s .tasks);
       start = lastS (s .tasks);
@@ -45,7 +46,7 @@ passing r s =
 -- a refusal: all else is zero
 abbrev pub refusal : ℕ → ℕ → Loaded
 refusal n p =
-    record { answer = Refused n p; count = 0; cores = 0; rule = 0; tasks = replicate mostTasks noTask; start = 0; period = 0; horizon = 0 }
+    record { answer = Refused n p; count = 0; cores = 0; fence = 0; rule = 0; tasks = replicate mostTasks noTask; start = 0; period = 0; horizon = 0 }
 
 -- by the answer: what passes, or the refusal
 abbrev pub loadedBy : Answer → Loaded → Loaded
@@ -61,8 +62,9 @@ pub record Holds (ws : List ℕ) (r : Loaded) : Type 0 where
   -- as many tasks as the chain has, 1 to 32
   pub count : r .count ≡ length (tableOf ws .tasks)
   pub count-from : From 1 mostTasks (r .count)
-  -- the core count and the rule's number
+  -- the core count, the fence and the rule's number
   pub cores : r .cores ≡ word ws 1
+  pub fence : r .fence ≡ fence ws
   pub rule : r .rule ≡ word ws 2
   -- the tasks in priority order, and zeros past the count
   pub tasks : tasksOf (r .tasks) (r .count) ≡ tableOf ws .tasks
@@ -90,9 +92,9 @@ pub record LoadOf (ws : List ℕ) (r : Loaded) : Type 0 where
   -- in a table that passed the rest is the table
   pub holds : loadTold (r .answer) ≡ book.taken → Holds ws r
 
--- the tasks on so many cores, with the rule of this number
-abbrev pub tableWith : ℕ → ℕ → List model.Task → model.Table
-tableWith m r τs = record { tasks = τs; cores = m; rule = model.ruleOf r }
+-- the tasks on so many cores, with this fence and the rule of this number
+abbrev pub tableWith : ℕ → ℕ → ℕ → List model.Task → model.Table
+tableWith m f r τs = record { tasks = τs; cores = m; fence = f; rule = model.ruleOf r }
 
 -- what the walk gives: how it ends, and where it ends at the zero, the tasks
 pub record WalkOf (ws : List ℕ) (r : Walked) : Type 0 where

@@ -1,17 +1,18 @@
--- Numbers 1 to 9 for what is turned down (scope, 'Numbers for what is turned down'): when each applies, and which is the first.
+-- Numbers 1 to 9 and 19 for what is turned down (scope, 'Numbers for what is turned down'): when each applies, and which is the first.
 use mathlib.Core.Path.{_≡_}
 use mathlib.Core.Bool.{cond}
-use mathlib.Core.List.{List}
+use mathlib.Core.List.{List, [], _∷_}
 use mathlib.Core.Logic.{_⊎_}
-use Prim.Native.Nat.{ℕ, _-_, _%_, _<_}
+use Prim.Native.Nat.{ℕ, suc, _-_, _%_, _<_}
 use lib.ListN.{length}
 use lib.Dec.{eqb}
+use Rattle.model.specs.Fence.{openCount}
 use Rattle.model.specs.Horizon.{horizon}
 use Rattle.model.specs.Sizes.{mostTasks}
-use Rattle.table.specs.Words.{headerWords, recordWords, head, cores, rule, records, met, count, taskAt, tableOf}
-use Rattle.table.specs.Limits.{From, CoresOut, RuleOut, WidthOut, TimesOut, HorizonOut}
+use Rattle.table.specs.Words.{headerWords, recordWords, head, cores, rule, fence, records, met, count, taskAt, tableOf}
+use Rattle.table.specs.Limits.{From, CoresOut, RuleOut, FenceOut, WidthOut, TimesOut, HorizonOut}
 
--- the slice has fewer than 3 words, or the rest is no whole number of records, or there are more than 32
+-- the slice has fewer than 5 words, or the rest is no whole number of records, or there are more than 32
 abbrev pub WordsOut : List ℕ → Type 0
 WordsOut ws = (length ws < headerWords) ⊎ (((length ws - headerWords) % recordWords ≡ 0 → ⊥) ⊎ (mostTasks < records ws))
 
@@ -35,28 +36,39 @@ Position ws p = From 1 (count ws) p
 
 -- number n applies, with position p
 pub data Applies (ws : List ℕ) : ℕ → ℕ → Type 0 where
-  -- 1. The slice has fewer than 3 words, or the rest is no whole number of records, or there are more than 32.
+  -- 1. The slice has fewer than 5 words, or the rest is no whole number of records, or there are more than 32.
   one : WordsOut ws → Applies ws 1 0
   -- 2. The core count is not 1 to 64.
   two : CoresOut (cores ws) → Applies ws 2 0
   -- 3. The rule is not 1, 2 or 3.
   three : RuleOut (rule ws) → Applies ws 3 0
+  -- 19. The fence names a core past the count, or all cores.
+  nineteen : FenceOut (cores ws) (fence ws) → Applies ws 19 0
   -- 4. The head is zero.
   four : head ws ≡ 0 → Applies ws 4 0
   -- 5. Walking the chain, a number past the last record is met.
   five : (k : ℕ) → Reaches ws k → PastAt ws k → Applies ws 5 0
   -- 6. Walking the chain, a record is met again (5 and 6: whichever the walk meets first).
   six : (k : ℕ) → Reaches ws k → AgainAt ws k → Applies ws 6 0
-  -- 7. A task's width is 0 or above the core count.
-  seven : (p : ℕ) → Position ws p → WidthOut (cores ws) (taskAt ws p) → Applies ws 7 p
+  -- 7. A task's width is 0 or above the number of unfenced cores.
+  seven : (p : ℕ) → Position ws p → WidthOut (openCount (fence ws) (cores ws)) (taskAt ws p) → Applies ws 7 p
   -- 8. A task's O, C, T or D is outside its limits.
   eight : (p : ℕ) → Position ws p → TimesOut (taskAt ws p) → Applies ws 8 p
   -- 9. The horizon exceeds 10,000,000.
   nine : HorizonOut (horizon (tableOf ws)) → Applies ws 9 0
 
--- checked in this order: a number's place in it; 7 and 8 share one
-abbrev pub place : ℕ → ℕ
-place n = cond (eqb n 8) 7 n
+-- checked in this order; 8 stands where 7 does
+abbrev pub order : List ℕ
+order = 1 ∷ 2 ∷ 3 ∷ 19 ∷ 4 ∷ 5 ∷ 6 ∷ 7 ∷ 9 ∷ 10 ∷ 11 ∷ 12 ∷ 13 ∷ 14 ∷ 15 ∷ 16 ∷ 17 ∷ 18 ∷ []
+
+-- where n stands in a list whose first place is i
+abbrev pub placeFrom : ℕ → List ℕ → ℕ → ℕ
+placeFrom i [] n = i
+placeFrom i (m ∷ ms) n = cond (eqb n m) i (placeFrom (suc i) ms n)
+
+-- a number's place in the order
+unfoldable pub place : ℕ → ℕ
+place n = placeFrom 1 order (cond (eqb n 8) 7 n)
 
 -- number m with position q is checked before number n with position p: by place, and 7 and 8 by position, within a task 7 first
 abbrev pub Earlier : ℕ → ℕ → ℕ → ℕ → Type 0
@@ -70,7 +82,7 @@ FirstOf applies n p = applies n p × ((m q : ℕ) → Earlier m q n p → ¬ app
 abbrev pub NoneOf : (ℕ → ℕ → Type 0) → Type 0
 NoneOf applies = (n p : ℕ) → ¬ applies n p
 
--- the first of 1 to 9 that applies to the words, and that none does
+-- the first of these numbers that applies to the words, and that none does
 abbrev pub First : List ℕ → ℕ → ℕ → Type 0
 First ws n p = FirstOf (Applies ws) n p
 

@@ -1,14 +1,14 @@
 -- The words of a table (scope, 'The table'): its header, its records, and the chain along which they are read.
 use mathlib.Core.List.{List, map}
-use Prim.Native.Nat.{ℕ, zero, suc, _+_, _-_, _*_, _/_}
+use Prim.Native.Nat.{ℕ, zero, suc, _+_, _-_, _*_, _/_, _^_}
 use lib.ListN.{length, getD}
 use lib.Dec.{eqb}
 use Rattle.model.specs.Search.{least, upFrom}
 use Rattle.model.specs.Task.{Task, Table, ruleOf}
 
--- the header has three words
+-- the header has five words
 abbrev pub headerWords : ℕ
-headerWords = 3
+headerWords = 5
 
 -- a record has six
 abbrev pub recordWords : ℕ
@@ -29,6 +29,13 @@ cores ws = word ws 1
 -- word 2 the rule
 abbrev pub rule : List ℕ → ℕ
 rule ws = word ws 2
+
+-- words 3 and 4 the fence (request 102), a set of cores as one 64-bit number, low word first
+abbrev pub fenceOf : ℕ → ℕ → ℕ
+fenceOf low high = low + high * 2 ^ 32
+
+abbrev pub fence : List ℕ → ℕ
+fence ws = fenceOf (word ws 3) (word ws 4)
 
 -- records follow: how many there are
 abbrev pub records : List ℕ → ℕ
@@ -66,4 +73,4 @@ taskAt ws p = taskOfRecord ws (met ws (p - 1))
 
 -- the table that the words say
 unfoldable pub tableOf : List ℕ → Table
-tableOf ws = record { tasks = map (taskOfRecord ws) (chain ws); cores = cores ws; rule = ruleOf (rule ws) }
+tableOf ws = record { tasks = map (taskOfRecord ws) (chain ws); cores = cores ws; fence = fence ws; rule = ruleOf (rule ws) }

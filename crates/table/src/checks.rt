@@ -5,7 +5,7 @@ ghost use Rattle.table.specs.Task.{tasksOf, InLimits};
 ghost use Rattle.table.specs.Limits.{horizonOut};
 ghost use Rattle.table.specs.Answer.{firstOut, byHorizon, byTasks};
 ghost use Rattle.table.specs.Load.{places, refusal, passing, loadedBy, tableWith};
-ghost use Rattle.model.specs.Sizes.{mostTasks};
+ghost use Rattle.model.specs.Sizes.{mostCores, mostTasks};
 use crate::Answer;
 use crate::Loaded;
 use crate::Task;
@@ -22,6 +22,7 @@ pub(crate) fn refused(number: u32, position: u32) -> Loaded
         answer: Answer::Refused(number, position),
         count: 0,
         cores: 0,
+        fence: 0,
         rule: 0,
         tasks: tasks,
         start: 0,
@@ -38,9 +39,9 @@ fn horizon_out(start: u32, period: u32) -> bool
 }
 
 // A table whose tasks are within their limits: number 9, or the table.
-fn by_horizon(cores: u32, rule: u32, tasks: [Task; MOST_TASKS], count: usize) -> Loaded
+fn by_horizon(cores: u32, fence: u64, rule: u32, tasks: [Task; MOST_TASKS], count: usize) -> Loaded
     requires { ⌜ 1 ≤ count ⌝ ∗ ⌜ count ≤ mostTasks ⌝ ∗ ⌜ InLimits tasks count ⌝ ∗ ⌜ tasks ≡ places (tasksOf tasks count) ⌝ }
-    ensures { λ r. ⌜ r ≡ loadedBy (byHorizon (tableWith cores rule (tasksOf tasks count))) (passing rule (tableWith cores rule (tasksOf tasks count))) ⌝ }
+    ensures { λ r. ⌜ r ≡ loadedBy (byHorizon (tableWith cores fence rule (tasksOf tasks count))) (passing rule (tableWith cores fence rule (tasksOf tasks count))) ⌝ }
 {
     let start = crate::start::last_start(tasks, count);
     let period = crate::hyperperiod::hyperperiod(tasks, count);
@@ -51,6 +52,7 @@ fn by_horizon(cores: u32, rule: u32, tasks: [Task; MOST_TASKS], count: usize) ->
         answer: Answer::Passed,
         count: count,
         cores: cores,
+        fence: fence,
         rule: rule,
         tasks: tasks,
         start: start,
@@ -60,14 +62,14 @@ fn by_horizon(cores: u32, rule: u32, tasks: [Task; MOST_TASKS], count: usize) ->
 }
 
 // The first place with a task that 7 or 8 turns down, or the count.
-fn first_out(cores: u32, tasks: [Task; MOST_TASKS], count: usize) -> usize
+fn first_out(wide: u32, tasks: [Task; MOST_TASKS], count: usize) -> usize
     requires { ⌜ count ≤ mostTasks ⌝ }
-    ensures { λ r. ⌜ r ≡ firstOut cores (tasksOf tasks count) ⌝ }
+    ensures { λ r. ⌜ r ≡ firstOut wide (tasksOf tasks count) ⌝ }
 {
     let mut place: usize = 0;
     while place < count {
         let task = tasks[place];
-        if crate::limits::task_number(cores, task) != 0 {
+        if crate::limits::task_number(wide, task) != 0 {
             return place;
         }
         place += 1;
@@ -75,16 +77,23 @@ fn first_out(cores: u32, tasks: [Task; MOST_TASKS], count: usize) -> usize
     place
 }
 
-// A table whose chain ends: number 7 or 8 of the first task that breaks one, or by the horizon.
-pub(crate) fn by_tasks(cores: u32, rule: u32, tasks: [Task; MOST_TASKS], count: usize) -> Loaded
-    requires { ⌜ 1 ≤ count ⌝ ∗ ⌜ count ≤ mostTasks ⌝ ∗ ⌜ tasks ≡ places (tasksOf tasks count) ⌝ }
-    ensures { λ r. ⌜ r ≡ loadedBy (byTasks (tableWith cores rule (tasksOf tasks count))) (passing rule (tableWith cores rule (tasksOf tasks count))) ⌝ }
+// A table whose header passes and whose chain ends: number 7 or 8 of the first task that breaks one, or by the horizon.
+pub(crate) fn by_tasks(
+    cores: u32,
+    fence: u64,
+    rule: u32,
+    tasks: [Task; MOST_TASKS],
+    count: usize,
+) -> Loaded
+    requires { ⌜ cores ≤ mostCores ⌝ ∗ ⌜ 1 ≤ count ⌝ ∗ ⌜ count ≤ mostTasks ⌝ ∗ ⌜ tasks ≡ places (tasksOf tasks count) ⌝ }
+    ensures { λ r. ⌜ r ≡ loadedBy (byTasks (tableWith cores fence rule (tasksOf tasks count))) (passing rule (tableWith cores fence rule (tasksOf tasks count))) ⌝ }
 {
-    let place = first_out(cores, tasks, count);
+    let wide = cores::open_count(cores, fence);
+    let place = first_out(wide, tasks, count);
     if place < count {
         let task = tasks[place];
-        let number = crate::limits::task_number(cores, task);
+        let number = crate::limits::task_number(wide, task);
         return refused(number, place as u32 + 1);
     }
-    by_horizon(cores, rule, tasks, count)
+    by_horizon(cores, fence, rule, tasks, count)
 }

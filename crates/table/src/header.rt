@@ -1,11 +1,22 @@
-// Numbers 1 to 4.
+// Numbers 1, 2, 3, 19 and 4.
 ghost use mathlib.Core.Path.{_≡_};
+ghost use Prim.Native.Nat.{_≤_};
+ghost use lib.ListN.{length};
+ghost use Rattle.table.specs.Words.{headerWords, fence};
 ghost use Rattle.table.specs.Answer.{headerNumber};
 use crate::HEADER;
 use crate::RECORD;
 use model::MOST_TASKS;
 
-// The first of the numbers 1 to 4 that applies, or 0.
+// The fence that the header names.
+pub(crate) fn fence_in(words: &[u32]) -> u64
+    requires { ⌜ headerWords ≤ length (now words) ⌝ }
+    ensures { λ r. ⌜ r ≡ fence (now (words .entry)) ⌝ }
+{
+    crate::limits::fence_of(words[3], words[4])
+}
+
+// The first of these numbers that applies, or 0.
 pub(crate) fn header_number(words: &[u32]) -> u32
     ensures { λ r. ⌜ r ≡ headerNumber (now (words .entry)) ⌝ }
 {
@@ -24,6 +35,9 @@ pub(crate) fn header_number(words: &[u32]) -> u32
     }
     if crate::limits::rule_out(words[2]) {
         return 3;
+    }
+    if crate::limits::fence_out(words[1], fence_in(words)) {
+        return 19;
     }
     if words[0] == 0 {
         return 4;

@@ -1,8 +1,8 @@
-// The supplier's words: the numbers 1 to 9, the chain, the tasks, S, P and the horizon.
+// The supplier's words: the numbers 1 to 9 and 19, the chain, the tasks, S, P and the horizon.
 ghost use Rattle.table.specs.Load.{LoadOf};
 
-pub mod limits; // limits.rt: numbers 2, 3, 7 and 8 on plain values
-mod header; // header.rt: numbers 1 to 4
+pub mod limits; // limits.rt: numbers 2, 3, 19, 7 and 8 on plain values
+mod header; // header.rt: numbers 1, 2, 3, 19 and 4
 mod chain; // chain.rt: the walk along the chain, numbers 5 and 6
 mod checks; // checks.rt: numbers 7 to 9, and what passes
 mod start; // start.rt: S, where the repeat starts
@@ -12,7 +12,7 @@ use chain::Ending;
 use model::MOST_TASKS;
 
 // How many words the header has, and how many each record.
-pub const HEADER: usize = 3;
+pub const HEADER: usize = 5;
 
 pub const RECORD: usize = 6;
 
@@ -25,17 +25,18 @@ pub struct Task {
     pub period: u32,
 }
 
-// Whether a table passes 1 to 9, or the number that turns it down, with its position.
+// Whether a table passes all of these numbers, or the number that turns it down, with its position.
 pub enum Answer {
     Passed,
     Refused(u32, u32),
 }
 
-// The answer, and beside it the table: its tasks in priority order, zeros past the count, the last S, P and the horizon.
+// The answer, and beside it the table: the cores, the fence, which is a set of them, the tasks in priority order, zeros past the count, the last S, P and the horizon.
 pub struct Loaded {
     pub answer: Answer,
     pub count: usize,
     pub cores: u32,
+    pub fence: u64,
     pub rule: u32,
     pub tasks: [Task; MOST_TASKS],
     pub start: u32,
@@ -43,7 +44,7 @@ pub struct Loaded {
     pub horizon: u32,
 }
 
-// The table that the words say, or the first of the numbers 1 to 9 that applies.
+// The table that the words say, or the first number that applies.
 pub fn load(words: &[u32]) -> Loaded
     ensures { λ r. ⌜ LoadOf (now (words .entry)) r ⌝ }
 {
@@ -59,7 +60,8 @@ pub fn load(words: &[u32]) -> Loaded
         Ending::Whole => {
             let tasks = walked.tasks;
             let count = walked.count;
-            checks::by_tasks(words[1], words[2], tasks, count)
+            let fence = header::fence_in(words);
+            checks::by_tasks(words[1], fence, words[2], tasks, count)
         }
     }
 }

@@ -7,9 +7,9 @@ use Rattle.model.specs.Book.{claims, full, served, step, work}
 use Rattle.model.specs.Grants.{claimants, given, grants, left}
 use Rattle.model.specs.Horizon.{S, horizon, hyperperiod, lcm}
 use Rattle.model.specs.Row.{owner, row}
-use Rattle.model.specs.Search.{any, least, memb, upFrom}
+use Rattle.model.specs.Search.{any, kept, least, memb, upFrom}
 use Rattle.model.specs.Verdict.{firm, firstMiss, missedAt, missedIn, rising, verdict}
-use Rattle.model.proofs.Examples.{A, on, t}
+use Rattle.model.proofs.Examples.{A, fencedOn, on, t}
 use Rattle.text.specs.Decimal.{all, value, decimal, lastDigits, digitCount, digitsWithin}
 use Rattle.text.specs.Format.{Words, words, noText, wordsOf, lines, isNumber}
 use Rattle.judge.specs.Said.{refused}
@@ -63,10 +63,12 @@ prints =
     ∷ record { table = on 1 greedy (t 0 1 2 1 2 ∷ []); text = "miss 1 1\n0 1\n" }
     -- E: an idle core is 0
     ∷ record { table = on 1 limited (t 1 1 1 1 2 ∷ t 0 1 1 2 3 ∷ []); text = "firm 3 6\n0 2\n1 1\n2 0\n3 1\n4 2\n5 1\n6 2\n7 1\n8 0\n" }
+    -- A on five cores, of which 0 and 3 are fenced
+    ∷ record { table = fencedOn 5 9 greedy (A greedy .tasks); text = "full 0 5\n0 255 1 1 255 3\n1 255 1 1 255 3\n2 255 2 2 255 3\n3 255 2 2 255 3\n4 255 2 2 255 0\n" }
     ∷ []
 
 pub prints-exact : map (λ p. printed (p .table)) prints ≡ map (λ p. letters (p .text)) prints
-unfolding printed firstLine rowLine rowLines lineOf fields decimal lastDigits digitCount digitsWithin verdict firstMiss missedIn missedAt firm rising horizon S hyperperiod lcm least any memb upFrom owner row given left grants claimants claims served work step full
+unfolding printed firstLine rowLine rowLines lineOf fields decimal lastDigits digitCount digitsWithin verdict firstMiss missedIn missedAt firm rising horizon S hyperperiod lcm least any kept memb upFrom owner row given left grants claimants claims served work step full
 prints-exact = refl
 
 -- a refusal

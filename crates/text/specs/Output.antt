@@ -49,7 +49,7 @@ firstLine (judged (Full s p)) = lineOf (letters "full") (s ∷ p ∷ [])
 firstLine (judged (Miss t p)) = lineOf (letters "miss") (t ∷ p ∷ [])
 firstLine (refused n p) = lineOf (letters "refused") (n ∷ p ∷ [])
 
--- a row: the tick and the cores' positions
+-- a row: the tick and the cores' bytes: positions, 0 where idle, 255 where fenced
 unfoldable pub rowLine : ℕ → List ℕ → List ℕ
 rowLine t cores = lineOf (decimal t) cores
 
@@ -64,7 +64,7 @@ unfoldable pub rowLines : Table → ℕ → ℕ → List ℕ
 rowLines s t zero = []
 rowLines s t (suc n) = rowLine t (rowOf s (full s t)) ++ rowLines s (suc t) n
 
--- all that is printed for a table that passes 1 to 9
+-- all that is printed for a table that no number turns down
 unfoldable pub printed : Table → List ℕ
 printed s = firstLine (judged (verdict s)) ++ rowLines s 0 (rowsPrinted (verdict s) (horizon s))
 

@@ -1,4 +1,4 @@
-// Prints the verdict on every line of the scope's table of examples, and more cases of each number from 1 to 9.
+// Prints the verdict on every line of the scope's table of examples, fences, and more cases of each number.
 use judge::Verdict;
 use libc::STDOUT_FILENO;
 
@@ -36,6 +36,8 @@ fn marked() {
             1u32,
             3,
             1,
+            0,
+            0,
             2,
             0,
             2,
@@ -62,6 +64,8 @@ fn marked() {
             1u32,
             3,
             2,
+            0,
+            0,
             2,
             0,
             2,
@@ -88,6 +92,8 @@ fn marked() {
             1u32,
             3,
             3,
+            0,
+            0,
             2,
             0,
             2,
@@ -114,6 +120,8 @@ fn marked() {
             1u32,
             2,
             1,
+            0,
+            0,
             2,
             0,
             1,
@@ -140,6 +148,8 @@ fn marked() {
             1u32,
             2,
             2,
+            0,
+            0,
             2,
             0,
             1,
@@ -166,6 +176,8 @@ fn marked() {
             1u32,
             2,
             3,
+            0,
+            0,
             2,
             0,
             1,
@@ -192,6 +204,8 @@ fn marked() {
             1u32,
             2,
             1,
+            0,
+            0,
             2,
             0,
             1,
@@ -218,6 +232,8 @@ fn marked() {
             1u32,
             2,
             1,
+            0,
+            0,
             3,
             0,
             1,
@@ -238,8 +254,103 @@ fn marked() {
             4,
         ],
     );
-    show(b"E", &[1u32, 1, 2, 2, 1, 1, 1, 1, 2, 0, 0, 1, 1, 2, 3]);
-    show(b"F", &[1u32, 1, 1, 0, 0, 1, 2, 1, 2]);
+    show(
+        b"E",
+        &[1u32, 1, 2, 0, 0, 2, 1, 1, 1, 1, 2, 0, 0, 1, 1, 2, 3],
+    );
+    show(b"F", &[1u32, 1, 1, 0, 0, 0, 0, 1, 2, 1, 2]);
+}
+
+// A on five cores, of which 0 and 3 are fenced, and on 64, of which all but 31, 32 and 63 are; one unfenced core.
+fn fenced() {
+    show(
+        b"A-fenced",
+        &[
+            1u32,
+            5,
+            1,
+            9,
+            0,
+            2,
+            0,
+            2,
+            2,
+            5,
+            5,
+            3,
+            0,
+            2,
+            3,
+            5,
+            5,
+            0,
+            0,
+            1,
+            4,
+            5,
+            5,
+        ],
+    );
+    show(
+        b"A2-fenced",
+        &[
+            1u32,
+            5,
+            2,
+            9,
+            0,
+            2,
+            0,
+            2,
+            2,
+            5,
+            5,
+            3,
+            0,
+            2,
+            3,
+            5,
+            5,
+            0,
+            0,
+            1,
+            4,
+            5,
+            5,
+        ],
+    );
+    show(
+        b"A3-fenced-64",
+        &[
+            1u32,
+            64,
+            3,
+            2147483647,
+            2147483646,
+            2,
+            0,
+            2,
+            2,
+            5,
+            5,
+            3,
+            0,
+            2,
+            3,
+            5,
+            5,
+            0,
+            0,
+            1,
+            4,
+            5,
+            5,
+        ],
+    );
+    show(
+        b"one-core-left",
+        &[1u32, 64, 2, 4294967295, 2147483647, 0, 0, 1, 1, 1, 1],
+    );
 }
 
 // D, G and H.
@@ -250,6 +361,8 @@ fn others() {
             1u32,
             2,
             1,
+            0,
+            0,
             2,
             0,
             1,
@@ -272,36 +385,84 @@ fn others() {
     );
     show(
         b"G",
-        &[1u32, 1, 1, 2, 0, 1, 1, 128, 128, 0, 0, 1, 1, 78125, 78125],
+        &[
+            1u32,
+            1,
+            1,
+            0,
+            0,
+            2,
+            0,
+            1,
+            1,
+            128,
+            128,
+            0,
+            0,
+            1,
+            1,
+            78125,
+            78125,
+        ],
     );
     show(
         b"G-offset",
-        &[1u32, 1, 1, 2, 1, 1, 1, 128, 128, 0, 0, 1, 1, 78125, 78125],
+        &[
+            1u32,
+            1,
+            1,
+            0,
+            0,
+            2,
+            1,
+            1,
+            1,
+            128,
+            128,
+            0,
+            0,
+            1,
+            1,
+            78125,
+            78125,
+        ],
     );
     show(b"H-two-words", &[1u32, 1]);
-    show(b"H-195-words", &[0u32; 195]);
-    show(b"H-201-words", &[0u32; 201]);
-    show(b"H-cores-and-rule", &[1u32, 0, 9, 0, 0, 1, 1, 1, 1]);
-    show(b"H-past-the-last", &[2u32, 1, 1, 0, 0, 1, 1, 1, 1]);
-    show(b"H-met-again", &[1u32, 1, 1, 1, 0, 1, 1, 1, 1]);
+    show(b"H-197-words", &[0u32; 197]);
+    show(b"H-203-words", &[0u32; 203]);
+    show(b"H-cores-and-rule", &[1u32, 0, 9, 0, 0, 0, 0, 1, 1, 1, 1]);
+    show(b"H-past-the-last", &[2u32, 1, 1, 0, 0, 0, 0, 1, 1, 1, 1]);
+    show(b"H-met-again", &[1u32, 1, 1, 0, 0, 1, 0, 1, 1, 1, 1]);
 }
 
-// Each number from 1 to 9 once more, and a position that is not the record's number.
+// Each number once more, and a position that is not the record's number.
 fn numbers() {
-    show(b"1-half-a-record", &[1u32, 1, 1, 0, 0, 1]);
-    show(b"2-65-cores", &[1u32, 65, 1, 0, 0, 1, 1, 1, 1]);
-    show(b"3-rule-4", &[1u32, 1, 4, 0, 0, 1, 1, 1, 1]);
-    show(b"4-no-head", &[0u32, 1, 1, 0, 0, 1, 1, 1, 1]);
-    show(b"7-at-2", &[2u32, 2, 1, 0, 0, 3, 0, 1, 1, 1, 0, 1, 1, 1, 1]);
-    show(b"8-at-1", &[2u32, 2, 1, 0, 0, 0, 1, 1, 1, 1, 0, 1, 0, 1, 1]);
+    show(b"1-half-a-record", &[1u32, 1, 1, 0, 0, 0, 0, 1]);
+    show(b"2-65-cores", &[1u32, 65, 1, 0, 0, 0, 0, 1, 1, 1, 1]);
+    show(b"3-rule-4", &[1u32, 1, 4, 0, 0, 0, 0, 1, 1, 1, 1]);
+    show(b"19-all-cores", &[1u32, 5, 1, 31, 0, 0, 0, 1, 1, 1, 1]);
+    show(b"19-past-the-count", &[1u32, 5, 1, 32, 0, 0, 0, 1, 1, 1, 1]);
+    show(b"19-second-word", &[1u32, 33, 1, 0, 2, 0, 0, 1, 1, 1, 1]);
+    show(b"19-before-4", &[0u32, 1, 1, 1, 0, 0, 0, 1, 1, 1, 1]);
+    show(b"4-no-head", &[0u32, 1, 1, 0, 0, 0, 0, 1, 1, 1, 1]);
+    show(
+        b"7-at-2",
+        &[2u32, 2, 1, 0, 0, 0, 0, 3, 0, 1, 1, 1, 0, 1, 1, 1, 1],
+    );
+    show(b"7-by-the-fence", &[1u32, 5, 1, 25, 0, 0, 0, 3, 1, 1, 1]);
+    show(
+        b"8-at-1",
+        &[2u32, 2, 1, 0, 0, 0, 0, 0, 1, 1, 1, 1, 0, 1, 0, 1, 1],
+    );
     show(
         b"miss-at-2",
-        &[2u32, 1, 1, 0, 0, 1, 2, 2, 2, 1, 0, 1, 1, 2, 2],
+        &[2u32, 1, 1, 0, 0, 0, 0, 1, 2, 2, 2, 1, 0, 1, 1, 2, 2],
     );
 }
 
 fn main() {
     marked();
+    fenced();
     others();
     numbers();
 }

@@ -8,7 +8,7 @@ use Prim.Native.Nat.{ℕ}
 use Rattle.model.specs.Search.{bit}
 use Rattle.model.specs.Task.{ruleOf}
 use Rattle.model.specs.Grants.{claimants}
-use Rattle.rule.proofs.Sets.{granted-first}
+use Rattle.rule.proofs.Sets.{granted-open}
 use Rattle.full.specs.Machine.{Machine, machineOf, Owed}
 use Rattle.full.specs.Stand.{Numbers, numbersBy, Stand, standAt, after, bellAfter, grantedIn}
 use Rattle.full.proofs.Steps.{due-looked, due-skipped, chosen-kept, chosen-anew, step-taken}
@@ -45,7 +45,7 @@ granted-of c =
     let j = c .before in
     ⊎-elim
     (λ w. w .4 ∙ chosen-anew (nums s) (stand s) (j .if1 .claiming) _ (claims-of j) (w .0 .taken) (w .2 .ok)
-    (λ q. w .2 .ensures q ∙ granted-first (ruleOf (nums s .rule)) (claimants (nums s .widths) (bit (j .if1 .claiming))) _ (nums s .cores) (s .pre .narrow) (w .1 .ensures) q))
+    (λ q. w .2 .ensures q ∙ granted-open (ruleOf (nums s .rule)) (claimants (nums s .widths) (bit (j .if1 .claiming))) _ (nums s .fence) (nums s .cores) (s .pre .narrow) (w .1 .ensures) q))
     (λ w. w .2 ∙ chosen-kept (nums s) (stand s) (j .if1 .claiming) (claims-of j) (w .0 .left))
     (c .if2 .came)
 
@@ -58,8 +58,8 @@ chosen-of c =
 release-due-requires : tie.Need-release-due-requires
 release-due-requires c κs = search needs
 
-first-cores-requires : tie.Need-first-cores-requires
-first-cores-requires c κs = search needs
+open-cores-requires : tie.Need-open-cores-requires
+open-cores-requires c κs = search needs
 
 choose-requires : tie.Need-choose-requires
 choose-requires c κs = search needs
@@ -83,4 +83,4 @@ returns c =
     (chosen-of k) (granted-of k) (c .work .ensures)
 
 pub step-spec : {M : Type 1} → statement M
-step-spec = tie.close (tie.spec release-due-requires first-cores-requires choose-requires work-requires add-t17 returns)
+step-spec = tie.close (tie.spec release-due-requires open-cores-requires choose-requires work-requires add-t17 returns)

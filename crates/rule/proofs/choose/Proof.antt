@@ -16,9 +16,9 @@ use Rattle.model.specs.Search.{bit}
 use Rattle.model.specs.Grants.{claimants, endsChoosing}
 use Rattle.model.proofs.Digits.{Lowest, Turn, turn, shifted-one, or-bit, bit-power, bit-none}
 use Rattle.rule.proofs.Choosing.{places, places-on, places-none, places-fits, places-passed, places-ended}
-use Rattle.rule.specs.Cores.{cores}
+use Rattle.cores.specs.Cores.{cores}
 use Rattle.rule.specs.Shares.{served, granted}
-use Rattle.rule.proofs.Cores.{cores-length}
+use Rattle.cores.proofs.Cores.{cores-length}
 use Rattle.rule.proofs.Granting.{takes, passes, ends}
 use Rattle.rule.proofs.choose.Statement.{statement}
 use Rattle.rule.proofs.choose.Tie as tie

@@ -10,7 +10,7 @@ use lib.Seq.{getD-take}
 use Rattle.model.specs.Task.{ruleOf}
 use Rattle.model.proofs.Digits.{Turn, turn}
 use Rattle.rule.specs.Shares.{served}
-use Rattle.rule.proofs.Cores.{front-le}
+use Rattle.cores.proofs.Cores.{front-le}
 use Rattle.rule.proofs.Granting.{takes}
 use Rattle.rule.proofs.Serving.{Held, begun, taken, passed-over, over, skipped, all-granted}
 use Rattle.rule.proofs.grants.Statement.{statement}

@@ -6,9 +6,9 @@ use mathlib.Core.Path.{_≡_, refl, sym, ap, _∙_}
 use Prim.Native.Nat.{_<_, _^_}
 use lib.ListN.{length, set, length-set}
 use lib.Count.{trailingZeros}
-use Rattle.rule.specs.Cores.{cores}
+use Rattle.cores.specs.Cores.{cores}
 use Rattle.rule.specs.Painted.{painted}
-use Rattle.rule.proofs.Cores.{Popped, popped, cores-none}
+use Rattle.cores.proofs.Cores.{Popped, popped, cores-none}
 use Rattle.rule.proofs.Rows.{painted-none, painted-more}
 use Rattle.rule.proofs.paint.Statement.{statement}
 use Rattle.rule.proofs.paint.Tie as tie

@@ -9,7 +9,7 @@ use mathlib.Core.List.{map}
 use Prim.Native.Nat.{ℕ, suc, _+_, _-_, _≤_}
 use lib.ListN.{length, getD, take, drop, length-take}
 use lib.Seq.{getD-take}
-use Rattle.rule.specs.Cores.{cores}
+use Rattle.cores.specs.Cores.{cores}
 use Rattle.rule.specs.Painted.{shown}
 use Rattle.rule.proofs.Rows.{shown-next, shown-end}
 use Rattle.rule.proofs.row_of.Statement.{statement}

@@ -1,14 +1,20 @@
 -- `table::load` meets its contract: its value is `loadOf` of the words at each return, and the value settles what is promised.
 -- Assumes nothing.
-use Prim.Native.Nat.{_≤_}
+use Prim.Native.Nat.{ℕ, _≤_}
 use mathlib.Core.Path.{_≡_, sym, ap, _∙_}
 use denote.Ref.{now}
 use borrow.Author.Needs.{needs}
 use native.Mathlib.Omega.{arith}
 use lib.ListN.{length}
 use Rattle.table.specs.declared.chain.Ending.the-variants.{Whole}
-use Rattle.table.specs.Answer.{headerNumber, endingOf}
-use Rattle.table.specs.Load.{places, refusal}
+use Rattle.model.specs.Sizes.{mostCores}
+use Rattle.table.specs.Words.{headerWords, cores, rule}
+use Rattle.table.specs.Limits.{From, from}
+use Rattle.table.specs.Task.{tasksOf}
+use Rattle.table.specs.Answer.{headerNumber, endingOf, byTasks}
+use Rattle.table.specs.Load.{loadedBy, passing, places, refusal, tableWith}
+use Rattle.table.proofs.Decide.{stable}
+use Rattle.table.proofs.Tests.{from-decides}
 use Rattle.table.proofs.HeaderFine.{header-fine, words-long}
 use Rattle.table.proofs.Loads.{walked-tasks, load-header, load-past, load-again, load-whole}
 use Rattle.table.proofs.Passed.{whole-count}
@@ -20,7 +26,7 @@ use Rattle.table.proofs.load.Tie as tie
 fine : (c : tie.Else1) → headerNumber (now (c .before .before .before .args .words)) ≡ 0
 fine c = sym (c .before .header-number .ensures) ∙ c .if1 .left
 
-long : (c : tie.Else1) → 3 ≤ length (now (c .before .before .before .args .words))
+long : (c : tie.Else1) → headerWords ≤ length (now (c .before .before .before .args .words))
 long c = let ws = now (c .before .before .before .args .words) in words-long ws (header-fine ws (fine c) .words-in)
 
 -- the chain ends at the zero
@@ -57,22 +63,26 @@ refused-requires-3 c κs = search needs
 enum-told-3 : tie.Need-enum-told-3
 enum-told-3 c = search needs
 
+fence-in-requires : tie.Need-fence-in-requires
+fence-in-requires c κs = long (c .before .before .before .before)
+
 shared-slice-read-by-tasks : tie.Need-shared-slice-read-by-tasks
-shared-slice-read-by-tasks c = omega (arith, long (c .before .before .before .before .before))
+shared-slice-read-by-tasks c = omega (arith, long (c .before .before .before .before .before .before))
 
 shared-slice-read-by-tasks-2 : tie.Need-shared-slice-read-by-tasks-2
-shared-slice-read-by-tasks-2 c = omega (arith, long (c .before .before .before .before .before .before))
+shared-slice-read-by-tasks-2 c = omega (arith, long (c .before .before .before .before .before .before .before))
 
 by-tasks-requires : tie.Need-by-tasks-requires
 by-tasks-requires c κs =
-    let e = c .before .before .before in
+    let e = c .before .before .before .before in
     let w = e .before .before in
     let ws = now (w .before .before .before .before .args .words) in
     let told = e .enum-told3 .given .1 in
     let counted = w .walk .ensures .counted told in
-    let from = whole-count ws (fine (w .before)) (whole e) in
+    let many = whole-count ws (fine (w .before)) (whole e) in
     let kept = w .walk .ensures .placed told in
-    (omega arith, (omega arith, kept ∙ ap places (sym (walked-tasks ws (w .walk .result .tasks) (w .walk .result .count) kept counted))))
+    let narrow : From 1 mostCores (cores ws) = stable (from 1 mostCores (cores ws)) (From 1 mostCores (cores ws)) (from-decides 1 mostCores (cores ws)) (header-fine ws (fine (w .before)) .cores-in) in
+    (narrow .1, (omega arith, (omega arith, kept ∙ ap places (sym (walked-tasks ws (w .walk .result .tasks) (w .walk .result .count) kept counted)))))
 
 returns-2 : tie.Need-returns-2
 returns-2 c =
@@ -88,12 +98,14 @@ returns-3 c =
 
 returns-4 : tie.Need-returns-4
 returns-4 c =
-    let e = c .before .before .before .before in
+    let e = c .before .before .before .before .before in
     let w = e .before .before in
     let ws = now (w .before .before .before .before .args .words) in
     let told = e .enum-told3 .given .1 in
+    let fenced = c .before .before .before .fence-in .ensures in
     promise ws (c .by-tasks .result)
     (c .by-tasks .ensures
+    ∙ ap (λ (f : ℕ). loadedBy (byTasks (tableWith (cores ws) f (rule ws) (tasksOf (w .walk .result .tasks) (w .walk .result .count)))) (passing (rule ws) (tableWith (cores ws) f (rule ws) (tasksOf (w .walk .result .tasks) (w .walk .result .count))))) fenced
     ∙ load-whole ws (fine (w .before)) (whole e) (w .walk .result .tasks) (w .walk .result .count) (w .walk .ensures .placed told) (w .walk .ensures .counted told))
 
 pub load-spec : {M : Type 1} → statement M
@@ -109,6 +121,7 @@ load-spec =
     enum-told-2
     refused-requires-3
     enum-told-3
+    fence-in-requires
     shared-slice-read-by-tasks
     shared-slice-read-by-tasks-2
     by-tasks-requires

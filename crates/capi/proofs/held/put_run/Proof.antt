@@ -4,7 +4,7 @@ use mathlib.Core.Path.{_≡_, refl, sym, ap, _∙_}
 use mathlib.Core.List.{List, _∷_, _++_}
 use Prim.Native.Nat.{ℕ, _+_, _*_, _-_, _≤_, _<_}
 use native.Mathlib.Omega.{arith}
-use lib.ListN.{length, getD, take, drop, set, length-set, length-drop, length-map}
+use lib.ListN.{length, getD, take, drop, length-drop, length-map}
 use borrow.Rule.Slice.PartAt.{part-to-end}
 use borrow.Rule.Slice.PartMut.{putMid}
 use borrow.Author.Needs.{needs}
@@ -12,23 +12,21 @@ use Rattle.run.specs.declared.Run.{Run}
 use Rattle.phase.specs.Task.{pastEnd}
 use Rattle.run.proofs.Written.{take-more}
 use Rattle.capi.specs.declared.told.Told.{Told}
-use Rattle.capi.specs.Encoding.{headWords, eachWords, places, wordsTo, runWords, placeWith, placeWords, countWord, placesWords, encodeTo, overwritten}
+use Rattle.capi.specs.Encoding.{headWords, eachWords, places, wordsTo, runWords, placeWith, placeWords, countWord, lowWord, highWord, placesWords, encodeTo, overwritten}
 use Rattle.capi.proofs.Places.{words-more}
 use Rattle.capi.proofs.Inverse.{length-to}
-use Rattle.capi.proofs.Putting.{head-put, head-behind, put-more}
+use Rattle.capi.proofs.Putting.{head-length, head-behind, put-more}
 use Rattle.capi.proofs.held.put_run.Statement.{statement}
 use Rattle.capi.proofs.held.put_run.Tie as tie
 
-start :
-    (ws : List ℕ) (r : Run) (n : ℕ) → 3 ≤ length ws → n ≡ countWord (r .count)
-    → set (set (set ws 0 (r .rule)) 1 (r .cores)) 2 n ≡ encodeTo 0 r ++ drop headWords (set (set (set ws 0 (r .rule)) 1 (r .cores)) 2 n)
-unfolding encodeTo placesWords
-start ws r n h e = head-put ws (r .rule) (r .cores) n h (countWord (r .count)) e
+-- the head is written
+start : (ws vs : List ℕ) (r : Run) → vs ≡ overwritten 0 r ws → vs ≡ overwritten 0 r vs
+start ws vs r e = e ∙ ap (λ (l : List ℕ). encodeTo 0 r ++ l) (sym (head-behind ws vs r 0 e))
 
 one-more : (r : Run) (i : ℕ) → i < length (r .tasks) → encodeTo (i + 1) r ≡ encodeTo i r ++ placeWords (getD (r .tasks) i pastEnd)
 unfolding encodeTo
 one-more r i h =
-    ap (λ (l : List ℕ). r .rule ∷ (r .cores ∷ (countWord (r .count) ∷ l))) (ap placesWords (take-more (r .tasks) i pastEnd h) ∙ words-more (take i (r .tasks)) (getD (r .tasks) i pastEnd))
+    ap (λ (l : List ℕ). r .rule ∷ (r .cores ∷ (countWord (r .count) ∷ (lowWord (r .fence) ∷ (highWord (r .fence) ∷ l))))) (ap placesWords (take-more (r .tasks) i pastEnd h) ∙ words-more (take i (r .tasks)) (getD (r .tasks) i pastEnd))
 
 -- one place more, in a buffer that stays as long as it was
 next-place :
@@ -44,33 +42,27 @@ next-place words w ys r i l k e h m q =
           ∙ (ap (λ (b : List ℕ). b ++ drop (wordsTo i + eachWords) w) (sym (one-more r i l)) ∙ ap (λ (k : ℕ). encodeTo (i + 1) r ++ drop k w) n),
     )
 
--- the buffer stays as long as it was
-long : (ws : List ℕ) (a b n : ℕ) (words : List ℕ) → length words ≡ length (set (set (set ws 0 a) 1 b) 2 n) → runWords ≤ length ws → runWords ≤ length words
-long ws a b n words e h = let s : length words ≡ length ws = e ∙ simp length-set in omega arith
-
 abbrev Inv-loop : tie.InvT-loop
 Inv-loop shown words₀ run i₀ words i = (i ≤ shown) × ((length words ≡ length words₀) × (words ≡ overwritten i run words₀))
 
 abbrev μ-loop : tie.MeasureT-loop
 μ-loop shown words₀ run i₀ words i = shown - i
 
-slice-write-words : tie.Need-slice-write-words Inv-loop μ-loop
-slice-write-words c = omega arith
+-- the buffer stays as long as it was
+abbrev head-of : tie.After-put-head Inv-loop μ-loop → List ℕ
+head-of c = c .put-head .last .1 .0
 
-slice-write-words-2 : tie.Need-slice-write-words-2 Inv-loop μ-loop
-slice-write-words-2 c = simp length-set (omega arith)
+head-long : (c : tie.After-put-head Inv-loop μ-loop) → length (head-of c) ≡ length (c .before .before .before .args .words .now)
+head-long c = head-length (c .before .before .before .args .words .now) (head-of c) (c .before .before .before .args .t1) (c .put-head .ensures) (omega (arith, c .before .before .before .pre .1))
 
-count-word-requires : tie.Need-count-word-requires Inv-loop μ-loop
-count-word-requires c κs = search needs
+long : (c : tie.At-loop Inv-loop μ-loop) → runWords ≤ length (c .loop .words)
+long c = omega (arith, c .loop .inv .1 .0, head-long (c .before .before .before), c .before .before .before .before .before .before .pre .1)
 
-slice-write-words-3 : tie.Need-slice-write-words-3 Inv-loop μ-loop
-slice-write-words-3 c = simp length-set (omega arith)
+put-head-requires : tie.Need-put-head-requires Inv-loop μ-loop
+put-head-requires c κs = omega (arith, c .before .before .pre .1)
 
 loop-holds : tie.Need-loop-holds Inv-loop μ-loop
-loop-holds c =
-    let a = c .before .before .args in
-    let n = c .before .before .pre in
-    (omega arith, (refl, start (a .words .now) (a .t1) _ (omega arith) (c .count-word .ensures)))
+loop-holds c = (omega arith, (refl, start (c .before .before .before .before .before .args .words .now) (head-of (c .before .before)) (c .before .before .before .before .before .args .t1) (c .before .before .put-head .ensures)))
 
 mul-task : tie.Need-mul-task Inv-loop μ-loop
 mul-task c = omega arith
@@ -93,10 +85,8 @@ mul-put-place c = omega arith
 in-reach : (c : tie.After-of-phase Inv-loop μ-loop) → wordsTo (c .before .before .before .loop .i) ≤ length (c .before .before .before .loop .words)
 in-reach c =
     let s = c .before .before .before in
-    let g = s .before .before .before in
-    let n = long (g .args .words .now) (g .args .t1 .rule) (g .args .t1 .cores) (s .before .count-word .result) (s .loop .words) (s .loop .inv .1 .0) (g .pre .1) in
     let l = c .before .before .loop-test .taken in
-    omega arith
+    omega (arith, long s, s .before .before .before .before .before .before .pre .0)
 
 sub-put-place : tie.Need-sub-put-place Inv-loop μ-loop
 sub-put-place c = in-reach c
@@ -110,12 +100,10 @@ part-put-place-end c = omega arith
 put-place-requires : tie.Need-put-place-requires Inv-loop μ-loop
 put-place-requires c κs =
     let s = c .before .before .before .before in
-    let g = s .before .before .before in
     let words = s .loop .words in
-    let n = long (g .args .words .now) (g .args .t1 .rule) (g .args .t1 .cores) (s .before .count-word .result) words (s .loop .inv .1 .0) (g .pre .1) in
     let l = c .before .before .before .loop-test .taken in
     let e = ap length (part-to-end words (wordsTo (s .loop .i))) ∙ length-drop (wordsTo (s .loop .i)) words in
-    omega arith
+    omega (arith, long s, s .before .before .before .before .before .before .pre .0)
 
 add-i : tie.Need-add-i Inv-loop μ-loop
 add-i c = omega arith
@@ -128,33 +116,30 @@ loop-again c =
     let p = c .before .before in
     let o = p .before .before in
     let s = o .before .before .before in
-    let g = s .before .before .before in
+    let g = s .before .before .before .before .before .before in
     let a = g .args in
     let i = s .loop .i in
     let at = wordsTo i in
     let words = s .loop .words in
-    let len : length (a .t1 .tasks) ≡ places = simp length-map at (g .good .0 .1 .1 .1 .1 .1 .0 .1 .0 .1) in
+    let len : length (a .t1 .tasks) ≡ places = simp length-map at (g .good .0 .1 .1 .1 .1 .1 .1 .0 .1 .0 .1) in
     let l = o .before .before .loop-test .taken in
     let t = getD (a .t1 .tasks) i pastEnd in
-    let w = set (set (set (a .words .now) 0 (a .t1 .rule)) 1 (a .t1 .cores)) 2 (s .before .count-word .result) in
+    let w = head-of (s .before .before .before) in
     let put = p .put-place .ensures ∙ ap (λ (ph : Told). placeWith t ph ++ drop eachWords (take (length words - at) (drop at words))) (o .of-phase .ensures) in
-    (omega arith, next-place words w _ (a .t1) i (omega arith) (s .loop .inv .1 .0) (s .loop .inv .1 .1) (in-reach o) (c .before .words .given .1) put)
+    (omega arith, next-place words w _ (a .t1) i (omega arith) (s .loop .inv .1 .0) (s .loop .inv .1 .1) (in-reach o) (c .before .words2 .given .1) put)
 
 same-length : tie.Need-same-length Inv-loop μ-loop
-same-length c = c .before .loop .inv .1 .0 ∙ simp length-set
+same-length c = c .before .loop .inv .1 .0 ∙ head-long (c .before .before .before .before)
 
 returns : tie.Need-returns Inv-loop μ-loop
 returns c =
     let s = c .before in
-    let g = s .before .before .before in
-    let a = g .args in
+    let a = s .before .before .before .before .before .before .args in
     let e : s .loop .i ≡ a .shown = omega arith in
-    let h = g .pre .1 in
-    let n = s .before .count-word .result in
-    let w = set (set (set (a .words .now) 0 (a .t1 .rule)) 1 (a .t1 .cores)) 2 n in
+    let w = head-of (s .before .before .before) in
     s .loop .inv .1 .1
     ∙ (ap (λ (k : ℕ). overwritten k (a .t1) w) e
-    ∙ ap (λ (l : List ℕ). encodeTo (a .shown) (a .t1) ++ l) (head-behind (a .words .now) (a .t1 .rule) (a .t1 .cores) n (omega arith) (eachWords * a .shown)))
+    ∙ ap (λ (l : List ℕ). encodeTo (a .shown) (a .t1) ++ l) (head-behind (a .words .now) w (a .t1) (eachWords * a .shown) (s .before .before .before .put-head .ensures)))
 
 pub put-run-spec : {M : Type 1} → statement M
 put-run-spec =
@@ -162,10 +147,7 @@ put-run-spec =
     (tie.spec
     Inv-loop
     μ-loop
-    slice-write-words
-    slice-write-words-2
-    count-word-requires
-    slice-write-words-3
+    put-head-requires
     loop-holds
     mul-task
     element-copy-out-task

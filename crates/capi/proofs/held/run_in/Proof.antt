@@ -12,7 +12,7 @@ use Rattle.phase.specs.declared.Task.{Task}
 use Rattle.run.specs.declared.Run.{Run}
 use Rattle.phase.specs.Task.{unused, pastEnd}
 use Rattle.run.proofs.Written.{written-more, drop-equal}
-use Rattle.capi.specs.Encoding.{headWords, eachWords, places, placeIn, placesIn, countIn, padded, runIn}
+use Rattle.capi.specs.Encoding.{headWords, eachWords, places, placeIn, placesIn, countIn, fenceIn, padded, runIn}
 use Rattle.capi.proofs.Places.{read-more, length-read}
 use Rattle.capi.proofs.held.run_in.Statement.{statement}
 use Rattle.capi.proofs.held.run_in.Tie as tie
@@ -25,9 +25,9 @@ start : (ws : List ℕ) {ts : List Task} → ts ≡ made → ts ≡ placesIn 0 (
 unfolding placesIn
 start ws e = e
 
-read : (ws : List ℕ) {ts : List Task} → ts ≡ padded (countIn ws) (placesIn (countIn ws) (drop headWords ws)) → _≡_ {A = Run} (record { rule = getD ws 0 0; cores = getD ws 1 0; count = countIn ws; tasks = ts }) (runIn ws)
+read : (ws : List ℕ) {ts : List Task} {f : ℕ} → f ≡ fenceIn ws → ts ≡ padded (countIn ws) (placesIn (countIn ws) (drop headWords ws)) → _≡_ {A = Run} (record { rule = getD ws 0 0; cores = getD ws 1 0; fence = f; count = countIn ws; tasks = ts }) (runIn ws)
 unfolding runIn
-read ws e = ap (λ (ts : List Task). record { rule = getD ws 0 0; cores = getD ws 1 0; count = countIn ws; tasks = ts }) e
+read ws x e = λ i. record { rule = getD ws 0 0; cores = getD ws 1 0; fence = x i; count = countIn ws; tasks = e i }
 
 abbrev Inv-loop : tie.InvT-loop
 Inv-loop words count tasks₀ i₀ tasks i = (i ≤ count) × (tasks ≡ placesIn i (drop headWords words) ++ drop i made)
@@ -80,22 +80,31 @@ loop-again c =
     let next = written-more (placesIn i (drop headWords ws)) made i (p .result) pastEnd (length-read i (drop headWords ws)) (omega arith) in
     (omega arith, ap (λ (l : List Task). set l i (p .result)) (s .loop .inv .1) ∙ (next ∙ ap (λ (l : List Task). l ++ drop (i + 1) made) (sym more)))
 
-shared-slice-read-t8 : tie.Need-shared-slice-read-t8 Inv-loop μ-loop
-shared-slice-read-t8 c = omega arith
+shared-slice-read-fence-of : tie.Need-shared-slice-read-fence-of Inv-loop μ-loop
+shared-slice-read-fence-of c = omega arith
 
-shared-slice-read-t16 : tie.Need-shared-slice-read-t16 Inv-loop μ-loop
-shared-slice-read-t16 c = omega arith
+shared-slice-read-fence-of-2 : tie.Need-shared-slice-read-fence-of-2 Inv-loop μ-loop
+shared-slice-read-fence-of-2 c = omega arith
+
+fence-of-requires : tie.Need-fence-of-requires Inv-loop μ-loop
+fence-of-requires c κs = search needs
+
+shared-slice-read-t9 : tie.Need-shared-slice-read-t9 Inv-loop μ-loop
+shared-slice-read-t9 c = omega arith
+
+shared-slice-read-t17 : tie.Need-shared-slice-read-t17 Inv-loop μ-loop
+shared-slice-read-t17 c = omega arith
 
 returns : tie.Need-returns Inv-loop μ-loop
 returns c =
-    let s = c .before .before .before in
+    let s = c .before .before .before .before .before .before in
     let ws = s .before .before .before .before .args .words .now in
     let n = countIn ws in
     let e : s .loop .i ≡ n = omega arith in
     let tasks : s .loop .tasks ≡ padded n (placesIn n (drop headWords ws)) =
     s .loop .inv .1
     ∙ (ap (λ (k : ℕ). placesIn k (drop headWords ws) ++ drop k made) e ∙ ap (λ (l : List Task). placesIn n (drop headWords ws) ++ l) (drop-equal places n unused)) in
-    read ws tasks
+    read ws (c .before .before .fence-of .ensures) tasks
 
 pub run-in-spec : {M : Type 1} → statement M
 run-in-spec =
@@ -115,6 +124,9 @@ run-in-spec =
     add-i
     loop-less
     loop-again
-    shared-slice-read-t8
-    shared-slice-read-t16
+    shared-slice-read-fence-of
+    shared-slice-read-fence-of-2
+    fence-of-requires
+    shared-slice-read-t9
+    shared-slice-read-t17
     returns)

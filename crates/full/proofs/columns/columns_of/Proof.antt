@@ -27,7 +27,7 @@ abbrev μ-loop : tie.MeasureT-loop
 
 -- the table's array has 32 tasks
 all : (c : tie.Start Inv-loop μ-loop) → list.length (c .args .table .tasks) ≡ 32
-all c = simp list.length-map at (c .good .0 .1 .1 .1 .1 .1 .1 .0 .1 .0 .1)
+all c = simp list.length-map at (c .good .0 .1 .1 .1 .1 .1 .1 .1 .0 .1 .0 .1)
 
 loop-holds : tie.Need-loop-holds Inv-loop μ-loop
 unfolding part
@@ -111,6 +111,7 @@ returns c =
     λ j. record {
       rule = t .rule;
       cores = t .cores;
+      fence = t .fence;
       count = t .count;
       widths = whole (λ x. x .width) (l .width) (l .inv .1) j;
       lengths = whole (λ x. x .length) (part 0 (l .times)) (l .inv .2) j;

@@ -29,7 +29,7 @@ abbrev μ-loop : tie.MeasureT-loop
 
 -- the table's array has 32 tasks
 all : (c : tie.Start Inv-loop μ-loop) → list.length (c .args .table .tasks) ≡ 32
-all c = simp list.length-map at (c .good .0 .1 .1 .1 .1 .1 .1 .0 .1 .0 .1)
+all c = simp list.length-map at (c .good .0 .1 .1 .1 .1 .1 .1 .1 .0 .1 .0 .1)
 
 loop-holds : tie.Need-loop-holds Inv-loop μ-loop
 unfolding part

@@ -17,7 +17,7 @@ use Rattle.judge.specs.Judged.{tableIn, Fit}
 use Rattle.judge.proofs.Follows.{Follows, follows-start, looked, steppable, follows-on}
 use Rattle.plan.proofs.Late.{all-met}
 use Rattle.plan.specs.Plan.{over}
-use Rattle.plan.proofs.Writing.{RowBy, RowFor, row-begins, Filled, filled-start, filled-pass, filled-room, filled-more, row-bytes}
+use Rattle.plan.proofs.Writing.{RowBy, RowFor, Filled, filled-start, filled-pass, filled-room, filled-more, row-bytes}
 use Rattle.plan.proofs.rows.write.Statement.{statement}
 use Rattle.plan.proofs.rows.write.Tie as tie
 
@@ -30,28 +30,28 @@ abbrev μ-loop : tie.MeasureT-loop
 
 -- THE PLACES. What the function is given, and the numbers that the run is stepped with
 abbrev table-of : tie.After-places Inv-loop μ-loop → Loaded
-table-of p = p .before .before .before .before .before .before .before .before .before .args .table
+table-of p = p .before .before .before .before .before .before .before .before .before .before .before .args .table
 
 abbrev first-of : tie.After-places Inv-loop μ-loop → ℕ
-first-of p = p .before .before .before .before .before .before .before .before .before .args .a
+first-of p = p .before .before .before .before .before .before .before .before .before .before .before .args .a
 
 abbrev last-of : tie.After-places Inv-loop μ-loop → ℕ
-last-of p = p .before .before .before .before .before .before .before .before .before .args .b
+last-of p = p .before .before .before .before .before .before .before .before .before .before .before .args .b
 
 abbrev found-of : tie.After-places Inv-loop μ-loop → List ℕ
-found-of p = p .before .before .before .before .before .before .before .before .before .args .out .now
+found-of p = p .before .before .before .before .before .before .before .before .before .before .before .args .out .now
 
 fit-of : (p : tie.After-places Inv-loop μ-loop) → Fit (table-of p)
-fit-of p = p .before .before .before .before .before .before .before .before .before .pre .0
+fit-of p = p .before .before .before .before .before .before .before .before .before .before .before .pre .0
 
 cores-of : (p : tie.After-places Inv-loop μ-loop) → table-of p .cores ≤ mostCores
-cores-of p = p .before .before .before .before .before .before .before .before .before .pre .1
+cores-of p = p .before .before .before .before .before .before .before .before .before .before .before .pre .1
 
 enough-of : (p : tie.After-places Inv-loop μ-loop) → (last-of p - first-of p) * table-of p .cores ≤ list.length (found-of p)
-enough-of p = p .before .before .before .before .before .before .before .before .before .pre .4
+enough-of p = p .before .before .before .before .before .before .before .before .before .before .before .pre .4
 
-numbers : (p : tie.After-places Inv-loop μ-loop) → numbersBy (p .before .before .before .before .before .before .columns-of .result .setting) (p .before .before .before .before .before .before .columns-of .result .width) (p .before .before .before .before .before .before .columns-of .result .times) ≡ numbersIn (table-of p)
-numbers p = p .before .before .before .before .before .before .columns-of .ensures
+numbers : (p : tie.After-places Inv-loop μ-loop) → numbersBy (p .before .before .before .before .before .before .before .before .columns-of .result .setting) (p .before .before .before .before .before .before .before .before .columns-of .result .width) (p .before .before .before .before .before .before .before .before .columns-of .result .times) ≡ numbersIn (table-of p)
+numbers p = p .before .before .before .before .before .before .before .before .columns-of .ensures
 
 -- the run before a tick
 abbrev stand-of : tie.At-loop Inv-loop μ-loop → Stand
@@ -61,12 +61,12 @@ stand-of k = standAt (k .loop .pace) (k .loop .places)
 small : (c : tie.Then1 Inv-loop μ-loop) → c .before .before .loop .pace .tick ≤ 1000000000
 small c =
     let p = c .before .before .before in
-    omega (arith, c .if1 .taken, fit-of p .limit, p .before .before .before .before .before .before .before .before .before .pre .2)
+    omega (arith, c .if1 .taken, fit-of p .limit, p .before .before .before .before .before .before .before .before .before .before .before .pre .2)
 
 met : (c : tie.Then1 Inv-loop μ-loop) (q : ℕ) → ¬ Missed (tableIn (table-of (c .before .before .before))) q (c .before .before .loop .pace .tick)
 met c q =
     let p = c .before .before .before in
-    all-met (tableIn (table-of p)) (fit-of p .sound) (last-of p) (p .before .before .before .before .before .before .before .before .before .pre .3) q (c .before .before .loop .pace .tick) (c .if1 .taken)
+    all-met (tableIn (table-of p)) (fit-of p .sound) (last-of p) (p .before .before .before .before .before .before .before .before .before .before .before .pre .3) q (c .before .before .loop .pace .tick) (c .if1 .taken)
 
 -- the tick is taken: the run follows on, and its choice is for the claimants of the tick
 on : (c : tie.After-step Inv-loop μ-loop) → Follows (table-of (c .before .before .before .before .before .before .before)) (standAt (c .step .result) (c .step .last .1 .1 .1 .1 .0))
@@ -113,12 +113,15 @@ columns-of-requires c κs = search needs
 start-requires : tie.Need-start-requires Inv-loop μ-loop
 start-requires c κs = search needs
 
+show-requires : tie.Need-show-requires Inv-loop μ-loop
+show-requires c κs = let s = c .before .before .before .before .before .before .before in (s .pre .1, s .pre .0 .few)
+
 loop-holds : tie.Need-loop-holds Inv-loop μ-loop
 loop-holds c =
     let begins = c .before .before .start .ensures .0 in
     let e : c .before .before .start .result .pace .tick ≡ 0 = ap (λ (x : Stand). x .tick) begins in (
       subst (Follows (table-of c)) (sym begins) (follows-start (table-of c) (fit-of c)),
-      row-begins (table-of c) (cores-of c),
+      subst (λ (n : Numbers). RowBy (table-of c) (n .widths) 0 (c .before .before .before .show .result)) (numbers c) (c .before .before .before .show .ensures),
       omega arith,
       subst (λ (n : ℕ). Filled (table-of c) (first-of c) n 0 (found-of c) (found-of c)) (sym e) (filled-start (table-of c) (first-of c) (found-of c)),
     )
@@ -130,8 +133,8 @@ step-requires c κs =
     subst (λ (n : Numbers). Steppable n (stand-of k)) (sym (numbers p))
     (steppable (table-of p) (fit-of p) (stand-of k) (k .loop .inv .0) (met (c .before .before .before)) (small (c .before .before .before)))
 
-show-requires : tie.Need-show-requires Inv-loop μ-loop
-show-requires c κs = let p = c .before .before .before .before .before .before .before .before .before .before .before in (cores-of p, fit-of p .few)
+show-requires-2 : tie.Need-show-requires-2 Inv-loop μ-loop
+show-requires-2 c κs = let p = c .before .before .before .before .before .before .before .before .before .before .before in (cores-of p, fit-of p .few)
 
 put-requires : tie.Need-put-requires Inv-loop μ-loop
 put-requires c κs =
@@ -205,10 +208,11 @@ write-spec =
     μ-loop
     cast-cores
     columns-of-requires
+    show-requires
     start-requires
     loop-holds
     step-requires
-    show-requires
+    show-requires-2
     put-requires
     add-at
     loop-less

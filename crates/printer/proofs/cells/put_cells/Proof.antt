@@ -6,7 +6,8 @@ use Prim.Native.Nat.{ℕ, _-_}
 use lib.ListN.{take, replicate}
 use lib.Seq.{take-at}
 use Rattle.model.proofs.Rows.{row-length}
-use Rattle.model.specs.Search.{bit, upFrom}
+use Rattle.model.specs.Fence.{unfenced}
+use Rattle.model.specs.Search.{bit}
 use Rattle.model.specs.Task.{ruleOf}
 use Rattle.model.specs.Grants.{claimants, grants}
 use Rattle.model.specs.Row.{row}
@@ -33,8 +34,8 @@ unfolding cells
 returns c =
     let a = c .before .before .before .before .before .before .args in
     let s = c .before .before .spell in
-    let gs = grants (ruleOf (a .rule)) (claimants (take (a .count) (a .widths .now)) (bit (a .claims))) (upFrom 0 (a .cores)) in
-    let e = ap (take (a .cores)) (c .before .before .before .before .show .ensures) ∙ take-at (row (a .cores) gs) (replicate (mostCores - a .cores) 0) (a .cores) (row-length (a .cores) gs) in
+    let gs = grants (ruleOf (a .rule)) (claimants (take (a .count) (a .widths .now)) (bit (a .claims))) (unfenced (a .fence) (a .cores)) in
+    let e = ap (take (a .cores)) (c .before .before .before .before .show .ensures) ∙ take-at (row (a .fence) (a .cores) gs) (replicate (mostCores - a .cores) 0) (a .cores) (row-length (a .fence) (a .cores) gs) in
     (subst (λ (xs : List ℕ). Put (a .text .now) 0 (fields xs ++ (newline ∷ [])) (s .last .1 .1 .0) (s .result)) e (s .ensures .0), s .ensures .1)
 
 pub put-cells-spec : {M : Type 1} → statement M

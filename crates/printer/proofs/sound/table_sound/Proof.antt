@@ -5,9 +5,10 @@ use borrow.Author.Tests.{ne-eqb}
 use native.Mathlib.Omega.{arith}
 use mathlib.Core.Bool.{true, false, not}
 use mathlib.Core.Path.{_≡_, sym, ap, _∙_}
-use Prim.Native.Nat.{ℕ, _-_, _≤_, _<_}
+use Prim.Native.Nat.{ℕ, _-_, _≤_, _<_, min}
 use lib.Dec.{eqb}
 use lib.ListN.{getD}
+use Rattle.model.specs.Fence.{openCount}
 use Rattle.table.specs.Limits.{taskOut}
 use Rattle.table.specs.Task.{taskOf, noTask}
 use Rattle.printer.specs.Sound.{outAt}
@@ -16,16 +17,26 @@ use Rattle.printer.proofs.sound.table_sound.Statement.{statement}
 use Rattle.printer.proofs.sound.table_sound.Tie as tie
 
 abbrev Inv-loop : tie.InvT-loop
-Inv-loop count cores tasks i₀ i = (i ≤ count) × ((p : ℕ) → p < i → taskOut cores (taskOf (getD tasks p noTask)) ≡ false)
+Inv-loop count cores wide tasks i₀ i = (i ≤ count) × ((p : ℕ) → p < i → taskOut wide (taskOf (getD tasks p noTask)) ≡ false)
 
 abbrev μ-loop : tie.MeasureT-loop
-μ-loop count cores tasks i₀ i = count - i
+μ-loop count cores wide tasks i₀ i = count - i
 
 returns : tie.Need-returns Inv-loop μ-loop
 returns c = sym (many-out (c .before .args .table) (c .if1 .taken))
 
 returns-2 : tie.Need-returns-2 Inv-loop μ-loop
 returns-2 c = sym (wide-out (c .before .before .args .table) (c .before .if1 .left) (c .if2 .taken))
+
+-- a width is measured against the open cores
+measured : (c : tie.After-open-count Inv-loop μ-loop) → c .open-count .result ≡ openCount (c .before .before .before .args .table .fence) (c .before .before .before .args .table .cores)
+measured c =
+    let t = c .before .before .before .args .table in
+    let all : min (t .cores) 64 ≡ t .cores = omega (arith, c .before .if2 .left) in
+    c .open-count .ensures ∙ ap (openCount (t .fence)) all
+
+open-count-requires : tie.Need-open-count-requires Inv-loop μ-loop
+open-count-requires c κs = search needs
 
 loop-holds : tie.Need-loop-holds Inv-loop μ-loop
 loop-holds c = (search needs, below-none _)
@@ -42,10 +53,12 @@ task-number-requires c κs = search needs
 returns-3 : tie.Need-returns-3 Inv-loop μ-loop
 returns-3 c =
     let s = c .before .before .before .before in
-    let t = s .before .before .before .before .args .table in
+    let o = s .before .before in
+    let t = o .before .before .before .args .table in
     let out : outAt t (s .loop .i) ≡ true =
-    ap not (ap (λ (n : ℕ). eqb n 0) (sym (c .before .task-number .ensures)) ∙ ne-eqb (c .before .task-number .result) 0 (c .if3 .taken)) in
-    sym (task-out t (s .before .before .before .if1 .left) (s .before .before .if2 .left) (s .loop .i) (omega arith) out)
+    ap (λ (m : ℕ). taskOut m (taskOf (getD (t .tasks) (s .loop .i) noTask))) (sym (measured o))
+    ∙ ap not (ap (λ (n : ℕ). eqb n 0) (sym (c .before .task-number .ensures)) ∙ ne-eqb (c .before .task-number .result) 0 (c .if3 .taken)) in
+    sym (task-out t (o .before .before .if1 .left) (o .before .if2 .left) (s .loop .i) (omega arith) out)
 
 add-i : tie.Need-add-i Inv-loop μ-loop
 add-i c = omega arith
@@ -61,9 +74,12 @@ loop-again c =
 returns-4 : tie.Need-returns-4 Inv-loop μ-loop
 returns-4 c =
     let s = c .before in
-    let t = s .before .before .before .before .args .table in
+    let o = s .before .before in
+    let t = o .before .before .before .args .table in
     let all : s .loop .i ≡ t .count = omega arith in
-    sym (none-out t (s .before .before .before .if1 .left) (s .before .before .if2 .left) (rw all at (s .loop .inv .1)))
+    let fine : (p : ℕ) → p < t .count → outAt t p ≡ false =
+    λ p l. ap (λ (m : ℕ). taskOut m (taskOf (getD (t .tasks) p noTask))) (sym (measured o)) ∙ s .loop .inv .1 p (omega arith) in
+    sym (none-out t (o .before .before .if1 .left) (o .before .if2 .left) fine)
 
 pub table-sound-spec : {M : Type 1} → statement M
 table-sound-spec =
@@ -73,6 +89,7 @@ table-sound-spec =
     μ-loop
     returns
     returns-2
+    open-count-requires
     loop-holds
     mul-task
     array-copy-out-task

@@ -10,7 +10,7 @@ use borrow.Author.Needs.{needs}
 use Rattle.model.specs.Search.{bit}
 use Rattle.model.specs.Grants.{claimants}
 use Rattle.model.specs.Sizes.{mostTasks}
-use Rattle.rule.proofs.Sets.{granted-first}
+use Rattle.rule.proofs.Sets.{granted-open}
 use Rattle.run.specs.declared.Run.{Run}
 use Rattle.run.specs.declared.Advanced.{Advanced}
 use Rattle.run.specs.declared.Answer.the-variants.{Taken}
@@ -40,7 +40,7 @@ chosen c p =
     let w = c .before .before .before .before in
     let r = w .before .before .before .before .args .self in
     c .choose .ensures p
-    ∙ granted-first (ruleIn r) (claimants (w .claims .result .widths) (bit (w .claims .result .claiming))) _ (r .cores) (few-cores r (passes (w .before .before))) (c .before .before .first-cores .ensures) p
+    ∙ granted-open (ruleIn r) (claimants (w .claims .result .widths) (bit (w .claims .result .claiming))) _ (r .fence) (r .cores) (few-cores r (passes (w .before .before))) (c .before .before .open-cores .ensures) p
     ∙ has-cores r (w .claims .result) (w .claims .ensures) p
 
 -- 16 is looked at by one test of sets
@@ -91,8 +91,8 @@ first-late-requires c κs = few (c .before .before .args .self) (passes c)
 claims-requires : tie.Need-claims-requires
 claims-requires c κs = few (c .before .before .before .args .self) (passes (c .before))
 
-first-cores-requires : tie.Need-first-cores-requires
-first-cores-requires c κs = search needs
+open-cores-requires : tie.Need-open-cores-requires
+open-cores-requires c κs = search needs
 
 choose-requires : tie.Need-choose-requires
 choose-requires c κs = search needs
@@ -143,7 +143,7 @@ advance-spec =
     returns
     first-late-requires
     claims-requires
-    first-cores-requires
+    open-cores-requires
     choose-requires
     cast-in-order
     add-in-order

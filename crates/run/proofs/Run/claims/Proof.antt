@@ -90,7 +90,7 @@ returns c =
     let s = c .before in
     let r = s .before .args .self in
     let e : s .loop .i ≡ r .count = omega arith in
-    let len : length (r .tasks) ≡ mostTasks = simp length-map at (s .before .good .0 .1 .1 .1 .1 .1 .0 .1 .0 .1) in
+    let len : length (r .tasks) ≡ mostTasks = simp length-map at (s .before .good .0 .1 .1 .1 .1 .1 .1 .0 .1 .0 .1) in
     record { claimed = rw e at (s .loop .inv .1 .1 .0); worked = rw e at (s .loop .inv .1 .1 .1 .0); width = widths-stored r (s .loop .widths) (s .before .pre) (s .loop .inv .1 .0) len (rw e at (s .loop .inv .1 .1 .1 .1)) }
 
 pub claims-spec : {M : Type 1} → statement M

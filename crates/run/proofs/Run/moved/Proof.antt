@@ -27,6 +27,7 @@ abbrev movedTo : (ℕ → Bool) → Run → ℕ → Run
 movedTo reported r n = record {
   rule = r .rule;
   cores = r .cores;
+  fence = r .fence;
   count = r .count;
   tasks = mapFirst (movesAt reported r) n (r .tasks);
 }
@@ -81,7 +82,7 @@ loop-again c =
     let r = s .before .args .self in
     let i = s .loop .i in
     let f = movesAt (bit (s .before .args .reports)) r in
-    let len : length (r .tasks) ≡ mostTasks = simp length-map at (s .before .good .0 .1 .1 .1 .1 .1 .0 .1 .0 .1) in
+    let len : length (r .tasks) ≡ mostTasks = simp length-map at (s .before .good .0 .1 .1 .1 .1 .1 .1 .0 .1 .0 .1) in
     let past = mapFirst-past f i (r .tasks) i pastEnd (le-refl i) in
     let e : c .next .result ≡ f i (getD (r .tasks) i pastEnd) =
     simp (c .next .ensures, c .before .before .has .ensures, c .before .has2 .ensures, s .before .pre .1 i, s .loop .inv .1 .1, past) in

@@ -1,6 +1,6 @@
--- `run::Run::out` meets its contract. The loop's invariant: no place passed is out of its limits; the head is looked at first (`out-by-head`, `out-by-place`).
+-- `run::Run::out` meets its contract. The loop's invariant: no place passed is out of its limits, measured against the unfenced cores; the head is looked at first (`out-by-head`, `out-by-place`).
 -- Assumes nothing.
-use mathlib.Core.Path.{_≡_, sym, _∙_}
+use mathlib.Core.Path.{_≡_, sym, ap, _∙_}
 use mathlib.Core.Bool.{true, false}
 use Prim.Native.Nat.{ℕ, _≤_, _<_, _-_}
 use native.Mathlib.Omega.{arith}
@@ -8,16 +8,23 @@ use borrow.Author.Needs.{needs}
 use borrow.Author.Count.{below-more}
 use Rattle.model.proofs.Search.{none-any, any-of}
 use Rattle.model.specs.Sizes.{mostTasks}
-use Rattle.run.specs.Numbers.{placeOut}
-use Rattle.run.proofs.RunOut.{out-by-head, out-by-place, head-few}
+use Rattle.phase.specs.Task.{outIn}
+use Rattle.run.specs.declared.Run.{Run}
+use Rattle.run.specs.Run.{ruleIn, placeAt}
+use Rattle.run.specs.Numbers.{wideIn, placeOut}
+use Rattle.run.proofs.RunOut.{out-by-head, out-by-place, head-few, head-wide}
 use Rattle.run.proofs.Run.out.Statement.{statement}
 use Rattle.run.proofs.Run.out.Tie as tie
 
 abbrev Inv-loop : tie.InvT-loop
-Inv-loop run rule cores count i₀ i = (i ≤ count) × ((count ≤ mostTasks) × ((k : ℕ) → k < i → placeOut run k ≡ false))
+Inv-loop run rule cores count wide i₀ i = (i ≤ count) × ((count ≤ mostTasks) × ((wide ≡ wideIn run) × ((k : ℕ) → k < i → placeOut run k ≡ false)))
 
 abbrev μ-loop : tie.MeasureT-loop
-μ-loop run rule cores count i₀ i = count - i
+μ-loop run rule cores count wide i₀ i = count - i
+
+-- a place is looked at with the number of unfenced cores that was counted
+by-wide : (r : Run) (p wide : ℕ) → wide ≡ wideIn r → placeOut r p ≡ outIn wide (ruleIn r) (placeAt r p)
+by-wide r p wide e = ap (λ (m : ℕ). outIn m (ruleIn r) (placeAt r p)) (sym e)
 
 head-out-requires : tie.Need-head-out-requires Inv-loop μ-loop
 head-out-requires c κs = search needs
@@ -25,8 +32,14 @@ head-out-requires c κs = search needs
 returns : tie.Need-returns Inv-loop μ-loop
 returns c = sym (out-by-head (c .before .before .args .self) (sym (c .before .head-out .ensures) ∙ c .if1 .taken))
 
+open-count-requires : tie.Need-open-count-requires Inv-loop μ-loop
+open-count-requires c κs = search needs
+
 loop-holds : tie.Need-loop-holds Inv-loop μ-loop
-loop-holds c = (search needs, (head-few (c .before .before .args .self) (sym (c .before .head-out .ensures) ∙ c .if1 .left), λ (k : ℕ) h. absurd (omega arith)))
+loop-holds c =
+    let r = c .before .before .before .args .self in
+    let e = sym (c .before .before .head-out .ensures) ∙ c .before .if1 .left in
+    (search needs, (head-few r e, (c .open-count .ensures ∙ head-wide r e, λ (k : ℕ) h. absurd (omega arith))))
 
 mul-task : tie.Need-mul-task Inv-loop μ-loop
 mul-task c = omega arith
@@ -40,9 +53,9 @@ out-requires c κs = search needs
 returns-2 : tie.Need-returns-2 Inv-loop μ-loop
 returns-2 c =
     let s = c .before .before .before .before in
-    let r = s .before .before .before .args .self in
-    let place : placeOut r (s .loop .i) ≡ true = sym (c .before .out .ensures) ∙ c .if2 .taken in
-    sym (out-by-place r (sym (s .before .before .head-out .ensures) ∙ s .before .if1 .left) ∙ any-of (r .count) (placeOut r) (s .loop .i) (omega arith) place)
+    let r = s .before .before .before .before .args .self in
+    let place : placeOut r (s .loop .i) ≡ true = by-wide r (s .loop .i) _ (s .loop .inv .1 .1 .0) ∙ (sym (c .before .out .ensures) ∙ c .if2 .taken) in
+    sym (out-by-place r (sym (s .before .before .before .head-out .ensures) ∙ s .before .before .if1 .left) ∙ any-of (r .count) (placeOut r) (s .loop .i) (omega arith) place)
 
 add-i : tie.Need-add-i Inv-loop μ-loop
 add-i c = omega arith
@@ -53,14 +66,15 @@ loop-less c = omega arith
 loop-again : tie.Need-loop-again Inv-loop μ-loop
 loop-again c =
     let s = c .before .before .before .before in
-    (omega arith, (omega arith, below-more _ _ (s .loop .inv .1 .1) (sym (c .before .out .ensures) ∙ c .if2 .left)))
+    let r = s .before .before .before .before .args .self in
+    (omega arith, (omega arith, (s .loop .inv .1 .1 .0, below-more _ _ (s .loop .inv .1 .1 .1) (by-wide r (s .loop .i) _ (s .loop .inv .1 .1 .0) ∙ (sym (c .before .out .ensures) ∙ c .if2 .left)))))
 
 returns-3 : tie.Need-returns-3 Inv-loop μ-loop
 returns-3 c =
     let s = c .before in
-    let r = s .before .before .before .args .self in
+    let r = s .before .before .before .before .args .self in
     let e : s .loop .i ≡ r .count = omega arith in
-    sym (out-by-place r (sym (s .before .before .head-out .ensures) ∙ s .before .if1 .left) ∙ none-any (r .count) (placeOut r) (rw e at (s .loop .inv .1 .1)))
+    sym (out-by-place r (sym (s .before .before .before .head-out .ensures) ∙ s .before .before .if1 .left) ∙ none-any (r .count) (placeOut r) (rw e at (s .loop .inv .1 .1 .1)))
 
 pub out-spec : {M : Type 1} → statement M
 out-spec =
@@ -70,6 +84,7 @@ out-spec =
     μ-loop
     head-out-requires
     returns
+    open-count-requires
     loop-holds
     mul-task
     element-copy-out-task

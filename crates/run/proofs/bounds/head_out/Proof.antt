@@ -10,8 +10,11 @@ cores-out-requires c κs = search needs
 rule-out-requires : tie.Need-rule-out-requires
 rule-out-requires c κs = search needs
 
+fence-out-requires : tie.Need-fence-out-requires
+fence-out-requires c κs = search needs
+
 returns : tie.Need-returns
-returns c = simp (c .before .cores-out .ensures, c .rule-out .ensures)
+returns c = simp (c .before .before .cores-out .ensures, c .before .rule-out .ensures, c .fence-out .ensures)
 
 pub head-out-spec : {M : Type 1} → statement M
-head-out-spec = tie.close (tie.spec cores-out-requires rule-out-requires returns)
+head-out-spec = tie.close (tie.spec cores-out-requires rule-out-requires fence-out-requires returns)

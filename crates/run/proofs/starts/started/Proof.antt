@@ -33,15 +33,15 @@ starting-more tasks i h =
     ap (λ (l : List table.Task). map startTask (map taskOf l)) (take-more tasks i noTask h)
     ∙ (ap (map startTask) (map-more taskOf (take i tasks) (getD tasks i noTask)) ∙ map-more startTask (tasksOf tasks i) (taskOf (getD tasks i noTask)))
 
-abbrev made : ℕ → ℕ → ℕ → List Task → Run
-made rule cores count tasks = record { rule = rule; cores = cores; count = count; tasks = tasks }
+abbrev made : ℕ → ℕ → ℕ → ℕ → List Task → Run
+made rule cores fence count tasks = record { rule = rule; cores = cores; fence = fence; count = count; tasks = tasks }
 
 abbrev Inv-loop : tie.InvT-loop
-Inv-loop rule cores count tasks places₀ i₀ places i =
+Inv-loop rule cores fence count tasks places₀ i₀ places i =
     (i ≤ count) × (places ≡ starting tasks i ++ drop i (replicate mostTasks unused))
 
 abbrev μ-loop : tie.MeasureT-loop
-μ-loop rule cores count tasks places₀ i₀ places i = count - i
+μ-loop rule cores fence count tasks places₀ i₀ places i = count - i
 
 unused-requires : tie.Need-unused-requires Inv-loop μ-loop
 unused-requires c κs = search needs
@@ -73,7 +73,7 @@ loop-less c = omega arith
 loop-again : tie.Need-loop-again Inv-loop μ-loop
 loop-again c =
     let s = c .before .before .before in
-    let tasks = s .before .before .args .t3 in
+    let tasks = s .before .before .args .t4 in
     let i = s .loop .i in
     let len : length tasks ≡ mostTasks = search needs in
     let more = written-more (starting tasks i) (replicate mostTasks unused) i (startTask (taskOf (getD tasks i noTask))) pastEnd (length-starting tasks i (omega arith)) (omega arith) in
@@ -85,13 +85,13 @@ returns c =
     let s = c .before in
     let a = s .before .before .args in
     let e : s .loop .i ≡ a .count = omega arith in
-    let len : length (a .t3) ≡ mostTasks = search needs in
+    let len : length (a .t4) ≡ mostTasks = search needs in
     let few = s .before .before .pre in
-    let n : length (tasksOf (a .t3) (a .count)) ≡ a .count = length-map (take (a .count) (a .t3)) taskOf ∙ length-take-le (a .count) (a .t3) (omega arith) in
-    let tasks : s .loop .places ≡ starting (a .t3) (a .count) ++ replicate (mostTasks - a .count) unused =
-    s .loop .inv .1 ∙ (ap (λ (k : ℕ). starting (a .t3) k ++ drop k (replicate mostTasks unused)) e ∙ ap (λ (l : List Task). starting (a .t3) (a .count) ++ l) (drop-equal mostTasks (a .count) unused)) in
-    ap (made (a .rule) (a .cores) (a .count)) tasks
-    ∙ ap (λ (k : ℕ). made (a .rule) (a .cores) k (starting (a .t3) (a .count) ++ replicate (mostTasks - k) unused)) (sym n)
+    let n : length (tasksOf (a .t4) (a .count)) ≡ a .count = length-map (take (a .count) (a .t4)) taskOf ∙ length-take-le (a .count) (a .t4) (omega arith) in
+    let tasks : s .loop .places ≡ starting (a .t4) (a .count) ++ replicate (mostTasks - a .count) unused =
+    s .loop .inv .1 ∙ (ap (λ (k : ℕ). starting (a .t4) k ++ drop k (replicate mostTasks unused)) e ∙ ap (λ (l : List Task). starting (a .t4) (a .count) ++ l) (drop-equal mostTasks (a .count) unused)) in
+    ap (made (a .rule) (a .cores) (a .fence) (a .count)) tasks
+    ∙ ap (λ (k : ℕ). made (a .rule) (a .cores) (a .fence) k (starting (a .t4) (a .count) ++ replicate (mostTasks - k) unused)) (sym n)
 
 pub started-spec : {M : Type 1} → statement M
 started-spec =

@@ -4,6 +4,7 @@ use mathlib.Core.Path.{_≡_, sym, ap, _∙_}
 use lib.ListN.{length}
 use lib.Seq.{length-take-le}
 use Rattle.run.specs.Start.{startOf}
+use Rattle.text.specs.Format.{mostNumbers}
 use Rattle.text.proofs.ReadOf.{numbers-read}
 use Rattle.session.proofs.open.start.Statement.{statement}
 use Rattle.session.proofs.open.start.Tie as tie
@@ -12,10 +13,10 @@ read-requires : tie.Need-read-requires
 read-requires c κs = search needs
 
 array-share-prefix-words : tie.Need-array-share-prefix-words
-array-share-prefix-words c = let w : length (c .before .read .result .words) ≡ 195 = search needs in omega (arith, c .before .read .ensures .most, w)
+array-share-prefix-words c = let w : length (c .before .read .result .words) ≡ mostNumbers = search needs in omega (arith, c .before .read .ensures .most, w)
 
 slice-aggregate-start : tie.Need-slice-aggregate-start
-slice-aggregate-start c = let w : length (c .before .before .read .result .words) ≡ 195 = search needs in sym (length-take-le (c .before .before .read .result .count) _ (omega (arith, c .before .before .read .ensures .most, w)))
+slice-aggregate-start c = let w : length (c .before .before .read .result .words) ≡ mostNumbers = search needs in sym (length-take-le (c .before .before .read .result .count) _ (omega (arith, c .before .before .read .ensures .most, w)))
 
 start-requires : tie.Need-start-requires
 start-requires c κs = search needs

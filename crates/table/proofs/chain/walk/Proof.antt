@@ -7,7 +7,7 @@ use native.Mathlib.Omega.{arith}
 use native.Mathlib.Nat.{add-zero}
 use native.Mathlib.Numerals.{add-one}
 use lib.ListN.{length}
-use Rattle.table.specs.Words.{records}
+use Rattle.table.specs.Words.{headerWords, recordWords, records}
 use Rattle.table.proofs.HeaderFine.{header-fine, words-long, words-few}
 use Rattle.table.proofs.Walking.{Walking, walking-none, walking-again, walking-room, walking-more, walked-past, walked-again, walked-whole}
 use Rattle.table.proofs.chain.walk.Statement.{statement}
@@ -21,7 +21,7 @@ abbrev μ-loop : tie.MeasureT-loop
 μ-loop words records tasks₀ seen₀ count₀ at₀ tasks seen count at = records - count
 
 -- the header passes
-long : (c : tie.After-shared-slice-known Inv-loop μ-loop) → 3 ≤ length (now (c .before .args .words))
+long : (c : tie.After-shared-slice-known Inv-loop μ-loop) → headerWords ≤ length (now (c .before .args .words))
 long c = let ws = now (c .before .args .words) in words-long ws (header-fine ws (c .before .pre) .words-in)
 
 few : (c : tie.At-loop Inv-loop μ-loop) → records (now (c .before .before .before .before .args .words)) ≤ mostTasks
@@ -97,7 +97,7 @@ shared-slice-read-at-2 : tie.Need-shared-slice-read-at-2 Inv-loop μ-loop
 shared-slice-read-at-2 c = omega (arith, few (c .before .before .before .before .before))
 
 cast-at-2 : tie.Need-cast-at-2 Inv-loop μ-loop
-cast-at-2 c = omega (arith, c .shared-slice-known3 .given (3 + (c .before .before .before .before .before .loop .at - 1) * 6))
+cast-at-2 c = omega (arith, c .shared-slice-known3 .given (headerWords + (c .before .before .before .before .before .loop .at - 1) * recordWords))
 
 add-count : tie.Need-add-count Inv-loop μ-loop
 add-count c = omega (arith, room (c .before .before), few (c .before .before .before .before .before))
@@ -112,7 +112,7 @@ loop-again c =
     let ws = now (s .before .before .before .before .args .words) in
     let more =
     walking-more ws (s .loop .tasks) (s .loop .seen) (s .loop .count) (s .loop .at) (s .loop .inv) (e .before .before .if1 .left) (e .before .if2 .left) (few s) (e .if3 .left) in
-    rw (add-one (s .loop .count), c .before .task-of .ensures) (rw (add-zero (3 + (s .loop .at - 1) * 6)) at more)
+    rw (add-one (s .loop .count), c .before .task-of .ensures) (rw (add-zero (headerWords + (s .loop .at - 1) * recordWords)) at more)
 
 pub walk-spec : {M : Type 1} → statement M
 walk-spec =

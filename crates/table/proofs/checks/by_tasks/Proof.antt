@@ -4,10 +4,13 @@ use mathlib.Core.Path.{_≡_, sym, ap, _∙_}
 use borrow.Author.Needs.{needs}
 use native.Mathlib.Omega.{arith}
 use native.Mathlib.Numerals.{add-one}
-use lib.ListN.{length}
+use Prim.Native.Nat.{ℕ, min}
+use lib.ListN.{getD, length}
+use Rattle.model.specs.Fence.{openCount}
 use Rattle.model.specs.Task as model
 use Rattle.model.specs.Sizes.{mostTasks}
-use Rattle.table.specs.Task.{tasksOf}
+use Rattle.table.specs.Task.{noTask, taskOf, tasksOf}
+use Rattle.table.specs.Answer.{firstOut, wide}
 use Rattle.table.specs.Limits.{taskNumber}
 use Rattle.table.specs.Load.{tableWith, passing}
 use Rattle.table.proofs.Places.{tasks-length, task-at}
@@ -16,13 +19,26 @@ use Rattle.table.proofs.checks.by_tasks.Statement.{statement}
 use Rattle.table.proofs.checks.by_tasks.Tie as tie
 
 -- the table that is looked at, and its tasks counted
-table : (c : tie.After-first-out) → model.Table
-table c = tableWith (c .before .args .cores) (c .before .args .rule) (tasksOf (c .before .args .t3) (c .before .args .count))
+abbrev given : tie.After-open-count → model.Table
+given c = tableWith (c .before .args .cores) (c .before .args .fence) (c .before .args .rule) (tasksOf (c .before .args .t4) (c .before .args .count))
 
-counted : (c : tie.After-first-out) → length (tasksOf (c .before .args .t3) (c .before .args .count)) ≡ c .before .args .count
+counted : (c : tie.After-open-count) → length (given c .tasks) ≡ c .before .args .count
 counted c =
-    let there : length (c .before .args .t3) ≡ mostTasks = search needs in
-    tasks-length (c .before .args .t3) (c .before .args .count) (omega arith)
+    let there : length (c .before .args .t4) ≡ mostTasks = search needs in
+    tasks-length (c .before .args .t4) (c .before .args .count) (omega arith)
+
+-- a width is measured against the open cores
+measured : (c : tie.After-open-count) → c .open-count .result ≡ wide (given c)
+measured c =
+    let all : min (c .before .args .cores) 64 ≡ c .before .args .cores = omega (arith, c .before .pre .0) in
+    c .open-count .ensures ∙ ap (openCount (c .before .args .fence)) all
+
+-- the first place with a task that is turned down
+out : (c : tie.After-first-out) → firstOut (wide (given (c .before))) (given (c .before) .tasks) ≡ c .first-out .result
+out c = ap (λ (m : ℕ). firstOut m (given (c .before) .tasks)) (sym (measured (c .before))) ∙ sym (c .first-out .ensures)
+
+open-count-requires : tie.Need-open-count-requires
+open-count-requires c κs = search needs
 
 first-out-requires : tie.Need-first-out-requires
 first-out-requires c κs = search needs
@@ -46,37 +62,40 @@ refused-requires : tie.Need-refused-requires
 refused-requires c κs = search needs
 
 returns : tie.Need-returns
-unfolding table
 returns c =
     let n = c .before in
     let f = n .before .before .before in
-    let a = f .before .args in
+    let o = f .before in
+    let a = o .before .args in
     let place = f .first-out .result in
-    let number : n .task-number .result ≡ taskNumber (a .cores) (model.task (table f) place) =
-    n .task-number .ensures ∙ sym (ap (taskNumber (a .cores)) (task-at (a .t3) (a .count) place (omega arith))) in
+    let number : n .task-number .result ≡ taskNumber (wide (given o)) (model.task (given o) place) =
+    n .task-number .ensures
+    ∙ (ap (λ (m : ℕ). taskNumber m (taskOf (getD (a .t4) place noTask))) (measured o) ∙ sym (ap (taskNumber (wide (given o))) (task-at (a .t4) (a .count) place (omega arith)))) in
     c .refused .ensures
     ∙ rw (number, add-one place)
-    (sym (by-number (table f) (passing (a .rule) (table f)) place (sym (f .first-out .ensures)) (omega (arith, counted f))))
+    (sym (by-number (given o) (passing (a .rule) (given o)) place (out f) (omega (arith, counted o))))
 
 by-horizon-requires : tie.Need-by-horizon-requires
 by-horizon-requires c κs =
     let f = c .before in
-    let a = f .before .args in
+    let o = f .before in
+    let a = o .before .args in
     let e = f .first-out .ensures in
-    (search needs, (search needs, (in-limits (a .cores) (a .t3) (a .count) (omega arith), f .before .pre .1 .1)))
+    (search needs, (search needs, (in-limits (o .open-count .result) (a .t4) (a .count) (omega arith), o .before .pre .1 .1 .1)))
 
 returns-2 : tie.Need-returns-2
-unfolding table
 returns-2 c =
     let f = c .before .before in
-    let a = f .before .args in
+    let o = f .before in
+    let a = o .before .args in
     c .by-horizon .ensures
-    ∙ sym (by-none (table f) (passing (a .rule) (table f)) (f .first-out .result) (sym (f .first-out .ensures)) (omega (arith, counted f)))
+    ∙ sym (by-none (given o) (passing (a .rule) (given o)) (f .first-out .result) (out f) (omega (arith, counted o)))
 
 pub by-tasks-spec : {M : Type 1} → statement M
 by-tasks-spec =
     tie.close
     (tie.spec
+    open-count-requires
     first-out-requires
     mul-task
     array-copy-out-task

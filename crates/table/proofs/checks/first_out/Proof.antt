@@ -17,10 +17,10 @@ use Rattle.table.proofs.checks.first_out.Tie as tie
 use Rattle.model.specs.Sizes.{mostTasks}
 
 abbrev Inv-loop : tie.InvT-loop
-Inv-loop cores count tasks place₀ place = (place ≤ count) × ((p : ℕ) → p < place → taskOut cores (taskOf (getD tasks p noTask)) ≡ false)
+Inv-loop wide count tasks place₀ place = (place ≤ count) × ((p : ℕ) → p < place → taskOut wide (taskOf (getD tasks p noTask)) ≡ false)
 
 abbrev μ-loop : tie.MeasureT-loop
-μ-loop cores count tasks place₀ place = count - place
+μ-loop wide count tasks place₀ place = count - place
 
 loop-holds : tie.Need-loop-holds Inv-loop μ-loop
 loop-holds c = (search needs, below-none _)
@@ -39,9 +39,9 @@ returns c =
     let s = c .before .before .before .before in
     let a = s .before .args in
     let there : length (a .t2) ≡ mostTasks = search needs in
-    let out : taskOut (a .cores) (taskOf (getD (a .t2) (s .loop .place) noTask)) ≡ true =
+    let out : taskOut (a .wide) (taskOf (getD (a .t2) (s .loop .place) noTask)) ≡ true =
     ap not (ap (λ (n : ℕ). eqb n 0) (sym (c .before .task-number .ensures)) ∙ ne-eqb (c .before .task-number .result) 0 (c .if1 .taken)) in
-    out-here (a .cores) (a .t2) (a .count) (omega arith) (s .loop .place) (omega arith) (s .loop .inv .1) out
+    out-here (a .wide) (a .t2) (a .count) (omega arith) (s .loop .place) (omega arith) (s .loop .inv .1) out
 
 add-place : tie.Need-add-place Inv-loop μ-loop
 add-place c = omega arith
@@ -59,7 +59,7 @@ returns-2 c =
     let a = c .before .before .args in
     let there : length (a .t2) ≡ mostTasks = search needs in
     let all : c .before .loop .place ≡ a .count = omega arith in
-    all ∙ out-none (a .cores) (a .t2) (a .count) (omega arith) (rw all at (c .before .loop .inv .1))
+    all ∙ out-none (a .wide) (a .t2) (a .count) (omega arith) (rw all at (c .before .loop .inv .1))
 
 pub first-out-spec : {M : Type 1} → statement M
 first-out-spec =

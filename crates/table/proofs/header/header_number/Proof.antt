@@ -1,12 +1,14 @@
 -- `table::header::header_number` meets its contract: each return rewrites with the tests that led there.
 -- Assumes nothing.
-use mathlib.Core.Path.{_≡_, sym, _∙_}
+use mathlib.Core.Path.{_≡_, sym, ap, _∙_}
 use mathlib.Core.Bool.{false}
+use mathlib.Core.List.{List}
+use Prim.Native.Nat.{ℕ}
 use denote.Ref.{now}
 use borrow.Author.Needs.{needs}
 use borrow.Author.Tests.{lt-ltb, le-ltb, eq-eqb, ne-eqb}
-use Rattle.table.specs.Words.{cores, rule}
-use Rattle.table.specs.Limits.{coresOut, ruleOut}
+use Rattle.table.specs.Words.{cores, rule, fence}
+use Rattle.table.specs.Limits.{coresOut, ruleOut, fenceOut}
 use Rattle.table.specs.Answer.{wordsOut, headerNumber}
 use Rattle.table.proofs.header.header_number.Statement.{statement}
 use Rattle.table.proofs.header.header_number.Tie as tie
@@ -20,6 +22,16 @@ cores-fine c = sym (c .before .cores-out .ensures) ∙ c .if4 .left
 
 rule-fine : (c : tie.Else5) → ruleOut (rule (now (c .before .before .before .before .before .before .before .before .before .before .args .words))) ≡ false
 rule-fine c = sym (c .before .rule-out .ensures) ∙ c .if5 .left
+
+-- the words, and what the test of the fence says of them
+abbrev words-of : tie.Else5 → List ℕ
+words-of c = now (c .before .before .before .before .before .before .before .before .before .before .args .words)
+
+fenced : (c : tie.After-fence-out) → c .fence-out .result ≡ fenceOut (cores (words-of (c .before .before .before))) (fence (words-of (c .before .before .before)))
+fenced c = c .fence-out .ensures ∙ ap (fenceOut (cores (words-of (c .before .before .before)))) (c .before .fence-in .ensures)
+
+fence-fine : (c : tie.Else6) → fenceOut (cores (words-of (c .before .before .before .before))) (fence (words-of (c .before .before .before .before))) ≡ false
+fence-fine c = sym (fenced (c .before)) ∙ c .if6 .left
 
 returns : tie.Need-returns
 unfolding headerNumber
@@ -58,22 +70,40 @@ returns-5 c =
     let e = c .before .before .before in
     simp (words-fine (e .before .before .before), cores-fine e, sym (c .before .rule-out .ensures) ∙ c .if5 .taken)
 
-shared-slice-read-if6 : tie.Need-shared-slice-read-if6
-shared-slice-read-if6 c = search needs
+shared-slice-read-fence-out : tie.Need-shared-slice-read-fence-out
+shared-slice-read-fence-out c = search needs
+
+fence-in-requires : tie.Need-fence-in-requires
+fence-in-requires c κs = search needs
+
+fence-out-requires : tie.Need-fence-out-requires
+fence-out-requires c κs = search needs
 
 returns-6 : tie.Need-returns-6
 unfolding headerNumber
 returns-6 c =
-    let f = c .before .before in
+    let f = c .before .before .before .before in
     let e = f .before .before .before in
-    simp (words-fine (e .before .before .before), cores-fine e, rule-fine f, eq-eqb _ _ (c .if6 .taken))
+    simp (words-fine (e .before .before .before), cores-fine e, rule-fine f, sym (fenced (c .before)) ∙ c .if6 .taken)
+
+shared-slice-read-if7 : tie.Need-shared-slice-read-if7
+shared-slice-read-if7 c = search needs
 
 returns-7 : tie.Need-returns-7
 unfolding headerNumber
 returns-7 c =
-    let f = c .before .before in
+    let g = c .before .before in
+    let f = g .before .before .before .before in
     let e = f .before .before .before in
-    simp (words-fine (e .before .before .before), cores-fine e, rule-fine f, ne-eqb _ _ (c .if6 .left))
+    simp (words-fine (e .before .before .before), cores-fine e, rule-fine f, fence-fine g, eq-eqb _ _ (c .if7 .taken))
+
+returns-8 : tie.Need-returns-8
+unfolding headerNumber
+returns-8 c =
+    let g = c .before .before in
+    let f = g .before .before .before .before in
+    let e = f .before .before .before in
+    simp (words-fine (e .before .before .before), cores-fine e, rule-fine f, fence-fine g, ne-eqb _ _ (c .if7 .left))
 
 pub header-number-spec : {M : Type 1} → statement M
 header-number-spec =
@@ -89,6 +119,10 @@ header-number-spec =
     shared-slice-read-rule-out
     rule-out-requires
     returns-5
-    shared-slice-read-if6
+    shared-slice-read-fence-out
+    fence-in-requires
+    fence-out-requires
     returns-6
-    returns-7)
+    shared-slice-read-if7
+    returns-7
+    returns-8)

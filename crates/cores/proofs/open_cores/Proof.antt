@@ -1,0 +1,18 @@
+-- `cores::open_cores` meets its contract: the first cores without the fence are the unfenced ones below the count. Assumes nothing.
+use borrow.Author.Needs.{needs}
+use mathlib.Core.Path.{ap, _∙_}
+use Rattle.model.specs.Fence.{outside}
+use Rattle.cores.proofs.open_cores.Statement.{statement}
+use Rattle.cores.proofs.open_cores.Tie as tie
+
+first-cores-requires : tie.Need-first-cores-requires
+first-cores-requires c κs = search needs
+
+without-requires : tie.Need-without-requires
+without-requires c κs = search needs
+
+returns : tie.Need-returns
+returns c = c .without .ensures ∙ ap (outside (c .before .before .args .fence)) (c .before .first-cores .ensures)
+
+pub open-cores-spec : {M : Type 1} → statement M
+open-cores-spec = tie.close (tie.spec first-cores-requires without-requires returns)
