@@ -1,4 +1,4 @@
--- How many moments the tasks of a table bring in a stretch of ticks, by which the faster judge is chosen. No answer depends on it.
+-- What the two judges have to do in a stretch of 1,000,000 ticks, by which the faster one is chosen. No answer depends on it.
 use mathlib.Core.Bool.{Bool, cond}
 use mathlib.Core.List.{List}
 use Prim.Native.Nat.{ℕ, zero, suc, _+_, _*_, _/_}
@@ -7,25 +7,37 @@ use lib.ListN.{getD}
 use Rattle.model.specs.Sizes.{mostTasks}
 use Rattle.table.specs.declared.Loaded.{Loaded}
 use Rattle.table.specs.declared.Task.{Task}
-use Rattle.table.specs.Limits.{mostTime}
 use Rattle.table.specs.Task.{noTask}
 
--- a job is released, ends, and is due, which is no moment of its own where the next job is released then
-abbrev pub eachJob : Task → ℕ
-eachJob t = cond (eqb (t .deadline) (t .period)) 2 3
+-- the stretch
+abbrev pub stretch : ℕ
+stretch = 1000000
 
--- the moments of a task in 1,000,000 ticks; a place without a task has none
+-- the jobs of a task in it; a place without a task has none
+unfoldable pub jobsOf : Task → ℕ
+jobsOf t = cond (eqb (t .period) 0) 0 (stretch / t .period)
+
+-- the moments of a task in it: a job is released, ends, and is due, which is no moment of its own where the next job is released then
 unfoldable pub momentsOf : Task → ℕ
-momentsOf t = cond (eqb (t .period) 0) 0 (mostTime / t .period * eachJob t)
+momentsOf t = jobsOf t * cond (eqb (t .deadline) (t .period)) 2 3
 
--- those of the first n places
-unfoldable pub momentsTo : ℕ → List Task → ℕ
-momentsTo zero ts = 0
-momentsTo (suc n) ts = momentsTo n ts + momentsOf (getD ts n noTask)
+-- the ticks that its jobs want in it
+unfoldable pub workOf : Task → ℕ
+workOf t = jobsOf t * t .length
 
--- so many moments in 1,000,000 ticks, and more, and a leap from each to the next takes longer than the ticks do
-abbrev pub many : ℕ
-many = 1000000
+-- a sum over the first n places
+unfoldable pub sumTo : (Task → ℕ) → ℕ → List Task → ℕ
+sumTo f zero ts = 0
+sumTo f (suc n) ts = sumTo f n ts + f (getD ts n noTask)
 
+-- what the tick judge has to do: every tick, and in it every job that works
+abbrev pub ticking : Loaded → ℕ
+ticking t = stretch + sumTo workOf mostTasks (t .tasks)
+
+-- what the leaping judge has to do: every moment, which costs as much as this many of those
+abbrev pub leaping : Loaded → ℕ
+leaping t = 16 * sumTo momentsOf mostTasks (t .tasks)
+
+-- the tick judge is the faster one
 abbrev pub crowded : Loaded → Bool
-crowded t = leb many (momentsTo mostTasks (t .tasks))
+crowded t = leb (ticking t) (leaping t)

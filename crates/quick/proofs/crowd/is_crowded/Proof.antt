@@ -1,6 +1,6 @@
--- `quick::crowd::is_crowded` meets its contract. The loop's invariant: the sum is that of the places passed. Assumes nothing.
+-- `quick::crowd::is_crowded` meets its contract. The loop's invariant: the sums are those of the places passed. Assumes nothing.
 use borrow.Author.Needs.{needs}
-use mathlib.Core.Path.{_≡_, refl, sym, ap, ap₂, _∙_}
+use mathlib.Core.Path.{_≡_, refl, ap, ap₂, _∙_}
 use mathlib.Core.List.{List}
 use Prim.Native.Nat.{ℕ, _+_, _*_, _-_, _≤_}
 use native.Mathlib.Numerals.{add-one}
@@ -10,26 +10,31 @@ use lib.ListN.{getD}
 use Rattle.model.specs.Sizes.{mostTasks}
 use Rattle.table.specs.declared.Task.{Task}
 use Rattle.table.specs.Task.{noTask}
-use Rattle.quick.specs.Crowded.{many, momentsOf, momentsTo}
+use Rattle.quick.specs.Crowded.{stretch, momentsOf, workOf, sumTo}
 use Rattle.quick.proofs.crowd.is_crowded.Statement.{statement}
 use Rattle.quick.proofs.crowd.is_crowded.Tie as tie
 
+-- a sum so far, each of whose parts is at most `most`
+abbrev Summed : (Task → ℕ) → ℕ → List Task → ℕ → ℕ → Type 0
+Summed f most ts n i = (n ≤ most * i) × (n ≡ sumTo f i ts)
+
+summed-none : (f : Task → ℕ) (most : ℕ) (ts : List Task) → Summed f most ts 0 0
+unfolding sumTo
+summed-none f most ts = (omega arith, refl)
+
+summed-more :
+    (f : Task → ℕ) (most : ℕ) (ts : List Task) (n i k : ℕ) → Summed f most ts n i → (k ≡ f (getD ts i noTask)) × (k ≤ most) → Summed f most ts (n + k) (i + 1)
+unfolding sumTo
+summed-more f most ts n i k s x = (omega (arith, s .0, x .1), rw (add-one i) (ap₂ (λ (a b : ℕ). a + b) (s .1) (x .0)))
+
 abbrev Inv-loop : tie.InvT-loop
-Inv-loop tasks sum₀ i₀ sum i = (i ≤ mostTasks) × (sum ≤ 3000000 * i) × (sum ≡ momentsTo i tasks)
+Inv-loop tasks work₀ moments₀ i₀ work moments i = (i ≤ mostTasks) × Summed workOf 4294967296000000 tasks work i × Summed momentsOf 3000000 tasks moments i
 
 abbrev μ-loop : tie.MeasureT-loop
-μ-loop tasks sum₀ i₀ sum i = mostTasks - i
-
-first : (ts : List Task) → 0 ≡ momentsTo 0 ts
-unfolding momentsTo
-first ts = refl
-
-one-more : (ts : List Task) (i n m : ℕ) → n ≡ momentsTo i ts → m ≡ momentsOf (getD ts i noTask) → n + m ≡ momentsTo (i + 1) ts
-unfolding momentsTo
-one-more ts i n m e f = rw (add-one i) (ap₂ (λ (x y : ℕ). x + y) e f)
+μ-loop tasks work₀ moments₀ i₀ work moments i = mostTasks - i
 
 loop-holds : tie.Need-loop-holds Inv-loop μ-loop
-loop-holds c = (omega arith, omega arith, first _)
+loop-holds c = (omega arith, summed-none workOf 4294967296000000 _, summed-none momentsOf 3000000 _)
 
 mul-task : tie.Need-mul-task Inv-loop μ-loop
 mul-task c = omega arith
@@ -37,11 +42,20 @@ mul-task c = omega arith
 array-copy-out-task : tie.Need-array-copy-out-task Inv-loop μ-loop
 array-copy-out-task c = omega arith
 
+work-of-requires : tie.Need-work-of-requires Inv-loop μ-loop
+work-of-requires c κs = search needs
+
+add-work : tie.Need-add-work Inv-loop μ-loop
+add-work c = let s = c .before .before .before in omega (arith, c .work-of .ensures .1, s .loop .inv .1 .0)
+
 moments-of-requires : tie.Need-moments-of-requires Inv-loop μ-loop
 moments-of-requires c κs = search needs
 
-add-sum : tie.Need-add-sum Inv-loop μ-loop
-add-sum c = omega (arith, c .moments-of .ensures .1)
+cast-moments : tie.Need-cast-moments Inv-loop μ-loop
+cast-moments c = search needs
+
+add-moments : tie.Need-add-moments Inv-loop μ-loop
+add-moments c = let s = c .before .before .before .before in omega (arith, c .moments-of .ensures .1, s .loop .inv .2 .0)
 
 add-i : tie.Need-add-i Inv-loop μ-loop
 add-i c = omega arith
@@ -51,14 +65,27 @@ loop-less c = omega arith
 
 loop-again : tie.Need-loop-again Inv-loop μ-loop
 loop-again c =
-    let s = c .before .before .before in
-    (omega arith, omega (arith, c .moments-of .ensures .1), one-more _ (s .loop .i) _ _ (s .loop .inv .2) (c .moments-of .ensures .0))
+    let w = c .before in
+    let s = w .before .before .before in (
+      omega arith,
+      summed-more workOf 4294967296000000 _ (s .loop .work) (s .loop .i) _ (s .loop .inv .1) (w .work-of .ensures),
+      summed-more momentsOf 3000000 _ (s .loop .moments) (s .loop .i) _ (s .loop .inv .2) (c .moments-of .ensures),
+    )
+
+add-result : tie.Need-add-result Inv-loop μ-loop
+add-result c = let s = c .before in omega (arith, s .loop .inv .1 .0, s .loop .inv .0)
+
+mul-result : tie.Need-mul-result Inv-loop μ-loop
+mul-result c = let s = c .before in omega (arith, s .loop .inv .2 .0, s .loop .inv .0)
 
 returns : tie.Need-returns Inv-loop μ-loop
 returns c =
     let s = c .before in
+    let ts = s .before .before .args .table .tasks in
     let e : s .loop .i ≡ mostTasks = omega arith in
-    ap (leb many) (s .loop .inv .2 ∙ ap (λ (n : ℕ). momentsTo n (s .before .before .args .table .tasks)) e)
+    ap₂ (λ (w m : ℕ). leb (stretch + w) (16 * m))
+    (s .loop .inv .1 .1 ∙ ap (λ (n : ℕ). sumTo workOf n ts) e)
+    (s .loop .inv .2 .1 ∙ ap (λ (n : ℕ). sumTo momentsOf n ts) e)
 
 pub is-crowded-spec : {M : Type 1} → statement M
 is-crowded-spec =
@@ -69,9 +96,14 @@ is-crowded-spec =
     loop-holds
     mul-task
     array-copy-out-task
+    work-of-requires
+    add-work
     moments-of-requires
-    add-sum
+    cast-moments
+    add-moments
     add-i
     loop-less
     loop-again
+    add-result
+    mul-result
     returns)
