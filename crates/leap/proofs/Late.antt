@@ -1,10 +1,11 @@
--- The walk over the due places of a tick: one with ticks left is late. The first that is found is the first in priority to miss; where none is found
--- no deadline of the tick is missed.
-use mathlib.Core.Path.{_≡_, refl, sym, ap, _∙_}
-use mathlib.Core.Bool.{Bool, true, false, true≢false}
+-- The walk over the due claimants of a tick: one with ticks left is late. The first that is found is the first in priority to miss; where none is
+-- found no deadline of the tick is missed.
+use mathlib.Core.Path.{_≡_, refl, sym, ap, ap₂, _∙_}
+use mathlib.Core.Bool.{Bool, true, false, _&&_, true≢false}
 use Prim.Native.Nat.{ℕ, _+_, _^_, _≤_, _<_}
 use native.Mathlib.Numerals.{add-one}
 use native.Mathlib.Omega.{arith}
+use lib.Bits.{bitAnd, and-le-r}
 use lib.ListN.{length, getD}
 use lib.Dec.{eqb}
 use borrow.Author.Tests.{eqb-true}
@@ -12,24 +13,24 @@ use Rattle.model.specs.Search.{bit}
 use Rattle.model.specs.Task.{Table, task}
 use Rattle.model.specs.Book.{full, Missed}
 use Rattle.model.specs.Verdict.{FirstMiss}
-use Rattle.model.proofs.Digits.{bit-none}
+use Rattle.model.proofs.Bools.{and-right}
+use Rattle.model.proofs.Digits.{bit-none, and-bit}
 use Rattle.model.proofs.Runs.{missed-at}
 use Rattle.table.specs.declared.Loaded.{Loaded}
 use Rattle.full.specs.Machine.{Machine}
 use Rattle.judge.specs.Judged.{tableIn, Fit}
 use Rattle.leap.specs.Stand.{Stand, Stands}
+use Rattle.leap.proofs.DuePlaces.{due-small}
 use Rattle.leap.proofs.Lands.{due-exact, due-inside, missed-due}
 use Rattle.leap.proofs.Looked.{late-has}
 use Rattle.leap.proofs.Sets.{lowest, others, Off, off-turn}
+use Rattle.leap.proofs.Stands.{none-left}
 
 -- what is left of the due places to be looked at: the others have no tick left
 pub record Looking (m : Machine) (due rest : ℕ) : Type 0 where
   pub within : (q : ℕ) → bit rest q ≡ true → bit due q ≡ true
   pub seen : (q : ℕ) → bit due q ≡ true → bit rest q ≡ false → getD (m .left) q 0 ≡ 0
   pub small : rest < 2 ^ 32
-
-pub look-begins : (m : Machine) (due : ℕ) → due < 2 ^ 32 → Looking m due due
-look-begins m due l = record { within = λ q e. e; seen = λ q e f. absurd (true≢false (sym e ∙ f)); small = l }
 
 module _ (m : Machine) (due rest : ℕ) (h : Looking m due rest) (some : 0 < rest) where
   pub at-lowest : Off due rest
@@ -56,6 +57,23 @@ module _ (m : Machine) (due rest : ℕ) (h : Looking m due rest) (some : 0 < res
 module _ (t : Loaded) (fit : Fit t) (s : Stand) (h : Stands t s) where
   abbrev book : Table
   book = tableIn t
+
+  -- at first the due places that do not claim are left out: they have no tick left
+  pub look-begins : Looking (s .machine) (s .due) (bitAnd (s .machine .claiming) (s .due))
+  look-begins = record {
+    within = λ q e.
+        and-right (bit (s .machine .claiming) q) (bit (s .due) q) (sym (and-bit (s .machine .claiming) (s .due) q) ∙ e);
+    seen = λ q e f. rests q (due-inside t fit s h q e) (bit (s .machine .claiming) q) refl (sym (and-bit (s .machine .claiming) (s .due) q) ∙ f) e;
+    small = omega (arith, and-le-r (s .machine .claiming) (s .due), h .dues, due-small (s .tick) (t .count) (s .machine .moment));
+  }
+    where
+      rests :
+          (q : ℕ) → q < length (book .tasks) → (b : Bool) → bit (s .machine .claiming) q ≡ b → bit (s .machine .claiming) q && bit (s .due) q ≡ false
+          → bit (s .due) q ≡ true → getD (s .machine .left) q 0 ≡ 0
+      rests q l true c f e = absurd (true≢false (sym (ap₂ (λ (x y : Bool). x && y) c e) ∙ f))
+      rests q l false c f e =
+          none-left (task book q) (s .tick) (full book (s .tick) .job q) (getD (s .machine .left) q 0) (getD (s .machine .moment) q 0)
+          (getD (s .machine .next) q 0) (bit (s .machine .claiming) q) (h .machines .places q l) c
 
   -- the first that is found with ticks left is the first miss
   pub look-misses :

@@ -48,6 +48,11 @@ stands-pass τ t js l m n c h away = record {
   ahead = ahead-later τ t (suc t) m n (h .ahead) (omega arith) (omega (arith, h .ahead .from));
 }
 
+-- a place that does not claim has no tick left
+pub none-left : (τ : Task) (seen : ℕ) (js : ℕ → Job) (l m n : ℕ) (c : Bool) → StandsAt τ seen js l m n c → c ≡ false → l ≡ 0
+none-left τ seen js l m n true h e = absurd (true≢false e)
+none-left τ seen js l m n false h e = h .tied .none
+
 -- a place that claims is owed ticks
 idle : (τ : Task) (seen : ℕ) (js : ℕ → Job) (l m n : ℕ) (c : Bool) → TiedAt τ seen js l m n c → l ≡ 0 → c ≡ false
 idle τ seen js l m n c h z = claims-owed τ seen js l m n c h ∙ rw z

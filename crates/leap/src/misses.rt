@@ -21,7 +21,7 @@ pub fn first_miss(table: Loaded, end: u32) -> Missed
         if end <= pace.tick {
             break 'leaps Missed::Never;
         }
-        let mut rest = pace.due;
+        let mut rest = pace.claiming & pace.due;
         while 0 < rest {
             let place = u32::trailing_zeros(rest);
             if 0 < places[place as usize] {

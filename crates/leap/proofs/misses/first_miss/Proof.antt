@@ -1,5 +1,5 @@
 -- `leap::misses::first_miss` meets its contract. After each leap the run is that of the leaps from tick 0 on (`leaps`), at none of whose ticks a deadline
--- was missed, and so stands as the table's full-length run does; along the walk over the due places none so far has ticks left (`Looking`). A due
+-- was missed, and so stands as the table's full-length run does; along the walk over the due claimants none so far has ticks left (`Looking`). A due
 -- place with ticks left is the first miss; at the end nothing has been missed. Assumes nothing.
 use borrow.Author.Needs.{needs}
 use native.Mathlib.Nat.{not-suc-le-zero}
@@ -20,7 +20,6 @@ use Rattle.judge.proofs.FirstMiss.{by-none, by-first}
 use Rattle.leap.specs.declared.stand.Pace.{Pace}
 use Rattle.leap.specs.Stand.{Stand, standAt, begun, Stands}
 use Rattle.leap.specs.Leap.{leapt, Begins, LeapOf, Lands, leaps, Unmissed}
-use Rattle.leap.proofs.DuePlaces.{due-small}
 use Rattle.leap.proofs.Sets.{lowest}
 use Rattle.leap.proofs.Late.{Looking, look-begins, at-lowest, look-passes, look-misses, look-ends}
 use Rattle.leap.proofs.Moments.{leaps-stand, unmissed-more}
@@ -87,15 +86,15 @@ left-at : (c : tie.In-loop Inv-loop μ-loop Inv-leaps μ-leaps) (xs : List ℕ) 
 left-at c xs = front-at xs (lowest (c .before .loop .rest)) (inside c)
 
 -- where the walk has ended no deadline of the tick is missed
-met : (c : tie.After-loop Inv-loop μ-loop Inv-leaps μ-leaps) (t : Loaded) → Of (c .before .before .before .before .before) t → (q : ℕ) → ¬ Missed (tableIn t) q (c .before .before .before .before .leaps .pace .tick)
+met : (c : tie.After-loop Inv-loop μ-loop Inv-leaps μ-leaps) (t : Loaded) → Of (c .before .before .before .before .before .before) t → (q : ℕ) → ¬ Missed (tableIn t) q (c .before .before .before .before .before .leaps .pace .tick)
 met c t b =
-    let k = c .before .before .before .before in
+    let k = c .before .before .before .before .before in
     look-ends t (b .fit) (stand-of k) (stands k t b) (c .before .loop .rest) (c .before .loop .inv) (c .loop-test .left)
 
 -- so a leap may begin
-begins : (c : tie.After-loop Inv-loop μ-loop Inv-leaps μ-leaps) → Begins (table-of (c .before .before .before .before .before)) (nums (c .before .before .before .before .before)) (stand-of (c .before .before .before .before))
+begins : (c : tie.After-loop Inv-loop μ-loop Inv-leaps μ-leaps) → Begins (table-of (c .before .before .before .before .before .before)) (nums (c .before .before .before .before .before .before)) (stand-of (c .before .before .before .before .before))
 begins c =
-    let e = c .before .before in
+    let e = c .before .before .before in
     let k = e .before .before in
     let p = k .before in
     let b = own p in
@@ -120,9 +119,8 @@ leaps-holds c = λ t b. (0, (λ i p l. absurd (not-suc-le-zero l)), b .stand)
 
 loop-holds : tie.Need-loop-holds Inv-loop μ-loop Inv-leaps μ-leaps
 loop-holds c =
-    let k = c .before .before in
-    look-begins (machineOf (k .leaps .places) (k .leaps .pace .claiming)) (k .leaps .pace .due)
-    (omega (arith, stands k (table-of (k .before)) (own (k .before)) .dues, due-small (k .leaps .pace .tick) (table-of (k .before) .count) (part 32 (k .leaps .places))))
+    let k = c .before .before .before in
+    look-begins (table-of (k .before)) (own (k .before) .fit) (stand-of k) (stands k (table-of (k .before)) (own (k .before)))
 
 cast-if2 : tie.Need-cast-if2 Inv-loop μ-loop Inv-leaps μ-leaps
 cast-if2 c = omega (arith, inside c)
@@ -145,25 +143,25 @@ loop-less c = at-lowest _ _ (c .before .before .loop .rest) (c .before .before .
 loop-again : tie.Need-loop-again Inv-loop μ-loop Inv-leaps μ-leaps
 loop-again c =
     let n = c .before in
-    let k = n .before .before .before .before in
+    let k = n .before .before .before .before .before in
     look-passes _ _ (n .before .loop .rest) (n .before .loop .inv) (n .loop-test .taken) (omega (arith, left-at n (k .leaps .places), c .if2 .left))
 
 leap-requires : tie.Need-leap-requires Inv-loop μ-loop Inv-leaps μ-leaps
 leap-requires c κs =
     let a = c .before .before .before in
-    (table-of (a .before .before .before .before .before), begins a)
+    (table-of (a .before .before .before .before .before .before), begins a)
 
 leaps-less : tie.Need-leaps-less Inv-loop μ-loop Inv-leaps μ-leaps
 leaps-less c =
     let a = c .before .before .before .before in
-    let e = a .before .before in
+    let e = a .before .before .before in
     omega (arith, e .if1 .left, c .leap .ensures .lands _ (begins a) .next .after)
 
 leaps-again : tie.Need-leaps-again Inv-loop μ-loop Inv-leaps μ-leaps
 unfolding leaps
 leaps-again c =
     let a = c .before .before .before .before in
-    let k = a .before .before .before .before in
+    let k = a .before .before .before .before .before in
     λ t b.
     let x = k .leaps .inv t b in
     let here : (q : ℕ) → ¬ Missed (tableIn t) q (leaps t (x .0) .tick) =
@@ -183,7 +181,7 @@ returns c =
 returns-2 : tie.Need-returns-2 Inv-loop μ-loop Inv-leaps μ-leaps
 returns-2 c =
     let n = c .before in
-    let e = n .before .before in
+    let e = n .before .before .before in
     let k = e .before .before in
     let t = table-of (k .before) in
     let b = own (k .before) in
