@@ -4,28 +4,28 @@ use mathlib.Core.Path.{_≡_, refl}
 use Prim.Native.Nat.{ℕ}
 use Rattle.table.specs.declared.Task.{Task}
 use Rattle.table.specs.Task.{noTask}
-use Rattle.quick.specs.Crowded.{jobsOf, momentsOf, workOf, sumTo}
+use Rattle.quick.specs.Crowded.{jobsOf, leapingOf, workOf, sumTo}
 
 -- a task of this length, deadline and period
 abbrev task : ℕ → ℕ → ℕ → Task
 task c d p = record { offset = 0; width = 1; length = c; deadline = d; period = p }
 
--- a period of 8 has 125,000 jobs, and each brings a moment more where its deadline is no release
-pub at-period : momentsOf (task 3 8 8) ≡ 250000
-unfolding momentsOf jobsOf
+-- a period of 8 has 125,000 jobs, and each costs more where its deadline is no release
+pub at-period : leapingOf (task 3 8 8) ≡ 2000000
+unfolding leapingOf jobsOf
 at-period = refl
 
-pub before-period : momentsOf (task 3 7 8) ≡ 375000
-unfolding momentsOf jobsOf
+pub before-period : leapingOf (task 3 7 8) ≡ 4500000
+unfolding leapingOf jobsOf
 before-period = refl
 
 -- one job in the stretch, and no task
-pub longest : momentsOf (task 1 1000000 1000000) ≡ 2
-unfolding momentsOf jobsOf
+pub longest : leapingOf (task 1 1000000 1000000) ≡ 16
+unfolding leapingOf jobsOf
 longest = refl
 
-pub nothing : momentsOf noTask ≡ 0
-unfolding momentsOf jobsOf
+pub nothing : leapingOf noTask ≡ 0
+unfolding leapingOf jobsOf
 nothing = refl
 
 -- the work of a task, and of two places of which the second has none

@@ -17,11 +17,11 @@ stretch = 1000000
 unfoldable pub jobsOf : Task → ℕ
 jobsOf t = cond (eqb (t .period) 0) 0 (stretch / t .period)
 
--- the moments of a task in it: a job is released, ends, and is due, which is no moment of its own where the next job is released then
-unfoldable pub momentsOf : Task → ℕ
-momentsOf t = jobsOf t * cond (eqb (t .deadline) (t .period)) 2 3
+-- what its jobs cost the leaping judge: a release and an end, and a deadline, which is no moment of its own where the next job is released then
+unfoldable pub leapingOf : Task → ℕ
+leapingOf t = jobsOf t * cond (eqb (t .deadline) (t .period)) 16 36
 
--- the ticks that its jobs want in it
+-- what they cost the tick judge: the ticks that they want
 unfoldable pub workOf : Task → ℕ
 workOf t = jobsOf t * t .length
 
@@ -34,9 +34,9 @@ sumTo f (suc n) ts = sumTo f n ts + f (getD ts n noTask)
 abbrev pub ticking : Loaded → ℕ
 ticking t = stretch + sumTo workOf mostTasks (t .tasks)
 
--- what the leaping judge has to do: every moment, which costs as much as this many of those
+-- what the leaping judge has to do, weighed by what was measured
 abbrev pub leaping : Loaded → ℕ
-leaping t = 16 * sumTo momentsOf mostTasks (t .tasks)
+leaping t = sumTo leapingOf mostTasks (t .tasks)
 
 -- the tick judge is the faster one
 abbrev pub crowded : Loaded → Bool

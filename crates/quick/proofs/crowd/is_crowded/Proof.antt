@@ -10,7 +10,7 @@ use lib.ListN.{getD}
 use Rattle.model.specs.Sizes.{mostTasks}
 use Rattle.table.specs.declared.Task.{Task}
 use Rattle.table.specs.Task.{noTask}
-use Rattle.quick.specs.Crowded.{stretch, momentsOf, workOf, sumTo}
+use Rattle.quick.specs.Crowded.{stretch, leapingOf, workOf, sumTo}
 use Rattle.quick.proofs.crowd.is_crowded.Statement.{statement}
 use Rattle.quick.proofs.crowd.is_crowded.Tie as tie
 
@@ -28,13 +28,13 @@ unfolding sumTo
 summed-more f most ts n i k s x = (omega (arith, s .0, x .1), rw (add-one i) (ap₂ (λ (a b : ℕ). a + b) (s .1) (x .0)))
 
 abbrev Inv-loop : tie.InvT-loop
-Inv-loop tasks work₀ moments₀ i₀ work moments i = (i ≤ mostTasks) × Summed workOf 4294967296000000 tasks work i × Summed momentsOf 3000000 tasks moments i
+Inv-loop tasks work₀ leaps₀ i₀ work leaps i = (i ≤ mostTasks) × Summed workOf 4294967296000000 tasks work i × Summed leapingOf 36000000 tasks leaps i
 
 abbrev μ-loop : tie.MeasureT-loop
-μ-loop tasks work₀ moments₀ i₀ work moments i = mostTasks - i
+μ-loop tasks work₀ leaps₀ i₀ work leaps i = mostTasks - i
 
 loop-holds : tie.Need-loop-holds Inv-loop μ-loop
-loop-holds c = (omega arith, summed-none workOf 4294967296000000 _, summed-none momentsOf 3000000 _)
+loop-holds c = (omega arith, summed-none workOf 4294967296000000 _, summed-none leapingOf 36000000 _)
 
 mul-task : tie.Need-mul-task Inv-loop μ-loop
 mul-task c = omega arith
@@ -48,14 +48,14 @@ work-of-requires c κs = search needs
 add-work : tie.Need-add-work Inv-loop μ-loop
 add-work c = let s = c .before .before .before in omega (arith, c .work-of .ensures .1, s .loop .inv .1 .0)
 
-moments-of-requires : tie.Need-moments-of-requires Inv-loop μ-loop
-moments-of-requires c κs = search needs
+leaping-of-requires : tie.Need-leaping-of-requires Inv-loop μ-loop
+leaping-of-requires c κs = search needs
 
-cast-moments : tie.Need-cast-moments Inv-loop μ-loop
-cast-moments c = search needs
+cast-leaps : tie.Need-cast-leaps Inv-loop μ-loop
+cast-leaps c = search needs
 
-add-moments : tie.Need-add-moments Inv-loop μ-loop
-add-moments c = let s = c .before .before .before .before in omega (arith, c .moments-of .ensures .1, s .loop .inv .2 .0)
+add-leaps : tie.Need-add-leaps Inv-loop μ-loop
+add-leaps c = let s = c .before .before .before .before in omega (arith, c .leaping-of .ensures .1, s .loop .inv .2 .0)
 
 add-i : tie.Need-add-i Inv-loop μ-loop
 add-i c = omega arith
@@ -69,23 +69,20 @@ loop-again c =
     let s = w .before .before .before in (
       omega arith,
       summed-more workOf 4294967296000000 _ (s .loop .work) (s .loop .i) _ (s .loop .inv .1) (w .work-of .ensures),
-      summed-more momentsOf 3000000 _ (s .loop .moments) (s .loop .i) _ (s .loop .inv .2) (c .moments-of .ensures),
+      summed-more leapingOf 36000000 _ (s .loop .leaps) (s .loop .i) _ (s .loop .inv .2) (c .leaping-of .ensures),
     )
 
 add-result : tie.Need-add-result Inv-loop μ-loop
 add-result c = let s = c .before in omega (arith, s .loop .inv .1 .0, s .loop .inv .0)
-
-mul-result : tie.Need-mul-result Inv-loop μ-loop
-mul-result c = let s = c .before in omega (arith, s .loop .inv .2 .0, s .loop .inv .0)
 
 returns : tie.Need-returns Inv-loop μ-loop
 returns c =
     let s = c .before in
     let ts = s .before .before .args .table .tasks in
     let e : s .loop .i ≡ mostTasks = omega arith in
-    ap₂ (λ (w m : ℕ). leb (stretch + w) (16 * m))
+    ap₂ (λ (w m : ℕ). leb (stretch + w) m)
     (s .loop .inv .1 .1 ∙ ap (λ (n : ℕ). sumTo workOf n ts) e)
-    (s .loop .inv .2 .1 ∙ ap (λ (n : ℕ). sumTo momentsOf n ts) e)
+    (s .loop .inv .2 .1 ∙ ap (λ (n : ℕ). sumTo leapingOf n ts) e)
 
 pub is-crowded-spec : {M : Type 1} → statement M
 is-crowded-spec =
@@ -98,12 +95,11 @@ is-crowded-spec =
     array-copy-out-task
     work-of-requires
     add-work
-    moments-of-requires
-    cast-moments
-    add-moments
+    leaping-of-requires
+    cast-leaps
+    add-leaps
     add-i
     loop-less
     loop-again
     add-result
-    mul-result
     returns)
