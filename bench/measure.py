@@ -19,20 +19,28 @@ def program(name):
     return str(path)
 
 
-def rust(source, work):
+def rust(source, work, *more):
     """A plain Rust program, built with optimisation."""
     path = os.path.join(work, source.stem)
-    subprocess.run(["rustc", "--edition", "2021", "-O", "-o", path, str(source)], check=True, stderr=subprocess.DEVNULL)
+    subprocess.run(["rustc", "--edition", "2021", "-O", "-o", path, str(source), *more], check=True, stderr=subprocess.DEVNULL)
     return path
 
 
+def library():
+    """The library to link, proved and built where it is missing."""
+    path = ROOT / "target" / "staticlib" / "libcapi.a"
+    if not path.exists():
+        subprocess.run(["rt", "staticlib", "capi"], cwd=ROOT, check=True, stdout=subprocess.DEVNULL)
+    return str(path)
+
+
 @contextlib.contextmanager
-def heavy():
-    """The simulator and the peer, and the paths of the heavy tables, in a folder that goes away. `three` says where the simulator's own form of one is."""
+def heavy(*parts):
+    """The simulator and the peer, and the paths of the heavy tables, in a folder that goes away; in folders beside them the tables of other parts. `three` says where the simulator's own form of one is."""
     with tempfile.TemporaryDirectory() as work:
         gangsim, peer = rust(HERE / "simulator.rs", work), rust(HERE / "peer.rs", work)
         tables = pathlib.Path(work) / "tables"
-        subprocess.run([sys.executable, str(HERE / "tables.py"), str(tables), gangsim], check=True)
+        subprocess.run([sys.executable, str(HERE / "tables.py"), str(tables), gangsim, peer, *parts], check=True)
         yield gangsim, peer, sorted(tables.glob("*.txt"))
 
 

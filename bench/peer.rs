@@ -1,35 +1,37 @@
-// A strong peer: a plain Rust judge written for speed by the judge's own method, to be measured beside it. Not proved; bench/verdict holds its verdicts to the simulator's.
+// A strong peer: a plain Rust judge written for speed by the judges' own methods, to be measured beside them. Not proved; bench/verdict holds its verdicts to the simulator's.
 //
 // The full-length run tick by tick on sets of 32 bits: due moments are looked at only when the bell rings, and the choice is kept while the claimants are unchanged.
-// With the word `jump` it goes from event to event instead: while nobody is due and nobody ends, every tick is as the one before.
+// With the word `jump` it goes from event to event instead: while nobody is due and nobody ends, every tick is as the one before. The deadline of a job that has ended it passes over.
 
 use std::io::Read;
 
 #[derive(Clone, Copy, Default)]
-struct Task {
-    offset: u32,
-    width: u32,
-    length: u32,
-    deadline: u32,
-    period: u32,
+pub struct Task {
+    pub offset: u32,
+    pub width: u32,
+    pub length: u32,
+    pub deadline: u32,
+    pub period: u32,
 }
 
-struct Table {
+pub struct Table {
     /// The cores outside the fence.
-    cores: u32,
-    rule: u32,
-    tasks: Vec<Task>,
-    s: u64,
-    p: u64,
+    pub cores: u32,
+    pub rule: u32,
+    pub tasks: Vec<Task>,
+    pub s: u64,
+    pub p: u64,
 }
 
 type Refusal = (u32, usize);
+
+const MOST_HORIZON: u64 = 1_000_000_000;
 
 /// Words before the records, and of all of them.
 const HEAD: usize = 5;
 const MOST_WORDS: usize = HEAD + 6 * 32;
 
-fn numbers(text: &[u8]) -> Option<Vec<u32>> {
+pub fn numbers(text: &[u8]) -> Option<Vec<u32>> {
     let mut numbers = Vec::with_capacity(MOST_WORDS);
     if text.is_empty() {
         return Some(numbers);
@@ -48,7 +50,7 @@ fn gcd(a: u64, b: u64) -> u64 {
     if b == 0 { a } else { gcd(b, a % b) }
 }
 
-fn load(text: &[u8]) -> Result<Table, Refusal> {
+pub fn load(text: &[u8]) -> Result<Table, Refusal> {
     let words = numbers(text).ok_or((1, 0))?;
     if words.len() < HEAD || (words.len() - HEAD) % 6 != 0 {
         return Err((1, 0));
@@ -95,17 +97,17 @@ fn load(text: &[u8]) -> Result<Table, Refusal> {
         let (offset, period) = (u64::from(task.offset), u64::from(task.period));
         s = offset + s.max(offset).abs_diff(offset).div_ceil(period) * period;
         p = p / gcd(p, period) * period;
-        if p > 10_000_000 {
+        if p > MOST_HORIZON {
             return Err((9, 0));
         }
     }
-    if s + p > 10_000_000 {
+    if s + p > MOST_HORIZON {
         return Err((9, 0));
     }
     Ok(Table { cores, rule, tasks, s, p })
 }
 
-fn choose(table: &Table, width: &[u32; 32], mut claiming: u32) -> u32 {
+pub fn choose(table: &Table, width: &[u32; 32], mut claiming: u32) -> u32 {
     let (mut free, mut granted) = (table.cores, 0);
     while claiming != 0 && free > 0 {
         let place = claiming.trailing_zeros();
@@ -121,7 +123,7 @@ fn choose(table: &Table, width: &[u32; 32], mut claiming: u32) -> u32 {
 }
 
 /// Tick and position of the first miss up to and including the horizon.
-fn first_miss<const JUMP: bool>(table: &Table) -> Option<(u32, usize)> {
+pub fn first_miss<const JUMP: bool>(table: &Table) -> Option<(u32, usize)> {
     let count = table.tasks.len();
     let mut tasks = [Task::default(); 32];
     tasks[..count].copy_from_slice(&table.tasks);
@@ -186,18 +188,21 @@ fn first_miss<const JUMP: bool>(table: &Table) -> Option<(u32, usize)> {
     }
 }
 
+/// The verdict's line, tick by tick or from event to event.
+pub fn verdict(table: &Table, jump: bool) -> String {
+    let miss = if jump { first_miss::<true>(table) } else { first_miss::<false>(table) };
+    let firm = table.rule != 1 || table.tasks.windows(2).all(|pair| pair[0].width <= pair[1].width);
+    match miss {
+        Some((tick, position)) => format!("miss {tick} {position}"),
+        None => format!("{} {} {}", if firm { "firm" } else { "full" }, table.s, table.p),
+    }
+}
+
 fn main() {
     let mut text = Vec::new();
     std::io::stdin().lock().read_to_end(&mut text).expect("standard input can be read");
-    let table = match load(&text) {
-        Ok(table) => table,
-        Err((number, position)) => return println!("refused {number} {position}"),
-    };
-    let jump = std::env::args().nth(1).as_deref() == Some("jump");
-    let miss = if jump { first_miss::<true>(&table) } else { first_miss::<false>(&table) };
-    let firm = table.rule != 1 || table.tasks.windows(2).all(|pair| pair[0].width <= pair[1].width);
-    match miss {
-        Some((tick, position)) => println!("miss {tick} {position}"),
-        None => println!("{} {} {}", if firm { "firm" } else { "full" }, table.s, table.p),
+    match load(&text) {
+        Ok(table) => println!("{}", verdict(&table, std::env::args().nth(1).as_deref() == Some("jump"))),
+        Err((number, position)) => println!("refused {number} {position}"),
     }
 }

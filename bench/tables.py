@@ -1,9 +1,14 @@
 #!/usr/bin/env python3
-"""Heavy tables for measuring: 32 tasks, 64 cores, a horizon of up to 10,000,000, for each rule with short, long and mixed periods; each of them also on the unfenced ones of 64 cores, 10 of which are fenced.
+"""Tables for measuring, all of which fit.
 
-    bench/tables.py DIR GANGSIM    writes DIR/RULE-KIND.txt and DIR/RULE-KIND-fenced.txt; the reference simulator picks a table that fits
+    bench/tables.py DIR GANGSIM PEER [box longer more]
 
-The simulator reads tables of three header words, as they were before there was a fence: it has the same tasks on just the unfenced cores, in DIR/three/.
+DIR/RULE-KIND.txt: heavy ones of 32 tasks, 64 cores and a horizon of up to 10,000,000, for each rule with short, long and mixed periods and with slow ones, of 10,000 ticks and more; where a name says early,
+deadlines come before the period's end; where it says fenced, 10 of the cores are. The reference simulator picks one that fits. It reads tables of three header words, as they were before there was a fence:
+it has the same tasks on just the unfenced cores, in DIR/three/.
+
+The other folders are made where they are named. DIR/box/: 30 tasks with periods of 500 to 20,000 ticks and a horizon near 1,000,000,000, which the peer picks.
+DIR/longer/: one table, and the same with all its numbers of ticks times 10 and times 100. DIR/more/: 27 tasks, and up to three more of which each multiplies P.
 """
 import math
 import pathlib
@@ -16,22 +21,69 @@ FENCE = 1 | 7 << 12 | 1 << 31 | 1 << 32 | 7 << 45 | 1 << 63  # 10 cores, of both
 SHORT = [8, 10, 16, 20, 25, 32, 40, 50, 64, 80, 100, 125, 128, 160, 200, 250, 320, 400, 500]
 LONG = [1000, 1250, 1600, 2000, 2500, 3200, 4000, 5000, 6250, 8000, 10000, 12500, 15625, 16000, 20000, 25000,
         31250, 40000, 50000, 62500, 78125, 100000, 125000, 156250]
-POOLS = {"short": SHORT, "long": LONG, "mixed": SHORT + LONG}
+SLOW = [period for period in LONG if period >= 10_000]
+# The periods of a kind, and two that make P some millions.
+POOLS = {"short": (SHORT, [128, 78125]), "long": (LONG, [128, 78125]), "mixed": (SHORT + LONG, [128, 78125]), "slow": (SLOW, [16000, 78125])}
+BOX = 980_179_200  # 2^8 3^2 5^2 7 11 13 17
+LIMIT = 1_000_000_000
+LOAD = 0.55  # of the cores' time, at most
 
 
-def tasks(kind, seed):
-    """Tasks (O, v, C, D, T) in priority order, loaded to about a third of 64 cores, with a hyperperiod of 5 to 10 million."""
+def divisors(whole, least, most):
+    return [period for period in range(least, most + 1) if whole % period == 0]
+
+
+def task(rng, period, count, early, offset=0):
+    """A task (O, v, C, D, T) of so many that load the cores to about a third."""
+    width = rng.randint(1, 12)
+    length = max(1, int(period * CORES * LOAD / count / width * rng.uniform(0.4, 0.9)))
+    deadline = rng.randint(-(-3 * period // 4), period) if early else period
+    return (offset, width, min(length, deadline), deadline, period)
+
+
+def heavy(kind, early, seed):
+    """Tasks in priority order with a hyperperiod of 5 to 10 million."""
     rng = random.Random(seed)
+    pool, always = POOLS[kind]
     while True:
-        periods = sorted([rng.choice(POOLS[kind]) for _ in range(30)] + [128, 78125])
+        periods = sorted([rng.choice(pool) for _ in range(30)] + always)
         if 5_000_000 <= math.lcm(*periods) <= 10_000_000:
+            return [task(rng, period, 32, early) for period in periods]
+
+
+def box(early, seed):
+    """30 tasks with periods of 500 to 20,000, as many short as long ones, and a hyperperiod near 1,000,000,000."""
+    rng = random.Random(seed)
+    found = divisors(BOX, 500, 20_000)
+    while True:
+        periods = sorted(rng.choice(found) for _ in range(30))
+        if math.lcm(*periods) == BOX:
+            return [task(rng, period, 30, early, rng.randint(0, period)) for period in periods]
+
+
+def longer(seed):
+    """30 tasks with periods of up to 10,000, and the same with all numbers times 10 and times 100."""
+    rng = random.Random(seed)
+    found = divisors(BOX // 100, 100, 10_000)
+    while True:
+        periods = sorted(rng.choice(found) for _ in range(30))
+        if math.lcm(*periods) == BOX // 100:
             break
-    made = []
-    for period in periods:
-        width = rng.randint(1, 12)
-        length = max(1, int(period * 64 * 0.55 / 32 / width * rng.uniform(0.4, 0.9)))
-        made.append((0, width, min(length, period), period, period))
-    return made
+    made = [task(rng, period, 30, rng.random() < 0.5) for period in periods]
+    return {f"times {times}": [(O * times, v, C * times, D * times, T * times) for O, v, C, D, T in made] for times in (1, 10, 100)}
+
+
+def more(seed):
+    """27 tasks with periods of 500 to 20,000 whose hyperperiod is 403,200, and one, two and three more, of which each multiplies it."""
+    rng = random.Random(seed)
+    whole = BOX // (11 * 13 * 17)
+    found = divisors(whole, 500, 20_000)
+    while True:
+        periods = sorted(rng.choice(found) for _ in range(27))
+        if math.lcm(*periods) == whole:
+            break
+    made = [task(rng, period, 30, False) for period in periods] + [task(rng, prime * 960, 30, False) for prime in (11, 13, 17)]
+    return {f"{count} tasks": made[:count] for count in range(27, 31)}
 
 
 def words(made, *header):
@@ -42,27 +94,71 @@ def words(made, *header):
     return "".join(f"{n}\n" for n in numbers)
 
 
-def fits(gangsim, text):
-    said = subprocess.run([gangsim, "verdict"], input=text.encode(), capture_output=True, check=True).stdout
+def fits(command, text):
+    said = subprocess.run(command, input=text.encode(), capture_output=True, check=True).stdout
     return said.startswith((b"firm", b"full"))
 
 
-def main():
-    folder, gangsim = pathlib.Path(sys.argv[1]), sys.argv[2]
+def first_that(found, seeds=300):
+    """What the first seed gives of which something is found."""
+    for seed in range(seeds):
+        answer = found(seed)
+        if answer is not None:
+            return answer
+    sys.exit("no table fits")
+
+
+def write_heavy(folder, gangsim):
     three = folder / "three"
     three.mkdir(parents=True, exist_ok=True)
     for rule in (1, 2, 3):
         for kind in POOLS:
-            for name, fence in ((f"{rule}-{kind}.txt", 0), (f"{rule}-{kind}-fenced.txt", FENCE)):
-                for seed in range(300):
-                    made = tasks(kind, seed)
+            for name, early, fence in ((f"{rule}-{kind}", False, 0), (f"{rule}-{kind}-early", True, 0), (f"{rule}-{kind}-fenced", False, FENCE)):
+                if fence and kind == "slow":
+                    continue
+
+                def found(seed):
+                    made = heavy(kind, early, seed)
                     text = words(made, CORES - fence.bit_count(), rule)
-                    if fits(gangsim, text):
-                        (three / name).write_text(text)
-                        (folder / name).write_text(words(made, CORES, rule, fence % 2**32, fence // 2**32))
-                        break
-                else:
-                    sys.exit(f"no table {name} fits")
+                    return (made, text) if fits([gangsim, "verdict"], text) else None
+
+                made, text = first_that(found)
+                (three / f"{name}.txt").write_text(text)
+                (folder / f"{name}.txt").write_text(words(made, CORES, rule, fence % 2**32, fence // 2**32))
+
+
+def write_boxes(folder, peer):
+    folder.mkdir(parents=True, exist_ok=True)
+    for rule in (1, 2, 3):
+        for early in (False, True):
+
+            def found(seed):
+                text = words(box(early, seed), CORES, rule, 0, 0)
+                return text if fits([peer, "jump"], text) else None
+
+            (folder / f"{rule}-box{'-early' if early else ''}.txt").write_text(first_that(found))
+
+
+def write_family(folder, peer, family):
+    """Several tables of one seed, all of which fit."""
+    folder.mkdir(parents=True, exist_ok=True)
+
+    def found(seed):
+        texts = {name: words(made, CORES, 1, 0, 0) for name, made in family(seed).items()}
+        return texts if all(fits([peer, "jump"], text) for text in texts.values()) else None
+
+    for at, (name, text) in enumerate(first_that(found).items()):
+        (folder / f"{at}-{name.replace(' ', '-')}.txt").write_text(text)
+
+
+def main():
+    folder, gangsim, peer, *parts = pathlib.Path(sys.argv[1]), *sys.argv[2:]
+    write_heavy(folder, gangsim)
+    if "box" in parts:
+        write_boxes(folder / "box", peer)
+    for name, family in (("longer", longer), ("more", more)):
+        if name in parts:
+            write_family(folder / name, peer, family)
 
 
 if __name__ == "__main__":

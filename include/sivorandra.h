@@ -19,7 +19,7 @@ extern "C" {
 /* The answer stands in the first three words of `answer`: one of these cases and its two numbers. Words behind them stay. */
 #define SIVORANDRA_ANSWER_WORDS 3
 #define SIVORANDRA_DONE 0u        /* rows written, last row shown, or taken: 0 and 0 */
-#define SIVORANDRA_FIRM 0u        /* from sivorandra_judge: S and P */
+#define SIVORANDRA_FIRM 0u        /* from sivorandra_judge and sivorandra_judge_ticks: S and P */
 #define SIVORANDRA_FULL 1u        /* S and P */
 #define SIVORANDRA_MISS 2u        /* tick and position */
 #define SIVORANDRA_LENGTH 0u      /* from sivorandra_sentence: the sentence's length, and 0 */
@@ -44,16 +44,24 @@ extern "C" {
 #define SIVORANDRA_FENCED 255u
 
 /* No sentence is longer: a buffer of so many bytes is never refused with 18. */
-#define SIVORANDRA_SENTENCE_BYTES 698
+#define SIVORANDRA_SENTENCE_BYTES 700
 
 /* The words of the facts of a miss: position, tick, ticks had, C, then for positions 1 to 32 in how many of the late job's waiting ticks the
    task ran, 0 for one that the sentence does not name. */
 #define SIVORANDRA_FACT_HEAD_WORDS 4
 #define SIVORANDRA_FACT_WORDS (SIVORANDRA_FACT_HEAD_WORDS + 32)
 
-/* The verdict on the table in `words`: firm, full, miss or refused. */
+/* The largest horizon, S + P, that a table may have: 9 turns down one that is larger. */
+#define SIVORANDRA_MOST_HORIZON 1000000000u
+
+/* The verdict on the table in `words`: firm, full, miss or refused. It goes from one release, end or deadline to the next, or tick by tick,
+   whichever is faster for the table's periods. */
 uint32_t sivorandra_judge(const uint32_t *words, size_t words_len,
                           uint32_t *answer, size_t answer_len);
+
+/* The same verdict, always tick by tick. It is there to be compared with the other. */
+uint32_t sivorandra_judge_ticks(const uint32_t *words, size_t words_len,
+                                uint32_t *answer, size_t answer_len);
 
 /* Writes rows a up to but not including b of the full-length run into `rows`, one byte a core, fenced ones too: done or refused.
    A refusal leaves `rows` as found; 11 says that `rows` is too short. Bytes behind the last row stay. */

@@ -2,6 +2,7 @@
 import contextlib
 import os
 import pathlib
+import re
 import subprocess
 import sys
 import tempfile
@@ -9,7 +10,7 @@ import tempfile
 ROOT = pathlib.Path(__file__).resolve().parents[1]
 LONGEST = 300  # bytes of anything that a failing test shows
 BLOCK = 1 << 16
-STAGE = "102"  # the last request that the project has
+STAGE = "103"  # the last request that the project has
 passed = failed = 0
 
 
@@ -23,6 +24,43 @@ def table(name):
 
 def said(command, text):
     return subprocess.run(command, input=text, capture_output=True, timeout=60).stdout
+
+
+def first_line(command, text):
+    """The first line that a command says to a text. It is stopped there, however many rows follow."""
+    with subprocess.Popen(command, stdin=subprocess.PIPE, stdout=subprocess.PIPE) as process:
+        process.stdin.write(text)
+        process.stdin.close()
+        return process.stdout.readline()
+
+
+def text_of(words):
+    """Words as a table's text."""
+    return b"".join(b"%d\n" % word for word in words)
+
+
+def words_of(text):
+    """The words of a table's text; none where it is no text of a table."""
+    lines = text.removesuffix(b"\n").split(b"\n") if text else []
+    if len(lines) > 197 or not all(re.fullmatch(rb"[0-9]{1,10}", line) and int(line) < 2**32 for line in lines):
+        return []
+    return [int(line) for line in lines]
+
+
+class Library:
+    """The calls of a program of tests/library over the Rust bindings, built in a folder: a line asks, a line answers."""
+
+    def __init__(self, work, name):
+        subprocess.run([str(ROOT / "tests" / "staticlib")], check=True)
+        build = ["rustc", "--edition", "2021", "-D", "warnings", "-L", f"native={ROOT / 'target' / 'staticlib'}"]
+        subprocess.run([*build, "--crate-type", "rlib", "--crate-name", "sivorandra", "--out-dir", work, str(ROOT / "bindings" / "rust" / "src" / "lib.rs")], check=True)
+        subprocess.run([*build, "--extern", f"sivorandra={work}/libsivorandra.rlib", "-o", f"{work}/calls", str(ROOT / "tests" / "library" / f"{name}.rs")], check=True)
+        self.run = subprocess.Popen([f"{work}/calls"], stdin=subprocess.PIPE, stdout=subprocess.PIPE)
+
+    def call(self, *words):
+        self.run.stdin.write(b" ".join(word if isinstance(word, bytes) else b"%d" % word for word in words) + b"\n")
+        self.run.stdin.flush()
+        return self.run.stdout.readline()
 
 
 @contextlib.contextmanager

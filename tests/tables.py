@@ -1,8 +1,16 @@
-"""Random tables as text: small and tight, all rules, with a fence and without, permuted records, records off the chain, every number 1 to 9 and 19, faults of the text."""
+"""Random tables as text: small and tight, all rules, with a fence and without, permuted records, records off the chain, every number 1 to 9 and 19, faults of the text;
+and for those who ask no rows tables with long periods and a horizon of up to 1,000,000,000."""
+import math
 import random
 
 HEAD, RECORD = 5, 6  # words
 WORD = 2**32
+LIMIT = 1_000_000_000  # no horizon is larger
+# Pairs of periods whose least common multiple falls short of the limit by less than the largest offset.
+NEAR = [(1000, 999_999), (999_999, 1000), (1001, 999_000), (31_250, 31_999), (39_999, 25_000), (15_625, 63_999)]
+# Numbers with many divisors, hyperperiods of tables with long periods: some millions of ticks, and up to the limit.
+SOME_MILLIONS = [720_720, 1_081_080, 1_441_440, 2_162_160, 3_603_600]
+UP_TO_THE_LIMIT = [73_513_440, 367_567_200, 735_134_400, 931_170_240, 980_179_200]
 
 
 def task(rng, cores):
@@ -39,20 +47,22 @@ def leaving(rng, usable, cores):
     return sum(1 << core for core in rng.sample(range(cores), cores - usable))
 
 
-def numbers(rng):
-    """The words of a table within the limits, with its records permuted and some of them off the chain."""
-    usable = rng.choice([1, 2, 2, 3, 4, 6, 8, 64])
-    cores, fenced = usable, 0
-    if rng.random() < 0.5:  # the cores that the tasks may have stand among fenced ones
-        cores = rng.choice([usable, min(64, usable + rng.randint(1, 4)), rng.randint(usable, 64), 64])
-        fenced = fence(rng, cores) if usable == 64 else leaving(rng, usable, cores)
-        usable = cores - fenced.bit_count()
-    on, off = rng.randint(1, 6), rng.randint(0, 2)
+def among(rng, usable):
+    """A core count and a fence that leaves so many cores, or of all 64 some: in every second table none is fenced."""
+    if rng.random() < 0.5:
+        return usable, 0
+    cores = rng.choice([usable, min(64, usable + rng.randint(1, 4)), rng.randint(usable, 64), 64])
+    return cores, fence(rng, cores) if usable == 64 else leaving(rng, usable, cores)
+
+
+def linked(rng, cores, fenced, tasks):
+    """The words of these tasks in priority order, with their records permuted and some more off the chain."""
+    on, off = len(tasks), rng.randint(0, min(2, 32 - len(tasks)))
     places = list(range(1, on + off + 1))
     rng.shuffle(places)
     chain, records = places[:on], {}
     for at, number in enumerate(chain):
-        records[number] = [chain[at + 1] if at + 1 < on else 0, *task(rng, usable)]
+        records[number] = [chain[at + 1] if at + 1 < on else 0, *tasks[at]]
     for number in places[on:]:
         records[number] = [rng.randint(0, WORD - 1) for _ in range(RECORD)]
     words = [chain[0], cores, rng.randint(1, 3), *two_words(fenced)]
@@ -61,10 +71,78 @@ def numbers(rng):
     return words
 
 
-def spoilt(rng, words):
-    """The words with one change that a number from 1 to 9, or 19, may turn down."""
+def numbers(rng):
+    """The words of a table within the limits."""
+    cores, fenced = among(rng, rng.choice([1, 2, 2, 3, 4, 6, 8, 64]))
+    return linked(rng, cores, fenced, [task(rng, cores - fenced.bit_count()) for _ in range(rng.randint(1, 6))])
+
+
+def long_task(rng, usable, periods, load, early):
+    """A task with a long period and this share of the cores' time."""
+    period = rng.choice(periods)
+    deadline = rng.randint(period // 2, period) if early else period
+    width = rng.randint(1, usable)
+    length = int(period * usable / width * load)
+    offset = rng.choice([0, 0, rng.randint(1, period), rng.randint(1, 1_000_000)])
+    return [offset, width, max(1, min(length, deadline)), deadline, period]
+
+
+def long_periods(rng, hyperperiods):
+    """The words of a table with periods of 10,000 ticks and more; in every second one deadlines come before the period's end."""
+    cores, fenced = among(rng, rng.choice([1, 2, 4, 8, 64]))
+    whole = rng.choice(hyperperiods)
+    periods = [whole // k for k in range(-(-whole // 1_000_000), whole // 10_000 + 1) if whole % k == 0]
+    count, load, early = rng.choice([1, 2, 4, 8, 16, 32]), rng.choice([0.3, 0.5, 0.7, 0.9, 1.0]), rng.random() < 0.5
+    return linked(rng, cores, fenced, [long_task(rng, cores - fenced.bit_count(), periods, load / count * rng.uniform(0.5, 1.5), early) for _ in range(count)])
+
+
+def clash(rng):
+    """The words of a table of two tasks that cannot run together and have no room to wait; their periods share no factor, so that they meet late, if at all before the horizon."""
+    cores, fenced = among(rng, rng.choice([1, 3, 64]))
+    first, second = rng.choice([*NEAR, (997, 1009), (9973, 10_007), (10_007, 99_991)])
+    room = rng.randint(0, 2)
+    tasks = [[rng.randint(0, first), cores - fenced.bit_count(), 1 + room, 1 + room, first], [rng.randint(0, second), 1, 1, 1 + room // 2, second]]
+    return linked(rng, cores, fenced, tasks)
+
+
+def chain_of(words):
+    """Where the records on the chain of a table within the limits begin, by position."""
+    found, number = [], words[0]
+    while number:
+        found.append(HEAD + RECORD * (number - 1))
+        number = words[found[-1]]
+    return found
+
+
+def stretched(words, times):
+    """The same table with offsets, lengths, deadlines and periods that are so many times as long: so are the ticks of its verdict."""
     words = list(words)
-    kind = rng.randint(0, 11)
+    for place in chain_of(words):
+        for at in (1, 3, 4, 5):
+            words[place + at] *= times
+    return words
+
+
+def about_the_limit(rng, words):
+    """The words with such periods and offsets that the horizon is the limit, or one or some ticks more or less."""
+    pair = rng.choice(NEAR)
+    places = chain_of(words)
+    for at, place in enumerate(places):
+        words[place + 1], words[place + 5] = 0, pair[at % 2]
+    words[places[-1] + 1] = LIMIT - math.lcm(*pair) + rng.choice([-1, 0, 0, 0, 1, 1, 1, 1000])
+
+
+def late_at_once(words):
+    """The first task misses its first deadline, so that few rows come before it."""
+    first = chain_of(words)[0]
+    words[first + 4] = min(words[first + 4], 12)
+    words[first + 1], words[first + 3] = 0, words[first + 4] + 1
+
+
+def spoilt(rng, words, printed):
+    """The words with one change that a number from 1 to 9, or 19, may turn down. Where rows are printed, no more than some millions follow."""
+    words = list(words)
+    kind = rng.randint(0, 12)
     records = (len(words) - HEAD) // RECORD
     record = HEAD + RECORD * rng.randrange(records)
     if kind == 0:
@@ -82,9 +160,14 @@ def spoilt(rng, words):
     elif kind == 6:
         words[record + rng.randint(1, 5)] = rng.choice([0, 1, 1000000, 1000001, WORD - 1])
     elif kind == 7:
+        periods = rng.choice([[999983, 999979], [64, 15625]] if printed else [[999983, 999979], [128, 78125], [999983, 128, 64], [999979, 250]])
         for at in range(HEAD, len(words), RECORD):
-            words[at + 5] = rng.choice([999983, 999979, 128, 78125])
+            words[at + 5] = rng.choice(periods)
             words[at + 4] = min(words[at + 4], words[at + 5])
+    elif kind == 12:
+        about_the_limit(rng, words)
+        if printed:
+            late_at_once(words)
     elif kind == 8:
         words[record + 2] = rng.choice([unfenced(words), unfenced(words) + 1, words[1]])
     elif kind in (9, 10):
@@ -108,9 +191,9 @@ def text(rng, words):
     return joined + rng.choice(["\n", "\n", "\n", "", "\n\n"]) if lines else rng.choice(["", "\n"])
 
 
-def random_text(seed):
+def random_text(seed, printed=True):
     rng = random.Random(seed)
     words = numbers(rng)
     if rng.random() < 0.4:
-        words = spoilt(rng, words)
+        words = spoilt(rng, words, printed)
     return text(rng, words)

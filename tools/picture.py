@@ -2,17 +2,18 @@
 """Draws what the program prints for a table as an SVG 1.1: picture.py PROGRAM... < table > out.svg
 
 It decides nothing. The cells are the program's rows and the words are the program's verdict; releases, deadlines, the fence and the
-numbers beside each task are the table's. The program's output is read as a stream: only the rows that are drawn are kept."""
+numbers beside each task are the table's. The program's output is read as a stream: only the rows that are drawn are kept, and
+after the last of them the program is stopped."""
 import collections
 import colorsys
 import contextlib
-import itertools
 import os
 import subprocess
 import sys
 from xml.sax.saxutils import escape, quoteattr
 
 LONGEST = 2168  # bytes: no table is longer, and the program reads no more
+BLOCK = 1 << 18  # bytes of rows that are passed over at once
 MOST = 100  # ticks in one picture
 HEAD, RECORD = 5, 6  # words of a table and of a record
 FENCED = 255  # on a fenced core in every row
@@ -33,7 +34,7 @@ REFUSALS = {
     6: ["Along the chain a record is met again: it never ends."],
     7: ["The width v of the task at position {} is 0 or above the number of unfenced cores."],
     8: ["The O, C, D or T of the task at position {} is outside its limits."],
-    9: ["The horizon, the last S plus P, is above 10,000,000 ticks."],
+    9: ["The horizon, the last S plus P, is above 1,000,000,000 ticks."],
     19: ["The fence (words 3 and 4) names a core past the count, or all cores."],
 }
 
@@ -68,10 +69,27 @@ def stretch(word, first, second):
     return first, first + MOST, f"the first {MOST} ticks of the period that starts at S; the first repeat, at tick {end}, is further on"
 
 
+# The program's lines after so many, which are passed over by whole blocks.
+def lines_after(source, count):
+    rest = b""
+    while count:
+        block = source.read1(BLOCK)
+        found = block.count(b"\n")
+        if not block or found >= count:
+            rest = block.split(b"\n", count)[-1]
+            break
+        count -= found
+    *lines, rest = rest.split(b"\n")
+    yield from lines
+    for line in source:
+        yield rest + line
+        rest = b""
+
+
 # The rows of a stretch of ticks, from the program's lines.
-def rows_of(lines, start, end, cores, fenced, count):
+def rows_of(source, start, end, cores, fenced, count):
     rows = []
-    for tick, line in zip(range(start, end), itertools.islice(lines, start, None)):
+    for tick, line in zip(range(start, end), lines_after(source, start)):
         numbers = [int(field) for field in line.split()]
         strange = lambda core, number: number != FENCED if core in fenced else number > count
         if numbers[:1] != [tick] or len(numbers) != cores + 1 or any(strange(core, number) for core, number in enumerate(numbers[1:])):
@@ -292,11 +310,11 @@ def number_of(count, thing):
     return f"{count} {thing}{'' if count == 1 else 's'}"
 
 
-# The picture of a verdict that is no refusal, and of the rows that it needs from the program's lines.
-def chart(word, first, second, table, lines):
+# The picture of a verdict that is no refusal, and of the rows that it needs from the program's output.
+def chart(word, first, second, table, source):
     cores, rule, fenced, tasks = table
     start, end, about = stretch(word, first, second)
-    sheet = Chart(cores, fenced, tasks, start, end, rows_of(lines, start, end, cores, fenced, len(tasks)))
+    sheet = Chart(cores, fenced, tasks, start, end, rows_of(source, start, end, cores, fenced, len(tasks)))
     title = VERDICTS[word].format(first, second)
     sheet.text(16, 28, title, 17, font_weight="bold")
     kept = f", {len(fenced)} of them fenced" if fenced else ""
@@ -317,7 +335,7 @@ def chart(word, first, second, table, lines):
 
 
 def draw(program, text):
-    # leaving this block closes the pipe, and the program stops at its next write
+    # leaving this block closes the pipe, and the program stops at its next write, however many rows are left
     with subprocess.Popen(program, stdin=subprocess.PIPE, stdout=subprocess.PIPE) as process:
         process.stdin.write(text)
         process.stdin.close()

@@ -1,15 +1,16 @@
 #!/usr/bin/env python3
-"""Runs the program, hands its output on as it is, and says on standard error how many of the rows have gone by: progress.py PROGRAM < table
+"""Runs the program, hands its output on as it is, and says on standard error from the second second on that it is judging, and then how many of the rows have gone by: progress.py PROGRAM < table
 
 How many there will be it reads from the verdict line. Where standard output is a terminal too, it is silent from the first row on."""
 import fcntl
 import os
 import select
+import stat
 import subprocess
 import sys
 import time
 
-QUIET = 1.5  # seconds before the first word
+QUIET = 2.0  # seconds before the first word
 EVERY = 0.5  # seconds between two words
 BLOCK = 1 << 18  # bytes that are handed on at once
 
@@ -20,6 +21,16 @@ def rows_after(line):
     if len(fields) != 3 or fields[0] == b"refused":
         return 0
     return int(fields[1]) + (0 if fields[0] == b"miss" else int(fields[2]))
+
+
+# Whether the program has read all of the table, so far as that can be seen: a file to its end, or a pipe that is closed and empty.
+def table_read():
+    kept = os.fstat(0)
+    if stat.S_ISREG(kept.st_mode):
+        return os.lseek(0, 0, os.SEEK_CUR) >= kept.st_size
+    poll = select.poll()
+    poll.register(0, select.POLLIN)
+    return poll.poll(0) == [(0, select.POLLHUP)]
 
 
 def write_all(block):
@@ -66,7 +77,7 @@ def hand_on(source, line):
                 line.clear()
             write_all(memoryview(buffer)[:count])
         if total is None:
-            line.say("no verdict yet")
+            line.say("still judging" if table_read() else "no verdict yet")
         elif not os.isatty(1):
             line.say(f"{lines - 1:,} of {total:,} rows")
 

@@ -7,7 +7,7 @@ include!("../gangsim.rs");
 use sivorandra::{Refusal as Refused, Verdict as Judged, ROW_BYTES, RUN_HEAD_WORDS, RUN_PLACE_WORDS, RUN_WORDS};
 
 /// The last request that the project has.
-const REQUEST: u32 = 102;
+const REQUEST: u32 = 103;
 
 /// Lets the simulator read tables as the last request does.
 pub fn begin() {

@@ -6,6 +6,7 @@ use std::fmt::Debug;
 
 extern "C" {
     fn sivorandra_judge(words: *const u32, words_len: usize, answer: *mut u32, answer_len: usize) -> u32;
+    fn sivorandra_judge_ticks(words: *const u32, words_len: usize, answer: *mut u32, answer_len: usize) -> u32;
     fn sivorandra_plan(words: *const u32, words_len: usize, a: u32, b: u32, rows: *mut u8, rows_len: usize, answer: *mut u32, answer_len: usize) -> u32;
     fn sivorandra_replay(words: *const u32, words_len: usize, reports: *const u32, reports_len: usize, numbers: *mut u32, numbers_len: usize, row: *mut u8, row_len: usize, answer: *mut u32, answer_len: usize) -> u32;
     fn sivorandra_start(words: *const u32, words_len: usize, run: *mut u32, run_len: usize, answer: *mut u32, answer_len: usize) -> u32;
@@ -126,8 +127,10 @@ fn done(three: [u32; 3]) -> Tried<Said<()>> {
     }
 }
 
-pub fn judge(rng: &mut Rng, words: &[u32]) -> Tried<Said<Verdict>> {
-    let three = ask(rng, |answer| Ok(unsafe { sivorandra_judge(words.as_ptr(), words.len(), answer.as_mut_ptr(), answer.len()) }))?;
+/// What a judge says: the one that leaps, or the one that goes tick by tick.
+pub fn judge(rng: &mut Rng, words: &[u32], by_ticks: bool) -> Tried<Said<Verdict>> {
+    let call = if by_ticks { sivorandra_judge_ticks } else { sivorandra_judge };
+    let three = ask(rng, |answer| Ok(unsafe { call(words.as_ptr(), words.len(), answer.as_mut_ptr(), answer.len()) }))?;
     match three {
         [0, start, period] => Ok(Ok(Verdict::Firm { start, period })),
         [1, start, period] => Ok(Ok(Verdict::Full { start, period })),

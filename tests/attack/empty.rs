@@ -1,6 +1,6 @@
 //! Empty slices lent from Rust, whose pointers are not NULL (tests/library/edge.c lends NULL).
 use crate::calls::{same, Tried};
-use sivorandra::{judge, plan, replay, Refusal, Replay, Run, ROW_BYTES};
+use sivorandra::{judge, judge_ticks, plan, replay, Refusal, Replay, Run, ROW_BYTES};
 
 /// Example A, whose first row has position 1 on cores 0 and 1 and position 3 on core 2.
 const TABLE: [u32; 23] = [1, 3, 1, 0, 0, 2, 0, 2, 2, 5, 5, 3, 0, 2, 3, 5, 5, 0, 0, 1, 4, 5, 5];
@@ -15,6 +15,7 @@ pub fn all() -> Vec<(String, Tried<()>)> {
     row[..3].copy_from_slice(&[1, 1, 3]);
     let tried = [
         same("judge of no words", refused(1), judge(&[])),
+        same("judge_ticks of no words", refused(1), judge_ticks(&[])),
         same("plan of no words", refused(1), plan(&[], 0, 0, &mut [])),
         same("no rows of a plan", Ok(()), plan(&TABLE, 0, 0, &mut [])),
         same("one row of a plan into no bytes", refused(11), plan(&TABLE, 0, 1, &mut [])),

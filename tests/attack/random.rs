@@ -1,4 +1,4 @@
-//! Verdict, plan, replay and the run in words beside the simulator, on one random table.
+//! Both verdicts, plan, replay and the run in words beside the simulator, on one random table.
 use crate::book::{self, Cab, Known, Said};
 use crate::calls::{self, same, Kept, Lent, Tried};
 use crate::rng::Rng;
@@ -158,9 +158,11 @@ pub fn case(seed: u64, counts: &mut Counts) -> Tried<()> {
 fn compare(rng: &mut Rng, counts: &mut Counts, words: &[u32], list: &mut Vec<u32>) -> Tried<()> {
     let known = book::read(words);
     let expected = known.as_ref().map(Known::verdict).map_err(|refusal| *refusal);
-    let got = calls::judge(rng, words)?;
+    let got = calls::judge(rng, words, false)?;
     same("verdict", expected, got)?;
     same("verdict in Rust", expected, sivorandra::judge(words))?;
+    same("verdict tick by tick", expected, calls::judge(rng, words, true)?)?;
+    same("verdict tick by tick in Rust", expected, sivorandra::judge_ticks(words))?;
     counts.verdict(&got);
     if known.is_ok() {
         compare_unfenced(counts, words, got)?;

@@ -105,6 +105,7 @@ static void expect(const char *what, uint32_t value, uint32_t got)
 
 #define ANSWER words_at(&answer), answer.len
 static uint32_t judge(const uint32_t *table, size_t len) { return sivorandra_judge(table, len, ANSWER); }
+static uint32_t ticks(const uint32_t *table, size_t len) { return sivorandra_judge_ticks(table, len, ANSWER); }
 static uint32_t plan(const uint32_t *table, size_t len, uint32_t a, uint32_t b) { return sivorandra_plan(table, len, a, b, bytes_at(&row), row.len, ANSWER); }
 static uint32_t replay(const uint32_t *table, size_t len, const uint32_t *reports, size_t n)
 {
@@ -125,6 +126,9 @@ static void nulls(void)
     fresh(), refused(1), expect("judge: no words", 0, judge(NULL, 0));
     fresh(), NONE(answer), expect("judge: no answer", 1, judge(full, TABLE));
     fresh(), NONE(answer), expect("judge: nothing", 1, judge(NULL, 0));
+    fresh(), refused(1), expect("judge_ticks: no words", 0, ticks(NULL, 0));
+    fresh(), NONE(answer), expect("judge_ticks: no answer", 1, ticks(full, TABLE));
+    fresh(), NONE(answer), expect("judge_ticks: nothing", 1, ticks(NULL, 0));
     fresh(), refused(1), expect("plan: no words", 0, plan(NULL, 0, 0, 0));
     fresh(), NONE(row), answered(0, 0, 0), expect("plan: no rows, none asked", 0, plan(full, TABLE, 0, 0));
     fresh(), NONE(row), refused(11), expect("plan: no rows, one asked", 0, plan(full, TABLE, 0, 1));
@@ -202,19 +206,53 @@ static void tables(void)
     memset(ones, 0xff, sizeof ones);
     for (size_t i = 0; i < sizeof lens / sizeof lens[0]; i++) {
         fresh(), refused(lens[i].number), expect("judge: fewer words", 0, judge(full, lens[i].len));
+        fresh(), refused(lens[i].number), expect("judge_ticks: fewer words", 0, ticks(full, lens[i].len));
         fresh(), refused(lens[i].number), expect("plan: fewer words", 0, plan(full, lens[i].len, ONES, 0));
         fresh(), refused(lens[i].number), no_run(), expect("start: fewer words", 0, start(full, lens[i].len));
     }
     static const struct { size_t len; uint32_t number; } many[] = { { 4, 1 }, { 5, 2 }, { 195, 1 }, { 197, 2 }, { 198, 1 }, { 203, 1 }, { 1 << 20, 1 } };
     for (size_t i = 0; i < sizeof many / sizeof many[0]; i++) {
         fresh(), refused(many[i].number), expect("judge: all ones", 0, judge(ones, many[i].len));
+        fresh(), refused(many[i].number), expect("judge_ticks: all ones", 0, ticks(ones, many[i].len));
         fresh(), refused(many[i].number), no_run(), expect("start: all ones", 0, start(ones, many[i].len));
         fresh(), refused(many[i].number), expect("replay: all ones", 0, replay(ones, many[i].len, ones, 1 << 20));
     }
     fresh(), answered(SIVORANDRA_FULL, 0, 5), expect("judge", 0, judge(full, TABLE));
     fresh(), answered(SIVORANDRA_MISS, 2, 3), expect("judge: a miss", 0, judge(miss, TABLE));
+    fresh(), answered(SIVORANDRA_FULL, 0, 5), expect("judge_ticks", 0, ticks(full, TABLE));
+    fresh(), answered(SIVORANDRA_MISS, 2, 3), expect("judge_ticks: a miss", 0, ticks(miss, TABLE));
     fresh(), refused(13), no_run(), expect("start: a miss", 0, start(miss, TABLE));
     fresh(), refused(13), expect("replay: a miss", 0, replay(miss, TABLE, ones, 2));
+}
+
+/* A horizon of SIVORANDRA_MOST_HORIZON, and of one tick more. Where `late`, the first task misses at tick 1. */
+static void horizons(void)
+{
+    enum { TWO = 17, MOST_HORIZON = SIVORANDRA_MOST_HORIZON };
+    static const uint32_t two[TWO] = { 1, 64, 1, 0, 0, 2, 0, 1, 1, 1, 1000, 0, 1000, 1, 1, 999999, 999999 };
+    for (uint32_t late = 0; late < 2; late++)
+        for (uint32_t more = 0; more < 2; more++) {
+            uint32_t table[TWO];
+            memcpy(table, two, sizeof table), table[8] += late, table[12] += more;
+            for (uint32_t i = 0; i < 2; i++) {
+                if (i && !late && !more)
+                    continue; /* so many ticks, one by one: tests/outside/leap */
+                fresh();
+                if (more)
+                    refused(9);
+                else if (late)
+                    answered(SIVORANDRA_MISS, 1, 1);
+                else
+                    answered(SIVORANDRA_FIRM, 1000, MOST_HORIZON - 1000);
+                expect("judge, judge_ticks: about the largest horizon", 0, (i ? ticks : judge)(table, TWO));
+            }
+            fresh(), refused(more ? 9 : 10), expect("plan: past the largest horizon", 0, plan(table, TWO, 0, MOST_HORIZON + 1));
+            fresh(), refused(more ? 9 : 11), expect("plan: up to the largest horizon", 0, plan(table, TWO, 0, MOST_HORIZON));
+            if (more || late)
+                fresh(), refused(more ? 9 : 13), no_run(), expect("start: about the largest horizon", 0, start(table, TWO));
+            if (more || !late)
+                fresh(), refused(more ? 9 : 17), expect("sentence: about the largest horizon", 0, sentence(table, TWO));
+        }
 }
 
 /* Bounds of a plan. */
@@ -263,6 +301,12 @@ static void lengths(void)
         if (says)
             answered(0, 0, 0), run_words(next, RUN);
         expect("advance: words of the answer", !says, advance(0));
+        for (uint32_t i = 0; i < 2; i++) {
+            fresh(), answer.len = len;
+            if (says)
+                answered(SIVORANDRA_FULL, 0, 5);
+            expect("judge, judge_ticks: words of the answer", !says, (i ? ticks : judge)(full, TABLE));
+        }
     }
 }
 
@@ -310,14 +354,16 @@ static void fences(void)
     for (size_t i = 0; i < sizeof others / sizeof others[0]; i++) {
         uint32_t number = others[i].number, position = number == 7;
         memcpy(table, full, sizeof table), table[1] = others[i].cores, table[3] = others[i].low, table[4] = others[i].high;
-        fresh();
-        if (number == FITS)
-            answered(SIVORANDRA_FULL, 0, 5);
-        else if (number == LATE)
-            answered(SIVORANDRA_MISS, 5, 3);
-        else
-            answered(SIVORANDRA_REFUSED, number, position);
-        expect("judge: a fence", 0, judge(table, TABLE));
+        for (uint32_t k = 0; k < 2; k++) {
+            fresh();
+            if (number == FITS)
+                answered(SIVORANDRA_FULL, 0, 5);
+            else if (number == LATE)
+                answered(SIVORANDRA_MISS, 5, 3);
+            else
+                answered(SIVORANDRA_REFUSED, number, position);
+            expect("judge, judge_ticks: a fence", 0, (k ? ticks : judge)(table, TABLE));
+        }
         if (number <= LATE)
             continue;
         fresh(), answered(SIVORANDRA_REFUSED, number, position), no_run(), expect("start: a fence", 0, start(table, TABLE));
@@ -360,7 +406,7 @@ static void fences(void)
 
 int main(void)
 {
-    nulls(), sentences(), tables(), bounds(), lengths(), built(), fences();
+    nulls(), sentences(), tables(), horizons(), bounds(), lengths(), built(), fences();
     printf("%u calls, %u wrong\n", calls, wrong);
     return wrong != 0;
 }

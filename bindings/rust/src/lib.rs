@@ -19,8 +19,11 @@ pub const RUN_PLACE_WORDS: usize = 8;
 /// The words that a run takes: it has 32 places, of which the first count are used.
 pub const RUN_WORDS: usize = RUN_HEAD_WORDS + RUN_PLACE_WORDS * 32;
 
+/// The largest horizon, S + P, that a table may have: 9 turns down one that is larger.
+pub const MOST_HORIZON: u32 = 1_000_000_000;
+
 /// No sentence is longer: a buffer of so many bytes is never refused with 18.
-pub const SENTENCE_BYTES: usize = 698;
+pub const SENTENCE_BYTES: usize = 700;
 /// The words of facts in front of the counts: position, tick, ticks had, and C.
 const FACT_HEAD_WORDS: usize = 4;
 
@@ -73,6 +76,7 @@ pub struct Facts {
 #[link(name = "capi", kind = "static")]
 extern "C" {
     fn sivorandra_judge(words: *const u32, words_len: usize, answer: *mut u32, answer_len: usize) -> u32;
+    fn sivorandra_judge_ticks(words: *const u32, words_len: usize, answer: *mut u32, answer_len: usize) -> u32;
     fn sivorandra_plan(words: *const u32, words_len: usize, a: u32, b: u32, rows: *mut u8, rows_len: usize, answer: *mut u32, answer_len: usize) -> u32;
     fn sivorandra_replay(words: *const u32, words_len: usize, reports: *const u32, reports_len: usize, numbers: *mut u32, numbers_len: usize, row: *mut u8, row_len: usize, answer: *mut u32, answer_len: usize) -> u32;
     fn sivorandra_start(words: *const u32, words_len: usize, run: *mut u32, run_len: usize, answer: *mut u32, answer_len: usize) -> u32;
@@ -97,15 +101,23 @@ fn done([case, number, position]: [u32; 3]) -> Result<(), Refusal> {
     }
 }
 
-/// The verdict on a table's words.
-pub fn judge(words: &[u32]) -> Result<Verdict, Refusal> {
-    let [case, first, second] = ask(|answer, len| unsafe { sivorandra_judge(words.as_ptr(), words.len(), answer, len) });
+fn verdict([case, first, second]: [u32; 3]) -> Result<Verdict, Refusal> {
     match case {
         0 => Ok(Verdict::Firm { start: first, period: second }),
         1 => Ok(Verdict::Full { start: first, period: second }),
         2 => Ok(Verdict::Miss { tick: first, position: second }),
         _ => Err(Refusal { number: first, position: second }),
     }
+}
+
+/// The verdict on a table's words, from one release, end or deadline to the next or tick by tick, whichever is faster for the table's periods.
+pub fn judge(words: &[u32]) -> Result<Verdict, Refusal> {
+    verdict(ask(|answer, len| unsafe { sivorandra_judge(words.as_ptr(), words.len(), answer, len) }))
+}
+
+/// The same verdict, always tick by tick. It is there to be compared with the other.
+pub fn judge_ticks(words: &[u32]) -> Result<Verdict, Refusal> {
+    verdict(ask(|answer, len| unsafe { sivorandra_judge_ticks(words.as_ptr(), words.len(), answer, len) }))
 }
 
 /// Writes rows `a` up to but not including `b` of the full-length run into `rows`, one byte a core, fenced ones too.

@@ -35,7 +35,7 @@ module _ (ws old new : List ℕ) (v : Spoken) (h : SentenceOf ws old new v) (l :
   -- a sentence leaves room for a newline
   pub leaves-room : (n : ℕ) → v ≡ Length n → n < length new
   unfolding digitCount digitsWithin
-  leaves-room n e = let k : n ≤ 698 = h .short n (ap spokenTold e) in let s = h .size in omega arith
+  leaves-room n e = let k : n ≤ 700 = h .short n (ap spokenTold e) in let s = h .size in omega arith
 
   -- the sentence and a newline
   pub why-sentence : (n : ℕ) → v ≡ Length n → (n + 1 ≤ room) × (take (n + 1) (set new n newline) ≡ whyOf ws)

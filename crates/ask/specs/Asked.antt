@@ -13,7 +13,7 @@ use Rattle.sentence.specs.Waiting.{factsOf}
 use Rattle.sentence.specs.Reading.{begins}
 use Rattle.sentence.specs.Spoken.{Told, ofLength, refusedBy, spokenTold, spokenOf}
 
--- the room for an answer: a sentence, of at most 698 bytes while ticks are at most 10,000,000 and 700 up to 1,000,000,000, and a newline
+-- the room for an answer: a sentence, of at most 700 bytes while ticks are at most 1,000,000,000, and a newline
 abbrev pub room : ℕ
 room = 700 + 1
 

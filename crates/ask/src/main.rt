@@ -41,7 +41,7 @@ fn why(words: &[u32], line: &mut [u8]) -> usize
             length + 1
         }
         Spoken::Refused(_, _) => {
-            let verdict = judge::judge(words);
+            let verdict = quick::judge(words);
             text::first::put_first(line, verdict)
         }
     }

@@ -26,7 +26,7 @@ use Rattle.capi.proofs.Calls.{both}
 -- its length fits in a word
 pub sentence-fits : (ws old new : List ℕ) (v : Spoken) → SentenceOf ws old new v → Fits v
 unfolding digitCount digitsWithin
-sentence-fits ws old new v s n e = let l : n ≤ 698 = s .short n e in omega arith
+sentence-fits ws old new v s n e = let l : n ≤ 700 = s .short n e in omega arith
 
 module _ (ws buffer answer : List ℕ) where
   pub sentence-narrow : length answer < 3 → sentenceCall ws buffer answer ≡ left 1 (buffer ∷ (answer ∷ []))

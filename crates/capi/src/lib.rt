@@ -23,6 +23,20 @@ pub extern "C" fn sivorandra_judge(words: &[u32], answer: &mut [u32]) -> u32
     if answer.len() < 3 {
         return 1;
     }
+    let verdict = quick::judge(words);
+    let told = told::of_verdict(verdict);
+    told::put(told, answer);
+    0
+}
+
+// The same verdict, by the judge that takes every tick.
+#[no_mangle]
+pub extern "C" fn sivorandra_judge_ticks(words: &[u32], answer: &mut [u32]) -> u32
+    ensures { λ r. ⌜ record { value = r; lent = now (answer .exit) ∷ [] } ≡ judgeCall (now (words .entry)) (now (answer .entry)) ⌝ }
+{
+    if answer.len() < 3 {
+        return 1;
+    }
     let verdict = judge::judge(words);
     let told = told::of_verdict(verdict);
     told::put(told, answer);

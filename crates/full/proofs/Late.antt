@@ -16,7 +16,8 @@ use Rattle.model.proofs.Search.{any-some, any-of, least-any, least-lowest}
 use Rattle.full.specs.Machine.{Machine, overdue}
 use Rattle.model.proofs.Runs.{full-tick, missed-at}
 use Rattle.model.proofs.Faithful.{missed-exact}
-use Rattle.full.proofs.Place.{TiedAt, overdue-has, overdue-is}
+use Rattle.full.specs.Standing.{TiedAt}
+use Rattle.full.proofs.Place.{overdue-has, overdue-is}
 use Rattle.full.proofs.Tied.{Walked, Ready}
 
 not-less : {a b : ℕ} → ¬ (a < b) → b ≤ a

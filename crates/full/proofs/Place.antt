@@ -1,4 +1,4 @@
--- One place of the machine and its line of jobs in the book: what ties them, and that a release and a tick keep the tie.
+-- One place of the machine and its line of jobs in the book: a release and a tick keep the tie.
 use mathlib.Core.Path.{_≡_, refl, sym, ap, _∙_, subst}
 use mathlib.Core.Bool.{Bool, true, false, not, _&&_, cond, true≢false}
 use mathlib.Core.Logic.{⊎-elim}
@@ -11,39 +11,8 @@ use Rattle.model.specs.Task.{Task, Sound, Rule, release, due, newest}
 use Rattle.model.specs.Book.{Job, fresh, claims}
 use Rattle.model.proofs.Jobs.{mk, claims-if, newest-is, others, done-off}
 use Rattle.model.proofs.Faithful.{no-claim-before}
+use Rattle.full.specs.Standing.{Works, Rests, TiedAt}
 use Rattle.full.proofs.Lines.{lineOn, line-off, line-own, work-open}
-
--- THE TIE. `seen` counts the ticks whose due moments have been looked at: it is t before those of tick t are, and t + 1 after.
-
--- l ticks are left, the deadline m is ahead: a job was released, has not ended, and has had what is not left; those before it have ended,
--- those after it are fresh, and the first of them comes at n
-pub record Works (τ : Task) (seen : ℕ) (js : ℕ → Job) (l m n : ℕ) : Type 0 where
-  pub number : ℕ
-  pub had : ℕ
-  pub owed : 1 ≤ l
-  pub whole : had + l ≡ τ .length
-  pub begun : release τ number < seen
-  pub deadline : m ≡ due τ number
-  pub ahead-of : seen ≤ m
-  pub following : n ≡ release τ (suc number)
-  pub line : js number ≡ mk had had false
-  pub past : (i : ℕ) → i < number → js i .ended ≡ true
-  pub later : (i : ℕ) → number < i → js i ≡ fresh
-
--- no tick is left, and m is n: every job released so far has ended, and the next, released at n, is fresh as are all after it
-pub record Rests (τ : Task) (seen : ℕ) (js : ℕ → Job) (l m n : ℕ) : Type 0 where
-  pub number : ℕ
-  pub none : l ≡ 0
-  pub moment : m ≡ release τ number
-  pub ahead-of : seen ≤ m
-  pub following : n ≡ release τ number
-  pub past : (i : ℕ) → i < number → js i .ended ≡ true
-  pub later : (i : ℕ) → number ≤ i → js i ≡ fresh
-
--- a place that claims or not
-abbrev pub TiedAt : Task → ℕ → (ℕ → Job) → ℕ → ℕ → ℕ → Bool → Type 0
-TiedAt τ seen js l m n true = Works τ seen js l m n
-TiedAt τ seen js l m n false = Rests τ seen js l m n
 
 -- who claims is owed ticks, and who is owed ticks claims
 pub claims-owed : (τ : Task) (seen : ℕ) (js : ℕ → Job) (l m n : ℕ) (c : Bool) → TiedAt τ seen js l m n c → c ≡ ltb 0 l
@@ -109,7 +78,7 @@ release-tied τ ok t js l m n false h at none C D T eC eD eT = record {
 }
 
 -- the numbers of two jobs go with their releases
-release-order : (τ : Task) (i k : ℕ) → i ≤ k → release τ i ≤ release τ k
+pub release-order : (τ : Task) (i k : ℕ) → i ≤ k → release τ i ≤ release τ k
 release-order τ i k h = omega (arith, mul-le-mul-right (τ .period) h)
 
 -- a place at its moment with ticks left has a job that is due and has not ended
@@ -149,15 +118,15 @@ Claimed τ js = (i : ℕ) → js i .ended ≡ true → τ .length ≤ js i .clai
 
 module _ (r : Rule) (τ : Task) (ok : Sound τ) (t : ℕ) (js : ℕ → Job) (all : Claimed τ js) (l m n : ℕ) where
   -- the job that a claiming place works on is the newest, and claims
-  works-newest : (h : Works τ (suc t) js l m n) → newest τ t ≡ h .number
+  pub works-newest : (h : Works τ (suc t) js l m n) → newest τ t ≡ h .number
   works-newest h = newest-is τ (h .number) t (ok .constrained) (omega (arith, h .begun)) (omega (arith, h .deadline, h .ahead-of))
 
-  works-claims : (h : Works τ (suc t) js l m n) → claims r τ (h .number) t (js (h .number)) ≡ true
+  pub works-claims : (h : Works τ (suc t) js l m n) → claims r τ (h .number) t (js (h .number)) ≡ true
   works-claims h =
       claims-if r τ (h .number) t (js (h .number)) (omega (arith, h .begun)) (omega (arith, h .deadline, h .ahead-of)) (rw (h .line))
 
   -- where a place does not claim, none of its jobs does
-  rests-off : Rests τ (suc t) js l m n → (i : ℕ) → claims r τ i t (js i) ≡ false
+  pub rests-off : Rests τ (suc t) js l m n → (i : ℕ) → claims r τ i t (js i) ≡ false
   rests-off h i = go (leb (h .number) i) refl
     where
       go : (x : Bool) → leb (h .number) i ≡ x → claims r τ i t (js i) ≡ false
@@ -172,7 +141,7 @@ module _ (r : Rule) (τ : Task) (ok : Sound τ) (t : ℕ) (js : ℕ → Job) (al
 
   -- A TICK, in which the place has cores or not
 
-  other-line : (w : Bool) (h : Works τ (suc t) js l m n) (i : ℕ) → (i ≡ h .number → ⊥) → lineOn r τ t w js i ≡ js i
+  pub other-line : (w : Bool) (h : Works τ (suc t) js l m n) (i : ℕ) → (i ≡ h .number → ⊥) → lineOn r τ t w js i ≡ js i
   other-line w h i ne = line-off r τ t w js i (others r τ (h .number) t i (js i) (ok .constrained) (works-newest h) ne)
 
   past-line : (w : Bool) (h : Works τ (suc t) js l m n) (i : ℕ) → i < h .number → lineOn r τ t w js i .ended ≡ true
@@ -181,7 +150,7 @@ module _ (r : Rule) (τ : Task) (ok : Sound τ) (t : ℕ) (js : ℕ → Job) (al
   later-line : (w : Bool) (h : Works τ (suc t) js l m n) (i : ℕ) → h .number < i → lineOn r τ t w js i ≡ fresh
   later-line w h i q = other-line w h i (omega arith) ∙ h .later i q
 
-  served-line : (h : Works τ (suc t) js l m n) → lineOn r τ t true js (h .number) ≡ mk (suc (h .had)) (suc (h .had)) (leb (τ .length) (suc (h .had)))
+  pub served-line : (h : Works τ (suc t) js l m n) → lineOn r τ t true js (h .number) ≡ mk (suc (h .had)) (suc (h .had)) (leb (τ .length) (suc (h .had)))
   served-line h = line-own r τ t true js (h .number) (works-claims h) ∙ work-open (τ .length) (h .had) (js (h .number)) (h .line)
 
   -- with cores, and more than one tick left

@@ -17,7 +17,8 @@ use Rattle.model.proofs.Runs.{full-tick, full-claimed}
 use Rattle.model.proofs.Digits.{bit-none}
 use Rattle.full.specs.Machine.{Machine, started, released, finishes, worked, Sized}
 use Rattle.full.proofs.Lines.{lineOn}
-use Rattle.full.proofs.Place.{TiedAt, start-tied, pass-tied, release-tied, tick-tied}
+use Rattle.full.specs.Standing.{TiedAt}
+use Rattle.full.proofs.Place.{start-tied, pass-tied, release-tied, tick-tied}
 use Rattle.full.proofs.Moves.{SameAt, released-sized, released-own, released-other, released-past, worked-sized, worked-left, worked-moment, worked-claims, worked-past, worked-none}
 
 -- place p of the machine is tied to its jobs in the full-length run at t; the due moments of `seen` ticks have been looked at there

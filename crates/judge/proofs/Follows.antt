@@ -79,7 +79,7 @@ module _ (t : Loaded) (fit : Fit t) where
           (b .tied) met (length (book .tasks)) (omega arith)
 
   -- the set that the rule chooses
-  choice-chosen : (c : ℕ) → Chosen t c (choice n c)
+  pub choice-chosen : (c : ℕ) → Chosen t c (choice n c)
   choice-chosen c p = go (leb mostTasks p) refl
     where
       f : ℕ → Bool

@@ -199,6 +199,7 @@ module _ (ws : List ℕ) (r : Loaded) (l : LoadOf ws r) (e : r .answer ≡ Passe
   pub fit : Fit r
   fit = record {
     places = places;
+    some = h .count-from .0;
     few = h .count-from .1;
     narrow = omega (arith, h .cores, passed-cores ws none .1);
     sound = subst AllSound (sym same-table) (passed-sound ws none);

@@ -61,6 +61,7 @@ tableIn t = record { tasks = tasksOf (t .tasks) (t .count); cores = t .cores; fe
 -- what the run needs of it
 pub record Fit (t : Loaded) : Type 0 where
   pub places : length (t .tasks) ≡ mostTasks
+  pub some : 0 < t .count
   pub few : t .count ≤ mostTasks
   pub narrow : t .cores ≤ mostCores
   pub sound : AllSound (tableIn t)

@@ -56,7 +56,7 @@ fn is_firm(table: Loaded) -> bool
 }
 
 // The verdict on a table that misses no deadline.
-fn accepted(table: Loaded) -> Verdict
+pub fn accepted(table: Loaded) -> Verdict
     requires { ⌜ table .count ≤ mostTasks ⌝ }
     ensures { λ r. ⌜ r ≡ acceptedOf table ⌝ }
 {

@@ -32,7 +32,7 @@ fn by_table(table: Loaded, a: u32, b: u32, out: &mut [u8]) -> Planned
     if (out.len() as u64) < bytes {
         return Planned::Refused(11, 0);
     }
-    let missed = judge::misses::first_miss(table, b);
+    let missed = quick::first_miss(table, b);
     match missed {
         Missed::Never => {
             rows::write(table, a, b, out);

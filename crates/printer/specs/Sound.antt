@@ -36,7 +36,7 @@ owed left = setOf mostTasks (λ p. ltb 0 (getD left p 0))
 abbrev pub within : ℕ → ℕ → Bool
 within a b = eqb (bitAnd a b) a
 
--- the tick is at most the last, which is at most 10,000,000; line and text fit their arrays; who claims is owed ticks, and who is granted cores
+-- the tick is at most the last, which is at most 1,000,000,000; line and text fit their arrays; who claims is owed ticks, and who is granted cores
 -- is among those that the choice is for
 unfoldable pub sound : Printer → Bool
 sound p =

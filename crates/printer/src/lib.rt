@@ -125,7 +125,7 @@ fn of_words(words: &[u32]) -> Printer
     ensures { λ r. ⌜ WordsPrinter (now (words .entry)) r ⌝ }
 {
     let table = table::load(words);
-    let verdict = judge::judge(words);
+    let verdict = quick::judge(words);
     let end = first::rows_end(verdict, table.horizon);
     start(table, end, verdict)
 }

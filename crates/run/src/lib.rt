@@ -54,7 +54,7 @@ pub struct Row {
 pub fn start(words: &[u32]) -> Started
     ensures { λ r. ⌜ StartOf (now (words .entry)) r ⌝ }
 {
-    let verdict = judge::judge(words);
+    let verdict = quick::judge(words);
     match verdict {
         Verdict::Firm(_, _) => starts::begun(words),
         Verdict::Full(_, _) => starts::begun(words),

@@ -81,15 +81,11 @@ said-short last f h = go (ltb (f .had) 10) refl
         omega (arith, words, h .tick)
 
 -- .. in numbers
-pub longest-now : longest 10000000 ≡ 698
+pub longest-now : longest 1000000000 ≡ 700
 unfolding digitCount digitsWithin
 longest-now = refl
 
-pub longest-then : longest 1000000000 ≡ 700
-unfolding digitCount digitsWithin
-longest-then = refl
-
 -- it is reached: 32 tasks, each above the late one ran in all of its 1,000,000 waiting ticks
-pub longest-reached : length (said (record { position = 32; tick = 10000000; had = 0; length = 1000000; others = named (replicate 31 1000000) })) ≡ 698
+pub longest-reached : length (said (record { position = 32; tick = 1000000000; had = 0; length = 1000000; others = named (replicate 31 1000000) })) ≡ 700
 unfolding said head parts namedFrom decimal lastDigits digitCount digitsWithin
 longest-reached = refl

@@ -24,7 +24,7 @@ use Rattle.sentence.specs.Facts.{limit, Sayable}
 use Rattle.sentence.specs.Limits.{Limited, longest}
 use Rattle.sentence.specs.Sentence.{said}
 use Rattle.sentence.specs.Waiting.{tally, bookAt, releaseOf, hadBy, waits, ranWhileWaiting, factsAt}
-use Rattle.sentence.proofs.Longest.{said-short, longest-then}
+use Rattle.sentence.proofs.Longest.{said-short, longest-now}
 use Rattle.sentence.proofs.Naming.{named-rising, named-together}
 use Rattle.sentence.proofs.Tallies.{tally-most, tally-apart}
 use Rattle.sentence.proofs.Waiting.{missed-here, due-here, released-here, deadline-within, same-book, had-full, ranIn}
@@ -48,11 +48,7 @@ had-served s p k (suc n) = go (served s (full s n) p k) (full s n .job p k .ende
     go true false l = omega arith
     go false e l = l
 
-last-digits : digitCount 1000000000 ≡ 10
-unfolding digitCount digitsWithin
-last-digits = refl
-
-horizon-digits : digitCount mostHorizon ≡ 8
+horizon-digits : digitCount mostHorizon ≡ 10
 unfolding digitCount digitsWithin
 horizon-digits = refl
 
@@ -146,9 +142,10 @@ module _ (s : Table) (ok : AllSound s) (t p : ℕ) (f : FirstMiss s t (suc p)) w
             together = named-together 0 (hadBy s t p) 1000000 counts (each-count (λ n. hadBy s t p + n ≤ 1000000) (omega (arith, had-waiting 0)) (λ q. omega (arith, had-waiting q)));
           }
 
-    pub miss-short : t ≤ 1000000000 → task s p .length ≤ 1000000 → task s p .deadline ≤ 1000000 → length (said (factsAt s t p)) ≤ 700
-    miss-short lt lc ld = omega (arith, miss-within lc ld 1000000000 (omega (arith, count-most 9 t (omega arith), last-digits)) (omega arith), longest-then)
-
     -- for ticks up to the limit of a horizon
     pub miss-longest : t ≤ mostHorizon → task s p .length ≤ 1000000 → task s p .deadline ≤ 1000000 → length (said (factsAt s t p)) ≤ longest mostHorizon
-    miss-longest lt lc ld = miss-within lc ld mostHorizon (omega (arith, count-most 7 t (omega arith), horizon-digits)) (omega arith)
+    miss-longest lt lc ld = miss-within lc ld mostHorizon (omega (arith, count-most 9 t (omega arith), horizon-digits)) (omega arith)
+
+    -- .. in bytes
+    pub miss-short : t ≤ mostHorizon → task s p .length ≤ 1000000 → task s p .deadline ≤ 1000000 → length (said (factsAt s t p)) ≤ 700
+    miss-short lt lc ld = omega (arith, miss-longest lt lc ld, longest-now)

@@ -36,7 +36,7 @@ module _ (ws : List ℕ) (bytes : ℕ) (none : NoneApplies ws bytes) where
       go true e = e
       go false e = absurd (none 17 0 (seventeen (never (tableOf ws) sound e)))
 
-  -- THEOREM (sentence-longest): the sentence has at most 698 bytes
+  -- THEOREM (sentence-longest): the sentence has at most 700 bytes
   pub sentence-longest : length (said (factsOf ws)) ≤ longest mostHorizon
   unfolding factsIn
   sentence-longest =

@@ -16,7 +16,7 @@ use Rattle.table.specs.declared.Loaded.{Loaded}
 use Rattle.full.specs.Machine.{Machine}
 use Rattle.full.specs.Stand.{numbersIn, Stand, begun, after, bellAfter, next}
 use Rattle.full.proofs.Late.{missed-late}
-use Rattle.full.proofs.Place.{TiedAt}
+use Rattle.full.specs.Standing.{TiedAt}
 use Rattle.full.proofs.Steps.{tick-on, chosen-on}
 use Rattle.full.proofs.Tied.{Tied}
 use Rattle.judge.specs.Judged.{tableIn, Fit}

@@ -20,6 +20,6 @@ pub record Limited (last : ℕ) (f : Facts) : Type 0 where
   pub others : Rising 0 (f .position) (f .others)
   pub together : Together (f .had) mostTime (f .others)
 
--- the longest sentence: 698 bytes for ticks up to 10,000,000, 700 for ticks up to 1,000,000,000 (`said-short`)
+-- the longest sentence for ticks up to this one: 700 bytes up to 1,000,000,000 (`said-short`)
 abbrev pub longest : ℕ → ℕ
 longest last = 690 + digitCount last

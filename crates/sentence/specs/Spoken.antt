@@ -76,7 +76,7 @@ pub record SentenceOf (ws old new : List ℕ) (v : Spoken) : Type 0 where
   -- bytes after the sentence stay untouched
   pub behind : (n i : ℕ) → spokenTold v ≡ ofLength n → n ≤ i → getD new i 0 ≡ getD old i 0
   pub size : length new ≡ length old
-  -- no sentence is longer than 698 bytes
+  -- no sentence is longer than 700 bytes
   pub short : (n : ℕ) → spokenTold v ≡ ofLength n → n ≤ longest mostHorizon
   -- a refusal leaves the buffer as found
   pub found : (n p : ℕ) → spokenTold v ≡ refusedBy n p → new ≡ old

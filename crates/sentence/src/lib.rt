@@ -103,7 +103,7 @@ fn by_table(table: Loaded, buffer: &mut [u8]) -> Spoken
     requires { ⌜ Fit table × Short table ⌝ }
     ensures { λ r. ⌜ (r ≡ byTable (tableIn table) (length (now (buffer .entry)))) × (now (buffer .exit) ≡ leftIn (spokenTold r) (factsIn (tableIn table)) (now (buffer .entry))) ⌝ }
 {
-    let missed = judge::misses::first_miss(table, table.horizon + 1);
+    let missed = quick::first_miss(table, table.horizon + 1);
     match missed {
         Missed::Never => Spoken::Refused(17, 0),
         Missed::At(tick, position) => say(table, tick, position as usize - 1, buffer),

@@ -68,12 +68,15 @@ low = 2 ∷ 3 ∷ 5 ∷ 7 ∷ 11 ∷ 13 ∷ 17 ∷ []
 abbrev high : List ℕ
 high = 19 ∷ 23 ∷ 29 ∷ 31 ∷ 37 ∷ 41 ∷ 43 ∷ 47 ∷ 53 ∷ []
 
--- eight tasks with P 9,699,690, the last of which has this offset
+-- seven tasks with P 999,999,000, the last of which has this offset
+abbrev powers : List ℕ
+powers = 8 ∷ 27 ∷ 125 ∷ 7 ∷ 11 ∷ 13 ∷ []
+
 abbrev long : ℕ → List ℕ
-long o = header 1 1 1 ++ chained 8 1 low ++ entry 0 o 1 1 1 19
+long o = header 1 1 1 ++ chained 7 1 powers ++ entry 0 o 1 1 1 37
 
 abbrev longTable : ℕ → Table
-longTable o = on 1 greedy (map (λ p. t 0 1 1 1 p) low ++ (t o 1 1 1 19 ∷ []))
+longTable o = on 1 greedy (map (λ p. t 0 1 1 1 p) powers ++ (t o 1 1 1 37 ∷ []))
 
 -- the words of one task on m cores, under rule 1
 abbrev alone : ℕ → Task → List ℕ
@@ -152,9 +155,9 @@ lines =
     ∷ line (header 2 2 1 ++ entry 0 0 0 1 1 1 ++ entry 1 0 1 0 1 1) (refusal 8 1)
     -- a deadline above the period at position 2, in record 1
     ∷ line (header 2 2 1 ++ entry 0 0 1 1 3 2 ++ entry 1 0 1 1 1 1) (refusal 8 2)
-    -- the horizon 10,000,000 passes 9, and 10,000,001 doesn't; nor does a P above 2^64
-    ∷ line (long 300310) (passes (longTable 300310) 300310 9699690 10000000)
-    ∷ line (long 300311) (refusal 9 0)
+    -- the horizon 1,000,000,000 passes 9, and 1,000,000,001 doesn't; nor does a P above 2^64
+    ∷ line (long 1000) (passes (longTable 1000) 1000 999999000 1000000000)
+    ∷ line (long 1001) (refusal 9 0)
     ∷ line (header 1 1 1 ++ chained 0 1 (low ++ high)) (refusal 9 0)
     ∷ []
 

@@ -92,6 +92,6 @@ module _ (ws : List ℕ) (none : NoneApplies ws) where
   pub passed-widths : (p : ℕ) → p < length (tableOf ws .tasks) → task (tableOf ws) p .width ≤ wideIn
   passed-widths p l = passed-inside p l .width-from .1
 
-  -- the horizon is at most 10,000,000
+  -- the horizon is at most 1,000,000,000
   pub passed-horizon : horizon (tableOf ws) ≤ mostHorizon
   passed-horizon = let near : ¬ (mostHorizon < horizon (tableOf ws)) = λ h. none 9 0 (nine h) in omega arith

@@ -12,9 +12,9 @@ use Rattle.model.specs.Sizes.{mostCores}
 abbrev pub mostTime : ℕ
 mostTime = 1000000
 
--- the horizon is at most 10,000,000
+-- the horizon is at most 1,000,000,000 (request 103)
 abbrev pub mostHorizon : ℕ
-mostHorizon = 10000000
+mostHorizon = 1000000000
 
 -- x is a to b
 abbrev pub From : ℕ → ℕ → ℕ → Type 0
@@ -76,7 +76,7 @@ taskNumber m τ = cond (widthOut m τ) 7 (cond (timesOut τ) 8 0)
 abbrev pub taskOut : ℕ → Task → Bool
 taskOut m τ = not (eqb (taskNumber m τ) 0)
 
--- 9: the horizon exceeds 10,000,000
+-- 9: the horizon exceeds 1,000,000,000
 abbrev pub HorizonOut : ℕ → Type 0
 HorizonOut h = mostHorizon < h
 

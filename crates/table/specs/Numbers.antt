@@ -54,7 +54,7 @@ pub data Applies (ws : List ℕ) : ℕ → ℕ → Type 0 where
   seven : (p : ℕ) → Position ws p → WidthOut (openCount (fence ws) (cores ws)) (taskAt ws p) → Applies ws 7 p
   -- 8. A task's O, C, T or D is outside its limits.
   eight : (p : ℕ) → Position ws p → TimesOut (taskAt ws p) → Applies ws 8 p
-  -- 9. The horizon exceeds 10,000,000.
+  -- 9. The horizon exceeds 1,000,000,000.
   nine : HorizonOut (horizon (tableOf ws)) → Applies ws 9 0
 
 -- checked in this order; 8 stands where 7 does

@@ -10,7 +10,7 @@ use model::MOST_CORES;
 pub const MOST_TIME: u32 = 1_000_000;
 
 // The longest horizon.
-pub const MOST_HORIZON: u32 = 10_000_000;
+pub const MOST_HORIZON: u32 = 1_000_000_000;
 
 // The weight of the fence's second word.
 pub const HIGH: u64 = 4_294_967_296;

@@ -1,0 +1,42 @@
+-- `capi::sivorandra_judge_ticks` meets its contract: the verdict is the judge's, and its three words are put where there is room.
+-- Assumes nothing.
+use mathlib.Core.Path.{sym, ap, _∙_}
+use mathlib.Core.List.{List, [], _∷_}
+use Prim.Native.Nat.{ℕ}
+use borrow.Author.Needs.{needs}
+use Rattle.capi.specs.declared.told.Told.{Told}
+use Rattle.capi.specs.Told.{ofVerdict, written}
+use Rattle.capi.specs.Calls.{left}
+use Rattle.capi.proofs.Calls.{judge-room, judge-short}
+use Rattle.capi.proofs.sivorandra_judge_ticks.Statement.{statement}
+use Rattle.capi.proofs.sivorandra_judge_ticks.Tie as tie
+
+returns : tie.Need-returns
+returns c =
+    let a = c .before .before .before .args in
+    sym (judge-short (a .words .now) (a .answer .now) (c .if1 .taken))
+
+judge-requires : tie.Need-judge-requires
+judge-requires c κs = search needs
+
+of-verdict-requires : tie.Need-of-verdict-requires
+of-verdict-requires c κs = search needs
+
+put-requires : tie.Need-put-requires
+put-requires c κs = search needs
+
+same-length : tie.Need-same-length
+same-length c = search needs
+
+returns-2 : tie.Need-returns-2
+returns-2 c =
+    let p = c .before .before in
+    let v = p .before .before in
+    let j = v .before in
+    let a = j .before .before .before .before .args in
+    ap (λ (l : List ℕ). left 0 (l ∷ [])) (p .put .ensures ∙ ap (λ (t : Told). written t (a .answer .now)) (v .of-verdict .ensures ∙ ap ofVerdict (j .judge .ensures .value)))
+    ∙ sym (judge-room (a .words .now) (a .answer .now) (j .before .if1 .left))
+
+pub sivorandra-judge-ticks-spec : {M : Type 1} → statement M
+sivorandra-judge-ticks-spec =
+    tie.close (tie.spec returns judge-requires of-verdict-requires put-requires same-length returns-2)

@@ -1,0 +1,38 @@
+-- What ties one place of the machine to its line of jobs in the book.
+use mathlib.Core.Path.{_≡_}
+use mathlib.Core.Bool.{Bool, true, false}
+use Prim.Native.Nat.{ℕ, suc, _+_, _≤_, _<_}
+use Rattle.model.specs.Task.{Task, release, due}
+use Rattle.model.specs.Book.{Job, fresh}
+
+-- `seen` counts the ticks whose due moments have been looked at: it is t before those of tick t are, and t + 1 after.
+
+-- l ticks are left, the deadline m is ahead: a job was released, has not ended, and has had what is not left; those before it have ended,
+-- those after it are fresh, and the first of them comes at n
+pub record Works (τ : Task) (seen : ℕ) (js : ℕ → Job) (l m n : ℕ) : Type 0 where
+  pub number : ℕ
+  pub had : ℕ
+  pub owed : 1 ≤ l
+  pub whole : had + l ≡ τ .length
+  pub begun : release τ number < seen
+  pub deadline : m ≡ due τ number
+  pub ahead-of : seen ≤ m
+  pub following : n ≡ release τ (suc number)
+  pub line : js number ≡ record { had = had; claimed = had; ended = false }
+  pub past : (i : ℕ) → i < number → js i .ended ≡ true
+  pub later : (i : ℕ) → number < i → js i ≡ fresh
+
+-- no tick is left, and m is n: every job released so far has ended, and the next, released at n, is fresh as are all after it
+pub record Rests (τ : Task) (seen : ℕ) (js : ℕ → Job) (l m n : ℕ) : Type 0 where
+  pub number : ℕ
+  pub none : l ≡ 0
+  pub moment : m ≡ release τ number
+  pub ahead-of : seen ≤ m
+  pub following : n ≡ release τ number
+  pub past : (i : ℕ) → i < number → js i .ended ≡ true
+  pub later : (i : ℕ) → number ≤ i → js i ≡ fresh
+
+-- a place that claims or not
+abbrev pub TiedAt : Task → ℕ → (ℕ → Job) → ℕ → ℕ → ℕ → Bool → Type 0
+TiedAt τ seen js l m n true = Works τ seen js l m n
+TiedAt τ seen js l m n false = Rests τ seen js l m n

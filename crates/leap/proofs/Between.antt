@@ -1,0 +1,101 @@
+-- Between two moments of the full-length run the cores stay with the same tasks.
+use mathlib.Core.Path.{_≡_, refl, sym, ap, _∙_, subst}
+use mathlib.Core.Bool.{Bool, true, false, true≢false}
+use mathlib.Core.List.{List}
+use mathlib.Core.Logic.{inl, inr}
+use Prim.Native.Nat.{ℕ, zero, suc, _+_, _-_, _≤_, _<_}
+use native.Mathlib.Nat.{add-zero, add-suc}
+use native.Mathlib.Omega.{arith}
+use lib.ListN.{length, length-map}
+use Rattle.model.specs.Fence.{openCores}
+use Rattle.model.specs.Task.{Table, task, AllSound, release, due}
+use Rattle.model.specs.Grants.{Claimant, claimants, grants}
+use Rattle.model.specs.Row.{row}
+use Rattle.model.specs.Book.{Book, full, jobClaims, taskClaims, widths, grantsOf, rowOf}
+use Rattle.model.proofs.Bools.{same-test, not-true-false}
+use Rattle.model.proofs.Jobs.{after-release, before-due, claims-if, done-off}
+use Rattle.model.proofs.Runs.{full-tick, full-claimed, full-stays}
+use Rattle.model.proofs.Faithful.{claims-exact}
+use Rattle.model.proofs.Grants.{claimants-same}
+use Rattle.leap.specs.Moment.{Ends, Moment, NoneBetween, SameCores}
+
+-- a job ends at the tick after its last
+pub ends-at : (s : Table) (t p k : ℕ) → full s (suc t) .job p k .ended ≡ true → full s t .job p k .ended ≡ false → Ends s p k (suc t)
+ends-at s t p k e o =
+    let z : suc t - 1 ≡ t = omega arith in
+    (e, ap (λ (n : ℕ). full s n .job p k .ended) z ∙ o)
+
+pub ends-by : (s : Table) (t p k : ℕ) → Ends s p k (suc t) → full s t .job p k .ended ≡ false
+ends-by s t p k x =
+    let z : t ≡ suc t - 1 = omega arith in
+    ap (λ (n : ℕ). full s n .job p k .ended) z ∙ x .1
+
+-- where the same tasks claim, the cores go to the same
+pub same-claims :
+    (s : Table) (t u : ℕ) → ((p : ℕ) → p < length (s .tasks) → taskClaims s (full s u) p ≡ taskClaims s (full s t) p) → SameCores s t u
+same-claims s t u e = record { grants = same; row = ap (λ (gs : List (List ℕ)). row (s .fence) (s .cores) gs) same }
+  where
+    same : grantsOf s (full s u) ≡ grantsOf s (full s t)
+    same =
+        ap (λ (bs : List Claimant). grants (s .rule) bs (openCores s))
+        (claimants-same (widths s) (taskClaims s (full s u)) (taskClaims s (full s t))
+        (λ q l. e q (subst (λ (n : ℕ). q < n) (length-map (s .tasks) (λ τ. τ .width)) l)))
+
+module _ (s : Table) (ok : AllSound s) where
+  -- in the full-length run a job that claims has not ended
+  open-claims : (t p k : ℕ) → jobClaims s (full s t) p k ≡ true → full s t .job p k .ended ≡ false
+  open-claims t p k c =
+      not-true-false (full s t .job p k .ended)
+      (λ e. true≢false (sym c ∙ done-off (s .rule) (task s p) k (full s t .tick) (full s t .job p k) e (full-claimed s t p k e)))
+
+  claims-at : (t p k : ℕ) → release (task s p) k ≤ t → t < due (task s p) k → full s t .job p k .ended ≡ false → jobClaims s (full s t) p k ≡ true
+  claims-at t p k a b o =
+      claims-if (s .rule) (task s p) k (full s t .tick) (full s t .job p k) (omega (arith, full-tick s t)) (omega (arith, full-tick s t)) (rw o)
+
+  module _ (t : ℕ) (quiet : ¬ Moment s (suc t)) (p : ℕ) (l : p < length (s .tasks)) where
+    -- who claims in the tick after claimed before it
+    claimed-before : (k : ℕ) → jobClaims s (full s (suc t)) p k ≡ true → jobClaims s (full s t) p k ≡ true
+    claimed-before k c =
+        let a = after-release (s .rule) (task s p) k (full s (suc t) .tick) (full s (suc t) .job p k) c in
+        let b = before-due (s .rule) (task s p) k (full s (suc t) .tick) (full s (suc t) .job p k) c in
+        let z = full-tick s (suc t) in
+        claims-at t p k (apart (λ e. quiet (p, k, l, inl e)) (omega arith)) (omega arith)
+        (not-true-false (full s t .job p k .ended) (λ e. true≢false (sym (stays e) ∙ open-claims (suc t) p k c)))
+      where
+        apart : {a : ℕ} → (a ≡ suc t → ⊥) → a ≤ suc t → a ≤ t
+        apart n h = omega arith
+
+        stays : full s t .job p k .ended ≡ true → full s (suc t) .job p k .ended ≡ true
+        stays e = subst (λ (n : ℕ). full s n .job p k .ended ≡ true) (add-suc t 0 ∙ ap suc (add-zero t)) (full-stays s t 1 p k e)
+
+    -- and who claimed before it claims
+    claims-after : (k : ℕ) → jobClaims s (full s t) p k ≡ true → jobClaims s (full s (suc t)) p k ≡ true
+    claims-after k c =
+        let a = after-release (s .rule) (task s p) k (full s t .tick) (full s t .job p k) c in
+        let b = before-due (s .rule) (task s p) k (full s t .tick) (full s t .job p k) c in
+        let z = full-tick s t in
+        claims-at (suc t) p k (omega arith) (apart (λ e. quiet (p, k, l, inr (inl e))) (omega arith))
+        (not-true-false (full s (suc t) .job p k .ended) (λ e. quiet (p, k, l, inr (inr (ends-at s t p k e (open-claims t p k c))))))
+      where
+        apart : {a : ℕ} → (a ≡ suc t → ⊥) → t < a → suc t < a
+        apart n h = omega arith
+
+    claims-stay : taskClaims s (full s (suc t)) p ≡ taskClaims s (full s t) p
+    claims-stay =
+        same-test (taskClaims s (full s (suc t)) p) (taskClaims s (full s t) p)
+        (λ e. let x = claims-exact s ok (full s (suc t)) p l .0 e in claims-exact s ok (full s t) p l .1 (x .0, claimed-before (x .0) (x .1)))
+        (λ e. let x = claims-exact s ok (full s t) p l .0 e in claims-exact s ok (full s (suc t)) p l .1 (x .0, claims-after (x .0) (x .1)))
+
+  -- over d ticks without a moment
+  stay-over : (t d : ℕ) → NoneBetween s t (suc (t + d)) → (p : ℕ) → p < length (s .tasks) → taskClaims s (full s (t + d)) p ≡ taskClaims s (full s t) p
+  stay-over t zero none p l = ap (λ (n : ℕ). taskClaims s (full s n) p) (add-zero t)
+  stay-over t (suc d) none p l =
+      ap (λ (n : ℕ). taskClaims s (full s n) p) (add-suc t d)
+      ∙ (claims-stay (t + d) (none (suc (t + d)) (omega arith) (omega arith)) p l
+      ∙ stay-over t d (λ w a b. none w a (omega arith)) p l)
+
+  -- THEOREM (same-between): at every tick from t on, up to the first moment after it, the cores are with the tasks that have them at t
+  pub same-between : (t u : ℕ) → NoneBetween s t u → (w : ℕ) → t ≤ w → w < u → SameCores s t w
+  same-between t u none w a b =
+      let e : t + (w - t) ≡ w = omega arith in
+      subst (SameCores s t) e (same-claims s t (t + (w - t)) (stay-over t (w - t) (λ x c d. none x c (omega arith))))

@@ -1,0 +1,119 @@
+-- Moments at their edges, computed from the definitions, and the ticks that leaps reach.
+use mathlib.Core.Bool.{true, false, true≢false, false≢true}
+use mathlib.Core.List.{List, [], _∷_, _++_, map}
+use mathlib.Core.Logic.{inl, inr}
+use mathlib.Core.Path.{_≡_, refl, sym, ap, _∙_}
+use Prim.Native.Nat.{ℕ, zero, suc, _+_, _-_, _*_, _≤_, _<_, min}
+use native.Mathlib.Omega.{arith}
+use lib.ListN.{length, replicate}
+use Rattle.model.specs.Task.{Table, release, due, task, greedy}
+use Rattle.model.specs.Book.{Job, full, step, served, work, claims}
+use Rattle.model.specs.Grants.{claimants, given, left, grants}
+use Rattle.model.specs.Search.{kept, upFrom}
+use Rattle.model.proofs.Examples.{t, on}
+use Rattle.model.proofs.Runs.{full-fresh}
+use Rattle.table.specs.declared.Answer.the-variants.{Passed}
+use Rattle.table.specs.declared.Task.{Task}
+use Rattle.table.specs.declared.Loaded.{Loaded}
+use Rattle.table.specs.Task.{noTask}
+use Rattle.full.specs.Machine.{released}
+use Rattle.full.specs.Places.{each, setOf}
+use Rattle.leap.specs.Moment.{Ends, Happens, Moment}
+use Rattle.leap.specs.Stand.{dueAt, soonest}
+use Rattle.leap.specs.Leap.{looked, fewest, passed, after, bellAfter, grantedIn, ticksIn, leapt, leaps}
+
+-- ONE TASK that ends before its deadline: released at 0 and 5, ended at 1, due at 3
+abbrev early : Table
+early = on 1 greedy (t 0 1 1 3 5 ∷ [])
+
+pub released-first : Moment early 0
+released-first = (0, 0, omega arith, inl refl)
+
+pub ends-at-one : Moment early 1
+unfolding full step served work claims grants claimants given left kept upFrom
+ends-at-one = (0, 0, omega arith, inr (inr (refl, refl)))
+
+-- a deadline counts though its job has ended
+pub due-though-ended : Moment early 3 × (full early 3 .job 0 0 .ended ≡ true)
+unfolding full step served work claims grants claimants given left kept upFrom
+due-though-ended = ((0, 0, omega arith, inr (inl refl)), refl)
+
+pub released-next : Moment early 5
+released-next = (0, 1, omega arith, inl refl)
+
+-- between the end and the deadline, and between the deadline and the release, there is none
+pub none-at-two : ¬ Moment early 2
+unfolding full step served work claims grants claimants given left kept upFrom
+none-at-two (zero, k, l, inl e) = omega arith
+none-at-two (zero, k, l, inr (inl e)) = omega arith
+none-at-two (zero, zero, l, inr (inr (e, o))) = true≢false o
+none-at-two (zero, suc k, l, inr (inr (e, o))) = false≢true (sym (ap (λ (j : Job). j .ended) (full-fresh early 2 0 (suc k) (omega arith))) ∙ e)
+none-at-two (suc p, k, l, x) = omega arith
+
+pub none-at-four : ¬ Moment early 4
+unfolding full step served work claims grants claimants given left kept upFrom
+none-at-four (zero, k, l, inl e) = omega arith
+none-at-four (zero, k, l, inr (inl e)) = omega arith
+none-at-four (zero, zero, l, inr (inr (e, o))) = true≢false o
+none-at-four (zero, suc k, l, inr (inr (e, o))) = false≢true (sym (ap (λ (j : Job). j .ended) (full-fresh early 4 0 (suc k) (omega arith))) ∙ e)
+none-at-four (suc p, k, l, x) = omega arith
+
+-- D = T = C: at tick 2 a job ends, is due, and the next is released
+abbrev busy : Table
+busy = on 1 greedy (t 0 1 2 2 2 ∷ [])
+
+pub all-at-once : (release (task busy 0) 1 ≡ 2) × (due (task busy 0) 0 ≡ 2) × Ends busy 0 0 2
+unfolding full step served work claims grants claimants given left kept upFrom
+all-at-once = (refl, refl, (refl, refl))
+
+-- a late job is due at tick 1 and does not end: a moment all the same
+pub due-though-late : Moment (on 1 greedy (t 0 1 2 1 2 ∷ [])) 1 × (full (on 1 greedy (t 0 1 2 1 2 ∷ [])) 1 .job 0 0 .ended ≡ false)
+unfolding full step served work claims grants claimants given left kept upFrom
+due-though-late = ((0, 0, omega arith, inr (inl refl)), refl)
+
+-- the first release is at 3: tick 0, where the first leap begins, is no moment
+abbrev later : Table
+later = on 1 greedy (t 3 1 1 1 2 ∷ [])
+
+pub none-at-zero : ¬ Moment later 0
+unfolding full
+none-at-zero (zero, k, l, inl e) = omega arith
+none-at-zero (zero, k, l, inr (inl e)) = omega arith
+none-at-zero (zero, k, l, inr (inr (e, o))) = false≢true e
+none-at-zero (suc p, k, l, x) = omega arith
+
+-- THE TICKS THAT LEAPS REACH
+
+-- a task of the supplier's table, and a table of them that was loaded: of so many cores, under a rule
+abbrev task-of : ℕ → ℕ → ℕ → ℕ → ℕ → Task
+task-of o v c d p = record { offset = o; width = v; length = c; deadline = d; period = p }
+
+abbrev loaded : ℕ → ℕ → List Task → Loaded
+loaded m r ts = record {
+  answer = Passed;
+  count = length ts;
+  cores = m;
+  fence = 0;
+  rule = r;
+  tasks = ts ++ replicate (32 - length ts) noTask;
+  start = 0;
+  period = 0;
+  horizon = 0;
+}
+
+-- the first n of them
+abbrev ticks : ℕ → Loaded → List ℕ
+ticks n x = map (λ i. leaps x i .tick) (upFrom 0 n)
+
+-- of the tables above: an ended job's deadline is reached; end, deadline and release on one tick are one; tick 0 is where the first begins
+pub reached :
+    (ticks 7 (loaded 1 1 (task-of 0 1 1 3 5 ∷ [])) ≡ 0 ∷ 1 ∷ 3 ∷ 5 ∷ 6 ∷ 8 ∷ 10 ∷ [])
+    × (ticks 4 (loaded 1 1 (task-of 0 1 2 2 2 ∷ [])) ≡ 0 ∷ 2 ∷ 4 ∷ 6 ∷ [])
+    × (ticks 4 (loaded 1 1 (task-of 3 1 1 1 2 ∷ [])) ≡ 0 ∷ 3 ∷ 4 ∷ 5 ∷ [])
+unfolding leaps leapt ticksIn grantedIn bellAfter after passed fewest looked released dueAt soonest each setOf grants claimants given left kept upFrom
+reached = (refl, refl, refl)
+
+-- and of two tasks: the second ends at 4, after the first has ended at 2 and made room
+pub reached-by-two : ticks 6 (loaded 2 1 (task-of 0 2 2 6 6 ∷ task-of 0 1 2 5 6 ∷ [])) ≡ 0 ∷ 2 ∷ 4 ∷ 5 ∷ 6 ∷ 8 ∷ []
+unfolding leaps leapt ticksIn grantedIn bellAfter after passed fewest looked released dueAt soonest each setOf grants claimants given left kept upFrom
+reached-by-two = refl

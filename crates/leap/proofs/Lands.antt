@@ -1,0 +1,270 @@
+-- THEOREM (leap-lands): a leap from the stand of the full-length run at a tick at which no deadline is missed lands on the stand of the least moment
+-- after it, and at every tick up to it the cores stay with the same tasks.
+use mathlib.Core.Path.{_≡_, refl, sym, ap, _∙_, subst, subst₂}
+use mathlib.Core.Bool.{Bool, true, false, not, _&&_, cond, true≢false}
+use mathlib.Core.List.{List, map}
+use mathlib.Core.Logic.{_⊎_, inl, inr, ⊎-elim}
+use Prim.Native.Nat.{ℕ, suc, _+_, _-_, _^_, _≤_, _<_}
+use native.Mathlib.Nat.{le-trans, eq-or-lt-of-le}
+use native.Mathlib.Omega.{arith}
+use lib.Dec.{eqb, ltb, leb}
+use lib.ListN.{length, getD}
+use borrow.Author.Tests.{eqb-true, eqb-false, eq-eqb, le-ltb, lt-ltb, leb-true, leb-false}
+use Rattle.model.specs.Search.{bit}
+use Rattle.model.specs.Sizes.{mostCores, mostTasks}
+use Rattle.model.specs.Task.{Table, task}
+use Rattle.model.specs.Book.{full, inRow, Missed}
+use Rattle.model.proofs.Bools.{and-both}
+use Rattle.model.proofs.Digits.{bit-none}
+use Rattle.model.proofs.Runs.{full-tick}
+use Rattle.table.specs.declared.Task.{Task}
+use Rattle.table.specs.declared.Loaded.{Loaded}
+use Rattle.full.specs.Machine.{Machine}
+use Rattle.full.specs.Stand.{Numbers, numbersIn, choice}
+use Rattle.full.proofs.Alike.{row-places, row-owed}
+use Rattle.full.proofs.Place.{overdue-is}
+use Rattle.full.proofs.Tied.{Ready}
+use Rattle.judge.specs.Judged.{tableIn, Fit}
+use Rattle.judge.proofs.Ticks.{size, few, same-widths, Chosen}
+use Rattle.judge.proofs.Follows.{columns, choice-chosen}
+use Rattle.leap.specs.Moment.{Moment, NoneBetween}
+use Rattle.leap.specs.Stand.{Stand, StandsAt, PlaceStands, Standing, Stands, dueAt, soonest, MetBefore}
+use Rattle.leap.specs.Leap.{looked, Owing, passed, after, bellAfter, grantedIn, ticksIn, leapt, Begins, Lands}
+use Rattle.leap.proofs.Between.{same-between}
+use Rattle.leap.proofs.DuePlaces.{due-is, due-nobody, soonest-below, soonest-rings}
+use Rattle.leap.proofs.Looked.{late-is, nobody-due, looked-stands, plain, looked-ready}
+use Rattle.leap.proofs.Passing.{passed-sized, passed-left, passed-claims, passed-past}
+use Rattle.leap.proofs.Quiet.{row-inside, none-between, ends, landed}
+use Rattle.leap.proofs.Shortest.{Shortest, shortest-some, fewest-is}
+use Rattle.leap.proofs.Stands.{same-stands}
+
+module _ (t : Loaded) (fit : Fit t) (s : Stand) (h : Stands t s) where
+  abbrev book : Table
+  book = tableIn t
+
+  abbrev n : Numbers
+  n = numbersIn t
+
+  -- who is due is at its moment
+  pub due-exact : (p : ℕ) → p < length (book .tasks) → bit (s .due) p ≡ eqb (getD (s .machine .moment) p 0) (s .tick)
+  due-exact p l =
+      ap (λ (x : ℕ). bit x p) (h .dues)
+      ∙ (due-is (s .tick) (t .count) (s .machine .moment) (fit .few) p
+      ∙ ap (λ (b : Bool). b && eqb (getD (s .machine .moment) p 0) (s .tick)) (lt-ltb p (t .count) (omega (arith, size t fit))))
+
+  pub due-past : (p : ℕ) → length (book .tasks) ≤ p → bit (s .due) p ≡ false
+  due-past p l =
+      ap (λ (x : ℕ). bit x p) (h .dues)
+      ∙ (due-is (s .tick) (t .count) (s .machine .moment) (fit .few) p
+      ∙ ap (λ (b : Bool). b && eqb (getD (s .machine .moment) p 0) (s .tick)) (le-ltb p (t .count) (omega (arith, size t fit))))
+
+  -- and is one of the tasks
+  pub due-inside : (p : ℕ) → bit (s .due) p ≡ true → p < length (book .tasks)
+  due-inside p e = go (leb (length (book .tasks)) p) refl
+    where
+      go : (b : Bool) → leb (length (book .tasks)) p ≡ b → p < length (book .tasks)
+      go true x = absurd (true≢false (sym e ∙ due-past p (leb-true (length (book .tasks)) p x)))
+      go false x = leb-false (length (book .tasks)) p x
+
+  -- a place that misses a deadline at the tick is due, with ticks left
+  pub missed-due : (p : ℕ) → Missed book p (s .tick) → (bit (s .due) p ≡ true) × (0 < getD (s .machine .left) p 0)
+  missed-due p (l, x) =
+      let y = late-is (task book p) (fit .sound p l) (s .tick) (full book (s .tick) .job p) (getD (s .machine .left) p 0) (getD (s .machine .moment) p 0)
+      (getD (s .machine .next) p 0) (bit (s .machine .claiming) p) (h .machines .places p l) (x .0) (x .1 ∙ full-tick book (s .tick)) (x .2) in
+      (due-exact p l ∙ eq-eqb (getD (s .machine .moment) p 0) (s .tick) (y .0), y .1)
+
+  module _ (met : (p : ℕ) → ¬ Missed book p (s .tick)) where
+    abbrev m : Machine
+    m = after n s
+
+    abbrev bell : ℕ
+    bell = bellAfter n s
+
+    abbrev g : ℕ
+    g = grantedIn n s
+
+    abbrev k : ℕ
+    k = ticksIn n s
+
+    -- once its due moments have been looked at
+    pub seen : Standing book (s .tick) (suc (s .tick)) m
+    unfolding after
+    seen = go (eqb (s .due) 0) refl
+      where
+        go : (b : Bool) → eqb (s .due) 0 ≡ b
+            → Standing book (s .tick) (suc (s .tick)) (cond b (s .machine) (looked (s .tick) (bit (s .due)) (n .lengths) (n .deadlines) (n .periods) (s .machine)))
+        go true e =
+            nobody-due book (fit .sound) (few t fit) (s .tick) (s .machine) (h .machines)
+            (λ p l. eqb-false (getD (s .machine .moment) p 0) (s .tick)
+            (sym (due-exact p l) ∙ (ap (λ (x : ℕ). bit x p) (eqb-true (s .due) 0 e) ∙ bit-none p)))
+        go false e =
+            looked-stands book (fit .sound) (few t fit) (s .tick) (s .machine) (h .machines) (bit (s .due)) due-exact due-past met
+            (map (λ x. x .offset) (t .tasks)) (n .widths) (n .lengths) (n .deadlines) (n .periods) (columns t fit)
+
+    -- the bell is the earliest moment to come
+    bell-is : bell ≡ soonest (t .count) (m .moment)
+    unfolding bellAfter after
+    bell-is = go (eqb (s .due) 0)
+      where
+        go : (b : Bool)
+            → cond b (s .bell) (soonest (t .count) (cond b (s .machine) (looked (s .tick) (bit (s .due)) (n .lengths) (n .deadlines) (n .periods) (s .machine)) .moment))
+            ≡ soonest (t .count) (cond b (s .machine) (looked (s .tick) (bit (s .due)) (n .lengths) (n .deadlines) (n .periods) (s .machine)) .moment)
+        go true = h .rings
+        go false = refl
+
+    bell-below : (p : ℕ) → p < length (book .tasks) → bell ≤ getD (m .moment) p 0
+    bell-below p l = omega (arith, bell-is, soonest-below (t .count) (m .moment) p (omega (arith, size t fit)))
+
+    rings : (p : ℕ) × (p < length (book .tasks)) × (getD (m .moment) p 0 ≡ bell)
+    rings =
+        let r = soonest-rings (t .count) (m .moment) (fit .some) in
+        (r .0, omega (arith, r .1, size t fit), r .2 ∙ sym bell-is)
+
+    pub before : s .tick < bell
+    before = let r = rings in omega (arith, r .2, seen .places (r .0) (r .1) .ahead .from)
+
+    -- WHO IS GRANTED CORES
+
+    pub kept : g ≡ choice n (m .claiming)
+    unfolding grantedIn
+    kept = go (eqb (m .claiming) (s .chosen)) refl
+      where
+        go : (b : Bool) → eqb (m .claiming) (s .chosen) ≡ b → cond b (s .granted) (choice n (m .claiming)) ≡ choice n (m .claiming)
+        go true e = h .kept ∙ ap (choice n) (sym (eqb-true (m .claiming) (s .chosen) e))
+        go false e = refl
+
+    ready : Ready book (s .tick) (plain m)
+    ready = looked-ready book (s .tick) m (few t fit) seen
+
+    row : (p : ℕ) → bit g p ≡ inRow book (full book (s .tick)) p
+    row p =
+        ap (λ (x : ℕ). bit x p) kept
+        ∙ (choice-chosen t fit (m .claiming) p
+        ∙ row-places book (fit .sound) (s .tick) (plain m) ready (map (λ x. x .width) (t .tasks)) (same-widths t fit) p)
+
+    pub owing : Owing 1 (bit g) m
+    owing p e = row-owed book (fit .sound) (s .tick) (plain m) ready (map (λ x. x .width) (t .tasks)) (same-widths t fit) (bit g) row p e
+
+    -- THE TICKS
+
+    pub short : Shortest (bit g) (bell - s .tick) (m .left) k
+    unfolding ticksIn
+    short =
+        fewest-is 32 (bit g) (bell - s .tick) (m .left)
+        (λ p e. le-trans (row-inside book (full book (s .tick)) p (sym (row p) ∙ e)) (few t fit))
+
+    pub some : 0 < k
+    some = shortest-some (bit g) (bell - s .tick) (m .left) k short (omega (arith, before)) (λ p e. owing p e .1)
+
+    near : (p : ℕ) → p < length (book .tasks) → s .tick + k ≤ getD (m .moment) p 0
+    near p l = omega (arith, short .within, before, bell-below p l)
+
+    none : NoneBetween book (s .tick) (s .tick + k)
+    none = none-between book (fit .sound) (s .tick) m seen (bit g) row k (short .below) near
+
+    last : k ≡ suc (k - 1)
+    last = omega (arith, some)
+
+    over : suc (s .tick + (k - 1)) ≡ s .tick + k
+    over = omega (arith, some)
+
+    moment : Moment book (s .tick + k)
+    moment = ⊎-elim
+        (λ (z : k ≡ bell - s .tick).
+        let r = rings in
+        let p = r .0 in
+        let x = seen .places p (r .1) .ahead .marked in
+        let u : getD (m .moment) p 0 ≡ s .tick + k = omega (arith, r .2, before) in
+        (p, x .0, r .1, ⊎-elim (λ q. inl (q ∙ u)) (λ q. inr (inl (q ∙ u))) (x .1)))
+        (λ (z : (p : ℕ) × (bit g p ≡ true) × (k ≡ getD (m .left) p 0)).
+        subst (Moment book) over (ends book (fit .sound) (s .tick) m seen (bit g) row k (short .below) near (k - 1) last (z .0) (z .1) (z .2)))
+        (short .reached)
+
+    -- WHERE IT LANDS
+
+    abbrev there : Machine
+    there = passed k (bit g) m
+
+    place : (p : ℕ) → p < length (book .tasks) → PlaceStands book (s .tick + k) (s .tick + k) there p
+    place p l =
+        same-stands (task book p) (s .tick + k) (full book (s .tick + k) .job p)
+        (getD (there .left) p 0) (cond (bit g p) (getD (m .left) p 0 - k) (getD (m .left) p 0))
+        (getD (there .moment) p 0) (getD (m .moment) p 0) (getD (there .next) p 0) (getD (m .next) p 0)
+        (bit (there .claiming) p) (bit (m .claiming) p && not (bit g p && eqb (getD (m .left) p 0) k))
+        (passed-left k (bit g) m (seen .sized) p (le-trans l (few t fit))) same-moment same-next (passed-claims k (bit g) m p (le-trans l (few t fit)))
+        (subst₂ At over (sym last)
+        (landed book (fit .sound) (s .tick) m seen (bit g) row k (short .below) near (k - 1) last p l))
+      where
+        At : ℕ → ℕ → Type 0
+        At u x =
+            StandsAt (task book p) u (full book u .job p) (cond (bit g p) (getD (m .left) p 0 - x) (getD (m .left) p 0)) (getD (m .moment) p 0) (getD (m .next) p 0)
+            (bit (m .claiming) p && not (bit g p && eqb (getD (m .left) p 0) x))
+
+        same-moment : getD (there .moment) p 0 ≡ getD (m .moment) p 0
+        same-moment = unfold passed in refl
+
+        same-next : getD (there .next) p 0 ≡ getD (m .next) p 0
+        same-next = unfold passed in refl
+
+    standing : Standing book (s .tick + k) (s .tick + k) there
+    standing = record { sized = passed-sized k (bit g) m (seen .sized); places = place; beyond = λ p q. go p q (leb 32 p) refl }
+      where
+        go : (p : ℕ) → length (book .tasks) ≤ p → (x : Bool) → leb 32 p ≡ x → bit (there .claiming) p ≡ false
+        go p q true x = passed-past k (bit g) m p (leb-true 32 p x)
+        go p q false x = passed-claims k (bit g) m p (leb-false 32 p x) ∙ rw (seen .beyond p q)
+
+    -- before the bell nobody is due
+    dues : cond (eqb (s .tick + k) bell) (dueAt (s .tick + k) (t .count) (m .moment)) 0 ≡ dueAt (s .tick + k) (t .count) (m .moment)
+    dues = go (eqb (s .tick + k) bell) refl
+      where
+        go : (b : Bool) → eqb (s .tick + k) bell ≡ b → cond b (dueAt (s .tick + k) (t .count) (m .moment)) 0 ≡ dueAt (s .tick + k) (t .count) (m .moment)
+        go true e = refl
+        go false e =
+            due-nobody (s .tick + k) (t .count) (m .moment)
+            (λ p l x. eqb-false (s .tick + k) bell e (omega (arith, short .within, before, bell-below p (omega (arith, size t fit)))))
+
+    -- no deadline is missed on the way, since a deadline is a moment
+    met-there : MetBefore book (s .tick + k)
+    met-there p w l x = go (leb w (s .tick)) refl
+      where
+        go : (b : Bool) → leb w (s .tick) ≡ b → ⊥
+        go true e = ⊎-elim
+            (λ (z : w ≡ s .tick). met p (subst (λ (u : ℕ). Missed book p u) z x))
+            (λ (z : w < s .tick). h .met p w z x)
+            (eq-or-lt-of-le (leb-true w (s .tick) e))
+        go false e = none w (leb-false w (s .tick) e) l (p, x .1 .0, x .0, inr (inl (x .1 .1 ∙ full-tick book w)))
+
+    pub lands : Lands t s (leapt n s)
+    unfolding leapt passed
+    lands = record {
+      next = record { after = omega (arith, some); moment = moment; first = none };
+      stands = record { machines = standing; dues = dues; rings = bell-is; kept = kept; met = met-there };
+      same = λ w a b. same-between book (fit .sound) (s .tick) (s .tick + k) none w a b;
+    }
+
+pub leap-lands : (t : Loaded) (n : Numbers) (s : Stand) → Begins t n s → Lands t s (leapt n s)
+leap-lands t n s b = subst (λ (x : Numbers). Lands t s (leapt x s)) (sym (b .numbers)) (lands t (b .fit) s (b .stands) (b .met))
+
+-- WHAT CODE NEEDS of the numbers and the run of such a table
+pub record Goes (n : Numbers) (s : Stand) : Type 0 where
+  pub few : n .count ≤ mostTasks
+  pub narrow : n .cores ≤ mostCores
+  pub fits : (p : ℕ) → bit (s .due) p ≡ true → (s .tick + getD (n .deadlines) p 0 < 2 ^ 32) × (s .tick + getD (n .periods) p 0 < 2 ^ 32)
+  pub before : s .tick < bellAfter n s
+  pub owing : Owing 1 (bit (grantedIn n s)) (after n s)
+  pub short : Shortest (bit (grantedIn n s)) (bellAfter n s - s .tick) (after n s .left) (ticksIn n s)
+
+pub goes : (t : Loaded) (n : Numbers) (s : Stand) → Begins t n s → Goes n s
+goes t n s b = subst (λ (x : Numbers). Goes x s) (sym (b .numbers)) (record {
+  few = b .fit .few;
+  narrow = b .fit .narrow;
+  fits = λ p e.
+      let inside : p < length (tableIn t .tasks) = due-inside t (b .fit) s (b .stands) p e in
+      let short = b .fit .short p (omega (arith, size t (b .fit))) in (
+        omega (arith, columns t (b .fit) .deadlines p inside, short, b .fit .sound p inside .constrained, b .early, b .fit .limit),
+        omega (arith, columns t (b .fit) .periods p inside, short, b .early, b .fit .limit),
+      );
+  before = before t (b .fit) s (b .stands) (b .met);
+  owing = owing t (b .fit) s (b .stands) (b .met);
+  short = short t (b .fit) s (b .stands) (b .met);
+})

@@ -1,0 +1,16 @@
+pub mod Ahead
+pub mod Stands
+pub mod Between
+pub mod Quiet
+pub mod Sets
+pub mod Passing
+pub mod Passes
+pub mod Shortest
+pub mod DuePlaces
+pub mod Looked
+pub mod Lands
+pub mod Taken
+pub mod Late
+pub mod Moments
+pub mod Agree
+pub mod Examples

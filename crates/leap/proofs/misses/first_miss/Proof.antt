@@ -1,0 +1,215 @@
+-- `leap::misses::first_miss` meets its contract. After each leap the run is that of the leaps from tick 0 on (`leaps`), at none of whose ticks a deadline
+-- was missed, and so stands as the table's full-length run does; along the walk over the due claimants none so far has ticks left (`Looking`). A due
+-- place with ticks left is the first miss; at the end nothing has been missed. Assumes nothing.
+use borrow.Author.Needs.{needs}
+use native.Mathlib.Nat.{not-suc-le-zero}
+use native.Mathlib.Omega.{arith}
+use mathlib.Core.Path.{_≡_, refl, sym, ap, _∙_, subst}
+use mathlib.Core.List.{List}
+use Prim.Native.Nat.{ℕ, zero, suc, _+_, _-_, _≤_, _<_}
+use lib.ListN.{getD}
+use Rattle.model.specs.Book.{Missed}
+use Rattle.table.specs.declared.Loaded.{Loaded}
+use Rattle.full.specs.declared.columns.Setting.{Setting}
+use Rattle.full.specs.Machine.{machineOf}
+use Rattle.full.specs.Places.{part}
+use Rattle.full.specs.Stand.{Numbers, numbersBy, numbersIn}
+use Rattle.full.proofs.Parts.{front-at}
+use Rattle.judge.specs.Judged.{tableIn, Fit}
+use Rattle.judge.proofs.FirstMiss.{by-none, by-first}
+use Rattle.leap.specs.declared.stand.Pace.{Pace}
+use Rattle.leap.specs.Stand.{Stand, standAt, begun, Stands}
+use Rattle.leap.specs.Leap.{leapt, Begins, LeapOf, Lands, leaps, Unmissed}
+use Rattle.leap.proofs.Sets.{lowest}
+use Rattle.leap.proofs.Late.{Looking, look-begins, at-lowest, look-passes, look-misses, look-ends}
+use Rattle.leap.proofs.Moments.{leaps-stand, unmissed-more}
+use Rattle.leap.proofs.misses.first_miss.Statement.{statement}
+use Rattle.leap.proofs.misses.first_miss.Tie as tie
+
+-- what code has of a table that fits where its run begins: its numbers, and the run before tick 0
+record Run (t : Loaded) (x : Setting) (widths times : List ℕ) (p : Pace) (places : List ℕ) : Type 0 where
+  pub fit : Fit t
+  pub numbers : numbersBy x widths times ≡ numbersIn t
+  pub stand : standAt p places ≡ begun t
+
+-- the run after so many leaps, at none of whose ticks a deadline was missed
+abbrev Leapt : Loaded → Stand → Type 0
+Leapt t s = (n : ℕ) × Unmissed t n × (s ≡ leaps t n)
+
+abbrev Inv-loop : tie.InvT-loop
+Inv-loop end setting width times pace places rest₀ rest = Looking (machineOf places (pace .claiming)) (pace .due) rest
+
+abbrev μ-loop : tie.MeasureT-loop
+μ-loop end setting width times pace places rest₀ rest = rest
+
+-- of every table whose run begins so
+abbrev Inv-leaps : tie.InvT-leaps
+Inv-leaps end setting width times pace₀ places₀ pace places = (t : Loaded) → Run t setting width times pace₀ places₀ → Leapt t (standAt pace places)
+
+abbrev μ-leaps : tie.MeasureT-leaps
+μ-leaps end setting width times pace₀ places₀ pace places = end - pace .tick
+
+-- THE PLACES. The table, and that the run begins as its own does
+abbrev table-of : tie.After-places Inv-loop μ-loop Inv-leaps μ-leaps → Loaded
+table-of p = p .before .before .before .before .before .before .before .args .table
+
+-- the run begins as that of table t does
+abbrev Of : tie.After-places Inv-loop μ-loop Inv-leaps μ-leaps → Loaded → Type 0
+Of p t =
+    Run t (p .before .before .before .before .before .before .columns-of .result .setting) (p .before .before .before .before .before .before .columns-of .result .width)
+    (p .before .before .before .before .before .before .columns-of .result .times) (p .before .before .start .result .pace) (p .before .before .start .result .places)
+
+own : (p : tie.After-places Inv-loop μ-loop Inv-leaps μ-leaps) → Of p (table-of p)
+own p = record {
+  fit = p .before .before .before .before .before .before .before .pre .0;
+  numbers = p .before .before .before .before .before .before .columns-of .ensures;
+  stand = p .before .before .start .ensures;
+}
+
+-- the table's numbers, and the run at a moment
+abbrev nums : tie.After-places Inv-loop μ-loop Inv-leaps μ-leaps → Numbers
+nums p =
+    numbersBy (p .before .before .before .before .before .before .columns-of .result .setting) (p .before .before .before .before .before .before .columns-of .result .width)
+    (p .before .before .before .before .before .before .columns-of .result .times)
+
+abbrev stand-of : tie.At-leaps Inv-loop μ-loop Inv-leaps μ-leaps → Stand
+stand-of k = standAt (k .leaps .pace) (k .leaps .places)
+
+stands : (k : tie.At-leaps Inv-loop μ-loop Inv-leaps μ-leaps) (t : Loaded) → Of (k .before) t → Stands t (stand-of k)
+stands k t b = let x = k .leaps .inv t b in subst (Stands t) (sym (x .2)) (leaps-stand t (b .fit) (x .0) (x .1))
+
+-- in the walk: the lowest place that is left is one of 32
+inside : (c : tie.In-loop Inv-loop μ-loop Inv-leaps μ-leaps) → lowest (c .before .loop .rest) < 32
+inside c = at-lowest _ _ (c .before .loop .rest) (c .before .loop .inv) (c .loop-test .taken) .below
+
+left-at : (c : tie.In-loop Inv-loop μ-loop Inv-leaps μ-leaps) (xs : List ℕ) → getD (part 0 xs) (lowest (c .before .loop .rest)) 0 ≡ getD xs (lowest (c .before .loop .rest)) 0
+left-at c xs = front-at xs (lowest (c .before .loop .rest)) (inside c)
+
+-- where the walk has ended no deadline of the tick is missed
+met : (c : tie.After-loop Inv-loop μ-loop Inv-leaps μ-leaps) (t : Loaded) → Of (c .before .before .before .before .before .before) t → (q : ℕ) → ¬ Missed (tableIn t) q (c .before .before .before .before .before .leaps .pace .tick)
+met c t b =
+    let k = c .before .before .before .before .before in
+    look-ends t (b .fit) (stand-of k) (stands k t b) (c .before .loop .rest) (c .before .loop .inv) (c .loop-test .left)
+
+-- so a leap may begin
+begins : (c : tie.After-loop Inv-loop μ-loop Inv-leaps μ-leaps) → Begins (table-of (c .before .before .before .before .before .before)) (nums (c .before .before .before .before .before .before)) (stand-of (c .before .before .before .before .before))
+begins c =
+    let e = c .before .before .before in
+    let k = e .before .before in
+    let p = k .before in
+    let b = own p in
+    record {
+      fit = b .fit;
+      numbers = b .numbers;
+      stands = stands k (table-of p) b;
+      met = met c (table-of p) b;
+      early = omega (arith, e .if1 .left, p .before .before .before .before .before .before .before .pre .1);
+    }
+
+-- THE ANSWERS
+columns-of-requires : tie.Need-columns-of-requires Inv-loop μ-loop Inv-leaps μ-leaps
+columns-of-requires c κs = search needs
+
+start-requires : tie.Need-start-requires Inv-loop μ-loop Inv-leaps μ-leaps
+start-requires c κs = search needs
+
+leaps-holds : tie.Need-leaps-holds Inv-loop μ-loop Inv-leaps μ-leaps
+unfolding leaps
+leaps-holds c = λ t b. (0, (λ i p l. absurd (not-suc-le-zero l)), b .stand)
+
+loop-holds : tie.Need-loop-holds Inv-loop μ-loop Inv-leaps μ-leaps
+loop-holds c =
+    let k = c .before .before .before in
+    look-begins (table-of (k .before)) (own (k .before) .fit) (stand-of k) (stands k (table-of (k .before)) (own (k .before)))
+
+cast-if2 : tie.Need-cast-if2 Inv-loop μ-loop Inv-leaps μ-leaps
+cast-if2 c = omega (arith, inside c)
+
+mul-if2 : tie.Need-mul-if2 Inv-loop μ-loop Inv-leaps μ-leaps
+mul-if2 c = omega (arith, inside c)
+
+array-read-if2 : tie.Need-array-read-if2 Inv-loop μ-loop Inv-leaps μ-leaps
+array-read-if2 c = omega (arith, inside c)
+
+add-t20 : tie.Need-add-t20 Inv-loop μ-loop Inv-leaps μ-leaps
+add-t20 c = omega (arith, inside (c .before))
+
+sub-rest : tie.Need-sub-rest Inv-loop μ-loop Inv-leaps μ-leaps
+sub-rest c = omega (arith, c .before .loop-test .taken)
+
+loop-less : tie.Need-loop-less Inv-loop μ-loop Inv-leaps μ-leaps
+loop-less c = at-lowest _ _ (c .before .before .loop .rest) (c .before .before .loop .inv) (c .before .loop-test .taken) .falls
+
+loop-again : tie.Need-loop-again Inv-loop μ-loop Inv-leaps μ-leaps
+loop-again c =
+    let n = c .before in
+    let k = n .before .before .before .before .before in
+    look-passes _ _ (n .before .loop .rest) (n .before .loop .inv) (n .loop-test .taken) (omega (arith, left-at n (k .leaps .places), c .if2 .left))
+
+leap-requires : tie.Need-leap-requires Inv-loop μ-loop Inv-leaps μ-leaps
+leap-requires c κs =
+    let a = c .before .before .before in
+    (table-of (a .before .before .before .before .before .before), begins a)
+
+leaps-less : tie.Need-leaps-less Inv-loop μ-loop Inv-leaps μ-leaps
+leaps-less c =
+    let a = c .before .before .before .before in
+    let e = a .before .before .before in
+    omega (arith, e .if1 .left, c .leap .ensures .lands _ (begins a) .next .after)
+
+leaps-again : tie.Need-leaps-again Inv-loop μ-loop Inv-leaps μ-leaps
+unfolding leaps
+leaps-again c =
+    let a = c .before .before .before .before in
+    let k = a .before .before .before .before .before in
+    λ t b.
+    let x = k .leaps .inv t b in
+    let here : (q : ℕ) → ¬ Missed (tableIn t) q (leaps t (x .0) .tick) =
+    λ q. subst (λ (s : Stand). ¬ Missed (tableIn t) q (s .tick)) (x .2) (met a t b q) in (
+      suc (x .0),
+      unmissed-more t (b .fit) (x .0) (x .1) here,
+      c .leap .ensures .value ∙ (ap (λ (n : Numbers). leapt n (stand-of k)) (b .numbers) ∙ ap (leapt (numbersIn t)) (x .2)),
+    )
+
+returns : tie.Need-returns Inv-loop μ-loop Inv-leaps μ-leaps
+returns c =
+    let k = c .before .before in
+    let t = table-of (k .before) in
+    let b = own (k .before) in
+    by-none (tableIn t) (b .fit .sound) _ (λ q u h. stands k t b .met q u (omega (arith, c .if1 .taken)))
+
+returns-2 : tie.Need-returns-2 Inv-loop μ-loop Inv-leaps μ-leaps
+returns-2 c =
+    let n = c .before in
+    let e = n .before .before .before in
+    let k = e .before .before in
+    let t = table-of (k .before) in
+    let b = own (k .before) in
+    by-first (tableIn t) (b .fit .sound) _ (k .leaps .pace .tick) (lowest (n .before .loop .rest) + 1) (e .if1 .left)
+    (look-misses t (b .fit) (stand-of k) (stands k t b) (n .before .loop .rest) (n .before .loop .inv) (n .loop-test .taken)
+    (omega (arith, left-at n (k .leaps .places), c .if2 .taken)))
+
+pub first-miss-spec : {M : Type 1} → statement M
+first-miss-spec =
+    tie.close
+    (tie.spec
+    Inv-loop
+    μ-loop
+    Inv-leaps
+    μ-leaps
+    columns-of-requires
+    start-requires
+    leaps-holds
+    loop-holds
+    cast-if2
+    mul-if2
+    array-read-if2
+    add-t20
+    sub-rest
+    loop-less
+    loop-again
+    leap-requires
+    leaps-less
+    leaps-again
+    returns
+    returns-2)

@@ -1,0 +1,145 @@
+-- `leap::stand::leap` meets its contract, the theorem leap-lands: it leaps as the definitions do, whether places were due or not, and whether the
+-- choice is kept or made anew. Assumes nothing.
+use borrow.Author.Needs.{needs}
+use native.Mathlib.Omega.{arith}
+use mathlib.Core.Logic.{⊎-elim}
+use mathlib.Core.Path.{_≡_, sym, ap, ap₂, _∙_, subst, subst₂}
+use mathlib.Core.Bool.{true}
+use Prim.Native.Nat.{ℕ, _≤_}
+use lib.ListN.{getD}
+use Rattle.model.specs.Search.{bit}
+use Rattle.model.specs.Task.{ruleOf}
+use Rattle.model.specs.Grants.{claimants}
+use Rattle.rule.proofs.Sets.{granted-open}
+use Rattle.full.specs.Machine.{Machine, machineOf}
+use Rattle.full.specs.Stand.{Numbers, numbersBy}
+use Rattle.leap.specs.Stand.{Stand, standAt}
+use Rattle.leap.specs.Leap.{Owing, after, bellAfter, grantedIn, ticksIn, leapt, Lands}
+use Rattle.leap.proofs.Lands.{Goes, goes, leap-lands}
+use Rattle.leap.proofs.Taken.{due-looked, due-skipped, chosen-kept, chosen-anew, ticks-are, leap-taken}
+use Rattle.leap.proofs.stand.leap.Statement.{statement}
+use Rattle.leap.proofs.stand.leap.Tie as tie
+
+-- the table's numbers, and the run where the function begins
+abbrev nums : tie.Start → Numbers
+nums s = numbersBy (s .args .setting) (s .args .width .now) (s .args .times .now)
+
+abbrev stand : tie.Start → Stand
+stand s = standAt (s .args .pace) (s .args .places .now)
+
+going : (s : tie.Start) → Goes (nums s) (stand s)
+going s = goes (s .pre .0) (nums s) (stand s) (s .pre .1)
+
+-- after the due places
+after-of :
+    (c : tie.Joined1)
+    → (machineOf (c .if1 .places) (c .if1 .claiming) ≡ after (nums (c .before .before)) (stand (c .before .before)))
+    × (c .if1 .bell ≡ bellAfter (nums (c .before .before)) (stand (c .before .before)))
+after-of c =
+    let s = c .before .before in
+    ⊎-elim
+    (λ w.
+    let d = due-looked (nums s) (stand s) _ _ (w .0 .taken) (w .2 .ensures) (w .4 .ensures) in
+    (ap₂ machineOf (w .5) (w .6) ∙ d .0, w .7 ∙ d .1))
+    (λ w.
+    let d = due-skipped (nums s) (stand s) (w .0 .left) in
+    (ap₂ machineOf (w .1) (w .2) ∙ d .0, w .3 ∙ d .1))
+    (c .if1 .came)
+
+-- the claimants
+claims-of : (c : tie.Joined1) → c .if1 .claiming ≡ after (nums (c .before .before)) (stand (c .before .before)) .claiming
+claims-of c = ap (λ (m : Machine). m .claiming) (after-of c .0)
+
+-- who is granted cores: kept, or chosen anew
+granted-of : (c : tie.Joined2) → c .if2 .granted ≡ grantedIn (nums (c .before .before .before)) (stand (c .before .before .before))
+granted-of c =
+    let s = c .before .before .before in
+    let j = c .before in
+    ⊎-elim
+    (λ w. w .4 ∙ chosen-anew (nums s) (stand s) (j .if1 .claiming) _ (claims-of j) (w .0 .taken) (w .2 .ok)
+    (λ q. w .2 .ensures q ∙ granted-open (ruleOf (nums s .rule)) (claimants (nums s .widths) (bit (j .if1 .claiming))) _ (nums s .fence) (nums s .cores) (going s .narrow) (w .1 .ensures) q))
+    (λ w. w .2 ∙ chosen-kept (nums s) (stand s) (j .if1 .claiming) (claims-of j) (w .0 .left))
+    (c .if2 .came)
+
+-- and for whom they were chosen
+chosen-of : (c : tie.Joined2) → c .if2 .chosen ≡ after (nums (c .before .before .before)) (stand (c .before .before .before)) .claiming
+chosen-of c =
+    let j = c .before in
+    ⊎-elim (λ w. w .3 ∙ claims-of j) (λ w. w .1 ∙ (sym (w .0 .left) ∙ claims-of j)) (c .if2 .came)
+
+-- how many ticks it takes
+ticks-of :
+    (c : tie.After-shortest)
+    → c .shortest .result ≡ ticksIn (nums (c .before .before .before .before .before .before)) (stand (c .before .before .before .before .before .before))
+ticks-of c =
+    let k = c .before .before .before in
+    let j = k .before in
+    let s = j .before .before in
+    ticks-are (nums s) (stand s) (machineOf (j .if1 .places) (j .if1 .claiming)) (j .if1 .bell) (k .if2 .granted) (c .shortest .result) (after-of j .0) (after-of j .1)
+    (granted-of k) (c .shortest .ensures)
+
+turn-due-requires : tie.Need-turn-due-requires
+turn-due-requires c κs = going (c .before .before .before) .fits
+
+earliest-requires : tie.Need-earliest-requires
+earliest-requires c κs = going (c .before .before .before .before .before) .few
+
+open-cores-requires : tie.Need-open-cores-requires
+open-cores-requires c κs = search needs
+
+choose-requires : tie.Need-choose-requires
+choose-requires c κs = search needs
+
+sub-shortest : tie.Need-sub-shortest
+sub-shortest c =
+    let j = c .before .before in
+    omega (arith, after-of j .1, going (j .before .before) .before)
+
+shortest-requires : tie.Need-shortest-requires
+shortest-requires c κs = search needs
+
+pass-requires : tie.Need-pass-requires
+pass-requires c κs =
+    let h = c .before in
+    let k = h .before .before .before in
+    let j = k .before in
+    let s = j .before .before in
+    let g = going s in
+    subst₂ (λ (x : ℕ) (m : Machine). Owing (h .shortest .result) (bit x) m) (sym (granted-of k)) (sym (after-of j .0))
+    (λ p e. (g .owing p e .0, subst (λ (x : ℕ). x ≤ getD (after (nums s) (stand s) .left) p 0) (sym (ticks-of h)) (g .short .below p e)))
+
+add-landed : tie.Need-add-landed
+add-landed c =
+    let h = c .before .before in
+    let j = h .before .before .before .before in
+    let g = going (j .before .before) in
+    omega (arith, ticks-of h, g .short .within, g .before, after-of j .1)
+
+due-by-requires : tie.Need-due-by-requires
+due-by-requires c κs = going (c .before .before .before .before .before .before .before .before .before) .few
+
+returns : tie.Need-returns
+returns c =
+    let h = c .before .before .before .before in
+    let k = h .before .before .before in
+    let j = k .before in
+    let s = j .before .before in
+    let value =
+    leap-taken (nums s) (stand s) (machineOf (j .if1 .places) (j .if1 .claiming)) _ (j .if1 .bell) (k .if2 .chosen) (k .if2 .granted) (h .shortest .result) (c .due-by .result)
+    (after-of j .0) (after-of j .1) (chosen-of k) (granted-of k) (ticks-of h) (c .before .before .pass .ensures) (c .due-by .ensures) in
+    record { value = value; lands = λ t b. subst (Lands t (stand s)) (sym value) (leap-lands t (nums s) (stand s) b) }
+
+pub leap-spec : {M : Type 1} → statement M
+leap-spec =
+    tie.close
+    (tie.spec
+    turn-due-requires
+    earliest-requires
+    open-cores-requires
+    choose-requires
+    sub-shortest
+    shortest-requires
+    pass-requires
+    add-landed
+    due-by-requires
+    returns)

@@ -1,0 +1,39 @@
+-- `leap::stand::start` meets its contract: the machine is that of crate full before tick 0. Assumes nothing.
+use borrow.Author.Needs.{needs}
+use mathlib.Core.Path.{_≡_, refl, ap, _∙_}
+use mathlib.Core.List.{List, map}
+use Prim.Native.Nat.{ℕ}
+use Rattle.full.specs.Places.{part}
+use Rattle.full.specs.Stand.{Stand}
+use Rattle.full.proofs.Moves.{same-machine}
+use Rattle.leap.specs.Stand.{dueAt, soonest}
+use Rattle.leap.proofs.stand.start.Statement.{statement}
+use Rattle.leap.proofs.stand.start.Tie as tie
+
+start-requires : tie.Need-start-requires
+start-requires c κs = search needs
+
+earliest-requires : tie.Need-earliest-requires
+earliest-requires c κs = search needs
+
+due-places-requires : tie.Need-due-places-requires
+due-places-requires c κs = search needs
+
+returns : tie.Need-returns
+returns c =
+    let t = c .before .before .before .before .before .before .args .table in
+    let made = c .before .before .before .before .before .start in
+    let xs = made .result .places in
+    let moment : part 32 xs ≡ map (λ x. x .offset) (t .tasks) = ap (λ (x : Stand). x .machine .moment) (made .ensures .0) in
+    λ i. record {
+      tick = 0;
+      machine =
+          same-machine {c = 0} {c′ = 0} (ap (λ (x : Stand). x .machine .left) (made .ensures .0)) moment (ap (λ (x : Stand). x .machine .next) (made .ensures .0)) refl i;
+      due = (c .due-places .ensures ∙ ap (dueAt 0 (t .count)) moment) i;
+      bell = (c .before .before .earliest .ensures ∙ ap (soonest (t .count)) moment) i;
+      chosen = 0;
+      granted = 0;
+    }
+
+pub start-spec : {M : Type 1} → statement M
+start-spec = tie.close (tie.spec start-requires earliest-requires due-places-requires returns)

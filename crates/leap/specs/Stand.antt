@@ -1,0 +1,103 @@
+-- A run that leaps, as it stands at a tick, and what its numbers say of the book.
+-- Its machine is that of crate full, but the moment of a place is the next tick at which a job of it is released or is due, ended or not.
+use mathlib.Core.Path.{_≡_}
+use mathlib.Core.Bool.{Bool, false, _&&_, cond}
+use mathlib.Core.List.{List, map}
+use mathlib.Core.Logic.{_⊎_}
+use Prim.Native.Nat.{ℕ, zero, suc, _≤_, _<_, min}
+use lib.Dec.{eqb, ltb}
+use lib.ListN.{length, getD}
+use Rattle.model.specs.Search.{bit}
+use Rattle.model.specs.Sizes.{mostTasks}
+use Rattle.model.specs.Task.{Task, Table, task, release, due}
+use Rattle.model.specs.Book.{Job, full, Missed}
+use Rattle.table.specs.declared.Loaded.{Loaded}
+use Rattle.full.specs.Places.{setOf}
+use Rattle.full.specs.Machine.{Machine, machineOf, started, Sized}
+use Rattle.full.specs.Standing.{TiedAt}
+use Rattle.full.specs.Stand.{numbersIn, choice}
+use Rattle.judge.specs.Judged.{tableIn}
+use Rattle.leap.specs.declared.stand.Pace.{Pace}
+
+-- the machine; the set of the places whose moment this tick is; the bell, the earliest moment of all; the claimants that the choice is kept for, and
+-- who is granted cores by it
+pub record Stand : Type 0 where
+  pub tick : ℕ
+  pub machine : Machine
+  pub due : ℕ
+  pub bell : ℕ
+  pub chosen : ℕ
+  pub granted : ℕ
+
+-- .. as code has it: a pace, and the numbers of the places in one list
+abbrev pub standAt : Pace → List ℕ → Stand
+standAt p places = record {
+  tick = p .tick;
+  machine = machineOf places (p .claiming);
+  due = p .due;
+  bell = p .bell;
+  chosen = p .chosen;
+  granted = p .granted;
+}
+
+-- the set of those of the first n places whose moment is t
+unfoldable pub dueAt : ℕ → ℕ → List ℕ → ℕ
+dueAt t n moments = setOf mostTasks (λ p. ltb p n && eqb (getD moments p 0) t)
+
+-- the earliest moment of the first n places, n at least 1
+unfoldable pub soonest : ℕ → List ℕ → ℕ
+soonest zero moments = getD moments 0 0
+soonest (suc n) moments = min (soonest n moments) (getD moments n 0)
+
+-- before tick 0: nobody claims or is granted cores, and each task waits for its first release
+abbrev pub begun : Loaded → Stand
+begun t = record {
+  tick = 0;
+  machine = started (map (λ x. x .offset) (t .tasks));
+  due = dueAt 0 (t .count) (map (λ x. x .offset) (t .tasks));
+  bell = soonest (t .count) (map (λ x. x .offset) (t .tasks));
+  chosen = 0;
+  granted = 0;
+}
+
+-- WHAT THE NUMBERS SAY. `seen` is the tick where its due moments have not been looked at yet, and one more where they have
+
+-- a job of the task is released at u, or is due at u
+abbrev pub Marked : Task → ℕ → Type 0
+Marked τ u = (k : ℕ) × ((release τ k ≡ u) ⊎ (due τ k ≡ u))
+
+-- m is the first tick from `seen` on that is marked, and n is no later than any release from `seen` on
+pub record Ahead (τ : Task) (seen m n : ℕ) : Type 0 where
+  pub from : seen ≤ m
+  pub marked : Marked τ m
+  pub first : (u : ℕ) → seen ≤ u → Marked τ u → m ≤ u
+  pub next : (k : ℕ) → seen ≤ release τ k → n ≤ release τ k
+
+-- a place: l ticks are left, m is its moment, n its next release, c says whether it claims. While it claims its moment is the deadline of the job that
+-- it works on, which has had what is not left; else every job released so far has ended
+pub record StandsAt (τ : Task) (seen : ℕ) (js : ℕ → Job) (l m n : ℕ) (c : Bool) : Type 0 where
+  pub tied : TiedAt τ seen js l (cond c m n) n c
+  pub ahead : Ahead τ seen m n
+
+-- place p of the machine at tick t
+abbrev pub PlaceStands : Table → ℕ → ℕ → Machine → ℕ → Type 0
+PlaceStands s t seen m p =
+    StandsAt (task s p) seen (full s t .job p) (getD (m .left) p 0) (getD (m .moment) p 0) (getD (m .next) p 0) (bit (m .claiming) p)
+
+-- every place, and past them none claims
+pub record Standing (s : Table) (t seen : ℕ) (m : Machine) : Type 0 where
+  pub sized : Sized m
+  pub places : (p : ℕ) → p < length (s .tasks) → PlaceStands s t seen m p
+  pub beyond : (p : ℕ) → length (s .tasks) ≤ p → bit (m .claiming) p ≡ false
+
+-- no deadline is missed before tick u
+abbrev pub MetBefore : Table → ℕ → Type 0
+MetBefore s u = (p w : ℕ) → w < u → ¬ Missed s p w
+
+-- a run stands as the full-length run of table t does at its tick, and no deadline was missed before
+pub record Stands (t : Loaded) (s : Stand) : Type 0 where
+  pub machines : Standing (tableIn t) (s .tick) (s .tick) (s .machine)
+  pub dues : s .due ≡ dueAt (s .tick) (t .count) (s .machine .moment)
+  pub rings : s .bell ≡ soonest (t .count) (s .machine .moment)
+  pub kept : s .granted ≡ choice (numbersIn t) (s .chosen)
+  pub met : MetBefore (tableIn t) (s .tick)
