@@ -6,7 +6,7 @@ mod header; // header.rt: numbers 1, 2, 3, 19 and 4
 mod chain; // chain.rt: the walk along the chain, numbers 5 and 6
 mod checks; // checks.rt: numbers 7 to 9, and what passes
 mod start; // start.rt: S of a position from the S before it
-mod starts; // starts.rt: the walk along the positions, the last S
+mod positions; // positions.rt: the walk along the positions that finds the last S
 mod hyperperiod; // hyperperiod.rt: P, the least common multiple of the periods
 
 use chain::Ending;
