@@ -27,7 +27,8 @@ extern "C" {
 #define SIVORANDRA_ROW_REFUSED 4u /* the last row of a replay: number and position */
 #define SIVORANDRA_NO_SENTENCE 5u /* from sivorandra_facts: 0 and 0 */
 
-/* The words of a table in front of its records: head, cores, rule, and the fence, the set of cores that no task has, its low word first. */
+/* The words of a table in front of its records: head, cores, rule, and the fence, the set of cores that no task has,
+   its low word first: bit c of the low word is core c, bit c of the high word core 32 + c. */
 #define SIVORANDRA_TABLE_HEAD_WORDS 5
 #define SIVORANDRA_TABLE_RECORD_WORDS 6
 
@@ -78,8 +79,8 @@ uint32_t sivorandra_start(const uint32_t *words, size_t words_len,
                           uint32_t *answer, size_t answer_len);
 
 /* The row of the present tick: done or refused. Taken or refused, it writes all 64 bytes of the row that is returned: bytes past the
-   core count are 0, and a refused row is 64 zeros, on fenced cores too. Words that are no run are refused with 14: too few, a count above 32, or no phase
-   in a place below the count. Places past the count are not read. */
+   core count are 0, and a refused row is 64 zeros, on fenced cores too. Words that are no run are refused with 14: too few, a count above
+   32, or no phase in a place below the count. Places past the count are not read. */
 uint32_t sivorandra_row(const uint32_t *run, size_t run_len,
                         uint8_t *row, size_t row_len,
                         uint32_t *answer, size_t answer_len);

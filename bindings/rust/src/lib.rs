@@ -7,7 +7,8 @@
 pub const ROW_BYTES: usize = 64;
 /// What a row has on a fenced core.
 pub const FENCED: u8 = 255;
-/// The words of a table in front of its records: head, cores, rule, and the fence, the set of cores that no task has, its low word first.
+/// The words of a table in front of its records: head, cores, rule, and the fence, the set of cores that no task has, its low word first:
+/// bit c of the low word is core c, bit c of the high word core 32 + c.
 pub const TABLE_HEAD_WORDS: usize = 5;
 /// The words of a record: next, O, v, C, D, T.
 pub const TABLE_RECORD_WORDS: usize = 6;

@@ -93,7 +93,7 @@ behind zero n bs = let e : 0 + n ≡ n = omega arith in ap (λ (m : ℕ). take m
 behind (suc k) n [] = ap (drop (suc k)) (take-nil (suc k + n)) ∙ sym (take-nil n)
 behind (suc k) n (b ∷ bs) = let e : suc k + n ≡ suc (k + n) = omega arith in ap (λ (m : ℕ). drop (suc k) (take m (b ∷ bs))) e ∙ behind k n bs
 
--- THEOREM (asked-enough): the first 2,150 bytes of an input decide all that is printed for it
+-- THEOREM (asked-enough): the first 2,172 bytes of an input decide all that is printed for it
 pub asked-enough : (bs : List ℕ) → asked (take enoughAsked bs) ≡ asked bs
 unfolding asked
 asked-enough bs =

@@ -2,14 +2,15 @@
 -- and what a buffer holds whose words past the count, or at the count, are all ones.
 use mathlib.Core.Path.{_≡_, refl}
 use mathlib.Core.List.{List, [], _∷_, _++_}
-use Prim.Native.Nat.{ℕ, _+_, _*_, _-_, _^_}
+use Prim.Native.Nat.{ℕ, zero, suc, _+_, _*_, _-_, _^_}
 use lib.ListN.{replicate}
 use Rattle.phase.specs.declared.Phase.{Phase}
 use Rattle.phase.specs.declared.Phase.the-variants.{Coming, Working, Holding, Resting}
 use Rattle.phase.specs.declared.Task.{Task}
 use Rattle.phase.specs.Task.{unused}
 use Rattle.run.specs.declared.Run.{Run}
-use Rattle.capi.specs.Encoding.{placesWords, encodeTo, arePlaces, placesIn, holds, runIn, run, none, decode}
+use Rattle.run.specs.Start.{emptyRun}
+use Rattle.capi.specs.Encoding.{placesWords, encodeTo, encode, arePlaces, placesIn, holds, runIn, run, none, decode}
 
 -- a task of five numbers in a phase
 abbrev task : ℕ → ℕ → ℕ → ℕ → ℕ → Phase → Task
@@ -54,6 +55,15 @@ unused-layout = refl
 pub all-fenced : runIn (1 ∷ (64 ∷ (0 ∷ (ones ∷ (ones ∷ []))))) .fence ≡ 2 ^ 64 - 1
 unfolding runIn
 all-fenced = refl
+
+-- the run of a refused start: zeros, and Resting(0) in every place
+abbrev unused-words : ℕ → List ℕ
+unused-words zero = []
+unused-words (suc n) = 0 ∷ (0 ∷ (0 ∷ (0 ∷ (0 ∷ (3 ∷ (0 ∷ (0 ∷ unused-words n)))))))
+
+pub refused-layout : encode emptyRun ≡ 0 ∷ (0 ∷ (0 ∷ (0 ∷ (0 ∷ unused-words 32))))
+unfolding encodeTo placesWords
+refused-layout = refl
 
 -- all ones past the count are not read
 pub ones-past : decode (four-words ++ replicate 224 ones) ≡ run four

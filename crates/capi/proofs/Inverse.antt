@@ -17,11 +17,12 @@ use Rattle.phase.specs.declared.Phase.the-variants.{Coming, Working, Holding, R
 use Rattle.phase.specs.declared.Task.{Task}
 use Rattle.phase.specs.Task.{unused}
 use Rattle.run.specs.declared.Run.{Run}
+use Rattle.model.specs.Sizes.{mostWord}
 use Rattle.run.specs.Numbers.{RunOut}
 use Rattle.table.specs.Words.{fenceOf}
 use Rattle.capi.specs.declared.told.Told.{Told}
 use Rattle.capi.specs.Told.{says}
-use Rattle.capi.specs.Encoding.{headWords, eachWords, kindAt, firstAt, secondAt, places, wordsTo, runWords, ofPhase, placeWith, placeWords, placesWords, countWord, lowWord, highWord, fenceIn, Words, encodeTo, encode, overwritten, phaseOf, isPhase, placeIn, isPlace, placesIn, arePlaces, countIn, holds, padded, runIn, run, none, decode, cleared}
+use Rattle.capi.specs.Encoding.{headWords, eachWords, kindAt, firstAt, secondAt, places, wordsTo, runWords, ofPhase, placeWith, placeWords, placesWords, countWord, lowWord, highWord, fenceIn, encodeTo, encode, overwritten, phaseOf, isPhase, placeIn, isPlace, placesIn, arePlaces, countIn, holds, padded, runIn, run, none, decode, cleared}
 use Rattle.capi.proofs.Places.{length-words, length-read, by-held, held-long, held-few, held-places}
 
 -- WHAT IS ENCODED IS DECODED
@@ -153,7 +154,7 @@ places-forth (suc n) ws h e =
     ∙ (ap (λ (l : List ℕ). placeWords (placeIn ws) ++ l) rest
     ∙ place-forth ws (omega arith) (and-left (isPlace ws) (arePlaces n (drop eachWords ws)) e)))
 
-words-back : (ws : List ℕ) → Words ws → holds ws ≡ true → overwritten (runIn ws .count) (runIn ws) ws ≡ ws
+words-back : (ws : List ℕ) → getD ws 3 0 ≤ mostWord → holds ws ≡ true → overwritten (runIn ws .count) (runIn ws) ws ≡ ws
 unfolding encodeTo runIn
 words-back ws narrow e =
     let n = countIn ws in
@@ -163,8 +164,8 @@ words-back ws narrow e =
     let d = length-drop headWords ws in
     let counted : countWord n ≡ n = ap (λ (t : Bool). cond t n 33) (le-leb n places few) in
     let used : take n (padded n read) ≡ read = take-at read (replicate (places - n) unused) n (length-read n (drop headWords ws)) in
-    let low : lowWord (fenceIn ws) ≡ getD ws 3 0 = omega (arith, narrow 3) in
-    let high : highWord (fenceIn ws) ≡ getD ws 4 0 = omega (arith, narrow 3) in
+    let low : lowWord (fenceIn ws) ≡ getD ws 3 0 = omega (arith, narrow) in
+    let high : highWord (fenceIn ws) ≡ getD ws 4 0 = omega (arith, narrow) in
     (λ i. getD ws 0 0 ∷ (getD ws 1 0 ∷ (counted i ∷ (low i ∷ (high i ∷ (placesWords (used i) ++ drop (wordsTo n) ws))))))
     ∙ (ap (λ (l : List ℕ). getD ws 0 0 ∷ (getD ws 1 0 ∷ (n ∷ (getD ws 3 0 ∷ (getD ws 4 0 ∷ (placesWords read ++ l)))))) (sym (drop-drop (eachWords * n) headWords ws))
     ∙ (ap (λ (l : List ℕ). getD ws 0 0 ∷ (getD ws 1 0 ∷ (n ∷ (getD ws 3 0 ∷ (getD ws 4 0 ∷ l))))) (places-forth n (drop headWords ws) (omega arith) (held-places ws e))
@@ -187,8 +188,8 @@ held-run ws r e = go (holds ws) refl
         let same : none ≡ run r = sym (by-held ws h) ∙ e in
         absurd (let z : _≡_ {A = ℕ} 0 1 = cc in omega arith)
 
--- to encode it again changes no word, in a buffer of words, which is what is lent
-pub encode-decode : (ws : List ℕ) → Words ws → (r : Run) → decode ws ≡ run r → overwritten (r .count) r ws ≡ ws
+-- to encode it again changes no word, where the fence's low number is a word, as it is in every lent buffer
+pub encode-decode : (ws : List ℕ) → getD ws 3 0 ≤ mostWord → (r : Run) → decode ws ≡ run r → overwritten (r .count) r ws ≡ ws
 encode-decode ws narrow r e =
     let h = held-run ws r e in
     ap (λ (q : Run). overwritten (q .count) q ws) (sym (h .1)) ∙ words-back ws narrow (h .0)

@@ -1,7 +1,7 @@
 -- A run in a lent buffer: rule, cores, count and the fence in two words, then eight words for each of the 32 places. What stands past the count is not looked at.
 use mathlib.Core.Bool.{Bool, true, _&&_, _||_, cond}
 use mathlib.Core.List.{List, [], _∷_, _++_}
-use Prim.Native.Nat.{ℕ, zero, suc, _+_, _*_, _-_, _/_, _%_, _^_, _≤_}
+use Prim.Native.Nat.{ℕ, zero, suc, _+_, _*_, _-_, _/_, _%_, _^_}
 use lib.ListN.{length, getD, take, drop, replicate}
 use lib.Dec.{leb, eqb}
 use Rattle.phase.specs.declared.Phase.{Phase}
@@ -12,7 +12,7 @@ use Rattle.run.specs.declared.Run.{Run}
 use Rattle.table.specs.Words.{fenceOf}
 use Rattle.capi.specs.declared.told.Told.{Told}
 use Rattle.capi.specs.Told.{says}
-use Rattle.model.specs.Sizes.{mostTasks, mostWord}
+use Rattle.model.specs.Sizes.{mostTasks}
 
 -- THE SIZES
 
@@ -147,10 +147,6 @@ fenceIn ws = fenceOf (getD ws 3 0) (getD ws 4 0)
 -- the run that stands in front of the buffer
 unfoldable pub runIn : List ℕ → Run
 runIn ws = record { rule = getD ws 0 0; cores = getD ws 1 0; fence = fenceIn ws; count = countIn ws; tasks = padded (countIn ws) (placesIn (countIn ws) (drop headWords ws)) }
-
--- a buffer of words: each of its numbers has at most 32 binary digits
-abbrev pub Words : List ℕ → Type 0
-Words ws = (i : ℕ) → getD ws i 0 ≤ mostWord
 
 -- what a buffer holds
 pub data Held : Type 0 where

@@ -1,10 +1,11 @@
--- The lines of the scope's table of examples that are marked *, and lines of our own for what those leave open (16, two positions late at once), computed from the definitions.
+-- The lines of the scope's table of examples that are marked *, and lines of our own for what those leave open (16, two positions late at once, tables with a fence), computed from the definitions.
 -- A line's advances go on where start would refuse the table by 13 (A2, F): the book of a list is defined for every table.
 use mathlib.Core.Bool.{false, true}
 use mathlib.Core.List.{List, [], map, _∷_}
 use mathlib.Core.Path.{refl, _≡_}
 use Prim.Native.Nat.{ℕ}
 use Rattle.model.specs.Book.{Answer, Asked, answer, answersFrom, asked, claims, emptyBook, enter, fresh, full, late, misreported, refused, reportable, rowRefused, rowsFrom, served, shown, step, taken, takenFrom, takenOf, work}
+use Rattle.model.specs.Fence.{justOpen, spread}
 use Rattle.model.specs.Grants.{claimants, given, grants, left}
 use Rattle.model.specs.Horizon.{S, horizon, hyperperiod, lcm}
 use Rattle.model.specs.Row.{owner, row}
@@ -110,6 +111,23 @@ lines =
 pub examples : map worked lines ≡ lines
 unfolding verdict firstMiss missedIn missedAt firm rising horizon S hyperperiod lcm least any memb upFrom kept owner row given left grants claimants claims served work step late reportable misreported answer asked enter answersFrom rowsFrom full
 examples = refl
+
+-- A on five cores with that fence is A with just its unfenced cores, and its rows are A's spread over them; with no fence a table is itself
+pub just-open : justOpen (fencedOn 5 9 greedy (A greedy .tasks)) ≡ A greedy
+unfolding kept upFrom
+just-open = refl
+
+pub just-all : justOpen (A limited) ≡ A limited
+unfolding kept upFrom
+just-all = refl
+
+pub spread-row : spread 9 5 (1 ∷ 1 ∷ 3 ∷ []) ≡ 255 ∷ 1 ∷ 1 ∷ 255 ∷ 3 ∷ []
+unfolding spread kept upFrom
+spread-row = refl
+
+pub spread-none : spread 0 3 (1 ∷ 1 ∷ 3 ∷ []) ≡ 1 ∷ 1 ∷ 3 ∷ []
+unfolding spread kept upFrom
+spread-none = refl
 
 -- a job released at 1 with D 3 claims in ticks 1, 2 and 3, and not when it is due at 4 or later
 pub window : map (λ n. claims greedy (t 1 1 5 3 5) 0 n fresh) (upFrom 0 6) ≡ false ∷ true ∷ true ∷ true ∷ false ∷ false ∷ []

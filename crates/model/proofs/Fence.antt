@@ -5,84 +5,22 @@ use mathlib.Core.Path.{ap, ap₂, fun-ext, refl, sym, _∙_, _≡_}
 use Prim.Native.Nat.{_+_, _<_, suc, zero, ℕ, _≤_}
 use native.Mathlib.Nat.{add-zero, le-dest, not-suc-le-zero, zero-add}
 use native.Mathlib.Omega.{arith}
-use lib.Dec.{eqb, ltb}
-use lib.ListN.{List·getD-map, drop, getD, length, length-append, length-map, take}
+use lib.Dec.{ltb}
+use lib.ListN.{getD, length, length-append, length-map}
 use lib.Seq.{ext-getD, getD-append-seam}
-use borrow.Author.Tests.{eq-eqb, eqb-true, lt-ltb, ltb-true}
-use Rattle.model.proofs.Bools.{same-test}
+use borrow.Author.Tests.{lt-ltb, ltb-true}
 use Rattle.model.proofs.Digits.{bit-none}
-use Rattle.model.proofs.Lists.{map-at, take-map, up-at, up-length}
+use Rattle.model.proofs.Lists.{map-at, up-at, up-length}
+use Rattle.model.proofs.Renumbered.{at-map, grants-map, owner-map, some-map}
 use Rattle.model.proofs.Search.{any-same}
 use Rattle.model.specs.Book.{Answer, Book, answer, answersFrom, book, bookFrom, emptyBook, enter, full, grantsOf, inRow, late, misreported, none, reportable, rowOf, served, step, taskClaims, widths, work}
 use Rattle.model.specs.Fence.{justOpen, openCores, outside, spread, unfenced}
-use Rattle.model.specs.Grants.{Claimant, claimants, endsChoosing, fits, given, grants, left, some}
+use Rattle.model.specs.Grants.{claimants, grants, some}
 use Rattle.model.specs.Horizon.{horizon}
 use Rattle.model.specs.Row.{byteOf, owner, row}
-use Rattle.model.specs.Search.{bit, kept, keptIf, memb, upFrom}
-use Rattle.model.specs.Task.{Rule, Table, newest, task}
+use Rattle.model.specs.Search.{bit, kept, keptIf, upFrom}
+use Rattle.model.specs.Task.{Table, newest, task}
 use Rattle.model.specs.Verdict.{firstMiss, missedAt, missedIn, verdict}
-
--- CORES BY OTHER NUMBERS: nothing looks at which numbers the cores have
-
-module _ (f : ℕ → ℕ) where
-  some-map : (l : List ℕ) → some (map f l) ≡ some l
-  some-map [] = refl
-  some-map (c ∷ l) = refl
-
-  take-with : (n : ℕ) (l : List ℕ) → take n (map f l) ≡ map f (take n l)
-  take-with n l = take-map f n l
-
-  drop-with : (n : ℕ) (l : List ℕ) → drop n (map f l) ≡ map f (drop n l)
-  drop-with zero l = refl
-  drop-with (suc n) [] = refl
-  drop-with (suc n) (c ∷ l) = drop-with n l
-
-  append-with : (g h : List ℕ) → map f (g ++ h) ≡ map f g ++ map f h
-  append-with [] h = refl
-  append-with (c ∷ g) h = ap {B = List ℕ} (λ l. f c ∷ l) (append-with g h)
-
-  given-map : (b : Claimant) (F : List ℕ) → given b (map f F) ≡ map f (given b F)
-  unfolding given
-  given-map b F = rw (length-map F f) (go (fits b F))
-    where
-      go : (t : Bool) → cond {A = List ℕ} t (take (b .width) (map f F)) [] ≡ map f (cond {A = List ℕ} t (take (b .width) F) [])
-      go true = take-with (b .width) F
-      go false = refl
-
-  left-map : (r : Rule) (b : Claimant) (F : List ℕ) → left r b (map f F) ≡ map f (left r b F)
-  unfolding left
-  left-map r b F = rw (length-map F f) (go (fits b F) (b .claims && endsChoosing r))
-    where
-      go : (t u : Bool) → cond {A = List ℕ} t (drop (b .width) (map f F)) (cond u [] (map f F)) ≡ map f (cond {A = List ℕ} t (drop (b .width) F) (cond u [] F))
-      go true u = drop-with (b .width) F
-      go false true = refl
-      go false false = refl
-
-  grants-map : (r : Rule) (bs : List Claimant) (F : List ℕ) → grants r bs (map f F) ≡ map (map f) (grants r bs F)
-  unfolding grants
-  grants-map r [] F = refl
-  grants-map r (b ∷ bs) F = rw (given-map b F, left-map r b F, grants-map r bs (left r b F))
-
-  at-map : (gs : List (List ℕ)) (q : ℕ) → getD (map (map f) gs) q [] ≡ map f (getD gs q [])
-  at-map gs q = List·getD-map (map f) gs q []
-
-  -- where no two cores get one number, the rows are the same too
-  module _ (apart : (i j : ℕ) → f i ≡ f j → i ≡ j) where
-    eqb-map : (i j : ℕ) → eqb (f i) (f j) ≡ eqb i j
-    eqb-map i j =
-        same-test (eqb (f i) (f j)) (eqb i j)
-        (λ e. eq-eqb i j (apart i j (eqb-true (f i) (f j) e)))
-        (λ e. eq-eqb (f i) (f j) (ap f (eqb-true i j e)))
-
-    memb-map : (c : ℕ) (l : List ℕ) → memb (f c) (map f l) ≡ memb c l
-    unfolding memb
-    memb-map c [] = refl
-    memb-map c (x ∷ l) = rw (eqb-map c x, memb-map c l)
-
-    owner-map : (c p : ℕ) (gs : List (List ℕ)) → owner (f c) p (map (map f) gs) ≡ owner c p gs
-    unfolding owner
-    owner-map c p [] = refl
-    owner-map c p (g ∷ gs) = rw (memb-map c g, owner-map c (suc p) gs)
 
 -- THE UNFENCED CORES
 

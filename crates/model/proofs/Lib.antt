@@ -18,4 +18,5 @@ pub mod Idling
 pub mod Local
 pub mod Faithful
 pub mod Verdict
+pub mod Renumbered
 pub mod Fence

@@ -23,7 +23,7 @@ SameReports n [] (y ∷ ys) = ⊥
 SameReports n (x ∷ xs) [] = ⊥
 SameReports n (x ∷ xs) (y ∷ ys) = ((q : ℕ) → q < n → bit x q ≡ bit y q) × SameReports n xs ys
 
--- a row as positions 1 to n see it: the bytes of positions below them, and of fenced cores, read 0
+-- a row as positions 1 to n see it: the bytes of positions below them, and of fenced cores, read 0 (n is below 255)
 abbrev pub upTo : ℕ → ℕ → ℕ
 upTo n byte = cond (leb byte n) byte 0
 

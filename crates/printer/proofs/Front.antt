@@ -1,4 +1,4 @@
--- The front of an input is enough: the pieces of the printer that is made from its first 2,146 bytes are what is printed for the whole of it.
+-- The front of an input is enough: the pieces of the printer that is made from its first 2,168 bytes are what is printed for the whole of it.
 -- It joins `output-enough` of the text with the law over the pieces.
 use mathlib.Core.List.{List}
 use mathlib.Core.Path.{_∙_}

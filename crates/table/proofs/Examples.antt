@@ -13,6 +13,7 @@ use Rattle.table.specs.declared.Loaded.{Loaded}
 use Rattle.table.specs.Words.{met, count, chain, tableOf}
 use Rattle.table.specs.Answer.{headerNumber, lastStep, endingOf, firstOut, byHorizon, byTasks, byWalk, answerOf}
 use Rattle.table.specs.Load.{places, refusal, loadOf}
+use Rattle.table.specs.Bare.{bared}
 
 -- a line: the words of a table, and what `load` gives of them
 pub record Line : Type 0 where
@@ -209,6 +210,14 @@ descending (suc n) o = t o 1 1 1 1000000 ∷ descending n (o - 1)
 pub largest-S : lastS (descending 32 1000000) ≡ 31999969
 unfolding S
 largest-S = refl
+-- the words with just the unfenced cores: three of five, and core 32 of 33
+pub bare-words : bared (fenced 1 5 1 9 0 ++ entry 0 0 3 1 1 1) ≡ header 1 3 1 ++ entry 0 0 3 1 1 1
+unfolding bared kept upFrom
+bare-words = refl
+
+pub bare-last : bared (fenced 1 33 2 4294967295 0 ++ entry 0 0 1 1 1 1) ≡ header 1 1 2 ++ entry 0 0 1 1 1 1
+unfolding bared kept upFrom
+bare-last = refl
 
 -- every line is what the definitions say
 pub examples : map worked lines ≡ lines

@@ -9,7 +9,7 @@ use Rattle.table.specs.Limits.{From, from, WidthOut, TimesOut, taskOut, 
 use Rattle.table.proofs.Decide.{stable, fails}
 use Rattle.table.proofs.Tests.{from-decides, task-decides}
 
--- v 1 to the core count; O 0 to 1,000,000; C and T 1 to 1,000,000; D 1 to T
+-- v 1 to the number m of unfenced cores; O 0 to 1,000,000; C and T 1 to 1,000,000; D 1 to T
 pub record Inside (m : ℕ) (τ : Task) : Type 0 where
   pub width-from : From 1 m (τ .width)
   pub offset-most : τ .offset ≤ mostTime

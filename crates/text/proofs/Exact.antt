@@ -109,11 +109,11 @@ lines-short none = omega arith
 lines-short (last {l} n) = omega (arith, n .short)
 lines-short (line {l} {bs} n t) = let ih = lines-short t in omega (arith, n .short, length-append l (newline ∷ bs))
 
--- more than 2,145 bytes are no table's text
+-- more than 2,167 bytes are no table's text
 pub long-refused : (bs : List ℕ) → mostBytes < length bs → wordsOf bs ≡ noText
 long-refused bs h = no-text-exact bs .1 (λ ws x. let s = lines-short (x .lines) in let m = x .most in omega arith)
 
--- so the first 2,146 bytes of an input are enough
+-- so the first 2,168 bytes of an input are enough
 pub first-enough : (bs : List ℕ) (k : ℕ) → mostBytes < k → wordsOf (take k bs) ≡ wordsOf bs
 first-enough bs k h = go (leb (length bs) k) refl
   where

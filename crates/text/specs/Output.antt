@@ -49,7 +49,7 @@ firstLine (judged (Full s p)) = lineOf (letters "full") (s ∷ p ∷ [])
 firstLine (judged (Miss t p)) = lineOf (letters "miss") (t ∷ p ∷ [])
 firstLine (refused n p) = lineOf (letters "refused") (n ∷ p ∷ [])
 
--- a row: the tick and the cores' positions
+-- a row: the tick and the cores' bytes: positions, 0 where idle, 255 where fenced
 unfoldable pub rowLine : ℕ → List ℕ → List ℕ
 rowLine t cores = lineOf (decimal t) cores
 
