@@ -1,12 +1,13 @@
 -- Tables in words, computed from the definitions: example A, what each number turns down, and each limit of 2, 3, 19, 7 and 8 from both sides.
 use mathlib.Core.Path.{_≡_, refl}
 use mathlib.Core.List.{List, [], _∷_, map, _++_}
-use Prim.Native.Nat.{ℕ, suc, _+_, _*_, _^_}
+use Prim.Native.Nat.{ℕ, zero, suc, _+_, _-_, _*_, _/_, _^_}
 use lib.ListN.{length, replicate}
 use Rattle.model.specs.Search.{any, kept, least, upFrom}
 use Rattle.model.specs.Task.{Task, Table, greedy}
-use Rattle.model.specs.Horizon.{S, lcm, hyperperiod, horizon}
+use Rattle.model.specs.Horizon.{S, lastS, lcm, hyperperiod, horizon, releaseFrom}
 use Rattle.model.proofs.Examples.{t, on, A}
+use Rattle.table.proofs.Starts.{since}
 use Rattle.table.specs.declared.Answer.the-variants.{Passed}
 use Rattle.table.specs.declared.Loaded.{Loaded}
 use Rattle.table.specs.Words.{met, count, chain, tableOf}
@@ -161,6 +162,57 @@ lines =
     ∷ line (header 1 1 1 ++ chained 0 1 (low ++ high)) (refusal 9 0)
     ∷ []
 
+-- S BY ARITHMETIC, on both sides of what could be a fork
+
+-- a task of this offset and period, and the tick from which a release is asked for
+pub record Asked : Type 0 where
+  pub offset : ℕ
+  pub period : ℕ
+  pub tick : ℕ
+
+abbrev asked : ℕ → ℕ → ℕ → Asked
+asked o p u = record { offset = o; period = p; tick = u }
+
+abbrev pub releases : List Asked
+releases =
+    -- offset 7, period 5: the tick below, one below, at and one above the offset; one before, at and one after the next release
+    asked 7 5 0 ∷ asked 7 5 6 ∷ asked 7 5 7 ∷ asked 7 5 8 ∷ asked 7 5 11 ∷ asked 7 5 12 ∷ asked 7 5 13
+    -- offset 0; period 1; both
+    ∷ asked 0 5 0 ∷ asked 0 5 1 ∷ asked 0 5 5 ∷ asked 7 1 6 ∷ asked 7 1 7 ∷ asked 7 1 8 ∷ asked 0 1 31999969
+    -- the largest offset and period, at a release and around it, and from the largest tick that is asked for
+    ∷ asked 1000000 1000000 0 ∷ asked 1000000 1000000 999999 ∷ asked 1000000 1000000 1000000 ∷ asked 1000000 1000000 1000001
+    ∷ asked 1000000 1000000 31999999 ∷ asked 1000000 1000000 32000000 ∷ asked 0 1000000 31000001
+    ∷ []
+
+-- the definition's value, and that of the arithmetic
+abbrev defined : Asked → ℕ
+defined a = releaseFrom (t (a .offset) 1 1 1 (a .period)) (a .tick)
+
+abbrev counted : Asked → ℕ
+counted a = a .offset + (since (a .tick) (a .offset) + (a .period - 1)) / a .period * a .period
+
+abbrev pub answers : List ℕ
+answers =
+    7 ∷ 7 ∷ 7 ∷ 12 ∷ 12 ∷ 12 ∷ 17
+    ∷ 0 ∷ 5 ∷ 5 ∷ 7 ∷ 7 ∷ 8 ∷ 31999969
+    ∷ 1000000 ∷ 1000000 ∷ 1000000 ∷ 2000000
+    ∷ 32000000 ∷ 32000000 ∷ 32000000
+    ∷ []
+
+pub releases-defined : map defined releases ≡ answers
+releases-defined = refl
+
+pub releases-counted : map counted releases ≡ answers
+releases-counted = refl
+
+-- S at its largest: 32 tasks of period 1,000,000, each with an offset one below the one above it
+abbrev descending : ℕ → ℕ → List Task
+descending zero o = []
+descending (suc n) o = t o 1 1 1 1000000 ∷ descending n (o - 1)
+
+pub largest-S : lastS (descending 32 1000000) ≡ 31999969
+unfolding S
+largest-S = refl
 -- the words with just the unfenced cores: three of five, and core 32 of 33
 pub bare-words : bared (fenced 1 5 1 9 0 ++ entry 0 0 3 1 1 1) ≡ header 1 3 1 ++ entry 0 0 3 1 1 1
 unfolding bared kept upFrom

@@ -43,7 +43,7 @@ fn by_horizon(cores: u32, fence: u64, rule: u32, tasks: [Task; MOST_TASKS], coun
     requires { ⌜ 1 ≤ count ⌝ ∗ ⌜ count ≤ mostTasks ⌝ ∗ ⌜ InLimits tasks count ⌝ ∗ ⌜ tasks ≡ places (tasksOf tasks count) ⌝ }
     ensures { λ r. ⌜ r ≡ loadedBy (byHorizon (tableWith cores fence rule (tasksOf tasks count))) (passing rule (tableWith cores fence rule (tasksOf tasks count))) ⌝ }
 {
-    let start = crate::start::last_start(tasks, count);
+    let start = crate::positions::last_start(tasks, count);
     let period = crate::hyperperiod::hyperperiod(tasks, count);
     if horizon_out(start, period) {
         return refused(9, 0);

@@ -1,4 +1,4 @@
--- `table::start::last_start` meets its contract. The loop's invariant: `start` is S of the place before i.
+-- `table::positions::last_start` meets its contract. The loop's invariant: `start` is S of the place before i.
 -- No step wraps, since S grows by less than a period a place (`S-bound`). Assumes nothing.
 use Prim.Native.Nat.{_≤_, _-_}
 use mathlib.Core.Path.{_≡_, sym, ap, _∙_}
@@ -11,8 +11,8 @@ use Rattle.model.specs.Sizes.{mostTasks}
 use Rattle.table.specs.Task.{taskOf, tasksOf, noTask}
 use Rattle.table.proofs.Places.{tasks-length, task-at}
 use Rattle.table.proofs.Starts.{S-bound, S-next}
-use Rattle.table.proofs.start.last_start.Statement.{statement}
-use Rattle.table.proofs.start.last_start.Tie as tie
+use Rattle.table.proofs.positions.last_start.Statement.{statement}
+use Rattle.table.proofs.positions.last_start.Tie as tie
 
 abbrev Inv-loop : tie.InvT-loop
 Inv-loop count tasks start₀ i₀ start i = (1 ≤ i) × (i ≤ count) × (start ≡ S (tasksOf tasks count) (i - 1))
