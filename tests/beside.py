@@ -51,7 +51,7 @@ class Library:
     """The calls of a program of tests/library over the Rust bindings, built in a folder: a line asks, a line answers."""
 
     def __init__(self, work, name):
-        subprocess.run([str(ROOT / "tests" / "staticlib")], check=True)
+        subprocess.run([str(ROOT / "tools" / "archive")], check=True)
         build = ["rustc", "--edition", "2021", "-D", "warnings", "-L", f"native={ROOT / 'target' / 'staticlib'}"]
         subprocess.run([*build, "--crate-type", "rlib", "--crate-name", "sivorandra", "--out-dir", work, str(ROOT / "bindings" / "rust" / "src" / "lib.rs")], check=True)
         subprocess.run([*build, "--extern", f"sivorandra={work}/libsivorandra.rlib", "-o", f"{work}/calls", str(ROOT / "tests" / "library" / f"{name}.rs")], check=True)

@@ -17,7 +17,7 @@ pub fn begin() {
 pub type Said<T> = Result<T, Refused>;
 
 fn said(refusal: Refusal) -> Refused {
-    Refused { number: refusal.number, position: refusal.place as u32 }
+    Refused::new(refusal.number, refusal.place as u32)
 }
 
 /// The numbers of a table's text.

@@ -7,3 +7,4 @@ pub mod Lists
 pub mod Past
 pub mod Fourteen
 pub mod Sentences
+pub mod Version
