@@ -64,7 +64,7 @@ impl Known {
 
     pub fn start(&self) -> Said<Cab> {
         match self.verdict {
-            Verdict::Miss { .. } => Err(Refused { number: 13, position: 0 }),
+            Verdict::Miss { .. } => Err(Refused::TableMisses),
             _ => Ok(Cab { book: Some(Book::begin(&self.table)), run: Run::begin(&self.table) }),
         }
     }
