@@ -343,7 +343,7 @@ def quoted(line):
 # What stands over the picture of a list, and what of it is red.
 def list_words(listed, ticks):
     advances = number_of(listed.advances, "advance")
-    title = f"The first {advances} of a list" if listed.more else f"A list of {advances}"
+    title = f"The first {advances} of a list" if listed.more else f"A list of {advances}" if listed.advances else "A list without an advance"
     if listed.late:
         title += f": position {listed.late[1]} misses its deadline at tick {listed.late[0]}"
     elif listed.refusals:
