@@ -20,7 +20,7 @@ BLOCK = 1 << 18  # bytes of rows that are passed over at once
 MOST = 100  # ticks in one picture
 HEAD, RECORD = 5, 6  # words of a table and of a record
 FENCED = 255  # on a fenced core in every row
-NONE_LONG = 13  # bytes: a line of so many is no operation
+LINE = 60  # bytes that are read of a line of a list, and more than an operation has
 PART = 200  # lines of a list that are sent at once: with a row asked after each they are fewer bytes than any pipe holds
 FURTHER = 1_000_000  # lines of a list that are read after those that are drawn
 SENTENCES = 3  # on refused advances, in one picture
@@ -226,9 +226,9 @@ def parts(name, source):
     part, fine = [], True
     while fine:
         try:
-            line = source.readline(NONE_LONG + 1)
-        except OSError:
-            raise Declined(f"{name} could not be read", TROUBLE)
+            line = source.readline(LINE)
+        except OSError as error:
+            raise Declined(f"{name} could not be read: {error.strerror}", TROUBLE)
         if not line:
             break
         line = line.removesuffix(b"\n")
@@ -245,7 +245,7 @@ class Listed:
     def __init__(self, table, asked):
         self.table, self.asked = table, asked
         self.tick, self.advances, self.more = 0, 0, ""
-        self.jobs = {}  # of a position's job that was released last: which it is, the ticks that it had, whether it ended
+        self.jobs = {}  # of a position's job that was released last: which it is, the ticks that it had or held, whether it ended
         self.rows, self.held, self.ended, self.unused = [], set(), [], []
         self.refusals, self.marks, self.words, self.late = 0, {}, [], None
         self.parsed = functools.lru_cache(1024)(lambda line: row_in(line.split()[1:], self.tick, table))
@@ -282,8 +282,7 @@ class Listed:
     # An advance that is taken: a tick goes by for those in its row, the jobs that are reported end, and the next tick has this row.
     def taken(self, reports, line):
         for position in self.positions:
-            job = self.job(position)
-            job[1] += not job[2]
+            self.job(position)[1] += 1
         for position in (place + 1 for place in range(reports.bit_length()) if reports >> place & 1):
             if position not in self.positions:
                 raise Trouble(f"the program took a report for position {position} at tick {self.tick}")
@@ -321,7 +320,7 @@ class Listed:
                     continue
                 answer = next_line(process.stdout)
                 if answer == b"not an operation":
-                    raise Declined(f"{name}: line {read}: {quoted(line)} stands there; 'a N' (N a number up to 4294967295) or 'r' was expected", REFUSED)
+                    raise Declined(f"{name}: line {read}: {stands(line)} stands there; 'a N' (N a number up to 4294967295) or 'r' was expected", REFUSED)
                 self.advances += 1
                 asked = next_line(process.stdout)
                 if answer == b"taken":
@@ -334,10 +333,9 @@ class Listed:
                 return
 
 
-# A line that is no operation, as it is shown: what does not print is written as Python writes it.
-def quoted(line):
-    text = line.decode("utf-8", "backslashreplace")
-    return "'" + "".join(c if c.isprintable() else c.encode("unicode_escape").decode() for c in text) + "'" + ("..." if len(line) > NONE_LONG else "")
+# A line that is no operation, as it is shown.
+def stands(line):
+    return repr(line)[1:] + (" (Windows line ends)" if line.endswith(b"\r") else "") if line else "an empty line"
 
 
 # What stands over the picture of a list, and what of it is red.
@@ -411,11 +409,13 @@ def draw(program, text, asked=Asked()):
 
 
 # The picture of a list of operations of a table, and the status.
-def draw_list(program, text, name, asked=Asked()):
+def draw_list(program, text, path, asked=Asked()):
+    handed = re.fullmatch("/dev/fd/([0-9]+)", path)  # a descriptor that was handed down is read from where it stands
+    name = "the list" if handed else path
     try:
-        source = open(name, "rb")
-    except (OSError, ValueError):
-        raise Declined(f"{name} could not be read", TROUBLE)
+        source = os.fdopen(int(handed[1]), "rb") if handed else open(path, "rb")
+    except OSError as error:
+        raise Declined(f"{name} could not be read: {error.strerror}", TROUBLE)
     with source, running(program) as process:
         # a line `--` in a table is none of ours, so it is made another that is no number; the last line has its newline
         text = re.sub(rb"(?m)^--$", b"---", text)
