@@ -4,9 +4,11 @@
 It decides nothing. The cells are the program's rows and the words are the program's verdict; releases, deadlines, the fence and the
 numbers beside each task are the table's. The program's output is read as a stream: only the rows that are drawn are kept, and
 after the last of them the program is stopped. With --replay the program is `replay`: it is fed the table and the operations of LIST,
-with a row asked at each tick, and the rows of the list are drawn.
+with a row asked at each tick, and the rows of the list are drawn. A list is read on after the last of these, to say how many there
+are and whether something is refused, but no more than a million lines.
 The status is 0 where nothing is refused or missed, 1 for a miss, 2 for a refusal, 3 where something could not be read or written, 64 for wrong arguments."""
 import collections
+import contextlib
 import functools
 import os
 import re
@@ -429,10 +431,10 @@ def draw_list(program, text, path, asked=Asked()):
         return list_chart(listed)
 
 
-# Says what went wrong, and ends: what is still to be written to standard output is not.
+# Says what went wrong, where that can be said, and ends: what is still to be written to standard output is not.
 def fail(words, status=TROUBLE, who="picture"):
-    print(f"{who}: {words}", file=sys.stderr)
-    sys.stderr.flush()
+    with contextlib.suppress(OSError):
+        os.write(2, f"{who}: {words}\n".encode("utf-8", "backslashreplace"))
     os._exit(status)
 
 
@@ -444,8 +446,7 @@ def arguments(words):
         words = words[2:]
     ticks = [given.get(name) for name in ("--from", "--to")]
     if not words or words[0].startswith("--") or not all(tick is None or re.fullmatch("[0-9]{1,10}", tick) for tick in ticks):
-        print("usage: picture.py [--from TICK] [--to TICK] [--replay LIST] PROGRAM... < table > out.svg", file=sys.stderr)
-        sys.exit(USAGE)
+        fail("picture.py [--from TICK] [--to TICK] [--replay LIST] PROGRAM... < table > out.svg", USAGE, "usage")
     return Asked(*(tick and int(tick) for tick in ticks)), given.get("--replay"), words
 
 
