@@ -109,7 +109,11 @@ pub fn say_unread(name: &[u8]) -> Sent
 {
     let sent = hand(STDERR_FILENO, 0, name);
     if sent.whole {
-        return hand(STDERR_FILENO, sent.count, b": standard input could not be read\n");
+        return hand(
+            STDERR_FILENO,
+            sent.count,
+            b": standard input could not be read\n",
+        );
     }
     sent
 }
