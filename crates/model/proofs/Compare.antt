@@ -9,6 +9,7 @@ use native.Mathlib.Omega.{arith}
 use lib.Dec.{eqb, ltb}
 use lib.ListN.{replicate}
 use borrow.Author.Tests.{eq-eqb, eqb-true, lt-ltb, ltb-true, not-true}
+use Rattle.model.proofs.LineByLine.{LineByLine, by-line}
 use Rattle.model.proofs.Bools.{and-both, and-left, and-right, or-cases, or-left, or-right}
 use Rattle.model.proofs.Examples.{B}
 use Rattle.model.proofs.Jobs.{mk}
@@ -126,10 +127,14 @@ pairs =
     ∷ pair (ended 2 2) (ended 2 5) false false false false
     ∷ []
 
--- every pair is what the definitions say
-pub pairs-compared : map compared pairs ≡ pairs
+-- every pair is what the definitions say, line by line
+each-pair : LineByLine compared pairs pairs
 unfolding longer behind
-pairs-compared = refl
+each-pair = (refl, (refl, (refl, (refl, (refl, (refl, (refl, (refl, (refl, (refl, (refl, (refl, (refl, (refl, tt))))))))))))))
+
+-- .. and as one list
+pub pairs-compared : map compared pairs ≡ pairs
+pairs-compared = by-line compared pairs pairs each-pair
 
 -- BOOKS
 

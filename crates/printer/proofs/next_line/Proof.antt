@@ -15,7 +15,7 @@ use Rattle.printer.proofs.Step.{Text, text-kept, text-put, line-put}
 use Rattle.printer.proofs.next_line.Statement.{statement}
 use Rattle.printer.proofs.next_line.Tie as tie
 
--- the state `Joined1`
+-- the state where the ways of the test `if1` meet
 abbrev joined1 : tie.After-put-row-arg3 → tie.Joined1
 joined1 c = c .before .before .before
 

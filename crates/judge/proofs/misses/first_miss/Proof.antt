@@ -37,7 +37,7 @@ Inv-ticks end setting width times pace₀ places₀ pace places =
 abbrev μ-ticks : tie.MeasureT-ticks
 μ-ticks end setting width times pace₀ places₀ pace places = end - pace .tick
 
--- the state `Joined2`
+-- the state where the ways of the test `if2` meet
 abbrev joined2 : tie.After-places2 Inv-loop μ-loop Inv-ticks μ-ticks → tie.Joined2 Inv-loop μ-loop Inv-ticks μ-ticks
 joined2 c = c .before .before .before
 
@@ -45,7 +45,7 @@ joined2 c = c .before .before .before
 abbrev loop : tie.Else3 Inv-loop μ-loop Inv-ticks μ-ticks → tie.At-loop Inv-loop μ-loop Inv-ticks μ-ticks
 loop c = c .before .before .before
 
--- the state `At-ticks`
+-- the state at the head of the loop `ticks`
 abbrev at-ticks-from-joined2 : tie.Joined2 Inv-loop μ-loop Inv-ticks μ-ticks → tie.At-ticks Inv-loop μ-loop Inv-ticks μ-ticks
 at-ticks-from-joined2 c = c .before .before .before .before
 

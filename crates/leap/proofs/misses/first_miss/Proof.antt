@@ -60,7 +60,7 @@ else1-from-past-loop c = c .before .before .before
 abbrev else1-from-in-loop : tie.In-loop Inv-loop μ-loop Inv-leaps μ-leaps → tie.Else1 Inv-loop μ-loop Inv-leaps μ-leaps
 else1-from-in-loop c = c .before .before .before
 
--- the state `At-leaps`
+-- the state at the head of the loop `leaps`
 abbrev at-leaps-from-struct-known2 : tie.After-struct-known2 Inv-loop μ-loop Inv-leaps μ-leaps → tie.At-leaps Inv-loop μ-loop Inv-leaps μ-leaps
 at-leaps-from-struct-known2 c = c .before .before .before
 

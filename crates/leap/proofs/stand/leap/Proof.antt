@@ -20,7 +20,7 @@ use Rattle.leap.proofs.Taken.{due-looked, due-skipped, chosen-kept, cho
 use Rattle.leap.proofs.stand.leap.Statement.{statement}
 use Rattle.leap.proofs.stand.leap.Tie as tie
 
--- the state `Joined2`
+-- the state where the ways of the test `if2` meet
 abbrev joined2 : tie.After-shortest → tie.Joined2
 joined2 c = c .before .before .before
 

@@ -44,7 +44,7 @@ step c = c .before .before .before
 abbrev show : tie.After-places Inv-loop μ-loop → tie.After-show Inv-loop μ-loop
 show c = c .before .before .before
 
--- the state `Joined3`
+-- the state where the ways of the test `if3` meet
 abbrev joined3 : tie.After-out Inv-loop μ-loop → tie.Joined3 Inv-loop μ-loop
 joined3 c = c .before .before .before
 
