@@ -1,4 +1,5 @@
 pub mod Examples
+pub mod EmptyExamples
 pub mod Bools
 pub mod Search
 pub mod Lists
@@ -12,6 +13,7 @@ pub mod FullLength
 pub mod Multiples
 pub mod Starts
 pub mod Horizon
+pub mod Level
 pub mod Sustain
 pub mod Firm
 pub mod Idling
