@@ -21,7 +21,7 @@ use Rattle.rule.specs.Shares.{granted}
 use Rattle.run.specs.declared.Run.{Run}
 use Rattle.run.specs.declared.choosing.Claims.{Claims}
 use Rattle.phase.specs.Phase.{claiming, working}
-use Rattle.run.specs.Run.{ruleIn, phaseAt, widthsIn, grantsIn, hasCores}
+use Rattle.run.specs.Run.{ruleIn, seenAt, widthsIn, grantsIn, hasCores}
 use Rattle.run.specs.Numbers.{reportableAt}
 use Rattle.run.specs.Claims.{ClaimsOf}
 
@@ -48,31 +48,31 @@ module _ (r : Rule) where
 
 -- ---- who has cores
 
-module _ (r : Run) (c : Claims) (h : ClaimsOf r c) where
-  below : (q : ℕ) → q < r .count → bit (c .claiming) q ≡ claiming (phaseAt r q)
-  below q l = h .claimed q ∙ ap (λ (t : Bool). t && claiming (phaseAt r q)) (lt-ltb q (r .count) l)
+module _ (r : Run) (e : ℕ) (c : Claims) (h : ClaimsOf r e c) where
+  below : (q : ℕ) → q < r .count → bit (c .claiming) q ≡ claiming (seenAt r e q)
+  below q l = h .claimed q ∙ ap (λ (t : Bool). t && claiming (seenAt r e q)) (lt-ltb q (r .count) l)
 
   past : (q : ℕ) → r .count ≤ q → bit (c .claiming) q ≡ false
-  past q l = h .claimed q ∙ ap (λ (t : Bool). t && claiming (phaseAt r q)) (le-ltb q (r .count) l)
+  past q l = h .claimed q ∙ ap (λ (t : Bool). t && claiming (seenAt r e q)) (le-ltb q (r .count) l)
 
   -- the set that the choosing gives is that of the places with cores
-  pub has-cores : (p : ℕ) → granted (ruleIn r) (claimants (c .widths) (bit (c .claiming))) (unfenced (r .fence) (r .cores)) p ≡ hasCores r p
+  pub has-cores : (p : ℕ) → granted (ruleIn r) (claimants (c .widths) (bit (c .claiming))) (unfenced (r .fence) (r .cores)) p ≡ hasCores r e p
   unfolding grantsIn
   has-cores p =
-      granted-front (ruleIn r) (r .count) (c .widths) (bit (c .claiming)) (λ q. claiming (phaseAt r q)) (unfenced (r .fence) (r .cores)) p below past
-      ∙ ap (λ (ws : List ℕ). granted (ruleIn r) (claimants ws (λ q. claiming (phaseAt r q))) (unfenced (r .fence) (r .cores)) p) (h .width)
+      granted-front (ruleIn r) (r .count) (c .widths) (bit (c .claiming)) (λ q. claiming (seenAt r e q)) (unfenced (r .fence) (r .cores)) p below past
+      ∙ ap (λ (ws : List ℕ). granted (ruleIn r) (claimants ws (λ q. claiming (seenAt r e q))) (unfenced (r .fence) (r .cores)) p) (h .width)
 
   -- the claimants below the count
-  pub same-claimants : claimants (take (r .count) (c .widths)) (bit (c .claiming)) ≡ claimants (widthsIn r) (λ q. claiming (phaseAt r q))
+  pub same-claimants : claimants (take (r .count) (c .widths)) (bit (c .claiming)) ≡ claimants (widthsIn r) (λ q. claiming (seenAt r e q))
   same-claimants =
       ap (λ (ws : List ℕ). claimants ws (bit (c .claiming))) (h .width)
-      ∙ claimants-same (widthsIn r) (bit (c .claiming)) (λ q. claiming (phaseAt r q))
+      ∙ claimants-same (widthsIn r) (bit (c .claiming)) (λ q. claiming (seenAt r e q))
       (λ q l. below q (omega (arith, length-map (take (r .count) (r .tasks)) (λ t. t .width), length-take (r .count) (r .tasks))))
 
   -- the set of the places that may be reported
-  pub may-end : (g : ℕ) → ((p : ℕ) → bit g p ≡ hasCores r p) → (p : ℕ) → bit (bitAnd g (c .working)) p ≡ reportableAt r p
-  may-end g e p =
-      and-bit g (c .working) p ∙ rw (e p, h .worked p) (turned (hasCores r p) (ltb p (r .count)) (working (phaseAt r p)))
+  pub may-end : (g : ℕ) → ((p : ℕ) → bit g p ≡ hasCores r e p) → (p : ℕ) → bit (bitAnd g (c .working)) p ≡ reportableAt r e p
+  may-end g q p =
+      and-bit g (c .working) p ∙ rw (q p, h .worked p) (turned (hasCores r e p) (ltb p (r .count)) (working (seenAt r e p)))
     where
       turned : (a b d : Bool) → a && (b && d) ≡ b && (d && a)
       turned true true true = refl
@@ -101,7 +101,7 @@ same-bits (suc k) a b h l e =
     let high : a / 2 ≡ b / 2 = same-bits k (a / 2) (b / 2) (half k a h) (half k b l) (λ p. sym (bit-suc a p) ∙ e (suc p) ∙ bit-suc b p) in
     omega arith
 
--- ---- a report set within the set of what may be reported
+-- ---- a set within the set of what may be
 
 module _ (x m : ℕ) (f : ℕ → Bool) (e : (p : ℕ) → bit m p ≡ f p) where
   common : (p : ℕ) → bit (bitAnd x m) p ≡ bit x p && f p
