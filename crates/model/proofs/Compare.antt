@@ -167,5 +167,6 @@ B-behind = (refl, inl refl)
 
 -- both lists are at tick 2 and no job is longer in the first, which is behind: B is Full, and is not kept abreast
 pub full-not-abreast : (verdict (B greedy) ≡ Full 0 4) × (¬ KeepsAbreast (B greedy) one-reported none-reported)
-unfolding verdict firstMiss missedIn missedAt firm rising horizon S hyperperiod lcm full bookFrom enter answer late misemptied emptiable emptied misreported reportable any least step served work claims claimants grants given left memb upFrom kept
+unfolding verdict firstMiss missedIn missedAt firm rising horizon S hyperperiod lcm full bookFrom enter answer late misemptied emptiable emptied misreported
+    reportable any least step served work claims claimants grants given left memb upFrom kept
 full-not-abreast = (refl, λ h. h refl (full-longest (B greedy) sound-B one-reported 2) 2 0 (omega arith) B-behind)

@@ -14,7 +14,8 @@ use Rattle.model.proofs.Runs.{full-stays, missed-at}
 use Rattle.model.proofs.Search.{least-found}
 use Rattle.model.proofs.Sustain.{abreast-full, abreast-lists, finished}
 use Rattle.model.proofs.Verdict.{verdict-exact}
-use Rattle.model.specs.Book.{Answer, Asked, Book, Entry, NeverMissed, answer, asked, book, emptied, firstLate, full, late, misemptied, misreported, quiet, refused, rowOf, rowRefused, shown, taken}
+use Rattle.model.specs.Book.{Answer, Asked, Book, Entry, NeverMissed, answer, asked, book, emptied, firstLate, full, late, misemptied, misreported}
+use Rattle.model.specs.Book.{quiet, refused, rowOf, rowRefused, shown, taken}
 use Rattle.model.specs.Compare.{NoneBehind}
 use Rattle.model.specs.Kept.{Kept}
 use Rattle.model.specs.Search.{bit}

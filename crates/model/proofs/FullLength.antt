@@ -11,7 +11,8 @@ use borrow.Author.Tests.{le-ltb, leb-true, not-true}
 use Rattle.model.proofs.Bools.{and-left, and-right, not-true-false}
 use Rattle.model.proofs.Runs.{full-stays, full-tick, missed-at, still-advance}
 use Rattle.model.proofs.Search.{any-some, least-none, none-any}
-use Rattle.model.specs.Book.{Book, Missed, Misses, NeverMissed, advanced, answer, book, bookFrom, enter, entered, firstLate, full, late, misemptied, misreported, none, quiet, refused, step, taken}
+use Rattle.model.specs.Book.{Book, Missed, Misses, NeverMissed, advanced, answer, book, bookFrom, enter, entered, firstLate, full, late, misemptied}
+use Rattle.model.specs.Book.{misreported, none, quiet, refused, step, taken}
 use Rattle.model.specs.Search.{any, bit}
 use Rattle.model.specs.Task.{Table, due, task}
 

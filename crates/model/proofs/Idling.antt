@@ -11,7 +11,8 @@ use Rattle.model.proofs.Grants.{claimants-same}
 use Rattle.model.proofs.Jobs.{Reserving, mk}
 use Rattle.model.proofs.Level.{level-asked, same-claimants}
 use Rattle.model.proofs.Runs.{full-claimed, still-emptied}
-use Rattle.model.specs.Book.{Book, Entry, asked, book, bookFrom, claims, emptied, firstLate, full, grantsOf, jobClaims, late, misemptied, none, quiet, rowOf, rowRefused, served, shown, step, taskClaims, widths, work}
+use Rattle.model.specs.Book.{Book, Entry, asked, book, bookFrom, claims, emptied, firstLate, full, grantsOf, jobClaims, late, misemptied, none, quiet}
+use Rattle.model.specs.Book.{rowOf, rowRefused, served, shown, step, taskClaims, widths, work}
 use Rattle.model.specs.Grants.{Claimant, claimants, given, grants, left}
 use Rattle.model.specs.Row.{row}
 use Rattle.model.specs.Fence.{openCores}

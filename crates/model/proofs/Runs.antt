@@ -10,7 +10,8 @@ use borrow.Author.Tests.{ne-eqb}
 use Rattle.model.proofs.Bools.{and-left, not-true-false}
 use Rattle.model.proofs.Digits.{bit-none}
 use Rattle.model.proofs.Jobs.{Good, after-release, good-fresh, good-next, mk, next, next-ended, start-good, whole-next}
-use Rattle.model.specs.Book.{Answer, Book, Entry, Missed, advanced, answer, book, bookFrom, emptied, emptyBook, enter, entered, fresh, full, inRow, jobClaims, keep, none, quiet, refused, releasedNow, served, step, taken, takenFrom, takenOf, work}
+use Rattle.model.specs.Book.{Answer, Book, Entry, Missed, advanced, answer, book, bookFrom, emptied, emptyBook, enter, entered, fresh, full, inRow}
+use Rattle.model.specs.Book.{jobClaims, keep, none, quiet, refused, releasedNow, served, step, taken, takenFrom, takenOf, work}
 use Rattle.model.specs.Search.{bit}
 use Rattle.model.specs.Task.{AllSound, Table, due, release, task}
 

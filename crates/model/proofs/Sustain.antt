@@ -14,7 +14,8 @@ use Rattle.model.proofs.Compare.{none-longer}
 use Rattle.model.proofs.Grants.{RisingList, greedy-limited, limited-mono}
 use Rattle.model.proofs.Jobs.{Letting, Reserving, abreast, after-release, before-due, claims-less, claims-open, fresh-near, longer-left, longer-right, newest-is, start}
 use Rattle.model.proofs.Level.{Level, level-emptied, level-start, level-step, same-served}
-use Rattle.model.proofs.Runs.{Early, GoodBook, Move, book-run, book-tick, early-moved, early-start, full-run, full-whole, good-emptied, good-run, good-start, good-step, moved, movesOf, run, stillMove}
+use Rattle.model.proofs.Runs.{Early, GoodBook, Move, book-run, book-tick, early-moved, early-start, full-run, full-whole, good-emptied, good-run}
+use Rattle.model.proofs.Runs.{good-start, good-step, moved, movesOf, run, stillMove}
 use Rattle.model.specs.Book.{Book, Entry, Job, book, claims, emptied, emptyBook, fresh, full, inRow, jobClaims, releasedNow, served, step, takenOf, taskClaims, widths}
 use Rattle.model.specs.Compare.{Behind, Longer, NoneBehind, NoneLonger}
 use Rattle.model.specs.Fence.{openCores}
