@@ -22,7 +22,7 @@ use Rattle.run.specs.declared.Run.{Run}
 use Rattle.run.specs.declared.choosing.Claims.{Claims}
 use Rattle.phase.specs.Phase.{claiming, working}
 use Rattle.run.specs.Run.{ruleIn, seenAt, widthsIn, grantsIn, hasCores}
-use Rattle.run.specs.Numbers.{reportableAt}
+use Rattle.run.specs.Numbers.{emptiableAt, misemptiedIn, reportableAt, misreportedIn}
 use Rattle.run.specs.Claims.{ClaimsOf}
 
 -- ---- the choosing over more places than claim
@@ -70,7 +70,7 @@ module _ (r : Run) (e : ℕ) (c : Claims) (h : ClaimsOf r e c) where
       (λ q l. below q (omega (arith, length-map (take (r .count) (r .tasks)) (λ t. t .width), length-take (r .count) (r .tasks))))
 
   -- the set of the places that may be reported
-  pub may-end : (g : ℕ) → ((p : ℕ) → bit g p ≡ hasCores r e p) → (p : ℕ) → bit (bitAnd g (c .working)) p ≡ reportableAt r e p
+  may-end : (g : ℕ) → ((p : ℕ) → bit g p ≡ hasCores r e p) → (p : ℕ) → bit (bitAnd g (c .working)) p ≡ reportableAt r e p
   may-end g q p =
       and-bit g (c .working) p ∙ rw (q p, h .worked p) (turned (hasCores r e p) (ltb p (r .count)) (working (seenAt r e p)))
     where
@@ -128,7 +128,7 @@ module _ (x m : ℕ) (f : ℕ → Bool) (e : (p : ℕ) → bit m p ≡ f p) wher
       by false w = ap (λ (t : Bool). t && f p) (bit-high x p (ltb-false p x w)) ∙ sym (bit-high x p (ltb-false p x w))
 
   -- some bit is set outside m exactly if x is not within m
-  pub outside : (k : ℕ) → x < 2 ^ k → any x (λ p. bit x p && not (f p)) ≡ not (eqb (bitAnd x m) x)
+  outside : (k : ℕ) → x < 2 ^ k → any x (λ p. bit x p && not (f p)) ≡ not (eqb (bitAnd x m) x)
   outside k l = go (eqb (bitAnd x m) x) refl
     where
       go : (t : Bool) → eqb (bitAnd x m) x ≡ t → any x (λ p. bit x p && not (f p)) ≡ not t
@@ -136,3 +136,16 @@ module _ (x m : ℕ) (f : ℕ → Bool) (e : (p : ℕ) → bit m p ≡ f p) wher
       go false e =
           not-false-true (any x (λ p. bit x p && not (f p)))
           (λ q. eqb-false (bitAnd x m) x e (same-bits k (bitAnd x m) x (lt-of-le-of-lt (and-le-l x m) l) l (λ p. common p ∙ all-inside q p)))
+
+-- 20 by one test of sets: the empties are within the places whose job is released in this tick
+pub may-begin :
+    (r : Run) (e : ℕ) (c : Claims) → ClaimsOf r e c → (k : ℕ) → e < 2 ^ k → misemptiedIn r e ≡ not (eqb (bitAnd e (c .released)) e)
+unfolding misemptiedIn
+may-begin r e c h k l = outside e (c .released) (emptiableAt r) (h .begun) k l
+
+-- and 16: the reports are within the places that work and have cores
+pub may-report :
+    (r : Run) (e : ℕ) (c : Claims) → ClaimsOf r e c → (g : ℕ) → ((p : ℕ) → bit g p ≡ hasCores r e p) → (x k : ℕ) → x < 2 ^ k
+    → misreportedIn r e x ≡ not (eqb (bitAnd x (bitAnd g (c .working))) x)
+unfolding misreportedIn
+may-report r e c h g q x k l = outside x (bitAnd g (c .working)) (reportableAt r e) (may-end r e c h g q) k l
