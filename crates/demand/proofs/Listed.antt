@@ -1,30 +1,39 @@
--- A list of advances, one more at its end.
+-- A list of entries, one more at its end; and in words.
 use mathlib.Core.Path.{_≡_, refl, ap, _∙_}
+use mathlib.Core.Bool.{Bool, true, not}
 use mathlib.Core.List.{List, [], _∷_, _++_, map}
-use Prim.Native.Nat.{ℕ, suc, _+_}
+use Prim.Native.Nat.{ℕ, suc, _+_, _%_, _<_}
+use native.Mathlib.Nat.{zero-add}
+use native.Mathlib.Numerals.{add-one}
 use lib.ListN.{length, length-map}
-use Rattle.model.proofs.Lists.{map-more}
+use lib.Dec.{eqb}
+use borrow.Author.Tests.{eq-eqb, eqb-true, not-false, not-true}
+use Rattle.model.specs.Book.{Entry}
+use Rattle.model.proofs.Lists.{map-more, up-length, up-more}
+use Rattle.model.proofs.Search.{none-any, none-at}
+use Rattle.model.specs.Search.{any, upFrom}
+use Rattle.table.proofs.Decide.{Decides, decides-and, decides-eq}
 use Rattle.run.specs.declared.Run.{Run}
 use Rattle.run.specs.declared.Answer.{Answer}
 use Rattle.run.specs.Answer.{told}
-use Rattle.run.specs.Advance.{advanceOf}
-use Rattle.demand.specs.Advances.{answers, after}
+use Rattle.demand.specs.Entries.{entryOf, answers, after}
+use Rattle.demand.specs.Listing.{Listed, listed, entryCount, kindAt, entryAt}
 use Rattle.demand.specs.Replay.{code, codes}
 
-pub after-more : (r : Run) (xs : List ℕ) (x : ℕ) → after r (xs ++ (x ∷ [])) ≡ advanceOf (after r xs) x .run
+pub after-more : (r : Run) (xs : List Entry) (x : Entry) → after r (xs ++ (x ∷ [])) ≡ entryOf (after r xs) x .run
 unfolding after
 after-more r [] x = refl
-after-more r (y ∷ xs) x = after-more (advanceOf r y .run) xs x
+after-more r (y ∷ xs) x = after-more (entryOf r y .run) xs x
 
-answers-more : (r : Run) (xs : List ℕ) (x : ℕ) → answers r (xs ++ (x ∷ [])) ≡ answers r xs ++ (advanceOf (after r xs) x .answer ∷ [])
+answers-more : (r : Run) (xs : List Entry) (x : Entry) → answers r (xs ++ (x ∷ [])) ≡ answers r xs ++ (entryOf (after r xs) x .answer ∷ [])
 unfolding after answers
 answers-more r [] x = refl
-answers-more r (y ∷ xs) x = ap (λ (l : List Answer). advanceOf r y .answer ∷ l) (answers-more (advanceOf r y .run) xs x)
+answers-more r (y ∷ xs) x = ap (λ (l : List Answer). entryOf r y .answer ∷ l) (answers-more (entryOf r y .run) xs x)
 
-length-answers : (r : Run) (xs : List ℕ) → length (answers r xs) ≡ length xs
+length-answers : (r : Run) (xs : List Entry) → length (answers r xs) ≡ length xs
 unfolding answers
 length-answers r [] = refl
-length-answers r (x ∷ xs) = ap suc (length-answers (advanceOf r x .run) xs)
+length-answers r (x ∷ xs) = ap suc (length-answers (entryOf r x .run) xs)
 
 -- the numbers of the answers
 abbrev coded : Answer → ℕ
@@ -34,8 +43,34 @@ pub codes-none : (r : Run) → codes r [] ≡ []
 unfolding answers
 codes-none r = refl
 
-pub codes-more : (r : Run) (xs : List ℕ) (x : ℕ) → codes r (xs ++ (x ∷ [])) ≡ codes r xs ++ (code (told (advanceOf (after r xs) x .answer)) ∷ [])
-codes-more r xs x = ap (map coded) (answers-more r xs x) ∙ map-more coded (answers r xs) (advanceOf (after r xs) x .answer)
+pub codes-more : (r : Run) (xs : List Entry) (x : Entry) → codes r (xs ++ (x ∷ [])) ≡ codes r xs ++ (code (told (entryOf (after r xs) x .answer)) ∷ [])
+codes-more r xs x = ap (map coded) (answers-more r xs x) ∙ map-more coded (answers r xs) (entryOf (after r xs) x .answer)
 
-pub length-codes : (r : Run) (xs : List ℕ) → length (codes r xs) ≡ length xs
+pub length-codes : (r : Run) (xs : List Entry) → length (codes r xs) ≡ length xs
 length-codes r xs = length-map (answers r xs) coded ∙ length-answers r xs
+
+-- IN WORDS
+
+-- the first i entries, one more
+pub entries-more : (es : List ℕ) (i : ℕ) → map (entryAt es) (upFrom 0 (i + 1)) ≡ map (entryAt es) (upFrom 0 i) ++ (entryAt es i ∷ [])
+entries-more es i =
+    ap (λ (n : ℕ). map (entryAt es) (upFrom 0 n)) (add-one i)
+    ∙ (ap (map (entryAt es)) (up-more 0 i ∙ ap (λ (n : ℕ). upFrom 0 i ++ (n ∷ [])) (zero-add i)) ∙ map-more (entryAt es) (upFrom 0 i) i)
+
+pub length-entries : (es : List ℕ) (i : ℕ) → length (map (entryAt es) (upFrom 0 i)) ≡ i
+length-entries es i = length-map (upFrom 0 i) (entryAt es) ∙ up-length 0 i
+
+-- the test decides whether the words are a list of entries
+pub listed-decides : (es : List ℕ) → Decides (listed es) (Listed es)
+unfolding listed
+listed-decides es = decides-and _ _ _ _ (decides-eq (length es % 3) 0) (all-decides, all-found)
+  where
+    other : ℕ → Bool
+    other i = not (eqb (kindAt es i) 0)
+
+    all-decides : not (any (entryCount es) other) ≡ true → (i : ℕ) → i < entryCount es → kindAt es i ≡ 0
+    all-decides e i l =
+        eqb-true (kindAt es i) 0 (not-false (eqb (kindAt es i) 0) (none-at (entryCount es) other i (not-true (any (entryCount es) other) e) l))
+
+    all-found : ((i : ℕ) → i < entryCount es → kindAt es i ≡ 0) → not (any (entryCount es) other) ≡ true
+    all-found h = ap not (none-any (entryCount es) other (λ i l. ap not (eq-eqb (kindAt es i) 0 (h i l))))
