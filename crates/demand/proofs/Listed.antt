@@ -1,6 +1,6 @@
 -- A list of entries, one more at its end; and in words.
 use mathlib.Core.Path.{_≡_, refl, ap, _∙_}
-use mathlib.Core.Bool.{Bool, true, not}
+use mathlib.Core.Bool.{Bool, true, false, not}
 use mathlib.Core.List.{List, [], _∷_, _++_, map}
 use Prim.Native.Nat.{ℕ, suc, _+_, _%_, _<_}
 use native.Mathlib.Nat.{zero-add}
@@ -10,6 +10,7 @@ use lib.Dec.{eqb}
 use borrow.Author.Tests.{eq-eqb, eqb-true, not-false, not-true}
 use Rattle.model.specs.Book.{Entry}
 use Rattle.model.proofs.Lists.{map-more, up-length, up-more}
+use Rattle.model.proofs.Bools.{not-true-false}
 use Rattle.model.proofs.Search.{none-any, none-at}
 use Rattle.model.specs.Search.{any, upFrom}
 use Rattle.table.proofs.Decide.{Decides, decides-and, decides-eq}
@@ -74,3 +75,10 @@ listed-decides es = decides-and _ _ _ _ (decides-eq (length es % 3) 0) (all-deci
 
     all-found : ((i : ℕ) → i < entryCount es → kindAt es i ≡ 0) → not (any (entryCount es) other) ≡ true
     all-found h = ap not (none-any (entryCount es) other (λ i l. ap not (eq-eqb (kindAt es i) 0 (h i l))))
+
+-- words over, or an entry that is no advance: no list of entries
+pub not-listed-over : (es : List ℕ) → (length es % 3 ≡ 0 → ⊥) → listed es ≡ false
+not-listed-over es n = not-true-false (listed es) (λ e. n (listed-decides es .0 e .0))
+
+pub not-listed-at : (es : List ℕ) (i : ℕ) → i < entryCount es → (kindAt es i ≡ 0 → ⊥) → listed es ≡ false
+not-listed-at es i l n = not-true-false (listed es) (λ e. n (listed-decides es .0 e .1 i l))

@@ -95,7 +95,7 @@ case-said w = go (w .answer)
 module _ (r : Run) (es numbers bytes : List ℕ) where
   play-refused : (n p : ℕ) → played r es numbers bytes .answer ≡ replayed.Refused n p → ⊥
   unfolding played
-  play-refused n p e = go fits es (length numbers) (length bytes) e
+  play-refused n p e = go (fits es (length numbers) (length bytes)) e
     where
       go : (t : Bool) → cond t (written r es numbers bytes) (unfit numbers bytes) .answer ≡ replayed.Refused n p → ⊥
       go true q = case-refused (rowOf (after r (entriesIn es)) 0 .answer) n p q
@@ -103,7 +103,7 @@ module _ (r : Run) (es numbers bytes : List ℕ) where
 
   play-unfit : played r es numbers bytes .answer ≡ replayed.Unfit → (¬ Fits es numbers bytes) × (played r es numbers bytes ≡ unfit numbers bytes)
   unfolding played
-  play-unfit e = go fits es (length numbers) (length bytes) refl e
+  play-unfit e = go (fits es (length numbers) (length bytes)) refl e
     where
       go : (t : Bool) → fits es (length numbers) (length bytes) ≡ t → cond t (written r es numbers bytes) (unfit numbers bytes) .answer ≡ replayed.Unfit
           → (¬ Fits es numbers bytes) × (cond t (written r es numbers bytes) (unfit numbers bytes) ≡ unfit numbers bytes)
@@ -112,7 +112,7 @@ module _ (r : Run) (es numbers bytes : List ℕ) where
 
   unfit-play : ¬ Fits es numbers bytes → played r es numbers bytes ≡ unfit numbers bytes
   unfolding played
-  unfit-play n = go fits es (length numbers) (length bytes) refl
+  unfit-play n = go (fits es (length numbers) (length bytes)) refl
     where
       go : (t : Bool) → fits es (length numbers) (length bytes) ≡ t → cond t (written r es numbers bytes) (unfit numbers bytes) ≡ unfit numbers bytes
       go true q = absurd (n (fits-decides es numbers bytes .0 q))
