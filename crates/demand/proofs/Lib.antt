@@ -13,3 +13,5 @@ pub mod Fenced
 pub mod Listed
 pub mod Codes
 pub mod Outcomes
+pub mod HandBuilt
+pub mod EmptyBuilt

@@ -2,14 +2,16 @@
 use mathlib.Core.Path.{_≡_, refl, ap, _∙_}
 use mathlib.Core.Bool.{Bool, true, false, not}
 use mathlib.Core.List.{List, [], _∷_, _++_, map}
-use Prim.Native.Nat.{ℕ, suc, _+_, _%_, _<_}
-use native.Mathlib.Nat.{zero-add}
+use Prim.Native.Nat.{ℕ, zero, suc, _+_, _*_, _%_, _<_}
+use native.Mathlib.Nat.{zero-add, not-suc-le-zero, le-of-suc-le-suc}
+use native.Mathlib.Omega.{arith}
 use native.Mathlib.Numerals.{add-one}
-use lib.ListN.{length, length-map}
+use lib.ListN.{length, getD, length-map}
+use lib.Seq.{ext-getD}
 use lib.Dec.{eqb}
 use borrow.Author.Tests.{eq-eqb, eqb-true, not-false, not-true}
-use Rattle.model.specs.Book.{Entry}
-use Rattle.model.proofs.Lists.{map-more, up-length, up-more}
+use Rattle.model.specs.Book.{Entry, quiet}
+use Rattle.model.proofs.Lists.{map-at, map-more, up-at, up-length, up-more}
 use Rattle.model.proofs.Bools.{not-true-false}
 use Rattle.model.proofs.Search.{none-any, none-at}
 use Rattle.model.specs.Search.{any, upFrom}
@@ -18,7 +20,7 @@ use Rattle.run.specs.declared.Run.{Run}
 use Rattle.run.specs.declared.Answer.{Answer}
 use Rattle.run.specs.Answer.{told}
 use Rattle.demand.specs.Entries.{entryOf, answers, after}
-use Rattle.demand.specs.Listing.{Listed, listed, entryCount, kindAt, entryAt}
+use Rattle.demand.specs.Listing.{Listed, listed, entryCount, kindAt, entryAt, entriesIn}
 use Rattle.demand.specs.Replay.{code, codes}
 
 pub after-more : (r : Run) (xs : List Entry) (x : Entry) → after r (xs ++ (x ∷ [])) ≡ entryOf (after r xs) x .run
@@ -82,3 +84,49 @@ not-listed-over es n = not-true-false (listed es) (λ e. n (listed-decides es .0
 
 pub not-listed-at : (es : List ℕ) (i : ℕ) → i < entryCount es → (kindAt es i ≡ 0 → ⊥) → listed es ≡ false
 not-listed-at es i l n = not-true-false (listed es) (λ e. n (listed-decides es .0 e .1 i l))
+
+-- a list of entries in words
+unfoldable pub listing : List Entry → List ℕ
+listing [] = []
+listing (x ∷ xs) = 0 ∷ x .reports ∷ x .empties ∷ listing xs
+
+length-listing : (xs : List Entry) → length (listing xs) ≡ 3 * length xs
+unfolding listing
+length-listing [] = refl
+length-listing (x ∷ xs) = omega (arith, length-listing xs)
+
+-- each entry stands in its three words
+listing-at : (xs : List Entry) (i : ℕ) → i < length xs → (kindAt (listing xs) i ≡ 0) × (entryAt (listing xs) i ≡ getD xs i quiet)
+unfolding listing
+listing-at [] i l = absurd (not-suc-le-zero l)
+listing-at (x ∷ xs) zero l = (refl, refl)
+listing-at (x ∷ xs) (suc i) l =
+    let ih = listing-at xs i (le-of-suc-le-suc l) in
+    (kind ∙ ih .0, (λ j. record { reports = first j; empties = second j }) ∙ ih .1)
+  where
+    word : ℕ → ℕ
+    word n = getD (listing (x ∷ xs)) n 0
+
+    kind : word (3 * suc i) ≡ getD (listing xs) (3 * i) 0
+    kind = let e : 3 * suc i ≡ suc (suc (suc (3 * i))) = omega arith in ap word e
+
+    first : word (3 * suc i + 1) ≡ getD (listing xs) (3 * i + 1) 0
+    first = let e : 3 * suc i + 1 ≡ suc (suc (suc (3 * i + 1))) = omega arith in ap word e
+
+    second : word (3 * suc i + 2) ≡ getD (listing xs) (3 * i + 2) 0
+    second = let e : 3 * suc i + 2 ≡ suc (suc (suc (3 * i + 2))) = omega arith in ap word e
+
+-- LAW: every list of entries stands in words, and comes back from them
+pub listing-listed : (xs : List Entry) → Listed (listing xs)
+listing-listed xs =
+    let n = length-listing xs in
+    (omega (arith, n), λ i l. listing-at xs i (omega (arith, n)) .0)
+
+pub entries-listing : (xs : List Entry) → entriesIn (listing xs) ≡ xs
+entries-listing xs =
+    ext-getD quiet (entriesIn (listing xs)) xs (length-entries (listing xs) (entryCount (listing xs)) ∙ omega (arith, length-listing xs))
+    (λ i l.
+    let n = length-entries (listing xs) (entryCount (listing xs)) in
+    let m : i < entryCount (listing xs) = omega (arith, n) in
+    map-at (entryAt (listing xs)) (upFrom 0 (entryCount (listing xs))) i quiet 0 (rw (up-length 0 (entryCount (listing xs))) m)
+    ∙ (ap (entryAt (listing xs)) (up-at 0 (entryCount (listing xs)) i 0 m ∙ zero-add i) ∙ listing-at xs i (omega (arith, length-listing xs)) .1))
