@@ -13,5 +13,6 @@ pub mod Fenced
 pub mod Listed
 pub mod Codes
 pub mod Outcomes
+pub mod Examples
 pub mod HandBuilt
 pub mod EmptyBuilt

@@ -1,0 +1,191 @@
+-- The marked lines of the table of examples, and those with empty jobs, through `replay`: what its contract says of the words of a line's table and of the
+-- line's advances is what the line says.
+-- So B with its report shows the right side of figure 2 of Goossens and Berten row by row, up to the miss; and B3 with the same report shows the rows that it shows without.
+use mathlib.Core.Path.{_≡_, refl, sym, ap, _∙_, subst}
+use mathlib.Core.List.{List, [], _∷_, map, _++_}
+use Prim.Native.Nat.{ℕ, zero, suc, _/_, _%_, _^_, _≤_}
+use native.Mathlib.Nat.{not-suc-le-zero, le-of-suc-le-suc}
+use lib.ListN.{length, getD, take, drop}
+use lib.Seq.{length-take-le}
+use Rattle.model.specs.Book.{Book, Entry, Answer, taken, refused, Asked, shown, answersFrom, bookFrom, emptyBook, book, enter, asked, quiet, rowsFrom}
+use Rattle.model.specs.Book.{claims, full, served, step, work}
+use Rattle.model.specs.Grants.{claimants, given, grants, left}
+use Rattle.model.specs.Horizon.{S, horizon, hyperperiod, lcm}
+use Rattle.model.specs.Search.{any, kept, least, memb, upFrom}
+use Rattle.model.specs.Task.{Table, Task, Rule, greedy, limited, idling}
+use Rattle.model.specs.Verdict.{Verdict, Firm, Full, Miss, firm, firstMiss, missedAt, missedIn, rising, verdict}
+use Rattle.model.proofs.LineByLine.{LineByLine, by-line}
+use Rattle.model.proofs.Examples.{Line, worked, lines, examples}
+use Rattle.model.proofs.EmptyExamples.{empty-lines, empty-examples}
+use Rattle.table.specs.Words.{met, count, chain, tableOf}
+use Rattle.table.specs.Answer.{headerNumber, lastStep, endingOf, firstOut, byHorizon, byTasks, byWalk, answerOf}
+use Rattle.judge.specs.Judged.{verdictOf}
+use Rattle.run.specs.Answer.{told, askedIn64}
+use Rattle.run.specs.Start.{startAnswer, startOf}
+use Rattle.run.proofs.StartExact.{start-exact, start-taken}
+use Rattle.demand.specs.declared.Replayed.the-variants as replayed
+use Rattle.demand.specs.Replay.{code, Fits, Outcome, rowSaid, ByTheBook, ReplayOf}
+use Rattle.demand.proofs.Listed.{listing, entries-listing}
+
+-- THE WORDS OF A LINE
+
+abbrev numberOf : Rule → ℕ
+numberOf greedy = 1
+numberOf limited = 2
+numberOf idling = 3
+
+-- a task's record
+abbrev entry : ℕ → Task → List ℕ
+entry next τ = next ∷ τ .offset ∷ τ .width ∷ τ .length ∷ τ .deadline ∷ τ .period ∷ []
+
+-- the records of tasks in priority order, numbered from n on
+unfoldable pub records : ℕ → List Task → List ℕ
+records n [] = []
+records n (τ ∷ []) = entry 0 τ
+records n (τ ∷ τ′ ∷ τs) = entry (suc n) τ ++ records (suc n) (τ′ ∷ τs)
+
+-- the words of a line's table
+abbrev pub wordsOf : Line → List ℕ
+wordsOf l = 1 ∷ l .table .cores ∷ numberOf (l .table .rule) ∷ l .table .fence % 2 ^ 32 ∷ l .table .fence / 2 ^ 32 ∷ records 1 (l .table .tasks)
+
+-- WHAT IS SHOWN OF A LINE
+
+-- a replay of its first k advances writes its first k answers, and is told its row k where that is asked with no empty job, as a replay asks
+abbrev pub Shows : Line → Type 0
+Shows l =
+    (k : ℕ) → k ≤ length (l .advances) → (numbers bytes : List ℕ) (o : Outcome)
+    → ReplayOf (wordsOf l) (listing (take k (l .advances))) numbers bytes o → Fits (listing (take k (l .advances))) numbers bytes
+    → (o .numbers ≡ map code (take k (l .answers)) ++ drop k numbers)
+    × (getD (l .advances) k quiet .empties ≡ 0 → rowSaid (o .answer) (take 64 (o .bytes)) ≡ askedIn64 (getD (l .rows) k (shown [])))
+
+-- a replay of any words is refused by 13, and everything is as found
+abbrev pub Misses : Line → Type 0
+Misses l =
+    (es numbers bytes : List ℕ) (o : Outcome) → ReplayOf (wordsOf l) es numbers bytes o
+    → (o .answer ≡ replayed.Refused 13 0) × ((o .numbers ≡ numbers) × (o .bytes ≡ bytes))
+
+-- the one where the line's verdict is Firm or Full, the other where it is Miss
+abbrev pub ByVerdict : Verdict → Line → Type 0
+ByVerdict (Firm a b) l = Shows l
+ByVerdict (Full a b) l = Shows l
+ByVerdict (Miss t p) l = Misses l
+
+-- FROM THE CONTRACT
+
+answers-take : (s : Table) (b : Book) (xs : List Entry) (k : ℕ) → answersFrom s b (take k xs) ≡ take k (answersFrom s b xs)
+unfolding answersFrom
+answers-take s b xs zero = refl
+answers-take s b [] (suc k) = refl
+answers-take s b (x ∷ xs) (suc k) = ap (λ (l : List Answer). answersFrom s b (x ∷ []) ++ l) (answers-take s (enter s x b) xs k)
+
+-- row k is asked with the empty jobs of the advance that follows it
+rows-at :
+    (s : Table) (b : Book) (xs : List Entry) (k : ℕ) (d : Asked) → k ≤ length xs
+    → getD (rowsFrom s b xs) k d ≡ asked s (bookFrom s b (take k xs)) (getD xs k quiet .empties)
+unfolding rowsFrom bookFrom
+rows-at s b [] zero d h = refl
+rows-at s b (x ∷ xs) zero d h = refl
+rows-at s b [] (suc k) d h = absurd (not-suc-le-zero h)
+rows-at s b (x ∷ xs) (suc k) d h = rows-at s (enter s x b) xs k d (le-of-suc-le-suc h)
+
+-- a line's words are those of its table, and start answers by its verdict
+abbrev startSays : Verdict → Answer
+startSays (Firm a b) = taken
+startSays (Full a b) = taken
+startSays (Miss t p) = refused 13 0
+
+module _ (l : Line) (works : worked l ≡ l) (table : tableOf (wordsOf l) ≡ l .table) where
+  shows : told (startOf (wordsOf l) .answer) ≡ taken → Shows l
+  shows start k h numbers bytes o r fit = (
+    b .each-answer ∙ (ap (λ (al : List Answer). map code al ++ drop (length xs) numbers) said
+        ∙ ap (λ (n : ℕ). map code (take k (l .answers)) ++ drop n numbers) (length-take-le k (l .advances) h)),
+    λ q. b .row-after ∙ ap askedIn64 (row q),
+  )
+    where
+      xs : List Entry
+      xs = take k (l .advances)
+
+      b : ByTheBook (wordsOf l) xs numbers bytes o
+      b = subst (λ (ys : List Entry). ByTheBook (wordsOf l) ys numbers bytes o) (entries-listing xs) (r .book (start-taken (wordsOf l) .0 start) fit)
+
+      said : answersFrom (tableOf (wordsOf l)) emptyBook xs ≡ take k (l .answers)
+      said =
+          ap (λ (s : Table). answersFrom s emptyBook xs) table
+          ∙ (answers-take (l .table) emptyBook (l .advances) k ∙ ap (λ (m : Line). take k (m .answers)) works)
+
+      row : getD (l .advances) k quiet .empties ≡ 0 → asked (tableOf (wordsOf l)) (book (tableOf (wordsOf l)) xs) 0 ≡ getD (l .rows) k (shown [])
+      row q =
+          ap (λ (s : Table). asked s (book s xs) 0) table
+          ∙ (ap (asked (l .table) (book (l .table) xs)) (sym q)
+          ∙ (sym (rows-at (l .table) emptyBook (l .advances) k (shown []) h) ∙ ap (λ (m : Line). getD (m .rows) k (shown [])) works))
+
+  misses : told (startOf (wordsOf l) .answer) ≡ refused 13 0 → Misses l
+  misses start es numbers bytes o r =
+      let e = r .refused 13 0 .1 (start-exact (wordsOf l) 13 0 .0 start) in
+      (e, r .refused-found 13 0 e)
+
+  by-verdict : (v : Verdict) → told (startOf (wordsOf l) .answer) ≡ startSays v → ByVerdict v l
+  by-verdict (Firm a b) e = shows e
+  by-verdict (Full a b) e = shows e
+  by-verdict (Miss t p) e = misses e
+
+-- OF EVERY LINE
+
+-- what holds of each line of a list
+abbrev pub Each : (Line → Type 0) → List Line → Type 0
+Each P [] = Unit {0}
+Each P (l ∷ ls) = P l × Each P ls
+
+each : {A : Type 0} (f g : Line → A) (ls : List Line) → map f ls ≡ map g ls → Each (λ l. f l ≡ g l) ls
+each f g [] e = tt
+each f g (l ∷ ls) e =
+    let a : f l ≡ g l = cc in
+    let b : map f ls ≡ map g ls = cc in
+    (a, each f g ls b)
+
+both : (P Q R : Line → Type 0) → ((l : Line) → P l → Q l → R l) → (ls : List Line) → Each P ls → Each Q ls → Each R ls
+both P Q R h [] p q = tt
+both P Q R h (l ∷ ls) p q = (h l (p .0) (q .0), both P Q R h ls (p .1) (q .1))
+
+-- the table of a line's words, and what start answers to them
+pub record Begins : Type 0 where
+  pub table : Table
+  pub start : Answer
+
+abbrev begins : Line → Begins
+begins l = record { table = tableOf (wordsOf l); start = told (startOf (wordsOf l) .answer) }
+
+expected : Line → Begins
+expected l = record { table = l .table; start = startSays (l .says) }
+
+-- line by line
+begun : LineByLine begins lines (map expected lines)
+unfolding expected records startOf startAnswer verdictOf answerOf byWalk byTasks byHorizon firstOut endingOf lastStep headerNumber tableOf chain count met
+    verdict firstMiss missedIn missedAt firm rising horizon S hyperperiod lcm least any memb upFrom kept given left grants claimants claims served work step
+    full
+begun = (refl, (refl, (refl, (refl, (refl, (refl, (refl, (refl, (refl, (refl, (refl, (refl, (refl, (refl, (refl, (refl, (refl, tt)))))))))))))))))
+
+begun-empty : LineByLine begins empty-lines (map expected empty-lines)
+unfolding expected records startOf startAnswer verdictOf answerOf byWalk byTasks byHorizon firstOut endingOf lastStep headerNumber tableOf chain count met
+    verdict firstMiss missedIn missedAt firm rising horizon S hyperperiod lcm least any memb upFrom kept given left grants claimants claims served work step
+    full
+begun-empty = (refl, (refl, (refl, (refl, (refl, (refl, (refl, (refl, (refl, (refl, (refl, (refl, (refl, (refl, (refl, tt)))))))))))))))
+
+-- what the definitions say of lines, the contract says of them through `replay`
+through : (ls : List Line) → map worked ls ≡ ls → LineByLine begins ls (map expected ls) → Each (λ l. ByVerdict (l .says) l) ls
+through ls works starts =
+    both (λ l. worked l ≡ l) (λ l. begins l ≡ expected l) (λ l. ByVerdict (l .says) l)
+    (λ l w e. unfold expected in by-verdict l w (ap (λ (x : Begins). x .table) e) (l .says) (ap (λ (x : Begins). x .start) e))
+    ls (each worked (λ l. l) ls (works ∙ sym (map-id ls))) (each begins expected ls (by-line begins ls (map expected ls) starts))
+  where
+    map-id : (ls : List Line) → map (λ l. l) ls ≡ ls
+    map-id [] = refl
+    map-id (l ∷ ls) = ap (λ (m : List Line). l ∷ m) (map-id ls)
+
+-- THEOREM: every marked line of the table of examples, through the contract of `replay`
+pub through-replay : Each (λ l. ByVerdict (l .says) l) lines
+through-replay = through lines examples begun
+
+-- and every line with empty jobs
+pub empty-through-replay : Each (λ l. ByVerdict (l .says) l) empty-lines
+empty-through-replay = through empty-lines empty-examples begun-empty
