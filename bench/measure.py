@@ -27,11 +27,9 @@ def rust(source, work, *more):
 
 
 def library():
-    """The library to link, proved and built where it is missing."""
-    path = ROOT / "target" / "staticlib" / "libcapi.a"
-    if not path.exists():
-        subprocess.run(["rt", "staticlib", "capi"], cwd=ROOT, check=True, stdout=subprocess.DEVNULL)
-    return str(path)
+    """The library to link, proved and built where it is missing or older than the sources."""
+    subprocess.run([str(ROOT / "tools" / "archive")], check=True)
+    return str(ROOT / "target" / "staticlib" / "libsivorandra.a")
 
 
 @contextlib.contextmanager

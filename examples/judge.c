@@ -1,5 +1,6 @@
 /* The table of tables/a.txt from C: its verdict, why where it misses, its rows, and two ticks of a run in which the job of position 1 ends early.
-   gcc -Iinclude examples/judge.c target/staticlib/libcapi.a -o judge */
+   In the repository: tools/archive && gcc -Iinclude examples/judge.c -Ltarget/staticlib -lsivorandra -o judge
+   Installed: gcc examples/judge.c $(pkg-config --cflags --libs sivorandra) -o judge */
 #include <stdio.h>
 #include "sivorandra.h"
 

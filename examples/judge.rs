@@ -1,4 +1,5 @@
 //! The table of tables/a.txt from Rust: its verdict, why where it misses, its rows, and two ticks of a run in which the job of position 1 ends early.
+//! `cargo run --manifest-path bindings/rust/Cargo.toml --example judge`
 use sivorandra::{judge, plan, sentence, Refusal, Run, Verdict};
 
 // head, cores, rule, two words of fenced cores; then for each record: next, offset, width, length, deadline, period
@@ -11,22 +12,16 @@ const TABLE: [u32; 23] = [
 const CORES: usize = 3;
 
 fn print_row(tick: usize, row: &[u8]) {
-    let cores: Vec<String> = row[..CORES].iter().map(u8::to_string).collect();
+    let cores: Vec<String> = row.iter().map(u8::to_string).collect();
     println!("{tick} {}", cores.join(" "));
 }
 
 fn show() -> Result<(), Refusal> {
-    let ticks = match judge(&TABLE)? {
-        Verdict::Firm { start, period } => {
-            println!("firm {start} {period}");
-            start + period
-        }
-        Verdict::Full { start, period } => {
-            println!("full {start} {period}");
-            start + period
-        }
-        Verdict::Miss { tick, position } => {
-            println!("miss {tick} {position}");
+    let verdict = judge(&TABLE)?;
+    println!("{verdict}");
+    let ticks = match verdict {
+        Verdict::Firm { start, period } | Verdict::Full { start, period } => start + period,
+        Verdict::Miss { tick, .. } => {
             println!("{}", sentence(&TABLE)?);
             tick
         }
@@ -41,15 +36,15 @@ fn show() -> Result<(), Refusal> {
     let mut run = Run::start(&TABLE)?;
     println!("the job of position 1 ends after tick 0");
     for (tick, reports) in [1, 0].into_iter().enumerate() {
-        print_row(tick, &run.row()?);
+        print_row(tick, &run.row()?[..run.cores()]);
         run.advance(reports)?;
     }
     Ok(())
 }
 
 fn main() {
-    if let Err(Refusal { number, position }) = show() {
-        println!("refused {number} {position}");
+    if let Err(refusal) = show() {
+        eprintln!("refused {} {}: {refusal}", refusal.number(), refusal.position());
         std::process::exit(1);
     }
 }

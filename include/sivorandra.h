@@ -1,6 +1,23 @@
-/* Sivorandra, a proved timing judge for tables of gang tasks: link libcapi.a.
+/* Sivorandra, a proved timing judge for tables of gang tasks: link libsivorandra.a (-lsivorandra).
+
    A slice is a pointer and its length in elements; with length 0 the pointer may be NULL. Slices lent for writing overlap no other.
-   No call keeps a pointer, takes memory or writes anywhere but into the slices lent for writing. */
+   No call keeps a pointer, or writes anywhere but into the slices lent for writing.
+
+   What a call costs:
+   - Memory: none from the heap. Of the stack less than SIVORANDRA_STACK_BYTES (measured: replay 12,000 bytes, start 11,000, advance and
+     sentence 9,000, plan 7,000, judge 6,000, row 5,000, facts 1,000).
+   - Threads: the library has no state and no data that is written to, so any number of threads may call at once, each with slices of its own
+     to be written to; slices that are only read may be shared. Of the C library it calls memcpy and memset alone.
+   - Time: row and advance take some microseconds at most, a bound by the 32 tasks and 64 cores alone. judge goes from one release, end or
+     deadline to the next, or tick by tick where the periods are short: 10 to 100 ns each on x86-64, by how many tasks move. There are at most
+     as many of these moments as ticks up to the horizon or the first miss. A horizon of 10,000,000 takes a second at most; the largest,
+     1,000,000,000, milliseconds where the periods are long, and two minutes where all 32 tasks move in every tick. No call can be stopped
+     from outside: where that is too long, judge in a process of its own. judge_ticks takes every tick; start takes as long as judge, sentence
+     about three times as long; plan judges up to b, and takes every tick up to b; replay takes a start, and an advance for each report set;
+     facts goes once over its bytes.
+
+   A run in words belongs to the version that wrote it: the words may change with the version. Keep SIVORANDRA_VERSION beside a run that is
+   stored, and start again where it differs; 14 finds what is no run, not a run of another version. */
 #ifndef SIVORANDRA_H
 #define SIVORANDRA_H
 
@@ -11,7 +28,18 @@
 extern "C" {
 #endif
 
-/* What every call returns: the call is answered, or a lent slice is too short and everything is as found.
+/* The version of this header; sivorandra_version says that of the library that is linked. One number, which grows with the version:
+   major * 10000 + minor * 100 + patch. */
+#define SIVORANDRA_VERSION_MAJOR 0
+#define SIVORANDRA_VERSION_MINOR 6
+#define SIVORANDRA_VERSION_PATCH 0
+#define SIVORANDRA_VERSION (SIVORANDRA_VERSION_MAJOR * 10000 + SIVORANDRA_VERSION_MINOR * 100 + SIVORANDRA_VERSION_PATCH)
+#define SIVORANDRA_VERSION_TEXT "0.6.0"
+
+/* No call takes more bytes of the stack. */
+#define SIVORANDRA_STACK_BYTES 16384
+
+/* What every call but sivorandra_version returns: the call is answered, or a lent slice is too short and everything is as found.
    Short `rows` of a plan are 11 instead, and too few words for a run lent to row or advance are no run: 14. */
 #define SIVORANDRA_ANSWERED 0u
 #define SIVORANDRA_SHORT 1u
@@ -23,24 +51,62 @@ extern "C" {
 #define SIVORANDRA_FULL 1u        /* S and P */
 #define SIVORANDRA_MISS 2u        /* tick and position */
 #define SIVORANDRA_LENGTH 0u      /* from sivorandra_sentence: the sentence's length, and 0 */
-#define SIVORANDRA_REFUSED 3u     /* number, 1 to 19, and position */
+#define SIVORANDRA_REFUSED 3u     /* number, one of enum sivorandra_number, and position */
 #define SIVORANDRA_ROW_REFUSED 4u /* the last row of a replay: number and position */
 #define SIVORANDRA_NO_SENTENCE 5u /* from sivorandra_facts: 0 and 0 */
+
+/* By which number a call is turned down: the first that applies, where 19 comes between 3 and 4. The position is 0 but with 7, 8 and 15.
+   Later versions may have more numbers. */
+enum sivorandra_number {
+    SIVORANDRA_NOT_A_TABLE = 1,   /* fewer than 5 words, the rest no whole records of six, or more than 32 records */
+    SIVORANDRA_BAD_CORES = 2,     /* the core count is not 1 to 64 */
+    SIVORANDRA_BAD_RULE = 3,      /* the rule is not 1, 2 or 3 */
+    SIVORANDRA_NO_HEAD = 4,       /* the head is zero */
+    SIVORANDRA_NO_RECORD = 5,     /* along the chain a number past the last record is met */
+    SIVORANDRA_RECORD_AGAIN = 6,  /* along the chain a record is met again */
+    SIVORANDRA_BAD_WIDTH = 7,     /* the width of the position is 0 or above the number of unfenced cores */
+    SIVORANDRA_BAD_TIME = 8,      /* O, C, T or D of the position is outside its limits */
+    SIVORANDRA_LONG_HORIZON = 9,  /* the horizon is above SIVORANDRA_MOST_HORIZON */
+    SIVORANDRA_BAD_RANGE = 10,    /* plan: a is above b, or b is above the horizon */
+    SIVORANDRA_SHORT_ROWS = 11,   /* plan: `rows` has fewer than (b - a) * cores bytes */
+    SIVORANDRA_PAST_MISS = 12,    /* plan: b is above the tick of the first miss */
+    SIVORANDRA_TABLE_MISSES = 13, /* start, replay: the verdict is a miss */
+    SIVORANDRA_NOT_A_RUN = 14,    /* row, advance: the words are no run */
+    SIVORANDRA_LATE = 15,         /* row, advance: the position, the lowest that is late, has not ended its job at its deadline */
+    SIVORANDRA_BAD_REPORT = 16,   /* advance: for a position past the count, or a task that is not working or has no cores in this tick */
+    SIVORANDRA_NO_MISS = 17,      /* sentence: the table has no miss */
+    SIVORANDRA_SHORT_BUFFER = 18, /* sentence: `buffer` is shorter than the sentence */
+    SIVORANDRA_BAD_FENCE = 19     /* the fence names a core past the count, or all cores */
+};
+
+/* The limits of a table. D is at least 1 and at most T. */
+#define SIVORANDRA_MOST_TASKS 32            /* records of a table, tasks on a chain */
+#define SIVORANDRA_MOST_CORES 64
+#define SIVORANDRA_MOST_OFFSET 1000000u     /* O */
+#define SIVORANDRA_MOST_LENGTH 1000000u     /* C, from 1 */
+#define SIVORANDRA_MOST_PERIOD 1000000u     /* T, from 1 */
+#define SIVORANDRA_MOST_HORIZON 1000000000u /* S + P; 9 turns down a larger one */
+
+/* The rules. */
+#define SIVORANDRA_GREEDY 1u
+#define SIVORANDRA_LIMITED 2u
+#define SIVORANDRA_IDLING 3u
 
 /* The words of a table in front of its records: head, cores, rule, and the fence, the set of cores that no task has,
    its low word first: bit c of the low word is core c, bit c of the high word core 32 + c. */
 #define SIVORANDRA_TABLE_HEAD_WORDS 5
 #define SIVORANDRA_TABLE_RECORD_WORDS 6
+#define SIVORANDRA_TABLE_WORDS (SIVORANDRA_TABLE_HEAD_WORDS + SIVORANDRA_TABLE_RECORD_WORDS * SIVORANDRA_MOST_TASKS) /* the most */
 
 /* The words that a run kept between calls takes: rule, cores, count and the fence, its low word first, then 32 places of which the first count
    are used; a place is O, v, C, D, T, the kind of its phase (0 Coming, 1 Working, 2 Holding, 3 Resting) and its two numbers, 0 for one that
    it does not have. */
 #define SIVORANDRA_RUN_HEAD_WORDS 5
 #define SIVORANDRA_RUN_PLACE_WORDS 8
-#define SIVORANDRA_RUN_WORDS (SIVORANDRA_RUN_HEAD_WORDS + SIVORANDRA_RUN_PLACE_WORDS * 32)
+#define SIVORANDRA_RUN_WORDS (SIVORANDRA_RUN_HEAD_WORDS + SIVORANDRA_RUN_PLACE_WORDS * SIVORANDRA_MOST_TASKS)
 
 /* The bytes of a row: core 0 first, the position, 0 for idle, or 255 for a fenced core. */
-#define SIVORANDRA_ROW_BYTES 64
+#define SIVORANDRA_ROW_BYTES SIVORANDRA_MOST_CORES
 #define SIVORANDRA_FENCED 255u
 
 /* No sentence is longer: a buffer of so many bytes is never refused with 18. */
@@ -49,10 +115,10 @@ extern "C" {
 /* The words of the facts of a miss: position, tick, ticks had, C, then for positions 1 to 32 in how many of the late job's waiting ticks the
    task ran, 0 for one that the sentence does not name. */
 #define SIVORANDRA_FACT_HEAD_WORDS 4
-#define SIVORANDRA_FACT_WORDS (SIVORANDRA_FACT_HEAD_WORDS + 32)
+#define SIVORANDRA_FACT_WORDS (SIVORANDRA_FACT_HEAD_WORDS + SIVORANDRA_MOST_TASKS)
 
-/* The largest horizon, S + P, that a table may have: 9 turns down one that is larger. */
-#define SIVORANDRA_MOST_HORIZON 1000000000u
+/* The version of the library that is linked, as SIVORANDRA_VERSION has that of the header. */
+uint32_t sivorandra_version(void);
 
 /* The verdict on the table in `words`: firm, full, miss or refused. It goes from one release, end or deadline to the next, or tick by tick,
    whichever is faster for the table's periods. */

@@ -10,7 +10,7 @@ import tempfile
 ROOT = pathlib.Path(__file__).resolve().parents[1]
 LONGEST = 300  # bytes of anything that a failing test shows
 BLOCK = 1 << 16
-STAGE = "103"  # the last request that the project has
+STAGE = "103"  # the last request that changes what is read or printed
 passed = failed = 0
 
 
@@ -51,7 +51,7 @@ class Library:
     """The calls of a program of tests/library over the Rust bindings, built in a folder: a line asks, a line answers."""
 
     def __init__(self, work, name):
-        subprocess.run([str(ROOT / "tests" / "staticlib")], check=True)
+        subprocess.run([str(ROOT / "tools" / "archive")], check=True)
         build = ["rustc", "--edition", "2021", "-D", "warnings", "-L", f"native={ROOT / 'target' / 'staticlib'}"]
         subprocess.run([*build, "--crate-type", "rlib", "--crate-name", "sivorandra", "--out-dir", work, str(ROOT / "bindings" / "rust" / "src" / "lib.rs")], check=True)
         subprocess.run([*build, "--extern", f"sivorandra={work}/libsivorandra.rlib", "-o", f"{work}/calls", str(ROOT / "tests" / "library" / f"{name}.rs")], check=True)

@@ -1,24 +1,35 @@
 #!/usr/bin/env python3
-"""Draws what the program prints for a table as an SVG 1.1: picture.py PROGRAM... < table > out.svg
+"""Draws what the program prints for a table as an SVG 1.1: picture.py [--from TICK] [--to TICK] [--replay LIST] PROGRAM... < table > out.svg
 
 It decides nothing. The cells are the program's rows and the words are the program's verdict; releases, deadlines, the fence and the
 numbers beside each task are the table's. The program's output is read as a stream: only the rows that are drawn are kept, and
-after the last of them the program is stopped."""
+after the last of them the program is stopped. With --replay the program is `replay`: it is fed the table and the operations of LIST,
+with a row asked at each tick, and the rows of the list are drawn. A list is read on after the last of these, to say how many there
+are and whether something is refused, but no more than a million lines.
+The status is 0 where nothing is refused or missed, 1 for a miss, 2 for a refusal, 3 where something could not be read or written, 64 for wrong arguments."""
 import collections
-import colorsys
 import contextlib
+import functools
 import os
+import re
 import subprocess
 import sys
-from xml.sax.saxutils import escape, quoteattr
+
+from chart import BLUE, Chart, Sheet
 
 LONGEST = 2168  # bytes: no table is longer, and the program reads no more
 BLOCK = 1 << 18  # bytes of rows that are passed over at once
 MOST = 100  # ticks in one picture
 HEAD, RECORD = 5, 6  # words of a table and of a record
 FENCED = 255  # on a fenced core in every row
+LINE = 60  # bytes that are read of a line of a list, and more than an operation has
+PART = 200  # lines of a list that are sent at once: with a row asked after each they are fewer bytes than any pipe holds
+FURTHER = 1_000_000  # lines of a list that are read after those that are drawn
+SENTENCES = 3  # on refused advances, in one picture
+LATE = 15  # the number of a row that is refused as a task is late
 
 Task = collections.namedtuple("Task", "O v C D T")
+Table = collections.namedtuple("Table", "cores rule fenced tasks records")
 RULES = {1: "greedy", 2: "limited", 3: "idling"}
 VERDICTS = {
     "firm": "Firm: no deadline is ever missed, also when jobs end early",
@@ -35,8 +46,10 @@ REFUSALS = {
     7: ["The width v of the task at position {} is 0 or above the number of unfenced cores."],
     8: ["The O, C, D or T of the task at position {} is outside its limits."],
     9: ["The horizon, the last S plus P, is above 1,000,000,000 ticks."],
+    13: ["The table misses a deadline at full length, so no run of it is started.", "A picture without a list shows the miss."],
     19: ["The fence (words 3 and 4) names a core past the count, or all cores."],
 }
+FINE, MISSED, REFUSED, TROUBLE, USAGE = 0, 1, 2, 3, 64
 
 
 # Not the words of the program: nothing is drawn.
@@ -44,18 +57,26 @@ class Trouble(Exception):
     pass
 
 
-# The core count, the rule, the fenced cores and the tasks of a table that the program took, in the order of its chain.
+# What was asked for cannot be drawn: what is said of it, and the status.
+class Declined(Exception):
+    def __init__(self, words, status):
+        super().__init__(words)
+        self.status = status
+
+
+# The core count, the rule, the fenced cores and the tasks of a table that the program took, in the order of its chain, with their records' numbers.
 def table_of(text):
     words = [int(line) for line in text.split()]
-    tasks, at = [], words[0]
+    tasks, records, at = [], [], words[0]
     while at and len(tasks) < 32:
         record = words[HEAD + (at - 1) * RECORD:][:RECORD]
         tasks.append(Task(*record[1:]))
+        records.append(at)
         at = record[0]
-    return words[1], words[2], {core for core in range(words[1]) if words[3 + core // 32] >> core % 32 & 1}, tasks
+    return Table(words[1], words[2], {core for core in range(words[1]) if words[3 + core // 32] >> core % 32 & 1}, tasks, records)
 
 
-# The first and the last tick to draw, and what they are in words.
+# The first tick to draw and the one after the last where none are asked for, and what they are in words.
 def stretch(word, first, second):
     if word == "miss":
         if first <= MOST:
@@ -67,6 +88,55 @@ def stretch(word, first, second):
     if second <= MOST:
         return first, end, "the first period, from S"
     return first, first + MOST, f"the first {MOST} ticks of the period that starts at S; the first repeat, at tick {end}, is further on"
+
+
+# The ticks that are asked for: from `since` up to and including `until`, either of which may be None.
+class Asked:
+    def __init__(self, since=None, until=None):
+        self.since, self.until = since, until
+        if None not in (since, until) and until < since:
+            raise Declined(f"--from {since} lies after --to {until}", USAGE)
+        self.start = since if since is not None else max(0, (until or 0) - MOST + 1)
+        self.end = min(self.start + MOST, until + 1 if until is not None else self.start + MOST)
+
+    def __bool__(self):
+        return (self.since, self.until) != (None, None)
+
+    # Where there are rows of so many ticks: the first tick to draw, the one after the last, and what they are in words.
+    def within(self, count, whose):
+        for name, tick in (("--from", self.since), ("--to", self.until)):
+            if tick is not None and tick >= count:
+                raise Declined(f"{name} {tick} is past the rows: {whose} ticks 0 to {count - 1}" if count > 1 else f"{name} {tick} is past the rows: {whose} tick 0 alone", USAGE)
+        cut = self.until is not None and self.end <= self.until
+        return self.start, min(self.end, count), f"the first {MOST} of the {self.until + 1 - self.start:,} ticks asked for" if cut else "as asked for"
+
+
+# How many ticks are shown of how many.
+def shown(start, end, count, more=""):
+    ticks = f"Tick {start}" if end - start == 1 else f"Ticks {start} to {end - 1}"
+    if not more and end - start == count:
+        return f"{ticks}, the only one" if count == 1 else f"{ticks}, all {count:,}"
+    return f"{ticks}{', one' if end - start == 1 else ''} of {more}{count:,}"
+
+
+def number_of(count, thing):
+    return f"{count:,} {thing}{'' if count == 1 else 's'}"
+
+
+def about(table):
+    kept = f", {len(table.fenced)} of them fenced" if table.fenced else ""
+    return f"{number_of(len(table.tasks), 'task')} on {number_of(table.cores, 'core')}{kept}, rule {table.rule} ({RULES[table.rule]})"
+
+
+# A refusal, in words.
+def refusal(number, position):
+    sheet = Sheet()
+    title = f"Refused, number {number}" + (f", position {position}" if position else "")
+    lines = [line.format(position) for line in REFUSALS.get(number, ["The program gave this number; nothing is drawn."])]
+    sheet.text(16, 30, title, 17, font_weight="bold", id="refused")
+    for k, line in enumerate(lines):
+        sheet.text(16, 56 + 20 * k, line, 13)
+    return sheet.out(title, lines), REFUSED
 
 
 # The program's lines after so many, which are passed over by whole blocks.
@@ -86,257 +156,247 @@ def lines_after(source, count):
         rest = b""
 
 
-# The rows of a stretch of ticks, from the program's lines.
-def rows_of(source, start, end, cores, fenced, count):
-    rows = []
-    for tick, line in zip(range(start, end), lines_after(source, start)):
-        numbers = [int(field) for field in line.split()]
-        strange = lambda core, number: number != FENCED if core in fenced else number > count
-        if numbers[:1] != [tick] or len(numbers) != cores + 1 or any(strange(core, number) for core, number in enumerate(numbers[1:])):
-            raise Trouble(f"the program's row of tick {tick} is {line!r}")
-        rows.append(numbers[1:])
-    if len(rows) != end - start:
-        raise Trouble(f"the program's rows end at tick {start + len(rows)}")
-    return rows
+# The positions of a row, core by core, from the fields of a line.
+def row_in(fields, tick, table):
+    row = [int(field) for field in fields]
+    strange = lambda core, number: number != FENCED if core in table.fenced else number > len(table.tasks)
+    if len(row) != table.cores or any(strange(core, number) for core, number in enumerate(row)):
+        raise Trouble(f"the program's row of tick {tick} is {row}")
+    return row
 
 
-# 32 colours: neighbours differ in hue and in lightness, so that a grey print tells them apart too.
-def colour(position):
-    turn = (position - 1) * 0.618034 % 1
-    light = (0.74, 0.46, 0.84, 0.58)[(position - 1) % 4]
-    red, green, blue = colorsys.hls_to_rgb(turn, light, 0.62)
-    ink = "#000" if 0.30 * red + 0.59 * green + 0.11 * blue > 0.5 else "#fff"
-    return "#%02x%02x%02x" % (round(red * 255), round(green * 255), round(blue * 255)), ink
-
-
-def attributes(words):
-    return "".join(f" {key.replace('_', '-')}={quoteattr(str(value))}" for key, value in words.items())
-
-
-# The elements of a picture, and how large it must be to show them.
-class Sheet:
-    def __init__(self):
-        self.parts, self.right, self.bottom = [], 0, 0
-
-    def add(self, name, inner=None, **words):
-        self.parts.append(f"<{name}{attributes(words)}/>" if inner is None else f"<{name}{attributes(words)}>{escape(inner)}</{name}>")
-
-    def reach(self, x, y):
-        self.right, self.bottom = max(self.right, x), max(self.bottom, y)
-
-    def text(self, x, y, words, size=11, **more):
-        room = len(words) * size * 0.6
-        self.reach(x + room * {"middle": 0.5, "end": 0}.get(more.get("text_anchor"), 1), y + 4)
-        self.add("text", words, x=round(x, 2), y=round(y, 2), font_size=size, **more)
-
-    @contextlib.contextmanager
-    def group(self, **words):
-        self.parts.append(f"<g{attributes(words)}>")
-        yield
-        self.parts.append("</g>")
-
-    def out(self, title):
-        wide, high = round(self.right + 16), round(self.bottom + 12)
-        return "\n".join([
-            '<?xml version="1.0" encoding="UTF-8"?>',
-            '<svg xmlns="http://www.w3.org/2000/svg" xmlns:xlink="http://www.w3.org/1999/xlink" version="1.1"'
-            f' width="{wide}" height="{high}" viewBox="0 0 {wide} {high}" font-family="Helvetica, Arial, sans-serif">',
-            f"<title>{escape(title)}</title>",
-            f'<rect width="{wide}" height="{high}" fill="#fff"/>', *self.parts, "</svg>", ""])
-
-
-# A refusal, in words.
-def refusal(number, position):
-    sheet = Sheet()
-    title = f"Refused, number {number}" + (f", position {position}" if position else "")
-    sheet.text(16, 30, title, 17, font_weight="bold", id="refused")
-    for k, line in enumerate(REFUSALS.get(number, ["The program gave this number; nothing is drawn."])):
-        sheet.text(16, 56 + 20 * k, line.format(position), 13)
-    return sheet.out(title)
-
-
-# The runs of equal positions in a line of cells, as position, first cell, length; a new job starts a new run.
-def runs(line, start, tasks):
-    begin = 0
-    for at in range(1, len(line) + 1):
-        position = line[begin]
-        if at < len(line) and line[at] == position and not (position and (start + at - tasks[position - 1].O) % tasks[position - 1].T == 0):
+# The rows of a stretch of ticks, from the program's lines; and how many rows from tick `since` on have a position, those before the stretch too.
+def rows_of(source, start, end, table, since, position):
+    rows, had, begin = [], 0, min(start, since)
+    inside, last = b" %d " % position, b" %d" % position
+    for tick, line in zip(range(begin, end), lines_after(source, begin)):
+        if tick < start:
+            had += inside in line or line.rstrip().endswith(last)
             continue
-        if position:
-            yield position, begin, at - begin
-        begin = at
-
-
-# The ticks from `start` to `end` that are `after` ticks from a release.
-def moments(task, after, start, end):
-    first = task.O + after
-    return range(first + max(0, -(-(start - first) // task.T)) * task.T, end + 1, task.T)
-
-
-MONO = {"font_size": 10, "font_family": "DejaVu Sans Mono, Menlo, Consolas, monospace", "xml:space": "preserve", "fill": "#333"}
-
-
-# The chart of a stretch of ticks: cores over ticks, below it a strip for each task.
-class Chart(Sheet):
-    def __init__(self, cores, fenced, tasks, start, end, rows):
-        super().__init__()
-        self.cores, self.fenced, self.tasks, self.start, self.end, self.rows = cores, sorted(fenced), tasks, start, end, rows
-        self.wide = min(80, max(12, 960 / (end - start)))
-        self.high = next(size for most, size in ((8, 28), (16, 20), (32, 15), (64, 12)) if cores <= most)
-        self.strip = 24 if len(tasks) <= 12 else 18
-        self.columns = [max(len(name), *(len(str(task[k])) for task in tasks)) + 2 for k, name in enumerate(Task._fields)]
-        self.left = 16 + 40 + 6.1 * sum(self.columns)
-        self.top = 126
-        self.under = self.top + cores * self.high
-        self.foot = self.under + 46 + len(tasks) * self.strip
-        self.reach(self.x(end) + 12, self.foot)
-
-    def x(self, tick):
-        return round(self.left + (tick - self.start) * self.wide, 2)
-
-    def base(self, place):
-        return self.under + 46 + (place + 1) * self.strip - 4
-
-    def bar(self, since, until, base, **words):
-        self.add("rect", x=self.x(since), y=base - 8, width=round((until - since) * self.wide, 2), height=8, **words)
-
-    # The cells. In the group `rows` x is the tick since the first, y the core.
-    def cells(self):
-        ticks, found = self.end - self.start, collections.defaultdict(list)
-        for core in sorted(set(range(self.cores)) - set(self.fenced)):
-            for position, at, length in runs([row[core] for row in self.rows], self.start, self.tasks):
-                found[position].append((at, core, length))
-        with self.group(id="rows", transform=f"translate({self.left} {self.top}) scale({self.wide} {self.high})"):
-            self.add("title", f"from tick {self.start}, {ticks} ticks, {self.cores} cores")
-            self.add("rect", width=ticks, height=self.cores, fill="#f4f4f4")
-            for position in sorted(found):
-                with self.group(id=f"p{position}", fill=colour(position)[0]):
-                    for at, core, length in found[position]:
-                        self.add("rect", x=at, y=core, width=length, height=1)
-            if self.fenced:
-                with self.group(id="fenced", fill="#fff"):
-                    for core in self.fenced:
-                        self.add("rect", x=0, y=core, width=ticks, height=1)
-        with self.group(stroke="#fff", stroke_width=0.6):
-            for tick in range(self.start + 1, self.end):
-                self.add("line", x1=self.x(tick), x2=self.x(tick), y1=self.top, y2=self.under)
-        with self.group(stroke="#fff", stroke_width=1.2):
-            for core in range(1, self.cores):
-                self.add("line", x1=self.x(self.start), x2=self.x(self.end), y1=self.top + core * self.high, y2=self.top + core * self.high)
-        self.hatch()
-        size = min(14, self.high - 2, self.wide * 0.75)
-        for position in sorted(found):
-            with self.group(fill=colour(position)[1], text_anchor="middle", font_size=round(size, 1)):
-                for at, core, length in found[position]:
-                    # the number in each cell, or where cells are small in one of a run and in every tenth of a long one
-                    for cell in range(at, at + length) if self.wide >= 24 else range(at + min(5, (length - 1) // 2), at + length, 10):
-                        self.add("text", str(position), x=round(self.x(self.start + cell) + self.wide / 2, 2), y=round(self.top + (core + 0.5) * self.high + size * 0.36, 2))
-        self.add("rect", x=self.x(self.start), y=self.top, width=round(ticks * self.wide, 2), height=self.cores * self.high, stroke="#888", fill="none")
-        with self.group(fill="#333", text_anchor="end"):
-            for core in range(0, self.cores, 1 if self.high >= 15 else 4):
-                self.text(self.left - 6, self.top + core * self.high + self.high / 2 + 4, f"core {core}", 11, text_anchor="end")
-
-    # The rows of fenced cores, hatched from end to end.
-    def hatch(self):
-        if self.fenced:
-            self.parts.append('<defs><pattern id="hatch" width="8" height="8" patternUnits="userSpaceOnUse">'
-                              '<path d="M-2 2L2 -2M0 8L8 0M6 10L10 6" stroke="#777" stroke-width="1.4" fill="none"/></pattern></defs>')
-        for core in self.fenced:
-            self.add("rect", x=self.x(self.start), y=self.top + core * self.high, width=round((self.end - self.start) * self.wide, 2), height=self.high, fill="url(#hatch)")
-
-    # The strips: for each task its numbers, the time from release to deadline, the ticks in which it runs, its releases and deadlines.
-    def strips(self, late):
-        label = lambda fields: "".join(str(field).rjust(width) for field, width in zip(fields, self.columns))
-        self.parts.append('<defs><path id="up" d="M0 0V-14M-3 -9L0 -15L3 -9Z" stroke="#000" fill="#000"/>'
-                          '<path id="down" d="M0 -14V0M-3.5 -6L0 0L3.5 -6" stroke="#000" fill="none"/></defs>')
-        self.add("text", label(Task._fields), x=42, y=self.under + 38, **MONO)
-        for place, task in enumerate(self.tasks):
-            base, (fill, ink) = self.base(place), colour(place + 1)
-            with self.group(id=f"task{place + 1}"):
-                self.add("rect", x=16, y=base - 12, width=24, height=14, fill=fill)
-                self.add("text", str(place + 1), x=28, y=base - 1, font_size=11, text_anchor="middle", fill=ink)
-                self.add("text", label(task), x=42, y=base - 1, **MONO)
-                for due in moments(task, task.D, self.start + 1, self.end + task.D - 1):
-                    self.bar(max(self.start, due - task.D), min(self.end, due), base, fill="#d8d8d8")
-                for _, at, length in runs([place + 1 if place + 1 in row else 0 for row in self.rows], self.start, self.tasks):
-                    self.bar(self.start + at, self.start + at + length, base, fill=fill)
-                if late and late[1] == place + 1:
-                    self.bar(max(self.start, late[0] - task.D), late[0], base, fill="none", stroke="#c00000", stroke_width=1.5)
-                self.add("line", x1=self.x(self.start), x2=self.x(self.end), y1=base, y2=base, stroke="#888")
-                for name, arrow, after in (("releases", "up", 0), ("deadlines", "down", task.D)):
-                    with self.group(id=f"{name}{place + 1}"):
-                        for tick in moments(task, after, self.start, self.end):
-                            self.arrow(arrow, self.x(tick), base)
-
-    def arrow(self, name, x, y):
-        self.parts.append(f'<use xlink:href="#{name}" x="{x}" y="{y}"/>')
-
-    # A mark across chart and strips, if its tick is in the picture.
-    def mark(self, name, tick, words, y, ink, dashes):
-        if self.start <= tick <= self.end:
-            at = self.x(tick)
-            self.add("line", id=name, x1=at, x2=at, y1=y - 8, y2=self.foot + 2, stroke=ink, stroke_width=2, stroke_dasharray=dashes)
-            if at + len(words) * 12 * 0.6 > max(self.x(self.end), 560):
-                self.text(at - 5, y, words, 12, fill=ink, text_anchor="end")
-            else:
-                self.text(at + 5, y, words, 12, fill=ink)
-
-    # The ticks' numbers, over the marks.
-    def ticks(self):
-        step = next(step for step in (k * 10 ** n for n in range(8) for k in (1, 2, 5)) if step * self.wide >= 7 * len(str(self.end)) + 8)
-        with self.group(fill="#333", text_anchor="middle", font_size=11):
-            for tick in range(-(-self.start // step) * step, self.end + 1, step):
-                room = 6.5 * len(str(tick)) + 4
-                self.add("line", x1=self.x(tick), x2=self.x(tick), y1=self.under, y2=self.under + 4, stroke="#888")
-                self.add("rect", x=round(self.x(tick) - room / 2, 2), y=self.under + 5, width=round(room, 2), height=14, fill="#fff")
-                self.add("text", str(tick), x=self.x(tick), y=self.under + 16)
-
-    # How to read it.
-    def legend(self):
-        y = self.foot + 24
-        self.arrow("up", 22, y + 2)
-        self.text(30, y, "release")
-        self.arrow("down", 84, y + 2)
-        self.text(92, y, "deadline")
-        self.add("rect", x=150, y=y - 8, width=20, height=8, fill="#d8d8d8")
-        self.text(175, y, "from release to deadline; coloured where the task runs")
-        self.text(16, y + 18, "The number in a cell is the position of the task that has the core; an empty cell is an idle core.")
-        if self.fenced:
-            self.add("rect", x=16, y=y + 27, width=28, height=12, fill="url(#hatch)", stroke="#888")
-            self.text(50, y + 37, "a fenced core: it belongs to the hydraulics, and no task has it")
-
-
-def number_of(count, thing):
-    return f"{count} {thing}{'' if count == 1 else 's'}"
+        fields = line.split()
+        if fields[:1] != [b"%d" % tick]:
+            raise Trouble(f"the program's row of tick {tick} is {line!r}")
+        rows.append(row_in(fields[1:], tick, table))
+        had += tick >= since and position in rows[-1]
+    if len(rows) != end - start:
+        raise Trouble(f"the program's rows end before tick {end}")
+    return rows, had
 
 
 # The picture of a verdict that is no refusal, and of the rows that it needs from the program's output.
-def chart(word, first, second, table, source):
-    cores, rule, fenced, tasks = table
-    start, end, about = stretch(word, first, second)
-    sheet = Chart(cores, fenced, tasks, start, end, rows_of(source, start, end, cores, fenced, len(tasks)))
-    title = VERDICTS[word].format(first, second)
-    sheet.text(16, 28, title, 17, font_weight="bold")
-    kept = f", {len(fenced)} of them fenced" if fenced else ""
-    sheet.text(16, 50, f"{number_of(len(tasks), 'task')} on {number_of(cores, 'core')}{kept}, rule {rule} ({RULES[rule]})" + ("" if word == "miss" else f"; S is {first}, P is {second}"), 13)
-    sheet.text(16, 69, f"Ticks {start} to {end}: {about}.", 13)
+def chart(word, first, second, table, source, asked):
+    count = first + (0 if word == "miss" else second)
+    start, end, what = asked.within(count, "there are those of") if asked else stretch(word, first, second)
+    seen = word == "miss" and end == first
+    rows, had = rows_of(source, start, end, table, first - table.tasks[second - 1].D if seen else end, second)
+    head = [VERDICTS[word].format(first, second), about(table) + ("" if word == "miss" else f"; S is {first}, P is {second}"), f"{shown(start, end, count)}: {what}."]
+    sheet = Chart(table, start, rows, head)
     sheet.cells()
-    if word == "miss":
-        sheet.strips((first, second))
-        sheet.mark("miss", first, f"miss at tick {first}, position {second}", sheet.top - 10, "#c00000", "none")
-        sheet.add("path", id="late", d=f"M{sheet.x(first) - 6} {sheet.base(second - 1) - 14}l12 12m0 -12l-12 12", stroke="#c00000", stroke_width=3, fill="none")
-    else:
-        sheet.strips(None)
-        sheet.mark("S", first, f"S, tick {first}", sheet.top - 26, "#00459c", "6 3")
-        sheet.mark("repeat", first + second, f"first repeat, S + P, tick {first + second}", sheet.top - 10, "#00459c", "2 3")
+    sheet.strips((first, second) if seen else None)
+    if seen:
+        sheet.late(first, second, had, f"miss at tick {first}, position {second}", sheet.top - 10)
+        head.append(f"The late job had {had} of {table.tasks[second - 1].C}.")
+    elif word != "miss":
+        sheet.mark("S", first, f"S, tick {first}", sheet.top - 26, BLUE, "6 3")
+        sheet.mark("repeat", first + second, f"first repeat, S + P, tick {first + second}", sheet.top - 10, BLUE, "2 3")
     sheet.ticks()
     sheet.legend()
-    return sheet.out(title)
+    return sheet.out(head[0], head[1:]), MISSED if word == "miss" else FINE
 
 
-def draw(program, text):
-    # leaving this block closes the pipe, and the program stops at its next write, however many rows are left
-    with subprocess.Popen(program, stdin=subprocess.PIPE, stdout=subprocess.PIPE) as process:
+def next_line(source):
+    line = source.readline(4 * 64 + 8)
+    if not line.endswith(b"\n"):
+        raise Trouble("the program ended before its last answer")
+    return line[:-1]
+
+
+# The number and the position of a refusal.
+def numbers_in(line):
+    fields = line.split()
+    if len(fields) != 3 or fields[0] != b"refused" or not (fields[1] + fields[2]).isdigit():
+        raise Trouble(f"the program answered {line!r}")
+    return int(fields[1]), int(fields[2])
+
+
+def is_operation(line):
+    return line == b"r" or re.fullmatch(rb"a [0-9]{1,10}", line) is not None and int(line[2:]) < 1 << 32
+
+
+# The lines of a list, some at a time; the first that is no operation is the last, whatever comes after it.
+def parts(name, source):
+    part, fine = [], True
+    while fine:
+        try:
+            line = source.readline(LINE)
+        except OSError as error:
+            raise Declined(f"{name} could not be read: {error.strerror}", TROUBLE)
+        if not line:
+            break
+        line = line.removesuffix(b"\n")
+        fine = is_operation(line)
+        part.append(line)
+        if len(part) == PART or not fine:
+            yield part
+            part = []
+    yield part
+
+
+# What a list did, from the program's answers: the rows that are drawn, and what is marked in them.
+class Listed:
+    def __init__(self, table, asked):
+        self.table, self.asked = table, asked
+        self.tick, self.advances, self.more = 0, 0, ""
+        self.jobs = {}  # of a position's job that was released last: which it is, the ticks that it had or held, whether it ended
+        self.rows, self.held, self.ended, self.unused = [], set(), [], []
+        self.refusals, self.marks, self.words, self.late = 0, {}, [], None
+        self.parsed = functools.lru_cache(1024)(lambda line: row_in(line.split()[1:], self.tick, table))
+
+    def drawn(self):
+        return self.asked.start <= self.tick < self.asked.end
+
+    def job(self, position):
+        task = self.table.tasks[position - 1]
+        number = (self.tick - task.O) // task.T
+        if self.jobs.get(position, [None])[0] != number:
+            self.jobs[position] = [number, 0, False]
+        return self.jobs[position]
+
+    # The row of a tick that is reached, or its refusal.
+    def row(self, line):
+        if line.startswith(b"row "):
+            row = self.parsed(line)
+            self.positions = set(row) - {0, FENCED}
+            if self.drawn():
+                self.rows.append(row)
+                self.held |= {(self.tick, position) for position in self.positions if self.job(position)[2]}
+            return
+        number, position = numbers_in(line)
+        if number != LATE:
+            raise Trouble(f"the program's row of tick {self.tick} is {line!r}")
+        task = self.table.tasks[position - 1]
+        job = self.jobs.get(position, [None, 0])
+        self.late = self.tick, position, job[1] if job[0] == (self.tick - task.D - task.O) // task.T else 0
+        if self.drawn():
+            self.marks[self.tick] = number
+            self.rows.append([FENCED if core in self.table.fenced else 0 for core in range(self.table.cores)])
+
+    # An advance that is taken: a tick goes by for those in its row, the jobs that are reported end, and the next tick has this row.
+    def taken(self, reports, line):
+        for position in self.positions:
+            self.job(position)[1] += 1
+        for position in (place + 1 for place in range(reports.bit_length()) if reports >> place & 1):
+            if position not in self.positions:
+                raise Trouble(f"the program took a report for position {position} at tick {self.tick}")
+            job, task = self.job(position), self.table.tasks[position - 1]
+            job[2] = True
+            until = min(self.tick + 1 + task.C - job[1], task.O + job[0] * task.T + task.D)
+            if self.drawn():
+                self.ended.append((self.tick, position, job[1]))
+            if RULES[self.table.rule] != "idling" and max(self.tick + 1, self.asked.start) < min(until, self.asked.end):  # else its cells are held
+                self.unused.append((position, self.tick + 1, until))
+        self.tick += 1
+        self.row(line)
+
+    # An advance that is refused. Where a task is late the row has said it.
+    def refused(self, operation, answer):
+        number, position = numbers_in(answer)
+        self.refusals += 1
+        if number != LATE:
+            if self.drawn():
+                self.marks[self.tick] = number
+            if len(self.words) < SENTENCES:
+                why = ": it reports a position that is not there, not working or without cores in this tick" if number == 16 else ""
+                self.words.append(f"At tick {self.tick} '{operation}' is refused, number {number}{f', position {position}' if position else ''}{why}.")
+
+    # What the program says to each line of the list; they are sent in parts, with a row asked after each advance.
+    def follow(self, name, source, process):
+        self.row(next_line(process.stdout))
+        read = since = 0
+        for part in parts(name, source):
+            process.stdin.write(b"".join(line + b"\nr\n" for line in part if line != b"r"))
+            process.stdin.flush()
+            for line in part:
+                read, since = read + 1, since + 1
+                if line == b"r":
+                    continue
+                answer = next_line(process.stdout)
+                if answer == b"not an operation":
+                    raise Declined(f"{name}: line {read}: {stands(line)} stands there; 'a N' (N a number up to 4294967295) or 'r' was expected", REFUSED)
+                self.advances += 1
+                asked = next_line(process.stdout)
+                if answer == b"taken":
+                    self.taken(int(line[2:]), asked)
+                    since = since if self.tick >= self.asked.end else 0
+                else:
+                    self.refused(line.decode(), answer)
+            if since >= FURTHER:
+                self.more = "more than "
+                return
+
+
+# A line that is no operation, as it is shown.
+def stands(line):
+    return repr(line)[1:] + (" (Windows line ends)" if line.endswith(b"\r") else "") if line else "an empty line"
+
+
+# What stands over the picture of a list, and what of it is red.
+def list_words(listed, ticks):
+    advances = number_of(listed.advances, "advance")
+    title = f"The first {advances} of a list" if listed.more else f"A list of {advances}" if listed.advances else "A list without an advance"
+    if listed.late:
+        title += f": position {listed.late[1]} misses its deadline at tick {listed.late[0]}"
+    elif listed.refusals:
+        title += f", {listed.refusals:,} refused"
+    elif listed.advances:
+        title += ", all taken" if listed.advances > 1 else ", taken"
+    red = listed.words[:]
+    if listed.refusals > len(red) + bool(listed.late):
+        red.append(f"In all {number_of(listed.refusals, 'advance')} are refused.")
+    if listed.late:
+        tick, position, had = listed.late
+        red.append(f"At tick {tick} the row is refused, number {LATE}, position {position}: its job is due and had {had} of {listed.table.tasks[position - 1].C}.")
+    return [title, about(listed.table), ticks, "These are the rows of the list, not of the full-length run."], red
+
+
+# The picture of the rows of a list.
+def list_chart(listed):
+    table, count = listed.table, listed.tick + 1
+    if listed.asked:
+        start, end, what = listed.asked.within(count, "the list reaches")
+    else:
+        start, end, what = 0, min(MOST, count), "what the list reaches" if count <= MOST else f"the first {MOST} ticks that the list reaches"
+    head, red = list_words(listed, f"{shown(start, end, count, listed.more)}: {what}.")
+    sheet = Chart(table, start, listed.rows, head, red)
+    late = listed.late if listed.late and start <= listed.late[0] <= end else None
+    blank = late and late[0] < end
+    sheet.cells(listed.held)
+    if blank:
+        sheet.blank(late[0])
+    sheet.strips(late, listed.held, listed.unused)
+    for tick, position, _ in listed.ended:
+        sheet.ends(tick, position)
+    if late:
+        sheet.late(*late, f"refused at tick {late[0]}, number {LATE}, position {late[1]}", sheet.top - 26)
+    for tick, number in sorted(listed.marks.items()):
+        sheet.refused(tick, number)
+    sheet.ticks()
+    sheet.legend(*([("ends", "ends here: the list reports that the job ends in this tick")] if listed.ended else []),
+                 *([("unused", "the rest of the job's length, which it does not take")] if listed.unused else []),
+                 *([("held", "the job has ended: its cores are held and not used")] if listed.held else []),
+                 *([("blank", "a tick whose row is refused")] if blank else []))
+    ends = [f"Position {position} ends in tick {tick} with {had} of {table.tasks[position - 1].C}." for tick, position, had in listed.ended]
+    return sheet.out(head[0], head[1:] + red + ends), REFUSED if listed.late or listed.refusals else FINE
+
+
+# A program that reads what it is sent. Leaving this closes its pipes: it stops at its next read or write, however many rows are left.
+def running(program):
+    return subprocess.Popen(program, stdin=subprocess.PIPE, stdout=subprocess.PIPE)
+
+
+# The picture of a table, and the status.
+def draw(program, text, asked=Asked()):
+    with running(program) as process:
         process.stdin.write(text)
         process.stdin.close()
         fields = process.stdout.readline(64).split()
@@ -347,32 +407,72 @@ def draw(program, text):
             return refusal(first, second)
         if word not in VERDICTS:
             raise Trouble(f"the program's verdict is {word!r}")
-        return chart(word, first, second, table_of(text), process.stdout)
+        return chart(word, first, second, table_of(text), process.stdout, asked)
 
 
-# Says what went wrong, and ends: what is still to be written to standard output is not.
-def fail(words):
-    print(f"picture: {words}", file=sys.stderr)
-    sys.stderr.flush()
-    os._exit(1)
+# The picture of a list of operations of a table, and the status.
+def draw_list(program, text, path, asked=Asked()):
+    handed = re.fullmatch("/dev/fd/([0-9]+)", path)  # a descriptor that was handed down is read from where it stands
+    name = "the list" if handed else path
+    try:
+        source = os.fdopen(int(handed[1]), "rb") if handed else open(path, "rb")
+    except OSError as error:
+        raise Declined(f"{name} could not be read: {error.strerror}", TROUBLE)
+    with source, running(program) as process:
+        # a line `--` in a table is none of ours, so it is made another that is no number; the last line has its newline
+        text = re.sub(rb"(?m)^--$", b"---", text)
+        process.stdin.write(text + (b"" if text.endswith(b"\n") or not text else b"\n") + b"--\nr\n")
+        process.stdin.flush()
+        started = next_line(process.stdout)
+        if started != b"ok":
+            return refusal(*numbers_in(started))
+        listed = Listed(table_of(text), asked)
+        listed.follow(name, source, process)
+        return list_chart(listed)
+
+
+# Says what went wrong, where that can be said, and ends: what is still to be written to standard output is not.
+def fail(words, status=TROUBLE, who="picture"):
+    with contextlib.suppress(OSError):
+        os.write(2, f"{who}: {words}\n".encode("utf-8", "backslashreplace"))
+    os._exit(status)
+
+
+# The options before the program, and the program.
+def arguments(words):
+    given = {}
+    while words[:1] and words[0] in ("--from", "--to", "--replay") and len(words) > 1:
+        given[words[0]] = words[1]
+        words = words[2:]
+    ticks = [given.get(name) for name in ("--from", "--to")]
+    if not words or words[0].startswith("--") or not all(tick is None or re.fullmatch("[0-9]{1,10}", tick) for tick in ticks):
+        fail("picture.py [--from TICK] [--to TICK] [--replay LIST] PROGRAM... < table > out.svg", USAGE, "usage")
+    return Asked(*(tick and int(tick) for tick in ticks)), given.get("--replay"), words
 
 
 def main():
-    if len(sys.argv) < 2:
-        sys.exit("usage: picture.py PROGRAM... < table > out.svg")
+    try:
+        asked, name, program = arguments(sys.argv[1:])
+    except Declined as declined:
+        fail(declined, declined.status, "sivorandra")
     try:
         text = sys.stdin.buffer.read(LONGEST + 1)
     except (OSError, AttributeError):  # it is None where it is closed
         fail("standard input could not be read")
     try:
-        drawn = draw(sys.argv[1:], text)
+        drawn, status = draw(program, text, asked) if name is None else draw_list(program, text, name, asked)
+    except Declined as declined:
+        fail(declined, declined.status, "sivorandra")
     except (Trouble, OSError, ValueError, IndexError, KeyError, TypeError) as trouble:
         fail(trouble)
     try:
         sys.stdout.buffer.write(drawn.encode())
         sys.stdout.buffer.flush()
+    except BrokenPipeError:  # who reads has gone away
+        os._exit(TROUBLE)
     except (OSError, AttributeError):
         fail("standard output could not be written")
+    sys.exit(status)
 
 
 if __name__ == "__main__":

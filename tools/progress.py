@@ -1,11 +1,12 @@
 #!/usr/bin/env python3
-"""Runs the program, hands its output on as it is, and says on standard error from the second second on that it is judging, and then how many of the rows have gone by: progress.py PROGRAM < table
+"""Runs the program, hands its output on as it is, and says on standard error from the second second on that it is judging, and then how many of the rows have gone by:
+progress.py [--judging] PROGRAM < table
 
-How many there will be it reads from the verdict line. Where standard output is a terminal too, it is silent from the first row on."""
+How many there will be it reads from the verdict line. With --judging it is silent from the first line on."""
 import fcntl
 import os
 import select
-import stat
+import signal
 import subprocess
 import sys
 import time
@@ -21,16 +22,6 @@ def rows_after(line):
     if len(fields) != 3 or fields[0] == b"refused":
         return 0
     return int(fields[1]) + (0 if fields[0] == b"miss" else int(fields[2]))
-
-
-# Whether the program has read all of the table, so far as that can be seen: a file to its end, or a pipe that is closed and empty.
-def table_read():
-    kept = os.fstat(0)
-    if stat.S_ISREG(kept.st_mode):
-        return os.lseek(0, 0, os.SEEK_CUR) >= kept.st_size
-    poll = select.poll()
-    poll.register(0, select.POLLIN)
-    return poll.poll(0) == [(0, select.POLLHUP)]
 
 
 def write_all(block):
@@ -56,7 +47,7 @@ class Line:
         self.shown = False
 
 
-def hand_on(source, line):
+def hand_on(source, line, judging):
     try:
         fcntl.fcntl(source, 1031, BLOCK)  # F_SETPIPE_SZ: a longer pipe, fewer turns
     except OSError:
@@ -73,21 +64,23 @@ def hand_on(source, line):
                 if b"\n" in first:
                     total = rows_after(first[:first.index(b"\n")])
             lines += buffer.count(b"\n", 0, count)
-            if os.isatty(1):
+            if judging:
                 line.clear()
             write_all(memoryview(buffer)[:count])
         if total is None:
-            line.say("still judging" if table_read() else "no verdict yet")
-        elif not os.isatty(1):
+            line.say("still judging")
+        elif not judging:
             line.say(f"{lines - 1:,} of {total:,} rows")
 
 
 def main():
+    judging = sys.argv[1:2] == ["--judging"]
+    signal.signal(signal.SIGTERM, signal.default_int_handler)  # stopped by it as by a key
     line = Line()
-    process = subprocess.Popen(sys.argv[1:], stdout=subprocess.PIPE)
+    process = subprocess.Popen(sys.argv[1 + judging:], stdout=subprocess.PIPE)
     lost = False
     try:
-        hand_on(process.stdout.fileno(), line)
+        hand_on(process.stdout.fileno(), line, judging)
     except BrokenPipeError:  # nobody reads any more: the program stops at its next write
         pass
     except OSError:
@@ -99,7 +92,7 @@ def main():
     status = process.wait()
     if lost:
         os.write(2, b"sivorandra: standard output could not be written\n")
-        return 1
+        return 3
     return status if status >= 0 else 128 - status
 
 

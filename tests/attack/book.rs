@@ -17,7 +17,7 @@ pub fn begin() {
 pub type Said<T> = Result<T, Refused>;
 
 fn said(refusal: Refusal) -> Refused {
-    Refused { number: refusal.number, position: refusal.place as u32 }
+    Refused::new(refusal.number, refusal.place as u32)
 }
 
 /// The numbers of a table's text.
@@ -64,7 +64,7 @@ impl Known {
 
     pub fn start(&self) -> Said<Cab> {
         match self.verdict {
-            Verdict::Miss { .. } => Err(Refused { number: 13, position: 0 }),
+            Verdict::Miss { .. } => Err(Refused::TableMisses),
             _ => Ok(Cab { book: Some(Book::begin(&self.table)), run: Run::begin(&self.table) }),
         }
     }

@@ -122,7 +122,7 @@ fn ask(rng: &mut Rng, mut call: impl FnMut(&mut [u32]) -> Tried<u32>) -> Tried<[
 fn done(three: [u32; 3]) -> Tried<Said<()>> {
     match three {
         [0, 0, 0] => Ok(Ok(())),
-        [3, number, position] => Ok(Err(Refusal { number, position })),
+        [3, number, position] => Ok(Err(Refusal::new(number, position))),
         other => Err(format!("the answer is {other:?}")),
     }
 }
@@ -135,7 +135,7 @@ pub fn judge(rng: &mut Rng, words: &[u32], by_ticks: bool) -> Tried<Said<Verdict
         [0, start, period] => Ok(Ok(Verdict::Firm { start, period })),
         [1, start, period] => Ok(Ok(Verdict::Full { start, period })),
         [2, tick, position] => Ok(Ok(Verdict::Miss { tick, position })),
-        [3, number, position] => Ok(Err(Refusal { number, position })),
+        [3, number, position] => Ok(Err(Refusal::new(number, position))),
         other => Err(format!("the answer is {other:?}")),
     }
 }
@@ -176,8 +176,8 @@ pub fn replay(rng: &mut Rng, words: &[u32], reports: &[u32], expected: &Said<(Ve
     let three = ask(rng, |answer| call(numbers_len, row_len, answer))?;
     let (case, answers, bytes): (_, &[u32], &[u8]) = match expected {
         Ok((answers, Ok(row))) => ([0, 0, 0], answers, row),
-        Ok((answers, Err(refusal))) => ([4, refusal.number, refusal.position], answers, &[0; ROW_BYTES]),
-        Err(refusal) => ([3, refusal.number, refusal.position], &[], &[]),
+        Ok((answers, Err(refusal))) => ([4, refusal.number(), refusal.position()], answers, &[0; ROW_BYTES]),
+        Err(refusal) => ([3, refusal.number(), refusal.position()], &[], &[]),
     };
     same("replay", case, three)?;
     numbers.holds("the answers", answers)?;

@@ -6,7 +6,7 @@ use sivorandra::{judge, judge_ticks, plan, replay, Refusal, Replay, Run, ROW_BYT
 const TABLE: [u32; 23] = [1, 3, 1, 0, 0, 2, 0, 2, 2, 5, 5, 3, 0, 2, 3, 5, 5, 0, 0, 1, 4, 5, 5];
 
 fn refused<T>(number: u32) -> Result<T, Refusal> {
-    Err(Refusal { number, position: 0 })
+    Err(Refusal::new(number, 0))
 }
 
 /// Each call by name, and whether it is answered as it should be.

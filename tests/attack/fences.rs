@@ -64,7 +64,7 @@ pub fn rows() -> Tried<()> {
     let halves = std::array::from_fn(|core| if core < 32 { 1 } else { 255 });
     for (words, row) in [
         (fenced(1, 64, u64::MAX << 32, &[[0, 32, 4, 6, 8, WORKING, 1, 1]]), Ok(halves)),
-        (fenced(1, 3, 0b010, &[late]), Err(Refusal { number: 15, position: 1 })),
+        (fenced(1, 3, 0b010, &[late]), Err(Refusal::Late { position: 1 })),
         (fenced(1, 3, 0b111, &[PLAIN]), Err(OUT)),
         (fenced(4, 3, 0b010, &[PLAIN]), Err(OUT)),
     ] {

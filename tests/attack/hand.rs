@@ -55,7 +55,7 @@ fn turned_down(words: &Words) -> bool {
     !(within(count, 1, 32) && within(cores, 1, 64) && within(rule, 1, 3) && !past && unfenced > 0 && used.all(|place| is_phase(place) && fits(place)))
 }
 
-pub const OUT: Refusal = Refusal { number: 14, position: 0 };
+pub const OUT: Refusal = Refusal::NotARun;
 
 /// Row and advance of a run, for some ticks, beside 14 and the book.
 fn compare(rng: &mut Rng, counts: &mut Counts, words: &Words, ticks: usize) -> Tried<()> {
@@ -256,7 +256,7 @@ fn lateness(counts: &mut Counts) -> Tried<()> {
         (0..6).filter(|place| set & 1 << place != 0).for_each(|place| places[place] = late);
         for rule in 1..=3 {
             let mut words = run(rule, 4, &places);
-            let expected = Err(Refusal { number: 15, position: set.trailing_zeros() + 1 });
+            let expected = Err(Refusal::Late { position: set.trailing_zeros() + 1 });
             let mut held = Run::from_words(words);
             same("row", expected, held.row().map(|_| ()))?;
             for reports in [0, 1, 63, u32::MAX] {
@@ -312,9 +312,9 @@ fn a_move(rule: u32, place: Place, reports: u32, phase: [u32; 3]) -> Tried<()> {
 fn held_back() -> Tried<()> {
     let mut held = Run::from_words(run(3, 2, &[[0, 2, 4, 6, 8, HOLDING, 5, 1], [0, 1, 2, 8, 8, WORKING, 5, 0]]));
     same("the row", Ok([1, 1]), held.row().map(|row| [row[0], row[1]]))?;
-    same("the holder reported", Err(Refusal { number: 16, position: 0 }), held.advance(1))?;
-    same("the waiting one reported", Err(Refusal { number: 16, position: 0 }), held.advance(2))?;
-    same("a position past the count reported", Err(Refusal { number: 16, position: 0 }), held.advance(4))?;
+    same("the holder reported", Err(Refusal::BadReport), held.advance(1))?;
+    same("the waiting one reported", Err(Refusal::BadReport), held.advance(2))?;
+    same("a position past the count reported", Err(Refusal::BadReport), held.advance(4))?;
     same("advance", Ok(()), held.advance(0))?;
     same("the row after the hold", Ok([2, 0]), held.row().map(|row| [row[0], row[1]]))
 }

@@ -71,7 +71,7 @@ pub struct Counts {
 impl Counts {
     pub fn answer(&mut self, answer: &Said<()>) {
         if let Err(refusal) = answer {
-            self.numbers[refusal.number.min(19) as usize] += 1;
+            self.numbers[refusal.number().min(19) as usize] += 1;
         }
     }
 

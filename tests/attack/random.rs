@@ -12,7 +12,7 @@ const MOST_ADVANCES: u32 = 60;
 const MOST_ROWS: u32 = 2_000;
 
 fn code(answer: &Said<()>) -> u32 {
-    answer.map_or_else(|refusal| refusal.number * 256 + refusal.position, |()| 0)
+    answer.map_or_else(|refusal| refusal.number() * 256 + refusal.position(), |()| 0)
 }
 
 /// Rows to ask for and a buffer's length: mostly such that they can be written.
@@ -89,7 +89,7 @@ fn compare_runs(rng: &mut Rng, counts: &mut Counts, words: &[u32], known: &Said<
     let often = rng.pick(&[1, 2, 4, 16]);
     let length = rng.from(0, MOST_ADVANCES);
     let mut expected = Vec::new();
-    let unmade = Refusal { number: 14, position: 0 };
+    let unmade = Refusal::NotARun;
     let mut row: Said<[u8; ROW_BYTES]> = Err(unmade);
     for at in 0..=length {
         row = begun.as_ref().map_or(Err(unmade), Cab::row);

@@ -74,7 +74,7 @@ impl Search {
             let answer = next.advance(set);
             counts.answer(&answer);
             if set & !may != 0 {
-                same(&format!("advance with {set}"), Err(Refusal { number: 16, position: 0 }), answer)?;
+                same(&format!("advance with {set}"), Err(Refusal::BadReport), answer)?;
                 same_run("a refused run", run.words(), next.words())?;
                 continue;
             }

@@ -6,6 +6,11 @@ use crate::rng::Rng;
 use sivorandra::{Refusal, Run, ROW_BYTES};
 use std::fs;
 
+/// A refusal as it is printed.
+fn refused(refusal: Refusal) -> String {
+    format!("refused {} {}\n", refusal.number(), refusal.position())
+}
+
 /// What the library's plan gives, printed a row a line.
 fn printed(text: &[u8], a: u32, b: u32, len: usize) -> Tried<String> {
     let mut lent = Lent::bytes(&mut Rng::new(1), len);
@@ -15,9 +20,9 @@ fn printed(text: &[u8], a: u32, b: u32, len: usize) -> Tried<String> {
             lent.holds("the rows", &rows)?;
             Ok(rows.chunks(cores).map(|row| row.iter().map(u8::to_string).collect::<Vec<_>>().join(" ") + "\n").collect())
         }
-        Err(Refusal { number, position }) => {
+        Err(refusal) => {
             lent.as_found("the rows")?;
-            Ok(format!("refused {number} {position}\n"))
+            Ok(refused(refusal))
         }
     }
 }
@@ -35,7 +40,6 @@ fn operated(text: &[u8]) -> Tried<String> {
     let (words, operations) = book::built_from(text, &calls::NO_RUN);
     let mut run = Run::from_words(words);
     let mut out = String::new();
-    let refused = |Refusal { number, position }| format!("refused {number} {position}\n");
     for operation in operations {
         out += &match operation.split_once(' ') {
             None if operation == "p" => book::text_of(run.words()),
@@ -65,7 +69,7 @@ fn examples() -> Vec<(String, Tried<()>)> {
         bytes[..2].copy_from_slice(&positions);
         Ok(bytes)
     };
-    let late = Err(Refusal { number: 15, position: 3 });
+    let late = Err(Refusal::Late { position: 3 });
     let cases = [
         ("b-full-not-firm", vec![], row([1, 3])),
         ("b-full-not-firm", vec![1], row([2, 2])),

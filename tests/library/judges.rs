@@ -5,10 +5,8 @@ use std::io::{self, BufRead, Write};
 
 fn line_of(verdict: Result<Verdict, Refusal>) -> String {
     match verdict {
-        Ok(Verdict::Firm { start, period }) => format!("firm {start} {period}"),
-        Ok(Verdict::Full { start, period }) => format!("full {start} {period}"),
-        Ok(Verdict::Miss { tick, position }) => format!("miss {tick} {position}"),
-        Err(Refusal { number, position }) => format!("refused {number} {position}"),
+        Ok(verdict) => verdict.to_string(),
+        Err(refusal) => format!("refused {} {}", refusal.number(), refusal.position()),
     }
 }
 

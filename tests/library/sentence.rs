@@ -1,7 +1,7 @@
 //! Calls of the library for tests/outside/sentence: each line of standard input is a call, and one line answers it.
 //! `sentence LEN WORD..` is answered by `length N SENTENCE` or `refused NUMBER POSITION`; `facts HEX` by the numbers of the facts, as in the sentence's order,
 //! or `no sentence`. The buffer lies between guards: where a byte past the sentence, or any in a refusal, is not as found, the answer is `touched`.
-use sivorandra::{facts_of, sentence_in, Refusal};
+use sivorandra::{facts_of, sentence_in};
 use std::io::{self, BufRead, Write};
 
 const GUARD: usize = 16;
@@ -16,7 +16,7 @@ fn sentence(len: usize, words: &[u32]) -> String {
     }
     match answer {
         Ok(length) => format!("length {length} {}", String::from_utf8_lossy(&buffer[GUARD..end])),
-        Err(Refusal { number, position }) => format!("refused {number} {position}"),
+        Err(refusal) => format!("refused {} {}", refusal.number(), refusal.position()),
     }
 }
 

@@ -1,65 +1,168 @@
 //! Safe functions over Sivorandra, a proved timing judge for tables of gang tasks.
 //!
-//! With cargo the build script finds the library; with rustc alone:
+//! With cargo the build script finds libsivorandra.a (`tools/archive` makes it; SIVORANDRA_LIB names the folder of another); with rustc alone:
 //! `rustc --edition 2021 --crate-type rlib --crate-name sivorandra -L native=target/staticlib bindings/rust/src/lib.rs`
+//!
+//! A table is given by its words: head, cores, rule and two words of fence, then next, O, v, C, D and T of each record.
+//!
+//! ```
+//! use sivorandra::{judge, Verdict};
+//!
+//! let table = [
+//!     1, 3, 1, 0, 0, // head, cores, rule, fence
+//!     2, 0, 2, 2, 5, 5, // next, offset, width, length, deadline, period
+//!     3, 0, 2, 3, 5, 5, //
+//!     0, 0, 1, 4, 5, 5,
+//! ];
+//! assert_eq!(judge(&table)?, Verdict::Full { start: 0, period: 5 });
+//! # Ok::<(), sivorandra::Refusal>(())
+//! ```
+//!
+//! No function takes memory but `replay` and `sentence`, which return some, and none has a state of its own: any number of threads may call at once.
+//! What a call costs in time and stack stands in `include/sivorandra.h`.
+#![warn(missing_docs)]
 
-/// The bytes of a run's row: core 0 first, the position, 0 for idle, or `FENCED`.
-pub const ROW_BYTES: usize = 64;
-/// What a row has on a fenced core.
-pub const FENCED: u8 = 255;
+mod refusal;
+
+pub use refusal::Refusal;
+use std::fmt;
+
+/// The version that these bindings are for: major * 10000 + minor * 100 + patch. `version` is that of the library that is linked.
+pub const VERSION: u32 = 600;
+
+/// The most tasks on a chain, and the most records of a table.
+pub const MOST_TASKS: usize = 32;
+/// The most cores.
+pub const MOST_CORES: usize = 64;
+/// The most that O may be.
+pub const MOST_OFFSET: u32 = 1_000_000;
+/// The most that C may be.
+pub const MOST_LENGTH: u32 = 1_000_000;
+/// The most that T may be; D is at most T.
+pub const MOST_PERIOD: u32 = 1_000_000;
+/// The largest horizon, S + P, that a table may have: 9 turns down one that is larger.
+pub const MOST_HORIZON: u32 = 1_000_000_000;
+
+/// The rule by which who fits takes cores, and who does not is passed over.
+pub const GREEDY: u32 = 1;
+/// The rule by which the first who does not fit ends the choosing.
+pub const LIMITED: u32 = 2;
+/// The rule that is greedy, but a job that ended early still claims its cores until it has claimed C ticks or is due.
+pub const IDLING: u32 = 3;
+
 /// The words of a table in front of its records: head, cores, rule, and the fence, the set of cores that no task has, its low word first:
 /// bit c of the low word is core c, bit c of the high word core 32 + c.
 pub const TABLE_HEAD_WORDS: usize = 5;
 /// The words of a record: next, O, v, C, D, T.
 pub const TABLE_RECORD_WORDS: usize = 6;
+/// The most words of a table.
+pub const TABLE_WORDS: usize = TABLE_HEAD_WORDS + TABLE_RECORD_WORDS * MOST_TASKS;
+
 /// The words of a run in front of its places: rule, cores, count, and the fence, its low word first.
 pub const RUN_HEAD_WORDS: usize = 5;
 /// The words of a place: O, v, C, D, T, the kind of its phase (0 Coming, 1 Working, 2 Holding, 3 Resting) and its two numbers, 0 for one that it does not have.
 pub const RUN_PLACE_WORDS: usize = 8;
 /// The words that a run takes: it has 32 places, of which the first count are used.
-pub const RUN_WORDS: usize = RUN_HEAD_WORDS + RUN_PLACE_WORDS * 32;
+pub const RUN_WORDS: usize = RUN_HEAD_WORDS + RUN_PLACE_WORDS * MOST_TASKS;
 
-/// The largest horizon, S + P, that a table may have: 9 turns down one that is larger.
-pub const MOST_HORIZON: u32 = 1_000_000_000;
+/// The bytes of a run's row: core 0 first, the position, 0 for idle, or `FENCED`.
+pub const ROW_BYTES: usize = MOST_CORES;
+/// What a row has on a fenced core.
+pub const FENCED: u8 = 255;
 
 /// No sentence is longer: a buffer of so many bytes is never refused with 18.
 pub const SENTENCE_BYTES: usize = 700;
 /// The words of facts in front of the counts: position, tick, ticks had, and C.
 const FACT_HEAD_WORDS: usize = 4;
 
-/// The verdict on a table that is not refused.
-#[derive(Clone, Copy, Debug, PartialEq, Eq)]
+/// The verdict on a table that is not refused. It is displayed as the program prints it.
+///
+/// ```
+/// use sivorandra::Verdict;
+///
+/// assert_eq!(Verdict::Firm { start: 0, period: 5 }.to_string(), "firm 0 5");
+/// assert_eq!(Verdict::Miss { tick: 5, position: 3 }.to_string(), "miss 5 3");
+/// ```
+#[derive(Clone, Copy, Debug, PartialEq, Eq, Hash)]
 pub enum Verdict {
-    /// No deadline is ever missed, not even where jobs end early. The schedule repeats from `start` on.
-    Firm { start: u32, period: u32 },
-    /// No deadline is ever missed at full length. The schedule repeats from `start` on.
-    Full { start: u32, period: u32 },
+    /// No deadline is ever missed, not even where jobs end early.
+    Firm {
+        /// The tick from which the schedule repeats: S.
+        start: u32,
+        /// How many ticks it takes to repeat: P.
+        period: u32,
+    },
+    /// No deadline is ever missed at full length.
+    Full {
+        /// The tick from which the schedule repeats: S.
+        start: u32,
+        /// How many ticks it takes to repeat: P.
+        period: u32,
+    },
     /// The first deadline that is missed, and whose.
-    Miss { tick: u32, position: u32 },
+    Miss {
+        /// The tick of the deadline.
+        tick: u32,
+        /// The position of the task, from 1.
+        position: u32,
+    },
 }
 
-/// What is turned down: one of the scope's numbers, 1 to 19, and a position, or 0.
-#[derive(Clone, Copy, Debug, PartialEq, Eq)]
-pub struct Refusal {
-    pub number: u32,
-    pub position: u32,
+impl fmt::Display for Verdict {
+    fn fmt(&self, out: &mut fmt::Formatter<'_>) -> fmt::Result {
+        match self {
+            Verdict::Firm { start, period } => write!(out, "firm {start} {period}"),
+            Verdict::Full { start, period } => write!(out, "full {start} {period}"),
+            Verdict::Miss { tick, position } => write!(out, "miss {tick} {position}"),
+        }
+    }
 }
 
 /// A whole list of advances: the answer to each, and the row after the last.
+///
+/// ```
+/// use sivorandra::{replay, Refusal};
+///
+/// let table = [1, 3, 1, 0, 0, 2, 0, 2, 2, 5, 5, 3, 0, 2, 3, 5, 5, 0, 0, 1, 4, 5, 5];
+/// let replay = replay(&table, &[2, 1])?;
+/// assert_eq!(replay.advances, [Err(Refusal::BadReport), Ok(())]);
+/// assert_eq!(replay.row?[..3], [2, 2, 3]);
+/// # Ok::<(), Refusal>(())
+/// ```
 #[derive(Clone, Debug, PartialEq, Eq)]
 pub struct Replay {
+    /// The answer to each advance of the list.
     pub advances: Vec<Result<(), Refusal>>,
+    /// The row of the tick after the last of them.
     pub row: Result<[u8; ROW_BYTES], Refusal>,
 }
 
-/// A run in the cab. Its words can be kept anywhere and read back: words that are no run are refused with 14. Places past the count are neither read nor changed.
+/// A run in the cab. Its words can be kept anywhere and read back by the version that wrote them: words that are no run are refused with 14. Places past the count are neither
+/// read nor changed.
+///
+/// ```
+/// use sivorandra::Run;
+///
+/// let table = [1, 3, 1, 0, 0, 2, 0, 2, 2, 5, 5, 3, 0, 2, 3, 5, 5, 0, 0, 1, 4, 5, 5];
+/// let mut run = Run::start(&table)?;
+/// assert_eq!(run.row()?[..run.cores()], [1, 1, 3]);
+/// run.advance(1)?; // the job of position 1 ends after this tick
+/// assert_eq!(run.row()?[..run.cores()], [2, 2, 3]);
+/// # Ok::<(), sivorandra::Refusal>(())
+/// ```
 #[derive(Clone, Debug, PartialEq, Eq)]
 pub struct Run {
     words: [u32; RUN_WORDS],
 }
 
 /// What a sentence says of a miss.
-#[derive(Clone, Copy, Debug, PartialEq, Eq)]
+///
+/// ```
+/// let facts = sivorandra::facts_of(b"task 3 misses at tick 5 with 3 of 4 ticks; task 1 ran 2.").expect("a sentence");
+/// assert_eq!((facts.position, facts.tick, facts.had, facts.length), (3, 5, 3, 4));
+/// assert_eq!(facts.ran[..2], [2, 0]);
+/// ```
+#[derive(Clone, Copy, Debug, PartialEq, Eq, Hash)]
 pub struct Facts {
     /// The position of the late task.
     pub position: u32,
@@ -70,15 +173,27 @@ pub struct Facts {
     /// .. out of C.
     pub length: u64,
     /// In how many of its waiting ticks the task at position p + 1 ran; 0 for one that is not named.
-    pub ran: [u64; 32],
+    pub ran: [u64; MOST_TASKS],
 }
 
-#[link(name = "capi", kind = "static")]
+#[link(name = "sivorandra", kind = "static")]
 extern "C" {
+    fn sivorandra_version() -> u32;
     fn sivorandra_judge(words: *const u32, words_len: usize, answer: *mut u32, answer_len: usize) -> u32;
     fn sivorandra_judge_ticks(words: *const u32, words_len: usize, answer: *mut u32, answer_len: usize) -> u32;
     fn sivorandra_plan(words: *const u32, words_len: usize, a: u32, b: u32, rows: *mut u8, rows_len: usize, answer: *mut u32, answer_len: usize) -> u32;
-    fn sivorandra_replay(words: *const u32, words_len: usize, reports: *const u32, reports_len: usize, numbers: *mut u32, numbers_len: usize, row: *mut u8, row_len: usize, answer: *mut u32, answer_len: usize) -> u32;
+    fn sivorandra_replay(
+        words: *const u32,
+        words_len: usize,
+        reports: *const u32,
+        reports_len: usize,
+        numbers: *mut u32,
+        numbers_len: usize,
+        row: *mut u8,
+        row_len: usize,
+        answer: *mut u32,
+        answer_len: usize,
+    ) -> u32;
     fn sivorandra_start(words: *const u32, words_len: usize, run: *mut u32, run_len: usize, answer: *mut u32, answer_len: usize) -> u32;
     fn sivorandra_row(run: *const u32, run_len: usize, row: *mut u8, row_len: usize, answer: *mut u32, answer_len: usize) -> u32;
     fn sivorandra_sentence(words: *const u32, words_len: usize, buffer: *mut u8, buffer_len: usize, answer: *mut u32, answer_len: usize) -> u32;
@@ -97,7 +212,7 @@ fn ask(call: impl FnOnce(*mut u32, usize) -> u32) -> [u32; 3] {
 fn done([case, number, position]: [u32; 3]) -> Result<(), Refusal> {
     match case {
         0 => Ok(()),
-        _ => Err(Refusal { number, position }),
+        _ => Err(Refusal::new(number, position)),
     }
 }
 
@@ -106,35 +221,95 @@ fn verdict([case, first, second]: [u32; 3]) -> Result<Verdict, Refusal> {
         0 => Ok(Verdict::Firm { start: first, period: second }),
         1 => Ok(Verdict::Full { start: first, period: second }),
         2 => Ok(Verdict::Miss { tick: first, position: second }),
-        _ => Err(Refusal { number: first, position: second }),
+        _ => Err(Refusal::new(first, second)),
     }
 }
 
+/// The version of the library that is linked: major * 10000 + minor * 100 + patch. Keep it beside the words of a run.
+///
+/// ```
+/// assert_eq!(sivorandra::version(), sivorandra::VERSION);
+/// ```
+pub fn version() -> u32 {
+    unsafe { sivorandra_version() }
+}
+
 /// The verdict on a table's words, from one release, end or deadline to the next or tick by tick, whichever is faster for the table's periods.
+///
+/// ```
+/// use sivorandra::{judge, Refusal, Verdict};
+///
+/// let mut table = [1, 3, 1, 0, 0, 2, 0, 2, 2, 5, 5, 3, 0, 2, 3, 5, 5, 0, 0, 1, 4, 5, 5];
+/// assert_eq!(judge(&table), Ok(Verdict::Full { start: 0, period: 5 }));
+/// table[2] = sivorandra::LIMITED;
+/// assert_eq!(judge(&table), Ok(Verdict::Miss { tick: 5, position: 3 }));
+/// table[2] = 4;
+/// assert_eq!(judge(&table), Err(Refusal::BadRule));
+/// ```
 pub fn judge(words: &[u32]) -> Result<Verdict, Refusal> {
     verdict(ask(|answer, len| unsafe { sivorandra_judge(words.as_ptr(), words.len(), answer, len) }))
 }
 
 /// The same verdict, always tick by tick. It is there to be compared with the other.
+///
+/// ```
+/// use sivorandra::{judge, judge_ticks};
+///
+/// let table = [1, 3, 1, 0, 0, 2, 0, 2, 2, 5, 5, 3, 0, 2, 3, 5, 5, 0, 0, 1, 4, 5, 5];
+/// assert_eq!(judge_ticks(&table), judge(&table));
+/// ```
 pub fn judge_ticks(words: &[u32]) -> Result<Verdict, Refusal> {
     verdict(ask(|answer, len| unsafe { sivorandra_judge_ticks(words.as_ptr(), words.len(), answer, len) }))
 }
 
 /// Writes rows `a` up to but not including `b` of the full-length run into `rows`, one byte a core, fenced ones too.
+///
+/// ```
+/// use sivorandra::{plan, Refusal};
+///
+/// let table = [1, 3, 1, 0, 0, 2, 0, 2, 2, 5, 5, 3, 0, 2, 3, 5, 5, 0, 0, 1, 4, 5, 5];
+/// let mut rows = [0; 6];
+/// plan(&table, 3, 5, &mut rows)?;
+/// assert_eq!(rows, [2, 2, 3, 2, 2, 0]);
+/// assert_eq!(plan(&table, 3, 6, &mut rows), Err(Refusal::BadRange));
+/// # Ok::<(), Refusal>(())
+/// ```
 pub fn plan(words: &[u32], a: u32, b: u32, rows: &mut [u8]) -> Result<(), Refusal> {
     done(ask(|answer, len| unsafe { sivorandra_plan(words.as_ptr(), words.len(), a, b, rows.as_mut_ptr(), rows.len(), answer, len) }))
 }
 
-/// Writes the miss of a table's words as a sentence at the front of `buffer`, and gives its length. A refusal leaves the buffer as found: 17 where the table has no miss, 18 where the buffer is shorter than the sentence.
+/// Writes the miss of a table's words as a sentence at the front of `buffer`, and gives its length. A refusal leaves the buffer as found: 17 where the table has no miss, 18 where
+/// the buffer is shorter than the sentence.
+///
+/// ```
+/// use sivorandra::{sentence_in, Refusal, SENTENCE_BYTES};
+///
+/// let table = [1, 3, 2, 0, 0, 2, 0, 2, 2, 5, 5, 3, 0, 2, 3, 5, 5, 0, 0, 1, 4, 5, 5];
+/// let mut buffer = [0; SENTENCE_BYTES];
+/// let length = sentence_in(&table, &mut buffer)?;
+/// assert_eq!(&buffer[..length], b"task 3 misses at tick 5 with 3 of 4 ticks; task 1 ran 2.");
+/// assert_eq!(sentence_in(&table, &mut buffer[..10]), Err(Refusal::ShortBuffer));
+/// # Ok::<(), Refusal>(())
+/// ```
 pub fn sentence_in(words: &[u32], buffer: &mut [u8]) -> Result<usize, Refusal> {
     let [case, first, second] = ask(|answer, len| unsafe { sivorandra_sentence(words.as_ptr(), words.len(), buffer.as_mut_ptr(), buffer.len(), answer, len) });
     match case {
         0 => Ok(first as usize),
-        _ => Err(Refusal { number: first, position: second }),
+        _ => Err(Refusal::new(first, second)),
     }
 }
 
 /// The miss of a table's words in a sentence; 17 where the table has no miss.
+///
+/// ```
+/// use sivorandra::{sentence, Refusal, GREEDY};
+///
+/// let mut table = [1, 3, 2, 0, 0, 2, 0, 2, 2, 5, 5, 3, 0, 2, 3, 5, 5, 0, 0, 1, 4, 5, 5];
+/// assert_eq!(sentence(&table)?, "task 3 misses at tick 5 with 3 of 4 ticks; task 1 ran 2.");
+/// table[2] = GREEDY;
+/// assert_eq!(sentence(&table), Err(Refusal::NoMiss));
+/// # Ok::<(), Refusal>(())
+/// ```
 pub fn sentence(words: &[u32]) -> Result<String, Refusal> {
     let mut buffer = [0; SENTENCE_BYTES];
     let length = sentence_in(words, &mut buffer)?;
@@ -142,48 +317,116 @@ pub fn sentence(words: &[u32]) -> Result<String, Refusal> {
 }
 
 /// The facts that a sentence says; none where the bytes are no sentence.
+///
+/// ```
+/// use sivorandra::facts_of;
+///
+/// assert_eq!(facts_of(b"task 1 misses at tick 1 with 1 of 2 ticks.").map(|facts| facts.tick), Some(1));
+/// assert_eq!(facts_of(b"task 1 misses at tick 1 with 1 of 2 ticks"), None);
+/// ```
 pub fn facts_of(bytes: &[u8]) -> Option<Facts> {
-    let mut words = [0; FACT_HEAD_WORDS + 32];
+    let mut words = [0; FACT_HEAD_WORDS + MOST_TASKS];
     let [case, ..] = ask(|answer, len| unsafe { sivorandra_facts(bytes.as_ptr(), bytes.len(), words.as_mut_ptr(), words.len(), answer, len) });
-    let mut ran = [0; 32];
+    let mut ran = [0; MOST_TASKS];
     ran.copy_from_slice(&words[FACT_HEAD_WORDS..]);
     (case == 0).then_some(Facts { position: words[0] as u32, tick: words[1], had: words[2], length: words[3], ran })
 }
 
 /// Starts a run, advances it by each set of reports, and asks its row.
+///
+/// ```
+/// use sivorandra::{replay, Refusal};
+///
+/// // position 1 ends early, the wide task at position 2 goes first, and position 3 is late
+/// let table = [1, 2, 1, 0, 0, 2, 0, 1, 3, 3, 4, 3, 0, 2, 1, 4, 4, 0, 0, 1, 2, 2, 4];
+/// let replay = replay(&table, &[1, 0])?;
+/// assert_eq!(replay.advances, [Ok(()), Ok(())]);
+/// assert_eq!(replay.row, Err(Refusal::Late { position: 3 }));
+/// # Ok::<(), Refusal>(())
+/// ```
 pub fn replay(words: &[u32], reports: &[u32]) -> Result<Replay, Refusal> {
     let mut numbers = vec![0; reports.len()];
     let mut row = [0; ROW_BYTES];
     let [case, number, position] = ask(|answer, len| unsafe {
         sivorandra_replay(words.as_ptr(), words.len(), reports.as_ptr(), reports.len(), numbers.as_mut_ptr(), numbers.len(), row.as_mut_ptr(), row.len(), answer, len)
     });
-    let advances = numbers.iter().map(|&n| if n == 0 { Ok(()) } else { Err(Refusal { number: n / 256, position: n % 256 }) }).collect();
+    let advances = numbers.iter().map(|&n| if n == 0 { Ok(()) } else { Err(Refusal::new(n / 256, n % 256)) }).collect();
     match case {
         0 => Ok(Replay { advances, row: Ok(row) }),
-        4 => Ok(Replay { advances, row: Err(Refusal { number, position }) }),
-        _ => Err(Refusal { number, position }),
+        4 => Ok(Replay { advances, row: Err(Refusal::new(number, position)) }),
+        _ => Err(Refusal::new(number, position)),
     }
 }
 
 impl Run {
     /// The run of a table's words as it starts.
+    ///
+    /// ```
+    /// use sivorandra::{Refusal, Run};
+    ///
+    /// let late = [1, 1, 1, 0, 0, 0, 0, 1, 2, 1, 1]; // C is above D
+    /// assert_eq!(Run::start(&late), Err(Refusal::TableMisses));
+    /// ```
     pub fn start(words: &[u32]) -> Result<Run, Refusal> {
         let mut run = [0; RUN_WORDS];
         done(ask(|answer, len| unsafe { sivorandra_start(words.as_ptr(), words.len(), run.as_mut_ptr(), run.len(), answer, len) }))?;
         Ok(Run { words: run })
     }
 
-    /// A run from its words.
+    /// A run from its words, which may be any: what is no run is refused with 14 by `row` and `advance`.
+    ///
+    /// ```
+    /// use sivorandra::{Refusal, Run, RUN_WORDS};
+    ///
+    /// let run = Run::from_words([0; RUN_WORDS]);
+    /// assert_eq!(run.row(), Err(Refusal::NotARun));
+    /// ```
     pub fn from_words(words: [u32; RUN_WORDS]) -> Run {
         Run { words }
     }
 
     /// The run's words.
+    ///
+    /// ```
+    /// use sivorandra::Run;
+    ///
+    /// let run = Run::start(&[1, 3, 1, 0, 0, 0, 0, 2, 2, 5, 5])?;
+    /// assert_eq!(Run::from_words(*run.words()), run);
+    /// # Ok::<(), sivorandra::Refusal>(())
+    /// ```
     pub fn words(&self) -> &[u32; RUN_WORDS] {
         &self.words
     }
 
+    /// The core count, fenced ones too: so many bytes of a row are cores. Of words that are no run it is what stands in its place.
+    ///
+    /// ```
+    /// let run = sivorandra::Run::start(&[1, 3, 1, 0, 0, 0, 0, 2, 2, 5, 5])?;
+    /// assert_eq!(run.cores(), 3);
+    /// # Ok::<(), sivorandra::Refusal>(())
+    /// ```
+    pub fn cores(&self) -> usize {
+        self.words[1] as usize
+    }
+
+    /// How many tasks the run has, at positions 1 to this. Of words that are no run it is what stands in its place.
+    ///
+    /// ```
+    /// let run = sivorandra::Run::start(&[1, 3, 1, 0, 0, 0, 0, 2, 2, 5, 5])?;
+    /// assert_eq!(run.tasks(), 1);
+    /// # Ok::<(), sivorandra::Refusal>(())
+    /// ```
+    pub fn tasks(&self) -> usize {
+        self.words[2] as usize
+    }
+
     /// The row of the present tick.
+    ///
+    /// ```
+    /// let run = sivorandra::Run::start(&[1, 3, 1, 0, 0, 0, 0, 2, 2, 5, 5])?;
+    /// assert_eq!(run.row()?[..run.cores()], [1, 1, 0]);
+    /// # Ok::<(), sivorandra::Refusal>(())
+    /// ```
     pub fn row(&self) -> Result<[u8; ROW_BYTES], Refusal> {
         let mut row = [0; ROW_BYTES];
         done(ask(|answer, len| unsafe { sivorandra_row(self.words.as_ptr(), self.words.len(), row.as_mut_ptr(), row.len(), answer, len) }))?;
@@ -191,6 +434,16 @@ impl Run {
     }
 
     /// One tick on, where bit p of `reports` says that the job of position p + 1 ends after this tick. A refusal leaves the run as it is.
+    ///
+    /// ```
+    /// use sivorandra::{Refusal, Run};
+    ///
+    /// let mut run = Run::start(&[1, 3, 1, 0, 0, 0, 0, 2, 2, 5, 5])?;
+    /// assert_eq!(run.advance(2), Err(Refusal::BadReport)); // there is no position 2
+    /// run.advance(1)?;
+    /// assert_eq!(run.row()?[..run.cores()], [0, 0, 0]);
+    /// # Ok::<(), Refusal>(())
+    /// ```
     pub fn advance(&mut self, reports: u32) -> Result<(), Refusal> {
         done(ask(|answer, len| unsafe { sivorandra_advance(self.words.as_mut_ptr(), self.words.len(), reports, answer, len) }))
     }

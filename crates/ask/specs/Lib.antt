@@ -1,1 +1,2 @@
+-- What `ask` prints: one definition, of the whole input.
 pub mod Asked

@@ -22,7 +22,9 @@ use Rattle.run.specs.Numbers.{RunOut}
 use Rattle.table.specs.Words.{fenceOf}
 use Rattle.capi.specs.declared.told.Told.{Told}
 use Rattle.capi.specs.Told.{says}
-use Rattle.capi.specs.Encoding.{headWords, eachWords, kindAt, firstAt, secondAt, places, wordsTo, runWords, ofPhase, placeWith, placeWords, placesWords, countWord, lowWord, highWord, fenceIn, encodeTo, encode, overwritten, phaseOf, isPhase, placeIn, isPlace, placesIn, arePlaces, countIn, holds, padded, runIn, run, none, decode, cleared}
+use Rattle.capi.specs.Encoding.{headWords, eachWords, kindAt, firstAt, secondAt, places, wordsTo, runWords, ofPhase, placeWith, placeWords}
+use Rattle.capi.specs.Encoding.{placesWords, countWord, lowWord, highWord, fenceIn, encodeTo, encode, overwritten, phaseOf, isPhase, placeIn}
+use Rattle.capi.specs.Encoding.{isPlace, placesIn, arePlaces, countIn, holds, padded, runIn, run, none, decode, cleared}
 use Rattle.capi.proofs.Places.{length-words, length-read, by-held, held-long, held-few, held-places}
 
 -- WHAT IS ENCODED IS DECODED

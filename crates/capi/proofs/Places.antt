@@ -10,7 +10,8 @@ use lib.Dec.{leb}
 use borrow.Author.Tests.{le-leb, lt-leb, leb-true}
 use Rattle.model.proofs.Bools.{and-left, and-right}
 use Rattle.phase.specs.declared.Task.{Task}
-use Rattle.capi.specs.Encoding.{headWords, eachWords, kindAt, secondAt, places, runWords, placeWords, placesWords, isPhase, placeIn, isPlace, placesIn, arePlaces, countIn, holds, runIn, run, none, decode}
+use Rattle.capi.specs.Encoding.{headWords, eachWords, kindAt, secondAt, places, runWords, placeWords, placesWords, isPhase, placeIn}
+use Rattle.capi.specs.Encoding.{isPlace, placesIn, arePlaces, countIn, holds, runIn, run, none, decode}
 
 -- written
 pub words-more : (ts : List Task) (t : Task) → placesWords (ts ++ (t ∷ [])) ≡ placesWords ts ++ placeWords t
@@ -29,7 +30,8 @@ unfolding placesIn
 read-more zero ws = refl
 read-more (suc n) ws =
     let e : eachWords + eachWords * n ≡ eachWords * suc n = omega arith in
-    ap (λ (l : List Task). placeIn ws ∷ l) (read-more n (drop eachWords ws) ∙ ap (λ (l : List ℕ). placesIn n (drop eachWords ws) ++ (placeIn l ∷ [])) (drop-drop (eachWords * n) eachWords ws ∙ ap (λ (k : ℕ). drop k ws) e))
+    ap (λ (l : List Task). placeIn ws ∷ l) (read-more n (drop eachWords ws)
+    ∙ ap (λ (l : List ℕ). placesIn n (drop eachWords ws) ++ (placeIn l ∷ [])) (drop-drop (eachWords * n) eachWords ws ∙ ap (λ (k : ℕ). drop k ws) e))
 
 pub length-read : (n : ℕ) (ws : List ℕ) → length (placesIn n ws) ≡ n
 unfolding placesIn

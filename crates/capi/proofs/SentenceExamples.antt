@@ -21,7 +21,8 @@ unfolding factsCall wordsOf countsFrom countOf unsaid guess numbersFrom paired s
 a2-read = refl
 
 -- the task at position 31 is the last that can be named
-pub last-read : factsCall (letters "task 32 misses at tick 9 with 0 of 8 ticks; task 2 ran 6; task 31 ran 7.") (lent 36) (lent 3) ≡ left 0 ((32 ∷ 9 ∷ 0 ∷ 8 ∷ 0 ∷ 6 ∷ (replicate 28 0 ++ (7 ∷ 0 ∷ []))) ∷ (0 ∷ 0 ∷ 0 ∷ []) ∷ [])
+pub last-read : factsCall (letters "task 32 misses at tick 9 with 0 of 8 ticks; task 2 ran 6; task 31 ran 7.") (lent 36) (lent 3)
+    ≡ left 0 ((32 ∷ 9 ∷ 0 ∷ 8 ∷ 0 ∷ 6 ∷ (replicate 28 0 ++ (7 ∷ 0 ∷ []))) ∷ (0 ∷ 0 ∷ 0 ∷ []) ∷ [])
 unfolding factsCall wordsOf countsFrom countOf unsaid guess numbersFrom paired same said head parts sayable rising value decimal lastDigits digitCount digitsWithin
 last-read = refl
 

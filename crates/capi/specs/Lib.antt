@@ -1,3 +1,4 @@
+-- What the calls for C and Rust leave behind: their answers in words, a run in a lent buffer, lists of advances, and sentences.
 pub mod Told
 pub mod Calls
 pub mod Replays
@@ -7,3 +8,4 @@ pub mod Lists
 pub mod Past
 pub mod Fourteen
 pub mod Sentences
+pub mod Version

@@ -36,7 +36,8 @@ pub(crate) fn of_found(found: bool) -> Told
 // Writes the words of facts; what stands behind them stays.
 pub(crate) fn put_facts(facts: Facts, words: &mut [u64])
     requires { ⌜ factWords ≤ length (now words) ⌝ }
-    ensures { λ r. ⌜ (now (words .exit) ≡ inWords (facts .position) (facts .tick) (facts .had) (facts .length) (facts .ran) ++ drop factWords (now (words .entry))) × (length (facts .ran) ≡ mostTasks) ⌝ }
+    ensures { λ r. ⌜ (now (words .exit) ≡ inWords (facts .position) (facts .tick) (facts .had) (facts .length) (facts .ran) ++ drop factWords (now (words .entry)))
+        × (length (facts .ran) ≡ mostTasks) ⌝ }
 {
     let ran = facts.ran;
     let mut i: usize = 0;

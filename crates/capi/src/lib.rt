@@ -1,6 +1,6 @@
 // The library to link: the judge, the plan, the replay and the run in the cab for C and Rust, on numbers and lent slices.
-// Each function returns 0 where the call is answered, and 1 where a lent slice is too short: then everything is as found. Short rows of a plan are 11
-// instead, and a buffer lent to row or advance that is too short for a run holds none: 14.
+// Each function but sivorandra_version returns 0 where the call is answered, and 1 where a lent slice is too short: then everything is as found.
+// Short rows of a plan are 11 instead, and a buffer lent to row or advance that is too short for a run holds none: 14.
 // The answer stands in the three first words of `answer`: a case and two numbers.
 ghost use mathlib.Core.Path.{_≡_};
 ghost use mathlib.Core.List.{[], _∷_};
@@ -8,12 +8,24 @@ ghost use Rattle.capi.specs.Calls.{judgeCall, planCall};
 ghost use Rattle.capi.specs.Replays.{replayCall};
 ghost use Rattle.capi.specs.Runs.{startCall, rowCall, advanceCall};
 ghost use Rattle.capi.specs.Sentences.{sentenceCall, factsCall};
+ghost use Rattle.capi.specs.Version.{version};
 use model::ROW;
 
 mod facts; // facts.rt: the facts of a miss in a lent buffer of words
 mod held; // held.rt: a run in a lent buffer of words
 mod replays; // replays.rt: what a replay says
 mod told; // told.rt: an answer in three words
+
+// The version of the library as one number: major * 10000 + minor * 100 + patch.
+const VERSION: u32 = 600;
+
+// The version of the library that is linked; the header has that of the header.
+#[no_mangle]
+pub extern "C" fn sivorandra_version() -> u32
+    ensures { λ r. ⌜ r ≡ version ⌝ }
+{
+    VERSION
+}
 
 // The verdict on a table's words: case 0 Firm S P, 1 Full S P, 2 Miss tick position, 3 Refused number position.
 #[no_mangle]

@@ -12,6 +12,7 @@ use Rattle.model.specs.Horizon.{S, horizon, hyperperiod, lcm}
 use Rattle.model.specs.Search.{any, kept, least, memb, upFrom}
 use Rattle.model.specs.Task.{Table, Task, Rule, greedy, limited, idling}
 use Rattle.model.specs.Verdict.{Verdict, Firm, Full, Miss, firm, firstMiss, missedAt, missedIn, rising, verdict}
+use Rattle.model.proofs.LineByLine.{LineByLine, by-line}
 use Rattle.model.proofs.Examples.{Line, worked, lines, examples}
 use Rattle.table.specs.Words.{met, count, chain, tableOf}
 use Rattle.table.specs.Answer.{headerNumber, lastStep, endingOf, firstOut, byHorizon, byTasks, byWalk, answerOf}
@@ -144,9 +145,15 @@ begins l = record { table = tableOf (wordsOf l); start = told (startOf (wordsOf 
 expected : Line → Begins
 expected l = record { table = l .table; start = startSays (l .says) }
 
+-- line by line
+begun : LineByLine begins lines (map expected lines)
+unfolding expected records startOf startAnswer verdictOf answerOf byWalk byTasks byHorizon firstOut endingOf lastStep headerNumber tableOf chain count met
+    verdict firstMiss missedIn missedAt firm rising horizon S hyperperiod lcm least any memb upFrom kept given left grants claimants claims served work step
+    full
+begun = (refl, (refl, (refl, (refl, (refl, (refl, (refl, (refl, (refl, (refl, (refl, (refl, (refl, (refl, (refl, (refl, (refl, tt)))))))))))))))))
+
 starts : map begins lines ≡ map expected lines
-unfolding expected records startOf startAnswer verdictOf answerOf byWalk byTasks byHorizon firstOut endingOf lastStep headerNumber tableOf chain count met verdict firstMiss missedIn missedAt firm rising horizon S hyperperiod lcm least any memb upFrom kept given left grants claimants claims served work step full
-starts = refl
+starts = by-line begins lines (map expected lines) begun
 
 -- THEOREM: every marked line of the table of examples, through the contract of `replay`
 pub through-replay : Each (λ l. ByVerdict (l .says) l) lines

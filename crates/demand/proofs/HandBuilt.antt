@@ -3,10 +3,11 @@
 use mathlib.Core.List.{List, [], _∷_, _++_, map}
 use mathlib.Core.Path.{_≡_, refl}
 use Prim.Native.Nat.{ℕ, _-_, _^_}
-use lib.ListN.{replicate}
+use lib.ListN.{drop, replicate}
 use Rattle.model.specs.Grants.{claimants, given, grants, left}
 use Rattle.model.specs.Row.{owner, row}
 use Rattle.model.specs.Search.{any, kept, least, memb, upFrom}
+use Rattle.model.proofs.LineByLine.{LineByLine, by-line}
 use Rattle.phase.specs.declared.Phase.{Phase}
 use Rattle.phase.specs.declared.Phase.the-variants.{Coming, Working, Holding, Resting}
 use Rattle.phase.specs.declared.Task.{Task}
@@ -207,7 +208,18 @@ lines =
     ∷ limit 1 (Resting 0) (no 14 0) ∷ limit 1 (Resting 1) (on1 0) ∷ limit 1 (Resting 5) (on1 0) ∷ limit 1 (Resting 6) (no 14 0)
     ∷ []
 
--- every line is what the definitions say
-pub built-runs : map worked lines ≡ lines
+-- every line is what the definitions say, line by line; a line is named by what it is made of
+computed : LineByLine worked lines lines
 unfolding any least memb upFrom kept owner row given left grants claimants answers after rows advanceOf advanceAnswer rowOf rowAnswer bytesIn runOut firstLateIn misreportedIn grantsIn mapFirst moved
-built-runs = refl
+computed =
+    let past-60 : LineByLine worked (drop 60 lines) (drop 60 lines) =
+    (refl, (refl, (refl, (refl, (refl, (refl, (refl, (refl, (refl, (refl, (refl, (refl, (refl, (refl, (refl, tt))))))))))))))) in
+    let past-40 : LineByLine worked (drop 40 lines) (drop 40 lines) =
+    (refl, (refl, (refl, (refl, (refl, (refl, (refl, (refl, (refl, (refl, (refl, (refl, (refl, (refl, (refl, (refl, (refl, (refl, (refl, (refl, past-60)))))))))))))))))))) in
+    let past-20 : LineByLine worked (drop 20 lines) (drop 20 lines) =
+    (refl, (refl, (refl, (refl, (refl, (refl, (refl, (refl, (refl, (refl, (refl, (refl, (refl, (refl, (refl, (refl, (refl, (refl, (refl, (refl, past-40)))))))))))))))))))) in
+    (refl, (refl, (refl, (refl, (refl, (refl, (refl, (refl, (refl, (refl, (refl, (refl, (refl, (refl, (refl, (refl, (refl, (refl, (refl, (refl, past-20))))))))))))))))))))
+
+-- .. and as one list
+pub built-runs : map worked lines ≡ lines
+built-runs = by-line worked lines lines computed

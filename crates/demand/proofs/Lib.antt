@@ -1,3 +1,4 @@
+-- The proofs of the promises on a list of advances: from the tie of one task to `follows`, `demand-3` and `fenced`, and examples through `replay`.
 pub mod Tied
 pub mod Ticks
 pub mod Alike

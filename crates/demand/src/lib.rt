@@ -16,7 +16,8 @@ pub enum Replayed {
 // A replay: the run of a table's words, started and advanced through all of `reports`. Each answer goes into `numbers`, the last row into `bytes`;
 // a refused start, and a lent slice too short, leave both as found.
 pub fn replay(words: &[u32], reports: &[u32], numbers: &mut [u32], bytes: &mut [u8]) -> Replayed
-    ensures { λ r. ⌜ ReplayOf (now (words .entry)) (now (reports .entry)) (now (numbers .entry)) (now (bytes .entry)) (record { answer = r; numbers = now (numbers .exit); bytes = now (bytes .exit) }) ⌝ }
+    ensures { λ r. ⌜ ReplayOf (now (words .entry)) (now (reports .entry)) (now (numbers .entry))
+        (now (bytes .entry)) (record { answer = r; numbers = now (numbers .exit); bytes = now (bytes .exit) }) ⌝ }
 {
     let started = run::start(words);
     let answer = started.answer;

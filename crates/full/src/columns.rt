@@ -1,3 +1,4 @@
+// The table's numbers, place by place, as the machine is stepped with them.
 ghost use mathlib.Core.Path.{_≡_};
 ghost use Rattle.full.specs.Stand.{numbersBy, numbersIn};
 use crate::TRIPLE;

@@ -36,7 +36,8 @@ pub fn release(
     places: &mut [u32; TRIPLE],
 ) -> u32
     requires { ⌜ (place < mostTasks) × (tick + getD (part second (now times)) place 0 < 2 ^ 32) × (tick + getD (part third (now times)) place 0 < 2 ^ 32) ⌝ }
-    ensures { λ r. ⌜ machineOf (now (places .exit)) r ≡ released place tick (getD (part 0 (now (times .entry))) place 0) (getD (part second (now (times .entry))) place 0) (getD (part third (now (times .entry))) place 0) (machineOf (now (places .entry)) claiming) ⌝ }
+    ensures { λ r. ⌜ machineOf (now (places .exit)) r ≡ released place tick (getD (part 0 (now (times .entry))) place 0)
+        (getD (part second (now (times .entry))) place 0) (getD (part third (now (times .entry))) place 0) (machineOf (now (places .entry)) claiming) ⌝ }
 {
     let deadline = times[DEADLINE + place];
     let period = times[PERIOD + place];
@@ -68,7 +69,8 @@ pub fn release_due(
     places: &mut [u32; TRIPLE],
 ) -> Due
     requires { ⌜ (count ≤ mostTasks) × ((p : ℕ) → p < count → (tick + getD (part second (now times)) p 0 < 2 ^ 32) × (tick + getD (part third (now times)) p 0 < 2 ^ 32)) ⌝ }
-    ensures { λ r. ⌜ DueMoments tick count (part 0 (now (times .entry))) (part second (now (times .entry))) (part third (now (times .entry))) (machineOf (now (places .entry)) claiming) (machineOf (now (places .exit)) (r .claiming)) (r .bell) ⌝ }
+    ensures { λ r. ⌜ DueMoments tick count (part 0 (now (times .entry))) (part second (now (times .entry)))
+        (part third (now (times .entry))) (machineOf (now (places .entry)) claiming) (machineOf (now (places .exit)) (r .claiming)) (r .bell) ⌝ }
 {
     let mut set = claiming;
     let mut bell: u32 = u32::MAX;

@@ -1,3 +1,4 @@
+// The machine that runs a table at full length, and how it stands before tick 0.
 ghost use mathlib.Core.Path.{_≡_};
 ghost use lib.ListN.{length};
 ghost use Rattle.full.specs.Stand.{standAt, begun};

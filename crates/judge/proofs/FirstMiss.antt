@@ -100,7 +100,8 @@ one-found s b u q = go (any b (missedIn s)) (least b (missedIn s)) (suc (least (
 
 by-search :
     (s : Table)
-    → byMiss (missedBefore s (suc (horizon s))) (cond (firm (s .rule) (s .tasks)) (Firm (lastS (s .tasks)) (hyperperiod (s .tasks))) (Full (lastS (s .tasks)) (hyperperiod (s .tasks)))) ≡ caseOf (judged (verdict s))
+    → byMiss (missedBefore s (suc (horizon s))) (cond (firm (s .rule) (s .tasks)) (Firm (lastS (s .tasks)) (hyperperiod (s .tasks))) (Full (lastS (s .tasks)) (hyperperiod (s .tasks))))
+    ≡ caseOf (judged (verdict s))
 unfolding missedBefore verdict firstMiss
 by-search s = go (any (suc (horizon s)) (missedIn s)) (firm (s .rule) (s .tasks))
   where

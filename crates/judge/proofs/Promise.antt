@@ -203,7 +203,8 @@ module _ (ws : List ℕ) (r : Loaded) (l : LoadOf ws r) (e : r .answer ≡ Passe
     few = h .count-from .1;
     narrow = omega (arith, h .cores, passed-cores ws none .1);
     sound = subst AllSound (sym same-table) (passed-sound ws none);
-    short = λ p q. subst (λ (s : Table). p < length (s .tasks) → task s p .period ≤ mostTime) (sym same-table) (λ i. passed-inside ws none p i .period-from .1) (omega (arith, h .count, ap (λ (s : Table). length (s .tasks)) same-table));
+    short = λ p q. subst (λ (s : Table). p < length (s .tasks) → task s p .period ≤ mostTime) (sym same-table)
+        (λ i. passed-inside ws none p i .period-from .1) (omega (arith, h .count, ap (λ (s : Table). length (s .tasks)) same-table));
     start = h .start ∙ ap (λ (s : Table). lastS (s .tasks)) (sym same-table);
     period = h .period ∙ ap (λ (s : Table). hyperperiod (s .tasks)) (sym same-table);
     horizon = h .horizon ∙ ap horizon (sym same-table);

@@ -1,3 +1,4 @@
+-- What the judge answers, what is promised of it (demand 2), and the first missed deadline.
 pub mod Said
 pub mod Judged
 pub mod FirstMiss

@@ -1,3 +1,4 @@
+// The judge that goes tick by tick: the verdict on a table's words, from the full-length run.
 ghost use mathlib.Core.Path.{_≡_};
 ghost use Prim.Native.Nat.{suc, _≤_};
 ghost use Rattle.model.specs.Task.{ruleOf};

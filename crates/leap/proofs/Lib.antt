@@ -1,3 +1,4 @@
+-- The proofs of the leaps: between moments nothing changes, a leap lands on the next moment, the moments are all, and the two judges agree.
 pub mod Ahead
 pub mod Stands
 pub mod Between

@@ -64,7 +64,8 @@ pub(crate) fn turn(
     places: &mut [u32; TRIPLE],
 ) -> u32
     requires { ⌜ (place < mostTasks) × (tick + getD (part second (now times)) place 0 < 2 ^ 32) × (tick + getD (part third (now times)) place 0 < 2 ^ 32) ⌝ }
-    ensures { λ r. ⌜ machineOf (now (places .exit)) r ≡ turned place tick (getD (part 0 (now (times .entry))) place 0) (getD (part second (now (times .entry))) place 0) (getD (part third (now (times .entry))) place 0) (machineOf (now (places .entry)) claiming) ⌝ }
+    ensures { λ r. ⌜ machineOf (now (places .exit)) r ≡ turned place tick (getD (part 0 (now (times .entry))) place 0)
+        (getD (part second (now (times .entry))) place 0) (getD (part third (now (times .entry))) place 0) (machineOf (now (places .entry)) claiming) ⌝ }
 {
     if places[NEXT + place] == tick {
         return full::release(place, tick, claiming, times, places);
@@ -82,7 +83,8 @@ pub(crate) fn turn_due(
     places: &mut [u32; TRIPLE],
 ) -> u32
     requires { ⌜ ((p : ℕ) → bit due p ≡ true → (tick + getD (part second (now times)) p 0 < 2 ^ 32) × (tick + getD (part third (now times)) p 0 < 2 ^ 32)) ⌝ }
-    ensures { λ r. ⌜ machineOf (now (places .exit)) r ≡ looked tick (bit due) (part 0 (now (times .entry))) (part second (now (times .entry))) (part third (now (times .entry))) (machineOf (now (places .entry)) claiming) ⌝ }
+    ensures { λ r. ⌜ machineOf (now (places .exit)) r ≡ looked tick (bit due) (part 0 (now (times .entry)))
+        (part second (now (times .entry))) (part third (now (times .entry))) (machineOf (now (places .entry)) claiming) ⌝ }
 {
     let mut rest = due;
     let mut set = claiming;

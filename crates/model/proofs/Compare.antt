@@ -9,6 +9,7 @@ use native.Mathlib.Omega.{arith}
 use lib.Dec.{eqb, ltb}
 use lib.ListN.{replicate}
 use borrow.Author.Tests.{eq-eqb, eqb-true, lt-ltb, ltb-true, not-true}
+use Rattle.model.proofs.LineByLine.{LineByLine, by-line}
 use Rattle.model.proofs.Bools.{and-both, and-left, and-right, or-cases, or-left, or-right}
 use Rattle.model.proofs.Examples.{B}
 use Rattle.model.proofs.Jobs.{mk}
@@ -126,10 +127,14 @@ pairs =
     ∷ pair (ended 2 2) (ended 2 5) false false false false
     ∷ []
 
--- every pair is what the definitions say
-pub pairs-compared : map compared pairs ≡ pairs
+-- every pair is what the definitions say, line by line
+each-pair : LineByLine compared pairs pairs
 unfolding longer behind
-pairs-compared = refl
+each-pair = (refl, (refl, (refl, (refl, (refl, (refl, (refl, (refl, (refl, (refl, (refl, (refl, (refl, (refl, tt))))))))))))))
+
+-- .. and as one list
+pub pairs-compared : map compared pairs ≡ pairs
+pairs-compared = by-line compared pairs pairs each-pair
 
 -- BOOKS
 
@@ -160,5 +165,6 @@ B-behind = (refl, inl refl)
 
 -- both lists are at tick 2 and no job is longer in the first, which is behind: B is Full, and is not kept abreast
 pub full-not-abreast : (verdict (B greedy) ≡ Full 0 4) × (¬ KeepsAbreast (B greedy) (1 ∷ 0 ∷ []) (0 ∷ 0 ∷ []))
-unfolding verdict firstMiss missedIn missedAt firm rising horizon S hyperperiod lcm full bookFrom enter answer late misreported reportable any least step served work claims claimants grants given left memb upFrom kept
+unfolding verdict firstMiss missedIn missedAt firm rising horizon S hyperperiod lcm full bookFrom enter answer late misreported reportable any least step served
+    work claims claimants grants given left memb upFrom kept
 full-not-abreast = (refl, λ h. h refl (full-longest (B greedy) sound-B (1 ∷ 0 ∷ []) 2) 2 0 (omega arith) B-behind)

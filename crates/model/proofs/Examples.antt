@@ -4,13 +4,16 @@ use mathlib.Core.Bool.{false, true}
 use mathlib.Core.List.{List, [], map, _∷_}
 use mathlib.Core.Path.{refl, _≡_}
 use Prim.Native.Nat.{ℕ}
-use Rattle.model.specs.Book.{Answer, Asked, answer, answersFrom, asked, claims, emptyBook, enter, fresh, full, late, misreported, refused, reportable, rowRefused, rowsFrom, served, shown, step, taken, takenFrom, takenOf, work}
+use Prim.Native.String.{String}
+use Rattle.model.specs.Book.{Answer, Asked, answer, answersFrom, asked, claims, emptyBook, enter, fresh, full, late, misreported}
+use Rattle.model.specs.Book.{refused, reportable, rowRefused, rowsFrom, served, shown, step, taken, takenFrom, takenOf, work}
 use Rattle.model.specs.Fence.{justOpen, spread}
 use Rattle.model.specs.Grants.{claimants, given, grants, left}
 use Rattle.model.specs.Horizon.{S, horizon, hyperperiod, lcm}
 use Rattle.model.specs.Row.{owner, row}
 use Rattle.model.specs.Search.{any, kept, least, memb, upFrom}
 use Rattle.model.specs.Task.{Rule, Table, Task, greedy, idling, limited}
+use Rattle.model.proofs.LineByLine.{LineByLine, by-line}
 use Rattle.model.specs.Verdict.{Firm, Full, Miss, Verdict, firm, firstMiss, missedAt, missedIn, rising, verdict}
 
 -- a task as (O, v, C, D, T)
@@ -32,8 +35,9 @@ A r = on 3 r (t 0 2 2 5 5 ∷ t 0 2 3 5 5 ∷ t 0 1 4 5 5 ∷ [])
 abbrev pub B : Rule → Table
 B r = on 2 r (t 0 1 3 3 4 ∷ t 0 2 1 4 4 ∷ t 0 1 2 2 4 ∷ [])
 
--- a line: a table and report sets; the verdict, the answer to each advance, the row asked before each advance and after the last
+-- a line: its name, a table and report sets; the verdict, the answer to each advance, the row asked before each advance and after the last
 pub record Line : Type 0 where
+  pub name : String
   pub table : Table
   pub reports : List ℕ
   pub says : Verdict
@@ -43,6 +47,7 @@ pub record Line : Type 0 where
 -- what the definitions say of a line's table and report sets
 abbrev pub worked : Line → Line
 worked l = record {
+  name = l .name;
   table = l .table;
   reports = l .reports;
   says = verdict (l .table);
@@ -51,8 +56,8 @@ worked l = record {
 }
 
 -- a line from its parts
-abbrev line : Table → Verdict → List ℕ → List Answer → List Asked → Line
-line s v xs ws rs = record { table = s; reports = xs; says = v; answers = ws; rows = rs }
+abbrev line : String → Table → Verdict → List ℕ → List Answer → List Asked → Line
+line n s v xs ws rs = record { name = n; table = s; reports = xs; says = v; answers = ws; rows = rs }
 
 -- a row of two cores, and of three
 abbrev two : ℕ → ℕ → Asked
@@ -68,49 +73,56 @@ b3 = two 1 3 ∷ two 1 3 ∷ two 1 0 ∷ two 2 2 ∷ two 1 3 ∷ []
 -- the lines
 abbrev pub lines : List Line
 lines =
-    -- A, with the rows that the scope prints
-    line (A greedy) (Full 0 5) (0 ∷ 0 ∷ 0 ∷ 0 ∷ []) (taken ∷ taken ∷ taken ∷ taken ∷ [])
+    line "A, with the rows that the scope prints"
+    (A greedy) (Full 0 5) (0 ∷ 0 ∷ 0 ∷ 0 ∷ []) (taken ∷ taken ∷ taken ∷ taken ∷ [])
     (three 1 1 3 ∷ three 1 1 3 ∷ three 2 2 3 ∷ three 2 2 3 ∷ three 2 2 0 ∷ [])
-    -- A2: the deadline on the horizon counts
-    ∷ line (A limited) (Miss 5 3) (0 ∷ 0 ∷ 0 ∷ 0 ∷ 0 ∷ 0 ∷ []) (taken ∷ taken ∷ taken ∷ taken ∷ taken ∷ refused 15 3 ∷ [])
+    ∷ line "A2: the deadline on the horizon counts"
+    (A limited) (Miss 5 3) (0 ∷ 0 ∷ 0 ∷ 0 ∷ 0 ∷ 0 ∷ []) (taken ∷ taken ∷ taken ∷ taken ∷ taken ∷ refused 15 3 ∷ [])
     (three 1 1 0 ∷ three 1 1 0 ∷ three 2 2 3 ∷ three 2 2 3 ∷ three 2 2 3 ∷ rowRefused 15 3 ∷ rowRefused 15 3 ∷ [])
-    -- A3
-    ∷ line (A idling) (Firm 0 5) [] [] (three 1 1 3 ∷ [])
-    -- B, with position 1 reported in tick 0: tick 1 goes to position 2, then 15 with position 3
-    ∷ line (B greedy) (Full 0 4) (1 ∷ 0 ∷ 0 ∷ []) (taken ∷ taken ∷ refused 15 3 ∷ []) (two 1 3 ∷ two 2 2 ∷ rowRefused 15 3 ∷ rowRefused 15 3 ∷ [])
-    -- a report for a position that is not in the row
-    ∷ line (B greedy) (Full 0 4) (2 ∷ 0 ∷ []) (refused 16 0 ∷ taken ∷ []) (two 1 3 ∷ two 1 3 ∷ two 1 3 ∷ [])
-    -- two positions are late at one tick: 15 with the lowest; and 15 comes before 16, for bits that may not be set
-    ∷ line (on 3 greedy (t 0 1 3 3 4 ∷ t 0 3 1 4 4 ∷ t 0 1 2 2 4 ∷ t 0 1 2 2 4 ∷ [])) (Full 0 4) (1 ∷ 0 ∷ 0 ∷ 8 ∷ 16 ∷ [])
+    ∷ line "A3"
+    (A idling) (Firm 0 5) [] [] (three 1 1 3 ∷ [])
+    ∷ line "B, with position 1 reported in tick 0: tick 1 goes to position 2, then 15 with position 3"
+    (B greedy) (Full 0 4) (1 ∷ 0 ∷ 0 ∷ []) (taken ∷ taken ∷ refused 15 3 ∷ []) (two 1 3 ∷ two 2 2 ∷ rowRefused 15 3 ∷ rowRefused 15 3 ∷ [])
+    ∷ line "a report for a position that is not in the row"
+    (B greedy) (Full 0 4) (2 ∷ 0 ∷ []) (refused 16 0 ∷ taken ∷ []) (two 1 3 ∷ two 1 3 ∷ two 1 3 ∷ [])
+    ∷ line "two positions are late at one tick: 15 with the lowest; and 15 comes before 16, for bits that may not be set"
+    (on 3 greedy (t 0 1 3 3 4 ∷ t 0 3 1 4 4 ∷ t 0 1 2 2 4 ∷ t 0 1 2 2 4 ∷ [])) (Full 0 4) (1 ∷ 0 ∷ 0 ∷ 8 ∷ 16 ∷ [])
     (taken ∷ taken ∷ refused 15 3 ∷ refused 15 3 ∷ refused 15 3 ∷ [])
     (three 1 3 4 ∷ three 2 2 2 ∷ rowRefused 15 3 ∷ rowRefused 15 3 ∷ rowRefused 15 3 ∷ rowRefused 15 3 ∷ [])
-    -- two positions miss at one tick: the verdict names the first in priority
-    ∷ line (on 1 greedy (t 0 1 1 2 2 ∷ t 0 1 2 2 2 ∷ t 0 1 1 2 2 ∷ [])) (Miss 2 2) (0 ∷ 0 ∷ 0 ∷ []) (taken ∷ taken ∷ refused 15 2 ∷ [])
+    ∷ line "two positions miss at one tick: the verdict names the first in priority"
+    (on 1 greedy (t 0 1 1 2 2 ∷ t 0 1 2 2 2 ∷ t 0 1 1 2 2 ∷ [])) (Miss 2 2) (0 ∷ 0 ∷ 0 ∷ []) (taken ∷ taken ∷ refused 15 2 ∷ [])
     (shown (1 ∷ []) ∷ shown (2 ∷ []) ∷ rowRefused 15 2 ∷ rowRefused 15 2 ∷ [])
-    -- B2
-    ∷ line (B limited) (Miss 2 3) [] [] (two 1 0 ∷ [])
-    -- B3: the report changes no row
-    ∷ line (B idling) (Firm 0 4) (0 ∷ 0 ∷ 0 ∷ 0 ∷ []) (taken ∷ taken ∷ taken ∷ taken ∷ []) b3
-    ∷ line (B idling) (Firm 0 4) (1 ∷ 0 ∷ 0 ∷ 0 ∷ []) (taken ∷ taken ∷ taken ∷ taken ∷ []) b3
-    -- a holder has cores and is not reported again
-    ∷ line (B idling) (Firm 0 4) (1 ∷ 1 ∷ 0 ∷ []) (taken ∷ refused 16 0 ∷ taken ∷ []) (two 1 3 ∷ two 1 3 ∷ two 1 3 ∷ two 1 0 ∷ [])
-    -- C and C2
-    ∷ line (on 2 greedy (t 0 1 2 4 4 ∷ t 0 2 2 4 4 ∷ t 0 1 1 4 4 ∷ [])) (Full 0 4) [] [] (two 1 3 ∷ [])
-    ∷ line (on 2 greedy (t 0 1 2 4 4 ∷ t 0 1 1 4 4 ∷ t 0 2 2 4 4 ∷ [])) (Firm 0 4) [] [] (two 1 2 ∷ [])
-    -- E: the repeat starts at 3, not at the largest offset
-    ∷ line (on 1 limited (t 1 1 1 1 2 ∷ t 0 1 1 2 3 ∷ [])) (Firm 3 6) [] [] (shown (2 ∷ []) ∷ [])
-    -- F
-    ∷ line (on 1 greedy (t 0 1 2 1 2 ∷ [])) (Miss 1 1) (0 ∷ 0 ∷ []) (taken ∷ refused 15 1 ∷ []) (shown (1 ∷ []) ∷ rowRefused 15 1 ∷ rowRefused 15 1 ∷ [])
-    -- A on five cores of which 0 and 3 are fenced
-    ∷ line (fencedOn 5 9 greedy (A greedy .tasks)) (Full 0 5) (0 ∷ []) (taken ∷ []) (shown (255 ∷ 1 ∷ 1 ∷ 255 ∷ 3 ∷ []) ∷ shown (255 ∷ 1 ∷ 1 ∷ 255 ∷ 3 ∷ []) ∷ [])
-    -- the same under limited, one tick before the miss
-    ∷ line (fencedOn 5 9 limited (A greedy .tasks)) (Miss 5 3) [] [] (shown (255 ∷ 1 ∷ 1 ∷ 255 ∷ 0 ∷ []) ∷ [])
+    ∷ line "B2"
+    (B limited) (Miss 2 3) [] [] (two 1 0 ∷ [])
+    ∷ line "B3"
+    (B idling) (Firm 0 4) (0 ∷ 0 ∷ 0 ∷ 0 ∷ []) (taken ∷ taken ∷ taken ∷ taken ∷ []) b3
+    ∷ line "B3 with a report, which changes no row"
+    (B idling) (Firm 0 4) (1 ∷ 0 ∷ 0 ∷ 0 ∷ []) (taken ∷ taken ∷ taken ∷ taken ∷ []) b3
+    ∷ line "a holder has cores and is not reported again"
+    (B idling) (Firm 0 4) (1 ∷ 1 ∷ 0 ∷ []) (taken ∷ refused 16 0 ∷ taken ∷ []) (two 1 3 ∷ two 1 3 ∷ two 1 3 ∷ two 1 0 ∷ [])
+    ∷ line "C"
+    (on 2 greedy (t 0 1 2 4 4 ∷ t 0 2 2 4 4 ∷ t 0 1 1 4 4 ∷ [])) (Full 0 4) [] [] (two 1 3 ∷ [])
+    ∷ line "C2"
+    (on 2 greedy (t 0 1 2 4 4 ∷ t 0 1 1 4 4 ∷ t 0 2 2 4 4 ∷ [])) (Firm 0 4) [] [] (two 1 2 ∷ [])
+    ∷ line "E: the repeat starts at 3, not at the largest offset"
+    (on 1 limited (t 1 1 1 1 2 ∷ t 0 1 1 2 3 ∷ [])) (Firm 3 6) [] [] (shown (2 ∷ []) ∷ [])
+    ∷ line "F"
+    (on 1 greedy (t 0 1 2 1 2 ∷ [])) (Miss 1 1) (0 ∷ 0 ∷ []) (taken ∷ refused 15 1 ∷ []) (shown (1 ∷ []) ∷ rowRefused 15 1 ∷ rowRefused 15 1 ∷ [])
+    ∷ line "A on five cores of which 0 and 3 are fenced"
+    (fencedOn 5 9 greedy (A greedy .tasks)) (Full 0 5) (0 ∷ []) (taken ∷ []) (shown (255 ∷ 1 ∷ 1 ∷ 255 ∷ 3 ∷ []) ∷ shown (255 ∷ 1 ∷ 1 ∷ 255 ∷ 3 ∷ []) ∷ [])
+    ∷ line "the same under limited, one tick before the miss"
+    (fencedOn 5 9 limited (A greedy .tasks)) (Miss 5 3) [] [] (shown (255 ∷ 1 ∷ 1 ∷ 255 ∷ 0 ∷ []) ∷ [])
     ∷ []
 
--- every line is what the definitions say
+-- every line is what the definitions say, line by line
+computed : LineByLine worked lines lines
+unfolding verdict firstMiss missedIn missedAt firm rising horizon S hyperperiod lcm least any memb upFrom kept owner row given left grants claimants claims
+    served work step late reportable misreported answer asked enter answersFrom rowsFrom full
+computed = (refl, (refl, (refl, (refl, (refl, (refl, (refl, (refl, (refl, (refl, (refl, (refl, (refl, (refl, (refl, (refl, (refl, tt)))))))))))))))))
+
+-- .. and as one list
 pub examples : map worked lines ≡ lines
-unfolding verdict firstMiss missedIn missedAt firm rising horizon S hyperperiod lcm least any memb upFrom kept owner row given left grants claimants claims served work step late reportable misreported answer asked enter answersFrom rowsFrom full
-examples = refl
+examples = by-line worked lines lines computed
 
 -- A on five cores with that fence is A with just its unfenced cores, and its rows are A's spread over them; with no fence a table is itself
 pub just-open : justOpen (fencedOn 5 9 greedy (A greedy .tasks)) ≡ A greedy

@@ -16,7 +16,8 @@ use Rattle.model.proofs.Jobs.{after-release, before-due, newest-is}
 use Rattle.model.proofs.Runs.{full-tick, missed-at}
 use Rattle.model.proofs.Search.{any-of, any-some}
 use Rattle.model.proofs.Starts.{Periods, S-release, hyperperiod-divides, hyperperiod-least, hyperperiod-pos, release-first, release-from}
-use Rattle.model.specs.Book.{AllTaken, Answer, Book, Job, Missed, answer, answersFrom, book, bookFrom, claims, emptyBook, enter, entered, full, jobClaims, keep, late, misreported, refused, reportable, step, taken, takenFrom, takenIn, takenOf, taskClaims}
+use Rattle.model.specs.Book.{AllTaken, Answer, Book, Job, Missed, answer, answersFrom, book, bookFrom, claims, emptyBook, enter, entered}
+use Rattle.model.specs.Book.{full, jobClaims, keep, late, misreported, refused, reportable, step, taken, takenFrom, takenIn, takenOf, taskClaims}
 use Rattle.model.specs.Horizon.{Later, LeastCommonMultiple, S, hyperperiod, releaseFrom}
 use Rattle.model.specs.Search.{bit}
 use Rattle.model.specs.Task.{AllSound, Rule, Sound, Table, Task, due, newest, release, task}

@@ -13,7 +13,8 @@ use Rattle.model.proofs.Digits.{bit-none}
 use Rattle.model.proofs.Lists.{map-at, up-at, up-length}
 use Rattle.model.proofs.Renumbered.{at-map, grants-map, owner-map, some-map}
 use Rattle.model.proofs.Search.{any-same}
-use Rattle.model.specs.Book.{Answer, Book, answer, answersFrom, book, bookFrom, emptyBook, enter, full, grantsOf, inRow, late, misreported, none, reportable, rowOf, served, step, taskClaims, widths, work}
+use Rattle.model.specs.Book.{Answer, Book, answer, answersFrom, book, bookFrom, emptyBook, enter, full, grantsOf, inRow}
+use Rattle.model.specs.Book.{late, misreported, none, reportable, rowOf, served, step, taskClaims, widths, work}
 use Rattle.model.specs.Fence.{justOpen, openCores, outside, spread, unfenced}
 use Rattle.model.specs.Grants.{claimants, grants, some}
 use Rattle.model.specs.Horizon.{horizon}

@@ -1,3 +1,5 @@
+-- The theorems on the definitions alone: computed examples, laws of searches, lists and digits, and what the book, the horizon and the verdict promise.
+pub mod LineByLine
 pub mod Examples
 pub mod Bools
 pub mod Search

@@ -9,7 +9,8 @@ use lib.ListN.{length, replicate}
 use Rattle.model.proofs.Bools.{and-left, not-true-false}
 use Rattle.model.proofs.Digits.{bit-none}
 use Rattle.model.proofs.Jobs.{Good, after-release, good-fresh, good-next, mk, next, next-ended, whole-next}
-use Rattle.model.specs.Book.{Answer, Book, Missed, answer, book, bookFrom, emptyBook, enter, entered, fresh, full, inRow, jobClaims, keep, none, refused, served, step, taken, takenFrom, takenOf, work}
+use Rattle.model.specs.Book.{Answer, Book, Missed, answer, book, bookFrom, emptyBook, enter, entered, fresh, full}
+use Rattle.model.specs.Book.{inRow, jobClaims, keep, none, refused, served, step, taken, takenFrom, takenOf, work}
 use Rattle.model.specs.Search.{bit}
 use Rattle.model.specs.Task.{AllSound, Table, due, release, task}
 

@@ -3,7 +3,8 @@ use mathlib.Core.List.{List, [], _∷_}
 use mathlib.Core.Logic.{⊎-elim}
 use mathlib.Core.Path.{ap, refl, subst⁻¹, sym, _∙_, _≡_}
 use Prim.Native.Nat.{_*_, _+_, _-_, _/_, _<_, suc, zero, ℕ, _≤_, _∣_}
-use native.Mathlib.Nat.{div-add-mod', div-mul-cancel, dvd-mul-left, dvd-trans, one-dvd, div-lt-iff-lt-mul, eq-or-lt-of-le, le-of-dvd, le-of-eq, le-of-suc-le-suc, le-trans, mod-lt, mul-le-mul-right, not-suc-le-zero}
+use native.Mathlib.Nat.{div-add-mod', div-mul-cancel, dvd-mul-left, dvd-trans, one-dvd, div-lt-iff-lt-mul, eq-or-lt-of-le}
+use native.Mathlib.Nat.{le-of-dvd, le-of-eq, le-of-suc-le-suc, le-trans, mod-lt, mul-le-mul-right, not-suc-le-zero}
 use native.Mathlib.Omega.{arith}
 use lib.ListN.{getD, length, take}
 use Rattle.model.proofs.Multiples.{lcm-assoc, lcm-comm, lcm-divides, lcm-left, lcm-pos, lcm-right}

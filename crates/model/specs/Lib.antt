@@ -1,3 +1,4 @@
+-- What the whole project is judged by, in reading order: sizes, the table, the fence, who runs in a tick, rows, the book, the horizon and the verdict.
 pub mod Sizes
 pub mod Search
 pub mod Task

@@ -1,3 +1,4 @@
+// The limits of a task and of its phase, and lateness.
 ghost use mathlib.Core.Path.{_≡_};
 ghost use Rattle.model.specs.Task.{ruleOf};
 ghost use Rattle.phase.specs.Phase.{phaseIn, lateIn};

@@ -1,3 +1,4 @@
+// One tick of a task: the phase that it goes to.
 ghost use mathlib.Core.Path.{_≡_};
 ghost use Rattle.model.specs.Task.{ruleOf};
 ghost use Rattle.phase.specs.Phase.{resting, holding, ended, worked};

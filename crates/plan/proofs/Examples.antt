@@ -3,6 +3,7 @@
 use mathlib.Core.Path.{_≡_, refl}
 use mathlib.Core.List.{List, [], _++_, _∷_, map}
 use Prim.Native.Nat.{ℕ}
+use Prim.Native.String.{String}
 use lib.ListN.{drop, length, replicate}
 use Rattle.model.specs.Book.{claims, full, served, step, work}
 use Rattle.model.specs.Grants.{claimants, given, grants, left}
@@ -10,6 +11,7 @@ use Rattle.model.specs.Horizon.{S, horizon, hyperperiod, lcm}
 use Rattle.model.specs.Row.{owner, row}
 use Rattle.model.specs.Search.{any, kept, least, memb, upFrom}
 use Rattle.model.specs.Verdict.{missedAt, missedIn}
+use Rattle.model.proofs.LineByLine.{LineByLine, by-line}
 use Rattle.table.specs.Words.{met, count, chain, tableOf}
 use Rattle.table.specs.Answer.{headerNumber, lastStep, endingOf, firstOut, byHorizon, byTasks, byWalk, answerOf}
 use Rattle.table.proofs.Examples.{wordsA}
@@ -18,8 +20,9 @@ use Rattle.plan.specs.declared.Planned.the-variants.{Written, Refused}
 use Rattle.plan.specs.Rows.{rowsFrom}
 use Rattle.plan.specs.Plan.{byPlan, plannedOf, planTold, bufferOf}
 
--- a line: the words of a table, a, b and a lent buffer; the answer, and the buffer afterwards
+-- a line: its name, the words of a table, a, b and a lent buffer; the answer, and the buffer afterwards
 pub record Line : Type 0 where
+  pub name : String
   pub words : List ℕ
   pub a : ℕ
   pub b : ℕ
@@ -32,6 +35,7 @@ abbrev pub worked : Line → Line
 worked l =
     let v = plannedOf (l .words) (l .a) (l .b) (length (l .lent)) in
     record {
+      name = l .name;
       words = l .words;
       a = l .a;
       b = l .b;
@@ -45,11 +49,11 @@ abbrev lent : ℕ → List ℕ
 lent n = replicate n 9
 
 -- a buffer of n bytes: what is written over it, and that it is refused by number n and left as found
-abbrev writes : List ℕ → ℕ → ℕ → ℕ → List ℕ → Line
-writes ws a b n new = record { words = ws; a = a; b = b; lent = lent n; says = Written; leaves = new }
+abbrev writes : String → List ℕ → ℕ → ℕ → ℕ → List ℕ → Line
+writes s ws a b n new = record { name = s; words = ws; a = a; b = b; lent = lent n; says = Written; leaves = new }
 
-abbrev refuses : List ℕ → ℕ → ℕ → ℕ → ℕ → Line
-refuses ws a b n number = record { words = ws; a = a; b = b; lent = lent n; says = Refused number 0; leaves = lent n }
+abbrev refuses : String → List ℕ → ℕ → ℕ → ℕ → ℕ → Line
+refuses s ws a b n number = record { name = s; words = ws; a = a; b = b; lent = lent n; says = Refused number 0; leaves = lent n }
 
 -- F: one core, horizon 2, position 1 misses at tick 1
 abbrev wordsF : List ℕ
@@ -64,25 +68,41 @@ fencedF = 1 ∷ 34 ∷ 1 ∷ 4294967295 ∷ 1 ∷ drop 5 wordsF
 
 abbrev pub lines : List Line
 lines =
-    -- A has the horizon 5. a = b writes nothing, up to the horizon, into an empty buffer and into a longer one
-    writes wordsA 0 0 0 [] ∷ writes wordsA 3 3 2 (lent 2) ∷ writes wordsA 5 5 0 [] ∷ refuses wordsA 6 6 0 10
-    -- b = horizon, and one above; a above b
-    ∷ writes wordsA 4 5 3 (2 ∷ 2 ∷ 0 ∷ []) ∷ refuses wordsA 4 6 9 10 ∷ refuses wordsA 3 2 9 10
-    -- the exact buffer, one byte less, and one byte more, which is not touched
-    ∷ writes wordsA 1 3 6 (1 ∷ 1 ∷ 3 ∷ 2 ∷ 2 ∷ 3 ∷ []) ∷ refuses wordsA 1 3 5 11 ∷ writes wordsA 1 3 7 (1 ∷ 1 ∷ 3 ∷ 2 ∷ 2 ∷ 3 ∷ 9 ∷ [])
-    -- F: b = the tick of the first miss, and one above
-    ∷ writes wordsF 0 1 1 (1 ∷ []) ∷ refuses wordsF 0 2 2 12 ∷ refuses wordsF 2 2 0 12
-    -- 10 before 11, of either cause; 11 before 12; 10 before 12, of either cause; 2 before 10
-    ∷ refuses wordsA 0 6 0 10 ∷ refuses wordsF 0 2 1 11 ∷ refuses wordsF 0 3 3 10 ∷ refuses wordsF 3 2 0 10
-    ∷ refuses (1 ∷ 0 ∷ 1 ∷ 0 ∷ 0 ∷ []) 3 2 0 2
-    -- 255 on a fenced core, in an idle row too; the buffer's length counts all cores
-    ∷ writes fencedA 4 5 5 (255 ∷ 2 ∷ 2 ∷ 255 ∷ 0 ∷ []) ∷ writes fencedA 2 4 10 (255 ∷ 2 ∷ 2 ∷ 255 ∷ 3 ∷ 255 ∷ 2 ∷ 2 ∷ 255 ∷ 3 ∷ [])
-    ∷ refuses fencedA 2 4 9 11 ∷ refuses fencedA 4 6 10 10
-    -- core 32 is fenced by the second word, and core 33 works
-    ∷ writes fencedF 0 1 35 (replicate 33 255 ++ 1 ∷ 9 ∷ []) ∷ refuses fencedF 0 2 68 12
+    writes "A, horizon 5: no rows, into no buffer" wordsA 0 0 0 []
+    ∷ writes "A: no rows, into a buffer that stays as it is" wordsA 3 3 2 (lent 2)
+    ∷ writes "A: no rows at the horizon" wordsA 5 5 0 []
+    ∷ refuses "A: no rows above the horizon" wordsA 6 6 0 10
+    ∷ writes "b = horizon" wordsA 4 5 3 (2 ∷ 2 ∷ 0 ∷ [])
+    ∷ refuses "b one above the horizon" wordsA 4 6 9 10
+    ∷ refuses "a above b" wordsA 3 2 9 10
+    ∷ writes "the exact buffer" wordsA 1 3 6 (1 ∷ 1 ∷ 3 ∷ 2 ∷ 2 ∷ 3 ∷ [])
+    ∷ refuses "one byte less" wordsA 1 3 5 11
+    ∷ writes "one byte more, which is not touched" wordsA 1 3 7 (1 ∷ 1 ∷ 3 ∷ 2 ∷ 2 ∷ 3 ∷ 9 ∷ [])
+    ∷ writes "F: b = the tick of the first miss" wordsF 0 1 1 (1 ∷ [])
+    ∷ refuses "F: b one above it" wordsF 0 2 2 12
+    ∷ refuses "F: no rows above it" wordsF 2 2 0 12
+    ∷ refuses "10 before 11" wordsA 0 6 0 10
+    ∷ refuses "11 before 12" wordsF 0 2 1 11
+    ∷ refuses "10 before 12, by b above the horizon" wordsF 0 3 3 10
+    ∷ refuses "10 before 12, by a above b" wordsF 3 2 0 10
+    ∷ refuses "2 before 10" (1 ∷ 0 ∷ 1 ∷ 0 ∷ 0 ∷ []) 3 2 0 2
+    ∷ writes "255 on a fenced core, in an idle row too" fencedA 4 5 5 (255 ∷ 2 ∷ 2 ∷ 255 ∷ 0 ∷ [])
+    ∷ writes "two rows with fenced cores" fencedA 2 4 10 (255 ∷ 2 ∷ 2 ∷ 255 ∷ 3 ∷ 255 ∷ 2 ∷ 2 ∷ 255 ∷ 3 ∷ [])
+    ∷ refuses "one byte less than two rows of all cores" fencedA 2 4 9 11
+    ∷ refuses "b one above the horizon, with a fence" fencedA 4 6 10 10
+    ∷ writes "core 32 is fenced by the second word, and core 33 works" fencedF 0 1 35 (replicate 33 255 ++ 1 ∷ 9 ∷ [])
+    ∷ refuses "12 on that table" fencedF 0 2 68 12
     ∷ []
 
--- every line is what the definitions say
+-- every line is what the definitions say, line by line
+computed : LineByLine worked lines lines
+unfolding plannedOf byPlan rowsFrom answerOf byWalk byTasks byHorizon firstOut endingOf lastStep headerNumber tableOf chain count met missedIn missedAt horizon
+    S hyperperiod lcm least any kept memb upFrom owner row given left grants claimants claims served work step full
+computed =
+    let past-12 : LineByLine worked (drop 12 lines) (drop 12 lines) =
+    (refl, (refl, (refl, (refl, (refl, (refl, (refl, (refl, (refl, (refl, (refl, (refl, tt)))))))))))) in
+    (refl, (refl, (refl, (refl, (refl, (refl, (refl, (refl, (refl, (refl, (refl, (refl, past-12))))))))))))
+
+-- .. and as one list
 pub examples : map worked lines ≡ lines
-unfolding plannedOf byPlan rowsFrom answerOf byWalk byTasks byHorizon firstOut endingOf lastStep headerNumber tableOf chain count met missedIn missedAt horizon S hyperperiod lcm least any kept memb upFrom owner row given left grants claimants claims served work step full
-examples = refl
+examples = by-line worked lines lines computed

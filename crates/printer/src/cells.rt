@@ -1,3 +1,4 @@
+// The text of a row's cores, from the set of places that claim.
 ghost use Prim.Native.Nat.{_≤_};
 ghost use lib.ListN.{length, take};
 ghost use Rattle.text.specs.Written.{Put};

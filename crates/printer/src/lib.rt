@@ -58,7 +58,8 @@ fn next_line(
     line: &mut [u8; LINE],
 ) -> Stage
     requires { ⌜ Stepping (numbersBy setting (now width) (now times)) stage (now places) (now text) (now line) ⌝ }
-    ensures { λ r. ⌜ Stepped (numbersBy setting (now (width .entry)) (now (times .entry))) (standAt (stage .pace) (now (places .entry))) (take (stage .text) (now (text .entry))) (now (line .entry)) r (now (places .exit)) (now (text .exit)) (now (line .exit)) ⌝ }
+    ensures { λ r. ⌜ Stepped (numbersBy setting (now (width .entry)) (now (times .entry))) (standAt (stage .pace) (now (places .entry)))
+        (take (stage .text) (now (text .entry))) (now (line .entry)) r (now (places .exit)) (now (text .exit)) (now (line .exit)) ⌝ }
 {
     let pace = stage.pace;
     let next = full::step(setting, width, times, pace, places);

@@ -41,7 +41,8 @@ pub record SoFar (s : Session) (chunk left : List ℕ) (now : Session) (sent : S
 pub so-far-none : (s : Session) (chunk : List ℕ) → SoFar s chunk chunk s (record { count = 0; whole = true })
 so-far-none s chunk = record { fed = []; text = []; parts = refl; feeds = none; taken = sent-nothing 0 refl; whole = refl }
 
-module _ (s : Session) (chunk left before after : List ℕ) (now : Session) (sent sent′ : Sent) (r : Fed) (i : SoFar s chunk left now sent) (w : FedOf now left before after r) (t : SentOf (sent .count) (take (r .length) after) sent′) where
+module _ (s : Session) (chunk left before after : List ℕ) (now : Session) (sent sent′ : Sent) (r : Fed)
+    (i : SoFar s chunk left now sent) (w : FedOf now left before after r) (t : SentOf (sent .count) (take (r .length) after) sent′) where
   parts-on : (i .fed ++ take (r .taken) left) ++ drop (r .taken) left ≡ chunk
   parts-on = append-assoc (i .fed) (take (r .taken) left) (drop (r .taken) left) ∙ ap (λ (l : List ℕ). i .fed ++ l) (take-append-drop (r .taken) left) ∙ i .parts
 
@@ -71,7 +72,8 @@ pub part-all : (at : ℕ) (chunk : List ℕ) → take (length chunk - at) (drop 
 part-all at chunk = take-all (length chunk - at) (drop at chunk) (omega (arith, length-drop at chunk))
 
 -- one more part of the chunk, from a place on
-module _ (s : Session) (chunk before after : List ℕ) (at : ℕ) (now : Session) (sent sent′ : Sent) (r : Fed) (i : SoFar s chunk (drop at chunk) now sent) (p : FedOf now (take (length chunk - at) (drop at chunk)) before after r) (t : SentOf (sent .count) (take (r .length) after) sent′) where
+module _ (s : Session) (chunk before after : List ℕ) (at : ℕ) (now : Session) (sent sent′ : Sent) (r : Fed) (i : SoFar s chunk (drop at chunk) now sent)
+    (p : FedOf now (take (length chunk - at) (drop at chunk)) before after r) (t : SentOf (sent .count) (take (r .length) after) sent′) where
   w : FedOf now (drop at chunk) before after r
   w = subst (λ (l : List ℕ). FedOf now l before after r) (part-all at chunk) p
 

@@ -1,3 +1,4 @@
+-- Laws of the choosing: claimant by claimant, set by set, and as a painted row; and computed examples.
 pub mod Examples
 pub mod Granting
 pub mod Choosing

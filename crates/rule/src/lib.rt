@@ -1,3 +1,4 @@
+// The tick rule: who of the claimants is given cores in a tick, which cores, and the row that shows it.
 ghost use mathlib.Core.Path.{_≡_};
 ghost use mathlib.Core.List.{map, _++_};
 ghost use Prim.Native.Nat.{ℕ, _+_, _-_, _≤_};

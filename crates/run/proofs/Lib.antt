@@ -1,3 +1,4 @@
+-- Laws of the run in the cab: its places and limits, when start, row and advance are refused, and what is never read.
 pub mod Places
 pub mod Limits
 pub mod First

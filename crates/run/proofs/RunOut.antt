@@ -56,7 +56,8 @@ module _ (r : Run) where
     -- so the unfenced cores, of 64 at most, are those of the core count
     pub head-wide : openCount (r .fence) (min (r .cores) mostCores) ≡ wideIn r
     head-wide =
-        let few = from-decides 1 mostCores (r .cores) .0 (not-false (from 1 mostCores (r .cores)) (or-left-false (coresOut (r .cores)) (ruleOut (r .rule) || fenceOut (r .cores) (r .fence)) rest-in)) in
+        let few = from-decides 1 mostCores (r .cores) .0
+        (not-false (from 1 mostCores (r .cores)) (or-left-false (coresOut (r .cores)) (ruleOut (r .rule) || fenceOut (r .cores) (r .fence)) rest-in)) in
         let all : min (r .cores) mostCores ≡ r .cores = omega arith in
         ap (openCount (r .fence)) all
 

@@ -1,3 +1,4 @@
+-- What the run in the cab is: its places, its answers and their numbers, advance, row and start, and what its tasks bring to a tick.
 pub mod Run
 pub mod Answer
 pub mod Numbers

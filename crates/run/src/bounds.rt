@@ -1,3 +1,4 @@
+// Numbers 14 and 15: whether a run is outside its limits, and which of its tasks is late first.
 ghost use mathlib.Core.Path.{_≡_};
 ghost use mathlib.Core.Bool.{_||_, not};
 ghost use Prim.Native.Nat.{_≤_};

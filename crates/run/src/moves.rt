@@ -1,3 +1,4 @@
+// One tick of a run: each task goes to its next phase.
 ghost use mathlib.Core.Path.{_≡_};
 ghost use mathlib.Core.Bool.{false};
 ghost use Prim.Native.Nat.{ℕ};

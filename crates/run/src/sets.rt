@@ -1,3 +1,4 @@
+// Sets of places as numbers: whether a place is in one, and a place added.
 ghost use mathlib.Core.Path.{_≡_};
 ghost use mathlib.Core.Bool.{_||_, _&&_};
 ghost use Prim.Native.Nat.{ℕ, _<_};

@@ -3,6 +3,8 @@ use mathlib.Core.List.{List, [], _∷_, map}
 use mathlib.Core.Path.{_≡_, refl}
 use Prim.Native.Nat.{ℕ}
 use Prim.Native.String.{String}
+use lib.ListN.{drop}
+use Rattle.model.proofs.LineByLine.{LineByLine, by-line}
 use Rattle.text.specs.Decimal.{value, decimal, lastDigits, digitCount, digitsWithin}
 use Rattle.text.specs.Output.{letters}
 use Rattle.sentence.specs.Facts.{Facts, Part, sayable, rising}
@@ -49,7 +51,8 @@ cases =
     -- a count of 0
     ∷ case "task 3 misses at tick 5 with 3 of 4 ticks; task 1 ran 0." none
     -- 2^64 - 1 and 2^64
-    ∷ case "task 2 misses at tick 18446744073709551615 with 3 of 18446744073709551615 ticks; task 1 ran 18446744073709551615." (facts (miss 2 18446744073709551615 3 18446744073709551615 (ran 1 18446744073709551615 ∷ [])))
+    ∷ case "task 2 misses at tick 18446744073709551615 with 3 of 18446744073709551615 ticks; task 1 ran 18446744073709551615." (facts
+    (miss 2 18446744073709551615 3 18446744073709551615 (ran 1 18446744073709551615 ∷ [])))
     ∷ case "task 2 misses at tick 18446744073709551616 with 3 of 4 ticks." none
     ∷ case "task 2 misses at tick 5 with 3 of 18446744073709551616 ticks." none
     ∷ case "task 2 misses at tick 5 with 3 of 4 ticks; task 1 ran 18446744073709551616." none
@@ -61,9 +64,19 @@ cases =
     ∷ case "" none
     ∷ []
 
-pub read-cases : map (λ c. case (c .text) (unsaid (letters (c .text)))) cases ≡ cases
+-- what the definitions say of a text; a case is named by its text
+abbrev read : Case → Case
+read c = case (c .text) (unsaid (letters (c .text)))
+
+each-case : LineByLine read cases cases
 unfolding unsaid guess numbersFrom paired same said head parts sayable rising value decimal lastDigits digitCount digitsWithin
-read-cases = refl
+each-case =
+    let past-13 : LineByLine read (drop 13 cases) (drop 13 cases) =
+    (refl, (refl, (refl, (refl, (refl, (refl, (refl, (refl, (refl, (refl, (refl, (refl, tt)))))))))))) in
+    (refl, (refl, (refl, (refl, (refl, (refl, (refl, (refl, (refl, (refl, (refl, (refl, (refl, past-13)))))))))))))
+
+pub read-cases : map (λ c. case (c .text) (unsaid (letters (c .text)))) cases ≡ cases
+read-cases = by-line read cases cases each-case
 
 -- what is said of facts, also of such as are not read back
 pub record Saying : Type 0 where
@@ -77,6 +90,16 @@ sayings =
     ∷ record { of = miss 0 0 0 0 (ran 9 0 ∷ ran 9 0 ∷ []); text = "task 0 misses at tick 0 with 0 of 0 ticks; task 9 ran 0; task 9 ran 0." }
     ∷ []
 
-pub sayings-exact : map (λ s. said (s .of)) sayings ≡ map (λ s. letters (s .text)) sayings
+-- what is said, and what is to be
+abbrev saying : Saying → List ℕ
+saying s = said (s .of)
+
+abbrev expected : Saying → List ℕ
+expected s = letters (s .text)
+
+each-saying : LineByLine saying sayings (map expected sayings)
 unfolding said head parts decimal lastDigits digitCount digitsWithin
-sayings-exact = refl
+each-saying = (refl, (refl, (refl, tt)))
+
+pub sayings-exact : map (λ s. said (s .of)) sayings ≡ map (λ s. letters (s .text)) sayings
+sayings-exact = by-line saying sayings (map expected sayings) each-saying

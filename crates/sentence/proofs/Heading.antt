@@ -39,7 +39,8 @@ module _ (bs : List ℕ) (p t h l : Field)
   unfolding said head
   fields-found f s e =
       let rest : List ℕ = letters " ticks" ++ parts (f .others) (letters ".") in
-      let x = field-found bs (letters "task ") (place 0) p first refl (f .position) (field (letters " misses at tick ") (f .tick) (field (letters " with ") (f .had) (field (letters " of ") (f .length) rest))) (omega (arith, s .last)) refl e in
+      let x = field-found bs (letters "task ") (place 0) p first refl (f .position)
+      (field (letters " misses at tick ") (f .tick) (field (letters " with ") (f .had) (field (letters " of ") (f .length) rest))) (omega (arith, s .last)) refl e in
       let y = field-found bs (letters " misses at tick ") p t second (x .0) (f .tick) (field (letters " with ") (f .had) (field (letters " of ") (f .length) rest)) (s .tick) refl (x .2) in
       let z = field-found bs (letters " with ") t h third (y .0) (f .had) (field (letters " of ") (f .length) rest) (omega (arith, s .short, s .length)) refl (y .2) in
       let w = field-found bs (letters " of ") h l fourth (z .0) (f .length) rest (s .length) refl (z .2) in

@@ -8,6 +8,7 @@ use Rattle.model.specs.Grants.{claimants, given, grants, left}
 use Rattle.model.specs.Horizon.{S, horizon, hyperperiod, lcm}
 use Rattle.model.specs.Search.{any, kept, least, memb, upFrom}
 use Rattle.model.specs.Verdict.{missedAt, missedIn, firstMiss}
+use Rattle.model.proofs.LineByLine.{LineByLine, by-line}
 use Rattle.table.specs.Words.{met, count, chain, tableOf}
 use Rattle.table.specs.Answer.{headerNumber, lastStep, endingOf, firstOut, byHorizon, byTasks, byWalk, answerOf}
 use Rattle.text.specs.Decimal.{decimal, lastDigits, digitCount, digitsWithin}
@@ -17,19 +18,20 @@ use Rattle.sentence.specs.Sentence.{parts, head, said}
 use Rattle.sentence.specs.Waiting.{tally, ranWhileWaiting, missPlace, factsIn, factsOf}
 use Rattle.sentence.specs.Spoken.{byBuffer, byTable, spokenOf, Told, ofLength, refusedBy, spokenTold, leftIn}
 
--- a line: the words of a table, how many bytes the buffer has, the answer, and the sentence, nothing in a refusal
+-- a line: its name, the words of a table, how many bytes the buffer has, the answer, and the sentence, nothing in a refusal
 pub record Line : Type 0 where
+  pub name : String
   pub words : List ℕ
   pub bytes : ℕ
   pub says : Told
   pub text : String
 
-abbrev line : List ℕ → ℕ → Told → String → Line
-line ws n a x = record { words = ws; bytes = n; says = a; text = x }
+abbrev line : String → List ℕ → ℕ → Told → String → Line
+line s ws n a x = record { name = s; words = ws; bytes = n; says = a; text = x }
 
 -- a table that misses, with a buffer of 100 bytes, and its sentence
-abbrev misses : List ℕ → ℕ → String → Line
-misses ws n x = line ws 100 (ofLength n) x
+abbrev misses : String → List ℕ → ℕ → String → Line
+misses s ws n x = line s ws 100 (ofLength n) x
 
 -- what is answered, and what then stands at the front of the buffer
 pub record Outcome : Type 0 where
@@ -60,34 +62,43 @@ sentenceF = "task 1 misses at tick 1 with 1 of 2 ticks."
 abbrev sentenceA2 : String
 sentenceA2 = "task 3 misses at tick 5 with 3 of 4 ticks; task 1 ran 2."
 
+-- its 31 tasks above ran one tick each
+abbrev sentenceCrowd : String
+sentenceCrowd =
+    "task 32 misses at tick 1 with 0 of 1 ticks; task 1 ran 1; task 2 ran 1; task 3 ran 1; task 4 ran 1; task 5 ran 1; task 6 ran 1; task 7 ran 1; task 8 ran 1; task 9 ran 1; task 10 ran 1; task 11 ran 1; task 12 ran 1; task 13 ran 1; task 14 ran 1; task 15 ran 1; task 16 ran 1; task 17 ran 1; task 18 ran 1; task 19 ran 1; task 20 ran 1; task 21 ran 1; task 22 ran 1; task 23 ran 1; task 24 ran 1; task 25 ran 1; task 26 ran 1; task 27 ran 1; task 28 ran 1; task 29 ran 1; task 30 ran 1; task 31 ran 1."
+
 abbrev pub lines : List Line
 lines =
-    -- A2, where task 2 ran beside the late job only, and F, whose C is above its D; 18 from both sides
-    line (tableA 2) 56 (ofLength 56) sentenceA2 ∷ line (tableA 2) 55 (refusedBy 18 0) ""
-    ∷ line wordsF 43 (ofLength 42) sentenceF ∷ line wordsF 42 (ofLength 42) sentenceF ∷ line wordsF 41 (refusedBy 18 0) ""
-    -- A has no miss: 17 for every buffer, before 18; a number of the table before both
-    ∷ line (tableA 1) 0 (refusedBy 17 0) "" ∷ line (tableA 1) 99 (refusedBy 17 0) "" ∷ line (1 ∷ 0 ∷ 1 ∷ 0 ∷ 0 ∷ []) 0 (refusedBy 2 0) ""
-    -- two late at one tick: the first in priority
-    ∷ misses (1 ∷ 1 ∷ 1 ∷ 0 ∷ 0 ∷ 2 ∷ 0 ∷ 1 ∷ 1 ∷ 2 ∷ 2 ∷ 3 ∷ 0 ∷ 1 ∷ 2 ∷ 2 ∷ 2 ∷ 0 ∷ 0 ∷ 1 ∷ 1 ∷ 2 ∷ 2 ∷ []) 56
+    line "A2, where task 2 ran beside the late job only" (tableA 2) 56 (ofLength 56) sentenceA2
+    ∷ line "A2 in one byte less" (tableA 2) 55 (refusedBy 18 0) ""
+    ∷ line "F, whose C is above its D, in one byte more" wordsF 43 (ofLength 42) sentenceF
+    ∷ line "F in just as many bytes" wordsF 42 (ofLength 42) sentenceF
+    ∷ line "F in one byte less" wordsF 41 (refusedBy 18 0) ""
+    ∷ line "A has no miss: 17 before 18" (tableA 1) 0 (refusedBy 17 0) ""
+    ∷ line "A: 17 for every buffer" (tableA 1) 99 (refusedBy 17 0) ""
+    ∷ line "a number of the table before both" (1 ∷ 0 ∷ 1 ∷ 0 ∷ 0 ∷ []) 0 (refusedBy 2 0) ""
+    ∷ misses "two late at one tick: the first in priority"
+    (1 ∷ 1 ∷ 1 ∷ 0 ∷ 0 ∷ 2 ∷ 0 ∷ 1 ∷ 1 ∷ 2 ∷ 2 ∷ 3 ∷ 0 ∷ 1 ∷ 2 ∷ 2 ∷ 2 ∷ 0 ∷ 0 ∷ 1 ∷ 1 ∷ 2 ∷ 2 ∷ []) 56
     "task 2 misses at tick 2 with 1 of 2 ticks; task 1 ran 1."
-    -- a task above ran four ticks, two of them beside the late job
-    ∷ misses (1 ∷ 2 ∷ 1 ∷ 0 ∷ 0 ∷ 2 ∷ 0 ∷ 1 ∷ 4 ∷ 4 ∷ 4 ∷ 3 ∷ 0 ∷ 1 ∷ 2 ∷ 4 ∷ 4 ∷ 0 ∷ 0 ∷ 1 ∷ 3 ∷ 4 ∷ 4 ∷ []) 70
+    ∷ misses "a task above ran four ticks, two of them beside the late job"
+    (1 ∷ 2 ∷ 1 ∷ 0 ∷ 0 ∷ 2 ∷ 0 ∷ 1 ∷ 4 ∷ 4 ∷ 4 ∷ 3 ∷ 0 ∷ 1 ∷ 2 ∷ 4 ∷ 4 ∷ 0 ∷ 0 ∷ 1 ∷ 3 ∷ 4 ∷ 4 ∷ []) 70
     "task 3 misses at tick 4 with 2 of 3 ticks; task 1 ran 2; task 2 ran 2."
-    -- a task above ran in a tick before the late job's release, which does not count
-    ∷ misses (1 ∷ 1 ∷ 1 ∷ 0 ∷ 0 ∷ 2 ∷ 0 ∷ 1 ∷ 2 ∷ 4 ∷ 4 ∷ 0 ∷ 1 ∷ 1 ∷ 2 ∷ 2 ∷ 4 ∷ []) 56 "task 2 misses at tick 3 with 1 of 2 ticks; task 1 ran 1."
-    -- its job of an earlier release counts from then on
-    ∷ misses (1 ∷ 1 ∷ 1 ∷ 0 ∷ 0 ∷ 2 ∷ 0 ∷ 1 ∷ 3 ∷ 4 ∷ 4 ∷ 0 ∷ 1 ∷ 1 ∷ 2 ∷ 3 ∷ 4 ∷ []) 56 "task 2 misses at tick 4 with 1 of 2 ticks; task 1 ran 2."
-    -- a task below that ran meanwhile is not named
-    ∷ misses (1 ∷ 2 ∷ 1 ∷ 0 ∷ 0 ∷ 2 ∷ 0 ∷ 1 ∷ 3 ∷ 3 ∷ 4 ∷ 3 ∷ 0 ∷ 2 ∷ 1 ∷ 2 ∷ 4 ∷ 0 ∷ 0 ∷ 1 ∷ 1 ∷ 4 ∷ 4 ∷ []) 56
+    ∷ misses "a task above ran in a tick before the late job's release, which does not count"
+    (1 ∷ 1 ∷ 1 ∷ 0 ∷ 0 ∷ 2 ∷ 0 ∷ 1 ∷ 2 ∷ 4 ∷ 4 ∷ 0 ∷ 1 ∷ 1 ∷ 2 ∷ 2 ∷ 4 ∷ []) 56
+    "task 2 misses at tick 3 with 1 of 2 ticks; task 1 ran 1."
+    ∷ misses "its job of an earlier release counts from then on"
+    (1 ∷ 1 ∷ 1 ∷ 0 ∷ 0 ∷ 2 ∷ 0 ∷ 1 ∷ 3 ∷ 4 ∷ 4 ∷ 0 ∷ 1 ∷ 1 ∷ 2 ∷ 3 ∷ 4 ∷ []) 56
+    "task 2 misses at tick 4 with 1 of 2 ticks; task 1 ran 2."
+    ∷ misses "a task below that ran meanwhile is not named"
+    (1 ∷ 2 ∷ 1 ∷ 0 ∷ 0 ∷ 2 ∷ 0 ∷ 1 ∷ 3 ∷ 3 ∷ 4 ∷ 3 ∷ 0 ∷ 2 ∷ 1 ∷ 2 ∷ 4 ∷ 0 ∷ 0 ∷ 1 ∷ 1 ∷ 4 ∷ 4 ∷ []) 56
     "task 2 misses at tick 2 with 0 of 1 ticks; task 1 ran 2."
-    -- nor is a task above that did not run
-    ∷ misses (1 ∷ 2 ∷ 1 ∷ 0 ∷ 0 ∷ 2 ∷ 0 ∷ 1 ∷ 2 ∷ 4 ∷ 4 ∷ 3 ∷ 3 ∷ 1 ∷ 1 ∷ 1 ∷ 4 ∷ 4 ∷ 0 ∷ 1 ∷ 2 ∷ 4 ∷ 4 ∷ 0 ∷ 0 ∷ 1 ∷ 2 ∷ 2 ∷ 4 ∷ []) 70
+    ∷ misses "nor is a task above that did not run"
+    (1 ∷ 2 ∷ 1 ∷ 0 ∷ 0 ∷ 2 ∷ 0 ∷ 1 ∷ 2 ∷ 4 ∷ 4 ∷ 3 ∷ 3 ∷ 1 ∷ 1 ∷ 1 ∷ 4 ∷ 4 ∷ 0 ∷ 1 ∷ 2 ∷ 4 ∷ 4 ∷ 0 ∷ 0 ∷ 1 ∷ 2 ∷ 2 ∷ 4 ∷ []) 70
     "task 4 misses at tick 2 with 0 of 2 ticks; task 1 ran 2; task 3 ran 2."
-    -- the same on four cores of which 0 and 2 are fenced
-    ∷ misses (1 ∷ 4 ∷ 1 ∷ 5 ∷ 0 ∷ 2 ∷ 0 ∷ 1 ∷ 2 ∷ 4 ∷ 4 ∷ 3 ∷ 3 ∷ 1 ∷ 1 ∷ 1 ∷ 4 ∷ 4 ∷ 0 ∷ 1 ∷ 2 ∷ 4 ∷ 4 ∷ 0 ∷ 0 ∷ 1 ∷ 2 ∷ 2 ∷ 4 ∷ []) 70
+    ∷ misses "the same on four cores of which 0 and 2 are fenced"
+    (1 ∷ 4 ∷ 1 ∷ 5 ∷ 0 ∷ 2 ∷ 0 ∷ 1 ∷ 2 ∷ 4 ∷ 4 ∷ 3 ∷ 3 ∷ 1 ∷ 1 ∷ 1 ∷ 4 ∷ 4 ∷ 0 ∷ 1 ∷ 2 ∷ 4 ∷ 4 ∷ 0 ∷ 0 ∷ 1 ∷ 2 ∷ 2 ∷ 4 ∷ []) 70
     "task 4 misses at tick 2 with 0 of 2 ticks; task 1 ran 2; task 3 ran 2."
-    -- 32 tasks
-    ∷ line crowd 499 (ofLength 499) "task 32 misses at tick 1 with 0 of 1 ticks; task 1 ran 1; task 2 ran 1; task 3 ran 1; task 4 ran 1; task 5 ran 1; task 6 ran 1; task 7 ran 1; task 8 ran 1; task 9 ran 1; task 10 ran 1; task 11 ran 1; task 12 ran 1; task 13 ran 1; task 14 ran 1; task 15 ran 1; task 16 ran 1; task 17 ran 1; task 18 ran 1; task 19 ran 1; task 20 ran 1; task 21 ran 1; task 22 ran 1; task 23 ran 1; task 24 ran 1; task 25 ran 1; task 26 ran 1; task 27 ran 1; task 28 ran 1; task 29 ran 1; task 30 ran 1; task 31 ran 1."
+    ∷ line "32 tasks" crowd 499 (ofLength 499) sentenceCrowd
     ∷ []
 
 abbrev pub computed : Line → Outcome
@@ -96,6 +107,12 @@ computed l = outcome (spokenTold (spokenOf (l .words) (l .bytes))) (leftIn (spok
 abbrev pub expected : Line → Outcome
 expected l = outcome (l .says) (letters (l .text))
 
+-- line by line
+each-line : LineByLine computed lines (map expected lines)
+unfolding spokenOf byTable byBuffer said head parts namedFrom decimal lastDigits digitCount digitsWithin factsIn missPlace ranWhileWaiting tally firstMiss
+    answerOf byWalk byTasks byHorizon firstOut endingOf lastStep headerNumber tableOf chain count met missedIn missedAt horizon S hyperperiod lcm least any kept
+    memb upFrom given left grants claimants claims served work step full bookFrom enter answer late misreported reportable
+each-line = (refl, (refl, (refl, (refl, (refl, (refl, (refl, (refl, (refl, (refl, (refl, (refl, (refl, (refl, (refl, (refl, tt))))))))))))))))
+
 pub spoken-lines : map computed lines ≡ map expected lines
-unfolding spokenOf byTable byBuffer said head parts namedFrom decimal lastDigits digitCount digitsWithin factsIn missPlace ranWhileWaiting tally firstMiss answerOf byWalk byTasks byHorizon firstOut endingOf lastStep headerNumber tableOf chain count met missedIn missedAt horizon S hyperperiod lcm least any kept memb upFrom given left grants claimants claims served work step full bookFrom enter answer late misreported reportable
-spoken-lines = refl
+spoken-lines = by-line computed lines (map expected lines) each-line

@@ -62,7 +62,8 @@ said-short last f h = go (ltb (f .had) 10) refl
         let e = field-length (letters " of ") (f .length) (letters " ticks" ++ rest) in
         let d = field-length (letters " with ") (f .had) (field (letters " of ") (f .length) (letters " ticks" ++ rest)) in
         let c = field-length (letters " misses at tick ") (f .tick) (field (letters " with ") (f .had) (field (letters " of ") (f .length) (letters " ticks" ++ rest))) in
-        let b = field-length (letters "task ") (f .position) (field (letters " misses at tick ") (f .tick) (field (letters " with ") (f .had) (field (letters " of ") (f .length) (letters " ticks" ++ rest)))) in
+        let b = field-length (letters "task ") (f .position)
+        (field (letters " misses at tick ") (f .tick) (field (letters " with ") (f .had) (field (letters " of ") (f .length) (letters " ticks" ++ rest)))) in
         omega arith
 
     go : (t : Bool) → ltb (f .had) 10 ≡ t → length (said f) ≤ longest last

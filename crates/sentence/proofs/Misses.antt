@@ -42,7 +42,8 @@ had-served s p k (suc n) = go (served s (full s n) p k) (full s n .job p k .ende
     before = tally n (λ u. served s (full s u) p k)
 
     go : (b e : Bool) → j .had ≤ before
-        → cond b (cond e (record { had = j .had; claimed = suc (j .claimed); ended = true }) (record { had = suc (j .had); claimed = suc (j .claimed); ended = leb (task s p .length) (suc (j .had)) })) j .had
+        → cond b (cond e (record { had = j .had; claimed = suc (j .claimed); ended = true })
+        (record { had = suc (j .had); claimed = suc (j .claimed); ended = leb (task s p .length) (suc (j .had)) })) j .had
         ≤ cond b (suc before) before
     go true true l = omega arith
     go true false l = omega arith

@@ -76,7 +76,8 @@ said-numbers : (f : Facts) → numbersFrom [] (said f) ≡ f .position ∷ f .ti
 unfolding said head numbersFrom
 said-numbers f =
     let rest : List ℕ = parts (f .others) (letters ".") in
-    number-first (f .position) (letters " misses at tick " ++ (decimal (f .tick) ++ (letters " with " ++ (decimal (f .had) ++ (letters " of " ++ (decimal (f .length) ++ (letters " ticks" ++ rest))))))) refl
+    number-first (f .position) (letters " misses at tick " ++ (decimal
+    (f .tick) ++ (letters " with " ++ (decimal (f .had) ++ (letters " of " ++ (decimal (f .length) ++ (letters " ticks" ++ rest))))))) refl
     ∙ ap (λ (ns : List ℕ). f .position ∷ ns)
     (number-first (f .tick) (letters " with " ++ (decimal (f .had) ++ (letters " of " ++ (decimal (f .length) ++ (letters " ticks" ++ rest))))) refl
     ∙ ap (λ (ns : List ℕ). f .tick ∷ ns)

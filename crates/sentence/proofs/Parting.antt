@@ -79,7 +79,8 @@ module _ (bs : List ℕ) (from position : ℕ) (ran : List ℕ) (last at : ℕ) 
       (y .0, x .1, y .1, y .2)
 
   -- the part that was found stands here
-  pub here : count .found ≡ true → (at < count .next) × (count .next ≤ length bs) × (count .value < limit) × (task .value < limit) × (drop at bs ≡ field (letters "; task ") (task .value) (field (letters " ran ") (count .value) (drop (count .next) bs)))
+  pub here : count .found ≡ true → (at < count .next) × (count .next ≤ length bs) × (count .value < limit) × (task .value < limit)
+      × (drop at bs ≡ field (letters "; task ") (task .value) (field (letters " ran ") (count .value) (drop (count .next) bs)))
   here f =
       let y = second .there f in
       let x = first .there (y .0) in

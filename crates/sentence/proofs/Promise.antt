@@ -65,7 +65,8 @@ module _ (ws : List ℕ) where
       let ok = passed-sound ws none in
       let f = first-found s ok e in
       let l = missed-here s ok (firstMiss s) (missPlace s) f .0 in
-      miss-sayable s ok (firstMiss s) (missPlace s) f (passed-count ws none .1) (omega (arith, first-within s ok e, passed-horizon ws none)) (omega (arith, passed-inside ws none (missPlace s) l .length-from .1))
+      miss-sayable s ok (firstMiss s) (missPlace s) f (passed-count ws none .1)
+      (omega (arith, first-within s ok e, passed-horizon ws none)) (omega (arith, passed-inside ws none (missPlace s) l .length-from .1))
 
 module _ (ws old new : List ℕ) where
   abbrev text : List ℕ

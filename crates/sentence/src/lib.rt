@@ -86,7 +86,8 @@ pub fn facts_of(bytes: &[u8]) -> Found
 // Says the miss of a place at a tick at the front of the buffer, or answers 18 where it is too short.
 fn say(table: Loaded, tick: u32, place: usize, buffer: &mut [u8]) -> Spoken
     requires { ⌜ Fit table × FirstMiss (tableIn table) tick (suc place) × (tick ≤ table .horizon) × Short table ⌝ }
-    ensures { λ r. ⌜ (r ≡ byBuffer (factsAt (tableIn table) tick place) (length (now (buffer .entry)))) × (now (buffer .exit) ≡ leftIn (spokenTold r) (factsAt (tableIn table) tick place) (now (buffer .entry))) ⌝ }
+    ensures { λ r. ⌜ (r ≡ byBuffer (factsAt (tableIn table) tick place) (length (now (buffer .entry))))
+        × (now (buffer .exit) ≡ leftIn (spokenTold r) (factsAt (tableIn table) tick place) (now (buffer .entry))) ⌝ }
 {
     let facts = counting::count(table, tick, place);
     let mut text = [0u8; LONGEST];

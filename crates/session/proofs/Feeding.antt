@@ -24,7 +24,8 @@ use Rattle.session.specs.Talk.{tooMany, Ahead, nothing, unknown, linesFr
 use Rattle.session.specs.Session.{spokenIn, spoken, stageOf, Begins, FedBy, stageAfter, Said, OpenedOf, overWith}
 use Rattle.session.proofs.Saying.{said-nothing}
 use Rattle.session.proofs.Replying.{stage-within, table-not-over}
-use Rattle.session.proofs.Talking.{nil-right, begins-with, talk-more, talk-long, due-long, due-none, talk-dashes, talk-line, tooLong, lines-more, lines-line, noOperation, replies-long, replies-due, replies-line, replies-last, due-silent}
+use Rattle.session.proofs.Talking.{nil-right, begins-with, talk-more, talk-long, due-long, due-none, talk-dashes, talk-line, tooLong}
+use Rattle.session.proofs.Talking.{lines-more, lines-line, noOperation, replies-long, replies-due, replies-line, replies-last, due-silent}
 
 -- a session of its parts
 abbrev pub session : Stage → List ℕ → ℕ → ℕ → Run → Session
@@ -180,7 +181,8 @@ module _
     holds =
         ap (take held) (p .bytes ∙ sym (append-assoc (take (s .held) (s .bytes)) (take count chunk) _))
         ∙ take-at (take (s .held) (s .bytes) ++ take count chunk) _ held
-        (length-append (take (s .held) (s .bytes)) (take count chunk) ∙ ap₂ (λ (x y : ℕ). x + y) (length-take-le (s .held) (s .bytes) (omega (arith, room, fits, wide))) (length-take-le count chunk few) ∙ sym now-held)
+        (length-append (take (s .held) (s .bytes)) (take count chunk)
+        ∙ ap₂ (λ (x y : ℕ). x + y) (length-take-le (s .held) (s .bytes) (omega (arith, room, fits, wide))) (length-take-le count chunk few) ∙ sym now-held)
 
     -- the table's whole lines are as they were
     pub same-table : s .from ≤ s .held → take (s .from) bytes ≡ take (s .from) (s .bytes)
@@ -277,7 +279,8 @@ module _
         fed (spokenIn Table s) chunk before before [] _ (omega arith) (λ o. omega (arith, q, o)) (said-nothing before)
         (λ x bs.
         table-on s chunk bytes tooMany end count held wide room fits e m p f x bs
-        ∙ sym (speaks Table (session Table bytes (s .from) held (s .run)) x bs refl (omega (arith, f, sum)) (held-most s chunk bytes tooMany end count held wide room fits e m p) ∙ spoken-table _ x bs))
+        ∙ sym (speaks Table (session Table bytes (s .from) held (s .run)) x bs refl (omega (arith, f, sum))
+        (held-most s chunk bytes tooMany end count held wide room fits e m p) ∙ spoken-table _ x bs))
 
     -- the line ends: what comes is read after a newline
     line-ends :
@@ -333,7 +336,9 @@ module _
     few-bytes = omega arith
 
     held-length : length (take held bytes) ≡ held
-    held-length = length-take-le held bytes (omega (arith, held-most s chunk bytes noneLong end count held wide room few-bytes e m p, still-wide s chunk bytes noneLong end count held wide room few-bytes e m p))
+    held-length =
+        length-take-le held bytes
+        (omega (arith, held-most s chunk bytes noneLong end count held wide room few-bytes e m p, still-wide s chunk bytes noneLong end count held wide room few-bytes e m p))
 
     -- the line is longer than any operation
     pub operation-full : (n : ℕ) (r : Fed) → held ≡ noneLong → Said noOperation before after n → r ≡ overWith s (length chunk) n → FedBy (spokenIn Operations s) chunk before after r
@@ -358,7 +363,8 @@ module _
         fed (spokenIn Operations s) chunk before before [] _ (omega arith) (λ o. omega (arith, q, o)) (said-nothing before)
         (λ x bs.
         operations-on s chunk bytes noneLong end count held wide room few-bytes e m p x bs
-        ∙ sym (speaks Operations (session Operations bytes 0 held (s .run)) x bs refl (omega arith) (omega (arith, held-most s chunk bytes noneLong end count held wide room few-bytes e m p)) ∙ spoken-operations _ x bs))
+        ∙ sym (speaks Operations (session Operations bytes 0 held (s .run)) x bs refl (omega arith)
+        (omega (arith, held-most s chunk bytes noneLong end count held wide room few-bytes e m p)) ∙ spoken-operations _ x bs))
 
     -- the line ends
     line-asked :

@@ -1,3 +1,4 @@
+-- Laws of a session: what is said case by case, how lines come in pieces, a chunk of the input, and the whole of it.
 pub mod Saying
 pub mod Talking
 pub mod Feeding

@@ -33,7 +33,8 @@ talk-more e d l (b ∷ chunk) (suc k) bs h = go (eqb b newline) h (talk-more e d
     go :
         (t : Bool) → suc k ≤ cond t 0 (suc (lineLength chunk))
         → (k ≤ lineLength chunk → talkFrom e d (l ++ (b ∷ [])) (take k chunk ++ bs) ≡ talkFrom e d ((l ++ (b ∷ [])) ++ take k chunk) bs)
-        → cond t (cond (isDashes l) (opened d (linesFrom e [] (take k chunk ++ bs))) (talkFrom e (d ++ (l ++ (newline ∷ []))) [] (take k chunk ++ bs))) (talkFrom e d (l ++ (b ∷ [])) (take k chunk ++ bs))
+        → cond t (cond (isDashes l) (opened d (linesFrom e [] (take k chunk ++ bs))) (talkFrom e (d ++ (l ++ (newline ∷ []))) [] (take k chunk ++ bs)))
+        (talkFrom e d (l ++ (b ∷ [])) (take k chunk ++ bs))
         ≡ talkFrom e d (l ++ (b ∷ take k chunk)) bs
     go true q ih = absurd (not-suc-le-zero q)
     go false q ih = ih (le-of-suc-le-suc q) ∙ ap (λ (m : List ℕ). talkFrom e d m bs) (append-snoc l b (take k chunk))

@@ -36,7 +36,8 @@ due-so-far : {s s′ : Session} {bs text : List ℕ} → Feeds s bs text s′ �
 due-so-far none cs = begins-with refl
 due-so-far {s} {s′} (more {chunk = chunk} {after = after} {bs = bs} {text = text} {r = r} w f) cs =
     subst₂ Begins (ap (spoken s unknown) (sym (append-assoc (take (r .taken) chunk) bs cs))) (sym (append-assoc (take (r .length) after) text (spoken s′ unknown cs)))
-    (begins-on (spoken s unknown (take (r .taken) chunk ++ (bs ++ cs))) (take (r .length) after) (spoken (r .session) unknown (bs ++ cs)) (text ++ spoken s′ unknown cs) (w .at-once (bs ++ cs)) (due-so-far f cs))
+    (begins-on (spoken s unknown (take (r .taken) chunk ++ (bs ++ cs))) (take (r .length) after)
+    (spoken (r .session) unknown (bs ++ cs)) (text ++ spoken s′ unknown cs) (w .at-once (bs ++ cs)) (due-so-far f cs))
 
 -- no answer waits: what a new session has said to the bytes bs, however they come, begins with all that is due
 pub at-once : (s s′ : Session) (bs text : List ℕ) → NewOf s → Feeds s bs text s′ → Begins (due bs) text

@@ -25,7 +25,8 @@ pub record Printing (whole left : List ℕ) (sent : Sent) : Type 0 where
 pub printing-none : (whole : List ℕ) → Printing whole whole (record { count = 0; whole = true })
 printing-none whole = record { done = []; together = refl; counted = sent-nothing 0 refl; taken = refl }
 
-module _ (whole : List ℕ) (p : Printer) (before after : List ℕ) (r : Piece) (s t : Sent) (i : Printing whole (rest p) s) (q : PieceOf p before after r) (u : SentOf (s .count) (take (r .length) after) t) where
+module _ (whole : List ℕ) (p : Printer) (before after : List ℕ) (r : Piece) (s t : Sent)
+    (i : Printing whole (rest p) s) (q : PieceOf p before after r) (u : SentOf (s .count) (take (r .length) after) t) where
   -- what was taken before, and this piece
   on : SentOf 0 (i .done ++ take (r .length) after) t
   on = sent-then 0 (i .done) (take (r .length) after) s t (i .counted) (i .taken) u
@@ -34,7 +35,8 @@ module _ (whole : List ℕ) (p : Printer) (before after : List ℕ) (r : Piece) 
   together-on : (i .done ++ take (r .length) after) ++ rest (r .printer) ≡ whole
   together-on =
       append-assoc (i .done) (take (r .length) after) (rest (r .printer))
-      ∙ ap (λ (l : List ℕ). i .done ++ l) (ap (λ (l : List ℕ). take (r .length) after ++ l) (q .rest) ∙ ap (λ (l : List ℕ). l ++ drop (r .length) (rest p)) (put-front (q .bytes)) ∙ take-append-drop (r .length) (rest p))
+      ∙ ap (λ (l : List ℕ). i .done ++ l) (ap (λ (l : List ℕ). take (r .length) after ++ l) (q .rest)
+      ∙ ap (λ (l : List ℕ). l ++ drop (r .length) (rest p)) (put-front (q .bytes)) ∙ take-append-drop (r .length) (rest p))
       ∙ i .together
 
   -- a piece that was taken

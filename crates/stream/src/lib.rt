@@ -3,7 +3,7 @@ ghost use mathlib.Core.Path.{_≡_};
 ghost use Prim.Native.Nat.{_+_, _≤_};
 ghost use lib.ListN.{length};
 ghost use Rattle.stream.specs.Reading.{ReadOf, FilledOf};
-ghost use Rattle.stream.specs.Sent.{counted, SentOf};
+ghost use Rattle.stream.specs.Sent.{counted, unreadBy, SentOf};
 use libc::STDERR_FILENO;
 use libc::STDIN_FILENO;
 use libc::STDOUT_FILENO;
@@ -74,13 +74,13 @@ fn add(count: usize, more: usize) -> usize
     count + more
 }
 
-// Hands bytes to writes until all are taken or a write takes none, after `count` bytes that were taken before.
-pub fn send(count: usize, bytes: &[u8]) -> Sent
+// Hands bytes to writes on `out` until all are taken or a write takes none, after `count` bytes that were taken before.
+fn hand(out: i32, count: usize, bytes: &[u8]) -> Sent
     ensures { λ r. ⌜ SentOf count (now (bytes .entry)) r ⌝ }
 {
     let mut at: usize = 0;
     while at < bytes.len() {
-        let got = libc::write(STDOUT_FILENO, &bytes[at..]);
+        let got = libc::write(out, &bytes[at..]);
         let taken = io::count(got, &bytes[at..]);
         if taken == 0 {
             return Sent {
@@ -96,8 +96,24 @@ pub fn send(count: usize, bytes: &[u8]) -> Sent
     }
 }
 
-// Says on standard error that a program could not read its input.
-pub fn say_unread(name: &[u8]) {
-    io::write_all(STDERR_FILENO, name);
-    io::write_all(STDERR_FILENO, b": standard input could not be read\n");
+// Hands bytes to standard output until all are taken or a write takes none, after `count` bytes that were taken before.
+pub fn send(count: usize, bytes: &[u8]) -> Sent
+    ensures { λ r. ⌜ SentOf count (now (bytes .entry)) r ⌝ }
+{
+    hand(STDOUT_FILENO, count, bytes)
+}
+
+// Says on standard error that a program could not read its input; the answer is how much of it writes took.
+pub fn say_unread(name: &[u8]) -> Sent
+    ensures { λ r. ⌜ SentOf 0 (unreadBy (now (name .entry))) r ⌝ }
+{
+    let sent = hand(STDERR_FILENO, 0, name);
+    if sent.whole {
+        return hand(
+            STDERR_FILENO,
+            sent.count,
+            b": standard input could not be read\n",
+        );
+    }
+    sent
 }

@@ -2,10 +2,12 @@
 use mathlib.Core.Path.{_≡_, refl}
 use mathlib.Core.List.{List, [], _∷_, map, _++_}
 use Prim.Native.Nat.{ℕ, zero, suc, _+_, _-_, _*_, _/_, _^_}
-use lib.ListN.{length, replicate}
+use Prim.Native.String.{String}
+use lib.ListN.{length, drop, replicate}
 use Rattle.model.specs.Search.{any, kept, least, upFrom}
 use Rattle.model.specs.Task.{Task, Table, greedy}
 use Rattle.model.specs.Horizon.{S, lastS, lcm, hyperperiod, horizon, releaseFrom}
+use Rattle.model.proofs.LineByLine.{LineByLine, by-line}
 use Rattle.model.proofs.Examples.{t, on, A}
 use Rattle.table.proofs.Starts.{since}
 use Rattle.table.specs.declared.Answer.the-variants.{Passed}
@@ -15,17 +17,18 @@ use Rattle.table.specs.Answer.{headerNumber, lastStep, endingOf, firstOu
 use Rattle.table.specs.Load.{places, refusal, loadOf}
 use Rattle.table.specs.Bare.{bared}
 
--- a line: the words of a table, and what `load` gives of them
+-- a line: its name, the words of a table, and what `load` gives of them
 pub record Line : Type 0 where
+  pub name : String
   pub words : List ℕ
   pub gives : Loaded
 
 -- what the definitions say of a line's words
 abbrev pub worked : Line → Line
-worked l = record { words = l .words; gives = loadOf (l .words) }
+worked l = record { name = l .name; words = l .words; gives = loadOf (l .words) }
 
-abbrev line : List ℕ → Loaded → Line
-line ws l = record { words = ws; gives = l }
+abbrev line : String → List ℕ → Loaded → Line
+line n ws l = record { name = n; words = ws; gives = l }
 
 -- a table that passes, under rule 1, with its last S, P and horizon
 abbrev passes : Table → ℕ → ℕ → ℕ → Loaded
@@ -84,82 +87,86 @@ abbrev alone : ℕ → Task → List ℕ
 alone m τ = header 1 m 1 ++ entry 0 (τ .offset) (τ .width) (τ .length) (τ .deadline) (τ .period)
 
 -- it passes; it is refused, with number n and position p
-abbrev fits : ℕ → Task → Line
-fits m τ = line (alone m τ) (passes (on m greedy (τ ∷ [])) (τ .offset) (τ .period) (τ .offset + τ .period))
+abbrev fits : String → ℕ → Task → Line
+fits s m τ = line s (alone m τ) (passes (on m greedy (τ ∷ [])) (τ .offset) (τ .period) (τ .offset + τ .period))
 
-abbrev breaks : ℕ → ℕ → ℕ → Task → Line
-breaks n p m τ = line (alone m τ) (refusal n p)
+abbrev breaks : String → ℕ → ℕ → ℕ → Task → Line
+breaks s n p m τ = line s (alone m τ) (refusal n p)
 
 -- one task of width v on m cores with this fence: it passes, or it is refused, with its number and position
 abbrev wall : ℕ → ℕ → ℕ → ℕ → List ℕ
 wall m low high v = fenced 1 m 1 low high ++ entry 0 0 v 1 1 1
 
-abbrev wallOf : ℕ → ℕ → ℕ → ℕ → Line
-wallOf m low high v =
-    line (wall m low high v) (passes (record { tasks = t 0 v 1 1 1 ∷ []; cores = m; fence = low + high * 2 ^ 32; rule = greedy }) 0 1 1)
+abbrev wallOf : String → ℕ → ℕ → ℕ → ℕ → Line
+wallOf s m low high v =
+    line s (wall m low high v) (passes (record { tasks = t 0 v 1 1 1 ∷ []; cores = m; fence = low + high * 2 ^ 32; rule = greedy }) 0 1 1)
 
-abbrev walled : ℕ → ℕ → ℕ → ℕ → ℕ → ℕ → Line
-walled m low high p v n = line (wall m low high v) (refusal n p)
+abbrev walled : String → ℕ → ℕ → ℕ → ℕ → ℕ → ℕ → Line
+walled s m low high p v n = line s (wall m low high v) (refusal n p)
 
 -- a header of this rule and the head 0, which number 4 turns down where the rule passes 3
-abbrev ruled : ℕ → ℕ → Line
-ruled r n = line (header 0 1 r ++ entry 0 0 1 1 1 1) (refusal n 0)
+abbrev ruled : String → ℕ → ℕ → Line
+ruled s r n = line s (header 0 1 r ++ entry 0 0 1 1 1 1) (refusal n 0)
 
 abbrev pub lines : List Line
 lines =
-    line wordsA (passes (A greedy) 0 5 5)
-    -- H: two words; 197 words pass 1, and 203 don't; cores 0 and rule 9 together; head 2 of one record; head 1 and its next 1
-    ∷ line (3 ∷ 1 ∷ []) (refusal 1 0)
-    ∷ line (replicate 197 0) (refusal 2 0)
-    ∷ line (replicate 203 0) (refusal 1 0)
-    -- four words, and five
-    ∷ line (1 ∷ 1 ∷ 1 ∷ 0 ∷ []) (refusal 1 0)
-    ∷ line (1 ∷ 1 ∷ 1 ∷ 0 ∷ 0 ∷ []) (refusal 5 0)
-    ∷ line (header 1 0 9 ++ entry 0 0 1 1 1 1) (refusal 2 0)
-    ∷ line (header 2 1 1 ++ entry 0 0 1 1 1 1) (refusal 5 0)
-    ∷ line (header 1 1 1 ++ entry 1 0 1 1 1 1) (refusal 6 0)
-    -- the rest is no whole number of records
-    ∷ line (header 1 1 1 ++ entry 0 0 1 1 1 1 ++ 0 ∷ []) (refusal 1 0)
-    -- the rule 1, 2 or 3; the head
-    ∷ ruled 0 3 ∷ ruled 1 4 ∷ ruled 2 4 ∷ ruled 3 4 ∷ ruled 4 3
-    -- every number at its least, and every number at its most (the task below it is turned down, so that P is not computed); 0 and 65 cores
-    ∷ fits 1 (t 0 1 1 1 1) ∷ fits 64 (t 0 64 1 1 1)
-    ∷ line (header 1 64 1 ++ entry 2 1000000 64 1000000 1000000 1000000 ++ entry 0 0 0 1 1 1) (refusal 7 2)
-    ∷ breaks 2 0 0 (t 0 1 1 1 1) ∷ breaks 2 0 65 (t 0 1 1 1 1)
-    -- a width 0, and one above the cores
-    ∷ breaks 7 1 64 (t 0 0 1 1 1) ∷ breaks 7 1 64 (t 0 65 1 1 1) ∷ breaks 7 1 1 (t 0 2 1 1 1)
-    -- O above 1,000,000; C and T 0, and above 1,000,000
-    ∷ breaks 8 1 1 (t 1000001 1 1 1 1)
-    ∷ breaks 8 1 1 (t 0 1 0 1 1) ∷ breaks 8 1 1 (t 0 1 1000001 1 1)
-    ∷ breaks 8 1 1 (t 0 1 1 0 0) ∷ breaks 8 1 1 (t 0 1 1 1 0) ∷ breaks 8 1 1 (t 0 1 1 1 1000001)
-    -- D 0, 1, T and T + 1; C may exceed D
-    ∷ breaks 8 1 1 (t 0 1 1 0 7) ∷ fits 1 (t 0 1 1 1 7) ∷ fits 1 (t 0 1 8 7 7) ∷ breaks 8 1 1 (t 0 1 1 8 7)
-    -- the fence: of five cores all, all but one, core 5, and cores 5 and 0; core 32 of 33, and 33 of 33, by the second word; all of 64, and all but core 63
-    ∷ walled 5 31 0 0 1 19 ∷ wallOf 5 15 0 1 ∷ walled 5 32 0 0 1 19 ∷ walled 5 33 0 0 1 19
-    ∷ wallOf 33 0 1 32 ∷ walled 33 0 2 0 1 19
-    ∷ walled 64 4294967295 4294967295 0 1 19 ∷ wallOf 64 4294967295 2147483647 1
-    -- one core can have no fence; the empty fence leaves all cores
-    ∷ walled 1 1 0 0 1 19 ∷ wallOf 5 0 0 5
-    -- a width is measured against the unfenced cores: 2 of 5 are left
-    ∷ wallOf 5 25 0 2 ∷ walled 5 25 0 1 3 7
-    -- 2 before 19, 3 before 19, and 19 before 4, 5 and 7
-    ∷ line (fenced 0 65 1 1 0 ++ entry 0 0 1 1 1 1) (refusal 2 0)
-    ∷ line (fenced 0 1 4 1 0 ++ entry 0 0 1 1 1 1) (refusal 3 0)
-    ∷ line (fenced 0 1 1 1 0 ++ entry 0 0 1 1 1 1) (refusal 19 0)
-    ∷ line (fenced 2 1 1 1 0 ++ entry 0 0 0 1 1 1) (refusal 19 0)
-    -- the chain 1, 2, 3 of two records; the chain 2, 1, 2
-    ∷ line (header 1 1 1 ++ entry 2 0 1 1 1 1 ++ entry 3 0 1 1 1 1) (refusal 5 0)
-    ∷ line (header 2 1 1 ++ entry 2 0 1 1 1 1 ++ entry 1 0 1 1 1 1) (refusal 6 0)
-    -- a width above the core count at position 2, in record 1, which breaks 8 too
-    ∷ line (header 2 2 1 ++ entry 0 0 3 0 1 1 ++ entry 1 0 1 1 1 1) (refusal 7 2)
-    -- a length 0 at position 1, in record 2, before a width 0 at position 2
-    ∷ line (header 2 2 1 ++ entry 0 0 0 1 1 1 ++ entry 1 0 1 0 1 1) (refusal 8 1)
-    -- a deadline above the period at position 2, in record 1
-    ∷ line (header 2 2 1 ++ entry 0 0 1 1 3 2 ++ entry 1 0 1 1 1 1) (refusal 8 2)
-    -- the horizon 1,000,000,000 passes 9, and 1,000,000,001 doesn't; nor does a P above 2^64
-    ∷ line (long 1000) (passes (longTable 1000) 1000 999999000 1000000000)
-    ∷ line (long 1001) (refusal 9 0)
-    ∷ line (header 1 1 1 ++ chained 0 1 (low ++ high)) (refusal 9 0)
+    line "A, its records permuted, one of them off the chain" wordsA (passes (A greedy) 0 5 5)
+    ∷ line "H: two words" (3 ∷ 1 ∷ []) (refusal 1 0)
+    ∷ line "197 words pass 1" (replicate 197 0) (refusal 2 0)
+    ∷ line "203 words do not" (replicate 203 0) (refusal 1 0)
+    ∷ line "four words" (1 ∷ 1 ∷ 1 ∷ 0 ∷ []) (refusal 1 0)
+    ∷ line "five words" (1 ∷ 1 ∷ 1 ∷ 0 ∷ 0 ∷ []) (refusal 5 0)
+    ∷ line "0 cores and rule 9 together" (header 1 0 9 ++ entry 0 0 1 1 1 1) (refusal 2 0)
+    ∷ line "head 2 of one record" (header 2 1 1 ++ entry 0 0 1 1 1 1) (refusal 5 0)
+    ∷ line "head 1 and its next 1" (header 1 1 1 ++ entry 1 0 1 1 1 1) (refusal 6 0)
+    ∷ line "no whole number of records" (header 1 1 1 ++ entry 0 0 1 1 1 1 ++ 0 ∷ []) (refusal 1 0)
+    ∷ ruled "rule 0" 0 3
+    ∷ ruled "rule 1, and the head 0" 1 4
+    ∷ ruled "rule 2, and the head 0" 2 4
+    ∷ ruled "rule 3, and the head 0" 3 4
+    ∷ ruled "rule 4" 4 3
+    ∷ fits "every number at its least" 1 (t 0 1 1 1 1)
+    ∷ fits "64 cores and width 64" 64 (t 0 64 1 1 1)
+    ∷ line "every number at its most, above a task of width 0" (header 1 64 1 ++ entry 2 1000000 64 1000000 1000000 1000000 ++ entry 0 0 0 1 1 1) (refusal 7 2)
+    ∷ breaks "0 cores" 2 0 0 (t 0 1 1 1 1)
+    ∷ breaks "65 cores" 2 0 65 (t 0 1 1 1 1)
+    ∷ breaks "width 0" 7 1 64 (t 0 0 1 1 1)
+    ∷ breaks "width 65 of 64 cores" 7 1 64 (t 0 65 1 1 1)
+    ∷ breaks "width 2 of one core" 7 1 1 (t 0 2 1 1 1)
+    ∷ breaks "O above 1,000,000" 8 1 1 (t 1000001 1 1 1 1)
+    ∷ breaks "C 0" 8 1 1 (t 0 1 0 1 1)
+    ∷ breaks "C above 1,000,000" 8 1 1 (t 0 1 1000001 1 1)
+    ∷ breaks "D and T 0" 8 1 1 (t 0 1 1 0 0)
+    ∷ breaks "T 0" 8 1 1 (t 0 1 1 1 0)
+    ∷ breaks "T above 1,000,000" 8 1 1 (t 0 1 1 1 1000001)
+    ∷ breaks "D 0" 8 1 1 (t 0 1 1 0 7)
+    ∷ fits "D 1" 1 (t 0 1 1 1 7)
+    ∷ fits "D at T, and C above D" 1 (t 0 1 8 7 7)
+    ∷ breaks "D above T" 8 1 1 (t 0 1 1 8 7)
+    ∷ walled "all of five cores fenced" 5 31 0 0 1 19
+    ∷ wallOf "all but one of five cores fenced" 5 15 0 1
+    ∷ walled "core 5 of five fenced" 5 32 0 0 1 19
+    ∷ walled "cores 5 and 0 of five fenced" 5 33 0 0 1 19
+    ∷ wallOf "core 32 of 33 fenced, by the second word" 33 0 1 32
+    ∷ walled "core 33 of 33 fenced, by the second word" 33 0 2 0 1 19
+    ∷ walled "all of 64 cores fenced" 64 4294967295 4294967295 0 1 19
+    ∷ wallOf "all but core 63 of 64 fenced" 64 4294967295 2147483647 1
+    ∷ walled "the one core fenced" 1 1 0 0 1 19
+    ∷ wallOf "the empty fence leaves all cores" 5 0 0 5
+    ∷ wallOf "a width of what the fence leaves, 2 of 5" 5 25 0 2
+    ∷ walled "a width above what the fence leaves" 5 25 0 1 3 7
+    ∷ line "2 before 19" (fenced 0 65 1 1 0 ++ entry 0 0 1 1 1 1) (refusal 2 0)
+    ∷ line "3 before 19" (fenced 0 1 4 1 0 ++ entry 0 0 1 1 1 1) (refusal 3 0)
+    ∷ line "19 before 4" (fenced 0 1 1 1 0 ++ entry 0 0 1 1 1 1) (refusal 19 0)
+    ∷ line "19 before 5 and 7" (fenced 2 1 1 1 0 ++ entry 0 0 0 1 1 1) (refusal 19 0)
+    ∷ line "the chain 1, 2, 3 of two records" (header 1 1 1 ++ entry 2 0 1 1 1 1 ++ entry 3 0 1 1 1 1) (refusal 5 0)
+    ∷ line "the chain 2, 1, 2" (header 2 1 1 ++ entry 2 0 1 1 1 1 ++ entry 1 0 1 1 1 1) (refusal 6 0)
+    ∷ line "a width above the core count at position 2, in record 1, which breaks 8 too" (header 2 2 1 ++ entry 0 0 3 0 1 1 ++ entry 1 0 1 1 1 1) (refusal 7 2)
+    ∷ line "a length 0 at position 1, in record 2, before a width 0 at position 2" (header 2 2 1 ++ entry 0 0 0 1 1 1 ++ entry 1 0 1 0 1 1) (refusal 8 1)
+    ∷ line "a deadline above the period at position 2, in record 1" (header 2 2 1 ++ entry 0 0 1 1 3 2 ++ entry 1 0 1 1 1 1) (refusal 8 2)
+    ∷ line "the horizon 1,000,000,000 passes 9" (long 1000) (passes (longTable 1000) 1000 999999000 1000000000)
+    ∷ line "the horizon 1,000,000,001 does not" (long 1001) (refusal 9 0)
+    ∷ line "nor does a P above 2^64" (header 1 1 1 ++ chained 0 1 (low ++ high)) (refusal 9 0)
     ∷ []
 
 -- S BY ARITHMETIC, on both sides of what could be a fork
@@ -199,11 +206,17 @@ answers =
     ∷ 32000000 ∷ 32000000 ∷ 32000000
     ∷ []
 
+each-defined : LineByLine defined releases answers
+each-defined = (refl, (refl, (refl, (refl, (refl, (refl, (refl, (refl, (refl, (refl, (refl, (refl, (refl, (refl, (refl, (refl, (refl, (refl, (refl, (refl, (refl, tt)))))))))))))))))))))
+
+each-counted : LineByLine counted releases answers
+each-counted = (refl, (refl, (refl, (refl, (refl, (refl, (refl, (refl, (refl, (refl, (refl, (refl, (refl, (refl, (refl, (refl, (refl, (refl, (refl, (refl, (refl, tt)))))))))))))))))))))
+
 pub releases-defined : map defined releases ≡ answers
-releases-defined = refl
+releases-defined = by-line defined releases answers each-defined
 
 pub releases-counted : map counted releases ≡ answers
-releases-counted = refl
+releases-counted = by-line counted releases answers each-counted
 
 -- S at its largest: 32 tasks of period 1,000,000, each with an offset one below the one above it
 abbrev descending : ℕ → ℕ → List Task
@@ -213,6 +226,7 @@ descending (suc n) o = t o 1 1 1 1000000 ∷ descending n (o - 1)
 pub largest-S : lastS (descending 32 1000000) ≡ 31999969
 unfolding S
 largest-S = refl
+
 -- the words with just the unfenced cores: three of five, and core 32 of 33
 pub bare-words : bared (fenced 1 5 1 9 0 ++ entry 0 0 3 1 1 1) ≡ header 1 3 1 ++ entry 0 0 3 1 1 1
 unfolding bared kept upFrom
@@ -222,7 +236,16 @@ pub bare-last : bared (fenced 1 33 2 4294967295 0 ++ entry 0 0 1 1 1 1) ≡ head
 unfolding bared kept upFrom
 bare-last = refl
 
--- every line is what the definitions say
-pub examples : map worked lines ≡ lines
+-- every line is what the definitions say, line by line
+computed : LineByLine worked lines lines
 unfolding chained kept loadOf answerOf byWalk byTasks byHorizon firstOut endingOf lastStep headerNumber tableOf chain count met horizon S hyperperiod lcm least any upFrom
-examples = refl
+computed =
+    let past-38 : LineByLine worked (drop 38 lines) (drop 38 lines) =
+    (refl, (refl, (refl, (refl, (refl, (refl, (refl, (refl, (refl, (refl, (refl, (refl, (refl, (refl, (refl, (refl, (refl, (refl, (refl, tt))))))))))))))))))) in
+    let past-19 : LineByLine worked (drop 19 lines) (drop 19 lines) =
+    (refl, (refl, (refl, (refl, (refl, (refl, (refl, (refl, (refl, (refl, (refl, (refl, (refl, (refl, (refl, (refl, (refl, (refl, (refl, past-38))))))))))))))))))) in
+    (refl, (refl, (refl, (refl, (refl, (refl, (refl, (refl, (refl, (refl, (refl, (refl, (refl, (refl, (refl, (refl, (refl, (refl, (refl, past-19)))))))))))))))))))
+
+-- .. and as one list
+pub examples : map worked lines ≡ lines
+examples = by-line worked lines lines computed

@@ -2,7 +2,8 @@
 -- one number over it, times the other.
 use mathlib.Core.Path.{_≡_, sym, ap, _∙_, subst, subst⁻¹}
 use Prim.Native.Nat.{ℕ, _*_, _/_, _%_, _<_, _∣_}
-use native.Mathlib.Nat.{dvd-mul-left, dvd-mul-right, dvd-antisymm, dvd-mod-iff, div-mul-cancel, mul-div-cancel', mul-comm, mul-assoc, dvd-of-mul-dvd-mul-left, dvd-of-mul-dvd-mul-right, mul-dvd-mul-left, mul-dvd-mul-right, pos-of-dvd-of-pos, dvd-refl, dvd-zero}
+use native.Mathlib.Nat.{dvd-mul-left, dvd-mul-right, dvd-antisymm, dvd-mod-iff, div-mul-cancel, mul-div-cancel', mul-comm, mul-assoc}
+use native.Mathlib.Nat.{dvd-of-mul-dvd-mul-left, dvd-of-mul-dvd-mul-right, mul-dvd-mul-left, mul-dvd-mul-right, pos-of-dvd-of-pos, dvd-refl, dvd-zero}
 use Rattle.model.specs.Horizon.{lcm}
 use Rattle.model.proofs.Multiples.{lcm-left, lcm-right, lcm-divides}
 use Rattle.table.specs.Gcd.{Gcd}

@@ -115,6 +115,7 @@ module _ (ws : List ℕ) (fine : headerNumber ws ≡ 0) where
   pub load-whole : endingOf ws ≡ Whole → (tasks : List Task) (many : ℕ) → tasks ≡ places (tableOf ws .tasks) → many ≡ count ws
       → loadedBy (byTasks (tableWith (cores ws) (fence ws) (rule ws) (tasksOf tasks many))) (passing (rule ws) (tableWith (cores ws) (fence ws) (rule ws) (tasksOf tasks many))) ≡ loadOf ws
   load-whole e tasks many h n =
-      ap (λ (τs : List model.Task). loadedBy (byTasks (tableWith (cores ws) (fence ws) (rule ws) τs)) (passing (rule ws) (tableWith (cores ws) (fence ws) (rule ws) τs))) (walked-tasks ws tasks many h n)
+      ap (λ (τs : List model.Task). loadedBy (byTasks (tableWith (cores ws) (fence ws) (rule ws) τs)) (passing (rule ws) (tableWith (cores ws) (fence ws) (rule ws) τs)))
+      (walked-tasks ws tasks many h n)
       ∙ ap (λ (s : model.Table). loadedBy (byTasks s) (passing (rule ws) s)) (table-with ws)
       ∙ sym (load-tasks e)

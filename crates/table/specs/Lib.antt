@@ -1,3 +1,4 @@
+-- What a table's words say: tasks, limits, the numbers for what is turned down, and what `load` gives; then records off the chain and bare tables.
 pub mod Task
 pub mod Words
 pub mod Limits

@@ -1,6 +1,7 @@
 -- Texts and what they are read as, and the scope's own print of A and of some others, computed from the definitions.
 use mathlib.Core.List.{List, [], _∷_, map}
 use mathlib.Core.Path.{_≡_, refl}
+use Prim.Native.Nat.{ℕ}
 use Prim.Native.String.{String}
 use Rattle.model.specs.Task.{Table, greedy, limited}
 use Rattle.model.specs.Book.{claims, full, served, step, work}
@@ -9,6 +10,7 @@ use Rattle.model.specs.Horizon.{S, horizon, hyperperiod, lcm}
 use Rattle.model.specs.Row.{owner, row}
 use Rattle.model.specs.Search.{any, kept, least, memb, upFrom}
 use Rattle.model.specs.Verdict.{firm, firstMiss, missedAt, missedIn, rising, verdict}
+use Rattle.model.proofs.LineByLine.{LineByLine, by-line}
 use Rattle.model.proofs.Examples.{A, fencedOn, on, t}
 use Rattle.text.specs.Decimal.{all, value, decimal, lastDigits, digitCount, digitsWithin}
 use Rattle.text.specs.Format.{Words, words, noText, wordsOf, lines, isNumber}
@@ -44,32 +46,50 @@ cases =
     ∷ case "3\r\n" noText
     ∷ []
 
-pub texts : map (λ c. case (c .text) (wordsOf (letters (c .text)))) cases ≡ cases
-unfolding wordsOf lines isNumber all value
-texts = refl
+-- what the definitions say of a text; a case is named by its text
+abbrev read : Case → Case
+read c = case (c .text) (wordsOf (letters (c .text)))
 
--- a table and what is printed for it
+each-text : LineByLine read cases cases
+unfolding wordsOf lines isNumber all value
+each-text = (refl, (refl, (refl, (refl, (refl, (refl, (refl, (refl, (refl, (refl, (refl, (refl, (refl, tt)))))))))))))
+
+pub texts : map (λ c. case (c .text) (wordsOf (letters (c .text)))) cases ≡ cases
+texts = by-line read cases cases each-text
+
+-- a table by its name, and what is printed for it
 pub record Print : Type 0 where
+  pub name : String
   pub table : Table
   pub text : String
 
 abbrev pub prints : List Print
 prints =
-    -- A, as the scope prints it
-    record { table = A greedy; text = "full 0 5\n0 1 1 3\n1 1 1 3\n2 2 2 3\n3 2 2 3\n4 2 2 0\n" }
-    -- A2: a miss on the horizon
-    ∷ record { table = A limited; text = "miss 5 3\n0 1 1 0\n1 1 1 0\n2 2 2 3\n3 2 2 3\n4 2 2 3\n" }
-    -- F: the rows stop before the miss
-    ∷ record { table = on 1 greedy (t 0 1 2 1 2 ∷ []); text = "miss 1 1\n0 1\n" }
-    -- E: an idle core is 0
-    ∷ record { table = on 1 limited (t 1 1 1 1 2 ∷ t 0 1 1 2 3 ∷ []); text = "firm 3 6\n0 2\n1 1\n2 0\n3 1\n4 2\n5 1\n6 2\n7 1\n8 0\n" }
-    -- A on five cores, of which 0 and 3 are fenced
-    ∷ record { table = fencedOn 5 9 greedy (A greedy .tasks); text = "full 0 5\n0 255 1 1 255 3\n1 255 1 1 255 3\n2 255 2 2 255 3\n3 255 2 2 255 3\n4 255 2 2 255 0\n" }
+    record { name = "A, as the scope prints it"; table = A greedy; text = "full 0 5\n0 1 1 3\n1 1 1 3\n2 2 2 3\n3 2 2 3\n4 2 2 0\n" }
+    ∷ record { name = "A2: a miss on the horizon"; table = A limited; text = "miss 5 3\n0 1 1 0\n1 1 1 0\n2 2 2 3\n3 2 2 3\n4 2 2 3\n" }
+    ∷ record { name = "F: the rows stop before the miss"; table = on 1 greedy (t 0 1 2 1 2 ∷ []); text = "miss 1 1\n0 1\n" }
+    ∷ record { name = "E: an idle core is 0"; table = on 1 limited (t 1 1 1 1 2 ∷ t 0 1 1 2 3 ∷ []); text = "firm 3 6\n0 2\n1 1\n2 0\n3 1\n4 2\n5 1\n6 2\n7 1\n8 0\n" }
+    ∷ record {
+      name = "A on five cores, of which 0 and 3 are fenced";
+      table = fencedOn 5 9 greedy (A greedy .tasks);
+      text = "full 0 5\n0 255 1 1 255 3\n1 255 1 1 255 3\n2 255 2 2 255 3\n3 255 2 2 255 3\n4 255 2 2 255 0\n";
+    }
     ∷ []
 
+-- what is printed for a table, and what is to be
+abbrev printing : Print → List ℕ
+printing p = printed (p .table)
+
+abbrev expected : Print → List ℕ
+expected p = letters (p .text)
+
+each-print : LineByLine printing prints (map expected prints)
+unfolding printed firstLine rowLine rowLines lineOf fields decimal lastDigits digitCount digitsWithin verdict firstMiss missedIn missedAt firm rising horizon S
+    hyperperiod lcm least any kept memb upFrom owner row given left grants claimants claims served work step full
+each-print = (refl, (refl, (refl, (refl, (refl, tt)))))
+
 pub prints-exact : map (λ p. printed (p .table)) prints ≡ map (λ p. letters (p .text)) prints
-unfolding printed firstLine rowLine rowLines lineOf fields decimal lastDigits digitCount digitsWithin verdict firstMiss missedIn missedAt firm rising horizon S hyperperiod lcm least any kept memb upFrom owner row given left grants claimants claims served work step full
-prints-exact = refl
+prints-exact = by-line printing prints (map expected prints) each-print
 
 -- a refusal
 pub refusal : firstLine (refused 8 12) ≡ letters "refused 8 12\n"

@@ -1,3 +1,4 @@
+-- The proofs of reading and printing: the format is exact both ways, decimals are read back, buffers hold what was written; and computed examples.
 pub mod Every
 pub mod Values
 pub mod Lines

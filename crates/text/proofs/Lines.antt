@@ -30,7 +30,8 @@ unfolding lineLength
 line-stop [] l = absurd (not-suc-le-zero l)
 line-stop (b ∷ bs) l = go (eqb b newline) refl (line-stop bs) l
   where
-    go : (t : Bool) → eqb b newline ≡ t → (lineLength bs < length bs → getD bs (lineLength bs) 0 ≡ newline) → cond t 0 (suc (lineLength bs)) < suc (length bs) → getD (b ∷ bs) (cond t 0 (suc (lineLength bs))) 0 ≡ newline
+    go : (t : Bool) → eqb b newline ≡ t → (lineLength bs < length bs → getD bs (lineLength bs) 0 ≡ newline)
+        → cond t 0 (suc (lineLength bs)) < suc (length bs) → getD (b ∷ bs) (cond t 0 (suc (lineLength bs))) 0 ≡ newline
     go true e ih l = eqb-true b newline e
     go false e ih l = ih (le-of-suc-le-suc l)
 
@@ -61,7 +62,8 @@ lines-first b [] = go (eqb b newline)
 lines-first b (b′ ∷ bs) = go (eqb b newline) (lines-first b′ bs)
   where
     go : (t : Bool) → lines (b′ ∷ bs) ≡ take (lineLength (b′ ∷ bs)) (b′ ∷ bs) ∷ lines (drop (suc (lineLength (b′ ∷ bs))) (b′ ∷ bs)) →
-        cond t ([] ∷ lines (b′ ∷ bs)) (joined b (lines (b′ ∷ bs))) ≡ take (cond t 0 (suc (lineLength (b′ ∷ bs)))) (b ∷ b′ ∷ bs) ∷ lines (drop (suc (cond t 0 (suc (lineLength (b′ ∷ bs))))) (b ∷ b′ ∷ bs))
+        cond t ([] ∷ lines (b′ ∷ bs)) (joined b (lines (b′ ∷ bs))) ≡ take (cond t 0 (suc (lineLength (b′ ∷ bs))))
+        (b ∷ b′ ∷ bs) ∷ lines (drop (suc (cond t 0 (suc (lineLength (b′ ∷ bs))))) (b ∷ b′ ∷ bs))
     go true ih = refl
     go false ih = ap (joined b) ih
 

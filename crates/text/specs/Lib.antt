@@ -1,3 +1,4 @@
+-- What text is read and printed: numbers in decimal, the table's format, the verdict's line and the rows, and what a buffer holds.
 pub mod Decimal
 pub mod Format
 pub mod Input

@@ -1,3 +1,4 @@
+// The first line that is printed, the verdict's, and how many rows follow it.
 ghost use mathlib.Core.Path.{_≡_};
 ghost use mathlib.Core.List.{[], _∷_};
 ghost use Prim.Native.Nat.{_+_, _≤_};

@@ -1,3 +1,4 @@
+// One line of the input: where it ends, and which number it says.
 ghost use mathlib.Core.Path.{_≡_};
 ghost use Prim.Native.Nat.{_+_};
 ghost use lib.ListN.{drop};

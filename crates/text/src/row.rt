@@ -1,3 +1,4 @@
+// The text of a row: its tick and its cores, in decimal.
 ghost use mathlib.Core.List.{[], _∷_, _++_};
 ghost use Prim.Native.Nat.{_+_, _≤_};
 ghost use lib.ListN.{length, take, drop};

@@ -18,6 +18,29 @@ use borrow.Author.Needs.{needs}
 use Rattle.ask.proofs.print.Statement.{statement}
 use Rattle.ask.proofs.print.Tie as tie
 
+-- the state after `begins-with`
+abbrev begins-with : tie.After-send → tie.After-begins-with
+begins-with c = c .before .before .before
+
+-- the state after `why`
+abbrev why-from-send2 : tie.After-send2 → tie.After-why
+why-from-send2 c = c .before .before .before
+
+-- the state at the call
+abbrev entry-from-else1 : tie.Else1 → tie.Start
+entry-from-else1 c = c .before .before .before .before
+
+abbrev entry-from-send : tie.After-send → tie.Start
+entry-from-send c = begins-with c .before .before .before
+
+-- the state after `read`
+abbrev read : tie.After-send2 → tie.After-read
+read c = why-from-send2 c .before .before .before .before
+
+-- the state where the test `if1` fails
+abbrev else1 : tie.After-send2 → tie.Else1
+else1 c = read c .before .before
+
 slice-aggregate-begins-with : tie.Need-slice-aggregate-begins-with
 slice-aggregate-begins-with c = search needs
 
@@ -32,13 +55,13 @@ send-requires c κs = search needs
 
 returns : tie.Need-returns
 returns c =
-    let bs = c .before .before .before .before .before .before .args .bytes .now in
-    let b = c .before .before .before .begins-with in
+    let bs = entry-from-send c .args .bytes .now in
+    let b = begins-with c .begins-with in
     subst (λ (l : List ℕ). SentOf 0 l (c .send .result)) (sym (asked-unknown bs (sym (b .ensures) ∙ not-true _ (c .before .before .if1 .taken)))) (c .send .ensures)
 
 -- the question stands in front
-in-reach : (c : tie.Else1) → length why ≤ length (c .before .before .before .before .args .bytes .now)
-in-reach c = begins-long why (c .before .before .before .before .args .bytes .now) (sym (c .before .begins-with .ensures) ∙ not-false _ (c .if1 .left))
+in-reach : (c : tie.Else1) → length why ≤ length (entry-from-else1 c .args .bytes .now)
+in-reach c = begins-long why (entry-from-else1 c .args .bytes .now) (sym (c .before .begins-with .ensures) ∙ not-false _ (c .if1 .left))
 
 sub-read : tie.Need-sub-read
 sub-read c = in-reach c
@@ -79,13 +102,14 @@ send-requires-2 c κs = search needs
 
 returns-2 : tie.Need-returns-2
 returns-2 c =
-    let bs = c .before .before .before .before .before .before .before .before .before .before .before .before .before .args .bytes .now in
-    let r = c .before .before .before .before .before .before .before .read in
-    let b = c .before .before .before .before .before .before .before .before .before .before .begins-with in
-    let y = c .before .before .before .why in
+    let e = else1 c in
+    let bs = entry-from-else1 e .args .bytes .now in
+    let r = read c .read in
+    let b = e .before .begins-with in
+    let y = why-from-send2 c .why in
     let numbers = numbers-read (r .result) (drop (length why) bs) (r .ensures .value ∙ ap (λ (l : List ℕ). inputOf (wordsOf l)) (part-to-end bs (length why))) in
     subst (λ (l : List ℕ). SentOf 0 l (c .send2 .result))
-    (y .ensures .1 ∙ (ap whyOf numbers ∙ sym (asked-known bs (sym (b .ensures) ∙ not-false _ (c .before .before .before .before .before .before .before .before .before .if1 .left)))))
+    (y .ensures .1 ∙ (ap whyOf numbers ∙ sym (asked-known bs (sym (b .ensures) ∙ not-false _ (e .if1 .left)))))
     (c .send2 .ensures)
 
 pub print-spec : {M : Type 1} → statement M

@@ -6,6 +6,30 @@ use Rattle.ask.proofs.Asking.{leaves-room, why-sentence, why-verdict}
 use Rattle.ask.proofs.why.Statement.{statement}
 use Rattle.ask.proofs.why.Tie as tie
 
+-- the state at the call
+abbrev entry : tie.After-sentence → tie.Start
+entry c = c .before .before .before .before
+
+-- the state after `judge`
+abbrev judge : tie.After-slice-known3 → tie.After-judge
+judge c = c .before .before .before .before
+
+-- the state after `sentence`
+abbrev sentence-from-spoken : tie.After-spoken → tie.After-sentence
+sentence-from-spoken c = c .before .before .before .before
+
+abbrev sentence-from-known-told : tie.After-known-told → tie.After-sentence
+sentence-from-known-told c = sentence-from-spoken (c .before)
+
+abbrev sentence-from-arm2 : tie.At-match-keys2 → tie.After-sentence
+sentence-from-arm2 c = c .before .before .before
+
+abbrev sentence-from-put-first : tie.After-put-first → tie.After-sentence
+sentence-from-put-first c = sentence-from-arm2 (c .before .before .before .before)
+
+abbrev sentence-from-line2 : tie.After-line2 → tie.After-sentence
+sentence-from-line2 c = sentence-from-put-first (c .before)
+
 sentence-requires : tie.Need-sentence-requires
 sentence-requires c κs = search needs
 
@@ -14,14 +38,14 @@ enum-known-spoken c = search needs
 
 slice-write-line : tie.Need-slice-write-line
 slice-write-line c =
-    let s = c .before .before .before .before .before in
-    let g = s .before .before .before .before in
+    let s = sentence-from-known-told c in
+    let g = entry s in
     leaves-room (g .args .words .now) (g .args .line .now) _ (s .sentence .result) (s .sentence .ensures) (g .pre) _ (c .before .spoken .given .1)
 
 add-result : tie.Need-add-result
 add-result c =
-    let s = c .before .before .before .before .before in
-    let g = s .before .before .before .before in
+    let s = sentence-from-known-told c in
+    let g = entry s in
     let k = why-sentence (g .args .words .now) (g .args .line .now) _ (s .sentence .result) (s .sentence .ensures) (g .pre) _ (c .before .spoken .given .1) in
     omega (arith, k .0)
 
@@ -39,8 +63,8 @@ same-length c = search needs
 
 returns : tie.Need-returns
 returns c =
-    let s = c .before .before .before .before .before in
-    let g = s .before .before .before .before in
+    let s = sentence-from-known-told c in
+    let g = entry s in
     why-sentence (g .args .words .now) (g .args .line .now) _ (s .sentence .result) (s .sentence .ensures) (g .pre) _ (c .before .spoken .given .1)
 
 same-length-2 : tie.Need-same-length-2
@@ -48,11 +72,12 @@ same-length-2 c = search needs
 
 returns-2 : tie.Need-returns-2
 returns-2 c =
-    let s = c .before .before .before .before .before .before .before .before .before in
-    let g = s .before .before .before .before in
+    let s = sentence-from-line2 (c .before) in
+    let g = entry s in
     let p = c .before .before .put-first in (
       omega (arith, p .ensures .1),
-      why-verdict (g .args .words .now) (g .args .line .now) _ (s .sentence .result) (s .sentence .ensures) (g .pre) _ _ (c .before .before .before .before .before .enum-told .given .1) _ (c .before .before .before .before .judge .ensures .value) (p .ensures .0),
+      why-verdict (g .args .words .now) (g .args .line .now) _ (s .sentence .result) (s .sentence .ensures)
+          (g .pre) _ _ (judge c .before .enum-told .given .1) _ (judge c .judge .ensures .value) (p .ensures .0),
     )
 
 pub why-spec : {M : Type 1} → statement M

@@ -8,9 +8,20 @@ use borrow.Author.Needs.{needs}
 use Rattle.capi.proofs.sivorandra_advance.Statement.{statement}
 use Rattle.capi.proofs.sivorandra_advance.Tie as tie
 
+-- the state at the call
+abbrev entry-from-then1 : tie.Then1 → tie.Start
+entry-from-then1 c = c .before .before .before
+
+abbrev entry-from-else1 : tie.Else1 → tie.Start
+entry-from-else1 c = c .before .before .before
+
+-- the state after `advance`
+abbrev advance-from-of-answer : tie.After-of-answer → tie.After-advance
+advance-from-of-answer c = c .before .before .before
+
 returns : tie.Need-returns
 returns c =
-    let a = c .before .before .before .args in
+    let a = entry-from-then1 c .args in
     sym (advance-narrow (a .run .now) (a .answer .now) (a .reports) (c .if1 .taken))
 
 advance-requires : tie.Need-advance-requires
@@ -32,9 +43,9 @@ returns-2 : tie.Need-returns-2
 returns-2 c =
     let p = c .before .before in
     let o = p .before .before in
-    let v = o .before .before .before in
+    let v = advance-from-of-answer o in
     let e = v .before .before in
-    let a = e .before .before .before .args in
+    let a = entry-from-else1 e .args in
     advance-room (a .run .now) (a .answer .now) (a .reports) (v .advance .result)
     (e .if1 .left)
     (v .advance .ensures)

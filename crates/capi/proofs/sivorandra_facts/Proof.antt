@@ -8,14 +8,26 @@ use Rattle.capi.proofs.Sentences.{facts-narrow, facts-short, facts-room
 use Rattle.capi.proofs.sivorandra_facts.Statement.{statement}
 use Rattle.capi.proofs.sivorandra_facts.Tie as tie
 
+-- the state at the call
+abbrev entry : tie.After-slice-known2 → tie.Start
+entry c = c .before .before .before
+
+-- the state after `put-facts`
+abbrev put-facts : tie.After-of-found → tie.After-put-facts
+put-facts c = c .before .before .before
+
+-- the state after `facts-of`
+abbrev facts-of : tie.After-put-facts → tie.After-facts-of
+facts-of c = c .before .before .before
+
 returns : tie.Need-returns
 returns c =
-    let a = c .before .before .before .before .args in
+    let a = entry (c .before) .args in
     sym (facts-narrow (a .bytes .now) (a .facts .now) (a .answer .now) (c .if1 .taken))
 
 returns-2 : tie.Need-returns-2
 returns-2 c =
-    let a = c .before .before .before .before .before .args in
+    let a = entry (c .before .before) .args in
     sym (facts-short (a .bytes .now) (a .facts .now) (a .answer .now) (c .before .if1 .left) (c .if2 .taken))
 
 facts-of-requires : tie.Need-facts-of-requires
@@ -40,10 +52,10 @@ returns-3 : tie.Need-returns-3
 returns-3 c =
     let p = c .before .before in
     let o = p .before .before in
-    let r = o .before .before .before in
-    let s = r .before .before .before in
+    let r = put-facts o in
+    let s = facts-of r in
     let e = s .before in
-    let a = e .before .before .before .before .before .args in
+    let a = entry (e .before .before) .args in
     facts-room (a .bytes .now) (a .facts .now) (a .answer .now) (e .before .if1 .left) (s .facts-of .result)
     (e .if2 .left)
     (s .facts-of .ensures)

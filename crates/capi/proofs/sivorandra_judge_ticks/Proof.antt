@@ -11,9 +11,16 @@ use Rattle.capi.proofs.Calls.{judge-room, judge-short}
 use Rattle.capi.proofs.sivorandra_judge_ticks.Statement.{statement}
 use Rattle.capi.proofs.sivorandra_judge_ticks.Tie as tie
 
+-- the state at the call
+abbrev entry-from-then1 : tie.Then1 → tie.Start
+entry-from-then1 c = c .before .before .before
+
+abbrev entry-from-judge : tie.After-judge → tie.Start
+entry-from-judge c = c .before .before .before .before
+
 returns : tie.Need-returns
 returns c =
-    let a = c .before .before .before .args in
+    let a = entry-from-then1 c .args in
     sym (judge-short (a .words .now) (a .answer .now) (c .if1 .taken))
 
 judge-requires : tie.Need-judge-requires
@@ -33,7 +40,7 @@ returns-2 c =
     let p = c .before .before in
     let v = p .before .before in
     let j = v .before in
-    let a = j .before .before .before .before .args in
+    let a = entry-from-judge j .args in
     ap (λ (l : List ℕ). left 0 (l ∷ [])) (p .put .ensures ∙ ap (λ (t : Told). written t (a .answer .now)) (v .of-verdict .ensures ∙ ap ofVerdict (j .judge .ensures .value)))
     ∙ sym (judge-room (a .words .now) (a .answer .now) (j .before .if1 .left))
 

@@ -11,9 +11,17 @@ use Rattle.capi.proofs.Calls.{both, plan-room, plan-short}
 use Rattle.capi.proofs.sivorandra_plan.Statement.{statement}
 use Rattle.capi.proofs.sivorandra_plan.Tie as tie
 
+-- the state at the call
+abbrev entry : tie.After-slice-known2 → tie.Start
+entry c = c .before .before .before
+
+-- the state after `plan`
+abbrev plan : tie.After-of-planned → tie.After-plan
+plan c = c .before .before .before
+
 returns : tie.Need-returns
 returns c =
-    let a = c .before .before .before .before .args in
+    let a = entry (c .before) .args in
     sym (plan-short (a .words .now) (a .a) (a .b) (a .rows .now) (a .answer .now) (c .if1 .taken))
 
 plan-requires : tie.Need-plan-requires
@@ -35,9 +43,9 @@ returns-2 : tie.Need-returns-2
 returns-2 c =
     let p = c .before .before in
     let o = p .before .before in
-    let q = o .before .before .before in
+    let q = plan o in
     let e = q .before .before in
-    let a = e .before .before .before .before .args in
+    let a = entry (e .before) .args in
     let table = tableOf (a .words .now) in
     both
     (q .plan .ensures .buffer ∙ ap (λ (v : Planned). bufferOf (planTold v) table (a .a) (a .b) (a .rows .now)) (q .plan .ensures .value))

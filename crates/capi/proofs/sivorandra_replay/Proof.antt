@@ -8,9 +8,27 @@ use Rattle.capi.proofs.Replaying.{replay-narrow, replay-short, replay-r
 use Rattle.capi.proofs.sivorandra_replay.Statement.{statement}
 use Rattle.capi.proofs.sivorandra_replay.Tie as tie
 
+-- the state where the test `if1` fails
+abbrev else1 : tie.After-replay → tie.Else1
+else1 c = c .before .before .before
+
+-- the state at the call
+abbrev entry-from-slice-known2 : tie.After-slice-known2 → tie.Start
+entry-from-slice-known2 c = c .before .before .before .before
+
+abbrev entry-from-slice-known3 : tie.After-slice-known3 → tie.Start
+entry-from-slice-known3 c = entry-from-slice-known2 (c .before)
+
+-- the state after `replay`
+abbrev replay-from-row : tie.After-row → tie.After-replay
+replay-from-row c = c .before .before .before
+
+abbrev replay-from-had-room : tie.After-had-room → tie.After-replay
+replay-from-had-room c = replay-from-row (c .before .before)
+
 returns : tie.Need-returns
 returns c =
-    let a = c .before .before .before .before .before .before .args in
+    let a = entry-from-slice-known3 (c .before) .args in
     sym (replay-narrow (a .words .now) (a .reports .now) (a .numbers .now) (a .row .now) (a .answer .now) (c .if1 .taken))
 
 replay-requires : tie.Need-replay-requires
@@ -39,9 +57,9 @@ returns-2 c =
     let p = c .before .before in
     let o = p .before .before in
     let h = o .before .before in
-    let q = h .before .before .before .before .before in
-    let e = q .before .before .before in
-    let a = e .before .before .before .before .before .before .args in
+    let q = replay-from-had-room h in
+    let e = else1 q in
+    let a = entry-from-slice-known3 (e .before) .args in
     replay-room (a .words .now) (a .reports .now) (a .numbers .now) (a .row .now) (a .answer .now) _ (q .replay .ensures)
     (sym (h .had-room .ensures) ∙ o .before .if2 .taken)
     (e .if1 .left)
@@ -56,8 +74,8 @@ same-length-5 c = search needs
 returns-3 : tie.Need-returns-3
 returns-3 c =
     let h = c .before in
-    let q = h .before .before .before .before .before in
-    let a = q .before .before .before .before .before .before .before .before .before .args in
+    let q = replay-from-had-room h in
+    let a = entry-from-slice-known3 (else1 q .before) .args in
     replay-short (a .words .now) (a .reports .now) (a .numbers .now) (a .row .now) (a .answer .now) _ (q .replay .ensures) (sym (h .had-room .ensures) ∙ c .if2 .left)
 
 pub sivorandra-replay-spec : {M : Type 1} → statement M

@@ -8,14 +8,26 @@ use borrow.Author.Needs.{needs}
 use Rattle.capi.proofs.sivorandra_row.Statement.{statement}
 use Rattle.capi.proofs.sivorandra_row.Tie as tie
 
+-- the state at the call
+abbrev entry : tie.After-slice-known2 → tie.Start
+entry c = c .before .before .before
+
+-- the state after `put-row`
+abbrev put-row : tie.After-of-answer → tie.After-put-row
+put-row c = c .before .before .before
+
+-- the state after `row-of`
+abbrev row-of : tie.After-put-row → tie.After-row-of
+row-of c = c .before .before .before
+
 returns : tie.Need-returns
 returns c =
-    let a = c .before .before .before .before .args in
+    let a = entry (c .before) .args in
     sym (row-narrow (a .run .now) (a .row .now) (a .answer .now) (c .if1 .taken))
 
 returns-2 : tie.Need-returns-2
 returns-2 c =
-    let a = c .before .before .before .before .before .args in
+    let a = entry (c .before .before) .args in
     sym (row-short (a .run .now) (a .row .now) (a .answer .now) (c .before .if1 .left) (c .if2 .taken))
 
 row-of-requires : tie.Need-row-of-requires
@@ -40,10 +52,10 @@ returns-3 : tie.Need-returns-3
 returns-3 c =
     let p = c .before .before in
     let o = p .before .before in
-    let r = o .before .before .before in
-    let s = r .before .before .before in
+    let r = put-row o in
+    let s = row-of r in
     let e = s .before in
-    let a = e .before .before .before .before .before .args in
+    let a = entry (e .before .before) .args in
     row-room (a .run .now) (a .row .now) (a .answer .now) (s .row-of .result)
     (e .before .if1 .left)
     (e .if2 .left)

@@ -9,9 +9,17 @@ use Rattle.capi.proofs.Sentences.{sentence-fits, sentence-narrow, sente
 use Rattle.capi.proofs.sivorandra_sentence.Statement.{statement}
 use Rattle.capi.proofs.sivorandra_sentence.Tie as tie
 
+-- the state at the call
+abbrev entry : tie.After-slice-known2 → tie.Start
+entry c = c .before .before .before
+
+-- the state after `sentence`
+abbrev sentence : tie.After-of-spoken → tie.After-sentence
+sentence c = c .before .before .before
+
 returns : tie.Need-returns
 returns c =
-    let a = c .before .before .before .before .args in
+    let a = entry (c .before) .args in
     sym (sentence-narrow (a .words .now) (a .buffer .now) (a .answer .now) (c .if1 .taken))
 
 sentence-requires : tie.Need-sentence-requires
@@ -33,9 +41,9 @@ returns-2 : tie.Need-returns-2
 returns-2 c =
     let p = c .before .before in
     let o = p .before .before in
-    let q = o .before .before .before in
+    let q = sentence o in
     let e = q .before .before in
-    let a = e .before .before .before .before .args in
+    let a = entry (e .before) .args in
     sentence-room (a .words .now) (a .buffer .now) (a .answer .now) (q .sentence .result)
     (e .if1 .left)
     (q .sentence .ensures)

@@ -8,14 +8,26 @@ use borrow.Author.Needs.{needs}
 use Rattle.capi.proofs.sivorandra_start.Statement.{statement}
 use Rattle.capi.proofs.sivorandra_start.Tie as tie
 
+-- the state at the call
+abbrev entry : tie.After-slice-known2 → tie.Start
+entry c = c .before .before .before
+
+-- the state after `put-run`
+abbrev put-run : tie.After-of-answer → tie.After-put-run
+put-run c = c .before .before .before
+
+-- the state after `start`
+abbrev start-from-put-run : tie.After-put-run → tie.After-start
+start-from-put-run c = c .before .before .before
+
 returns : tie.Need-returns
 returns c =
-    let a = c .before .before .before .before .args in
+    let a = entry (c .before) .args in
     sym (start-narrow (a .words .now) (a .run .now) (a .answer .now) (c .if1 .taken))
 
 returns-2 : tie.Need-returns-2
 returns-2 c =
-    let a = c .before .before .before .before .before .args in
+    let a = entry (c .before .before) .args in
     sym (start-short (a .words .now) (a .run .now) (a .answer .now) (c .before .if1 .left) (c .if2 .taken))
 
 start-requires : tie.Need-start-requires
@@ -40,10 +52,10 @@ returns-3 : tie.Need-returns-3
 returns-3 c =
     let p = c .before .before in
     let o = p .before .before in
-    let r = o .before .before .before in
-    let s = r .before .before .before in
+    let r = put-run o in
+    let s = start-from-put-run r in
     let e = s .before in
-    let a = e .before .before .before .before .before .args in
+    let a = entry (e .before .before) .args in
     start-room (a .words .now) (a .run .now) (a .answer .now) (s .start .result)
     (e .before .if1 .left)
     (e .if2 .left)

@@ -21,6 +21,14 @@ Inv-loop free width rest₀ wanted₀ rest wanted = (wanted ≤ width) × (rest 
 abbrev μ-loop : tie.MeasureT-loop
 μ-loop free width rest₀ wanted₀ rest wanted = wanted
 
+-- the state at the call
+abbrev entry : tie.Then1 Inv-loop μ-loop → tie.Start Inv-loop μ-loop
+entry c = c .before .before .before
+
+-- the state at the head of the loop
+abbrev loop : tie.After-first-cores Inv-loop μ-loop → tie.At-loop Inv-loop μ-loop
+loop c = c .before .before .before .before
+
 loop-holds : tie.Need-loop-holds Inv-loop μ-loop
 loop-holds c =
     let none : c .args .width - c .args .width ≡ 0 = omega arith in
@@ -31,7 +39,7 @@ some : (c : tie.Then1 Inv-loop μ-loop) → 0 < c .before .before .loop .rest
 some c = ltb-true _ _ (c .if1 .taken)
 
 small : (c : tie.Then1 Inv-loop μ-loop) → c .before .before .loop .rest < 2 ^ 64
-small c = omega (arith, c .before .before .before .fits .free)
+small c = omega (arith, entry c .fits .free)
 
 run : (c : tie.Then1 Inv-loop μ-loop) → (firstOf (c .before .before .loop .rest) < 64) × (0 < runOf (c .before .before .loop .rest))
 run c = some-run (c .before .before .loop .rest) (some c) (small c)
@@ -56,12 +64,13 @@ shl-rest c = run (c .before .before) .0
 
 -- the piece is taken off
 piece : (c : tie.After-first-cores Inv-loop μ-loop)
-    → ((c .first-cores .result * 2 ^ firstOf (c .before .before .before .before .loop .rest)) % 2 ^ 64 ≤ c .before .before .before .before .loop .rest)
-    × (cores (c .before .before .before .before .loop .rest - (c .first-cores .result * 2 ^ firstOf (c .before .before .before .before .loop .rest)) % 2 ^ 64)
-    ≡ drop (c .before .fewer .result) (cores (c .before .before .before .before .loop .rest)))
+    → ((c .first-cores .result * 2 ^ firstOf (loop c .loop .rest)) % 2 ^ 64 ≤ loop c .loop .rest)
+    × (cores (loop c .loop .rest - (c .first-cores .result * 2 ^ firstOf (loop c .loop .rest)) % 2 ^ 64)
+    ≡ drop (c .before .fewer .result) (cores (loop c .loop .rest)))
 piece c =
     let t = c .before .before in
-    taken-off (t .before .before .loop .rest) (c .before .fewer .result) (c .first-cores .result) (some t) (small t) (omega (arith, c .before .fewer .ensures)) (omega (arith, c .first-cores .ok)) (c .first-cores .ensures)
+    taken-off (t .before .before .loop .rest) (c .before .fewer .result) (c .first-cores .result) (some t)
+    (small t) (omega (arith, c .before .fewer .ensures)) (omega (arith, c .first-cores .ok)) (c .first-cores .ensures)
 
 sub-rest : tie.Need-sub-rest Inv-loop μ-loop
 sub-rest c = piece c .0
@@ -74,8 +83,8 @@ loop-less c = omega (arith, c .before .fewer .ensures, run (c .before .before) .
 
 loop-again : tie.Need-loop-again Inv-loop μ-loop
 loop-again c =
-    let l = c .before .before .before .before .loop in
-    let s = c .before .before .before .before .before .args in
+    let l = loop c .loop in
+    let s = loop c .before .args in
     let m = c .before .fewer .result in
     let k : s .width - l .wanted + m ≡ s .width - (l .wanted - m) = omega (arith, c .before .fewer .ensures) in
     (omega arith, omega arith, piece c .1 ∙ ap (drop m) (l .inv .2) ∙ drop-drop m (s .width - l .wanted) (cores (s .free)) ∙ ap (λ (i : ℕ). drop i (cores (s .free))) k)

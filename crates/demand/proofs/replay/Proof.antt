@@ -11,8 +11,27 @@ use Rattle.demand.proofs.Outcomes.{replay-refused, replay-taken, replay
 use Rattle.demand.proofs.replay.Statement.{statement}
 use Rattle.demand.proofs.replay.Tie as tie
 
+-- the state after `play`
+abbrev play : tie.After-bytes → tie.After-play
+play c = c .before .before .before
+
+-- the state after `start`
+abbrev start-from-known-told : tie.After-known-told → tie.After-start
+start-from-known-told c = c .before .before .before
+
+-- the state after `run`
+abbrev run-from-play : tie.After-play → tie.After-run
+run-from-play c = c .before .before .before
+
+-- the state at the call
+abbrev entry-from-slice-known2 : tie.After-slice-known2 → tie.Start
+entry-from-slice-known2 c = c .before .before .before .before
+
+abbrev entry-from-start : tie.After-start → tie.Start
+entry-from-start c = entry-from-slice-known2 (c .before)
+
 -- the answer of the start is the definition's
-told : (c : tie.After-start) (a : Answer) → c .start .result .answer ≡ a → startOf (c .before .before .before .before .before .args .words .now) .answer ≡ a
+told : (c : tie.After-start) (a : Answer) → c .start .result .answer ≡ a → startOf (entry-from-start c .args .words .now) .answer ≡ a
 told c a e = ap (λ (s : Started). s .answer) (sym (c .start .ensures .value)) ∙ e
 
 start-requires : tie.Need-start-requires
@@ -29,8 +48,8 @@ play-requires c κs = search needs
 
 returns : tie.Need-returns
 returns c =
-    let s = c .before .before .before in
-    let a = s .before .before .before .before .before .args in
+    let s = start-from-known-told c in
+    let a = entry-from-start s .args in
     replay-of (a .words .now) (a .reports .now) (a .numbers .now) (a .bytes .now) _
     (sym (replay-refused (a .words .now) (a .reports .now) (a .numbers .now) (a .bytes .now) _ _ (told s _ (c .before .answer .given .1))))
 
@@ -42,10 +61,10 @@ same-length-2 c = search needs
 
 returns-2 : tie.Need-returns-2
 returns-2 c =
-    let p = c .before .before .before .before in
-    let t = p .before .before .before .before in
+    let p = play (c .before) in
+    let t = run-from-play p .before in
     let s = t .before .before in
-    let a = s .before .before .before .before .before .args in
+    let a = entry-from-start s .args in
     let run : s .start .result .run ≡ startOf (a .words .now) .run = ap (λ (q : Started). q .run) (s .start .ensures .value) in
     replay-of (a .words .now) (a .reports .now) (a .numbers .now) (a .bytes .now) _
     (p .play .ensures ∙ (ap (λ (r : Run). played r (a .reports .now) (a .numbers .now) (a .bytes .now)) run

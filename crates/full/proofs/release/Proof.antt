@@ -14,6 +14,10 @@ use Rattle.full.proofs.Parts.{front-at, part-at, stored-all}
 use Rattle.full.proofs.release.Statement.{statement}
 use Rattle.full.proofs.release.Tie as tie
 
+-- the state at the call
+abbrev entry : tie.After-places → tie.Start
+entry c = c .before .before .before
+
 add-deadline : tie.Need-add-deadline
 add-deadline c = search needs
 
@@ -45,7 +49,7 @@ element-write-places : tie.Need-element-write-places
 element-write-places c = omega arith
 
 add-places : tie.Need-add-places
-add-places c = let s = c .before .before .before in omega (arith, s .pre .1, part-at 32 (s .args .times .now) (s .args .place) (s .pre .0))
+add-places c = let s = entry c in omega (arith, s .pre .1, part-at 32 (s .args .times .now) (s .args .place) (s .pre .0))
 
 add-places-2 : tie.Need-add-places-2
 add-places-2 c = search needs
@@ -57,7 +61,7 @@ element-write-places-2 : tie.Need-element-write-places-2
 element-write-places-2 c = omega arith
 
 add-places-3 : tie.Need-add-places-3
-add-places-3 c = let s = c .before .before .before in omega (arith, s .pre .2, part-at 64 (s .args .times .now) (s .args .place) (s .pre .0))
+add-places-3 c = let s = entry c in omega (arith, s .pre .2, part-at 64 (s .args .times .now) (s .args .place) (s .pre .0))
 
 add-places-4 : tie.Need-add-places-4
 add-places-4 c = search needs
@@ -77,7 +81,7 @@ shl-result c = search needs
 returns : tie.Need-returns
 unfolding released
 returns c =
-    let s = c .before .before .before in
+    let s = entry c in
     let a = s .args in
     let inside = s .pre .0 in
     let length = sym (front-at (a .times .now) (a .place) inside) in

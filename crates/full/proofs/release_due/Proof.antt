@@ -22,6 +22,17 @@ Inv-loop tick count claiming times places₀ set₀ bell₀ i₀ places set bell
 abbrev μ-loop : tie.MeasureT-loop
 μ-loop tick count claiming times places₀ set₀ bell₀ i₀ places set bell i = count - i
 
+-- the state at the head of the loop
+abbrev loop-from-joined1 : tie.Joined1 Inv-loop μ-loop → tie.At-loop Inv-loop μ-loop
+loop-from-joined1 c = c .before .before .before
+
+-- the state in the loop
+abbrev in-loop-from-release-arg : tie.After-release-arg Inv-loop μ-loop → tie.In-loop Inv-loop μ-loop
+in-loop-from-release-arg c = c .before .before .before
+
+abbrev in-loop-from-sooner : tie.After-sooner Inv-loop μ-loop → tie.In-loop Inv-loop μ-loop
+in-loop-from-sooner c = c .before .before .before .before
+
 loop-holds : tie.Need-loop-holds Inv-loop μ-loop
 unfolding releasedDue earliest
 loop-holds c = (omega arith, refl, refl)
@@ -41,9 +52,10 @@ element-copy-out-if1 c = omega (arith, inside c)
 
 release-requires : tie.Need-release-requires Inv-loop μ-loop
 release-requires c κs =
-    let l = c .before .before .before .before in
-    let fits = l .before .pre .1 (l .loop .i) (c .before .before .before .loop-test .taken) in
-    (inside (c .before .before .before), fits .0, fits .1)
+    let il = in-loop-from-release-arg c in
+    let l = il .before in
+    let fits = l .before .pre .1 (l .loop .i) (il .loop-test .taken) in
+    (inside il, fits .0, fits .1)
 
 add-sooner : tie.Need-add-sooner Inv-loop μ-loop
 add-sooner c = omega (arith, inside (c .before .before))
@@ -66,15 +78,15 @@ loop-less c = omega arith
 -- what the look at a place leaves
 at-join :
     (c : tie.Joined1 Inv-loop μ-loop)
-    → Looked (c .before .before .before .before .args .tick)
-    (part 0 (c .before .before .before .before .args .times .now)) (part 32 (c .before .before .before .before .args .times .now)) (part 64 (c .before .before .before .before .args .times .now))
-    (c .before .before .before .loop .i)
-    (machineOf (c .before .before .before .before .args .places .now) (c .before .before .before .before .args .claiming))
-    (machineOf (c .before .before .before .loop .places) (c .before .before .before .loop .set))
+    → Looked (loop-from-joined1 c .before .args .tick)
+    (part 0 (loop-from-joined1 c .before .args .times .now)) (part 32 (loop-from-joined1 c .before .args .times .now)) (part 64 (loop-from-joined1 c .before .args .times .now))
+    (loop-from-joined1 c .loop .i)
+    (machineOf (loop-from-joined1 c .before .args .places .now) (loop-from-joined1 c .before .args .claiming))
+    (machineOf (loop-from-joined1 c .loop .places) (loop-from-joined1 c .loop .set))
     (machineOf (c .if1 .places) (c .if1 .set))
 at-join c =
-    let a = c .before .before .before .before .args in
-    let l = c .before .before .before .loop in
+    let a = loop-from-joined1 c .before .args in
+    let l = loop-from-joined1 c .loop in
     let start = machineOf (a .places .now) (a .claiming) in
     let before = machineOf (l .places) (l .set) in
     let after = machineOf (c .if1 .places) (c .if1 .set) in
@@ -91,9 +103,9 @@ at-join c =
 loop-again : tie.Need-loop-again Inv-loop μ-loop
 loop-again c =
     let j = at-join (c .before .before) in
-    let l = c .before .before .before .before .before .loop in
+    let l = in-loop-from-sooner c .before .loop in
     let moments = part 32 (c .before .before .if1 .places) in
-    let moment = part-at 32 (c .before .before .if1 .places) (l .i) (inside (c .before .before .before .before)) in (
+    let moment = part-at 32 (c .before .before .if1 .places) (l .i) (inside (in-loop-from-sooner c)) in (
       omega arith,
       rw add-one (j .machines),
       rw add-one

@@ -20,6 +20,14 @@ Inv-loop granted claiming places₀ rest₀ set₀ places rest set =
 abbrev μ-loop : tie.MeasureT-loop
 μ-loop granted claiming places₀ rest₀ set₀ places rest set = rest
 
+-- the state in the loop
+abbrev in-loop : tie.After-places Inv-loop μ-loop → tie.In-loop Inv-loop μ-loop
+in-loop c = c .before .before .before
+
+-- the state at the head of the loop
+abbrev loop : tie.Else1 Inv-loop μ-loop → tie.At-loop Inv-loop μ-loop
+loop c = c .before .before .before
+
 loop-holds : tie.Need-loop-holds Inv-loop μ-loop
 loop-holds c =
     let a = c .args in (
@@ -84,21 +92,21 @@ element-copy-out-places : tie.Need-element-copy-out-places Inv-loop μ-loop
 element-copy-out-places c = omega (arith, at-turn (c .before .before) .below)
 
 add-places-2 : tie.Need-add-places-2 Inv-loop μ-loop
-add-places-2 c = omega (arith, at-turn (c .before .before .before) .below)
+add-places-2 c = omega (arith, at-turn (in-loop c) .below)
 
 mul-places-3 : tie.Need-mul-places-3 Inv-loop μ-loop
-mul-places-3 c = omega (arith, at-turn (c .before .before .before) .below)
+mul-places-3 c = omega (arith, at-turn (in-loop c) .below)
 
 element-write-places-2 : tie.Need-element-write-places-2 Inv-loop μ-loop
-element-write-places-2 c = omega (arith, at-turn (c .before .before .before) .below)
+element-write-places-2 c = omega (arith, at-turn (in-loop c) .below)
 
 loop-less : tie.Need-loop-less Inv-loop μ-loop
-loop-less c = omega (arith, at-turn (c .before .before .before) .some, at-turn (c .before .before .before) .within)
+loop-less c = omega (arith, at-turn (in-loop c) .some, at-turn (in-loop c) .within)
 
 loop-again : tie.Need-loop-again Inv-loop μ-loop
 loop-again c =
-    let w = at-turn (c .before .before .before) in
-    (omega (arith, c .before .before .before .before .loop .inv .0), w .subset, list-out _ _ _ _ _ w (c .before .if1 .taken))
+    let w = at-turn (in-loop c) in
+    (omega (arith, in-loop c .before .loop .inv .0), w .subset, list-out _ _ _ _ _ w (c .before .if1 .taken))
 
 loop-less-2 : tie.Need-loop-less-2 Inv-loop μ-loop
 loop-less-2 c = omega (arith, at-turn (c .before .before) .some, at-turn (c .before .before) .within)
@@ -106,7 +114,7 @@ loop-less-2 c = omega (arith, at-turn (c .before .before) .some, at-turn (c .bef
 loop-again-2 : tie.Need-loop-again-2 Inv-loop μ-loop
 loop-again-2 c =
     let w = at-turn (c .before .before) in
-    (omega (arith, c .before .before .before .loop .inv .0), w .subset, list-on _ _ _ _ _ w (c .if1 .left))
+    (omega (arith, loop c .loop .inv .0), w .subset, list-on _ _ _ _ _ w (c .if1 .left))
 
 -- nothing is left of the set, so all of it is taken
 returns : tie.Need-returns Inv-loop μ-loop

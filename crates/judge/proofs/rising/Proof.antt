@@ -12,6 +12,13 @@ Inv-loop count tasks i₀ i = (1 ≤ i) × RisingTo tasks i
 abbrev μ-loop : tie.MeasureT-loop
 μ-loop count tasks i₀ i = count - i
 
+-- the state at the head of the loop
+abbrev loop-from-here : tie.After-here Inv-loop μ-loop → tie.At-loop Inv-loop μ-loop
+loop-from-here c = c .before .before .before
+
+abbrev loop-from-struct-known2 : tie.After-struct-known2 Inv-loop μ-loop → tie.At-loop Inv-loop μ-loop
+loop-from-struct-known2 c = loop-from-here (c .before .before)
+
 loop-holds : tie.Need-loop-holds Inv-loop μ-loop
 loop-holds c = (search needs, λ p l. absurd (omega arith))
 
@@ -32,8 +39,8 @@ array-copy-out-here c = omega arith
 
 returns : tie.Need-returns Inv-loop μ-loop
 returns c =
-    let a = c .before .before .before .before .before .before .before .args in
-    let l = c .before .before .before .before .before .before .loop in
+    let a = loop-from-struct-known2 (c .before) .before .args in
+    let l = loop-from-struct-known2 (c .before) .loop in
     one-falls (a .t1) (a .count) (omega arith) (l .i) (l .inv .0) (omega arith) (c .if1 .taken)
 
 add-i : tie.Need-add-i Inv-loop μ-loop
@@ -44,8 +51,8 @@ loop-less c = omega arith
 
 loop-again : tie.Need-loop-again Inv-loop μ-loop
 loop-again c =
-    let a = c .before .before .before .before .before .before .before .args in
-    let l = c .before .before .before .before .before .before .loop in
+    let a = loop-from-struct-known2 (c .before) .before .args in
+    let l = loop-from-struct-known2 (c .before) .loop in
     (omega arith, rising-more (a .t1) (l .i) (l .inv .0) (l .inv .1) (c .if1 .left))
 
 returns-2 : tie.Need-returns-2 Inv-loop μ-loop

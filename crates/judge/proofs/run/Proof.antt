@@ -12,8 +12,16 @@ use Rattle.judge.specs.FirstMiss.{missedBefore, byMiss}
 use Rattle.judge.proofs.run.Statement.{statement}
 use Rattle.judge.proofs.run.Tie as tie
 
+-- the state after `first-miss`
+abbrev first-miss-from-accepted : tie.After-accepted → tie.After-first-miss
+first-miss-from-accepted c = c .before .before .before
+
+abbrev first-miss-from-known-told : tie.After-known-told → tie.After-first-miss
+first-miss-from-known-told c = c .before .before .before
+
 -- up to and including the horizon is before the tick after it
-up-to : (t : Loaded) (m m′ : Missed) (v : Verdict) → m ≡ m′ → m ≡ missedBefore (tableIn t) (t .horizon + 1) → v ≡ acceptedOf t → byMiss m′ v ≡ byMiss (missedBefore (tableIn t) (suc (t .horizon))) (acceptedOf t)
+up-to : (t : Loaded) (m m′ : Missed) (v : Verdict) → m ≡ m′ → m ≡ missedBefore (tableIn t) (t .horizon + 1)
+    → v ≡ acceptedOf t → byMiss m′ v ≡ byMiss (missedBefore (tableIn t) (suc (t .horizon))) (acceptedOf t)
 up-to t m m′ v told e f = rw (f, ← told, e, add-one)
 
 add-first-miss : tie.Need-add-first-miss
@@ -33,12 +41,12 @@ enum-known-missed c = search needs
 
 returns : tie.Need-returns
 returns c =
-    let f = c .before .before .before in
+    let f = first-miss-from-accepted c in
     up-to (f .before .before .args .table) (f .first-miss .result) Never (c .accepted .result) (c .before .enum-told .given .1) (f .first-miss .ensures .value) (c .accepted .ensures)
 
 returns-2 : tie.Need-returns-2
 returns-2 c =
-    let f = c .before .before .before in
+    let f = first-miss-from-known-told c in
     up-to (f .before .before .args .table) (f .first-miss .result) (At _ _) (acceptedOf (f .before .before .args .table)) (c .before .missed .given .1) (f .first-miss .ensures .value) refl
 
 pub run-spec : {M : Type 1} → statement M

@@ -15,6 +15,25 @@ use Rattle.printer.proofs.Step.{Text, text-kept, text-put, line-put}
 use Rattle.printer.proofs.next_line.Statement.{statement}
 use Rattle.printer.proofs.next_line.Tie as tie
 
+-- the state where the ways of the test `if1` meet
+abbrev joined1 : tie.After-put-row-arg3 → tie.Joined1
+joined1 c = c .before .before .before
+
+-- the state at the call
+abbrev entry-from-step : tie.After-step → tie.Start
+entry-from-step c = c .before .before .before
+
+abbrev entry-from-then1 : tie.Then1 → tie.Start
+entry-from-then1 c = entry-from-step (c .before .before .before)
+
+-- the state after `step`
+abbrev step-from-joined1 : tie.Joined1 → tie.After-step
+step-from-joined1 c = c .before .before .before
+
+-- the state at the call
+abbrev entry-from-joined1 : tie.Joined1 → tie.Start
+entry-from-joined1 c = entry-from-step (step-from-joined1 c)
+
 -- the table's numbers, the run where the function begins, and the text that it keeps
 abbrev nums : tie.Start → Numbers
 nums s = numbersBy (s .args .setting) (s .args .width .now) (s .args .times .now)
@@ -26,14 +45,14 @@ abbrev kept : tie.Start → List ℕ
 kept s = take (s .args .stage .text) (s .args .text .now)
 
 -- the choice of the step is for the claimants of the tick
-claims : (c : tie.After-step) → c .step .result .chosen ≡ after (nums (c .before .before .before)) (stand (c .before .before .before)) .claiming
+claims : (c : tie.After-step) → c .step .result .chosen ≡ after (nums (entry-from-step c)) (stand (entry-from-step c)) .claiming
 claims c = chosen-on _ _ _ (c .step .ensures)
 
 -- the text of the row: kept, or made anew
-text-of : (c : tie.Joined1) → Text (nums (c .before .before .before .before .before .before)) (stand (c .before .before .before .before .before .before)) (kept (c .before .before .before .before .before .before)) (c .if1 .size) (c .if1 .text)
+text-of : (c : tie.Joined1) → Text (nums (entry-from-joined1 c)) (stand (entry-from-joined1 c)) (kept (entry-from-joined1 c)) (c .if1 .size) (c .if1 .text)
 text-of c =
-    let s = c .before .before .before .before .before .before in
-    let g = c .before .before .before in
+    let s = entry-from-joined1 c in
+    let g = step-from-joined1 c in
     let goal : ℕ → List ℕ → Type 0 = Text (nums s) (stand s) (kept s) in
     ⊎-elim
     (λ w.
@@ -48,21 +67,22 @@ step-requires : tie.Need-step-requires
 step-requires c κs = let s = c .before .before in safe-steppable (nums s) (stand s) (s .pre .safe) (s .pre .tick)
 
 put-cells-requires : tie.Need-put-cells-requires
-put-cells-requires c κs = let s = c .before .before .before .before .before .before .before in (s .pre .safe .cores, s .pre .safe .few, omega (arith, s .pre .wide))
+put-cells-requires c κs = let s = entry-from-then1 (c .before) in (s .pre .safe .cores, s .pre .safe .few, omega (arith, s .pre .wide))
 
 put-row-requires : tie.Need-put-row-requires
 put-row-requires c κs =
-    let x = text-of (c .before .before .before) in
-    (omega (arith, x .1, x .2), x .1, omega (arith, c .before .before .before .before .before .before .before .before .before .pre .long))
+    let x = text-of (joined1 c) in
+    (omega (arith, x .1, x .2), x .1, omega (arith, entry-from-joined1 (joined1 c) .pre .long))
 
 returns : tie.Need-returns
 returns c =
-    let j = c .before .before .before .before in
-    let s = c .before .before .before .before .before .before .before .before .before .before in
+    let joined1-state = joined1 (c .before) in
+    let j = joined1-state in
+    let s = entry-from-joined1 joined1-state in
     let t = text-of j in
     let l = c .put-row .ensures in
     record {
-      stand = c .before .before .before .before .before .before .before .step .ensures;
+      stand = step-from-joined1 joined1-state .step .ensures;
       keeps = t .0;
       line = line-put (nums s) (stand s) (kept s) (j .if1 .size) (c .put-row .result) (j .if1 .text) (s .args .line .now) _ (t .0) (l .0);
       ready = l .1;

@@ -8,6 +8,14 @@ use borrow.Author.Needs.{needs}
 use Rattle.printer.proofs.of_words.Statement.{statement}
 use Rattle.printer.proofs.of_words.Tie as tie
 
+-- the state after `load`
+abbrev load : tie.After-start → tie.After-load
+load c = c .before .before .before
+
+-- the state at the call
+abbrev entry : tie.After-rows-end → tie.Start
+entry c = c .before .before .before .before
+
 load-requires : tie.Need-load-requires
 load-requires c κs = search needs
 
@@ -18,13 +26,13 @@ rows-end-requires : tie.Need-rows-end-requires
 rows-end-requires c κs = search needs
 
 start-requires : tie.Need-start-requires
-start-requires c κs = load-small (c .before .before .before .before .args .words .now) (c .before .before .load .result) (c .before .before .load .ensures)
+start-requires c κs = load-small (entry c .args .words .now) (c .before .before .load .result) (c .before .before .load .ensures)
 
 returns : tie.Need-returns
 returns c =
-    let l = c .before .before .before .load in
+    let l = load c .load in
     let j = c .before .before .judge in
-    words-made (c .before .before .before .before .before .args .words .now) (l .result) (j .result) (c .start .result) (l .ensures) (j .ensures)
+    words-made (entry (c .before) .args .words .now) (l .result) (j .result) (c .start .result) (l .ensures) (j .ensures)
     (subst (λ (e : ℕ). StartOf (l .result) e (j .result) (c .start .result)) (c .before .rows-end .ensures) (c .start .ensures))
 
 pub of-words-spec : {M : Type 1} → statement M

@@ -7,6 +7,21 @@ use Rattle.printer.proofs.Made.{start-of}
 use Rattle.printer.proofs.start.Statement.{statement}
 use Rattle.printer.proofs.start.Tie as tie
 
+-- the state after `put-cells`
+abbrev put-cells-from-line2 : tie.After-line2 → tie.After-put-cells
+put-cells-from-line2 c = c .before .before .before .before
+
+abbrev put-cells-from-pace : tie.After-pace → tie.After-put-cells
+put-cells-from-pace c = put-cells-from-line2 (c .before)
+
+-- the state after `start`
+abbrev start : tie.After-pace → tie.After-start
+start c = put-cells-from-pace c .before .before .before .before
+
+-- the state after `columns-of`
+abbrev columns-of : tie.After-pace → tie.After-columns-of
+columns-of c = start c .before .before
+
 columns-of-requires : tie.Need-columns-of-requires
 columns-of-requires c κs = search needs
 
@@ -27,10 +42,10 @@ put-first-requires c κs = search needs
 
 returns : tie.Need-returns
 returns c =
-    let s = c .before .before .before .before .before .before .before .before .before .before .before .before in
-    let machine = c .before .before .before .before .before .before .before .before .before .start in
-    let columns = c .before .before .before .before .before .before .before .before .before .before .before .columns-of in
-    let text = c .before .before .before .before .before .put-cells in
+    let s = columns-of c .before in
+    let machine = start c .start in
+    let columns = columns-of c .columns-of in
+    let text = put-cells-from-pace c .put-cells in
     let line = c .before .before .put-first in
     start-of (s .args .table) (s .args .end) (s .args .verdict) (machine .result .pace) (machine .result .places) (machine .ensures .0)
     (columns .result .width) (ap (λ (n : Numbers). n .widths) (columns .ensures)) (text .last .1 .1 .1 .1 .1 .1 .0) (line .last .0) (text .result)

@@ -7,6 +7,14 @@ use borrow.Author.Needs.{needs}
 use Rattle.replay.proofs.listen.Statement.{statement}
 use Rattle.replay.proofs.listen.Tie as tie
 
+-- the state where the test `if1` fails
+abbrev else1 : tie.After-talk → tie.Else1
+else1 c = c .before .before .before
+
+-- the state after `read`
+abbrev read-from-else2 : tie.Else2 → tie.After-read
+read-from-else2 c = c .before .before .before .before
+
 read-requires : tie.Need-read-requires
 read-requires c κs = search needs
 
@@ -36,7 +44,7 @@ slice-reshare-prefix-talk c = search needs
 
 slice-aggregate-talk : tie.Need-slice-aggregate-talk
 slice-aggregate-talk c =
-    let h = c .before .before .before .before .before in
+    let h = read-from-else2 (c .before) in
     sym (length-take-le (h .read .result .held) (h .read .last .0) (omega (arith, h .read .ensures .behind .most, h .read .ensures .behind .same)))
 
 talk-requires : tie.Need-talk-requires
@@ -46,7 +54,7 @@ same-length-3 : tie.Need-same-length-3
 same-length-3 c = search needs
 
 returns-3 : tie.Need-returns-3
-returns-3 c = heard-bytes _ _ _ (c .before .before .before .if1 .left) (c .before .before .if2 .left) (c .talk .ensures)
+returns-3 c = heard-bytes _ _ _ (else1 c .if1 .left) (c .before .before .if2 .left) (c .talk .ensures)
 
 pub listen-spec : {M : Type 1} → statement M
 listen-spec =

@@ -17,11 +17,23 @@ Inv-loop chunk session₀ sent₀ out₀ at₀ session sent out at = SoFar sessi
 abbrev μ-loop : tie.MeasureT-loop
 μ-loop chunk session₀ sent₀ out₀ at₀ session sent out at = length chunk - at
 
+-- the state after `feed`
+abbrev feed : tie.After-out2 Inv-loop μ-loop → tie.After-feed Inv-loop μ-loop
+feed c = c .before .before .before
+
+-- the state at the head of the loop
+abbrev loop : tie.After-feed Inv-loop μ-loop → tie.At-loop Inv-loop μ-loop
+loop c = c .before .before .before .before
+
+-- the state at the call
+abbrev entry : tie.After-is-over Inv-loop μ-loop → tie.Start Inv-loop μ-loop
+entry c = c .before .before .before .before
+
 -- at least a byte is taken, and no more than there are
-moves : (c : tie.After-feed Inv-loop μ-loop) → (c .before .before .before .before .loop .at + c .feed .result .taken ≤ length (c .before .before .before .before .before .before .args .chunk .now)) × (0 < c .feed .result .taken)
+moves : (c : tie.After-feed Inv-loop μ-loop) → (loop c .loop .at + c .feed .result .taken ≤ length (loop c .before .before .args .chunk .now)) × (0 < c .feed .result .taken)
 moves c =
-    let l = c .before .before .before .before .loop in
-    talk-moves (c .before .before .before .before .before .before .args .chunk .now) _ _ (l .at) (l .session) (c .feed .result) (c .feed .ensures) (omega arith)
+    let l = loop c .loop in
+    talk-moves (loop c .before .before .args .chunk .now) _ _ (l .at) (l .session) (c .feed .result) (c .feed .ensures) (omega arith)
 
 loop-holds : tie.Need-loop-holds Inv-loop μ-loop
 loop-holds c = (so-far-none _ _, omega arith, refl)
@@ -45,18 +57,18 @@ array-share-prefix-out : tie.Need-array-share-prefix-out Inv-loop μ-loop
 array-share-prefix-out c = omega (arith, c .before .before .feed .ensures .room, c .before .before .feed .ensures .same)
 
 slice-aggregate-send : tie.Need-slice-aggregate-send Inv-loop μ-loop
-slice-aggregate-send c = sym (length-take-le _ _ (omega (arith, c .before .before .before .feed .ensures .room, c .before .before .before .feed .ensures .same)))
+slice-aggregate-send c = sym (length-take-le _ _ (omega (arith, feed c .feed .ensures .room, feed c .feed .ensures .same)))
 
 send-requires : tie.Need-send-requires Inv-loop μ-loop
 send-requires c κs = search needs
 
 loop-less : tie.Need-loop-less Inv-loop μ-loop
-loop-less c = let m = moves (c .before .before .before .before .before) in omega (arith, m .0, m .1)
+loop-less c = let m = moves (feed (c .before .before)) in omega (arith, m .0, m .1)
 
 loop-again : tie.Need-loop-again Inv-loop μ-loop
 loop-again c =
-    let f = c .before .before .before .before .before in
-    let l = f .before .before .before .before .loop in (
+    let f = feed (c .before .before) in
+    let l = loop f .loop in (
       talk-on _ _ _ _ (l .at) (l .session) (l .sent) _ (f .feed .result) (l .inv .0) (f .feed .ensures) (c .before .send .ensures) (c .if1 .taken),
       moves f .0,
       omega (arith, f .feed .ensures .same, l .inv .2),
@@ -64,8 +76,8 @@ loop-again c =
 
 returns : tie.Need-returns Inv-loop μ-loop
 returns c =
-    let f = c .before .before .before .before .before in
-    let l = f .before .before .before .before .loop in
+    let f = feed (c .before .before) in
+    let l = loop f .loop in
     talk-stopped _ _ _ _ (l .at) (l .session) (l .sent) _ (f .feed .result) (l .inv .0) (f .feed .ensures) (c .before .send .ensures) (c .if1 .left)
 
 is-over-requires : tie.Need-is-over-requires Inv-loop μ-loop
@@ -74,7 +86,7 @@ is-over-requires c κs = search needs
 returns-2 : tie.Need-returns-2 Inv-loop μ-loop
 returns-2 c =
     let l = c .before .before .loop in
-    let a = c .before .before .before .before .args .chunk .now in
+    let a = entry c .args .chunk .now in
     turn-whole _ a (drop (l .at) a) (l .session) (l .sent) _ (l .inv .0) (omega (arith, length-drop (l .at) a)) (ap not (c .is-over .ensures))
 
 pub talk-spec : {M : Type 1} → statement M

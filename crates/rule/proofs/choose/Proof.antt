@@ -30,6 +30,20 @@ Inv-loop rule free claims widths chosen₀ left₀ rest₀ chosen left rest =
 abbrev μ-loop : tie.MeasureT-loop
 μ-loop rule free claims widths chosen₀ left₀ rest₀ chosen left rest = rest
 
+-- the state at the head of the loop
+abbrev loop : tie.After-serve Inv-loop μ-loop → tie.At-loop Inv-loop μ-loop
+loop c = c .before .before .before
+
+-- the state in the loop
+abbrev in-loop-from-arm3 : tie.At-match-keys3 Inv-loop μ-loop → tie.In-loop Inv-loop μ-loop
+in-loop-from-arm3 c = c .before .before .before
+
+abbrev in-loop-from-enum-told : tie.After-enum-told Inv-loop μ-loop → tie.In-loop Inv-loop μ-loop
+in-loop-from-enum-told c = c .before .before .before .before
+
+abbrev in-loop-from-enum-told2 : tie.After-enum-told2 Inv-loop μ-loop → tie.In-loop Inv-loop μ-loop
+in-loop-from-enum-told2 c = c .before .before .before .before
+
 -- the free cores are counted
 loop-holds : tie.Need-loop-holds Inv-loop μ-loop
 loop-holds c =
@@ -91,51 +105,53 @@ enum-told c = search needs
 
 -- what the rule said to it
 said : (c : tie.After-serve Inv-loop μ-loop)
-    → c .serve .result ≡ served (ruleOf (c .before .before .before .before .args .rule)) (c .before .before .before .loop .left) (getD (c .before .before .before .before .args .widths .now) (trailingZeros 32 (c .before .before .before .loop .rest)) 0)
+    → c .serve .result ≡ served (ruleOf (loop c .before .args .rule)) (loop c .loop .left) (getD (loop c .before .args .widths .now) (trailingZeros 32 (loop c .loop .rest)) 0)
 said c = c .serve .ensures
 
 sub-left : tie.Need-sub-left Inv-loop μ-loop
 sub-left c =
-    let l = c .before .before .before .before .before .loop in
-    let a = c .before .before .before .before .before .before .args in
+    let l = in-loop-from-enum-told c .before .loop in
+    let a = in-loop-from-enum-told c .before .before .args in
     takes (ruleOf (a .rule)) (l .left) (getD (a .widths .now) (trailingZeros 32 (l .rest)) 0) (sym (said (c .before .before)) ∙ c .enum-told .given .1)
 
 shl-chosen : tie.Need-shl-chosen Inv-loop μ-loop
-shl-chosen c = at-turn (c .before .before .before .before .before) .place
+shl-chosen c = at-turn (in-loop-from-enum-told (c .before)) .place
 
 loop-less : tie.Need-loop-less Inv-loop μ-loop
-loop-less c = at-turn (c .before .before .before .before .before) .falls
+loop-less c = at-turn (in-loop-from-enum-told (c .before)) .falls
 
 loop-again : tie.Need-loop-again Inv-loop μ-loop
 loop-again c =
-    let t = c .before .before .before .before .before in
+    let t = in-loop-from-enum-told (c .before) in
     let a = t .before .before .args in
     let l = t .before .loop in (
       omega (arith, at-turn t .falls),
-      λ p. given-turn (ruleOf (a .rule)) (a .widths .now) (l .rest) _ (trailingZeros 32 (l .rest)) (l .left) (l .chosen) (at-turn t .lowest) (at-turn t .after) p _ (shifted-one 32 (trailingZeros 32 (l .rest)) (at-turn t .place)) (sub-left (c .before)) (c .if1 .taken) ∙ l .inv .1 p,
+      λ p. given-turn (ruleOf (a .rule)) (a .widths .now) (l .rest) _ (trailingZeros 32 (l .rest)) (l .left) (l .chosen) (at-turn t .lowest)
+          (at-turn t .after) p _ (shifted-one 32 (trailingZeros 32 (l .rest)) (at-turn t .place)) (sub-left (c .before)) (c .if1 .taken) ∙ l .inv .1 p,
     )
 
 loop-less-2 : tie.Need-loop-less-2 Inv-loop μ-loop
-loop-less-2 c = at-turn (c .before .before .before .before .before) .falls
+loop-less-2 c = at-turn (in-loop-from-enum-told (c .before)) .falls
 
 loop-again-2 : tie.Need-loop-again-2 Inv-loop μ-loop
 loop-again-2 c =
-    let t = c .before .before .before .before .before in
+    let t = in-loop-from-enum-told (c .before) in
     let a = t .before .before .args in
     let l = t .before .loop in (
       omega (arith, at-turn t .falls),
-      λ p. empty-turn (ruleOf (a .rule)) (a .widths .now) (l .rest) _ (trailingZeros 32 (l .rest)) (l .left) (l .chosen) (at-turn t .lowest) (at-turn t .after) p (sub-left (c .before)) (c .if1 .left) ∙ l .inv .1 p,
+      λ p. empty-turn (ruleOf (a .rule)) (a .widths .now) (l .rest) _ (trailingZeros 32 (l .rest)) (l .left)
+          (l .chosen) (at-turn t .lowest) (at-turn t .after) p (sub-left (c .before)) (c .if1 .left) ∙ l .inv .1 p,
     )
 
 enum-told-2 : tie.Need-enum-told-2 Inv-loop μ-loop
 enum-told-2 c = search needs
 
 loop-less-3 : tie.Need-loop-less-3 Inv-loop μ-loop
-loop-less-3 c = at-turn (c .before .before .before .before) .falls
+loop-less-3 c = at-turn (in-loop-from-enum-told2 c) .falls
 
 loop-again-3 : tie.Need-loop-again-3 Inv-loop μ-loop
 loop-again-3 c =
-    let t = c .before .before .before .before in
+    let t = in-loop-from-enum-told2 c in
     let a = t .before .before .args in
     let l = t .before .loop in
     let q = trailingZeros 32 (l .rest) in
@@ -149,7 +165,7 @@ enum-told-3 c = search needs
 
 returns : tie.Need-returns Inv-loop μ-loop
 returns c p =
-    let t = c .before .before .before .before in
+    let t = in-loop-from-arm3 (c .before) in
     let a = t .before .before .args in
     let l = t .before .loop in
     let q = trailingZeros 32 (l .rest) in

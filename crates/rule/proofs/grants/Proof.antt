@@ -22,6 +22,26 @@ Inv-loop rule free claims widths count all sets₀ set₀ left₀ rest₀ sets s
 abbrev μ-loop : tie.MeasureT-loop
 μ-loop rule free claims widths count all sets₀ set₀ left₀ rest₀ sets set left rest = rest
 
+-- the state at the call
+abbrev entry-from-loop : tie.At-loop Inv-loop μ-loop → tie.Start Inv-loop μ-loop
+entry-from-loop c = c .before .before .before
+
+-- the state in the loop
+abbrev in-loop-from-serve : tie.After-serve Inv-loop μ-loop → tie.In-loop Inv-loop μ-loop
+in-loop-from-serve c = c .before .before .before
+
+-- the state after `serve`
+abbrev serve : tie.After-lowest Inv-loop μ-loop → tie.After-serve Inv-loop μ-loop
+serve c = c .before .before .before
+
+-- the state in the loop
+abbrev in-loop-from-lowest : tie.After-lowest Inv-loop μ-loop → tie.In-loop Inv-loop μ-loop
+in-loop-from-lowest c = in-loop-from-serve (serve c)
+
+-- the state at the call
+abbrev entry-from-serve : tie.After-serve Inv-loop μ-loop → tie.Start Inv-loop μ-loop
+entry-from-serve c = in-loop-from-serve c .before .before .before .before
+
 places-requires : tie.Need-places-requires Inv-loop μ-loop
 places-requires c κs = search needs
 
@@ -56,48 +76,48 @@ lowest-requires : tie.Need-lowest-requires Inv-loop μ-loop
 lowest-requires c κs = search needs
 
 mul-sets : tie.Need-mul-sets Inv-loop μ-loop
-mul-sets c = omega (arith, at-turn (c .before .before .before .before .before .before) .place)
+mul-sets c = omega (arith, at-turn (in-loop-from-lowest c) .place)
 
 array-write-sets : tie.Need-array-write-sets Inv-loop μ-loop
-array-write-sets c = at-turn (c .before .before .before .before .before .before) .place
+array-write-sets c = at-turn (in-loop-from-lowest c) .place
 
 -- the width that is read is that of the place
 read : (c : tie.Then1 Inv-loop μ-loop)
-    → getD (take (c .before .before .before .before .before .args .count) (c .before .before .before .before .before .args .widths .now)) (trailingZeros 32 (c .before .before .loop .rest)) 0
-    ≡ getD (c .before .before .before .before .before .args .widths .now) (trailingZeros 32 (c .before .before .loop .rest)) 0
+    → getD (take (entry-from-loop (c .before .before) .args .count) (entry-from-loop (c .before .before) .args .widths .now)) (trailingZeros 32 (c .before .before .loop .rest)) 0
+    ≡ getD (entry-from-loop (c .before .before) .args .widths .now) (trailingZeros 32 (c .before .before .loop .rest)) 0
 read c =
-    let a = c .before .before .before .before .before .args in
+    let a = entry-from-loop (c .before .before) .args in
     getD-take (a .count) (a .widths .now) (trailingZeros 32 (c .before .before .loop .rest)) 0 (c .if1 .taken)
 
 -- what the rule said to it
 said : (c : tie.After-serve Inv-loop μ-loop)
-    → served (ruleOf (c .before .before .before .before .before .before .before .args .rule)) (c .before .before .before .before .loop .left)
-    (getD (take (c .before .before .before .before .before .before .before .args .count) (c .before .before .before .before .before .before .before .args .widths .now)) (trailingZeros 32 (c .before .before .before .before .loop .rest)) 0)
+    → served (ruleOf (entry-from-serve c .args .rule)) (in-loop-from-serve c .before .loop .left)
+    (getD (take (entry-from-serve c .args .count) (entry-from-serve c .args .widths .now)) (trailingZeros 32 (in-loop-from-serve c .before .loop .rest)) 0)
     ≡ c .serve .result
 said c =
-    let r = ruleOf (c .before .before .before .before .before .before .before .args .rule) in
-    ap (served r (c .before .before .before .before .loop .left)) (read (c .before .before)) ∙ sym (c .serve .ensures)
+    let r = ruleOf (entry-from-serve c .args .rule) in
+    ap (served r (in-loop-from-serve c .before .loop .left)) (read (c .before .before)) ∙ sym (c .serve .ensures)
 
 sub-set : tie.Need-sub-set Inv-loop μ-loop
 sub-set c =
-    let l = c .before .before .before .before .before .before .before .loop in
-    let a = c .before .before .before .before .before .before .before .before .before .before .args in
+    let l = in-loop-from-lowest c .before .loop in
+    let a = entry-from-serve (serve c) .args in
     front-le (l .set) (getD (a .widths .now) (trailingZeros 32 (l .rest)) 0) (c .lowest .result) (l .inv .whole) (omega (arith, c .lowest .ok)) (c .lowest .ensures)
 
 sub-left : tie.Need-sub-left Inv-loop μ-loop
 sub-left c =
-    let l = c .before .before .before .before .before .before .before .loop in
-    let a = c .before .before .before .before .before .before .before .before .before .before .args in
-    takes (ruleOf (a .rule)) (l .left) (getD (a .widths .now) (trailingZeros 32 (l .rest)) 0) (sym (c .before .before .before .serve .ensures) ∙ c .before .enum-told .given .1)
+    let l = in-loop-from-lowest c .before .loop in
+    let a = entry-from-serve (serve c) .args in
+    takes (ruleOf (a .rule)) (l .left) (getD (a .widths .now) (trailingZeros 32 (l .rest)) 0) (sym (serve c .serve .ensures) ∙ c .before .enum-told .given .1)
 
 loop-less : tie.Need-loop-less Inv-loop μ-loop
-loop-less c = at-turn (c .before .before .before .before .before .before) .falls
+loop-less c = at-turn (in-loop-from-lowest c) .falls
 
 loop-again : tie.Need-loop-again Inv-loop μ-loop
 loop-again c =
-    let n = c .before .before .before in
-    let t = n .before .before .before in
-    let a = t .before .before .before .before .args in
+    let n = serve c in
+    let t = in-loop-from-serve n in
+    let a = entry-from-loop (t .before) .args in
     let l = t .before .loop in
     let q = trailingZeros 32 (l .rest) in
     let w = read (n .before .before) in
@@ -109,15 +129,16 @@ enum-told-2 : tie.Need-enum-told-2 Inv-loop μ-loop
 enum-told-2 c = search needs
 
 loop-less-2 : tie.Need-loop-less-2 Inv-loop μ-loop
-loop-less-2 c = at-turn (c .before .before .before .before .before) .falls
+loop-less-2 c = at-turn (in-loop-from-serve (c .before .before)) .falls
 
 loop-again-2 : tie.Need-loop-again-2 Inv-loop μ-loop
 loop-again-2 c =
     let n = c .before .before in
-    let t = n .before .before .before in
-    let a = t .before .before .before .before .args in
+    let t = in-loop-from-serve n in
+    let a = entry-from-loop (t .before) .args in
     let l = t .before .loop in
-    passed-over (ruleOf (a .rule)) (take (a .count) (a .widths .now)) (a .claims) (a .free) (a .count) (l .sets) (l .rest) (l .set) (l .left) (trailingZeros 32 (l .rest)) _ (l .inv) (at-turn t .lowest) (at-turn t .after) (said n ∙ c .enum-told2 .given .1)
+    passed-over (ruleOf (a .rule)) (take (a .count) (a .widths .now)) (a .claims) (a .free) (a .count) (l .sets) (l .rest) (l .set)
+    (l .left) (trailingZeros 32 (l .rest)) _ (l .inv) (at-turn t .lowest) (at-turn t .after) (said n ∙ c .enum-told2 .given .1)
 
 enum-told-3 : tie.Need-enum-told-3 Inv-loop μ-loop
 enum-told-3 c = search needs
@@ -125,10 +146,11 @@ enum-told-3 c = search needs
 returns : tie.Need-returns Inv-loop μ-loop
 returns c =
     let n = c .before .before in
-    let t = n .before .before .before in
-    let a = t .before .before .before .before .args in
+    let t = in-loop-from-serve n in
+    let a = entry-from-loop (t .before) .args in
     let l = t .before .loop in
-    let h = over (ruleOf (a .rule)) (take (a .count) (a .widths .now)) (a .claims) (a .free) (a .count) (l .sets) (l .rest) (l .set) (l .left) (trailingZeros 32 (l .rest)) _ (l .inv) (at-turn t .lowest) (at-turn t .after) (said n ∙ c .enum-told3 .given .1) in
+    let h = over (ruleOf (a .rule)) (take (a .count) (a .widths .now)) (a .claims) (a .free) (a .count) (l .sets) (l .rest) (l .set)
+    (l .left) (trailingZeros 32 (l .rest)) _ (l .inv) (at-turn t .lowest) (at-turn t .after) (said n ∙ c .enum-told3 .given .1) in
     all-granted (ruleOf (a .rule)) (a .widths .now) (a .claims) (a .free) (a .count) (l .sets) (l .set) (l .left) (t .before .before .places .ensures .1) h
 
 loop-less-3 : tie.Need-loop-less-3 Inv-loop μ-loop
@@ -137,13 +159,14 @@ loop-less-3 c = at-turn (c .before) .falls
 loop-again-3 : tie.Need-loop-again-3 Inv-loop μ-loop
 loop-again-3 c =
     let t = c .before in
-    let a = t .before .before .before .before .args in
+    let a = entry-from-loop (t .before) .args in
     let l = t .before .loop in
-    skipped (ruleOf (a .rule)) (take (a .count) (a .widths .now)) (a .claims) (a .free) (a .count) (l .sets) (l .rest) (l .set) (l .left) (trailingZeros 32 (l .rest)) _ (l .inv) (at-turn t .lowest) (at-turn t .after) (omega (arith, length-take (a .count) (a .widths .now), c .if1 .left))
+    skipped (ruleOf (a .rule)) (take (a .count) (a .widths .now)) (a .claims) (a .free) (a .count) (l .sets) (l .rest) (l .set) (l .left)
+    (trailingZeros 32 (l .rest)) _ (l .inv) (at-turn t .lowest) (at-turn t .after) (omega (arith, length-take (a .count) (a .widths .now), c .if1 .left))
 
 returns-2 : tie.Need-returns-2 Inv-loop μ-loop
 returns-2 c =
-    let a = c .before .before .before .before .args in
+    let a = entry-from-loop (c .before) .args in
     let l = c .before .loop in
     let z : l .rest ≡ 0 = omega arith in
     let h : Held (ruleOf (a .rule)) (take (a .count) (a .widths .now)) (a .claims) (a .free) (a .count) (l .sets) 0 (l .set) (l .left) = rw (← z) (l .inv) in

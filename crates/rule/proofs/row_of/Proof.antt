@@ -21,6 +21,10 @@ Inv-loop first sets count out₀ i₀ out i = (i ≤ count) × (shown out (first
 abbrev μ-loop : tie.MeasureT-loop
 μ-loop first sets count out₀ i₀ out i = count - i
 
+-- the state at the head of the loop
+abbrev loop : tie.After-paint Inv-loop μ-loop → tie.At-loop Inv-loop μ-loop
+loop c = c .before .before .before
+
 loop-holds : tie.Need-loop-holds Inv-loop μ-loop
 loop-holds c = (search needs, ap (λ (p : ℕ). shown (c .args .start) p (map cores (take (c .args .count) (c .args .sets .now)))) (add-zero (c .args .first)))
 
@@ -47,7 +51,7 @@ loop-less c = omega arith
 
 loop-again : tie.Need-loop-again Inv-loop μ-loop
 loop-again c =
-    let t = c .before .before .before in
+    let t = loop c in
     let a = t .before .args in
     let l = t .loop in
     let ss = take (a .count) (a .sets .now) in

@@ -11,6 +11,19 @@ use Rattle.run.proofs.StartExact.{start-of}
 use Rattle.run.proofs.start.Statement.{statement}
 use Rattle.run.proofs.start.Tie as tie
 
+-- the state after `judge`
+abbrev judge-from-begun : tie.After-begun → tie.After-judge
+judge-from-begun c = c .before .before .before
+
+abbrev judge-from-begun2 : tie.After-begun2 → tie.After-judge
+judge-from-begun2 c = c .before .before .before
+
+abbrev judge-from-refused : tie.After-refused → tie.After-judge
+judge-from-refused c = c .before .before .before
+
+abbrev judge-from-refused2 : tie.After-refused2 → tie.After-judge
+judge-from-refused2 c = c .before .before .before .before
+
 -- the answer is the verdict's
 by-verdict : (c : tie.After-judge) (v : Verdict) → c .judge .result ≡ v → startAnswer (c .before .before .args .words .now) ≡ byVerdict v
 by-verdict c v e = start-answer (c .before .before .args .words .now) v (sym e ∙ c .judge .ensures .value)
@@ -44,25 +57,25 @@ refused-requires-2 c κs = search needs
 
 returns : tie.Need-returns
 returns c =
-    let j = c .before .before .before in
+    let j = judge-from-begun c in
     let ws = j .before .before .args .words .now in
     start-of ws (c .begun .result) (c .begun .ensures ∙ sym (start-taken ws (by-verdict j _ (c .before .enum-told .given .1))))
 
 returns-2 : tie.Need-returns-2
 returns-2 c =
-    let j = c .before .before .before in
+    let j = judge-from-begun2 c in
     let ws = j .before .before .args .words .now in
     start-of ws (c .begun2 .result) (c .begun2 .ensures ∙ sym (start-taken ws (by-verdict j _ (c .before .enum-told2 .given .1))))
 
 returns-3 : tie.Need-returns-3
 returns-3 c =
-    let j = c .before .before .before in
+    let j = judge-from-refused c in
     let ws = j .before .before .args .words .now in
     start-of ws (c .refused .result) (c .refused .ensures ∙ sym (start-refused ws 13 0 (by-verdict j _ (c .before .enum-told3 .given .1))))
 
 returns-4 : tie.Need-returns-4
 returns-4 c =
-    let j = c .before .before .before .before in
+    let j = judge-from-refused2 c in
     let ws = j .before .before .args .words .now in
     start-of ws (c .refused2 .result) (c .refused2 .ensures ∙ sym (start-refused ws _ _ (by-verdict j _ (c .before .before .verdict .given .1))))
 

@@ -20,6 +20,27 @@ use Rattle.sentence.proofs.Speaking.{by-never, by-found, found-facts}
 use Rattle.sentence.proofs.by_table.Statement.{statement}
 use Rattle.sentence.proofs.by_table.Tie as tie
 
+-- the state after `first-miss`
+abbrev first-miss : tie.After-known-told → tie.After-first-miss
+first-miss c = c .before .before .before
+
+-- the state at the call
+abbrev entry-from-arm1 : tie.At-match-keys1 → tie.Start
+entry-from-arm1 c = c .before .before .before .before
+
+abbrev entry-from-known-told : tie.After-known-told → tie.Start
+entry-from-known-told c = first-miss c .before .before .before
+
+abbrev entry-from-buffer : tie.After-buffer → tie.Start
+entry-from-buffer c = entry-from-known-told (c .before .before .before)
+
+-- the state after `missed`
+abbrev missed-from-buffer : tie.After-buffer → tie.After-missed
+missed-from-buffer c = c .before .before .before .before
+
+abbrev missed-from-slice-known2 : tie.After-slice-known2 → tie.After-missed
+missed-from-slice-known2 c = missed-from-buffer (c .before)
+
 -- what the search found, up to and including the horizon
 to-horizon : (t : Loaded) → Fit t → (m : Missed) → MissedOf (tableIn t) (t .horizon + 1) m → m ≡ missedBefore (tableIn t) (suc (horizon (tableIn t)))
 to-horizon t fit m o = let e : t .horizon + 1 ≡ suc (horizon (tableIn t)) = omega (arith, fit .horizon) in o .value ∙ ap (missedBefore (tableIn t)) e
@@ -49,32 +70,35 @@ cast-say c = search needs
 
 sub-say : tie.Need-sub-say
 sub-say c =
-    let k = c .before .before .before in
-    let x = c .before .before .before .before .before .before in
+    let k = first-miss c in
+    let x = entry-from-known-told c in
     first-of (x .args .table) (k .first-miss .result) (k .first-miss .ensures) _ _ (c .before .missed .given .1) .2
 
 say-requires : tie.Need-say-requires
 say-requires c κs =
-    let k = c .before .before .before .before in
-    let x = c .before .before .before .before .before .before .before in
+    let k = first-miss (c .before) in
+    let x = entry-from-known-told (c .before) in
     let f = first-of (x .args .table) (k .first-miss .result) (k .first-miss .ensures) _ _ (c .before .before .missed .given .1) in
     (x .pre .0, f .0, f .1, x .pre .1)
 
 returns : tie.Need-returns
 returns c =
-    let x = c .before .before .before .before .before in
-    let k = c .before .before in
-    (by-never (tableIn (x .args .table)) (length (x .args .buffer .now)) (never-found _ _ (sym (to-horizon (x .args .table) (x .pre .0) (k .first-miss .result) (k .first-miss .ensures)) ∙ c .enum-told .given .1)), refl)
+    let x = entry-from-arm1 (c .before) in
+    let k = c .before .before in (
+      by-never (tableIn (x .args .table)) (length (x .args .buffer .now))
+          (never-found _ _ (sym (to-horizon (x .args .table) (x .pre .0) (k .first-miss .result) (k .first-miss .ensures)) ∙ c .enum-told .given .1)),
+      refl,
+    )
 
 same-length : tie.Need-same-length
 same-length c = search needs
 
 returns-2 : tie.Need-returns-2
 returns-2 c =
-    let x = c .before .before .before .before .before .before .before .before .before .before in
-    let k = c .before .before .before .before .before .before .before in
+    let x = entry-from-buffer (c .before) in
+    let k = missed-from-slice-known2 c .before .before in
     let t = x .args .table in
-    let e = sym (to-horizon t (x .pre .0) (k .first-miss .result) (k .first-miss .ensures)) ∙ c .before .before .before .before .before .missed .given .1 in
+    let e = sym (to-horizon t (x .pre .0) (k .first-miss .result) (k .first-miss .ensures)) ∙ missed-from-slice-known2 c .missed .given .1 in
     let same = found-facts (tableIn t) _ _ e in
     let done = c .before .before .say .ensures in (
       done .0 ∙ ap (λ (f : Facts). byBuffer f (length (x .args .buffer .now))) same ∙ by-found (tableIn t) (length (x .args .buffer .now)) (one-found _ _ _ _ e),

@@ -21,6 +21,21 @@ use Rattle.sentence.proofs.Speaking.{too-short, long-enough, text-lengt
 use Rattle.sentence.proofs.say.Statement.{statement}
 use Rattle.sentence.proofs.say.Tie as tie
 
+-- the state after `put`
+abbrev put : tie.After-text3 → tie.After-put
+put c = c .before .before .before
+
+-- the state at the call
+abbrev entry : tie.After-put → tie.Start
+entry c = c .before .before .before .before
+
+-- the state where the test `if1` fails
+abbrev else1-from-buffer : tie.After-buffer → tie.Else1
+else1-from-buffer c = c .before .before .before .before
+
+abbrev else1-from-slice-known2 : tie.After-slice-known2 → tie.Else1
+else1-from-slice-known2 c = else1-from-buffer (c .before)
+
 -- the sentence is short
 short : (x : tie.Start) → length (said (factsAt (tableIn (x .args .table)) (x .args .tick) (x .args .place))) ≤ 700
 short x =
@@ -48,16 +63,16 @@ put-requires c κs =
 abbrev facts-of : tie.Start → Facts
 facts-of x = factsAt (tableIn (x .args .table)) (x .args .tick) (x .args .place)
 
-aside : (u : tie.After-put) → Put (replicate 700 0) 0 (said (facts-of (u .before .before .before .before))) (u .put .last .1 .0) (u .put .result)
+aside : (u : tie.After-put) → Put (replicate 700 0) 0 (said (facts-of (entry u))) (u .put .last .1 .0) (u .put .result)
 aside u = subst (λ (f : Facts). Put (replicate 700 0) 0 (said f) (u .put .last .1 .0) (u .put .result)) (u .before .before .count .ensures) (u .put .ensures)
 
-measured : (u : tie.After-put) → u .put .result ≡ length (said (facts-of (u .before .before .before .before)))
+measured : (u : tie.After-put) → u .put .result ≡ length (said (facts-of (entry u)))
 measured u = text-length _ _ _ _ (aside u)
 
 returns : tie.Need-returns
 returns c =
     let u = c .before .before in
-    let x = u .before .before .before .before in
+    let x = entry u in
     (too-short (facts-of x) (length (x .args .buffer .now)) (omega (arith, measured u, c .if1 .taken)), refl)
 
 slice-aggregate-copy : tie.Need-slice-aggregate-copy
@@ -65,20 +80,22 @@ slice-aggregate-copy c = search needs
 
 copy-requires : tie.Need-copy-requires
 copy-requires c κs =
-    let u = c .before .before .before .before in
-    let l = short (u .before .before .before .before) in
-    let size = length-replicate {A = ℕ} 700 0 in
-    (omega (arith, measured u, size, put-length (aside u) (omega (arith, measured u, size))), subst (λ (n : ℕ). n ≤ length (u .before .before .before .before .args .buffer .now)) (sym (zero-add (u .put .result))) (c .before .before .if1 .left))
+    let u = put (c .before) in
+    let l = short (entry u) in
+    let size = length-replicate {A = ℕ} 700 0 in (
+      omega (arith, measured u, size, put-length (aside u) (omega (arith, measured u, size))),
+      subst (λ (n : ℕ). n ≤ length (entry u .args .buffer .now)) (sym (zero-add (u .put .result))) (c .before .before .if1 .left),
+    )
 
 same-length : tie.Need-same-length
 same-length c = search needs
 
 returns-2 : tie.Need-returns-2
 returns-2 c =
-    let u = c .before .before .before .before .before .before .before in
-    let x = u .before .before .before .before in
+    let u = else1-from-slice-known2 c .before .before in
+    let x = entry u in
     let done = text-copied _ _ _ _ (aside u) _ _ _ (c .before .before .copy .ensures) in
-    (ap Length (done .0) ∙ long-enough (facts-of x) (length (x .args .buffer .now)) (omega (arith, measured u, c .before .before .before .before .before .if1 .left)), done .1)
+    (ap Length (done .0) ∙ long-enough (facts-of x) (length (x .args .buffer .now)) (omega (arith, measured u, else1-from-slice-known2 c .if1 .left)), done .1)
 
 pub say-spec : {M : Type 1} → statement M
 say-spec =

@@ -1,3 +1,5 @@
+-- `session::end_table` meets its contract: the table ends before a last line of dashes or with the bytes held, and `begin` says what is said to it.
+-- Assumes nothing.
 use borrow.Author.Needs.{needs}
 use native.Mathlib.Omega.{arith}
 use mathlib.Core.Bool.{Bool, true, false, cond}
@@ -15,6 +17,14 @@ use Rattle.session.proofs.Talking.{nil-right, talk-end}
 use Rattle.session.proofs.Feeding.{spoken-table}
 use Rattle.session.proofs.end_table.Statement.{statement}
 use Rattle.session.proofs.end_table.Tie as tie
+
+-- the state at the call
+abbrev entry : tie.After-table-end → tie.Start
+entry c = c .before .before .before
+
+-- the state after `table-end`
+abbrev table-end : tie.After-begin → tie.After-table-end
+table-end c = c .before .before .before
 
 -- the table's end is within the bytes
 end-within :
@@ -62,16 +72,23 @@ table-end-requires : tie.Need-table-end-requires
 table-end-requires c κs = let w : length (c .before .before .args .session .bytes) ≡ tooMany = search needs in (c .before .before .pre .0, omega (arith, c .before .before .pre .1, w))
 
 array-share-prefix-bytes : tie.Need-array-share-prefix-bytes
-array-share-prefix-bytes c = let w : length (c .before .before .before .args .session .bytes) ≡ tooMany = search needs in end-within (c .before .before .before .args .session) _ w (c .before .before .before .pre .0) (c .before .before .before .pre .1) (c .table-end .ensures)
+array-share-prefix-bytes c =
+    let start = entry c in
+    let w : length (start .args .session .bytes) ≡ tooMany = search needs in end-within (start .args .session) _ w (start .pre .0) (start .pre .1) (c .table-end .ensures)
 
 slice-aggregate-begin : tie.Need-slice-aggregate-begin
-slice-aggregate-begin c = let w : length (c .before .before .before .before .args .session .bytes) ≡ tooMany = search needs in sym (length-take-le (c .before .table-end .result) _ (end-within (c .before .before .before .before .args .session) _ w (c .before .before .before .before .pre .0) (c .before .before .before .before .pre .1) (c .before .table-end .ensures)))
+slice-aggregate-begin c =
+    let start = entry (c .before) in
+    let w : length (start .args .session .bytes) ≡ tooMany = search needs in
+    sym (length-take-le (c .before .table-end .result) _ (end-within (start .args .session) _ w (start .pre .0) (start .pre .1) (c .before .table-end .ensures)))
 
 begin-requires : tie.Need-begin-requires
 begin-requires c κs = search needs
 
 returns : tie.Need-returns
-returns c = table-ended (c .before .before .before .before .before .before .args .session) _ _ _ _ (c .before .before .before .before .before .before .pre .0) (c .before .before .before .table-end .ensures) (c .begin .ensures)
+returns c =
+    let te = table-end c in
+    table-ended (entry te .args .session) _ _ _ _ (entry te .pre .0) (te .table-end .ensures) (c .begin .ensures)
 
 pub end-table-spec : {M : Type 1} → statement M
 end-table-spec =

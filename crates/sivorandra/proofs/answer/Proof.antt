@@ -13,6 +13,17 @@ use borrow.Author.Needs.{needs}
 use Rattle.sivorandra.proofs.answer.Statement.{statement}
 use Rattle.sivorandra.proofs.answer.Tie as tie
 
+-- the state after `fill`
+abbrev fill-from-bytes3 : tie.After-bytes3 → tie.After-fill
+fill-from-bytes3 c = c .before .before .before
+
+abbrev fill-from-say-unread : tie.After-say-unread → tie.After-fill
+fill-from-say-unread c = c .before .before .before .before
+
+-- the state where the test `if1` fails
+abbrev else1 : tie.After-print → tie.Else1
+else1 c = c .before .before .before
+
 slice-aggregate-fill : tie.Need-slice-aggregate-fill
 slice-aggregate-fill c = search needs
 
@@ -26,14 +37,14 @@ say-unread-requires : tie.Need-say-unread-requires
 say-unread-requires c κs = search needs
 
 returns : tie.Need-returns
-returns c = unanswered output _ (c .before .before .before .before .fill .result) _ (c .before .before .if1 .taken) refl
+returns c = unanswered output _ (fill-from-say-unread c .fill .result) _ (c .before .before .if1 .taken) refl
 
 array-share-prefix-bytes : tie.Need-array-share-prefix-bytes
 array-share-prefix-bytes c = search needs
 
 slice-aggregate-new : tie.Need-slice-aggregate-new
 slice-aggregate-new c =
-    let h = c .before .before .before in
+    let h = fill-from-bytes3 c in
     sym (length-take-le (h .fill .result .held) (h .fill .last .0) (omega (arith, h .fill .ensures .behind .most, h .fill .ensures .behind .same)))
 
 new-requires : tie.Need-new-requires
@@ -44,8 +55,8 @@ print-requires c κs = search needs
 
 returns-2 : tie.Need-returns-2
 returns-2 c =
-    let h = c .before .before .before .before .before in
-    answered output _ (h .fill .last .0) (h .fill .result) (c .print .result) output-enough (h .fill .ensures) (c .before .before .before .if1 .left)
+    let h = fill-from-bytes3 (c .before .before) in
+    answered output _ (h .fill .last .0) (h .fill .result) (c .print .result) output-enough (h .fill .ensures) (else1 c .if1 .left)
     (subst (λ (l : List ℕ). SentOf 0 l (c .print .result)) (c .before .new .ensures .whole) (c .print .ensures))
 
 pub answer-spec : {M : Type 1} → statement M

@@ -17,6 +17,20 @@ Inv-loop buffer₀ held reading₀ buffer reading = Behind held buffer₀ buffer
 abbrev μ-loop : tie.MeasureT-loop
 μ-loop buffer₀ held reading₀ buffer reading = length buffer - reading .held
 
+-- the state after `read`
+abbrev read-from-else2 : tie.Else2 Inv-loop μ-loop → tie.After-read Inv-loop μ-loop
+read-from-else2 c = c .before .before .before
+
+abbrev read-from-then2 : tie.Then2 Inv-loop μ-loop → tie.After-read Inv-loop μ-loop
+read-from-then2 c = c .before .before .before
+
+-- the state at the head of the loop
+abbrev loop-from-read : tie.After-read Inv-loop μ-loop → tie.At-loop Inv-loop μ-loop
+loop-from-read c = c .before .before .before .before
+
+abbrev loop-from-slice-known2 : tie.After-slice-known2 Inv-loop μ-loop → tie.At-loop Inv-loop μ-loop
+loop-from-slice-known2 c = loop-from-read (c .before .before)
+
 loop-holds : tie.Need-loop-holds Inv-loop μ-loop
 loop-holds c = search needs
 
@@ -28,7 +42,7 @@ same-length c = search needs
 
 returns : tie.Need-returns Inv-loop μ-loop
 returns c = record {
-  behind = behind-on (c .before .before .before .before .before .before .before .loop .inv) (c .before .before .before .read .ensures .behind);
+  behind = behind-on (loop-from-slice-known2 (c .before) .loop .inv) (read-from-then2 c .read .ensures .behind);
   full = λ e f. absurd (false≢true (sym e ∙ c .if2 .taken));
 }
 
@@ -37,17 +51,17 @@ same-length-2 c = search needs
 
 returns-2 : tie.Need-returns-2 Inv-loop μ-loop
 returns-2 c = record {
-  behind = behind-on (c .before .before .before .before .before .before .before .before .loop .inv) (c .before .before .before .before .read .ensures .behind);
+  behind = behind-on (loop-from-slice-known2 (c .before .before) .loop .inv) (read-from-else2 (c .before) .read .ensures .behind);
   full = λ e f. absurd (false≢true (sym f ∙ c .if3 .taken));
 }
 
 loop-less : tie.Need-loop-less Inv-loop μ-loop
 loop-less c =
-    let d = c .before .before .before .before .read .ensures in
+    let d = read-from-else2 (c .before) .read .ensures in
     omega (arith, d .more (c .before .if2 .left) (c .if3 .left), d .behind .same, d .behind .most)
 
 loop-again : tie.Need-loop-again Inv-loop μ-loop
-loop-again c = behind-on (c .before .before .before .before .before .before .before .before .loop .inv) (c .before .before .before .before .read .ensures .behind)
+loop-again c = behind-on (loop-from-slice-known2 (c .before .before) .loop .inv) (read-from-else2 (c .before) .read .ensures .behind)
 
 same-length-3 : tie.Need-same-length-3 Inv-loop μ-loop
 same-length-3 c = search needs

@@ -9,6 +9,23 @@ use borrow.Author.Needs.{needs}
 use Rattle.stream.proofs.read.Statement.{statement}
 use Rattle.stream.proofs.read.Tie as tie
 
+-- the state after `read`
+abbrev read-from-then1 : tie.Then1 → tie.After-read
+read-from-then1 c = c .before .before .before
+
+abbrev read-from-buffer2 : tie.After-buffer2 → tie.After-read
+read-from-buffer2 c = c .before .before .before .before
+
+abbrev read-from-count : tie.After-count → tie.After-read
+read-from-count c = read-from-buffer2 (c .before .before)
+
+-- the state at the call
+abbrev entry-from-then1 : tie.Then1 → tie.Start
+entry-from-then1 c = read-from-then1 c .before .before .before
+
+abbrev entry-from-count : tie.After-count → tie.Start
+entry-from-count c = read-from-count c .before .before .before
+
 sub-read : tie.Need-sub-read
 sub-read c = search needs
 
@@ -26,8 +43,11 @@ same-length c = search needs
 
 returns : tie.Need-returns
 returns c =
-    let a = c .before .before .before .before .before .before in
-    record { behind = part-behind (a .args .held) (a .args .buffer .now) (c .before .before .before .read .last .1 .0) _ (a .pre) (same-length c) (omega arith) (a .pre); more = λ e f. absurd (false≢true (sym f)) }
+    let a = entry-from-then1 c in
+    record {
+      behind = part-behind (a .args .held) (a .args .buffer .now) (read-from-then1 c .read .last .1 .0) _ (a .pre) (same-length c) (omega arith) (a .pre);
+      more = λ e f. absurd (false≢true (sym f));
+    }
 
 sub-count : tie.Need-sub-count
 sub-count c = search needs
@@ -49,9 +69,9 @@ same-length-2 c = search needs
 
 returns-2 : tie.Need-returns-2
 returns-2 c =
-    let a = c .before .before .before .before .before .before .before .before .before in
+    let a = entry-from-count c in
     record {
-      behind = part-behind (a .args .held) (a .args .buffer .now) (c .before .before .before .before .before .before .read .last .1 .0) _ (a .pre) (same-length-2 c) (omega arith) (omega (arith, c .count .ensures .0 .0));
+      behind = part-behind (a .args .held) (a .args .buffer .now) (read-from-count c .read .last .1 .0) _ (a .pre) (same-length-2 c) (omega arith) (omega (arith, c .count .ensures .0 .0));
       more = λ e f. omega (arith, eqb-false (c .count .result) 0 e);
     }
 

@@ -22,15 +22,44 @@ use Rattle.table.proofs.Promise.{promise}
 use Rattle.table.proofs.load.Statement.{statement}
 use Rattle.table.proofs.load.Tie as tie
 
+-- the state at the call
+abbrev entry-from-else1 : tie.Else1 → tie.Start
+entry-from-else1 c = c .before .before .before
+
+abbrev entry-from-refused : tie.After-refused → tie.Start
+entry-from-refused c = c .before .before .before .before
+
+abbrev entry-from-arm3 : tie.At-match-keys3 → tie.Start
+entry-from-arm3 c = entry-from-else1 (c .before .before)
+
+-- the state after `fence-in`
+abbrev fence-in : tie.After-by-tasks → tie.After-fence-in
+fence-in c = c .before .before .before
+
+-- the state after `walk`
+abbrev walk-from-refused2 : tie.After-refused2 → tie.After-walk
+walk-from-refused2 c = c .before .before .before
+
+abbrev walk-from-refused3 : tie.After-refused3 → tie.After-walk
+walk-from-refused3 c = c .before .before .before
+
+-- the state after `tasks`
+abbrev tasks : tie.After-shared-slice-known3 → tie.After-tasks
+tasks c = c .before .before .before
+
+-- the state where the test `if1` fails
+abbrev else1 : tie.After-tasks → tie.Else1
+else1 c = c .before .before .before .before
+
 -- the header passes
-fine : (c : tie.Else1) → headerNumber (now (c .before .before .before .args .words)) ≡ 0
+fine : (c : tie.Else1) → headerNumber (now (entry-from-else1 c .args .words)) ≡ 0
 fine c = sym (c .before .header-number .ensures) ∙ c .if1 .left
 
-long : (c : tie.Else1) → headerWords ≤ length (now (c .before .before .before .args .words))
-long c = let ws = now (c .before .before .before .args .words) in words-long ws (header-fine ws (fine c) .words-in)
+long : (c : tie.Else1) → headerWords ≤ length (now (entry-from-else1 c .args .words))
+long c = let ws = now (entry-from-else1 c .args .words) in words-long ws (header-fine ws (fine c) .words-in)
 
 -- the chain ends at the zero
-whole : (c : tie.After-enum-told3) → endingOf (now (c .before .before .before .before .before .before .args .words)) ≡ Whole
+whole : (c : tie.After-enum-told3) → endingOf (now (entry-from-arm3 (c .before) .args .words)) ≡ Whole
 whole c = sym (c .before .before .walk .ensures .ending) ∙ c .enum-told3 .given .1
 
 header-number-requires : tie.Need-header-number-requires
@@ -42,7 +71,7 @@ refused-requires c κs = search needs
 returns : tie.Need-returns
 returns c =
     let h = c .before .before .header-number .ensures in
-    let ws = now (c .before .before .before .before .args .words) in
+    let ws = now (entry-from-refused c .args .words) in
     promise ws (c .refused .result) (c .refused .ensures ∙ ap (λ n. refusal n 0) h ∙ sym (load-header ws (λ e. c .before .if1 .taken (h ∙ e))))
 
 walk-requires : tie.Need-walk-requires
@@ -64,19 +93,19 @@ enum-told-3 : tie.Need-enum-told-3
 enum-told-3 c = search needs
 
 fence-in-requires : tie.Need-fence-in-requires
-fence-in-requires c κs = long (c .before .before .before .before)
+fence-in-requires c κs = long (else1 c)
 
 shared-slice-read-by-tasks : tie.Need-shared-slice-read-by-tasks
-shared-slice-read-by-tasks c = omega (arith, long (c .before .before .before .before .before .before))
+shared-slice-read-by-tasks c = omega (arith, long (else1 (c .before .before)))
 
 shared-slice-read-by-tasks-2 : tie.Need-shared-slice-read-by-tasks-2
-shared-slice-read-by-tasks-2 c = omega (arith, long (c .before .before .before .before .before .before .before))
+shared-slice-read-by-tasks-2 c = omega (arith, long (else1 (tasks c)))
 
 by-tasks-requires : tie.Need-by-tasks-requires
 by-tasks-requires c κs =
-    let e = c .before .before .before .before in
+    let e = tasks c .before in
     let w = e .before .before in
-    let ws = now (w .before .before .before .before .args .words) in
+    let ws = now (entry-from-else1 (w .before) .args .words) in
     let told = e .enum-told3 .given .1 in
     let counted = w .walk .ensures .counted told in
     let many = whole-count ws (fine (w .before)) (whole e) in
@@ -86,26 +115,27 @@ by-tasks-requires c κs =
 
 returns-2 : tie.Need-returns-2
 returns-2 c =
-    let w = c .before .before .before in
-    let ws = now (w .before .before .before .before .args .words) in
+    let w = walk-from-refused2 c in
+    let ws = now (entry-from-else1 (w .before) .args .words) in
     promise ws (c .refused2 .result) (c .refused2 .ensures ∙ sym (load-past ws (fine (w .before)) (sym (w .walk .ensures .ending) ∙ c .before .enum-told .given .1)))
 
 returns-3 : tie.Need-returns-3
 returns-3 c =
-    let w = c .before .before .before in
-    let ws = now (w .before .before .before .before .args .words) in
+    let w = walk-from-refused3 c in
+    let ws = now (entry-from-else1 (w .before) .args .words) in
     promise ws (c .refused3 .result) (c .refused3 .ensures ∙ sym (load-again ws (fine (w .before)) (sym (w .walk .ensures .ending) ∙ c .before .enum-told2 .given .1)))
 
 returns-4 : tie.Need-returns-4
 returns-4 c =
-    let e = c .before .before .before .before .before in
+    let e = tasks (c .before) .before in
     let w = e .before .before in
-    let ws = now (w .before .before .before .before .args .words) in
+    let ws = now (entry-from-else1 (w .before) .args .words) in
     let told = e .enum-told3 .given .1 in
-    let fenced = c .before .before .before .fence-in .ensures in
+    let fenced = fence-in c .fence-in .ensures in
     promise ws (c .by-tasks .result)
     (c .by-tasks .ensures
-    ∙ ap (λ (f : ℕ). loadedBy (byTasks (tableWith (cores ws) f (rule ws) (tasksOf (w .walk .result .tasks) (w .walk .result .count)))) (passing (rule ws) (tableWith (cores ws) f (rule ws) (tasksOf (w .walk .result .tasks) (w .walk .result .count))))) fenced
+    ∙ ap (λ (f : ℕ). loadedBy (byTasks (tableWith (cores ws) f (rule ws) (tasksOf (w .walk .result .tasks) (w .walk .result .count))))
+    (passing (rule ws) (tableWith (cores ws) f (rule ws) (tasksOf (w .walk .result .tasks) (w .walk .result .count))))) fenced
     ∙ load-whole ws (fine (w .before)) (whole e) (w .walk .result .tasks) (w .walk .result .count) (w .walk .ensures .placed told) (w .walk .ensures .counted told))
 
 pub load-spec : {M : Type 1} → statement M

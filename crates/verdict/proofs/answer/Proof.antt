@@ -9,6 +9,13 @@ use borrow.Author.Needs.{needs}
 use Rattle.verdict.proofs.answer.Statement.{statement}
 use Rattle.verdict.proofs.answer.Tie as tie
 
+-- the state after `fill`
+abbrev fill-from-bytes3 : tie.After-bytes3 → tie.After-fill
+fill-from-bytes3 c = c .before .before .before
+
+abbrev fill-from-say-unread : tie.After-say-unread → tie.After-fill
+fill-from-say-unread c = c .before .before .before .before
+
 slice-aggregate-fill : tie.Need-slice-aggregate-fill
 slice-aggregate-fill c = search needs
 
@@ -22,14 +29,14 @@ say-unread-requires : tie.Need-say-unread-requires
 say-unread-requires c κs = search needs
 
 returns : tie.Need-returns
-returns c = unanswered firstFor _ (c .before .before .before .before .fill .result) _ (c .before .before .if1 .taken) refl
+returns c = unanswered firstFor _ (fill-from-say-unread c .fill .result) _ (c .before .before .if1 .taken) refl
 
 array-share-prefix-bytes : tie.Need-array-share-prefix-bytes
 array-share-prefix-bytes c = search needs
 
 slice-aggregate-print : tie.Need-slice-aggregate-print
 slice-aggregate-print c =
-    let h = c .before .before .before in
+    let h = fill-from-bytes3 c in
     sym (length-take-le (h .fill .result .held) (h .fill .last .0) (omega (arith, h .fill .ensures .behind .most, h .fill .ensures .behind .same)))
 
 print-requires : tie.Need-print-requires
@@ -37,7 +44,7 @@ print-requires c κs = search needs
 
 returns-2 : tie.Need-returns-2
 returns-2 c =
-    let h = c .before .before .before .before in
+    let h = fill-from-bytes3 (c .before) in
     answered firstFor _ (h .fill .last .0) (h .fill .result) (c .print .result) first-line-enough (h .fill .ensures) (c .before .before .if1 .left) (c .print .ensures)
 
 pub answer-spec : {M : Type 1} → statement M

@@ -15,6 +15,10 @@ use borrow.Author.Needs.{needs}
 use Rattle.verdict.proofs.print.Statement.{statement}
 use Rattle.verdict.proofs.print.Tie as tie
 
+-- the state after `put-first`
+abbrev put-first : tie.After-send → tie.After-put-first
+put-first c = c .before .before .before
+
 slice-aggregate-put-first : tie.Need-slice-aggregate-put-first
 slice-aggregate-put-first c = search needs
 
@@ -38,8 +42,8 @@ send-requires c κs = search needs
 returns : tie.Need-returns
 unfolding firstFor
 returns c =
-    let h = c .before .before .before .put-first in
-    let v = c .before .before .before .before .verdict-on .ensures in
+    let h = put-first c .put-first in
+    let v = put-first c .before .verdict-on .ensures in
     subst (λ (l : List ℕ). SentOf 0 l (c .send .result)) (put-front (h .ensures .0) ∙ ap (λ (x : Verdict). firstLine (saidBy x)) v) (c .send .ensures)
 
 pub print-spec : {M : Type 1} → statement M

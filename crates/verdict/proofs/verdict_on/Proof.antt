@@ -10,6 +10,10 @@ use borrow.Author.Needs.{needs}
 use Rattle.verdict.proofs.verdict_on.Statement.{statement}
 use Rattle.verdict.proofs.verdict_on.Tie as tie
 
+-- the state after `read`
+abbrev read : tie.After-judge → tie.After-read
+read c = c .before .before .before
+
 read-requires : tie.Need-read-requires
 read-requires c κs = search needs
 
@@ -26,8 +30,8 @@ judge-requires c κs = search needs
 
 returns : tie.Need-returns
 returns c =
-    let r = c .before .before .before .read in
-    c .judge .ensures .value ∙ ap verdictOf (numbers-read (r .result) (c .before .before .before .before .before .args .bytes .now) (r .ensures .value))
+    let r = read c .read in
+    c .judge .ensures .value ∙ ap verdictOf (numbers-read (r .result) (read c .before .before .args .bytes .now) (r .ensures .value))
 
 pub verdict-on-spec : {M : Type 1} → statement M
 verdict-on-spec =

@@ -7,6 +7,21 @@ use borrow.Author.Needs.{needs}
 use Rattle.capi.proofs.held.advance.Statement.{statement}
 use Rattle.capi.proofs.held.advance.Tie as tie
 
+-- the state at the call
+abbrev entry : tie.After-holds → tie.Start
+entry c = c .before .before .before
+
+-- the state after `advance`
+abbrev advance-from-next : tie.After-next → tie.After-advance
+advance-from-next c = c .before .before .before
+
+abbrev advance-from-known-told : tie.After-known-told → tie.After-advance
+advance-from-known-told c = c .before .before .before
+
+-- the state after `enum-told`
+abbrev enum-told-from-put-run : tie.After-put-run → tie.After-enum-told
+enum-told-from-put-run c = c .before .before .before
+
 holds-requires : tie.Need-holds-requires
 holds-requires c κs = search needs
 
@@ -14,7 +29,7 @@ run-in-requires : tie.Need-run-in-requires
 run-in-requires c κs =
     let t = c .before in
     let h = t .before in
-    let ws = h .before .before .before .args .words .now in
+    let ws = entry h .args .words .now in
     let e = sym (h .holds .ensures) ∙ t .if1 .taken in
     (held-long ws e, held-few ws e)
 
@@ -26,11 +41,11 @@ enum-told c = search needs
 
 put-run-requires : tie.Need-put-run-requires
 put-run-requires c κs =
-    let v = c .before .before .before .before in
+    let v = advance-from-next (c .before) in
     let r = v .before in
     let t = r .before .before in
     let h = t .before in
-    let a = h .before .before .before .args in
+    let a = entry h .args in
     let e = sym (h .holds .ensures) ∙ t .if1 .taken in
     (advance-few (a .words .now) (a .reports) (v .advance .result) (r .run-in .result) e (r .run-in .ensures) (v .advance .ensures .value), held-long (a .words .now) e)
 
@@ -40,12 +55,12 @@ same-length c = search needs
 returns : tie.Need-returns
 returns c =
     let p = c .before .before in
-    let m = p .before .before .before in
+    let m = enum-told-from-put-run p in
     let v = m .before .before in
     let r = v .before in
     let t = r .before .before in
     let h = t .before in
-    let a = h .before .before .before .args in
+    let a = entry h .args in
     advance-taken (a .words .now) (a .reports) (v .advance .result) (r .run-in .result)
     (sym (h .holds .ensures) ∙ t .if1 .taken)
     (r .run-in .ensures)
@@ -61,11 +76,11 @@ same-length-2 c = search needs
 
 returns-2 : tie.Need-returns-2
 returns-2 c =
-    let v = c .before .before .before in
+    let v = advance-from-known-told c in
     let r = v .before in
     let t = r .before .before in
     let h = t .before in
-    let a = h .before .before .before .args in
+    let a = entry h .args in
     advance-refused (a .words .now) (a .reports) (v .advance .result) (r .run-in .result)
     (sym (h .holds .ensures) ∙ t .if1 .taken)
     (r .run-in .ensures)
@@ -78,7 +93,7 @@ same-length-3 c = search needs
 returns-3 : tie.Need-returns-3
 returns-3 c =
     let h = c .before in
-    let a = h .before .before .before .args in
+    let a = entry h .args in
     advance-none (a .words .now) (a .reports) (sym (h .holds .ensures) ∙ c .if1 .left)
 
 pub advance-spec : {M : Type 1} → statement M

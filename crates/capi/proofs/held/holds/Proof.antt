@@ -16,6 +16,17 @@ Inv-loop words count i₀ i = (i ≤ count) × (arePlaces count (drop headWords 
 abbrev μ-loop : tie.MeasureT-loop
 μ-loop words count i₀ i = count - i
 
+-- the state at the call
+abbrev entry-from-else2 : tie.Else2 Inv-loop μ-loop → tie.Start Inv-loop μ-loop
+entry-from-else2 c = c .before .before .before .before
+
+abbrev entry-from-then2 : tie.Then2 Inv-loop μ-loop → tie.Start Inv-loop μ-loop
+entry-from-then2 c = c .before .before .before .before
+
+-- the state at the head of the loop
+abbrev loop : tie.After-is-phase Inv-loop μ-loop → tie.At-loop Inv-loop μ-loop
+loop c = c .before .before .before .before
+
 returns : tie.Need-returns Inv-loop μ-loop
 returns c = sym (held-short (c .before .before .args .words .now) (c .if1 .taken))
 
@@ -26,11 +37,11 @@ cast-count : tie.Need-cast-count Inv-loop μ-loop
 cast-count c = omega (arith, c .shared-slice-known2 .given 2)
 
 returns-2 : tie.Need-returns-2 Inv-loop μ-loop
-returns-2 c = sym (held-many (c .before .before .before .before .args .words .now) (c .before .before .if1 .left) (c .if2 .taken))
+returns-2 c = sym (held-many (entry-from-then2 c .args .words .now) (c .before .before .if1 .left) (c .if2 .taken))
 
 loop-holds : tie.Need-loop-holds Inv-loop μ-loop
 loop-holds c =
-    let ws = c .before .before .before .before .args .words .now in
+    let ws = entry-from-else2 c .args .words .now in
     let e : countIn ws ≡ countIn ws - 0 = omega arith in
     (omega arith, ap (λ (k : ℕ). arePlaces k (drop headWords ws)) e)
 
@@ -70,19 +81,22 @@ loop-less c = omega arith
 loop-again : tie.Need-loop-again Inv-loop μ-loop
 loop-again c =
     let p = c .before in
-    let s = p .before .before .before .before in
-    let ws = s .before .before .before .before .before .args .words .now in
+    let s = loop p in
+    let ws = entry-from-else2 (s .before) .args .words .now in
     let i = s .loop .i in
     let n = countIn ws in
-    let e : wordsTo i + eachWords ≡ wordsTo (i + 1) = omega arith in
-    (omega arith, s .loop .inv .1 ∙ (look-on (n - i) (n - (i + 1)) (wordsTo i) ws (omega arith) (place-at ws (wordsTo i) ∙ (sym (p .is-phase .ensures) ∙ c .if3 .taken)) ∙ ap (λ (k : ℕ). arePlaces (n - (i + 1)) (drop k ws)) e))
+    let e : wordsTo i + eachWords ≡ wordsTo (i + 1) = omega arith in (
+      omega arith,
+      s .loop .inv .1 ∙ (look-on (n - i) (n - (i + 1)) (wordsTo i) ws (omega arith) (place-at ws (wordsTo i) ∙ (sym (p .is-phase .ensures) ∙ c .if3 .taken))
+          ∙ ap (λ (k : ℕ). arePlaces (n - (i + 1)) (drop k ws)) e),
+    )
 
 returns-3 : tie.Need-returns-3 Inv-loop μ-loop
 returns-3 c =
     let p = c .before in
-    let s = p .before .before .before .before in
+    let s = loop p in
     let f = s .before in
-    let ws = f .before .before .before .before .args .words .now in
+    let ws = entry-from-else2 f .args .words .now in
     let i = s .loop .i in
     let n = countIn ws in
     sym
@@ -93,7 +107,7 @@ returns-4 : tie.Need-returns-4 Inv-loop μ-loop
 returns-4 c =
     let s = c .before in
     let f = s .before in
-    let ws = f .before .before .before .before .args .words .now in
+    let ws = entry-from-else2 f .args .words .now in
     let e : countIn ws - s .loop .i ≡ 0 = omega arith in
     sym
     (held-by ws (f .before .before .if1 .left) (f .if2 .left)

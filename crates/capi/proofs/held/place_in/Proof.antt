@@ -7,6 +7,13 @@ use borrow.Author.Needs.{needs}
 use Rattle.capi.proofs.held.place_in.Statement.{statement}
 use Rattle.capi.proofs.held.place_in.Tie as tie
 
+-- the state after `phase-of`
+abbrev phase-of-from-shared-slice-known8 : tie.After-shared-slice-known8 → tie.After-phase-of
+phase-of-from-shared-slice-known8 c = c .before .before .before .before
+
+abbrev phase-of-from-shared-slice-known9 : tie.After-shared-slice-known9 → tie.After-phase-of
+phase-of-from-shared-slice-known9 c = phase-of-from-shared-slice-known8 (c .before)
+
 add-phase-of : tie.Need-add-phase-of
 add-phase-of c = omega arith
 
@@ -80,7 +87,7 @@ shared-slice-read-t25 : tie.Need-shared-slice-read-t25
 shared-slice-read-t25 c = omega arith
 
 returns : tie.Need-returns
-returns c = simp (c .before .before .before .before .before .phase-of .ensures, getD-drop, add-zero)
+returns c = simp (phase-of-from-shared-slice-known9 c .phase-of .ensures, getD-drop, add-zero)
 
 pub place-in-spec : {M : Type 1} → statement M
 place-in-spec =

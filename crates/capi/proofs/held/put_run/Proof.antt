@@ -26,7 +26,8 @@ start ws vs r e = e ∙ ap (λ (l : List ℕ). encodeTo 0 r ++ l) (sym (head-beh
 one-more : (r : Run) (i : ℕ) → i < length (r .tasks) → encodeTo (i + 1) r ≡ encodeTo i r ++ placeWords (getD (r .tasks) i pastEnd)
 unfolding encodeTo
 one-more r i h =
-    ap (λ (l : List ℕ). r .rule ∷ (r .cores ∷ (countWord (r .count) ∷ (lowWord (r .fence) ∷ (highWord (r .fence) ∷ l))))) (ap placesWords (take-more (r .tasks) i pastEnd h) ∙ words-more (take i (r .tasks)) (getD (r .tasks) i pastEnd))
+    ap (λ (l : List ℕ). r .rule ∷ (r .cores ∷ (countWord (r .count) ∷ (lowWord (r .fence) ∷ (highWord (r .fence) ∷ l)))))
+    (ap placesWords (take-more (r .tasks) i pastEnd h) ∙ words-more (take i (r .tasks)) (getD (r .tasks) i pastEnd))
 
 -- one place more, in a buffer that stays as long as it was
 next-place :
@@ -48,21 +49,42 @@ Inv-loop shown words₀ run i₀ words i = (i ≤ shown) × ((length words ≡ l
 abbrev μ-loop : tie.MeasureT-loop
 μ-loop shown words₀ run i₀ words i = shown - i
 
+-- the state after `put-head`
+abbrev put-head : tie.At-loop Inv-loop μ-loop → tie.After-put-head Inv-loop μ-loop
+put-head c = c .before .before .before
+
+-- the state at the head of the loop
+abbrev loop : tie.After-of-phase Inv-loop μ-loop → tie.At-loop Inv-loop μ-loop
+loop c = c .before .before .before
+
+-- the state at the call
+abbrev entry-from-put-head : tie.After-put-head Inv-loop μ-loop → tie.Start Inv-loop μ-loop
+entry-from-put-head c = c .before .before .before
+
+abbrev entry-from-slice-known2 : tie.After-slice-known2 Inv-loop μ-loop → tie.Start Inv-loop μ-loop
+entry-from-slice-known2 c = entry-from-put-head (c .before .before)
+
+-- the state in the loop
+abbrev in-loop : tie.After-put-place-arg Inv-loop μ-loop → tie.In-loop Inv-loop μ-loop
+in-loop c = c .before .before .before
+
 -- the buffer stays as long as it was
 abbrev head-of : tie.After-put-head Inv-loop μ-loop → List ℕ
 head-of c = c .put-head .last .1 .0
 
-head-long : (c : tie.After-put-head Inv-loop μ-loop) → length (head-of c) ≡ length (c .before .before .before .args .words .now)
-head-long c = head-length (c .before .before .before .args .words .now) (head-of c) (c .before .before .before .args .t1) (c .put-head .ensures) (omega (arith, c .before .before .before .pre .1))
+head-long : (c : tie.After-put-head Inv-loop μ-loop) → length (head-of c) ≡ length (entry-from-put-head c .args .words .now)
+head-long c =
+    let entry = entry-from-put-head c in
+    head-length (entry .args .words .now) (head-of c) (entry .args .t1) (c .put-head .ensures) (omega (arith, entry .pre .1))
 
 long : (c : tie.At-loop Inv-loop μ-loop) → runWords ≤ length (c .loop .words)
-long c = omega (arith, c .loop .inv .1 .0, head-long (c .before .before .before), c .before .before .before .before .before .before .pre .1)
+long c = omega (arith, c .loop .inv .1 .0, head-long (put-head c), entry-from-slice-known2 (c .before) .pre .1)
 
 put-head-requires : tie.Need-put-head-requires Inv-loop μ-loop
 put-head-requires c κs = omega (arith, c .before .before .pre .1)
 
 loop-holds : tie.Need-loop-holds Inv-loop μ-loop
-loop-holds c = (omega arith, (refl, start (c .before .before .before .before .before .args .words .now) (head-of (c .before .before)) (c .before .before .before .before .before .args .t1) (c .before .before .put-head .ensures)))
+loop-holds c = (omega arith, (refl, start (entry-from-slice-known2 c .args .words .now) (head-of (c .before .before)) (entry-from-slice-known2 c .args .t1) (c .before .before .put-head .ensures)))
 
 mul-task : tie.Need-mul-task Inv-loop μ-loop
 mul-task c = omega arith
@@ -82,11 +104,11 @@ of-phase-requires c κs = search needs
 mul-put-place : tie.Need-mul-put-place Inv-loop μ-loop
 mul-put-place c = omega arith
 
-in-reach : (c : tie.After-of-phase Inv-loop μ-loop) → wordsTo (c .before .before .before .loop .i) ≤ length (c .before .before .before .loop .words)
+in-reach : (c : tie.After-of-phase Inv-loop μ-loop) → wordsTo (loop c .loop .i) ≤ length (loop c .loop .words)
 in-reach c =
-    let s = c .before .before .before in
+    let s = loop c in
     let l = c .before .before .loop-test .taken in
-    omega (arith, long s, s .before .before .before .before .before .before .pre .0)
+    omega (arith, long s, entry-from-slice-known2 (s .before) .pre .0)
 
 sub-put-place : tie.Need-sub-put-place Inv-loop μ-loop
 sub-put-place c = in-reach c
@@ -99,11 +121,11 @@ part-put-place-end c = omega arith
 
 put-place-requires : tie.Need-put-place-requires Inv-loop μ-loop
 put-place-requires c κs =
-    let s = c .before .before .before .before in
+    let s = loop (c .before) in
     let words = s .loop .words in
-    let l = c .before .before .before .loop-test .taken in
+    let l = in-loop c .loop-test .taken in
     let e = ap length (part-to-end words (wordsTo (s .loop .i))) ∙ length-drop (wordsTo (s .loop .i)) words in
-    omega (arith, long s, s .before .before .before .before .before .before .pre .0)
+    omega (arith, long s, entry-from-slice-known2 (s .before) .pre .0)
 
 add-i : tie.Need-add-i Inv-loop μ-loop
 add-i c = omega arith
@@ -115,8 +137,8 @@ loop-again : tie.Need-loop-again Inv-loop μ-loop
 loop-again c =
     let p = c .before .before in
     let o = p .before .before in
-    let s = o .before .before .before in
-    let g = s .before .before .before .before .before .before in
+    let s = loop o in
+    let g = entry-from-slice-known2 (s .before) in
     let a = g .args in
     let i = s .loop .i in
     let at = wordsTo i in
@@ -124,22 +146,22 @@ loop-again c =
     let len : length (a .t1 .tasks) ≡ places = simp length-map at (g .good .0 .1 .1 .1 .1 .1 .1 .0 .1 .0 .1) in
     let l = o .before .before .loop-test .taken in
     let t = getD (a .t1 .tasks) i pastEnd in
-    let w = head-of (s .before .before .before) in
+    let w = head-of (put-head s) in
     let put = p .put-place .ensures ∙ ap (λ (ph : Told). placeWith t ph ++ drop eachWords (take (length words - at) (drop at words))) (o .of-phase .ensures) in
     (omega arith, next-place words w _ (a .t1) i (omega arith) (s .loop .inv .1 .0) (s .loop .inv .1 .1) (in-reach o) (c .before .words2 .given .1) put)
 
 same-length : tie.Need-same-length Inv-loop μ-loop
-same-length c = c .before .loop .inv .1 .0 ∙ head-long (c .before .before .before .before)
+same-length c = c .before .loop .inv .1 .0 ∙ head-long (put-head (c .before))
 
 returns : tie.Need-returns Inv-loop μ-loop
 returns c =
     let s = c .before in
-    let a = s .before .before .before .before .before .before .args in
+    let a = entry-from-slice-known2 (s .before) .args in
     let e : s .loop .i ≡ a .shown = omega arith in
-    let w = head-of (s .before .before .before) in
+    let w = head-of (put-head s) in
     s .loop .inv .1 .1
     ∙ (ap (λ (k : ℕ). overwritten k (a .t1) w) e
-    ∙ ap (λ (l : List ℕ). encodeTo (a .shown) (a .t1) ++ l) (head-behind (a .words .now) w (a .t1) (eachWords * a .shown) (s .before .before .before .put-head .ensures)))
+    ∙ ap (λ (l : List ℕ). encodeTo (a .shown) (a .t1) ++ l) (head-behind (a .words .now) w (a .t1) (eachWords * a .shown) (put-head s .put-head .ensures)))
 
 pub put-run-spec : {M : Type 1} → statement M
 put-run-spec =

@@ -25,7 +25,8 @@ start : (ws : List ℕ) {ts : List Task} → ts ≡ made → ts ≡ placesIn 0 (
 unfolding placesIn
 start ws e = e
 
-read : (ws : List ℕ) {ts : List Task} {f : ℕ} → f ≡ fenceIn ws → ts ≡ padded (countIn ws) (placesIn (countIn ws) (drop headWords ws)) → _≡_ {A = Run} (record { rule = getD ws 0 0; cores = getD ws 1 0; fence = f; count = countIn ws; tasks = ts }) (runIn ws)
+read : (ws : List ℕ) {ts : List Task} {f : ℕ} → f ≡ fenceIn ws → ts ≡ padded (countIn ws) (placesIn (countIn ws) (drop headWords ws))
+    → _≡_ {A = Run} (record { rule = getD ws 0 0; cores = getD ws 1 0; fence = f; count = countIn ws; tasks = ts }) (runIn ws)
 unfolding runIn
 read ws x e = λ i. record { rule = getD ws 0 0; cores = getD ws 1 0; fence = x i; count = countIn ws; tasks = e i }
 
@@ -34,6 +35,17 @@ Inv-loop words count tasks₀ i₀ tasks i = (i ≤ count) × (tasks ≡ placesI
 
 abbrev μ-loop : tie.MeasureT-loop
 μ-loop words count tasks₀ i₀ tasks i = count - i
+
+-- the state at the call
+abbrev entry : tie.After-unused Inv-loop μ-loop → tie.Start Inv-loop μ-loop
+entry c = c .before .before .before
+
+-- the state at the head of the loop
+abbrev loop-from-fence-of : tie.After-fence-of Inv-loop μ-loop → tie.At-loop Inv-loop μ-loop
+loop-from-fence-of c = c .before .before .before .before
+
+abbrev loop-from-shared-slice-known6 : tie.After-shared-slice-known6 Inv-loop μ-loop → tie.At-loop Inv-loop μ-loop
+loop-from-shared-slice-known6 c = loop-from-fence-of (c .before .before)
 
 shared-slice-read-count : tie.Need-shared-slice-read-count Inv-loop μ-loop
 shared-slice-read-count c = omega arith
@@ -45,7 +57,7 @@ unused-requires : tie.Need-unused-requires Inv-loop μ-loop
 unused-requires c κs = search needs
 
 loop-holds : tie.Need-loop-holds Inv-loop μ-loop
-loop-holds c = (omega arith, start (c .before .before .before .args .words .now) (ap (replicate places) (c .unused .ensures)))
+loop-holds c = (omega arith, start (entry c .args .words .now) (ap (replicate places) (c .unused .ensures)))
 
 mul-place-in : tie.Need-mul-place-in Inv-loop μ-loop
 mul-place-in c = omega arith
@@ -72,7 +84,7 @@ loop-again : tie.Need-loop-again Inv-loop μ-loop
 loop-again c =
     let p = c .place-in in
     let s = c .before .before in
-    let ws = s .before .before .before .before .args .words .now in
+    let ws = entry (s .before) .args .words .now in
     let i = s .loop .i in
     let more : placesIn (i + 1) (drop headWords ws) ≡ placesIn i (drop headWords ws) ++ (p .result ∷ []) =
     ap (λ (k : ℕ). placesIn k (drop headWords ws)) (add-one i)
@@ -97,8 +109,8 @@ shared-slice-read-t17 c = omega arith
 
 returns : tie.Need-returns Inv-loop μ-loop
 returns c =
-    let s = c .before .before .before .before .before .before in
-    let ws = s .before .before .before .before .args .words .now in
+    let s = loop-from-shared-slice-known6 c in
+    let ws = entry (s .before) .args .words .now in
     let n = countIn ws in
     let e : s .loop .i ≡ n = omega arith in
     let tasks : s .loop .tasks ≡ padded n (placesIn n (drop headWords ws)) =

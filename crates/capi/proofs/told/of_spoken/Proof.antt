@@ -7,11 +7,15 @@ use Rattle.sentence.specs.Spoken.{spokenTold}
 use Rattle.capi.proofs.told.of_spoken.Statement.{statement}
 use Rattle.capi.proofs.told.of_spoken.Tie as tie
 
+-- the state at the call
+abbrev entry : tie.After-known-told → tie.Start
+entry c = c .before .before .before
+
 enum-known-spoken : tie.Need-enum-known-spoken
 enum-known-spoken c = search needs
 
 cast-t6 : tie.Need-cast-t6
-cast-t6 c = let l = c .before .before .before .pre _ (ap spokenTold (c .before .spoken .given .1)) in omega (arith, l)
+cast-t6 c = let l = entry c .pre _ (ap spokenTold (c .before .spoken .given .1)) in omega (arith, l)
 
 enum-known-spoken-2 : tie.Need-enum-known-spoken-2
 enum-known-spoken-2 c = search needs

@@ -26,6 +26,17 @@ Inv-loop reports numbers₀ last₀ i₀ numbers last i =
 abbrev μ-loop : tie.MeasureT-loop
 μ-loop reports numbers₀ last₀ i₀ numbers last i = length reports - i
 
+-- the state at the call
+abbrev entry : tie.At-loop Inv-loop μ-loop → tie.Start Inv-loop μ-loop
+entry c = c .before .before .before
+
+-- the state at the head of the loop
+abbrev loop-from-code : tie.After-code Inv-loop μ-loop → tie.At-loop Inv-loop μ-loop
+loop-from-code c = c .before .before .before .before
+
+abbrev loop-from-next : tie.After-next Inv-loop μ-loop → tie.At-loop Inv-loop μ-loop
+loop-from-next c = loop-from-code (c .before)
+
 loop-holds : tie.Need-loop-holds Inv-loop μ-loop
 unfolding after answers
 loop-holds c = search needs
@@ -56,8 +67,8 @@ loop-less c = omega arith
 
 loop-again : tie.Need-loop-again Inv-loop μ-loop
 loop-again c =
-    let s = c .before .before .before .before .before in
-    let a = s .before .before .before .args in
+    let s = loop-from-next c in
+    let a = entry s .args in
     let xs = a .reports .now in
     let i = s .loop .i in
     let x = getD xs i 0 in
@@ -86,7 +97,7 @@ same-length c = c .before .loop .inv .1 .0
 returns : tie.Need-returns Inv-loop μ-loop
 returns c =
     let s = c .before in
-    let a = s .before .before .before .args in
+    let a = entry s .args in
     let xs = a .reports .now in
     let e : s .loop .i ≡ length xs = omega arith in
     let t : take (s .loop .i) xs ≡ xs = take-all (s .loop .i) xs (omega arith) in (

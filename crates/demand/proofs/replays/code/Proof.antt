@@ -5,6 +5,10 @@ use borrow.Author.Needs.{needs}
 use Rattle.demand.proofs.replays.code.Statement.{statement}
 use Rattle.demand.proofs.replays.code.Tie as tie
 
+-- the state at the call
+abbrev entry : tie.After-known-told → tie.Start
+entry c = c .before .before .before
+
 enum-told : tie.Need-enum-told
 enum-told c = search needs
 
@@ -12,10 +16,10 @@ enum-known-answer : tie.Need-enum-known-answer
 enum-known-answer c = search needs
 
 mul-result : tie.Need-mul-result
-mul-result c = let h = rw (c .before .answer .given .1) at (c .before .before .before .pre) in omega arith
+mul-result c = let h = rw (c .before .answer .given .1) at (entry c .pre) in omega arith
 
 add-result : tie.Need-add-result
-add-result c = let h = rw (c .before .answer .given .1) at (c .before .before .before .pre) in omega arith
+add-result c = let h = rw (c .before .answer .given .1) at (entry c .pre) in omega arith
 
 returns : tie.Need-returns
 returns c = search needs

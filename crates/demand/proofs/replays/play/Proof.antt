@@ -15,18 +15,34 @@ use Rattle.demand.proofs.replays.play.Statement.{statement}
 use Rattle.demand.proofs.replays.play.Tie as tie
 use Rattle.model.specs.Sizes.{mostCores}
 
+-- the state at the call
+abbrev entry : tie.After-slice-known2 → tie.Start
+entry c = c .before .before .before
+
+-- the state after `put`
+abbrev put : tie.After-row-case → tie.After-put
+put c = c .before .before .before
+
+-- the state after `row`
+abbrev row-from-put : tie.After-put → tie.After-row
+row-from-put c = c .before .before .before
+
+-- the state after `advances`
+abbrev advances : tie.After-row → tie.After-advances
+advances c = c .before .before .before
+
 -- an outcome, part by part
 outcome : {x y : Replayed} {k l m n : List ℕ} → x ≡ y → k ≡ l → m ≡ n → _≡_ {A = Outcome} (record { answer = x; numbers = k; bytes = m }) (record { answer = y; numbers = l; bytes = n })
 outcome p q s = λ i. record { answer = p i; numbers = q i; bytes = s i }
 
 returns : tie.Need-returns
 returns c =
-    let a = c .before .before .before .before .args in
+    let a = entry (c .before) .args in
     sym (played-few (a .run) (a .reports .now) (a .numbers .now) (a .bytes .now) (c .if1 .taken))
 
 returns-2 : tie.Need-returns-2
 returns-2 c =
-    let a = c .before .before .before .before .before .args in
+    let a = entry (c .before .before) .args in
     sym (played-narrow (a .run) (a .reports .now) (a .numbers .now) (a .bytes .now) (c .if2 .taken))
 
 advances-requires : tie.Need-advances-requires
@@ -49,11 +65,11 @@ same-length-2 c = search needs
 
 returns-3 : tie.Need-returns-3
 returns-3 c =
-    let u = c .before .before .before in
-    let w = u .before .before .before in
-    let v = w .before .before .before in
+    let u = put c in
+    let w = row-from-put u in
+    let v = advances w in
     let f = v .before .before in
-    let a = f .before .before .before .before .before .args in
+    let a = entry (f .before .before) .args in
     let row : w .row .result ≡ rowOf (after (a .run) (a .reports .now)) = w .row .ensures .value ∙ ap rowOf (v .advances .ensures .0) in
     outcome
     (c .row-case .ensures ∙ ap (λ (q : Row). rowCase (q .answer)) row)

@@ -25,6 +25,13 @@ Inv-loop table tasks width₀ times₀ i₀ width times i =
 abbrev μ-loop : tie.MeasureT-loop
 μ-loop table tasks width₀ times₀ i₀ width times i = 32 - i
 
+-- the state at the call
+abbrev entry-from-past-loop : tie.After-loop Inv-loop μ-loop → tie.Start Inv-loop μ-loop
+entry-from-past-loop c = c .before .before .before
+
+abbrev entry-from-task : tie.After-task Inv-loop μ-loop → tie.Start Inv-loop μ-loop
+entry-from-task c = c .before .before .before .before
+
 -- the table's array has 32 tasks
 all : (c : tie.Start Inv-loop μ-loop) → list.length (c .args .table .tasks) ≡ 32
 all c = simp list.length-map at (c .good .0 .1 .1 .1 .1 .1 .1 .1 .0 .1 .0 .1)
@@ -85,7 +92,7 @@ loop-less c = omega arith
 
 loop-again : tie.Need-loop-again Inv-loop μ-loop
 loop-again c =
-    let s = c .before .before .before .before in
+    let s = entry-from-task c in
     let l = c .before .before .loop in
     let ts = s .args .table .tasks in
     let inside : l .i < 32 = omega arith in
@@ -102,7 +109,7 @@ loop-again c =
 
 returns : tie.Need-returns Inv-loop μ-loop
 returns c =
-    let s = c .before .before .before in
+    let s = entry-from-past-loop c in
     let l = c .before .loop in
     let t = s .args .table in
     let e : l .i ≡ 32 = omega arith in

@@ -37,20 +37,51 @@ Inv-ticks end setting width times pace₀ places₀ pace places =
 abbrev μ-ticks : tie.MeasureT-ticks
 μ-ticks end setting width times pace₀ places₀ pace places = end - pace .tick
 
+-- the state where the ways of the test `if2` meet
+abbrev joined2 : tie.After-places2 Inv-loop μ-loop Inv-ticks μ-ticks → tie.Joined2 Inv-loop μ-loop Inv-ticks μ-ticks
+joined2 c = c .before .before .before
+
+-- the state at the head of the loop
+abbrev loop : tie.Else3 Inv-loop μ-loop Inv-ticks μ-ticks → tie.At-loop Inv-loop μ-loop Inv-ticks μ-ticks
+loop c = c .before .before .before
+
+-- the state at the head of the loop `ticks`
+abbrev at-ticks-from-joined2 : tie.Joined2 Inv-loop μ-loop Inv-ticks μ-ticks → tie.At-ticks Inv-loop μ-loop Inv-ticks μ-ticks
+at-ticks-from-joined2 c = c .before .before .before .before
+
+abbrev at-ticks-from-then2 : tie.Then2 Inv-loop μ-loop Inv-ticks μ-ticks → tie.At-ticks Inv-loop μ-loop Inv-ticks μ-ticks
+at-ticks-from-then2 c = c .before .before .before .before
+
+-- the state where the test `if1` fails
+abbrev else1 : tie.In-loop Inv-loop μ-loop Inv-ticks μ-ticks → tie.Else1 Inv-loop μ-loop Inv-ticks μ-ticks
+else1 c = c .before .before .before .before
+
+-- the state after `columns-of`
+abbrev columns-of-from-start : tie.After-start Inv-loop μ-loop Inv-ticks μ-ticks → tie.After-columns-of Inv-loop μ-loop Inv-ticks μ-ticks
+columns-of-from-start c = c .before .before .before .before
+
+abbrev columns-of-from-places : tie.After-places Inv-loop μ-loop Inv-ticks μ-ticks → tie.After-columns-of Inv-loop μ-loop Inv-ticks μ-ticks
+columns-of-from-places c = columns-of-from-start (c .before .before)
+
+-- the state at the call
+abbrev entry : tie.Else1 Inv-loop μ-loop Inv-ticks μ-ticks → tie.Start Inv-loop μ-loop Inv-ticks μ-ticks
+entry c = columns-of-from-places (c .before .before .before) .before
+
 -- THE PLACES. The table, and that the run begins as its own does
 abbrev table-of : tie.After-places Inv-loop μ-loop Inv-ticks μ-ticks → Loaded
-table-of p = p .before .before .before .before .before .before .before .args .table
+table-of p = columns-of-from-places p .before .args .table
 
 -- the run begins as that of table t does
 abbrev Of : tie.After-places Inv-loop μ-loop Inv-ticks μ-ticks → Loaded → Type 0
 Of p t =
-    Begins t (p .before .before .before .before .before .before .columns-of .result .setting) (p .before .before .before .before .before .before .columns-of .result .width)
-    (p .before .before .before .before .before .before .columns-of .result .times) (p .before .before .start .result .pace) (p .before .before .start .result .places)
+    let co = columns-of-from-places p in
+    Begins t (co .columns-of .result .setting) (co .columns-of .result .width)
+    (co .columns-of .result .times) (p .before .before .start .result .pace) (p .before .before .start .result .places)
 
 own : (p : tie.After-places Inv-loop μ-loop Inv-ticks μ-ticks) → Of p (table-of p)
 own p = record {
-  fit = p .before .before .before .before .before .before .before .pre .0;
-  numbers = p .before .before .before .before .before .before .columns-of .ensures;
+  fit = columns-of-from-places p .before .pre .0;
+  numbers = columns-of-from-places p .columns-of .ensures;
   stand = p .before .before .start .ensures .0;
 }
 
@@ -62,13 +93,13 @@ follows : (k : tie.At-ticks Inv-loop μ-loop Inv-ticks μ-ticks) (t : Loaded) �
 follows k t b = k .ticks .inv t b .0
 
 -- in a tick that is entered it is before the end, and so small
-early : (e : tie.Else1 Inv-loop μ-loop Inv-ticks μ-ticks) → e .before .before .ticks .pace .tick < e .before .before .before .before .before .before .before .before .before .before .args .end
+early : (e : tie.Else1 Inv-loop μ-loop Inv-ticks μ-ticks) → e .before .before .ticks .pace .tick < entry e .args .end
 early e =
     let k = e .before .before in
     omega (arith, k .ticks .inv (table-of (k .before)) (own (k .before)) .1, e .if1 .left)
 
 small : (e : tie.Else1 Inv-loop μ-loop Inv-ticks μ-ticks) → e .before .before .ticks .pace .tick ≤ 1000000000
-small e = omega (arith, early e, e .before .before .before .before .before .before .before .before .before .before .pre .1, e .before .before .before .before .before .before .before .before .before .before .pre .0 .limit)
+small e = omega (arith, early e, entry e .pre .1, entry e .pre .0 .limit)
 
 -- in the walk: the first claimant that is left is one of 32 places
 inside : (c : tie.In-loop Inv-loop μ-loop Inv-ticks μ-ticks) → first (c .before .loop .rest) < mostTasks
@@ -78,9 +109,9 @@ moment : (c : tie.In-loop Inv-loop μ-loop Inv-ticks μ-ticks) (xs : List ℕ) �
 moment c xs = part-at mostTasks xs (first (c .before .loop .rest)) (inside c)
 
 -- where the walk has ended or was not needed no deadline of the tick is missed
-met : (c : tie.Joined2 Inv-loop μ-loop Inv-ticks μ-ticks) (t : Loaded) → Of (c .before .before .before .before .before) t → (q : ℕ) → ¬ Missed (tableIn t) q (c .before .before .before .before .ticks .pace .tick)
+met : (c : tie.Joined2 Inv-loop μ-loop Inv-ticks μ-ticks) (t : Loaded) → Of (at-ticks-from-joined2 c .before) t → (q : ℕ) → ¬ Missed (tableIn t) q (at-ticks-from-joined2 c .ticks .pace .tick)
 met c t b =
-    let k = c .before .before .before .before in
+    let k = at-ticks-from-joined2 c in
     ⊎-elim
     (λ w. look-ends t (b .fit) (stand-of k) (follows k t b) (w .1 .rest) (w .1 .inv) (w .2 .left))
     (λ w. look-skipped t (b .fit) (stand-of k) (follows k t b) (w .left))
@@ -101,7 +132,7 @@ ticks-holds c =
 
 loop-holds : tie.Need-loop-holds Inv-loop μ-loop Inv-ticks μ-ticks
 loop-holds c =
-    let k = c .before .before .before .before in
+    let k = at-ticks-from-then2 c in
     look-begins (machineOf (k .ticks .places) (k .ticks .pace .claiming)) (k .ticks .pace .tick) (follows k (table-of (k .before)) (own (k .before)) .small)
 
 cast-at : tie.Need-cast-at Inv-loop μ-loop Inv-ticks μ-ticks
@@ -123,30 +154,30 @@ sub-rest : tie.Need-sub-rest Inv-loop μ-loop Inv-ticks μ-ticks
 sub-rest c = omega (arith, c .before .before .loop-test .taken)
 
 loop-less : tie.Need-loop-less Inv-loop μ-loop Inv-ticks μ-ticks
-loop-less c = at-first _ _ (c .before .before .before .loop .rest) (c .before .before .before .loop .inv) (c .before .before .loop-test .taken) .falls
+loop-less c = at-first _ _ (loop c .loop .rest) (loop c .loop .inv) (c .before .before .loop-test .taken) .falls
 
 loop-again : tie.Need-loop-again Inv-loop μ-loop Inv-ticks μ-ticks
 loop-again c =
     let n = c .before .before in
-    let k = n .before .before .before .before .before .before in
+    let k = at-ticks-from-then2 (n .before .before) in
     look-passes _ _ (n .before .loop .rest) (n .before .loop .inv) (n .loop-test .taken) (λ e. c .if3 .left (sym (moment n (k .ticks .places)) ∙ e))
 
 step-requires : tie.Need-step-requires Inv-loop μ-loop Inv-ticks μ-ticks
 step-requires c κs =
-    let j = c .before .before .before in
-    let k = j .before .before .before .before in
+    let j = joined2 c in
+    let k = at-ticks-from-joined2 j in
     let t = table-of (k .before) in
     let b = own (k .before) in
     subst (λ (n : Numbers). Steppable n (stand-of k)) (sym (b .numbers))
     (steppable t (b .fit) (stand-of k) (follows k t b) (met j t b) (small (j .before .before)))
 
 ticks-less : tie.Need-ticks-less Inv-loop μ-loop Inv-ticks μ-ticks
-ticks-less c = omega (arith, tick-on _ _ _ (c .step .ensures), early (c .before .before .before .before .before .before))
+ticks-less c = omega (arith, tick-on _ _ _ (c .step .ensures), early (joined2 (c .before) .before .before))
 
 ticks-again : tie.Need-ticks-again Inv-loop μ-loop Inv-ticks μ-ticks
 ticks-again c =
-    let j = c .before .before .before .before in
-    let k = j .before .before .before .before in
+    let j = joined2 (c .before) in
+    let k = at-ticks-from-joined2 j in
     λ t b. (
       follows-on t (b .fit) (stand-of k) (follows k t b) (met j t b) _ (c .step .ensures ∙ ap (λ (n : Numbers). next n (stand-of k)) (b .numbers)),
       omega (arith, tick-on _ _ _ (c .step .ensures), early (j .before .before)),
@@ -162,10 +193,10 @@ returns c =
 returns-2 : tie.Need-returns-2 Inv-loop μ-loop Inv-ticks μ-ticks
 returns-2 c =
     let n = c .before .before in
-    let k = n .before .before .before .before .before .before in
+    let k = at-ticks-from-then2 (n .before .before) in
     let t = table-of (k .before) in
     let b = own (k .before) in
-    by-first (tableIn t) (b .fit .sound) _ (k .ticks .pace .tick) (first (n .before .loop .rest) + 1) (early (n .before .before .before .before))
+    by-first (tableIn t) (b .fit .sound) _ (k .ticks .pace .tick) (first (n .before .loop .rest) + 1) (early (else1 n))
     (look-misses t (b .fit) (stand-of k) (follows k t b) (n .before .loop .rest) (n .before .loop .inv) (n .loop-test .taken)
     (moment n (k .ticks .places) ∙ c .if3 .taken))
 

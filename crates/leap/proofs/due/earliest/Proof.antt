@@ -16,6 +16,13 @@ Inv-loop count places bell₀ i₀ bell i = (i ≤ count) × (bell ≡ soonest i
 abbrev μ-loop : tie.MeasureT-loop
 μ-loop count places bell₀ i₀ bell i = count - i
 
+-- the state at the call
+abbrev entry-from-in-loop : tie.In-loop Inv-loop μ-loop → tie.Start Inv-loop μ-loop
+entry-from-in-loop c = c .before .before .before
+
+abbrev entry-from-past-loop : tie.After-loop Inv-loop μ-loop → tie.Start Inv-loop μ-loop
+entry-from-past-loop c = c .before .before .before
+
 element-copy-out-bell : tie.Need-element-copy-out-bell Inv-loop μ-loop
 element-copy-out-bell c = search needs
 
@@ -24,7 +31,7 @@ unfolding soonest
 loop-holds c = (omega arith, sym (part-at 32 (c .before .args .places .now) 0 (omega arith)))
 
 inside : (c : tie.In-loop Inv-loop μ-loop) → c .before .loop .i < 32
-inside c = omega (arith, c .loop-test .taken, c .before .before .before .pre)
+inside c = omega (arith, c .loop-test .taken, entry-from-in-loop c .pre)
 
 add-sooner : tie.Need-add-sooner Inv-loop μ-loop
 add-sooner c = omega (arith, inside c)
@@ -48,7 +55,7 @@ loop-again : tie.Need-loop-again Inv-loop μ-loop
 loop-again c =
     let n = c .before .before in
     let l = n .before .loop in
-    let xs = n .before .before .before .args .places .now in (
+    let xs = entry-from-in-loop n .args .places .now in (
       omega (arith, n .loop-test .taken),
       soonest-more (l .i) (l .bell) (c .sooner .result) (part 32 xs) (l .inv .1)
           (c .sooner .ensures ∙ ap (λ (x : ℕ). min (l .bell) x) (sym (part-at 32 xs (l .i) (inside n)))),
@@ -56,7 +63,7 @@ loop-again c =
 
 returns : tie.Need-returns Inv-loop μ-loop
 returns c =
-    let a = c .before .before .before .args in
+    let a = entry-from-past-loop c .args in
     let l = c .before .loop in
     let e : l .i ≡ a .count = omega (arith, l .inv .0, c .loop-test .left) in
     l .inv .1 ∙ ap (λ (n : ℕ). soonest n (part 32 (a .places .now))) e

@@ -49,28 +49,55 @@ Inv-leaps end setting width times pace₀ places₀ pace places = (t : Loaded) �
 abbrev μ-leaps : tie.MeasureT-leaps
 μ-leaps end setting width times pace₀ places₀ pace places = end - pace .tick
 
+-- the state past the loop
+abbrev past-loop : tie.After-places2 Inv-loop μ-loop Inv-leaps μ-leaps → tie.After-loop Inv-loop μ-loop Inv-leaps μ-leaps
+past-loop c = c .before .before .before
+
+-- the state where the test `if1` fails
+abbrev else1-from-past-loop : tie.After-loop Inv-loop μ-loop Inv-leaps μ-leaps → tie.Else1 Inv-loop μ-loop Inv-leaps μ-leaps
+else1-from-past-loop c = c .before .before .before
+
+abbrev else1-from-in-loop : tie.In-loop Inv-loop μ-loop Inv-leaps μ-leaps → tie.Else1 Inv-loop μ-loop Inv-leaps μ-leaps
+else1-from-in-loop c = c .before .before .before
+
+-- the state at the head of the loop `leaps`
+abbrev at-leaps-from-struct-known2 : tie.After-struct-known2 Inv-loop μ-loop Inv-leaps μ-leaps → tie.At-leaps Inv-loop μ-loop Inv-leaps μ-leaps
+at-leaps-from-struct-known2 c = c .before .before .before
+
+abbrev at-leaps-from-loop : tie.At-loop Inv-loop μ-loop Inv-leaps μ-leaps → tie.At-leaps Inv-loop μ-loop Inv-leaps μ-leaps
+at-leaps-from-loop c = c .before .before .before .before
+
+-- the state after `columns-of`
+abbrev columns-of-from-start : tie.After-start Inv-loop μ-loop Inv-leaps μ-leaps → tie.After-columns-of Inv-loop μ-loop Inv-leaps μ-leaps
+columns-of-from-start c = c .before .before .before .before
+
+abbrev columns-of-from-places : tie.After-places Inv-loop μ-loop Inv-leaps μ-leaps → tie.After-columns-of Inv-loop μ-loop Inv-leaps μ-leaps
+columns-of-from-places c = columns-of-from-start (c .before .before)
+
 -- THE PLACES. The table, and that the run begins as its own does
 abbrev table-of : tie.After-places Inv-loop μ-loop Inv-leaps μ-leaps → Loaded
-table-of p = p .before .before .before .before .before .before .before .args .table
+table-of p = columns-of-from-places p .before .args .table
 
 -- the run begins as that of table t does
 abbrev Of : tie.After-places Inv-loop μ-loop Inv-leaps μ-leaps → Loaded → Type 0
 Of p t =
-    Run t (p .before .before .before .before .before .before .columns-of .result .setting) (p .before .before .before .before .before .before .columns-of .result .width)
-    (p .before .before .before .before .before .before .columns-of .result .times) (p .before .before .start .result .pace) (p .before .before .start .result .places)
+    let co = columns-of-from-places p in
+    Run t (co .columns-of .result .setting) (co .columns-of .result .width)
+    (co .columns-of .result .times) (p .before .before .start .result .pace) (p .before .before .start .result .places)
 
 own : (p : tie.After-places Inv-loop μ-loop Inv-leaps μ-leaps) → Of p (table-of p)
 own p = record {
-  fit = p .before .before .before .before .before .before .before .pre .0;
-  numbers = p .before .before .before .before .before .before .columns-of .ensures;
+  fit = columns-of-from-places p .before .pre .0;
+  numbers = columns-of-from-places p .columns-of .ensures;
   stand = p .before .before .start .ensures;
 }
 
 -- the table's numbers, and the run at a moment
 abbrev nums : tie.After-places Inv-loop μ-loop Inv-leaps μ-leaps → Numbers
 nums p =
-    numbersBy (p .before .before .before .before .before .before .columns-of .result .setting) (p .before .before .before .before .before .before .columns-of .result .width)
-    (p .before .before .before .before .before .before .columns-of .result .times)
+    let co = columns-of-from-places p in
+    numbersBy (co .columns-of .result .setting) (co .columns-of .result .width)
+    (co .columns-of .result .times)
 
 abbrev stand-of : tie.At-leaps Inv-loop μ-loop Inv-leaps μ-leaps → Stand
 stand-of k = standAt (k .leaps .pace) (k .leaps .places)
@@ -86,15 +113,17 @@ left-at : (c : tie.In-loop Inv-loop μ-loop Inv-leaps μ-leaps) (xs : List ℕ) 
 left-at c xs = front-at xs (lowest (c .before .loop .rest)) (inside c)
 
 -- where the walk has ended no deadline of the tick is missed
-met : (c : tie.After-loop Inv-loop μ-loop Inv-leaps μ-leaps) (t : Loaded) → Of (c .before .before .before .before .before .before) t → (q : ℕ) → ¬ Missed (tableIn t) q (c .before .before .before .before .before .leaps .pace .tick)
+met : (c : tie.After-loop Inv-loop μ-loop Inv-leaps μ-leaps) (t : Loaded) → Of (at-leaps-from-loop (c .before) .before) t
+    → (q : ℕ) → ¬ Missed (tableIn t) q (at-leaps-from-loop (c .before) .leaps .pace .tick)
 met c t b =
-    let k = c .before .before .before .before .before in
+    let k = at-leaps-from-loop (c .before) in
     look-ends t (b .fit) (stand-of k) (stands k t b) (c .before .loop .rest) (c .before .loop .inv) (c .loop-test .left)
 
 -- so a leap may begin
-begins : (c : tie.After-loop Inv-loop μ-loop Inv-leaps μ-leaps) → Begins (table-of (c .before .before .before .before .before .before)) (nums (c .before .before .before .before .before .before)) (stand-of (c .before .before .before .before .before))
+begins : (c : tie.After-loop Inv-loop μ-loop Inv-leaps μ-leaps) → Begins (table-of (at-leaps-from-loop (c .before) .before))
+    (nums (at-leaps-from-loop (c .before) .before)) (stand-of (at-leaps-from-loop (c .before)))
 begins c =
-    let e = c .before .before .before in
+    let e = else1-from-past-loop c in
     let k = e .before .before in
     let p = k .before in
     let b = own p in
@@ -103,7 +132,7 @@ begins c =
       numbers = b .numbers;
       stands = stands k (table-of p) b;
       met = met c (table-of p) b;
-      early = omega (arith, e .if1 .left, p .before .before .before .before .before .before .before .pre .1);
+      early = omega (arith, e .if1 .left, columns-of-from-places p .before .pre .1);
     }
 
 -- THE ANSWERS
@@ -119,7 +148,7 @@ leaps-holds c = λ t b. (0, (λ i p l. absurd (not-suc-le-zero l)), b .stand)
 
 loop-holds : tie.Need-loop-holds Inv-loop μ-loop Inv-leaps μ-leaps
 loop-holds c =
-    let k = c .before .before .before in
+    let k = at-leaps-from-struct-known2 c in
     look-begins (table-of (k .before)) (own (k .before) .fit) (stand-of k) (stands k (table-of (k .before)) (own (k .before)))
 
 cast-if2 : tie.Need-cast-if2 Inv-loop μ-loop Inv-leaps μ-leaps
@@ -143,25 +172,25 @@ loop-less c = at-lowest _ _ (c .before .before .loop .rest) (c .before .before .
 loop-again : tie.Need-loop-again Inv-loop μ-loop Inv-leaps μ-leaps
 loop-again c =
     let n = c .before in
-    let k = n .before .before .before .before .before in
+    let k = at-leaps-from-loop (n .before) in
     look-passes _ _ (n .before .loop .rest) (n .before .loop .inv) (n .loop-test .taken) (omega (arith, left-at n (k .leaps .places), c .if2 .left))
 
 leap-requires : tie.Need-leap-requires Inv-loop μ-loop Inv-leaps μ-leaps
 leap-requires c κs =
-    let a = c .before .before .before in
-    (table-of (a .before .before .before .before .before .before), begins a)
+    let a = past-loop c in
+    (table-of (at-leaps-from-loop (a .before) .before), begins a)
 
 leaps-less : tie.Need-leaps-less Inv-loop μ-loop Inv-leaps μ-leaps
 leaps-less c =
-    let a = c .before .before .before .before in
-    let e = a .before .before .before in
+    let a = past-loop (c .before) in
+    let e = else1-from-past-loop a in
     omega (arith, e .if1 .left, c .leap .ensures .lands _ (begins a) .next .after)
 
 leaps-again : tie.Need-leaps-again Inv-loop μ-loop Inv-leaps μ-leaps
 unfolding leaps
 leaps-again c =
-    let a = c .before .before .before .before in
-    let k = a .before .before .before .before .before in
+    let a = past-loop (c .before) in
+    let k = at-leaps-from-loop (a .before) in
     λ t b.
     let x = k .leaps .inv t b in
     let here : (q : ℕ) → ¬ Missed (tableIn t) q (leaps t (x .0) .tick) =
@@ -181,7 +210,7 @@ returns c =
 returns-2 : tie.Need-returns-2 Inv-loop μ-loop Inv-leaps μ-leaps
 returns-2 c =
     let n = c .before in
-    let e = n .before .before .before in
+    let e = else1-from-in-loop n in
     let k = e .before .before in
     let t = table-of (k .before) in
     let b = own (k .before) in

@@ -20,6 +20,24 @@ use Rattle.leap.proofs.Taken.{due-looked, due-skipped, chosen-kept, cho
 use Rattle.leap.proofs.stand.leap.Statement.{statement}
 use Rattle.leap.proofs.stand.leap.Tie as tie
 
+-- the state where the ways of the test `if2` meet
+abbrev joined2 : tie.After-shortest → tie.Joined2
+joined2 c = c .before .before .before
+
+-- the state at the call
+abbrev entry-from-joined2 : tie.Joined2 → tie.Start
+entry-from-joined2 c = c .before .before .before
+
+abbrev entry-from-turn-due-arg : tie.After-turn-due-arg → tie.Start
+entry-from-turn-due-arg c = c .before .before .before
+
+abbrev entry-from-pass : tie.After-pass → tie.Start
+entry-from-pass c = entry-from-joined2 (joined2 (c .before .before))
+
+-- the state after `shortest`
+abbrev shortest : tie.After-due-by → tie.After-shortest
+shortest c = c .before .before .before .before
+
 -- the table's numbers, and the run where the function begins
 abbrev nums : tie.Start → Numbers
 nums s = numbersBy (s .args .setting) (s .args .width .now) (s .args .times .now)
@@ -51,9 +69,9 @@ claims-of : (c : tie.Joined1) → c .if1 .claiming ≡ after (nums (c .before .b
 claims-of c = ap (λ (m : Machine). m .claiming) (after-of c .0)
 
 -- who is granted cores: kept, or chosen anew
-granted-of : (c : tie.Joined2) → c .if2 .granted ≡ grantedIn (nums (c .before .before .before)) (stand (c .before .before .before))
+granted-of : (c : tie.Joined2) → c .if2 .granted ≡ grantedIn (nums (entry-from-joined2 c)) (stand (entry-from-joined2 c))
 granted-of c =
-    let s = c .before .before .before in
+    let s = entry-from-joined2 c in
     let j = c .before in
     ⊎-elim
     (λ w. w .4 ∙ chosen-anew (nums s) (stand s) (j .if1 .claiming) _ (claims-of j) (w .0 .taken) (w .2 .ok)
@@ -62,7 +80,7 @@ granted-of c =
     (c .if2 .came)
 
 -- and for whom they were chosen
-chosen-of : (c : tie.Joined2) → c .if2 .chosen ≡ after (nums (c .before .before .before)) (stand (c .before .before .before)) .claiming
+chosen-of : (c : tie.Joined2) → c .if2 .chosen ≡ after (nums (entry-from-joined2 c)) (stand (entry-from-joined2 c)) .claiming
 chosen-of c =
     let j = c .before in
     ⊎-elim (λ w. w .3 ∙ claims-of j) (λ w. w .1 ∙ (sym (w .0 .left) ∙ claims-of j)) (c .if2 .came)
@@ -70,19 +88,19 @@ chosen-of c =
 -- how many ticks it takes
 ticks-of :
     (c : tie.After-shortest)
-    → c .shortest .result ≡ ticksIn (nums (c .before .before .before .before .before .before)) (stand (c .before .before .before .before .before .before))
+    → c .shortest .result ≡ ticksIn (nums (entry-from-joined2 (joined2 c))) (stand (entry-from-joined2 (joined2 c)))
 ticks-of c =
-    let k = c .before .before .before in
+    let k = joined2 c in
     let j = k .before in
     let s = j .before .before in
     ticks-are (nums s) (stand s) (machineOf (j .if1 .places) (j .if1 .claiming)) (j .if1 .bell) (k .if2 .granted) (c .shortest .result) (after-of j .0) (after-of j .1)
     (granted-of k) (c .shortest .ensures)
 
 turn-due-requires : tie.Need-turn-due-requires
-turn-due-requires c κs = going (c .before .before .before) .fits
+turn-due-requires c κs = going (entry-from-turn-due-arg c) .fits
 
 earliest-requires : tie.Need-earliest-requires
-earliest-requires c κs = going (c .before .before .before .before .before) .few
+earliest-requires c κs = going (entry-from-turn-due-arg (c .before .before)) .few
 
 open-cores-requires : tie.Need-open-cores-requires
 open-cores-requires c κs = search needs
@@ -101,7 +119,7 @@ shortest-requires c κs = search needs
 pass-requires : tie.Need-pass-requires
 pass-requires c κs =
     let h = c .before in
-    let k = h .before .before .before in
+    let k = joined2 h in
     let j = k .before in
     let s = j .before .before in
     let g = going s in
@@ -111,17 +129,17 @@ pass-requires c κs =
 add-landed : tie.Need-add-landed
 add-landed c =
     let h = c .before .before in
-    let j = h .before .before .before .before in
+    let j = joined2 h .before in
     let g = going (j .before .before) in
     omega (arith, ticks-of h, g .short .within, g .before, after-of j .1)
 
 due-by-requires : tie.Need-due-by-requires
-due-by-requires c κs = going (c .before .before .before .before .before .before .before .before .before) .few
+due-by-requires c κs = going (entry-from-pass (c .before)) .few
 
 returns : tie.Need-returns
 returns c =
-    let h = c .before .before .before .before in
-    let k = h .before .before .before in
+    let h = shortest c in
+    let k = joined2 h in
     let j = k .before in
     let s = j .before .before in
     let value =

@@ -10,6 +10,13 @@ use Rattle.leap.specs.Stand.{dueAt, soonest}
 use Rattle.leap.proofs.stand.start.Statement.{statement}
 use Rattle.leap.proofs.stand.start.Tie as tie
 
+-- the state after `start`
+abbrev start-from-places3 : tie.After-places3 → tie.After-start
+start-from-places3 c = c .before .before .before .before
+
+abbrev start-from-due-places : tie.After-due-places → tie.After-start
+start-from-due-places c = start-from-places3 (c .before)
+
 start-requires : tie.Need-start-requires
 start-requires c κs = search needs
 
@@ -21,8 +28,8 @@ due-places-requires c κs = search needs
 
 returns : tie.Need-returns
 returns c =
-    let t = c .before .before .before .before .before .before .args .table in
-    let made = c .before .before .before .before .before .start in
+    let t = start-from-due-places c .before .args .table in
+    let made = start-from-due-places c .start in
     let xs = made .result .places in
     let moment : part 32 xs ≡ map (λ x. x .offset) (t .tasks) = ap (λ (x : Stand). x .machine .moment) (made .ensures .0) in
     λ i. record {

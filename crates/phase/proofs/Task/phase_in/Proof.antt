@@ -5,6 +5,14 @@ use Rattle.phase.proofs.Phases.{idles-rule}
 use Rattle.phase.proofs.Task.phase_in.Statement.{statement}
 use Rattle.phase.proofs.Task.phase_in.Tie as tie
 
+-- the state after `phase2`
+abbrev phase2 : tie.After-struct-known3 → tie.After-phase2
+phase2 c = c .before .before .before
+
+-- the state after `phase3`
+abbrev phase3 : tie.After-struct-known5 → tie.After-phase3
+phase3 c = c .before .before .before
+
 enum-known-phase : tie.Need-enum-known-phase
 enum-known-phase c = search needs
 
@@ -21,10 +29,10 @@ returns : tie.Need-returns
 returns c = simp (c .before .before .phase .given .1)
 
 returns-2 : tie.Need-returns-2
-returns-2 c = simp (c .before .before .before .phase2 .given .1)
+returns-2 c = simp (phase2 c .phase2 .given .1)
 
 returns-3 : tie.Need-returns-3
-returns-3 c = simp (c .before .before .before .phase3 .given .1, idles-rule)
+returns-3 c = simp (phase3 c .phase3 .given .1, idles-rule)
 
 returns-4 : tie.Need-returns-4
 returns-4 c = simp (c .before .before .phase4 .given .1)

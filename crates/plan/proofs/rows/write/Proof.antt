@@ -28,30 +28,94 @@ Inv-loop table a b out₀ cores setting width times pace₀ places₀ shown₀ r
 abbrev μ-loop : tie.MeasureT-loop
 μ-loop table a b out₀ cores setting width times pace₀ places₀ shown₀ row₀ at₀ out pace places shown row at = b - pace .tick
 
+-- the state where the test `if1` holds
+abbrev then1-from-places2 : tie.After-places2 Inv-loop μ-loop → tie.Then1 Inv-loop μ-loop
+then1-from-places2 c = c .before .before .before
+
+-- the state after `places`
+abbrev places-from-then1 : tie.Then1 Inv-loop μ-loop → tie.After-places Inv-loop μ-loop
+places-from-then1 c = c .before .before .before
+
+-- the state after `step`
+abbrev step : tie.Joined3 Inv-loop μ-loop → tie.After-step Inv-loop μ-loop
+step c = c .before .before .before
+
+-- the state after `show`
+abbrev show : tie.After-places Inv-loop μ-loop → tie.After-show Inv-loop μ-loop
+show c = c .before .before .before
+
+-- the state where the ways of the test `if3` meet
+abbrev joined3 : tie.After-out Inv-loop μ-loop → tie.Joined3 Inv-loop μ-loop
+joined3 c = c .before .before .before
+
+-- the state where the test `if2` holds
+abbrev then2-from-put-arg : tie.After-put-arg Inv-loop μ-loop → tie.Then2 Inv-loop μ-loop
+then2-from-put-arg c = c .before .before .before
+
+abbrev then2-from-slice-known2 : tie.After-slice-known2 Inv-loop μ-loop → tie.Then2 Inv-loop μ-loop
+then2-from-slice-known2 c = then2-from-put-arg (c .before .before .before)
+
+-- the state at the head of the loop
+abbrev loop-from-places2 : tie.After-places2 Inv-loop μ-loop → tie.At-loop Inv-loop μ-loop
+loop-from-places2 c = then1-from-places2 c .before .before
+
+abbrev loop-from-joined3 : tie.Joined3 Inv-loop μ-loop → tie.At-loop Inv-loop μ-loop
+loop-from-joined3 c = loop-from-places2 (c .before .before .before .before)
+
+-- the state at the call
+abbrev entry-from-setting : tie.After-setting Inv-loop μ-loop → tie.Start Inv-loop μ-loop
+entry-from-setting c = c .before .before .before .before
+
+abbrev entry-from-width2 : tie.After-width2 Inv-loop μ-loop → tie.Start Inv-loop μ-loop
+entry-from-width2 c = entry-from-setting (c .before .before .before)
+
+-- the state after `columns-of`
+abbrev columns-of-from-width2 : tie.After-width2 Inv-loop μ-loop → tie.After-columns-of Inv-loop μ-loop
+columns-of-from-width2 c = c .before .before .before .before
+
+abbrev columns-of-from-places : tie.After-places Inv-loop μ-loop → tie.After-columns-of Inv-loop μ-loop
+columns-of-from-places c = columns-of-from-width2 (c .before .before .before .before)
+
+-- the state at the call
+abbrev entry-from-places : tie.After-places Inv-loop μ-loop → tie.Start Inv-loop μ-loop
+entry-from-places c = columns-of-from-places c .before .before .before
+
+-- the state where the test `if1` holds
+abbrev then1-from-slice-known2 : tie.After-slice-known2 Inv-loop μ-loop → tie.Then1 Inv-loop μ-loop
+then1-from-slice-known2 c = then1-from-places2 (then2-from-slice-known2 c .before .before)
+
+-- the state after `places`
+abbrev places-from-step : tie.After-step Inv-loop μ-loop → tie.After-places Inv-loop μ-loop
+places-from-step c = loop-from-places2 (c .before) .before
+
+abbrev places-from-width4 : tie.After-width4 Inv-loop μ-loop → tie.After-places Inv-loop μ-loop
+places-from-width4 c = places-from-step (c .before .before .before .before)
+
 -- THE PLACES. What the function is given, and the numbers that the run is stepped with
 abbrev table-of : tie.After-places Inv-loop μ-loop → Loaded
-table-of p = p .before .before .before .before .before .before .before .before .before .before .before .args .table
+table-of p = entry-from-places p .args .table
 
 abbrev first-of : tie.After-places Inv-loop μ-loop → ℕ
-first-of p = p .before .before .before .before .before .before .before .before .before .before .before .args .a
+first-of p = entry-from-places p .args .a
 
 abbrev last-of : tie.After-places Inv-loop μ-loop → ℕ
-last-of p = p .before .before .before .before .before .before .before .before .before .before .before .args .b
+last-of p = entry-from-places p .args .b
 
 abbrev found-of : tie.After-places Inv-loop μ-loop → List ℕ
-found-of p = p .before .before .before .before .before .before .before .before .before .before .before .args .out .now
+found-of p = entry-from-places p .args .out .now
 
 fit-of : (p : tie.After-places Inv-loop μ-loop) → Fit (table-of p)
-fit-of p = p .before .before .before .before .before .before .before .before .before .before .before .pre .0
+fit-of p = entry-from-places p .pre .0
 
 cores-of : (p : tie.After-places Inv-loop μ-loop) → table-of p .cores ≤ mostCores
-cores-of p = p .before .before .before .before .before .before .before .before .before .before .before .pre .1
+cores-of p = entry-from-places p .pre .1
 
 enough-of : (p : tie.After-places Inv-loop μ-loop) → (last-of p - first-of p) * table-of p .cores ≤ list.length (found-of p)
-enough-of p = p .before .before .before .before .before .before .before .before .before .before .before .pre .4
+enough-of p = entry-from-places p .pre .4
 
-numbers : (p : tie.After-places Inv-loop μ-loop) → numbersBy (p .before .before .before .before .before .before .before .before .columns-of .result .setting) (p .before .before .before .before .before .before .before .before .columns-of .result .width) (p .before .before .before .before .before .before .before .before .columns-of .result .times) ≡ numbersIn (table-of p)
-numbers p = p .before .before .before .before .before .before .before .before .columns-of .ensures
+numbers : (p : tie.After-places Inv-loop μ-loop) → numbersBy (columns-of-from-places p .columns-of .result .setting)
+    (columns-of-from-places p .columns-of .result .width) (columns-of-from-places p .columns-of .result .times) ≡ numbersIn (table-of p)
+numbers p = columns-of-from-places p .columns-of .ensures
 
 -- the run before a tick
 abbrev stand-of : tie.At-loop Inv-loop μ-loop → Stand
@@ -60,47 +124,47 @@ stand-of k = standAt (k .loop .pace) (k .loop .places)
 -- in the loop: ticks are small, and no deadline of the tick is missed
 small : (c : tie.Then1 Inv-loop μ-loop) → c .before .before .loop .pace .tick ≤ 1000000000
 small c =
-    let p = c .before .before .before in
-    omega (arith, c .if1 .taken, fit-of p .limit, p .before .before .before .before .before .before .before .before .before .before .before .pre .2)
+    let p = places-from-then1 c in
+    omega (arith, c .if1 .taken, fit-of p .limit, entry-from-places p .pre .2)
 
-met : (c : tie.Then1 Inv-loop μ-loop) (q : ℕ) → ¬ Missed (tableIn (table-of (c .before .before .before))) q (c .before .before .loop .pace .tick)
+met : (c : tie.Then1 Inv-loop μ-loop) (q : ℕ) → ¬ Missed (tableIn (table-of (places-from-then1 c))) q (c .before .before .loop .pace .tick)
 met c q =
-    let p = c .before .before .before in
-    all-met (tableIn (table-of p)) (fit-of p .sound) (last-of p) (p .before .before .before .before .before .before .before .before .before .before .before .pre .3) q (c .before .before .loop .pace .tick) (c .if1 .taken)
+    let p = places-from-then1 c in
+    all-met (tableIn (table-of p)) (fit-of p .sound) (last-of p) (entry-from-places p .pre .3) q (c .before .before .loop .pace .tick) (c .if1 .taken)
 
 -- the tick is taken: the run follows on, and its choice is for the claimants of the tick
-on : (c : tie.After-step Inv-loop μ-loop) → Follows (table-of (c .before .before .before .before .before .before .before)) (standAt (c .step .result) (c .step .last .1 .1 .1 .1 .0))
+on : (c : tie.After-step Inv-loop μ-loop) → Follows (table-of (places-from-step c)) (standAt (c .step .result) (c .step .last .1 .1 .1 .1 .0))
 on c =
-    let k = c .before .before .before .before .before .before in
+    let k = loop-from-places2 (c .before) in
     let p = k .before in
-    follows-on (table-of p) (fit-of p) (stand-of k) (k .loop .inv .0) (met (c .before .before .before .before)) _
+    follows-on (table-of p) (fit-of p) (stand-of k) (k .loop .inv .0) (met (then1-from-places2 (c .before))) _
     (c .step .ensures ∙ ap (λ (n : Numbers). next n (stand-of k)) (numbers p))
 
-tick : (c : tie.After-step Inv-loop μ-loop) → c .step .result .tick ≡ c .before .before .before .before .before .before .loop .pace .tick + 1
+tick : (c : tie.After-step Inv-loop μ-loop) → c .step .result .tick ≡ loop-from-places2 (c .before) .loop .pace .tick + 1
 tick c = tick-on _ _ _ (c .step .ensures)
 
-claims : (c : tie.After-step Inv-loop μ-loop) → c .step .result .chosen ≡ after (numbersIn (table-of (c .before .before .before .before .before .before .before))) (stand-of (c .before .before .before .before .before .before)) .claiming
+claims : (c : tie.After-step Inv-loop μ-loop) → c .step .result .chosen ≡ after (numbersIn (table-of (places-from-step c))) (stand-of (loop-from-places2 (c .before))) .claiming
 claims c =
-    let k = c .before .before .before .before .before .before in
+    let k = loop-from-places2 (c .before) in
     chosen-on _ _ _ (c .step .ensures) ∙ ap (λ (n : Numbers). after n (stand-of k) .claiming) (numbers (k .before))
 
 -- from tick a on the row is that of the claimants: it was just made, or they are those it was made for
-row-of : (c : tie.Joined3 Inv-loop μ-loop) → RowFor (table-of (c .before .before .before .before .before .before .before .before .before .before)) (c .before .before .before .step .result .chosen) (c .if3 .row)
+row-of : (c : tie.Joined3 Inv-loop μ-loop) → RowFor (table-of (loop-from-joined3 c .before)) (step c .step .result .chosen) (c .if3 .row)
 row-of c =
-    let g = c .before .before .before in
-    let p = g .before .before .before .before .before .before .before in
+    let g = step c in
+    let p = places-from-step g in
     let t = table-of p in
     ⊎-elim
     (λ w.
     subst (λ (l : List ℕ). RowFor t (g .step .result .chosen) l) (sym (w .4))
     (subst (λ (n : Numbers). RowBy t (n .widths) (g .step .result .chosen) (w .2 .result)) (numbers p) (w .2 .ensures)))
-    (λ w. subst₂ (λ (x : ℕ) (l : List ℕ). RowFor t x l) (sym (w .0 .left)) (sym (w .2)) (g .before .before .before .before .before .before .loop .inv .1))
+    (λ w. subst₂ (λ (x : ℕ) (l : List ℕ). RowFor t x l) (sym (w .0 .left)) (sym (w .2)) (loop-from-places2 (g .before) .loop .inv .1))
     (c .if3 .came)
 
-row-kept : (c : tie.Joined3 Inv-loop μ-loop) → RowFor (table-of (c .before .before .before .before .before .before .before .before .before .before)) (c .if3 .shown) (c .if3 .row)
-row-kept c = subst (λ (x : ℕ). RowFor (table-of (c .before .before .before .before .before .before .before .before .before .before)) x (c .if3 .row)) same (row-of c)
+row-kept : (c : tie.Joined3 Inv-loop μ-loop) → RowFor (table-of (loop-from-joined3 c .before)) (c .if3 .shown) (c .if3 .row)
+row-kept c = subst (λ (x : ℕ). RowFor (table-of (loop-from-joined3 c .before)) x (c .if3 .row)) same (row-of c)
   where
-    same : c .before .before .before .step .result .chosen ≡ c .if3 .shown
+    same : step c .step .result .chosen ≡ c .if3 .shown
     same = ⊎-elim (λ w. sym (w .3)) (λ w. w .0 .left ∙ sym (w .1)) (c .if3 .came)
 
 -- THE ANSWERS
@@ -114,78 +178,79 @@ start-requires : tie.Need-start-requires Inv-loop μ-loop
 start-requires c κs = search needs
 
 show-requires : tie.Need-show-requires Inv-loop μ-loop
-show-requires c κs = let s = c .before .before .before .before .before .before .before in (s .pre .1, s .pre .0 .few)
+show-requires c κs = let s = entry-from-width2 c in (s .pre .1, s .pre .0 .few)
 
 loop-holds : tie.Need-loop-holds Inv-loop μ-loop
 loop-holds c =
     let begins = c .before .before .start .ensures .0 in
     let e : c .before .before .start .result .pace .tick ≡ 0 = ap (λ (x : Stand). x .tick) begins in (
       subst (Follows (table-of c)) (sym begins) (follows-start (table-of c) (fit-of c)),
-      subst (λ (n : Numbers). RowBy (table-of c) (n .widths) 0 (c .before .before .before .show .result)) (numbers c) (c .before .before .before .show .ensures),
+      subst (λ (n : Numbers). RowBy (table-of c) (n .widths) 0 (show c .show .result)) (numbers c) (show c .show .ensures),
       omega arith,
       subst (λ (n : ℕ). Filled (table-of c) (first-of c) n 0 (found-of c) (found-of c)) (sym e) (filled-start (table-of c) (first-of c) (found-of c)),
     )
 
 step-requires : tie.Need-step-requires Inv-loop μ-loop
 step-requires c κs =
-    let k = c .before .before .before .before .before in
+    let k = loop-from-places2 c in
     let p = k .before in
     subst (λ (n : Numbers). Steppable n (stand-of k)) (sym (numbers p))
-    (steppable (table-of p) (fit-of p) (stand-of k) (k .loop .inv .0) (met (c .before .before .before)) (small (c .before .before .before)))
+    (steppable (table-of p) (fit-of p) (stand-of k) (k .loop .inv .0) (met (then1-from-places2 c)) (small (then1-from-places2 c)))
 
 show-requires-2 : tie.Need-show-requires-2 Inv-loop μ-loop
-show-requires-2 c κs = let p = c .before .before .before .before .before .before .before .before .before .before .before in (cores-of p, fit-of p .few)
+show-requires-2 c κs = let p = places-from-width4 c in (cores-of p, fit-of p .few)
 
 put-requires : tie.Need-put-requires Inv-loop μ-loop
 put-requires c κs =
-    let k = c .before .before .before .before .before .before .before .before .before .before in
+    let k = loop-from-joined3 (c .before) in
     let p = k .before in (
       cores-of p,
       filled-room (table-of p) (first-of p) (last-of p) (k .loop .pace .tick) (k .loop .at) (found-of p) (k .loop .out) (k .loop .inv .3)
-          (c .before .before .before .if2 .taken) (c .before .before .before .before .before .before .before .before .if1 .taken) (enough-of p),
+          (then2-from-put-arg c .if2 .taken) (then1-from-places2 (step (c .before) .before) .if1 .taken) (enough-of p),
     )
 
 add-at : tie.Need-add-at Inv-loop μ-loop
 add-at c =
-    let k = c .before .before .before .before .before .before .before .before .before .before .before .before .before in
+    let k = then1-from-slice-known2 c .before .before in
     let p = k .before in
-    let short : k .loop .pace .tick - first-of p ≤ 1000000000 = omega (arith, small (c .before .before .before .before .before .before .before .before .before .before .before)) in
+    let short : k .loop .pace .tick - first-of p ≤ 1000000000 = omega (arith, small (then1-from-slice-known2 c)) in
     omega (arith, k .loop .inv .3 .next, cores-of p, mul-le-mul short (cores-of p))
 
 loop-less : tie.Need-loop-less Inv-loop μ-loop
-loop-less c = omega (arith, tick (c .before .before .before .before .before .before .before), c .before .before .before .before .before .before .before .before .before .before .before .if1 .taken)
+loop-less c = omega (arith, tick (then2-from-slice-known2 c .before), then1-from-slice-known2 c .if1 .taken)
 
 loop-again : tie.Need-loop-again Inv-loop μ-loop
 loop-again c =
-    let j = c .before .before .before .before in
-    let g = c .before .before .before .before .before .before .before in
-    let k = g .before .before .before .before .before .before in
+    let then1 = then1-from-slice-known2 c in
+    let j = joined3 (c .before) in
+    let g = then2-from-slice-known2 c .before in
+    let k = loop-from-places2 (g .before) in
     let p = k .before in
     let t = table-of p in
     let s = stand-of k in
     let row = subst (λ (x : ℕ). RowFor t x (j .if3 .row)) (claims g) (row-of j) in (
       on g,
       row-kept j,
-      omega (arith, tick g, c .before .before .before .before .before .before .before .before .before .before .before .if1 .taken),
+      omega (arith, tick g, then1 .if1 .taken),
       rw (tick g)
           (filled-more t (first-of p) (last-of p) (k .loop .pace .tick) (k .loop .at) _ (found-of p) (k .loop .out) _ (j .if3 .row)
-          (k .loop .inv .3) (c .before .before .before .before .before .before .if2 .taken) (c .before .before .before .before .before .before .before .before .before .before .before .if1 .taken) (enough-of p)
+          (k .loop .inv .3) (then2-from-slice-known2 c .if2 .taken) (then1 .if1 .taken) (enough-of p)
           (row-bytes t (fit-of p) (after (numbersIn t) s) (bellAfter (numbersIn t) s) (k .loop .pace .tick) (j .if3 .row)
-          (looked t (fit-of p) s (k .loop .inv .0) (met (c .before .before .before .before .before .before .before .before .before .before .before))) row)
+          (looked t (fit-of p) s (k .loop .inv .0) (met then1)) row)
           refl (c .before .before .put .ensures)),
     )
 
 loop-less-2 : tie.Need-loop-less-2 Inv-loop μ-loop
-loop-less-2 c = omega (arith, tick (c .before), c .before .before .before .before .before .if1 .taken)
+loop-less-2 c = omega (arith, tick (c .before), then1-from-places2 (c .before .before) .if1 .taken)
 
 loop-again-2 : tie.Need-loop-again-2 Inv-loop μ-loop
 loop-again-2 c =
     let g = c .before in
-    let k = g .before .before .before .before .before .before in
+    let k = loop-from-places2 (g .before) in
     let p = k .before in (
       on g,
       k .loop .inv .1,
-      omega (arith, tick g, c .before .before .before .before .before .if1 .taken),
+      omega (arith, tick g, then1-from-places2 (c .before .before) .if1 .taken),
       subst (λ (n : ℕ). Filled (table-of p) (first-of p) n (k .loop .at) (found-of p) (k .loop .out)) (sym (tick g))
           (filled-pass (table-of p) (first-of p) (k .loop .pace .tick) (k .loop .at) (found-of p) (k .loop .out) (k .loop .inv .3) (c .if2 .left)),
     )

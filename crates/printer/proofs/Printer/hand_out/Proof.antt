@@ -26,12 +26,59 @@ Inv-loop buffer₀ table end setting width times places₀ stage₀ text₀ line
 abbrev μ-loop : tie.MeasureT-loop
 μ-loop buffer₀ table end setting width times places₀ stage₀ text₀ line₀ given₀ at₀ buffer places stage text line given at = end - stage .pace .tick
 
+-- the state after `copy`
+abbrev copy : tie.After-struct-known2 Inv-loop μ-loop → tie.After-copy Inv-loop μ-loop
+copy c = c .before .before .before
+
+-- the state at the head of the loop
+abbrev loop-from-line2 : tie.After-line2 Inv-loop μ-loop → tie.At-loop Inv-loop μ-loop
+loop-from-line2 c = c .before .before .before
+
+-- the state after `struct-known2`
+abbrev struct-known2-from-else2 : tie.Else2 Inv-loop μ-loop → tie.After-struct-known2 Inv-loop μ-loop
+struct-known2-from-else2 c = c .before .before .before
+
+abbrev struct-known2-from-then2 : tie.Then2 Inv-loop μ-loop → tie.After-struct-known2 Inv-loop μ-loop
+struct-known2-from-then2 c = c .before .before .before
+
+-- the state after `smaller`
+abbrev smaller-from-buffer : tie.After-buffer Inv-loop μ-loop → tie.After-smaller Inv-loop μ-loop
+smaller-from-buffer c = c .before .before .before .before
+
+abbrev smaller-from-slice-known2 : tie.After-slice-known2 Inv-loop μ-loop → tie.After-smaller Inv-loop μ-loop
+smaller-from-slice-known2 c = smaller-from-buffer (c .before)
+
+-- the state where the test `if2` fails
+abbrev else2-from-text2 : tie.After-text2 Inv-loop μ-loop → tie.Else2 Inv-loop μ-loop
+else2-from-text2 c = c .before .before .before .before
+
+abbrev else2-from-line3 : tie.After-line3 Inv-loop μ-loop → tie.Else2 Inv-loop μ-loop
+else2-from-line3 c = else2-from-text2 (c .before)
+
+-- the state at the head of the loop
+abbrev loop-from-slice-known2 : tie.After-slice-known2 Inv-loop μ-loop → tie.At-loop Inv-loop μ-loop
+loop-from-slice-known2 c = smaller-from-slice-known2 c .before .before
+
+abbrev loop-from-else2 : tie.Else2 Inv-loop μ-loop → tie.At-loop Inv-loop μ-loop
+loop-from-else2 c = loop-from-slice-known2 (c .before .before .before .before)
+
+-- the state after `columns-of`
+abbrev columns-of-from-places : tie.After-places Inv-loop μ-loop → tie.After-columns-of Inv-loop μ-loop
+columns-of-from-places c = c .before .before .before .before
+
+abbrev columns-of-from-loop : tie.At-loop Inv-loop μ-loop → tie.After-columns-of Inv-loop μ-loop
+columns-of-from-loop c = columns-of-from-places (c .before .before .before .before)
+
+-- the state at the call
+abbrev entry : tie.After-line Inv-loop μ-loop → tie.Start Inv-loop μ-loop
+entry c = columns-of-from-places (c .before .before .before) .before .before .before
+
 -- the printer and the buffer that the function is given, and the printer that the loop has come to
 abbrev given-of : tie.At-loop Inv-loop μ-loop → Printer
-given-of c = c .before .before .before .before .before .before .before .before .before .before .before .args .self
+given-of c = entry (c .before) .args .self
 
 abbrev buffer-of : tie.At-loop Inv-loop μ-loop → List ℕ
-buffer-of c = c .before .before .before .before .before .before .before .before .before .before .before .args .buffer .now
+buffer-of c = entry (c .before) .args .buffer .now
 
 abbrev now-of : tie.At-loop Inv-loop μ-loop → Printer
 now-of c = record {
@@ -46,39 +93,43 @@ now-of c = record {
 
 -- the numbers that its run is stepped with
 abbrev numbers-of : tie.At-loop Inv-loop μ-loop → Numbers
-numbers-of c = numbersBy (c .before .before .before .before .before .before .before .before .columns-of .result .setting) (c .before .before .before .before .before .before .before .before .columns-of .result .width) (c .before .before .before .before .before .before .before .before .columns-of .result .times)
+numbers-of c =
+    let co = columns-of-from-loop c in
+    numbersBy (co .columns-of .result .setting) (co .columns-of .result .width) (co .columns-of .result .times)
 
 numbers : (c : tie.At-loop Inv-loop μ-loop) → numbers-of c ≡ numbersIn (given-of c .table)
-numbers c = c .before .before .before .before .before .before .before .before .columns-of .ensures
+numbers c = columns-of-from-loop c .columns-of .ensures
 
 -- .. after a part of its line
 abbrev after-part : tie.After-struct-known2 Inv-loop μ-loop → Printer
-after-part c = at-given (now-of (c .before .before .before .before .before .before .before .before)) (c .before .before .before .before .before .before .before .before .loop .given + c .before .before .before .before .before .before .smaller .result)
+after-part c = at-given (now-of (loop-from-slice-known2 (c .before))) (loop-from-slice-known2 (c .before) .loop .given + smaller-from-slice-known2 (c .before) .smaller .result)
 
 parted :
     (c : tie.After-struct-known2 Inv-loop μ-loop)
-    → Handing (given-of (c .before .before .before .before .before .before .before .before)) (after-part c) (buffer-of (c .before .before .before .before .before .before .before .before)) (c .before .before .before .copy .last .1 .1 .1 .0) (c .before .before .before .copy .result)
+    → Handing (given-of (loop-from-slice-known2 (c .before))) (after-part c) (buffer-of (loop-from-slice-known2 (c .before))) (copy c .copy .last .1 .1 .1 .0) (copy c .copy .result)
 parted c =
-    let l = c .before .before .before .before .before .before .before .before in
-    hand-part (given-of l) (now-of l) (buffer-of l) (l .loop .buffer) (c .before .before .before .copy .last .1 .1 .1 .0) (l .loop .at) (c .before .before .before .copy .result)
-    (c .before .before .before .before .before .before .smaller .result) (l .loop .inv) (c .before .before .before .before .before .before .smaller .ensures) (c .before .before .before .copy .ensures)
+    let copy-state = copy c in
+    let l = loop-from-slice-known2 (c .before) in
+    hand-part (given-of l) (now-of l) (buffer-of l) (l .loop .buffer) (copy-state .copy .last .1 .1 .1 .0) (l .loop .at) (copy-state .copy .result)
+    (smaller-from-slice-known2 (c .before) .smaller .result) (l .loop .inv) (smaller-from-slice-known2 (c .before) .smaller .ensures) (copy-state .copy .ensures)
 
 -- a row is to come
-early : (c : tie.Else2 Inv-loop μ-loop) → c .before .before .before .before .before .before .before .before .before .before .before .loop .stage .pace .tick < given-of (c .before .before .before .before .before .before .before .before .before .before .before) .end
-early c = omega (arith, parted (c .before .before .before) .limits .tick, c .if2 .left)
+early : (c : tie.Else2 Inv-loop μ-loop) → loop-from-else2 c .loop .stage .pace .tick < given-of (loop-from-else2 c) .end
+early c = omega (arith, parted (struct-known2-from-else2 c) .limits .tick, c .if2 .left)
 
 stepping :
     (c : tie.Else2 Inv-loop μ-loop)
-    → Stepping (numbers-of (c .before .before .before .before .before .before .before .before .before .before .before)) (c .before .before .before .before .before .before .before .before .before .before .before .loop .stage) (c .before .before .before .before .before .before .before .before .before .before .before .loop .places) (c .before .before .before .before .before .before .before .before .before .before .before .loop .text) (c .before .before .before .before .before .before .before .before .before .before .before .loop .line)
+    → Stepping (numbers-of (loop-from-else2 c)) (loop-from-else2 c .loop .stage) (loop-from-else2 c .loop .places) (loop-from-else2 c .loop .text) (loop-from-else2 c .loop .line)
 stepping c =
-    stepping-of (after-part (c .before .before .before)) (numbers-of (c .before .before .before .before .before .before .before .before .before .before .before)) (numbers (c .before .before .before .before .before .before .before .before .before .before .before)) (parted (c .before .before .before) .limits) (parted (c .before .before .before) .arrays) (early c)
+    let sk = struct-known2-from-else2 c in
+    stepping-of (after-part sk) (numbers-of (loop-from-else2 c)) (numbers (loop-from-else2 c)) (parted sk .limits) (parted sk .arrays) (early c)
 
 columns-of-requires : tie.Need-columns-of-requires Inv-loop μ-loop
 columns-of-requires c κs = search needs
 
 loop-holds : tie.Need-loop-holds Inv-loop μ-loop
 loop-holds c =
-    let s = c .before .before .before .before .before .before .before .before .before .before in
+    let s = entry c in
     let g = s .good .0 .1 .1 in
     hand-start (s .args .self) (s .args .buffer .now) (sound-limits (s .args .self) (s .pre)) (record {
       sized = sized-of (s .args .self .places) (s .args .self .stage .pace .claiming) (simp length-map at (g .1 .1 .0 .1 .0 .1));
@@ -96,31 +147,31 @@ smaller-requires : tie.Need-smaller-requires Inv-loop μ-loop
 smaller-requires c κs = search needs
 
 slice-aggregate-copy : tie.Need-slice-aggregate-copy Inv-loop μ-loop
-slice-aggregate-copy c = sym (c .before .before .before .loop .inv .arrays .long)
+slice-aggregate-copy c = sym (loop-from-line2 c .loop .inv .arrays .long)
 
 copy-requires : tie.Need-copy-requires Inv-loop μ-loop
 copy-requires c κs =
-    let i = c .before .before .before .before .loop .inv in (
+    let i = loop-from-line2 (c .before) .loop .inv in (
       omega (arith, c .before .before .smaller .ensures, i .limits .given, i .limits .ready, i .arrays .long),
       omega (arith, c .before .before .smaller .ensures, i .room, i .same),
     )
 
 add-given : tie.Need-add-given Inv-loop μ-loop
 add-given c =
-    let i = c .before .before .before .before .before .before .before .loop .inv in
-    omega (arith, c .before .before .before .before .before .smaller .ensures, i .limits .given, i .limits .ready)
+    let i = loop-from-slice-known2 c .loop .inv in
+    omega (arith, smaller-from-slice-known2 c .smaller .ensures, i .limits .given, i .limits .ready)
 
 next-line-requires : tie.Need-next-line-requires Inv-loop μ-loop
-next-line-requires c κs = stepping (c .before .before .before .before .before)
+next-line-requires c κs = stepping (else2-from-line3 c)
 
 loop-less : tie.Need-loop-less Inv-loop μ-loop
-loop-less c = omega (arith, tick-on _ _ _ (c .next-line .ensures .stand), early (c .before .before .before .before .before .before))
+loop-less c = omega (arith, tick-on _ _ _ (c .next-line .ensures .stand), early (else2-from-line3 (c .before)))
 
 loop-again : tie.Need-loop-again Inv-loop μ-loop
 loop-again c =
-    let e = c .before .before .before .before .before .before in
-    let k = e .before .before .before in
-    let l = k .before .before .before .before .before .before .before .before in
+    let e = else2-from-line3 (c .before) in
+    let k = struct-known2-from-else2 e in
+    let l = loop-from-slice-known2 (k .before) in
     hand-step (given-of l) (after-part k) (buffer-of l) _ _ (parted k) (e .before .before .if1 .left) (early e) (numbers-of l) (numbers l) _ _ _ _ (c .next-line .ensures)
 
 same-length : tie.Need-same-length Inv-loop μ-loop
@@ -129,18 +180,19 @@ same-length c = parted (c .before) .same
 returns : tie.Need-returns Inv-loop μ-loop
 returns c =
     let k = c .before in
-    let l = k .before .before .before .before .before .before .before .before in
-    hand-full (given-of l) (after-part k) (buffer-of l) _ _ (l .before .before .before .before .before .before .before .before .before .before .before .pre) (parted k)
-    (part-fills (given-of l) (now-of l) (buffer-of l) (l .loop .buffer) _ (l .loop .at) _ _ (l .loop .inv) (k .before .before .before .before .before .before .smaller .ensures) (k .before .before .before .copy .ensures) (c .if1 .taken))
+    let l = loop-from-slice-known2 (k .before) in
+    hand-full (given-of l) (after-part k) (buffer-of l) _ _ (entry (l .before) .pre) (parted k)
+    (part-fills (given-of l) (now-of l) (buffer-of l) (l .loop .buffer) _ (l .loop .at) _ _ (l .loop .inv)
+    (smaller-from-slice-known2 (k .before) .smaller .ensures) (copy k .copy .ensures) (c .if1 .taken))
 
 same-length-2 : tie.Need-same-length-2 Inv-loop μ-loop
-same-length-2 c = parted (c .before .before .before) .same
+same-length-2 c = parted (struct-known2-from-then2 c) .same
 
 returns-2 : tie.Need-returns-2 Inv-loop μ-loop
 returns-2 c =
-    let k = c .before .before .before in
-    let l = k .before .before .before .before .before .before .before .before in
-    hand-done (given-of l) (after-part k) (buffer-of l) _ _ (l .before .before .before .before .before .before .before .before .before .before .before .pre) (parted k) (c .before .before .if1 .left) (c .if2 .taken)
+    let k = struct-known2-from-then2 c in
+    let l = loop-from-slice-known2 (k .before) in
+    hand-done (given-of l) (after-part k) (buffer-of l) _ _ (entry (l .before) .pre) (parted k) (c .before .before .if1 .left) (c .if2 .taken)
 
 pub hand-out-spec : {M : Type 1} → statement M
 hand-out-spec =

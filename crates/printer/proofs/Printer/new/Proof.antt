@@ -7,6 +7,10 @@ use borrow.Author.Needs.{needs}
 use Rattle.printer.proofs.Printer.new.Statement.{statement}
 use Rattle.printer.proofs.Printer.new.Tie as tie
 
+-- the state after `read`
+abbrev read : tie.After-of-words → tie.After-read
+read c = c .before .before .before
+
 read-requires : tie.Need-read-requires
 read-requires c κs = search needs
 
@@ -14,13 +18,16 @@ array-share-prefix-words : tie.Need-array-share-prefix-words
 array-share-prefix-words c = read-fits _ (c .before .read .result) (c .before .read .ensures)
 
 slice-aggregate-of-words : tie.Need-slice-aggregate-of-words
-slice-aggregate-of-words c = sym (length-take-le (c .before .before .read .result .count) (c .before .before .read .result .words) (read-fits _ (c .before .before .read .result) (c .before .before .read .ensures)))
+slice-aggregate-of-words c =
+    sym (length-take-le (c .before .before .read .result .count) (c .before .before .read .result .words) (read-fits _ (c .before .before .read .result) (c .before .before .read .ensures)))
 
 of-words-requires : tie.Need-of-words-requires
 of-words-requires c κs = search needs
 
 returns : tie.Need-returns
-returns c = bytes-made (c .before .before .before .before .before .args .bytes .now) (c .before .before .before .read .result) (c .of-words .result) (c .before .before .before .read .ensures) (c .of-words .ensures)
+returns c =
+    let r = read c in
+    bytes-made (r .before .before .args .bytes .now) (r .read .result) (c .of-words .result) (r .read .ensures) (c .of-words .ensures)
 
 pub new-spec : {M : Type 1} → statement M
 new-spec =

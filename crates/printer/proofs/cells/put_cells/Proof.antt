@@ -20,6 +20,10 @@ use borrow.Author.Needs.{needs}
 use Rattle.printer.proofs.cells.put_cells.Statement.{statement}
 use Rattle.printer.proofs.cells.put_cells.Tie as tie
 
+-- the state after `show`
+abbrev show : tie.After-slice-known2 → tie.After-show
+show c = c .before .before .before .before
+
 show-requires : tie.Need-show-requires
 show-requires c κs = search needs
 
@@ -32,10 +36,10 @@ same-length c = search needs
 returns : tie.Need-returns
 unfolding cells
 returns c =
-    let a = c .before .before .before .before .before .before .args in
+    let a = show c .before .before .args in
     let s = c .before .before .spell in
     let gs = grants (ruleOf (a .rule)) (claimants (take (a .count) (a .widths .now)) (bit (a .claims))) (unfenced (a .fence) (a .cores)) in
-    let e = ap (take (a .cores)) (c .before .before .before .before .show .ensures) ∙ take-at (row (a .fence) (a .cores) gs) (replicate (mostCores - a .cores) 0) (a .cores) (row-length (a .fence) (a .cores) gs) in
+    let e = ap (take (a .cores)) (show c .show .ensures) ∙ take-at (row (a .fence) (a .cores) gs) (replicate (mostCores - a .cores) 0) (a .cores) (row-length (a .fence) (a .cores) gs) in
     (subst (λ (xs : List ℕ). Put (a .text .now) 0 (fields xs ++ (newline ∷ [])) (s .last .1 .1 .0) (s .result)) e (s .ensures .0), s .ensures .1)
 
 pub put-cells-spec : {M : Type 1} → statement M

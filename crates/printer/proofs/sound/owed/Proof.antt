@@ -17,6 +17,13 @@ Inv-loop places set₀ i₀ set i = (i ≤ mostTasks) × (set ≡ owedFrom (part
 abbrev μ-loop : tie.MeasureT-loop
 μ-loop places set₀ i₀ set i = i
 
+-- the state at the call
+abbrev entry-from-then1 : tie.Then1 Inv-loop μ-loop → tie.Start Inv-loop μ-loop
+entry-from-then1 c = c .before .before .before
+
+abbrev entry-from-else1 : tie.Else1 Inv-loop μ-loop → tie.Start Inv-loop μ-loop
+entry-from-else1 c = c .before .before .before
+
 -- place i - 1 is looked at
 module _ (places : List ℕ) (i set : ℕ) (h : (i ≤ mostTasks) × (set ≡ owedFrom (part 0 places) i)) (l : 0 < i) where
   is : set ≡ owedFrom (part 0 places) (i - 1 + 1)
@@ -55,7 +62,7 @@ add-set : tie.Need-add-set Inv-loop μ-loop
 add-set c =
     omega (
       arith,
-      fits-on (c .before .before .before .args .t1) (c .before .before .loop .i) (c .before .before .loop .set) (c .before .before .loop .inv) (c .before .loop-test .taken)
+      fits-on (entry-from-then1 c .args .t1) (c .before .before .loop .i) (c .before .before .loop .set) (c .before .before .loop .inv) (c .before .loop-test .taken)
           .1,
     )
 
@@ -65,7 +72,7 @@ loop-less c = omega arith
 loop-again : tie.Need-loop-again Inv-loop μ-loop
 loop-again c = (
   omega arith,
-  one-on (c .before .before .before .args .t1) (c .before .before .loop .i) (c .before .before .loop .set) (c .before .before .loop .inv) (c .before .loop-test .taken)
+  one-on (entry-from-then1 c .args .t1) (c .before .before .loop .i) (c .before .before .loop .set) (c .before .before .loop .inv) (c .before .loop-test .taken)
       .0 (c .if1 .taken),
 )
 
@@ -75,7 +82,7 @@ loop-less-2 c = omega arith
 loop-again-2 : tie.Need-loop-again-2 Inv-loop μ-loop
 loop-again-2 c = (
   omega arith,
-  one-on (c .before .before .before .args .t1) (c .before .before .loop .i) (c .before .before .loop .set) (c .before .before .loop .inv) (c .before .loop-test .taken)
+  one-on (entry-from-else1 c .args .t1) (c .before .before .loop .i) (c .before .before .loop .set) (c .before .before .loop .inv) (c .before .loop-test .taken)
       .1 (c .if1 .left),
 )
 

@@ -22,6 +22,14 @@ Inv-loop count cores wide tasks i₀ i = (i ≤ count) × ((p : ℕ) → p < i �
 abbrev μ-loop : tie.MeasureT-loop
 μ-loop count cores wide tasks i₀ i = count - i
 
+-- the state at the call
+abbrev entry : tie.After-open-count Inv-loop μ-loop → tie.Start Inv-loop μ-loop
+entry c = c .before .before .before
+
+-- the state at the head of the loop
+abbrev loop : tie.After-task-number Inv-loop μ-loop → tie.At-loop Inv-loop μ-loop
+loop c = c .before .before .before
+
 returns : tie.Need-returns Inv-loop μ-loop
 returns c = sym (many-out (c .before .args .table) (c .if1 .taken))
 
@@ -29,9 +37,9 @@ returns-2 : tie.Need-returns-2 Inv-loop μ-loop
 returns-2 c = sym (wide-out (c .before .before .args .table) (c .before .if1 .left) (c .if2 .taken))
 
 -- a width is measured against the open cores
-measured : (c : tie.After-open-count Inv-loop μ-loop) → c .open-count .result ≡ openCount (c .before .before .before .args .table .fence) (c .before .before .before .args .table .cores)
+measured : (c : tie.After-open-count Inv-loop μ-loop) → c .open-count .result ≡ openCount (entry c .args .table .fence) (entry c .args .table .cores)
 measured c =
-    let t = c .before .before .before .args .table in
+    let t = entry c .args .table in
     let all : min (t .cores) 64 ≡ t .cores = omega (arith, c .before .if2 .left) in
     c .open-count .ensures ∙ ap (openCount (t .fence)) all
 
@@ -52,9 +60,9 @@ task-number-requires c κs = search needs
 
 returns-3 : tie.Need-returns-3 Inv-loop μ-loop
 returns-3 c =
-    let s = c .before .before .before .before in
+    let s = loop (c .before) in
     let o = s .before .before in
-    let t = o .before .before .before .args .table in
+    let t = entry o .args .table in
     let out : outAt t (s .loop .i) ≡ true =
     ap (λ (m : ℕ). taskOut m (taskOf (getD (t .tasks) (s .loop .i) noTask))) (sym (measured o))
     ∙ ap not (ap (λ (n : ℕ). eqb n 0) (sym (c .before .task-number .ensures)) ∙ ne-eqb (c .before .task-number .result) 0 (c .if3 .taken)) in
@@ -68,14 +76,14 @@ loop-less c = omega arith
 
 loop-again : tie.Need-loop-again Inv-loop μ-loop
 loop-again c =
-    let s = c .before .before .before .before in
+    let s = loop (c .before) in
     (omega arith, below-more _ _ (s .loop .inv .1) (ap (λ (n : ℕ). not (eqb n 0)) (sym (c .before .task-number .ensures) ∙ c .if3 .left)))
 
 returns-4 : tie.Need-returns-4 Inv-loop μ-loop
 returns-4 c =
     let s = c .before in
     let o = s .before .before in
-    let t = o .before .before .before .args .table in
+    let t = entry o .args .table in
     let all : s .loop .i ≡ t .count = omega arith in
     let fine : (p : ℕ) → p < t .count → outAt t p ≡ false =
     λ p l. ap (λ (m : ℕ). taskOut m (taskOf (getD (t .tasks) p noTask))) (sym (measured o)) ∙ s .loop .inv .1 p (omega arith) in

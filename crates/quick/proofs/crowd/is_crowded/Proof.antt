@@ -33,6 +33,10 @@ Inv-loop tasks work₀ leaps₀ i₀ work leaps i = (i ≤ mostTasks) × Summed 
 abbrev μ-loop : tie.MeasureT-loop
 μ-loop tasks work₀ leaps₀ i₀ work leaps i = mostTasks - i
 
+-- the state at the head of the loop
+abbrev loop : tie.After-work-of Inv-loop μ-loop → tie.At-loop Inv-loop μ-loop
+loop c = c .before .before .before
+
 loop-holds : tie.Need-loop-holds Inv-loop μ-loop
 loop-holds c = (omega arith, summed-none workOf 4294967296000000 _, summed-none leapingOf 36000000 _)
 
@@ -46,7 +50,7 @@ work-of-requires : tie.Need-work-of-requires Inv-loop μ-loop
 work-of-requires c κs = search needs
 
 add-work : tie.Need-add-work Inv-loop μ-loop
-add-work c = let s = c .before .before .before in omega (arith, c .work-of .ensures .1, s .loop .inv .1 .0)
+add-work c = let s = loop c in omega (arith, c .work-of .ensures .1, s .loop .inv .1 .0)
 
 leaping-of-requires : tie.Need-leaping-of-requires Inv-loop μ-loop
 leaping-of-requires c κs = search needs
@@ -55,7 +59,7 @@ cast-leaps : tie.Need-cast-leaps Inv-loop μ-loop
 cast-leaps c = search needs
 
 add-leaps : tie.Need-add-leaps Inv-loop μ-loop
-add-leaps c = let s = c .before .before .before .before in omega (arith, c .leaping-of .ensures .1, s .loop .inv .2 .0)
+add-leaps c = let s = loop (c .before) in omega (arith, c .leaping-of .ensures .1, s .loop .inv .2 .0)
 
 add-i : tie.Need-add-i Inv-loop μ-loop
 add-i c = omega arith
@@ -66,7 +70,7 @@ loop-less c = omega arith
 loop-again : tie.Need-loop-again Inv-loop μ-loop
 loop-again c =
     let w = c .before in
-    let s = w .before .before .before in (
+    let s = loop w in (
       omega arith,
       summed-more workOf 4294967296000000 _ (s .loop .work) (s .loop .i) _ (s .loop .inv .1) (w .work-of .ensures),
       summed-more leapingOf 36000000 _ (s .loop .leaps) (s .loop .i) _ (s .loop .inv .2) (c .leaping-of .ensures),

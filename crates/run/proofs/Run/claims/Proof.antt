@@ -26,6 +26,14 @@ Inv-loop run count claiming₀ working₀ widths₀ i₀ c w ws i =
 abbrev μ-loop : tie.MeasureT-loop
 μ-loop run count claiming₀ working₀ widths₀ i₀ c w ws i = count - i
 
+-- the state after `claims`
+abbrev claims : tie.After-with2 Inv-loop μ-loop → tie.After-claims Inv-loop μ-loop
+claims c = c .before .before .before
+
+-- the state at the head of the loop
+abbrev loop : tie.After-with2 Inv-loop μ-loop → tie.At-loop Inv-loop μ-loop
+loop c = claims c .before .before .before
+
 loop-holds : tie.Need-loop-holds Inv-loop μ-loop
 loop-holds c =
     let r = c .args .self in
@@ -66,7 +74,7 @@ loop-less c = omega arith
 
 loop-again : tie.Need-loop-again Inv-loop μ-loop
 loop-again c =
-    let s = c .before .before .before .before .before .before in
+    let s = loop c in
     let r = s .before .args .self in
     let i = s .loop .i in
     let v = s .loop .inv in (
@@ -74,8 +82,8 @@ loop-again c =
       (
         simp length-set (v .1 .0),
         (
-          gathered-more (λ p. claiming (phaseAt r p)) i (s .loop .claiming) (c .before .before .with .result) (c .before .before .before .claims .result)
-              (v .1 .1 .0) (c .before .before .before .claims .ensures) (c .before .before .with .ensures),
+          gathered-more (λ p. claiming (phaseAt r p)) i (s .loop .claiming) (c .before .before .with .result) (claims c .claims .result)
+              (v .1 .1 .0) (claims c .claims .ensures) (c .before .before .with .ensures),
           (
             gathered-more (λ p. working (phaseAt r p)) i (s .loop .working) (c .with2 .result) (c .before .works .result)
                 (v .1 .1 .1 .0) (c .before .works .ensures) (c .with2 .ensures),
@@ -91,7 +99,11 @@ returns c =
     let r = s .before .args .self in
     let e : s .loop .i ≡ r .count = omega arith in
     let len : length (r .tasks) ≡ mostTasks = simp length-map at (s .before .good .0 .1 .1 .1 .1 .1 .1 .0 .1 .0 .1) in
-    record { claimed = rw e at (s .loop .inv .1 .1 .0); worked = rw e at (s .loop .inv .1 .1 .1 .0); width = widths-stored r (s .loop .widths) (s .before .pre) (s .loop .inv .1 .0) len (rw e at (s .loop .inv .1 .1 .1 .1)) }
+    record {
+      claimed = rw e at (s .loop .inv .1 .1 .0);
+      worked = rw e at (s .loop .inv .1 .1 .1 .0);
+      width = widths-stored r (s .loop .widths) (s .before .pre) (s .loop .inv .1 .0) len (rw e at (s .loop .inv .1 .1 .1 .1));
+    }
 
 pub claims-spec : {M : Type 1} → statement M
 claims-spec =

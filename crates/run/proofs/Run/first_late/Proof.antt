@@ -17,6 +17,10 @@ Inv-loop run count place₀ place = (place ≤ count) × ((k : ℕ) → k < plac
 abbrev μ-loop : tie.MeasureT-loop
 μ-loop run count place₀ place = count - place
 
+-- the state at the head of the loop
+abbrev loop-from-late : tie.After-late Inv-loop μ-loop → tie.At-loop Inv-loop μ-loop
+loop-from-late c = c .before .before .before
+
 loop-holds : tie.Need-loop-holds Inv-loop μ-loop
 loop-holds c = (search needs, λ (k : ℕ) h. absurd (omega arith))
 
@@ -32,7 +36,7 @@ late-requires c κs = search needs
 returns : tie.Need-returns Inv-loop μ-loop
 unfolding firstLateIn
 returns c =
-    let s = c .before .before .before .before in
+    let s = loop-from-late (c .before) in
     let r = s .before .args .self in
     sym (least-is (r .count) (lateAt r) (s .loop .place) (omega arith) (sym (c .before .late .ensures) ∙ c .if1 .taken) (s .loop .inv .1))
 
@@ -43,7 +47,7 @@ loop-less : tie.Need-loop-less Inv-loop μ-loop
 loop-less c = omega arith
 
 loop-again : tie.Need-loop-again Inv-loop μ-loop
-loop-again c = (omega arith, below-more _ _ (c .before .before .before .before .loop .inv .1) (sym (c .before .late .ensures) ∙ c .if1 .left))
+loop-again c = (omega arith, below-more _ _ (loop-from-late (c .before) .loop .inv .1) (sym (c .before .late .ensures) ∙ c .if1 .left))
 
 returns-2 : tie.Need-returns-2 Inv-loop μ-loop
 unfolding firstLateIn

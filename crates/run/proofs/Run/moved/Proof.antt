@@ -38,6 +38,10 @@ Inv-loop granted reports run₀ rule count i₀ run i = (i ≤ count) × ((count
 abbrev μ-loop : tie.MeasureT-loop
 μ-loop granted reports run₀ rule count i₀ run i = count - i
 
+-- the state at the head of the loop
+abbrev loop : tie.After-has2 Inv-loop μ-loop → tie.At-loop Inv-loop μ-loop
+loop c = c .before .before .before .before
+
 loop-holds : tie.Need-loop-holds Inv-loop μ-loop
 unfolding mapFirst
 loop-holds c = (search needs, (few (c .args .self) (c .pre .0), refl))
@@ -59,7 +63,7 @@ has-requires-2 c κs = omega arith
 
 next-requires : tie.Need-next-requires Inv-loop μ-loop
 next-requires c κs =
-    let s = c .before .before .before .before in
+    let s = loop c in
     let r = s .before .args .self in
     simp (s .loop .inv .1 .1, mapFirst-past (movesAt (bit (s .before .args .reports)) r) (s .loop .i) (r .tasks) (s .loop .i) pastEnd (le-refl (s .loop .i)))
     (roomy r (s .before .pre .0) (s .loop .i) (omega arith))
@@ -78,7 +82,7 @@ loop-less c = omega arith
 
 loop-again : tie.Need-loop-again Inv-loop μ-loop
 loop-again c =
-    let s = c .before .before .before .before .before in
+    let s = loop (c .before) in
     let r = s .before .args .self in
     let i = s .loop .i in
     let f = movesAt (bit (s .before .args .reports)) r in

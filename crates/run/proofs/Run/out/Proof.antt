@@ -22,6 +22,18 @@ Inv-loop run rule cores count wide i₀ i = (i ≤ count) × ((count ≤ mostTas
 abbrev μ-loop : tie.MeasureT-loop
 μ-loop run rule cores count wide i₀ i = count - i
 
+-- the state after `head-out`
+abbrev head-out : tie.At-loop Inv-loop μ-loop → tie.After-head-out Inv-loop μ-loop
+head-out c = c .before .before .before
+
+-- the state at the head of the loop
+abbrev loop : tie.After-out Inv-loop μ-loop → tie.At-loop Inv-loop μ-loop
+loop c = c .before .before .before
+
+-- the state at the call
+abbrev entry : tie.After-open-count Inv-loop μ-loop → tie.Start Inv-loop μ-loop
+entry c = c .before .before .before
+
 -- a place is looked at with the number of unfenced cores that was counted
 by-wide : (r : Run) (p wide : ℕ) → wide ≡ wideIn r → placeOut r p ≡ outIn wide (ruleIn r) (placeAt r p)
 by-wide r p wide e = ap (λ (m : ℕ). outIn m (ruleIn r) (placeAt r p)) (sym e)
@@ -37,7 +49,7 @@ open-count-requires c κs = search needs
 
 loop-holds : tie.Need-loop-holds Inv-loop μ-loop
 loop-holds c =
-    let r = c .before .before .before .args .self in
+    let r = entry c .args .self in
     let e = sym (c .before .before .head-out .ensures) ∙ c .before .if1 .left in
     (search needs, (head-few r e, (c .open-count .ensures ∙ head-wide r e, λ (k : ℕ) h. absurd (omega arith))))
 
@@ -52,10 +64,10 @@ out-requires c κs = search needs
 
 returns-2 : tie.Need-returns-2 Inv-loop μ-loop
 returns-2 c =
-    let s = c .before .before .before .before in
-    let r = s .before .before .before .before .args .self in
+    let s = loop (c .before) in
+    let r = head-out s .before .args .self in
     let place : placeOut r (s .loop .i) ≡ true = by-wide r (s .loop .i) _ (s .loop .inv .1 .1 .0) ∙ (sym (c .before .out .ensures) ∙ c .if2 .taken) in
-    sym (out-by-place r (sym (s .before .before .before .head-out .ensures) ∙ s .before .before .if1 .left) ∙ any-of (r .count) (placeOut r) (s .loop .i) (omega arith) place)
+    sym (out-by-place r (sym (head-out s .head-out .ensures) ∙ s .before .before .if1 .left) ∙ any-of (r .count) (placeOut r) (s .loop .i) (omega arith) place)
 
 add-i : tie.Need-add-i Inv-loop μ-loop
 add-i c = omega arith
@@ -65,16 +77,16 @@ loop-less c = omega arith
 
 loop-again : tie.Need-loop-again Inv-loop μ-loop
 loop-again c =
-    let s = c .before .before .before .before in
-    let r = s .before .before .before .before .args .self in
+    let s = loop (c .before) in
+    let r = head-out s .before .args .self in
     (omega arith, (omega arith, (s .loop .inv .1 .1 .0, below-more _ _ (s .loop .inv .1 .1 .1) (by-wide r (s .loop .i) _ (s .loop .inv .1 .1 .0) ∙ (sym (c .before .out .ensures) ∙ c .if2 .left)))))
 
 returns-3 : tie.Need-returns-3 Inv-loop μ-loop
 returns-3 c =
     let s = c .before in
-    let r = s .before .before .before .before .args .self in
+    let r = head-out s .before .args .self in
     let e : s .loop .i ≡ r .count = omega arith in
-    sym (out-by-place r (sym (s .before .before .before .head-out .ensures) ∙ s .before .before .if1 .left) ∙ none-any (r .count) (placeOut r) (rw e at (s .loop .inv .1 .1 .1)))
+    sym (out-by-place r (sym (head-out s .head-out .ensures) ∙ s .before .before .if1 .left) ∙ none-any (r .count) (placeOut r) (rw e at (s .loop .inv .1 .1 .1)))
 
 pub out-spec : {M : Type 1} → statement M
 out-spec =

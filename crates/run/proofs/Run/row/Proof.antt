@@ -17,6 +17,24 @@ use Rattle.run.proofs.Cases.{row-out, row-late, row-shown}
 use Rattle.run.proofs.Run.row.Statement.{statement}
 use Rattle.run.proofs.Run.row.Tie as tie
 
+-- the state at the call
+abbrev entry : tie.After-first-late → tie.Start
+entry c = c .before .before .before
+
+-- the state where the test `if1` fails
+abbrev else1-from-then2 : tie.Then2 → tie.Else1
+else1-from-then2 c = c .before .before .before
+
+abbrev else1-from-else2 : tie.Else2 → tie.Else1
+else1-from-else2 c = c .before .before .before
+
+-- the state after `first-late`
+abbrev first-late-from-row-refused2 : tie.After-row-refused2 → tie.After-first-late
+first-late-from-row-refused2 c = c .before .before .before
+
+abbrev first-late-from-bytes : tie.After-bytes → tie.After-first-late
+first-late-from-bytes c = c .before .before .before
+
 -- past the first test the run passes 14
 passes : (c : tie.Else1) → runOut (c .before .before .args .self) ≡ false
 passes c = sym (c .before .out .ensures) ∙ c .if1 .left
@@ -45,29 +63,29 @@ first-late-requires : tie.Need-first-late-requires
 first-late-requires c κs = few (c .before .before .args .self) (passes c)
 
 cast-row-refused : tie.Need-cast-row-refused
-cast-row-refused c = omega (arith, few (c .before .before .before .before .before .args .self) (passes (c .before .before .before)))
+cast-row-refused c = omega (arith, few (entry (c .before .before) .args .self) (passes (else1-from-then2 c)))
 
 add-row-refused : tie.Need-add-row-refused
-add-row-refused c = omega (arith, few (c .before .before .before .before .before .args .self) (passes (c .before .before .before)))
+add-row-refused c = omega (arith, few (entry (c .before .before) .args .self) (passes (else1-from-then2 c)))
 
 row-refused-requires-2 : tie.Need-row-refused-requires-2
 row-refused-requires-2 c κs = search needs
 
 returns-2 : tie.Need-returns-2
 returns-2 c =
-    let f = c .before .before .before in
-    let r = f .before .before .before .args .self in
+    let f = first-late-from-row-refused2 c in
+    let r = entry f .args .self in
     let e : f .first-late .result ≡ firstLateIn r = f .first-late .ensures in
     row-of r (c .row-refused2 .result)
     (c .row-refused2 .ensures ∙ ap late (ap (λ (n : ℕ). n + 1) e ∙ add-one (firstLateIn r)) ∙ sym (row-late r (passes (f .before)) (rw e at (c .before .if2 .taken))))
 
 bytes-requires : tie.Need-bytes-requires
-bytes-requires c κs = passes (c .before .before .before)
+bytes-requires c κs = passes (else1-from-else2 c)
 
 returns-3 : tie.Need-returns-3
 returns-3 c =
-    let f = c .before .before .before in
-    let r = f .before .before .before .args .self in
+    let f = first-late-from-bytes c in
+    let r = entry f .args .self in
     let e : f .first-late .result ≡ firstLateIn r = f .first-late .ensures in
     row-of r (shown (c .bytes .result)) (ap shown (c .bytes .ensures) ∙ sym (row-shown r (passes (f .before)) (rw e at (c .before .if2 .left))))
 

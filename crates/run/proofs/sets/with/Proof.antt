@@ -13,7 +13,8 @@ shl-result : tie.Need-shl-result
 shl-result c = search needs
 
 returns : tie.Need-returns
-returns c p = with-place (c .before .args .set) (c .before .args .place) (c .before .pre) p ∙ ap (λ (t : Bool). bit (c .before .args .set) p || (t && eqb p (c .before .args .place))) (sym (c .if1 .taken))
+returns c p =
+    with-place (c .before .args .set) (c .before .args .place) (c .before .pre) p ∙ ap (λ (t : Bool). bit (c .before .args .set) p || (t && eqb p (c .before .args .place))) (sym (c .if1 .taken))
 
 returns-2 : tie.Need-returns-2
 returns-2 c p = sym (simp (c .if1 .left, or-false))

@@ -43,6 +43,10 @@ Inv-loop rule cores fence count tasks places₀ i₀ places i =
 abbrev μ-loop : tie.MeasureT-loop
 μ-loop rule cores fence count tasks places₀ i₀ places i = count - i
 
+-- the state at the head of the loop
+abbrev loop : tie.After-start-task Inv-loop μ-loop → tie.At-loop Inv-loop μ-loop
+loop c = c .before .before .before
+
 unused-requires : tie.Need-unused-requires Inv-loop μ-loop
 unused-requires c κs = search needs
 
@@ -72,7 +76,7 @@ loop-less c = omega arith
 
 loop-again : tie.Need-loop-again Inv-loop μ-loop
 loop-again c =
-    let s = c .before .before .before in
+    let s = loop c in
     let tasks = s .before .before .args .t4 in
     let i = s .loop .i in
     let len : length tasks ≡ mostTasks = search needs in
@@ -89,7 +93,8 @@ returns c =
     let few = s .before .before .pre in
     let n : length (tasksOf (a .t4) (a .count)) ≡ a .count = length-map (take (a .count) (a .t4)) taskOf ∙ length-take-le (a .count) (a .t4) (omega arith) in
     let tasks : s .loop .places ≡ starting (a .t4) (a .count) ++ replicate (mostTasks - a .count) unused =
-    s .loop .inv .1 ∙ (ap (λ (k : ℕ). starting (a .t4) k ++ drop k (replicate mostTasks unused)) e ∙ ap (λ (l : List Task). starting (a .t4) (a .count) ++ l) (drop-equal mostTasks (a .count) unused)) in
+    s .loop .inv .1 ∙ (ap (λ (k : ℕ). starting (a .t4) k ++ drop k (replicate mostTasks unused)) e
+    ∙ ap (λ (l : List Task). starting (a .t4) (a .count) ++ l) (drop-equal mostTasks (a .count) unused)) in
     ap (made (a .rule) (a .cores) (a .fence) (a .count)) tasks
     ∙ ap (λ (k : ℕ). made (a .rule) (a .cores) (a .fence) k (starting (a .t4) (a .count) ++ replicate (mostTasks - k) unused)) (sym n)
 

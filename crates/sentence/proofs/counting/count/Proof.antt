@@ -36,26 +36,81 @@ Inv-loop tick place late release setting width times pace₀ places₀ ran₀ pa
 abbrev μ-loop : tie.MeasureT-loop
 μ-loop tick place late release setting width times pace₀ places₀ ran₀ pace places ran = tick - pace .tick
 
+-- the state after `places`
+abbrev places-from-else1 : tie.Else1 Inv-loop μ-loop → tie.After-places Inv-loop μ-loop
+places-from-else1 c = c .before .before .before
+
+-- the state where the test `if1` holds
+abbrev then1 : tie.After-places2 Inv-loop μ-loop → tie.Then1 Inv-loop μ-loop
+then1 c = c .before .before .before
+
+-- the state after `has`
+abbrev has : tie.After-add Inv-loop μ-loop → tie.After-has Inv-loop μ-loop
+has c = c .before .before .before
+
+-- the state after `step`
+abbrev step : tie.Else3 Inv-loop μ-loop → tie.After-step Inv-loop μ-loop
+step c = c .before .before .before
+
+-- the state at the call
+abbrev entry-from-struct-known : tie.After-struct-known Inv-loop μ-loop → tie.Start Inv-loop μ-loop
+entry-from-struct-known c = c .before .before .before
+
+-- the state at the head of the loop
+abbrev loop-from-struct-known3 : tie.After-struct-known3 Inv-loop μ-loop → tie.At-loop Inv-loop μ-loop
+loop-from-struct-known3 c = c .before .before .before
+
+abbrev loop-from-places2 : tie.After-places2 Inv-loop μ-loop → tie.At-loop Inv-loop μ-loop
+loop-from-places2 c = then1 c .before .before
+
+abbrev loop-from-then3 : tie.Then3 Inv-loop μ-loop → tie.At-loop Inv-loop μ-loop
+loop-from-then3 c = loop-from-places2 (c .before .before .before .before)
+
+abbrev loop-from-ran : tie.After-ran Inv-loop μ-loop → tie.At-loop Inv-loop μ-loop
+loop-from-ran c = loop-from-then3 (c .before)
+
+-- the state where the test `if1` fails
+abbrev else1 : tie.After-struct-known4 Inv-loop μ-loop → tie.Else1 Inv-loop μ-loop
+else1 c = c .before .before .before
+
+-- the state after `columns-of`
+abbrev columns-of-from-start : tie.After-start Inv-loop μ-loop → tie.After-columns-of Inv-loop μ-loop
+columns-of-from-start c = c .before .before .before .before
+
+abbrev columns-of-from-places : tie.After-places Inv-loop μ-loop → tie.After-columns-of Inv-loop μ-loop
+columns-of-from-places c = columns-of-from-start (c .before .before)
+
+-- the state at the call
+abbrev entry-from-places : tie.After-places Inv-loop μ-loop → tie.Start Inv-loop μ-loop
+entry-from-places c = columns-of-from-places c .before .before .before .before
+
+abbrev entry-from-else1 : tie.Else1 Inv-loop μ-loop → tie.Start Inv-loop μ-loop
+entry-from-else1 c = entry-from-places (places-from-else1 c)
+
+abbrev entry-from-then2 : tie.Then2 Inv-loop μ-loop → tie.Start Inv-loop μ-loop
+entry-from-then2 c = entry-from-places (loop-from-places2 (c .before .before) .before)
+
 -- THE PLACES. What the function is given
 abbrev table-of : tie.After-places Inv-loop μ-loop → Loaded
-table-of p = p .before .before .before .before .before .before .before .before .before .before .args .table
+table-of p = entry-from-places p .args .table
 
 abbrev tick-of : tie.After-places Inv-loop μ-loop → ℕ
-tick-of p = p .before .before .before .before .before .before .before .before .before .before .args .tick
+tick-of p = entry-from-places p .args .tick
 
 abbrev place-of : tie.After-places Inv-loop μ-loop → ℕ
-place-of p = p .before .before .before .before .before .before .before .before .before .before .args .place
+place-of p = entry-from-places p .args .place
 
 -- the run begins as that of table t does
 abbrev Of : tie.After-places Inv-loop μ-loop → Loaded → Type 0
 Of p t =
-    Begins t (p .before .before .before .before .before .before .columns-of .result .setting) (p .before .before .before .before .before .before .columns-of .result .width)
-    (p .before .before .before .before .before .before .columns-of .result .times) (p .before .before .start .result .pace) (p .before .before .start .result .places)
+    let co = columns-of-from-places p in
+    Begins t (co .columns-of .result .setting) (co .columns-of .result .width)
+    (co .columns-of .result .times) (p .before .before .start .result .pace) (p .before .before .start .result .places)
 
 own : (p : tie.After-places Inv-loop μ-loop) → Of p (table-of p)
 own p = record {
-  fit = p .before .before .before .before .before .before .before .before .before .before .pre .0;
-  numbers = p .before .before .before .before .before .before .columns-of .ensures;
+  fit = entry-from-places p .pre .0;
+  numbers = columns-of-from-places p .columns-of .ensures;
   stand = p .before .before .start .ensures .0;
 }
 
@@ -73,34 +128,36 @@ same-task t fit tick place f = task-at (t .tasks) (t .count) place (inside t fit
 counting-of : (k : tie.At-loop Inv-loop μ-loop) → Counting (table-of (k .before)) (tick-of (k .before)) (place-of (k .before)) (standAt (k .loop .pace) (k .loop .places)) (k .loop .ran)
 counting-of k =
     let p = k .before in
-    let x = p .before .before .before .before .before .before .before .before .before .before in
+    let x = entry-from-places p in
     k .loop .inv (table-of p) (own p) (x .pre .1) (ap (λ (τ : Task). tick-of p - τ .deadline) (sym (same-task (table-of p) (x .pre .0) (tick-of p) (place-of p) (x .pre .1))))
 
 -- a tick is taken
-stepped : (g : tie.After-step Inv-loop μ-loop) (t : Loaded) → Of (g .before .before .before .before .before .before .before) t
-    → standAt (g .step .result) (g .step .last .1 .1 .1 .1 .0) ≡ next (numbersIn t) (standAt (g .before .before .before .before .before .before .loop .pace) (g .before .before .before .before .before .before .loop .places))
-stepped g t b = g .step .ensures ∙ ap (λ (n : Numbers). next n (standAt (g .before .before .before .before .before .before .loop .pace) (g .before .before .before .before .before .before .loop .places))) (b .numbers)
+stepped : (g : tie.After-step Inv-loop μ-loop) (t : Loaded) → Of (loop-from-places2 (g .before) .before) t
+    → standAt (g .step .result) (g .step .last .1 .1 .1 .1 .0) ≡ next (numbersIn t) (standAt (loop-from-places2 (g .before) .loop .pace) (loop-from-places2 (g .before) .loop .places))
+stepped g t b = g .step .ensures ∙ ap (λ (n : Numbers). next n (standAt (loop-from-places2 (g .before) .loop .pace) (loop-from-places2 (g .before) .loop .places))) (b .numbers)
 
-on : (g : tie.After-step Inv-loop μ-loop) → g .step .result .tick ≡ g .before .before .before .before .before .before .loop .pace .tick + 1
+on : (g : tie.After-step Inv-loop μ-loop) → g .step .result .tick ≡ loop-from-places2 (g .before) .loop .pace .tick + 1
 on g = tick-on _ _ _ (g .step .ensures)
 
 -- at the end: the tick is that of the miss, and what is left of the late job
-at-tick : (e : tie.Else1 Inv-loop μ-loop) → e .before .before .loop .pace .tick ≡ tick-of (e .before .before .before)
+at-tick : (e : tie.Else1 Inv-loop μ-loop) → e .before .before .loop .pace .tick ≡ tick-of (places-from-else1 e)
 at-tick e = omega (arith, counting-of (e .before .before) .within, e .if1 .left)
 
-counted-end : (e : tie.Else1 Inv-loop μ-loop) → Counted (tableIn (table-of (e .before .before .before))) (tick-of (e .before .before .before)) (place-of (e .before .before .before)) (tick-of (e .before .before .before)) (e .before .before .loop .ran)
+counted-end : (e : tie.Else1 Inv-loop μ-loop) → Counted (tableIn (table-of (places-from-else1 e)))
+    (tick-of (places-from-else1 e)) (place-of (places-from-else1 e)) (tick-of (places-from-else1 e)) (e .before .before .loop .ran)
 counted-end e =
-    subst (λ (n : ℕ). Counted (tableIn (table-of (e .before .before .before))) (tick-of (e .before .before .before)) (place-of (e .before .before .before)) n (e .before .before .loop .ran)) (at-tick e)
+    let places-state = places-from-else1 e in
+    subst (λ (n : ℕ). Counted (tableIn (table-of places-state)) (tick-of places-state) (place-of places-state) n (e .before .before .loop .ran)) (at-tick e)
     (counting-of (e .before .before) .counted)
 
 at-end : (e : tie.Else1 Inv-loop μ-loop)
-    → (getD (e .before .before .loop .places) (place-of (e .before .before .before)) 0 ≤ getD (table-of (e .before .before .before) .tasks) (place-of (e .before .before .before)) noTask .length)
-    × (getD (table-of (e .before .before .before) .tasks) (place-of (e .before .before .before)) noTask .length - getD (e .before .before .loop .places) (place-of (e .before .before .before)) 0
-    ≡ hadBy (tableIn (table-of (e .before .before .before))) (tick-of (e .before .before .before)) (place-of (e .before .before .before)))
+    → (getD (e .before .before .loop .places) (place-of (places-from-else1 e)) 0 ≤ getD (table-of (places-from-else1 e) .tasks) (place-of (places-from-else1 e)) noTask .length)
+    × (getD (table-of (places-from-else1 e) .tasks) (place-of (places-from-else1 e)) noTask .length - getD (e .before .before .loop .places) (place-of (places-from-else1 e)) 0
+    ≡ hadBy (tableIn (table-of (places-from-else1 e))) (tick-of (places-from-else1 e)) (place-of (places-from-else1 e)))
 at-end e =
     let k = e .before .before in
     let p = k .before in
-    let x = p .before .before .before .before .before .before .before .before .before .before in
+    let x = entry-from-places p in
     let t = table-of p in
     let h = left-had (tableIn t) (x .pre .0 .sound) (tick-of p) (place-of p) (x .pre .1) (machineOf (k .loop .places) (k .loop .pace .claiming))
     (subst (λ (n : ℕ). Tied (tableIn t) n (machineOf (k .loop .places) (k .loop .pace .claiming))) (at-tick e) (counting-of k .follows .before .tied)) in
@@ -116,7 +173,7 @@ array-copy-out-late c = let x = c .before in inside (x .args .table) (x .pre .0)
 
 sub-release : tie.Need-sub-release Inv-loop μ-loop
 sub-release c =
-    let x = c .before .before .before in
+    let x = entry-from-struct-known c in
     subst (λ (τ : Task). τ .deadline ≤ x .args .tick) (same-task (x .args .table) (x .pre .0) (x .args .tick) (x .args .place) (x .pre .1))
     (deadline-within (tableIn (x .args .table)) (x .pre .0 .sound) (x .args .tick) (x .args .place) (x .pre .1))
 
@@ -132,76 +189,80 @@ loop-holds c =
 
 step-requires : tie.Need-step-requires Inv-loop μ-loop
 step-requires c κs =
-    let k = c .before .before .before .before .before in
+    let k = loop-from-places2 c in
     let p = k .before in
-    let x = p .before .before .before .before .before .before .before .before .before .before in
+    let x = entry-from-places p in
     subst (λ (n : Numbers). Steppable n (standAt (k .loop .pace) (k .loop .places))) (sym (own p .numbers))
     (steppable (table-of p) (x .pre .0) (standAt (k .loop .pace) (k .loop .places)) (counting-of k .follows)
-    (met-here (table-of p) (x .pre .0) (tick-of p) (place-of p) (x .pre .1) (standAt (k .loop .pace) (k .loop .places)) (k .loop .ran) (counting-of k) (c .before .before .before .if1 .taken))
-    (omega (arith, c .before .before .before .if1 .taken, x .pre .2, x .pre .0 .limit)))
+    (met-here (table-of p) (x .pre .0) (tick-of p) (place-of p) (x .pre .1) (standAt (k .loop .pace) (k .loop .places)) (k .loop .ran) (counting-of k) (then1 c .if1 .taken))
+    (omega (arith, then1 c .if1 .taken, x .pre .2, x .pre .0 .limit)))
 
 has-requires : tie.Need-has-requires Inv-loop μ-loop
-has-requires c κs = let x = c .before .before .before .before .before .before .before .before .before .before .before .before .before .before .before .before .before .before in inside (x .args .table) (x .pre .0) (x .args .tick) (x .args .place) (x .pre .1) .1
+has-requires c κs = let x = entry-from-then2 c in inside (x .args .table) (x .pre .0) (x .args .tick) (x .args .place) (x .pre .1) .1
 
 add-requires : tie.Need-add-requires Inv-loop μ-loop
 add-requires c κs =
     λ q.
-    let k = c .before .before .before .before .before .before .before .before .before .before in
-    omega (arith, counted-small _ _ _ _ _ (counting-of k .counted) q, counting-of k .within, k .before .before .before .before .before .before .before .before .before .before .before .fits .tick)
+    let k = loop-from-ran c in
+    omega (arith, counted-small _ _ _ _ _ (counting-of k .counted) q, counting-of k .within, entry-from-places (k .before) .fits .tick)
 
 loop-less : tie.Need-loop-less Inv-loop μ-loop
-loop-less c = let g = c .before .before .before .before .before in omega (arith, on g, g .before .before .before .before .if1 .taken)
+loop-less c = let g = has c .before .before in omega (arith, on g, then1 (g .before) .if1 .taken)
 
 loop-again : tie.Need-loop-again Inv-loop μ-loop
 loop-again c =
+    let has-state = has c in
     λ t b f r.
-    let g = c .before .before .before .before .before in
-    let k = g .before .before .before .before .before .before in
+    let g = has-state .before .before in
+    let k = loop-from-places2 (g .before) in
     let p = k .before in
     subst (λ (l : List ℕ). Counting t (tick-of p) (place-of p) (standAt (g .step .result) (g .step .last .1 .1 .1 .1 .0)) l) (sym (c .add .ensures))
-    (counting-waits t (b .fit) (tick-of p) (place-of p) f (standAt (k .loop .pace) (k .loop .places)) (k .loop .ran) (k .loop .inv t b f r) (g .before .before .before .before .if1 .taken) _ (stepped g t b) (omega (arith, r, c .before .before .before .before .if2 .taken)) (sym (c .before .before .before .has .ensures) ∙ not-true _ (c .before .before .if3 .taken)))
+    (counting-waits t (b .fit) (tick-of p) (place-of p) f (standAt (k .loop .pace) (k .loop .places)) (k .loop .ran) (k .loop .inv t b f r) (then1 (g .before) .if1 .taken) _
+    (stepped g t b) (omega (arith, r, has-state .before .if2 .taken)) (sym (has-state .has .ensures) ∙ not-true _ (c .before .before .if3 .taken)))
 
 loop-less-2 : tie.Need-loop-less-2 Inv-loop μ-loop
-loop-less-2 c = let g = c .before .before .before in omega (arith, on g, g .before .before .before .before .if1 .taken)
+loop-less-2 c = let g = step c in omega (arith, on g, then1 (g .before) .if1 .taken)
 
 loop-again-2 : tie.Need-loop-again-2 Inv-loop μ-loop
 loop-again-2 c =
     λ t b f r.
-    let g = c .before .before .before in
-    let k = g .before .before .before .before .before .before in
+    let g = step c in
+    let k = loop-from-places2 (g .before) in
     let p = k .before in
-    counting-runs t (b .fit) (tick-of p) (place-of p) f (standAt (k .loop .pace) (k .loop .places)) (k .loop .ran) (k .loop .inv t b f r) (g .before .before .before .before .if1 .taken) _ (stepped g t b) (omega (arith, r, c .before .before .if2 .taken)) (sym (c .before .has .ensures) ∙ not-false _ (c .if3 .left))
+    counting-runs t (b .fit) (tick-of p) (place-of p) f (standAt (k .loop .pace) (k .loop .places)) (k .loop .ran) (k .loop .inv t b f r)
+    (then1 (g .before) .if1 .taken) _ (stepped g t b) (omega (arith, r, c .before .before .if2 .taken)) (sym (c .before .has .ensures) ∙ not-false _ (c .if3 .left))
 
 loop-less-3 : tie.Need-loop-less-3 Inv-loop μ-loop
-loop-less-3 c = let g = c .before in omega (arith, on g, g .before .before .before .before .if1 .taken)
+loop-less-3 c = let g = c .before in omega (arith, on g, then1 (g .before) .if1 .taken)
 
 loop-again-3 : tie.Need-loop-again-3 Inv-loop μ-loop
 loop-again-3 c =
     λ t b f r.
     let g = c .before in
-    let k = g .before .before .before .before .before .before in
+    let k = loop-from-places2 (g .before) in
     let p = k .before in
-    counting-early t (b .fit) (tick-of p) (place-of p) f (standAt (k .loop .pace) (k .loop .places)) (k .loop .ran) (k .loop .inv t b f r) (g .before .before .before .before .if1 .taken) _ (stepped g t b) (omega (arith, r, c .if2 .left))
+    counting-early t (b .fit) (tick-of p) (place-of p) f (standAt (k .loop .pace) (k .loop .places)) (k .loop .ran)
+    (k .loop .inv t b f r) (then1 (g .before) .if1 .taken) _ (stepped g t b) (omega (arith, r, c .if2 .left))
 
 cast-position : tie.Need-cast-position Inv-loop μ-loop
-cast-position c = let x = c .before .before .before .before .before .before .before .before .before .before .before .before .before in omega (arith, inside (x .args .table) (x .pre .0) (x .args .tick) (x .args .place) (x .pre .1) .1)
+cast-position c = let x = entry-from-else1 c in omega (arith, inside (x .args .table) (x .pre .0) (x .args .tick) (x .args .place) (x .pre .1) .1)
 
 add-position : tie.Need-add-position Inv-loop μ-loop
-add-position c = let x = c .before .before .before .before .before .before .before .before .before .before .before .before .before in omega (arith, inside (x .args .table) (x .pre .0) (x .args .tick) (x .args .place) (x .pre .1) .1)
+add-position c = let x = entry-from-else1 c in omega (arith, inside (x .args .table) (x .pre .0) (x .args .tick) (x .args .place) (x .pre .1) .1)
 
 mul-had : tie.Need-mul-had Inv-loop μ-loop
-mul-had c = let x = c .before .before .before .before .before .before .before .before .before .before .before .before .before in omega (arith, inside (x .args .table) (x .pre .0) (x .args .tick) (x .args .place) (x .pre .1) .1)
+mul-had c = let x = entry-from-else1 c in omega (arith, inside (x .args .table) (x .pre .0) (x .args .tick) (x .args .place) (x .pre .1) .1)
 
 array-read-had : tie.Need-array-read-had Inv-loop μ-loop
-array-read-had c = let x = c .before .before .before .before .before .before .before .before .before .before .before .before .before in omega (arith, inside (x .args .table) (x .pre .0) (x .args .tick) (x .args .place) (x .pre .1) .1)
+array-read-had c = let x = entry-from-else1 c in omega (arith, inside (x .args .table) (x .pre .0) (x .args .tick) (x .args .place) (x .pre .1) .1)
 
 sub-had : tie.Need-sub-had Inv-loop μ-loop
 sub-had c = at-end (c .before) .0
 
 counts-above-requires : tie.Need-counts-above-requires Inv-loop μ-loop
 counts-above-requires c κs =
-    let k = c .before .before .before in
-    let x = c .before .before .before .before .before .before .before .before .before .before .before .before .before .before in
+    let k = loop-from-struct-known3 c in
+    let x = entry-from-else1 (c .before) in
     let l = inside (x .args .table) (x .pre .0) (x .args .tick) (x .args .place) (x .pre .1) .1 in
     (omega arith, counting-of k .counted .size)
 
@@ -213,15 +274,16 @@ cast-t38 c = search needs
 
 returns : tie.Need-returns Inv-loop μ-loop
 returns c =
-    let e = c .before .before .before in
+    let e = else1 c in
     let k = e .before .before in
     let p = k .before in
-    let x = p .before .before .before .before .before .before .before .before .before .before in
+    let x = entry-from-places p in
     let t = table-of p in
     let same = same-task t (x .pre .0) (tick-of p) (place-of p) (x .pre .1) in
     let w = at-end e in
     let position : place-of p + 1 ≡ suc (place-of p) = omega arith in
-    let others = ap named (c .before .counts-above .ensures) ∙ counted-named (tableIn t) (tick-of p) (place-of p) (k .loop .ran) (counted-end e) (omega (arith, inside t (x .pre .0) (tick-of p) (place-of p) (x .pre .1) .1)) in
+    let others = ap named (c .before .counts-above .ensures) ∙ counted-named (tableIn t) (tick-of p) (place-of p)
+    (k .loop .ran) (counted-end e) (omega (arith, inside t (x .pre .0) (tick-of p) (place-of p) (x .pre .1) .1)) in
     λ i. record {
       position = position i;
       tick = tick-of p;

@@ -20,6 +20,14 @@ Inv-loop bytes at word k₀ k = (k ≤ length word) × (begins word (drop at byt
 abbrev μ-loop : tie.MeasureT-loop
 μ-loop bytes at word k₀ k = length word - k
 
+-- the state at the call
+abbrev entry : tie.Then1 Inv-loop μ-loop → tie.Start Inv-loop μ-loop
+entry c = c .before .before .before
+
+-- the state at the head of the loop
+abbrev loop : tie.After-shared-slice-known2 Inv-loop μ-loop → tie.At-loop Inv-loop μ-loop
+loop c = c .before .before .before .before
+
 loop-holds : tie.Need-loop-holds Inv-loop μ-loop
 loop-holds c = (omega arith, rw add-zero)
 
@@ -28,7 +36,7 @@ sub-if1 c = search needs
 
 returns : tie.Need-returns Inv-loop μ-loop
 returns c =
-    let a = c .before .before .before .args in
+    let a = entry c .args in
     let l = c .before .before .loop in
     sym (l .inv .1 ∙ begins-past (a .word .now) (a .bytes .now) (l .k) (a .at + l .k) (omega arith) (omega arith))
 
@@ -43,8 +51,8 @@ shared-slice-read-if2-2 c = search needs
 
 returns-2 : tie.Need-returns-2 Inv-loop μ-loop
 returns-2 c =
-    let a = c .before .before .before .before .before .before .args in
-    let l = c .before .before .before .before .before .loop in
+    let a = loop (c .before) .before .args in
+    let l = loop (c .before) .loop in
     let e : eqb (getD (a .word .now) (l .k) 0) (getD (a .bytes .now) (a .at + l .k) 0) ≡ false = ne-eqb _ _ (λ q. c .if2 .taken (sym q)) in
     sym (l .inv .1 ∙ begins-on (a .word .now) (a .bytes .now) (l .k) (a .at + l .k) (omega arith) (omega arith) ∙ rw e)
 
@@ -56,8 +64,8 @@ loop-less c = search needs
 
 loop-again : tie.Need-loop-again Inv-loop μ-loop
 loop-again c =
-    let a = c .before .before .before .before .before .before .args in
-    let l = c .before .before .before .before .before .loop in
+    let a = loop (c .before) .before .args in
+    let l = loop (c .before) .loop in
     let e : eqb (getD (a .word .now) (l .k) 0) (getD (a .bytes .now) (a .at + l .k) 0) ≡ true = eq-eqb _ _ (sym (c .if2 .left)) in
     let n : suc (a .at + l .k) ≡ a .at + (l .k + 1) = omega arith in
     let m : suc (l .k) ≡ l .k + 1 = omega arith in (

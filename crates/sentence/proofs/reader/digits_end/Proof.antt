@@ -15,6 +15,13 @@ Inv-loop bytes at end₀ end = at + digitsOf (drop at bytes) ≡ end + digitsOf 
 abbrev μ-loop : tie.MeasureT-loop
 μ-loop bytes at end₀ end = length bytes - end
 
+-- the state at the head of the loop
+abbrev loop-from-else1 : tie.Else1 Inv-loop μ-loop → tie.At-loop Inv-loop μ-loop
+loop-from-else1 c = c .before .before .before
+
+abbrev loop-from-then1 : tie.Then1 Inv-loop μ-loop → tie.At-loop Inv-loop μ-loop
+loop-from-then1 c = c .before .before .before
+
 loop-holds : tie.Need-loop-holds Inv-loop μ-loop
 loop-holds c = omega arith
 
@@ -22,10 +29,10 @@ shared-slice-read-byte : tie.Need-shared-slice-read-byte Inv-loop μ-loop
 shared-slice-read-byte c = omega arith
 
 returns : tie.Need-returns Inv-loop μ-loop
-returns c = let a = c .before .before .before .before .args in omega (arith, digits-low (a .bytes .now) (c .before .before .before .loop .end) (omega arith) (c .if1 .taken))
+returns c = let a = loop-from-then1 c .before .args in omega (arith, digits-low (a .bytes .now) (loop-from-then1 c .loop .end) (omega arith) (c .if1 .taken))
 
 returns-2 : tie.Need-returns-2 Inv-loop μ-loop
-returns-2 c = let a = c .before .before .before .before .before .args in omega (arith, digits-high (a .bytes .now) (c .before .before .before .before .loop .end) (omega arith) (c .if2 .taken))
+returns-2 c = let a = loop-from-else1 (c .before) .before .args in omega (arith, digits-high (a .bytes .now) (loop-from-else1 (c .before) .loop .end) (omega arith) (c .if2 .taken))
 
 add-end : tie.Need-add-end Inv-loop μ-loop
 add-end c = omega arith
@@ -35,8 +42,8 @@ loop-less c = omega arith
 
 loop-again : tie.Need-loop-again Inv-loop μ-loop
 loop-again c =
-    let a = c .before .before .before .before .before .args in
-    let e = digits-on (a .bytes .now) (c .before .before .before .before .loop .end) (omega arith) (omega arith) in
+    let a = loop-from-else1 (c .before) .before .args in
+    let e = digits-on (a .bytes .now) (loop-from-else1 (c .before) .loop .end) (omega arith) (omega arith) in
     omega arith
 
 returns-3 : tie.Need-returns-3 Inv-loop μ-loop

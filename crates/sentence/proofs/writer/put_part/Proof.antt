@@ -13,6 +13,24 @@ use borrow.Author.Needs.{needs}
 use Rattle.sentence.proofs.writer.put_part.Statement.{statement}
 use Rattle.sentence.proofs.writer.put_part.Tie as tie
 
+-- the state at the call
+abbrev entry : tie.After-put-field-arg2 → tie.Start
+entry c = c .before .before .before .before
+
+-- the state after `put-field`
+abbrev put-field-from-put-field-arg4 : tie.After-put-field-arg4 → tie.After-put-field
+put-field-from-put-field-arg4 c = c .before .before .before .before
+
+abbrev put-field-from-line2 : tie.After-line2 → tie.After-put-field
+put-field-from-line2 c = put-field-from-put-field-arg4 (c .before .before)
+
+-- the state where the test `if1` fails
+abbrev else1-from-put-field-arg4 : tie.After-put-field-arg4 → tie.Else1
+else1-from-put-field-arg4 c = put-field-from-put-field-arg4 c .before .before .before
+
+abbrev else1-from-slice-known3 : tie.After-slice-known3 → tie.Else1
+else1-from-slice-known3 c = else1-from-put-field-arg4 (c .before .before .before)
+
 returns : tie.Need-returns
 returns c =
     let a = c .before .before .args in
@@ -26,11 +44,11 @@ add-put-field c = search needs
 
 put-field-requires : tie.Need-put-field-requires
 put-field-requires c κs =
-    let a = c .before .before .before .before .args in
+    let a = entry c .args in
     let s = letters "; task " ++ decimal (a .place + 1) in
     let u = letters " ran " ++ decimal (a .count) in
     let e = part-some (a .place) (a .count) (c .before .before .if1 .left) in
-    let r : a .at + length (s ++ u) ≤ length (a .line .now) = subst (λ (x : List ℕ). a .at + length x ≤ length (a .line .now)) e (c .before .before .before .before .pre .1) in
+    let r : a .at + length (s ++ u) ≤ length (a .line .now) = subst (λ (x : List ℕ). a .at + length x ≤ length (a .line .now)) e (entry c .pre .1) in
     room-first (a .at) (length (a .line .now)) s u r
 
 slice-aggregate-put-field-2 : tie.Need-slice-aggregate-put-field-2
@@ -38,24 +56,27 @@ slice-aggregate-put-field-2 c = search needs
 
 put-field-requires-2 : tie.Need-put-field-requires-2
 put-field-requires-2 c κs =
-    let a = c .before .before .before .before .before .before .before .before .before .args in
+    let else1 = else1-from-put-field-arg4 c in
+    let a = else1 .before .before .args in
     let s = letters "; task " ++ decimal (a .place + 1) in
     let u = letters " ran " ++ decimal (a .count) in
-    let e = part-some (a .place) (a .count) (c .before .before .before .before .before .before .before .if1 .left) in
-    let r : a .at + length (s ++ u) ≤ length (a .line .now) = subst (λ (x : List ℕ). a .at + length x ≤ length (a .line .now)) e (c .before .before .before .before .before .before .before .before .before .pre .1) in
-    room-after u (c .before .before .before .before .put-field .ensures) r
+    let e = part-some (a .place) (a .count) (else1 .if1 .left) in
+    let r : a .at + length (s ++ u) ≤ length (a .line .now) = subst (λ (x : List ℕ). a .at + length x ≤ length (a .line .now)) e (else1 .before .before .pre .1) in
+    room-after u (put-field-from-put-field-arg4 c .put-field .ensures) r
 
 same-length : tie.Need-same-length
 same-length c = search needs
 
 returns-2 : tie.Need-returns-2
 returns-2 c =
-    let a = c .before .before .before .before .before .before .before .before .before .before .before .before .args in
+    let else1 = else1-from-slice-known3 c in
+    let a = else1 .before .before .args in
     let s = letters "; task " ++ decimal (a .place + 1) in
     let u = letters " ran " ++ decimal (a .count) in
-    let e = part-some (a .place) (a .count) (c .before .before .before .before .before .before .before .before .before .before .if1 .left) in
-    let r : a .at + length (s ++ u) ≤ length (a .line .now) = subst (λ (x : List ℕ). a .at + length x ≤ length (a .line .now)) e (c .before .before .before .before .before .before .before .before .before .before .before .before .pre .1) in
-    subst (λ (x : List ℕ). Put (a .line .now) (a .at) x (c .before .before .put-field2 .last .0) (c .before .before .put-field2 .result)) (sym e) (put-both (c .before .before .before .before .before .before .before .put-field .ensures) (c .before .before .put-field2 .ensures) r)
+    let e = part-some (a .place) (a .count) (else1 .if1 .left) in
+    let r : a .at + length (s ++ u) ≤ length (a .line .now) = subst (λ (x : List ℕ). a .at + length x ≤ length (a .line .now)) e (else1 .before .before .pre .1) in
+    subst (λ (x : List ℕ). Put (a .line .now) (a .at) x (c .before .before .put-field2 .last .0) (c .before .before .put-field2 .result))
+    (sym e) (put-both (put-field-from-line2 (c .before) .put-field .ensures) (c .before .before .put-field2 .ensures) r)
 
 pub put-part-spec : {M : Type 1} → statement M
 put-part-spec =

@@ -1,3 +1,5 @@
+-- `session::Session::end` meets its contract: the stage is the definition's, and the end of each stage says what is spoken in it; one that is over says nothing.
+-- Assumes nothing.
 use borrow.Author.Needs.{needs}
 use mathlib.Core.Path.{sym, _∙_}
 use mathlib.Core.List.{[]}
@@ -8,6 +10,17 @@ use Rattle.session.proofs.Feeding.{spoken-in, over-spoken}
 use Rattle.session.proofs.Session.end.Statement.{statement}
 use Rattle.session.proofs.Session.end.Tie as tie
 
+-- the state after `stage-of`
+abbrev stage-of-from-end-table-arg : tie.After-end-table-arg → tie.After-stage-of
+stage-of-from-end-table-arg c = c .before .before .before
+
+abbrev stage-of-from-end-operations-arg : tie.After-end-operations-arg → tie.After-stage-of
+stage-of-from-end-operations-arg c = c .before .before .before
+
+-- the state at the call
+abbrev entry : tie.After-enum-told3 → tie.Start
+entry c = c .before .before .before
+
 stage-of-requires : tie.Need-stage-of-requires
 stage-of-requires c κs = search needs
 
@@ -15,25 +28,30 @@ enum-told : tie.Need-enum-told
 enum-told c = search needs
 
 end-table-requires : tie.Need-end-table-requires
-end-table-requires c κs = stage-within (c .before .before .before .before .args .self) (table-not-over _ (sym (c .before .before .before .stage-of .ensures) ∙ c .before .enum-told .given .1))
+end-table-requires c κs = stage-within (stage-of-from-end-table-arg c .before .args .self) (table-not-over _ (sym (stage-of-from-end-table-arg c .stage-of .ensures) ∙ c .before .enum-told .given .1))
 
 enum-told-2 : tie.Need-enum-told-2
 enum-told-2 c = search needs
 
 end-operations-requires : tie.Need-end-operations-requires
-end-operations-requires c κs = stage-within (c .before .before .before .before .args .self) (operations-not-over _ (sym (c .before .before .before .stage-of .ensures) ∙ c .before .enum-told2 .given .1)) .1
+end-operations-requires c κs =
+    stage-within (stage-of-from-end-operations-arg c .before .args .self) (operations-not-over _ (sym (stage-of-from-end-operations-arg c .stage-of .ensures) ∙ c .before .enum-told2 .given .1)) .1
 
 enum-told-3 : tie.Need-enum-told-3
 enum-told-3 c = search needs
 
 returns : tie.Need-returns
-returns c = said-of (sym (spoken-in (c .before .before .before .before .before .args .self) _ nothing [] (sym (c .before .before .before .before .stage-of .ensures) ∙ c .before .before .enum-told .given .1))) (c .end-table .ensures)
+returns c =
+    said-of (sym (spoken-in (stage-of-from-end-table-arg (c .before) .before .args .self) _ nothing []
+    (sym (stage-of-from-end-table-arg (c .before) .stage-of .ensures) ∙ c .before .before .enum-told .given .1))) (c .end-table .ensures)
 
 returns-2 : tie.Need-returns-2
-returns-2 c = said-of (sym (spoken-in (c .before .before .before .before .before .args .self) _ nothing [] (sym (c .before .before .before .before .stage-of .ensures) ∙ c .before .before .enum-told2 .given .1))) (c .end-operations .ensures)
+returns-2 c =
+    said-of (sym (spoken-in (stage-of-from-end-operations-arg (c .before) .before .args .self) _ nothing []
+    (sym (stage-of-from-end-operations-arg (c .before) .stage-of .ensures) ∙ c .before .before .enum-told2 .given .1))) (c .end-operations .ensures)
 
 returns-3 : tie.Need-returns-3
-returns-3 c = said-of (sym (over-spoken (c .before .before .before .args .self) nothing [] (sym (c .before .before .stage-of .ensures) ∙ c .enum-told3 .given .1))) (said-nothing (c .before .before .before .args .out .now))
+returns-3 c = said-of (sym (over-spoken (entry c .args .self) nothing [] (sym (c .before .before .stage-of .ensures) ∙ c .enum-told3 .given .1))) (said-nothing (entry c .args .out .now))
 
 pub end-spec : {M : Type 1} → statement M
 end-spec =

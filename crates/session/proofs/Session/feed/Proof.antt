@@ -1,3 +1,5 @@
+-- `session::Session::feed` meets its contract: the stage is the definition's, and each stage's feed says what is spoken in it; one that is over is silent.
+-- Assumes nothing.
 use borrow.Author.Needs.{needs}
 use mathlib.Core.Path.{_≡_, sym, _∙_, subst}
 use mathlib.Core.List.{List, [], _++_}
@@ -12,6 +14,20 @@ use Rattle.session.proofs.Feeding.{over-spoken, fed-in, fed-over}
 use Rattle.session.proofs.Session.feed.Statement.{statement}
 use Rattle.session.proofs.Session.feed.Tie as tie
 
+-- the state after `stage-of`
+abbrev stage-of-from-feed-table-arg : tie.After-feed-table-arg → tie.After-stage-of
+stage-of-from-feed-table-arg c = c .before .before .before
+
+abbrev stage-of-from-feed-operations-arg : tie.After-feed-operations-arg → tie.After-stage-of
+stage-of-from-feed-operations-arg c = c .before .before .before
+
+abbrev stage-of-from-over : tie.After-over → tie.After-stage-of
+stage-of-from-over c = c .before .before .before
+
+-- the state at the call
+abbrev entry : tie.After-over → tie.Start
+entry c = stage-of-from-over c .before .before
+
 stage-of-requires : tie.Need-stage-of-requires
 stage-of-requires c κs = search needs
 
@@ -19,13 +35,16 @@ enum-told : tie.Need-enum-told
 enum-told c = search needs
 
 feed-table-requires : tie.Need-feed-table-requires
-feed-table-requires c κs = stage-within (c .before .before .before .before .before .args .self) (table-not-over _ (sym (c .before .before .before .stage-of .ensures) ∙ c .before .enum-told .given .1))
+feed-table-requires c κs =
+    stage-within (stage-of-from-feed-table-arg c .before .before .args .self) (table-not-over _ (sym (stage-of-from-feed-table-arg c .stage-of .ensures) ∙ c .before .enum-told .given .1))
 
 enum-told-2 : tie.Need-enum-told-2
 enum-told-2 c = search needs
 
 feed-operations-requires : tie.Need-feed-operations-requires
-feed-operations-requires c κs = stage-within (c .before .before .before .before .before .args .self) (operations-not-over _ (sym (c .before .before .before .stage-of .ensures) ∙ c .before .enum-told2 .given .1)) .1
+feed-operations-requires c κs =
+    stage-within (stage-of-from-feed-operations-arg c .before .before .args .self)
+    (operations-not-over _ (sym (stage-of-from-feed-operations-arg c .stage-of .ensures) ∙ c .before .enum-told2 .given .1)) .1
 
 enum-told-3 : tie.Need-enum-told-3
 enum-told-3 c = search needs
@@ -34,19 +53,23 @@ over-requires : tie.Need-over-requires
 over-requires c κs = search needs
 
 returns : tie.Need-returns
-returns c = fed-in (c .before .before .before .before .before .before .args .self) _ _ _ _ _ (sym (c .before .before .before .before .stage-of .ensures) ∙ c .before .before .enum-told .given .1) (c .feed-table .ensures)
+returns c =
+    fed-in (stage-of-from-feed-table-arg (c .before) .before .before .args .self) _ _ _ _ _
+    (sym (stage-of-from-feed-table-arg (c .before) .stage-of .ensures) ∙ c .before .before .enum-told .given .1) (c .feed-table .ensures)
 
 returns-2 : tie.Need-returns-2
-returns-2 c = fed-in (c .before .before .before .before .before .before .args .self) _ _ _ _ _ (sym (c .before .before .before .before .stage-of .ensures) ∙ c .before .before .enum-told2 .given .1) (c .feed-operations .ensures)
+returns-2 c =
+    fed-in (stage-of-from-feed-operations-arg (c .before) .before .before .args .self) _ _ _ _ _
+    (sym (stage-of-from-feed-operations-arg (c .before) .stage-of .ensures) ∙ c .before .before .enum-told2 .given .1) (c .feed-operations .ensures)
 
 returns-3 : tie.Need-returns-3
 returns-3 c =
-    let a = c .before .before .before .before .before .args in
+    let a = entry c .args in
     subst (λ (x : Fed). FedBy (spoken (a .self)) (a .chunk .now) (a .out .now) (a .out .now) x) (sym (c .over .ensures))
     (fed-over (spoken (a .self)) (a .self) (a .chunk .now) (a .out .now) (a .out .now) [] 0 (said-nothing (a .out .now)) (λ bs. silent nothing bs) (λ bs. begins-with (sym (silent unknown bs))))
   where
-    silent : (e : Ahead) (bs : List ℕ) → spoken (c .before .before .before .before .before .args .self) e (c .before .before .before .before .before .args .chunk .now ++ bs) ≡ []
-    silent e bs = over-spoken (c .before .before .before .before .before .args .self) e (c .before .before .before .before .before .args .chunk .now ++ bs) (sym (c .before .before .before .stage-of .ensures) ∙ c .before .enum-told3 .given .1)
+    silent : (e : Ahead) (bs : List ℕ) → spoken (entry c .args .self) e (entry c .args .chunk .now ++ bs) ≡ []
+    silent e bs = over-spoken (entry c .args .self) e (entry c .args .chunk .now ++ bs) (sym (stage-of-from-over c .stage-of .ensures) ∙ c .before .enum-told3 .given .1)
 
 pub feed-spec : {M : Type 1} → statement M
 feed-spec =

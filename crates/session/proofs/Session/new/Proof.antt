@@ -1,3 +1,5 @@
+-- `session::Session::new` meets its contract: with no bytes held, what will be said to bytes is the whole talk by definition.
+-- Assumes nothing.
 use borrow.Author.Needs.{needs}
 use mathlib.Core.Path.{refl}
 use Rattle.session.specs.Session.{spoken, spokenIn}

@@ -1,7 +1,24 @@
+-- `session::open::begin` meets its contract: a text longer than any table is refused and ends the session, and else start's answer is said.
+-- Assumes nothing.
 use borrow.Author.Needs.{needs}
 use Rattle.session.proofs.Replying.{opened-refused, opened-run}
 use Rattle.session.proofs.open.begin.Statement.{statement}
 use Rattle.session.proofs.open.begin.Tie as tie
+
+-- the state where the test `if1` fails
+abbrev else1 : tie.After-say-answer → tie.Else1
+else1 c = c .before .before .before
+
+-- the state after `start`
+abbrev start : tie.After-say-answer → tie.After-start
+start c = else1 c .before .before
+
+-- the state at the call
+abbrev entry-from-then1 : tie.Then1 → tie.Start
+entry-from-then1 c = c .before .before .before .before
+
+abbrev entry-from-say-refused : tie.After-say-refused → tie.Start
+entry-from-say-refused c = entry-from-then1 (c .before .before)
 
 start-requires : tie.Need-start-requires
 start-requires c κs = search needs
@@ -10,7 +27,7 @@ say-refused-requires : tie.Need-say-refused-requires
 say-refused-requires c κs = search needs
 
 returns : tie.Need-returns
-returns c = opened-refused (c .before .before .before .before .before .before .args .table .now) (c .before .before .before .before .before .before .args .out .now) _ _ _ (c .before .before .if1 .taken) (c .say-refused .ensures)
+returns c = opened-refused (entry-from-say-refused c .args .table .now) (entry-from-say-refused c .args .out .now) _ _ _ (c .before .before .if1 .taken) (c .say-refused .ensures)
 
 slice-aggregate-say-answer : tie.Need-slice-aggregate-say-answer
 slice-aggregate-say-answer c = search needs
@@ -19,7 +36,9 @@ say-answer-requires : tie.Need-say-answer-requires
 say-answer-requires c κs = search needs
 
 returns-2 : tie.Need-returns-2
-returns-2 c = opened-run (c .before .before .before .before .before .before .before .args .table .now) (c .before .before .before .before .before .before .before .args .out .now) _ (c .before .before .before .before .before .start .result) _ (c .before .before .before .if1 .left) (c .before .before .before .before .before .start .ensures) (c .say-answer .ensures)
+returns-2 c =
+    let s = start c in
+    opened-run (s .before .before .args .table .now) (s .before .before .args .out .now) _ (s .start .result) _ (else1 c .if1 .left) (s .start .ensures) (c .say-answer .ensures)
 
 pub begin-spec : {M : Type 1} → statement M
 begin-spec =

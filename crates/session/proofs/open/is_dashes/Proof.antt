@@ -1,7 +1,13 @@
+-- `session::open::is_dashes` meets its contract: two bytes are compared one by one, and a line of any other length is not dashes.
+-- Assumes nothing.
 use borrow.Author.Needs.{needs}
 use Rattle.session.proofs.Replying.{dashes-of, no-dashes}
 use Rattle.session.proofs.open.is_dashes.Statement.{statement}
 use Rattle.session.proofs.open.is_dashes.Tie as tie
+
+-- the state at the call
+abbrev entry : tie.After-shared-slice-known2 → tie.Start
+entry c = c .before .before .before
 
 shared-slice-read-result : tie.Need-shared-slice-read-result
 shared-slice-read-result c = search needs
@@ -10,7 +16,7 @@ shared-slice-read-result-2 : tie.Need-shared-slice-read-result-2
 shared-slice-read-result-2 c = search needs
 
 returns : tie.Need-returns
-returns c = dashes-of (c .before .before .before .args .line .now) (c .before .before .if1 .taken)
+returns c = dashes-of (entry c .args .line .now) (c .before .before .if1 .taken)
 
 returns-2 : tie.Need-returns-2
 returns-2 c = no-dashes (c .before .args .line .now) (c .if1 .left)

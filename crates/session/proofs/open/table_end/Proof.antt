@@ -1,3 +1,5 @@
+-- `session::open::table_end` meets its contract: the two ways out are the two cases of the test for dashes.
+-- Assumes nothing.
 use borrow.Author.Needs.{needs}
 use Rattle.session.proofs.open.table_end.Statement.{statement}
 use Rattle.session.proofs.open.table_end.Tie as tie

@@ -1,3 +1,5 @@
+-- `session::operations::advance_by` meets its contract: each arm is the clause of what was found.
+-- Assumes nothing.
 use borrow.Author.Needs.{needs}
 use Rattle.session.proofs.operations.advance_by.Statement.{statement}
 use Rattle.session.proofs.operations.advance_by.Tie as tie

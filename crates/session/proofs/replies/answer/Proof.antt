@@ -1,3 +1,5 @@
+-- `session::replies::answer` meets its contract: each arm is the clause of its operation, with the run that the operation leaves.
+-- Assumes nothing.
 use borrow.Author.Needs.{needs}
 use mathlib.Core.Path.{ap, _∙_}
 use Rattle.run.specs.declared.Advanced.{Advanced}
@@ -8,6 +10,22 @@ use Rattle.session.proofs.Saying.{said-of}
 use Rattle.session.proofs.Replying.{said-advance, run-advance, last-advance, said-row, run-row, last-row, said-none, run-none, last-none}
 use Rattle.session.proofs.replies.answer.Statement.{statement}
 use Rattle.session.proofs.replies.answer.Tie as tie
+
+-- the state after `enum-told`
+abbrev enum-told-from-say-row : tie.After-say-row → tie.After-enum-told
+enum-told-from-say-row c = c .before .before .before
+
+-- the state after `enum-told2`
+abbrev enum-told2 : tie.After-say-word → tie.After-enum-told2
+enum-told2 c = c .before .before .before
+
+-- the state after `advance`
+abbrev advance : tie.After-say-answer → tie.After-advance
+advance c = c .before .before .before .before
+
+-- the state at the call
+abbrev entry : tie.After-say-answer → tie.Start
+entry c = advance c .before .before .before .before
 
 enum-known-operation : tie.Need-enum-known-operation
 enum-known-operation c = search needs
@@ -41,9 +59,9 @@ say-word-requires c κs = search needs
 
 returns : tie.Need-returns
 returns c =
-    let a = c .before .before .before .before .before .before .before .before .args in
-    let v = c .before .before .before .before .advance .ensures .value in
-    let o = c .before .before .before .before .before .before .operation .given .1 in (
+    let a = entry c .args in
+    let v = advance c .advance .ensures .value in
+    let o = advance c .before .before .operation .given .1 in (
       said-of (ap (λ (x : Advanced). answerLine (letters "taken") (x .answer)) v ∙ said-advance (a .operation) (a .run) _ o) (c .say-answer .ensures),
       ap (λ (x : Advanced). x .run) v ∙ run-advance (a .operation) (a .run) _ o,
       last-advance (a .operation) _ o,
@@ -51,8 +69,8 @@ returns c =
 
 returns-2 : tie.Need-returns-2
 returns-2 c =
-    let a = c .before .before .before .before .before .args in
-    let o = c .before .before .before .enum-told .given .1 in (
+    let a = enum-told-from-say-row c .before .before .args in
+    let o = enum-told-from-say-row c .enum-told .given .1 in (
       said-of (ap (λ (x : rows.Row). shownLine (a .run .cores) (x .answer) (x .bytes)) (c .before .before .row .ensures .value) ∙ said-row (a .operation) (a .run) o) (c .say-row .ensures),
       run-row (a .operation) (a .run) o,
       last-row (a .operation) o,
@@ -60,8 +78,8 @@ returns-2 c =
 
 returns-3 : tie.Need-returns-3
 returns-3 c =
-    let a = c .before .before .before .before .before .args in
-    let o = c .before .before .before .enum-told2 .given .1 in (
+    let a = enum-told2 c .before .before .args in
+    let o = enum-told2 c .enum-told2 .given .1 in (
       said-of (said-none (a .operation) (a .run) o) (c .say-word .ensures),
       run-none (a .operation) (a .run) o,
       last-none (a .operation) o,

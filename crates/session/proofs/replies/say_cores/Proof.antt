@@ -1,3 +1,5 @@
+-- `session::replies::say_cores` meets its contract: the word and the spelled cells stand one after the other, and a line has room for both.
+-- Assumes nothing.
 use borrow.Author.Needs.{needs}
 use native.Mathlib.Omega.{arith}
 use mathlib.Core.Path.{_≡_, refl, sym, ap, _∙_, subst}
@@ -17,6 +19,18 @@ use Rattle.text.proofs.Writing.{put-then, put-front}
 use Rattle.session.proofs.replies.say_cores.Statement.{statement}
 use Rattle.session.proofs.replies.say_cores.Tie as tie
 use Rattle.model.specs.Sizes.{mostCores}
+
+-- the state after `copy`
+abbrev copy : tie.After-copy2 → tie.After-copy
+copy c = c .before .before .before
+
+-- the state after `spell`
+abbrev spell : tie.After-copy2 → tie.After-spell
+spell c = copy c .before .before .before .before
+
+-- the state after `smaller`
+abbrev smaller : tie.After-copy2 → tie.After-smaller
+smaller c = spell c .before .before
 
 -- a row has 64 bytes
 take-most : (cores count : ℕ) (bytes : List ℕ) → length bytes ≡ mostCores → count ≡ min cores mostCores → take count bytes ≡ take cores bytes
@@ -63,10 +77,11 @@ copy-requires-2 c κs = search needs
 
 returns : tie.Need-returns
 returns c =
-    let a = c .before .before .before .before .before .before .before .before .before .before .args in
+    let a = smaller c .before .args in
     let w : length (a .out .now) ≡ longestLine = search needs in
     let v : length (a .bytes) ≡ mostCores = search needs in
-    cores-said (a .cores) (a .bytes) (a .out .now) _ _ _ _ _ _ _ _ w v (c .before .before .before .before .before .before .before .before .before .smaller .ensures) (c .before .before .before .before .before .before .before .spell .ensures .0) (c .before .before .before .before .before .before .before .spell .ensures .1) (c .before .before .before .copy .ensures) (c .copy2 .ensures)
+    cores-said (a .cores) (a .bytes) (a .out .now) _ _ _ _ _ _ _ _ w v (smaller c .smaller .ensures)
+    (spell c .spell .ensures .0) (spell c .spell .ensures .1) (copy c .copy .ensures) (c .copy2 .ensures)
 
 pub say-cores-spec : {M : Type 1} → statement M
 say-cores-spec =

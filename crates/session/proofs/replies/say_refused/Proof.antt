@@ -1,3 +1,5 @@
+-- `session::replies::say_refused` meets its contract: the line that was put has room, so it is said.
+-- Assumes nothing.
 use borrow.Author.Needs.{needs}
 use native.Mathlib.Omega.{arith}
 use mathlib.Core.Path.{_≡_}
@@ -7,6 +9,10 @@ use Rattle.session.proofs.replies.say_refused.Statement.{statement}
 use Rattle.session.proofs.replies.say_refused.Tie as tie
 use Rattle.text.specs.Output.{longestLine}
 
+-- the state at the call
+abbrev entry : tie.After-put-pair → tie.Start
+entry c = c .before .before .before
+
 slice-aggregate-put-pair : tie.Need-slice-aggregate-put-pair
 slice-aggregate-put-pair c = search needs
 
@@ -14,7 +20,7 @@ put-pair-requires : tie.Need-put-pair-requires
 put-pair-requires c κs = search needs
 
 returns : tie.Need-returns
-returns c = let w : length (c .before .before .before .args .out .now) ≡ longestLine = search needs in said-put (c .put-pair .ensures .0) (omega (arith, c .put-pair .ensures .1, w))
+returns c = let w : length (entry c .args .out .now) ≡ longestLine = search needs in said-put (c .put-pair .ensures .0) (omega (arith, c .put-pair .ensures .1, w))
 
 pub say-refused-spec : {M : Type 1} → statement M
 say-refused-spec = tie.close (tie.spec slice-aggregate-put-pair put-pair-requires returns)

@@ -1,3 +1,5 @@
+-- `session::replies::say_word` meets its contract: the word has at most 16 bytes, so there is room for it and the newline behind it.
+-- Assumes nothing.
 use borrow.Author.Needs.{needs}
 use native.Mathlib.Omega.{arith}
 use mathlib.Core.Path.{_≡_, subst}
@@ -13,6 +15,10 @@ use Rattle.session.proofs.Saying.{said-put}
 use Rattle.session.proofs.replies.say_word.Statement.{statement}
 use Rattle.session.proofs.replies.say_word.Tie as tie
 use Rattle.text.specs.Output.{longestLine}
+
+-- the state at the call
+abbrev entry : tie.After-copy → tie.Start
+entry c = c .before .before .before
 
 ends : (word before after : List ℕ) (n : ℕ) → Put before 0 (take (length word) (drop 0 word)) after n → n ≡ length word
 ends word before after n p = let q = subst (λ (x : List ℕ). Put before 0 x after n) (take-length word) p in omega (arith, q .ends)
@@ -30,13 +36,15 @@ copy-requires : tie.Need-copy-requires
 copy-requires c κs = search needs
 
 element-write-out : tie.Need-element-write-out
-element-write-out c = omega (arith, ends (c .before .before .before .args .word .now) _ _ _ (c .copy .ensures), c .before .before .before .pre)
+element-write-out c = omega (arith, ends (entry c .args .word .now) _ _ _ (c .copy .ensures), entry c .pre)
 
 add-result : tie.Need-add-result
-add-result c = omega (arith, ends (c .before .before .before .args .word .now) _ _ _ (c .copy .ensures), c .before .before .before .pre)
+add-result c = omega (arith, ends (entry c .args .word .now) _ _ _ (c .copy .ensures), entry c .pre)
 
 returns : tie.Need-returns
-returns c = let w : length (c .before .before .before .args .out .now) ≡ longestLine = search needs in word-said (c .before .before .before .args .word .now) (c .before .before .before .args .out .now) _ _ w (c .before .before .before .pre) (c .copy .ensures)
+returns c =
+    let s = entry c in
+    let w : length (s .args .out .now) ≡ longestLine = search needs in word-said (s .args .word .now) (s .args .out .now) _ _ w (s .pre) (c .copy .ensures)
 
 pub say-word-spec : {M : Type 1} → statement M
 say-word-spec = tie.close (tie.spec copy-requires element-write-out add-result returns)

@@ -18,6 +18,10 @@ use Rattle.table.proofs.Loads.{by-number, by-none, in-limits}
 use Rattle.table.proofs.checks.by_tasks.Statement.{statement}
 use Rattle.table.proofs.checks.by_tasks.Tie as tie
 
+-- the state after `first-out`
+abbrev first-out : tie.After-task-number → tie.After-first-out
+first-out c = c .before .before .before
+
 -- the table that is looked at, and its tasks counted
 abbrev given : tie.After-open-count → model.Table
 given c = tableWith (c .before .args .cores) (c .before .args .fence) (c .before .args .rule) (tasksOf (c .before .args .t4) (c .before .args .count))
@@ -64,7 +68,7 @@ refused-requires c κs = search needs
 returns : tie.Need-returns
 returns c =
     let n = c .before in
-    let f = n .before .before .before in
+    let f = first-out n in
     let o = f .before in
     let a = o .before .args in
     let place = f .first-out .result in

@@ -22,6 +22,10 @@ Inv-loop wide count tasks place₀ place = (place ≤ count) × ((p : ℕ) → p
 abbrev μ-loop : tie.MeasureT-loop
 μ-loop wide count tasks place₀ place = count - place
 
+-- the state at the head of the loop
+abbrev loop : tie.After-task-number Inv-loop μ-loop → tie.At-loop Inv-loop μ-loop
+loop c = c .before .before .before
+
 loop-holds : tie.Need-loop-holds Inv-loop μ-loop
 loop-holds c = (search needs, below-none _)
 
@@ -36,7 +40,7 @@ task-number-requires c κs = search needs
 
 returns : tie.Need-returns Inv-loop μ-loop
 returns c =
-    let s = c .before .before .before .before in
+    let s = loop (c .before) in
     let a = s .before .args in
     let there : length (a .t2) ≡ mostTasks = search needs in
     let out : taskOut (a .wide) (taskOf (getD (a .t2) (s .loop .place) noTask)) ≡ true =
@@ -51,7 +55,7 @@ loop-less c = omega arith
 
 loop-again : tie.Need-loop-again Inv-loop μ-loop
 loop-again c =
-    let s = c .before .before .before .before in
+    let s = loop (c .before) in
     (omega arith, below-more _ _ (s .loop .inv .1) (ap (λ (n : ℕ). not (eqb n 0)) (sym (c .before .task-number .ensures) ∙ c .if1 .left)))
 
 returns-2 : tie.Need-returns-2 Inv-loop μ-loop

@@ -12,7 +12,19 @@ no-task-requires : tie.Need-no-task-requires
 no-task-requires c κs = search needs
 
 returns : tie.Need-returns
-returns c = ap (λ (t : Task). record { answer = Refused (c .before .args .number) (c .before .args .position); count = 0; cores = 0; fence = 0; rule = 0; tasks = replicate mostTasks t; start = 0; period = 0; horizon = 0 }) (c .no-task .ensures)
+returns c =
+    ap (λ (t : Task). record {
+      answer = Refused (c .before .args .number)
+          (c .before .args .position);
+      count = 0;
+      cores = 0;
+      fence = 0;
+      rule = 0;
+      tasks = replicate mostTasks t;
+      start = 0;
+      period = 0;
+      horizon = 0;
+    }) (c .no-task .ensures)
 
 pub refused-spec : {M : Type 1} → statement M
 refused-spec = tie.close (tie.spec no-task-requires returns)

@@ -22,6 +22,10 @@ Inv-loop count tasks multiple₀ i₀ multiple i = (i ≤ count) × (multiple �
 abbrev μ-loop : tie.MeasureT-loop
 μ-loop count tasks multiple₀ i₀ multiple i = count - i
 
+-- the state at the head of the loop
+abbrev loop : tie.Then1 Inv-loop μ-loop → tie.At-loop Inv-loop μ-loop
+loop c = c .before .before .before
+
 loop-holds : tie.Need-loop-holds Inv-loop μ-loop
 unfolding hyperperiod
 loop-holds c = (search needs, search needs, refl)
@@ -66,7 +70,7 @@ next c =
 
 returns : tie.Need-returns Inv-loop μ-loop
 returns c =
-    let s = c .before .before .before in
+    let s = loop c in
     let a = s .before .args in
     hyperperiod-over (a .t1) (a .count) (s .before .pre .1) (there (s .before)) mostHorizon (s .loop .i + 1)
     (subst (λ (n : ℕ). mostHorizon < n) (next (c .before)) (c .if1 .taken))

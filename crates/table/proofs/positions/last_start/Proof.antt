@@ -20,6 +20,10 @@ Inv-loop count tasks start₀ i₀ start i = (1 ≤ i) × (i ≤ count) × (star
 abbrev μ-loop : tie.MeasureT-loop
 μ-loop count tasks start₀ i₀ start i = count - i
 
+-- the state at the head of the loop
+abbrev loop : tie.After-release-from Inv-loop μ-loop → tie.At-loop Inv-loop μ-loop
+loop c = c .before .before .before
+
 element-copy-out-start : tie.Need-element-copy-out-start Inv-loop μ-loop
 element-copy-out-start c = search needs
 
@@ -48,7 +52,7 @@ loop-less c = omega arith
 
 loop-again : tie.Need-loop-again Inv-loop μ-loop
 loop-again c =
-    let s = c .before .before .before in
+    let s = loop c in
     let a = s .before .args in
     let τ = getD (a .t1) (s .loop .i) noTask in (
       omega arith,

@@ -21,6 +21,10 @@ Inv-loop line₀ at number count left₀ k₀ line left k =
 abbrev μ-loop : tie.MeasureT-loop
 μ-loop line₀ at number count left₀ k₀ line left k = k
 
+-- the state at the call
+abbrev entry : tie.At-loop Inv-loop μ-loop → tie.Start Inv-loop μ-loop
+entry c = c .before .before .before
+
 digits-requires : tie.Need-digits-requires Inv-loop μ-loop
 digits-requires c κs = search needs
 
@@ -50,7 +54,7 @@ loop-less c = search needs
 
 loop-again : tie.Need-loop-again Inv-loop μ-loop
 loop-again c =
-    let a = c .before .before .before .before .args in
+    let a = entry (c .before) .args in
     let l = c .before .loop in
     let s = l .inv .0 in
     let d = 48 + l .left % 10 in
@@ -73,7 +77,7 @@ same-length c = search needs
 returns : tie.Need-returns Inv-loop μ-loop
 unfolding lastDigits
 returns c =
-    let a = c .before .before .before .before .args in
+    let a = entry (c .before) .args in
     let l = c .before .loop in
     let over : l .k ≡ 0 = omega arith in
     let whole : l .inv .0 ≡ decimal (a .number) = ap (λ (k : ℕ). lastDigits k (l .left) ++ l .inv .0) (sym over) ∙ l .inv .2 in

@@ -13,16 +13,24 @@ use borrow.Author.Needs.{needs}
 use Rattle.text.proofs.first.put_field.Statement.{statement}
 use Rattle.text.proofs.first.put_field.Tie as tie
 
-short : (c : tie.After-slice-known2) → c .before .before .put .result ≤ c .before .before .before .before .before .args .at + 11
+-- the state at the call
+abbrev entry-from-line : tie.After-line → tie.Start
+entry-from-line c = c .before .before .before .before
+
+abbrev entry-from-slice-known2 : tie.After-slice-known2 → tie.Start
+entry-from-slice-known2 c = entry-from-line (c .before)
+
+short : (c : tie.After-slice-known2) → c .before .before .put .result ≤ entry-from-slice-known2 c .args .at + 11
 short c =
-    let a = c .before .before .before .before .before .args in
+    let a = entry-from-slice-known2 c .args in
     omega (arith, c .before .before .put .ensures .ends, decimal-length (a .number), count-most 9 (a .number) (omega arith))
 
 whole :
     (c : tie.After-slice-known2)
-    → Put (c .before .before .before .before .before .args .line .now) (c .before .before .before .before .before .args .at) (space ∷ decimal (c .before .before .before .before .before .args .number)) (c .before .before .put .last .0) (c .before .before .put .result)
+    → Put (entry-from-slice-known2 c .args .line .now) (entry-from-slice-known2 c .args .at)
+    (space ∷ decimal (entry-from-slice-known2 c .args .number)) (c .before .before .put .last .0) (c .before .before .put .result)
 whole c =
-    let a = c .before .before .before .before .before .args in
+    let a = entry-from-slice-known2 c .args in
     put-then (put-one (a .line .now) (a .at) 32 (omega arith)) (c .before .before .put .ensures) (omega (arith, short c))
 
 slice-write-line : tie.Need-slice-write-line

@@ -9,6 +9,47 @@ use borrow.Author.Needs.{needs}
 use Rattle.text.proofs.first.put_first.Statement.{statement}
 use Rattle.text.proofs.first.put_first.Tie as tie
 
+-- the state after `verdict`
+abbrev verdict-from-put-pair : tie.After-put-pair → tie.After-verdict
+verdict-from-put-pair c = c .before .before .before .before
+
+abbrev verdict-from-line : tie.After-line → tie.After-verdict
+verdict-from-line c = verdict-from-put-pair (c .before)
+
+-- the state after `verdict2`
+abbrev verdict2-from-put-pair2 : tie.After-put-pair2 → tie.After-verdict2
+verdict2-from-put-pair2 c = c .before .before .before .before
+
+abbrev verdict2-from-line2 : tie.After-line2 → tie.After-verdict2
+verdict2-from-line2 c = verdict2-from-put-pair2 (c .before)
+
+-- the state after `verdict3`
+abbrev verdict3-from-put-pair3 : tie.After-put-pair3 → tie.After-verdict3
+verdict3-from-put-pair3 c = c .before .before .before .before
+
+abbrev verdict3-from-line3 : tie.After-line3 → tie.After-verdict3
+verdict3-from-line3 c = verdict3-from-put-pair3 (c .before)
+
+-- the state after `verdict4`
+abbrev verdict4-from-put-pair4 : tie.After-put-pair4 → tie.After-verdict4
+verdict4-from-put-pair4 c = c .before .before .before .before
+
+abbrev verdict4-from-line4 : tie.After-line4 → tie.After-verdict4
+verdict4-from-line4 c = verdict4-from-put-pair4 (c .before)
+
+-- the state at the call
+abbrev entry-from-line : tie.After-line → tie.Start
+entry-from-line c = verdict-from-line c .before .before .before
+
+abbrev entry-from-line2 : tie.After-line2 → tie.Start
+entry-from-line2 c = verdict2-from-line2 c .before .before .before
+
+abbrev entry-from-line3 : tie.After-line3 → tie.Start
+entry-from-line3 c = verdict3-from-line3 c .before .before .before
+
+abbrev entry-from-line4 : tie.After-line4 → tie.Start
+entry-from-line4 c = verdict4-from-line4 c .before .before .before
+
 enum-known-verdict : tie.Need-enum-known-verdict
 enum-known-verdict c = search needs
 
@@ -51,9 +92,9 @@ same-length c = search needs
 returns : tie.Need-returns
 unfolding firstLine
 returns c =
-    let a = c .before .before .before .before .before .before .before .before .before .args in
+    let a = entry-from-line (c .before) .args in
     let f = c .before .before .put-pair in
-    (subst (λ (v : Verdict). Put (a .line .now) 0 (firstLine (saidBy v)) (f .last .0) (f .result)) (sym (c .before .before .before .before .before .before .verdict .given .1)) (f .ensures .0), f .ensures .1)
+    (subst (λ (v : Verdict). Put (a .line .now) 0 (firstLine (saidBy v)) (f .last .0) (f .result)) (sym (verdict-from-line (c .before) .verdict .given .1)) (f .ensures .0), f .ensures .1)
 
 same-length-2 : tie.Need-same-length-2
 same-length-2 c = search needs
@@ -61,9 +102,9 @@ same-length-2 c = search needs
 returns-2 : tie.Need-returns-2
 unfolding firstLine
 returns-2 c =
-    let a = c .before .before .before .before .before .before .before .before .before .args in
+    let a = entry-from-line2 (c .before) .args in
     let f = c .before .before .put-pair2 in
-    (subst (λ (v : Verdict). Put (a .line .now) 0 (firstLine (saidBy v)) (f .last .0) (f .result)) (sym (c .before .before .before .before .before .before .verdict2 .given .1)) (f .ensures .0), f .ensures .1)
+    (subst (λ (v : Verdict). Put (a .line .now) 0 (firstLine (saidBy v)) (f .last .0) (f .result)) (sym (verdict2-from-line2 (c .before) .verdict2 .given .1)) (f .ensures .0), f .ensures .1)
 
 same-length-3 : tie.Need-same-length-3
 same-length-3 c = search needs
@@ -71,9 +112,9 @@ same-length-3 c = search needs
 returns-3 : tie.Need-returns-3
 unfolding firstLine
 returns-3 c =
-    let a = c .before .before .before .before .before .before .before .before .before .args in
+    let a = entry-from-line3 (c .before) .args in
     let f = c .before .before .put-pair3 in
-    (subst (λ (v : Verdict). Put (a .line .now) 0 (firstLine (saidBy v)) (f .last .0) (f .result)) (sym (c .before .before .before .before .before .before .verdict3 .given .1)) (f .ensures .0), f .ensures .1)
+    (subst (λ (v : Verdict). Put (a .line .now) 0 (firstLine (saidBy v)) (f .last .0) (f .result)) (sym (verdict3-from-line3 (c .before) .verdict3 .given .1)) (f .ensures .0), f .ensures .1)
 
 same-length-4 : tie.Need-same-length-4
 same-length-4 c = search needs
@@ -81,9 +122,9 @@ same-length-4 c = search needs
 returns-4 : tie.Need-returns-4
 unfolding firstLine
 returns-4 c =
-    let a = c .before .before .before .before .before .before .before .before .before .args in
+    let a = entry-from-line4 (c .before) .args in
     let f = c .before .before .put-pair4 in
-    (subst (λ (v : Verdict). Put (a .line .now) 0 (firstLine (saidBy v)) (f .last .0) (f .result)) (sym (c .before .before .before .before .before .before .verdict4 .given .1)) (f .ensures .0), f .ensures .1)
+    (subst (λ (v : Verdict). Put (a .line .now) 0 (firstLine (saidBy v)) (f .last .0) (f .result)) (sym (verdict4-from-line4 (c .before) .verdict4 .given .1)) (f .ensures .0), f .ensures .1)
 
 pub put-first-spec : {M : Type 1} → statement M
 put-first-spec =

@@ -15,6 +15,24 @@ use borrow.Author.Needs.{needs}
 use Rattle.text.proofs.first.put_pair.Statement.{statement}
 use Rattle.text.proofs.first.put_pair.Tie as tie
 
+-- the state after `copy`
+abbrev copy : tie.After-put-field-arg → tie.After-copy
+copy c = c .before .before .before
+
+-- the state after `put-field`
+abbrev put-field-from-put-field-arg2 : tie.After-put-field-arg2 → tie.After-put-field
+put-field-from-put-field-arg2 c = c .before .before .before
+
+abbrev put-field-from-line3 : tie.After-line3 → tie.After-put-field
+put-field-from-line3 c = put-field-from-put-field-arg2 (c .before .before)
+
+-- the state at the call
+abbrev entry-from-put-field-arg : tie.After-put-field-arg → tie.Start
+entry-from-put-field-arg c = copy c .before .before .before .before
+
+abbrev entry-from-slice-known4 : tie.After-slice-known4 → tie.Start
+entry-from-slice-known4 c = entry-from-put-field-arg (put-field-from-line3 (c .before) .before)
+
 -- the word is put, and then a field after it
 word-put :
     (line word m : List ℕ) (at : ℕ) → length word ≤ 7 → 267 ≤ length line → Put line 0 (take (length word) (drop 0 word)) m at
@@ -35,13 +53,15 @@ field-put line m n s at end number most k f p q =
 
 parts :
     (c : tie.After-slice-known4)
-    → (Put (c .before .before .before .before .before .before .before .before .before .before .before .before .before .before .args .line .now) 0 ((c .before .before .before .before .before .before .before .before .before .before .before .before .before .before .args .word .now ++ (space ∷ decimal (c .before .before .before .before .before .before .before .before .before .before .before .before .before .before .args .first))) ++ (space ∷ decimal (c .before .before .before .before .before .before .before .before .before .before .before .before .before .before .args .second))) (c .before .before .put-field2 .last .0) (c .before .before .put-field2 .result))
-    × (c .before .before .put-field2 .result ≤ 7 + 11 + 11) × (length (c .before .before .put-field2 .last .0) ≡ length (c .before .before .before .before .before .before .before .before .before .before .before .before .before .before .args .line .now))
+    → (Put (entry-from-slice-known4 c .args .line .now) 0
+    ((entry-from-slice-known4 c .args .word .now ++ (space ∷ decimal (entry-from-slice-known4 c .args .first))) ++ (space ∷ decimal (entry-from-slice-known4 c .args .second)))
+    (c .before .before .put-field2 .last .0) (c .before .before .put-field2 .result))
+    × (c .before .before .put-field2 .result ≤ 7 + 11 + 11) × (length (c .before .before .put-field2 .last .0) ≡ length (entry-from-slice-known4 c .args .line .now))
 parts c =
-    let a = c .before .before .before .before .before .before .before .before .before .before .before .before .before .before .args in
-    let p = c .before .before .before .before .before .before .before .before .before .before .before .before .before .before .pre in
-    let w = word-put (a .line .now) (a .word .now) _ _ (p .0) (p .1) (c .before .before .before .before .before .before .before .before .before .before .copy .ensures) in
-    let f = field-put (a .line .now) _ _ (a .word .now) _ _ (a .first) 7 (p .1) (omega arith) w (c .before .before .before .before .before .before .put-field .ensures) in
+    let a = entry-from-slice-known4 c .args in
+    let p = entry-from-slice-known4 c .pre in
+    let w = word-put (a .line .now) (a .word .now) _ _ (p .0) (p .1) (copy (put-field-from-line3 (c .before) .before) .copy .ensures) in
+    let f = field-put (a .line .now) _ _ (a .word .now) _ _ (a .first) 7 (p .1) (omega arith) w (put-field-from-line3 (c .before) .put-field .ensures) in
     field-put (a .line .now) _ _ (a .word .now ++ (space ∷ decimal (a .first))) _ _ (a .second) (7 + 11) (p .1) (omega arith) f (c .before .before .put-field2 .ensures)
 
 copy-requires : tie.Need-copy-requires
@@ -49,16 +69,18 @@ copy-requires c κs = search needs
 
 put-field-requires : tie.Need-put-field-requires
 put-field-requires c κs =
-    let a = c .before .before .before .before .before .before .before .args in
-    let w = word-put (a .line .now) (a .word .now) _ _ (c .before .before .before .before .before .before .before .pre .0) (c .before .before .before .before .before .before .before .pre .1) (c .before .before .before .copy .ensures) in
+    let start = entry-from-put-field-arg c in
+    let a = start .args in
+    let w = word-put (a .line .now) (a .word .now) _ _ (start .pre .0) (start .pre .1) (copy c .copy .ensures) in
     omega (arith, w .1, w .2)
 
 put-field-requires-2 : tie.Need-put-field-requires-2
 put-field-requires-2 c κs =
-    let a = c .before .before .before .before .before .before .before .before .before .before .before .args in
-    let p = c .before .before .before .before .before .before .before .before .before .before .before .pre in
-    let w = word-put (a .line .now) (a .word .now) _ _ (p .0) (p .1) (c .before .before .before .before .before .before .before .copy .ensures) in
-    let f = field-put (a .line .now) _ _ (a .word .now) _ _ (a .first) 7 (p .1) (omega arith) w (c .before .before .before .put-field .ensures) in
+    let pf = put-field-from-put-field-arg2 c in
+    let a = entry-from-put-field-arg (pf .before) .args in
+    let p = entry-from-put-field-arg (pf .before) .pre in
+    let w = word-put (a .line .now) (a .word .now) _ _ (p .0) (p .1) (copy (pf .before) .copy .ensures) in
+    let f = field-put (a .line .now) _ _ (a .word .now) _ _ (a .first) 7 (p .1) (omega arith) w (pf .put-field .ensures) in
     omega (arith, f .1, f .2)
 
 slice-write-line : tie.Need-slice-write-line
@@ -72,9 +94,12 @@ same-length c = length-set (c .before .before .put-field2 .last .0) (c .before .
 
 returns : tie.Need-returns
 returns c =
-    let a = c .before .before .before .before .before .before .before .before .before .before .before .before .before .before .args in
-    let f = c .before .before .put-field2 in
-    (subst (λ (s : List ℕ). Put (a .line .now) 0 s (set (f .last .0) (f .result) 10) (f .result + 1)) (pair-text (a .word .now) (a .first) (a .second)) (put-then (parts c .0) (put-one (f .last .0) (f .result) 10 (omega (arith, parts c .1, parts c .2))) (omega (arith, parts c .1))), omega (arith, parts c .1))
+    let a = entry-from-slice-known4 c .args in
+    let f = c .before .before .put-field2 in (
+      subst (λ (s : List ℕ). Put (a .line .now) 0 s (set (f .last .0) (f .result) 10) (f .result + 1)) (pair-text (a .word .now) (a .first) (a .second))
+          (put-then (parts c .0) (put-one (f .last .0) (f .result) 10 (omega (arith, parts c .1, parts c .2))) (omega (arith, parts c .1))),
+      omega (arith, parts c .1),
+    )
 
 pub put-pair-spec : {M : Type 1} → statement M
 put-pair-spec =

@@ -15,6 +15,13 @@ Inv-loop bytes from end₀ end = from + lineLength (drop from bytes) ≡ end + l
 abbrev μ-loop : tie.MeasureT-loop
 μ-loop bytes from end₀ end = length bytes - end
 
+-- the state at the head of the loop
+abbrev loop-from-then1 : tie.Then1 Inv-loop μ-loop → tie.At-loop Inv-loop μ-loop
+loop-from-then1 c = c .before .before .before
+
+abbrev loop-from-else1 : tie.Else1 Inv-loop μ-loop → tie.At-loop Inv-loop μ-loop
+loop-from-else1 c = c .before .before .before
+
 loop-holds : tie.Need-loop-holds Inv-loop μ-loop
 loop-holds c = omega arith
 
@@ -22,7 +29,7 @@ shared-slice-read-if1 : tie.Need-shared-slice-read-if1 Inv-loop μ-loop
 shared-slice-read-if1 c = omega arith
 
 returns : tie.Need-returns Inv-loop μ-loop
-returns c = let a = c .before .before .before .before .args in omega (arith, line-here (a .bytes .now) (c .before .before .before .loop .end) (omega arith) (c .if1 .taken))
+returns c = let a = loop-from-then1 c .before .args in omega (arith, line-here (a .bytes .now) (loop-from-then1 c .loop .end) (omega arith) (c .if1 .taken))
 
 add-end : tie.Need-add-end Inv-loop μ-loop
 add-end c = omega arith
@@ -32,8 +39,8 @@ loop-less c = omega arith
 
 loop-again : tie.Need-loop-again Inv-loop μ-loop
 loop-again c =
-    let a = c .before .before .before .before .args in
-    let e = line-on (a .bytes .now) (c .before .before .before .loop .end) (omega arith) (c .if1 .left) in
+    let a = loop-from-else1 c .before .args in
+    let e = line-on (a .bytes .now) (loop-from-else1 c .loop .end) (omega arith) (c .if1 .left) in
     omega arith
 
 returns-2 : tie.Need-returns-2 Inv-loop μ-loop

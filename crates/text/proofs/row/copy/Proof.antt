@@ -18,6 +18,10 @@ Inv-loop from start count to₀ at k₀ to k = Put to₀ at (take k (drop start 
 abbrev μ-loop : tie.MeasureT-loop
 μ-loop from start count to₀ at k₀ to k = count - k
 
+-- the state at the call
+abbrev entry : tie.After-shared-slice-known Inv-loop μ-loop → tie.Start Inv-loop μ-loop
+entry c = c .before .before .before
+
 loop-holds : tie.Need-loop-holds Inv-loop μ-loop
 loop-holds c = (rw add-zero (put-none _ _), omega arith, refl)
 
@@ -42,7 +46,7 @@ loop-less c = search needs
 loop-again : tie.Need-loop-again Inv-loop μ-loop
 loop-again c =
     let l = c .before .before .loop in
-    let a = c .before .before .before .args in
+    let a = entry c .args in
     let s = drop (a .start) (a .from .now) in
     let inside : l .k < length s = omega (arith, length-drop (a .start) (a .from .now), c .before .loop-test .taken) in
     let p : Put (a .to .now) (a .at) (take (l .k + 1) s) (set (l .to) (a .at + l .k) (getD s (l .k) 0)) (a .at + (l .k + 1)) =

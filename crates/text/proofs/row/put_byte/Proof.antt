@@ -14,6 +14,16 @@ use Rattle.text.proofs.Spelling.{decimal-two}
 use Rattle.text.proofs.row.put_byte.Statement.{statement}
 use Rattle.text.proofs.row.put_byte.Tie as tie
 
+-- the state at the call
+abbrev entry-from-then2 : tie.Then2 → tie.Start
+entry-from-then2 c = c .before .before .before
+
+abbrev entry-from-else2 : tie.Else2 → tie.Start
+entry-from-else2 c = c .before .before .before
+
+abbrev entry-from-text : tie.After-text → tie.Start
+entry-from-text c = entry-from-else2 (c .before .before .before)
+
 -- one digit, and two
 one : (l : List ℕ) (i n : ℕ) → n < 10 → i < length l → Put l i (decimal n) (set l i (48 + n)) (i + 1)
 one l i n h f = subst (λ (s : List ℕ). Put l i s (set l i (48 + n)) (i + 1)) (sym (decimal-one n h)) (put-one l i (48 + n) f)
@@ -68,18 +78,18 @@ same-length-2 c = search needs
 
 returns-2 : tie.Need-returns-2
 returns-2 c =
-    let a = c .before .before .before .args in
+    let a = entry-from-then2 c .args in
     (two (a .text .now) (a .at) (a .number) (c .before .if1 .left) (c .if2 .taken) (omega arith), omega arith)
 
 put-requires : tie.Need-put-requires
-put-requires c κs = let a = c .before .before .before .before .args in omega (arith, count-most 2 (a .number) (omega arith))
+put-requires c κs = let a = entry-from-else2 (c .before) .args in omega (arith, count-most 2 (a .number) (omega arith))
 
 same-length-3 : tie.Need-same-length-3
 same-length-3 c = search needs
 
 returns-3 : tie.Need-returns-3
 returns-3 c =
-    let a = c .before .before .before .before .before .before .before .args in
+    let a = entry-from-text (c .before) .args in
     (c .before .before .put .ensures, omega (arith, c .before .before .put .ensures .ends, decimal-length (a .number), count-most 2 (a .number) (omega arith)))
 
 pub put-byte-spec : {M : Type 1} → statement M

@@ -19,6 +19,20 @@ Inv-loop cores text₀ row at₀ core₀ text at core = Put text₀ 0 (fields (t
 abbrev μ-loop : tie.MeasureT-loop
 μ-loop cores text₀ row at₀ core₀ text at core = cores - core
 
+-- the state at the call
+abbrev entry-from-past-loop : tie.After-loop Inv-loop μ-loop → tie.Start Inv-loop μ-loop
+entry-from-past-loop c = c .before .before .before
+
+abbrev entry-from-in-loop : tie.In-loop Inv-loop μ-loop → tie.Start Inv-loop μ-loop
+entry-from-in-loop c = c .before .before .before
+
+abbrev entry-from-text : tie.After-text Inv-loop μ-loop → tie.Start Inv-loop μ-loop
+entry-from-text c = entry-from-in-loop (c .before .before .before)
+
+-- the state in the loop
+abbrev in-loop : tie.After-slice-known2 Inv-loop μ-loop → tie.In-loop Inv-loop μ-loop
+in-loop c = c .before .before .before .before
+
 loop-holds : tie.Need-loop-holds Inv-loop μ-loop
 unfolding fields
 loop-holds c = (put-none _ 0, omega arith, omega arith, refl, search needs)
@@ -43,10 +57,10 @@ loop-less c = search needs
 
 loop-again : tie.Need-loop-again Inv-loop μ-loop
 loop-again c =
-    let a = c .before .before .before .before .before .before .before .args in
-    let l = c .before .before .before .before .before .loop in
+    let a = entry-from-text (c .before) .args in
+    let l = in-loop c .before .loop in
     let b = c .before .before .put-byte in
-    let short : l .core < a .cores = omega (arith, c .before .before .before .before .loop-test .taken) in
+    let short : l .core < a .cores = omega (arith, in-loop c .loop-test .taken) in
     let e : length (set (l .text) (l .at) 32) ≡ length (l .text) = length-set (l .text) (l .at) 32 in
     let most : b .result ≤ l .at + 1 + 3 = b .ensures .1 in
     let after : l .at < b .result = omega (arith, b .ensures .0 .ends) in
@@ -65,7 +79,7 @@ same-length c = search needs
 
 returns : tie.Need-returns Inv-loop μ-loop
 returns c =
-    let a = c .before .before .before .args in
+    let a = entry-from-past-loop c .args in
     let l = c .before .loop in
     let over : l .core ≡ a .cores = omega (arith, c .loop-test .left) in
     let p : Put (a .text .now) 0 (fields (take (l .core) (a .t1)) ++ (10 ∷ [])) (set (l .text) (l .at) 10) (l .at + 1) =

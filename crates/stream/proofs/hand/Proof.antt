@@ -1,17 +1,24 @@
--- `stream::send` meets its contract and ends: each write that takes bytes leaves fewer. Assumes nothing.
+-- `stream::hand` meets its contract and ends: each write that takes bytes leaves fewer. Assumes nothing.
 use borrow.Author.Needs.{needs}
 use native.Mathlib.Omega.{arith}
 use Prim.Native.Nat.{_-_, _≤_}
 use lib.ListN.{length}
 use Rattle.stream.proofs.Moving.{sent-part, sent-all}
-use Rattle.stream.proofs.send.Statement.{statement}
-use Rattle.stream.proofs.send.Tie as tie
+use Rattle.stream.proofs.hand.Statement.{statement}
+use Rattle.stream.proofs.hand.Tie as tie
 
 abbrev Inv-loop : tie.InvT-loop
-Inv-loop count bytes at₀ at = at ≤ length bytes
+Inv-loop out count bytes at₀ at = at ≤ length bytes
 
 abbrev μ-loop : tie.MeasureT-loop
-μ-loop count bytes at₀ at = length bytes - at
+μ-loop out count bytes at₀ at = length bytes - at
+
+-- the state at the head of the loop
+abbrev loop-from-write : tie.After-write Inv-loop μ-loop → tie.At-loop Inv-loop μ-loop
+loop-from-write c = c .before .before .before
+
+abbrev loop-from-add : tie.After-add Inv-loop μ-loop → tie.At-loop Inv-loop μ-loop
+loop-from-add c = loop-from-write (c .before .before .before .before)
 
 loop-holds : tie.Need-loop-holds Inv-loop μ-loop
 loop-holds c = search needs
@@ -45,7 +52,7 @@ add-requires c κs = search needs
 
 returns : tie.Need-returns Inv-loop μ-loop
 returns c =
-    let l = c .before .before .before .before .before .before .before in
+    let l = loop-from-add c in
     sent-part _ (l .loop .at) _ _ (omega arith) (c .add .ensures)
 
 add-at : tie.Need-add-at Inv-loop μ-loop
@@ -63,8 +70,8 @@ add-requires-2 c κs = search needs
 returns-2 : tie.Need-returns-2 Inv-loop μ-loop
 returns-2 c = sent-all _ (c .before .before .loop .at) _ _ (omega arith) (c .add2 .ensures)
 
-pub send-spec : {M : Type 1} → statement M
-send-spec =
+pub hand-spec : {M : Type 1} → statement M
+hand-spec =
     tie.close
     (tie.spec
     Inv-loop

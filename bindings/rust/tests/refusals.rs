@@ -1,0 +1,55 @@
+//! Every number there can be, both ways; what is displayed; and a refusal as an error.
+use sivorandra::{judge, version, Refusal, Run, MOST_TASKS, VERSION};
+use std::error::Error;
+
+/// The last number that has a name of its own.
+const LAST: u32 = 19;
+
+#[test]
+fn number_and_position_come_back() {
+    for number in (0..600).chain([u32::MAX - 1, u32::MAX]) {
+        for position in [0, 1, 2, 32, 33, 255, 256, u32::MAX] {
+            let refusal = Refusal::new(number, position);
+            assert_eq!((refusal.number(), refusal.position()), (number, position));
+            let named = (1..=LAST).contains(&number) && (position == 0 || [7, 8, 15].contains(&number));
+            assert_eq!(!matches!(refusal, Refusal::Other { .. }), named, "{refusal:?}");
+        }
+    }
+}
+
+#[test]
+fn each_says_its_meaning_and_number() {
+    let said: Vec<String> = (1..=LAST).map(|number| Refusal::new(number, 0).to_string()).collect();
+    for (number, text) in (1..).zip(&said) {
+        assert!(text.ends_with(&format!(" (number {number})")), "{text}");
+        assert_eq!(said.iter().filter(|other| other.starts_with(text.split(" (number").next().unwrap())).count(), 1, "{text}");
+    }
+    assert!(Refusal::new(15, 3).to_string().contains("position 3"));
+    assert_eq!(Refusal::new(77, 5).to_string(), "turned down at position 5 (number 77)");
+}
+
+#[test]
+fn a_refusal_is_an_error() {
+    fn asked() -> Result<(), Box<dyn Error>> {
+        judge(&[])?;
+        Ok(())
+    }
+    assert_eq!(asked().unwrap_err().downcast_ref(), Some(&Refusal::NotATable));
+}
+
+#[test]
+fn a_run_tells_its_counts() {
+    let mut table = vec![1, 64, 3, 2, 0];
+    for next in 2..MOST_TASKS as u32 + 2 {
+        table.extend([if next > MOST_TASKS as u32 { 0 } else { next }, 0, 1, 1, 9, 9]);
+    }
+    let run = Run::start(&table).unwrap();
+    assert_eq!((run.cores(), run.tasks()), (64, MOST_TASKS));
+}
+
+#[test]
+fn one_version() {
+    let part = |text: &str| text.parse::<u32>().unwrap();
+    let cargo = part(env!("CARGO_PKG_VERSION_MAJOR")) * 10000 + part(env!("CARGO_PKG_VERSION_MINOR")) * 100 + part(env!("CARGO_PKG_VERSION_PATCH"));
+    assert_eq!((version(), VERSION), (cargo, cargo));
+}

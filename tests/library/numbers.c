@@ -1,0 +1,111 @@
+/* Each number of the header from a call that is turned down by it, each limit from both sides, and the version. It is C, and C++ too.
+   Prints each that differs; the last line is 'N numbers, M wrong'. */
+#include <stdio.h>
+#include <string.h>
+#include "sivorandra.h"
+
+enum { HEAD = SIVORANDRA_TABLE_HEAD_WORDS, RECORD = SIVORANDRA_TABLE_RECORD_WORDS, MOST = SIVORANDRA_MOST_TASKS + 1, RUN = SIVORANDRA_RUN_WORDS };
+enum { CORES = 1, RULE = 2, FENCE = 3, NEXT = HEAD, O, V, C, D, T };
+enum { PASSES = 0 };
+
+static uint32_t table[HEAD + RECORD * MOST], run[RUN], answer[SIVORANDRA_ANSWER_WORDS];
+static uint8_t rows[SIVORANDRA_SENTENCE_BYTES];
+static size_t words;
+static unsigned asked, wrong;
+
+/* So many tasks of one tick in five, on two cores. */
+static void fresh(uint32_t tasks)
+{
+    static const uint32_t head[HEAD] = { 1, 2, SIVORANDRA_GREEDY, 0, 0 };
+    memcpy(table, head, sizeof head);
+    for (uint32_t i = 0; i < tasks; i++) {
+        uint32_t record[RECORD] = { i + 1 < tasks ? i + 2 : 0, 0, 1, 1, 5, 5 };
+        memcpy(table + HEAD + i * RECORD, record, sizeof record);
+    }
+    words = HEAD + RECORD * tasks;
+}
+
+/* One task, with another word in its table. */
+static void with(size_t at, uint32_t word) { fresh(1), table[at] = word; }
+
+/* The call was answered, and turned down by this number at this position; or, with no number, it was not turned down. */
+static void expect(const char *what, uint32_t value, uint32_t number, uint32_t position)
+{
+    asked++;
+    int refused = answer[0] == SIVORANDRA_REFUSED || answer[0] == SIVORANDRA_ROW_REFUSED;
+    if (value == SIVORANDRA_ANSWERED && (number == PASSES ? !refused : refused && answer[1] == number && answer[2] == position))
+        return;
+    wrong++;
+    printf("%s: value %u, answer %u %u %u\n", what, (unsigned)value, (unsigned)answer[0], (unsigned)answer[1], (unsigned)answer[2]);
+}
+
+static uint32_t judge(void) { return sivorandra_judge(table, words, answer, SIVORANDRA_ANSWER_WORDS); }
+static uint32_t plan(uint32_t a, uint32_t b, size_t len) { return sivorandra_plan(table, words, a, b, rows, len, answer, SIVORANDRA_ANSWER_WORDS); }
+static uint32_t start(void) { return sivorandra_start(table, words, run, RUN, answer, SIVORANDRA_ANSWER_WORDS); }
+static uint32_t row(void) { return sivorandra_row(run, RUN, rows, SIVORANDRA_ROW_BYTES, answer, SIVORANDRA_ANSWER_WORDS); }
+static uint32_t advance(uint32_t reports) { return sivorandra_advance(run, RUN, reports, answer, SIVORANDRA_ANSWER_WORDS); }
+static uint32_t sentence(size_t len) { return sivorandra_sentence(table, words, rows, len, answer, SIVORANDRA_ANSWER_WORDS); }
+
+static void numbers(void)
+{
+    fresh(1), words = HEAD - 1, expect("too few words", judge(), SIVORANDRA_NOT_A_TABLE, 0);
+    with(CORES, 0), expect("no cores", judge(), SIVORANDRA_BAD_CORES, 0);
+    with(RULE, 0), expect("no rule", judge(), SIVORANDRA_BAD_RULE, 0);
+    with(FENCE, 3), expect("all cores fenced", judge(), SIVORANDRA_BAD_FENCE, 0);
+    with(0, 0), expect("no head", judge(), SIVORANDRA_NO_HEAD, 0);
+    with(0, 2), expect("no such record", judge(), SIVORANDRA_NO_RECORD, 0);
+    with(NEXT, 1), expect("a record again", judge(), SIVORANDRA_RECORD_AGAIN, 0);
+    with(V, 3), expect("too wide", judge(), SIVORANDRA_BAD_WIDTH, 1);
+    with(T, 4), expect("D above T", judge(), SIVORANDRA_BAD_TIME, 1);
+    fresh(2), table[T] = 999999, table[RECORD + T] = 1009, expect("a long horizon", judge(), SIVORANDRA_LONG_HORIZON, 0);
+    fresh(1), expect("a above b", plan(1, 0, sizeof rows), SIVORANDRA_BAD_RANGE, 0);
+    fresh(1), expect("short rows", plan(0, 1, 1), SIVORANDRA_SHORT_ROWS, 0);
+    with(C, 6), expect("b above the horizon", plan(0, 6, sizeof rows), SIVORANDRA_BAD_RANGE, 0);
+    with(C, 3), table[D] = 2, expect("past the miss", plan(0, 3, sizeof rows), SIVORANDRA_PAST_MISS, 0);
+    with(C, 6), expect("a miss is not started", start(), SIVORANDRA_TABLE_MISSES, 0);
+    expect("the run of a refused start", row(), SIVORANDRA_NOT_A_RUN, 0);
+    fresh(1), start(), expect("a report past the count", advance(2), SIVORANDRA_BAD_REPORT, 0);
+    fresh(1), expect("no miss", sentence(sizeof rows), SIVORANDRA_NO_MISS, 0);
+    with(C, 6), expect("a short buffer", sentence(1), SIVORANDRA_SHORT_BUFFER, 0);
+
+    /* position 1 ends early, the wide task at position 2 goes first, and position 3 is late */
+    static const uint32_t b[] = { 1, 2, 1, 0, 0, 2, 0, 1, 3, 3, 4, 3, 0, 2, 1, 4, 4, 0, 0, 1, 2, 2, 4 };
+    memcpy(table, b, sizeof b), words = sizeof b / sizeof b[0];
+    start(), expect("an early end", advance(1), PASSES, 0);
+    expect("one more tick", advance(0), PASSES, 0);
+    expect("late", row(), SIVORANDRA_LATE, 3);
+    expect("late", advance(0), SIVORANDRA_LATE, 3);
+}
+
+static void limits(void)
+{
+    fresh(SIVORANDRA_MOST_TASKS), table[CORES] = SIVORANDRA_MOST_CORES, expect("the most tasks", judge(), PASSES, 0);
+    fresh(SIVORANDRA_MOST_TASKS + 1), table[CORES] = SIVORANDRA_MOST_CORES, expect("a task more", judge(), SIVORANDRA_NOT_A_TABLE, 0);
+    with(CORES, SIVORANDRA_MOST_CORES), expect("the most cores", judge(), PASSES, 0);
+    with(CORES, SIVORANDRA_MOST_CORES + 1), expect("a core more", judge(), SIVORANDRA_BAD_CORES, 0);
+    with(RULE, SIVORANDRA_LIMITED), expect("limited", judge(), PASSES, 0);
+    with(RULE, SIVORANDRA_IDLING), expect("idling", judge(), PASSES, 0);
+    with(RULE, SIVORANDRA_IDLING + 1), expect("a rule more", judge(), SIVORANDRA_BAD_RULE, 0);
+    with(O, SIVORANDRA_MOST_OFFSET), expect("the largest O", judge(), PASSES, 0);
+    with(O, SIVORANDRA_MOST_OFFSET + 1), expect("O", judge(), SIVORANDRA_BAD_TIME, 1);
+    with(C, SIVORANDRA_MOST_LENGTH), expect("the largest C", judge(), PASSES, 0);
+    with(C, SIVORANDRA_MOST_LENGTH + 1), expect("C", judge(), SIVORANDRA_BAD_TIME, 1);
+    with(T, SIVORANDRA_MOST_PERIOD), expect("the largest T", judge(), PASSES, 0);
+    with(T, SIVORANDRA_MOST_PERIOD + 1), expect("T", judge(), SIVORANDRA_BAD_TIME, 1);
+    fresh(2), table[T] = 1000, table[RECORD + O] = 1000, table[RECORD + T] = 999999, expect("the largest horizon", judge(), PASSES, 0);
+    expect("its horizon", answer[1] + answer[2] != SIVORANDRA_MOST_HORIZON, PASSES, 0);
+    table[RECORD + O]++, expect("a tick more", judge(), SIVORANDRA_LONG_HORIZON, 0);
+    with(FENCE, 1), start(), expect("a fenced core", row(), PASSES, 0);
+    expect("its byte", rows[0] != SIVORANDRA_FENCED, PASSES, 0);
+}
+
+int main(void)
+{
+    char text[40];
+    numbers(), limits();
+    sprintf(text, "%d.%d.%d", SIVORANDRA_VERSION_MAJOR, SIVORANDRA_VERSION_MINOR, SIVORANDRA_VERSION_PATCH);
+    expect("the version's text", strcmp(text, SIVORANDRA_VERSION_TEXT) != 0, PASSES, 0);
+    expect("the library's version", sivorandra_version() != SIVORANDRA_VERSION, PASSES, 0);
+    printf("%u numbers, %u wrong\n", asked, wrong);
+    return wrong != 0;
+}

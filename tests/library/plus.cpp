@@ -1,0 +1,22 @@
+// The library from C++: a table's verdict, and a refusal by its name.
+#include <iostream>
+#include <vector>
+#include "sivorandra.h"
+
+int main()
+{
+    std::vector<uint32_t> table = { 1, 3, SIVORANDRA_GREEDY, 0, 0, 2, 0, 2, 2, 5, 5, 3, 0, 2, 3, 5, 5, 0, 0, 1, 4, 5, 5 };
+    uint32_t answer[SIVORANDRA_ANSWER_WORDS] = {};
+    if (sivorandra_judge(table.data(), table.size(), answer, SIVORANDRA_ANSWER_WORDS) != SIVORANDRA_ANSWERED || answer[0] != SIVORANDRA_FULL)
+        return 1;
+    std::cout << "full " << answer[1] << ' ' << answer[2] << '\n';
+    table[3] = 7;
+    sivorandra_judge(table.data(), table.size(), answer, SIVORANDRA_ANSWER_WORDS);
+    switch (static_cast<sivorandra_number>(answer[1])) {
+    case SIVORANDRA_BAD_FENCE:
+        std::cout << "all cores are fenced\n";
+        return sivorandra_version() != SIVORANDRA_VERSION;
+    default:
+        return 1;
+    }
+}

@@ -1,0 +1,277 @@
+"""How a picture looks: a sheet of SVG 1.1, and on it cores over ticks with a strip for each task. It is given what to draw, and decides nothing."""
+import collections
+import colorsys
+import contextlib
+from xml.sax.saxutils import escape, quoteattr
+
+RED, BLUE = "#c00000", "#00459c"
+MONO = {"font_size": 10, "font_family": "DejaVu Sans Mono, Menlo, Consolas, monospace", "xml:space": "preserve", "fill": "#333"}
+HATCHES = {
+    "hatch": '<path d="M-2 2L2 -2M0 8L8 0M6 10L10 6" stroke="#777" stroke-width="1.4" fill="none"/>',
+    "light": '<path d="M-2 6L2 10M0 0L8 8M6 -2L10 2" stroke="#555" stroke-width="0.7" fill="none"/>',
+}
+LOOKS = {
+    "fenced": {"fill": "url(#hatch)", "stroke": "#888"},
+    "ends": {"fill": "#e2e2e2"},
+    "unused": {"fill": "#fff", "stroke": "#555", "stroke_width": 1.2, "stroke_dasharray": "3 2"},
+    "held": {"fill": "url(#light)", "stroke": "#888"},
+    "blank": {"fill": "#f6c8c8"},
+}
+
+
+# 32 colours: neighbours differ in hue and in lightness, so that a grey print tells them apart too.
+def colour(position):
+    turn = (position - 1) * 0.618034 % 1
+    light = (0.74, 0.46, 0.84, 0.58)[(position - 1) % 4]
+    red, green, blue = colorsys.hls_to_rgb(turn, light, 0.62)
+    ink = "#000" if 0.30 * red + 0.59 * green + 0.11 * blue > 0.5 else "#fff"
+    return "#%02x%02x%02x" % (round(red * 255), round(green * 255), round(blue * 255)), ink
+
+
+def attributes(words):
+    return "".join(f" {key.replace('_', '-')}={quoteattr(str(value))}" for key, value in words.items())
+
+
+# The elements of a picture, and how large it must be to show them.
+class Sheet:
+    def __init__(self):
+        self.parts, self.right, self.bottom = [], 0, 0
+
+    def add(self, name, inner=None, **words):
+        self.parts.append(f"<{name}{attributes(words)}/>" if inner is None else f"<{name}{attributes(words)}>{escape(inner)}</{name}>")
+
+    def reach(self, x, y):
+        self.right, self.bottom = max(self.right, x), max(self.bottom, y)
+
+    def text(self, x, y, words, size=11, **more):
+        room = len(words) * size * 0.6
+        self.reach(x + room * {"middle": 0.5, "end": 0}.get(more.get("text_anchor"), 1), y + 4)
+        self.add("text", words, x=round(x, 2), y=round(y, 2), font_size=size, **more)
+
+    @contextlib.contextmanager
+    def group(self, **words):
+        self.parts.append(f"<g{attributes(words)}>")
+        yield
+        self.parts.append("</g>")
+
+    def hatching(self, name):
+        self.parts.append(f'<defs><pattern id="{name}" width="8" height="8" patternUnits="userSpaceOnUse">{HATCHES[name]}</pattern></defs>')
+
+    # The whole, with a title and a description for those who do not see it.
+    def out(self, title, about):
+        wide, high = round(self.right + 16), round(self.bottom + 12)
+        return "\n".join([
+            '<?xml version="1.0" encoding="UTF-8"?>',
+            '<svg xmlns="http://www.w3.org/2000/svg" xmlns:xlink="http://www.w3.org/1999/xlink" version="1.1" role="img" aria-labelledby="title about"'
+            f' width="{wide}" height="{high}" viewBox="0 0 {wide} {high}" font-family="Helvetica, Arial, sans-serif">',
+            f'<title id="title">{escape(title)}</title>', f'<desc id="about">{escape(" ".join(about))}</desc>',
+            f'<rect width="{wide}" height="{high}" fill="#fff"/>', *self.parts, "</svg>", ""])
+
+
+# The runs of equal positions in a line of cells, as position, first cell, length; a new job starts a new run.
+def runs(line, start, tasks):
+    begin = 0
+    for at in range(1, len(line) + 1):
+        position = line[begin]
+        if at < len(line) and line[at] == position and not (position and (start + at - tasks[position - 1].O) % tasks[position - 1].T == 0):
+            continue
+        if position:
+            yield position, begin, at - begin
+        begin = at
+
+
+# The ticks from `start` to `end` that are `after` ticks from a release.
+def moments(task, after, start, end):
+    first = task.O + after
+    return range(first + max(0, -(-(start - first) // task.T)) * task.T, end + 1, task.T)
+
+
+# The chart of the rows from a tick on: cores over ticks, below it a strip for each task. `head` is what stands over it, the title first.
+class Chart(Sheet):
+    def __init__(self, table, start, rows, head, red=()):
+        super().__init__()
+        self.table, self.start, self.end, self.rows = table, start, start + len(rows), rows
+        self.cores, self.tasks, self.fenced = table.cores, table.tasks, sorted(table.fenced)
+        self.wide = min(80, max(12, 960 / len(rows)))
+        self.high = next(size for most, size in ((8, 28), (16, 20), (32, 15), (64, 12)) if self.cores <= most)
+        self.strip = 24 if len(self.tasks) <= 12 else 18
+        self.names = [f"{place + 1} (record {record})" for place, record in enumerate(table.records)]
+        self.box = 12 + 6 * max(map(len, self.names))
+        self.columns = [max(len(name), *(len(str(task[k])) for task in self.tasks)) + 2 for k, name in enumerate(self.tasks[0]._fields)]
+        self.left = 16 + max(40, self.box + 14 + 6.1 * sum(self.columns))
+        self.top = 69 + 19 * (len(head) - 3 + len(red)) + 57
+        self.under = self.top + self.cores * self.high
+        self.foot = self.under + 46 + len(self.tasks) * self.strip
+        self.reach(self.x(self.end) + 12, self.foot)
+        self.text(16, 28, head[0], 17, font_weight="bold")
+        for k, line in enumerate([*head[1:], *red]):
+            self.text(16, 50 + 19 * k, line, 13, **({"fill": RED} if k >= len(head) - 1 else {}))
+
+    def x(self, tick):
+        return round(self.left + (tick - self.start) * self.wide, 2)
+
+    def base(self, place):
+        return self.under + 46 + (place + 1) * self.strip - 4
+
+    def bar(self, since, until, base, **words):
+        self.add("rect", x=self.x(since), y=base - 8, width=round((until - since) * self.wide, 2), height=8, **words)
+
+    # The cells. In the group `rows` x is the tick since the first, y the core. `held` has for a tick the positions whose job has ended and that keep their cores.
+    def cells(self, held=()):
+        ticks, found = self.end - self.start, collections.defaultdict(list)
+        for core in sorted(set(range(self.cores)) - set(self.fenced)):
+            for position, at, length in runs([row[core] for row in self.rows], self.start, self.tasks):
+                found[position].append((at, core, length))
+        with self.group(id="rows", transform=f"translate({self.left} {self.top}) scale({self.wide} {self.high})"):
+            self.add("title", f"from tick {self.start}, {ticks} ticks, {self.cores} cores")
+            self.add("rect", width=ticks, height=self.cores, fill="#f4f4f4")
+            for position in sorted(found):
+                with self.group(id=f"p{position}", fill=colour(position)[0]):
+                    for at, core, length in found[position]:
+                        self.add("rect", x=at, y=core, width=length, height=1)
+            if self.fenced:
+                with self.group(id="fenced", fill="#fff"):
+                    for core in self.fenced:
+                        self.add("rect", x=0, y=core, width=ticks, height=1)
+        self.pale(held)
+        with self.group(stroke="#fff", stroke_width=0.6):
+            for tick in range(self.start + 1, self.end):
+                self.add("line", x1=self.x(tick), x2=self.x(tick), y1=self.top, y2=self.under)
+        with self.group(stroke="#fff", stroke_width=1.2):
+            for core in range(1, self.cores):
+                self.add("line", x1=self.x(self.start), x2=self.x(self.end), y1=self.top + core * self.high, y2=self.top + core * self.high)
+        if self.fenced:
+            self.hatching("hatch")
+        for core in self.fenced:  # from end to end
+            self.add("rect", x=self.x(self.start), y=self.top + core * self.high, width=round(ticks * self.wide, 2), height=self.high, fill="url(#hatch)")
+        self.numbers(found, held)
+        self.add("rect", x=self.x(self.start), y=self.top, width=round(ticks * self.wide, 2), height=self.cores * self.high, stroke="#888", fill="none")
+        with self.group(fill="#333", text_anchor="end"):
+            for core in range(0, self.cores, 1 if self.high >= 15 else 4):
+                self.text(self.left - 6, self.top + core * self.high + self.high / 2 + 4, f"core {core}", 11, text_anchor="end")
+
+    # The number in each cell, or where cells are small in one of a run and in every tenth of a long one.
+    def numbers(self, found, held):
+        size = min(14, self.high - 2, self.wide * 0.75)
+        for position in sorted(found):
+            fill = colour(position)[1]
+            with self.group(fill=fill, text_anchor="middle", font_size=round(size, 1)):
+                for at, core, length in found[position]:
+                    for cell in range(at, at + length) if self.wide >= 24 else range(at + min(5, (length - 1) // 2), at + length, 10):
+                        pale = {"fill": "#000"} if fill != "#000" and (self.start + cell, position) in held else {}
+                        self.add("text", str(position), x=round(self.x(self.start + cell) + self.wide / 2, 2), y=round(self.top + (core + 0.5) * self.high + size * 0.36, 2), **pale)
+
+    # The cells that are held, made pale and hatched.
+    def pale(self, held):
+        if not held:
+            return
+        self.hatching("light")
+        with self.group(id="held"):
+            for tick, position in sorted(held):
+                for core, having in enumerate(self.rows[tick - self.start]):
+                    if having == position:
+                        for fill in ({"fill": "#fff", "fill_opacity": 0.55}, {"fill": "url(#light)"}):
+                            self.add("rect", x=self.x(tick), y=self.top + core * self.high, width=round(self.wide, 2), height=self.high, **fill)
+
+    # The strips: for each task its numbers, the time from release to deadline, the ticks in which it runs, its releases and deadlines.
+    # `late` is the tick and the position of a miss; `unused` has position, first tick and last of what a job that ended early does not take.
+    def strips(self, late, held=(), unused=()):
+        label = lambda fields: "".join(str(field).rjust(width) for field, width in zip(fields, self.columns))
+        self.parts.append('<defs><path id="up" d="M0 0V-14M-3 -9L0 -15L3 -9Z" stroke="#000" fill="#000"/>'
+                          '<path id="down" d="M0 -14V0M-3.5 -6L0 0L3.5 -6" stroke="#000" fill="none"/></defs>')
+        self.add("text", "position", x=22, y=self.under + 38, font_size=11, fill="#333")
+        self.add("text", label(self.tasks[0]._fields), x=16 + self.box, y=self.under + 38, **MONO)
+        for place, task in enumerate(self.tasks):
+            base, (fill, ink) = self.base(place), colour(place + 1)
+            with self.group(id=f"task{place + 1}"):
+                self.add("rect", x=16, y=base - 12, width=self.box, height=14, fill=fill)
+                self.add("text", self.names[place], x=22, y=base - 1, font_size=11, fill=ink)
+                self.add("text", label(task), x=16 + self.box, y=base - 1, **MONO)
+                for due in moments(task, task.D, self.start + 1, self.end + task.D - 1):
+                    self.bar(max(self.start, due - task.D), min(self.end, due), base, fill="#d8d8d8")
+                for _, at, length in runs([place + 1 if place + 1 in row else 0 for row in self.rows], self.start, self.tasks):
+                    self.bar(self.start + at, self.start + at + length, base, fill=fill)
+                for tick in sorted(tick for tick, position in held if position == place + 1):
+                    self.bar(tick, tick + 1, base, fill="#fff", fill_opacity=0.55)
+                    self.bar(tick, tick + 1, base, fill="url(#light)")
+                for since, until in [(max(self.start, since), min(self.end, until)) for position, since, until in unused if position == place + 1]:
+                    if since < until:
+                        self.bar(since, until, base, id=f"unused{place + 1}-{since}", **LOOKS["unused"])
+                if late and late[1] == place + 1:
+                    self.bar(max(self.start, late[0] - task.D), late[0], base, fill="none", stroke=RED, stroke_width=1.5)
+                self.add("line", x1=self.x(self.start), x2=self.x(self.end), y1=base, y2=base, stroke="#888")
+                for name, arrow, after in (("releases", "up", 0), ("deadlines", "down", task.D)):
+                    with self.group(id=f"{name}{place + 1}"):
+                        for tick in moments(task, after, self.start, self.end):
+                            self.arrow(arrow, self.x(tick), base)
+
+    def arrow(self, name, x, y):
+        self.parts.append(f'<use xlink:href="#{name}" x="{x}" y="{y}"/>')
+
+    # Where a job ends by a report: a bar at the right end of its cells and in its strip.
+    def ends(self, tick, position):
+        thick, at = 3 if self.wide >= 24 else 2, self.x(tick + 1)
+        with self.group(id=f"end{position}-{tick}"):
+            self.add("title", f"position {position} ends in tick {tick}")
+            for core, having in enumerate(self.rows[tick - self.start]):
+                if having == position:
+                    self.stop(at, self.top + core * self.high + 1, self.high - 2, thick)
+            self.stop(at, self.base(position - 1) - 11, 12, thick)
+
+    def stop(self, x, y, high, thick):
+        self.add("rect", x=round(x - thick - 2, 2), y=y, width=thick + 2, height=high, fill="#fff")
+        self.add("rect", x=round(x - thick - 1, 2), y=y, width=thick, height=high, fill="#000")
+
+    # A mark across chart and strips, if its tick is in the picture.
+    def mark(self, name, tick, words, y, ink, dashes):
+        if self.start <= tick <= self.end:
+            at = self.x(tick)
+            self.add("line", id=name, x1=at, x2=at, y1=y - 8, y2=self.foot + 2, stroke=ink, stroke_width=2, stroke_dasharray=dashes)
+            if at + len(words) * 12 * 0.6 > max(self.x(self.end), 560):
+                self.text(at - 5, y, words, 12, fill=ink, text_anchor="end")
+            else:
+                self.text(at + 5, y, words, 12, fill=ink)
+
+    # A miss: the line across, a cross in the strip, and what the late job had.
+    def late(self, tick, position, had, words, y):
+        base = self.base(position - 1)
+        self.mark("miss", tick, words, y, RED, "none")
+        self.add("path", id="late", d=f"M{self.x(tick) - 6} {base - 14}l12 12m0 -12l-12 12", stroke=RED, stroke_width=3, fill="none")
+        self.text(self.x(self.end) + 11, base - 1, f"had {had} of {self.tasks[position - 1].C}", 12, fill=RED, id="had")
+
+    # A tick at which something is refused: its number over the column.
+    def refused(self, tick, number):
+        self.text(self.x(tick) + self.wide / 2, self.top - 8, str(number), 11 if self.wide >= 24 else 9, fill=RED, font_weight="bold", text_anchor="middle", id=f"refused-{tick}")
+
+    # A tick without a row.
+    def blank(self, tick):
+        self.add("rect", id="blank", x=self.x(tick), y=self.top, width=round(self.wide, 2), height=self.cores * self.high, fill_opacity=0.8, **LOOKS["blank"])
+
+    # The ticks' numbers, over the marks.
+    def ticks(self):
+        step = next(step for step in (k * 10 ** n for n in range(8) for k in (1, 2, 5)) if step * self.wide >= 7 * len(str(self.end)) + 8)
+        with self.group(fill="#333", text_anchor="middle", font_size=11):
+            for tick in range(-(-self.start // step) * step, self.end + 1, step):
+                room = 6.5 * len(str(tick)) + 4
+                self.add("line", x1=self.x(tick), x2=self.x(tick), y1=self.under, y2=self.under + 4, stroke="#888")
+                self.add("rect", x=round(self.x(tick) - room / 2, 2), y=self.under + 5, width=round(room, 2), height=14, fill="#fff")
+                self.add("text", str(tick), x=self.x(tick), y=self.under + 16)
+
+    # How to read it: what is in every picture, and a line for each of these names.
+    def legend(self, *more):
+        y = self.foot + 24
+        self.arrow("up", 22, y + 2)
+        self.text(30, y, "release")
+        self.arrow("down", 84, y + 2)
+        self.text(92, y, "deadline")
+        self.add("rect", x=150, y=y - 8, width=20, height=8, fill="#d8d8d8")
+        self.text(175, y, "from release to deadline; coloured where the task runs")
+        self.text(16, y + 18, "The number in a cell is the position of the task that has the core; an empty cell is an idle core.")
+        if self.fenced:
+            more = ("fenced", "a fenced core: it belongs to the hydraulics, and no task has it"), *more
+        for k, (name, words) in enumerate(more):
+            at = y + 27 + 18 * k
+            self.add("rect", x=16, y=at, width=28, height=12, **LOOKS[name])
+            if name == "ends":
+                self.stop(44, at, 12, 3)
+            self.text(50, at + 10, words)
