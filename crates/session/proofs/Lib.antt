@@ -1,5 +1,6 @@
 -- Laws of a session: what is said case by case, how lines come in pieces, a chunk of the input, and the whole of it.
 pub mod Saying
+pub mod Asking
 pub mod Talking
 pub mod Feeding
 pub mod Replying
