@@ -1,4 +1,4 @@
--- Laws of a session: what is said case by case, how lines come in pieces, a chunk of the input, and the whole of it.
+-- Laws of a session: what is said case by case, how lines come in pieces, a chunk of the input, and the whole of it. Computed examples.
 pub mod Saying
 pub mod Asking
 pub mod Talking
@@ -6,3 +6,4 @@ pub mod Feeding
 pub mod Replying
 pub mod Starts
 pub mod Whole
+pub mod Examples
