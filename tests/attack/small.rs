@@ -103,7 +103,7 @@ impl Search {
     fn enter(&mut self, run: &Run, cab: &Cab, list: &List, entry: Entry, expected: Said<()>, counts: &mut Counts) -> Tried<()> {
         let mut next = run.clone();
         let answer = calls::enter(&mut next, entry);
-        counts.entered(entry, &answer);
+        counts.answer(&answer);
         same(&format!("{entry:?}"), expected, answer)?;
         if answer.is_err() {
             return same_run("a refused run", run.words(), next.words());
