@@ -13,6 +13,7 @@ HATCHES = {
 LOOKS = {
     "fenced": {"fill": "url(#hatch)", "stroke": "#888"},
     "ends": {"fill": "#e2e2e2"},
+    "empty": {"fill": "#fff"},
     "unused": {"fill": "#fff", "stroke": "#555", "stroke_width": 1.2, "stroke_dasharray": "3 2"},
     "held": {"fill": "url(#light)", "stroke": "#888"},
     "blank": {"fill": "#f6c8c8"},
@@ -218,6 +219,15 @@ class Chart(Sheet):
                     self.stop(at, self.top + core * self.high + 1, self.high - 2, thick)
             self.stop(at, self.base(position - 1) - 11, 12, thick)
 
+    # Where an empty job is released: a ring in its strip.
+    def empty(self, tick, position):
+        with self.group(id=f"empty{position}-{tick}"):
+            self.add("title", f"the job that position {position} releases in tick {tick} is empty")
+            self.ring(self.x(tick) + min(8, self.wide / 2), self.base(position - 1) - 4)
+
+    def ring(self, x, y):
+        self.add("circle", cx=round(x, 2), cy=round(y, 2), r=4 if self.wide >= 12 else 3, fill="#fff", stroke="#000", stroke_width=1.5)
+
     def stop(self, x, y, high, thick):
         self.add("rect", x=round(x - thick - 2, 2), y=y, width=thick + 2, height=high, fill="#fff")
         self.add("rect", x=round(x - thick - 1, 2), y=y, width=thick, height=high, fill="#000")
@@ -274,4 +284,6 @@ class Chart(Sheet):
             self.add("rect", x=16, y=at, width=28, height=12, **LOOKS[name])
             if name == "ends":
                 self.stop(44, at, 12, 3)
+            if name == "empty":
+                self.ring(30, at + 6)
             self.text(50, at + 10, words)

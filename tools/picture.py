@@ -27,6 +27,11 @@ PART = 200  # lines of a list that are sent at once: with a row asked after each
 FURTHER = 1_000_000  # lines of a list that are read after those that are drawn
 SENTENCES = 3  # on refused advances, in one picture
 LATE = 15  # the number of a row that is refused as a task is late
+EXPECTED = "'a REPORTS', 'a REPORTS EMPTIES', 'r' or 'r EMPTIES' (numbers up to 4294967295) was expected"
+MISTAKES = {
+    16: "it reports a position that is not there, not working or without cores in this tick",
+    20: "it calls a job empty that is not there, or was not released in this tick",
+}
 
 Task = collections.namedtuple("Task", "O v C D T")
 Table = collections.namedtuple("Table", "cores rule fenced tasks records")
@@ -219,8 +224,11 @@ def numbers_in(line):
     return int(fields[1]), int(fields[2])
 
 
-def is_operation(line):
-    return line == b"r" or re.fullmatch(rb"a [0-9]{1,10}", line) is not None and int(line[2:]) < 1 << 32
+# The reports and the empty jobs that an advance names, or none for a row asked; None where a line is no operation.
+def operation_in(line):
+    found = re.fullmatch(rb"(?:r|a ([0-9]{1,10}))(?: ([0-9]{1,10}))?", line)
+    numbers = [number and int(number) for number in found.groups()] if found else [1 << 32]
+    return None if any(number and number >= 1 << 32 for number in numbers) else () if numbers[0] is None else (numbers[0], numbers[1] or 0)
 
 
 # The lines of a list, some at a time; the first that is no operation is the last, whatever comes after it.
@@ -234,7 +242,7 @@ def parts(name, source):
         if not line:
             break
         line = line.removesuffix(b"\n")
-        fine = is_operation(line)
+        fine = operation_in(line) is not None
         part.append(line)
         if len(part) == PART or not fine:
             yield part
@@ -248,7 +256,7 @@ class Listed:
         self.table, self.asked = table, asked
         self.tick, self.advances, self.more = 0, 0, ""
         self.jobs = {}  # of a position's job that was released last: which it is, the ticks that it had or held, whether it ended
-        self.rows, self.held, self.ended, self.unused = [], set(), [], []
+        self.rows, self.held, self.ended, self.empty, self.unused = [], set(), [], [], []
         self.refusals, self.marks, self.words, self.late = 0, {}, [], None
         self.parsed = functools.lru_cache(1024)(lambda line: row_in(line.split()[1:], self.tick, table))
 
@@ -262,6 +270,30 @@ class Listed:
             self.jobs[position] = [number, 0, False]
         return self.jobs[position]
 
+    # The positions of the tick's row whose job has ended.
+    def hold(self):
+        self.held |= {(self.tick, position) for position in self.positions if self.job(position)[2]}
+
+    # The empty jobs of an advance that is taken end before its row, which is this one.
+    def emptied(self, empties, line):
+        row = self.parsed(line)
+        self.positions = set(row) - {0, FENCED}
+        for position in places(empties):
+            self.job(position)[2] = True
+            self.rest(position, self.tick)
+            if self.drawn():
+                self.empty.append((self.tick, position))
+        if self.drawn():
+            self.rows[-1] = row
+            self.hold()
+
+    # What a job that has ended does not take of its length, from a tick on. Under idling its cells are held instead.
+    def rest(self, position, tick):
+        job, task = self.job(position), self.table.tasks[position - 1]
+        until = min(tick + task.C - job[1], task.O + job[0] * task.T + task.D)
+        if RULES[self.table.rule] != "idling" and max(tick, self.asked.start) < min(until, self.asked.end):
+            self.unused.append((position, tick, until))
+
     # The row of a tick that is reached, or its refusal.
     def row(self, line):
         if line.startswith(b"row "):
@@ -269,7 +301,7 @@ class Listed:
             self.positions = set(row) - {0, FENCED}
             if self.drawn():
                 self.rows.append(row)
-                self.held |= {(self.tick, position) for position in self.positions if self.job(position)[2]}
+                self.hold()
             return
         number, position = numbers_in(line)
         if number != LATE:
@@ -285,16 +317,14 @@ class Listed:
     def taken(self, reports, line):
         for position in self.positions:
             self.job(position)[1] += 1
-        for position in (place + 1 for place in range(reports.bit_length()) if reports >> place & 1):
+        for position in places(reports):
             if position not in self.positions:
                 raise Trouble(f"the program took a report for position {position} at tick {self.tick}")
-            job, task = self.job(position), self.table.tasks[position - 1]
+            job = self.job(position)
             job[2] = True
-            until = min(self.tick + 1 + task.C - job[1], task.O + job[0] * task.T + task.D)
+            self.rest(position, self.tick + 1)
             if self.drawn():
                 self.ended.append((self.tick, position, job[1]))
-            if RULES[self.table.rule] != "idling" and max(self.tick + 1, self.asked.start) < min(until, self.asked.end):  # else its cells are held
-                self.unused.append((position, self.tick + 1, until))
         self.tick += 1
         self.row(line)
 
@@ -306,7 +336,7 @@ class Listed:
             if self.drawn():
                 self.marks[self.tick] = number
             if len(self.words) < SENTENCES:
-                why = ": it reports a position that is not there, not working or without cores in this tick" if number == 16 else ""
+                why = f": {MISTAKES[number]}" if number in MISTAKES else ""
                 self.words.append(f"At tick {self.tick} '{operation}' is refused, number {number}{f', position {position}' if position else ''}{why}.")
 
     # What the program says to each line of the list; they are sent in parts, with a row asked after each advance.
@@ -314,25 +344,41 @@ class Listed:
         self.row(next_line(process.stdout))
         read = since = 0
         for part in parts(name, source):
-            process.stdin.write(b"".join(line + b"\nr\n" for line in part if line != b"r"))
+            sent = [(line, operation_in(line)) for line in part]
+            process.stdin.write(b"".join(asking(line, numbers) for line, numbers in sent))
             process.stdin.flush()
-            for line in part:
+            for line, numbers in sent:
                 read, since = read + 1, since + 1
-                if line == b"r":
+                if numbers == ():
                     continue
+                left = next_line(process.stdout) if numbers and numbers[1] else None
                 answer = next_line(process.stdout)
                 if answer == b"not an operation":
-                    raise Declined(f"{name}: line {read}: {stands(line)} stands there; 'a N' (N a number up to 4294967295) or 'r' was expected", REFUSED)
+                    raise Declined(f"{name}: line {read}: {stands(line)} stands there; {EXPECTED}", REFUSED)
                 self.advances += 1
                 asked = next_line(process.stdout)
                 if answer == b"taken":
-                    self.taken(int(line[2:]), asked)
+                    if left:
+                        self.emptied(numbers[1], left)
+                    self.taken(numbers[0], asked)
                     since = since if self.tick >= self.asked.end else 0
                 else:
                     self.refused(line.decode(), answer)
             if since >= FURTHER:
                 self.more = "more than "
                 return
+
+
+# What is sent for a line of a list: of a row asked nothing, before an advance with empty jobs the row that they leave, after an advance the next row.
+def asking(line, numbers):
+    if numbers == ():
+        return b""
+    return (b"r %d\n" % numbers[1] if numbers and numbers[1] else b"") + line + b"\nr\n"
+
+
+# The positions of a set.
+def places(positions):
+    return [place + 1 for place in range(positions.bit_length()) if positions >> place & 1]
 
 
 # A line that is no operation, as it is shown.
@@ -376,16 +422,20 @@ def list_chart(listed):
     sheet.strips(late, listed.held, listed.unused)
     for tick, position, _ in listed.ended:
         sheet.ends(tick, position)
+    for tick, position in listed.empty:
+        sheet.empty(tick, position)
     if late:
         sheet.late(*late, f"refused at tick {late[0]}, number {LATE}, position {late[1]}", sheet.top - 26)
     for tick, number in sorted(listed.marks.items()):
         sheet.refused(tick, number)
     sheet.ticks()
     sheet.legend(*([("ends", "ends here: the list reports that the job ends in this tick")] if listed.ended else []),
+                 *([("empty", "empty: the job is released in this tick and has nothing to do")] if listed.empty else []),
                  *([("unused", "the rest of the job's length, which it does not take")] if listed.unused else []),
                  *([("held", "the job has ended: its cores are held and not used")] if listed.held else []),
                  *([("blank", "a tick whose row is refused")] if blank else []))
     ends = [f"Position {position} ends in tick {tick} with {had} of {table.tasks[position - 1].C}." for tick, position, had in listed.ended]
+    ends += [f"The job that position {position} releases in tick {tick} is empty." for tick, position in listed.empty]
     return sheet.out(head[0], head[1:] + red + ends), REFUSED if listed.late or listed.refusals else FINE
 
 

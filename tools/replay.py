@@ -1,15 +1,18 @@
 #!/usr/bin/env python3
 """Plays a list of operations through the program `replay` and prints its answers with their ticks: replay.py LIST PROGRAM... < table
 
-First start's answer and the row of tick 0; then for each line `a N` what is said to it, and where it is taken the row of the next tick. A line `r` asks what is shown
-already. It counts the ticks and nothing else, and reads a line when the one before is answered: LIST may be a pipe. Status 2: something is refused, or a line is no operation."""
+First start's answer and the row of tick 0; then for each line `a REPORTS EMPTIES` what is said to it, and where it is taken the row of the next tick. Where its empty
+jobs leave another row than was shown, that row comes before the answer. A line `r` asks what is shown already, `r EMPTIES` the row that these leave. It counts the ticks
+and nothing else, and reads a line when the one before is answered: LIST may be a pipe. Status 2: something is refused, or a line is no operation."""
 import os
+import re
 import subprocess
 import sys
 
 LONGEST = 2168  # bytes: no table is longer, and the program reads no more
 MOST = 60  # bytes that are read of a line, and more than an operation has
-EXPECTED = "'a N' (N a number up to 4294967295) or 'r' was expected"
+EXPECTED = "'a REPORTS', 'a REPORTS EMPTIES', 'r' or 'r EMPTIES' (numbers up to 4294967295) was expected"
+NONE = b"not an operation"
 
 
 # What went wrong beside the program, or a line that is no operation, with the status.
@@ -31,6 +34,12 @@ def lines_of(source, name):
             yield line.removesuffix(b"\n")
     except OSError as error:
         raise Trouble(f"{name} could not be read: {error.strerror}")
+
+
+# The set of empty jobs that an advance names, if any.
+def empties_of(line):
+    found = re.fullmatch(rb"a [0-9]+ 0*([1-9][0-9]*)", line)
+    return found and found[1]
 
 
 # The lines that are to be printed, each as soon as the program has said it.
@@ -57,18 +66,25 @@ def played(program, table, lines, name):
     yield started
     if started != b"ok":
         return
-    yield b"0 " + asked(b"r\n").removeprefix(b"row ")
+    row = asked(b"r\n")
+    yield b"0 " + row.removeprefix(b"row ")
     for number, line in enumerate(lines, 1):
-        answer = asked(line + b"\nr\n")
-        if answer == b"not an operation":
+        empties = empties_of(line)
+        left = asked(b"r %s\n" % empties) if empties else row
+        answer = left if left == NONE else asked(line + b"\nr\n")
+        if answer == NONE:
             stands = repr(line)[1:] + (" (Windows line ends)" if line.endswith(b"\r") else "") if line else "an empty line"
             raise Trouble(f"{name}: line {number}: {stands} stands there; {EXPECTED}", 2)
-        row = heard().removeprefix(b"row ")
-        if line != b"r":
+        if left != row and left.startswith(b"row "):
+            yield b"%d %s" % (tick, left.removeprefix(b"row "))
+        if line.startswith(b"a"):
             yield b"%d %s %s" % (tick, line, answer)
+        elif answer != row:
+            yield b"%d %s" % (tick, answer.removeprefix(b"row "))
+        row = heard()
         if answer == b"taken":
             tick += 1
-            yield b"%d %s" % (tick, row)
+            yield b"%d %s" % (tick, row.removeprefix(b"row "))
 
 
 def main():

@@ -11,4 +11,5 @@ pub mod Listed
 pub mod Past
 pub mod Fourteen
 pub mod Examples
+pub mod RunExamples
 pub mod SentenceExamples

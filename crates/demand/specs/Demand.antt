@@ -2,18 +2,18 @@
 use mathlib.Core.Path.{_≡_}
 use mathlib.Core.List.{List}
 use Prim.Native.Nat.{ℕ}
-use Rattle.model.specs.Book.{taken}
+use Rattle.model.specs.Book.{Entry, taken}
 use Rattle.model.specs.Kept.{Kept}
 use Rattle.table.specs.Words.{tableOf}
 use Rattle.run.specs.Answer.{told}
 use Rattle.run.specs.Start.{startOf}
 use Rattle.demand.specs.Follows.{Follows}
 
--- what is claimed of the words of a table and a list xs of report sets
-pub record Demand (ws xs : List ℕ) : Type 0 where
+-- what is claimed of the words of a table and a list xs of entries
+pub record Demand (ws : List ℕ) (xs : List Entry) : Type 0 where
   -- start takes the table
   pub started : told (startOf ws .answer) ≡ taken
-  -- each answer in the list is the book's, and so is the row asked of the run after it
+  -- each answer in the list is the book's, and so is the row asked of the run after it with any empty jobs
   pub follows : Follows ws xs
-  -- no deadline is missed, every job that the full-length run has finished is finished, and of two lists at one tick the one with no longer job is never behind
+  -- no deadline is missed, the list is behind the full-length run on no job, and of two lists at one tick the one with no longer job is never behind
   pub kept : Kept (tableOf ws) xs

@@ -1,8 +1,8 @@
--- A replay: the run of a table's words is started, advanced through a whole list of report sets and asked for its row (scope, 'The book of a run', demand 3).
--- What it writes goes into two lent slices: a number for each answer, and the bytes of the last row.
+-- A replay: the run of a table's words is started, taken through a whole list of entries and asked for its row with no empty job (scope, 'The book of a run', demand 3).
+-- The list stands in words, three an entry (Listing.antt). What it writes goes into two lent slices: a number for each answer, and the bytes of the last row.
 use mathlib.Core.Path.{_≡_}
 use mathlib.Core.Logic.{_↔_}
-use mathlib.Core.Bool.{_&&_, cond}
+use mathlib.Core.Bool.{Bool, _&&_, cond}
 use mathlib.Core.List.{List, map, _++_}
 use Prim.Native.Nat.{ℕ, _+_, _*_, _≤_}
 use lib.ListN.{length, take, drop}
@@ -20,26 +20,31 @@ use Rattle.demand.specs.declared.Replayed.the-variants as replayed
 use Rattle.run.specs.Answer.{told, askedIn64}
 use Rattle.run.specs.Row.{rowOf}
 use Rattle.run.specs.Start.{StartApplies, startOf}
-use Rattle.demand.specs.Advances.{answers, after}
+use Rattle.demand.specs.Entries.{answers, after}
 use Rattle.demand.specs.Follows.{begun}
+use Rattle.demand.specs.Listing.{Listed, listed, entryCount, entriesIn}
 
 -- an answer as one number: 0 for taken, else its number times 256 plus its position (no two answers of an advance share one: `codes-tell`)
 abbrev pub code : model.Answer → ℕ
 code model.taken = 0
 code (model.refused n p) = n * 256 + p
 
--- an answer that an advance may give: taken, or a number up to 16 with a position up to 32
+-- an answer that an advance may give: taken, or a number up to 20 with a position up to 32
 abbrev pub Small : model.Answer → Type 0
 Small model.taken = Unit {0}
-Small (model.refused n p) = From 1 16 n × (p ≤ mostTasks)
+Small (model.refused n p) = From 1 20 n × (p ≤ mostTasks)
 
--- the answers of a run to a list of report sets, as numbers
-abbrev pub codes : Run → List ℕ → List ℕ
+-- the answers of a run to a list of entries, as numbers
+abbrev pub codes : Run → List model.Entry → List ℕ
 codes r xs = map (λ a. code (told a)) (answers r xs)
 
--- the lent slices have room: a number for each report set, and 64 bytes
-abbrev pub Room : List ℕ → List ℕ → List ℕ → Type 0
-Room xs numbers bytes = (length xs ≤ length numbers) × (mostCores ≤ length bytes)
+-- the lent slices fit: the words are a list of entries, and there is room for a number for each, and for 64 bytes
+abbrev pub Fits : List ℕ → List ℕ → List ℕ → Type 0
+Fits es numbers bytes = Listed es × (entryCount es ≤ length numbers) × (mostCores ≤ length bytes)
+
+-- the test, by the lengths of the slices that are written (`fits-decides`)
+abbrev pub fits : List ℕ → ℕ → ℕ → Bool
+fits es numbers bytes = listed es && (leb (entryCount es) numbers && leb mostCores bytes)
 
 -- what a replay gives: its answer, and the lent slices afterwards
 pub record Outcome : Type 0 where
@@ -57,18 +62,19 @@ abbrev pub rowSaid : Replayed → List ℕ → model.Asked
 rowSaid replayed.Shown bytes = model.shown bytes
 rowSaid (replayed.RowRefused n p) bytes = model.rowRefused n p
 rowSaid (replayed.Refused n p) bytes = model.rowRefused n p
-rowSaid replayed.Short bytes = model.rowRefused 0 0
+rowSaid replayed.Unfit bytes = model.rowRefused 0 0
 
--- a run that has started: the answers and the row after the list are written, and what stands behind them stays; too short: everything as found
+-- a run that has started: the answers and the row after the list are written, and what stands behind them stays; where the slices do not fit,
+-- everything is as found
 unfoldable pub played : Run → List ℕ → List ℕ → List ℕ → Outcome
-played r xs numbers bytes =
-    cond (leb (length xs) (length numbers) && leb mostCores (length bytes))
+played r es numbers bytes =
+    cond (fits es (length numbers) (length bytes))
     (record {
-      answer = rowCase (rowOf (after r xs) .answer);
-      numbers = codes r xs ++ drop (length xs) numbers;
-      bytes = rowOf (after r xs) .bytes ++ drop mostCores bytes;
+      answer = rowCase (rowOf (after r (entriesIn es)) 0 .answer);
+      numbers = codes r (entriesIn es) ++ drop (entryCount es) numbers;
+      bytes = rowOf (after r (entriesIn es)) 0 .bytes ++ drop mostCores bytes;
     })
-    (record { answer = replayed.Short; numbers = numbers; bytes = bytes })
+    (record { answer = replayed.Unfit; numbers = numbers; bytes = bytes })
 
 -- a start that is refused: everything as found
 abbrev pub byStart : Answer → Outcome → List ℕ → List ℕ → Outcome
@@ -77,27 +83,27 @@ byStart (Refused n p) o numbers bytes = record { answer = replayed.Refused n p; 
 
 -- the words are started, and the run is played
 unfoldable pub replayOf : List ℕ → List ℕ → List ℕ → List ℕ → Outcome
-replayOf ws xs numbers bytes = byStart (startOf ws .answer) (played (begun ws) xs numbers bytes) numbers bytes
+replayOf ws es numbers bytes = byStart (startOf ws .answer) (played (begun ws) es numbers bytes) numbers bytes
 
 -- what was written is the book's
-pub record ByTheBook (ws xs numbers bytes : List ℕ) (o : Outcome) : Type 0 where
+pub record ByTheBook (ws : List ℕ) (xs : List model.Entry) (numbers bytes : List ℕ) (o : Outcome) : Type 0 where
   -- each answer, and what stands behind them as found
   pub each-answer : o .numbers ≡ map code (model.answersFrom (tableOf ws) model.emptyBook xs) ++ drop (length xs) numbers
   -- the row asked after the list, or its refusal
-  pub row-after : rowSaid (o .answer) (take mostCores (o .bytes)) ≡ askedIn64 (model.asked (tableOf ws) (model.book (tableOf ws) xs))
+  pub row-after : rowSaid (o .answer) (take mostCores (o .bytes)) ≡ askedIn64 (model.asked (tableOf ws) (model.book (tableOf ws) xs) 0)
   -- what stands behind the row, as found
   pub behind : drop mostCores (o .bytes) ≡ drop mostCores bytes
 
--- what a replay of the words with the report sets xs promises
-pub record ReplayOf (ws xs numbers bytes : List ℕ) (o : Outcome) : Type 0 where
+-- what a replay of the words with the entries' words es promises
+pub record ReplayOf (ws es numbers bytes : List ℕ) (o : Outcome) : Type 0 where
   -- its value
-  pub value : o ≡ replayOf ws xs numbers bytes
+  pub value : o ≡ replayOf ws es numbers bytes
   -- refused exactly as the start is
   pub refused : (n p : ℕ) → (o .answer ≡ replayed.Refused n p) ↔ FirstOf (StartApplies ws) n p
-  -- short exactly if the start is taken and a lent slice has no room: a case outside the scope's numbers
-  pub short : (o .answer ≡ replayed.Short) ↔ (NoneOf (StartApplies ws) × (¬ Room xs numbers bytes))
+  -- unfit exactly if the start is taken and the lent slices do not fit: a case outside the scope's numbers
+  pub unfit : (o .answer ≡ replayed.Unfit) ↔ (NoneOf (StartApplies ws) × (¬ Fits es numbers bytes))
   -- both leave everything as found
   pub refused-found : (n p : ℕ) → o .answer ≡ replayed.Refused n p → (o .numbers ≡ numbers) × (o .bytes ≡ bytes)
-  pub short-found : o .answer ≡ replayed.Short → (o .numbers ≡ numbers) × (o .bytes ≡ bytes)
+  pub unfit-found : o .answer ≡ replayed.Unfit → (o .numbers ≡ numbers) × (o .bytes ≡ bytes)
   -- else every answer and the last row are the book's
-  pub book : NoneOf (StartApplies ws) → Room xs numbers bytes → ByTheBook ws xs numbers bytes o
+  pub book : NoneOf (StartApplies ws) → Fits es numbers bytes → ByTheBook ws (entriesIn es) numbers bytes o

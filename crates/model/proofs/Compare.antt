@@ -11,10 +11,10 @@ use lib.ListN.{replicate}
 use borrow.Author.Tests.{eq-eqb, eqb-true, lt-ltb, ltb-true, not-true}
 use Rattle.model.proofs.LineByLine.{LineByLine, by-line}
 use Rattle.model.proofs.Bools.{and-both, and-left, and-right, or-cases, or-left, or-right}
-use Rattle.model.proofs.Examples.{B}
+use Rattle.model.proofs.Examples.{B, reports}
 use Rattle.model.proofs.Jobs.{mk}
 use Rattle.model.proofs.Runs.{GoodBook, WholeBook, good-book, whole-empty}
-use Rattle.model.specs.Book.{Book, Job, answer, book, bookFrom, claims, enter, full, late, misreported, reportable, served, step, work}
+use Rattle.model.specs.Book.{Book, Entry, Job, answer, book, bookFrom, claims, emptiable, emptied, enter, full, late, misemptied, misreported, quiet, reportable, served, step, work}
 use Rattle.model.specs.Compare.{Behind, FullLongest, KeepsAbreast, Longer, NoneLonger, behind, longer}
 use Rattle.model.specs.Grants.{claimants, given, grants, left}
 use Rattle.model.specs.Horizon.{S, horizon, hyperperiod, lcm}
@@ -148,7 +148,7 @@ none-longer s a b good whole p k l (e, x) = go x
 
 -- THE THEOREM: under every rule, Firm or not, no book is longer than the full-length one
 pub full-longest : (s : Table) → AllSound s → FullLongest s
-full-longest s ok xs n = none-longer s (book s xs) (book s (replicate n 0)) (good-book s ok xs) (whole-empty s n)
+full-longest s ok xs n = none-longer s (book s xs) (book s (replicate n quiet)) (good-book s ok xs) (whole-empty s n)
 
 -- B UNDER GREEDY
 
@@ -158,13 +158,20 @@ sound-B (suc zero) l = record { width-pos = omega arith; length-pos = omega arit
 sound-B (suc (suc zero)) l = record { width-pos = omega arith; length-pos = omega arith; deadline-pos = omega arith; constrained = omega arith }
 sound-B (suc (suc (suc p))) l = absurd (omega arith)
 
+-- position 1 reported in tick 0, and the same ticks at full length
+abbrev one-reported : List Entry
+one-reported = reports 1 ∷ quiet ∷ []
+
+abbrev none-reported : List Entry
+none-reported = quiet ∷ quiet ∷ []
+
 -- at tick 2 the job of position 3 has ended at full length, and has had one tick where position 1 was reported in tick 0
-pub B-behind : Behind (book (B greedy) (1 ∷ 0 ∷ []) .job 2 0) (book (B greedy) (0 ∷ 0 ∷ []) .job 2 0)
-unfolding bookFrom enter answer late misreported reportable any least step served work claims claimants grants given left memb upFrom kept
+pub B-behind : Behind (book (B greedy) one-reported .job 2 0) (book (B greedy) none-reported .job 2 0)
+unfolding bookFrom enter answer late misemptied emptiable emptied misreported reportable any least step served work claims claimants grants given left memb upFrom kept
 B-behind = (refl, inl refl)
 
 -- both lists are at tick 2 and no job is longer in the first, which is behind: B is Full, and is not kept abreast
-pub full-not-abreast : (verdict (B greedy) ≡ Full 0 4) × (¬ KeepsAbreast (B greedy) (1 ∷ 0 ∷ []) (0 ∷ 0 ∷ []))
-unfolding verdict firstMiss missedIn missedAt firm rising horizon S hyperperiod lcm full bookFrom enter answer late misreported reportable any least step served
-    work claims claimants grants given left memb upFrom kept
-full-not-abreast = (refl, λ h. h refl (full-longest (B greedy) sound-B (1 ∷ 0 ∷ []) 2) 2 0 (omega arith) B-behind)
+pub full-not-abreast : (verdict (B greedy) ≡ Full 0 4) × (¬ KeepsAbreast (B greedy) one-reported none-reported)
+unfolding verdict firstMiss missedIn missedAt firm rising horizon S hyperperiod lcm full bookFrom enter answer late misemptied emptiable emptied misreported
+    reportable any least step served work claims claimants grants given left memb upFrom kept
+full-not-abreast = (refl, λ h. h refl (full-longest (B greedy) sound-B one-reported 2) 2 0 (omega arith) B-behind)

@@ -5,7 +5,7 @@ use mathlib.Core.List.{List, [], map, _∷_}
 use mathlib.Core.Path.{refl, _≡_}
 use Prim.Native.Nat.{ℕ}
 use Prim.Native.String.{String}
-use Rattle.model.specs.Book.{Answer, Asked, answer, answersFrom, asked, claims, emptyBook, enter, fresh, full, late, misreported}
+use Rattle.model.specs.Book.{Answer, Asked, Entry, answer, answersFrom, asked, claims, emptiable, emptied, emptyBook, enter, fresh, full, late, misemptied, misreported}
 use Rattle.model.specs.Book.{refused, reportable, rowRefused, rowsFrom, served, shown, step, taken, takenFrom, takenOf, work}
 use Rattle.model.specs.Fence.{justOpen, spread}
 use Rattle.model.specs.Grants.{claimants, given, grants, left}
@@ -35,32 +35,36 @@ A r = on 3 r (t 0 2 2 5 5 ∷ t 0 2 3 5 5 ∷ t 0 1 4 5 5 ∷ [])
 abbrev pub B : Rule → Table
 B r = on 2 r (t 0 1 3 3 4 ∷ t 0 2 1 4 4 ∷ t 0 1 2 2 4 ∷ [])
 
--- a line: its name, a table and report sets; the verdict, the answer to each advance, the row asked before each advance and after the last
+-- a line: its name, a table and advances; the verdict, the answer to each advance, the row asked before each advance and after the last
 pub record Line : Type 0 where
   pub name : String
   pub table : Table
-  pub reports : List ℕ
+  pub advances : List Entry
   pub says : Verdict
   pub answers : List Answer
   pub rows : List Asked
 
--- what the definitions say of a line's table and report sets
+-- what the definitions say of a line's table and advances
 abbrev pub worked : Line → Line
 worked l = record {
   name = l .name;
   table = l .table;
-  reports = l .reports;
+  advances = l .advances;
   says = verdict (l .table);
-  answers = answersFrom (l .table) emptyBook (l .reports);
-  rows = rowsFrom (l .table) emptyBook (l .reports);
+  answers = answersFrom (l .table) emptyBook (l .advances);
+  rows = rowsFrom (l .table) emptyBook (l .advances);
 }
 
--- a line from its parts
+-- an advance with reports alone
+abbrev pub reports : ℕ → Entry
+reports x = record { reports = x; empties = 0 }
+
+-- a line from its parts, the advances by their reports
 abbrev line : String → Table → Verdict → List ℕ → List Answer → List Asked → Line
-line n s v xs ws rs = record { name = n; table = s; reports = xs; says = v; answers = ws; rows = rs }
+line n s v xs ws rs = record { name = n; table = s; advances = map reports xs; says = v; answers = ws; rows = rs }
 
 -- a row of two cores, and of three
-abbrev two : ℕ → ℕ → Asked
+abbrev pub two : ℕ → ℕ → Asked
 two a b = shown (a ∷ b ∷ [])
 
 abbrev three : ℕ → ℕ → ℕ → Asked
@@ -117,7 +121,7 @@ lines =
 -- every line is what the definitions say, line by line
 computed : LineByLine worked lines lines
 unfolding verdict firstMiss missedIn missedAt firm rising horizon S hyperperiod lcm least any memb upFrom kept owner row given left grants claimants claims
-    served work step late reportable misreported answer asked enter answersFrom rowsFrom full
+    served work step late reportable misreported emptied emptiable misemptied answer asked enter answersFrom rowsFrom full
 computed = (refl, (refl, (refl, (refl, (refl, (refl, (refl, (refl, (refl, (refl, (refl, (refl, (refl, (refl, (refl, (refl, (refl, tt)))))))))))))))))
 
 -- .. and as one list
@@ -147,6 +151,6 @@ unfolding claims upFrom
 window = refl
 
 -- of these advances of B the second and the third are taken: the first is refused by 16, the last two by 15
-pub dropped : takenOf (B greedy) (2 ∷ 1 ∷ 0 ∷ 0 ∷ 8 ∷ []) ≡ 1 ∷ 0 ∷ []
-unfolding takenFrom enter answer late misreported reportable any least step served work claims claimants grants given left memb upFrom kept
+pub dropped : takenOf (B greedy) (map reports (2 ∷ 1 ∷ 0 ∷ 0 ∷ 8 ∷ [])) ≡ map reports (1 ∷ 0 ∷ [])
+unfolding takenFrom enter answer late misemptied emptiable emptied misreported reportable any least step served work claims claimants grants given left memb upFrom kept
 dropped = refl

@@ -6,20 +6,21 @@ use mathlib.Core.Path.{ap, refl, subst, sym, _∙_, _≡_}
 use Prim.Native.Nat.{_+_, _<_, suc, ℕ, _≤_}
 use native.Mathlib.Nat.{add-zero, le-antisymm, le-of-eq, le-trans, mul-le-mul-left, mul-one, zero-add}
 use native.Mathlib.Omega.{arith}
-use lib.Dec.{eqb, leb}
+use lib.Dec.{eqb, leb, ltb}
 use lib.ListN.{length, replicate}
-use borrow.Author.Tests.{eq-eqb, eqb-true, le-leb, leb-false, leb-true, not-true}
+use borrow.Author.Tests.{eq-eqb, eqb-true, le-leb, leb-false, leb-true, lt-ltb, ltb-true, not-true}
 use Rattle.model.proofs.Bools.{and-both, and-left, and-right, not-true-false}
 use Rattle.model.proofs.Digits.{bit-high}
 use Rattle.model.proofs.FullLength.{late-job}
-use Rattle.model.proofs.Jobs.{after-release, before-due, newest-is}
-use Rattle.model.proofs.Runs.{full-tick, missed-at}
+use Rattle.model.proofs.Jobs.{after-release, before-due, mk, newest-is}
+use Rattle.model.proofs.Runs.{early-book, full-tick, missed-at, moveOf, moved}
 use Rattle.model.proofs.Search.{any-of, any-some}
 use Rattle.model.proofs.Starts.{Periods, S-release, hyperperiod-divides, hyperperiod-least, hyperperiod-pos, release-first, release-from}
-use Rattle.model.specs.Book.{AllTaken, Answer, Book, Job, Missed, answer, answersFrom, book, bookFrom, claims, emptyBook, enter, entered}
-use Rattle.model.specs.Book.{full, jobClaims, keep, late, misreported, refused, reportable, step, taken, takenFrom, takenIn, takenOf, taskClaims}
+use Rattle.model.specs.Book.{AllTaken, Answer, Book, Entry, Job, Missed, answer, answersFrom, book, bookFrom, claims, emptiable, emptied, emptyBook, endedWith}
+use Rattle.model.specs.Book.{enter, entered, full, jobClaims, keep, late, misemptied, misreported, refused, reportable, step, taken, takenFrom, takenIn}
+use Rattle.model.specs.Book.{takenOf, taskClaims}
 use Rattle.model.specs.Horizon.{Later, LeastCommonMultiple, S, hyperperiod, releaseFrom}
-use Rattle.model.specs.Search.{bit}
+use Rattle.model.specs.Search.{any, bit}
 use Rattle.model.specs.Task.{AllSound, Rule, Sound, Table, Task, due, newest, release, task}
 use Rattle.model.specs.Verdict.{missedAt, missedIn}
 
@@ -68,16 +69,13 @@ late-exact s ok b p l = (
       (and-both (leb (due (task s p) (x .0)) (b .tick)) (not (b .job p (x .0) .ended)) (le-leb (due (task s p) (x .0)) (b .tick) (x .1)) (rw (x .2))),
 )
 
--- a report set is refused by 16 exactly if some bit of it, however high, is set for a position that may not be reported
-pub misreported-exact :
-    (s : Table) (b : Book) (x : ℕ)
-    → (misreported s b x ≡ true) ↔ ((p : ℕ) × (bit x p ≡ true) × (reportable s b p ≡ false))
-unfolding misreported
-misreported-exact s b x = (
-  λ e. let y = any-some x (λ p. bit x p && not (reportable s b p)) e in
-      (y .0, and-left (bit x (y .0)) (not (reportable s b (y .0))) (y .2), not-true (reportable s b (y .0)) (and-right (bit x (y .0)) (not (reportable s b (y .0))) (y .2))),
-  λ y. any-of x (λ p. bit x p && not (reportable s b p)) (y .0) (low (y .0) (y .1))
-      (and-both (bit x (y .0)) (not (reportable s b (y .0))) (y .1) (rw (y .2))),
+-- a set has a bit, however high, outside a test exactly if the search up to its number finds one
+set-exact : (x : ℕ) (f : ℕ → Bool) → (any x (λ p. bit x p && not (f p)) ≡ true) ↔ ((p : ℕ) × (bit x p ≡ true) × (f p ≡ false))
+set-exact x f = (
+  λ e. let y = any-some x (λ p. bit x p && not (f p)) e in
+      (y .0, and-left (bit x (y .0)) (not (f (y .0))) (y .2), not-true (f (y .0)) (and-right (bit x (y .0)) (not (f (y .0))) (y .2))),
+  λ y. any-of x (λ p. bit x p && not (f p)) (y .0) (low (y .0) (y .1))
+      (and-both (bit x (y .0)) (not (f (y .0))) (y .1) (rw (y .2))),
 )
   where
     low : (p : ℕ) → bit x p ≡ true → p < x
@@ -86,6 +84,63 @@ misreported-exact s b x = (
         go : (t : Bool) → leb x p ≡ t → p < x
         go true q = absurd (true≢false (sym e ∙ bit-high x p (leb-true x p q)))
         go false q = leb-false x p q
+
+-- a report set is refused by 16 exactly if some bit of it, however high, is set for a position that may not be reported
+pub misreported-exact :
+    (s : Table) (b : Book) (x : ℕ)
+    → (misreported s b x ≡ true) ↔ ((p : ℕ) × (bit x p ≡ true) × (reportable s b p ≡ false))
+unfolding misreported
+misreported-exact s b x = set-exact x (reportable s b)
+
+-- and a set of empty jobs by 20, where some bit is set for a position that may not be empty
+pub misemptied-exact :
+    (s : Table) (b : Book) (e : ℕ)
+    → (misemptied s b e ≡ true) ↔ ((p : ℕ) × (bit e p ≡ true) × (emptiable s b p ≡ false))
+unfolding misemptied
+misemptied-exact s b e = set-exact e (emptiable s b)
+
+-- a position may be empty exactly if it is one of the table and some job of it, of any number, is released in this tick and has not ended
+pub emptiable-exact :
+    (s : Table) → AllSound s → (b : Book) (p : ℕ)
+    → (emptiable s b p ≡ true) ↔ ((p < length (s .tasks)) × ((k : ℕ) × (release (task s p) k ≡ b .tick) × (b .job p k .ended ≡ false)))
+unfolding emptiable
+emptiable-exact s ok b p = (
+  λ e. let h = and-left (inside && now new) open-yet e in (
+    ltb-true p (length (s .tasks)) (and-left inside (now new) h),
+    (
+      new,
+      eqb-true (release (task s p) new) (b .tick) (and-right inside (now new) h),
+      not-true (b .job p new .ended) (and-right (inside && now new) open-yet e),
+    ),
+  ),
+  λ x. found (x .0) (x .1 .0) (x .1 .1) (x .1 .2),
+)
+  where
+    new : ℕ
+    new = newest (task s p) (b .tick)
+
+    inside : Bool
+    inside = ltb p (length (s .tasks))
+
+    now : ℕ → Bool
+    now k = eqb (release (task s p) k) (b .tick)
+
+    open-yet : Bool
+    open-yet = not (b .job p new .ended)
+
+    found : p < length (s .tasks) → (k : ℕ) → release (task s p) k ≡ b .tick → b .job p k .ended ≡ false → inside && now new && open-yet ≡ true
+    found l k e o =
+        let n : newest (task s p) (b .tick) ≡ k =
+        newest-is (task s p) k (b .tick) (ok p l .constrained) (le-of-eq e) (omega (arith, ok p l .deadline-pos)) in
+        rw (n, lt-ltb p (length (s .tasks)) l, eq-eqb (release (task s p) k) (b .tick) e, o)
+
+-- an empty job of any list ends with no ticks, had or claimed
+pub empty-ends :
+    (s : Table) (xs : List Entry) (e : ℕ → Bool) (p k : ℕ) → e p ≡ true → release (task s p) k ≡ book s xs .tick
+    → emptied s e (book s xs) .job p k ≡ mk 0 0 true
+unfolding emptied
+empty-ends s xs e p k h r =
+    rw (h, eq-eqb (release (task s p) k) (book s xs .tick) r) (ap endedWith (early-book s xs p k (le-of-eq (sym r))))
 
 -- a deadline of place p is found missed at t exactly if it is
 pub missed-exact :
@@ -113,59 +168,59 @@ missed-in-exact s ok t = (
 )
 
 -- THE LIST'S TICK is the number of advances in it that were not refused
-tick-from : (s : Table) (xs : List ℕ) (b : Book) → bookFrom s b xs .tick ≡ b .tick + takenIn (answersFrom s b xs)
-unfolding bookFrom answersFrom takenIn enter step
+tick-from : (s : Table) (xs : List Entry) (b : Book) → bookFrom s b xs .tick ≡ b .tick + takenIn (answersFrom s b xs)
+unfolding bookFrom answersFrom takenIn enter step emptied
 tick-from s [] b = sym (add-zero (b .tick))
 tick-from s (x ∷ xs) b = go (answer s b x) (tick-from s xs)
   where
     go : (w : Answer) → ((b : Book) → bookFrom s b xs .tick ≡ b .tick + takenIn (answersFrom s b xs))
-        → bookFrom s (entered w (step s (bit x) b) b) xs .tick ≡ b .tick + takenIn (w ∷ answersFrom s (entered w (step s (bit x) b) b) xs)
-    go taken ih = ih (step s (bit x) b) ∙ omega arith
+        → bookFrom s (entered w (moved s (moveOf x) b) b) xs .tick ≡ b .tick + takenIn (w ∷ answersFrom s (entered w (moved s (moveOf x) b) b) xs)
+    go taken ih = ih (moved s (moveOf x) b) ∙ omega arith
     go (refused n p) ih = ih b
 
-pub tick-taken : (s : Table) (xs : List ℕ) → book s xs .tick ≡ takenIn (answersFrom s emptyBook xs)
+pub tick-taken : (s : Table) (xs : List Entry) → book s xs .tick ≡ takenIn (answersFrom s emptyBook xs)
 tick-taken s xs = tick-from s xs emptyBook ∙ zero-add (takenIn (answersFrom s emptyBook xs))
 
--- THE TAKEN ADVANCES of a list: the book of these alone is the book of the list ..
-taken-book-from : (s : Table) (xs : List ℕ) (b : Book) → bookFrom s b (takenFrom s b xs) ≡ bookFrom s b xs
+-- THE TAKEN ENTRIES of a list: the book of these alone is the book of the list ..
+taken-book-from : (s : Table) (xs : List Entry) (b : Book) → bookFrom s b (takenFrom s b xs) ≡ bookFrom s b xs
 unfolding bookFrom takenFrom enter
 taken-book-from s [] b = refl
 taken-book-from s (x ∷ xs) b = go (answer s b x) refl (taken-book-from s xs)
   where
     go : (w : Answer) → answer s b x ≡ w → ((b : Book) → bookFrom s b (takenFrom s b xs) ≡ bookFrom s b xs)
-        → bookFrom s b (keep w x (takenFrom s (entered w (step s (bit x) b) b) xs)) ≡ bookFrom s (entered w (step s (bit x) b) b) xs
-    go taken e ih = ap (λ (w : Answer). bookFrom s (entered w (step s (bit x) b) b) (takenFrom s (step s (bit x) b) xs)) e ∙ ih (step s (bit x) b)
+        → bookFrom s b (keep w x (takenFrom s (entered w (moved s (moveOf x) b) b) xs)) ≡ bookFrom s (entered w (moved s (moveOf x) b) b) xs
+    go taken e ih = ap (λ (w : Answer). bookFrom s (entered w (moved s (moveOf x) b) b) (takenFrom s (moved s (moveOf x) b) xs)) e ∙ ih (moved s (moveOf x) b)
     go (refused n p) e ih = ih b
 
-pub taken-book : (s : Table) (xs : List ℕ) → book s (takenOf s xs) ≡ book s xs
+pub taken-book : (s : Table) (xs : List Entry) → book s (takenOf s xs) ≡ book s xs
 taken-book s xs = taken-book-from s xs emptyBook
 
 -- .. each of them is taken ..
-taken-all-from : (s : Table) (xs : List ℕ) (b : Book) → AllTaken s b (takenFrom s b xs)
+taken-all-from : (s : Table) (xs : List Entry) (b : Book) → AllTaken s b (takenFrom s b xs)
 unfolding answersFrom takenFrom enter
 taken-all-from s [] b = refl
 taken-all-from s (x ∷ xs) b = go (answer s b x) refl (taken-all-from s xs)
   where
     go : (w : Answer) → answer s b x ≡ w → ((b : Book) → AllTaken s b (takenFrom s b xs))
-        → AllTaken s b (keep w x (takenFrom s (entered w (step s (bit x) b) b) xs))
+        → AllTaken s b (keep w x (takenFrom s (entered w (moved s (moveOf x) b) b) xs))
     go taken e ih =
-        ap (λ (w : Answer). w ∷ answersFrom s (entered w (step s (bit x) b) b) (takenFrom s (step s (bit x) b) xs)) e
-        ∙ ap (λ (ws : List Answer). taken ∷ ws) (ih (step s (bit x) b))
+        ap (λ (w : Answer). w ∷ answersFrom s (entered w (moved s (moveOf x) b) b) (takenFrom s (moved s (moveOf x) b) xs)) e
+        ∙ ap (λ (ws : List Answer). taken ∷ ws) (ih (moved s (moveOf x) b))
     go (refused n p) e ih = ih b
 
-pub taken-all : (s : Table) (xs : List ℕ) → AllTaken s emptyBook (takenOf s xs)
+pub taken-all : (s : Table) (xs : List Entry) → AllTaken s emptyBook (takenOf s xs)
 taken-all s xs = taken-all-from s xs emptyBook
 
--- .. and of a list whose advances are all taken none is dropped
-taken-same-from : (s : Table) (xs : List ℕ) (b : Book) → AllTaken s b xs → takenFrom s b xs ≡ xs
+-- .. and of a list whose entries are all taken none is dropped
+taken-same-from : (s : Table) (xs : List Entry) (b : Book) → AllTaken s b xs → takenFrom s b xs ≡ xs
 unfolding answersFrom takenFrom enter
 taken-same-from s [] b e = refl
 taken-same-from s (x ∷ xs) b e =
     let h : answer s b x ≡ taken = cc in
-    let t : answersFrom s (entered (answer s b x) (step s (bit x) b) b) xs ≡ replicate (length xs) taken = cc in
-    rw h (ap (λ (l : List ℕ). x ∷ l) (taken-same-from s xs (step s (bit x) b) (rw h at t)))
+    let t : answersFrom s (entered (answer s b x) (moved s (moveOf x) b) b) xs ≡ replicate (length xs) taken = cc in
+    rw h (ap (λ (l : List Entry). x ∷ l) (taken-same-from s xs (moved s (moveOf x) b) (rw h at t)))
 
-pub taken-same : (s : Table) (xs : List ℕ) → AllTaken s emptyBook xs → takenOf s xs ≡ xs
+pub taken-same : (s : Table) (xs : List Entry) → AllTaken s emptyBook xs → takenOf s xs ≡ xs
 taken-same s xs e = taken-same-from s xs emptyBook e
 
 -- S AND P

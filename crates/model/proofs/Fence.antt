@@ -13,8 +13,8 @@ use Rattle.model.proofs.Digits.{bit-none}
 use Rattle.model.proofs.Lists.{map-at, up-at, up-length}
 use Rattle.model.proofs.Renumbered.{at-map, grants-map, owner-map, some-map}
 use Rattle.model.proofs.Search.{any-same}
-use Rattle.model.specs.Book.{Answer, Book, answer, answersFrom, book, bookFrom, emptyBook, enter, full, grantsOf, inRow}
-use Rattle.model.specs.Book.{late, misreported, none, reportable, rowOf, served, step, taskClaims, widths, work}
+use Rattle.model.specs.Book.{Answer, Book, Entry, answer, answersFrom, book, bookFrom, emptiable, emptied, emptyBook, enter, full, grantsOf, inRow, late}
+use Rattle.model.specs.Book.{misemptied, misreported, none, reportable, rowOf, served, step, taskClaims, widths, work}
 use Rattle.model.specs.Fence.{justOpen, openCores, outside, spread, unfenced}
 use Rattle.model.specs.Grants.{claimants, grants, some}
 use Rattle.model.specs.Horizon.{horizon}
@@ -218,18 +218,19 @@ module _ (s : Table) where
   fence-rows t = fence-row (full s t) ∙ ap (λ (b : Book). spread (s .fence) (s .cores) (rowOf (justOpen s) b)) (fence-full t)
 
   -- and in every list: the answers are the same, and so is the book
-  same-answer : (b : Book) (x : ℕ) → answer s b x ≡ answer (justOpen s) b x
-  unfolding answer late misreported reportable
+  same-answer : (b : Book) (x : Entry) → answer s b x ≡ answer (justOpen s) b x
+  unfolding answer late misreported reportable misemptied emptiable emptied
   same-answer b x =
-      rw (any-same x (λ p. bit x p && not (inRow s b p && not (b .job p (newest (task s p) (b .tick)) .ended)))
-      (λ p. bit x p && not (inRow (justOpen s) b p && not (b .job p (newest (task s p) (b .tick)) .ended)))
-      (λ p l. rw (same-in-row b p)))
+      let c : Book = emptied s (bit (x .empties)) b in
+      rw (any-same (x .reports) (λ p. bit (x .reports) p && not (inRow s c p && not (c .job p (newest (task s p) (b .tick)) .ended)))
+      (λ p. bit (x .reports) p && not (inRow (justOpen s) c p && not (c .job p (newest (task s p) (b .tick)) .ended)))
+      (λ p l. rw (same-in-row c p)))
 
-  same-enter : (x : ℕ) (b : Book) → enter s x b ≡ enter (justOpen s) x b
-  unfolding enter
-  same-enter x b = rw (same-answer b x, same-step (bit x) b)
+  same-enter : (x : Entry) (b : Book) → enter s x b ≡ enter (justOpen s) x b
+  unfolding enter emptied
+  same-enter x b = rw (same-answer b x, same-step (bit (x .reports)) (emptied s (bit (x .empties)) b))
 
-  same-lists : (xs : List ℕ) (b : Book) → (bookFrom s b xs ≡ bookFrom (justOpen s) b xs) × (answersFrom s b xs ≡ answersFrom (justOpen s) b xs)
+  same-lists : (xs : List Entry) (b : Book) → (bookFrom s b xs ≡ bookFrom (justOpen s) b xs) × (answersFrom s b xs ≡ answersFrom (justOpen s) b xs)
   unfolding bookFrom answersFrom
   same-lists [] b = (refl, refl)
   same-lists (x ∷ xs) b =
@@ -239,8 +240,14 @@ module _ (s : Table) where
         ap₂ (λ (w : Answer) (ws : List Answer). w ∷ ws) (same-answer b x) (ih .1 ∙ ap (λ (c : Book). answersFrom (justOpen s) c xs) e),
       )
 
-  pub fence-lists : (xs : List ℕ) → (book s xs ≡ book (justOpen s) xs) × (answersFrom s emptyBook xs ≡ answersFrom (justOpen s) emptyBook xs)
+  pub fence-lists : (xs : List Entry) → (book s xs ≡ book (justOpen s) xs) × (answersFrom s emptyBook xs ≡ answersFrom (justOpen s) emptyBook xs)
   fence-lists xs = same-lists xs emptyBook
 
-  pub fence-list-rows : (xs : List ℕ) → rowOf s (book s xs) ≡ spread (s .fence) (s .cores) (rowOf (justOpen s) (book (justOpen s) xs))
-  fence-list-rows xs = fence-row (book s xs) ∙ ap (λ (b : Book). spread (s .fence) (s .cores) (rowOf (justOpen s) b)) (fence-lists xs .0)
+  -- whatever jobs of the present tick are empty
+  pub fence-list-rows :
+      (xs : List Entry) (e : ℕ → Bool)
+      → rowOf s (emptied s e (book s xs)) ≡ spread (s .fence) (s .cores) (rowOf (justOpen s) (emptied (justOpen s) e (book (justOpen s) xs)))
+  unfolding emptied
+  fence-list-rows xs e =
+      fence-row (emptied s e (book s xs))
+      ∙ ap (λ (b : Book). spread (s .fence) (s .cores) (rowOf (justOpen s) (emptied s e b))) (fence-lists xs .0)

@@ -1,7 +1,7 @@
--- The model's full-length run is the scope's: the book of a list whose report sets are all empty, up to the first miss.
+-- The model's full-length run is the scope's: the book of a list whose sets are all empty, up to the first miss.
 use mathlib.Core.Bool.{_&&_, Bool, cond, false, not, true, true≢false}
 use mathlib.Core.Logic.{_↔_, ⊎-elim}
-use mathlib.Core.Path.{ap, fun-ext, refl, subst, sym, _∙_, _≡_}
+use mathlib.Core.Path.{ap, refl, subst, sym, _∙_, _≡_}
 use Prim.Native.Nat.{_+_, _<_, suc, zero, ℕ, _≤_}
 use native.Mathlib.Nat.{add-zero, eq-or-lt-of-le, le-dest, le-of-eq, le-of-suc-le-suc, not-suc-le-zero, zero-add}
 use native.Mathlib.Omega.{arith}
@@ -9,10 +9,10 @@ use lib.Dec.{leb, ltb}
 use lib.ListN.{length, replicate}
 use borrow.Author.Tests.{le-ltb, leb-true, not-true}
 use Rattle.model.proofs.Bools.{and-left, and-right, not-true-false}
-use Rattle.model.proofs.Digits.{bit-none}
-use Rattle.model.proofs.Runs.{full-stays, full-tick, missed-at}
+use Rattle.model.proofs.Runs.{full-stays, full-tick, missed-at, still-advance}
 use Rattle.model.proofs.Search.{any-some, least-none, none-any}
-use Rattle.model.specs.Book.{Book, Missed, Misses, NeverMissed, answer, book, bookFrom, enter, entered, firstLate, full, late, misreported, none, refused, step, taken}
+use Rattle.model.specs.Book.{Book, Missed, Misses, NeverMissed, advanced, answer, book, bookFrom, enter, entered, firstLate, full, late, misemptied}
+use Rattle.model.specs.Book.{misreported, none, quiet, refused, step, taken}
 use Rattle.model.specs.Search.{any, bit}
 use Rattle.model.specs.Task.{Table, due, task}
 
@@ -29,27 +29,27 @@ late-job s b p h = go (any-some (suc (b .tick)) (λ k. leb (due (task s p) k) (b
       not-true (b .job p k .ended) (and-right (leb (due (task s p) k) (b .tick)) (not (b .job p k .ended)) e),
     )
 
--- where no place is late, an empty report set is taken
+-- where no place is late, an advance with empty sets is taken
 none-late : (s : Table) (b : Book) → ((p : ℕ) → p < length (s .tasks) → late s b p ≡ false) → ltb (firstLate s b) (length (s .tasks)) ≡ false
 none-late s b h =
     le-ltb (firstLate s b) (length (s .tasks))
     (le-of-eq (sym (least-none (length (s .tasks)) (late s b) (none-any (length (s .tasks)) (late s b) h))))
 
-none-taken : (s : Table) (b : Book) → ((p : ℕ) → p < length (s .tasks) → late s b p ≡ false) → answer s b 0 ≡ taken
-unfolding answer misreported any
+none-taken : (s : Table) (b : Book) → ((p : ℕ) → p < length (s .tasks) → late s b p ≡ false) → answer s b quiet ≡ taken
+unfolding answer misemptied misreported any
 none-taken s b h = rw (none-late s b h)
 
-enter-none : (s : Table) (n : ℕ) → ((p : ℕ) → p < length (s .tasks) → late s (full s n) p ≡ false) → enter s 0 (full s n) ≡ full s (suc n)
+enter-none : (s : Table) (n : ℕ) → ((p : ℕ) → p < length (s .tasks) → late s (full s n) p ≡ false) → enter s quiet (full s n) ≡ full s (suc n)
 unfolding enter full
-enter-none s n h = rw (none-taken s (full s n) h) (ap (λ (f : ℕ → Bool). step s f (full s n)) (fun-ext bit-none))
+enter-none s n h = rw (none-taken s (full s n) h) (still-advance s (full s n))
 
 go-on :
     (s : Table) (n m : ℕ) → ((t p : ℕ) → t < m + n → p < length (s .tasks) → late s (full s t) p ≡ false)
-    → bookFrom s (full s m) (replicate n 0) ≡ full s (m + n)
+    → bookFrom s (full s m) (replicate n quiet) ≡ full s (m + n)
 unfolding bookFrom
 go-on s zero m h = ap (full s) (sym (add-zero m))
 go-on s (suc n) m h =
-    ap (λ (b : Book). bookFrom s b (replicate n 0)) (enter-none s m (λ p l. h m p (omega arith) l))
+    ap (λ (b : Book). bookFrom s b (replicate n quiet)) (enter-none s m (λ p l. h m p (omega arith) l))
     ∙ (go-on s n (suc m) (λ t p g l. h t p (omega arith) l) ∙ ap (full s) (omega arith))
 
 -- a job that is late at t has missed its deadline, at t or before
@@ -69,57 +69,57 @@ late-missed s t p l h =
 -- THE THEOREM: for every n up to and including the tick of the first miss, and for every n where there is none
 pub full-length :
     (s : Table) (n : ℕ) → ((p t : ℕ) → t < n → ¬ Missed s p t)
-    → book s (replicate n 0) ≡ full s n
+    → book s (replicate n quiet) ≡ full s n
 unfolding full
 full-length s n h = go-on s n 0 (λ t p g l. none t p (omega arith) l) ∙ ap (full s) (zero-add n)
   where
     none : (t p : ℕ) → t < n → p < length (s .tasks) → late s (full s t) p ≡ false
     none t p g l = not-true-false (late s (full s t) p) (λ e. let x = late-missed s t p l e in h p (x .0) (omega arith) (x .2))
 
--- PAST A MISS the book of empty report sets stays: it is always the full-length run at its own tick
+-- PAST A MISS the book of empty sets stays: it is always the full-length run at its own tick
 
--- an empty report set is taken where nobody is late, and else refused
-pub enter-empty : (s : Table) (b : Book) → enter s 0 b ≡ cond (ltb (firstLate s b) (length (s .tasks))) b (step s none b)
-unfolding enter answer misreported any
+-- an advance with empty sets is taken where nobody is late, and else refused
+pub enter-empty : (s : Table) (b : Book) → enter s quiet b ≡ cond (ltb (firstLate s b) (length (s .tasks))) b (step s none b)
+unfolding enter answer misemptied misreported any
 enter-empty s b = go (ltb (firstLate s b) (length (s .tasks)))
   where
-    go : (t : Bool) → entered (cond t (refused 15 (suc (firstLate s b))) taken) (step s (bit 0) b) b ≡ cond t b (step s none b)
+    go : (t : Bool) → entered (cond t (refused 15 (suc (firstLate s b))) taken) (advanced s (bit 0) (bit 0) b) b ≡ cond t b (step s none b)
     go true = refl
-    go false = ap (λ (f : ℕ → Bool). step s f b) (fun-ext bit-none)
+    go false = still-advance s b
 
 pub empty-more :
     (s : Table) (n : ℕ) (b : Book)
-    → bookFrom s b (replicate (suc n) 0) ≡ bookFrom s (cond (ltb (firstLate s b) (length (s .tasks))) b (step s none b)) (replicate n 0)
+    → bookFrom s b (replicate (suc n) quiet) ≡ bookFrom s (cond (ltb (firstLate s b) (length (s .tasks))) b (step s none b)) (replicate n quiet)
 unfolding bookFrom
-empty-more s n b = ap (λ (b : Book). bookFrom s b (replicate n 0)) (enter-empty s b)
+empty-more s n b = ap (λ (b : Book). bookFrom s b (replicate n quiet)) (enter-empty s b)
 
-stays-full : (s : Table) (n t : ℕ) → (u : ℕ) × (bookFrom s (full s t) (replicate n 0) ≡ full s u)
+stays-full : (s : Table) (n t : ℕ) → (u : ℕ) × (bookFrom s (full s t) (replicate n quiet) ≡ full s u)
 stays-full s zero t = unfold bookFrom in (t, refl)
 stays-full s (suc n) t =
     let x = go (ltb (firstLate s (full s t)) (length (s .tasks))) (stays-full s n t) (stays-full s n (suc t)) in
     (x .0, empty-more s n (full s t) ∙ x .1)
   where
     go : (b : Bool)
-        → (u : ℕ) × (bookFrom s (full s t) (replicate n 0) ≡ full s u)
-        → (u : ℕ) × (bookFrom s (full s (suc t)) (replicate n 0) ≡ full s u)
-        → (u : ℕ) × (bookFrom s (cond b (full s t) (step s none (full s t))) (replicate n 0) ≡ full s u)
+        → (u : ℕ) × (bookFrom s (full s t) (replicate n quiet) ≡ full s u)
+        → (u : ℕ) × (bookFrom s (full s (suc t)) (replicate n quiet) ≡ full s u)
+        → (u : ℕ) × (bookFrom s (cond b (full s t) (step s none (full s t))) (replicate n quiet) ≡ full s u)
     go true x y = x
     go false x y = unfold full in y
 
-pub empty-full : (s : Table) (n : ℕ) → book s (replicate n 0) ≡ full s (book s (replicate n 0) .tick)
+pub empty-full : (s : Table) (n : ℕ) → book s (replicate n quiet) ≡ full s (book s (replicate n quiet) .tick)
 unfolding full
 empty-full s n =
     let x = stays-full s n 0 in
     x .1 ∙ ap (full s) (sym (ap (λ (b : Book). b .tick) (x .1) ∙ full-tick s (x .0)))
 
--- so no deadline is ever missed exactly if none is in the book of any number of empty report sets
-pub never-missed-exact : (s : Table) → NeverMissed s ↔ ((n p : ℕ) → ¬ Misses s (book s (replicate n 0)) p)
+-- so no deadline is ever missed exactly if none is in the book of any number of empty sets
+pub never-missed-exact : (s : Table) → NeverMissed s ↔ ((n p : ℕ) → ¬ Misses s (book s (replicate n quiet)) p)
 never-missed-exact s = (
   λ nm n p m. nm p n (subst (λ (b : Book). Misses s b p) (full-length s n (λ q t h. nm q t)) m),
   λ none p t. below none (suc t) p t (omega arith),
 )
   where
-    below : ((n p : ℕ) → ¬ Misses s (book s (replicate n 0)) p) → (n p t : ℕ) → t < n → ¬ Missed s p t
+    below : ((n p : ℕ) → ¬ Misses s (book s (replicate n quiet)) p) → (n p t : ℕ) → t < n → ¬ Missed s p t
     below none zero p t h = absurd (not-suc-le-zero h)
     below none (suc n) p t h =
         ⊎-elim

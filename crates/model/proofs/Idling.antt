@@ -1,7 +1,6 @@
--- Idling: at full length it gives the rows of greedy, and whatever is reported it gives the rows of its full-length run.
+-- Idling: at full length it gives the rows of greedy, and whatever is reported or empty it gives the rows of its full-length run.
 use mathlib.Core.Bool.{Bool, cond, false, false≢true, true, true≢false}
 use mathlib.Core.List.{List, [], _∷_}
-use mathlib.Core.Logic.{inl, inr}
 use mathlib.Core.Path.{ap, refl, subst, sym, _∙_, _≡_}
 use Prim.Native.Nat.{suc, zero, ℕ, _≤_}
 use lib.Dec.{ltb}
@@ -9,13 +8,15 @@ use lib.ListN.{length, length-map, replicate}
 use borrow.Author.Tests.{le-ltb}
 use Rattle.model.proofs.FullLength.{empty-full, empty-more}
 use Rattle.model.proofs.Grants.{claimants-same}
-use Rattle.model.proofs.Jobs.{mk}
-use Rattle.model.proofs.Runs.{full-claimed}
-use Rattle.model.proofs.Sustain.{abreast-full, same-task-claims}
-use Rattle.model.specs.Book.{Book, asked, book, bookFrom, claims, firstLate, full, grantsOf, jobClaims, late, none, rowOf, served, step, taskClaims, widths, work}
+use Rattle.model.proofs.Jobs.{Reserving, mk}
+use Rattle.model.proofs.Level.{level-asked, same-claimants}
+use Rattle.model.proofs.Runs.{full-claimed, still-emptied}
+use Rattle.model.specs.Book.{Book, Entry, asked, book, bookFrom, claims, emptied, firstLate, full, grantsOf, jobClaims, late, misemptied, none, quiet}
+use Rattle.model.specs.Book.{rowOf, rowRefused, served, shown, step, taskClaims, widths, work}
 use Rattle.model.specs.Grants.{Claimant, claimants, given, grants, left}
 use Rattle.model.specs.Row.{row}
 use Rattle.model.specs.Fence.{openCores}
+use Rattle.model.specs.Search.{any}
 use Rattle.model.specs.Task.{AllSound, Rule, Table, Task, greedy, idling, newest, task}
 
 -- the rules choose alike
@@ -70,12 +71,12 @@ module _ (τs : List Task) (m f : ℕ) where
   same-full zero = refl
   same-full (suc n) = same-step n (same-full n)
 
-  -- the same places are late under both, so the books of empty report sets stay at the same tick
+  -- the same places are late under both, so the books of empty sets stay at the same tick
   same-late : (t : ℕ) → ltb (firstLate I (full I t)) (length τs) ≡ ltb (firstLate G (full G t)) (length τs)
   unfolding late
   same-late t = ap (λ (b : Book). ltb (firstLate I b) (length τs)) (same-full t)
 
-  same-books : (n t : ℕ) → bookFrom I (full I t) (replicate n 0) ≡ bookFrom G (full G t) (replicate n 0)
+  same-books : (n t : ℕ) → bookFrom I (full I t) (replicate n quiet) ≡ bookFrom G (full G t) (replicate n quiet)
   same-books zero t = unfold bookFrom in same-full t
   same-books (suc n) t =
       empty-more I n (full I t)
@@ -83,47 +84,55 @@ module _ (τs : List Task) (m f : ℕ) where
       ∙ sym (empty-more G n (full G t)))
     where
       go : (a b : Bool) → a ≡ b
-          → bookFrom I (full I t) (replicate n 0) ≡ bookFrom G (full G t) (replicate n 0)
-          → bookFrom I (full I (suc t)) (replicate n 0) ≡ bookFrom G (full G (suc t)) (replicate n 0)
-          → bookFrom I (cond a (full I t) (step I none (full I t))) (replicate n 0) ≡ bookFrom G (cond b (full G t) (step G none (full G t))) (replicate n 0)
+          → bookFrom I (full I t) (replicate n quiet) ≡ bookFrom G (full G t) (replicate n quiet)
+          → bookFrom I (full I (suc t)) (replicate n quiet) ≡ bookFrom G (full G (suc t)) (replicate n quiet)
+          → bookFrom I (cond a (full I t) (step I none (full I t))) (replicate n quiet) ≡ bookFrom G (cond b (full G t) (step G none (full G t))) (replicate n quiet)
       go true true e x y = x
       go false false e x y = unfold full in y
       go true false e x y = absurd (true≢false e)
       go false true e x y = absurd (false≢true e)
 
-  same-asked : (b : Book) → rowOf I b ≡ rowOf G b → asked I b ≡ asked G b
-  unfolding asked late
-  same-asked b e = rw e
+  same-asked : (b : Book) → rowOf I b ≡ rowOf G b → asked I b 0 ≡ asked G b 0
+  unfolding asked late misemptied any
+  same-asked b e =
+      ap (λ (r : List ℕ). cond (ltb (firstLate I b) (length τs)) (rowRefused 15 (suc (firstLate I b))) (shown r))
+      (ap (rowOf I) (still-emptied I b) ∙ (e ∙ ap (rowOf G) (sym (still-emptied G b))))
 
 -- THE THEOREM: at full length idling and greedy give equal rows
 pub idling-greedy : (τs : List Task) (m f n : ℕ) → rowOf (under idling τs m f) (full (under idling τs m f) n) ≡ rowOf (under greedy τs m f) (full (under greedy τs m f) n)
 idling-greedy τs m f n = ap (row f m) (same-grants τs m f n (same-full τs m f n))
 
--- the same of the books of n empty report sets, past a miss too: the books are equal ..
-pub idling-greedy-books : (τs : List Task) (m f n : ℕ) → book (under idling τs m f) (replicate n 0) ≡ book (under greedy τs m f) (replicate n 0)
+-- the same of the books of n empty sets, past a miss too: the books are equal ..
+pub idling-greedy-books : (τs : List Task) (m f n : ℕ) → book (under idling τs m f) (replicate n quiet) ≡ book (under greedy τs m f) (replicate n quiet)
 unfolding full
 idling-greedy-books τs m f n = same-books τs m f n 0
 
 -- .. and so is what a row asked is answered, the row or 15 with its position
 pub idling-greedy-asked :
     (τs : List Task) (m f n : ℕ)
-    → asked (under idling τs m f) (book (under idling τs m f) (replicate n 0)) ≡ asked (under greedy τs m f) (book (under greedy τs m f) (replicate n 0))
+    → asked (under idling τs m f) (book (under idling τs m f) (replicate n quiet)) 0
+    ≡ asked (under greedy τs m f) (book (under greedy τs m f) (replicate n quiet)) 0
 idling-greedy-asked τs m f n =
     let i : Table = under idling τs m f in
     let g : Table = under greedy τs m f in
-    let b : Book = book i (replicate n 0) in
-    let e : b ≡ book g (replicate n 0) = idling-greedy-books τs m f n in
+    let b : Book = book i (replicate n quiet) in
+    let e : b ≡ book g (replicate n quiet) = idling-greedy-books τs m f n in
     let at : b ≡ full i (b .tick) = empty-full i n in
     let at′ : b ≡ full g (b .tick) =
     e ∙ (empty-full g n ∙ ap (λ (c : Book). full g (c .tick)) (sym e)) in
-    same-asked τs m f b (ap (rowOf i) at ∙ (idling-greedy τs m f (b .tick) ∙ ap (rowOf g) (sym at′))) ∙ ap (asked g) e
+    same-asked τs m f b (ap (rowOf i) at ∙ (idling-greedy τs m f (b .tick) ∙ ap (rowOf g) (sym at′))) ∙ ap (λ (c : Book). asked g c 0) e
 
--- THE THEOREM (Goossens and Berten, definition 16): under idling the cores, and so the row, of any book are those of the full-length run at its tick
-pub idling-grants : (s : Table) → AllSound s → s .rule ≡ idling → (xs : List ℕ) → grantsOf s (book s xs) ≡ grantsOf s (full s (book s xs .tick))
-idling-grants s ok e xs =
+-- THE THEOREM (Goossens and Berten, definition 16): under idling the cores, and so the row, of any book are those of the full-length run at
+-- its tick, whatever jobs of that tick are empty
+pub idling-grants :
+    (s : Table) → AllSound s → s .rule ≡ idling → (xs : List Entry) (e : ℕ → Bool)
+    → grantsOf s (emptied s e (book s xs)) ≡ grantsOf s (full s (book s xs .tick))
+idling-grants s ok i xs e =
+    let reserving : Reserving (s .rule) = subst Reserving (sym i) (λ τ j. refl) in
     ap (λ (x : List Claimant). grants (s .rule) x (openCores s))
-    (claimants-same (widths s) (taskClaims s (book s xs)) (taskClaims s (full s (book s xs .tick)))
-    (λ q h. same-task-claims s ok (book s xs) (full s (book s xs .tick)) (abreast-full s ok (inr (inl e)) xs) e q (rw length-map at h)))
+    (same-claimants s ok reserving (emptied s e (book s xs)) (full s (book s xs .tick)) (level-asked s ok reserving xs e))
 
-pub idling-rows : (s : Table) → AllSound s → s .rule ≡ idling → (xs : List ℕ) → rowOf s (book s xs) ≡ rowOf s (full s (book s xs .tick))
-idling-rows s ok e xs = ap (row (s .fence) (s .cores)) (idling-grants s ok e xs)
+pub idling-rows :
+    (s : Table) → AllSound s → s .rule ≡ idling → (xs : List Entry) (e : ℕ → Bool)
+    → rowOf s (emptied s e (book s xs)) ≡ rowOf s (full s (book s xs .tick))
+idling-rows s ok i xs e = ap (row (s .fence) (s .cores)) (idling-grants s ok i xs e)

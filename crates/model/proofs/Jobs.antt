@@ -8,7 +8,7 @@ use native.Mathlib.Omega.{arith}
 use lib.Dec.{leb, ltb}
 use borrow.Author.Tests.{le-leb, leb-false, leb-true, lt-ltb, ltb-true, not-true}
 use Rattle.model.proofs.Bools.{and-left, and-right, not-true-false, or-left-true, or-right-false}
-use Rattle.model.specs.Book.{Job, claims, holds, work}
+use Rattle.model.specs.Book.{Job, claims, endedWith, holds, work}
 use Rattle.model.specs.Compare.{Behind, Longer}
 use Rattle.model.specs.Task.{Rule, Task, due, greedy, idling, limited, newest, release}
 
@@ -121,23 +121,23 @@ abreast C f g true false h c false h′ c′ false nb both nl (o, x) = go x
 abreast C f g false true h c false h′ c′ false nb both nl (o, x) = false≢true (both refl refl)
 abreast C f g false false h c false h′ c′ false nb both nl (o, x) = nb (refl, x)
 
--- what holds of every line of a book: at most C ticks had; and while it has not ended, fewer, and as many as claimed
+-- what holds of every line of a book: at most C ticks had; and while it has not ended, fewer, and no fewer than claimed
 pub record Good (C : ℕ) (j : Job) : Type 0 where
   pub within : j .had ≤ C
   pub short : j .ended ≡ false → j .had < C
-  pub even : j .ended ≡ false → j .claimed ≡ j .had
+  pub paid : j .ended ≡ false → j .claimed ≤ j .had
 
 pub good-fresh : (C : ℕ) → 1 ≤ C → Good C (mk 0 0 false)
-good-fresh C h = record { within = omega arith; short = λ e. h; even = λ e. refl }
+good-fresh C h = record { within = omega arith; short = λ e. h; paid = λ e. omega arith }
 
 pub good-next : (C : ℕ) (f s : Bool) (h c : ℕ) (e : Bool) → Good C (mk h c e) → Good C (next C f s (mk h c e))
 unfolding work
 good-next C f false h c e g = g
-good-next C f true h c true g = record { within = g .within; short = λ o. absurd (true≢false o); even = λ o. absurd (true≢false o) }
+good-next C f true h c true g = record { within = g .within; short = λ o. absurd (true≢false o); paid = λ o. absurd (true≢false o) }
 good-next C f true h c false g = record {
   within = g .short refl;
   short = λ o. leb-false C (suc h) (or-right-false f (leb C (suc h)) o);
-  even = λ o. ap suc (g .even refl);
+  paid = λ o. omega (arith, g .paid refl);
 }
 
 -- in the full-length run a job ends only at C ticks
@@ -154,17 +154,47 @@ next-claimed C f false h c e = refl
 next-claimed C f true h c true = refl
 next-claimed C f true h c false = refl
 
--- under idling a good line claims by its window and the ticks claimed
+-- EMPTY JOBS
+
+-- a job before a tick, empty or not
+abbrev pub start : Bool → Job → Job
+start x j = cond x (endedWith j) j
+
+pub start-claimed : (x : Bool) (j : Job) → start x j .claimed ≡ j .claimed
+start-claimed true j = refl
+start-claimed false j = refl
+
+pub start-good : (C : ℕ) (x : Bool) (j : Job) → Good C j → Good C (start x j)
+start-good C true j g = record { within = g .within; short = λ o. absurd (true≢false o); paid = λ o. absurd (true≢false o) }
+start-good C false j g = g
+
+-- an empty job is behind nothing
+pub start-near : (x : Bool) (a b : Job) → ¬ Behind a b → ¬ Behind (start x a) b
+start-near true a b nb h = true≢false (h .0)
+start-near false a b nb h = nb h
+
+-- of two jobs just released, of which the first is not longer, the first is not behind
+pub fresh-near : (x y : Bool) → ¬ Longer (start x (mk 0 0 false)) (start y (mk 0 0 false)) → ¬ Behind (start x (mk 0 0 false)) (start y (mk 0 0 false))
+fresh-near true y nl h = true≢false (h .0)
+fresh-near false true nl h = nl (refl, inr (refl, refl))
+fresh-near false false nl (o, inl d) = false≢true d
+fresh-near false false nl (o, inr d) = omega arith
+
+-- a rule under which a job that ended claims until it has claimed C ticks
+abbrev pub Reserving : Rule → Type 0
+Reserving r = (τ : Task) (j : Job) → holds r τ j ≡ ltb (j .claimed) (τ .length)
+
+-- under such a rule a good line claims by its window and the ticks claimed
 idle-test : (C h c : ℕ) (e : Bool) → Good C (mk h c e) → not e || ltb c C ≡ ltb c C
 idle-test C h c true g = refl
-idle-test C h c false g = sym (lt-ltb c C (omega (arith, g .even refl, g .short refl)))
+idle-test C h c false g = sym (lt-ltb c C (omega (arith, g .paid refl, g .short refl)))
 
 pub idle-claims :
-    (τ : Task) (k t : ℕ) (a b : Job) → Good (τ .length) a → Good (τ .length) b → a .claimed ≡ b .claimed
-    → claims idling τ k t a ≡ claims idling τ k t b
+    (r : Rule) → Reserving r → (τ : Task) (k t : ℕ) (a b : Job) → Good (τ .length) a → Good (τ .length) b → a .claimed ≡ b .claimed
+    → claims r τ k t a ≡ claims r τ k t b
 unfolding claims
-idle-claims τ k t a b ga gb e =
-    rw (idle-test (τ .length) (a .had) (a .claimed) (a .ended) ga, idle-test (τ .length) (b .had) (b .claimed) (b .ended) gb, e)
+idle-claims r q τ k t a b ga gb e =
+    rw (q τ a, q τ b, idle-test (τ .length) (a .had) (a .claimed) (a .ended) ga, idle-test (τ .length) (b .had) (b .claimed) (b .ended) gb, e)
 
 -- a rule under which a job that ended claims no more
 abbrev pub Letting : Rule → Type 0

@@ -1,6 +1,7 @@
 -- The theorems on the definitions alone: computed examples, laws of searches, lists and digits, and what the book, the horizon and the verdict promise.
 pub mod LineByLine
 pub mod Examples
+pub mod EmptyExamples
 pub mod Bools
 pub mod Search
 pub mod Lists
@@ -14,6 +15,7 @@ pub mod FullLength
 pub mod Multiples
 pub mod Starts
 pub mod Horizon
+pub mod Level
 pub mod Sustain
 pub mod Firm
 pub mod Idling

@@ -14,11 +14,11 @@ use borrow.Author.Tests.{le-ltb, leb-false, leb-true, lt-ltb}
 use Rattle.model.proofs.FullLength.{empty-full}
 use Rattle.model.proofs.Grants.{claimants-prefix, claimants-take, grants-take}
 use Rattle.model.proofs.Lists.{take-map}
-use Rattle.model.proofs.Runs.{book-run, run}
-use Rattle.model.specs.Book.{Book, book, emptyBook, full, grantsOf, jobClaims, none, served, step, takenOf, taskClaims, widths}
+use Rattle.model.proofs.Runs.{book-run, moveOf, moved, movesOf, run}
+use Rattle.model.specs.Book.{Book, Entry, book, emptied, emptyBook, full, grantsOf, jobClaims, none, quiet, served, step, takenOf, taskClaims, widths}
 use Rattle.model.specs.Fence.{openCores}
 use Rattle.model.specs.Grants.{claimants}
-use Rattle.model.specs.Local.{Alike, SameCores, SameReports, upTo}
+use Rattle.model.specs.Local.{Alike, SameBits, SameCores, SameReports, upTo}
 use Rattle.model.specs.Row.{byteOf, owner, row}
 use Rattle.model.specs.Search.{bit, memb, upFrom}
 use Rattle.model.specs.Task.{Table, Task, newest, nobody, task}
@@ -150,6 +150,13 @@ module _ (n : ℕ) (s s′ : Table) (al : Alike n s s′) where
     jobs = λ p k l. rw (same-job-claims b b′ ag p k l, same-cores b b′ ag p l, same-task p l, ag .jobs p k l, fg p l);
   }
 
+  same-emptied : (e g : ℕ → Bool) → ((q : ℕ) → q < n → e q ≡ g q) → (b b′ : Book) → Agree n b b′ → Agree n (emptied s e b) (emptied s′ g b′)
+  unfolding emptied
+  same-emptied e g eg b b′ ag = record {
+    ticks = ag .ticks;
+    jobs = λ p k l. rw (eg p l, same-task p l, ag .ticks, ag .jobs p k l);
+  }
+
   start-agree : Agree n emptyBook emptyBook
   start-agree = record { ticks = refl; jobs = λ p k l. refl }
 
@@ -158,32 +165,42 @@ module _ (n : ℕ) (s s′ : Table) (al : Alike n s s′) where
   full-agree zero = start-agree
   full-agree (suc t) = same-step none none (λ q l. refl) (full s t) (full s′ t) (full-agree t)
 
+  same-moved : (x y : Entry) → SameBits n (x .reports) (y .reports) → SameBits n (x .empties) (y .empties) → (b b′ : Book) → Agree n b b′
+      → Agree n (moved s (moveOf x) b) (moved s′ (moveOf y) b′)
+  same-moved x y r e b b′ ag =
+      same-step (bit (x .reports)) (bit (y .reports)) r (emptied s (bit (x .empties)) b) (emptied s′ (bit (y .empties)) b′)
+      (same-emptied (bit (x .empties)) (bit (y .empties)) e b b′ ag)
+
   runs-agree :
-      (xs ys : List ℕ) → SameReports n xs ys → (b b′ : Book) → Agree n b b′
-      → Agree n (run s b (map bit xs)) (run s′ b′ (map bit ys))
+      (xs ys : List Entry) → SameReports n xs ys → (b b′ : Book) → Agree n b b′
+      → Agree n (run s b (movesOf xs)) (run s′ b′ (movesOf ys))
   unfolding SameReports run
   runs-agree [] [] r b b′ ag = ag
   runs-agree [] (y ∷ ys) r b b′ ag = absurd r
   runs-agree (x ∷ xs) [] r b b′ ag = absurd r
   runs-agree (x ∷ xs) (y ∷ ys) r b b′ ag =
-      runs-agree xs ys (r .1) (step s (bit x) b) (step s′ (bit y) b′) (same-step (bit x) (bit y) (r .0) b b′ ag)
+      runs-agree xs ys (r .2) (moved s (moveOf x) b) (moved s′ (moveOf y) b′) (same-moved x y (r .0) (r .1) b b′ ag)
 
   -- THE THEOREM, for the full-length runs
   pub local-full : (t : ℕ) → SameCores n s (full s t) s′ (full s′ t)
   local-full t = shown-alike (full s t) (full s′ t) (full-agree t)
 
-  -- the same of books of empty report sets: at every tick that both reach (up to the first miss, all: `full-length`)
+  -- the same of books of empty sets: at every tick that both reach (up to the first miss, all: `full-length`)
   pub local-empty :
-      (t u : ℕ) → book s (replicate t 0) .tick ≡ book s′ (replicate u 0) .tick
-      → SameCores n s (book s (replicate t 0)) s′ (book s′ (replicate u 0))
+      (t u : ℕ) → book s (replicate t quiet) .tick ≡ book s′ (replicate u quiet) .tick
+      → SameCores n s (book s (replicate t quiet)) s′ (book s′ (replicate u quiet))
   local-empty t u e =
       subst₂ (λ (a b : Book). SameCores n s a s′ b)
       (sym (empty-full s t)) (sym (empty-full s′ u ∙ ap (full s′) (sym e)))
-      (local-full (book s (replicate t 0) .tick))
+      (local-full (book s (replicate t quiet) .tick))
 
-  -- THE THEOREM, for any two lists whose taken advances agree on positions 1 to n; what is refused changes nothing and is dropped
-  pub local-lists : (xs ys : List ℕ) → SameReports n (takenOf s xs) (takenOf s′ ys) → SameCores n s (book s xs) s′ (book s′ ys)
-  local-lists xs ys r =
-      shown-alike (book s xs) (book s′ ys)
+  -- THE THEOREM, for any two lists whose taken entries agree on positions 1 to n, and rows asked with empty jobs that do; what is refused
+  -- changes nothing and is dropped
+  pub local-lists :
+      (xs ys : List Entry) → SameReports n (takenOf s xs) (takenOf s′ ys) → (e e′ : ℕ) → SameBits n e e′
+      → SameCores n s (emptied s (bit e) (book s xs)) s′ (emptied s′ (bit e′) (book s′ ys))
+  local-lists xs ys r e e′ h =
+      shown-alike (emptied s (bit e) (book s xs)) (emptied s′ (bit e′) (book s′ ys))
+      (same-emptied (bit e) (bit e′) h (book s xs) (book s′ ys)
       (subst₂ (Agree n) (sym (book-run s xs emptyBook)) (sym (book-run s′ ys emptyBook))
-      (runs-agree (takenOf s xs) (takenOf s′ ys) r emptyBook emptyBook start-agree))
+      (runs-agree (takenOf s xs) (takenOf s′ ys) r emptyBook emptyBook start-agree)))

@@ -1,23 +1,40 @@
 -- Books as runs of advances that are all entered: their ticks, what holds of every line, and the book of a list as such a run.
-use mathlib.Core.Bool.{Bool, false, false≢true, true}
+use mathlib.Core.Bool.{_&&_, Bool, and-false, false, false≢true, true}
 use mathlib.Core.List.{List, [], map, _∷_}
-use mathlib.Core.Path.{ap, fun-ext, refl, subst, sym, _∙_, _≡_}
+use mathlib.Core.Path.{ap, ap₂, fun-ext, refl, subst, sym, _∙_, _≡_}
 use Prim.Native.Nat.{_+_, _<_, suc, zero, ℕ, _≤_}
 use native.Mathlib.Nat.{add-suc, add-zero, le-trans, zero-add}
 use native.Mathlib.Omega.{arith}
 use lib.ListN.{length, replicate}
+use borrow.Author.Tests.{ne-eqb}
 use Rattle.model.proofs.Bools.{and-left, not-true-false}
 use Rattle.model.proofs.Digits.{bit-none}
-use Rattle.model.proofs.Jobs.{Good, after-release, good-fresh, good-next, mk, next, next-ended, whole-next}
-use Rattle.model.specs.Book.{Answer, Book, Missed, answer, book, bookFrom, emptyBook, enter, entered, fresh, full}
-use Rattle.model.specs.Book.{inRow, jobClaims, keep, none, refused, served, step, taken, takenFrom, takenOf, work}
+use Rattle.model.proofs.Jobs.{Good, after-release, good-fresh, good-next, mk, next, next-ended, start-good, whole-next}
+use Rattle.model.specs.Book.{Answer, Book, Entry, Missed, advanced, answer, book, bookFrom, emptied, emptyBook, enter, entered, fresh, full, inRow}
+use Rattle.model.specs.Book.{jobClaims, keep, none, quiet, refused, releasedNow, served, step, taken, takenFrom, takenOf, work}
 use Rattle.model.specs.Search.{bit}
 use Rattle.model.specs.Task.{AllSound, Table, due, release, task}
 
--- the book after advances with these reports, each entered whatever it says
-unfoldable pub run : Table → Book → List (ℕ → Bool) → Book
+-- an advance by its tests: who is reported, and whose job is empty
+pub record Move : Type 0 where
+  pub reports : ℕ → Bool
+  pub empties : ℕ → Bool
+
+-- the book after one, entered whatever it says
+abbrev pub moved : Table → Move → Book → Book
+moved s m b = advanced s (m .reports) (m .empties) b
+
+-- and after several
+unfoldable pub run : Table → Book → List Move → Book
 run s b [] = b
-run s b (f ∷ fs) = run s (step s f b) fs
+run s b (m ∷ ms) = run s (moved s m b) ms
+
+-- an entry's, and those of a list
+abbrev pub moveOf : Entry → Move
+moveOf x = record { reports = bit (x .reports); empties = bit (x .empties) }
+
+abbrev pub movesOf : List Entry → List Move
+movesOf xs = map moveOf xs
 
 pub full-tick : (s : Table) (n : ℕ) → full s n .tick ≡ n
 unfolding full step
@@ -49,29 +66,47 @@ module _ (s : Table) (ok : AllSound s) where
   good-step f b g p k l =
       good-next (task s p .length) (f p) (served s b p k) (b .job p k .had) (b .job p k .claimed) (b .job p k .ended) (g p k l)
 
+  pub good-emptied : (e : ℕ → Bool) (b : Book) → GoodBook s b → GoodBook s (emptied s e b)
+  unfolding emptied
+  good-emptied e b g p k l = start-good (task s p .length) (e p && releasedNow s b p k) (b .job p k) (g p k l)
+
+  good-moved : (m : Move) (b : Book) → GoodBook s b → GoodBook s (moved s m b)
+  good-moved m b g = good-step (m .reports) (emptied s (m .empties) b) (good-emptied (m .empties) b g)
+
   pub good-start : GoodBook s emptyBook
   good-start p k l = good-fresh (task s p .length) (ok p l .length-pos)
 
-  pub good-run : (fs : List (ℕ → Bool)) (b : Book) → GoodBook s b → GoodBook s (run s b fs)
+  pub good-run : (ms : List Move) (b : Book) → GoodBook s b → GoodBook s (run s b ms)
   unfolding run
   good-run [] b g = g
-  good-run (f ∷ fs) b g = good-run fs (step s f b) (good-step f b g)
+  good-run (m ∷ ms) b g = good-run ms (moved s m b) (good-moved m b g)
 
   pub good-full : (n : ℕ) → GoodBook s (full s n)
   unfolding full
   good-full zero = good-start
   good-full (suc n) = good-step none (full s n) (good-full n)
 
--- the full-length run is the run of empty reports
-step-last : (s : Table) (n : ℕ) (b : Book) → run s (step s none b) (replicate n none) ≡ step s none (run s b (replicate n none))
-unfolding run
+-- the full-length run is the run of empty sets
+abbrev pub stillMove : Move
+stillMove = record { reports = none; empties = none }
+
+step-last : (s : Table) (n : ℕ) (b : Book) → run s (step s none b) (replicate n stillMove) ≡ step s none (run s b (replicate n stillMove))
+unfolding run emptied
 step-last s zero b = refl
 step-last s (suc n) b = step-last s n (step s none b)
 
-pub full-run : (s : Table) (n : ℕ) → run s emptyBook (replicate n none) ≡ full s n
-unfolding run full
+pub full-run : (s : Table) (n : ℕ) → run s emptyBook (replicate n stillMove) ≡ full s n
+unfolding run full emptied
 full-run s zero = refl
 full-run s (suc n) = step-last s n emptyBook ∙ ap (step s none) (full-run s n)
+
+-- no bit of the empty set names an empty job, so an advance whose sets are both empty is a step with no report
+pub still-emptied : (s : Table) (b : Book) → emptied s (bit 0) b ≡ b
+unfolding emptied
+still-emptied s b = ap (λ (f : ℕ → Bool). emptied s f b) (fun-ext bit-none)
+
+pub still-advance : (s : Table) (b : Book) → advanced s (bit 0) (bit 0) b ≡ step s none b
+still-advance s b = ap₂ (λ (f : ℕ → Bool) (c : Book). step s f c) (fun-ext bit-none) (still-emptied s b)
 
 -- every job that has ended in a book has had C ticks
 abbrev pub WholeBook : Table → Book → Type 0
@@ -88,17 +123,17 @@ unfolding full
 full-whole s zero p k e = absurd (false≢true e)
 full-whole s (suc n) p k e = whole-step s (full s n) (full-whole s n) p k e
 
--- and so in the book of empty report sets, past a miss too
-whole-from : (s : Table) (n : ℕ) (b : Book) → WholeBook s b → WholeBook s (bookFrom s b (replicate n 0))
+-- and so in the book of empty sets, past a miss too
+whole-from : (s : Table) (n : ℕ) (b : Book) → WholeBook s b → WholeBook s (bookFrom s b (replicate n quiet))
 unfolding bookFrom enter
 whole-from s zero b w = w
-whole-from s (suc n) b w = whole-from s n (enter s 0 b) (go (answer s b 0))
+whole-from s (suc n) b w = whole-from s n (enter s quiet b) (go (answer s b quiet))
   where
-    go : (a : Answer) → WholeBook s (entered a (step s (bit 0) b) b)
-    go taken = subst (λ (f : ℕ → Bool). WholeBook s (step s f b)) (sym (fun-ext bit-none)) (whole-step s b w)
+    go : (a : Answer) → WholeBook s (entered a (advanced s (bit 0) (bit 0) b) b)
+    go taken = subst (WholeBook s) (sym (still-advance s b)) (whole-step s b w)
     go (refused n p) = w
 
-pub whole-empty : (s : Table) (n : ℕ) → WholeBook s (book s (replicate n 0))
+pub whole-empty : (s : Table) (n : ℕ) → WholeBook s (book s (replicate n quiet))
 whole-empty s n = whole-from s n emptyBook (λ p k e. absurd (false≢true e))
 
 -- the ticks claimed are no fewer than those had
@@ -125,28 +160,60 @@ full-stays s n (suc d) p k e = rw add-suc (more (full-stays s n d p k e))
     more : full s (n + d) .job p k .ended ≡ true → full s (suc (n + d)) .job p k .ended ≡ true
     more h = unfold full step in next-ended (task s p .length) false (served s (full s (n + d)) p k) (full s (n + d) .job p k) h .0
 
-pub run-tick : (s : Table) (fs : List (ℕ → Bool)) (b : Book) → run s b fs .tick ≡ b .tick + length fs
-unfolding run step
+pub run-tick : (s : Table) (ms : List Move) (b : Book) → run s b ms .tick ≡ b .tick + length ms
+unfolding run step emptied
 run-tick s [] b = sym (add-zero (b .tick))
-run-tick s (f ∷ fs) b = run-tick s fs (step s f b) ∙ omega arith
+run-tick s (m ∷ ms) b = run-tick s ms (moved s m b) ∙ omega arith
+
+-- A JOB IS FRESH UNTIL ITS RELEASE, and as the tick of its release begins
+abbrev pub Early : Table → Book → Type 0
+Early s b = (p k : ℕ) → b .tick ≤ release (task s p) k → b .job p k ≡ fresh
+
+pub early-start : (s : Table) → Early s emptyBook
+early-start s p k h = refl
+
+pub early-moved : (s : Table) (m : Move) (b : Book) → Early s b → Early s (moved s m b)
+unfolding step emptied
+early-moved s m b e p k h = rw (off, now) (rw and-false (e p k (omega arith)))
+  where
+    before : Book
+    before = emptied s (m .empties) b
+
+    now : releasedNow s b p k ≡ false
+    now = ne-eqb (release (task s p) k) (b .tick) (omega arith)
+
+    off : served s before p k ≡ false
+    off = unfold served in not-true-false (served s before p k) (λ c.
+        let r = after-release (s .rule) (task s p) k (b .tick) (before .job p k) (and-left (jobClaims s before p k) (inRow s before p) c) in
+        omega arith)
+
+early-run : (s : Table) (ms : List Move) (b : Book) → Early s b → Early s (run s b ms)
+unfolding run
+early-run s [] b e = e
+early-run s (m ∷ ms) b e = early-run s ms (moved s m b) (early-moved s m b e)
 
 -- THE REFUSING LISTS: the book of a list is the run of those of its advances that are taken
-pub book-run : (s : Table) (xs : List ℕ) (b : Book) → bookFrom s b xs ≡ run s b (map bit (takenFrom s b xs))
+pub book-run : (s : Table) (xs : List Entry) (b : Book) → bookFrom s b xs ≡ run s b (movesOf (takenFrom s b xs))
 unfolding bookFrom takenFrom run enter
 book-run s [] b = refl
 book-run s (x ∷ xs) b = go (answer s b x) (book-run s xs)
   where
-    go : (w : Answer) → ((b : Book) → bookFrom s b xs ≡ run s b (map bit (takenFrom s b xs)))
-        → bookFrom s (entered w (step s (bit x) b) b) xs ≡ run s b (map bit (keep w x (takenFrom s (entered w (step s (bit x) b) b) xs)))
-    go taken ih = ih (step s (bit x) b)
+    go : (w : Answer) → ((b : Book) → bookFrom s b xs ≡ run s b (movesOf (takenFrom s b xs)))
+        → bookFrom s (entered w (moved s (moveOf x) b) b) xs ≡ run s b (movesOf (keep w x (takenFrom s (entered w (moved s (moveOf x) b) b) xs)))
+    go taken ih = ih (moved s (moveOf x) b)
     go (refused n p) ih = ih b
 
 -- the list's tick is how many are taken
-pub book-tick : (s : Table) (xs : List ℕ) → length (map bit (takenOf s xs)) ≡ book s xs .tick
+pub book-tick : (s : Table) (xs : List Entry) → length (movesOf (takenOf s xs)) ≡ book s xs .tick
 book-tick s xs =
-    sym (ap (λ (b : Book). b .tick) (book-run s xs emptyBook) ∙ (run-tick s (map bit (takenOf s xs)) emptyBook ∙ zero-add (length (map bit (takenOf s xs)))))
+    let ms : List Move = movesOf (takenOf s xs) in
+    sym (ap (λ (b : Book). b .tick) (book-run s xs emptyBook) ∙ (run-tick s ms emptyBook ∙ zero-add (length ms)))
 
 -- so every line of it is good
-pub good-book : (s : Table) → AllSound s → (xs : List ℕ) → GoodBook s (book s xs)
+pub good-book : (s : Table) → AllSound s → (xs : List Entry) → GoodBook s (book s xs)
 good-book s ok xs =
-    subst (GoodBook s) (sym (book-run s xs emptyBook)) (good-run s ok (map bit (takenOf s xs)) emptyBook (good-start s ok))
+    subst (GoodBook s) (sym (book-run s xs emptyBook)) (good-run s ok (movesOf (takenOf s xs)) emptyBook (good-start s ok))
+
+-- and a job is fresh until its release
+pub early-book : (s : Table) (xs : List Entry) → Early s (book s xs)
+early-book s xs = subst (Early s) (sym (book-run s xs emptyBook)) (early-run s (movesOf (takenOf s xs)) emptyBook (early-start s))

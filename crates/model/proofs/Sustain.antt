@@ -1,24 +1,26 @@
 -- Sustainability: under a firm rule, of two runs at one tick of which the first has no longer job, the first is behind on none.
 -- Whoever runs in the longer run and still claims in the shorter one runs there too.
-use mathlib.Core.Bool.{Bool, false, false≢true, true}
-use mathlib.Core.List.{List, [], map, _∷_}
+use mathlib.Core.Bool.{_&&_, Bool, and-false, false, false≢true, true}
+use mathlib.Core.List.{List, [], _∷_}
 use mathlib.Core.Logic.{inl, inr}
 use mathlib.Core.Path.{ap, refl, subst, subst₂, sym, _∙_, _≡_}
-use Prim.Native.Nat.{_<_, suc, ℕ}
-use native.Mathlib.Nat.{suc-inj, suc-ne-zero}
+use Prim.Native.Nat.{_<_, suc, ℕ, _≤_}
+use native.Mathlib.Nat.{le-of-eq, suc-inj, suc-ne-zero}
 use native.Mathlib.Omega.{arith}
 use lib.ListN.{List·getD-map, getD, length, length-map, length-replicate, replicate}
+use borrow.Author.Tests.{eqb-true}
 use Rattle.model.proofs.Bools.{and-both, and-left, and-right, not-false-true}
 use Rattle.model.proofs.Compare.{none-longer}
-use Rattle.model.proofs.Grants.{RisingList, claimants-same, greedy-limited, limited-mono}
-use Rattle.model.proofs.Jobs.{Letting, abreast, after-release, before-due, claims-less, claims-open, idle-claims, longer-left, longer-right, newest-is, next-claimed}
-use Rattle.model.proofs.Runs.{GoodBook, book-run, book-tick, full-run, full-whole, good-run, good-start, good-step, run}
-use Rattle.model.specs.Book.{Book, book, claims, emptyBook, fresh, full, inRow, jobClaims, none, served, step, takenOf, taskClaims, widths}
+use Rattle.model.proofs.Grants.{RisingList, greedy-limited, limited-mono}
+use Rattle.model.proofs.Jobs.{Letting, Reserving, abreast, after-release, before-due, claims-less, claims-open, fresh-near, longer-left, longer-right, newest-is, start}
+use Rattle.model.proofs.Level.{Level, level-emptied, level-start, level-step, same-served}
+use Rattle.model.proofs.Runs.{Early, GoodBook, Move, book-run, book-tick, early-moved, early-start, full-run, full-whole, good-emptied, good-run}
+use Rattle.model.proofs.Runs.{good-start, good-step, moved, movesOf, run, stillMove}
+use Rattle.model.specs.Book.{Book, Entry, Job, book, claims, emptied, emptyBook, fresh, full, inRow, jobClaims, releasedNow, served, step, takenOf, taskClaims, widths}
 use Rattle.model.specs.Compare.{Behind, Longer, NoneBehind, NoneLonger}
 use Rattle.model.specs.Fence.{openCores}
 use Rattle.model.specs.Grants.{claimants, grants, some}
-use Rattle.model.specs.Search.{bit}
-use Rattle.model.specs.Task.{AllSound, Rule, Table, greedy, idling, limited, newest, nobody, task}
+use Rattle.model.specs.Task.{AllSound, Rule, Table, greedy, limited, newest, nobody, release, task}
 use Rattle.model.specs.Verdict.{FirmRule, Rising}
 
 -- fewer claims take no cores from a task that still claims
@@ -44,20 +46,28 @@ rising-widths s h p l =
 -- what the firm rules have
 pub data Kind (s : Table) : Type 0 where
   letting : GrantsMono (s .rule) (widths s) → Letting (s .rule) → Kind s
-  holding : s .rule ≡ idling → Kind s
+  holding : Reserving (s .rule) → Kind s
 
 kind : (s : Table) → FirmRule s → Kind s
 kind s (inl e) = letting (subst (λ r. GrantsMono r (widths s)) (sym e) (mono-limited (widths s))) (subst Letting (sym e) (λ τ j. refl))
-kind s (inr (inl e)) = holding e
+kind s (inr (inl e)) = holding (subst Reserving (sym e) (λ τ j. refl))
 kind s (inr (inr (e, h))) = letting (subst (λ r. GrantsMono r (widths s)) (sym e) (mono-greedy (widths s) (rising-widths s h))) (subst Letting (sym e) (λ τ j. refl))
 
--- two books at one tick, of which the first is behind on no job; under idling with the same ticks claimed
+-- two books at one tick, of which the first is behind on no job; where ended jobs still claim they are level
 pub record Abreast (s : Table) (a b : Book) : Type 0 where
   pub same-tick : a .tick ≡ b .tick
   pub near : NoneBehind s a b
   pub good-a : GoodBook s a
   pub good-b : GoodBook s b
-  pub same-claimed : s .rule ≡ idling → (p k : ℕ) → p < length (s .tasks) → a .job p k .claimed ≡ b .job p k .claimed
+  pub level : Reserving (s .rule) → Level s a b
+
+module _ (s : Table) where
+  at-release : (b : Book) (p k : ℕ) → releasedNow s b p k ≡ true → b .tick ≤ release (task s p) k
+  at-release b p k q = le-of-eq (sym (eqb-true (release (task s p) k) (b .tick) q))
+
+  same-moved : (m n : Move) (a b : Book) → a .tick ≡ b .tick → moved s m a .tick ≡ moved s n b .tick
+  unfolding step emptied
+  same-moved m n a b e = ap suc e
 
 module _ (s : Table) (ok : AllSound s) where
   -- a job in the second book's row that has not ended in the first is in the first book's row
@@ -84,34 +94,11 @@ module _ (s : Table) (ok : AllSound s) where
           (a .job q (newest (task s q) (b .tick))) (b .job q (newest (task s q) (b .tick))) let′ (ab .near q (newest (task s q) (b .tick)) (rw length-map at h))
           (subst (λ (t : ℕ). claims (s .rule) (task s q) (newest (task s q) t) t (a .job q (newest (task s q) t)) ≡ true) (ab .same-tick) c)
 
-  -- under idling the claims, the rows and so the jobs served are the same
-  same-claims :
-      (a b : Book) → Abreast s a b → s .rule ≡ idling
-      → (p k : ℕ) → p < length (s .tasks) → jobClaims s a p k ≡ jobClaims s b p k
-  same-claims a b ab e p k l =
-      rw (ab .same-tick)
-      (subst (λ (r : Rule). claims r (task s p) k (b .tick) (a .job p k) ≡ claims r (task s p) k (b .tick) (b .job p k)) (sym e)
-      (idle-claims (task s p) k (b .tick) (a .job p k) (b .job p k) (ab .good-a p k l) (ab .good-b p k l) (ab .same-claimed e p k l)))
-
-  pub same-task-claims :
-      (a b : Book) → Abreast s a b → s .rule ≡ idling
-      → (p : ℕ) → p < length (s .tasks) → taskClaims s a p ≡ taskClaims s b p
-  same-task-claims a b ab e p l =
-      same-claims a b ab e p (newest (task s p) (a .tick)) l
-      ∙ ap (λ (t : ℕ). jobClaims s b p (newest (task s p) t)) (ab .same-tick)
-
-  same-served :
-      (a b : Book) → Abreast s a b → s .rule ≡ idling
-      → (p k : ℕ) → p < length (s .tasks) → served s a p k ≡ served s b p k
-  unfolding served
-  same-served a b ab e p k l =
-      rw (same-claims a b ab e p k l, claimants-same (widths s) (taskClaims s a) (taskClaims s b) (λ q h. same-task-claims a b ab e q (rw length-map at h)))
-
   follow :
       Kind s → (a b : Book) → Abreast s a b
       → (p k : ℕ) → p < length (s .tasks) → a .job p k .ended ≡ false → served s b p k ≡ true → served s a p k ≡ true
   follow (letting mono let′) a b ab p k l o h = follow-letting a b ab mono let′ p k l o h
-  follow (holding e) a b ab p k l o h = same-served a b ab e p k l ∙ h
+  follow (holding e) a b ab p k l o h = same-served s ok e a b (ab .level e) p k l ∙ h
 
   -- the step of the proof
   abreast-step :
@@ -126,36 +113,83 @@ module _ (s : Table) (ok : AllSound s) where
         (ab .near p k l) (follow kd a b ab p k l) (nl p k l);
     good-a = good-step s ok f a (ab .good-a);
     good-b = good-step s ok g b (ab .good-b);
-    same-claimed = λ e p k l.
-        next-claimed (task s p .length) (f p) (served s a p k) (a .job p k .had) (a .job p k .claimed) (a .job p k .ended)
-        ∙ (rw (same-served a b ab e p k l, ab .same-claimed e p k l) refl
-        ∙ sym (next-claimed (task s p .length) (g p) (served s b p k) (b .job p k .had) (b .job p k .claimed) (b .job p k .ended)));
+    level = λ e. unfold step in level-step s ok e f g a b (ab .level e);
   }
 
-  -- a job once longer stays longer
+  -- EMPTY JOBS: where one is released both are fresh, and no other job changes
+  abreast-emptied :
+      (e g : ℕ → Bool) (a b : Book) → Early s a → Early s b → Abreast s a b → NoneLonger s (emptied s e a) (emptied s g b)
+      → Abreast s (emptied s e a) (emptied s g b)
+  unfolding emptied
+  abreast-emptied e g a b ea eb ab nl = record {
+    same-tick = ab .same-tick;
+    near = λ p k l. by-now p k l (releasedNow s a p k) refl (nl p k l);
+    good-a = good-emptied s ok e a (ab .good-a);
+    good-b = good-emptied s ok g b (ab .good-b);
+    level = λ i. unfold emptied in level-emptied s ok i e g a b (ab .level i);
+  }
+    where
+      by-now : (p k : ℕ) → p < length (s .tasks) → (t : Bool) → releasedNow s a p k ≡ t
+          → ¬ Longer (start (e p && releasedNow s a p k) (a .job p k)) (start (g p && releasedNow s b p k) (b .job p k))
+          → ¬ Behind (start (e p && releasedNow s a p k) (a .job p k)) (start (g p && releasedNow s b p k) (b .job p k))
+      by-now p k l true q =
+          rw (ea p k (at-release s a p k q), eb p k (at-release s b p k (rw (ab .same-tick) at q)))
+          (fresh-near (e p && releasedNow s a p k) (g p && releasedNow s b p k))
+      by-now p k l false q =
+          let q′ : releasedNow s b p k ≡ false = rw (ab .same-tick) at q in
+          rw (q, q′, and-false (e p), and-false (g p)) (λ nl′. ab .near p k l)
+
+  longer-emptied :
+      (e g : ℕ → Bool) (a b : Book) → Early s b → a .tick ≡ b .tick
+      → (p k : ℕ) → Longer (a .job p k) (b .job p k) → Longer (emptied s e a .job p k) (emptied s g b .job p k)
+  unfolding emptied
+  longer-emptied e g a b eb st p k h = by-now (releasedNow s b p k) refl
+    where
+      by-now : (t : Bool) → releasedNow s b p k ≡ t
+          → Longer (start (e p && releasedNow s a p k) (a .job p k)) (start (g p && releasedNow s b p k) (b .job p k))
+      by-now true q = absurd (false≢true (sym (ap (λ (j : Job). j .ended) (eb p k (at-release s b p k q))) ∙ h .0))
+      by-now false q =
+          let q′ : releasedNow s a p k ≡ false = rw (← st) at q in
+          rw (q, q′, and-false (e p), and-false (g p)) h
+
+  -- a job once longer stays longer, where both books go on
+  longer-moved :
+      (m n : Move) (a b : Book) (p k : ℕ)
+      → Longer (emptied s (m .empties) a .job p k) (emptied s (n .empties) b .job p k) → Longer (moved s m a .job p k) (moved s n b .job p k)
+  unfolding step
+  longer-moved m n a b p k h =
+      let a′ = emptied s (m .empties) a in
+      let b′ = emptied s (n .empties) b in
+      longer-left (task s p .length) (m .reports p) (served s a′ p k) (a′ .job p k .had) (a′ .job p k .claimed) (a′ .job p k .ended) (moved s n b .job p k)
+      (longer-right (task s p .length) (n .reports p) (served s b′ p k) (a′ .job p k) (b′ .job p k .had) (b′ .job p k .claimed) (b′ .job p k .ended) h)
+
   longer-run :
-      (fs gs : List (ℕ → Bool)) (a b : Book) (p k : ℕ)
-      → Longer (a .job p k) (b .job p k) → Longer (run s a fs .job p k) (run s b gs .job p k)
-  unfolding run step
-  longer-run [] [] a b p k h = h
-  longer-run [] (g ∷ gs) a b p k h =
-      longer-run [] gs a (step s g b) p k
-      (longer-right (task s p .length) (g p) (served s b p k) (a .job p k) (b .job p k .had) (b .job p k .claimed) (b .job p k .ended) h)
-  longer-run (f ∷ fs) gs a b p k h =
-      longer-run fs gs (step s f a) b p k
-      (longer-left (task s p .length) (f p) (served s a p k) (a .job p k .had) (a .job p k .claimed) (a .job p k .ended) (b .job p k) h)
+      (ms ns : List Move) → length ms ≡ length ns → (a b : Book) → Early s b → a .tick ≡ b .tick → (p k : ℕ)
+      → Longer (a .job p k) (b .job p k) → Longer (run s a ms .job p k) (run s b ns .job p k)
+  unfolding run
+  longer-run [] [] e a b eb st p k h = h
+  longer-run [] (n ∷ ns) e a b eb st p k h = absurd (suc-ne-zero _ (sym e))
+  longer-run (m ∷ ms) [] e a b eb st p k h = absurd (suc-ne-zero _ e)
+  longer-run (m ∷ ms) (n ∷ ns) e a b eb st p k h =
+      longer-run ms ns (suc-inj e) (moved s m a) (moved s n b) (early-moved s n b eb) (same-moved s m n a b st) p k
+      (longer-moved m n a b p k (longer-emptied (m .empties) (n .empties) a b eb st p k h))
 
   -- two lists of advances that are all entered
   two-runs :
-      Kind s → (fs gs : List (ℕ → Bool)) → length fs ≡ length gs → (a b : Book) → Abreast s a b
-      → NoneLonger s (run s a fs) (run s b gs) → Abreast s (run s a fs) (run s b gs)
+      Kind s → (ms ns : List Move) → length ms ≡ length ns → (a b : Book) → Early s a → Early s b → Abreast s a b
+      → NoneLonger s (run s a ms) (run s b ns) → Abreast s (run s a ms) (run s b ns)
   unfolding run
-  two-runs kd [] [] e a b ab nl = ab
-  two-runs kd [] (g ∷ gs) e a b ab nl = absurd (suc-ne-zero _ (sym e))
-  two-runs kd (f ∷ fs) [] e a b ab nl = absurd (suc-ne-zero _ e)
-  two-runs kd (f ∷ fs) (g ∷ gs) e a b ab nl =
-      two-runs kd fs gs (suc-inj e) (step s f a) (step s g b)
-      (abreast-step kd f g a b ab (λ p k l h. nl p k l (longer-run fs gs (step s f a) (step s g b) p k h)))
+  two-runs kd [] [] e a b ea eb ab nl = ab
+  two-runs kd [] (n ∷ ns) e a b ea eb ab nl = absurd (suc-ne-zero _ (sym e))
+  two-runs kd (m ∷ ms) [] e a b ea eb ab nl = absurd (suc-ne-zero _ e)
+  two-runs kd (m ∷ ms) (n ∷ ns) e a b ea eb ab nl =
+      let eb′ = early-moved s n b eb in
+      let later : NoneLonger s (moved s m a) (moved s n b) =
+      λ p k l h. nl p k l (longer-run ms ns (suc-inj e) (moved s m a) (moved s n b) eb′ (same-moved s m n a b (ab .same-tick)) p k h) in
+      let now : NoneLonger s (emptied s (m .empties) a) (emptied s (n .empties) b) = λ p k l h. later p k l (longer-moved m n a b p k h) in
+      two-runs kd ms ns (suc-inj e) (moved s m a) (moved s n b) (early-moved s m a ea) eb′
+      (abreast-step kd (m .reports) (n .reports) (emptied s (m .empties) a) (emptied s (n .empties) b)
+      (abreast-emptied (m .empties) (n .empties) a b ea eb ab now) later)
       nl
 
   start-abreast : Abreast s emptyBook emptyBook
@@ -164,7 +198,7 @@ module _ (s : Table) (ok : AllSound s) where
     near = λ p k l x. never x;
     good-a = good-start s ok;
     good-b = good-start s ok;
-    same-claimed = λ e p k l. refl;
+    level = λ e. level-start s ok e;
   }
     where
       never : ¬ Behind fresh fresh
@@ -173,28 +207,33 @@ module _ (s : Table) (ok : AllSound s) where
 
 module _ (s : Table) (ok : AllSound s) where
   -- no job of a run is longer than at full length, so a run goes abreast of the full-length run
-  abreast-run : Kind s → (fs : List (ℕ → Bool)) → Abreast s (run s emptyBook fs) (full s (length fs))
-  abreast-run kd fs =
-      subst (λ (b : Book). NoneLonger s (run s emptyBook fs) b → Abreast s (run s emptyBook fs) b) (full-run s (length fs))
-      (two-runs s ok kd fs (replicate (length fs) none) (sym (length-replicate (length fs) none)) emptyBook emptyBook (start-abreast s ok))
-      (none-longer s (run s emptyBook fs) (full s (length fs)) (good-run s ok fs emptyBook (good-start s ok)) (full-whole s (length fs)))
+  abreast-run : Kind s → (ms : List Move) → Abreast s (run s emptyBook ms) (full s (length ms))
+  abreast-run kd ms =
+      let still : List Move = replicate (length ms) stillMove in
+      subst (λ (b : Book). NoneLonger s (run s emptyBook ms) b → Abreast s (run s emptyBook ms) b) (full-run s (length ms))
+      (two-runs s ok kd ms still (sym (length-replicate (length ms) stillMove)) emptyBook emptyBook (early-start s) (early-start s) (start-abreast s ok))
+      (none-longer s (run s emptyBook ms) (full s (length ms)) (good-run s ok ms emptyBook (good-start s ok)) (full-whole s (length ms)))
 
-  -- THE SAME OF LISTS OF REPORT SETS, refused advances included
+  -- THE SAME OF LISTS, refused entries included
   module _ (firmly : FirmRule s) where
     -- two lists that have come to the same tick
     pub abreast-lists :
-        (xs ys : List ℕ) → book s xs .tick ≡ book s ys .tick
+        (xs ys : List Entry) → book s xs .tick ≡ book s ys .tick
         → NoneLonger s (book s xs) (book s ys) → Abreast s (book s xs) (book s ys)
     abreast-lists xs ys e =
+        let ms : List Move = movesOf (takenOf s xs) in
+        let ns : List Move = movesOf (takenOf s ys) in
         subst₂ (λ (a b : Book). NoneLonger s a b → Abreast s a b) (sym (book-run s xs emptyBook)) (sym (book-run s ys emptyBook))
-        (two-runs s ok (kind s firmly) (map bit (takenOf s xs)) (map bit (takenOf s ys)) (book-tick s xs ∙ (e ∙ sym (book-tick s ys))) emptyBook emptyBook (start-abreast s ok))
+        (two-runs s ok (kind s firmly) ms ns (book-tick s xs ∙ (e ∙ sym (book-tick s ys))) emptyBook emptyBook
+        (early-start s) (early-start s) (start-abreast s ok))
 
-    -- a list and the full-length run
-    pub abreast-full : (xs : List ℕ) → Abreast s (book s xs) (full s (book s xs .tick))
+    -- a list and the full-length run: the list is behind it on no job
+    pub abreast-full : (xs : List Entry) → Abreast s (book s xs) (full s (book s xs .tick))
     abreast-full xs =
+        let ms : List Move = movesOf (takenOf s xs) in
         subst (λ (n : ℕ). Abreast s (book s xs) (full s n)) (book-tick s xs)
-        (subst (λ (b : Book). Abreast s b (full s (length (map bit (takenOf s xs))))) (sym (book-run s xs emptyBook)) (abreast-run (kind s firmly) (map bit (takenOf s xs))))
+        (subst (λ (b : Book). Abreast s b (full s (length ms))) (sym (book-run s xs emptyBook)) (abreast-run (kind s firmly) ms))
 
     -- what the full-length run has finished is finished
-    pub finished : (xs : List ℕ) (p k : ℕ) → p < length (s .tasks) → full s (book s xs .tick) .job p k .ended ≡ true → book s xs .job p k .ended ≡ true
+    pub finished : (xs : List Entry) (p k : ℕ) → p < length (s .tasks) → full s (book s xs .tick) .job p k .ended ≡ true → book s xs .job p k .ended ≡ true
     finished xs p k l e = not-false-true (book s xs .job p k .ended) (λ o. abreast-full xs .near p k l (o, inl e))

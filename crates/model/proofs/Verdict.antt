@@ -14,7 +14,7 @@ use Rattle.model.proofs.Faithful.{missed-exact, missed-in-exact}
 use Rattle.model.proofs.FullLength.{full-length}
 use Rattle.model.proofs.Horizon.{horizon-enough}
 use Rattle.model.proofs.Search.{any-of, least-any, least-below, least-lowest}
-use Rattle.model.specs.Book.{NeverMissed, book, full}
+use Rattle.model.specs.Book.{NeverMissed, book, full, quiet}
 use Rattle.model.specs.Horizon.{horizon, hyperperiod, lastS}
 use Rattle.model.specs.Search.{any, least}
 use Rattle.model.specs.Task.{AllSound, Rule, Table, Task, greedy, idling, limited}
@@ -173,10 +173,10 @@ module _ (s : Table) (ok : AllSound s) where
       go false e false g = is-full (never e) (λ x. true≢false (sym (firm-exact s .1 x) ∙ g))
       go true e f g = is-miss (first e)
 
-  -- the full-length run of the definitions is the scope's, the book of n empty report sets: for every n where the table is accepted ..
-  pub accepted-full-length : (a b : ℕ) → (verdict s ≡ Firm a b) ⊎ (verdict s ≡ Full a b) → (n : ℕ) → book s (replicate n 0) ≡ full s n
+  -- the full-length run of the definitions is the scope's, the book of n advances with empty sets: for every n where the table is accepted ..
+  pub accepted-full-length : (a b : ℕ) → (verdict s ≡ Firm a b) ⊎ (verdict s ≡ Full a b) → (n : ℕ) → book s (replicate n quiet) ≡ full s n
   accepted-full-length a b e n = full-length s n (λ p t h. verdict-exact .accepted .0 (a, b, e) p t)
 
   -- .. and for every n up to the first miss where it is not
-  pub missed-full-length : (t p : ℕ) → verdict s ≡ Miss t p → (n : ℕ) → n ≤ t → book s (replicate n 0) ≡ full s n
+  pub missed-full-length : (t p : ℕ) → verdict s ≡ Miss t p → (n : ℕ) → n ≤ t → book s (replicate n quiet) ≡ full s n
   missed-full-length t p e n h = full-length s n (λ q u g. verdict-exact .miss t p .0 e .no-earlier q u (omega arith))

@@ -1,10 +1,10 @@
--- The book of a run (scope, section 'The book of a run'): kept from a table and the report sets of a list of advances.
+-- The book of a run (scope, section 'The book of a run'): kept from a table and the two sets of each advance of a list, the reports and the empty jobs (request 105).
 use mathlib.Core.Bool.{Bool, true, false, not, _&&_, _||_, cond}
 use mathlib.Core.List.{List, [], _∷_, map}
 use mathlib.Core.Path.{_≡_}
 use Prim.Native.Nat.{ℕ, zero, suc, _<_}
 use lib.ListN.{length, getD, replicate}
-use lib.Dec.{leb, ltb}
+use lib.Dec.{eqb, leb, ltb}
 use Rattle.model.specs.Search.{any, least, bit}
 use Rattle.model.specs.Task.{Task, Rule, greedy, limited, idling, Table, task, release, due, newest}
 use Rattle.model.specs.Fence.{openCores}
@@ -29,6 +29,23 @@ pub record Book : Type 0 where
 -- the book of the empty list: tick 0 and every line fresh
 abbrev pub emptyBook : Book
 emptyBook = record { tick = 0; job = λ p k. fresh }
+
+-- EMPTY JOBS
+
+-- job k of place p is released in the book's very tick
+abbrev pub releasedNow : Table → Book → ℕ → ℕ → Bool
+releasedNow s b p k = eqb (release (task s p) k) (b .tick)
+
+-- an empty job ends with the ticks that it has had, which are none
+abbrev pub endedWith : Job → Job
+endedWith j = record { had = j .had; claimed = j .claimed; ended = true }
+
+-- the book with its empty jobs ended, as it is before it takes the claims of its tick: of the places that e names, the jobs released in this tick
+unfoldable pub emptied : Table → (ℕ → Bool) → Book → Book
+emptied s e b = record {
+  tick = b .tick;
+  job = λ p k. cond (e p && releasedNow s b p k) (endedWith (b .job p k)) (b .job p k);
+}
 
 -- THE CLAIMS AND THE ROW OF A TICK
 
@@ -86,6 +103,15 @@ step s f b = record {
   job = λ p k. cond (served s b p k) (work (task s p .length) (f p) (b .job p k)) (b .job p k);
 }
 
+-- an advance with the reports f and the empty jobs e: these are ended before the claims of the tick are taken
+abbrev pub advanced : Table → (ℕ → Bool) → (ℕ → Bool) → Book → Book
+advanced s f e b = step s f (emptied s e b)
+
+-- an entry of a list, which is an advance: its set of reports and its set of empty jobs, bit 0 for position 1
+pub record Entry : Type 0 where
+  pub reports : ℕ
+  pub empties : ℕ
+
 -- REFUSALS
 
 -- place p of the table has a job with r + D at or before t that has not ended (such a job has a number up to t: `late-exact`)
@@ -104,26 +130,41 @@ reportable s b p = inRow s b p && not (b .job p (newest (task s p) (b .tick)) .e
 unfoldable pub misreported : Table → Book → ℕ → Bool
 misreported s b x = any x (λ p. bit x p && not (reportable s b p))
 
+-- a bit may be set in the empties for a position of the table whose job is released in this tick and has not ended (`emptiable-exact`)
+unfoldable pub emptiable : Table → Book → ℕ → Bool
+emptiable s b p =
+    ltb p (length (s .tasks)) && releasedNow s b p (newest (task s p) (b .tick)) && not (b .job p (newest (task s p) (b .tick)) .ended)
+
+-- some bit of the empties is set for anything else (`misemptied-exact`)
+unfoldable pub misemptied : Table → Book → ℕ → Bool
+misemptied s b e = any e (λ p. bit e p && not (emptiable s b p))
+
 -- what a call is answered: taken, or refused with number and position
 pub data Answer : Type 0 where
   taken : Answer
   refused : ℕ → ℕ → Answer
 
--- 15 with the lowest late position; else 16 with position 0; else taken
-unfoldable pub answer : Table → Book → ℕ → Answer
+-- 15 with the lowest late position; else 20 with position 0; else, with the empty jobs ended, 16 with position 0; else taken
+unfoldable pub answer : Table → Book → Entry → Answer
 answer s b x =
     cond (ltb (firstLate s b) (length (s .tasks)))
     (refused 15 (suc (firstLate s b)))
-    (cond (misreported s b x) (refused 16 0) taken)
+    (cond (misemptied s b (x .empties))
+    (refused 20 0)
+    (cond (misreported s (emptied s (bit (x .empties)) b) (x .reports)) (refused 16 0) taken))
 
 -- what a row asked is answered: the row, or refused with number and position
 pub data Asked : Type 0 where
   shown : List ℕ → Asked
   rowRefused : ℕ → ℕ → Asked
 
--- 15 with the lowest late position; else the row; nothing changes in the book
-unfoldable pub asked : Table → Book → Asked
-asked s b = cond (ltb (firstLate s b) (length (s .tasks))) (rowRefused 15 (suc (firstLate s b))) (shown (rowOf s b))
+-- a row asked with the empty jobs e: 15 with the lowest late position; else 20 with position 0; else the row with these ended.
+-- Nothing changes in the book
+unfoldable pub asked : Table → Book → ℕ → Asked
+asked s b e =
+    cond (ltb (firstLate s b) (length (s .tasks)))
+    (rowRefused 15 (suc (firstLate s b)))
+    (cond (misemptied s b e) (rowRefused 20 0) (shown (rowOf s (emptied s (bit e) b))))
 
 -- THE BOOK OF A LIST
 
@@ -132,21 +173,21 @@ abbrev pub entered : Answer → Book → Book → Book
 entered taken new old = new
 entered (refused n p) new old = old
 
--- the book after an advance with report set x, taken or refused
-unfoldable pub enter : Table → ℕ → Book → Book
-enter s x b = entered (answer s b x) (step s (bit x) b) b
+-- the book after an entry, taken or refused
+unfoldable pub enter : Table → Entry → Book → Book
+enter s x b = entered (answer s b x) (advanced s (bit (x .reports)) (bit (x .empties)) b) b
 
--- the book of a list of report sets, from book b on
-unfoldable pub bookFrom : Table → Book → List ℕ → Book
+-- the book of a list of entries, from book b on
+unfoldable pub bookFrom : Table → Book → List Entry → Book
 bookFrom s b [] = b
 bookFrom s b (x ∷ xs) = bookFrom s (enter s x b) xs
 
 -- the book of a list
-abbrev pub book : Table → List ℕ → Book
+abbrev pub book : Table → List Entry → Book
 book s xs = bookFrom s emptyBook xs
 
--- the answer to each advance of the list
-unfoldable pub answersFrom : Table → Book → List ℕ → List Answer
+-- the answer to each entry of the list
+unfoldable pub answersFrom : Table → Book → List Entry → List Answer
 answersFrom s b [] = []
 answersFrom s b (x ∷ xs) = answer s b x ∷ answersFrom s (enter s x b) xs
 
@@ -156,37 +197,41 @@ takenIn [] = 0
 takenIn (taken ∷ ws) = suc (takenIn ws)
 takenIn (refused n p ∷ ws) = takenIn ws
 
--- a report set goes before the others if its advance is taken, and is dropped if it is refused
-abbrev pub keep : Answer → ℕ → List ℕ → List ℕ
+-- an entry goes before the others if it is taken, and is dropped if it is refused
+abbrev pub keep : Answer → Entry → List Entry → List Entry
 keep taken x xs = x ∷ xs
 keep (refused n p) x xs = xs
 
--- the report sets of those advances of the list that are taken, from book b on
-unfoldable pub takenFrom : Table → Book → List ℕ → List ℕ
+-- the entries of the list that are taken, from book b on
+unfoldable pub takenFrom : Table → Book → List Entry → List Entry
 takenFrom s b [] = []
 takenFrom s b (x ∷ xs) = keep (answer s b x) x (takenFrom s (enter s x b) xs)
 
--- the taken advances of a list: the book of these alone is the book of the list (`taken-book`)
-abbrev pub takenOf : Table → List ℕ → List ℕ
+-- the taken entries of a list: the book of these alone is the book of the list (`taken-book`)
+abbrev pub takenOf : Table → List Entry → List Entry
 takenOf s xs = takenFrom s emptyBook xs
 
--- every advance of the list is taken, from book b on (it is so of `takenOf`, and then nothing is dropped: `taken-all`, `taken-same`)
-abbrev pub AllTaken : Table → Book → List ℕ → Type 0
+-- every entry of the list is taken, from book b on (it is so of `takenOf`, and then nothing is dropped: `taken-all`, `taken-same`)
+abbrev pub AllTaken : Table → Book → List Entry → Type 0
 AllTaken s b xs = answersFrom s b xs ≡ replicate (length xs) taken
 
--- the row asked before each advance of the list, and after the last
-unfoldable pub rowsFrom : Table → Book → List ℕ → List Asked
-rowsFrom s b [] = asked s b ∷ []
-rowsFrom s b (x ∷ xs) = asked s b ∷ rowsFrom s (enter s x b) xs
+-- the row asked before each advance of the list with its empty jobs, and after the last with none
+unfoldable pub rowsFrom : Table → Book → List Entry → List Asked
+rowsFrom s b [] = asked s b 0 ∷ []
+rowsFrom s b (x ∷ xs) = asked s b (x .empties) ∷ rowsFrom s (enter s x b) xs
 
 -- THE FULL-LENGTH RUN
 
--- no report
+-- no report, and no empty job
 abbrev pub none : ℕ → Bool
 none p = false
 
--- the full-length run at tick n: every advance is entered with no report, past a miss too.
--- It is the scope's, the book of n empty report sets, up to the first miss (`full-length`)
+-- an advance whose sets are both empty
+abbrev pub quiet : Entry
+quiet = record { reports = 0; empties = 0 }
+
+-- the full-length run at tick n: every advance is entered with no report and no empty job, past a miss too.
+-- It is the scope's, the book of n advances whose sets are both empty, up to the first miss (`full-length`)
 unfoldable pub full : Table → ℕ → Book
 full s zero = emptyBook
 full s (suc n) = step s none (full s n)
@@ -199,6 +244,6 @@ Misses s b p = (p < length (s .tasks)) × ((k : ℕ) × (due (task s p) k ≡ b 
 abbrev pub Missed : Table → ℕ → ℕ → Type 0
 Missed s p t = Misses s (full s t) p
 
--- no deadline of the full-length run is missed at any tick (`never-missed-exact` says so of the books of empty report sets)
+-- no deadline of the full-length run is missed at any tick (`never-missed-exact` says so of the books of empty sets)
 abbrev pub NeverMissed : Table → Type 0
 NeverMissed s = (p t : ℕ) → ¬ Missed s p t

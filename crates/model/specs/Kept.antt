@@ -4,20 +4,22 @@ use mathlib.Core.List.{_++_, List}
 use mathlib.Core.Path.{_≡_}
 use Prim.Native.Nat.{_<_, ℕ}
 use lib.ListN.{length, replicate}
-use Rattle.model.specs.Book.{Misses, answer, asked, book, refused, rowRefused}
-use Rattle.model.specs.Compare.{KeepsAbreast}
+use Rattle.model.specs.Book.{Entry, Misses, answer, asked, book, quiet, refused, rowRefused}
+use Rattle.model.specs.Compare.{KeepsAbreast, NoneBehind}
 use Rattle.model.specs.Task.{Table}
 
--- what is claimed of a list xs of report sets
-pub record Kept (s : Table) (xs : List ℕ) : Type 0 where
+-- what is claimed of a list xs, whose jobs have lengths from zero up
+pub record Kept (s : Table) (xs : List Entry) : Type 0 where
   -- of two lists at one tick, if no job is longer in the first, the first is behind on no job
-  pub abreast : (ys : List ℕ) → KeepsAbreast s xs ys
-  -- every job that the full-length run, the book of empty report sets, has finished by the same tick is finished
+  pub abreast : (ys : List Entry) → KeepsAbreast s xs ys
+  -- it is behind the full-length run, the book of empty sets, at its tick on no job
+  pub level : NoneBehind s (book s xs) (book s (replicate (book s xs .tick) quiet))
+  -- every job that the full-length run has finished by the same tick is finished
   pub finished :
       (p k : ℕ) → p < length (s .tasks)
-      → book s (replicate (book s xs .tick) 0) .job p k .ended ≡ true → book s xs .job p k .ended ≡ true
+      → book s (replicate (book s xs .tick) quiet) .job p k .ended ≡ true → book s xs .job p k .ended ≡ true
   -- no deadline is missed, in any prefix of the list
-  pub met : (ys zs : List ℕ) → xs ≡ ys ++ zs → (p : ℕ) → ¬ Misses s (book s ys) p
+  pub met : (ys zs : List Entry) → xs ≡ ys ++ zs → (p : ℕ) → ¬ Misses s (book s ys) p
   -- 15 is never answered, to an advance or to a row asked
-  pub never-15 : (x p : ℕ) → ¬ (answer s (book s xs) x ≡ refused 15 p)
-  pub never-15-row : (p : ℕ) → ¬ (asked s (book s xs) ≡ rowRefused 15 p)
+  pub never-15 : (x : Entry) (p : ℕ) → ¬ (answer s (book s xs) x ≡ refused 15 p)
+  pub never-15-row : (e p : ℕ) → ¬ (asked s (book s xs) e ≡ rowRefused 15 p)

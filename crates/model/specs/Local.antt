@@ -5,7 +5,7 @@ use mathlib.Core.Path.{_≡_}
 use Prim.Native.Nat.{_<_, ℕ}
 use lib.Dec.{leb}
 use lib.ListN.{getD, take}
-use Rattle.model.specs.Book.{Book, grantsOf, rowOf}
+use Rattle.model.specs.Book.{Book, Entry, grantsOf, rowOf}
 use Rattle.model.specs.Search.{bit}
 use Rattle.model.specs.Task.{Table}
 
@@ -16,12 +16,16 @@ pub record Alike (n : ℕ) (s s′ : Table) : Type 0 where
   pub fences : s .fence ≡ s′ .fence
   pub tasks : take n (s .tasks) ≡ take n (s′ .tasks)
 
--- two lists of report sets of equal length that agree on positions 1 to n
-unfoldable pub SameReports : ℕ → List ℕ → List ℕ → Type 0
+-- two sets that agree on positions 1 to n
+abbrev pub SameBits : ℕ → ℕ → ℕ → Type 0
+SameBits n x y = (q : ℕ) → q < n → bit x q ≡ bit y q
+
+-- two lists of advances of equal length whose sets, of reports and of empty jobs, agree on positions 1 to n
+unfoldable pub SameReports : ℕ → List Entry → List Entry → Type 0
 SameReports n [] [] = Unit {0}
 SameReports n [] (y ∷ ys) = ⊥
 SameReports n (x ∷ xs) [] = ⊥
-SameReports n (x ∷ xs) (y ∷ ys) = ((q : ℕ) → q < n → bit x q ≡ bit y q) × SameReports n xs ys
+SameReports n (x ∷ xs) (y ∷ ys) = SameBits n (x .reports) (y .reports) × SameBits n (x .empties) (y .empties) × SameReports n xs ys
 
 -- a row as positions 1 to n see it: the bytes of positions below them, and of fenced cores, read 0 (n is below 255)
 abbrev pub upTo : ℕ → ℕ → ℕ

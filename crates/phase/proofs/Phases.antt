@@ -1,6 +1,6 @@
 -- The test of a phase decides its limits, and a tick keeps a phase within them.
 use mathlib.Core.Path.{_≡_, refl, ap}
-use mathlib.Core.Bool.{Bool, true, false, _||_, cond, false≢true}
+use mathlib.Core.Bool.{Bool, true, false, _&&_, _||_, cond, false≢true}
 use Prim.Native.Nat.{ℕ, _+_, _-_, _≤_, _<_}
 use native.Mathlib.Omega.{arith}
 use lib.Dec.{eqb}
@@ -9,7 +9,7 @@ use Rattle.model.specs.Task.{Task, Sound, Rule, greedy, limited, idling, ruleOf
 use Rattle.table.proofs.Decide.{Decides, decides-le, decides-lt, decides-and}
 use Rattle.phase.specs.declared.Phase.{Phase}
 use Rattle.phase.specs.declared.Phase.the-variants.{Coming, Working, Holding, Resting}
-use Rattle.phase.specs.Phase.{PhaseIn, idles, phaseIn, lateIn, startPhase, resting, holding, ended, worked, nextPhase}
+use Rattle.phase.specs.Phase.{PhaseIn, idles, phaseIn, lateIn, released, emptyPhase, seen, startPhase, resting, holding, ended, worked, nextPhase}
 
 -- TESTS
 
@@ -48,19 +48,15 @@ phase-decides r τ (Working z u) = (
     deciding : Decides (phaseIn r τ (Working z u)) ((z ≤ τ .deadline) × ((u < τ .length) × (u ≤ z)))
     deciding = decides-and _ _ _ _ (decides-le z (τ .deadline)) (decides-and _ _ _ _ (decides-lt u (τ .length)) (decides-le u z))
 phase-decides r τ (Holding z u) = (
-  λ e. let x = deciding .0 e in (x .0, (omega arith, omega arith), (omega arith, omega arith), omega arith),
-  λ x. deciding .1 (x .0, (omega arith, (omega arith, (omega arith, (omega arith, omega arith))))),
+  λ e. let x = deciding .0 e in (x .0, x .1 .0, x .1 .1 .0, x .1 .1 .1),
+  λ x. deciding .1 (x .0, (x .1, (x .2, x .3))),
 )
   where
-    deciding :
-        Decides (phaseIn r τ (Holding z u))
-        ((r ≡ idling) × ((1 ≤ z) × ((z < τ .deadline) × ((1 ≤ u) × ((u < τ .length) × (u ≤ z))))))
+    deciding : Decides (phaseIn r τ (Holding z u)) ((r ≡ idling) × ((z < τ .deadline) × ((u < τ .length) × (u ≤ z))))
     deciding =
         decides-and _ _ _ _ (idles-decides r)
-        (decides-and _ _ _ _ (decides-le 1 z)
         (decides-and _ _ _ _ (decides-lt z (τ .deadline))
-        (decides-and _ _ _ _ (decides-le 1 u)
-        (decides-and _ _ _ _ (decides-lt u (τ .length)) (decides-le u z)))))
+        (decides-and _ _ _ _ (decides-lt u (τ .length)) (decides-le u z)))
 phase-decides r τ (Resting z) = (
   λ e. let x = deciding .0 e in (x .0, omega arith),
   λ x. deciding .1 (x .0, omega arith),
@@ -86,27 +82,27 @@ module _ (r : Rule) (τ : Task) (ok : Sound τ) where
       (λ e. ((omega arith, omega arith), ok .length-pos, omega arith))
       (λ n. (a, omega arith))
 
-  holding-in : r ≡ idling → (z u : ℕ) → 1 ≤ z → z ≤ τ .deadline → 1 ≤ u → u ≤ τ .length → u ≤ z → PhaseIn r τ (holding τ z u)
-  holding-in i z u a b c d w =
+  holding-in : r ≡ idling → (z u : ℕ) → 1 ≤ z → z ≤ τ .deadline → u ≤ τ .length → u ≤ z → PhaseIn r τ (holding τ z u)
+  holding-in i z u a b d w =
       by-eq (λ (x : Bool). PhaseIn r τ (cond (x || eqb z (τ .deadline)) (resting τ z) (Holding z u))) u (τ .length)
       (λ e. resting-in z a (omega (arith, ok .constrained)))
       (λ n.
       by-eq (λ (x : Bool). PhaseIn r τ (cond x (resting τ z) (Holding z u))) z (τ .deadline)
       (λ e. resting-in z a (omega (arith, ok .constrained)))
-      (λ m. (i, (a, omega arith), (c, omega arith), w)))
+      (λ m. (i, omega arith, omega arith, w)))
 
-  ended-in : (z u : ℕ) → 1 ≤ z → z ≤ τ .deadline → 1 ≤ u → u ≤ τ .length → u ≤ z → PhaseIn r τ (ended r τ z u)
-  ended-in z u a b c d w = go (idles r) refl
+  ended-in : (z u : ℕ) → 1 ≤ z → z ≤ τ .deadline → u ≤ τ .length → u ≤ z → PhaseIn r τ (ended r τ z u)
+  ended-in z u a b d w = go (idles r) refl
     where
       go : (x : Bool) → idles r ≡ x → PhaseIn r τ (cond x (holding τ z u) (resting τ z))
-      go true e = holding-in (idles-decides r .0 e) z u a b c d w
+      go true e = holding-in (idles-decides r .0 e) z u a b d w
       go false e = resting-in z a (omega (arith, ok .constrained))
 
-  worked-in : (f : Bool) (z u : ℕ) → z ≤ τ .deadline → 1 ≤ u → u ≤ τ .length → u ≤ z → PhaseIn r τ (worked r τ f z u)
-  worked-in true z u b c d w = ended-in z u (omega arith) b c d w
-  worked-in false z u b c d w =
+  worked-in : (f : Bool) (z u : ℕ) → 1 ≤ z → z ≤ τ .deadline → u ≤ τ .length → u ≤ z → PhaseIn r τ (worked r τ f z u)
+  worked-in true z u a b d w = ended-in z u a b d w
+  worked-in false z u a b d w =
       by-eq (λ (x : Bool). PhaseIn r τ (cond x (ended r τ z u) (Working z u))) u (τ .length)
-      (λ e. ended-in z u (omega arith) b c d w)
+      (λ e. ended-in z u a b d w)
       (λ n. ((omega arith, b), omega arith, w))
 
   -- a phase within its limits, whose task is not late, is within them one tick on
@@ -121,9 +117,23 @@ module _ (r : Rule) (τ : Task) (ok : Sound τ) where
   next-in false f (Working z u) h n =
       let less = eqb-false z (τ .deadline) n in
       ((omega arith, omega arith), h .1, omega arith)
-  next-in true f (Holding z u) h n = holding-in (h .0) (z + 1) (u + 1) (omega arith) (omega arith) (omega arith) (omega arith) (omega arith)
-  next-in false f (Holding z u) h n = holding-in (h .0) (z + 1) u (omega arith) (omega arith) (omega arith) (omega arith) (omega arith)
+  next-in true f (Holding z u) h n = holding-in (h .0) (z + 1) (u + 1) (omega arith) (omega arith) (omega arith) (omega arith)
+  next-in false f (Holding z u) h n = holding-in (h .0) (z + 1) u (omega arith) (omega arith) (omega arith) (omega arith)
   next-in ran f (Resting z) h n = resting-in (z + 1) (omega arith) (omega arith)
+
+  -- .. and so if its job, released in this tick, is empty
+  pub seen-in :
+      (empty ran f : Bool) (ph : Phase) → PhaseIn r τ ph → lateIn (τ .deadline) ph ≡ false
+      → PhaseIn r τ (nextPhase r τ ran f (seen r empty ph))
+  seen-in empty ran f ph h n = go (empty && released ph)
+    where
+      none : (x : Bool) → idles r ≡ x → PhaseIn r τ (nextPhase r τ ran f (cond x (Holding 0 0) (Resting 0)))
+      none true e = next-in ran f (Holding 0 0) (idles-decides r .0 e, ok .deadline-pos, ok .length-pos, omega arith) refl
+      none false e = resting-in (0 + 1) (omega arith) (omega (arith, ok .constrained, ok .deadline-pos))
+
+      go : (x : Bool) → PhaseIn r τ (nextPhase r τ ran f (cond x (emptyPhase r) ph))
+      go true = none (idles r) refl
+      go false = next-in ran f ph h n
 
   -- and so is the phase at the start
   pub start-in : PhaseIn r τ (startPhase (τ .offset))
@@ -131,3 +141,15 @@ module _ (r : Rule) (τ : Task) (ok : Sound τ) where
       by-eq (λ (x : Bool). PhaseIn r τ (cond x (Working 0 0) (Coming (τ .offset)))) (τ .offset) 0
       (λ e. ((omega arith, omega arith), ok .length-pos, omega arith))
       (λ n. (omega arith, omega arith))
+
+-- an empty job is not late
+pub seen-late : (r : Rule) (D : ℕ) (empty : Bool) (ph : Phase) → lateIn D ph ≡ false → lateIn D (seen r empty ph) ≡ false
+seen-late r D empty ph n = go (empty && released ph)
+  where
+    none : (x : Bool) → lateIn D (cond x (Holding 0 0) (Resting 0)) ≡ false
+    none true = refl
+    none false = refl
+
+    go : (x : Bool) → lateIn D (cond x (emptyPhase r) ph) ≡ false
+    go true = none (idles r)
+    go false = n

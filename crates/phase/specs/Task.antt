@@ -6,7 +6,7 @@ use Rattle.table.specs.Limits.{taskOut}
 use Rattle.phase.specs.declared.Phase.{Phase}
 use Rattle.phase.specs.declared.Phase.the-variants.{Coming, Resting}
 use Rattle.phase.specs.declared.Task.{Task}
-use Rattle.phase.specs.Phase.{phaseIn, startPhase, nextPhase}
+use Rattle.phase.specs.Phase.{phaseIn, startPhase, seen, nextPhase}
 
 -- the task of the table that a task with its phase is
 abbrev pub taskOf : Task → model.Task
@@ -32,6 +32,6 @@ outIn wide r t = taskOut wide (taskOf t) || not (phaseIn r (taskOf t) (t .phase)
 abbrev pub startTask : model.Task → Task
 startTask τ = inPhase (startPhase (τ .offset)) τ
 
--- the task one tick on
-abbrev pub nextTask : model.Rule → Bool → Bool → Task → Task
-nextTask r ran reported t = inPhase (nextPhase r (taskOf t) ran reported (t .phase)) (taskOf t)
+-- the task one tick on, by whether its job is empty if it is released in this tick, whether it has cores and whether it is reported
+abbrev pub nextTask : model.Rule → Bool → Bool → Bool → Task → Task
+nextTask r empty ran reported t = inPhase (nextPhase r (taskOf t) ran reported (seen r empty (t .phase))) (taskOf t)

@@ -16,9 +16,7 @@ impl Task {
             Phase::Coming(left) => (1 <= left) & (left <= self.offset),
             Phase::Working(z, u) => (z <= self.deadline) & ((u < self.length) & (u <= z)),
             Phase::Holding(z, u) => {
-                (rule == 3)
-                    & ((1 <= z)
-                        & ((z < self.deadline) & ((1 <= u) & ((u < self.length) & (u <= z)))))
+                (rule == 3) & ((z < self.deadline) & ((u < self.length) & (u <= z)))
             }
             Phase::Resting(z) => (1 <= z) & (z < self.period),
         }

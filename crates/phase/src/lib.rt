@@ -3,6 +3,7 @@ ghost use mathlib.Core.Path.{_≡_};
 ghost use Rattle.phase.specs.Phase.{claiming, working};
 
 mod bounds; // bounds.rt: the limits of a task and its phase, and lateness
+mod looks; // looks.rt: a phase as it is seen when cores are chosen
 mod moves; // moves.rt: one tick
 pub mod starts; // starts.rt: a task as it starts, and a place past the count
 

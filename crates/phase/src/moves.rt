@@ -1,7 +1,7 @@
 // One tick of a task: the phase that it goes to.
 ghost use mathlib.Core.Path.{_≡_};
 ghost use Rattle.model.specs.Task.{ruleOf};
-ghost use Rattle.phase.specs.Phase.{resting, holding, ended, worked};
+ghost use Rattle.phase.specs.Phase.{resting, holding, ended, worked, nextPhase};
 ghost use Rattle.phase.specs.Task.{taskOf, nextTask};
 ghost use Rattle.phase.specs.Headroom.{Roomy};
 use crate::Phase;
@@ -52,13 +52,12 @@ impl Task {
         }
     }
 
-    // The task one tick on, by whether it has cores in this tick and whether it is reported.
-    pub fn next(self, rule: u32, ran: bool, reported: bool) -> Task
-        requires { ⌜ Roomy (self .phase) ⌝ }
-        ensures { λ r. ⌜ r ≡ nextTask (ruleOf rule) ran reported self ⌝ }
+    // The phase one tick on from the phase that was seen, by whether the task has cores in this tick and whether it is reported.
+    fn stepped(self, rule: u32, ran: bool, reported: bool, seen: Phase) -> Phase
+        requires { ⌜ Roomy seen ⌝ }
+        ensures { λ r. ⌜ r ≡ nextPhase (ruleOf rule) (taskOf self) ran reported seen ⌝ }
     {
-        let old = self.phase;
-        let new = match old {
+        match seen {
             Phase::Coming(left) => {
                 let still = left - 1;
                 if still == 0 {
@@ -82,7 +81,17 @@ impl Task {
                 }
             }
             Phase::Resting(z) => self.rested(z + 1),
-        };
+        }
+    }
+
+    // The task one tick on, by whether its job is empty if it is released in this tick, whether it has cores and whether it is reported.
+    pub fn next(self, rule: u32, empty: bool, ran: bool, reported: bool) -> Task
+        requires { ⌜ Roomy (self .phase) ⌝ }
+        ensures { λ r. ⌜ r ≡ nextTask (ruleOf rule) empty ran reported self ⌝ }
+    {
+        let old = self.phase;
+        let seen = old.seen(rule, empty);
+        let new = self.stepped(rule, ran, reported, seen);
         Task {
             offset: self.offset,
             width: self.width,

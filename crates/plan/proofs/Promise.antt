@@ -5,7 +5,7 @@ use mathlib.Core.List.{List}
 use Prim.Native.Nat.{ℕ, _+_, _-_, _*_, _≤_, _<_}
 use lib.ListN.{length, getD, replicate}
 use Rattle.model.specs.Task.{Table, AllSound}
-use Rattle.model.specs.Book.{Book, book, rowOf, full}
+use Rattle.model.specs.Book.{Book, book, quiet, rowOf, full}
 use Rattle.model.specs.Book as model
 use Rattle.model.proofs.FullLength.{full-length}
 use Rattle.model.specs.Sizes.{mostCores}
@@ -41,7 +41,7 @@ module _ (ws : List ℕ) (a b : ℕ) (old new : List ℕ) where
   s = tableOf ws
 
   -- where no number applies, the full-length run is the book of empty report sets up to b
-  same-book : NoneApplies ws a b (length old) → (t : ℕ) → t < b → book s (replicate t 0) ≡ full s t
+  same-book : NoneApplies ws a b (length old) → (t : ℕ) → t < b → book s (replicate t quiet) ≡ full s t
   same-book none t h =
       full-length s t (λ p u l m. none 12 0 (twelve (miss-decides s ok b .0 (found s ok b p u (omega arith) m))))
     where

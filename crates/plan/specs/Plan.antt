@@ -8,7 +8,7 @@ use lib.ListN.{length, getD, drop, replicate}
 use lib.Dec.{ltb}
 use Rattle.model.specs.Search.{any}
 use Rattle.model.specs.Task.{Table}
-use Rattle.model.specs.Book.{book, rowOf}
+use Rattle.model.specs.Book.{book, quiet, rowOf}
 use Rattle.model.specs.Book as model
 use Rattle.model.specs.Horizon.{horizon}
 use Rattle.model.specs.Verdict.{missedIn}
@@ -60,10 +60,10 @@ pub record PlanOf (ws : List ℕ) (a b : ℕ) (old new : List ℕ) (v : Planned)
   pub written : (planTold v ≡ model.taken) ↔ NoneApplies ws a b (length old)
   -- the buffer afterwards
   pub buffer : new ≡ bufferOf (planTold v) (tableOf ws) a b old
-  -- byte by byte: the byte of core c in row t is that of the row of the book of t empty report sets ..
+  -- byte by byte: the byte of core c in row t is that of the row of the book of t advances with empty sets ..
   pub byte :
       planTold v ≡ model.taken → (t c : ℕ) → a ≤ t → t < b → c < tableOf ws .cores
-      → getD new ((t - a) * tableOf ws .cores + c) 0 ≡ getD (rowOf (tableOf ws) (book (tableOf ws) (replicate t 0))) c 0
+      → getD new ((t - a) * tableOf ws .cores + c) 0 ≡ getD (rowOf (tableOf ws) (book (tableOf ws) (replicate t quiet))) c 0
   -- .. and nothing after the last row is touched
   pub past : planTold v ≡ model.taken → (i : ℕ) → (b - a) * tableOf ws .cores ≤ i → getD new i 0 ≡ getD old i 0
   pub size : length new ≡ length old

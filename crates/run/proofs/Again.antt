@@ -11,34 +11,37 @@ use Rattle.model.specs.Book as model
 use Rattle.model.proofs.Search.{least-lowest}
 use Rattle.table.proofs.Decide.{fails}
 use Rattle.run.specs.declared.Run.{Run}
+use Rattle.run.specs.declared.Answer.{Answer}
 use Rattle.run.specs.declared.Answer.the-variants.{Taken, Refused}
 use Rattle.run.specs.Run.{moved}
 use Rattle.run.specs.Answer.{told}
-use Rattle.run.specs.Numbers.{RunOut, runOut, lateAt, firstLateIn, misreportedIn}
+use Rattle.run.specs.Numbers.{RunOut, runOut, lateAt, firstLateIn, misemptiedIn, misreportedIn}
 use Rattle.run.specs.Advance.{advanceAnswer, advanceOf}
 use Rattle.run.proofs.First.{by-taken}
 use Rattle.run.proofs.Limits.{run-decides, passes-if, passes-runs, moved-passes}
 
 -- a taken advance passed 14, and nobody was late
-taken-passes : (r : Run) (x : ℕ) → told (advanceAnswer r x) ≡ model.taken → (runOut r ≡ false) × (ltb (firstLateIn r) (r .count) ≡ false)
+taken-passes : (r : Run) (x e : ℕ) → told (advanceAnswer r x e) ≡ model.taken → (runOut r ≡ false) × (ltb (firstLateIn r) (r .count) ≡ false)
 unfolding advanceAnswer
-taken-passes r x e = go (runOut r) (ltb (firstLateIn r) (r .count)) e
+taken-passes r x e q = go (runOut r) (ltb (firstLateIn r) (r .count)) q
   where
-    go : (t u : Bool) → told (cond t (Refused 14 0) (cond u (Refused 15 (suc (firstLateIn r))) (cond (misreportedIn r x) (Refused 16 0) Taken))) ≡ model.taken
-        → (t ≡ false) × (u ≡ false)
+    rest : Answer
+    rest = cond (misemptiedIn r e) (Refused 20 0) (cond (misreportedIn r e x) (Refused 16 0) Taken)
+
+    go : (t u : Bool) → told (cond t (Refused 14 0) (cond u (Refused 15 (suc (firstLateIn r))) rest)) ≡ model.taken → (t ≡ false) × (u ≡ false)
     go true u q = absurd (let z : _≡_ {A = ℕ} 0 1 = cc in omega arith)
     go false true q = absurd (let z : _≡_ {A = ℕ} 0 1 = cc in omega arith)
     go false false q = (refl, refl)
 
-pub advance-passes : (r : Run) (x : ℕ) → told (advanceOf r x .answer) ≡ model.taken → ¬ RunOut (advanceOf r x .run)
+pub advance-passes : (r : Run) (x e : ℕ) → told (advanceOf r x e .answer) ≡ model.taken → ¬ RunOut (advanceOf r x e .run)
 unfolding advanceOf
-advance-passes r x e =
-    fails (runOut (advanceOf r x .run)) (RunOut (advanceOf r x .run)) (run-decides (advanceOf r x .run))
-    (subst (λ (s : Run). runOut s ≡ false) (sym (by-taken (advanceAnswer r x) (moved (bit x) r) r e))
-    (passes-runs (moved (bit x) r) (moved-passes (bit x) r (passes-if r (passed .0)) punctual)))
+advance-passes r x e q =
+    fails (runOut (advanceOf r x e .run)) (RunOut (advanceOf r x e .run)) (run-decides (advanceOf r x e .run))
+    (subst (λ (s : Run). runOut s ≡ false) (sym (by-taken (advanceAnswer r x e) (moved (bit x) e r) r q))
+    (passes-runs (moved (bit x) e r) (moved-passes (bit x) e r (passes-if r (passed .0)) punctual)))
   where
     passed : (runOut r ≡ false) × (ltb (firstLateIn r) (r .count) ≡ false)
-    passed = taken-passes r x e
+    passed = taken-passes r x e q
 
     punctual : (p : ℕ) → p < r .count → lateAt r p ≡ false
     punctual p l = unfold firstLateIn in least-lowest (r .count) (lateAt r) p (le-trans l (ltb-false (firstLateIn r) (r .count) (passed .1)))

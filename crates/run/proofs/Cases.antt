@@ -10,45 +10,54 @@ use Rattle.run.specs.declared.Run.{Run}
 use Rattle.run.specs.declared.Answer.{Answer}
 use Rattle.run.specs.declared.Answer.the-variants.{Taken, Refused}
 use Rattle.run.specs.Run.{moved}
-use Rattle.run.specs.Numbers.{runOut, firstLateIn, misreportedIn}
+use Rattle.run.specs.Numbers.{runOut, firstLateIn, misemptiedIn, misreportedIn}
 use Rattle.run.specs.Row.{rowAnswer, bytesIn, noBytes, rowOf}
 use Rattle.run.specs.Advance.{advanceAnswer, advanceOf}
 
-module _ (r : Run) where
-  -- a row: 14, 15, shown
-  pub row-out : runOut r ≡ true → rowOf r ≡ record { answer = Refused 14 0; bytes = noBytes }
+module _ (r : Run) (e : ℕ) where
+  -- a row: 14, 15, 20, shown
+  pub row-out : runOut r ≡ true → rowOf r e ≡ record { answer = Refused 14 0; bytes = noBytes }
   unfolding rowOf rowAnswer
-  row-out e = rw e refl
+  row-out q = rw q refl
 
-  pub row-late : runOut r ≡ false → firstLateIn r < r .count → rowOf r ≡ record { answer = Refused 15 (suc (firstLateIn r)); bytes = noBytes }
+  pub row-late : runOut r ≡ false → firstLateIn r < r .count → rowOf r e ≡ record { answer = Refused 15 (suc (firstLateIn r)); bytes = noBytes }
   unfolding rowOf rowAnswer
-  row-late e l = rw (e, lt-ltb (firstLateIn r) (r .count) l) refl
+  row-late q l = rw (q, lt-ltb (firstLateIn r) (r .count) l) refl
 
-  pub row-shown : runOut r ≡ false → r .count ≤ firstLateIn r → rowOf r ≡ record { answer = Taken; bytes = bytesIn r }
+  pub row-empty : runOut r ≡ false → r .count ≤ firstLateIn r → misemptiedIn r e ≡ true → rowOf r e ≡ record { answer = Refused 20 0; bytes = noBytes }
   unfolding rowOf rowAnswer
-  row-shown e l = rw (e, le-ltb (firstLateIn r) (r .count) l) refl
+  row-empty q l m = rw (q, le-ltb (firstLateIn r) (r .count) l, m) refl
+
+  pub row-shown : runOut r ≡ false → r .count ≤ firstLateIn r → misemptiedIn r e ≡ false → rowOf r e ≡ record { answer = Taken; bytes = bytesIn r e }
+  unfolding rowOf rowAnswer
+  row-shown q l m = rw (q, le-ltb (firstLateIn r) (r .count) l, m) refl
 
   -- an advance: 14 ..
   module _ (x : ℕ) where
-    pub advance-out : runOut r ≡ true → advanceOf r x ≡ record { answer = Refused 14 0; run = r }
+    pub advance-out : runOut r ≡ true → advanceOf r x e ≡ record { answer = Refused 14 0; run = r }
     unfolding advanceOf advanceAnswer
-    advance-out e = rw e refl
+    advance-out q = rw q refl
 
-    -- .. 15, 16, taken, where `within` says that every bit that is set may be ..
-    pub advance-answer : runOut r ≡ false → (within : Bool) → misreportedIn r x ≡ not within
-        → advanceAnswer r x ≡ cond (ltb (firstLateIn r) (r .count)) (Refused 15 (firstLateIn r + 1)) (cond within Taken (Refused 16 0))
+    -- .. 15, 20, 16, taken, where `begun` and `within` say that every bit that is set may be ..
+    pub advance-answer :
+        runOut r ≡ false → (begun within : Bool) → misemptiedIn r e ≡ not begun → misreportedIn r e x ≡ not within
+        → advanceAnswer r x e
+        ≡ cond (ltb (firstLateIn r) (r .count)) (Refused 15 (firstLateIn r + 1)) (cond begun (cond within Taken (Refused 16 0)) (Refused 20 0))
     unfolding advanceAnswer
-    advance-answer e within m = rw (e, m, add-one) (ap (λ (a : Answer). cond (ltb (firstLateIn r) (r .count)) (Refused 15 (suc (firstLateIn r))) a) (turned within))
+    advance-answer q begun within b m =
+        rw (q, b, m, add-one)
+        (ap (λ (a : Answer). cond (ltb (firstLateIn r) (r .count)) (Refused 15 (suc (firstLateIn r))) a) (turned begun within))
       where
-        turned : (t : Bool) → cond (not t) (Refused 16 0) Taken ≡ cond t Taken (Refused 16 0)
-        turned true = refl
-        turned false = refl
+        turned : (t u : Bool) → cond (not t) (Refused 20 0) (cond (not u) (Refused 16 0) Taken) ≡ cond t (cond u Taken (Refused 16 0)) (Refused 20 0)
+        turned true true = refl
+        turned true false = refl
+        turned false u = refl
 
     -- .. and the run that goes with the answer
-    pub advance-taken : advanceAnswer r x ≡ Taken → advanceOf r x ≡ record { answer = Taken; run = moved (bit x) r }
+    pub advance-taken : advanceAnswer r x e ≡ Taken → advanceOf r x e ≡ record { answer = Taken; run = moved (bit x) e r }
     unfolding advanceOf
-    advance-taken e = rw e refl
+    advance-taken q = rw q refl
 
-    pub advance-refused : (n p : ℕ) → advanceAnswer r x ≡ Refused n p → advanceOf r x ≡ record { answer = Refused n p; run = r }
+    pub advance-refused : (n p : ℕ) → advanceAnswer r x e ≡ Refused n p → advanceOf r x e ≡ record { answer = Refused n p; run = r }
     unfolding advanceOf
-    advance-refused n p e = rw e refl
+    advance-refused n p q = rw q refl

@@ -21,8 +21,8 @@ use Rattle.rule.specs.Shares.{granted}
 use Rattle.run.specs.declared.Run.{Run}
 use Rattle.run.specs.declared.choosing.Claims.{Claims}
 use Rattle.phase.specs.Phase.{claiming, working}
-use Rattle.run.specs.Run.{ruleIn, phaseAt, widthsIn, grantsIn, hasCores}
-use Rattle.run.specs.Numbers.{reportableAt}
+use Rattle.run.specs.Run.{ruleIn, seenAt, widthsIn, grantsIn, hasCores}
+use Rattle.run.specs.Numbers.{emptiableAt, misemptiedIn, reportableAt, misreportedIn}
 use Rattle.run.specs.Claims.{ClaimsOf}
 
 -- ---- the choosing over more places than claim
@@ -48,31 +48,31 @@ module _ (r : Rule) where
 
 -- ---- who has cores
 
-module _ (r : Run) (c : Claims) (h : ClaimsOf r c) where
-  below : (q : ℕ) → q < r .count → bit (c .claiming) q ≡ claiming (phaseAt r q)
-  below q l = h .claimed q ∙ ap (λ (t : Bool). t && claiming (phaseAt r q)) (lt-ltb q (r .count) l)
+module _ (r : Run) (e : ℕ) (c : Claims) (h : ClaimsOf r e c) where
+  below : (q : ℕ) → q < r .count → bit (c .claiming) q ≡ claiming (seenAt r e q)
+  below q l = h .claimed q ∙ ap (λ (t : Bool). t && claiming (seenAt r e q)) (lt-ltb q (r .count) l)
 
   past : (q : ℕ) → r .count ≤ q → bit (c .claiming) q ≡ false
-  past q l = h .claimed q ∙ ap (λ (t : Bool). t && claiming (phaseAt r q)) (le-ltb q (r .count) l)
+  past q l = h .claimed q ∙ ap (λ (t : Bool). t && claiming (seenAt r e q)) (le-ltb q (r .count) l)
 
   -- the set that the choosing gives is that of the places with cores
-  pub has-cores : (p : ℕ) → granted (ruleIn r) (claimants (c .widths) (bit (c .claiming))) (unfenced (r .fence) (r .cores)) p ≡ hasCores r p
+  pub has-cores : (p : ℕ) → granted (ruleIn r) (claimants (c .widths) (bit (c .claiming))) (unfenced (r .fence) (r .cores)) p ≡ hasCores r e p
   unfolding grantsIn
   has-cores p =
-      granted-front (ruleIn r) (r .count) (c .widths) (bit (c .claiming)) (λ q. claiming (phaseAt r q)) (unfenced (r .fence) (r .cores)) p below past
-      ∙ ap (λ (ws : List ℕ). granted (ruleIn r) (claimants ws (λ q. claiming (phaseAt r q))) (unfenced (r .fence) (r .cores)) p) (h .width)
+      granted-front (ruleIn r) (r .count) (c .widths) (bit (c .claiming)) (λ q. claiming (seenAt r e q)) (unfenced (r .fence) (r .cores)) p below past
+      ∙ ap (λ (ws : List ℕ). granted (ruleIn r) (claimants ws (λ q. claiming (seenAt r e q))) (unfenced (r .fence) (r .cores)) p) (h .width)
 
   -- the claimants below the count
-  pub same-claimants : claimants (take (r .count) (c .widths)) (bit (c .claiming)) ≡ claimants (widthsIn r) (λ q. claiming (phaseAt r q))
+  pub same-claimants : claimants (take (r .count) (c .widths)) (bit (c .claiming)) ≡ claimants (widthsIn r) (λ q. claiming (seenAt r e q))
   same-claimants =
       ap (λ (ws : List ℕ). claimants ws (bit (c .claiming))) (h .width)
-      ∙ claimants-same (widthsIn r) (bit (c .claiming)) (λ q. claiming (phaseAt r q))
+      ∙ claimants-same (widthsIn r) (bit (c .claiming)) (λ q. claiming (seenAt r e q))
       (λ q l. below q (omega (arith, length-map (take (r .count) (r .tasks)) (λ t. t .width), length-take (r .count) (r .tasks))))
 
   -- the set of the places that may be reported
-  pub may-end : (g : ℕ) → ((p : ℕ) → bit g p ≡ hasCores r p) → (p : ℕ) → bit (bitAnd g (c .working)) p ≡ reportableAt r p
-  may-end g e p =
-      and-bit g (c .working) p ∙ rw (e p, h .worked p) (turned (hasCores r p) (ltb p (r .count)) (working (phaseAt r p)))
+  may-end : (g : ℕ) → ((p : ℕ) → bit g p ≡ hasCores r e p) → (p : ℕ) → bit (bitAnd g (c .working)) p ≡ reportableAt r e p
+  may-end g q p =
+      and-bit g (c .working) p ∙ rw (q p, h .worked p) (turned (hasCores r e p) (ltb p (r .count)) (working (seenAt r e p)))
     where
       turned : (a b d : Bool) → a && (b && d) ≡ b && (d && a)
       turned true true true = refl
@@ -101,7 +101,7 @@ same-bits (suc k) a b h l e =
     let high : a / 2 ≡ b / 2 = same-bits k (a / 2) (b / 2) (half k a h) (half k b l) (λ p. sym (bit-suc a p) ∙ e (suc p) ∙ bit-suc b p) in
     omega arith
 
--- ---- a report set within the set of what may be reported
+-- ---- a set within the set of what may be
 
 module _ (x m : ℕ) (f : ℕ → Bool) (e : (p : ℕ) → bit m p ≡ f p) where
   common : (p : ℕ) → bit (bitAnd x m) p ≡ bit x p && f p
@@ -128,7 +128,7 @@ module _ (x m : ℕ) (f : ℕ → Bool) (e : (p : ℕ) → bit m p ≡ f p) wher
       by false w = ap (λ (t : Bool). t && f p) (bit-high x p (ltb-false p x w)) ∙ sym (bit-high x p (ltb-false p x w))
 
   -- some bit is set outside m exactly if x is not within m
-  pub outside : (k : ℕ) → x < 2 ^ k → any x (λ p. bit x p && not (f p)) ≡ not (eqb (bitAnd x m) x)
+  outside : (k : ℕ) → x < 2 ^ k → any x (λ p. bit x p && not (f p)) ≡ not (eqb (bitAnd x m) x)
   outside k l = go (eqb (bitAnd x m) x) refl
     where
       go : (t : Bool) → eqb (bitAnd x m) x ≡ t → any x (λ p. bit x p && not (f p)) ≡ not t
@@ -136,3 +136,16 @@ module _ (x m : ℕ) (f : ℕ → Bool) (e : (p : ℕ) → bit m p ≡ f p) wher
       go false e =
           not-false-true (any x (λ p. bit x p && not (f p)))
           (λ q. eqb-false (bitAnd x m) x e (same-bits k (bitAnd x m) x (lt-of-le-of-lt (and-le-l x m) l) l (λ p. common p ∙ all-inside q p)))
+
+-- 20 by one test of sets: the empties are within the places whose job is released in this tick
+pub may-begin :
+    (r : Run) (e : ℕ) (c : Claims) → ClaimsOf r e c → (k : ℕ) → e < 2 ^ k → misemptiedIn r e ≡ not (eqb (bitAnd e (c .released)) e)
+unfolding misemptiedIn
+may-begin r e c h k l = outside e (c .released) (emptiableAt r) (h .begun) k l
+
+-- and 16: the reports are within the places that work and have cores
+pub may-report :
+    (r : Run) (e : ℕ) (c : Claims) → ClaimsOf r e c → (g : ℕ) → ((p : ℕ) → bit g p ≡ hasCores r e p) → (x k : ℕ) → x < 2 ^ k
+    → misreportedIn r e x ≡ not (eqb (bitAnd x (bitAnd g (c .working))) x)
+unfolding misreportedIn
+may-report r e c h g q x k l = outside x (bitAnd g (c .working)) (reportableAt r e) (may-end r e c h g q) k l

@@ -1,5 +1,5 @@
--- Row and advance are refused with n and p exactly if n is the first of 14, 15 and 16 that applies, with position p; and taken exactly if none applies.
-use mathlib.Core.Path.{_≡_, refl, sym, ap, _∙_}
+-- Row and advance are refused with n and p exactly if n is the first of 14, 15, 20 and 16 that applies, with position p; and taken exactly if none applies.
+use mathlib.Core.Path.{_≡_, refl, sym, ap, ap₂, _∙_}
 use mathlib.Core.Bool.{Bool, true, false, not, _&&_, cond, true≢false, false≢true}
 use mathlib.Core.List.{List, [], _∷_}
 use mathlib.Core.Logic.{_⊎_, inl, inr, ⊎-elim, _↔_}
@@ -7,10 +7,10 @@ use Prim.Native.Nat.{ℕ, suc, _≤_, _<_}
 use native.Mathlib.Nat.{le-trans}
 use native.Mathlib.Omega.{arith}
 use lib.ListN.{getD}
-use lib.Dec.{ltb, leb}
+use lib.Dec.{ltb, leb, eqb}
 use borrow.Author.Tests.{ltb-true, ltb-false, le-ltb, leb-true, leb-false, eqb-true, eq-eqb, not-true}
 use Rattle.model.proofs.Digits.{bit-high}
-use Rattle.model.specs.Search.{bit}
+use Rattle.model.specs.Search.{any, bit}
 use Rattle.model.specs.Grants.{some}
 use Rattle.model.specs.Book as model
 use Rattle.model.proofs.Bools.{and-left, and-right, and-both}
@@ -21,13 +21,15 @@ use Rattle.table.proofs.Order.{not-before-itself, later}
 use Rattle.phase.specs.declared.Phase.{Phase}
 use Rattle.phase.specs.declared.Phase.the-variants.{Coming, Working, Holding, Resting}
 use Rattle.run.specs.declared.Run.{Run}
+use Rattle.run.specs.declared.Answer.{Answer}
 use Rattle.run.specs.declared.Answer.the-variants.{Taken, Refused}
 use Rattle.run.specs.declared.Advanced.{Advanced}
 use Rattle.run.specs.declared.Row.{Row}
-use Rattle.phase.specs.Phase.{working, lateIn}
-use Rattle.run.specs.Run.{taskAt, phaseAt, grantsIn, hasCores, moved}
+use Rattle.phase.specs.Phase.{working, lateIn, released}
+use Rattle.run.specs.Run.{taskAt, phaseAt, seenAt, grantsIn, hasCores, moved}
 use Rattle.run.specs.Answer.{told}
-use Rattle.run.specs.Numbers.{RunOut, Late, Works, Misreports, RowApplies, fourteen, fifteen, AdvanceApplies, as-row, sixteen, runOut, lateAt, firstLateIn, reportableAt, misreportedIn}
+use Rattle.run.specs.Numbers.{RunOut, Late, Misempties, Works, Misreports, RowApplies, fourteen, fifteen, twenty, AdvanceApplies, as-row, sixteen}
+use Rattle.run.specs.Numbers.{runOut, lateAt, firstLateIn, emptiableAt, misemptiedIn, reportableAt, misreportedIn}
 use Rattle.run.specs.Advance.{advanceAnswer, advanceOf, AdvanceOf}
 use Rattle.run.specs.Row.{rowAnswer, bytesIn, noBytes, rowOf, RowOf}
 use Rattle.run.proofs.First.{by-taken, by-refused, Right, refused-exact, taken-exact}
@@ -35,7 +37,7 @@ use Rattle.run.proofs.Limits.{run-decides}
 use Rattle.run.proofs.Again.{advance-passes}
 use Rattle.run.proofs.Past.{past-unchanged}
 
--- THE TESTS OF 15 AND 16
+-- THE TESTS OF 15, 20 AND 16
 
 late-in-decides : (D : ℕ) (ph : Phase) → Decides (lateIn D ph) ((u : ℕ) × (ph ≡ Working D u))
 late-in-decides D ph = (there ph, λ x. ap (lateIn D) (x .1) ∙ eq-eqb D D refl)
@@ -58,6 +60,15 @@ works-decides ph = (there ph, λ x. ap working (x .2))
     there (Holding z u) e = absurd (false≢true e)
     there (Resting z) e = absurd (false≢true e)
 
+released-decides : (ph : Phase) → Decides (released ph) (ph ≡ Working 0 0)
+released-decides ph = (there ph, λ x. ap released x)
+  where
+    there : (ph : Phase) → released ph ≡ true → ph ≡ Working 0 0
+    there (Coming left) e = absurd (false≢true e)
+    there (Working z u) e = ap₂ (λ (a b : ℕ). Working a b) (eqb-true z 0 (and-left (eqb z 0) (eqb u 0) e)) (eqb-true u 0 (and-right (eqb z 0) (eqb u 0) e))
+    there (Holding z u) e = absurd (false≢true e)
+    there (Resting z) e = absurd (false≢true e)
+
 none-decides : (l : List ℕ) → Decides (not (some l)) (l ≡ [])
 none-decides [] = (λ e. refl, λ e. refl)
 none-decides (c ∷ cs) = (λ e. absurd (false≢true e), λ e. ap (λ (x : List ℕ). not (some x)) e)
@@ -70,13 +81,6 @@ nand-decides false b P Q c d = (λ e. inl (c .0 refl), λ x. refl)
 past-decides : (p n : ℕ) → Decides (not (ltb p n)) (n ≤ p)
 past-decides p n = (λ e. ltb-false p n (not-true (ltb p n) e), λ l. ap not (le-ltb p n l))
 
-barred-decides :
-    (r : Run) (p : ℕ)
-    → Decides (not (reportableAt r p)) ((r .count ≤ p) ⊎ ((¬ Works r p) ⊎ (getD (grantsIn r) p [] ≡ [])))
-barred-decides r p =
-    nand-decides (ltb p (r .count)) (working (phaseAt r p) && hasCores r p) (r .count ≤ p) ((¬ Works r p) ⊎ (getD (grantsIn r) p [] ≡ [])) (past-decides p (r .count))
-    (nand-decides (working (phaseAt r p)) (hasCores r p) (¬ Works r p) (getD (grantsIn r) p [] ≡ []) (decides-not _ _ (works-decides (phaseAt r p))) (none-decides (getD (grantsIn r) p [])))
-
 -- a set has no bit from its number up
 bit-low : (x p : ℕ) → bit x p ≡ true → p < x
 bit-low x p e = go (leb x p) refl
@@ -85,16 +89,36 @@ bit-low x p e = go (leb x p) refl
     go true q = absurd (true≢false (sym e ∙ bit-high x p (leb-true x p q)))
     go false q = leb-false x p q
 
-pub misreported-decides : (r : Run) (x : ℕ) → Decides (misreportedIn r x) ((p : ℕ) × Misreports r x p)
-unfolding misreportedIn
-misreported-decides r x = (
+-- some bit of a set is set where it may not be
+set-decides :
+    (x : ℕ) (f : ℕ → Bool) (P : ℕ → Type 0) → ((p : ℕ) → Decides (not (f p)) (P p))
+    → Decides (any x (λ p. bit x p && not (f p))) ((p : ℕ) × ((bit x p ≡ true) × P p))
+set-decides x f P d = (
   λ e.
-      let y = any-some x (λ p. bit x p && not (reportableAt r p)) e in
-      (y .0, (and-left (bit x (y .0)) (not (reportableAt r (y .0))) (y .2), barred-decides r (y .0) .0 (and-right (bit x (y .0)) (not (reportableAt r (y .0))) (y .2)))),
+      let y = any-some x (λ p. bit x p && not (f p)) e in
+      (y .0, (and-left (bit x (y .0)) (not (f (y .0))) (y .2), d (y .0) .0 (and-right (bit x (y .0)) (not (f (y .0))) (y .2)))),
   λ y.
-      any-of x (λ p. bit x p && not (reportableAt r p)) (y .0) (bit-low x (y .0) (y .1 .0))
-      (and-both (bit x (y .0)) (not (reportableAt r (y .0))) (y .1 .0) (barred-decides r (y .0) .1 (y .1 .1))),
+      any-of x (λ p. bit x p && not (f p)) (y .0) (bit-low x (y .0) (y .1 .0))
+      (and-both (bit x (y .0)) (not (f (y .0))) (y .1 .0) (d (y .0) .1 (y .1 .1))),
 )
+
+pub misemptied-decides : (r : Run) (e : ℕ) → Decides (misemptiedIn r e) ((p : ℕ) × Misempties r e p)
+unfolding misemptiedIn
+misemptied-decides r e =
+    set-decides e (emptiableAt r) (λ p. (r .count ≤ p) ⊎ (¬ (phaseAt r p ≡ Working 0 0)))
+    (λ p.
+    nand-decides (ltb p (r .count)) (released (phaseAt r p)) (r .count ≤ p) (¬ (phaseAt r p ≡ Working 0 0)) (past-decides p (r .count))
+    (decides-not _ _ (released-decides (phaseAt r p))))
+
+pub misreported-decides : (r : Run) (e x : ℕ) → Decides (misreportedIn r e x) ((p : ℕ) × Misreports r e x p)
+unfolding misreportedIn
+misreported-decides r e x =
+    set-decides x (reportableAt r e) (λ p. (r .count ≤ p) ⊎ ((¬ Works r e p) ⊎ (getD (grantsIn r e) p [] ≡ [])))
+    (λ p.
+    nand-decides (ltb p (r .count)) (working (seenAt r e p) && hasCores r e p) (r .count ≤ p) ((¬ Works r e p) ⊎ (getD (grantsIn r e) p [] ≡ []))
+    (past-decides p (r .count))
+    (nand-decides (working (seenAt r e p)) (hasCores r e p) (¬ Works r e p) (getD (grantsIn r e) p [] ≡ [])
+    (decides-not _ _ (works-decides (seenAt r e p))) (none-decides (getD (grantsIn r e) p []))))
 
 -- THE FIRST NUMBER
 
@@ -109,114 +133,140 @@ module _ (r : Run) where
   unfolding firstLateIn
   first-late p l h = true≢false (sym (late-at p h) ∙ least-lowest (r .count) (lateAt r) p l)
 
-  row-14 : runOut r ≡ true → FirstOf (RowApplies r) 14 0
-  unfolding place
-  row-14 e = (fourteen (run-decides r .0 e), earlier)
-    where
-      earlier : (m q : ℕ) → Earlier m q 14 0 → ¬ RowApplies r m q
-      earlier m q x (fourteen h) = not-before-itself 14 0 x
-      earlier m q x (fifteen p l h) = later 15 (suc p) 14 0 (omega arith) x
+  not-late : ltb (firstLateIn r) (r .count) ≡ false → (p : ℕ) → p < r .count → ¬ Late r p
+  not-late f p l h = first-late p (le-trans l (ltb-false (firstLateIn r) (r .count) f)) h
 
-  row-15 : runOut r ≡ false → ltb (firstLateIn r) (r .count) ≡ true → FirstOf (RowApplies r) 15 (suc (firstLateIn r))
-  unfolding place
-  row-15 e f = (fifteen (firstLateIn r) below (late-decides r (firstLateIn r) .0 found), earlier)
-    where
-      below : firstLateIn r < r .count
-      below = ltb-true (firstLateIn r) (r .count) f
-
-      found : lateAt r (firstLateIn r) ≡ true
-      found = unfold firstLateIn in least-found (r .count) (lateAt r) below
-
-      earlier : (m q : ℕ) → Earlier m q 15 (suc (firstLateIn r)) → ¬ RowApplies r m q
-      earlier m q x (fourteen h) = no-fourteen e h
-      earlier m q x (fifteen p l h) =
-          ⊎-elim (λ y. omega arith)
-          (λ y. ⊎-elim (λ z. first-late p (omega arith) h) (λ z. let w = z .1 in omega arith) (y .1)) x
-
-  row-none : runOut r ≡ false → ltb (firstLateIn r) (r .count) ≡ false → NoneOf (RowApplies r)
-  row-none e f m q (fourteen h) = no-fourteen e h
-  row-none e f m q (fifteen p l h) = first-late p (le-trans l (ltb-false (firstLateIn r) (r .count) f)) h
-
-  -- THE LAW OF A ROW
-  row-right : Right (RowApplies r) (rowAnswer r)
-  unfolding rowAnswer
-  row-right = go (runOut r) refl (ltb (firstLateIn r) (r .count)) refl
-    where
-      go : (t : Bool) → runOut r ≡ t → (u : Bool) → ltb (firstLateIn r) (r .count) ≡ u
-          → Right (RowApplies r) (cond t (Refused 14 0) (cond u (Refused 15 (suc (firstLateIn r))) Taken))
-      go true e u f = row-14 e
-      go false e true f = row-15 e f
-      go false e false f = row-none e f
-
-  pub row-exact : (n p : ℕ) → (told (rowOf r .answer) ≡ model.refused n p) ↔ FirstOf (RowApplies r) n p
-  unfolding rowOf
-  row-exact = refused-exact (RowApplies r) (rowAnswer r) row-right
-
-  pub row-taken : (told (rowOf r .answer) ≡ model.taken) ↔ NoneOf (RowApplies r)
-  unfolding rowOf
-  row-taken = taken-exact (RowApplies r) (rowAnswer r) row-right
-
-  -- a value that is the row's by definition keeps what a row promises
-  pub row-of : (w : Row) → w ≡ rowOf r → RowOf r w
-  row-of w e = rw e record {
-    value = refl;
-    refused = row-exact;
-    taken = row-taken;
-    bytes = unfold rowOf in by-taken (rowAnswer r) (bytesIn r) noBytes;
-    zeros = unfold rowOf in by-refused (rowAnswer r) (bytesIn r) noBytes;
-  }
-
-  module _ (x : ℕ) where
-    -- 14 and 15 come before 16
-    as-advance : (n p : ℕ) → ¬ Earlier 16 0 n p → FirstOf (RowApplies r) n p → FirstOf (AdvanceApplies r x) n p
-    as-advance n p late f = (as-row n p (f .0), earlier)
+  -- A ROW with the empties e
+  module _ (e : ℕ) where
+    row-14 : runOut r ≡ true → FirstOf (RowApplies r e) 14 0
+    unfolding place
+    row-14 q = (fourteen (run-decides r .0 q), earlier)
       where
-        earlier : (m q : ℕ) → Earlier m q n p → ¬ AdvanceApplies r x m q
-        earlier m q e (as-row i j h) = f .1 m q e h
-        earlier m q e (sixteen j h) = late e
+        earlier : (m i : ℕ) → Earlier m i 14 0 → ¬ RowApplies r e m i
+        earlier m i x (fourteen h) = not-before-itself 14 0 x
+        earlier m i x (fifteen p l h) = later 15 (suc p) 14 0 (omega arith) x
+        earlier m i x (twenty p h) = later 20 0 14 0 (omega arith) x
 
-    advance-16 : NoneOf (RowApplies r) → misreportedIn r x ≡ true → FirstOf (AdvanceApplies r x) 16 0
-    advance-16 none e = (sixteen (bad .0) (bad .1), earlier)
+    row-15 : runOut r ≡ false → ltb (firstLateIn r) (r .count) ≡ true → FirstOf (RowApplies r e) 15 (suc (firstLateIn r))
+    unfolding place
+    row-15 q f = (fifteen (firstLateIn r) below (late-decides r (firstLateIn r) .0 found), earlier)
       where
-        bad : (p : ℕ) × Misreports r x p
-        bad = misreported-decides r x .0 e
+        below : firstLateIn r < r .count
+        below = ltb-true (firstLateIn r) (r .count) f
 
-        earlier : (m q : ℕ) → Earlier m q 16 0 → ¬ AdvanceApplies r x m q
-        earlier m q y (as-row i j h) = none m q h
-        earlier m q y (sixteen j h) = not-before-itself 16 0 y
+        found : lateAt r (firstLateIn r) ≡ true
+        found = unfold firstLateIn in least-found (r .count) (lateAt r) below
 
-    advance-none : NoneOf (RowApplies r) → misreportedIn r x ≡ false → NoneOf (AdvanceApplies r x)
-    advance-none none e m q (as-row i j h) = none m q h
-    advance-none none e m q (sixteen j h) = fails (misreportedIn r x) ((p : ℕ) × Misreports r x p) (misreported-decides r x) e (j, h)
+        earlier : (m i : ℕ) → Earlier m i 15 (suc (firstLateIn r)) → ¬ RowApplies r e m i
+        earlier m i x (fourteen h) = no-fourteen q h
+        earlier m i x (fifteen p l h) =
+            ⊎-elim (λ y. omega arith)
+            (λ y. ⊎-elim (λ z. first-late p (omega arith) h) (λ z. let w = z .1 in omega arith) (y .1)) x
+        earlier m i x (twenty p h) = later 20 0 15 (suc (firstLateIn r)) (omega arith) x
 
-    -- THE LAW OF AN ADVANCE
-    advance-right : Right (AdvanceApplies r x) (advanceAnswer r x)
-    unfolding advanceAnswer place
-    advance-right = go (runOut r) refl (ltb (firstLateIn r) (r .count)) refl (misreportedIn r x) refl
+    row-20 : runOut r ≡ false → ltb (firstLateIn r) (r .count) ≡ false → misemptiedIn r e ≡ true → FirstOf (RowApplies r e) 20 0
+    row-20 q f g = (twenty (bad .0) (bad .1), earlier)
       where
-        go : (t : Bool) → runOut r ≡ t → (u : Bool) → ltb (firstLateIn r) (r .count) ≡ u → (v : Bool) → misreportedIn r x ≡ v
-            → Right (AdvanceApplies r x) (cond t (Refused 14 0) (cond u (Refused 15 (suc (firstLateIn r))) (cond v (Refused 16 0) Taken)))
-        go true e u f v g = as-advance 14 0 (later 16 0 14 0 (omega arith)) (row-14 e)
-        go false e true f v g = as-advance 15 (suc (firstLateIn r)) (later 16 0 15 (suc (firstLateIn r)) (omega arith)) (row-15 e f)
-        go false e false f true g = advance-16 (row-none e f) g
-        go false e false f false g = advance-none (row-none e f) g
+        bad : (p : ℕ) × Misempties r e p
+        bad = misemptied-decides r e .0 g
 
-    pub advance-exact : (n p : ℕ) → (told (advanceOf r x .answer) ≡ model.refused n p) ↔ FirstOf (AdvanceApplies r x) n p
-    unfolding advanceOf
-    advance-exact = refused-exact (AdvanceApplies r x) (advanceAnswer r x) advance-right
+        earlier : (m i : ℕ) → Earlier m i 20 0 → ¬ RowApplies r e m i
+        earlier m i x (fourteen h) = no-fourteen q h
+        earlier m i x (fifteen p l h) = not-late f p l h
+        earlier m i x (twenty p h) = not-before-itself 20 0 x
 
-    pub advance-taken : (told (advanceOf r x .answer) ≡ model.taken) ↔ NoneOf (AdvanceApplies r x)
-    unfolding advanceOf
-    advance-taken = taken-exact (AdvanceApplies r x) (advanceAnswer r x) advance-right
+    row-none : runOut r ≡ false → ltb (firstLateIn r) (r .count) ≡ false → misemptiedIn r e ≡ false → NoneOf (RowApplies r e)
+    row-none q f g m i (fourteen h) = no-fourteen q h
+    row-none q f g m i (fifteen p l h) = not-late f p l h
+    row-none q f g m i (twenty p h) = fails (misemptiedIn r e) ((p : ℕ) × Misempties r e p) (misemptied-decides r e) g (p, h)
 
-    -- a value that is the advance's by definition keeps what an advance promises
-    pub advance-of : (a : Advanced) → a ≡ advanceOf r x → AdvanceOf r x a
-    advance-of a e = rw e record {
+    -- THE LAW OF A ROW
+    row-right : Right (RowApplies r e) (rowAnswer r e)
+    unfolding rowAnswer
+    row-right = go (runOut r) refl (ltb (firstLateIn r) (r .count)) refl (misemptiedIn r e) refl
+      where
+        go : (t : Bool) → runOut r ≡ t → (u : Bool) → ltb (firstLateIn r) (r .count) ≡ u → (v : Bool) → misemptiedIn r e ≡ v
+            → Right (RowApplies r e) (cond t (Refused 14 0) (cond u (Refused 15 (suc (firstLateIn r))) (cond v (Refused 20 0) Taken)))
+        go true q u f v g = row-14 q
+        go false q true f v g = row-15 q f
+        go false q false f true g = row-20 q f g
+        go false q false f false g = row-none q f g
+
+    pub row-exact : (n p : ℕ) → (told (rowOf r e .answer) ≡ model.refused n p) ↔ FirstOf (RowApplies r e) n p
+    unfolding rowOf
+    row-exact = refused-exact (RowApplies r e) (rowAnswer r e) row-right
+
+    pub row-taken : (told (rowOf r e .answer) ≡ model.taken) ↔ NoneOf (RowApplies r e)
+    unfolding rowOf
+    row-taken = taken-exact (RowApplies r e) (rowAnswer r e) row-right
+
+    -- a value that is the row's by definition keeps what a row promises
+    pub row-of : (w : Row) → w ≡ rowOf r e → RowOf r e w
+    row-of w q = rw q record {
       value = refl;
-      refused = advance-exact;
-      taken = advance-taken;
-      on = unfold advanceOf in by-taken (advanceAnswer r x) (moved (bit x) r) r;
-      as-given = unfold advanceOf in by-refused (advanceAnswer r x) (moved (bit x) r) r;
-      passes = advance-passes r x;
-      past = past-unchanged r x;
+      refused = row-exact;
+      taken = row-taken;
+      bytes = unfold rowOf in by-taken (rowAnswer r e) (bytesIn r e) noBytes;
+      zeros = unfold rowOf in by-refused (rowAnswer r e) (bytesIn r e) noBytes;
     }
+
+    -- AN ADVANCE with the reports x too
+    module _ (x : ℕ) where
+      -- 14, 15 and 20 come before 16
+      as-advance : (n p : ℕ) → ¬ Earlier 16 0 n p → FirstOf (RowApplies r e) n p → FirstOf (AdvanceApplies r x e) n p
+      as-advance n p late f = (as-row n p (f .0), earlier)
+        where
+          earlier : (m i : ℕ) → Earlier m i n p → ¬ AdvanceApplies r x e m i
+          earlier m i q (as-row k j h) = f .1 m i q h
+          earlier m i q (sixteen j h) = late q
+
+      advance-16 : NoneOf (RowApplies r e) → misreportedIn r e x ≡ true → FirstOf (AdvanceApplies r x e) 16 0
+      advance-16 none q = (sixteen (bad .0) (bad .1), earlier)
+        where
+          bad : (p : ℕ) × Misreports r e x p
+          bad = misreported-decides r e x .0 q
+
+          earlier : (m i : ℕ) → Earlier m i 16 0 → ¬ AdvanceApplies r x e m i
+          earlier m i y (as-row k j h) = none m i h
+          earlier m i y (sixteen j h) = not-before-itself 16 0 y
+
+      advance-none : NoneOf (RowApplies r e) → misreportedIn r e x ≡ false → NoneOf (AdvanceApplies r x e)
+      advance-none none q m i (as-row k j h) = none m i h
+      advance-none none q m i (sixteen j h) = fails (misreportedIn r e x) ((p : ℕ) × Misreports r e x p) (misreported-decides r e x) q (j, h)
+
+      -- THE LAW OF AN ADVANCE
+      advance-right : Right (AdvanceApplies r x e) (advanceAnswer r x e)
+      unfolding advanceAnswer place
+      advance-right = go (runOut r) refl (ltb (firstLateIn r) (r .count)) refl (misemptiedIn r e) refl (misreportedIn r e x) refl
+        where
+          late : Answer
+          late = Refused 15 (suc (firstLateIn r))
+
+          go : (t : Bool) → runOut r ≡ t → (u : Bool) → ltb (firstLateIn r) (r .count) ≡ u
+              → (v : Bool) → misemptiedIn r e ≡ v → (w : Bool) → misreportedIn r e x ≡ w
+              → Right (AdvanceApplies r x e) (cond t (Refused 14 0) (cond u late (cond v (Refused 20 0) (cond w (Refused 16 0) Taken))))
+          go true q u f v g w h = as-advance 14 0 (later 16 0 14 0 (omega arith)) (row-14 q)
+          go false q true f v g w h = as-advance 15 (suc (firstLateIn r)) (later 16 0 15 (suc (firstLateIn r)) (omega arith)) (row-15 q f)
+          go false q false f true g w h = as-advance 20 0 (later 16 0 20 0 (omega arith)) (row-20 q f g)
+          go false q false f false g true h = advance-16 (row-none q f g) h
+          go false q false f false g false h = advance-none (row-none q f g) h
+
+      pub advance-exact : (n p : ℕ) → (told (advanceOf r x e .answer) ≡ model.refused n p) ↔ FirstOf (AdvanceApplies r x e) n p
+      unfolding advanceOf
+      advance-exact = refused-exact (AdvanceApplies r x e) (advanceAnswer r x e) advance-right
+
+      pub advance-taken : (told (advanceOf r x e .answer) ≡ model.taken) ↔ NoneOf (AdvanceApplies r x e)
+      unfolding advanceOf
+      advance-taken = taken-exact (AdvanceApplies r x e) (advanceAnswer r x e) advance-right
+
+      -- a value that is the advance's by definition keeps what an advance promises
+      pub advance-of : (a : Advanced) → a ≡ advanceOf r x e → AdvanceOf r x e a
+      advance-of a q = rw q record {
+        value = refl;
+        refused = advance-exact;
+        taken = advance-taken;
+        on = unfold advanceOf in by-taken (advanceAnswer r x e) (moved (bit x) e r) r;
+        as-given = unfold advanceOf in by-refused (advanceAnswer r x e) (moved (bit x) e r) r;
+        passes = advance-passes r x e;
+        past = past-unchanged r x e;
+      }

@@ -17,11 +17,11 @@ use Rattle.table.proofs.Inside.{inside-test, inside-sound}
 use Rattle.phase.specs.declared.Task.{Task}
 use Rattle.run.specs.declared.Run.{Run}
 use Rattle.phase.specs.Phase.{PhaseIn, phaseIn}
-use Rattle.phase.specs.Task.{taskOf, pastEnd, nextTask}
-use Rattle.run.specs.Run.{ruleIn, taskAt, phaseAt, hasCores, mapFirst, moved}
+use Rattle.phase.specs.Task.{taskOf, pastEnd}
+use Rattle.run.specs.Run.{ruleIn, taskAt, phaseAt, emptyAt, hasCores, mapFirst, nextAt, moved}
 use Rattle.run.specs.Numbers.{wideIn, PlaceOut, RunOut, placeOut, runOut, lateAt}
 use Rattle.run.proofs.Places.{mapFirst-at}
-use Rattle.phase.proofs.Phases.{phase-decides, next-in}
+use Rattle.phase.proofs.Phases.{phase-decides, seen-in}
 
 -- THE TEST OF 14
 
@@ -104,9 +104,9 @@ in-array r p e = go (leb (length (r .tasks)) p) refl
         absurd (true≢false (subst (λ (t : Task). taskOut (wideIn r) (taskOf t) ≡ false) (List·getD-eq-default (r .tasks) pastEnd (leb-true (length (r .tasks)) p q)) e))
 
 -- the run one tick on passes 14, where nobody is late
-pub moved-passes : (f : ℕ → Bool) (r : Run) → Passes r → ((p : ℕ) → p < r .count → lateAt r p ≡ false) → Passes (moved f r)
+pub moved-passes : (f : ℕ → Bool) (e : ℕ) (r : Run) → Passes r → ((p : ℕ) → p < r .count → lateAt r p ≡ false) → Passes (moved f e r)
 unfolding moved
-moved-passes f r h n = record {
+moved-passes f e r h n = record {
   count = h .count;
   cores = h .cores;
   rule = h .rule;
@@ -114,10 +114,9 @@ moved-passes f r h n = record {
   tasks = λ p l. rw (at p l) (h .tasks p l);
   phases = λ p l.
       subst (λ (t : Task). PhaseIn (ruleIn r) (taskOf t) (t .phase)) (sym (at p l))
-      (next-in (ruleIn r) (taskAt r p) (sound-if (wideIn r) (taskAt r p) (h .tasks p l)) (hasCores r p) (f p) (phaseAt r p) (h .phases p l) (n p l));
+      (seen-in (ruleIn r) (taskAt r p) (sound-if (wideIn r) (taskAt r p) (h .tasks p l)) (emptyAt r e p) (hasCores r e p) (f p)
+      (phaseAt r p) (h .phases p l) (n p l));
 }
   where
-    at : (p : ℕ) → p < r .count
-        → getD (mapFirst (λ p t. nextTask (ruleIn r) (hasCores r p) (f p) t) (r .count) (r .tasks)) p pastEnd
-        ≡ nextTask (ruleIn r) (hasCores r p) (f p) (getD (r .tasks) p pastEnd)
-    at p l = mapFirst-at (λ p t. nextTask (ruleIn r) (hasCores r p) (f p) t) (r .count) (r .tasks) p pastEnd l (in-array r p (h .tasks p l))
+    at : (p : ℕ) → p < r .count → getD (mapFirst (nextAt r f e) (r .count) (r .tasks)) p pastEnd ≡ nextAt r f e p (getD (r .tasks) p pastEnd)
+    at p l = mapFirst-at (nextAt r f e) (r .count) (r .tasks) p pastEnd l (in-array r p (h .tasks p l))

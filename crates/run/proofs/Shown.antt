@@ -15,9 +15,10 @@ use Rattle.model.specs.Sizes.{mostCores}
 use Rattle.run.specs.declared.Run.{Run}
 use Rattle.run.specs.declared.choosing.Claims.{Claims}
 use Rattle.run.specs.Run.{ruleIn, grantsIn}
+use Rattle.run.specs.declared.Answer.{Answer}
 use Rattle.run.specs.declared.Answer.the-variants.{Taken, Refused}
 use Rattle.run.specs.Answer.{byAnswer}
-use Rattle.run.specs.Numbers.{runOut, firstLateIn}
+use Rattle.run.specs.Numbers.{runOut, firstLateIn, misemptiedIn}
 use Rattle.run.specs.Row.{rowAnswer, bytesIn, noBytes, rowOf}
 use Rattle.run.specs.Claims.{ClaimsOf}
 use Rattle.run.proofs.RunOut.{few-cores}
@@ -25,31 +26,38 @@ use Rattle.run.proofs.Chosen.{same-claimants}
 
 -- what the rule shows for the places that claim is the run's row
 pub bytes-shown :
-    (r : Run) (c : Claims) → ClaimsOf r c
-    → row (r .fence) (r .cores) (grants (ruleIn r) (claimants (take (r .count) (c .widths)) (bit (c .claiming))) (unfenced (r .fence) (r .cores))) ++ replicate (mostCores - r .cores) 0 ≡ bytesIn r
+    (r : Run) (e : ℕ) (c : Claims) → ClaimsOf r e c
+    → row (r .fence) (r .cores) (grants (ruleIn r) (claimants (take (r .count) (c .widths)) (bit (c .claiming))) (unfenced (r .fence) (r .cores))) ++ replicate (mostCores - r .cores) 0 ≡ bytesIn r e
 unfolding grantsIn bytesIn
-bytes-shown r c h =
-    ap (λ (bs : List Claimant). row (r .fence) (r .cores) (grants (ruleIn r) bs (unfenced (r .fence) (r .cores))) ++ replicate (mostCores - r .cores) 0) (same-claimants r c h)
-    ∙ ap (λ (n : ℕ). row (r .fence) (r .cores) (grantsIn r) ++ replicate (mostCores - n) 0) (sym (row-length (r .fence) (r .cores) (grantsIn r)))
+bytes-shown r e c h =
+    ap (λ (bs : List Claimant). row (r .fence) (r .cores) (grants (ruleIn r) bs (unfenced (r .fence) (r .cores))) ++ replicate (mostCores - r .cores) 0) (same-claimants r e c h)
+    ∙ ap (λ (n : ℕ). row (r .fence) (r .cores) (grantsIn r e) ++ replicate (mostCores - n) 0) (sym (row-length (r .fence) (r .cores) (grantsIn r e)))
 
 -- a row has 64 bytes, shown or not
-pub shown-length : (r : Run) → length (rowOf r .bytes) ≡ mostCores
+pub shown-length : (r : Run) (e : ℕ) → length (rowOf r e .bytes) ≡ mostCores
 unfolding rowOf rowAnswer bytesIn
-shown-length r = by-out (runOut r) refl
+shown-length r e = by-out (runOut r) refl
   where
-    zeros : length noBytes ≡ mostCores
-    zeros = refl
+    bytes : List ℕ
+    bytes = row (r .fence) (r .cores) (grantsIn r e)
 
-    in-order : runOut r ≡ false → length (bytesIn r) ≡ mostCores
-    in-order e =
-        length-append (row (r .fence) (r .cores) (grantsIn r)) (replicate (mostCores - length (row (r .fence) (r .cores) (grantsIn r))) 0)
-        ∙ (ap (λ (n : ℕ). length (row (r .fence) (r .cores) (grantsIn r)) + n) (length-replicate {A = ℕ} (mostCores - length (row (r .fence) (r .cores) (grantsIn r))) 0)
-        ∙ omega (arith, row-length (r .fence) (r .cores) (grantsIn r), few-cores r e))
+    in-order : runOut r ≡ false → length (bytesIn r e) ≡ mostCores
+    in-order q =
+        length-append bytes (replicate (mostCores - length bytes) 0)
+        ∙ (ap (λ (n : ℕ). length bytes + n) (length-replicate {A = ℕ} (mostCores - length bytes) 0)
+        ∙ omega (arith, row-length (r .fence) (r .cores) (grantsIn r e), few-cores r q))
 
-    by-late : runOut r ≡ false → (t : Bool) → length (byAnswer (cond t (Refused 15 (suc (firstLateIn r))) Taken) (bytesIn r) noBytes) ≡ mostCores
-    by-late e true = zeros
-    by-late e false = in-order e
+    -- refused with 15 or 20, or shown
+    by-rest :
+        runOut r ≡ false → (t u : Bool)
+        → length (byAnswer (cond t (Refused 15 (suc (firstLateIn r))) (cond u (Refused 20 0) Taken)) (bytesIn r e) noBytes) ≡ mostCores
+    by-rest q true u = refl
+    by-rest q false true = refl
+    by-rest q false false = in-order q
 
-    by-out : (t : Bool) → runOut r ≡ t → length (byAnswer (cond t (Refused 14 0) (cond (ltb (firstLateIn r) (r .count)) (Refused 15 (suc (firstLateIn r))) Taken)) (bytesIn r) noBytes) ≡ mostCores
-    by-out true e = zeros
-    by-out false e = by-late e (ltb (firstLateIn r) (r .count))
+    rest : Answer
+    rest = cond (ltb (firstLateIn r) (r .count)) (Refused 15 (suc (firstLateIn r))) (cond (misemptiedIn r e) (Refused 20 0) Taken)
+
+    by-out : (t : Bool) → runOut r ≡ t → length (byAnswer (cond t (Refused 14 0) rest) (bytesIn r e) noBytes) ≡ mostCores
+    by-out true q = refl
+    by-out false q = by-rest q (ltb (firstLateIn r) (r .count)) (misemptiedIn r e)

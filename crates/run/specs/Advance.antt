@@ -1,4 +1,4 @@
--- An advance (scope, 'The run in the cab'): the run and a set of report bits, bit 0 for position 1, give the run one tick on.
+-- An advance (scope, 'The run in the cab', and request 105): the run, a set of reports and a set of empty jobs, bit 0 for position 1, give the run one tick on.
 use mathlib.Core.Path.{_≡_}
 use mathlib.Core.Logic.{_↔_}
 use mathlib.Core.Bool.{cond}
@@ -14,28 +14,29 @@ use Rattle.run.specs.declared.Answer.the-variants.{Taken, Refused}
 use Rattle.run.specs.declared.Advanced.{Advanced}
 use Rattle.run.specs.Run.{moved}
 use Rattle.run.specs.Answer.{told, byAnswer}
-use Rattle.run.specs.Numbers.{RunOut, AdvanceApplies, runOut, firstLateIn, misreportedIn}
+use Rattle.run.specs.Numbers.{RunOut, AdvanceApplies, runOut, firstLateIn, misemptiedIn, misreportedIn}
 
--- 14, then 15 with the lowest late position, then 16; else taken
-unfoldable pub advanceAnswer : Run → ℕ → Answer
-advanceAnswer r x =
+-- 14, then 15 with the lowest late position, then 20, then 16; else taken
+unfoldable pub advanceAnswer : Run → ℕ → ℕ → Answer
+advanceAnswer r x e =
     cond (runOut r) (Refused 14 0)
     (cond (ltb (firstLateIn r) (r .count)) (Refused 15 (suc (firstLateIn r)))
-    (cond (misreportedIn r x) (Refused 16 0) Taken))
+    (cond (misemptiedIn r e) (Refused 20 0)
+    (cond (misreportedIn r e x) (Refused 16 0) Taken)))
 
 -- the run one tick on; where refused, the run as given
-unfoldable pub advanceOf : Run → ℕ → Advanced
-advanceOf r x = record { answer = advanceAnswer r x; run = byAnswer (advanceAnswer r x) (moved (bit x) r) r }
+unfoldable pub advanceOf : Run → ℕ → ℕ → Advanced
+advanceOf r x e = record { answer = advanceAnswer r x e; run = byAnswer (advanceAnswer r x e) (moved (bit x) e r) r }
 
--- what an advance of run r with report set x promises
-pub record AdvanceOf (r : Run) (x : ℕ) (a : Advanced) : Type 0 where
+-- what an advance of run r with reports x and empties e promises
+pub record AdvanceOf (r : Run) (x e : ℕ) (a : Advanced) : Type 0 where
   -- its value
-  pub value : a ≡ advanceOf r x
+  pub value : a ≡ advanceOf r x e
   -- refused with n and p exactly if number n applies with position p and no earlier one does; taken exactly if none applies
-  pub refused : (n p : ℕ) → (told (a .answer) ≡ model.refused n p) ↔ FirstOf (AdvanceApplies r x) n p
-  pub taken : (told (a .answer) ≡ model.taken) ↔ NoneOf (AdvanceApplies r x)
+  pub refused : (n p : ℕ) → (told (a .answer) ≡ model.refused n p) ↔ FirstOf (AdvanceApplies r x e) n p
+  pub taken : (told (a .answer) ≡ model.taken) ↔ NoneOf (AdvanceApplies r x e)
   -- taken: the run one tick on
-  pub on : told (a .answer) ≡ model.taken → a .run ≡ moved (bit x) r
+  pub on : told (a .answer) ≡ model.taken → a .run ≡ moved (bit x) e r
   -- refused: the run as given
   pub as-given : (n p : ℕ) → told (a .answer) ≡ model.refused n p → a .run ≡ r
   -- what a taken advance hands back passes 14 again

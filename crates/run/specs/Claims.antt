@@ -7,11 +7,13 @@ use lib.Dec.{ltb}
 use Rattle.model.specs.Search.{bit}
 use Rattle.run.specs.declared.Run.{Run}
 use Rattle.run.specs.declared.choosing.Claims.{Claims}
-use Rattle.phase.specs.Phase.{claiming, working}
-use Rattle.run.specs.Run.{phaseAt, widthsIn}
+use Rattle.phase.specs.Phase.{claiming, working, released}
+use Rattle.run.specs.Run.{phaseAt, seenAt, widthsIn}
 
--- the places below the count whose task claims, those whose task is Working, and the widths of the tasks below the count
-pub record ClaimsOf (r : Run) (c : Claims) : Type 0 where
-  pub claimed : (p : ℕ) → bit (c .claiming) p ≡ ltb p (r .count) && claiming (phaseAt r p)
-  pub worked : (p : ℕ) → bit (c .working) p ≡ ltb p (r .count) && working (phaseAt r p)
+-- the places below the count whose task claims as it is seen with the empty jobs e, those whose task is then Working, those whose job is
+-- released in this very tick, and the widths of the tasks below the count
+pub record ClaimsOf (r : Run) (e : ℕ) (c : Claims) : Type 0 where
+  pub claimed : (p : ℕ) → bit (c .claiming) p ≡ ltb p (r .count) && claiming (seenAt r e p)
+  pub worked : (p : ℕ) → bit (c .working) p ≡ ltb p (r .count) && working (seenAt r e p)
+  pub begun : (p : ℕ) → bit (c .released) p ≡ ltb p (r .count) && released (phaseAt r p)
   pub width : take (r .count) (c .widths) ≡ widthsIn r

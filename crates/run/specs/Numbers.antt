@@ -1,4 +1,5 @@
--- Numbers 14 to 16 for what row and advance turn down (scope, 'Numbers for what is turned down'): when each applies, and which is the first.
+-- Numbers 14, 15, 20 and 16 for what row and advance turn down (scope, 'Numbers for what is turned down', and request 105): when each applies, and
+-- which is the first.
 use mathlib.Core.Path.{_≡_}
 use mathlib.Core.Bool.{Bool, true, not, _&&_, _||_}
 use mathlib.Core.List.{[]}
@@ -12,9 +13,9 @@ use Rattle.model.specs.Sizes.{mostTasks}
 use Rattle.table.specs.Limits.{From, from, CoresOut, coresOut, RuleOut, ruleOut, FenceOut, fenceOut, WidthOut, TimesOut}
 use Rattle.phase.specs.declared.Phase.the-variants.{Working}
 use Rattle.run.specs.declared.Run.{Run}
-use Rattle.phase.specs.Phase.{PhaseIn, working, lateIn}
+use Rattle.phase.specs.Phase.{PhaseIn, working, lateIn, released}
 use Rattle.phase.specs.Task.{outIn}
-use Rattle.run.specs.Run.{ruleIn, placeAt, taskAt, phaseAt, grantsIn, hasCores}
+use Rattle.run.specs.Run.{ruleIn, placeAt, taskAt, phaseAt, seenAt, grantsIn, hasCores}
 
 -- WHAT EACH NUMBER SAYS
 
@@ -36,27 +37,33 @@ RunOut r =
 abbrev pub Late : Run → ℕ → Type 0
 Late r p = (u : ℕ) × (phaseAt r p ≡ Working (taskAt r p .deadline) u)
 
--- the task at place p is Working
-abbrev pub Works : Run → ℕ → Type 0
-Works r p = (z u : ℕ) × (phaseAt r p ≡ Working z u)
+-- the bit of place p is set in the empties, which is past the count, or whose task is not Working at (0,0)
+abbrev pub Misempties : Run → ℕ → ℕ → Type 0
+Misempties r e p = (bit e p ≡ true) × ((r .count ≤ p) ⊎ (¬ (phaseAt r p ≡ Working 0 0)))
 
--- the bit of place p is set, which is past the count, or its task isn't Working or gets no cores in this tick
-abbrev pub Misreports : Run → ℕ → ℕ → Type 0
-Misreports r x p = (bit x p ≡ true) × ((r .count ≤ p) ⊎ ((¬ Works r p) ⊎ (getD (grantsIn r) p [] ≡ [])))
+-- the task at place p is Working as cores are chosen: one whose job is empty no longer is
+abbrev pub Works : Run → ℕ → ℕ → Type 0
+Works r e p = (z u : ℕ) × (seenAt r e p ≡ Working z u)
 
--- number n applies to a row asked of the run, with position p
-pub data RowApplies (r : Run) : ℕ → ℕ → Type 0 where
+-- the bit of place p is set in the reports, which is past the count, or its task isn't Working or gets no cores in this tick
+abbrev pub Misreports : Run → ℕ → ℕ → ℕ → Type 0
+Misreports r e x p = (bit x p ≡ true) × ((r .count ≤ p) ⊎ ((¬ Works r e p) ⊎ (getD (grantsIn r e) p [] ≡ [])))
+
+-- number n applies to a row asked of the run with empties e, with position p
+pub data RowApplies (r : Run) (e : ℕ) : ℕ → ℕ → Type 0 where
   -- 14. Row or advance: the run's count is not 1 to 32, its core count or rule is out of range, its fence breaks 19, a task breaks 7 or 8, or a phase is outside the limits.
-  fourteen : RunOut r → RowApplies r 14 0
+  fourteen : RunOut r → RowApplies r e 14 0
   -- 15. Row or advance: some task is Working at z = D.
-  fifteen : (p : ℕ) → p < r .count → Late r p → RowApplies r 15 (suc p)
+  fifteen : (p : ℕ) → p < r .count → Late r p → RowApplies r e 15 (suc p)
+  -- 20. Row or advance: an empty bit past the count or for a task not Working at (0,0).
+  twenty : (p : ℕ) → Misempties r e p → RowApplies r e 20 0
 
--- number n applies to an advance of the run with report set x, with position p
-pub data AdvanceApplies (r : Run) (x : ℕ) : ℕ → ℕ → Type 0 where
-  -- 14 and 15
-  as-row : (n p : ℕ) → RowApplies r n p → AdvanceApplies r x n p
+-- number n applies to an advance of the run with reports x and empties e, with position p
+pub data AdvanceApplies (r : Run) (x e : ℕ) : ℕ → ℕ → Type 0 where
+  -- 14, 15 and 20
+  as-row : (n p : ℕ) → RowApplies r e n p → AdvanceApplies r x e n p
   -- 16. Advance: a bit is set for a position past the count, or for a task that isn't Working or gets no cores in this tick.
-  sixteen : (p : ℕ) → Misreports r x p → AdvanceApplies r x 16 0
+  sixteen : (p : ℕ) → Misreports r e x p → AdvanceApplies r x e 16 0
 
 -- THE TESTS THAT DECIDE THEM
 
@@ -78,10 +85,18 @@ lateAt r p = lateIn (taskAt r p .deadline) (phaseAt r p)
 unfoldable pub firstLateIn : Run → ℕ
 firstLateIn r = least (r .count) (lateAt r)
 
--- the task at place p may be reported: it is Working and gets cores in this tick
-abbrev pub reportableAt : Run → ℕ → Bool
-reportableAt r p = ltb p (r .count) && (working (phaseAt r p) && hasCores r p)
+-- the job of place p may be empty: its task is Working at (0,0)
+abbrev pub emptiableAt : Run → ℕ → Bool
+emptiableAt r p = ltb p (r .count) && released (phaseAt r p)
 
--- 16: some bit is set that may not be (a set x has no bit from x up: `misreported-decides`)
-unfoldable pub misreportedIn : Run → ℕ → Bool
-misreportedIn r x = any x (λ p. bit x p && not (reportableAt r p))
+-- 20: some bit is set that may not be (a set has no bit from its number up: `misemptied-decides`)
+unfoldable pub misemptiedIn : Run → ℕ → Bool
+misemptiedIn r e = any e (λ p. bit e p && not (emptiableAt r p))
+
+-- the task at place p may be reported: it is Working and gets cores in this tick
+abbrev pub reportableAt : Run → ℕ → ℕ → Bool
+reportableAt r e p = ltb p (r .count) && (working (seenAt r e p) && hasCores r e p)
+
+-- 16: some bit is set that may not be (`misreported-decides`)
+unfoldable pub misreportedIn : Run → ℕ → ℕ → Bool
+misreportedIn r e x = any x (λ p. bit x p && not (reportableAt r e p))

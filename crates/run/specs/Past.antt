@@ -14,8 +14,8 @@ pub record SameBelow (r s : Run) : Type 0 where
   pub count : r .count ≡ s .count
   pub tasks : take (r .count) (r .tasks) ≡ take (s .count) (s .tasks)
 
--- they get equal rows and answers, and advance to runs that are equal up to the count
-pub record Unread (r s : Run) (x : ℕ) : Type 0 where
-  pub row : rowOf r ≡ rowOf s
-  pub answer : advanceOf r x .answer ≡ advanceOf s x .answer
-  pub run : SameBelow (advanceOf r x .run) (advanceOf s x .run)
+-- they get equal rows and answers, and advance to runs that are equal up to the count, whatever is reported or empty
+pub record Unread (r s : Run) (x e : ℕ) : Type 0 where
+  pub row : rowOf r e ≡ rowOf s e
+  pub answer : advanceOf r x e .answer ≡ advanceOf s x e .answer
+  pub run : SameBelow (advanceOf r x e .run) (advanceOf s x e .run)

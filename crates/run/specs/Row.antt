@@ -1,4 +1,5 @@
--- The row of a run (scope, 'The run in the cab'): it shows the present tick, held cores with the holder's position, fenced ones with 255.
+-- The row of a run (scope, 'The run in the cab', and request 105): it shows the present tick with a set of empty jobs, held cores with the holder's
+-- position, fenced ones with 255.
 use mathlib.Core.Path.{_≡_}
 use mathlib.Core.Logic.{_↔_}
 use mathlib.Core.Bool.{cond}
@@ -16,32 +17,35 @@ use Rattle.run.specs.declared.Answer.the-variants.{Taken, Refused}
 use Rattle.run.specs.declared.Row.{Row}
 use Rattle.run.specs.Run.{grantsIn}
 use Rattle.run.specs.Answer.{told, byAnswer, in64}
-use Rattle.run.specs.Numbers.{RowApplies, runOut, firstLateIn}
+use Rattle.run.specs.Numbers.{RowApplies, runOut, firstLateIn, misemptiedIn}
 
--- 14, then 15 with the lowest late position; else taken
-unfoldable pub rowAnswer : Run → Answer
-rowAnswer r = cond (runOut r) (Refused 14 0) (cond (ltb (firstLateIn r) (r .count)) (Refused 15 (suc (firstLateIn r))) Taken)
+-- 14, then 15 with the lowest late position, then 20; else taken
+unfoldable pub rowAnswer : Run → ℕ → Answer
+rowAnswer r e =
+    cond (runOut r) (Refused 14 0)
+    (cond (ltb (firstLateIn r) (r .count)) (Refused 15 (suc (firstLateIn r)))
+    (cond (misemptiedIn r e) (Refused 20 0) Taken))
 
 -- the row of the present tick in 64 bytes
-unfoldable pub bytesIn : Run → List ℕ
-bytesIn r = in64 (row (r .fence) (r .cores) (grantsIn r))
+unfoldable pub bytesIn : Run → ℕ → List ℕ
+bytesIn r e = in64 (row (r .fence) (r .cores) (grantsIn r e))
 
 -- 64 zeros
 abbrev pub noBytes : List ℕ
 noBytes = replicate mostCores 0
 
 -- the row; where refused, all zeros
-unfoldable pub rowOf : Run → Row
-rowOf r = record { answer = rowAnswer r; bytes = byAnswer (rowAnswer r) (bytesIn r) noBytes }
+unfoldable pub rowOf : Run → ℕ → Row
+rowOf r e = record { answer = rowAnswer r e; bytes = byAnswer (rowAnswer r e) (bytesIn r e) noBytes }
 
--- what a row asked of run r promises
-pub record RowOf (r : Run) (w : Row) : Type 0 where
+-- what a row asked of run r with empties e promises
+pub record RowOf (r : Run) (e : ℕ) (w : Row) : Type 0 where
   -- its value
-  pub value : w ≡ rowOf r
+  pub value : w ≡ rowOf r e
   -- refused with n and p exactly if number n applies with position p and no earlier one does; taken exactly if none applies
-  pub refused : (n p : ℕ) → (told (w .answer) ≡ model.refused n p) ↔ FirstOf (RowApplies r) n p
-  pub taken : (told (w .answer) ≡ model.taken) ↔ NoneOf (RowApplies r)
+  pub refused : (n p : ℕ) → (told (w .answer) ≡ model.refused n p) ↔ FirstOf (RowApplies r e) n p
+  pub taken : (told (w .answer) ≡ model.taken) ↔ NoneOf (RowApplies r e)
   -- taken: the row
-  pub bytes : told (w .answer) ≡ model.taken → w .bytes ≡ bytesIn r
+  pub bytes : told (w .answer) ≡ model.taken → w .bytes ≡ bytesIn r e
   -- refused: all zeros
   pub zeros : (n p : ℕ) → told (w .answer) ≡ model.refused n p → w .bytes ≡ noBytes

@@ -7,7 +7,7 @@ ghost use Rattle.run.specs.Advance.{AdvanceOf};
 ghost use Rattle.run.specs.Start.{StartOf};
 
 mod bounds; // bounds.rt: numbers 14 and 15
-mod choosing; // choosing.rt: who claims in the present tick, and the bytes of its row
+mod choosing; // choosing.rt: who claims in the present tick
 mod moves; // moves.rt: one tick
 mod sets; // sets.rt: sets of places
 mod starts; // starts.rt: the run of a table as it starts
@@ -63,17 +63,21 @@ pub fn start(words: &[u32]) -> Started
     }
 }
 
-// The answer to an advance of a run that passes 14: 15 with the late position, then 16, else taken.
-fn in_order(late: bool, position: u32, within: bool) -> Answer
-    ensures { λ r. ⌜ r ≡ cond late (Refused 15 position) (cond within Taken (Refused 16 0)) ⌝ }
+// The answer to an advance of a run that passes 14: 15 with the late position, then 20 unless the empties are `begun`, jobs released in this very
+// tick, then 16 unless the reports are `within` what may be reported, else taken.
+fn in_order(late: bool, position: u32, begun: bool, within: bool) -> Answer
+    ensures { λ r. ⌜ r ≡ cond late (Refused 15 position) (cond begun (cond within Taken (Refused 16 0)) (Refused 20 0)) ⌝ }
 {
     if late {
         return Answer::Refused(15, position);
     }
-    if within {
-        return Answer::Taken;
+    if begun {
+        if within {
+            return Answer::Taken;
+        }
+        return Answer::Refused(16, 0);
     }
-    Answer::Refused(16, 0)
+    Answer::Refused(20, 0)
 }
 
 // A row that is turned down: all zeros.
@@ -88,9 +92,10 @@ fn row_refused(number: u32, position: u32) -> Row
 }
 
 impl Run {
-    // The row of the present tick, held cores with the holder's position; or 14, or 15 with the lowest late position.
-    pub fn row(self) -> Row
-        ensures { λ r. ⌜ RowOf self r ⌝ }
+    // The row of the present tick, held cores with the holder's position, where bit p of `empties` says that the job of position p + 1, released in
+    // this very tick, is empty; or 14, 15 with the lowest late position, or 20.
+    pub fn row(self, empties: u32) -> Row
+        ensures { λ r. ⌜ RowOf self empties r ⌝ }
     {
         if self.out() {
             return row_refused(14, 0);
@@ -99,11 +104,24 @@ impl Run {
         if late < self.count {
             return row_refused(15, late as u32 + 1);
         }
-        let bytes = self.bytes();
-        Row {
-            answer: Answer::Taken,
-            bytes: bytes,
+        let claims = self.claims(empties);
+        let begun = empties & claims.released;
+        if begun == empties {
+            let widths = claims.widths;
+            let bytes = rule::show(
+                self.rule,
+                self.cores,
+                self.fence,
+                claims.claiming,
+                &widths,
+                self.count,
+            );
+            return Row {
+                answer: Answer::Taken,
+                bytes: bytes,
+            };
         }
+        row_refused(20, 0)
     }
 
     // An advance that is turned down: the run as given.
@@ -116,23 +134,30 @@ impl Run {
         }
     }
 
-    // The run one tick on, where bit p of `reports` says that the job of position p + 1 ends after this tick; or 14, 15, 16 and the run as given.
-    pub fn advance(self, reports: u32) -> Advanced
-        ensures { λ r. ⌜ AdvanceOf self reports r ⌝ }
+    // The run one tick on, where bit p of `reports` says that the job of position p + 1 ends after this tick, and bit p of `empties` that it is
+    // released in this very tick and empty; or 14, 15, 20, 16 and the run as given.
+    pub fn advance(self, reports: u32, empties: u32) -> Advanced
+        ensures { λ r. ⌜ AdvanceOf self reports empties r ⌝ }
     {
         if self.out() {
             return self.refused(14, 0);
         }
         let late = self.first_late();
-        let claims = self.claims();
+        let claims = self.claims(empties);
         let widths = claims.widths;
         let free = cores::open_cores(self.cores, self.fence);
         let granted = rule::choose(self.rule, free, claims.claiming, &widths);
+        let begun = empties & claims.released;
         let ending = reports & (granted & claims.working);
-        let answer = in_order(late < self.count, late as u32 + 1, ending == reports);
+        let answer = in_order(
+            late < self.count,
+            late as u32 + 1,
+            begun == empties,
+            ending == reports,
+        );
         match answer {
             Answer::Taken => {
-                let next = self.moved(granted, reports);
+                let next = self.moved(granted, reports, empties);
                 Advanced {
                     answer: Answer::Taken,
                     run: next,

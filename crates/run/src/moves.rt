@@ -10,9 +10,9 @@ use crate::sets;
 
 impl Run {
     // The run one tick on; `granted` is the set of places that have cores in this tick.
-    pub(crate) fn moved(self, granted: u32, reports: u32) -> Run
-        requires { ⌜ runOut self ≡ false ⌝ ∗ ⌜ ((p : ℕ) → bit granted p ≡ hasCores self p) ⌝ }
-        ensures { λ r. ⌜ r ≡ moved (bit reports) self ⌝ }
+    pub(crate) fn moved(self, granted: u32, reports: u32, empties: u32) -> Run
+        requires { ⌜ runOut self ≡ false ⌝ ∗ ⌜ ((p : ℕ) → bit granted p ≡ hasCores self empties p) ⌝ }
+        ensures { λ r. ⌜ r ≡ moved (bit reports) empties self ⌝ }
     {
         let mut run = self;
         let rule = self.rule;
@@ -21,7 +21,13 @@ impl Run {
         while i < count {
             let task = run.tasks[i];
             let place = i as u32;
-            let next = task.next(rule, sets::has(granted, place), sets::has(reports, place));
+            let empty = sets::has(empties, place);
+            let next = task.next(
+                rule,
+                empty,
+                sets::has(granted, place),
+                sets::has(reports, place),
+            );
             run.tasks[i] = next;
             i += 1;
         }

@@ -1,7 +1,8 @@
--- `run::Run::claims` meets its contract. The loop's invariant: the sets are those of the places passed, and the widths of these places are stored.
+-- `run::Run::claims` meets its contract. The loop's invariant: the sets are those of the places passed, as they are seen with their empty jobs, and
+-- the widths of these places are stored.
 -- Assumes nothing.
-use mathlib.Core.Path.{_≡_, refl}
-use mathlib.Core.Bool.{_&&_}
+use mathlib.Core.Path.{_≡_, refl, ap, _∙_}
+use mathlib.Core.Bool.{Bool, _&&_}
 use Prim.Native.Nat.{ℕ, _≤_, _<_, _-_}
 use native.Mathlib.Omega.{arith}
 use lib.ListN.{length, getD, length-set, length-map}
@@ -9,35 +10,59 @@ use lib.Dec.{ltb}
 use borrow.Author.Needs.{needs}
 use Rattle.model.specs.Search.{bit}
 use Rattle.model.specs.Sizes.{mostTasks}
-use Rattle.phase.specs.Phase.{claiming, working}
+use Rattle.phase.specs.Phase.{claiming, working, released, seen}
 use Rattle.phase.specs.Task.{pastEnd}
-use Rattle.run.specs.Run.{phaseAt}
+use Rattle.run.specs.Run.{ruleIn, phaseAt, seenAt}
 use Rattle.run.proofs.PlaceSets.{gathered-none, gathered-more, stored-more, widths-stored}
 use Rattle.run.proofs.Run.claims.Statement.{statement}
 use Rattle.run.proofs.Run.claims.Tie as tie
 
 abbrev Inv-loop : tie.InvT-loop
-Inv-loop run count claiming₀ working₀ widths₀ i₀ c w ws i =
+Inv-loop e run rule count claiming₀ working₀ released₀ widths₀ i₀ c w b ws i =
     (i ≤ count) × ((length ws ≡ mostTasks)
-    × (((p : ℕ) → bit c p ≡ ltb p i && claiming (phaseAt run p))
-    × (((p : ℕ) → bit w p ≡ ltb p i && working (phaseAt run p))
-    × ((p : ℕ) → p < i → getD ws p 0 ≡ getD (run .tasks) p pastEnd .width))))
+    × (((p : ℕ) → bit c p ≡ ltb p i && claiming (seenAt run e p))
+    × (((p : ℕ) → bit w p ≡ ltb p i && working (seenAt run e p))
+    × (((p : ℕ) → bit b p ≡ ltb p i && released (phaseAt run p))
+    × ((p : ℕ) → p < i → getD ws p 0 ≡ getD (run .tasks) p pastEnd .width)))))
 
 abbrev μ-loop : tie.MeasureT-loop
-μ-loop run count claiming₀ working₀ widths₀ i₀ c w ws i = count - i
+μ-loop e run rule count claiming₀ working₀ released₀ widths₀ i₀ c w b ws i = count - i
 
--- the state after `claims`
-abbrev claims : tie.After-with2 Inv-loop μ-loop → tie.After-claims Inv-loop μ-loop
-claims c = c .before .before .before
+-- the states after each set has its place
+abbrev second : tie.After-with3 Inv-loop μ-loop → tie.After-with2 Inv-loop μ-loop
+second c = c .before .before
+
+abbrev first : tie.After-with3 Inv-loop μ-loop → tie.After-with Inv-loop μ-loop
+first c = second c .before .before
+
+-- the state after the phase is seen
+abbrev looked : tie.After-with3 Inv-loop μ-loop → tie.After-seen Inv-loop μ-loop
+looked c = first c .before .before
+
+-- the state after the empty bit is read
+abbrev read : tie.After-with3 Inv-loop μ-loop → tie.After-has Inv-loop μ-loop
+read c = looked c .before
 
 -- the state at the head of the loop
-abbrev loop : tie.After-with2 Inv-loop μ-loop → tie.At-loop Inv-loop μ-loop
-loop c = claims c .before .before .before
+abbrev loop : tie.After-with3 Inv-loop μ-loop → tie.At-loop Inv-loop μ-loop
+loop c = read c .before .before .before
 
 loop-holds : tie.Need-loop-holds Inv-loop μ-loop
 loop-holds c =
     let r = c .args .self in
-    (search needs, (refl, (gathered-none (λ p. claiming (phaseAt r p)), (gathered-none (λ p. working (phaseAt r p)), λ p h. absurd (omega arith)))))
+    let e = c .args .empties in (
+      search needs,
+      (
+        refl,
+        (
+          gathered-none (λ p. claiming (seenAt r e p)),
+          (
+            gathered-none (λ p. working (seenAt r e p)),
+            (gathered-none (λ p. released (phaseAt r p)), λ p h. absurd (omega arith)),
+          ),
+        ),
+      ),
+    )
 
 mul-task : tie.Need-mul-task Inv-loop μ-loop
 mul-task c = omega arith
@@ -47,6 +72,12 @@ element-copy-out-task c = omega arith
 
 cast-place : tie.Need-cast-place Inv-loop μ-loop
 cast-place c = omega arith
+
+has-requires : tie.Need-has-requires Inv-loop μ-loop
+has-requires c κs = omega arith
+
+seen-requires : tie.Need-seen-requires Inv-loop μ-loop
+seen-requires c κs = search needs
 
 claims-requires : tie.Need-claims-requires Inv-loop μ-loop
 claims-requires c κs = search needs
@@ -59,6 +90,12 @@ works-requires c κs = search needs
 
 with-requires-2 : tie.Need-with-requires-2 Inv-loop μ-loop
 with-requires-2 c κs = omega arith
+
+released-requires : tie.Need-released-requires Inv-loop μ-loop
+released-requires c κs = search needs
+
+with-requires-3 : tie.Need-with-requires-3 Inv-loop μ-loop
+with-requires-3 c κs = omega arith
 
 mul-widths : tie.Need-mul-widths Inv-loop μ-loop
 mul-widths c = omega arith
@@ -76,18 +113,25 @@ loop-again : tie.Need-loop-again Inv-loop μ-loop
 loop-again c =
     let s = loop c in
     let r = s .before .args .self in
+    let e = s .before .args .empties in
     let i = s .loop .i in
-    let v = s .loop .inv in (
+    let v = s .loop .inv in
+    let phase : looked c .seen .result ≡ seenAt r e i =
+    looked c .seen .ensures ∙ ap (λ (empty : Bool). seen (ruleIn r) empty (phaseAt r i)) (read c .has .ensures) in (
       omega arith,
       (
         simp length-set (v .1 .0),
         (
-          gathered-more (λ p. claiming (phaseAt r p)) i (s .loop .claiming) (c .before .before .with .result) (claims c .claims .result)
-              (v .1 .1 .0) (claims c .claims .ensures) (c .before .before .with .ensures),
+          gathered-more (λ p. claiming (seenAt r e p)) i (s .loop .claiming) (first c .with .result) (first c .before .claims .result)
+              (v .1 .1 .0) (first c .before .claims .ensures ∙ ap claiming phase) (first c .with .ensures),
           (
-            gathered-more (λ p. working (phaseAt r p)) i (s .loop .working) (c .with2 .result) (c .before .works .result)
-                (v .1 .1 .1 .0) (c .before .works .ensures) (c .with2 .ensures),
-            stored-more (s .loop .widths) (λ p. getD (r .tasks) p pastEnd .width) i (omega arith) (v .1 .1 .1 .1),
+            gathered-more (λ p. working (seenAt r e p)) i (s .loop .working) (second c .with2 .result) (second c .before .works .result)
+                (v .1 .1 .1 .0) (second c .before .works .ensures ∙ ap working phase) (second c .with2 .ensures),
+            (
+              gathered-more (λ p. released (phaseAt r p)) i (s .loop .released) (c .with3 .result) (c .before .released .result)
+                  (v .1 .1 .1 .1 .0) (c .before .released .ensures) (c .with3 .ensures),
+              stored-more (s .loop .widths) (λ p. getD (r .tasks) p pastEnd .width) i (omega arith) (v .1 .1 .1 .1 .1),
+            ),
           ),
         ),
       ),
@@ -97,12 +141,14 @@ returns : tie.Need-returns Inv-loop μ-loop
 returns c =
     let s = c .before in
     let r = s .before .args .self in
+    let v = s .loop .inv in
     let e : s .loop .i ≡ r .count = omega arith in
     let len : length (r .tasks) ≡ mostTasks = simp length-map at (s .before .good .0 .1 .1 .1 .1 .1 .1 .0 .1 .0 .1) in
     record {
-      claimed = rw e at (s .loop .inv .1 .1 .0);
-      worked = rw e at (s .loop .inv .1 .1 .1 .0);
-      width = widths-stored r (s .loop .widths) (s .before .pre) (s .loop .inv .1 .0) len (rw e at (s .loop .inv .1 .1 .1 .1));
+      claimed = rw e at (v .1 .1 .0);
+      worked = rw e at (v .1 .1 .1 .0);
+      begun = rw e at (v .1 .1 .1 .1 .0);
+      width = widths-stored r (s .loop .widths) (s .before .pre) (v .1 .0) len (rw e at (v .1 .1 .1 .1 .1));
     }
 
 pub claims-spec : {M : Type 1} → statement M
@@ -115,10 +161,14 @@ claims-spec =
     mul-task
     element-copy-out-task
     cast-place
+    has-requires
+    seen-requires
     claims-requires
     with-requires
     works-requires
     with-requires-2
+    released-requires
+    with-requires-3
     mul-widths
     array-write-widths
     add-i

@@ -11,36 +11,36 @@ use borrow.Author.Needs.{needs}
 use Rattle.model.specs.Search.{bit}
 use Rattle.model.specs.Sizes.{mostTasks}
 use Rattle.run.specs.declared.Run.{Run}
-use Rattle.phase.specs.declared.Task.{Task}
-use Rattle.phase.specs.Task.{nextTask, pastEnd}
-use Rattle.run.specs.Run.{ruleIn, hasCores, mapFirst, moved}
+use Rattle.phase.specs.Task.{pastEnd}
+use Rattle.run.specs.Run.{mapFirst, nextAt, moved}
 use Rattle.run.proofs.Places.{mapFirst-past, mapFirst-step}
 use Rattle.run.proofs.RunOut.{few, roomy}
 use Rattle.run.proofs.Run.moved.Statement.{statement}
 use Rattle.run.proofs.Run.moved.Tie as tie
 
-abbrev movesAt : (ℕ → Bool) → Run → ℕ → Task → Task
-movesAt reported r p t = nextTask (ruleIn r) (hasCores r p) (reported p) t
-
 -- the run with its first n tasks one tick on
-abbrev movedTo : (ℕ → Bool) → Run → ℕ → Run
-movedTo reported r n = record {
+abbrev movedTo : (ℕ → Bool) → ℕ → Run → ℕ → Run
+movedTo reported e r n = record {
   rule = r .rule;
   cores = r .cores;
   fence = r .fence;
   count = r .count;
-  tasks = mapFirst (movesAt reported r) n (r .tasks);
+  tasks = mapFirst (nextAt r reported e) n (r .tasks);
 }
 
 abbrev Inv-loop : tie.InvT-loop
-Inv-loop granted reports run₀ rule count i₀ run i = (i ≤ count) × ((count ≤ mostTasks) × (run ≡ movedTo (bit reports) run₀ i))
+Inv-loop granted reports empties run₀ rule count i₀ run i = (i ≤ count) × ((count ≤ mostTasks) × (run ≡ movedTo (bit reports) empties run₀ i))
 
 abbrev μ-loop : tie.MeasureT-loop
-μ-loop granted reports run₀ rule count i₀ run i = count - i
+μ-loop granted reports empties run₀ rule count i₀ run i = count - i
+
+-- the state after the empty bit is read
+abbrev read : tie.After-has3 Inv-loop μ-loop → tie.After-has Inv-loop μ-loop
+read c = c .before .before
 
 -- the state at the head of the loop
-abbrev loop : tie.After-has2 Inv-loop μ-loop → tie.At-loop Inv-loop μ-loop
-loop c = c .before .before .before .before
+abbrev loop : tie.After-has Inv-loop μ-loop → tie.At-loop Inv-loop μ-loop
+loop c = c .before .before .before
 
 loop-holds : tie.Need-loop-holds Inv-loop μ-loop
 unfolding mapFirst
@@ -61,12 +61,16 @@ has-requires c κs = omega arith
 has-requires-2 : tie.Need-has-requires-2 Inv-loop μ-loop
 has-requires-2 c κs = omega arith
 
+has-requires-3 : tie.Need-has-requires-3 Inv-loop μ-loop
+has-requires-3 c κs = omega arith
+
 next-requires : tie.Need-next-requires Inv-loop μ-loop
 next-requires c κs =
-    let s = loop c in
-    let r = s .before .args .self in
-    simp (s .loop .inv .1 .1, mapFirst-past (movesAt (bit (s .before .args .reports)) r) (s .loop .i) (r .tasks) (s .loop .i) pastEnd (le-refl (s .loop .i)))
-    (roomy r (s .before .pre .0) (s .loop .i) (omega arith))
+    let s = loop (read c) in
+    let a = s .before .args in
+    let i = s .loop .i in
+    simp (s .loop .inv .1 .1, mapFirst-past (nextAt (a .self) (bit (a .reports)) (a .empties)) i (a .self .tasks) i pastEnd (le-refl i))
+    (roomy (a .self) (s .before .pre .0) i (omega arith))
 
 mul-next : tie.Need-mul-next Inv-loop μ-loop
 mul-next c = omega arith
@@ -82,23 +86,25 @@ loop-less c = omega arith
 
 loop-again : tie.Need-loop-again Inv-loop μ-loop
 loop-again c =
-    let s = loop (c .before) in
-    let r = s .before .args .self in
+    let h = read (c .before) in
+    let s = loop h in
+    let a = s .before .args in
+    let r = a .self in
     let i = s .loop .i in
-    let f = movesAt (bit (s .before .args .reports)) r in
+    let f = nextAt r (bit (a .reports)) (a .empties) in
     let len : length (r .tasks) ≡ mostTasks = simp length-map at (s .before .good .0 .1 .1 .1 .1 .1 .1 .0 .1 .0 .1) in
     let past = mapFirst-past f i (r .tasks) i pastEnd (le-refl i) in
     let e : c .next .result ≡ f i (getD (r .tasks) i pastEnd) =
-    simp (c .next .ensures, c .before .before .has .ensures, c .before .has2 .ensures, s .before .pre .1 i, s .loop .inv .1 .1, past) in
+    simp (c .next .ensures, h .has .ensures, c .before .before .has2 .ensures, c .before .has3 .ensures, s .before .pre .1 i, s .loop .inv .1 .1, past) in
     (omega arith, (omega arith, simp (s .loop .inv .1 .1, e, add-one, mapFirst-step f i (r .tasks) pastEnd (omega arith))))
 
 returns : tie.Need-returns Inv-loop μ-loop
 unfolding moved
 returns c =
     let s = c .before in
-    let r = s .before .args .self in
-    let e : s .loop .i ≡ r .count = omega arith in
-    s .loop .inv .1 .1 ∙ ap (movedTo (bit (s .before .args .reports)) r) e
+    let a = s .before .args in
+    let e : s .loop .i ≡ a .self .count = omega arith in
+    s .loop .inv .1 .1 ∙ ap (movedTo (bit (a .reports)) (a .empties) (a .self)) e
 
 pub moved-spec : {M : Type 1} → statement M
 moved-spec =
@@ -112,6 +118,7 @@ moved-spec =
     cast-place
     has-requires
     has-requires-2
+    has-requires-3
     next-requires
     mul-next
     element-set-from-next

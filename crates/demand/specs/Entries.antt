@@ -1,0 +1,21 @@
+-- A list of entries, each an advance with its two sets (scope, 'The book of a run', and request 105): its answers and the run after it.
+use mathlib.Core.List.{List, [], _∷_}
+use Rattle.model.specs.Book.{Entry}
+use Rattle.run.specs.declared.Run.{Run}
+use Rattle.run.specs.declared.Answer.{Answer}
+use Rattle.run.specs.declared.Advanced.{Advanced}
+use Rattle.run.specs.Advance.{advanceOf}
+
+-- an entry on a run: its answer, and the next run
+abbrev pub entryOf : Run → Entry → Advanced
+entryOf r x = advanceOf r (x .reports) (x .empties)
+
+-- the answer to each entry of the list, run r first
+unfoldable pub answers : Run → List Entry → List Answer
+answers r [] = []
+answers r (x ∷ xs) = entryOf r x .answer ∷ answers (entryOf r x .run) xs
+
+-- the run after the list
+unfoldable pub after : Run → List Entry → Run
+after r [] = r
+after r (x ∷ xs) = after (entryOf r x .run) xs

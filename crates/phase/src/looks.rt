@@ -1,0 +1,34 @@
+// A phase as it is seen when cores are chosen: whose job is released in this very tick, and an empty one.
+ghost use mathlib.Core.Path.{_≡_};
+ghost use Rattle.model.specs.Task.{ruleOf};
+ghost use Rattle.phase.specs.Phase.{released, seen};
+use crate::Phase;
+
+impl Phase {
+    // Whether a task in this phase is Working at (0,0): its job is released in this very tick.
+    pub fn released(self) -> bool
+        ensures { λ r. ⌜ r ≡ released self ⌝ }
+    {
+        match self {
+            Phase::Coming(_) => false,
+            Phase::Working(z, u) => (z == 0) & (u == 0),
+            Phase::Holding(_, _) => false,
+            Phase::Resting(_) => false,
+        }
+    }
+
+    // The phase as cores are chosen, by whether the job is empty that is released in this very tick.
+    pub fn seen(self, rule: u32, empty: bool) -> Phase
+        ensures { λ r. ⌜ r ≡ seen (ruleOf rule) empty self ⌝ }
+    {
+        if empty & self.released() {
+            if rule == 3 {
+                Phase::Holding(0, 0)
+            } else {
+                Phase::Resting(0)
+            }
+        } else {
+            self
+        }
+    }
+}
