@@ -20,25 +20,25 @@ use Rattle.model.specs.Verdict.{Firm, Full, Verdict, firstMiss, missedAt
 abbrev sets : ℕ → ℕ → Entry
 sets x e = advance x e
 
-abbrev none : Entry
+abbrev pub none : Entry
 none = sets 0 0
 
 -- a line from its parts
-abbrev line : String → Table → Verdict → List Entry → List Answer → List Asked → Line
+abbrev pub line : String → Table → Verdict → List Entry → List Answer → List Asked → Line
 line n s v xs ws rs = record { name = n; table = s; entries = xs; says = v; answers = ws; rows = rs }
 
 -- the row of one core, and a row refused by 20
-abbrev one : ℕ → Asked
+abbrev pub one : ℕ → Asked
 one a = shown (a ∷ [])
 
-abbrev row-20 : Asked
+abbrev pub row-20 : Asked
 row-20 = rowRefused 20 0
 
 -- two tasks on one core, one task with C, D and T of 1, and two tasks as wide as the box
-abbrev pair : Rule → Table
+abbrev pub pair : Rule → Table
 pair r = on 1 r (t 0 1 2 4 4 ∷ t 0 1 1 4 4 ∷ [])
 
-abbrev least-task : Rule → Table
+abbrev pub least-task : Rule → Table
 least-task r = on 1 r (t 0 1 1 1 1 ∷ [])
 
 abbrev wide : Table
