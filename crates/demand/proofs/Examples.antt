@@ -11,7 +11,8 @@ use Rattle.model.specs.Grants.{claimants, given, grants, left}
 use Rattle.model.specs.Horizon.{S, horizon, hyperperiod, lcm}
 use Rattle.model.specs.Search.{any, kept, least, memb, upFrom}
 use Rattle.model.specs.Task.{Table, Task, Rule, greedy, limited, idling}
-use Rattle.model.specs.Verdict.{Verdict, Firm, Full, Miss, firm, firstMiss, missedAt, missedIn, rising, verdict}
+use Rattle.model.specs.Firm.{firm, rising}
+use Rattle.model.specs.Verdict.{Verdict, Firm, Full, Miss, firstMiss, missedAt, missedIn, verdict}
 use Rattle.model.proofs.LineByLine.{LineByLine, by-line}
 use Rattle.model.proofs.Examples.{Line, worked, lines, examples}
 use Rattle.table.specs.Words.{met, count, chain, tableOf}
