@@ -1,19 +1,19 @@
--- A task and its line of jobs that are tied: the same is late, the same claims, the same may be reported.
+-- A task and its line of jobs that are tied: the same is late, the same claims, the same may be reported and may be empty.
 use mathlib.Core.Path.{_≡_, refl, sym, ap, subst, _∙_}
-use mathlib.Core.Bool.{Bool, true, false, not, _&&_, false≢true, true≢false}
+use mathlib.Core.Bool.{Bool, true, false, not, _&&_, and-false, false≢true, true≢false}
 use mathlib.Core.Logic.{⊎-elim}
 use Prim.Native.Nat.{ℕ, _≤_, _<_}
 use native.Mathlib.Nat.{le-trans, mul-le-mul-right, eq-or-lt-of-le}
 use native.Mathlib.Omega.{arith}
-use lib.Dec.{leb}
-use borrow.Author.Tests.{leb-true, leb-false, eqb-true, eqb-false, eq-eqb}
-use Rattle.model.specs.Task.{Task, Sound, Rule, due, newest}
+use lib.Dec.{eqb, leb}
+use borrow.Author.Tests.{leb-true, leb-false, eqb-true, eqb-false, eq-eqb, ne-eqb}
+use Rattle.model.specs.Task.{Task, Sound, Rule, due, newest, release}
 use Rattle.model.specs.Book.{Job, holds, claims}
 use Rattle.model.proofs.Jobs.{newest-is, claims-if}
 use Rattle.phase.specs.declared.Phase.{Phase}
 use Rattle.phase.specs.declared.Phase.the-variants.{Coming, Working, Holding, Resting}
-use Rattle.phase.specs.Phase.{claiming, working, lateIn}
-use Rattle.demand.proofs.Tied.{Present, Tied, newest-in, early, hold-if, ended-also, rests-off}
+use Rattle.phase.specs.Phase.{claiming, working, lateIn, released}
+use Rattle.demand.proofs.Tied.{Present, Tied, newest-in, newest-first, early, hold-if, ended-also, rests-off}
 
 -- of the jobs that are due, only the present one can be open
 due-open :
@@ -47,33 +47,60 @@ module _ (r : Rule) (τ : Task) (ok : Sound τ) (t : ℕ) (js : ℕ → Job) whe
   late-has (Holding z u) h e = absurd (false≢true e)
   late-has (Resting z) h e = absurd (false≢true e)
 
-  -- the newest job claims exactly if the phase does; and it is open exactly if the claiming task works
-  abbrev Newest : Phase → Type 0
-  Newest ph = (claims r τ (newest τ t) t (js (newest τ t)) ≡ claiming ph) × (claiming ph && not (js (newest τ t) .ended) ≡ working ph)
+  -- what is claimed of the newest job k of a task that is not late: it claims exactly if the phase does; it is open exactly if the claiming task
+  -- works; and it was released in this tick and is open exactly if the task is Working at (0,0)
+  pub record Does (k : ℕ) (ph : Phase) : Type 0 where
+    pub claimed : claims r τ k t (js k) ≡ claiming ph
+    pub open-job : claiming ph && not (js k .ended) ≡ working ph
+    pub fresh-job : eqb (release τ k) t && not (js k .ended) ≡ released ph
 
-  at-newest :
-      (ph : Phase) (k : ℕ) → newest τ t ≡ k → claims r τ k t (js k) ≡ claiming ph → claiming ph && not (js k .ended) ≡ working ph → Newest ph
-  at-newest ph k new a b =
-      (subst (λ (x : ℕ). claims r τ x t (js x) ≡ claiming ph) (sym new) a, subst (λ (x : ℕ). claiming ph && not (js x .ended) ≡ working ph) (sym new) b)
+  at-newest : (ph : Phase) (k : ℕ) → newest τ t ≡ k → Does k ph → Does (newest τ t) ph
+  at-newest ph k new h = subst (λ (x : ℕ). Does x ph) (sym new) h
 
-  pub newest-does : (ph : Phase) → Tied r τ t js ph → lateIn (τ .deadline) ph ≡ false → Newest ph
-  newest-does (Coming left) h n = (early r τ t (newest τ t) (js (newest τ t)) (omega (arith, h .when, h .some)), refl)
+  -- an ended job is not open, whenever it was released
+  not-open : (k : ℕ) → js k .ended ≡ true → eqb (release τ k) t && not (js k .ended) ≡ false
+  not-open k over = ap (λ (x : Bool). eqb (release τ k) t && not x) over ∙ and-false (eqb (release τ k) t)
+
+  pub newest-does : (ph : Phase) → Tied r τ t js ph → lateIn (τ .deadline) ph ≡ false → Does (newest τ t) ph
+  newest-does (Coming left) h n =
+      at-newest (Coming left) 0 (newest-first τ t (le-trans (ok .deadline-pos) (ok .constrained)) (omega (arith, h .when, h .some))) (record {
+        claimed = early r τ t 0 (js 0) (omega (arith, h .when, h .some));
+        open-job = refl;
+        fresh-job = rw (ne-eqb (release τ 0) t (λ (q : release τ 0 ≡ t). omega (arith, h .when, h .some)));
+      })
   newest-does (Working z u) h n =
       at-newest (Working z u) (h .number)
       (newest-is τ (h .number) t (ok .constrained) (omega (arith, h .present .when)) (omega (arith, h .present .when, less)))
-      (claims-if r τ (h .number) t (js (h .number)) (omega (arith, h .present .when)) (omega (arith, h .present .when, less)) (rw (h .line)))
-      (rw (h .line))
+      (record {
+        claimed = claims-if r τ (h .number) t (js (h .number)) (omega (arith, h .present .when)) (omega (arith, h .present .when, less)) (rw (h .line));
+        open-job = rw (h .line);
+        fresh-job = rw (h .line) (now (eqb z 0) refl);
+      })
     where
       less : z < τ .deadline
       less = omega (arith, eqb-false z (τ .deadline) n, h .by-due)
+
+      now : (x : Bool) → eqb z 0 ≡ x → eqb (release τ (h .number)) t && true ≡ x && eqb u 0
+      now true q =
+          let y : z ≡ 0 = eqb-true z 0 q in
+          rw (eq-eqb (release τ (h .number)) t (omega (arith, h .present .when)), eq-eqb u 0 (omega (arith, h .within)))
+      now false q = rw (ne-eqb (release τ (h .number)) t (λ w. eqb-false z 0 q (omega (arith, h .present .when))))
   newest-does (Holding z u) h n =
       at-newest (Holding z u) (h .number)
       (newest-is τ (h .number) t (ok .constrained) (omega (arith, h .present .when)) (omega (arith, h .present .when, h .in-time)))
-      (claims-if r τ (h .number) t (js (h .number)) (omega (arith, h .present .when)) (omega (arith, h .present .when, h .in-time))
-      (ended-also (js (h .number) .ended) (holds r τ (js (h .number))) (h .over) (hold-if r τ (js (h .number)) (h .idle) (omega (arith, h .held, h .short)))))
-      (ap not (h .over))
+      (record {
+        claimed =
+            claims-if r τ (h .number) t (js (h .number)) (omega (arith, h .present .when)) (omega (arith, h .present .when, h .in-time))
+            (ended-also (js (h .number) .ended) (holds r τ (js (h .number))) (h .over)
+            (hold-if r τ (js (h .number)) (h .idle) (omega (arith, h .held, h .short))));
+        open-job = ap not (h .over);
+        fresh-job = not-open (h .number) (h .over);
+      })
   newest-does (Resting z) h n =
       at-newest (Resting z) (h .number)
       (newest-in τ (h .number) t (le-trans (ok .deadline-pos) (ok .constrained)) (omega (arith, h .present .when)) (omega (arith, h .present .when, h .short)))
-      (rests-off r τ t (js (h .number)) (h .number) z (h .present .when) (h .over) (h .done))
-      refl
+      (record {
+        claimed = rests-off r τ t (js (h .number)) (h .number) z (h .present .when) (h .over) (h .done);
+        open-job = refl;
+        fresh-job = not-open (h .number) (h .over);
+      })

@@ -9,32 +9,36 @@ use lib.Dec.{ltb}
 use borrow.Author.Tests.{ltb-true}
 use Rattle.model.specs.Book as model
 use Rattle.run.specs.declared.Run.{Run}
+use Rattle.run.specs.declared.Answer.{Answer}
 use Rattle.run.specs.declared.Answer.the-variants.{Taken, Refused}
 use Rattle.run.specs.Answer.{told}
-use Rattle.run.specs.Numbers.{runOut, firstLateIn, misreportedIn}
+use Rattle.run.specs.Numbers.{runOut, firstLateIn, misemptiedIn, misreportedIn}
 use Rattle.run.specs.Advance.{advanceAnswer, advanceOf}
 use Rattle.run.proofs.RunOut.{few}
-use Rattle.demand.specs.Advances.{answers}
+use Rattle.demand.specs.Entries.{entryOf, answers}
 use Rattle.demand.specs.Replay.{code, Small, codes}
 
 -- the answers of an advance are small
-pub small-answer : (r : Run) (x : ℕ) → Small (told (advanceOf r x .answer))
+pub small-answer : (r : Run) (x e : ℕ) → Small (told (advanceOf r x e .answer))
 unfolding advanceOf advanceAnswer
-small-answer r x = by-out (runOut r) refl
+small-answer r x e = by-out (runOut r) refl
   where
-    by-report : (t : Bool) → Small (told (cond t (Refused 16 0) Taken))
-    by-report true = ((omega arith, omega arith), omega arith)
-    by-report false = tt
+    by-sets : (t u : Bool) → Small (told (cond t (Refused 20 0) (cond u (Refused 16 0) Taken)))
+    by-sets true u = ((omega arith, omega arith), omega arith)
+    by-sets false true = ((omega arith, omega arith), omega arith)
+    by-sets false false = tt
 
-    by-late : runOut r ≡ false → (t : Bool) → ltb (firstLateIn r) (r .count) ≡ t
-        → Small (told (cond t (Refused 15 (suc (firstLateIn r))) (cond (misreportedIn r x) (Refused 16 0) Taken)))
-    by-late e true l = ((omega arith, omega arith), omega (arith, ltb-true (firstLateIn r) (r .count) l, few r e))
-    by-late e false l = by-report (misreportedIn r x)
+    rest : Answer
+    rest = cond (misemptiedIn r e) (Refused 20 0) (cond (misreportedIn r e x) (Refused 16 0) Taken)
+
+    by-late : runOut r ≡ false → (t : Bool) → ltb (firstLateIn r) (r .count) ≡ t → Small (told (cond t (Refused 15 (suc (firstLateIn r))) rest))
+    by-late q true l = ((omega arith, omega arith), omega (arith, ltb-true (firstLateIn r) (r .count) l, few r q))
+    by-late q false l = by-sets (misemptiedIn r e) (misreportedIn r e x)
 
     by-out : (t : Bool) → runOut r ≡ t
-        → Small (told (cond t (Refused 14 0) (cond (ltb (firstLateIn r) (r .count)) (Refused 15 (suc (firstLateIn r))) (cond (misreportedIn r x) (Refused 16 0) Taken))))
-    by-out true e = ((omega arith, omega arith), omega arith)
-    by-out false e = by-late e (ltb (firstLateIn r) (r .count)) refl
+        → Small (told (cond t (Refused 14 0) (cond (ltb (firstLateIn r) (r .count)) (Refused 15 (suc (firstLateIn r))) rest)))
+    by-out true q = ((omega arith, omega arith), omega arith)
+    by-out false q = by-late q (ltb (firstLateIn r) (r .count)) refl
 
 -- LAW: no two small answers have the same number ..
 pub code-tells : (a b : model.Answer) → Small a → Small b → code a ≡ code b → a ≡ b
@@ -46,15 +50,16 @@ code-tells (model.refused n p) (model.refused m q) h k e =
     let b : p ≡ q = omega arith in
     λ i. model.refused (a i) (b i)
 
--- .. so the numbers of a list of advances tell its answers
-pub codes-tell : (r s : Run) (xs ys : List ℕ) → codes r xs ≡ codes s ys → map told (answers r xs) ≡ map told (answers s ys)
+-- .. so the numbers of a list of entries tell its answers
+pub codes-tell : (r s : Run) (xs ys : List model.Entry) → codes r xs ≡ codes s ys → map told (answers r xs) ≡ map told (answers s ys)
 unfolding answers
 codes-tell r s [] [] e = refl
-codes-tell r s [] (y ∷ ys) e = absurd (let z : _≡_ {A = ℕ} 0 (suc (length (codes (advanceOf s y .run) ys))) = ap (λ (l : List ℕ). length l) e in omega arith)
-codes-tell r s (x ∷ xs) [] e = absurd (let z : _≡_ {A = ℕ} (suc (length (codes (advanceOf r x .run) xs))) 0 = ap (λ (l : List ℕ). length l) e in omega arith)
+codes-tell r s [] (y ∷ ys) e = absurd (let z : _≡_ {A = ℕ} 0 (suc (length (codes (entryOf s y .run) ys))) = ap (λ (l : List ℕ). length l) e in omega arith)
+codes-tell r s (x ∷ xs) [] e = absurd (let z : _≡_ {A = ℕ} (suc (length (codes (entryOf r x .run) xs))) 0 = ap (λ (l : List ℕ). length l) e in omega arith)
 codes-tell r s (x ∷ xs) (y ∷ ys) e =
-    let a : code (told (advanceOf r x .answer)) ≡ code (told (advanceOf s y .answer)) = cc in
-    let b : codes (advanceOf r x .run) xs ≡ codes (advanceOf s y .run) ys = cc in
-    let u = code-tells (told (advanceOf r x .answer)) (told (advanceOf s y .answer)) (small-answer r x) (small-answer s y) a in
-    let v = codes-tell (advanceOf r x .run) (advanceOf s y .run) xs ys b in
+    let a : code (told (entryOf r x .answer)) ≡ code (told (entryOf s y .answer)) = cc in
+    let b : codes (entryOf r x .run) xs ≡ codes (entryOf s y .run) ys = cc in
+    let u = code-tells (told (entryOf r x .answer)) (told (entryOf s y .answer))
+    (small-answer r (x .reports) (x .empties)) (small-answer s (y .reports) (y .empties)) a in
+    let v = codes-tell (entryOf r x .run) (entryOf s y .run) xs ys b in
     λ i. u i ∷ v i

@@ -2,7 +2,7 @@
 use mathlib.Core.Path.{_≡_, sym, ap}
 use mathlib.Core.List.{List}
 use Prim.Native.Nat.{ℕ}
-use Rattle.model.specs.Book.{taken}
+use Rattle.model.specs.Book.{Entry, taken}
 use Rattle.model.proofs.Firm.{firm-kept}
 use Rattle.table.specs.Words.{tableOf}
 use Rattle.table.proofs.Passed.{passed-sound}
@@ -16,8 +16,8 @@ use Rattle.run.proofs.ByVerdict.{start-answer}
 use Rattle.demand.specs.Demand.{Demand}
 use Rattle.demand.proofs.Follows.{follows}
 
--- THEOREM (demand 3): for the words of every table that the judge calls Firm, and every list of report sets
-pub demand-3 : (ws : List ℕ) (S P : ℕ) → verdictOf ws ≡ Firm S P → (xs : List ℕ) → Demand ws xs
+-- THEOREM (demand 3): for the words of every table that the judge calls Firm, and every list of entries
+pub demand-3 : (ws : List ℕ) (S P : ℕ) → verdictOf ws ≡ Firm S P → (xs : List Entry) → Demand ws xs
 demand-3 ws S P firm xs =
     let says = judged-exact ws .firm S P .0 (ap saidBy firm) in
     record {

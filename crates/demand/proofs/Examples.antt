@@ -1,12 +1,14 @@
--- The marked lines of the table of examples through `replay`: what its contract says of the words of a line's table and of the line's report sets is what the line says.
+-- The marked lines of the table of examples, and those with empty jobs, through `replay`: what its contract says of the words of a line's table and of the
+-- line's advances is what the line says.
 -- So B with its report shows the right side of figure 2 of Goossens and Berten row by row, up to the miss; and B3 with the same report shows the rows that it shows without.
-use mathlib.Core.Path.{_≡_, refl, sym, ap, _∙_}
+use mathlib.Core.Path.{_≡_, refl, sym, ap, _∙_, subst}
 use mathlib.Core.List.{List, [], _∷_, map, _++_}
 use Prim.Native.Nat.{ℕ, zero, suc, _/_, _%_, _^_, _≤_}
 use native.Mathlib.Nat.{not-suc-le-zero, le-of-suc-le-suc}
 use lib.ListN.{length, getD, take, drop}
 use lib.Seq.{length-take-le}
-use Rattle.model.specs.Book.{Book, Answer, taken, refused, Asked, shown, answersFrom, bookFrom, emptyBook, book, enter, asked, rowsFrom, claims, full, served, step, work}
+use Rattle.model.specs.Book.{Book, Entry, Answer, taken, refused, Asked, shown, answersFrom, bookFrom, emptyBook, book, enter, asked, quiet, rowsFrom}
+use Rattle.model.specs.Book.{claims, full, served, step, work}
 use Rattle.model.specs.Grants.{claimants, given, grants, left}
 use Rattle.model.specs.Horizon.{S, horizon, hyperperiod, lcm}
 use Rattle.model.specs.Search.{any, kept, least, memb, upFrom}
@@ -15,6 +17,7 @@ use Rattle.model.specs.Firm.{firm, rising}
 use Rattle.model.specs.Verdict.{Verdict, Firm, Full, Miss, firstMiss, missedAt, missedIn, verdict}
 use Rattle.model.proofs.LineByLine.{LineByLine, by-line}
 use Rattle.model.proofs.Examples.{Line, worked, lines, examples}
+use Rattle.model.proofs.EmptyExamples.{empty-lines, empty-examples}
 use Rattle.table.specs.Words.{met, count, chain, tableOf}
 use Rattle.table.specs.Answer.{headerNumber, lastStep, endingOf, firstOut, byHorizon, byTasks, byWalk, answerOf}
 use Rattle.judge.specs.Judged.{verdictOf}
@@ -22,7 +25,8 @@ use Rattle.run.specs.Answer.{told, askedIn64}
 use Rattle.run.specs.Start.{startAnswer, startOf}
 use Rattle.run.proofs.StartExact.{start-exact, start-taken}
 use Rattle.demand.specs.declared.Replayed.the-variants as replayed
-use Rattle.demand.specs.Replay.{code, Room, Outcome, rowSaid, ByTheBook, ReplayOf}
+use Rattle.demand.specs.Replay.{code, Fits, Outcome, rowSaid, ByTheBook, ReplayOf}
+use Rattle.demand.proofs.Listed.{listing, entries-listing}
 
 -- THE WORDS OF A LINE
 
@@ -47,16 +51,18 @@ wordsOf l = 1 ∷ l .table .cores ∷ numberOf (l .table .rule) ∷ l .table .fe
 
 -- WHAT IS SHOWN OF A LINE
 
--- a replay of its first k report sets writes its first k answers, and is told its row k
+-- a replay of its first k advances writes its first k answers, and is told its row k where that is asked with no empty job, as a replay asks
 abbrev pub Shows : Line → Type 0
 Shows l =
-    (k : ℕ) → k ≤ length (l .reports) → (numbers bytes : List ℕ) (o : Outcome) → ReplayOf (wordsOf l) (take k (l .reports)) numbers bytes o → Room (take k (l .reports)) numbers bytes
-    → (o .numbers ≡ map code (take k (l .answers)) ++ drop k numbers) × (rowSaid (o .answer) (take 64 (o .bytes)) ≡ askedIn64 (getD (l .rows) k (shown [])))
+    (k : ℕ) → k ≤ length (l .advances) → (numbers bytes : List ℕ) (o : Outcome)
+    → ReplayOf (wordsOf l) (listing (take k (l .advances))) numbers bytes o → Fits (listing (take k (l .advances))) numbers bytes
+    → (o .numbers ≡ map code (take k (l .answers)) ++ drop k numbers)
+    × (getD (l .advances) k quiet .empties ≡ 0 → rowSaid (o .answer) (take 64 (o .bytes)) ≡ askedIn64 (getD (l .rows) k (shown [])))
 
--- a replay of any report sets is refused by 13, and everything is as found
+-- a replay of any words is refused by 13, and everything is as found
 abbrev pub Misses : Line → Type 0
 Misses l =
-    (xs numbers bytes : List ℕ) (o : Outcome) → ReplayOf (wordsOf l) xs numbers bytes o
+    (es numbers bytes : List ℕ) (o : Outcome) → ReplayOf (wordsOf l) es numbers bytes o
     → (o .answer ≡ replayed.Refused 13 0) × ((o .numbers ≡ numbers) × (o .bytes ≡ bytes))
 
 -- the one where the line's verdict is Firm or Full, the other where it is Miss
@@ -67,13 +73,16 @@ ByVerdict (Miss t p) l = Misses l
 
 -- FROM THE CONTRACT
 
-answers-take : (s : Table) (b : Book) (xs : List ℕ) (k : ℕ) → answersFrom s b (take k xs) ≡ take k (answersFrom s b xs)
+answers-take : (s : Table) (b : Book) (xs : List Entry) (k : ℕ) → answersFrom s b (take k xs) ≡ take k (answersFrom s b xs)
 unfolding answersFrom
 answers-take s b xs zero = refl
 answers-take s b [] (suc k) = refl
 answers-take s b (x ∷ xs) (suc k) = ap (λ (l : List Answer). answersFrom s b (x ∷ []) ++ l) (answers-take s (enter s x b) xs k)
 
-rows-at : (s : Table) (b : Book) (xs : List ℕ) (k : ℕ) (d : Asked) → k ≤ length xs → getD (rowsFrom s b xs) k d ≡ asked s (bookFrom s b (take k xs))
+-- row k is asked with the empty jobs of the advance that follows it
+rows-at :
+    (s : Table) (b : Book) (xs : List Entry) (k : ℕ) (d : Asked) → k ≤ length xs
+    → getD (rowsFrom s b xs) k d ≡ asked s (bookFrom s b (take k xs)) (getD xs k quiet .empties)
 unfolding rowsFrom bookFrom
 rows-at s b [] zero d h = refl
 rows-at s b (x ∷ xs) zero d h = refl
@@ -88,27 +97,31 @@ startSays (Miss t p) = refused 13 0
 
 module _ (l : Line) (works : worked l ≡ l) (table : tableOf (wordsOf l) ≡ l .table) where
   shows : told (startOf (wordsOf l) .answer) ≡ taken → Shows l
-  shows start k h numbers bytes o r room = (
-    b .each-answer ∙ (ap (λ (al : List Answer). map code al ++ drop (length (take k (l .reports))) numbers) said
-        ∙ ap (λ (n : ℕ). map code (take k (l .answers)) ++ drop n numbers) (length-take-le k (l .reports) h)),
-    b .row-after ∙ ap askedIn64 row,
+  shows start k h numbers bytes o r fit = (
+    b .each-answer ∙ (ap (λ (al : List Answer). map code al ++ drop (length xs) numbers) said
+        ∙ ap (λ (n : ℕ). map code (take k (l .answers)) ++ drop n numbers) (length-take-le k (l .advances) h)),
+    λ q. b .row-after ∙ ap askedIn64 (row q),
   )
     where
-      b : ByTheBook (wordsOf l) (take k (l .reports)) numbers bytes o
-      b = r .book (start-taken (wordsOf l) .0 start) room
+      xs : List Entry
+      xs = take k (l .advances)
 
-      said : answersFrom (tableOf (wordsOf l)) emptyBook (take k (l .reports)) ≡ take k (l .answers)
+      b : ByTheBook (wordsOf l) xs numbers bytes o
+      b = subst (λ (ys : List Entry). ByTheBook (wordsOf l) ys numbers bytes o) (entries-listing xs) (r .book (start-taken (wordsOf l) .0 start) fit)
+
+      said : answersFrom (tableOf (wordsOf l)) emptyBook xs ≡ take k (l .answers)
       said =
-          ap (λ (s : Table). answersFrom s emptyBook (take k (l .reports))) table
-          ∙ (answers-take (l .table) emptyBook (l .reports) k ∙ ap (λ (m : Line). take k (m .answers)) works)
+          ap (λ (s : Table). answersFrom s emptyBook xs) table
+          ∙ (answers-take (l .table) emptyBook (l .advances) k ∙ ap (λ (m : Line). take k (m .answers)) works)
 
-      row : asked (tableOf (wordsOf l)) (book (tableOf (wordsOf l)) (take k (l .reports))) ≡ getD (l .rows) k (shown [])
-      row =
-          ap (λ (s : Table). asked s (book s (take k (l .reports)))) table
-          ∙ (sym (rows-at (l .table) emptyBook (l .reports) k (shown []) h) ∙ ap (λ (m : Line). getD (m .rows) k (shown [])) works)
+      row : getD (l .advances) k quiet .empties ≡ 0 → asked (tableOf (wordsOf l)) (book (tableOf (wordsOf l)) xs) 0 ≡ getD (l .rows) k (shown [])
+      row q =
+          ap (λ (s : Table). asked s (book s xs) 0) table
+          ∙ (ap (asked (l .table) (book (l .table) xs)) (sym q)
+          ∙ (sym (rows-at (l .table) emptyBook (l .advances) k (shown []) h) ∙ ap (λ (m : Line). getD (m .rows) k (shown [])) works))
 
   misses : told (startOf (wordsOf l) .answer) ≡ refused 13 0 → Misses l
-  misses start xs numbers bytes o r =
+  misses start es numbers bytes o r =
       let e = r .refused 13 0 .1 (start-exact (wordsOf l) 13 0 .0 start) in
       (e, r .refused-found 13 0 e)
 
@@ -153,12 +166,27 @@ unfolding expected records startOf startAnswer verdictOf answerOf byWalk byTasks
     full
 begun = (refl, (refl, (refl, (refl, (refl, (refl, (refl, (refl, (refl, (refl, (refl, (refl, (refl, (refl, (refl, (refl, (refl, tt)))))))))))))))))
 
-starts : map begins lines ≡ map expected lines
-starts = by-line begins lines (map expected lines) begun
+begun-empty : LineByLine begins empty-lines (map expected empty-lines)
+unfolding expected records startOf startAnswer verdictOf answerOf byWalk byTasks byHorizon firstOut endingOf lastStep headerNumber tableOf chain count met
+    verdict firstMiss missedIn missedAt firm rising horizon S hyperperiod lcm least any memb upFrom kept given left grants claimants claims served work step
+    full
+begun-empty = (refl, (refl, (refl, (refl, (refl, (refl, (refl, (refl, (refl, (refl, (refl, (refl, (refl, (refl, (refl, tt)))))))))))))))
+
+-- what the definitions say of lines, the contract says of them through `replay`
+through : (ls : List Line) → map worked ls ≡ ls → LineByLine begins ls (map expected ls) → Each (λ l. ByVerdict (l .says) l) ls
+through ls works starts =
+    both (λ l. worked l ≡ l) (λ l. begins l ≡ expected l) (λ l. ByVerdict (l .says) l)
+    (λ l w e. unfold expected in by-verdict l w (ap (λ (x : Begins). x .table) e) (l .says) (ap (λ (x : Begins). x .start) e))
+    ls (each worked (λ l. l) ls (works ∙ sym (map-id ls))) (each begins expected ls (by-line begins ls (map expected ls) starts))
+  where
+    map-id : (ls : List Line) → map (λ l. l) ls ≡ ls
+    map-id [] = refl
+    map-id (l ∷ ls) = ap (λ (m : List Line). l ∷ m) (map-id ls)
 
 -- THEOREM: every marked line of the table of examples, through the contract of `replay`
 pub through-replay : Each (λ l. ByVerdict (l .says) l) lines
-through-replay =
-    both (λ l. worked l ≡ l) (λ l. begins l ≡ expected l) (λ l. ByVerdict (l .says) l)
-    (λ l w e. unfold expected in by-verdict l w (ap (λ (x : Begins). x .table) e) (l .says) (ap (λ (x : Begins). x .start) e))
-    lines (each worked (λ l. l) lines examples) (each begins expected lines starts)
+through-replay = through lines examples begun
+
+-- and every line with empty jobs
+pub empty-through-replay : Each (λ l. ByVerdict (l .says) l) empty-lines
+empty-through-replay = through empty-lines empty-examples begun-empty

@@ -5,8 +5,9 @@ use mathlib.Core.Path.{_≡_, refl, ap, _∙_}
 use Prim.Native.Nat.{ℕ, suc}
 use lib.Dec.{ltb}
 use lib.ListN.{length}
-use Rattle.model.specs.Book.{Book, Asked, asked, book, firstLate, late, rowOf, rowRefused, shown, taken}
+use Rattle.model.specs.Book.{Book, Entry, asked, book, emptiable, emptied, firstLate, late, misemptied, rowOf, rowRefused, shown, taken}
 use Rattle.model.specs.Fence.{justOpen}
+use Rattle.model.specs.Search.{bit}
 use Rattle.model.specs.Task.{Table}
 use Rattle.model.proofs.Fence.{fence-lists, fence-row}
 use Rattle.table.specs.Words.{tableOf}
@@ -15,22 +16,29 @@ use Rattle.run.specs.Start.{startOf}
 use Rattle.demand.specs.Fenced.{Fenced, spreadOver}
 use Rattle.demand.proofs.Follows.{follows}
 
--- who is late does not depend on the cores, and the row is spread
-spread-asked : (s : Table) (b : Book) → asked s b ≡ spreadOver s (asked (justOpen s) b)
-unfolding asked late
-spread-asked s b = go (ltb (firstLate s b) (length (s .tasks)))
+-- who is late and who may be empty does not depend on the cores, and the row is spread
+spread-asked : (s : Table) (b : Book) (e : ℕ) → asked s b e ≡ spreadOver s (asked (justOpen s) b e)
+unfolding asked late misemptied emptiable emptied
+spread-asked s b e = go (ltb (firstLate s b) (length (s .tasks))) (misemptied s b e)
   where
-    go : (t : Bool)
-        → cond t (rowRefused 15 (suc (firstLate s b))) (shown (rowOf s b))
-        ≡ spreadOver s (cond t (rowRefused 15 (suc (firstLate s b))) (shown (rowOf (justOpen s) b)))
-    go true = refl
-    go false = ap shown (fence-row s b)
+    c : Book
+    c = emptied s (bit e) b
 
--- THEOREM (fenced): for every table that start takes and every list of report sets
-pub fenced : (ws : List ℕ) → told (startOf ws .answer) ≡ taken → (xs : List ℕ) → Fenced ws xs
+    go : (t u : Bool)
+        → cond t (rowRefused 15 (suc (firstLate s b))) (cond u (rowRefused 20 0) (shown (rowOf s c)))
+        ≡ spreadOver s (cond t (rowRefused 15 (suc (firstLate s b))) (cond u (rowRefused 20 0) (shown (rowOf (justOpen s) c))))
+    go true u = refl
+    go false true = refl
+    go false false = ap shown (fence-row s c)
+
+-- THEOREM (fenced): for every table that start takes and every list of entries
+pub fenced : (ws : List ℕ) → told (startOf ws .answer) ≡ taken → (xs : List Entry) → Fenced ws xs
 fenced ws e xs = record {
-  each-answer = follows ws e xs .each-answer ∙ fence-lists (tableOf ws) xs .1;
-  row-after =
-      follows ws e xs .row-after
-      ∙ ap askedIn64 (spread-asked (tableOf ws) (book (tableOf ws) xs) ∙ ap (λ (b : Book). spreadOver (tableOf ws) (asked (justOpen (tableOf ws)) b)) (fence-lists (tableOf ws) xs .0));
+  each-answer = follows ws e xs .each-answer ∙ fence-lists s xs .1;
+  row-after = λ x.
+      follows ws e xs .row-after x
+      ∙ ap askedIn64 (spread-asked s (book s xs) x ∙ ap (λ (b : Book). spreadOver s (asked (justOpen s) b x)) (fence-lists s xs .0));
 }
+  where
+    s : Table
+    s = tableOf ws

@@ -4,6 +4,7 @@ use mathlib.Core.List.{List, [], _∷_, _++_, map}
 use mathlib.Core.Path.{_≡_, refl}
 use Prim.Native.Nat.{ℕ, _-_, _^_}
 use lib.ListN.{replicate}
+use Rattle.model.specs.Book.{Entry}
 use Rattle.model.specs.Grants.{claimants, given, grants, left}
 use Rattle.model.specs.Row.{owner, row}
 use Rattle.model.specs.Search.{any, kept, least, memb, upFrom}
@@ -17,36 +18,40 @@ use Rattle.run.specs.declared.Row.{Row}
 use Rattle.phase.specs.Task.{unused}
 use Rattle.run.specs.Run.{grantsIn, mapFirst, moved}
 use Rattle.run.specs.Answer.{in64}
-use Rattle.run.specs.Numbers.{runOut, firstLateIn, misreportedIn}
+use Rattle.run.specs.Numbers.{runOut, firstLateIn, misemptiedIn, misreportedIn}
 use Rattle.run.specs.Advance.{advanceAnswer, advanceOf}
 use Rattle.run.specs.Row.{rowAnswer, bytesIn, noBytes, rowOf}
-use Rattle.demand.specs.Advances.{answers, after}
+use Rattle.demand.specs.Entries.{entryOf, answers, after}
 
--- the row asked before each advance of the list, and after the last
-unfoldable pub rows : Run → List ℕ → List Row
-rows r [] = rowOf r ∷ []
-rows r (x ∷ xs) = rowOf r ∷ rows (advanceOf r x .run) xs
+-- the row asked before each advance of the list with its empty jobs, and after the last with none
+unfoldable pub rows : Run → List Entry → List Row
+rows r [] = rowOf r 0 ∷ []
+rows r (x ∷ xs) = rowOf r (x .empties) ∷ rows (entryOf r x .run) xs
 
--- a line: a run and report sets; the answer to each advance, the rows, and the run after the list
+-- a line: a run and advances; the answer to each advance, the rows, and the run after the list
 pub record Line : Type 0 where
   pub from : Run
-  pub reports : List ℕ
+  pub advances : List Entry
   pub gets : List Answer
   pub shows : List Row
   pub ends : Run
 
--- what the definitions say of a line's run and report sets
+-- what the definitions say of a line's run and advances
 abbrev pub worked : Line → Line
 worked l = record {
   from = l .from;
-  reports = l .reports;
-  gets = answers (l .from) (l .reports);
-  shows = rows (l .from) (l .reports);
-  ends = after (l .from) (l .reports);
+  advances = l .advances;
+  gets = answers (l .from) (l .advances);
+  shows = rows (l .from) (l .advances);
+  ends = after (l .from) (l .advances);
 }
 
+-- advances with reports alone
+abbrev reported : List ℕ → List Entry
+reported xs = map (λ x. record { reports = x; empties = 0 }) xs
+
 -- a task as (O, v, C, D, T) in a phase
-abbrev t : ℕ → ℕ → ℕ → ℕ → ℕ → Phase → Task
+abbrev pub t : ℕ → ℕ → ℕ → ℕ → ℕ → Phase → Task
 t o v c d p ph = record { offset = o; width = v; length = c; deadline = d; period = p; phase = ph }
 
 -- a run of one task on m cores with a fence
@@ -54,10 +59,10 @@ abbrev walled : ℕ → ℕ → ℕ → Task → Run
 walled r m f a = record { rule = r; cores = m; fence = f; count = 1; tasks = a ∷ replicate 31 unused }
 
 -- runs of one, two and three tasks
-abbrev one : ℕ → ℕ → Task → Run
+abbrev pub one : ℕ → ℕ → Task → Run
 one r m a = walled r m 0 a
 
-abbrev two : ℕ → ℕ → Task → Task → Run
+abbrev pub two : ℕ → ℕ → Task → Task → Run
 two r m a b = record { rule = r; cores = m; fence = 0; count = 2; tasks = a ∷ b ∷ replicate 30 unused }
 
 abbrev three : ℕ → ℕ → ℕ → Task → Task → Task → Run
@@ -67,7 +72,7 @@ three r m f a b c = record { rule = r; cores = m; fence = f; count = 3; tasks = 
 abbrev fencedB : ℕ → ℕ → ℕ → Phase → Phase → Phase → Run
 fencedB r m f a b c = three r m f (t 0 1 3 3 4 a) (t 0 2 1 4 4 b) (t 0 1 2 2 4 c)
 
-abbrev runB : ℕ → Phase → Phase → Phase → Run
+abbrev pub runB : ℕ → Phase → Phase → Phase → Run
 runB r a b c = fencedB r 2 0 a b c
 
 -- E
@@ -75,18 +80,18 @@ abbrev runE : Phase → Phase → Run
 runE a b = two 2 1 (t 1 1 1 1 2 a) (t 0 1 1 2 3 b)
 
 -- rows
-abbrev on1 : ℕ → Row
+abbrev pub on1 : ℕ → Row
 on1 a = record { answer = Taken; bytes = a ∷ replicate 63 0 }
 
-abbrev on2 : ℕ → ℕ → Row
+abbrev pub on2 : ℕ → ℕ → Row
 on2 a b = record { answer = Taken; bytes = a ∷ b ∷ replicate 62 0 }
 
-abbrev no : ℕ → ℕ → Row
+abbrev pub no : ℕ → ℕ → Row
 no n p = record { answer = Refused n p; bytes = noBytes }
 
 -- a run and what its row is answered
 abbrev asked : Run → Row → Line
-asked r w = record { from = r; reports = []; gets = []; shows = w ∷ []; ends = r }
+asked r w = record { from = r; advances = []; gets = []; shows = w ∷ []; ends = r }
 
 -- one task (2, 1, 3, 4, 6) on one core in a phase, under a rule
 abbrev limit : ℕ → Phase → Row → Line
@@ -113,7 +118,7 @@ lines =
     -- B: position 1 reported in tick 0: tick 1 goes to position 2, then 15 with position 3, for ever
     record {
       from = runB 1 (Working 0 0) (Working 0 0) (Working 0 0);
-      reports = 1 ∷ 0 ∷ 0 ∷ 2 ∷ [];
+      advances = reported (1 ∷ 0 ∷ 0 ∷ 2 ∷ []);
       gets = Taken ∷ Taken ∷ Refused 15 3 ∷ Refused 15 3 ∷ [];
       shows = on2 1 3 ∷ on2 2 2 ∷ no 15 3 ∷ no 15 3 ∷ no 15 3 ∷ [];
       ends = runB 1 (Resting 2) (Resting 2) (Working 2 1);
@@ -121,7 +126,7 @@ lines =
     -- a report for a position that gets no cores, and one past the count: 16, and the run as given
     ∷ record {
       from = runB 1 (Working 0 0) (Working 0 0) (Working 0 0);
-      reports = 2 ∷ 8 ∷ [];
+      advances = reported (2 ∷ 8 ∷ []);
       gets = Refused 16 0 ∷ Refused 16 0 ∷ [];
       shows = on2 1 3 ∷ on2 1 3 ∷ on2 1 3 ∷ [];
       ends = runB 1 (Working 0 0) (Working 0 0) (Working 0 0);
@@ -129,7 +134,7 @@ lines =
     -- B3: the same report changes no row; a report for a holder is 16
     ∷ record {
       from = runB 3 (Working 0 0) (Working 0 0) (Working 0 0);
-      reports = 1 ∷ 1 ∷ 0 ∷ [];
+      advances = reported (1 ∷ 1 ∷ 0 ∷ []);
       gets = Taken ∷ Refused 16 0 ∷ Taken ∷ [];
       shows = on2 1 3 ∷ on2 1 3 ∷ on2 1 3 ∷ on2 1 0 ∷ [];
       ends = runB 3 (Holding 2 2) (Working 2 0) (Resting 2);
@@ -137,7 +142,7 @@ lines =
     -- E: the first release of position 1 is one tick ahead
     ∷ record {
       from = runE (Coming 1) (Working 0 0);
-      reports = 0 ∷ 0 ∷ [];
+      advances = reported (0 ∷ 0 ∷ []);
       gets = Taken ∷ Taken ∷ [];
       shows = on1 2 ∷ on1 1 ∷ on1 0 ∷ [];
       ends = runE (Resting 1) (Resting 2);
@@ -145,7 +150,7 @@ lines =
     -- a hold without cores ends at z = D, and then rests
     ∷ record {
       from = two 3 1 (t 0 1 3 3 4 (Working 0 0)) (t 0 1 3 3 5 (Holding 2 1));
-      reports = 0 ∷ [];
+      advances = reported (0 ∷ []);
       gets = Taken ∷ [];
       shows = on1 1 ∷ on1 1 ∷ [];
       ends = two 3 1 (t 0 1 3 3 4 (Working 1 1)) (t 0 1 3 3 5 (Resting 3));
@@ -153,7 +158,7 @@ lines =
     -- B on four cores of which 0 and 2 are fenced: as on two cores; what is refused shows no fence
     ∷ record {
       from = fencedB 1 4 5 (Working 0 0) (Working 0 0) (Working 0 0);
-      reports = 1 ∷ 4 ∷ 0 ∷ [];
+      advances = reported (1 ∷ 4 ∷ 0 ∷ []);
       gets = Taken ∷ Refused 16 0 ∷ Taken ∷ [];
       shows = row64 (255 ∷ 1 ∷ 255 ∷ 3 ∷ []) ∷ row64 (255 ∷ 2 ∷ 255 ∷ 2 ∷ []) ∷ row64 (255 ∷ 2 ∷ 255 ∷ 2 ∷ []) ∷ no 15 3 ∷ [];
       ends = fencedB 1 4 5 (Resting 2) (Resting 2) (Working 2 1);
@@ -161,7 +166,7 @@ lines =
     -- B3 on three cores of which 1 is fenced: held cores with the holder's position
     ∷ record {
       from = fencedB 3 3 2 (Working 0 0) (Working 0 0) (Working 0 0);
-      reports = 1 ∷ 0 ∷ [];
+      advances = reported (1 ∷ 0 ∷ []);
       gets = Taken ∷ Taken ∷ [];
       shows = row64 (1 ∷ 255 ∷ 3 ∷ []) ∷ row64 (1 ∷ 255 ∷ 3 ∷ []) ∷ row64 (1 ∷ 255 ∷ 0 ∷ []) ∷ [];
       ends = fencedB 3 3 2 (Holding 2 2) (Working 2 0) (Resting 2);
@@ -199,15 +204,21 @@ lines =
     -- Working z 0 to D, where z = D passes 14 and is 15; u below C and at most z
     ∷ limit 1 (Working 0 0) (on1 1) ∷ limit 1 (Working 4 0) (no 15 1) ∷ limit 1 (Working 5 0) (no 14 0)
     ∷ limit 1 (Working 3 2) (on1 1) ∷ limit 1 (Working 3 3) (no 14 0) ∷ limit 1 (Working 2 2) (on1 1) ∷ limit 1 (Working 1 2) (no 14 0)
-    -- Holding under rule 3 only; z 1 to D − 1, u 1 to C − 1, u at most z
+    -- Holding under rule 3 only; z 0 to D − 1, u 0 to C − 1, u at most z
     ∷ limit 3 (Holding 1 1) (on1 1) ∷ limit 2 (Holding 1 1) (no 14 0) ∷ limit 1 (Holding 1 1) (no 14 0)
-    ∷ limit 3 (Holding 0 0) (no 14 0) ∷ limit 3 (Holding 1 0) (no 14 0) ∷ limit 3 (Holding 3 1) (on1 1) ∷ limit 3 (Holding 4 1) (no 14 0)
+    ∷ limit 3 (Holding 0 0) (on1 1) ∷ limit 2 (Holding 0 0) (no 14 0) ∷ limit 1 (Holding 0 0) (no 14 0) ∷ limit 3 (Holding 0 1) (no 14 0)
+    ∷ limit 3 (Holding 1 0) (on1 1) ∷ limit 3 (Holding 3 0) (on1 1) ∷ limit 3 (Holding 4 0) (no 14 0)
+    ∷ limit 3 (Holding 3 1) (on1 1) ∷ limit 3 (Holding 4 1) (no 14 0)
     ∷ limit 3 (Holding 3 2) (on1 1) ∷ limit 3 (Holding 3 3) (no 14 0) ∷ limit 3 (Holding 2 2) (on1 1) ∷ limit 3 (Holding 1 2) (no 14 0)
+    -- C of 1: a hold has claimed nothing; D of 1: it stands at 0
+    ∷ asked (one 3 1 (t 0 1 1 4 6 (Holding 3 0))) (on1 1) ∷ asked (one 3 1 (t 0 1 1 4 6 (Holding 1 1))) (no 14 0)
+    ∷ asked (one 3 1 (t 0 1 3 1 6 (Holding 0 0))) (on1 1) ∷ asked (one 3 1 (t 0 1 3 1 6 (Holding 1 0))) (no 14 0)
     -- Resting 1 to T − 1
     ∷ limit 1 (Resting 0) (no 14 0) ∷ limit 1 (Resting 1) (on1 0) ∷ limit 1 (Resting 5) (on1 0) ∷ limit 1 (Resting 6) (no 14 0)
     ∷ []
 
 -- every line is what the definitions say
 pub built-runs : map worked lines ≡ lines
-unfolding any least memb upFrom kept owner row given left grants claimants answers after rows advanceOf advanceAnswer rowOf rowAnswer bytesIn runOut firstLateIn misreportedIn grantsIn mapFirst moved
+unfolding any least memb upFrom kept owner row given left grants claimants answers after rows advanceOf advanceAnswer rowOf rowAnswer bytesIn runOut
+    firstLateIn misemptiedIn misreportedIn grantsIn mapFirst moved
 built-runs = refl

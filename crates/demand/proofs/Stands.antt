@@ -1,5 +1,5 @@
--- A run that stands for a book: it gives the book's answers and rows, and an advance, taken or refused, keeps it standing.
-use mathlib.Core.Path.{_≡_, refl, sym, ap, ap₂, subst}
+-- A run that stands for a book: it gives the book's answers and rows, and an entry, taken or refused, keeps it standing.
+use mathlib.Core.Path.{_≡_, refl, sym, ap, ap₂, subst, _∙_}
 use mathlib.Core.Bool.{Bool, true, false, cond}
 use mathlib.Core.List.{List, [], _∷_, map}
 use Prim.Native.Nat.{ℕ, suc, _<_}
@@ -8,19 +8,22 @@ use lib.ListN.{length}
 use lib.Dec.{ltb}
 use Rattle.model.specs.Search.{bit}
 use Rattle.model.specs.Task.{AllSound, Table}
-use Rattle.model.specs.Book.{Book, rowOf, step, Answer, taken, refused, firstLate, misreported, answer, shown, rowRefused, asked, entered, enter, bookFrom, answersFrom}
+use Rattle.model.specs.Book.{Book, Entry, rowOf, emptied, advanced, Answer, taken, refused, firstLate, misemptied, misreported}
+use Rattle.model.specs.Book.{answer, shown, rowRefused, asked, entered, enter, bookFrom, answersFrom}
 use Rattle.run.specs.declared.Run.{Run}
 use Rattle.run.specs.declared.Answer as declared
 use Rattle.run.specs.declared.Answer.the-variants.{Taken, Refused}
+use Rattle.run.specs.declared.Row.{Row}
 use Rattle.run.specs.Run.{moved}
 use Rattle.run.specs.Answer.{told, byAnswer, rowTold, askedIn64, in64}
-use Rattle.run.specs.Numbers.{misreportedIn}
+use Rattle.run.specs.Numbers.{misemptiedIn, misreportedIn}
 use Rattle.run.specs.Advance.{advanceAnswer, advanceOf}
 use Rattle.run.specs.Row.{rowAnswer, bytesIn, noBytes}
 use Rattle.run.specs.Row as run
-use Rattle.demand.specs.Advances.{answers, after}
+use Rattle.demand.specs.Entries.{entryOf, answers, after}
 use Rattle.run.proofs.Limits.{Passes, passes-runs, moved-passes}
-use Rattle.demand.proofs.Related.{Related, same-first, same-any, in-time, same-row, same-misreported, related-on}
+use Rattle.demand.proofs.Looks.{same-row, same-misreported}
+use Rattle.demand.proofs.Related.{Related, same-first, same-any, in-time, same-misemptied, looks, related-on}
 
 -- the run passes 14 and is related to the book
 pub record Stands (s : Table) (b : Book) (r : Run) : Type 0 where
@@ -28,76 +31,100 @@ pub record Stands (s : Table) (b : Book) (r : Run) : Type 0 where
   pub related : Related s b r
 
 module _ (s : Table) (ok : AllSound s) where
+  -- what an entry is answered where nobody is late
+  abbrev inTime : Book → Entry → Answer
+  inTime b x = cond (misemptied s b (x .empties)) (refused 20 0) (cond (misreported s (emptied s (bit (x .empties)) b) (x .reports)) (refused 16 0) taken)
+
   -- such a run and its book give one answer ..
-  same-answer : (b : Book) (r : Run) → Stands s b r → (x : ℕ) → told (advanceAnswer r x) ≡ answer s b x
+  same-answer : (b : Book) (r : Run) → Stands s b r → (x : Entry) → told (advanceAnswer r (x .reports) (x .empties)) ≡ answer s b x
   unfolding advanceAnswer answer
   same-answer b r h x =
       rw (passes-runs r (h .passes), same-any s ok b r (h .related), same-first s ok b r (h .related))
       (go (ltb (firstLate s b) (length (s .tasks))) refl)
     where
-      sixteen : (u : Bool) → told (cond u (Refused 16 0) Taken) ≡ cond u (refused 16 0) taken
-      sixteen true = refl
-      sixteen false = refl
+      runs : declared.Answer
+      runs = cond (misemptiedIn r (x .empties)) (Refused 20 0) (cond (misreportedIn r (x .empties) (x .reports)) (Refused 16 0) Taken)
+
+      told-alike : (u v : Bool) → told (cond u (Refused 20 0) (cond v (Refused 16 0) Taken)) ≡ cond u (refused 20 0) (cond v (refused 16 0) taken)
+      told-alike true v = refl
+      told-alike false true = refl
+      told-alike false false = refl
 
       go : (t : Bool) → ltb (firstLate s b) (length (s .tasks)) ≡ t
-          → told (cond t (Refused 15 (suc (firstLate s b))) (cond (misreportedIn r x) (Refused 16 0) Taken))
-          ≡ cond t (refused 15 (suc (firstLate s b))) (cond (misreported s b x) (refused 16 0) taken)
-      go true e = refl
-      go false e = rw (same-misreported s ok b r (h .related) (in-time s ok b r (h .related) e) x) (sixteen (misreported s b x))
+          → told (cond t (Refused 15 (suc (firstLate s b))) runs) ≡ cond t (refused 15 (suc (firstLate s b))) (inTime b x)
+      go true q = refl
+      go false q =
+          let it = in-time s ok b r (h .related) q in
+          let c : Book = emptied s (bit (x .empties)) b in
+          told-alike (misemptiedIn r (x .empties)) (misreportedIn r (x .empties) (x .reports))
+          ∙ ap₂ (λ (u v : Bool). cond u (refused 20 0) (cond v (refused 16 0) taken)) (same-misemptied s ok b r (h .related) it (x .empties))
+          (same-misreported s ok c r (x .empties) (looks s ok b r (h .related) it (x .empties)) (x .reports))
 
-  -- .. and one row
-  pub same-asked : (b : Book) (r : Run) → Stands s b r → rowTold (run.rowOf r) ≡ askedIn64 (asked s b)
+  -- .. and one row, whatever jobs are empty
+  pub same-asked : (b : Book) (r : Run) → Stands s b r → (e : ℕ) → rowTold (run.rowOf r e) ≡ askedIn64 (asked s b e)
   unfolding run.rowOf rowAnswer asked bytesIn
-  same-asked b r h =
+  same-asked b r h e =
       rw (passes-runs r (h .passes), same-any s ok b r (h .related), same-first s ok b r (h .related))
       (go (ltb (firstLate s b) (length (s .tasks))) refl)
     where
+      -- what a row asked gives by its answer
+      gives : declared.Answer → Row
+      gives a = record { answer = a; bytes = byAnswer a (bytesIn r e) noBytes }
+
+      twenty : (u : Bool) (cs : List ℕ) → bytesIn r e ≡ in64 cs → rowTold (gives (cond u (Refused 20 0) Taken)) ≡ askedIn64 (cond u (rowRefused 20 0) (shown cs))
+      twenty true cs q = refl
+      twenty false cs q = ap shown q
+
       go : (t : Bool) → ltb (firstLate s b) (length (s .tasks)) ≡ t
-          → rowTold (record {
-            answer = cond t (Refused 15 (suc (firstLate s b))) Taken;
-            bytes = byAnswer (cond t (Refused 15 (suc (firstLate s b))) Taken) (bytesIn r) noBytes;
-          })
-          ≡ askedIn64 (cond t (rowRefused 15 (suc (firstLate s b))) (shown (rowOf s b)))
-      go true e = refl
-      go false e = ap (λ (l : List ℕ). shown (in64 l)) (same-row s ok b r (h .related) (in-time s ok b r (h .related) e))
+          → rowTold (gives (cond t (Refused 15 (suc (firstLate s b))) (cond (misemptiedIn r e) (Refused 20 0) Taken)))
+          ≡ askedIn64 (cond t (rowRefused 15 (suc (firstLate s b))) (cond (misemptied s b e) (rowRefused 20 0) (shown (rowOf s (emptied s (bit e) b)))))
+      go true q = refl
+      go false q =
+          let it = in-time s ok b r (h .related) q in
+          rw (same-misemptied s ok b r (h .related) it e)
+          (twenty (misemptied s b e) (rowOf s (emptied s (bit e) b))
+          (ap in64 (same-row s ok (emptied s (bit e) b) r e (looks s ok b r (h .related) it e))))
 
   -- an answer's number
   number : Answer → ℕ
   number taken = 0
   number (refused n p) = n
 
-  -- where an advance is taken, nobody is late
-  taken-in-time : (b : Book) (x : ℕ) → answer s b x ≡ taken → ltb (firstLate s b) (length (s .tasks)) ≡ false
+  -- where an entry is taken, nobody is late
+  taken-in-time : (b : Book) (x : Entry) → answer s b x ≡ taken → ltb (firstLate s b) (length (s .tasks)) ≡ false
   unfolding answer number
   taken-in-time b x e = go (ltb (firstLate s b) (length (s .tasks))) (ap number e)
     where
-      go : (t : Bool) → number (cond t (refused 15 (suc (firstLate s b))) (cond (misreported s b x) (refused 16 0) taken)) ≡ 0 → t ≡ false
+      go : (t : Bool) → number (cond t (refused 15 (suc (firstLate s b))) (inTime b x)) ≡ 0 → t ≡ false
       go true q = absurd (omega arith)
       go false q = refl
 
-  -- an advance, taken or refused, keeps a run standing for its book
-  stands-advance : (b : Book) (r : Run) → Stands s b r → (x : ℕ) → Stands s (enter s x b) (advanceOf r x .run)
+  -- an entry, taken or refused, keeps a run standing for its book
+  stands-entry : (b : Book) (r : Run) → Stands s b r → (x : Entry) → Stands s (enter s x b) (entryOf r x .run)
   unfolding enter advanceOf
-  stands-advance b r h x = go (advanceAnswer r x) (same-answer b r h x)
+  stands-entry b r h x = go (advanceAnswer r (x .reports) (x .empties)) (same-answer b r h x)
     where
-      go : (w : declared.Answer) → told w ≡ answer s b x → Stands s (entered (answer s b x) (step s (bit x) b) b) (byAnswer w (moved (bit x) r) r)
+      go : (w : declared.Answer) → told w ≡ answer s b x
+          → Stands s (entered (answer s b x) (advanced s (bit (x .reports)) (bit (x .empties)) b) b) (byAnswer w (moved (bit (x .reports)) (x .empties) r) r)
       go Taken e =
           rw (sym e)
           (let it = in-time s ok b r (h .related) (taken-in-time b x (sym e)) in
           record {
-            passes = moved-passes (bit x) r (h .passes) (λ p l. it p (subst (λ (n : ℕ). p < n) (h .related .same-count) l));
-            related = related-on s ok b r (h .related) it (bit x);
+            passes =
+                moved-passes (bit (x .reports)) (x .empties) r (h .passes)
+                (λ p l. it p (subst (λ (n : ℕ). p < n) (h .related .table .same-count) l));
+            related = related-on s ok b r (h .related) it (bit (x .reports)) (x .empties);
           })
       go (Refused n p) e = rw (sym e) h
 
-  pub stands-after : (xs : List ℕ) (b : Book) (r : Run) → Stands s b r → Stands s (bookFrom s b xs) (after r xs)
+  pub stands-after : (xs : List Entry) (b : Book) (r : Run) → Stands s b r → Stands s (bookFrom s b xs) (after r xs)
   unfolding bookFrom after
   stands-after [] b r h = h
-  stands-after (x ∷ xs) b r h = stands-after xs (enter s x b) (advanceOf r x .run) (stands-advance b r h x)
+  stands-after (x ∷ xs) b r h = stands-after xs (enter s x b) (entryOf r x .run) (stands-entry b r h x)
 
-  pub same-answers : (xs : List ℕ) (b : Book) (r : Run) → Stands s b r → map told (answers r xs) ≡ answersFrom s b xs
+  pub same-answers : (xs : List Entry) (b : Book) (r : Run) → Stands s b r → map told (answers r xs) ≡ answersFrom s b xs
   unfolding answers answersFrom advanceOf
   same-answers [] b r h = refl
   same-answers (x ∷ xs) b r h =
       ap₂ (λ (a : Answer) (l : List Answer). a ∷ l) (same-answer b r h x)
-      (same-answers xs (enter s x b) (advanceOf r x .run) (stands-advance b r h x))
+      (same-answers xs (enter s x b) (entryOf r x .run) (stands-entry b r h x))

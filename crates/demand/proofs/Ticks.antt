@@ -8,13 +8,13 @@ use native.Mathlib.Numerals.{add-one}
 use native.Mathlib.Omega.{arith}
 use lib.Dec.{leb, eqb}
 use borrow.Author.Tests.{eqb-false, le-leb, lt-leb}
-use Rattle.model.specs.Task.{Task, Sound, Rule, idling, newest}
+use Rattle.model.specs.Task.{Task, Sound, Rule, newest}
 use Rattle.model.specs.Book.{Job, fresh, holds, claims, work}
 use Rattle.model.proofs.Jobs.{mk, next, next-ended, next-claimed, claims-if, newest-is, others}
 use Rattle.phase.specs.declared.Phase.{Phase}
 use Rattle.phase.specs.declared.Phase.the-variants.{Coming, Working, Holding, Resting}
 use Rattle.phase.specs.Phase.{idles, lateIn, startPhase, resting, holding, ended, worked, nextPhase}
-use Rattle.phase.proofs.Phases.{by-eq, idles-decides}
+use Rattle.phase.proofs.Phases.{by-eq}
 use Rattle.demand.proofs.Tied.{Present, Tied, newest-in, early, hold-if, full-done, none-holds, ended-also, rests-off}
 
 -- a line after a tick in which its task had cores or not
@@ -45,8 +45,8 @@ present-on r τ ok t js w f k z new h = record {
 
 module _ (r : Rule) (τ : Task) (ok : Sound τ) (t : ℕ) (js : ℕ → Job) (k z : ℕ) (h : Present τ t js k z) where
   -- a job that has ended rests, or the next is released
-  rested : 1 ≤ z → z ≤ τ .period → js k .ended ≡ true → (holds r τ (js k) ≡ true → τ .deadline ≤ z) → Tied r τ t js (resting τ z)
-  rested a b over done =
+  rested : z ≤ τ .period → js k .ended ≡ true → (holds r τ (js k) ≡ true → τ .deadline ≤ z) → Tied r τ t js (resting τ z)
+  rested b over done =
       by-eq (λ (x : Bool). Tied r τ t js (cond x (Working 0 0) (Resting z))) z (τ .period)
       (λ e. record {
         number = suc k;
@@ -60,50 +60,44 @@ module _ (r : Rule) (τ : Task) (ok : Sound τ) (t : ℕ) (js : ℕ → Job) (k 
         within = omega arith;
         line = h .ahead (suc k) (omega arith);
       })
-      (λ n. record { number = k; present = h; begun = a; short = omega arith; over = over; done = done })
+      (λ n. record { number = k; present = h; short = omega arith; over = over; done = done })
 
   -- a held job
   held-on :
-      r ≡ idling → 1 ≤ z → z ≤ τ .deadline → (u : ℕ) → 1 ≤ u → u ≤ τ .length → u ≤ z → js k .ended ≡ true → js k .claimed ≡ u
+      idles r ≡ true → z ≤ τ .deadline → (u : ℕ) → u ≤ τ .length → js k .ended ≡ true → js k .claimed ≡ u
       → Tied r τ t js (holding τ z u)
-  held-on idle a b u c d w over held =
+  held-on idle b u d over held =
       by-eq (λ (x : Bool). Tied r τ t js (cond (x || eqb z (τ .deadline)) (resting τ z) (Holding z u))) u (τ .length)
-      (λ e. rested a (le-trans b (ok .constrained)) over (λ q. absurd (full-done r τ (js k) (omega arith) q)))
+      (λ e. rested (le-trans b (ok .constrained)) over (λ q. absurd (full-done r τ (js k) (omega arith) q)))
       (λ n.
       by-eq (λ (x : Bool). Tied r τ t js (cond x (resting τ z) (Holding z u))) z (τ .deadline)
-      (λ e. rested a (le-trans b (ok .constrained)) over (λ q. omega arith))
+      (λ e. rested (le-trans b (ok .constrained)) over (λ q. omega arith))
       (λ m. record {
         number = k;
         present = h;
         idle = idle;
-        begun = a;
         in-time = omega arith;
-        some = c;
         short = omega arith;
-        within = w;
         over = over;
         held = held;
       }))
 
   -- a job that has just ended
-  ended-on :
-      1 ≤ z → z ≤ τ .deadline → (u : ℕ) → 1 ≤ u → u ≤ τ .length → u ≤ z → js k .ended ≡ true → js k .claimed ≡ u
-      → Tied r τ t js (ended r τ z u)
-  ended-on a b u c d w over held = go (idles r) refl
+  ended-on : z ≤ τ .deadline → (u : ℕ) → u ≤ τ .length → js k .ended ≡ true → js k .claimed ≡ u → Tied r τ t js (ended r τ z u)
+  ended-on b u d over held = go (idles r) refl
     where
       go : (x : Bool) → idles r ≡ x → Tied r τ t js (cond x (holding τ z u) (resting τ z))
-      go true e = held-on (idles-decides r .0 e) a b u c d w over held
-      go false e = rested a (le-trans b (ok .constrained)) over (λ q. absurd (none-holds r τ (js k) e q))
+      go true e = held-on e b u d over held
+      go false e = rested (le-trans b (ok .constrained)) over (λ q. absurd (none-holds r τ (js k) e q))
 
   -- an open job after a tick with cores
   worked-on :
-      z ≤ τ .deadline → (u : ℕ) (f : Bool) → 1 ≤ u → u ≤ τ .length → u ≤ z → js k ≡ mk u u (f || leb (τ .length) u)
+      z ≤ τ .deadline → (u : ℕ) (f : Bool) → u ≤ τ .length → u ≤ z → js k ≡ mk u u (f || leb (τ .length) u)
       → Tied r τ t js (worked r τ f z u)
-  worked-on b u true c d w line = ended-on (omega arith) b u c d w (ap (λ (j : Job). j .ended) line) (ap (λ (j : Job). j .claimed) line)
-  worked-on b u false c d w line =
+  worked-on b u true d w line = ended-on b u d (ap (λ (j : Job). j .ended) line) (ap (λ (j : Job). j .claimed) line)
+  worked-on b u false d w line =
       by-eq (λ (x : Bool). Tied r τ t js (cond x (ended r τ z u) (Working z u))) u (τ .length)
-      (λ e.
-      ended-on (omega arith) b u c d w (ap (λ (j : Job). j .ended) line ∙ le-leb (τ .length) u (omega arith)) (ap (λ (j : Job). j .claimed) line))
+      (λ e. ended-on b u d (ap (λ (j : Job). j .ended) line ∙ le-leb (τ .length) u (omega arith)) (ap (λ (j : Job). j .claimed) line))
       (λ n. record {
         number = k;
         present = h;
@@ -174,7 +168,7 @@ tied-on r τ ok t js w f (Working z u) h n = go w
     go : (w : Bool) → Tied r τ (suc t) (lineOn r τ t w f js) (nextPhase r τ w f (Working z u))
     go true =
         worked-on r τ ok (suc t) (lineOn r τ t true f js) k (z + 1) (present-on r τ ok t js true f k z new (h .present))
-        (omega (arith, less)) (u + 1) f (omega arith) (omega (arith, h .short)) (omega (arith, h .within))
+        (omega (arith, less)) (u + 1) f (omega (arith, h .short)) (omega (arith, h .within))
         (line-own r τ t true f js k own ∙ (work-open (τ .length) u f (js k) (h .line) ∙ rw add-one))
     go false = record {
       number = k;
@@ -208,15 +202,15 @@ tied-on r τ ok t js w f (Holding z u) h n = go w
     go : (w : Bool) → Tied r τ (suc t) (lineOn r τ t w f js) (holding τ (z + 1) (cond w (u + 1) u))
     go true =
         held-on r τ ok (suc t) (lineOn r τ t true f js) k (z + 1) (present-on r τ ok t js true f k z new (h .present))
-        (h .idle) (omega arith) (omega (arith, h .in-time)) (u + 1) (omega arith) (omega (arith, h .short)) (omega (arith, h .within))
+        (h .idle) (omega (arith, h .in-time)) (u + 1) (omega (arith, h .short))
         (over true) (held true ∙ omega (arith, h .held))
     go false =
         held-on r τ ok (suc t) (lineOn r τ t false f js) k (z + 1) (present-on r τ ok t js false f k z new (h .present))
-        (h .idle) (omega arith) (omega (arith, h .in-time)) u (h .some) (omega (arith, h .short)) (omega (arith, h .within))
+        (h .idle) (omega (arith, h .in-time)) u (omega (arith, h .short))
         (over false) (held false ∙ h .held)
 tied-on r τ ok t js w f (Resting z) h n =
     rested r τ ok (suc t) (lineOn r τ t w f js) k (z + 1) (present-on r τ ok t js w f k z new (h .present))
-    (omega arith) (omega (arith, h .short))
+    (omega (arith, h .short))
     (ap (λ (j : Job). j .ended) same ∙ h .over)
     (λ e. le-trans (h .done (subst (λ (j : Job). holds r τ j ≡ true) same e)) (omega arith))
   where

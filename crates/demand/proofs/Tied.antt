@@ -11,7 +11,7 @@ use Rattle.model.proofs.Bools.{not-true-false}
 use Rattle.model.proofs.Jobs.{mk, after-release, before-due, still}
 use Rattle.phase.specs.declared.Phase.{Phase}
 use Rattle.phase.specs.declared.Phase.the-variants.{Coming, Working, Holding, Resting}
-use Rattle.phase.specs.Phase.{PhaseIn, idles}
+use Rattle.phase.specs.Phase.{idles}
 
 -- THE TIE
 
@@ -36,16 +36,13 @@ pub record Works (τ : Task) (t : ℕ) (js : ℕ → Job) (z u : ℕ) : Type 0 w
   pub within : u ≤ z
   pub line : js number ≡ mk u u false
 
--- Holding z u: under idling, the present job has ended, has claimed u ticks and is not yet due
+-- Holding z u: under a rule by which ended work holds, the present job has ended, has claimed u ticks and is not yet due
 pub record Holds (r : Rule) (τ : Task) (t : ℕ) (js : ℕ → Job) (z u : ℕ) : Type 0 where
   pub number : ℕ
   pub present : Present τ t js number z
-  pub idle : r ≡ idling
-  pub begun : 1 ≤ z
+  pub idle : idles r ≡ true
   pub in-time : z < τ .deadline
-  pub some : 1 ≤ u
   pub short : u < τ .length
-  pub within : u ≤ z
   pub over : js number .ended ≡ true
   pub held : js number .claimed ≡ u
 
@@ -53,23 +50,16 @@ pub record Holds (r : Rule) (τ : Task) (t : ℕ) (js : ℕ → Job) (z u : ℕ)
 pub record Rests (r : Rule) (τ : Task) (t : ℕ) (js : ℕ → Job) (z : ℕ) : Type 0 where
   pub number : ℕ
   pub present : Present τ t js number z
-  pub begun : 1 ≤ z
   pub short : z < τ .period
   pub over : js number .ended ≡ true
   pub done : holds r τ (js number) ≡ true → τ .deadline ≤ z
 
+-- what ties a phase, as it is stored or as it is seen in a tick, to the line of its task's jobs (that a stored one is within its limits is `Passes`)
 abbrev pub Tied : Rule → Task → ℕ → (ℕ → Job) → Phase → Type 0
 Tied r τ t js (Coming left) = Comes τ t js left
 Tied r τ t js (Working z u) = Works τ t js z u
 Tied r τ t js (Holding z u) = Holds r τ t js z u
 Tied r τ t js (Resting z) = Rests r τ t js z
-
--- a tied phase is within its limits
-pub tied-in : (r : Rule) (τ : Task) (t : ℕ) (js : ℕ → Job) (ph : Phase) → Tied r τ t js ph → PhaseIn r τ ph
-tied-in r τ t js (Coming left) h = (h .some, omega (arith, h .when))
-tied-in r τ t js (Working z u) h = ((omega arith, h .by-due), h .short, h .within)
-tied-in r τ t js (Holding z u) h = (h .idle, (h .begun, omega (arith, h .in-time)), (h .some, omega (arith, h .short)), h .within)
-tied-in r τ t js (Resting z) h = (h .begun, omega (arith, h .short))
 
 -- WHICH JOB IS THE NEWEST, AND WHICH CLAIMS
 
@@ -79,14 +69,20 @@ newest-in τ k t pos h l =
     (le-of-suc-le-suc (div-lt-iff-lt-mul pos .1 (omega arith)))
     (le-div-iff-mul-le pos .1 (omega arith))
 
+-- before the first release the newest is the first
+pub newest-first : (τ : Task) (t : ℕ) → 0 < τ .period → t < τ .offset → newest τ t ≡ 0
+newest-first τ t pos l = le-antisymm (le-of-suc-le-suc (div-lt-iff-lt-mul pos .1 (omega arith))) (omega arith)
+
 -- none claims before the first release
 pub early : (r : Rule) (τ : Task) (t i : ℕ) (j : Job) → t < τ .offset → claims r τ i t j ≡ false
 early r τ t i j l = not-true-false (claims r τ i t j) (λ e. absurd (omega (arith, after-release r τ i t j e)))
 
 -- HOLDING
 
-pub hold-if : (r : Rule) (τ : Task) (j : Job) → r ≡ idling → j .claimed < τ .length → holds r τ j ≡ true
-hold-if r τ j e l = rw e (lt-ltb (j .claimed) (τ .length) l)
+pub hold-if : (r : Rule) (τ : Task) (j : Job) → idles r ≡ true → j .claimed < τ .length → holds r τ j ≡ true
+hold-if greedy τ j e l = absurd (false≢true e)
+hold-if limited τ j e l = absurd (false≢true e)
+hold-if idling τ j e l = lt-ltb (j .claimed) (τ .length) l
 
 -- a job that has claimed C ticks holds no more
 pub full-done : (r : Rule) (τ : Task) (j : Job) → τ .length ≤ j .claimed → holds r τ j ≡ true → ⊥
@@ -99,6 +95,12 @@ pub none-holds : (r : Rule) (τ : Task) (j : Job) → idles r ≡ false → hold
 none-holds greedy τ j n e = false≢true e
 none-holds limited τ j n e = false≢true e
 none-holds idling τ j n e = true≢false n
+
+-- holding goes by the ticks claimed
+pub same-holds : (r : Rule) (τ : Task) (a b : Job) → a .claimed ≡ b .claimed → holds r τ a ≡ holds r τ b
+same-holds greedy τ a b e = refl
+same-holds limited τ a b e = refl
+same-holds idling τ a b e = rw e
 
 -- an ended job claims if it holds
 ended-only : (a b : Bool) → a ≡ true → not a || b ≡ true → b ≡ true

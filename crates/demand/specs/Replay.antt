@@ -42,9 +42,9 @@ codes r xs = map (λ a. code (told a)) (answers r xs)
 abbrev pub Fits : List ℕ → List ℕ → List ℕ → Type 0
 Fits es numbers bytes = Listed es × (entryCount es ≤ length numbers) × (mostCores ≤ length bytes)
 
--- the same as a test (`fits-decides`)
-abbrev pub fits : List ℕ → List ℕ → List ℕ → Bool
-fits es numbers bytes = listed es && (leb (entryCount es) (length numbers) && leb mostCores (length bytes))
+-- the test, by the lengths of the slices that are written (`fits-decides`)
+abbrev pub fits : List ℕ → ℕ → ℕ → Bool
+fits es numbers bytes = listed es && (leb (entryCount es) numbers && leb mostCores bytes)
 
 -- what a replay gives: its answer, and the lent slices afterwards
 pub record Outcome : Type 0 where
@@ -68,7 +68,7 @@ rowSaid replayed.Unfit bytes = model.rowRefused 0 0
 -- everything is as found
 unfoldable pub played : Run → List ℕ → List ℕ → List ℕ → Outcome
 played r es numbers bytes =
-    cond (fits es numbers bytes)
+    cond (fits es (length numbers) (length bytes))
     (record {
       answer = rowCase (rowOf (after r (entriesIn es)) 0 .answer);
       numbers = codes r (entriesIn es) ++ drop (entryCount es) numbers;

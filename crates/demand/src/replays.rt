@@ -1,11 +1,12 @@
-// A run through a whole list of report sets.
+// A run through a whole list of entries.
 ghost use mathlib.Core.Path.{_≡_};
 ghost use mathlib.Core.List.{_++_};
 ghost use Prim.Native.Nat.{_≤_};
 ghost use lib.ListN.{length, drop};
 ghost use Rattle.run.specs.Answer.{told};
-ghost use Rattle.demand.specs.Advances.{after};
-ghost use Rattle.demand.specs.Replay.{code, Small, codes, rowCase, played};
+ghost use Rattle.demand.specs.Entries.{after};
+ghost use Rattle.demand.specs.Listing.{listed, entryCount, entriesIn};
+ghost use Rattle.demand.specs.Replay.{code, Small, codes, fits, rowCase, played};
 ghost use Rattle.model.specs.Sizes.{mostCores};
 use crate::Replayed;
 use model::ROW;
@@ -23,15 +24,44 @@ fn code(answer: Answer) -> u32
     }
 }
 
+// Whether the words are a list of entries: three words each, none over, and the first of each is 0.
+fn listed(entries: &[u32]) -> bool
+    ensures { λ r. ⌜ r ≡ listed (now (entries .entry)) ⌝ }
+{
+    if entries.len() % 3 == 0 {
+        let count = entries.len() / 3;
+        let mut i: usize = 0;
+        while i < count {
+            let kind = entries[3 * i];
+            if kind != 0 {
+                return false;
+            }
+            i += 1;
+        }
+        return true;
+    }
+    false
+}
+
+// Whether the words are a list of entries, and slices of so many numbers and bytes have room for its answers and its last row.
+fn fits(entries: &[u32], numbers: usize, bytes: usize) -> bool
+    ensures { λ r. ⌜ r ≡ fits (now (entries .entry)) numbers bytes ⌝ }
+{
+    let count = entries.len() / 3;
+    listed(entries) & ((count <= numbers) & (ROW <= bytes))
+}
+
 // The run after the list; its answers are written as numbers.
-fn advances(run: Run, reports: &[u32], numbers: &mut [u32]) -> Run
-    requires { ⌜ length (now reports) ≤ length (now numbers) ⌝ }
-    ensures { λ r. ⌜ (r ≡ after run (now (reports .entry))) × (now (numbers .exit) ≡ codes run (now (reports .entry)) ++ drop (length (now (reports .entry))) (now (numbers .entry))) ⌝ }
+fn advances(run: Run, entries: &[u32], numbers: &mut [u32]) -> Run
+    requires { ⌜ entryCount (now entries) ≤ length (now numbers) ⌝ }
+    ensures { λ r. ⌜ (r ≡ after run (entriesIn (now (entries .entry))))
+        × (now (numbers .exit) ≡ codes run (entriesIn (now (entries .entry))) ++ drop (entryCount (now (entries .entry))) (now (numbers .entry))) ⌝ }
 {
     let mut last = run;
+    let count = entries.len() / 3;
     let mut i: usize = 0;
-    while i < reports.len() {
-        let advanced = last.advance(reports[i]);
+    while i < count {
+        let advanced = last.advance(entries[3 * i + 1], entries[3 * i + 2]);
         let answer = advanced.answer;
         numbers[i] = code(answer);
         let next = advanced.run;
@@ -63,20 +93,18 @@ fn row_case(answer: Answer) -> Replayed
     }
 }
 
-// A run that has started, through the list of report sets: its answers and its last row are written.
-pub(crate) fn play(run: Run, reports: &[u32], numbers: &mut [u32], bytes: &mut [u8]) -> Replayed
-    ensures { λ r. ⌜ record { answer = r; numbers = now (numbers .exit); bytes = now (bytes .exit) } ≡ played run (now (reports .entry)) (now (numbers .entry)) (now (bytes .entry)) ⌝ }
+// A run that has started, through the list of entries: its answers and its last row are written.
+pub(crate) fn play(run: Run, entries: &[u32], numbers: &mut [u32], bytes: &mut [u8]) -> Replayed
+    ensures { λ r. ⌜ record { answer = r; numbers = now (numbers .exit); bytes = now (bytes .exit) }
+        ≡ played run (now (entries .entry)) (now (numbers .entry)) (now (bytes .entry)) ⌝ }
 {
-    if numbers.len() < reports.len() {
-        return Replayed::Short;
+    if fits(entries, numbers.len(), bytes.len()) {
+        let last = advances(run, entries, numbers);
+        let shown = last.row(0);
+        let row = shown.bytes;
+        put(row, bytes);
+        let answer = shown.answer;
+        return row_case(answer);
     }
-    if bytes.len() < ROW {
-        return Replayed::Short;
-    }
-    let last = advances(run, reports, numbers);
-    let shown = last.row();
-    let row = shown.bytes;
-    put(row, bytes);
-    let answer = shown.answer;
-    row_case(answer)
+    Replayed::Unfit
 }

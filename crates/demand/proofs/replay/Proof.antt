@@ -50,8 +50,8 @@ returns : tie.Need-returns
 returns c =
     let s = start-from-known-told c in
     let a = entry-from-start s .args in
-    replay-of (a .words .now) (a .reports .now) (a .numbers .now) (a .bytes .now) _
-    (sym (replay-refused (a .words .now) (a .reports .now) (a .numbers .now) (a .bytes .now) _ _ (told s _ (c .before .answer .given .1))))
+    replay-of (a .words .now) (a .entries .now) (a .numbers .now) (a .bytes .now) _
+    (sym (replay-refused (a .words .now) (a .entries .now) (a .numbers .now) (a .bytes .now) _ _ (told s _ (c .before .answer .given .1))))
 
 same-length : tie.Need-same-length
 same-length c = search needs
@@ -66,9 +66,9 @@ returns-2 c =
     let s = t .before .before in
     let a = entry-from-start s .args in
     let run : s .start .result .run ≡ startOf (a .words .now) .run = ap (λ (q : Started). q .run) (s .start .ensures .value) in
-    replay-of (a .words .now) (a .reports .now) (a .numbers .now) (a .bytes .now) _
-    (p .play .ensures ∙ (ap (λ (r : Run). played r (a .reports .now) (a .numbers .now) (a .bytes .now)) run
-    ∙ sym (replay-taken (a .words .now) (a .reports .now) (a .numbers .now) (a .bytes .now) (told s _ (t .enum-told .given .1)))))
+    replay-of (a .words .now) (a .entries .now) (a .numbers .now) (a .bytes .now) _
+    (p .play .ensures ∙ (ap (λ (r : Run). played r (a .entries .now) (a .numbers .now) (a .bytes .now)) run
+    ∙ sym (replay-taken (a .words .now) (a .entries .now) (a .numbers .now) (a .bytes .now) (told s _ (t .enum-told .given .1)))))
 
 pub replay-spec : {M : Type 1} → statement M
 replay-spec =

@@ -1,57 +1,87 @@
--- `demand::replays::advances` meets its contract. The loop's invariant: the run is the one after the advances passed, and their answers are written (`written-more`).
+-- `demand::replays::advances` meets its contract. The loop's invariant: the run is the one after the entries passed, and their answers are written
+-- (`written-more`).
 -- Assumes nothing.
 use mathlib.Core.Path.{_≡_, sym, ap, _∙_}
-use mathlib.Core.List.{List, [], _∷_, _++_}
+use mathlib.Core.List.{List, [], _∷_, _++_, map}
 use Prim.Native.Nat.{ℕ, _+_, _-_, _≤_}
 use native.Mathlib.Omega.{arith}
-use lib.ListN.{length, getD, take, drop, length-set}
-use lib.Seq.{length-take-le, take-all}
+use lib.ListN.{length, drop, length-set}
 use borrow.Author.Needs.{needs}
 use Rattle.run.specs.declared.Run.{Run}
 use Rattle.run.specs.declared.Advanced.{Advanced}
 use Rattle.run.specs.Answer.{told}
-use Rattle.run.specs.Advance.{advanceOf}
-use Rattle.demand.specs.Advances.{answers, after}
+use Rattle.model.specs.Book.{Entry}
+use Rattle.model.specs.Search.{upFrom}
+use Rattle.demand.specs.Entries.{entryOf, answers, after}
+use Rattle.demand.specs.Listing.{entryCount, entryAt}
 use Rattle.demand.specs.Replay.{code, codes}
-use Rattle.run.proofs.Written.{written-more, take-more}
-use Rattle.demand.proofs.Listed.{after-more, codes-more, length-codes}
+use Rattle.run.proofs.Written.{written-more}
+use Rattle.demand.proofs.Listed.{after-more, codes-more, length-codes, entries-more, length-entries}
 use Rattle.demand.proofs.Codes.{small-answer}
 use Rattle.demand.proofs.replays.advances.Statement.{statement}
 use Rattle.demand.proofs.replays.advances.Tie as tie
 
+-- the first i entries of the words
+abbrev first : List ℕ → ℕ → List Entry
+first es i = map (entryAt es) (upFrom 0 i)
+
 abbrev Inv-loop : tie.InvT-loop
-Inv-loop reports numbers₀ last₀ i₀ numbers last i =
-    (i ≤ length reports) × ((length numbers ≡ length numbers₀) × ((last ≡ after last₀ (take i reports)) × (numbers ≡ codes last₀ (take i reports) ++ drop i numbers₀)))
+Inv-loop entries numbers₀ last₀ count i₀ numbers last i =
+    (i ≤ count) × ((count ≡ entryCount entries) × ((length numbers ≡ length numbers₀)
+    × ((last ≡ after last₀ (first entries i)) × (numbers ≡ codes last₀ (first entries i) ++ drop i numbers₀))))
 
 abbrev μ-loop : tie.MeasureT-loop
-μ-loop reports numbers₀ last₀ i₀ numbers last i = length reports - i
+μ-loop entries numbers₀ last₀ count i₀ numbers last i = count - i
 
 -- the state at the call
 abbrev entry : tie.At-loop Inv-loop μ-loop → tie.Start Inv-loop μ-loop
 entry c = c .before .before .before
 
--- the state at the head of the loop
-abbrev loop-from-code : tie.After-code Inv-loop μ-loop → tie.At-loop Inv-loop μ-loop
-loop-from-code c = c .before .before .before .before
+-- the state in which the first word of an entry is read
+abbrev read : tie.After-advance Inv-loop μ-loop → tie.After-shared-slice-known2 Inv-loop μ-loop
+read c = c .before .before
 
-abbrev loop-from-next : tie.After-next Inv-loop μ-loop → tie.At-loop Inv-loop μ-loop
-loop-from-next c = loop-from-code (c .before)
+-- the state at the head of the loop
+abbrev loop : tie.After-shared-slice-known2 Inv-loop μ-loop → tie.At-loop Inv-loop μ-loop
+loop c = c .before .before
+
+-- the state after the advance
+abbrev advanced : tie.After-next Inv-loop μ-loop → tie.After-advance Inv-loop μ-loop
+advanced c = c .before .before
 
 loop-holds : tie.Need-loop-holds Inv-loop μ-loop
-unfolding after answers
+unfolding after answers upFrom
 loop-holds c = search needs
 
 mul-advance : tie.Need-mul-advance Inv-loop μ-loop
-mul-advance c = search needs
+mul-advance c = omega arith
+
+add-advance : tie.Need-add-advance Inv-loop μ-loop
+add-advance c = omega arith
+
+mul-advance-2 : tie.Need-mul-advance-2 Inv-loop μ-loop
+mul-advance-2 c = search needs
 
 shared-slice-read-advance : tie.Need-shared-slice-read-advance Inv-loop μ-loop
 shared-slice-read-advance c = omega arith
+
+mul-advance-3 : tie.Need-mul-advance-3 Inv-loop μ-loop
+mul-advance-3 c = omega arith
+
+add-advance-2 : tie.Need-add-advance-2 Inv-loop μ-loop
+add-advance-2 c = omega arith
+
+mul-advance-4 : tie.Need-mul-advance-4 Inv-loop μ-loop
+mul-advance-4 c = search needs
+
+shared-slice-read-advance-2 : tie.Need-shared-slice-read-advance-2 Inv-loop μ-loop
+shared-slice-read-advance-2 c = omega arith
 
 advance-requires : tie.Need-advance-requires Inv-loop μ-loop
 advance-requires c κs = search needs
 
 code-requires : tie.Need-code-requires Inv-loop μ-loop
-code-requires c κs = rw (c .advance .ensures .value) (small-answer _ _)
+code-requires c κs = rw (c .advance .ensures .value) (small-answer _ _ _)
 
 mul-numbers : tie.Need-mul-numbers Inv-loop μ-loop
 mul-numbers c = search needs
@@ -67,42 +97,44 @@ loop-less c = omega arith
 
 loop-again : tie.Need-loop-again Inv-loop μ-loop
 loop-again c =
-    let s = loop-from-next c in
+    let d = advanced c in
+    let s = loop (read d) in
     let a = entry s .args in
-    let xs = a .reports .now in
     let i = s .loop .i in
-    let x = getD xs i 0 in
-    let v : c .before .before .advance .result ≡ advanceOf (after (a .run) (take i xs)) x =
-    c .before .before .advance .ensures .value ∙ ap (λ (r : Run). advanceOf r x) (s .loop .inv .1 .1 .0) in
-    let t : take (i + 1) xs ≡ take i xs ++ (x ∷ []) = take-more xs i 0 (omega arith) in
-    let n : length (codes (a .run) (take i xs)) ≡ i = length-codes (a .run) (take i xs) ∙ length-take-le i xs (omega arith) in
-    let w : c .before .code .result ≡ code (told (advanceOf (after (a .run) (take i xs)) x .answer)) =
+    let xs = first (a .entries .now) i in
+    let x = entryAt (a .entries .now) i in
+    let v : d .advance .result ≡ entryOf (after (a .run) xs) x = d .advance .ensures .value ∙ ap (λ (r : Run). entryOf r x) (s .loop .inv .1 .1 .1 .0) in
+    let t : first (a .entries .now) (i + 1) ≡ xs ++ (x ∷ []) = entries-more (a .entries .now) i in
+    let n : length (codes (a .run) xs) ≡ i = length-codes (a .run) xs ∙ length-entries (a .entries .now) i in
+    let w : c .before .code .result ≡ code (told (entryOf (after (a .run) xs) x .answer)) =
     c .before .code .ensures ∙ ap (λ (b : Advanced). code (told (b .answer))) v in
-    let more = written-more (codes (a .run) (take i xs)) (a .numbers .now) i (c .before .code .result) 0 n (omega arith) in
-    let all : codes (a .run) (take (i + 1) xs) ≡ codes (a .run) (take i xs) ++ (c .before .code .result ∷ []) =
-    ap (codes (a .run)) t ∙ (codes-more (a .run) (take i xs) x ∙ ap (λ (k : ℕ). codes (a .run) (take i xs) ++ (k ∷ [])) (sym w)) in (
+    let more = written-more (codes (a .run) xs) (a .numbers .now) i (c .before .code .result) 0 n (omega arith) in
+    let all : codes (a .run) (first (a .entries .now) (i + 1)) ≡ codes (a .run) xs ++ (c .before .code .result ∷ []) =
+    ap (codes (a .run)) t ∙ (codes-more (a .run) xs x ∙ ap (λ (k : ℕ). codes (a .run) xs ++ (k ∷ [])) (sym w)) in (
       omega arith,
       (
-        simp length-set (s .loop .inv .1 .0),
+        s .loop .inv .1 .0,
         (
-          ap (λ (b : Advanced). b .run) v ∙ (sym (after-more (a .run) (take i xs) x) ∙ ap (after (a .run)) (sym t)),
-          simp (s .loop .inv .1 .1 .1) (more ∙ ap (λ (l : List ℕ). l ++ drop (i + 1) (a .numbers .now)) (sym all)),
+          simp length-set (s .loop .inv .1 .1 .0),
+          (
+            ap (λ (b : Advanced). b .run) v ∙ (sym (after-more (a .run) xs x) ∙ ap (after (a .run)) (sym t)),
+            simp (s .loop .inv .1 .1 .1 .1) (more ∙ ap (λ (l : List ℕ). l ++ drop (i + 1) (a .numbers .now)) (sym all)),
+          ),
         ),
       ),
     )
 
 same-length : tie.Need-same-length Inv-loop μ-loop
-same-length c = c .before .loop .inv .1 .0
+same-length c = c .before .loop .inv .1 .1 .0
 
 returns : tie.Need-returns Inv-loop μ-loop
 returns c =
     let s = c .before in
     let a = entry s .args in
-    let xs = a .reports .now in
-    let e : s .loop .i ≡ length xs = omega arith in
-    let t : take (s .loop .i) xs ≡ xs = take-all (s .loop .i) xs (omega arith) in (
-      s .loop .inv .1 .1 .0 ∙ ap (after (a .run)) t,
-      s .loop .inv .1 .1 .1 ∙ (ap (λ (l : List ℕ). codes (a .run) l ++ drop (s .loop .i) (a .numbers .now)) t ∙ ap (λ (k : ℕ). codes (a .run) xs ++ drop k (a .numbers .now)) e),
+    let es = a .entries .now in
+    let e : s .loop .i ≡ entryCount es = omega arith in (
+      s .loop .inv .1 .1 .1 .0 ∙ ap (λ (k : ℕ). after (a .run) (first es k)) e,
+      s .loop .inv .1 .1 .1 .1 ∙ ap (λ (k : ℕ). codes (a .run) (first es k) ++ drop k (a .numbers .now)) e,
     )
 
 pub advances-spec : {M : Type 1} → statement M
@@ -113,7 +145,13 @@ advances-spec =
     μ-loop
     loop-holds
     mul-advance
+    add-advance
+    mul-advance-2
     shared-slice-read-advance
+    mul-advance-3
+    add-advance-2
+    mul-advance-4
+    shared-slice-read-advance-2
     advance-requires
     code-requires
     mul-numbers

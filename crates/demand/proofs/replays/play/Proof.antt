@@ -1,19 +1,21 @@
--- `demand::replays::play` meets its contract: short where a lent slice has no room, and else what `advances`, `row` and `put` give.
+-- `demand::replays::play` meets its contract: unfit where the lent slices are, and else what `advances`, `row` and `put` give.
 -- Assumes nothing.
 use mathlib.Core.Path.{_≡_, sym, ap, _∙_}
 use mathlib.Core.List.{List, _++_}
 use Prim.Native.Nat.{ℕ}
 use lib.ListN.{drop}
 use borrow.Author.Needs.{needs}
-use Rattle.demand.specs.declared.Replayed.{Replayed}
+use Rattle.model.specs.Sizes.{mostCores}
+use Rattle.run.specs.declared.Run.{Run}
 use Rattle.run.specs.declared.Row.{Row}
 use Rattle.run.specs.Row.{rowOf}
-use Rattle.demand.specs.Advances.{after}
-use Rattle.demand.specs.Replay.{rowCase, Outcome}
-use Rattle.demand.proofs.Outcomes.{played-few, played-narrow, played-room}
+use Rattle.demand.specs.declared.Replayed.{Replayed}
+use Rattle.demand.specs.Entries.{after}
+use Rattle.demand.specs.Listing.{entriesIn}
+use Rattle.demand.specs.Replay.{Fits, rowCase, Outcome}
+use Rattle.demand.proofs.Outcomes.{fits-decides, played-unfit, played-fit}
 use Rattle.demand.proofs.replays.play.Statement.{statement}
 use Rattle.demand.proofs.replays.play.Tie as tie
-use Rattle.model.specs.Sizes.{mostCores}
 
 -- the state at the call
 abbrev entry : tie.After-slice-known2 → tie.Start
@@ -24,35 +26,38 @@ abbrev put : tie.After-row-case → tie.After-put
 put c = c .before .before .before
 
 -- the state after `row`
-abbrev row-from-put : tie.After-put → tie.After-row
-row-from-put c = c .before .before .before
+abbrev row-of : tie.After-put-arg → tie.After-row
+row-of c = c .before .before
 
 -- the state after `advances`
 abbrev advances : tie.After-row → tie.After-advances
 advances c = c .before .before .before
 
+-- the state in which the slices fit
+abbrev fit : tie.After-advances → tie.Then1
+fit c = c .before .before
+
 -- an outcome, part by part
-outcome : {x y : Replayed} {k l m n : List ℕ} → x ≡ y → k ≡ l → m ≡ n → _≡_ {A = Outcome} (record { answer = x; numbers = k; bytes = m }) (record { answer = y; numbers = l; bytes = n })
+outcome : {x y : Replayed} {k l m n : List ℕ} → x ≡ y → k ≡ l → m ≡ n
+    → _≡_ {A = Outcome} (record { answer = x; numbers = k; bytes = m }) (record { answer = y; numbers = l; bytes = n })
 outcome p q s = λ i. record { answer = p i; numbers = q i; bytes = s i }
 
-returns : tie.Need-returns
-returns c =
-    let a = entry (c .before) .args in
-    sym (played-few (a .run) (a .reports .now) (a .numbers .now) (a .bytes .now) (c .if1 .taken))
-
-returns-2 : tie.Need-returns-2
-returns-2 c =
+fitting : (c : tie.Then1) → (let a = entry (c .before .before) .args in Fits (a .entries .now) (a .numbers .now) (a .bytes .now))
+fitting c =
     let a = entry (c .before .before) .args in
-    sym (played-narrow (a .run) (a .reports .now) (a .numbers .now) (a .bytes .now) (c .if2 .taken))
+    fits-decides (a .entries .now) (a .numbers .now) (a .bytes .now) .0 (sym (c .before .fits2 .ensures) ∙ c .if1 .taken)
+
+fits-requires : tie.Need-fits-requires
+fits-requires c κs = search needs
 
 advances-requires : tie.Need-advances-requires
-advances-requires c κs = search needs
+advances-requires c κs = fitting (c .before) .1
 
 row-requires : tie.Need-row-requires
 row-requires c κs = search needs
 
 put-requires : tie.Need-put-requires
-put-requires c κs = search needs
+put-requires c κs = fitting (fit (advances (row-of c))) .2
 
 row-case-requires : tie.Need-row-case-requires
 row-case-requires c κs = search needs
@@ -63,20 +68,36 @@ same-length c = search needs
 same-length-2 : tie.Need-same-length-2
 same-length-2 c = search needs
 
-returns-3 : tie.Need-returns-3
-returns-3 c =
+returns : tie.Need-returns
+returns c =
     let u = put c in
-    let w = row-from-put u in
+    let w = row-of (u .before) in
     let v = advances w in
-    let f = v .before .before in
+    let f = fit v in
     let a = entry (f .before .before) .args in
-    let row : w .row .result ≡ rowOf (after (a .run) (a .reports .now)) = w .row .ensures .value ∙ ap rowOf (v .advances .ensures .0) in
+    let row : w .row .result ≡ rowOf (after (a .run) (entriesIn (a .entries .now))) 0 =
+    w .row .ensures .value ∙ ap (λ (r : Run). rowOf r 0) (v .advances .ensures .0) in
     outcome
     (c .row-case .ensures ∙ ap (λ (q : Row). rowCase (q .answer)) row)
     (v .advances .ensures .1)
     (u .put .ensures ∙ ap (λ (q : Row). q .bytes ++ drop mostCores (a .bytes .now)) row)
-    ∙ sym (played-room (a .run) (a .reports .now) (a .numbers .now) (a .bytes .now) (f .before .if1 .left) (f .if2 .left))
+    ∙ sym (played-fit (a .run) (a .entries .now) (a .numbers .now) (a .bytes .now) (sym (f .before .fits2 .ensures) ∙ f .if1 .taken))
+
+returns-2 : tie.Need-returns-2
+returns-2 c =
+    let a = entry (c .before .before) .args in
+    sym (played-unfit (a .run) (a .entries .now) (a .numbers .now) (a .bytes .now) (sym (c .before .fits2 .ensures) ∙ c .if1 .left))
 
 pub play-spec : {M : Type 1} → statement M
 play-spec =
-    tie.close (tie.spec returns returns-2 advances-requires row-requires put-requires row-case-requires same-length same-length-2 returns-3)
+    tie.close
+    (tie.spec
+    fits-requires
+    advances-requires
+    row-requires
+    put-requires
+    row-case-requires
+    same-length
+    same-length-2
+    returns
+    returns-2)
