@@ -131,6 +131,10 @@ known-from r p e =
 known-within : (r : Run) (p : ℕ) → unknownIn r p ≡ false → pastCount (r .count) (model.only p) ≡ false
 known-within r p e = let k = known-from r p e in within-only (r .count) p (k .0) (k .1)
 
+-- so a taken one's is
+pub taken-within : (r : Run) (p : ℕ) → withdrawAnswer r (unknownIn r p) ≡ Taken → pastCount (r .count) (model.only p) ≡ false
+taken-within r p e = known-within r p (taken-parts r (unknownIn r p) (ap told e) .2)
+
 -- a value that is the withdrawal's by definition keeps what a withdrawal promises
 pub withdraw-of : (r : Run) (p : ℕ) (a : Advanced) → a ≡ withdrawOf r p → WithdrawOf r p a
 withdraw-of r p a q = rw q record {
