@@ -7,7 +7,7 @@ use Prim.Native.Nat.{ℕ, zero, suc, _/_, _%_, _^_, _≤_}
 use native.Mathlib.Nat.{not-suc-le-zero, le-of-suc-le-suc}
 use lib.ListN.{length, getD, take, drop}
 use lib.Seq.{length-take-le}
-use Rattle.model.specs.Book.{Book, Entry, Answer, taken, refused, Asked, shown, answersFrom, bookFrom, emptyBook, book, enter, asked, quiet, rowsFrom}
+use Rattle.model.specs.Book.{Book, Entry, emptiesOf, Answer, taken, refused, Asked, shown, answersFrom, bookFrom, emptyBook, book, enter, asked, quiet, rowsFrom}
 use Rattle.model.specs.Book.{claims, full, served, step, work}
 use Rattle.model.specs.Grants.{claimants, given, grants, left}
 use Rattle.model.specs.Horizon.{S, horizon, hyperperiod, lcm}
@@ -54,10 +54,10 @@ wordsOf l = 1 ∷ l .table .cores ∷ numberOf (l .table .rule) ∷ l .table .fe
 -- a replay of its first k advances writes its first k answers, and is told its row k where that is asked with no empty job, as a replay asks
 abbrev pub Shows : Line → Type 0
 Shows l =
-    (k : ℕ) → k ≤ length (l .advances) → (numbers bytes : List ℕ) (o : Outcome)
-    → ReplayOf (wordsOf l) (listing (take k (l .advances))) numbers bytes o → Fits (listing (take k (l .advances))) numbers bytes
+    (k : ℕ) → k ≤ length (l .entries) → (numbers bytes : List ℕ) (o : Outcome)
+    → ReplayOf (wordsOf l) (listing (take k (l .entries))) numbers bytes o → Fits (listing (take k (l .entries))) numbers bytes
     → (o .numbers ≡ map code (take k (l .answers)) ++ drop k numbers)
-    × (getD (l .advances) k quiet .empties ≡ 0 → rowSaid (o .answer) (take 64 (o .bytes)) ≡ askedIn64 (getD (l .rows) k (shown [])))
+    × (emptiesOf (getD (l .entries) k quiet) ≡ 0 → rowSaid (o .answer) (take 64 (o .bytes)) ≡ askedIn64 (getD (l .rows) k (shown [])))
 
 -- a replay of any words is refused by 13, and everything is as found
 abbrev pub Misses : Line → Type 0
@@ -82,7 +82,7 @@ answers-take s b (x ∷ xs) (suc k) = ap (λ (l : List Answer). answersFrom s b 
 -- row k is asked with the empty jobs of the advance that follows it
 rows-at :
     (s : Table) (b : Book) (xs : List Entry) (k : ℕ) (d : Asked) → k ≤ length xs
-    → getD (rowsFrom s b xs) k d ≡ asked s (bookFrom s b (take k xs)) (getD xs k quiet .empties)
+    → getD (rowsFrom s b xs) k d ≡ asked s (bookFrom s b (take k xs)) (emptiesOf (getD xs k quiet))
 unfolding rowsFrom bookFrom
 rows-at s b [] zero d h = refl
 rows-at s b (x ∷ xs) zero d h = refl
@@ -99,12 +99,12 @@ module _ (l : Line) (works : worked l ≡ l) (table : tableOf (wordsOf l) ≡ l 
   shows : told (startOf (wordsOf l) .answer) ≡ taken → Shows l
   shows start k h numbers bytes o r fit = (
     b .each-answer ∙ (ap (λ (al : List Answer). map code al ++ drop (length xs) numbers) said
-        ∙ ap (λ (n : ℕ). map code (take k (l .answers)) ++ drop n numbers) (length-take-le k (l .advances) h)),
+        ∙ ap (λ (n : ℕ). map code (take k (l .answers)) ++ drop n numbers) (length-take-le k (l .entries) h)),
     λ q. b .row-after ∙ ap askedIn64 (row q),
   )
     where
       xs : List Entry
-      xs = take k (l .advances)
+      xs = take k (l .entries)
 
       b : ByTheBook (wordsOf l) xs numbers bytes o
       b = subst (λ (ys : List Entry). ByTheBook (wordsOf l) ys numbers bytes o) (entries-listing xs) (r .book (start-taken (wordsOf l) .0 start) fit)
@@ -112,13 +112,13 @@ module _ (l : Line) (works : worked l ≡ l) (table : tableOf (wordsOf l) ≡ l 
       said : answersFrom (tableOf (wordsOf l)) emptyBook xs ≡ take k (l .answers)
       said =
           ap (λ (s : Table). answersFrom s emptyBook xs) table
-          ∙ (answers-take (l .table) emptyBook (l .advances) k ∙ ap (λ (m : Line). take k (m .answers)) works)
+          ∙ (answers-take (l .table) emptyBook (l .entries) k ∙ ap (λ (m : Line). take k (m .answers)) works)
 
-      row : getD (l .advances) k quiet .empties ≡ 0 → asked (tableOf (wordsOf l)) (book (tableOf (wordsOf l)) xs) 0 ≡ getD (l .rows) k (shown [])
+      row : emptiesOf (getD (l .entries) k quiet) ≡ 0 → asked (tableOf (wordsOf l)) (book (tableOf (wordsOf l)) xs) 0 ≡ getD (l .rows) k (shown [])
       row q =
           ap (λ (s : Table). asked s (book s xs) 0) table
           ∙ (ap (asked (l .table) (book (l .table) xs)) (sym q)
-          ∙ (sym (rows-at (l .table) emptyBook (l .advances) k (shown []) h) ∙ ap (λ (m : Line). getD (m .rows) k (shown [])) works))
+          ∙ (sym (rows-at (l .table) emptyBook (l .entries) k (shown []) h) ∙ ap (λ (m : Line). getD (m .rows) k (shown [])) works))
 
   misses : told (startOf (wordsOf l) .answer) ≡ refused 13 0 → Misses l
   misses start es numbers bytes o r =

@@ -71,7 +71,7 @@ fn enter(run: Run, kind: u32, first: u32, second: u32) -> Advanced
 }
 
 // The run after the list; its answers are written as numbers.
-fn advances(run: Run, entries: &[u32], numbers: &mut [u32]) -> Run
+fn through(run: Run, entries: &[u32], numbers: &mut [u32]) -> Run
     requires { ⌜ entryCount (now entries) ≤ length (now numbers) ⌝ }
     ensures { λ r. ⌜ (r ≡ after run (entriesIn (now (entries .entry))))
         × (now (numbers .exit) ≡ codes run (entriesIn (now (entries .entry))) ++ drop (entryCount (now (entries .entry))) (now (numbers .entry))) ⌝ }
@@ -118,7 +118,7 @@ pub(crate) fn play(run: Run, entries: &[u32], numbers: &mut [u32], bytes: &mut [
         ≡ played run (now (entries .entry)) (now (numbers .entry)) (now (bytes .entry)) ⌝ }
 {
     if fits(entries, numbers.len(), bytes.len()) {
-        let last = advances(run, entries, numbers);
+        let last = through(run, entries, numbers);
         let shown = last.row(0);
         let row = shown.bytes;
         put(row, bytes);
