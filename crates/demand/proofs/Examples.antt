@@ -1,5 +1,5 @@
--- The marked lines of the table of examples, and those with empty jobs, through `replay`: what its contract says of the words of a line's table and of the
--- line's advances is what the line says.
+-- The marked lines of the table of examples, and those with empty jobs and with withdrawals, through `replay`: what its contract says of the words of a
+-- line's table and of the line's list is what the line says.
 -- So B with its report shows the right side of figure 2 of Goossens and Berten row by row, up to the miss; and B3 with the same report shows the rows that it shows without.
 use mathlib.Core.Path.{_≡_, refl, sym, ap, _∙_, subst}
 use mathlib.Core.List.{List, [], _∷_, map, _++_}
@@ -18,6 +18,7 @@ use Rattle.model.specs.Verdict.{Verdict, Firm, Full, Miss, firstMiss, missedAt,
 use Rattle.model.proofs.LineByLine.{LineByLine, by-line}
 use Rattle.model.proofs.Examples.{Line, worked, lines, examples}
 use Rattle.model.proofs.EmptyExamples.{empty-lines, empty-examples}
+use Rattle.model.proofs.WithdrawExamples.{withdraw-lines, withdraw-examples}
 use Rattle.table.specs.Words.{met, count, chain, tableOf}
 use Rattle.table.specs.Answer.{headerNumber, lastStep, endingOf, firstOut, byHorizon, byTasks, byWalk, answerOf}
 use Rattle.judge.specs.Judged.{verdictOf}
@@ -51,7 +52,7 @@ wordsOf l = 1 ∷ l .table .cores ∷ numberOf (l .table .rule) ∷ l .table .fe
 
 -- WHAT IS SHOWN OF A LINE
 
--- a replay of its first k advances writes its first k answers, and is told its row k where that is asked with no empty job, as a replay asks
+-- a replay of its first k entries writes its first k answers, and is told its row k where that is asked with no empty job, as a replay asks
 abbrev pub Shows : Line → Type 0
 Shows l =
     (k : ℕ) → k ≤ length (l .entries) → (numbers bytes : List ℕ) (o : Outcome)
@@ -79,7 +80,7 @@ answers-take s b xs zero = refl
 answers-take s b [] (suc k) = refl
 answers-take s b (x ∷ xs) (suc k) = ap (λ (l : List Answer). answersFrom s b (x ∷ []) ++ l) (answers-take s (enter s x b) xs k)
 
--- row k is asked with the empty jobs of the advance that follows it
+-- row k is asked with the empty jobs of the entry that follows it
 rows-at :
     (s : Table) (b : Book) (xs : List Entry) (k : ℕ) (d : Asked) → k ≤ length xs
     → getD (rowsFrom s b xs) k d ≡ asked s (bookFrom s b (take k xs)) (emptiesOf (getD xs k quiet))
@@ -172,6 +173,12 @@ unfolding expected records startOf startAnswer verdictOf answerOf byWalk byTasks
     full
 begun-empty = (refl, (refl, (refl, (refl, (refl, (refl, (refl, (refl, (refl, (refl, (refl, (refl, (refl, (refl, (refl, tt)))))))))))))))
 
+begun-withdraw : LineByLine begins withdraw-lines (map expected withdraw-lines)
+unfolding expected records startOf startAnswer verdictOf answerOf byWalk byTasks byHorizon firstOut endingOf lastStep headerNumber tableOf chain count met
+    verdict firstMiss missedIn missedAt firm rising horizon S hyperperiod lcm least any memb upFrom kept given left grants claimants claims served work step
+    full
+begun-withdraw = (refl, (refl, (refl, (refl, (refl, (refl, (refl, (refl, (refl, (refl, (refl, (refl, (refl, (refl, tt))))))))))))))
+
 -- what the definitions say of lines, the contract says of them through `replay`
 through : (ls : List Line) → map worked ls ≡ ls → LineByLine begins ls (map expected ls) → Each (λ l. ByVerdict (l .says) l) ls
 through ls works starts =
@@ -190,3 +197,7 @@ through-replay = through lines examples begun
 -- and every line with empty jobs
 pub empty-through-replay : Each (λ l. ByVerdict (l .says) l) empty-lines
 empty-through-replay = through empty-lines empty-examples begun-empty
+
+-- and every line with withdrawals
+pub withdraw-through-replay : Each (λ l. ByVerdict (l .says) l) withdraw-lines
+withdraw-through-replay = through withdraw-lines withdraw-examples begun-withdraw

@@ -4,9 +4,9 @@ use mathlib.Core.Path.{_≡_}
 use mathlib.Core.Bool.{Bool, true, not, _&&_, _||_}
 use mathlib.Core.List.{[]}
 use mathlib.Core.Logic.{_⊎_}
-use Prim.Native.Nat.{ℕ, suc, _≤_, _<_}
+use Prim.Native.Nat.{ℕ, suc, _^_, _≤_, _<_}
 use lib.ListN.{getD}
-use lib.Dec.{eqb, ltb}
+use lib.Dec.{eqb, leb, ltb}
 use Rattle.model.specs.Search.{any, least, bit}
 use Rattle.model.specs.Fence.{openCount}
 use Rattle.model.specs.Firm.{FirmRule}
@@ -91,9 +91,9 @@ Unknown r p = (p ≡ 0) ⊎ (r .count < p)
 
 -- THE TESTS THAT DECIDE THEM
 
--- a set names a place at or past the count (`past-decides`)
+-- a set names a place at or past the count: as a number it is no less than that place's digit (`past-decides`)
 unfoldable pub pastCount : ℕ → ℕ → Bool
-pastCount count x = any x (λ p. bit x p && not (ltb p count))
+pastCount count x = leb (2 ^ count) x
 
 -- no such position (`unknown-decides`)
 abbrev pub unknownIn : Run → ℕ → Bool
