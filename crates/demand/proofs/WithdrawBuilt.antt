@@ -129,7 +129,12 @@ withdraw-lines =
     (Taken ∷ Refused 22 0 ∷ Taken ∷ [])
     (on2 1 1 ∷ on2 1 1 ∷ on2 1 1 ∷ on2 1 1 ∷ [])
     (out 2 (two 3 2 (t 0 2 2 4 4 (Working 1 1)) (t 0 1 2 4 4 (Holding 1 0))))
-    ∷ built "14: a position past the count is withdrawn"
+    ∷ []
+
+-- 14 of the withdrawn set, from both sides
+abbrev pub set-lines : List Named
+set-lines =
+    built "14: a position past the count is withdrawn"
     (out 2 (single 1 (Working 0 0))) (none ∷ withdraw 1 ∷ withdraw 9 ∷ [])
     (Refused 14 0 ∷ Refused 14 0 ∷ Refused 14 0 ∷ [])
     (no 14 0 ∷ no 14 0 ∷ no 14 0 ∷ no 14 0 ∷ [])
@@ -175,10 +180,16 @@ withdraw-lines =
 computed : LineByLine worked-named withdraw-lines withdraw-lines
 unfolding any least memb upFrom kept owner row given left grants claimants firm rising answers after rows advanceOf advanceAnswer withdrawOf withdrawAnswer
     rowOf rowAnswer bytesIn pastCount runOut firstLateIn misemptiedIn misreportedIn grantsIn mapFirst moved withdrawnIn
-computed =
-    (refl, (refl, (refl, (refl, (refl, (refl, (refl, (refl, (refl, (refl, (refl, (refl, (refl, (refl, (refl, (refl, (refl, (refl, (refl, (refl,
-    (refl, (refl, (refl, (refl, (refl, (refl, (refl, tt)))))))))))))))))))))))))))
+computed = (refl, (refl, (refl, (refl, (refl, (refl, (refl, (refl, (refl, (refl, (refl, (refl, (refl, (refl, (refl, (refl, (refl, (refl, (refl, tt)))))))))))))))))))
+
+computed-sets : LineByLine worked-named set-lines set-lines
+unfolding any least memb upFrom kept owner row given left grants claimants firm rising answers after rows advanceOf advanceAnswer withdrawOf withdrawAnswer
+    rowOf rowAnswer bytesIn pastCount runOut firstLateIn misemptiedIn misreportedIn grantsIn mapFirst moved withdrawnIn
+computed-sets = (refl, (refl, (refl, (refl, (refl, (refl, (refl, (refl, tt))))))))
 
 -- .. and as one list
 pub withdrawn-runs : map worked-named withdraw-lines ≡ withdraw-lines
 withdrawn-runs = by-line worked-named withdraw-lines withdraw-lines computed
+
+pub withdrawn-sets : map worked-named set-lines ≡ set-lines
+withdrawn-sets = by-line worked-named set-lines set-lines computed-sets

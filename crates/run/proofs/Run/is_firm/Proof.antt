@@ -62,8 +62,7 @@ loop-less c = omega arith
 loop-again : tie.Need-loop-again Inv-loop μ-loop
 loop-again c =
     let s = loop c in
-    let v = s .loop .inv in
-    (
+    let v = s .loop .inv in (
       omega arith,
       (
         simp length-set (v .1 .0),
