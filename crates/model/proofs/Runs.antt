@@ -213,6 +213,11 @@ early-moved s m b e p k h = rw (off, now) (rw and-false (e p k (omega arith)))
         let r = after-release (s .rule) (task s p) k (b .tick) (before .job p k) (and-left (jobClaims s before p k) (inRow s before p) c) in
         omega arith)
 
+early-run : (s : Table) (ms : List Move) (b : Book) → Early s b → Early s (run s b ms)
+unfolding run
+early-run s [] b e = e
+early-run s (m ∷ ms) b e = early-run s ms (moved s m b) (early-moved s m b e)
+
 -- THE REFUSING LISTS: the book of a list is the run of those of its advances that are taken
 book-from : (s : Table) (xs : List Entry) (b : Book) → lines (bookFrom s b xs) ≡ run s (lines b) (movesWith (b .withdrawn) (takenFrom s b xs))
 unfolding bookFrom takenFrom movesWith run enter afterTaken step emptied served
@@ -241,3 +246,7 @@ book-tick s xs =
 pub good-book : (s : Table) → AllSound s → (xs : List Entry) → GoodBook s (book s xs)
 good-book s ok xs =
     subst (GoodBook s) (sym (book-run s xs)) (good-run s ok (movesOf s xs) emptyBook (good-start s ok))
+
+-- and a job is fresh until its release
+pub early-book : (s : Table) (xs : List Entry) → Early s (book s xs)
+early-book s xs = subst (Early s) (sym (book-run s xs)) (early-run s (movesOf s xs) emptyBook (early-start s))
