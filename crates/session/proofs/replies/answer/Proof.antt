@@ -91,7 +91,7 @@ returns-3 c =
     let a = operation3 c .before .before .args in
     let o = operation3 c .operation3 .given .1 in (
       said-of (ap (λ (x : rows.Row). shownLine (a .run .cores) (x .answer) (x .bytes)) (c .before .before .row .ensures .value) ∙ said-row (a .operation) (a .run) _ o)
-      (c .say-row .ensures),
+          (c .say-row .ensures),
       run-row (a .operation) (a .run) _ o,
       last-row (a .operation) _ o,
     )
