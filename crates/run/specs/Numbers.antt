@@ -1,5 +1,5 @@
--- Numbers 14, 15, 20 and 16 for what row and advance turn down, and 14, 21 and 22 for what a withdrawal does (scope, 'Numbers for what is turned
--- down', and requests 105 and 106): when each applies, and which is the first.
+-- Numbers 14, 15, 20 and 16 for what row and advance turn down, and 14, 21 and 22 for what a withdrawal does
+-- (scope, 'Numbers for what is turned down', and requests 105 and 106): when each applies, and which is the first.
 use mathlib.Core.Path.{_≡_}
 use mathlib.Core.Bool.{Bool, true, not, _&&_, _||_}
 use mathlib.Core.List.{[]}
