@@ -13,7 +13,7 @@ use Rattle.run.specs.declared.Answer.{Answer}
 use Rattle.run.specs.declared.Answer.the-variants.{Taken, Refused}
 use Rattle.run.specs.Answer.{told}
 use Rattle.run.specs.Run.{firmIn}
-use Rattle.run.specs.Numbers.{runOut, unknownIn, firstLateIn, misemptiedIn, misreportedIn}
+use Rattle.run.specs.Numbers.{runOut, strangerIn, firstLateIn, misemptiedIn, misreportedIn}
 use Rattle.run.specs.Advance.{advanceAnswer, advanceOf}
 use Rattle.run.specs.Withdraw.{withdrawAnswer, withdrawOf}
 use Rattle.run.proofs.RunOut.{few}
@@ -45,7 +45,7 @@ small-advance r x e = by-out (runOut r) refl
 -- .. and those of a withdrawal
 small-withdraw : (r : Run) (p : ℕ) → Small (told (withdrawOf r p .answer))
 unfolding withdrawOf withdrawAnswer
-small-withdraw r p = go (runOut r) (firmIn r) (unknownIn r p)
+small-withdraw r p = go (runOut r) (firmIn r) (strangerIn r p)
   where
     go : (t u v : Bool) → Small (told (cond t (Refused 14 0) (cond u (cond v (Refused 22 0) Taken) (Refused 21 0))))
     go true u v = ((omega arith, omega arith), omega arith)

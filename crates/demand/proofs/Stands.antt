@@ -10,14 +10,14 @@ use Rattle.model.specs.Search.{bit}
 use Rattle.model.specs.Firm.{firm}
 use Rattle.model.specs.Task.{AllSound, Table}
 use Rattle.model.specs.Book.{Book, Entry, advance, withdraw, rowOf, emptied, emptyIn, advanced, without, only, afterTaken, Answer, taken, refused, firstLate}
-use Rattle.model.specs.Book.{misemptied, misreported, unknown, answer, shown, rowRefused, asked, entered, enter, bookFrom, answersFrom}
+use Rattle.model.specs.Book.{misemptied, misreported, stranger, answer, shown, rowRefused, asked, entered, enter, bookFrom, answersFrom}
 use Rattle.run.specs.declared.Run.{Run}
 use Rattle.run.specs.declared.Answer as declared
 use Rattle.run.specs.declared.Answer.the-variants.{Taken, Refused}
 use Rattle.run.specs.declared.Row.{Row}
 use Rattle.run.specs.Run.{moved, withdrawnIn}
 use Rattle.run.specs.Answer.{told, byAnswer, rowTold, askedIn64, in64}
-use Rattle.run.specs.Numbers.{misemptiedIn, misreportedIn, unknownIn}
+use Rattle.run.specs.Numbers.{misemptiedIn, misreportedIn, strangerIn}
 use Rattle.run.specs.Advance.{advanceAnswer, advanceOf}
 use Rattle.run.specs.Withdraw.{withdrawAnswer, withdrawOf}
 use Rattle.run.specs.Row.{rowAnswer, bytesIn, noBytes}
@@ -64,11 +64,11 @@ module _ (s : Table) (ok : AllSound s) where
           (same-misreported s ok c r e (looks s ok b r (h .related) it e) x)
 
   -- .. and to a withdrawal ..
-  same-withdraw : (b : Book) (r : Run) → Stands s b r → (p : ℕ) → told (withdrawAnswer r (unknownIn r p)) ≡ answer s b (withdraw p)
+  same-withdraw : (b : Book) (r : Run) → Stands s b r → (p : ℕ) → told (withdrawAnswer r (strangerIn r p)) ≡ answer s b (withdraw p)
   unfolding withdrawAnswer answer
   same-withdraw b r h p =
       rw (passes-runs r (h .passes), h .related .table .same-rule, h .related .table .same-tasks, h .related .table .same-count)
-      (told-alike (firm (s .rule) (s .tasks)) (unknown s p))
+      (told-alike (firm (s .rule) (s .tasks)) (stranger s p))
     where
       told-alike : (u v : Bool) → told (cond u (cond v (Refused 22 0) Taken) (Refused 21 0)) ≡ cond u (cond v (refused 22 0) taken) (refused 21 0)
       told-alike false v = refl
@@ -133,9 +133,9 @@ module _ (s : Table) (ok : AllSound s) where
             related = related-on s ok b r (h .related) it (bit x) e;
           })
       go (Refused n p) q = rw (sym q) h
-  stands-entry b r h (withdraw p) = go (withdrawAnswer r (unknownIn r p)) refl (same-withdraw b r h p)
+  stands-entry b r h (withdraw p) = go (withdrawAnswer r (strangerIn r p)) refl (same-withdraw b r h p)
     where
-      go : (w : declared.Answer) → withdrawAnswer r (unknownIn r p) ≡ w → told w ≡ answer s b (withdraw p)
+      go : (w : declared.Answer) → withdrawAnswer r (strangerIn r p) ≡ w → told w ≡ answer s b (withdraw p)
           → Stands s (entered (answer s b (withdraw p)) (without (only p) b) b) (byAnswer w (withdrawnIn (only p) r) r)
       go Taken v q =
           rw (sym q) (record {

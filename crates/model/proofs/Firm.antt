@@ -15,7 +15,7 @@ use Rattle.model.proofs.Search.{least-found}
 use Rattle.model.proofs.Sustain.{abreast-full, abreast-lists, finished}
 use Rattle.model.proofs.Verdict.{verdict-exact}
 use Rattle.model.specs.Book.{Answer, Asked, Book, Entry, NeverMissed, advance, answer, asked, book, emptied, emptyIn, firstLate, full, late, misemptied}
-use Rattle.model.specs.Book.{misreported, quiet, refused, rowOf, rowRefused, shown, taken, unknown, withdraw}
+use Rattle.model.specs.Book.{misreported, quiet, refused, rowOf, rowRefused, shown, taken, stranger, withdraw}
 use Rattle.model.specs.Compare.{NoneBehind}
 use Rattle.model.specs.Kept.{Kept}
 use Rattle.model.specs.Task.{AllSound, Table, due, task}
@@ -58,7 +58,7 @@ module _ (s : Table) (ok : AllSound s) (firmly : FirmRule s) (accepted : NeverMi
       go true v q = omega arith
       go false true q = omega arith
       go false false q = omega arith
-  no-15 xs (withdraw q) p e = go (firm (s .rule) (s .tasks)) (unknown s q) (ap number e)
+  no-15 xs (withdraw q) p e = go (firm (s .rule) (s .tasks)) (stranger s q) (ap number e)
     where
       go : (u v : Bool) → number (cond u (cond v (refused 22 0) taken) (refused 21 0)) ≡ 15 → ⊥
       go false v q = omega arith

@@ -13,22 +13,22 @@ use Rattle.model.proofs.Bools.{not-true-false, or-cases, or-left, or-ri
 use Rattle.model.proofs.Digits.{bit-power, or-bit, same-set}
 use Rattle.model.proofs.Verdict.{firm-exact}
 use Rattle.model.specs.Book.{Answer, Book, Entry, advance, afterTaken, answer, bookFrom, emptied, enter, entered, only, refused}
-use Rattle.model.specs.Book.{step, taken, unknown, withdraw, withdrawing, without}
+use Rattle.model.specs.Book.{step, taken, stranger, withdraw, withdrawing, without}
 use Rattle.model.specs.Firm.{FirmRule, firm}
 use Rattle.model.specs.Search.{bit}
 use Rattle.model.specs.Task.{Table}
 
 -- WHAT IT IS ANSWERED, whatever stands in the book: 15 is not looked at
 
--- a position is known exactly from 1 to the count
-pub unknown-exact : (s : Table) (p : ℕ) → (unknown s p ≡ true) ↔ ((p ≡ 0) ⊎ (length (s .tasks) < p))
-unknown-exact s p = (λ e. says (or-cases (eqb p 0) (ltb (length (s .tasks)) p) e), found)
+-- a position is none of the table exactly if it is 0 or past the count
+pub stranger-exact : (s : Table) (p : ℕ) → (stranger s p ≡ true) ↔ ((p ≡ 0) ⊎ (length (s .tasks) < p))
+stranger-exact s p = (λ e. says (or-cases (eqb p 0) (ltb (length (s .tasks)) p) e), found)
   where
     says : (eqb p 0 ≡ true) ⊎ (ltb (length (s .tasks)) p ≡ true) → (p ≡ 0) ⊎ (length (s .tasks) < p)
     says (inl e) = inl (eqb-true p 0 e)
     says (inr e) = inr (ltb-true (length (s .tasks)) p e)
 
-    found : (p ≡ 0) ⊎ (length (s .tasks) < p) → unknown s p ≡ true
+    found : (p ≡ 0) ⊎ (length (s .tasks) < p) → stranger s p ≡ true
     found (inl e) = or-left (eqb p 0) (ltb (length (s .tasks)) p) (eq-eqb p 0 e)
     found (inr l) = or-right (eqb p 0) (ltb (length (s .tasks)) p) (lt-ltb (length (s .tasks)) p l)
 
@@ -37,50 +37,50 @@ number : Answer → ℕ
 number taken = 0
 number (refused n p) = n
 
--- the three answers, by whether rule and widths are firm (t) and the position is unknown (u)
+-- the three answers, by whether rule and widths are firm (t) and the position is none of the table (u)
 chosen : Bool → Bool → Answer
 chosen t u = cond t (cond u (refused 22 0) taken) (refused 21 0)
 
-not-firm : (t u : Bool) → chosen t u ≡ refused 21 0 → t ≡ false
+by-21 : (t u : Bool) → chosen t u ≡ refused 21 0 → t ≡ false
 unfolding chosen number
-not-firm false u e = refl
-not-firm true true e = absurd (let n : 22 ≡ 21 = ap number e in omega arith)
-not-firm true false e = absurd (let n : 0 ≡ 21 = ap number e in omega arith)
+by-21 false u e = refl
+by-21 true true e = absurd (let n : 22 ≡ 21 = ap number e in omega arith)
+by-21 true false e = absurd (let n : 0 ≡ 21 = ap number e in omega arith)
 
-stranger : (t u : Bool) → chosen t u ≡ refused 22 0 → (t ≡ true) × (u ≡ true)
+by-22 : (t u : Bool) → chosen t u ≡ refused 22 0 → (t ≡ true) × (u ≡ true)
 unfolding chosen number
-stranger true true e = (refl, refl)
-stranger true false e = absurd (let n : 0 ≡ 22 = ap number e in omega arith)
-stranger false u e = absurd (let n : 21 ≡ 22 = ap number e in omega arith)
+by-22 true true e = (refl, refl)
+by-22 true false e = absurd (let n : 0 ≡ 22 = ap number e in omega arith)
+by-22 false u e = absurd (let n : 21 ≡ 22 = ap number e in omega arith)
 
-accepted : (t u : Bool) → chosen t u ≡ taken → (t ≡ true) × (u ≡ false)
+by-none : (t u : Bool) → chosen t u ≡ taken → (t ≡ true) × (u ≡ false)
 unfolding chosen number
-accepted true false e = (refl, refl)
-accepted true true e = absurd (let n : 22 ≡ 0 = ap number e in omega arith)
-accepted false u e = absurd (let n : 21 ≡ 0 = ap number e in omega arith)
+by-none true false e = (refl, refl)
+by-none true true e = absurd (let n : 22 ≡ 0 = ap number e in omega arith)
+by-none false u e = absurd (let n : 21 ≡ 0 = ap number e in omega arith)
 
 -- 21 exactly where rule and widths are not firm ..
 pub withdraw-not-firm : (s : Table) (b : Book) (p : ℕ) → (answer s b (withdraw p) ≡ refused 21 0) ↔ (¬ FirmRule s)
 unfolding answer chosen
 withdraw-not-firm s b p = (
-  λ e f. true≢false (sym (firm-exact s .1 f) ∙ not-firm (firm (s .rule) (s .tasks)) (unknown s p) e),
+  λ e f. true≢false (sym (firm-exact s .1 f) ∙ by-21 (firm (s .rule) (s .tasks)) (stranger s p) e),
   λ n. rw (not-true-false (firm (s .rule) (s .tasks)) (λ e. n (firm-exact s .0 e))),
 )
 
 -- .. 22 exactly where they are and the position is 0 or past the count ..
-pub withdraw-unknown : (s : Table) (b : Book) (p : ℕ) → (answer s b (withdraw p) ≡ refused 22 0) ↔ (FirmRule s × ((p ≡ 0) ⊎ (length (s .tasks) < p)))
+pub withdraw-stranger : (s : Table) (b : Book) (p : ℕ) → (answer s b (withdraw p) ≡ refused 22 0) ↔ (FirmRule s × ((p ≡ 0) ⊎ (length (s .tasks) < p)))
 unfolding answer chosen
-withdraw-unknown s b p = (
-  λ e. let x = stranger (firm (s .rule) (s .tasks)) (unknown s p) e in (firm-exact s .0 (x .0), unknown-exact s p .0 (x .1)),
-  λ x. rw (firm-exact s .1 (x .0), unknown-exact s p .1 (x .1)),
+withdraw-stranger s b p = (
+  λ e. let x = by-22 (firm (s .rule) (s .tasks)) (stranger s p) e in (firm-exact s .0 (x .0), stranger-exact s p .0 (x .1)),
+  λ x. rw (firm-exact s .1 (x .0), stranger-exact s p .1 (x .1)),
 )
 
 -- .. and else it is taken
 pub withdraw-taken : (s : Table) (b : Book) (p : ℕ) → (answer s b (withdraw p) ≡ taken) ↔ (FirmRule s × (1 ≤ p) × (p ≤ length (s .tasks)))
 unfolding answer chosen
 withdraw-taken s b p = (
-  λ e. let x = accepted (firm (s .rule) (s .tasks)) (unknown s p) e in
-      let within : ¬ ((p ≡ 0) ⊎ (length (s .tasks) < p)) = λ y. true≢false (sym (unknown-exact s p .1 y) ∙ x .1) in
+  λ e. let x = by-none (firm (s .rule) (s .tasks)) (stranger s p) e in
+      let within : ¬ ((p ≡ 0) ⊎ (length (s .tasks) < p)) = λ y. true≢false (sym (stranger-exact s p .1 y) ∙ x .1) in
       let first : ¬ (p ≡ 0) = λ y. within (inl y) in
       let last : ¬ (length (s .tasks) < p) = λ y. within (inr y) in
       (firm-exact s .0 (x .0), omega arith, omega arith),

@@ -169,9 +169,9 @@ emptiable s b p =
 unfoldable pub misemptied : Table → Book → ℕ → Bool
 misemptied s b e = any e (λ p. bit e p && not (emptiable s b p))
 
--- no such position: 0, or one past the last
-abbrev pub unknown : Table → ℕ → Bool
-unknown s p = eqb p 0 || ltb (length (s .tasks)) p
+-- a position that is none of the table: 0, or one past the last (`stranger-exact`)
+abbrev pub stranger : Table → ℕ → Bool
+stranger s p = eqb p 0 || ltb (length (s .tasks)) p
 
 -- what a call is answered: taken, or refused with number and position
 pub data Answer : Type 0 where
@@ -181,7 +181,7 @@ pub data Answer : Type 0 where
 -- a withdrawal: 21 where the table's rule and widths are not firm; else 22 where a position that it names is none of the table's; else taken.
 -- 15 is not looked at, nor anything else in the book (`withdraw-taken`)
 abbrev pub withdrawing : Table → Bool → Answer
-withdrawing s stranger = cond (firm (s .rule) (s .tasks)) (cond stranger (refused 22 0) taken) (refused 21 0)
+withdrawing s strange = cond (firm (s .rule) (s .tasks)) (cond strange (refused 22 0) taken) (refused 21 0)
 
 -- an advance: 15 with the lowest late position; else 20 with position 0; else, with the empty jobs ended, 16 with position 0; else taken
 unfoldable pub answer : Table → Book → Entry → Answer
@@ -191,7 +191,7 @@ answer s b (advance x e) =
     (cond (misemptied s b e)
     (refused 20 0)
     (cond (misreported s (emptied s (emptyIn b e) b) x) (refused 16 0) taken))
-answer s b (withdraw p) = withdrawing s (unknown s p)
+answer s b (withdraw p) = withdrawing s (stranger s p)
 
 -- what a row asked is answered: the row, or refused with number and position
 pub data Asked : Type 0 where

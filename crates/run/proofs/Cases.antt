@@ -11,7 +11,7 @@ use Rattle.run.specs.declared.Run.{Run}
 use Rattle.run.specs.declared.Answer.{Answer}
 use Rattle.run.specs.declared.Answer.the-variants.{Taken, Refused}
 use Rattle.run.specs.Run.{firmIn, moved, withdrawnIn}
-use Rattle.run.specs.Numbers.{runOut, unknownIn, firstLateIn, misemptiedIn, misreportedIn}
+use Rattle.run.specs.Numbers.{runOut, strangerIn, firstLateIn, misemptiedIn, misreportedIn}
 use Rattle.run.specs.Row.{rowAnswer, bytesIn, noBytes, rowOf}
 use Rattle.run.specs.Advance.{advanceAnswer, advanceOf}
 use Rattle.run.specs.Withdraw.{withdrawAnswer, withdrawOf}
@@ -74,11 +74,11 @@ module _ (r : Run) (p : ℕ) where
   unfolding withdrawOf withdrawAnswer
   withdraw-not-firm q f = rw (q, f) refl
 
-  pub withdraw-unknown : runOut r ≡ false → firmIn r ≡ true → unknownIn r p ≡ true → withdrawOf r p ≡ record { answer = Refused 22 0; run = r }
+  pub withdraw-stranger : runOut r ≡ false → firmIn r ≡ true → strangerIn r p ≡ true → withdrawOf r p ≡ record { answer = Refused 22 0; run = r }
   unfolding withdrawOf withdrawAnswer
-  withdraw-unknown q f u = rw (q, f, u) refl
+  withdraw-stranger q f u = rw (q, f, u) refl
 
   pub withdraw-taken :
-      runOut r ≡ false → firmIn r ≡ true → unknownIn r p ≡ false → withdrawOf r p ≡ record { answer = Taken; run = withdrawnIn (only p) r }
+      runOut r ≡ false → firmIn r ≡ true → strangerIn r p ≡ false → withdrawOf r p ≡ record { answer = Taken; run = withdrawnIn (only p) r }
   unfolding withdrawOf withdrawAnswer
   withdraw-taken q f u = rw (q, f, u) refl

@@ -25,7 +25,7 @@ use Rattle.phase.specs.Phase.{claiming, working, phaseIn, lateIn, released, see
 use Rattle.phase.specs.Task.{taskOf, pastEnd}
 use Rattle.run.specs.Run.{phaseAt, seenAt, widthsIn, grantsIn, hasCores, nextAt, moved, withdrawnIn}
 use Rattle.run.specs.Answer.{byAnswer}
-use Rattle.run.specs.Numbers.{placeOut, runOut, unknownIn, lateAt, firstLateIn, emptiableAt, misemptiedIn, reportableAt, misreportedIn}
+use Rattle.run.specs.Numbers.{placeOut, runOut, strangerIn, lateAt, firstLateIn, emptiableAt, misemptiedIn, reportableAt, misreportedIn}
 use Rattle.run.specs.Withdraw.{withdrawAnswer, withdrawOf}
 use Rattle.run.specs.Advance.{advanceAnswer, advanceOf}
 use Rattle.run.specs.Row.{rowAnswer, bytesIn, rowOf}
@@ -74,7 +74,7 @@ module _ (rule cores fence withdrawn count : ℕ) (ts us : List Task) (same : ta
           same-and (ltb p count) (ltb p count) (released (phaseAt one p)) (released (phaseAt other p)) refl
           (λ l. ap (λ (t : Task). released (t .phase)) (same-at p (ltb-true p count l)))
 
-  same-withdraw : (p : ℕ) → withdrawAnswer one (unknownIn one p) ≡ withdrawAnswer other (unknownIn other p)
+  same-withdraw : (p : ℕ) → withdrawAnswer one (strangerIn one p) ≡ withdrawAnswer other (strangerIn other p)
   unfolding withdrawAnswer
   same-withdraw p = rw (same-out, same)
 
@@ -127,7 +127,7 @@ module _ (rule cores fence withdrawn count : ℕ) (ts us : List Task) (same : ta
       answer = unfold advanceOf in same-advance x;
       run = unfold advanceOf in rw (same-advance x) (go (advanceAnswer other x e));
       withdraw-answer = λ p. unfold withdrawOf in same-withdraw p;
-      withdraw-run = λ p. unfold withdrawOf in rw (same-withdraw p) (out p (withdrawAnswer other (unknownIn other p)));
+      withdraw-run = λ p. unfold withdrawOf in rw (same-withdraw p) (out p (withdrawAnswer other (strangerIn other p)));
     }
       where
         as-given : SameBelow one other

@@ -86,8 +86,8 @@ pub data WithdrawApplies (r : Run) (stranger : Type 0) : ℕ → ℕ → Type 0 
   twenty-two : stranger → WithdrawApplies r stranger 22 0
 
 -- no such position: 0, or past the count
-abbrev pub Unknown : Run → ℕ → Type 0
-Unknown r p = (p ≡ 0) ⊎ (r .count < p)
+abbrev pub Stranger : Run → ℕ → Type 0
+Stranger r p = (p ≡ 0) ⊎ (r .count < p)
 
 -- THE TESTS THAT DECIDE THEM
 
@@ -95,9 +95,9 @@ Unknown r p = (p ≡ 0) ⊎ (r .count < p)
 unfoldable pub pastCount : ℕ → ℕ → Bool
 pastCount count x = leb (2 ^ count) x
 
--- no such position (`unknown-decides`)
-abbrev pub unknownIn : Run → ℕ → Bool
-unknownIn r p = eqb p 0 || ltb (r .count) p
+-- no such position (`stranger-decides`)
+abbrev pub strangerIn : Run → ℕ → Bool
+strangerIn r p = eqb p 0 || ltb (r .count) p
 
 -- 14 of one place (`place-decides`)
 abbrev pub placeOut : Run → ℕ → Bool

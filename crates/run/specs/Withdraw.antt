@@ -13,7 +13,7 @@ use Rattle.run.specs.declared.Answer.the-variants.{Taken, Refused}
 use Rattle.run.specs.declared.Advanced.{Advanced}
 use Rattle.run.specs.Run.{firmIn, withdrawnIn}
 use Rattle.run.specs.Answer.{told, byAnswer}
-use Rattle.run.specs.Numbers.{RunOut, WithdrawApplies, Unknown, runOut, unknownIn}
+use Rattle.run.specs.Numbers.{RunOut, WithdrawApplies, Stranger, runOut, strangerIn}
 
 -- 14, then 21, then 22 where it names a position that is none of the run's; else taken. 15 is not looked at
 unfoldable pub withdrawAnswer : Run → Bool → Answer
@@ -22,8 +22,8 @@ withdrawAnswer r stranger = cond (runOut r) (Refused 14 0) (cond (firmIn r) (con
 -- the run with position p withdrawn; where refused, the run as given
 unfoldable pub withdrawOf : Run → ℕ → Advanced
 withdrawOf r p = record {
-  answer = withdrawAnswer r (unknownIn r p);
-  run = byAnswer (withdrawAnswer r (unknownIn r p)) (withdrawnIn (model.only p) r) r;
+  answer = withdrawAnswer r (strangerIn r p);
+  run = byAnswer (withdrawAnswer r (strangerIn r p)) (withdrawnIn (model.only p) r) r;
 }
 
 -- what a withdrawal of the positions of set x from run r promises, where `stranger` says that x names one that is none of the run's
@@ -45,4 +45,4 @@ pub record WithdrawOf (r : Run) (p : ℕ) (a : Advanced) : Type 0 where
   -- its value
   pub value : a ≡ withdrawOf r p
   -- and what that says
-  pub exact : WithdrawnOf r (Unknown r p) (model.only p) a
+  pub exact : WithdrawnOf r (Stranger r p) (model.only p) a
