@@ -4,12 +4,12 @@
    No call keeps a pointer, or writes anywhere but into the slices lent for writing.
 
    What a call costs:
-   - Memory: none from the heap. Of the stack less than SIVORANDRA_STACK_BYTES (measured: replay 12,000 bytes, start 11,000, advance and
-     sentence 9,000, plan 7,000, judge 6,000, row 5,000, facts 1,000).
+   - Memory: none from the heap. Of the stack less than SIVORANDRA_STACK_BYTES (measured: replay 13,000 bytes, start 11,000, advance,
+     withdraw and sentence 9,000, plan 7,000, judge 6,000, row 5,000, facts 1,000).
    - Threads: the library has no state and no data that is written to, so any number of threads may call at once, each with slices of its own
      to be written to; slices that are only read may be shared. Of the C library it calls memcpy and memset alone.
-   - Time: row, advance and withdraw take some microseconds at most, a bound by the 32 tasks and 64 cores alone. judge goes from one release, end or
-     deadline to the next, or tick by tick where the periods are short: 10 to 100 ns each on x86-64, by how many tasks move. There are at most
+   - Time: row, advance and withdraw take some microseconds at most, a bound by the 32 tasks and 64 cores alone. judge goes from one release,
+     end or deadline to the next, or tick by tick where the periods are short: 10 to 100 ns each on x86-64, by how many tasks move. There are at most
      as many of these moments as ticks up to the horizon or the first miss. A horizon of 10,000,000 takes a second at most; the largest,
      1,000,000,000, milliseconds where the periods are long, and two minutes where all 32 tasks move in every tick. No call can be stopped
      from outside: where that is too long, judge in a process of its own. judge_ticks takes every tick; start takes as long as judge, sentence

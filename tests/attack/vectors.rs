@@ -35,7 +35,8 @@ fn one(number: &str, a: &str, b: &str, len: &str) -> Tried<()> {
     same(&format!("for {:?}", String::from_utf8_lossy(&text)), String::from_utf8_lossy(&expected), got.into())
 }
 
-/// What the library says to the operations on a run built by hand: `r [EMPTIES]` a row, `a REPORTS [EMPTIES]` an advance, `p` the run as text.
+/// What the library says to the operations on a run built by hand: `r [EMPTIES]` a row, `a REPORTS [EMPTIES]` an advance, `w POSITION` a withdrawal,
+/// `p` the run as text.
 fn operated(text: &[u8]) -> Tried<String> {
     let (words, operations) = book::built_from(text, &calls::NO_RUN);
     let mut run = Run::from_words(words);
@@ -52,6 +53,7 @@ fn operated(text: &[u8]) -> Tried<String> {
                 format!("row {}\n", row[..cores].iter().map(u8::to_string).collect::<Vec<_>>().join(" "))
             }),
             Some("a") if !sets.is_empty() => run.advance(sets[0], empties(1)).map_or_else(refused, |()| "taken\n".into()),
+            Some("w") if sets.len() == 1 => run.withdraw(sets[0]).map_or_else(refused, |()| "taken\n".into()),
             _ => return Err(format!("no operation: {operation}")),
         };
     }

@@ -464,11 +464,10 @@ static void withdrawals(void)
         }
     }
     for (uint32_t withdrawn = 0; withdrawn < 8; withdrawn++) {
-        uint32_t all[3] = { 1, 2, 3 };
         fresh(), memcpy(next, run.now + GUARD, sizeof next), next[0] = SIVORANDRA_LIMITED;
         for (uint32_t p = 0; p < 3; p++)
             if (withdrawn >> p & 1)
-                sivorandra_withdraw(next, RUN, all[p], three, 3);
+                sivorandra_withdraw(next, RUN, p + 1, three, 3);
         fresh(), words(&run, RUN, next, RUN), answered(0, 0, 0);
         uint32_t got = shown();
         uint8_t want[3] = { 0 };
@@ -506,7 +505,7 @@ static void lists(void)
         expect("replay: words of the list", len % 3 != 0, replay(full, TABLE, two, len));
     }
     for (size_t at = 0; at < 2; at++)
-        for (uint32_t kind = 1; kind < 4; kind++) { /* a withdrawal whose last word is 1, and others */
+        for (uint32_t kind = 1; kind < 4; kind++) { /* 1 is a withdrawal, whose last word is not 0 here */
             uint32_t entries[6];
             memcpy(entries, two, sizeof two), entries[3 * at] = kind == 3 ? ONES : kind;
             fresh(), expect("replay: no such entry", 1, replay(full, TABLE, entries, 6));

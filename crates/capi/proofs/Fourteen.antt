@@ -14,7 +14,7 @@ use borrow.Author.Tests.{leb-true, leb-false, lt-leb, eqb-false, ne-eqb}
 use Rattle.run.specs.declared.Answer.{Answer}
 use Rattle.run.specs.declared.Answer.the-variants.{Taken, Refused}
 use Rattle.run.specs.declared.Run.{Run}
-use Rattle.run.specs.Numbers.{RunOut, runOut, unknownIn, firstLateIn, misemptiedIn, misreportedIn}
+use Rattle.run.specs.Numbers.{RunOut, runOut, strangerIn, firstLateIn, misemptiedIn, misreportedIn}
 use Rattle.run.specs.Run.{firmIn}
 use Rattle.run.specs.Row.{rowAnswer, rowOf}
 use Rattle.run.specs.Advance.{advanceAnswer, advanceOf}
@@ -214,4 +214,4 @@ module _ (ws : List ℕ) where
   pub withdraw-fourteen : (p : ℕ) → (withdrawFrom (decode ws) p ws .answer ≡ Refused 14 0) ↔ BufferOut ws
   unfolding withdrawOf
   withdraw-fourteen p =
-      by-buffer (λ h. withdrawFrom h p ws .answer) refl (withdraw-out (runIn ws) (unknownIn (runIn ws) p)) (withdraw-out-back (runIn ws) (unknownIn (runIn ws) p))
+      by-buffer (λ h. withdrawFrom h p ws .answer) refl (withdraw-out (runIn ws) (strangerIn (runIn ws) p)) (withdraw-out-back (runIn ws) (strangerIn (runIn ws) p))

@@ -20,7 +20,7 @@ use Rattle.run.specs.Run.{moved, withdrawnIn}
 use Rattle.run.specs.Answer.{byAnswer}
 use Rattle.run.specs.Start.{startOf}
 use Rattle.run.specs.Row.{noBytes, rowOf}
-use Rattle.run.specs.Numbers.{unknownIn}
+use Rattle.run.specs.Numbers.{strangerIn}
 use Rattle.run.specs.Advance.{advanceAnswer, advanceOf}
 use Rattle.run.specs.Withdraw.{withdrawAnswer, withdrawOf}
 use Rattle.demand.specs.Entries.{entryOf}
@@ -128,7 +128,7 @@ count-kept r (advance x e) = go (advanceAnswer r x e)
     go : (a : Answer) → byAnswer a (moved (bit x) e r) r .count ≡ r .count
     go Taken = unfold moved in refl
     go (Refused n p) = refl
-count-kept r (withdraw q) = go (withdrawAnswer r (unknownIn r q))
+count-kept r (withdraw q) = go (withdrawAnswer r (strangerIn r q))
   where
     go : (a : Answer) → byAnswer a (withdrawnIn (only q) r) r .count ≡ r .count
     go Taken = unfold withdrawnIn in refl

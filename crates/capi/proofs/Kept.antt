@@ -20,7 +20,7 @@ use Rattle.phase.specs.Task.{unused, startTask}
 use Rattle.run.specs.Run.{moved, withdrawnIn}
 use Rattle.run.specs.Answer.{told, byAnswer}
 use Rattle.run.specs.Start.{startedRun, startAnswer, startOf}
-use Rattle.run.specs.Numbers.{unknownIn}
+use Rattle.run.specs.Numbers.{strangerIn}
 use Rattle.run.specs.Advance.{advanceAnswer, advanceOf}
 use Rattle.run.specs.Withdraw.{withdrawAnswer, withdrawOf}
 use Rattle.demand.specs.Entries.{entryOf}
@@ -121,7 +121,7 @@ fits-entered r (advance x e) f = go (advanceAnswer r x e)
     go : (a : Answer) → Fits (byAnswer a (moved (bit x) e r) r)
     go Taken = fits-moved (bit x) e r f
     go (Refused n p) = f
-fits-entered r (withdraw q) f = go (withdrawAnswer r (unknownIn r q))
+fits-entered r (withdraw q) f = go (withdrawAnswer r (strangerIn r q))
   where
     go : (a : Answer) → Fits (byAnswer a (withdrawnIn (only q) r) r)
     go Taken = fits-withdrawn (only q) r f
