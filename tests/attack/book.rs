@@ -215,6 +215,11 @@ pub fn built(words: &[u32; RUN_WORDS]) -> (bool, Cab) {
     (run.check14().is_err(), Cab { book: None, run })
 }
 
+/// What stands before the line `--`, and the operations after it.
+pub fn split(text: &[u8]) -> (Vec<u8>, Vec<String>) {
+    split_input(text)
+}
+
 /// A run built by hand, as text: its words, and the operations after it.
 pub fn built_from(text: &[u8], none: &[u32; RUN_WORDS]) -> ([u32; RUN_WORDS], Vec<String>) {
     let (before, operations) = split_input(text);
