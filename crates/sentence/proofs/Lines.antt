@@ -3,7 +3,7 @@ use mathlib.Core.Path.{_≡_, refl}
 use mathlib.Core.List.{List, [], _∷_, map}
 use Prim.Native.Nat.{ℕ, zero, suc}
 use Prim.Native.String.{String}
-use Rattle.model.specs.Book.{claims, full, served, step, work, bookFrom, enter, answer, late, misemptied, emptied, misreported, reportable}
+use Rattle.model.specs.Book.{claims, full, served, step, work, bookFrom, enter, afterTaken, answer, late, misemptied, emptied, misreported, reportable}
 use Rattle.model.specs.Grants.{claimants, given, grants, left}
 use Rattle.model.specs.Horizon.{S, horizon, hyperperiod, lcm}
 use Rattle.model.specs.Search.{any, kept, least, memb, upFrom}
@@ -118,7 +118,7 @@ expected l = outcome (l .says) (letters (l .text))
 each-line : LineByLine computed lines (map expected lines)
 unfolding spokenOf byTable byBuffer said head parts namedFrom decimal lastDigits digitCount digitsWithin factsIn missPlace ranWhileWaiting tally firstMiss
     answerOf byWalk byTasks byHorizon firstOut endingOf lastStep headerNumber tableOf chain count met missedIn missedAt horizon S hyperperiod lcm least any kept
-    memb upFrom given left grants claimants claims served work step full bookFrom enter answer late misemptied emptied misreported reportable
+    memb upFrom given left grants claimants claims served work step full bookFrom enter afterTaken answer late misemptied emptied misreported reportable
 each-line = (refl, (refl, (refl, (refl, (refl, (refl, (refl, (refl, (refl, (refl, (refl, (refl, (refl, (refl, (refl, (refl, tt))))))))))))))))
 
 pub spoken-lines : map computed lines ≡ map expected lines
