@@ -1,3 +1,4 @@
 pub mod Greatest
 pub mod Response
 pub mod Examples
+pub mod Noted
