@@ -5,3 +5,5 @@ pub mod Noted
 pub mod Counted
 pub mod Ends
 pub mod Leaping
+pub mod Listed
+pub mod Walked
