@@ -1,5 +1,5 @@
 -- A LEAP AND THE FIGURES: the places that claim no more where it lands are those whose job has ended, and its time is the tick less its release.
-use mathlib.Core.Path.{_≡_, refl, sym, ap, ap₂, _∙_, subst}
+use mathlib.Core.Path.{_≡_, refl, sym, ap, ap₂, _∙_, subst, subst₂}
 use mathlib.Core.Bool.{Bool, true, false, not, _&&_, cond, true≢false, false≢true}
 use mathlib.Core.List.{List}
 use Prim.Native.Nat.{ℕ, suc, _+_, _-_, _^_, _≤_, _<_, max}
@@ -8,11 +8,11 @@ use native.Mathlib.Omega.{arith}
 use lib.Bits.{bitAnd, bitXor}
 use lib.Dec.{leb}
 use lib.ListN.{length, getD, List·getD-eq-default}
-use borrow.Author.Tests.{leb-true, leb-false}
+use borrow.Author.Tests.{leb-true, leb-false, not-true}
 use Rattle.model.specs.Search.{bit}
 use Rattle.model.specs.Task.{Task, Table, task, release}
 use Rattle.model.specs.Book.{Job, full, Missed, NeverMissed}
-use Rattle.model.proofs.Bools.{and-left}
+use Rattle.model.proofs.Bools.{and-left, and-right}
 use Rattle.model.proofs.Digits.{without-bit}
 use Rattle.table.specs.declared.Loaded.{Loaded}
 use Rattle.full.specs.Machine.{Machine}
@@ -23,7 +23,7 @@ use Rattle.judge.proofs.Follows.{columns}
 use Rattle.judge.proofs.Ticks.{size, few}
 use Rattle.leap.specs.Moment.{NoneBetween}
 use Rattle.leap.specs.Stand.{Stand, StandsAt, PlaceStands, Standing, Stands}
-use Rattle.leap.specs.Leap.{after, grantedIn, ticksIn, passed, leapt, Lands}
+use Rattle.leap.specs.Leap.{after, grantedIn, ticksIn, passed, leapt, Begins, Lands}
 use Rattle.leap.proofs.Lands.{seen, lands}
 use Rattle.leap.proofs.Passing.{passed-claims}
 use Rattle.longest.specs.Noting.{timeAt, noted}
@@ -254,3 +254,39 @@ module _ (t : Loaded) (fit : Fit t) (s : Stand) (h : Stands t s) (met : (p : ℕ
       go p l false q =
           at p (omega (arith, x .size, leb-false 32 p q))
           ∙ (ap (λ (b : Bool). cond b (max (getD xs p 0) (timeAt u (n .periods) (there .machine .next) p)) (getD xs p 0)) (ended-past p l) ∙ x .past p l)
+
+  -- WHAT CODE NEEDS to work out the times
+  pub times-small :
+      s .tick ≤ t .horizon → (p : ℕ) → bit (endedSet there) p ≡ true
+      → (u + getD (n .periods) p 0 < 2 ^ 32) × (getD (there .machine .next) p 0 ≤ u + getD (n .periods) p 0)
+  times-small early p e =
+      let l : p < length (book .tasks) = ended-inside p e in
+      let b : c p && not (c′ p) ≡ true = sym (ended-exact p) ∙ e in
+      let z = last p l (and-left (c p) (not (c′ p)) b) (not-true (c′ p) (and-right (c p) (not (c′ p)) b)) in
+      let T = columns t fit .periods p l in
+      let short = fit .short p (omega (arith, size t fit)) in (
+        omega (arith, z .begun, z .next, z .near, T, short, early, fit .limit),
+        omega (arith, z .begun, z .next, T, same-next p, landing .next .after),
+      )
+
+-- OF A LEAP as code has taken it, of the numbers n from s to s′
+
+module _ (t : Loaded) (n : Numbers) (s s′ : Stand) (b : Begins t n s) (e : s′ ≡ leapt n s) where
+  there-is : s′ ≡ leapt (numbersIn t) s
+  there-is = e ∙ ap (λ (x : Numbers). leapt x s) (b .numbers)
+
+  -- the figures where it lands
+  pub leap-noted :
+      (xs : List ℕ) → Noted t (s .tick) xs → Noted t (s′ .tick) (noted (bit (endedSet s′)) (s′ .tick) (n .periods) (s′ .machine .next) xs)
+  leap-noted xs x =
+      subst₂ (λ (k : Numbers) (w : Stand). Noted t (w .tick) (noted (bit (endedSet w)) (w .tick) (k .periods) (w .machine .next) xs))
+      (sym (b .numbers)) (sym there-is) (noted-next t (b .fit) s (b .stands) (b .met) xs x)
+
+  pub leap-small :
+      (p : ℕ) → bit (endedSet s′) p ≡ true
+      → (s′ .tick + getD (n .periods) p 0 < 2 ^ 32) × (getD (s′ .machine .next) p 0 ≤ s′ .tick + getD (n .periods) p 0)
+  leap-small =
+      subst₂
+      (λ (k : Numbers) (w : Stand).
+      (p : ℕ) → bit (endedSet w) p ≡ true → (w .tick + getD (k .periods) p 0 < 2 ^ 32) × (getD (w .machine .next) p 0 ≤ w .tick + getD (k .periods) p 0))
+      (sym (b .numbers)) (sym there-is) (times-small t (b .fit) s (b .stands) (b .met) (b .early))
