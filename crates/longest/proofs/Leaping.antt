@@ -277,10 +277,12 @@ module _ (t : Loaded) (n : Numbers) (s s′ : Stand) (b : Begins t n s) (e : s�
 
   -- the figures where it lands
   pub leap-noted :
-      (xs : List ℕ) → Noted t (s .tick) xs → Noted t (s′ .tick) (noted (bit (endedSet s′)) (s′ .tick) (n .periods) (s′ .machine .next) xs)
-  leap-noted xs x =
-      subst₂ (λ (k : Numbers) (w : Stand). Noted t (w .tick) (noted (bit (endedSet w)) (w .tick) (k .periods) (w .machine .next) xs))
-      (sym (b .numbers)) (sym there-is) (noted-next t (b .fit) s (b .stands) (b .met) xs x)
+      (xs : List ℕ) → Noted t (s .tick) xs
+      → (ys : List ℕ) → ys ≡ noted (bit (endedSet s′)) (s′ .tick) (n .periods) (s′ .machine .next) xs → Noted t (s′ .tick) ys
+  leap-noted xs x ys q =
+      subst (Noted t (s′ .tick)) (sym q)
+      (subst₂ (λ (k : Numbers) (w : Stand). Noted t (w .tick) (noted (bit (endedSet w)) (w .tick) (k .periods) (w .machine .next) xs))
+      (sym (b .numbers)) (sym there-is) (noted-next t (b .fit) s (b .stands) (b .met) xs x))
 
   pub leap-small :
       (p : ℕ) → bit (endedSet s′) p ≡ true

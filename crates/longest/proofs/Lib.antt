@@ -7,3 +7,5 @@ pub mod Ends
 pub mod Leaping
 pub mod Listed
 pub mod Walked
+pub mod Kept
+pub mod Promise

@@ -122,8 +122,8 @@ loop-again c =
     let k = turn (e .before) in
     let t = table-of (k .before) in (
       a .leap .ensures .lands t (begins e) .stands,
-      subst (Noted t (a .leap .result .tick)) (sym (c .note .ensures))
-          (leap-noted t (nums (k .before)) (stand-of k) (standAt (a .leap .result) _) (begins e) (a .leap .ensures .value) (k .loop .longest) (k .loop .inv .1)),
+      leap-noted t (nums (k .before)) (stand-of k) (standAt (a .leap .result) _) (begins e) (a .leap .ensures .value) (k .loop .longest) (k .loop .inv .1)
+          _ (c .note .ensures),
     )
 
 returns-2 : tie.Need-returns-2 Inv-loop μ-loop
