@@ -92,7 +92,8 @@ lines =
 
 -- every line is what the definitions say
 pub examples : map worked lines ≡ lines
-unfolding longestOf figuresIn longestBy greatest responseTime verdictOf verdict firstMiss missedIn missedAt firm rising chained answerOf byWalk byTasks byHorizon firstOut endingOf lastStep headerNumber tableOf chain count met horizon S hyperperiod lcm least any memb upFrom kept given left grants claimants claims served work step full
+unfolding longestOf figuresIn longestBy greatest responseTime verdictOf verdict firstMiss missedIn missedAt firm rising chained answerOf byWalk byTasks byHorizon firstOut endingOf lastStep
+    headerNumber tableOf chain count met horizon S hyperperiod lcm least any memb upFrom kept given left grants claimants claims served work step full
 examples = refl
 
 -- THE LOOK HAS TO BEGIN AT TICK 0: the longest of the jobs of place p that are released from tick a on and have ended by tick n
