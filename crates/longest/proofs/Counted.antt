@@ -12,7 +12,7 @@ use Rattle.model.proofs.Runs.{full-fresh}
 use Rattle.model.specs.Book.{Job, NeverMissed, full}
 use Rattle.model.specs.Horizon.{horizon}
 use Rattle.model.specs.Task.{AllSound, Sound, Table, Task, release, task}
-use Rattle.longest.specs.Response.{endedAfter, greatest, longest, longestBy, responseTime}
+use Rattle.longest.specs.Response.{longest, longestBy, responseTime}
 use Rattle.longest.proofs.Greatest.{greatest-at, greatest-least}
 use Rattle.longest.proofs.Response.{ended-later, longest-exact, time-ended, time-first}
 

@@ -1,17 +1,13 @@
--- Figures computed from the definitions: the examples A to F, what each number turns down, and a table whose worst job comes before the last S.
-use mathlib.Core.Bool.{_&&_, cond}
+-- Figures computed from the definitions: the examples A to F, what each number turns down, and figures at their edges.
 use mathlib.Core.List.{List, [], _++_, map, _∷_}
 use mathlib.Core.Path.{refl, _≡_}
-use Prim.Native.Nat.{ℕ, suc, _+_, _-_}
-use lib.Dec.{leb}
+use Prim.Native.Nat.{ℕ, _-_}
 use lib.ListN.{drop, length, replicate}
-use Rattle.model.proofs.Examples.{on, t}
 use Rattle.model.specs.Book.{claims, full, served, step, work}
 use Rattle.model.specs.Grants.{claimants, given, grants, left}
-use Rattle.model.specs.Horizon.{S, horizon, hyperperiod, lastS, lcm}
+use Rattle.model.specs.Horizon.{S, horizon, hyperperiod, lcm}
 use Rattle.model.specs.Search.{any, kept, least, memb, upFrom}
 use Rattle.model.specs.Sizes.{mostTasks}
-use Rattle.model.specs.Task.{Table, idling, release, task}
 use Rattle.model.specs.Verdict.{firm, firstMiss, missedAt, missedIn, rising, verdict}
 use Rattle.table.proofs.Examples.{chained, wordsA}
 use Rattle.table.specs.Answer.{answerOf, byHorizon, byTasks, byWalk, endingOf, firstOut, headerNumber, lastStep}
@@ -45,7 +41,7 @@ header h m r = h ∷ m ∷ r ∷ 0 ∷ 0 ∷ []
 abbrev entry : ℕ → ℕ → ℕ → ℕ → ℕ → ℕ → List ℕ
 entry n o v c d p = n ∷ o ∷ v ∷ c ∷ d ∷ p ∷ []
 
--- the tasks of A on five cores, of which 0 and 3 are fenced; A's three records in chain order under a rule; the records of B; E; F
+-- the tasks of A on five cores, of which 0 and 3 are fenced; A's and B's records in chain order under a rule; E; F
 abbrev fencedA : List ℕ
 fencedA = 3 ∷ 5 ∷ 1 ∷ 9 ∷ 0 ∷ drop 5 wordsA
 
@@ -61,13 +57,13 @@ wordsE = header 1 1 2 ++ entry 2 1 1 1 1 2 ++ entry 0 0 1 1 2 3
 abbrev wordsF : List ℕ
 wordsF = header 1 1 1 ++ entry 0 0 1 2 1 2
 
--- four cores, rule 3: the third task has its worst job before the last S
+-- four cores, rule 3: the third task has its worst job before the last S (`only-before-S`)
 abbrev early : List ℕ
 early = header 1 4 3 ++ entry 2 6 2 1 2 3 ++ entry 3 0 4 1 4 6 ++ entry 0 0 2 1 2 4
 
--- eight tasks that all want one core in tick 0, with a horizon of 1,000,000,001; the last has this offset
-abbrev crowded : ℕ → List ℕ
-crowded o = header 1 1 1 ++ chained 7 1 (8 ∷ 27 ∷ 125 ∷ 7 ∷ 11 ∷ 13 ∷ []) ++ entry 0 o 1 1 1 37
+-- six tasks that all want one core in tick 0, and so miss at tick 1, and a seventh; their horizon is 1,000,000,001
+abbrev crowded : List ℕ
+crowded = header 1 1 1 ++ chained 7 1 (8 ∷ 27 ∷ 125 ∷ 7 ∷ 11 ∷ 13 ∷ []) ++ entry 0 1001 1 1 1 37
 
 abbrev pub lines : List Line
 lines =
@@ -87,7 +83,7 @@ lines =
     ∷ gives (header 1 32 1 ++ chained 0 1 (replicate 32 1)) (replicate 32 1)
     -- 1, 2 before 13, 7 with its position, and 9 before 13
     ∷ refuses (drop 1 (header 1 1 1)) 1 0 ∷ refuses (header 1 0 1 ++ entry 0 0 1 2 1 2) 2 0
-    ∷ refuses (header 1 1 1 ++ entry 2 0 1 2 1 2 ++ entry 0 0 2 1 1 1) 7 2 ∷ refuses (crowded 1001) 9 0
+    ∷ refuses (header 1 1 1 ++ entry 2 0 1 2 1 2 ++ entry 0 0 2 1 1 1) 7 2 ∷ refuses crowded 9 0
     ∷ []
 
 -- every line is what the definitions say
@@ -95,15 +91,3 @@ pub examples : map worked lines ≡ lines
 unfolding longestOf figuresIn longestBy greatest responseTime verdictOf verdict firstMiss missedIn missedAt firm rising chained answerOf byWalk byTasks byHorizon firstOut endingOf lastStep
     headerNumber tableOf chain count met horizon S hyperperiod lcm least any memb upFrom kept given left grants claimants claims served work step full
 examples = refl
-
--- THE LOOK HAS TO BEGIN AT TICK 0: the longest of the jobs of place p that are released from tick a on and have ended by tick n
-abbrev longestFrom : Table → ℕ → ℕ → ℕ → ℕ
-longestFrom s a n p = greatest (suc n) (λ k. cond (leb a (release (task s p) k) && full s n .job p k .ended) (responseTime s p k) 0)
-
-abbrev table : Table
-table = on 4 idling (t 6 2 1 2 3 ∷ t 0 4 1 4 6 ∷ t 0 2 1 2 4 ∷ [])
-
--- the table of `early`: from its last S on, two hyperperiods long, the third task has 1 and not 2
-pub from-S : (lastS (table .tasks) ≡ 8) × (horizon table ≡ 20) × (map (longestFrom table 8 32) (upFrom 0 3) ≡ 1 ∷ 2 ∷ 1 ∷ [])
-unfolding greatest responseTime horizon S hyperperiod lcm least any upFrom kept given left grants claimants claims served work step full
-from-S = (refl, refl, refl)

@@ -1,5 +1,4 @@
 -- THEOREM (longest-kept): in every list of advances on a firm table each job has ended once the figure's ticks have passed since its release.
-use mathlib.Core.List.{List}
 use Prim.Native.Nat.{ℕ, _<_}
 use lib.ListN.{length}
 use Rattle.model.proofs.Sustain.{finished}

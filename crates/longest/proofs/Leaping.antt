@@ -21,8 +21,7 @@ use Rattle.full.specs.Standing.{Works, Rests}
 use Rattle.judge.specs.Judged.{tableIn, Fit}
 use Rattle.judge.proofs.Follows.{columns}
 use Rattle.judge.proofs.Ticks.{size, few}
-use Rattle.leap.specs.Moment.{NoneBetween}
-use Rattle.leap.specs.Stand.{Stand, StandsAt, PlaceStands, Standing, Stands}
+use Rattle.leap.specs.Stand.{Stand, StandsAt, Standing, Stands}
 use Rattle.leap.specs.Leap.{after, grantedIn, ticksIn, passed, leapt, Begins, Lands}
 use Rattle.leap.proofs.Lands.{seen, lands}
 use Rattle.leap.proofs.Passing.{passed-claims}

@@ -1,6 +1,7 @@
 pub mod Greatest
 pub mod Response
 pub mod Examples
+pub mod FromZero
 pub mod Noted
 pub mod Counted
 pub mod Ends

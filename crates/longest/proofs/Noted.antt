@@ -1,8 +1,8 @@
 -- The times noted at the places of a set: place after place as the set is walked, and what stands at a place.
-use mathlib.Core.Path.{_≡_, refl, sym, ap, _∙_}
-use mathlib.Core.Bool.{Bool, true, false, cond}
+use mathlib.Core.Path.{_≡_, sym, ap, _∙_}
+use mathlib.Core.Bool.{Bool, cond}
 use mathlib.Core.List.{List}
-use Prim.Native.Nat.{ℕ, _+_, _-_, _<_, max}
+use Prim.Native.Nat.{ℕ, _-_, _<_, max}
 use lib.ListN.{length, getD, set}
 use Rattle.model.specs.Search.{bit}
 use Rattle.full.proofs.Places.{each-none, each-still, each-more, each-same, each-length, each-at}

@@ -1,20 +1,18 @@
 -- What is promised of `longest`: its numbers are the first that apply, its figures hold over all ticks, and it is what is done with a table that was loaded.
 use mathlib.Core.Path.{_≡_, refl, sym, ap, _∙_, subst}
 use mathlib.Core.List.{List}
-use mathlib.Core.Logic.{_↔_}
 use Prim.Native.Nat.{ℕ, suc, _<_}
 use native.Mathlib.Omega.{arith}
-use lib.ListN.{length, getD, replicate}
+use lib.ListN.{length, getD}
 use Rattle.model.specs.Book as book
 use Rattle.model.specs.Book.{NeverMissed}
 use Rattle.model.specs.Task.{AllSound, Table}
 use Rattle.model.specs.Verdict as verdict
 use Rattle.model.specs.Verdict.{FirmRule}
 use Rattle.model.proofs.Lists.{getD-zeros}
-use Rattle.table.specs.declared.Answer.{Answer}
 use Rattle.table.specs.declared.Answer.the-variants as table
 use Rattle.table.specs.declared.Loaded.{Loaded}
-use Rattle.table.specs.Load.{LoadOf, loadTold}
+use Rattle.table.specs.Load.{LoadOf}
 use Rattle.table.specs.Numbers as numbers
 use Rattle.table.specs.Numbers.{place, Earlier}
 use Rattle.table.specs.Words.{tableOf}

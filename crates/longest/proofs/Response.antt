@@ -2,7 +2,7 @@
 use mathlib.Core.Bool.{Bool, cond, false, false≢true, true, true≢false}
 use mathlib.Core.Path.{ap, refl, subst, sym, _∙_, _≡_}
 use Prim.Native.Nat.{_*_, _+_, _<_, suc, zero, ℕ, _≤_}
-use native.Mathlib.Nat.{add-zero, le-dest, le-of-suc-le-suc, le-refl, le-trans, lt-of-mul-lt-mul-right, mul-le-mul-left, mul-one, not-suc-le-zero}
+use native.Mathlib.Nat.{le-dest, le-of-suc-le-suc, le-refl, le-trans, lt-of-mul-lt-mul-right, mul-le-mul-left, mul-one, not-suc-le-zero}
 use native.Mathlib.Omega.{arith}
 use lib.Dec.{leb}
 use lib.ListN.{length}
@@ -15,7 +15,7 @@ use Rattle.model.proofs.Starts.{Periods, S-last, S-release, hyperperiod-divides
 use Rattle.model.specs.Book.{Job, NeverMissed, full}
 use Rattle.model.specs.Horizon.{S, horizon, hyperperiod}
 use Rattle.model.specs.Task.{AllSound, Sound, Table, Task, due, release, task}
-use Rattle.longest.specs.Response.{Figure, endedAfter, greatest, longest, longestBy, responseTime}
+use Rattle.longest.specs.Response.{Figure, endedAfter, longest, longestBy, responseTime}
 use Rattle.longest.proofs.Greatest.{greatest-at, greatest-is}
 
 -- what has ended stays ended

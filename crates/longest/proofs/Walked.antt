@@ -1,20 +1,20 @@
 -- The walk over the leaps: where it begins, what it finds late, and what it has noted past the horizon.
 use mathlib.Core.Path.{_≡_, refl, sym, ap, _∙_}
-use mathlib.Core.Bool.{Bool, true, false, _&&_, cond, true≢false, false≢true}
+use mathlib.Core.Bool.{Bool, true, false, _&&_, cond, false≢true}
 use mathlib.Core.List.{List}
-use Prim.Native.Nat.{ℕ, suc, _+_, _≤_, _<_}
+use Prim.Native.Nat.{ℕ, suc, _≤_, _<_}
 use native.Mathlib.Nat.{le-trans}
 use native.Mathlib.Omega.{arith}
 use lib.Bits.{bitAnd}
-use lib.Dec.{eqb, leb, ltb}
+use lib.Dec.{leb, ltb}
 use lib.ListN.{length, getD, replicate}
 use lib.Seq.{ext-getD}
 use borrow.Author.Tests.{eqb-true, leb-true, leb-false, lt-ltb, ltb-true}
-use Rattle.model.specs.Search.{bit, any}
+use Rattle.model.specs.Search.{bit}
 use Rattle.model.specs.Task.{Table, task}
 use Rattle.model.specs.Book.{full, Missed, NeverMissed}
 use Rattle.model.specs.Horizon.{horizon}
-use Rattle.model.specs.Verdict.{firm, missedIn}
+use Rattle.model.specs.Verdict.{firm}
 use Rattle.model.proofs.Bools.{and-both, and-left, and-right}
 use Rattle.model.proofs.Digits.{and-bit}
 use Rattle.model.proofs.Horizon.{horizon-enough}
@@ -22,7 +22,6 @@ use Rattle.model.proofs.Lists.{getD-zeros}
 use Rattle.model.proofs.Runs.{missed-at}
 use Rattle.model.proofs.Search.{any-some, none-at}
 use Rattle.table.specs.declared.Loaded.{Loaded}
-use Rattle.judge.specs.declared.Verdict.{Verdict}
 use Rattle.judge.specs.declared.Verdict.the-variants.{Firm, Full}
 use Rattle.judge.specs.declared.misses.Missed as missed
 use Rattle.judge.specs.declared.misses.Missed.the-variants.{Never, At}

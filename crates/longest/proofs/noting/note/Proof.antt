@@ -9,9 +9,9 @@ use lib.ListN.{getD}
 use Rattle.model.specs.Search.{bit}
 use Rattle.full.specs.Places.{part}
 use Rattle.full.proofs.Parts.{part-at}
-use Rattle.leap.proofs.Sets.{taken, lowest, others, Off, off-turn}
+use Rattle.leap.proofs.Sets.{taken, lowest, Off, off-turn}
 use Rattle.longest.specs.Noting.{noted}
-use Rattle.longest.proofs.Noted.{noted-none, noted-still, noted-more, noted-all}
+use Rattle.longest.proofs.Noted.{noted-none, noted-more, noted-all}
 use Rattle.longest.proofs.noting.note.Statement.{statement}
 use Rattle.longest.proofs.noting.note.Tie as tie
 

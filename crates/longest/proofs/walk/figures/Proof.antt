@@ -1,16 +1,15 @@
 -- `longest::walk::figures` meets its contract. After each leap the run stands as the table's full-length run does, and the longest times so far are noted
 -- (`Noted`). A due claimant with ticks left is a miss; past the horizon what is noted are the figures. Assumes nothing.
 use borrow.Author.Needs.{needs}
-use mathlib.Core.Path.{_≡_, refl, sym, ap, _∙_, subst}
-use mathlib.Core.List.{List}
-use Prim.Native.Nat.{ℕ, suc, _+_, _-_, _≤_, _<_}
+use mathlib.Core.Path.{sym, _∙_, subst}
+use Prim.Native.Nat.{suc, _-_}
 use native.Mathlib.Omega.{arith}
 use lib.ListN.{replicate}
 use Rattle.table.specs.declared.Loaded.{Loaded}
-use Rattle.full.specs.Stand.{Numbers, numbersBy, numbersIn}
-use Rattle.judge.specs.Judged.{tableIn, Fit}
-use Rattle.leap.specs.Stand.{Stand, standAt, begun, Stands}
-use Rattle.leap.specs.Leap.{leapt, Begins, LeapOf}
+use Rattle.full.specs.Stand.{Numbers, numbersBy}
+use Rattle.judge.specs.Judged.{Fit}
+use Rattle.leap.specs.Stand.{Stand, standAt, Stands}
+use Rattle.leap.specs.Leap.{Begins}
 use Rattle.leap.proofs.Moments.{begun-stands}
 use Rattle.longest.proofs.Leaping.{Noted, leap-noted, leap-small}
 use Rattle.longest.proofs.Walked.{noted-start, late-misses, none-misses, missed-answer, met-answer}
@@ -38,6 +37,9 @@ turn c = asked c .before .before .before
 
 abbrev clear : tie.After-places3 Inv-loop μ-loop → tie.Else2 Inv-loop μ-loop
 clear c = c .before .before .before
+
+abbrev past : tie.Else1 Inv-loop μ-loop → tie.At-loop Inv-loop μ-loop
+past c = c .before .before .before
 
 abbrev leapt-in : tie.After-longest Inv-loop μ-loop → tie.After-leap Inv-loop μ-loop
 leapt-in c = c .before .before .before .before .before
@@ -128,7 +130,7 @@ loop-again c =
 
 returns-2 : tie.Need-returns-2 Inv-loop μ-loop
 returns-2 c =
-    let k = c .before .before .before in
+    let k = past c in
     met-answer (table-of (k .before)) (fit-of (k .before)) (k .loop .pace .tick) (c .if1 .left) (k .loop .inv .0 .met) (k .loop .longest) (k .loop .inv .1)
 
 pub figures-spec : {M : Type 1} → statement M
