@@ -1,10 +1,11 @@
 // Nanoseconds an advance at 1, 8 and 32 tasks: the proved library beside the simulator's book and beside straight Rust of the same step, by value and in place.
-// All of them get the same table and report sets in one run, their answers and last rows must be equal, and the best of several times counts.
+// All of them get the same table and entries in one run, their answers and last rows must be equal, and the best of several times counts.
 //
 // The library's advance is timed inside `sivorandra_replay`, which moves a run by value through the list. Its row is timed through `sivorandra_row`, which reads
 // the run from its words first; so the sum is an upper bound of what an advance with its row costs.
 //
-// The simulator knows no fence and reads three header words: it gets the same tasks on just the unfenced cores, where every answer is the same.
+// The simulator knows no fence and no empty jobs, and reads three header words: it gets the same tasks on just the unfenced cores, where every answer is the same, and the entries
+// have no empty jobs.
 
 use std::hint::black_box;
 
@@ -14,27 +15,29 @@ const RUNS: usize = 5;
 const HEAD: usize = 5;
 /// The words of a run: rule, cores, count and fence, and eight for each of the 32 places.
 const RUN_WORDS: usize = 5 + 8 * 32;
+/// An entry of a list in words: 0, reports, empties.
+type Entry = [u32; 3];
 /// 10 of 64 cores, of both words.
 const FENCE: u64 = 1 | 7 << 12 | 1 << 31 | 1 << 32 | 7 << 45 | 1 << 63;
 
 extern "C" {
     fn clock_gettime(clock: i32, time: *mut [i64; 2]) -> i32;
     fn sivorandra_judge(words: *const u32, words_len: usize, answer: *mut u32, answer_len: usize) -> u32;
-    fn sivorandra_replay(words: *const u32, words_len: usize, reports: *const u32, reports_len: usize, numbers: *mut u32, numbers_len: usize, row: *mut u8, row_len: usize, answer: *mut u32, answer_len: usize) -> u32;
+    fn sivorandra_replay(words: *const u32, words_len: usize, entries: *const u32, entries_len: usize, numbers: *mut u32, numbers_len: usize, row: *mut u8, row_len: usize, answer: *mut u32, answer_len: usize) -> u32;
     fn sivorandra_start(words: *const u32, words_len: usize, run: *mut u32, run_len: usize, answer: *mut u32, answer_len: usize) -> u32;
-    fn sivorandra_row(run: *const u32, run_len: usize, row: *mut u8, row_len: usize, answer: *mut u32, answer_len: usize) -> u32;
-    fn sivorandra_advance(run: *mut u32, run_len: usize, reports: u32, answer: *mut u32, answer_len: usize) -> u32;
+    fn sivorandra_row(run: *const u32, run_len: usize, empties: u32, row: *mut u8, row_len: usize, answer: *mut u32, answer_len: usize) -> u32;
+    fn sivorandra_advance(run: *mut u32, run_len: usize, reports: u32, empties: u32, answer: *mut u32, answer_len: usize) -> u32;
 }
 
 #[allow(dead_code)]
 mod simulator {
     include!("simulator.rs");
 
-    /// The book's answers to a list of report sets, and the row of every tick where `rows` is set.
-    pub fn advances(words: &[u32], reports: &[u32], rows: bool, numbers: &mut [u32]) {
+    /// The book's answers to a list of entries without empty jobs, and the row of every tick where `rows` is set.
+    pub fn advances(words: &[u32], list: &[super::Entry], rows: bool, numbers: &mut [u32]) {
         let table = Table::check(words).ok().expect("a table");
         let mut book = Book { ledger: Ledger::new(&table) };
-        for (number, &bits) in numbers.iter_mut().zip(reports) {
+        for (number, &[_, bits, _]) in numbers.iter_mut().zip(list) {
             if rows {
                 std::hint::black_box(book.row().is_ok());
             }
@@ -43,7 +46,7 @@ mod simulator {
     }
 }
 
-// Straight Rust of the run in the cab: the same records, the same numbers 14 to 16, the same moves.
+// Straight Rust of the run in the cab: the same records, the same numbers 14, 15, 20 and 16, the same moves.
 
 #[derive(Clone, Copy)]
 enum Phase {
@@ -86,7 +89,7 @@ impl Task {
             && match self.phase {
                 Coming(left) => (1..=self.offset).contains(&left),
                 Working(z, u) => z <= self.deadline && u < self.length && u <= z,
-                Holding(z, u) => rule == 3 && 1 <= z && z < self.deadline && 1 <= u && u < self.length && u <= z,
+                Holding(z, u) => rule == 3 && z < self.deadline && u < self.length && u <= z,
                 Resting(z) => 1 <= z && z < self.period,
             }
     }
@@ -99,8 +102,17 @@ impl Task {
         if u == self.length || z == self.deadline { self.rested(z) } else { Holding(z, u) }
     }
 
-    fn next(&self, rule: u32, ran: bool, reported: bool) -> Phase {
+    /// An empty job of this tick holds under rule 3, and else claims nothing.
+    fn seen(&self, rule: u32, empty: bool) -> Phase {
         match self.phase {
+            Working(0, _) if empty && rule == 3 => Holding(0, 0),
+            Working(0, _) if empty => Resting(0),
+            phase => phase,
+        }
+    }
+
+    fn next(&self, rule: u32, empty: bool, ran: bool, reported: bool) -> Phase {
+        match self.seen(rule, empty) {
             Coming(1) => Working(0, 0),
             Coming(left) => Coming(left - 1),
             Working(z, u) if !ran => Working(z + 1, u),
@@ -130,8 +142,8 @@ impl Run {
         run
     }
 
-    /// 14 and 15, else who has cores.
-    fn tick(&self) -> Result<Tick, u32> {
+    /// 14, 15 and 20, else who has cores.
+    fn tick(&self, empties: u32) -> Result<Tick, u32> {
         if !(1..=32).contains(&self.count) || !(1..=64).contains(&self.cores) || !(1..=3).contains(&self.rule) {
             return Err(14 * 256);
         }
@@ -140,7 +152,7 @@ impl Run {
             return Err(14 * 256);
         }
         let unfenced = (all & !self.fence).count_ones();
-        let (mut claiming, mut working, mut late) = (0u32, 0u32, 0);
+        let (mut claiming, mut working, mut released, mut late) = (0u32, 0u32, 0u32, 0);
         for (place, task) in self.tasks[..self.count].iter().enumerate() {
             if !task.in_limits(self.rule, unfenced) {
                 return Err(14 * 256);
@@ -149,6 +161,7 @@ impl Run {
                 Working(z, _) => {
                     working |= 1 << place;
                     claiming |= 1 << place;
+                    released |= u32::from(z == 0) << place;
                     if z == task.deadline && late == 0 {
                         late = place as u32 + 1;
                     }
@@ -159,6 +172,13 @@ impl Run {
         }
         if late != 0 {
             return Err(15 * 256 + late);
+        }
+        if empties & !released != 0 {
+            return Err(20 * 256);
+        }
+        working &= !empties;
+        if self.rule != 3 {
+            claiming &= !empties;
         }
         let (mut granted, mut free) = (0, unfenced);
         while claiming != 0 {
@@ -175,8 +195,8 @@ impl Run {
         Ok(Tick { granted, working })
     }
 
-    fn step(&mut self, reports: u32) -> u32 {
-        let tick = match self.tick() {
+    fn step(&mut self, reports: u32, empties: u32) -> u32 {
+        let tick = match self.tick(empties) {
             Ok(tick) => tick,
             Err(number) => return number,
         };
@@ -185,25 +205,25 @@ impl Run {
         }
         let rule = self.rule;
         for (place, task) in self.tasks[..self.count].iter_mut().enumerate() {
-            task.phase = task.next(rule, tick.granted >> place & 1 != 0, reports >> place & 1 != 0);
+            task.phase = task.next(rule, empties >> place & 1 != 0, tick.granted >> place & 1 != 0, reports >> place & 1 != 0);
         }
         0
     }
 
     #[inline(never)]
-    fn advance_in_place(&mut self, reports: u32) -> u32 {
-        self.step(reports)
+    fn advance_in_place(&mut self, reports: u32, empties: u32) -> u32 {
+        self.step(reports, empties)
     }
 
     #[inline(never)]
-    fn advance(mut self, reports: u32) -> (u32, Run) {
-        let number = self.step(reports);
+    fn advance(mut self, reports: u32, empties: u32) -> (u32, Run) {
+        let number = self.step(reports, empties);
         (number, self)
     }
 
-    fn paint(&self, row: &mut [u8; 64]) -> u32 {
+    fn paint(&self, empties: u32, row: &mut [u8; 64]) -> u32 {
         row.fill(0);
-        let granted = match self.tick() {
+        let granted = match self.tick(empties) {
             Ok(tick) => tick.granted,
             Err(number) => return number,
         };
@@ -239,14 +259,14 @@ impl Run {
     }
 
     #[inline(never)]
-    fn row_in_place(&self, row: &mut [u8; 64]) -> u32 {
-        self.paint(row)
+    fn row_in_place(&self, empties: u32, row: &mut [u8; 64]) -> u32 {
+        self.paint(empties, row)
     }
 
     #[inline(never)]
-    fn row(self) -> (u32, [u8; 64]) {
+    fn row(self, empties: u32) -> (u32, [u8; 64]) {
         let mut row = [0; 64];
-        (self.paint(&mut row), row)
+        (self.paint(empties, &mut row), row)
     }
 }
 
@@ -286,15 +306,15 @@ fn for_simulator(words: &[u32]) -> Vec<u32> {
     [&[words[0], words[1] - fenced, words[2]], &words[HEAD..]].concat()
 }
 
-/// Report sets that are taken: now and then a job that works in the tick ends early.
-fn reports(words: &[u32]) -> Vec<u32> {
+/// Entries that are taken: now and then a job that works in the tick ends early.
+fn entries(words: &[u32]) -> Vec<Entry> {
     let (mut dice, mut run) = (Dice(1), Run::start(words));
     let mut list = Vec::with_capacity(TICKS);
     for _ in 0..TICKS {
-        let tick = run.tick().expect("a firm table");
+        let tick = run.tick(0).expect("a firm table");
         let ended = tick.granted & tick.working & if dice.below(4) == 0 { 1 << dice.below(32) } else { 0 };
-        assert_eq!(run.step(ended), 0);
-        list.push(ended);
+        assert_eq!(run.step(ended, 0), 0);
+        list.push([0, ended, 0]);
     }
     list
 }
@@ -310,11 +330,11 @@ fn best(mut work: impl FnMut()) -> f64 {
 }
 
 /// Times of one table: advances without rows and with them, by the library, the simulator, and Rust by value and in place; last the library's advance on a run kept in words.
-fn times(words: &[u32], list: &[u32]) -> [f64; 9] {
+fn times(words: &[u32], list: &[Entry]) -> [f64; 9] {
     let mut answer = [0; 3];
     let (mut numbers, mut row, mut others) = (vec![1; TICKS], [0; 64], vec![1; TICKS]);
     let ours = best(|| unsafe {
-        sivorandra_replay(words.as_ptr(), words.len(), list.as_ptr(), list.len(), numbers.as_mut_ptr(), TICKS, row.as_mut_ptr(), 64, answer.as_mut_ptr(), 3);
+        sivorandra_replay(words.as_ptr(), words.len(), list.as_ptr().cast(), 3 * list.len(), numbers.as_mut_ptr(), TICKS, row.as_mut_ptr(), 64, answer.as_mut_ptr(), 3);
     });
     let three = for_simulator(words);
     let simulator = best(|| simulator::advances(&three, list, false, &mut others));
@@ -324,24 +344,24 @@ fn times(words: &[u32], list: &[u32]) -> [f64; 9] {
     let mut last = Run::start(words);
     let value = best(|| {
         let mut run = Run::start(words);
-        for (number, &bits) in others.iter_mut().zip(list) {
-            (*number, run) = run.advance(bits);
+        for (number, &[_, reports, empties]) in others.iter_mut().zip(list) {
+            (*number, run) = run.advance(reports, empties);
         }
         last = run;
     });
     assert_eq!(numbers, others);
-    assert_eq!(last.row(), (0, row));
+    assert_eq!(last.row(0), (0, row));
     let value_row = best(|| {
         let mut run = Run::start(words);
-        for (number, &bits) in others.iter_mut().zip(list) {
-            black_box(run.row());
-            (*number, run) = run.advance(bits);
+        for (number, &[_, reports, empties]) in others.iter_mut().zip(list) {
+            black_box(run.row(empties));
+            (*number, run) = run.advance(reports, empties);
         }
     });
     let place = best(|| {
         let mut run = Run::start(words);
-        for (number, &bits) in others.iter_mut().zip(list) {
-            *number = run.advance_in_place(bits);
+        for (number, &[_, reports, empties]) in others.iter_mut().zip(list) {
+            *number = run.advance_in_place(reports, empties);
         }
         last = run;
     });
@@ -349,9 +369,9 @@ fn times(words: &[u32], list: &[u32]) -> [f64; 9] {
     let mut shown = [0; 64];
     let place_row = best(|| {
         let mut run = Run::start(words);
-        for (number, &bits) in others.iter_mut().zip(list) {
-            run.row_in_place(&mut shown);
-            *number = run.advance_in_place(bits);
+        for (number, &[_, reports, empties]) in others.iter_mut().zip(list) {
+            run.row_in_place(empties, &mut shown);
+            *number = run.advance_in_place(reports, empties);
         }
     });
     black_box(shown);
@@ -360,11 +380,11 @@ fn times(words: &[u32], list: &[u32]) -> [f64; 9] {
     let mut keep = |rows: bool| {
         best(|| unsafe {
             sivorandra_start(words.as_ptr(), words.len(), kept.as_mut_ptr(), RUN_WORDS, answer.as_mut_ptr(), 3);
-            for &bits in list {
+            for &[_, reports, empties] in list {
                 if rows {
-                    sivorandra_row(kept.as_ptr(), RUN_WORDS, shown.as_mut_ptr(), 64, answer.as_mut_ptr(), 3);
+                    sivorandra_row(kept.as_ptr(), RUN_WORDS, empties, shown.as_mut_ptr(), 64, answer.as_mut_ptr(), 3);
                 }
-                sivorandra_advance(kept.as_mut_ptr(), RUN_WORDS, bits, answer.as_mut_ptr(), 3);
+                sivorandra_advance(kept.as_mut_ptr(), RUN_WORDS, reports, empties, answer.as_mut_ptr(), 3);
             }
         })
     };
@@ -380,7 +400,7 @@ fn main() {
         let mut mean = [0.0; 9];
         for rule in 1..=3 {
             let words = table(count, rule, fence);
-            let list = reports(&words);
+            let list = entries(&words);
             for (sum, time) in mean.iter_mut().zip(times(&words, &list)) {
                 *sum += time / 3.0;
             }

@@ -1,4 +1,4 @@
-/* The table of tables/a.txt from C: its verdict, why where it misses, its rows, and two ticks of a run in which the job of position 1 ends early.
+/* The table of tables/a.txt from C: its verdict, why where it misses, its rows, two ticks of a run in which the job of position 1 ends early, and one in which it is empty.
    In the repository: tools/archive && gcc -Iinclude examples/judge.c -Ltarget/staticlib -lsivorandra -o judge
    Installed: gcc examples/judge.c $(pkg-config --cflags --libs sivorandra) -o judge */
 #include <stdio.h>
@@ -57,11 +57,18 @@ int main(void)
         return 1;
     printf("the job of position 1 ends after tick 0\n");
     for (uint32_t tick = 0; tick < 2; tick++) {
-        if (!fine(sivorandra_row(run, SIVORANDRA_RUN_WORDS, row, sizeof row, answer, 3), answer))
+        if (!fine(sivorandra_row(run, SIVORANDRA_RUN_WORDS, 0, row, sizeof row, answer, 3), answer))
             return 1;
         print_row(tick, row);
-        if (!fine(sivorandra_advance(run, SIVORANDRA_RUN_WORDS, tick == 0 ? 1 : 0, answer, 3), answer))
+        if (!fine(sivorandra_advance(run, SIVORANDRA_RUN_WORDS, tick == 0 ? 1 : 0, 0, answer, 3), answer))
             return 1;
     }
+
+    printf("the job of position 1 is empty\n");
+    if (!fine(sivorandra_start(table, WORDS, run, SIVORANDRA_RUN_WORDS, answer, 3), answer))
+        return 1;
+    if (!fine(sivorandra_row(run, SIVORANDRA_RUN_WORDS, 1, row, sizeof row, answer, 3), answer))
+        return 1;
+    print_row(0, row);
     return 0;
 }

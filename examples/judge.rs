@@ -1,4 +1,4 @@
-//! The table of tables/a.txt from Rust: its verdict, why where it misses, its rows, and two ticks of a run in which the job of position 1 ends early.
+//! The table of tables/a.txt from Rust: its verdict, why where it misses, its rows, two ticks of a run in which the job of position 1 ends early, and one in which it is empty.
 //! `cargo run --manifest-path bindings/rust/Cargo.toml --example judge`
 use sivorandra::{judge, plan, sentence, Refusal, Run, Verdict};
 
@@ -36,9 +36,13 @@ fn show() -> Result<(), Refusal> {
     let mut run = Run::start(&TABLE)?;
     println!("the job of position 1 ends after tick 0");
     for (tick, reports) in [1, 0].into_iter().enumerate() {
-        print_row(tick, &run.row()?[..run.cores()]);
-        run.advance(reports)?;
+        print_row(tick, &run.row(0)?[..run.cores()]);
+        run.advance(reports, 0)?;
     }
+
+    println!("the job of position 1 is empty");
+    let run = Run::start(&TABLE)?;
+    print_row(0, &run.row(1)?[..run.cores()]);
     Ok(())
 }
 

@@ -13,7 +13,7 @@
      as many of these moments as ticks up to the horizon or the first miss. A horizon of 10,000,000 takes a second at most; the largest,
      1,000,000,000, milliseconds where the periods are long, and two minutes where all 32 tasks move in every tick. No call can be stopped
      from outside: where that is too long, judge in a process of its own. judge_ticks takes every tick; start takes as long as judge, sentence
-     about three times as long; plan judges up to b, and takes every tick up to b; replay takes a start, and an advance for each report set;
+     about three times as long; plan judges up to b, and takes every tick up to b; replay takes a start, and an advance for each entry;
      facts goes once over its bytes.
 
    A run in words belongs to the version that wrote it: the words may change with the version. Keep SIVORANDRA_VERSION beside a run that is
@@ -31,16 +31,17 @@ extern "C" {
 /* The version of this header; sivorandra_version says that of the library that is linked. One number, which grows with the version:
    major * 10000 + minor * 100 + patch. */
 #define SIVORANDRA_VERSION_MAJOR 0
-#define SIVORANDRA_VERSION_MINOR 6
+#define SIVORANDRA_VERSION_MINOR 7
 #define SIVORANDRA_VERSION_PATCH 0
 #define SIVORANDRA_VERSION (SIVORANDRA_VERSION_MAJOR * 10000 + SIVORANDRA_VERSION_MINOR * 100 + SIVORANDRA_VERSION_PATCH)
-#define SIVORANDRA_VERSION_TEXT "0.6.0"
+#define SIVORANDRA_VERSION_TEXT "0.7.0"
 
 /* No call takes more bytes of the stack. */
 #define SIVORANDRA_STACK_BYTES 16384
 
-/* What every call but sivorandra_version returns: the call is answered, or a lent slice is too short and everything is as found.
-   Short `rows` of a plan are 11 instead, and too few words for a run lent to row or advance are no run: 14. */
+/* What every call but sivorandra_version returns: the call is answered, or a lent slice is too short and everything is as found; so it is
+   where the words of a replay's `entries` are no entries. Short `rows` of a plan are 11 instead, and too few words for a run lent to row or
+   advance are no run: 14. */
 #define SIVORANDRA_ANSWERED 0u
 #define SIVORANDRA_SHORT 1u
 
@@ -55,8 +56,8 @@ extern "C" {
 #define SIVORANDRA_ROW_REFUSED 4u /* the last row of a replay: number and position */
 #define SIVORANDRA_NO_SENTENCE 5u /* from sivorandra_facts: 0 and 0 */
 
-/* By which number a call is turned down: the first that applies, where 19 comes between 3 and 4. The position is 0 but with 7, 8 and 15.
-   Later versions may have more numbers. */
+/* By which number a call is turned down: the first that applies, where 19 comes between 3 and 4, and 20 between 15 and 16. The position is 0
+   but with 7, 8 and 15. Later versions may have more numbers. */
 enum sivorandra_number {
     SIVORANDRA_NOT_A_TABLE = 1,   /* fewer than 5 words, the rest no whole records of six, or more than 32 records */
     SIVORANDRA_BAD_CORES = 2,     /* the core count is not 1 to 64 */
@@ -76,7 +77,8 @@ enum sivorandra_number {
     SIVORANDRA_BAD_REPORT = 16,   /* advance: for a position past the count, or a task that is not working or has no cores in this tick */
     SIVORANDRA_NO_MISS = 17,      /* sentence: the table has no miss */
     SIVORANDRA_SHORT_BUFFER = 18, /* sentence: `buffer` is shorter than the sentence */
-    SIVORANDRA_BAD_FENCE = 19     /* the fence names a core past the count, or all cores */
+    SIVORANDRA_BAD_FENCE = 19,    /* the fence names a core past the count, or all cores */
+    SIVORANDRA_BAD_EMPTY = 20     /* row, advance: for a position past the count, or a task whose job is not released in this very tick */
 };
 
 /* The limits of a table. D is at least 1 and at most T. */
@@ -109,6 +111,10 @@ enum sivorandra_number {
 #define SIVORANDRA_ROW_BYTES SIVORANDRA_MOST_CORES
 #define SIVORANDRA_FENCED 255u
 
+/* The words of an entry of a replay's list: 0, the reports and the empties of an advance. */
+#define SIVORANDRA_ENTRY_WORDS 3
+#define SIVORANDRA_ENTRY_ADVANCE 0u
+
 /* No sentence is longer: a buffer of so many bytes is never refused with 18. */
 #define SIVORANDRA_SENTENCE_BYTES 700
 
@@ -135,12 +141,13 @@ uint32_t sivorandra_plan(const uint32_t *words, size_t words_len, uint32_t a, ui
                          uint8_t *rows, size_t rows_len,
                          uint32_t *answer, size_t answer_len);
 
-/* Starts a run, advances it by each of `reports`, and asks its row: done, row refused, or refused where the start is.
-   An advance's answer goes into `numbers`, 0 for taken or else number * 256 + position; the last row into 64 bytes of `row`.
-   `numbers` needs a word for each report set; what stands behind stays. A refused row is 64 zeros; a refused start, which is
-   answered even where `numbers` or `row` is short, leaves both as found. */
+/* Starts a run, takes it through `entries`, and asks its row with no empty job: done, row refused, or refused where the start is.
+   An entry has SIVORANDRA_ENTRY_WORDS words: SIVORANDRA_ENTRY_ADVANCE, and the reports and the empties of sivorandra_advance. Its answer
+   goes into `numbers`, 0 for taken or else number * 256 + position; the last row into 64 bytes of `row`.
+   `numbers` needs a word for each entry; what stands behind stays. A refused row is 64 zeros; a refused start, which is
+   answered even where `entries` are none and `numbers` or `row` is short, leaves both as found. */
 uint32_t sivorandra_replay(const uint32_t *words, size_t words_len,
-                           const uint32_t *reports, size_t reports_len,
+                           const uint32_t *entries, size_t entries_len,
                            uint32_t *numbers, size_t numbers_len,
                            uint8_t *row, size_t row_len,
                            uint32_t *answer, size_t answer_len);
@@ -154,15 +161,18 @@ uint32_t sivorandra_start(const uint32_t *words, size_t words_len,
 
 /* The row of the present tick: done or refused. Taken or refused, it writes all 64 bytes of the row that is returned: bytes past the
    core count are 0, and a refused row is 64 zeros, on fenced cores too. Words that are no run are refused with 14: too few, a count above
-   32, or no phase in a place below the count. Places past the count are not read. */
-uint32_t sivorandra_row(const uint32_t *run, size_t run_len,
+   32, or no phase in a place below the count. Places past the count are not read.
+   Bit p of `empties` says that the job of position p + 1, released in this very tick (its phase is Working with both numbers 0), is empty: it
+   ends before cores are given out. The run stays as it is: the same set is to be said to the advance. */
+uint32_t sivorandra_row(const uint32_t *run, size_t run_len, uint32_t empties,
                         uint8_t *row, size_t row_len,
                         uint32_t *answer, size_t answer_len);
 
 /* Takes the run one tick on: done, or refused and `run` as found. Words that are no run are refused with 14, as by row. A taken advance
    writes the head and the places below the count; places past it are neither read nor changed.
-   Bit p of `reports` says that the job of position p + 1, which works in this tick, ends after it. */
-uint32_t sivorandra_advance(uint32_t *run, size_t run_len, uint32_t reports,
+   Bit p of `reports` says that the job of position p + 1, which works in this tick, ends after it; bit p of `empties` that it is released in
+   this very tick and empty, as for row: a report on it is refused with 16. */
+uint32_t sivorandra_advance(uint32_t *run, size_t run_len, uint32_t reports, uint32_t empties,
                             uint32_t *answer, size_t answer_len);
 
 /* Writes the miss of the table in `words` as a sentence at the front of `buffer`, with no newline and no NUL: its length, or refused. Bytes

@@ -4,10 +4,10 @@
 
 include!("../gangsim.rs");
 
-use sivorandra::{Refusal as Refused, Verdict as Judged, ROW_BYTES, RUN_HEAD_WORDS, RUN_PLACE_WORDS, RUN_WORDS};
+use sivorandra::{Entry as Asked, Refusal as Refused, Verdict as Judged, ROW_BYTES, RUN_HEAD_WORDS, RUN_PLACE_WORDS, RUN_WORDS};
 
 /// The last request that the project has.
-const REQUEST: u32 = 103;
+const REQUEST: u32 = 105;
 
 /// Lets the simulator read tables as the last request does.
 pub fn begin() {
@@ -96,7 +96,7 @@ pub const WORKING: u32 = 1;
 pub const HOLDING: u32 = 2;
 pub const RESTING: u32 = 3;
 
-/// A list of advances so far: the book, where the run was started, and the run.
+/// A list of entries so far: the book, where the run was started, and the run.
 pub struct Cab {
     book: Option<Book>,
     run: Run,
@@ -110,10 +110,10 @@ impl Clone for Cab {
 }
 
 impl Cab {
-    pub fn row(&self) -> Said<[u8; ROW_BYTES]> {
-        let row = self.run.row(0).map_err(said);
+    pub fn row(&self, empties: u32) -> Said<[u8; ROW_BYTES]> {
+        let row = self.run.row(empties.into()).map_err(said);
         if let Some(book) = &self.book {
-            let by_book = book.row(0).map_err(said).map(|cores| {
+            let by_book = book.row(empties.into()).map_err(said).map(|cores| {
                 let mut row = [0; ROW_BYTES];
                 row[..cores.len()].copy_from_slice(&cores);
                 row
@@ -123,19 +123,31 @@ impl Cab {
         row
     }
 
-    pub fn advance(&mut self, reports: u32) -> Said<()> {
-        let next = self.run.advance(reports.into(), 0).map_err(said);
-        if let Some(book) = &mut self.book {
-            let by_book = book.advance(reports.into(), 0).map_err(said);
+    pub fn enter(&mut self, entry: Asked) -> Said<()> {
+        let (next, by_book) = match entry {
+            Asked::Advance { reports, empties } => {
+                let (reports, empties) = (reports.into(), empties.into());
+                (self.run.advance(reports, empties), self.book.as_mut().map(|book| book.advance(reports, empties)))
+            }
+            other => panic!("no such entry: {other:?}"),
+        };
+        let next = next.map_err(said);
+        if let Some(by_book) = by_book {
+            let by_book = by_book.map_err(said);
             assert_eq!(by_book, next.as_ref().map(|_| ()).map_err(|refusal| *refusal), "the simulator's book and its run have different answers");
         }
         self.run = next?;
         Ok(())
     }
 
-    /// The set of positions that may be reported; none where a deadline is missed.
-    pub fn may_report(&self) -> u32 {
-        let Ok(tick) = self.run.tick(0) else { return 0 };
+    /// The set of positions whose job may be empty: it is released in this very tick.
+    pub fn may_be_empty(&self) -> u32 {
+        (0..self.run.n()).filter(|&place| self.run.phases[place] == FRESH).fold(0, |set, place| set | 1 << place)
+    }
+
+    /// The set of positions that may be reported beside these empty jobs; none where these are refused or a deadline is missed.
+    pub fn may_report(&self, empties: u32) -> u32 {
+        let Ok(tick) = self.run.tick(empties.into()) else { return 0 };
         let may = |place: usize| matches!(tick.phases[place], Phase::Working { .. }) && tick.sets[place] != 0;
         (0..self.run.n()).filter(|&place| may(place)).fold(0, |set, place| set | 1 << place)
     }

@@ -1,17 +1,17 @@
 //! The C functions, each with its lent slices inside larger ones: what stands around them must stay.
 use crate::book::{phase_at, Said, RESTING};
 use crate::rng::Rng;
-use sivorandra::{Refusal, Verdict, ROW_BYTES, RUN_WORDS};
+use sivorandra::{Entry, Refusal, Run, Verdict, ROW_BYTES, RUN_WORDS};
 use std::fmt::Debug;
 
 extern "C" {
     fn sivorandra_judge(words: *const u32, words_len: usize, answer: *mut u32, answer_len: usize) -> u32;
     fn sivorandra_judge_ticks(words: *const u32, words_len: usize, answer: *mut u32, answer_len: usize) -> u32;
     fn sivorandra_plan(words: *const u32, words_len: usize, a: u32, b: u32, rows: *mut u8, rows_len: usize, answer: *mut u32, answer_len: usize) -> u32;
-    fn sivorandra_replay(words: *const u32, words_len: usize, reports: *const u32, reports_len: usize, numbers: *mut u32, numbers_len: usize, row: *mut u8, row_len: usize, answer: *mut u32, answer_len: usize) -> u32;
+    fn sivorandra_replay(words: *const u32, words_len: usize, entries: *const u32, entries_len: usize, numbers: *mut u32, numbers_len: usize, row: *mut u8, row_len: usize, answer: *mut u32, answer_len: usize) -> u32;
     fn sivorandra_start(words: *const u32, words_len: usize, run: *mut u32, run_len: usize, answer: *mut u32, answer_len: usize) -> u32;
-    fn sivorandra_row(run: *const u32, run_len: usize, row: *mut u8, row_len: usize, answer: *mut u32, answer_len: usize) -> u32;
-    fn sivorandra_advance(run: *mut u32, run_len: usize, reports: u32, answer: *mut u32, answer_len: usize) -> u32;
+    fn sivorandra_row(run: *const u32, run_len: usize, empties: u32, row: *mut u8, row_len: usize, answer: *mut u32, answer_len: usize) -> u32;
+    fn sivorandra_advance(run: *mut u32, run_len: usize, reports: u32, empties: u32, answer: *mut u32, answer_len: usize) -> u32;
 }
 
 /// What is wrong, in words.
@@ -154,26 +154,68 @@ pub fn plan(rng: &mut Rng, words: &[u32], a: u32, b: u32, len: usize, expected: 
     Ok(got)
 }
 
+/// An advance that only reports.
+pub const fn reported(reports: u32) -> Entry {
+    Entry::Advance { reports, empties: 0 }
+}
+
+/// An entry on a run, from Rust.
+pub fn enter(run: &mut Run, entry: Entry) -> Said<()> {
+    match entry {
+        Entry::Advance { reports, empties } => run.advance(reports, empties),
+        other => panic!("no such entry: {other:?}"),
+    }
+}
+
+/// The three words of an entry.
+fn in_words(entry: &Entry) -> [u32; 3] {
+    match *entry {
+        Entry::Advance { reports, empties } => [0, reports, empties],
+        other => panic!("no such entry: {other:?}"),
+    }
+}
+
+/// Words that are no list of entries: some are missing or too many, or the first of an entry is another.
+fn spoilt(rng: &mut Rng, entries: &[u32]) -> Vec<u32> {
+    let mut words = entries.to_vec();
+    if words.is_empty() || rng.once_in(3) {
+        words.extend([0; 2].iter().take(1 + rng.below(2)));
+    } else if rng.once_in(2) {
+        words.truncate(words.len() - 1 - rng.below(2));
+    } else {
+        let at = 3 * rng.below(words.len() / 3);
+        words[at] = rng.pick(&[1, 2, 3, 256, u32::MAX]);
+    }
+    words
+}
+
 /// What replay says of the last row or of the start; it leaves the answers and the row expected, and where the start is refused everything as found.
-pub fn replay(rng: &mut Rng, words: &[u32], reports: &[u32], expected: &Said<(Vec<u32>, Said<[u8; ROW_BYTES]>)>) -> Tried<()> {
-    let (numbers_len, row_len) = (reports.len() + rng.below(3), ROW_BYTES + rng.below(3));
+pub fn replay(rng: &mut Rng, words: &[u32], list: &[Entry], expected: &Said<(Vec<u32>, Said<[u8; ROW_BYTES]>)>) -> Tried<()> {
+    let entries: Vec<u32> = list.iter().flat_map(in_words).collect();
+    let (numbers_len, row_len) = (list.len() + rng.below(3), ROW_BYTES + rng.below(3));
     let (mut numbers, mut row) = (Lent::words(rng, numbers_len), Lent::bytes(rng, row_len));
-    let mut call = |numbers_len: usize, row_len: usize, answer: &mut [u32]| {
+    let mut call = |entries: &[u32], numbers_len: usize, row_len: usize, answer: &mut [u32]| {
         let (into, last) = (numbers.lent().as_mut_ptr(), row.lent().as_mut_ptr());
-        let value = unsafe { sivorandra_replay(words.as_ptr(), words.len(), reports.as_ptr(), reports.len(), into, numbers_len, last, row_len, answer.as_mut_ptr(), answer.len()) };
+        let value = unsafe { sivorandra_replay(words.as_ptr(), words.len(), entries.as_ptr(), entries.len(), into, numbers_len, last, row_len, answer.as_mut_ptr(), answer.len()) };
         numbers.as_found_if(value == 1, "the answers")?;
         row.as_found_if(value == 1, "the last row")?;
         Ok(value)
     };
     if expected.is_ok() && rng.once_in(16) {
         // no room for the answers, or for the row
-        let for_numbers = rng.once_in(2) && !reports.is_empty();
-        let lens = if for_numbers { (rng.below(reports.len()), row_len) } else { (numbers_len, rng.below(ROW_BYTES)) };
+        let for_numbers = rng.once_in(2) && !list.is_empty();
+        let lens = if for_numbers { (rng.below(list.len()), row_len) } else { (numbers_len, rng.below(ROW_BYTES)) };
         let mut answer = Lent::words(rng, 3);
-        same("the value with a short slice", 1, call(lens.0, lens.1, answer.lent())?)?;
+        same("the value with a short slice", 1, call(&entries, lens.0, lens.1, answer.lent())?)?;
         answer.as_found("the answer to a short slice")?;
     }
-    let three = ask(rng, |answer| call(numbers_len, row_len, answer))?;
+    if expected.is_ok() && rng.once_in(16) {
+        let none = spoilt(rng, &entries);
+        let mut answer = Lent::words(rng, 3);
+        same("the value with words that are no list", 1, call(&none, numbers_len, row_len, answer.lent())?)?;
+        answer.as_found("the answer to words that are no list")?;
+    }
+    let three = ask(rng, |answer| call(&entries, numbers_len, row_len, answer))?;
     let (case, answers, bytes): (_, &[u32], &[u8]) = match expected {
         Ok((answers, Ok(row))) => ([0, 0, 0], answers, row),
         Ok((answers, Err(refusal))) => ([4, refusal.number(), refusal.position()], answers, &[0; ROW_BYTES]),
@@ -219,10 +261,10 @@ impl Kept {
         Kept { run, row: Lent::bytes(rng, ROW_BYTES + 2) }
     }
 
-    pub fn row(&mut self, rng: &mut Rng, expected: Said<[u8; ROW_BYTES]>) -> Tried<Said<()>> {
+    pub fn row(&mut self, rng: &mut Rng, empties: u32, expected: Said<[u8; ROW_BYTES]>) -> Tried<Said<()>> {
         let Kept { run, row } = self;
         let three = ask(rng, |answer| {
-            let value = unsafe { sivorandra_row(run.lent().as_ptr(), run.len(), row.lent().as_mut_ptr(), row.len(), answer.as_mut_ptr(), answer.len()) };
+            let value = unsafe { sivorandra_row(run.lent().as_ptr(), run.len(), empties, row.lent().as_mut_ptr(), row.len(), answer.as_mut_ptr(), answer.len()) };
             row.as_found_if(value == 1, "the row")?;
             Ok(value)
         })?;
@@ -233,17 +275,21 @@ impl Kept {
         Ok(got)
     }
 
-    /// An advance, which leaves the run expected, or in a refusal the run as found.
-    pub fn advance(&mut self, rng: &mut Rng, reports: u32, expected: Said<[u32; RUN_WORDS]>) -> Tried<Said<()>> {
+    /// An entry, which leaves the run expected, or in a refusal the run as found.
+    pub fn enter(&mut self, rng: &mut Rng, entry: Entry, expected: Said<[u32; RUN_WORDS]>) -> Tried<Said<()>> {
         let run = &mut self.run;
         let three = ask(rng, |answer| {
-            let value = unsafe { sivorandra_advance(run.lent().as_mut_ptr(), run.len(), reports, answer.as_mut_ptr(), answer.len()) };
+            let (words, len) = (run.lent().as_mut_ptr(), run.len());
+            let value = match entry {
+                Entry::Advance { reports, empties } => unsafe { sivorandra_advance(words, len, reports, empties, answer.as_mut_ptr(), answer.len()) },
+                other => panic!("no such entry: {other:?}"),
+            };
             run.as_found_if(value == 1, "the run")?;
             Ok(value)
         })?;
         let got = done(three)?;
-        same("advance", expected.map(|_| ()), got)?;
-        run.holds("the run one tick on", expected.as_ref().map_or(&[][..], |words| &words[..]))?;
+        same(&format!("{entry:?}"), expected.map(|_| ()), got)?;
+        run.holds("the run after it", expected.as_ref().map_or(&[][..], |words| &words[..]))?;
         Ok(got)
     }
 
@@ -252,15 +298,15 @@ impl Kept {
         let Kept { run, row } = self;
         let (words, bytes) = (rng.below(RUN_WORDS), rng.below(ROW_BYTES));
         let mut answer = [0; 3];
-        same("the value of a row of too few words", 0, unsafe { sivorandra_row(run.lent().as_ptr(), words, row.lent().as_mut_ptr(), row.len(), answer.as_mut_ptr(), 3) })?;
+        same("the value of a row of too few words", 0, unsafe { sivorandra_row(run.lent().as_ptr(), words, 0, row.lent().as_mut_ptr(), row.len(), answer.as_mut_ptr(), 3) })?;
         same("a row of too few words", [3, 14, 0], answer)?;
         row.holds("the row of too few words", &[0; ROW_BYTES])?;
         answer = [0; 3];
-        same("the value of an advance of too few words", 0, unsafe { sivorandra_advance(run.lent().as_mut_ptr(), words, 0, answer.as_mut_ptr(), 3) })?;
+        same("the value of an advance of too few words", 0, unsafe { sivorandra_advance(run.lent().as_mut_ptr(), words, 0, 0, answer.as_mut_ptr(), 3) })?;
         same("an advance of too few words", [3, 14, 0], answer)?;
         run.as_found("too few words")?;
         answer = [7; 3];
-        same("the value of a row in too few bytes", 1, unsafe { sivorandra_row(run.lent().as_ptr(), run.len(), row.lent().as_mut_ptr(), bytes, answer.as_mut_ptr(), 3) })?;
+        same("the value of a row in too few bytes", 1, unsafe { sivorandra_row(run.lent().as_ptr(), run.len(), 0, row.lent().as_mut_ptr(), bytes, answer.as_mut_ptr(), 3) })?;
         same("the answer to too few bytes", [7; 3], answer)?;
         row.as_found("too few bytes")
     }

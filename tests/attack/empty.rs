@@ -20,7 +20,7 @@ pub fn all() -> Vec<(String, Tried<()>)> {
         same("no rows of a plan", Ok(()), plan(&TABLE, 0, 0, &mut [])),
         same("one row of a plan into no bytes", refused(11), plan(&TABLE, 0, 1, &mut [])),
         same("replay of no words", refused(1), replay(&[], &[])),
-        same("replay of no reports", Ok(Replay { advances: vec![], row: Ok(row) }), replay(&TABLE, &[])),
+        same("replay of no entries", Ok(Replay { answers: vec![], row: Ok(row) }), replay(&TABLE, &[])),
         same("start of no words", refused(1), Run::start(&[])),
     ];
     tried.into_iter().map(|tried| ("empty slices".into(), tried)).collect()

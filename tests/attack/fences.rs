@@ -56,8 +56,8 @@ pub fn rows() -> Tried<()> {
         let mut row = [0; ROW_BYTES];
         row[..cores.len()].copy_from_slice(cores);
         let mut held = Run::from_words(words);
-        same(name, Ok(row), held.row())?;
-        same(name, Ok(()), held.advance(0))?;
+        same(name, Ok(row), held.row(0))?;
+        same(name, Ok(()), held.advance(0, 0))?;
         same("the head of the run one tick on", &words[..RUN_HEAD_WORDS], &held.words()[..RUN_HEAD_WORDS])?;
     }
     let mut rng = Rng::new(1);
@@ -68,7 +68,7 @@ pub fn rows() -> Tried<()> {
         (fenced(1, 3, 0b111, &[PLAIN]), Err(OUT)),
         (fenced(4, 3, 0b010, &[PLAIN]), Err(OUT)),
     ] {
-        let _ = Kept::from(&mut rng, &words).row(&mut rng, row)?;
+        let _ = Kept::from(&mut rng, &words).row(&mut rng, 0, row)?;
     }
     Ok(())
 }

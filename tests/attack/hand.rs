@@ -1,10 +1,10 @@
 //! Runs built by hand: number 14 at each limit, the fence among them, 15, and what no started run shows.
 use crate::book::{self, phase_at, COMING, HOLDING, RESTING, WORKING};
-use crate::calls::{same, same_run, Kept, Tried};
+use crate::calls::{enter, reported, same, same_run, Kept, Tried};
 use crate::fences;
 use crate::rng::Rng;
 use crate::Counts;
-use sivorandra::{Refusal, Run, RUN_HEAD_WORDS, RUN_PLACE_WORDS, RUN_WORDS};
+use sivorandra::{Entry, Refusal, Run, RUN_HEAD_WORDS, RUN_PLACE_WORDS, RUN_WORDS};
 
 /// O, v, C, D, T, and the phase: its kind and two numbers.
 pub type Place = [u32; RUN_PLACE_WORDS];
@@ -47,7 +47,7 @@ fn turned_down(words: &Words) -> bool {
             && match kind {
                 COMING => within(first, 1, o),
                 WORKING => z <= d && u < c && u <= z,
-                HOLDING => rule == 3 && within(z, 1, d - 1) && within(u, 1, c - 1) && u <= z,
+                HOLDING => rule == 3 && z < d && u < c && u <= z,
                 _ => within(z, 1, t - 1),
             }
     };
@@ -61,9 +61,11 @@ pub const OUT: Refusal = Refusal::NotARun;
 fn compare(rng: &mut Rng, counts: &mut Counts, words: &Words, ticks: usize) -> Tried<()> {
     let mut kept = Kept::from(rng, words);
     if turned_down(words) {
-        counts.answer(&kept.row(rng, Err(OUT))?);
-        let set = rng.pick(&[0, 1, u32::MAX]);
-        counts.answer(&kept.advance(rng, set, Err(OUT))?);
+        let sets = [0, 1, u32::MAX];
+        let asked = rng.pick(&sets);
+        counts.answer(&kept.row(rng, asked, Err(OUT))?);
+        let entry = Entry::Advance { reports: rng.pick(&sets), empties: rng.pick(&sets) };
+        counts.entered(entry, &kept.enter(rng, entry, Err(OUT))?);
         return Ok(());
     }
     let (out, mut cab) = book::built(words);
@@ -71,19 +73,22 @@ fn compare(rng: &mut Rng, counts: &mut Counts, words: &Words, ticks: usize) -> T
     let mut now = *words;
     same_run("the simulator's run", &now, &cab.words(&now))?;
     for _ in 0..ticks {
-        counts.answer(&kept.row(rng, cab.row())?);
-        let may = cab.may_report();
-        let set = match rng.below(8) {
+        let mut any_of = |may: u32| match rng.below(8) {
             0 => rng.word(),
             1 => 1 << rng.below(32),
             2 => may,
             _ => rng.word() & may,
         };
-        let answer = cab.advance(set);
+        let (asked, given) = (any_of(cab.may_be_empty()), any_of(cab.may_be_empty()));
+        let reports = any_of(cab.may_report(given));
+        let empties = if rng.once_in(2) { 0 } else { given };
+        counts.answer(&kept.row(rng, asked, cab.row(asked)).map_err(|why| format!("with the empty jobs {asked}: {why}"))?);
+        let entry = Entry::Advance { reports, empties };
+        let answer = cab.enter(entry);
         if answer.is_ok() {
             now = cab.words(&now);
         }
-        counts.answer(&kept.advance(rng, set, answer.map(|()| now)).map_err(|why| format!("with {set}: {why}"))?);
+        counts.entered(entry, &kept.enter(rng, entry, answer.map(|()| now))?);
     }
     Ok(())
 }
@@ -105,10 +110,11 @@ fn place(rng: &mut Rng, rule: u32, cores: u32) -> Place {
     let phase = match rng.below(8) {
         0 if o > 0 => [COMING, rng.pick(&[1, o, o.div_ceil(2)]), 0],
         1 | 2 if t > 1 => [RESTING, z(rng, 1, t - 1), 0],
-        3..=5 if rule == 3 && d > 1 && c > 1 => {
-            let z = z(rng, 1, d - 1);
-            [HOLDING, z, rng.from(1, z.min(c - 1))]
+        3..=5 if rule == 3 => {
+            let z = z(rng, 0, d - 1);
+            [HOLDING, z, rng.from(0, z.min(c - 1))]
         }
+        6 => [WORKING, 0, 0],
         _ => {
             let z = if rng.once_in(12) { d } else { rng.from(0, d - 1) };
             [WORKING, z, rng.from(0, z.min(c - 1))]
@@ -175,11 +181,13 @@ fn place_limits() -> Vec<(&'static str, Place, Place)> {
         ("Working u at most z", [5, 1, 4, 6, 8, WORKING, 2, 2], [5, 1, 4, 6, 8, WORKING, 2, 3]),
         ("Working u at most z, at the release", [5, 1, 4, 6, 8, WORKING, 0, 0], [5, 1, 4, 6, 8, WORKING, 0, 1]),
         ("Working u below C where C is above D", [5, 1, 9, 6, 8, WORKING, 5, 5], [5, 1, 5, 6, 8, WORKING, 5, 5]),
-        ("Holding z at least 1", [5, 1, 4, 6, 8, HOLDING, 1, 1], [5, 1, 4, 6, 8, HOLDING, 0, 1]),
-        ("Holding z at least 1, nor 0 with 0", [5, 1, 4, 6, 8, HOLDING, 1, 1], [5, 1, 4, 6, 8, HOLDING, 0, 0]),
+        ("Holding from 0 and 0 on", [5, 1, 4, 6, 8, HOLDING, 0, 0], [5, 1, 4, 6, 8, HOLDING, 0, 1]),
+        ("Holding where C is 1", [5, 1, 1, 6, 8, HOLDING, 3, 0], [5, 1, 1, 6, 8, HOLDING, 3, 1]),
+        ("Holding where D is 1", [5, 1, 4, 1, 8, HOLDING, 0, 0], [5, 1, 4, 1, 8, HOLDING, 1, 0]),
+        ("Holding where T is 1", [5, 1, 1, 1, 1, HOLDING, 0, 0], [5, 1, 1, 1, 1, HOLDING, 1, 0]),
         ("Holding z at most D - 1", [5, 1, 4, 6, 8, HOLDING, 5, 1], [5, 1, 4, 6, 8, HOLDING, 6, 1]),
         ("Holding z at most D - 1 where D is T", [5, 1, 4, 8, 8, HOLDING, 7, 1], [5, 1, 4, 8, 8, HOLDING, 8, 1]),
-        ("Holding u at least 1", [5, 1, 4, 6, 8, HOLDING, 3, 1], [5, 1, 4, 6, 8, HOLDING, 3, 0]),
+        ("Holding u from 0 on", [5, 1, 4, 6, 8, HOLDING, 3, 0], [5, 1, 4, 6, 8, HOLDING, 3, u32::MAX]),
         ("Holding u at most C - 1", [5, 1, 4, 6, 8, HOLDING, 5, 3], [5, 1, 4, 6, 8, HOLDING, 5, 4]),
         ("Holding u at most z", [5, 1, 4, 6, 8, HOLDING, 2, 2], [5, 1, 4, 6, 8, HOLDING, 2, 3]),
         ("Resting at least 1", [5, 1, 4, 6, 8, RESTING, 1, 0], [5, 1, 4, 6, 8, RESTING, 0, 0]),
@@ -239,16 +247,16 @@ fn limits() -> Vec<(String, Words, Words)> {
 fn limit(counts: &mut Counts, inside: &Words, outside: &Words) -> Tried<()> {
     let mut rng = Rng::new(1);
     for (words, out) in [(inside, false), (outside, true)] {
-        same("row with 14", out, Run::from_words(*words).row() == Err(OUT))?;
+        same("row with 14", out, Run::from_words(*words).row(0) == Err(OUT))?;
         let mut run = Run::from_words(*words);
-        same("advance with 14", out, run.advance(0) == Err(OUT))?;
+        same("advance with 14", out, run.advance(0, 0) == Err(OUT))?;
         same("the test's own reading of 14", out, turned_down(words))?;
         compare(&mut rng, counts, words, 3)?;
     }
     Ok(())
 }
 
-/// Late positions: 15 with the lowest, after 14 and before 16, in row and advance.
+/// Late positions: 15 with the lowest, after 14 and before 20 and 16, in row and advance.
 fn lateness(counts: &mut Counts) -> Tried<()> {
     let late = [5, 1, 4, 6, 8, WORKING, 6, 1];
     for set in 1u32..1 << 6 {
@@ -258,18 +266,34 @@ fn lateness(counts: &mut Counts) -> Tried<()> {
             let mut words = run(rule, 4, &places);
             let expected = Err(Refusal::Late { position: set.trailing_zeros() + 1 });
             let mut held = Run::from_words(words);
-            same("row", expected, held.row().map(|_| ()))?;
-            for reports in [0, 1, 63, u32::MAX] {
-                let answer = held.advance(reports);
-                counts.answer(&answer);
-                same("advance", expected, answer)?;
-                same_run("the late run", &words, held.words())?;
+            for empties in [0, 1, 63, u32::MAX] {
+                same("row", expected, held.row(empties).map(|_| ()))?;
+                for reports in [0, 1, 63, u32::MAX] {
+                    let answer = held.advance(reports, empties);
+                    counts.answer(&answer);
+                    same("advance", expected, answer)?;
+                    same_run("the late run", &words, held.words())?;
+                }
             }
             words[RUN_HEAD_WORDS + RUN_PLACE_WORDS * 5 + 1] = 5;
-            same("14 before 15", Err(OUT), Run::from_words(words).advance(0))?;
+            same("14 before 15", Err(OUT), Run::from_words(words).advance(0, 0))?;
         }
     }
     Ok(())
+}
+
+/// One task on one core whose job is released in this tick and empty: the rule, the place, and the phase one tick on.
+fn empty_moves() -> Vec<(&'static str, u32, Place, [u32; 3])> {
+    vec![
+        ("an empty job rests", 1, [5, 1, 4, 6, 8, WORKING, 0, 0], [RESTING, 1, 0]),
+        ("an empty job rests", 2, [5, 1, 4, 6, 8, WORKING, 0, 0], [RESTING, 1, 0]),
+        ("an empty job holds", 3, [5, 1, 4, 6, 8, WORKING, 0, 0], [HOLDING, 1, 1]),
+        ("an empty job holds C ticks", 3, [5, 1, 1, 6, 8, WORKING, 0, 0], [RESTING, 1, 0]),
+        ("an empty job holds no longer than D", 3, [5, 1, 4, 1, 8, WORKING, 0, 0], [RESTING, 1, 0]),
+        ("an empty job of period 1", 1, [0, 1, 1, 1, 1, WORKING, 0, 0], [WORKING, 0, 0]),
+        ("an empty job of period 1", 3, [0, 1, 1, 1, 1, WORKING, 0, 0], [WORKING, 0, 0]),
+        ("the largest numbers", 3, [1_000_000, 1, 1_000_000, 1_000_000, 1_000_000, WORKING, 0, 0], [HOLDING, 1, 1]),
+    ]
 }
 
 /// One task on one core: the rule, the place, the reports, and the phase one tick on, as the scope's sentences say.
@@ -291,6 +315,9 @@ fn moves() -> Vec<(&'static str, u32, Place, u32, [u32; 3])> {
         ("work at D is late", 1, [5, 1, 4, 6, 8, WORKING, 5, 2], 0, [WORKING, 6, 3]),
         ("work at D = T is late", 2, [5, 1, 4, 6, 6, WORKING, 5, 2], 0, [WORKING, 6, 3]),
         ("a hold goes on", 3, [5, 1, 4, 6, 8, HOLDING, 2, 1], 0, [HOLDING, 3, 2]),
+        ("a hold goes on from 0 and 0", 3, [5, 1, 4, 6, 8, HOLDING, 0, 0], 0, [HOLDING, 1, 1]),
+        ("a hold goes on that has claimed nothing", 3, [5, 1, 4, 6, 8, HOLDING, 2, 0], 0, [HOLDING, 3, 1]),
+        ("a hold ends where C is 1", 3, [5, 1, 1, 6, 8, HOLDING, 2, 0], 0, [RESTING, 3, 0]),
         ("a hold ends at C", 3, [5, 1, 4, 6, 8, HOLDING, 3, 3], 0, [RESTING, 4, 0]),
         ("a hold ends at D", 3, [5, 1, 4, 6, 8, HOLDING, 5, 1], 0, [RESTING, 6, 0]),
         ("a hold ends at D = T", 3, [5, 1, 4, 6, 6, HOLDING, 5, 1], 0, [WORKING, 0, 0]),
@@ -300,9 +327,9 @@ fn moves() -> Vec<(&'static str, u32, Place, u32, [u32; 3])> {
     ]
 }
 
-fn a_move(rule: u32, place: Place, reports: u32, phase: [u32; 3]) -> Tried<()> {
+fn a_move(rule: u32, place: Place, entry: Entry, phase: [u32; 3]) -> Tried<()> {
     let mut held = Run::from_words(run(rule, 1, &[place]));
-    same("advance", Ok(()), held.advance(reports))?;
+    same("advance", Ok(()), enter(&mut held, entry))?;
     let [o, v, c, d, t, ..] = place;
     let next = run(rule, 1, &[[o, v, c, d, t, phase[0], phase[1], phase[2]]]);
     same_run("one tick on", &next, held.words())
@@ -311,12 +338,51 @@ fn a_move(rule: u32, place: Place, reports: u32, phase: [u32; 3]) -> Tried<()> {
 /// Held cores have the holder's position, and hold others back; its reports are refused with 16.
 fn held_back() -> Tried<()> {
     let mut held = Run::from_words(run(3, 2, &[[0, 2, 4, 6, 8, HOLDING, 5, 1], [0, 1, 2, 8, 8, WORKING, 5, 0]]));
-    same("the row", Ok([1, 1]), held.row().map(|row| [row[0], row[1]]))?;
-    same("the holder reported", Err(Refusal::BadReport), held.advance(1))?;
-    same("the waiting one reported", Err(Refusal::BadReport), held.advance(2))?;
-    same("a position past the count reported", Err(Refusal::BadReport), held.advance(4))?;
-    same("advance", Ok(()), held.advance(0))?;
-    same("the row after the hold", Ok([2, 0]), held.row().map(|row| [row[0], row[1]]))
+    same("the row", Ok([1, 1]), held.row(0).map(|row| [row[0], row[1]]))?;
+    same("the holder reported", Err(Refusal::BadReport), held.advance(1, 0))?;
+    same("the waiting one reported", Err(Refusal::BadReport), held.advance(2, 0))?;
+    same("a position past the count reported", Err(Refusal::BadReport), held.advance(4, 0))?;
+    same("advance", Ok(()), held.advance(0, 0))?;
+    same("the row after the hold", Ok([2, 0]), held.row(0).map(|row| [row[0], row[1]]))
+}
+
+/// An empty job of the first of two wide tasks: under idling it holds its cores, else the second has them and may be reported. A row asked changes nothing, a refused
+/// advance keeps nothing of its empty jobs, and a report on an empty job is 16.
+fn emptied() -> Tried<()> {
+    let wide = [0, 2, 4, 6, 8, WORKING, 0, 0];
+    for (rule, row, reported) in [(1, [2, 2], Ok(())), (2, [2, 2], Ok(())), (3, [1, 1], Err(Refusal::BadReport))] {
+        let words = run(rule, 2, &[wide, wide]);
+        let mut held = Run::from_words(words);
+        let first = |run: &Run, empties: u32| run.row(empties).map(|row| [row[0], row[1]]);
+        same("the row", Ok([1, 1]), first(&held, 0))?;
+        same("the row with an empty job", Ok(row), first(&held, 1))?;
+        same("the row with the other empty", Ok([1, 1]), first(&held, 2))?;
+        same("the empty one reported", Err(Refusal::BadReport), held.advance(1, 1))?;
+        same("the second reported without it", Err(Refusal::BadReport), held.advance(2, 0))?;
+        same_run("after rows and refusals", &words, held.words())?;
+        same("the second reported", reported, held.advance(2, 1))?;
+    }
+    Ok(())
+}
+
+/// 20 for a position past the count and for every phase but Working(0, 0), before 16.
+fn not_emptied(counts: &mut Counts) -> Tried<()> {
+    let phases = [[COMING, 1, 0], [WORKING, 1, 0], [WORKING, 1, 1], [HOLDING, 0, 0], [HOLDING, 1, 0], [HOLDING, 1, 1], [RESTING, 1, 0], [RESTING, 7, 0]];
+    for [kind, first, second] in phases {
+        let words = run(3, 4, &[[5, 1, 4, 6, 8, WORKING, 0, 0], [5, 1, 4, 6, 8, kind, first, second]]);
+        let mut held = Run::from_words(words);
+        for empties in [2, 3, 4, 5, 1 << 31, u32::MAX] {
+            same("row", Err(Refusal::BadEmpty), held.row(empties).map(|_| ()))?;
+            for reports in [0, 1, 4, u32::MAX] {
+                let answer = held.advance(reports, empties);
+                counts.answer(&answer);
+                same("advance", Err(Refusal::BadEmpty), answer)?;
+                same_run("the run", &words, held.words())?;
+            }
+        }
+        same("advance", Ok(()), held.advance(0, 1))?;
+    }
+    Ok(())
 }
 
 /// Random words past the count, for every count that leaves places there: row and advance answer as with zeros, and these words come back unchanged.
@@ -329,12 +395,12 @@ fn past_the_count(counts: &mut Counts, count: u32) -> Tried<()> {
         litter(&mut rng, &mut littered);
         let (mut plain, mut held) = (Run::from_words(clean), Run::from_words(littered));
         for _ in 0..4 {
-            same("row", plain.row(), held.row())?;
-            let any = rng.word();
-            let set = rng.pick(&[0, 1, any]);
-            let answer = plain.advance(set);
+            let (any, other) = (rng.word(), rng.word());
+            let (reports, empties) = (rng.pick(&[0, 1, any]), rng.pick(&[0, 0, 1, other]));
+            same("row", plain.row(empties), held.row(empties))?;
+            let answer = plain.advance(reports, empties);
             counts.answer(&answer);
-            same("advance", answer, held.advance(set))?;
+            same("advance", answer, held.advance(reports, empties))?;
             let used = RUN_HEAD_WORDS + RUN_PLACE_WORDS * count as usize;
             same("the words up to the count", &plain.words()[..used], &held.words()[..used])?;
             same("the words past the count", &littered[used..], &held.words()[used..])?;
@@ -353,8 +419,13 @@ pub fn all(counts: &mut Counts) -> Vec<(String, Tried<()>)> {
     }
     done.push(("the lowest late position".into(), lateness(counts)));
     for (name, rule, place, reports, phase) in moves() {
-        done.push((format!("{name}, rule {rule}"), a_move(rule, place, reports, phase)));
+        done.push((format!("{name}, rule {rule}"), a_move(rule, place, reported(reports), phase)));
     }
+    for (name, rule, place, phase) in empty_moves() {
+        done.push((format!("{name}, rule {rule}"), a_move(rule, place, Entry::Advance { reports: 0, empties: 1 }, phase)));
+    }
+    done.push(("an empty job beside another".into(), emptied()));
+    done.push(("what cannot be empty".into(), not_emptied(counts)));
     done.push(("a hold holds others back".into(), held_back()));
     done.push(("rows with a fence".into(), fences::rows()));
     for count in 1..32 {

@@ -2,7 +2,7 @@
 use crate::book::{phase_at, WORKING};
 use crate::calls::Tried;
 use crate::Counts;
-use sivorandra::RUN_WORDS;
+use sivorandra::{Entry, RUN_WORDS};
 
 /// At one tick so many lists are compared, each with each.
 const MOST_LISTS: usize = 100;
@@ -26,10 +26,10 @@ impl Line {
     }
 }
 
-/// A list of report sets, all taken, and the jobs after it: `per_place` of each place, those to come among them.
+/// A list of entries, all taken, and the jobs after it: `per_place` of each place, those to come among them.
 #[derive(Clone)]
 pub struct List {
-    pub sets: Vec<u32>,
+    pub entries: Vec<Entry>,
     per_place: usize,
     jobs: Vec<Line>,
 }
@@ -38,14 +38,15 @@ impl List {
     /// The empty list, of a table whose lists grow to so many ticks.
     pub fn empty(run: &[u32; RUN_WORDS], ticks: usize) -> List {
         let per_place = ticks + 1;
-        List { sets: Vec::new(), per_place, jobs: vec![Line::default(); per_place * run[2] as usize] }
+        List { entries: Vec::new(), per_place, jobs: vec![Line::default(); per_place * run[2] as usize] }
     }
 
-    /// The list with one set more, which took the run from `before` to `after`.
-    pub fn with(&self, set: u32, before: &[u32; RUN_WORDS], after: &[u32; RUN_WORDS]) -> List {
+    /// The list with one entry more, which took the run from `before` to `after`.
+    pub fn with(&self, entry: Entry, before: &[u32; RUN_WORDS], after: &[u32; RUN_WORDS]) -> List {
         let mut next = self.clone();
-        let tick = self.sets.len() as u32;
-        next.sets.push(set);
+        let tick = self.entries.len() as u32;
+        next.entries.push(entry);
+        let Entry::Advance { empties, .. } = entry else { return next };
         for place in 0..before[2] as usize {
             let (task, phase) = (&before[phase_at(place) - 5..][..5], &before[phase_at(place)..][..3]);
             if phase[0] != WORKING {
@@ -54,15 +55,19 @@ impl List {
             let number = (tick - phase[1] - task[0]) / task[4];
             let then = &after[phase_at(place)..][..3];
             let goes_on = then[0] == WORKING && then[1] == phase[1] + 1;
-            let line = if goes_on { Line { had: then[2], ended: false } } else { Line { had: phase[2] + 1, ended: true } };
+            let line = match (empties >> place & 1, goes_on) {
+                (1, _) => Line { had: 0, ended: true },
+                (_, true) => Line { had: then[2], ended: false },
+                (_, false) => Line { had: phase[2] + 1, ended: true },
+            };
             next.jobs[self.per_place * place + number as usize] = line;
         }
         next
     }
 
-    /// Whether every set of the list is empty.
+    /// Whether both sets of every entry of the list are empty.
     fn full_length(&self) -> bool {
-        self.sets.iter().all(|&set| set == 0)
+        self.entries.iter().all(|&entry| entry == Entry::Advance { reports: 0, empties: 0 })
     }
 
     /// The first job that passes the test beside the same job of another list.
@@ -72,7 +77,7 @@ impl List {
 
     /// A job of this list beside that of another, in words.
     fn named(&self, other: &List, job: usize) -> String {
-        format!("job {} of position {} after {:?} beside {:?}", job % self.per_place + 1, job / self.per_place + 1, self.sets, other.sets)
+        format!("job {} of position {} after {:?} beside {:?}", job % self.per_place + 1, job / self.per_place + 1, self.entries, other.entries)
     }
 }
 

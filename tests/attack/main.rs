@@ -14,7 +14,7 @@ mod vectors;
 
 use book::Said;
 use calls::Tried;
-use sivorandra::Verdict;
+use sivorandra::{Entry, Verdict};
 use std::collections::HashSet;
 use std::sync::atomic::{AtomicU64, Ordering};
 use std::time::{Duration, Instant, SystemTime, UNIX_EPOCH};
@@ -37,7 +37,10 @@ const FEWEST_OVERTAKEN: u64 = 1_000;
 /// At least so many tables with a fence are not refused, and so many with one in the second word, and so many with one that leaves one core.
 const FEWEST_FENCED: u64 = 1_000;
 /// The numbers that the calls tried here can answer; 17 and 18 are the sentence's.
-const NUMBERS: [usize; 17] = [1, 2, 3, 4, 5, 6, 7, 8, 9, 10, 11, 12, 13, 14, 15, 16, 19];
+const NUMBERS: [usize; 18] = [1, 2, 3, 4, 5, 6, 7, 8, 9, 10, 11, 12, 13, 14, 15, 16, 19, 20];
+const LAST: usize = 20;
+/// At least so many advances with an empty job are taken.
+const FEWEST_EMPTY: u64 = 100_000;
 
 /// What was seen, of the library's answers.
 #[derive(Default)]
@@ -51,13 +54,15 @@ pub struct Counts {
     fenced: u64,
     second: u64,
     alone: u64,
-    numbers: [u64; 20],
+    numbers: [u64; LAST + 1],
     tables: u64,
     plans: u64,
     replays: u64,
     /// Replays that end in a missed deadline.
     late: u64,
     advances: u64,
+    /// Advances with an empty job that are taken.
+    empty: u64,
     runs: u64,
     nodes: u64,
     /// Nodes at which a deadline is missed.
@@ -71,8 +76,15 @@ pub struct Counts {
 impl Counts {
     pub fn answer(&mut self, answer: &Said<()>) {
         if let Err(refusal) = answer {
-            self.numbers[refusal.number().min(19) as usize] += 1;
+            self.numbers[(refusal.number() as usize).min(LAST)] += 1;
         }
+    }
+
+    /// An entry of a list and its answer.
+    pub fn entered(&mut self, entry: Entry, answer: &Said<()>) {
+        self.answer(answer);
+        self.advances += 1;
+        self.empty += u64::from(answer.is_ok() && matches!(entry, Entry::Advance { empties, .. } if empties != 0));
     }
 
     pub fn verdict(&mut self, verdict: &Said<Verdict>) {
@@ -112,6 +124,7 @@ impl Counts {
         self.replays += other.replays;
         self.late += other.late;
         self.advances += other.advances;
+        self.empty += other.empty;
         self.runs += other.runs;
         self.nodes += other.nodes;
         self.ends += other.ends;
@@ -192,8 +205,8 @@ fn main() {
             }
         }
     });
-    let Counts { tables, firm, full, miss, fenced, second, alone, plans, replays, late, advances, runs, nodes, ends, abreast, overtaken, .. } = counts;
-    println!("attack: {tables} tables (firm {firm}, full {full}, miss {miss}), {plans} plans, {replays} replays ({late} to a missed deadline), {advances} advances, {runs} runs built by hand");
+    let Counts { tables, firm, full, miss, fenced, second, alone, plans, replays, late, advances, empty, runs, nodes, ends, abreast, overtaken, .. } = counts;
+    println!("attack: {tables} tables (firm {firm}, full {full}, miss {miss}), {plans} plans, {replays} replays ({late} to a missed deadline), {advances} advances ({empty} taken with an empty job), {runs} runs built by hand");
     println!("attack: {} small tables searched, {nodes} nodes ({ends} at a missed deadline)", counts.searched.len());
     println!("attack: {abreast} pairs of lists of firm tables with no longer job in the first, which is abreast; {overtaken} of full tables, where it is behind");
     println!("attack: {fenced} of the tables that are not refused have a fence, {second} of them in the second word, {alone} that leaves one core");
@@ -207,6 +220,7 @@ fn main() {
         for (what, seen) in [("", fenced), (" in the second word", second), (" that leaves one core", alone)] {
             counts.count(if seen >= FEWEST_FENCED { Ok(()) } else { Err(format!("only {seen} tables with a fence{what}")) });
         }
+        counts.count(if empty >= FEWEST_EMPTY { Ok(()) } else { Err(format!("only {empty} advances taken with an empty job")) });
         let searched = counts.searched.len();
         counts.count(if searched >= FEWEST_SEARCHED { Ok(()) } else { Err(format!("only {searched} small tables")) });
         counts.count(if abreast >= FEWEST_ABREAST { Ok(()) } else { Err(format!("only {abreast} pairs of lists of firm tables with no longer job in the first")) });

@@ -1,13 +1,13 @@
 //! Both verdicts, plan, replay and the run in words beside the simulator, on one random table.
 use crate::book::{self, Cab, Known, Said};
-use crate::calls::{self, same, Kept, Lent, Tried};
+use crate::calls::{self, reported, same, Kept, Lent, Tried};
 use crate::rng::Rng;
 use crate::tables;
 use crate::Counts;
-use sivorandra::{Refusal, Replay, Run, Verdict, FENCED, ROW_BYTES};
+use sivorandra::{Entry, Refusal, Replay, Run, Verdict, FENCED, ROW_BYTES};
 
-/// A list of at most so many advances.
-const MOST_ADVANCES: u32 = 60;
+/// A list of at most so many entries.
+const MOST_ENTRIES: u32 = 60;
 /// At most so many rows of a long table.
 const MOST_ROWS: u32 = 2_000;
 
@@ -66,8 +66,8 @@ fn compare_plans(rng: &mut Rng, counts: &mut Counts, words: &[u32], known: &Said
     Ok(())
 }
 
-/// The next set of reports: mostly what may be reported, and at times what may not.
-fn reports(rng: &mut Rng, may: u32, often: u32) -> u32 {
+/// A set of reports, or of empty jobs: mostly of those that may be in it, and at times of others.
+fn any_of(rng: &mut Rng, may: u32, often: u32) -> u32 {
     match rng.below(40) {
         0 => rng.word(),
         1 => u32::MAX,
@@ -78,8 +78,19 @@ fn reports(rng: &mut Rng, may: u32, often: u32) -> u32 {
     }
 }
 
-/// A list of advances through the run kept in words, step by step, and then as a whole.
-fn compare_runs(rng: &mut Rng, counts: &mut Counts, words: &[u32], known: &Said<Known>, list: &mut Vec<u32>) -> Tried<()> {
+/// A set of empty jobs, none in every second one.
+fn empties(rng: &mut Rng, cab: &Cab, often: u32) -> u32 {
+    if rng.once_in(2) { 0 } else { any_of(rng, cab.may_be_empty(), often) }
+}
+
+/// The next entry.
+fn entry(rng: &mut Rng, cab: &Cab, often: u32) -> Entry {
+    let empties = empties(rng, cab, often);
+    Entry::Advance { reports: any_of(rng, cab.may_report(empties), often), empties }
+}
+
+/// A list of entries through the run kept in words, step by step, and then as a whole.
+fn compare_runs(rng: &mut Rng, counts: &mut Counts, words: &[u32], known: &Said<Known>, list: &mut Vec<Entry>) -> Tried<()> {
     let mut begun = known.as_ref().map_err(|refusal| *refusal).and_then(Known::start);
     let mut held = calls::NO_RUN;
     let first = begun.as_ref().map(|cab| cab.words(&held)).map_err(|refusal| *refusal);
@@ -87,26 +98,28 @@ fn compare_runs(rng: &mut Rng, counts: &mut Counts, words: &[u32], known: &Said<
     counts.answer(&started);
     same("start in Rust", first, Run::start(words).map(|run| *run.words()))?;
     let often = rng.pick(&[1, 2, 4, 16]);
-    let length = rng.from(0, MOST_ADVANCES);
+    let length = rng.from(0, MOST_ENTRIES);
     let mut expected = Vec::new();
     let unmade = Refusal::NotARun;
     let mut row: Said<[u8; ROW_BYTES]> = Err(unmade);
     for at in 0..=length {
-        row = begun.as_ref().map_or(Err(unmade), Cab::row);
-        let shown = kept.row(rng, row).map_err(|why| format!("after {at} advances: {why}"))?;
-        counts.answer(&shown);
+        let others = begun.as_ref().map_or(at, |cab| empties(rng, cab, often));
+        for set in [others, 0] {
+            row = begun.as_ref().map_or(Err(unmade), |cab| cab.row(set));
+            let shown = kept.row(rng, set, row).map_err(|why| format!("after {at} entries, with the empty jobs {set}: {why}"))?;
+            counts.answer(&shown);
+        }
         if at == length || (begun.is_err() && at == 2) {
             break;
         }
-        let set = begun.as_ref().map_or(at, |cab| reports(rng, cab.may_report(), often));
-        list.push(set);
-        let answer = begun.as_mut().map_or(Err(unmade), |cab| cab.advance(set));
+        let next = begun.as_ref().map_or(reported(at), |cab| entry(rng, cab, often));
+        list.push(next);
+        let answer = begun.as_mut().map_or(Err(unmade), |cab| cab.enter(next));
         if let (Ok(cab), Ok(())) = (&begun, answer) {
             held = cab.words(&held);
         }
-        let taken = kept.advance(rng, set, answer.map(|()| held)).map_err(|why| format!("advance {at}: {why}"))?;
-        counts.advances += 1;
-        counts.answer(&taken);
+        let taken = kept.enter(rng, next, answer.map(|()| held)).map_err(|why| format!("entry {at}: {why}"))?;
+        counts.entered(next, &taken);
         expected.push(answer);
     }
     if rng.once_in(8) {
@@ -116,7 +129,7 @@ fn compare_runs(rng: &mut Rng, counts: &mut Counts, words: &[u32], known: &Said<
     calls::replay(rng, words, list, &whole)?;
     counts.replays += 1;
     counts.late += u64::from(row.is_err() && begun.is_ok());
-    let bound = begun.as_ref().map(|_| Replay { advances: expected, row }).map_err(|refusal| *refusal);
+    let bound = begun.as_ref().map(|_| Replay { answers: expected, row }).map_err(|refusal| *refusal);
     same("replay in Rust", bound, sivorandra::replay(words, list))
 }
 
@@ -155,7 +168,7 @@ pub fn case(seed: u64, counts: &mut Counts) -> Tried<()> {
     compare(&mut rng, counts, &words, &mut list).map_err(|why| format!("seed {seed}: {why}\n  table {words:?}\n  list {list:?}"))
 }
 
-fn compare(rng: &mut Rng, counts: &mut Counts, words: &[u32], list: &mut Vec<u32>) -> Tried<()> {
+fn compare(rng: &mut Rng, counts: &mut Counts, words: &[u32], list: &mut Vec<Entry>) -> Tried<()> {
     let known = book::read(words);
     let expected = known.as_ref().map(Known::verdict).map_err(|refusal| *refusal);
     let got = calls::judge(rng, words, false)?;

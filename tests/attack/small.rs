@@ -1,16 +1,17 @@
-//! Every way of ending jobs early within the first ticks of a small table, the run kept in words beside the book.
-use crate::book::{self, Cab};
-use crate::calls::{same, same_run, Tried};
+//! Every way of ending jobs early, or of having empty ones, within the first ticks of a small table, the run kept in words beside the book.
+use crate::book::{self, Cab, Said};
+use crate::calls::{self, same, same_run, Tried};
 use crate::lists::{self, List};
 use crate::rng::Rng;
 use crate::tables;
 use crate::Counts;
-use sivorandra::{Refusal, Run, Verdict};
+use sivorandra::{Entry, Refusal, Run, Verdict};
 
-const TICKS: usize = 12;
-/// Tables with fewer or more nodes are left out.
+/// A table is searched for as many ticks, from the fewest to the most, as there are not too many nodes; one with too few is left out.
+const FEWEST_TICKS: usize = 4;
+const MOST_TICKS: usize = 12;
 const FEWEST_NODES: u64 = 200;
-const MOST_NODES: u64 = 30_000;
+const MOST_NODES: u64 = 20_000;
 
 /// All subsets of a set.
 fn subsets(set: u32) -> impl Iterator<Item = u32> {
@@ -28,20 +29,35 @@ fn nodes(cab: &Cab, ticks: usize, limit: u64) -> u64 {
     if ticks == 0 {
         return count;
     }
-    let may = cab.may_report();
-    for set in subsets(may) {
-        let mut next = cab.clone();
-        if next.advance(set).is_ok() && count <= limit {
-            count += nodes(&next, ticks - 1, limit - count.min(limit));
+    for empties in subsets(cab.may_be_empty()) {
+        for reports in subsets(cab.may_report(empties)) {
+            let mut next = cab.clone();
+            if count <= limit && next.enter(Entry::Advance { reports, empties }).is_ok() {
+                count += nodes(&next, ticks - 1, limit - count.min(limit));
+            }
         }
     }
     count
 }
 
+/// For how many ticks the table is searched, if it is.
+fn depth(cab: &Cab) -> Option<usize> {
+    let mut found = None;
+    for ticks in FEWEST_TICKS..=MOST_TICKS {
+        match nodes(cab, ticks, MOST_NODES) {
+            size if size > MOST_NODES => break,
+            size if size >= FEWEST_NODES => found = Some(ticks),
+            _ => (),
+        }
+    }
+    found
+}
+
 struct Search {
     firm: bool,
+    ticks: usize,
     /// The list that is being tried, and all lists so far, by their ticks.
-    list: Vec<u32>,
+    list: Vec<Entry>,
     lists: Vec<Vec<List>>,
 }
 
@@ -50,8 +66,8 @@ impl Search {
         counts.nodes += 1;
         let tick = self.list.len();
         same_run("the run", &cab.words(run.words()), run.words())?;
-        let row = cab.row();
-        same("row", row, run.row())?;
+        let row = cab.row(0);
+        same("row", row, run.row(0))?;
         counts.answer(&row.map(|_| ()));
         if self.firm {
             same("the row of a firm table is shown", Ok(()), row.map(|_| ()))?;
@@ -60,32 +76,43 @@ impl Search {
             counts.ends += 1;
             self.lists[tick].push(list);
             let mut next = run.clone();
-            same("advance of a run that has missed", row.map(|_| ()), next.advance(0))?;
+            same("advance of a run that has missed", row.map(|_| ()), next.advance(0, 0))?;
             return same_run("a run that has missed", run.words(), next.words());
         }
-        if tick == TICKS {
-            self.lists[tick].push(list);
-            return Ok(());
-        }
-        let may = cab.may_report();
-        let count = run.words()[2];
-        for set in 0..2 << count {
-            let mut next = run.clone();
-            let answer = next.advance(set);
-            counts.answer(&answer);
-            if set & !may != 0 {
-                same(&format!("advance with {set}"), Err(Refusal::BadReport), answer)?;
-                same_run("a refused run", run.words(), next.words())?;
-                continue;
+        if tick < self.ticks {
+            let sets = 0..2 << run.words()[2];
+            for empties in sets.clone() {
+                same(&format!("row with {empties} empty"), cab.row(empties), run.row(empties))?;
+                let fits = empties & !cab.may_be_empty() == 0;
+                let may = cab.may_report(empties);
+                for reports in sets.clone().take(if fits { sets.len() } else { 2 }) {
+                    let answer = match (fits, reports & !may) {
+                        (false, _) => Err(Refusal::BadEmpty),
+                        (true, 0) => Ok(()),
+                        (true, _) => Err(Refusal::BadReport),
+                    };
+                    self.enter(run, cab, &list, Entry::Advance { reports, empties }, answer, counts)?;
+                }
             }
-            self.list.push(set);
-            same("advance", Ok(()), answer)?;
-            let mut book = cab.clone();
-            same("the book's advance", Ok(()), book.advance(set))?;
-            self.visit(&next, &book, list.with(set, run.words(), next.words()), counts)?;
-            self.list.pop();
         }
         self.lists[tick].push(list);
+        Ok(())
+    }
+
+    /// An entry that is to be answered so, and where it is taken all that comes after it.
+    fn enter(&mut self, run: &Run, cab: &Cab, list: &List, entry: Entry, expected: Said<()>, counts: &mut Counts) -> Tried<()> {
+        let mut next = run.clone();
+        let answer = calls::enter(&mut next, entry);
+        counts.entered(entry, &answer);
+        same(&format!("{entry:?}"), expected, answer)?;
+        if answer.is_err() {
+            return same_run("a refused run", run.words(), next.words());
+        }
+        self.list.push(entry);
+        let mut book = cab.clone();
+        same("the book's answer", Ok(()), book.enter(entry))?;
+        self.visit(&next, &book, list.with(entry, run.words(), next.words()), counts)?;
+        self.list.pop();
         Ok(())
     }
 }
@@ -102,15 +129,12 @@ pub fn case(seed: u64, counts: &mut Counts) -> Tried<()> {
             Verdict::Miss { .. } => continue,
         };
         let Ok(cab) = known.start() else { continue };
-        let size = nodes(&cab, TICKS, MOST_NODES);
-        if !(FEWEST_NODES..=MOST_NODES).contains(&size) {
-            continue;
-        }
+        let Some(ticks) = depth(&cab) else { continue };
         let mut list = Vec::new();
         let searched = (|| {
             let run = Run::start(&words).map_err(|refusal| format!("start: {refusal:?}"))?;
-            let mut search = Search { firm, list: Vec::new(), lists: vec![Vec::new(); TICKS + 1] };
-            let visited = search.visit(&run, &cab, List::empty(run.words(), TICKS), counts);
+            let mut search = Search { firm, ticks, list: Vec::new(), lists: vec![Vec::new(); ticks + 1] };
+            let visited = search.visit(&run, &cab, List::empty(run.words(), ticks), counts);
             list = search.list;
             visited?;
             search.lists.iter().try_for_each(|lists| lists::compare(firm, lists, counts))

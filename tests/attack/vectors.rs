@@ -1,9 +1,9 @@
 //! The examples through replay, the plan vectors, and those of runs built by hand: INDEX has lines 'NAME plan A B LEN' and 'NAME run'; NAME.in is the table's text,
 //! or the run's and then operations, NAME.out what is to be printed.
 use crate::book;
-use crate::calls::{self, same, Lent, Tried};
+use crate::calls::{self, reported, same, Lent, Tried};
 use crate::rng::Rng;
-use sivorandra::{Refusal, Run, ROW_BYTES};
+use sivorandra::{Entry, Refusal, Run, ROW_BYTES};
 use std::fs;
 
 /// A refusal as it is printed.
@@ -35,22 +35,24 @@ fn one(number: &str, a: &str, b: &str, len: &str) -> Tried<()> {
     same(&format!("for {:?}", String::from_utf8_lossy(&text)), String::from_utf8_lossy(&expected), got.into())
 }
 
-/// What the library says to the operations on a run built by hand: `r` a row, `a REPORTS` an advance, `p` the run as text.
+/// What the library says to the operations on a run built by hand: `r [EMPTIES]` a row, `a REPORTS [EMPTIES]` an advance, `p` the run as text.
 fn operated(text: &[u8]) -> Tried<String> {
     let (words, operations) = book::built_from(text, &calls::NO_RUN);
     let mut run = Run::from_words(words);
     let mut out = String::new();
     for operation in operations {
-        out += &match operation.split_once(' ') {
-            None if operation == "p" => book::text_of(run.words()),
-            None => run.row().map_or_else(refused, |row| {
+        let mut words = operation.split(' ');
+        let kind = words.next();
+        let sets: Vec<u32> = words.map(str::parse).collect::<Result<_, _>>().map_err(|_| format!("no operation: {operation}"))?;
+        let empties = |at: usize| sets.get(at).copied().unwrap_or(0);
+        out += &match kind {
+            Some("p") => book::text_of(run.words()),
+            Some("r") => run.row(empties(0)).map_or_else(refused, |row| {
                 let cores = run.words()[1] as usize;
                 format!("row {}\n", row[..cores].iter().map(u8::to_string).collect::<Vec<_>>().join(" "))
             }),
-            Some((_, reports)) => {
-                let reports = reports.parse().map_err(|_| format!("no operation: {operation}"))?;
-                run.advance(reports).map_or_else(refused, |()| "taken\n".into())
-            }
+            Some("a") if !sets.is_empty() => run.advance(sets[0], empties(1)).map_or_else(refused, |()| "taken\n".into()),
+            _ => return Err(format!("no operation: {operation}")),
         };
     }
     Ok(out)
@@ -62,7 +64,7 @@ fn one_run(name: &str) -> Tried<()> {
     same(&format!("for {:?}", String::from_utf8_lossy(&text)), String::from_utf8_lossy(&expected), operated(&text)?.into())
 }
 
-/// Example B with its report, that the job of position 1 ends after tick 0 (figure 2, right side), and B3 with the same, through replay.
+/// Example B with its report, that the job of position 1 ends after tick 0 (figure 2, right side), and with an empty job there, and B3 with the same, through replay.
 fn examples() -> Vec<(String, Tried<()>)> {
     let row = |positions: [u8; 2]| {
         let mut bytes = [0; ROW_BYTES];
@@ -70,20 +72,25 @@ fn examples() -> Vec<(String, Tried<()>)> {
         Ok(bytes)
     };
     let late = Err(Refusal::Late { position: 3 });
+    let empty = Entry::Advance { reports: 0, empties: 1 };
     let cases = [
         ("b-full-not-firm", vec![], row([1, 3])),
-        ("b-full-not-firm", vec![1], row([2, 2])),
-        ("b-full-not-firm", vec![1, 0], late),
-        ("b3-idling-is-firm", vec![1], row([1, 3])),
-        ("b3-idling-is-firm", vec![1, 0], row([1, 0])),
-        ("b3-idling-is-firm", vec![1, 0, 0], row([2, 2])),
+        ("b-full-not-firm", vec![reported(1)], row([2, 2])),
+        ("b-full-not-firm", vec![reported(1), reported(0)], late),
+        ("b-full-not-firm", vec![empty], row([3, 0])),
+        ("b-full-not-firm", vec![empty, reported(0)], late),
+        ("b3-idling-is-firm", vec![reported(1)], row([1, 3])),
+        ("b3-idling-is-firm", vec![reported(1), reported(0)], row([1, 0])),
+        ("b3-idling-is-firm", vec![reported(1), reported(0), reported(0)], row([2, 2])),
+        ("b3-idling-is-firm", vec![empty], row([1, 3])),
+        ("b3-idling-is-firm", vec![empty, reported(0), reported(0)], row([2, 2])),
     ];
-    let one = |table: &str, reports: &[u32], last: Result<[u8; ROW_BYTES], Refusal>| {
+    let one = |table: &str, list: &[Entry], last: Result<[u8; ROW_BYTES], Refusal>| {
         let text = fs::read(format!("tables/{table}.txt")).map_err(|why| why.to_string())?;
         let words = book::numbers(&text).map_err(|why| format!("{why:?}"))?;
-        calls::replay(&mut Rng::new(1), &words, reports, &Ok((vec![0; reports.len()], last)))
+        calls::replay(&mut Rng::new(1), &words, list, &Ok((vec![0; list.len()], last)))
     };
-    cases.into_iter().map(|(table, reports, last)| (format!("{table} replayed with {reports:?}"), one(table, &reports, last))).collect()
+    cases.into_iter().map(|(table, list, last)| (format!("{table} replayed with {list:?}"), one(table, &list, last))).collect()
 }
 
 /// Each example and vector by name, and whether the library gives what it says.

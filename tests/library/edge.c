@@ -1,5 +1,5 @@
 /* Hostile calls of the library from C, each beside what the header says of it: NULL with length 0, lengths around every limit,
-   counts and words of all ones, fences, anything past the count. Every slice lies between guards, which must stay.
+   counts and words of all ones, fences, empty jobs, lists that are none, anything past the count. Every slice lies between guards, which must stay.
    Prints each call that differs; the last line is 'N calls, M wrong'. */
 #include <stdio.h>
 #include <string.h>
@@ -107,14 +107,16 @@ static void expect(const char *what, uint32_t value, uint32_t got)
 static uint32_t judge(const uint32_t *table, size_t len) { return sivorandra_judge(table, len, ANSWER); }
 static uint32_t ticks(const uint32_t *table, size_t len) { return sivorandra_judge_ticks(table, len, ANSWER); }
 static uint32_t plan(const uint32_t *table, size_t len, uint32_t a, uint32_t b) { return sivorandra_plan(table, len, a, b, bytes_at(&row), row.len, ANSWER); }
-static uint32_t replay(const uint32_t *table, size_t len, const uint32_t *reports, size_t n)
+static uint32_t replay(const uint32_t *table, size_t len, const uint32_t *entries, size_t n)
 {
-    return sivorandra_replay(table, len, reports, n, words_at(&numbers), numbers.len, bytes_at(&row), row.len, ANSWER);
+    return sivorandra_replay(table, len, entries, n, words_at(&numbers), numbers.len, bytes_at(&row), row.len, ANSWER);
 }
 static uint32_t start(const uint32_t *table, size_t len) { return sivorandra_start(table, len, words_at(&run), run.len, ANSWER); }
-static uint32_t shown(void) { return sivorandra_row(words_at(&run), run.len, bytes_at(&row), row.len, ANSWER); }
+static uint32_t shown_with(uint32_t empties) { return sivorandra_row(words_at(&run), run.len, empties, bytes_at(&row), row.len, ANSWER); }
+static uint32_t shown(void) { return shown_with(0); }
 static uint32_t sentence(const uint32_t *table, size_t len) { return sivorandra_sentence(table, len, bytes_at(&row), row.len, ANSWER); }
-static uint32_t advance(uint32_t reports) { return sivorandra_advance(words_at(&run), run.len, reports, ANSWER); }
+static uint32_t advance_with(uint32_t reports, uint32_t empties) { return sivorandra_advance(words_at(&run), run.len, reports, empties, ANSWER); }
+static uint32_t advance(uint32_t reports) { return advance_with(reports, 0); }
 
 /* A slice of length 0 whose pointer is NULL. */
 #define NONE(slice) ((slice).len = 0, (slice).null = 1)
@@ -122,7 +124,7 @@ static uint32_t advance(uint32_t reports) { return sivorandra_advance(words_at(&
 /* NULL for each slice of each function, and for all of them. */
 static void nulls(void)
 {
-    static const uint32_t reports[2] = { 0, 0 };
+    static const uint32_t entries[6] = { 0 };
     fresh(), refused(1), expect("judge: no words", 0, judge(NULL, 0));
     fresh(), NONE(answer), expect("judge: no answer", 1, judge(full, TABLE));
     fresh(), NONE(answer), expect("judge: nothing", 1, judge(NULL, 0));
@@ -134,12 +136,12 @@ static void nulls(void)
     fresh(), NONE(row), refused(11), expect("plan: no rows, one asked", 0, plan(full, TABLE, 0, 1));
     fresh(), NONE(answer), expect("plan: no answer", 1, plan(full, TABLE, 0, 5));
     fresh(), NONE(row), NONE(answer), expect("plan: nothing", 1, plan(NULL, 0, 0, 5));
-    fresh(), refused(1), expect("replay: no words", 0, replay(NULL, 0, reports, 2));
-    fresh(), answered(0, 0, 0), row_bytes(rows, 3), expect("replay: no reports", 0, replay(full, TABLE, NULL, 0));
-    fresh(), NONE(numbers), answered(0, 0, 0), row_bytes(rows, 3), expect("replay: no reports, no numbers", 0, replay(full, TABLE, NULL, 0));
-    fresh(), NONE(numbers), expect("replay: reports, no numbers", 1, replay(full, TABLE, reports, 2));
-    fresh(), NONE(row), expect("replay: no row", 1, replay(full, TABLE, reports, 2));
-    fresh(), NONE(answer), expect("replay: no answer", 1, replay(full, TABLE, reports, 2));
+    fresh(), refused(1), expect("replay: no words", 0, replay(NULL, 0, entries, 6));
+    fresh(), answered(0, 0, 0), row_bytes(rows, 3), expect("replay: no entries", 0, replay(full, TABLE, NULL, 0));
+    fresh(), NONE(numbers), answered(0, 0, 0), row_bytes(rows, 3), expect("replay: no entries, no numbers", 0, replay(full, TABLE, NULL, 0));
+    fresh(), NONE(numbers), expect("replay: entries, no numbers", 1, replay(full, TABLE, entries, 6));
+    fresh(), NONE(row), expect("replay: no row", 1, replay(full, TABLE, entries, 6));
+    fresh(), NONE(answer), expect("replay: no answer", 1, replay(full, TABLE, entries, 6));
     fresh(), NONE(numbers), NONE(row), refused(1), expect("replay: nothing but an answer", 0, replay(NULL, 0, NULL, 0));
     fresh(), refused(1), no_run(), expect("start: no words", 0, start(NULL, 0));
     fresh(), NONE(run), expect("start: no run", 1, start(full, TABLE));
@@ -283,7 +285,7 @@ static void lengths(void)
     uint32_t three[3];
     sivorandra_start(full, TABLE, first, RUN, three, 3);
     memcpy(next, first, sizeof first);
-    sivorandra_advance(next, RUN, 0, three, 3);
+    sivorandra_advance(next, RUN, 0, 0, three, 3);
     for (size_t i = 0; i < sizeof lens / sizeof lens[0]; i++) {
         size_t len = lens[i];
         int holds = len >= RUN, shows = len >= ROW, says = len >= 3;
@@ -327,7 +329,7 @@ static void built(void)
     fresh(), set(0, RUN, ONES), refused(14), row_bytes(NULL, 0), expect("row: all ones", 0, shown());
     fresh(), set(0, RUN, ONES), refused(14), expect("advance: all ones", 0, advance(0));
     uint32_t next[RUN], three[3];
-    fresh(), memcpy(next, run.now + GUARD, sizeof next), sivorandra_advance(next, RUN, 1, three, 3);
+    fresh(), memcpy(next, run.now + GUARD, sizeof next), sivorandra_advance(next, RUN, 1, 0, three, 3);
     for (size_t at = USED; at < RUN; at += PLACE - 1) {
         fresh(), set(at, 1, ONES), answered(0, 0, 0), row_bytes(rows, 3), expect("row: a word past the count", 0, shown());
         fresh(), set(at, 1, ONES), answered(0, 0, 0), run_words(next, USED), expect("advance: a word past the count", 0, advance(1));
@@ -379,7 +381,7 @@ static void fences(void)
     sivorandra_start(full, TABLE, first, RUN, three, 3);
     memcpy(first, head, sizeof head), memcpy(next, first, sizeof first);
     fresh(), answered(0, 0, 0), run_words(first, RUN), expect("start: the fence is in the run", 0, start(table, TABLE));
-    sivorandra_advance(next, RUN, 1, three, 3);
+    sivorandra_advance(next, RUN, 1, 0, three, 3);
     fresh(), words(&run, RUN, first, RUN), answered(0, 0, 0), row_bytes(spread, 5), expect("row: 255 on fenced cores, 0 past the count", 0, shown());
     fresh(), words(&run, RUN, first, RUN), answered(0, 0, 0), run_words(next, RUN), run_words(head, HEAD), expect("advance: the fence stays", 0, advance(1));
     fresh(), words(&run, RUN, next, RUN), answered(0, 0, 0), row_bytes(spread + 10, 5), expect("row: the next one", 0, shown());
@@ -400,13 +402,71 @@ static void fences(void)
     memset(both + 4, 255, 29), both[33] = 3;
     fresh(), words(&run, RUN, first, RUN), run_words(high, HEAD), memcpy(run.now, run.want, sizeof run.now), answered(0, 0, 0), row_bytes(both, 34), expect("row: a fence in both words", 0, shown());
     fresh(), words(&run, RUN, first, RUN), set(4, 1, 1), refused(14), row_bytes(NULL, 0), expect("row: 14 is all zeros", 0, shown());
-    static const uint32_t reports[2] = { 1, 8 };
-    fresh(), answered(0, 0, 0), numbers.want[GUARD] = 0, numbers.want[GUARD + 1] = 16 * 256, row_bytes(spread + 10, 5), expect("replay: fenced", 0, replay(table, TABLE, reports, 2));
+    static const uint32_t entries[6] = { 0, 1, 0, 0, 8, 0 };
+    fresh(), answered(0, 0, 0), numbers.want[GUARD] = 0, numbers.want[GUARD + 1] = 16 * 256, row_bytes(spread + 10, 5), expect("replay: fenced", 0, replay(table, TABLE, entries, 6));
+}
+
+/* Empty jobs: every set of the three positions in the tick in which all are released, bits past the count, and a tick later. */
+static void empty_jobs(void)
+{
+    static const uint8_t of[8][3] = { { 1, 1, 3 }, { 2, 2, 3 }, { 1, 1, 3 }, { 3, 0, 0 }, { 1, 1, 0 }, { 2, 2, 0 }, { 1, 1, 0 }, { 0, 0, 0 } };
+    static const uint32_t past[] = { 8, 9, 16, 0x80000000u, 0xffffffffu };
+    uint32_t three[3], next[RUN];
+    for (uint32_t set = 0; set < 8; set++) {
+        fresh(), answered(0, 0, 0), row_bytes(of[set], 3), expect("row: every set of empty jobs", 0, shown_with(set));
+        for (uint32_t p = 0; p < 3; p++)
+            if (set >> p & 1)
+                fresh(), refused(16), expect("advance: a report on an empty job", 0, advance_with(1u << p, set));
+        fresh(), answered(0, 0, 0), memcpy(next, run.now + GUARD, sizeof next);
+        for (uint32_t p = 0; p < 3; p++) {
+            int in = of[set][0] == p + 1 || of[set][2] == p + 1, empty = set >> p & 1;
+            uint32_t phase[3] = { empty ? 3 : 1, 1, in };
+            memcpy(next + KIND + PLACE * p, phase, sizeof phase);
+        }
+        run_words(next, RUN), expect("advance: every set of empty jobs", 0, advance_with(0, set));
+    }
+    for (size_t i = 0; i < sizeof past / sizeof past[0]; i++) {
+        fresh(), refused(20), row_bytes(NULL, 0), expect("row: empty past the count", 0, shown_with(past[i]));
+        fresh(), refused(20), expect("advance: empty past the count", 0, advance_with(0, past[i]));
+        fresh(), refused(20), expect("advance: 20 before 16", 0, advance_with(ONES, past[i]));
+        fresh(), set(KIND + 1, 1, 5), answered(SIVORANDRA_REFUSED, 15, 1), row_bytes(NULL, 0), expect("row: 15 before 20", 0, shown_with(past[i]));
+        fresh(), set(0, 1, 4), refused(14), expect("advance: 14 before 20", 0, advance_with(0, past[i]));
+    }
+    fresh(), memcpy(next, run.now + GUARD, sizeof next), sivorandra_advance(next, RUN, 0, 1, three, 3);
+    for (uint32_t set = 1; set < 8; set++) {
+        fresh(), words(&run, RUN, next, RUN), refused(20), row_bytes(NULL, 0), expect("row: released a tick ago", 0, shown_with(set));
+        fresh(), words(&run, RUN, next, RUN), refused(20), expect("advance: released a tick ago", 0, advance_with(0, set));
+    }
+}
+
+/* Words that are a replay's list, and words that are none: not three an entry, or another first word. */
+static void lists(void)
+{
+    static const uint32_t two[6] = { 0, 1, 1, 0, 2, 1 };
+    static const uint8_t rest[3] = { 3, 0, 0 };
+    for (size_t len = 0; len <= 6; len++) {
+        fresh();
+        if (len % 3 == 0)
+            answered(0, 0, 0), row_bytes(len == 6 ? rest : rows, 3);
+        if (len % 3 == 0 && len)
+            numbers.want[GUARD] = 16 * 256;
+        if (len == 6)
+            numbers.want[GUARD + 1] = 0;
+        expect("replay: words of the list", len % 3 != 0, replay(full, TABLE, two, len));
+    }
+    for (size_t at = 0; at < 2; at++)
+        for (uint32_t kind = 1; kind < 4; kind++) {
+            uint32_t entries[6];
+            memcpy(entries, two, sizeof two), entries[3 * at] = kind == 3 ? ONES : kind;
+            fresh(), expect("replay: no such entry", 1, replay(full, TABLE, entries, 6));
+            fresh(), refused(13), expect("replay: no such entry, no start", 0, replay(miss, TABLE, entries, 6));
+        }
+    fresh(), numbers.len = 1, expect("replay: a number too few", 1, replay(full, TABLE, two, 6));
 }
 
 int main(void)
 {
-    nulls(), sentences(), tables(), horizons(), bounds(), lengths(), built(), fences();
+    nulls(), sentences(), tables(), horizons(), bounds(), lengths(), built(), fences(), empty_jobs(), lists();
     printf("%u calls, %u wrong\n", calls, wrong);
     return wrong != 0;
 }

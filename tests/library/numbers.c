@@ -42,8 +42,8 @@ static void expect(const char *what, uint32_t value, uint32_t number, uint32_t p
 static uint32_t judge(void) { return sivorandra_judge(table, words, answer, SIVORANDRA_ANSWER_WORDS); }
 static uint32_t plan(uint32_t a, uint32_t b, size_t len) { return sivorandra_plan(table, words, a, b, rows, len, answer, SIVORANDRA_ANSWER_WORDS); }
 static uint32_t start(void) { return sivorandra_start(table, words, run, RUN, answer, SIVORANDRA_ANSWER_WORDS); }
-static uint32_t row(void) { return sivorandra_row(run, RUN, rows, SIVORANDRA_ROW_BYTES, answer, SIVORANDRA_ANSWER_WORDS); }
-static uint32_t advance(uint32_t reports) { return sivorandra_advance(run, RUN, reports, answer, SIVORANDRA_ANSWER_WORDS); }
+static uint32_t row(uint32_t empties) { return sivorandra_row(run, RUN, empties, rows, SIVORANDRA_ROW_BYTES, answer, SIVORANDRA_ANSWER_WORDS); }
+static uint32_t advance(uint32_t reports, uint32_t empties) { return sivorandra_advance(run, RUN, reports, empties, answer, SIVORANDRA_ANSWER_WORDS); }
 static uint32_t sentence(size_t len) { return sivorandra_sentence(table, words, rows, len, answer, SIVORANDRA_ANSWER_WORDS); }
 
 static void numbers(void)
@@ -63,18 +63,27 @@ static void numbers(void)
     with(C, 6), expect("b above the horizon", plan(0, 6, sizeof rows), SIVORANDRA_BAD_RANGE, 0);
     with(C, 3), table[D] = 2, expect("past the miss", plan(0, 3, sizeof rows), SIVORANDRA_PAST_MISS, 0);
     with(C, 6), expect("a miss is not started", start(), SIVORANDRA_TABLE_MISSES, 0);
-    expect("the run of a refused start", row(), SIVORANDRA_NOT_A_RUN, 0);
-    fresh(1), start(), expect("a report past the count", advance(2), SIVORANDRA_BAD_REPORT, 0);
+    expect("the run of a refused start", row(0), SIVORANDRA_NOT_A_RUN, 0);
+    fresh(1), start(), expect("a report past the count", advance(2, 0), SIVORANDRA_BAD_REPORT, 0);
+    fresh(1), start(), expect("an empty job past the count", row(2), SIVORANDRA_BAD_EMPTY, 0);
+    expect("an empty job past the count, before a report past it", advance(2, 2), SIVORANDRA_BAD_EMPTY, 0);
+    expect("a report on an empty job", advance(1, 1), SIVORANDRA_BAD_REPORT, 0);
+    expect("an empty job in its release tick", row(1), PASSES, 0);
+    expect("the same to the advance", advance(0, 1), PASSES, 0);
+    fresh(1), start(), advance(0, 0), expect("an empty job a tick after its release", row(1), SIVORANDRA_BAD_EMPTY, 0);
+    expect("the same to the advance", advance(0, 1), SIVORANDRA_BAD_EMPTY, 0);
     fresh(1), expect("no miss", sentence(sizeof rows), SIVORANDRA_NO_MISS, 0);
     with(C, 6), expect("a short buffer", sentence(1), SIVORANDRA_SHORT_BUFFER, 0);
 
     /* position 1 ends early, the wide task at position 2 goes first, and position 3 is late */
     static const uint32_t b[] = { 1, 2, 1, 0, 0, 2, 0, 1, 3, 3, 4, 3, 0, 2, 1, 4, 4, 0, 0, 1, 2, 2, 4 };
     memcpy(table, b, sizeof b), words = sizeof b / sizeof b[0];
-    start(), expect("an early end", advance(1), PASSES, 0);
-    expect("one more tick", advance(0), PASSES, 0);
-    expect("late", row(), SIVORANDRA_LATE, 3);
-    expect("late", advance(0), SIVORANDRA_LATE, 3);
+    start(), expect("an early end", advance(1, 0), PASSES, 0);
+    expect("one more tick", advance(0, 0), PASSES, 0);
+    expect("late", row(0), SIVORANDRA_LATE, 3);
+    expect("late", advance(0, 0), SIVORANDRA_LATE, 3);
+    expect("late before an empty job", row(7), SIVORANDRA_LATE, 3);
+    expect("late before an empty job", advance(8, 7), SIVORANDRA_LATE, 3);
 }
 
 static void limits(void)
@@ -95,7 +104,7 @@ static void limits(void)
     fresh(2), table[T] = 1000, table[RECORD + O] = 1000, table[RECORD + T] = 999999, expect("the largest horizon", judge(), PASSES, 0);
     expect("its horizon", answer[1] + answer[2] != SIVORANDRA_MOST_HORIZON, PASSES, 0);
     table[RECORD + O]++, expect("a tick more", judge(), SIVORANDRA_LONG_HORIZON, 0);
-    with(FENCE, 1), start(), expect("a fenced core", row(), PASSES, 0);
+    with(FENCE, 1), start(), expect("a fenced core", row(0), PASSES, 0);
     expect("its byte", rows[0] != SIVORANDRA_FENCED, PASSES, 0);
 }
 

@@ -10,7 +10,7 @@
 enum { TASKS = SIVORANDRA_MOST_TASKS, TABLE = SIVORANDRA_TABLE_WORDS, RUN = SIVORANDRA_RUN_WORDS, FACTS = SIVORANDRA_FACT_WORDS };
 enum { STACK = 1 << 18, PAINT = 0xa5, TICKS = 200 };
 
-static uint32_t table[TABLE], run[RUN], answer[3], reports[TICKS], numbers[TICKS];
+static uint32_t table[TABLE], run[RUN], answer[3], entries[TICKS * SIVORANDRA_ENTRY_WORDS], numbers[TICKS];
 static uint8_t rows[TICKS * SIVORANDRA_MOST_CORES], sentence[SIVORANDRA_SENTENCE_BYTES];
 static uint64_t facts[FACTS];
 static size_t words, length;
@@ -20,10 +20,10 @@ static void version(void) { sivorandra_version(); }
 static void judge(void) { sivorandra_judge(table, words, answer, 3); }
 static void judge_ticks(void) { sivorandra_judge_ticks(table, words, answer, 3); }
 static void plan(void) { sivorandra_plan(table, words, 0, end, rows, sizeof rows, answer, 3); }
-static void replay(void) { sivorandra_replay(table, words, reports, TICKS, numbers, TICKS, rows, sizeof rows, answer, 3); }
+static void replay(void) { sivorandra_replay(table, words, entries, TICKS * SIVORANDRA_ENTRY_WORDS, numbers, TICKS, rows, sizeof rows, answer, 3); }
 static void start(void) { sivorandra_start(table, words, run, RUN, answer, 3); }
-static void row(void) { sivorandra_row(run, RUN, rows, sizeof rows, answer, 3); }
-static void advance(void) { sivorandra_advance(run, RUN, 0, answer, 3); }
+static void row(void) { sivorandra_row(run, RUN, 0, rows, sizeof rows, answer, 3); }
+static void advance(void) { sivorandra_advance(run, RUN, 0, 0, answer, 3); }
 static void say(void) { sivorandra_sentence(table, words, sentence, sizeof sentence, answer, 3); }
 static void read_back(void) { sivorandra_facts(sentence, length, facts, FACTS, answer, 3); }
 

@@ -28,7 +28,7 @@ pub use refusal::Refusal;
 use std::fmt;
 
 /// The version that these bindings are for: major * 10000 + minor * 100 + patch. `version` is that of the library that is linked.
-pub const VERSION: u32 = 600;
+pub const VERSION: u32 = 700;
 
 /// The most tasks on a chain, and the most records of a table.
 pub const MOST_TASKS: usize = 32;
@@ -69,6 +69,9 @@ pub const RUN_WORDS: usize = RUN_HEAD_WORDS + RUN_PLACE_WORDS * MOST_TASKS;
 pub const ROW_BYTES: usize = MOST_CORES;
 /// What a row has on a fenced core.
 pub const FENCED: u8 = 255;
+
+/// The words of an entry of a list.
+const ENTRY_WORDS: usize = 3;
 
 /// No sentence is longer: a buffer of so many bytes is never refused with 18.
 pub const SENTENCE_BYTES: usize = 700;
@@ -118,22 +121,53 @@ impl fmt::Display for Verdict {
     }
 }
 
-/// A whole list of advances: the answer to each, and the row after the last.
+/// An entry of a list, which `replay` takes a run through.
 ///
 /// ```
-/// use sivorandra::{replay, Refusal};
+/// use sivorandra::{replay, Entry};
+///
+/// // in tick 0 the job of position 1 is empty, and in tick 1 that of position 2 ends
+/// let table = [1, 3, 1, 0, 0, 2, 0, 2, 2, 5, 5, 3, 0, 2, 3, 5, 5, 0, 0, 1, 4, 5, 5];
+/// let list = [Entry::Advance { reports: 0, empties: 1 }, Entry::Advance { reports: 2, empties: 0 }];
+/// assert_eq!(replay(&table, &list)?.row?[..3], [3, 0, 0]);
+/// # Ok::<(), sivorandra::Refusal>(())
+/// ```
+#[derive(Clone, Copy, Debug, PartialEq, Eq, Hash)]
+#[non_exhaustive]
+pub enum Entry {
+    /// One tick on, as `Run::advance` takes a run.
+    Advance {
+        /// Bit p: the job of position p + 1 ends after this tick.
+        reports: u32,
+        /// Bit p: the job of position p + 1, released in this very tick, is empty.
+        empties: u32,
+    },
+}
+
+impl Entry {
+    fn words(self) -> [u32; ENTRY_WORDS] {
+        match self {
+            Entry::Advance { reports, empties } => [0, reports, empties],
+        }
+    }
+}
+
+/// A whole list of entries: the answer to each, and the row after the last.
+///
+/// ```
+/// use sivorandra::{replay, Entry, Refusal};
 ///
 /// let table = [1, 3, 1, 0, 0, 2, 0, 2, 2, 5, 5, 3, 0, 2, 3, 5, 5, 0, 0, 1, 4, 5, 5];
-/// let replay = replay(&table, &[2, 1])?;
-/// assert_eq!(replay.advances, [Err(Refusal::BadReport), Ok(())]);
+/// let replay = replay(&table, &[2, 1].map(|reports| Entry::Advance { reports, empties: 0 }))?;
+/// assert_eq!(replay.answers, [Err(Refusal::BadReport), Ok(())]);
 /// assert_eq!(replay.row?[..3], [2, 2, 3]);
 /// # Ok::<(), Refusal>(())
 /// ```
 #[derive(Clone, Debug, PartialEq, Eq)]
 pub struct Replay {
-    /// The answer to each advance of the list.
-    pub advances: Vec<Result<(), Refusal>>,
-    /// The row of the tick after the last of them.
+    /// The answer to each entry of the list.
+    pub answers: Vec<Result<(), Refusal>>,
+    /// The row of the tick after the last of them, with no empty job.
     pub row: Result<[u8; ROW_BYTES], Refusal>,
 }
 
@@ -145,9 +179,9 @@ pub struct Replay {
 ///
 /// let table = [1, 3, 1, 0, 0, 2, 0, 2, 2, 5, 5, 3, 0, 2, 3, 5, 5, 0, 0, 1, 4, 5, 5];
 /// let mut run = Run::start(&table)?;
-/// assert_eq!(run.row()?[..run.cores()], [1, 1, 3]);
-/// run.advance(1)?; // the job of position 1 ends after this tick
-/// assert_eq!(run.row()?[..run.cores()], [2, 2, 3]);
+/// assert_eq!(run.row(0)?[..run.cores()], [1, 1, 3]);
+/// run.advance(1, 0)?; // the job of position 1 ends after this tick
+/// assert_eq!(run.row(0)?[..run.cores()], [2, 2, 3]);
 /// # Ok::<(), sivorandra::Refusal>(())
 /// ```
 #[derive(Clone, Debug, PartialEq, Eq)]
@@ -185,8 +219,8 @@ extern "C" {
     fn sivorandra_replay(
         words: *const u32,
         words_len: usize,
-        reports: *const u32,
-        reports_len: usize,
+        entries: *const u32,
+        entries_len: usize,
         numbers: *mut u32,
         numbers_len: usize,
         row: *mut u8,
@@ -195,10 +229,10 @@ extern "C" {
         answer_len: usize,
     ) -> u32;
     fn sivorandra_start(words: *const u32, words_len: usize, run: *mut u32, run_len: usize, answer: *mut u32, answer_len: usize) -> u32;
-    fn sivorandra_row(run: *const u32, run_len: usize, row: *mut u8, row_len: usize, answer: *mut u32, answer_len: usize) -> u32;
+    fn sivorandra_row(run: *const u32, run_len: usize, empties: u32, row: *mut u8, row_len: usize, answer: *mut u32, answer_len: usize) -> u32;
     fn sivorandra_sentence(words: *const u32, words_len: usize, buffer: *mut u8, buffer_len: usize, answer: *mut u32, answer_len: usize) -> u32;
     fn sivorandra_facts(bytes: *const u8, bytes_len: usize, facts: *mut u64, facts_len: usize, answer: *mut u32, answer_len: usize) -> u32;
-    fn sivorandra_advance(run: *mut u32, run_len: usize, reports: u32, answer: *mut u32, answer_len: usize) -> u32;
+    fn sivorandra_advance(run: *mut u32, run_len: usize, reports: u32, empties: u32, answer: *mut u32, answer_len: usize) -> u32;
 }
 
 /// The three words of an answer: every slice that these functions lend is long enough.
@@ -332,28 +366,29 @@ pub fn facts_of(bytes: &[u8]) -> Option<Facts> {
     (case == 0).then_some(Facts { position: words[0] as u32, tick: words[1], had: words[2], length: words[3], ran })
 }
 
-/// Starts a run, advances it by each set of reports, and asks its row.
+/// Starts a run, takes it through the entries of a list, and asks its row with no empty job.
 ///
 /// ```
-/// use sivorandra::{replay, Refusal};
+/// use sivorandra::{replay, Entry, Refusal};
 ///
 /// // position 1 ends early, the wide task at position 2 goes first, and position 3 is late
 /// let table = [1, 2, 1, 0, 0, 2, 0, 1, 3, 3, 4, 3, 0, 2, 1, 4, 4, 0, 0, 1, 2, 2, 4];
-/// let replay = replay(&table, &[1, 0])?;
-/// assert_eq!(replay.advances, [Ok(()), Ok(())]);
+/// let replay = replay(&table, &[1, 0].map(|reports| Entry::Advance { reports, empties: 0 }))?;
+/// assert_eq!(replay.answers, [Ok(()), Ok(())]);
 /// assert_eq!(replay.row, Err(Refusal::Late { position: 3 }));
 /// # Ok::<(), Refusal>(())
 /// ```
-pub fn replay(words: &[u32], reports: &[u32]) -> Result<Replay, Refusal> {
-    let mut numbers = vec![0; reports.len()];
+pub fn replay(words: &[u32], list: &[Entry]) -> Result<Replay, Refusal> {
+    let entries: Vec<u32> = list.iter().flat_map(|entry| entry.words()).collect();
+    let mut numbers = vec![0; list.len()];
     let mut row = [0; ROW_BYTES];
     let [case, number, position] = ask(|answer, len| unsafe {
-        sivorandra_replay(words.as_ptr(), words.len(), reports.as_ptr(), reports.len(), numbers.as_mut_ptr(), numbers.len(), row.as_mut_ptr(), row.len(), answer, len)
+        sivorandra_replay(words.as_ptr(), words.len(), entries.as_ptr(), entries.len(), numbers.as_mut_ptr(), numbers.len(), row.as_mut_ptr(), row.len(), answer, len)
     });
-    let advances = numbers.iter().map(|&n| if n == 0 { Ok(()) } else { Err(Refusal::new(n / 256, n % 256)) }).collect();
+    let answers = numbers.iter().map(|&n| if n == 0 { Ok(()) } else { Err(Refusal::new(n / 256, n % 256)) }).collect();
     match case {
-        0 => Ok(Replay { advances, row: Ok(row) }),
-        4 => Ok(Replay { advances, row: Err(Refusal::new(number, position)) }),
+        0 => Ok(Replay { answers, row: Ok(row) }),
+        4 => Ok(Replay { answers, row: Err(Refusal::new(number, position)) }),
         _ => Err(Refusal::new(number, position)),
     }
 }
@@ -379,7 +414,7 @@ impl Run {
     /// use sivorandra::{Refusal, Run, RUN_WORDS};
     ///
     /// let run = Run::from_words([0; RUN_WORDS]);
-    /// assert_eq!(run.row(), Err(Refusal::NotARun));
+    /// assert_eq!(run.row(0), Err(Refusal::NotARun));
     /// ```
     pub fn from_words(words: [u32; RUN_WORDS]) -> Run {
         Run { words }
@@ -420,31 +455,39 @@ impl Run {
         self.words[2] as usize
     }
 
-    /// The row of the present tick.
-    ///
-    /// ```
-    /// let run = sivorandra::Run::start(&[1, 3, 1, 0, 0, 0, 0, 2, 2, 5, 5])?;
-    /// assert_eq!(run.row()?[..run.cores()], [1, 1, 0]);
-    /// # Ok::<(), sivorandra::Refusal>(())
-    /// ```
-    pub fn row(&self) -> Result<[u8; ROW_BYTES], Refusal> {
-        let mut row = [0; ROW_BYTES];
-        done(ask(|answer, len| unsafe { sivorandra_row(self.words.as_ptr(), self.words.len(), row.as_mut_ptr(), row.len(), answer, len) }))?;
-        Ok(row)
-    }
-
-    /// One tick on, where bit p of `reports` says that the job of position p + 1 ends after this tick. A refusal leaves the run as it is.
+    /// The row of the present tick, where bit p of `empties` says that the job of position p + 1, released in this very tick, is empty. The run stays as it is: the same set is
+    /// to be said to `advance`.
     ///
     /// ```
     /// use sivorandra::{Refusal, Run};
     ///
     /// let mut run = Run::start(&[1, 3, 1, 0, 0, 0, 0, 2, 2, 5, 5])?;
-    /// assert_eq!(run.advance(2), Err(Refusal::BadReport)); // there is no position 2
-    /// run.advance(1)?;
-    /// assert_eq!(run.row()?[..run.cores()], [0, 0, 0]);
+    /// assert_eq!(run.row(0)?[..run.cores()], [1, 1, 0]);
+    /// assert_eq!(run.row(1)?[..run.cores()], [0, 0, 0]);
+    /// run.advance(0, 0)?;
+    /// assert_eq!(run.row(1), Err(Refusal::BadEmpty)); // the job was released a tick ago
     /// # Ok::<(), Refusal>(())
     /// ```
-    pub fn advance(&mut self, reports: u32) -> Result<(), Refusal> {
-        done(ask(|answer, len| unsafe { sivorandra_advance(self.words.as_mut_ptr(), self.words.len(), reports, answer, len) }))
+    pub fn row(&self, empties: u32) -> Result<[u8; ROW_BYTES], Refusal> {
+        let mut row = [0; ROW_BYTES];
+        done(ask(|answer, len| unsafe { sivorandra_row(self.words.as_ptr(), self.words.len(), empties, row.as_mut_ptr(), row.len(), answer, len) }))?;
+        Ok(row)
+    }
+
+    /// One tick on, where bit p of `reports` says that the job of position p + 1 ends after this tick, and bit p of `empties` that it is released in this very tick and empty. A
+    /// refusal leaves the run as it is.
+    ///
+    /// ```
+    /// use sivorandra::{Refusal, Run};
+    ///
+    /// let mut run = Run::start(&[1, 3, 1, 0, 0, 0, 0, 2, 2, 5, 5])?;
+    /// assert_eq!(run.advance(2, 0), Err(Refusal::BadReport)); // there is no position 2
+    /// assert_eq!(run.advance(1, 1), Err(Refusal::BadReport)); // an empty job does not work
+    /// run.advance(1, 0)?;
+    /// assert_eq!(run.row(0)?[..run.cores()], [0, 0, 0]);
+    /// # Ok::<(), Refusal>(())
+    /// ```
+    pub fn advance(&mut self, reports: u32, empties: u32) -> Result<(), Refusal> {
+        done(ask(|answer, len| unsafe { sivorandra_advance(self.words.as_mut_ptr(), self.words.len(), reports, empties, answer, len) }))
     }
 }

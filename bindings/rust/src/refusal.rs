@@ -63,6 +63,8 @@ pub enum Refusal {
     ShortBuffer,
     /// 19: the fence names a core past the count, or all cores.
     BadFence,
+    /// 20, of a row or an advance: an empty job for a position past the count, or for a task whose job is not released in this very tick.
+    BadEmpty,
     /// A number that these bindings do not know, from a library that is newer.
     Other {
         /// The number.
@@ -103,6 +105,7 @@ impl Refusal {
             (17, 0) => Refusal::NoMiss,
             (18, 0) => Refusal::ShortBuffer,
             (19, 0) => Refusal::BadFence,
+            (20, 0) => Refusal::BadEmpty,
             (number, position) => Refusal::Other { number, position },
         }
     }
@@ -133,6 +136,7 @@ impl Refusal {
             Refusal::NoMiss => 17,
             Refusal::ShortBuffer => 18,
             Refusal::BadFence => 19,
+            Refusal::BadEmpty => 20,
             Refusal::Other { number, .. } => number,
         }
     }
@@ -176,6 +180,7 @@ impl fmt::Display for Refusal {
             Refusal::NoMiss => write!(out, "the table has no miss"),
             Refusal::ShortBuffer => write!(out, "the buffer is shorter than the sentence"),
             Refusal::BadFence => write!(out, "the fence names a core past the count, or all cores"),
+            Refusal::BadEmpty => write!(out, "an empty job for a position past the count, or for a task whose job is not released in this tick"),
             Refusal::Other { position: 0, .. } => write!(out, "turned down"),
             Refusal::Other { position, .. } => write!(out, "turned down at position {position}"),
         }?;

@@ -14,7 +14,7 @@ use borrow.Author.Tests.{leb-true, leb-false, lt-leb, eqb-false, ne-eqb}
 use Rattle.run.specs.declared.Answer.{Answer}
 use Rattle.run.specs.declared.Answer.the-variants.{Taken, Refused}
 use Rattle.run.specs.declared.Run.{Run}
-use Rattle.run.specs.Numbers.{RunOut, runOut, firstLateIn, misreportedIn}
+use Rattle.run.specs.Numbers.{RunOut, runOut, firstLateIn, misemptiedIn, misreportedIn}
 use Rattle.run.specs.Row.{rowAnswer, rowOf}
 use Rattle.run.specs.Advance.{advanceAnswer, advanceOf}
 use Rattle.run.proofs.Limits.{run-decides}
@@ -136,28 +136,35 @@ not-late : (t : Bool) (p : ℕ) (a : Answer) → (a ≡ Refused 14 0 → ⊥) �
 not-late true p a n e = not-number 15 p (λ z. omega arith) e
 not-late false p a n e = n e
 
+not-misemptied : (t : Bool) (a : Answer) → (a ≡ Refused 14 0 → ⊥) → cond t (Refused 20 0) a ≡ Refused 14 0 → ⊥
+not-misemptied true a n e = not-number 20 0 (λ z. omega arith) e
+not-misemptied false a n e = n e
+
 not-misreported : (t : Bool) → cond t (Refused 16 0) Taken ≡ Refused 14 0 → ⊥
 not-misreported true e = not-number 16 0 (λ z. omega arith) e
 not-misreported false e = not-taken e
 
-module _ (r : Run) where
-  row-out : rowAnswer r ≡ Refused 14 0 → RunOut r
+module _ (r : Run) (e : ℕ) where
+  row-out : rowAnswer r e ≡ Refused 14 0 → RunOut r
   unfolding rowAnswer
-  row-out e =
-      run-decides r .0 (fourteen-by (runOut r) _ (not-late (ltb (firstLateIn r) (r .count)) (suc (firstLateIn r)) Taken not-taken) e)
+  row-out q =
+      run-decides r .0
+      (fourteen-by (runOut r) _
+      (not-late (ltb (firstLateIn r) (r .count)) (suc (firstLateIn r)) _ (not-misemptied (misemptiedIn r e) Taken not-taken)) q)
 
-  row-out-back : RunOut r → rowAnswer r ≡ Refused 14 0
+  row-out-back : RunOut r → rowAnswer r e ≡ Refused 14 0
   unfolding rowAnswer
   row-out-back h = simp (run-decides r .1 h)
 
-  advance-out : (x : ℕ) → advanceAnswer r x ≡ Refused 14 0 → RunOut r
+  advance-out : (x : ℕ) → advanceAnswer r x e ≡ Refused 14 0 → RunOut r
   unfolding advanceAnswer
-  advance-out x e =
+  advance-out x q =
       run-decides r .0
       (fourteen-by (runOut r) _
-      (not-late (ltb (firstLateIn r) (r .count)) (suc (firstLateIn r)) (cond (misreportedIn r x) (Refused 16 0) Taken) (not-misreported (misreportedIn r x))) e)
+      (not-late (ltb (firstLateIn r) (r .count)) (suc (firstLateIn r)) _
+      (not-misemptied (misemptiedIn r e) (cond (misreportedIn r e x) (Refused 16 0) Taken) (not-misreported (misreportedIn r e x)))) q)
 
-  advance-out-back : (x : ℕ) → RunOut r → advanceAnswer r x ≡ Refused 14 0
+  advance-out-back : (x : ℕ) → RunOut r → advanceAnswer r x e ≡ Refused 14 0
   unfolding advanceAnswer
   advance-out-back x h = simp (run-decides r .1 h)
 
@@ -178,11 +185,11 @@ module _ (ws : List ℕ) where
       from false h x = ap f (by-held ws h) ∙ n
 
   -- a row of the buffer is refused with 14 exactly if 14 applies to the buffer
-  pub row-fourteen : (rowFrom (decode ws) .answer ≡ Refused 14 0) ↔ BufferOut ws
+  pub row-fourteen : (e : ℕ) → (rowFrom (decode ws) e .answer ≡ Refused 14 0) ↔ BufferOut ws
   unfolding rowOf
-  row-fourteen = by-buffer (λ h. rowFrom h .answer) refl (row-out (runIn ws)) (row-out-back (runIn ws))
+  row-fourteen e = by-buffer (λ h. rowFrom h e .answer) refl (row-out (runIn ws) e) (row-out-back (runIn ws) e)
 
   -- and so is an advance
-  pub advance-fourteen : (x : ℕ) → (advanceFrom (decode ws) x ws .answer ≡ Refused 14 0) ↔ BufferOut ws
+  pub advance-fourteen : (x e : ℕ) → (advanceFrom (decode ws) x e ws .answer ≡ Refused 14 0) ↔ BufferOut ws
   unfolding advanceOf
-  advance-fourteen x = by-buffer (λ h. advanceFrom h x ws .answer) refl (advance-out (runIn ws) x) (advance-out-back (runIn ws) x)
+  advance-fourteen x e = by-buffer (λ h. advanceFrom h x e ws .answer) refl (advance-out (runIn ws) e x) (advance-out-back (runIn ws) e x)

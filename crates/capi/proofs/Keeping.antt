@@ -13,6 +13,7 @@ use Rattle.run.specs.declared.Row.{Row}
 use Rattle.run.specs.declared.Run.{Run}
 use Rattle.run.specs.declared.Started.{Started}
 use Rattle.run.specs.declared.Advanced.{Advanced}
+use Rattle.model.specs.Book.{Entry}
 use Rattle.model.specs.Search.{bit}
 use Rattle.model.specs.Sizes.{mostCores}
 use Rattle.run.specs.Run.{moved}
@@ -20,10 +21,11 @@ use Rattle.run.specs.Answer.{byAnswer}
 use Rattle.run.specs.Start.{startOf}
 use Rattle.run.specs.Row.{noBytes, rowOf}
 use Rattle.run.specs.Advance.{advanceAnswer, advanceOf}
+use Rattle.demand.specs.Entries.{entryOf}
 use Rattle.capi.specs.Told.{ofAnswer, written}
 use Rattle.capi.specs.Calls.{left, byRoom, room}
 use Rattle.capi.specs.Encoding.{places, runWords, overwritten, countIn, holds, runIn, Held, run, decode}
-use Rattle.capi.specs.Runs.{startCall, rowFrom, rowCall, Advance, kept, advanceFrom, advanceCall}
+use Rattle.capi.specs.Runs.{startCall, rowFrom, rowCall, Advance, kept, entryFrom, advanceFrom, advanceCall}
 use Rattle.capi.proofs.Calls.{both}
 use Rattle.capi.proofs.Places.{by-held, held-few}
 
@@ -63,86 +65,86 @@ module _ (ws buffer answer : List ℕ) where
 
 -- ROW
 
-module _ (buffer row answer : List ℕ) where
-  pub row-narrow : length answer < 3 → rowCall buffer row answer ≡ left 1 (row ∷ (answer ∷ []))
+module _ (buffer : List ℕ) (e : ℕ) (row answer : List ℕ) where
+  pub row-narrow : length answer < 3 → rowCall buffer e row answer ≡ left 1 (row ∷ (answer ∷ []))
   unfolding rowCall
   row-narrow h = narrow mostCores row answer _ _ h
 
-  pub row-short : 3 ≤ length answer → length row < mostCores → rowCall buffer row answer ≡ left 1 (row ∷ (answer ∷ []))
+  pub row-short : 3 ≤ length answer → length row < mostCores → rowCall buffer e row answer ≡ left 1 (row ∷ (answer ∷ []))
   unfolding rowCall
   row-short h l = short mostCores row answer _ _ h l
 
   pub row-room :
-      (w : Row) {k m : List ℕ} → 3 ≤ length answer → mostCores ≤ length row → w ≡ rowFrom (decode buffer) → k ≡ w .bytes ++ drop mostCores row
-      → m ≡ written (ofAnswer (w .answer)) answer → left 0 (k ∷ (m ∷ [])) ≡ rowCall buffer row answer
+      (w : Row) {k m : List ℕ} → 3 ≤ length answer → mostCores ≤ length row → w ≡ rowFrom (decode buffer) e → k ≡ w .bytes ++ drop mostCores row
+      → m ≡ written (ofAnswer (w .answer)) answer → left 0 (k ∷ (m ∷ [])) ≡ rowCall buffer e row answer
   unfolding rowCall
-  row-room w h l e p q =
+  row-room w h l d p q =
       both
-      (p ∙ ap (λ (v : Row). v .bytes ++ drop mostCores row) e)
-      (q ∙ ap (λ (v : Row). written (ofAnswer (v .answer)) answer) e)
+      (p ∙ ap (λ (v : Row). v .bytes ++ drop mostCores row) d)
+      (q ∙ ap (λ (v : Row). written (ofAnswer (v .answer)) answer) d)
       ∙ sym (roomy mostCores row answer _ _ h l)
 
 -- ADVANCE
 
-module _ (buffer answer : List ℕ) (x : ℕ) where
-  pub advance-narrow : length answer < 3 → advanceCall buffer x answer ≡ left 1 (buffer ∷ (answer ∷ []))
+module _ (buffer answer : List ℕ) (x e : ℕ) where
+  pub advance-narrow : length answer < 3 → advanceCall buffer x e answer ≡ left 1 (buffer ∷ (answer ∷ []))
   unfolding advanceCall
   advance-narrow h = simp (lt-leb 3 (length answer) h)
 
   pub advance-room :
-      (a : Answer) {k m : List ℕ} → 3 ≤ length answer → _≡_ {A = Advance} (record { answer = a; buffer = k }) (advanceFrom (decode buffer) x buffer)
-      → m ≡ written (ofAnswer a) answer → left 0 (k ∷ (m ∷ [])) ≡ advanceCall buffer x answer
+      (a : Answer) {k m : List ℕ} → 3 ≤ length answer → _≡_ {A = Advance} (record { answer = a; buffer = k }) (advanceFrom (decode buffer) x e buffer)
+      → m ≡ written (ofAnswer a) answer → left 0 (k ∷ (m ∷ [])) ≡ advanceCall buffer x e answer
   unfolding advanceCall
-  advance-room a h e q =
+  advance-room a h d q =
       both
-      (ap (λ (v : Advance). v .buffer) e)
-      (q ∙ ap (λ (v : Advance). written (ofAnswer (v .answer)) answer) e)
+      (ap (λ (v : Advance). v .buffer) d)
+      (q ∙ ap (λ (v : Advance). written (ofAnswer (v .answer)) answer) d)
       ∙ sym (simp (le-leb 3 (length answer) h))
 
 -- WHAT A BUFFER HOLDS
 
--- an advance keeps the count
-pub count-kept : (r : Run) (x : ℕ) → advanceOf r x .run .count ≡ r .count
+-- an entry keeps the count
+pub count-kept : (r : Run) (x : Entry) → entryOf r x .run .count ≡ r .count
 unfolding advanceOf moved
-count-kept r x = go (advanceAnswer r x)
+count-kept r x = go (advanceAnswer r (x .reports) (x .empties))
   where
-    go : (a : Answer) → byAnswer a (moved (bit x) r) r .count ≡ r .count
+    go : (a : Answer) → byAnswer a (moved (bit (x .reports)) (x .empties) r) r .count ≡ r .count
     go Taken = unfold moved in refl
     go (Refused n p) = refl
 
 module _ (ws : List ℕ) where
-  pub row-held : {w : Row} {r : Run} → holds ws ≡ true → r ≡ runIn ws → w ≡ rowOf r → w ≡ rowFrom (decode ws)
-  row-held h e p = p ∙ (ap rowOf e ∙ ap rowFrom (sym (by-held ws h)))
+  pub row-held : (e : ℕ) {w : Row} {r : Run} → holds ws ≡ true → r ≡ runIn ws → w ≡ rowOf r e → w ≡ rowFrom (decode ws) e
+  row-held e h q p = p ∙ (ap (λ (r : Run). rowOf r e) q ∙ ap (λ (v : Held). rowFrom v e) (sym (by-held ws h)))
 
-  pub row-none : holds ws ≡ false → _≡_ {A = Row} (record { answer = Refused 14 0; bytes = noBytes }) (rowFrom (decode ws))
-  row-none h = ap rowFrom (sym (by-held ws h))
+  pub row-none : (e : ℕ) → holds ws ≡ false → _≡_ {A = Row} (record { answer = Refused 14 0; bytes = noBytes }) (rowFrom (decode ws) e)
+  row-none e h = ap (λ (v : Held). rowFrom v e) (sym (by-held ws h))
 
-  module _ (x : ℕ) where
-    -- the run that an advance returns has as few places as the buffer says
-    pub advance-few : (a : Advanced) (r : Run) → holds ws ≡ true → r ≡ runIn ws → a ≡ advanceOf r x → a .run .count ≤ places
+  module _ (x : Entry) where
+    -- the run that an entry returns has as few places as the buffer says
+    pub entry-few : (a : Advanced) (r : Run) → holds ws ≡ true → r ≡ runIn ws → a ≡ entryOf r x → a .run .count ≤ places
     unfolding runIn
-    advance-few a r h e p =
+    entry-few a r h e p =
         let same : a .run .count ≡ countIn ws = ap (λ (v : Advanced). v .run .count) p ∙ (count-kept r x ∙ ap (λ (q : Run). q .count) e) in
         let few = held-few ws h in
         omega arith
 
-    -- an advance of the run that the buffer holds
-    by-advance : (a : Advanced) (r : Run) → holds ws ≡ true → r ≡ runIn ws → a ≡ advanceOf r x → kept (a .answer) (a .run) ws ≡ advanceFrom (decode ws) x ws
-    by-advance a r h e p =
-        ap (λ (v : Advanced). kept (v .answer) (v .run) ws) (p ∙ ap (λ (q : Run). advanceOf q x) e)
-        ∙ ap (λ (v : Held). advanceFrom v x ws) (sym (by-held ws h))
+    -- an entry on the run that the buffer holds
+    by-entry : (a : Advanced) (r : Run) → holds ws ≡ true → r ≡ runIn ws → a ≡ entryOf r x → kept (a .answer) (a .run) ws ≡ entryFrom (decode ws) x ws
+    by-entry a r h e p =
+        ap (λ (v : Advanced). kept (v .answer) (v .run) ws) (p ∙ ap (λ (q : Run). entryOf q x) e)
+        ∙ ap (λ (v : Held). entryFrom v x ws) (sym (by-held ws h))
 
-    pub advance-taken :
-        (a : Advanced) (r : Run) {new : List ℕ} → holds ws ≡ true → r ≡ runIn ws → a ≡ advanceOf r x → a .answer ≡ Taken
-        → new ≡ overwritten (a .run .count) (a .run) ws → _≡_ {A = Advance} (record { answer = Taken; buffer = new }) (advanceFrom (decode ws) x ws)
-    advance-taken a r h e p t n =
+    pub entry-taken :
+        (a : Advanced) (r : Run) {new : List ℕ} → holds ws ≡ true → r ≡ runIn ws → a ≡ entryOf r x → a .answer ≡ Taken
+        → new ≡ overwritten (a .run .count) (a .run) ws → _≡_ {A = Advance} (record { answer = Taken; buffer = new }) (entryFrom (decode ws) x ws)
+    entry-taken a r h e p t n =
         ap (λ (l : List ℕ). record { answer = Taken; buffer = l }) n
-        ∙ (ap (λ (v : Answer). kept v (a .run) ws) (sym t) ∙ by-advance a r h e p)
+        ∙ (ap (λ (v : Answer). kept v (a .run) ws) (sym t) ∙ by-entry a r h e p)
 
-    pub advance-refused :
-        (a : Advanced) (r : Run) {n p : ℕ} → holds ws ≡ true → r ≡ runIn ws → a ≡ advanceOf r x → a .answer ≡ Refused n p
-        → _≡_ {A = Advance} (record { answer = Refused n p; buffer = ws }) (advanceFrom (decode ws) x ws)
-    advance-refused a r h e p t = ap (λ (v : Answer). kept v (a .run) ws) (sym t) ∙ by-advance a r h e p
+    pub entry-refused :
+        (a : Advanced) (r : Run) {n p : ℕ} → holds ws ≡ true → r ≡ runIn ws → a ≡ entryOf r x → a .answer ≡ Refused n p
+        → _≡_ {A = Advance} (record { answer = Refused n p; buffer = ws }) (entryFrom (decode ws) x ws)
+    entry-refused a r h e p t = ap (λ (v : Answer). kept v (a .run) ws) (sym t) ∙ by-entry a r h e p
 
-    pub advance-none : holds ws ≡ false → _≡_ {A = Advance} (record { answer = Refused 14 0; buffer = ws }) (advanceFrom (decode ws) x ws)
-    advance-none h = ap (λ (v : Held). advanceFrom v x ws) (sym (by-held ws h))
+    pub entry-none : holds ws ≡ false → _≡_ {A = Advance} (record { answer = Refused 14 0; buffer = ws }) (entryFrom (decode ws) x ws)
+    entry-none h = ap (λ (v : Held). entryFrom v x ws) (sym (by-held ws h))

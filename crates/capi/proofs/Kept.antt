@@ -1,4 +1,4 @@
--- The calls on a buffer are the calls on the run that it holds: what start writes and what an advance leaves is decoded to the run that they return.
+-- The calls on a buffer are the calls on the run that it holds: what start writes and what an entry leaves is decoded to the run that they return.
 -- (A row asked goes by the run that is decoded, by its definition.)
 use mathlib.Core.Path.{_≡_, refl, sym, ap, subst, _∙_}
 use mathlib.Core.Bool.{Bool, true}
@@ -7,6 +7,7 @@ use Prim.Native.Nat.{ℕ, _-_, _≤_}
 use native.Mathlib.Omega.{arith}
 use lib.ListN.{length, take, drop, replicate, length-append, length-drop, length-map, length-replicate, take-append-drop}
 use lib.Seq.{take-at, drop-at}
+use Rattle.model.specs.Book.{Entry}
 use Rattle.model.specs.Search.{bit}
 use Rattle.model.specs.Task as model
 use Rattle.table.specs.Words.{rule, tableOf}
@@ -21,12 +22,13 @@ use Rattle.run.specs.Run.{moved}
 use Rattle.run.specs.Answer.{told, byAnswer}
 use Rattle.run.specs.Start.{startedRun, startAnswer, startOf}
 use Rattle.run.specs.Advance.{advanceAnswer, advanceOf}
+use Rattle.demand.specs.Entries.{entryOf}
 use Rattle.run.proofs.Places.{length-mapFirst, drop-mapFirst}
 use Rattle.run.proofs.StartExact.{start-of}
 use Rattle.run.proofs.ByVerdict.{start-taken, start-refused}
 use Rattle.run.proofs.Cases.{advance-taken, advance-refused}
 use Rattle.capi.specs.Encoding.{headWords, places, wordsTo, runWords, encodeTo, encode, overwritten, placesIn, countIn, holds, runIn, Held, run, decode, cleared}
-use Rattle.capi.specs.Runs.{startedIn, advanceFrom}
+use Rattle.capi.specs.Runs.{startedIn, entryFrom}
 use Rattle.capi.proofs.Places.{length-read, held-long, held-few}
 use Rattle.capi.proofs.Inverse.{length-to, decode-to, decode-encode, few-accepted, held-run}
 
@@ -99,21 +101,21 @@ fits-held ws e =
 pub held-fits : (ws : List ℕ) (r : Run) → decode ws ≡ run r → Fits r × (runWords ≤ length ws)
 held-fits ws r e = let h = held-run ws r e in (subst Fits (h .1) (fits-held ws (h .0)), held-long ws (h .0))
 
-fits-moved : (f : ℕ → Bool) (r : Run) → Fits r → Fits (moved f r)
+fits-moved : (f : ℕ → Bool) (e : ℕ) (r : Run) → Fits r → Fits (moved f e r)
 unfolding moved
-fits-moved f r h = record {
+fits-moved f e r h = record {
   all = length-mapFirst _ (r .count) (r .tasks) ∙ h .all;
   few = h .few;
   past = drop-mapFirst _ (r .count) (r .tasks) ∙ h .past;
 }
 
--- what an advance returns fits, taken or refused
-pub fits-advanced : (r : Run) (x : ℕ) → Fits r → Fits (advanceOf r x .run)
+-- what an entry returns fits, taken or refused
+pub fits-entered : (r : Run) (x : Entry) → Fits r → Fits (entryOf r x .run)
 unfolding advanceOf
-fits-advanced r x f = go (advanceAnswer r x)
+fits-entered r x f = go (advanceAnswer r (x .reports) (x .empties))
   where
-    go : (a : Answer) → Fits (byAnswer a (moved (bit x) r) r)
-    go Taken = fits-moved (bit x) r f
+    go : (a : Answer) → Fits (byAnswer a (moved (bit (x .reports)) (x .empties) r) r)
+    go Taken = fits-moved (bit (x .reports)) (x .empties) r f
     go (Refused n p) = f
 
 -- a run that fits, written into a long buffer up to its count, is held there
@@ -126,20 +128,21 @@ fits-written r ws f h =
     let c = length-drop (wordsTo (r .count)) ws in
     decode-to (r .count) r (drop (wordsTo (r .count)) ws) all (omega arith) few (omega arith) ∙ ap run (clear-fits r f)
 
--- the answer to an advance of the buffer is that of the run that it holds, and the buffer afterwards holds the run that the advance returns
+-- the answer to an entry on the buffer is that of the run that it holds, and the buffer afterwards holds the run that the entry returns
 pub advance-held :
-    (ws : List ℕ) (r : Run) (x : ℕ) → decode ws ≡ run r
-    → (advanceFrom (decode ws) x ws .answer ≡ advanceOf r x .answer) × (decode (advanceFrom (decode ws) x ws .buffer) ≡ run (advanceOf r x .run))
+    (ws : List ℕ) (r : Run) (x : Entry) → decode ws ≡ run r
+    → (entryFrom (decode ws) x ws .answer ≡ entryOf r x .answer) × (decode (entryFrom (decode ws) x ws .buffer) ≡ run (entryOf r x .run))
 advance-held ws r x e = (
-  ap (λ (h : Held). advanceFrom h x ws .answer) e,
-  ap (λ (h : Held). decode (advanceFrom h x ws .buffer)) e ∙ go (advanceAnswer r x) refl,
+  ap (λ (h : Held). entryFrom h x ws .answer) e,
+  ap (λ (h : Held). decode (entryFrom h x ws .buffer)) e ∙ go (advanceAnswer r (x .reports) (x .empties)) refl,
 )
   where
     After : Advanced → Type 0
     After v = decode (byAnswer (v .answer) (overwritten (v .run .count) (v .run) ws) ws) ≡ run (v .run)
 
-    go : (a : Answer) → advanceAnswer r x ≡ a → After (advanceOf r x)
+    go : (a : Answer) → advanceAnswer r (x .reports) (x .empties) ≡ a → After (entryOf r x)
     go Taken t =
         let f = held-fits ws r e in
-        subst After (sym (advance-taken r x t)) (fits-written (moved (bit x) r) ws (fits-moved (bit x) r (f .0)) (f .1))
-    go (Refused n p) t = subst After (sym (advance-refused r x n p t)) e
+        let next = moved (bit (x .reports)) (x .empties) r in
+        subst After (sym (advance-taken r (x .empties) (x .reports) t)) (fits-written next ws (fits-moved (bit (x .reports)) (x .empties) r (f .0)) (f .1))
+    go (Refused n p) t = subst After (sym (advance-refused r (x .empties) (x .reports) n p t)) e

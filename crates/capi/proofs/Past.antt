@@ -10,18 +10,19 @@ use Rattle.run.specs.declared.Answer.{Answer}
 use Rattle.run.specs.declared.Answer.the-variants.{Taken, Refused}
 use Rattle.run.specs.declared.Run.{Run}
 use Rattle.run.specs.Answer.{byAnswer}
-use Rattle.run.specs.Advance.{advanceOf}
+use Rattle.model.specs.Book.{Entry}
+use Rattle.demand.specs.Entries.{entryOf}
 use Rattle.run.specs.Past.{Unread}
 use Rattle.run.proofs.Past.{past-unread}
 use Rattle.phase.specs.Task.{unused}
 use Rattle.capi.specs.Encoding.{headWords, eachWords, places, wordsTo, placesWords, encodeTo, overwritten, placesIn, arePlaces, countIn, holds, padded, runIn, Held, run, none, decode, cleared}
-use Rattle.capi.specs.Runs.{rowFrom, advanceFrom}
+use Rattle.capi.specs.Runs.{rowFrom, entryFrom}
 use Rattle.capi.specs.Past.{usedIn, SameUsed, WordsUnread}
 use Rattle.table.specs.Words.{fenceOf}
 use Rattle.capi.proofs.Places.{length-words, length-read, held-by, by-held, held-few, held-places}
 use Rattle.capi.proofs.Inverse.{length-to, held-run, places-are, places-back, places-forth}
 use Rattle.capi.proofs.Keeping.{count-kept}
-use Rattle.capi.proofs.Kept.{Fits, held-fits, fits-advanced}
+use Rattle.capi.proofs.Kept.{Fits, held-fits, fits-entered}
 
 -- the buffer's count is that of the run that it holds
 held-count : (ws : List ℕ) (r : Run) → decode ws ≡ run r → r .count ≡ countIn ws
@@ -48,8 +49,8 @@ same-places n ws vs h e u =
     }
 
 -- a run that is cleared, as it is when it comes back from its encoding, is the run up to its count: it gets equal rows and answers
-pub cleared-unread : (r : Run) → length (r .tasks) ≡ places → r .count ≤ places → (x : ℕ) → Unread r (cleared r) x
-cleared-unread r all few x =
+pub cleared-unread : (r : Run) → length (r .tasks) ≡ places → r .count ≤ places → (x e : ℕ) → Unread r (cleared r) x e
+cleared-unread r all few x e =
     let n = r .count in
     past-unread r (cleared r)
     (record {
@@ -58,7 +59,7 @@ cleared-unread r all few x =
       fence = refl;
       count = refl;
       tasks = sym (take-at (take n (r .tasks)) (replicate (places - n) unused) n (length-take-le n (r .tasks) (omega arith)));
-    }) x
+    }) x e
 
 -- NOT READ
 
@@ -128,21 +129,21 @@ same-held ws vs s = go (decode ws) (decode vs) refl refl
 
 -- NOT CHANGED
 
--- what an advance of run r leaves in a buffer, in two parts: up to the count, and behind it
-module _ (r : Run) (f : Fits r) (x : ℕ) where
+-- what an entry on run r leaves in a buffer, in two parts: up to the count, and behind it
+module _ (r : Run) (f : Fits r) (x : Entry) where
   abbrev next : Run
-  next = advanceOf r x .run
+  next = entryOf r x .run
 
   length-next : length (encodeTo (next .count) next) ≡ wordsTo (r .count)
   length-next =
-      let g = fits-advanced r x f in
+      let g = fits-entered r x f in
       let few = g .few in
       let all = g .all in
       length-to (next .count) next (omega arith) ∙ ap wordsTo (count-kept r x)
 
   front : (ws vs : List ℕ) → take (wordsTo (r .count)) ws ≡ take (wordsTo (r .count)) vs
-      → take (wordsTo (r .count)) (advanceFrom (run r) x ws .buffer) ≡ take (wordsTo (r .count)) (advanceFrom (run r) x vs .buffer)
-  front ws vs e = go (advanceOf r x .answer)
+      → take (wordsTo (r .count)) (entryFrom (run r) x ws .buffer) ≡ take (wordsTo (r .count)) (entryFrom (run r) x vs .buffer)
+  front ws vs e = go (entryOf r x .answer)
     where
       left : (l : List ℕ) → take (wordsTo (r .count)) (overwritten (next .count) next l) ≡ encodeTo (next .count) next
       left l = take-at (encodeTo (next .count) next) (drop (wordsTo (next .count)) l) (wordsTo (r .count)) length-next
@@ -152,8 +153,8 @@ module _ (r : Run) (f : Fits r) (x : ℕ) where
       go Taken = left ws ∙ sym (left vs)
       go (Refused n p) = e
 
-  behind : (ws : List ℕ) → drop (wordsTo (r .count)) (advanceFrom (run r) x ws .buffer) ≡ drop (wordsTo (r .count)) ws
-  behind ws = go (advanceOf r x .answer)
+  behind : (ws : List ℕ) → drop (wordsTo (r .count)) (entryFrom (run r) x ws .buffer) ≡ drop (wordsTo (r .count)) ws
+  behind ws = go (entryOf r x .answer)
     where
       go : (a : Answer) → drop (wordsTo (r .count)) (byAnswer a (overwritten (next .count) next ws) ws) ≡ drop (wordsTo (r .count)) ws
       go Taken =
@@ -161,35 +162,35 @@ module _ (r : Run) (f : Fits r) (x : ℕ) where
           ∙ ap (λ (n : ℕ). drop (wordsTo n) ws) (count-kept r x)
       go (Refused n p) = refl
 
--- an advance, taken or refused, leaves every word past the count as found
-pub words-unchanged : (ws : List ℕ) (x : ℕ) → drop (usedIn ws) (advanceFrom (decode ws) x ws .buffer) ≡ drop (usedIn ws) ws
+-- an entry, taken or refused, leaves every word past the count as found
+pub words-unchanged : (ws : List ℕ) (x : Entry) → drop (usedIn ws) (entryFrom (decode ws) x ws .buffer) ≡ drop (usedIn ws) ws
 words-unchanged ws x = go (decode ws) refl
   where
-    go : (h : Held) → decode ws ≡ h → drop (usedIn ws) (advanceFrom (decode ws) x ws .buffer) ≡ drop (usedIn ws) ws
+    go : (h : Held) → decode ws ≡ h → drop (usedIn ws) (entryFrom (decode ws) x ws .buffer) ≡ drop (usedIn ws) ws
     go (run r) e =
         let at : usedIn ws ≡ wordsTo (r .count) = ap wordsTo (sym (held-count ws r e)) in
-        ap (λ (h : Held). drop (usedIn ws) (advanceFrom h x ws .buffer)) e
-        ∙ (ap (λ (k : ℕ). drop k (advanceFrom (run r) x ws .buffer)) at ∙ (behind r (held-fits ws r e .0) x ws ∙ ap (λ (k : ℕ). drop k ws) (sym at)))
-    go none e = ap (λ (h : Held). drop (usedIn ws) (advanceFrom h x ws .buffer)) e
+        ap (λ (h : Held). drop (usedIn ws) (entryFrom h x ws .buffer)) e
+        ∙ (ap (λ (k : ℕ). drop k (entryFrom (run r) x ws .buffer)) at ∙ (behind r (held-fits ws r e .0) x ws ∙ ap (λ (k : ℕ). drop k ws) (sym at)))
+    go none e = ap (λ (h : Held). drop (usedIn ws) (entryFrom h x ws .buffer)) e
 
--- two buffers that are equal up to the count get equal rows and answers, and are equal up to the count again after an advance
-pub words-unread : (ws vs : List ℕ) → SameUsed ws vs → (x : ℕ) → WordsUnread ws vs x
+-- two buffers that are equal up to the count get equal rows and answers, and are equal up to the count again after an entry
+pub words-unread : (ws vs : List ℕ) → SameUsed ws vs → (x : Entry) → WordsUnread ws vs x
 words-unread ws vs s x = record {
   held = same-held ws vs s;
-  row = ap rowFrom (same-held ws vs s);
-  answer = answered (decode ws) ∙ ap (λ (h : Held). advanceFrom h x vs .answer) (same-held ws vs s);
-  used = go (decode ws) refl ∙ ap (λ (h : Held). take (usedIn ws) (advanceFrom h x vs .buffer)) (same-held ws vs s);
+  row = λ e. ap (λ (h : Held). rowFrom h e) (same-held ws vs s);
+  answer = answered (decode ws) ∙ ap (λ (h : Held). entryFrom h x vs .answer) (same-held ws vs s);
+  used = go (decode ws) refl ∙ ap (λ (h : Held). take (usedIn ws) (entryFrom h x vs .buffer)) (same-held ws vs s);
 }
   where
-    answered : (h : Held) → advanceFrom h x ws .answer ≡ advanceFrom h x vs .answer
+    answered : (h : Held) → entryFrom h x ws .answer ≡ entryFrom h x vs .answer
     answered (run r) = refl
     answered none = refl
 
-    go : (h : Held) → decode ws ≡ h → take (usedIn ws) (advanceFrom (decode ws) x ws .buffer) ≡ take (usedIn ws) (advanceFrom (decode ws) x vs .buffer)
+    go : (h : Held) → decode ws ≡ h → take (usedIn ws) (entryFrom (decode ws) x ws .buffer) ≡ take (usedIn ws) (entryFrom (decode ws) x vs .buffer)
     go (run r) e =
         let at : usedIn ws ≡ wordsTo (r .count) = ap wordsTo (sym (held-count ws r e)) in
         let same : take (wordsTo (r .count)) ws ≡ take (wordsTo (r .count)) vs = ap (λ (k : ℕ). take k ws) (sym at) ∙ (s .used ∙ ap (λ (k : ℕ). take k vs) at) in
-        (λ i. take (at i) (advanceFrom (e i) x ws .buffer)) ∙ (front r (held-fits ws r e .0) x ws vs same ∙ sym (λ i. take (at i) (advanceFrom (e i) x vs .buffer)))
+        (λ i. take (at i) (entryFrom (e i) x ws .buffer)) ∙ (front r (held-fits ws r e .0) x ws vs same ∙ sym (λ i. take (at i) (entryFrom (e i) x vs .buffer)))
     go none e =
-        ap (λ (h : Held). take (usedIn ws) (advanceFrom h x ws .buffer)) e
-        ∙ (s .used ∙ sym (ap (λ (h : Held). take (usedIn ws) (advanceFrom h x vs .buffer)) e))
+        ap (λ (h : Held). take (usedIn ws) (entryFrom h x ws .buffer)) e
+        ∙ (s .used ∙ sym (ap (λ (h : Held). take (usedIn ws) (entryFrom h x vs .buffer)) e))

@@ -1,4 +1,4 @@
--- What the calls for C and Rust leave behind: their answers in words, a run in a lent buffer, lists of advances, and sentences.
+-- What the calls for C and Rust leave behind: their answers in words, a run in a lent buffer, lists of entries, and sentences.
 pub mod Told
 pub mod Calls
 pub mod Replays

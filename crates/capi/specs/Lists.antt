@@ -1,14 +1,15 @@
--- A list of advances of the run in a buffer: the answer to each, and the buffer after the list.
+-- A list of entries on the run in a buffer: the answer to each, and the buffer after the list.
 use mathlib.Core.List.{List, [], _∷_}
 use Prim.Native.Nat.{ℕ}
+use Rattle.model.specs.Book.{Entry}
 use Rattle.run.specs.declared.Answer.{Answer}
 use Rattle.capi.specs.Encoding.{decode}
-use Rattle.capi.specs.Runs.{advanceFrom}
+use Rattle.capi.specs.Runs.{entryFrom}
 
-unfoldable pub bufferAnswers : List ℕ → List ℕ → List Answer
+unfoldable pub bufferAnswers : List ℕ → List Entry → List Answer
 bufferAnswers ws [] = []
-bufferAnswers ws (x ∷ xs) = advanceFrom (decode ws) x ws .answer ∷ bufferAnswers (advanceFrom (decode ws) x ws .buffer) xs
+bufferAnswers ws (x ∷ xs) = entryFrom (decode ws) x ws .answer ∷ bufferAnswers (entryFrom (decode ws) x ws .buffer) xs
 
-unfoldable pub bufferAfter : List ℕ → List ℕ → List ℕ
+unfoldable pub bufferAfter : List ℕ → List Entry → List ℕ
 bufferAfter ws [] = ws
-bufferAfter ws (x ∷ xs) = bufferAfter (advanceFrom (decode ws) x ws .buffer) xs
+bufferAfter ws (x ∷ xs) = bufferAfter (entryFrom (decode ws) x ws .buffer) xs

@@ -11,7 +11,8 @@ use Rattle.run.specs.declared.Run.{Run}
 use Rattle.run.specs.Answer.{byAnswer}
 use Rattle.run.specs.Start.{startOf}
 use Rattle.run.specs.Row.{noBytes, rowOf}
-use Rattle.run.specs.Advance.{advanceOf}
+use Rattle.model.specs.Book.{Entry}
+use Rattle.demand.specs.Entries.{entryOf}
 use Rattle.capi.specs.Told.{ofAnswer, written}
 use Rattle.capi.specs.Calls.{Left, byRoom, room}
 use Rattle.capi.specs.Encoding.{places, runWords, overwritten, Held, run, none, decode}
@@ -28,15 +29,15 @@ startCall ws buffer answer =
     (startedIn ws buffer ∷ (written (ofAnswer (startOf ws .answer)) answer ∷ []))
     (buffer ∷ (answer ∷ []))
 
--- the row of the run that a buffer holds; 14 where it holds none
-abbrev pub rowFrom : Held → Row
-rowFrom (run r) = rowOf r
-rowFrom none = record { answer = Refused 14 0; bytes = noBytes }
+-- the row of the run that a buffer holds with the empty jobs e; 14 where it holds none
+abbrev pub rowFrom : Held → ℕ → Row
+rowFrom (run r) e = rowOf r e
+rowFrom none e = record { answer = Refused 14 0; bytes = noBytes }
 
 -- row: its 64 bytes in front, all zeros in a refusal
-unfoldable pub rowCall : List ℕ → List ℕ → List ℕ → Left
-rowCall buffer row answer =
-    let w = rowFrom (decode buffer) in
+unfoldable pub rowCall : List ℕ → ℕ → List ℕ → List ℕ → Left
+rowCall buffer e row answer =
+    let w = rowFrom (decode buffer) e in
     byRoom (room answer && leb mostCores (length row))
     ((w .bytes ++ drop mostCores row) ∷ (written (ofAnswer (w .answer)) answer ∷ []))
     (row ∷ (answer ∷ []))
@@ -50,12 +51,16 @@ pub record Advance : Type 0 where
 abbrev pub kept : Answer → Run → List ℕ → Advance
 kept a r ws = record { answer = a; buffer = byAnswer a (overwritten (r .count) r ws) ws }
 
--- an advance of the run that a buffer holds; 14 where it holds none
-abbrev pub advanceFrom : Held → ℕ → List ℕ → Advance
-advanceFrom (run r) x ws = kept (advanceOf r x .answer) (advanceOf r x .run) ws
-advanceFrom none x ws = record { answer = Refused 14 0; buffer = ws }
+-- an entry of a list on the run that a buffer holds; 14 where it holds none
+abbrev pub entryFrom : Held → Entry → List ℕ → Advance
+entryFrom (run r) x ws = kept (entryOf r x .answer) (entryOf r x .run) ws
+entryFrom none x ws = record { answer = Refused 14 0; buffer = ws }
 
-unfoldable pub advanceCall : List ℕ → ℕ → List ℕ → Left
-advanceCall buffer x answer =
-    let a = advanceFrom (decode buffer) x buffer in
+-- an advance with reports x and empties e
+abbrev pub advanceFrom : Held → ℕ → ℕ → List ℕ → Advance
+advanceFrom h x e ws = entryFrom h (record { reports = x; empties = e }) ws
+
+unfoldable pub advanceCall : List ℕ → ℕ → ℕ → List ℕ → Left
+advanceCall buffer x e answer =
+    let a = advanceFrom (decode buffer) x e buffer in
     byRoom (room answer) (a .buffer ∷ (written (ofAnswer (a .answer)) answer ∷ [])) (buffer ∷ (answer ∷ []))

@@ -209,13 +209,13 @@ pub(crate) fn run_in(words: &[u32]) -> Run
     }
 }
 
-// The row of the run that the buffer holds; 14 where it holds none.
-pub(crate) fn row_of(words: &[u32]) -> Row
-    ensures { λ r. ⌜ r ≡ rowFrom (decode (now (words .entry))) ⌝ }
+// The row of the run that the buffer holds with these empty jobs; 14 where it holds none.
+pub(crate) fn row_of(words: &[u32], empties: u32) -> Row
+    ensures { λ r. ⌜ r ≡ rowFrom (decode (now (words .entry))) empties ⌝ }
 {
     if holds(words) {
         let held = run_in(words);
-        return held.row();
+        return held.row(empties);
     }
     let bytes = [0u8; ROW];
     Row {
@@ -237,12 +237,12 @@ pub(crate) fn put_row(bytes: [u8; ROW], row: &mut [u8])
 }
 
 // Advances the run that the buffer holds, and leaves the words past its count; 14 where it holds none.
-pub(crate) fn advance(words: &mut [u32], reports: u32) -> Answer
-    ensures { λ r. ⌜ record { answer = r; buffer = now (words .exit) } ≡ advanceFrom (decode (now (words .entry))) reports (now (words .entry)) ⌝ }
+pub(crate) fn advance(words: &mut [u32], reports: u32, empties: u32) -> Answer
+    ensures { λ r. ⌜ record { answer = r; buffer = now (words .exit) } ≡ advanceFrom (decode (now (words .entry))) reports empties (now (words .entry)) ⌝ }
 {
     if holds(words) {
         let held = run_in(words);
-        let advanced = held.advance(reports);
+        let advanced = held.advance(reports, empties);
         let answer = advanced.answer;
         match answer {
             Answer::Taken => {

@@ -1,5 +1,5 @@
 // The library to link: the judge, the plan, the replay and the run in the cab for C and Rust, on numbers and lent slices.
-// Each function but sivorandra_version returns 0 where the call is answered, and 1 where a lent slice is too short: then everything is as found.
+// Each function but sivorandra_version returns 0 where the call is answered, and 1 where a lent slice is too short or a list of entries is none: then everything is as found.
 // Short rows of a plan are 11 instead, and a buffer lent to row or advance that is too short for a run holds none: 14.
 // The answer stands in the three first words of `answer`: a case and two numbers.
 ghost use mathlib.Core.Path.{_≡_};
@@ -17,7 +17,7 @@ mod replays; // replays.rt: what a replay says
 mod told; // told.rt: an answer in three words
 
 // The version of the library as one number: major * 10000 + minor * 100 + patch.
-const VERSION: u32 = 600;
+const VERSION: u32 = 700;
 
 // The version of the library that is linked; the header has that of the header.
 #[no_mangle]
@@ -75,23 +75,24 @@ pub extern "C" fn sivorandra_plan(
     0
 }
 
-// The run of a table's words, advanced through all of `reports`: its answers go into `numbers`, its last row into the first 64 bytes of `row`.
+// The run of a table's words, taken through all of `entries`, three words each, 0, reports and empties: its answers go into `numbers`, its last row,
+// asked with no empty job, into the first 64 bytes of `row`.
 // Case 0: the last row is shown; 4: the last row is refused, number position; 3: the start is Refused number position, and both as found.
 #[no_mangle]
 pub extern "C" fn sivorandra_replay(
     words: &[u32],
-    reports: &[u32],
+    entries: &[u32],
     numbers: &mut [u32],
     row: &mut [u8],
     answer: &mut [u32],
 ) -> u32
-    ensures { λ r. ⌜ record { value = r; lent = now (numbers .exit) ∷ (now (row .exit) ∷ (now (answer .exit) ∷ [])) } ≡ replayCall (now (words .entry)) (now (reports .entry)) (now (numbers .entry)) (now (row .entry)) (now (answer .entry)) ⌝ }
+    ensures { λ r. ⌜ record { value = r; lent = now (numbers .exit) ∷ (now (row .exit) ∷ (now (answer .exit) ∷ [])) } ≡ replayCall (now (words .entry)) (now (entries .entry)) (now (numbers .entry)) (now (row .entry)) (now (answer .entry)) ⌝ }
 {
     if answer.len() < 3 {
         return 1;
     }
-    let replayed = demand::replay(words, reports, numbers, row);
-    if replays::had_room(replayed) {
+    let replayed = demand::replay(words, entries, numbers, row);
+    if replays::fitted(replayed) {
         let told = replays::of_replayed(replayed);
         told::put(told, answer);
         return 0;
@@ -119,10 +120,16 @@ pub extern "C" fn sivorandra_start(words: &[u32], run: &mut [u32], answer: &mut 
     0
 }
 
-// The row of the present tick into the first 64 bytes of `row`: case 0, or 3 Refused number position and 64 zeros; 14 where `run` holds no run.
+// The row of the present tick into the first 64 bytes of `row`, where bit p of `empties` says that the job of position p + 1, released in this very
+// tick, is empty: case 0, or 3 Refused number position and 64 zeros; 14 where `run` holds no run.
 #[no_mangle]
-pub extern "C" fn sivorandra_row(run: &[u32], row: &mut [u8], answer: &mut [u32]) -> u32
-    ensures { λ r. ⌜ record { value = r; lent = now (row .exit) ∷ (now (answer .exit) ∷ []) } ≡ rowCall (now (run .entry)) (now (row .entry)) (now (answer .entry)) ⌝ }
+pub extern "C" fn sivorandra_row(
+    run: &[u32],
+    empties: u32,
+    row: &mut [u8],
+    answer: &mut [u32],
+) -> u32
+    ensures { λ r. ⌜ record { value = r; lent = now (row .exit) ∷ (now (answer .exit) ∷ []) } ≡ rowCall (now (run .entry)) empties (now (row .entry)) (now (answer .entry)) ⌝ }
 {
     if answer.len() < 3 {
         return 1;
@@ -130,7 +137,7 @@ pub extern "C" fn sivorandra_row(run: &[u32], row: &mut [u8], answer: &mut [u32]
     if row.len() < ROW {
         return 1;
     }
-    let shown = held::row_of(run);
+    let shown = held::row_of(run, empties);
     let bytes = shown.bytes;
     held::put_row(bytes, row);
     let given = shown.answer;
@@ -139,16 +146,21 @@ pub extern "C" fn sivorandra_row(run: &[u32], row: &mut [u8], answer: &mut [u32]
     0
 }
 
-// The run one tick on, where bit p of `reports` says that the job of position p + 1 ends after this tick: case 0, or 3 Refused number position
-// and `run` as found; 14 where `run` holds no run.
+// The run one tick on, where bit p of `reports` says that the job of position p + 1 ends after this tick, and bit p of `empties` that it is released
+// in this very tick and empty: case 0, or 3 Refused number position and `run` as found; 14 where `run` holds no run.
 #[no_mangle]
-pub extern "C" fn sivorandra_advance(run: &mut [u32], reports: u32, answer: &mut [u32]) -> u32
-    ensures { λ r. ⌜ record { value = r; lent = now (run .exit) ∷ (now (answer .exit) ∷ []) } ≡ advanceCall (now (run .entry)) reports (now (answer .entry)) ⌝ }
+pub extern "C" fn sivorandra_advance(
+    run: &mut [u32],
+    reports: u32,
+    empties: u32,
+    answer: &mut [u32],
+) -> u32
+    ensures { λ r. ⌜ record { value = r; lent = now (run .exit) ∷ (now (answer .exit) ∷ []) } ≡ advanceCall (now (run .entry)) reports empties (now (answer .entry)) ⌝ }
 {
     if answer.len() < 3 {
         return 1;
     }
-    let given = held::advance(run, reports);
+    let given = held::advance(run, reports, empties);
     let told = told::of_answer(given);
     told::put(told, answer);
     0

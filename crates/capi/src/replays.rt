@@ -1,22 +1,22 @@
 // What a replay says.
 ghost use mathlib.Core.Path.{_≡_};
-ghost use Rattle.capi.specs.Replays.{hadRoom, ofReplayed};
+ghost use Rattle.capi.specs.Replays.{fitted, ofReplayed};
 use crate::told::Told;
 use demand::Replayed;
 
-// Whether the replay's own lent slices had room.
-pub(crate) fn had_room(replayed: Replayed) -> bool
-    ensures { λ r. ⌜ r ≡ hadRoom replayed ⌝ }
+// Whether the replay's own lent slices fit.
+pub(crate) fn fitted(replayed: Replayed) -> bool
+    ensures { λ r. ⌜ r ≡ fitted replayed ⌝ }
 {
     match replayed {
         Replayed::Shown => true,
         Replayed::RowRefused(_, _) => true,
         Replayed::Refused(_, _) => true,
-        Replayed::Short => false,
+        Replayed::Unfit => false,
     }
 }
 
-// The cases of a replay that had room.
+// The cases of a replay whose slices fit.
 pub(crate) fn of_replayed(replayed: Replayed) -> Told
     ensures { λ r. ⌜ r ≡ ofReplayed replayed ⌝ }
 {
@@ -36,7 +36,7 @@ pub(crate) fn of_replayed(replayed: Replayed) -> Told
             first: number,
             second: position,
         },
-        Replayed::Short => Told {
+        Replayed::Unfit => Told {
             kind: 0,
             first: 0,
             second: 0,

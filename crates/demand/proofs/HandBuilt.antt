@@ -223,8 +223,10 @@ computed : LineByLine worked lines lines
 unfolding any least memb upFrom kept owner row given left grants claimants answers after rows advanceOf advanceAnswer rowOf rowAnswer bytesIn runOut
     firstLateIn misemptiedIn misreportedIn grantsIn mapFirst moved
 computed =
+    let past-80 : LineByLine worked (drop 80 lines) (drop 80 lines) =
+    (refl, (refl, (refl, (refl, tt)))) in
     let past-60 : LineByLine worked (drop 60 lines) (drop 60 lines) =
-    (refl, (refl, (refl, (refl, (refl, (refl, (refl, (refl, (refl, (refl, (refl, (refl, (refl, (refl, (refl, tt))))))))))))))) in
+    (refl, (refl, (refl, (refl, (refl, (refl, (refl, (refl, (refl, (refl, (refl, (refl, (refl, (refl, (refl, (refl, (refl, (refl, (refl, (refl, past-80)))))))))))))))))))) in
     let past-40 : LineByLine worked (drop 40 lines) (drop 40 lines) =
     (refl, (refl, (refl, (refl, (refl, (refl, (refl, (refl, (refl, (refl, (refl, (refl, (refl, (refl, (refl, (refl, (refl, (refl, (refl, (refl, past-60)))))))))))))))))))) in
     let past-20 : LineByLine worked (drop 20 lines) (drop 20 lines) =

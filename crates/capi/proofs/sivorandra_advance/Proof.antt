@@ -22,7 +22,7 @@ advance-from-of-answer c = c .before .before .before
 returns : tie.Need-returns
 returns c =
     let a = entry-from-then1 c .args in
-    sym (advance-narrow (a .run .now) (a .answer .now) (a .reports) (c .if1 .taken))
+    sym (advance-narrow (a .run .now) (a .answer .now) (a .reports) (a .empties) (c .if1 .taken))
 
 advance-requires : tie.Need-advance-requires
 advance-requires c κs = search needs
@@ -46,7 +46,7 @@ returns-2 c =
     let v = advance-from-of-answer o in
     let e = v .before .before in
     let a = entry-from-else1 e .args in
-    advance-room (a .run .now) (a .answer .now) (a .reports) (v .advance .result)
+    advance-room (a .run .now) (a .answer .now) (a .reports) (a .empties) (v .advance .result)
     (e .if1 .left)
     (v .advance .ensures)
     (p .put .ensures ∙ ap (λ (t : Told). written t (a .answer .now)) (o .of-answer .ensures))

@@ -4,7 +4,7 @@ use mathlib.Core.Path.{sym, ap, _∙_}
 use borrow.Author.Needs.{needs}
 use Rattle.capi.specs.declared.told.Told.{Told}
 use Rattle.capi.specs.Told.{written}
-use Rattle.capi.proofs.Replaying.{replay-narrow, replay-short, replay-room}
+use Rattle.capi.proofs.Replaying.{replay-narrow, replay-unfit, replay-room}
 use Rattle.capi.proofs.sivorandra_replay.Statement.{statement}
 use Rattle.capi.proofs.sivorandra_replay.Tie as tie
 
@@ -23,19 +23,19 @@ entry-from-slice-known3 c = entry-from-slice-known2 (c .before)
 abbrev replay-from-row : tie.After-row → tie.After-replay
 replay-from-row c = c .before .before .before
 
-abbrev replay-from-had-room : tie.After-had-room → tie.After-replay
-replay-from-had-room c = replay-from-row (c .before .before)
+abbrev replay-from-fitted : tie.After-fitted → tie.After-replay
+replay-from-fitted c = replay-from-row (c .before .before)
 
 returns : tie.Need-returns
 returns c =
     let a = entry-from-slice-known3 (c .before) .args in
-    sym (replay-narrow (a .words .now) (a .reports .now) (a .numbers .now) (a .row .now) (a .answer .now) (c .if1 .taken))
+    sym (replay-narrow (a .words .now) (a .entries .now) (a .numbers .now) (a .row .now) (a .answer .now) (c .if1 .taken))
 
 replay-requires : tie.Need-replay-requires
 replay-requires c κs = search needs
 
-had-room-requires : tie.Need-had-room-requires
-had-room-requires c κs = search needs
+fitted-requires : tie.Need-fitted-requires
+fitted-requires c κs = search needs
 
 of-replayed-requires : tie.Need-of-replayed-requires
 of-replayed-requires c κs = search needs
@@ -57,11 +57,11 @@ returns-2 c =
     let p = c .before .before in
     let o = p .before .before in
     let h = o .before .before in
-    let q = replay-from-had-room h in
+    let q = replay-from-fitted h in
     let e = else1 q in
     let a = entry-from-slice-known3 (e .before) .args in
-    replay-room (a .words .now) (a .reports .now) (a .numbers .now) (a .row .now) (a .answer .now) _ (q .replay .ensures)
-    (sym (h .had-room .ensures) ∙ o .before .if2 .taken)
+    replay-room (a .words .now) (a .entries .now) (a .numbers .now) (a .row .now) (a .answer .now) _ (q .replay .ensures)
+    (sym (h .fitted .ensures) ∙ o .before .if2 .taken)
     (e .if1 .left)
     (p .put .ensures ∙ ap (λ (t : Told). written t (a .answer .now)) (o .of-replayed .ensures))
 
@@ -74,9 +74,9 @@ same-length-5 c = search needs
 returns-3 : tie.Need-returns-3
 returns-3 c =
     let h = c .before in
-    let q = replay-from-had-room h in
+    let q = replay-from-fitted h in
     let a = entry-from-slice-known3 (else1 q .before) .args in
-    replay-short (a .words .now) (a .reports .now) (a .numbers .now) (a .row .now) (a .answer .now) _ (q .replay .ensures) (sym (h .had-room .ensures) ∙ c .if2 .left)
+    replay-unfit (a .words .now) (a .entries .now) (a .numbers .now) (a .row .now) (a .answer .now) _ (q .replay .ensures) (sym (h .fitted .ensures) ∙ c .if2 .left)
 
 pub sivorandra-replay-spec : {M : Type 1} → statement M
 sivorandra-replay-spec =
@@ -84,7 +84,7 @@ sivorandra-replay-spec =
     (tie.spec
     returns
     replay-requires
-    had-room-requires
+    fitted-requires
     of-replayed-requires
     put-requires
     same-length

@@ -23,12 +23,12 @@ row-of c = c .before .before .before
 returns : tie.Need-returns
 returns c =
     let a = entry (c .before) .args in
-    sym (row-narrow (a .run .now) (a .row .now) (a .answer .now) (c .if1 .taken))
+    sym (row-narrow (a .run .now) (a .empties) (a .row .now) (a .answer .now) (c .if1 .taken))
 
 returns-2 : tie.Need-returns-2
 returns-2 c =
     let a = entry (c .before .before) .args in
-    sym (row-short (a .run .now) (a .row .now) (a .answer .now) (c .before .if1 .left) (c .if2 .taken))
+    sym (row-short (a .run .now) (a .empties) (a .row .now) (a .answer .now) (c .before .if1 .left) (c .if2 .taken))
 
 row-of-requires : tie.Need-row-of-requires
 row-of-requires c κs = search needs
@@ -56,7 +56,7 @@ returns-3 c =
     let s = row-of r in
     let e = s .before in
     let a = entry (e .before .before) .args in
-    row-room (a .run .now) (a .row .now) (a .answer .now) (s .row-of .result)
+    row-room (a .run .now) (a .empties) (a .row .now) (a .answer .now) (s .row-of .result)
     (e .before .if1 .left)
     (e .if2 .left)
     (s .row-of .ensures)

@@ -1,8 +1,9 @@
 -- `capi::held::advance` meets its contract: an advance of the run that the buffer holds, or 14.
 -- Assumes nothing.
 use mathlib.Core.Path.{sym, _∙_}
+use Rattle.model.specs.Book.{Entry}
 use Rattle.capi.proofs.Places.{held-long, held-few}
-use Rattle.capi.proofs.Keeping.{advance-few, advance-taken, advance-refused, advance-none}
+use Rattle.capi.proofs.Keeping.{entry-few, entry-taken, entry-refused, entry-none}
 use borrow.Author.Needs.{needs}
 use Rattle.capi.proofs.held.advance.Statement.{statement}
 use Rattle.capi.proofs.held.advance.Tie as tie
@@ -10,6 +11,10 @@ use Rattle.capi.proofs.held.advance.Tie as tie
 -- the state at the call
 abbrev entry : tie.After-holds → tie.Start
 entry c = c .before .before .before
+
+-- the entry: the reports and the empties of the call
+abbrev entry-in : tie.After-holds → Entry
+entry-in c = record { reports = entry c .args .reports; empties = entry c .args .empties }
 
 -- the state after `advance`
 abbrev advance-from-next : tie.After-next → tie.After-advance
@@ -47,7 +52,7 @@ put-run-requires c κs =
     let h = t .before in
     let a = entry h .args in
     let e = sym (h .holds .ensures) ∙ t .if1 .taken in
-    (advance-few (a .words .now) (a .reports) (v .advance .result) (r .run-in .result) e (r .run-in .ensures) (v .advance .ensures .value), held-long (a .words .now) e)
+    (entry-few (a .words .now) (entry-in h) (v .advance .result) (r .run-in .result) e (r .run-in .ensures) (v .advance .ensures .value), held-long (a .words .now) e)
 
 same-length : tie.Need-same-length
 same-length c = search needs
@@ -61,7 +66,7 @@ returns c =
     let t = r .before .before in
     let h = t .before in
     let a = entry h .args in
-    advance-taken (a .words .now) (a .reports) (v .advance .result) (r .run-in .result)
+    entry-taken (a .words .now) (entry-in h) (v .advance .result) (r .run-in .result)
     (sym (h .holds .ensures) ∙ t .if1 .taken)
     (r .run-in .ensures)
     (v .advance .ensures .value)
@@ -81,7 +86,7 @@ returns-2 c =
     let t = r .before .before in
     let h = t .before in
     let a = entry h .args in
-    advance-refused (a .words .now) (a .reports) (v .advance .result) (r .run-in .result)
+    entry-refused (a .words .now) (entry-in h) (v .advance .result) (r .run-in .result)
     (sym (h .holds .ensures) ∙ t .if1 .taken)
     (r .run-in .ensures)
     (v .advance .ensures .value)
@@ -94,7 +99,7 @@ returns-3 : tie.Need-returns-3
 returns-3 c =
     let h = c .before in
     let a = entry h .args in
-    advance-none (a .words .now) (a .reports) (sym (h .holds .ensures) ∙ c .if1 .left)
+    entry-none (a .words .now) (entry-in h) (sym (h .holds .ensures) ∙ c .if1 .left)
 
 pub advance-spec : {M : Type 1} → statement M
 advance-spec =

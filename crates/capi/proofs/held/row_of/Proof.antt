@@ -25,12 +25,14 @@ returns c =
     let r = c .before in
     let t = r .before in
     let h = t .before in
-    row-held (h .before .before .args .words .now) (sym (h .holds .ensures) ∙ t .if1 .taken) (r .run-in .ensures) (c .row .ensures .value)
+    let a = h .before .before .args in
+    row-held (a .words .now) (a .empties) (sym (h .holds .ensures) ∙ t .if1 .taken) (r .run-in .ensures) (c .row .ensures .value)
 
 returns-2 : tie.Need-returns-2
 returns-2 c =
     let h = c .before in
-    row-none (h .before .before .args .words .now) (sym (h .holds .ensures) ∙ c .if1 .left)
+    let a = h .before .before .args in
+    row-none (a .words .now) (a .empties) (sym (h .holds .ensures) ∙ c .if1 .left)
 
 pub row-of-spec : {M : Type 1} → statement M
 row-of-spec = tie.close (tie.spec holds-requires run-in-requires row-requires returns returns-2)
