@@ -1,7 +1,9 @@
--- Laws of a session: what is said case by case, how lines come in pieces, a chunk of the input, and the whole of it.
+-- Laws of a session: what is said case by case, how lines come in pieces, a chunk of the input, and the whole of it. Computed examples.
 pub mod Saying
+pub mod Asking
 pub mod Talking
 pub mod Feeding
 pub mod Replying
 pub mod Starts
 pub mod Whole
+pub mod Examples

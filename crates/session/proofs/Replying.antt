@@ -2,14 +2,12 @@
 use mathlib.Core.Bool.{Bool, true, false, _&&_, cond}
 use mathlib.Core.List.{List, [], _∷_, _++_}
 use mathlib.Core.Path.{_≡_, refl, sym, ap, _∙_}
-use Prim.Native.Nat.{ℕ, _-_, _≤_, _<_}
+use Prim.Native.Nat.{ℕ, _≤_, _<_}
 use native.Mathlib.Omega.{arith}
-use lib.ListN.{length, getD, take, drop}
-use lib.Seq.{take-all}
+use lib.ListN.{length, getD, take}
 use lib.Dec.{eqb, leb}
-use borrow.Author.Tests.{le-leb, lt-leb, leb-true, ne-eqb}
+use borrow.Author.Tests.{le-leb, lt-leb, leb-true}
 use Rattle.text.specs.Format.{mostBytes, wordsOf, numbersIn}
-use Rattle.text.specs.Input.{foundIn}
 use Rattle.text.specs.Output.{letters, lineOf}
 use Rattle.run.specs.declared.Run.{Run}
 use Rattle.run.specs.declared.Answer.{Answer}
@@ -23,7 +21,7 @@ use Rattle.session.specs.declared.Stage.the-variants.{Table, Operations,
 use Rattle.session.specs.declared.Session.{Session}
 use Rattle.session.specs.declared.operations.Operation.{Operation}
 use Rattle.session.specs.declared.operations.Operation.the-variants.{Advance, Row, Nothing}
-use Rattle.session.specs.Operation.{operationOf, advanceBy, plain, answerLine, shownLine, said, runAfter, isLast}
+use Rattle.session.specs.Operation.{plain, answerLine, shownLine, said, runAfter, isLast}
 use Rattle.session.specs.Talk.{tooMany, isDashes, startLine, opened, replies}
 use Rattle.session.specs.Session.{stageOf, Said, OpenedOf}
 use Rattle.session.proofs.Talking.{nil-right, tooLong, opened-long}
@@ -48,27 +46,27 @@ shown-refused k a bytes n p e = rw e
 
 -- OPERATIONS
 
-pub said-advance : (o : Operation) (r : Run) (x : ℕ) → o ≡ Advance x → answerLine (letters "taken") (advanceOf r x .answer) ≡ said o r
+pub said-advance : (o : Operation) (r : Run) (x e : ℕ) → o ≡ Advance x e → answerLine (letters "taken") (advanceOf r x e .answer) ≡ said o r
 unfolding said
-said-advance o r x e = rw e
+said-advance o r x e q = rw q
 
-pub run-advance : (o : Operation) (r : Run) (x : ℕ) → o ≡ Advance x → advanceOf r x .run ≡ runAfter o r
+pub run-advance : (o : Operation) (r : Run) (x e : ℕ) → o ≡ Advance x e → advanceOf r x e .run ≡ runAfter o r
 unfolding runAfter
-run-advance o r x e = rw e
+run-advance o r x e q = rw q
 
-pub last-advance : (o : Operation) (x : ℕ) → o ≡ Advance x → false ≡ isLast o
-last-advance o x e = rw e
+pub last-advance : (o : Operation) (x e : ℕ) → o ≡ Advance x e → false ≡ isLast o
+last-advance o x e q = rw q
 
-pub said-row : (o : Operation) (r : Run) → o ≡ Row → shownLine (r .cores) (rowOf r .answer) (rowOf r .bytes) ≡ said o r
+pub said-row : (o : Operation) (r : Run) (e : ℕ) → o ≡ Row e → shownLine (r .cores) (rowOf r e .answer) (rowOf r e .bytes) ≡ said o r
 unfolding said
-said-row o r e = rw e
+said-row o r e q = rw q
 
-pub run-row : (o : Operation) (r : Run) → o ≡ Row → r ≡ runAfter o r
+pub run-row : (o : Operation) (r : Run) (e : ℕ) → o ≡ Row e → r ≡ runAfter o r
 unfolding runAfter
-run-row o r e = rw e
+run-row o r e q = rw q
 
-pub last-row : (o : Operation) → o ≡ Row → false ≡ isLast o
-last-row o e = rw e
+pub last-row : (o : Operation) (e : ℕ) → o ≡ Row e → false ≡ isLast o
+last-row o e q = rw q
 
 pub said-none : (o : Operation) (r : Run) → o ≡ Nothing → plain (letters "not an operation") ≡ said o r
 unfolding said
@@ -81,50 +79,7 @@ run-none o r e = rw e
 pub last-none : (o : Operation) → o ≡ Nothing → true ≡ isLast o
 last-none o e = rw e
 
--- LINES
-
-pub asked-empty : (l : List ℕ) → length l ≡ 0 → Nothing ≡ operationOf l
-unfolding operationOf
-asked-empty [] e = refl
-asked-empty (b ∷ l) e = absurd (omega arith)
-
-pub asked-row : (l : List ℕ) → length l ≡ 1 → getD l 0 0 ≡ 114 → Row ≡ operationOf l
-unfolding operationOf
-asked-row [] e q = absurd (omega arith)
-asked-row (b ∷ []) e q = rw q
-asked-row (b ∷ c ∷ l) e q = absurd (omega arith)
-
-pub asked-letter : (l : List ℕ) → length l ≡ 1 → (getD l 0 0 ≡ 114 → ⊥) → Nothing ≡ operationOf l
-unfolding operationOf
-asked-letter [] e q = absurd (omega arith)
-asked-letter (b ∷ []) e q = rw (ne-eqb b 114 q)
-asked-letter (b ∷ c ∷ l) e q = absurd (omega arith)
-
-pub asked-advance :
-    (l : List ℕ) → (length l ≡ 0 → ⊥) → (length l ≡ 1 → ⊥) → getD l 0 0 ≡ 97 → getD l 1 0 ≡ 32
-    → advanceBy (foundIn (take (length l - 2) (drop 2 l))) ≡ operationOf l
-unfolding operationOf
-asked-advance [] z o q r = absurd (z refl)
-asked-advance (b ∷ []) z o q r = absurd (o refl)
-asked-advance (b ∷ c ∷ l) z o q r =
-    let e : length (b ∷ c ∷ l) - 2 ≡ length l = omega arith in
-    rw (q, r) (ap (λ (x : List ℕ). advanceBy (foundIn x)) (take-all (length (b ∷ c ∷ l) - 2) l (omega (arith, e))))
-
-pub asked-no-space : (l : List ℕ) → (length l ≡ 0 → ⊥) → (length l ≡ 1 → ⊥) → (getD l 1 0 ≡ 32 → ⊥) → Nothing ≡ operationOf l
-unfolding operationOf
-asked-no-space [] z o q = absurd (z refl)
-asked-no-space (b ∷ []) z o q = absurd (o refl)
-asked-no-space (b ∷ c ∷ l) z o q = rw (ne-eqb c 32 q) (go (eqb b 97))
-  where
-    go : (t : Bool) → Nothing ≡ cond (t && false) (advanceBy (foundIn l)) Nothing
-    go true = refl
-    go false = refl
-
-pub asked-no-letter : (l : List ℕ) → (length l ≡ 0 → ⊥) → (length l ≡ 1 → ⊥) → (getD l 0 0 ≡ 97 → ⊥) → Nothing ≡ operationOf l
-unfolding operationOf
-asked-no-letter [] z o q = absurd (z refl)
-asked-no-letter (b ∷ []) z o q = absurd (o refl)
-asked-no-letter (b ∷ c ∷ l) z o q = rw (ne-eqb b 97 q)
+-- DASHES
 
 pub dashes-of : (l : List ℕ) → length l ≡ 2 → eqb (getD l 0 0) 45 && eqb (getD l 1 0) 45 ≡ isDashes l
 unfolding isDashes

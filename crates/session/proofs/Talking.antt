@@ -10,14 +10,14 @@ use lib.Seq.{append-snoc}
 use lib.Dec.{eqb, leb}
 use borrow.Author.Tests.{lt-leb}
 use Rattle.text.specs.Format.{mostBytes, newline}
-use Rattle.text.specs.Input.{lineLength, foundIn}
+use Rattle.text.specs.Input.{lengthTo, lineLength}
 use Rattle.text.specs.Output.{letters, lineOf}
-use Rattle.text.proofs.Numbers.{found-nothing}
 use Rattle.run.specs.declared.Run.{Run}
 use Rattle.session.specs.declared.operations.Operation.the-variants.{Nothing}
-use Rattle.session.specs.Operation.{noneLong, advanceBy, operationOf, plain, said, runAfter, isLast}
+use Rattle.session.specs.Operation.{noneLong, operationOf, plain, said, runAfter, isLast}
 use Rattle.session.specs.Talk.{tooMany, Ahead, nothing, unknown, lastLine, linesFrom, replies, opened, isDashes, unclosed, talkFrom}
 use Rattle.session.specs.Session.{Begins}
+use Rattle.session.proofs.Asking.{long-none}
 
 pub nil-right : (l : List ℕ) → l ++ [] ≡ l
 nil-right [] = refl
@@ -25,7 +25,7 @@ nil-right (x ∷ l) = ap (λ (m : List ℕ). x ∷ m) (nil-right l)
 
 -- bytes that are no newlines go on with the line
 pub talk-more : (e : Ahead) (d l chunk : List ℕ) (k : ℕ) (bs : List ℕ) → k ≤ lineLength chunk → talkFrom e d l (take k chunk ++ bs) ≡ talkFrom e d (l ++ take k chunk) bs
-unfolding talkFrom lineLength
+unfolding talkFrom lengthTo
 talk-more e d l chunk zero bs h = ap (λ (m : List ℕ). talkFrom e d m bs) (sym (nil-right l))
 talk-more e d l [] (suc k) bs h = absurd (not-suc-le-zero h)
 talk-more e d l (b ∷ chunk) (suc k) bs h = go (eqb b newline) h (talk-more e d (l ++ (b ∷ [])) chunk k bs)
@@ -40,7 +40,7 @@ talk-more e d l (b ∷ chunk) (suc k) bs h = go (eqb b newline) h (talk-more e d
     go false q ih = ih (le-of-suc-le-suc q) ∙ ap (λ (m : List ℕ). talkFrom e d m bs) (append-snoc l b (take k chunk))
 
 pub lines-more : (e : Ahead) (l chunk : List ℕ) (k : ℕ) (bs : List ℕ) → k ≤ lineLength chunk → linesFrom e l (take k chunk ++ bs) ≡ linesFrom e (l ++ take k chunk) bs
-unfolding linesFrom lineLength
+unfolding linesFrom lengthTo
 lines-more e l chunk zero bs h = ap (λ (m : List ℕ). linesFrom e m bs) (sym (nil-right l))
 lines-more e l [] (suc k) bs h = absurd (not-suc-le-zero h)
 lines-more e l (b ∷ chunk) (suc k) bs h = go (eqb b newline) h (lines-more e (l ++ (b ∷ [])) chunk k bs)
@@ -133,17 +133,6 @@ talk-end d l = refl
 
 -- THE OPERATIONS
 
--- an operation has at most twelve bytes: a letter, a space and ten digits
-long-none : (l : List ℕ) → noneLong ≤ length l → operationOf l ≡ Nothing
-unfolding operationOf
-long-none [] h = absurd (not-suc-le-zero h)
-long-none (a ∷ []) h = absurd (not-suc-le-zero (le-of-suc-le-suc h))
-long-none (a ∷ b ∷ l) h = go (eqb a 97 && eqb b 32)
-  where
-    go : (t : Bool) → cond t (advanceBy (foundIn l)) Nothing ≡ Nothing
-    go true = ap advanceBy (sym (found-nothing l (λ n. omega (arith, h, n .short))))
-    go false = refl
-
 -- what is said to a line that is no operation
 abbrev pub noOperation : List ℕ
 noOperation = plain (letters "not an operation")
@@ -152,7 +141,7 @@ replies-none : (r : Run) (l : List ℕ) (ls : List (List ℕ)) → operationOf l
 unfolding replies said
 replies-none r l ls e = rw e (nil-right noOperation)
 
--- 13 bytes of a line decide: whatever comes, it is no operation ..
+-- 24 bytes of a line decide: whatever comes, it is no operation ..
 pub replies-long : (r : Run) (l bs : List ℕ) → noneLong ≤ length l → replies r (linesFrom nothing l bs) ≡ noOperation
 unfolding linesFrom lastLine
 replies-long r [] [] h = absurd (not-suc-le-zero h)

@@ -1,10 +1,10 @@
 -- What a line after the table asks of the run, and what is said to it.
-use mathlib.Core.Bool.{Bool, true, false, _&&_, cond}
+use mathlib.Core.Bool.{Bool, true, false, cond}
 use mathlib.Core.List.{List, [], _∷_, _++_}
-use Prim.Native.Nat.{ℕ, _+_}
+use Prim.Native.Nat.{ℕ, _+_, _*_}
 use lib.ListN.{take}
 use lib.Dec.{eqb}
-use Rattle.text.specs.Format.{newline, mostDigits}
+use Rattle.text.specs.Format.{newline, mostDigits, joined}
 use Rattle.text.specs.Input.{foundIn}
 use Rattle.text.specs.Output.{letters, lineOf, space}
 use Rattle.text.specs.declared.line.Found.{Found}
@@ -14,23 +14,65 @@ use Rattle.run.specs.declared.Answer.{Answer}
 use Rattle.run.specs.declared.Answer.the-variants.{Taken, Refused}
 use Rattle.run.specs.Advance.{advanceOf}
 use Rattle.run.specs.Row.{rowOf}
+use Rattle.session.specs.declared.operations.Numbers.{Numbers}
+use Rattle.session.specs.declared.operations.Numbers.the-variants.{Bare, One, Two, Other}
 use Rattle.session.specs.declared.operations.Operation.{Operation}
 use Rattle.session.specs.declared.operations.Operation.the-variants.{Advance, Row, Nothing}
 
--- a line of so many bytes is no operation: one more than a letter, a space and the digits of a number
+-- a line of so many bytes is no operation: one more than a letter and two numbers, each with a space before it
 abbrev pub noneLong : ℕ
-noneLong = 2 + mostDigits + 1
+noneLong = 1 + 2 * (1 + mostDigits) + 1
 
--- an advance with the report set that is found
-abbrev pub advanceBy : Found → Operation
-advanceBy (found.Value n) = Advance n
-advanceBy found.Nothing = Nothing
+-- the words of a text: what stands before, between and behind its spaces
+unfoldable pub wordsIn : List ℕ → List (List ℕ)
+wordsIn [] = [] ∷ []
+wordsIn (b ∷ bs) = cond (eqb b space) ([] ∷ wordsIn bs) (joined b (wordsIn bs))
 
--- `a N` is an advance with the report set N, of one to ten digits, up to 4,294,967,295; `r` asks a row; any other line is no operation
+-- one number, of one to ten digits, up to 4,294,967,295
+abbrev pub oneOf : Found → Numbers
+oneOf (found.Value n) = One n
+oneOf found.Nothing = Other
+
+-- two of them
+abbrev pub twoOf : Found → Found → Numbers
+twoOf (found.Value n) (found.Value m) = Two n m
+twoOf (found.Value n) found.Nothing = Other
+twoOf found.Nothing f = Other
+
+-- the numbers that words say: one or two
+unfoldable pub numbersOf : List (List ℕ) → Numbers
+numbersOf [] = Other
+numbersOf (l ∷ []) = oneOf (foundIn l)
+numbersOf (l ∷ m ∷ []) = twoOf (foundIn l) (foundIn m)
+numbersOf (l ∷ m ∷ k ∷ ls) = Other
+
+-- what stands behind the letter of a line: nothing, or numbers with one space before each; or something else
+unfoldable pub numbersBehind : List ℕ → Numbers
+numbersBehind [] = Bare
+numbersBehind (b ∷ l) = cond (eqb b space) (numbersOf (wordsIn l)) Other
+
+-- `a REPORTS EMPTIES` is an advance with these two sets; empties that are left out are 0
+abbrev pub advanceBy : Numbers → Operation
+advanceBy Bare = Nothing
+advanceBy (One x) = Advance x 0
+advanceBy (Two x e) = Advance x e
+advanceBy Other = Nothing
+
+-- `r EMPTIES` asks a row with that set; empties that are left out are 0
+abbrev pub rowBy : Numbers → Operation
+rowBy Bare = Row 0
+rowBy (One e) = Row e
+rowBy (Two e n) = Nothing
+rowBy Other = Nothing
+
+-- the operation of a letter, `a` or `r`, and what stands behind it; with any other letter it is none
+unfoldable pub operationBy : ℕ → Numbers → Operation
+operationBy letter ns = cond (eqb letter 97) (advanceBy ns) (cond (eqb letter 114) (rowBy ns) Nothing)
+
+-- the operation of a line; an empty line is none
 unfoldable pub operationOf : List ℕ → Operation
 operationOf [] = Nothing
-operationOf (b ∷ []) = cond (eqb b 114) Row Nothing
-operationOf (b ∷ s ∷ digits) = cond (eqb b 97 && eqb s space) (advanceBy (foundIn digits)) Nothing
+operationOf (letter ∷ l) = operationBy letter (numbersBehind l)
 
 -- a line that is only a word
 unfoldable pub plain : List ℕ → List ℕ
@@ -48,18 +90,18 @@ shownLine cores (Refused n p) bytes = lineOf (letters "refused") (n ∷ p ∷ []
 
 -- what is said to an operation of run r
 unfoldable pub said : Operation → Run → List ℕ
-said (Advance x) r = answerLine (letters "taken") (advanceOf r x .answer)
-said Row r = shownLine (r .cores) (rowOf r .answer) (rowOf r .bytes)
+said (Advance x e) r = answerLine (letters "taken") (advanceOf r x e .answer)
+said (Row e) r = shownLine (r .cores) (rowOf r e .answer) (rowOf r e .bytes)
 said Nothing r = plain (letters "not an operation")
 
 -- the run after it
 unfoldable pub runAfter : Operation → Run → Run
-runAfter (Advance x) r = advanceOf r x .run
-runAfter Row r = r
+runAfter (Advance x e) r = advanceOf r x e .run
+runAfter (Row e) r = r
 runAfter Nothing r = r
 
 -- a line that is no operation ends the session
 abbrev pub isLast : Operation → Bool
-isLast (Advance x) = false
-isLast Row = false
+isLast (Advance x e) = false
+isLast (Row e) = false
 isLast Nothing = true

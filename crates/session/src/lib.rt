@@ -16,8 +16,8 @@ use text::row::LINE;
 // So many bytes with no line `--` in them are too many for a table: the longest text, the two dashes, and one more.
 pub const TOO_MANY: usize = text::BYTES + 3;
 
-// A line of so many bytes is no operation: one more than a letter, a space and the digits of a number.
-const NONE_LONG: usize = 2 + text::DIGITS + 1;
+// A line of so many bytes is no operation: one more than a letter and two numbers, each with a space before it.
+const NONE_LONG: usize = 1 + 2 * (1 + text::DIGITS) + 1;
 
 // What the bytes that come are read as: the table, the operations, or nothing any more.
 pub enum Stage {
@@ -75,7 +75,7 @@ fn feed_table(session: Session, chunk: &[u8], out: &mut [u8; LINE]) -> Fed
 {
     let mut bytes = session.bytes;
     let from = session.from;
-    let end = text::line::end_from(chunk, 0);
+    let end = text::line::end_from(chunk, 0, b'\n');
     let count = text::smaller(end, TOO_MANY - session.held);
     let held = text::row::copy(chunk, 0, count, &mut bytes, session.held);
     if held == TOO_MANY {
@@ -137,7 +137,7 @@ fn feed_operations(session: Session, chunk: &[u8], out: &mut [u8; LINE]) -> Fed
         return over(session, chunk.len(), length);
     }
     let mut bytes = session.bytes;
-    let end = text::line::end_from(chunk, 0);
+    let end = text::line::end_from(chunk, 0, b'\n');
     let count = text::smaller(end, NONE_LONG - session.held);
     let held = text::row::copy(chunk, 0, count, &mut bytes, session.held);
     if held == NONE_LONG {

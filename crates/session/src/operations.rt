@@ -1,26 +1,90 @@
 // What a line asks of the run.
 ghost use mathlib.Core.Path.{_≡_};
-ghost use Rattle.session.specs.Operation.{operationOf, advanceBy};
+ghost use Rattle.session.specs.Operation.{operationOf, numbersBehind, oneOf, twoOf, advanceBy, rowBy};
 use text::line::Found;
 
-// An advance with a set of reports, a row asked, or nothing that a run can do.
+// An advance with its reports and its empties, a row asked with empties, or nothing that a run can do.
 pub enum Operation {
-    Advance(u32),
-    Row,
+    Advance(u32, u32),
+    Row(u32),
     Nothing,
 }
 
-// An advance with the number that is found.
-fn advance_by(found: Found) -> Operation
-    ensures { λ r. ⌜ r ≡ advanceBy found ⌝ }
+// What stands behind the letter of a line: nothing, one or two numbers, or something else.
+pub enum Numbers {
+    Bare,
+    One(u32),
+    Two(u32, u32),
+    Other,
+}
+
+// The number that is found.
+fn one(found: Found) -> Numbers
+    ensures { λ r. ⌜ r ≡ oneOf found ⌝ }
 {
     match found {
-        Found::Value(number) => Operation::Advance(number),
-        Found::Nothing => Operation::Nothing,
+        Found::Value(number) => Numbers::One(number),
+        Found::Nothing => Numbers::Other,
     }
 }
 
-// The operation of a line: `a N`, `r`, or none.
+// The two numbers that are found.
+fn two(first: Found, second: Found) -> Numbers
+    ensures { λ r. ⌜ r ≡ twoOf first second ⌝ }
+{
+    match first {
+        Found::Value(number) => match second {
+            Found::Value(other) => Numbers::Two(number, other),
+            Found::Nothing => Numbers::Other,
+        },
+        Found::Nothing => Numbers::Other,
+    }
+}
+
+// The numbers behind the letter of a line, one space before each.
+fn behind(rest: &[u8]) -> Numbers
+    ensures { λ r. ⌜ r ≡ numbersBehind (now (rest .entry)) ⌝ }
+{
+    let count = rest.len();
+    if count == 0 {
+        return Numbers::Bare;
+    }
+    if rest[0] == b' ' {
+        let end = text::line::end_from(rest, 1, b' ');
+        let first = text::line::number(&rest[1..end]);
+        if end == count {
+            return one(first);
+        }
+        return two(first, text::line::number(&rest[end + 1..count]));
+    }
+    Numbers::Other
+}
+
+// An advance with the numbers behind its letter.
+fn advance_by(numbers: Numbers) -> Operation
+    ensures { λ r. ⌜ r ≡ advanceBy numbers ⌝ }
+{
+    match numbers {
+        Numbers::Bare => Operation::Nothing,
+        Numbers::One(reports) => Operation::Advance(reports, 0),
+        Numbers::Two(reports, empties) => Operation::Advance(reports, empties),
+        Numbers::Other => Operation::Nothing,
+    }
+}
+
+// A row asked with the number behind its letter.
+fn row_by(numbers: Numbers) -> Operation
+    ensures { λ r. ⌜ r ≡ rowBy numbers ⌝ }
+{
+    match numbers {
+        Numbers::Bare => Operation::Row(0),
+        Numbers::One(empties) => Operation::Row(empties),
+        Numbers::Two(_, _) => Operation::Nothing,
+        Numbers::Other => Operation::Nothing,
+    }
+}
+
+// The operation of a line: `a REPORTS EMPTIES`, `r EMPTIES`, or none.
 pub fn asked(line: &[u8]) -> Operation
     ensures { λ r. ⌜ r ≡ operationOf (now (line .entry)) ⌝ }
 {
@@ -28,16 +92,12 @@ pub fn asked(line: &[u8]) -> Operation
     if count == 0 {
         return Operation::Nothing;
     }
-    if count == 1 {
-        if line[0] == b'r' {
-            return Operation::Row;
-        }
-        return Operation::Nothing;
-    }
+    let numbers = behind(&line[1..count]);
     if line[0] == b'a' {
-        if line[1] == b' ' {
-            return advance_by(text::line::number(&line[2..count]));
-        }
+        return advance_by(numbers);
+    }
+    if line[0] == b'r' {
+        return row_by(numbers);
     }
     Operation::Nothing
 }

@@ -79,8 +79,8 @@ pub(crate) fn answer(run: Run, operation: Operation, out: &mut [u8; LINE]) -> Re
     ensures { λ r. ⌜ Said (said operation run) (now (out .entry)) (now (out .exit)) (r .length) × (r .run ≡ runAfter operation run) × (r .last ≡ isLast operation) ⌝ }
 {
     match operation {
-        Operation::Advance(reports) => {
-            let advanced = run.advance(reports);
+        Operation::Advance(reports, empties) => {
+            let advanced = run.advance(reports, empties);
             let answer = advanced.answer;
             let next = advanced.run;
             let length = say_answer(b"taken", answer, out);
@@ -90,8 +90,8 @@ pub(crate) fn answer(run: Run, operation: Operation, out: &mut [u8; LINE]) -> Re
                 last: false,
             }
         }
-        Operation::Row => {
-            let row = run.row();
+        Operation::Row(empties) => {
+            let row = run.row(empties);
             let length = say_row(run.cores, row, out);
             Reply {
                 run: run,

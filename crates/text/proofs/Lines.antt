@@ -1,4 +1,4 @@
--- The lines of a text: the first line, and what is left after it.
+-- What ends at a mark, and the lines of a text: the first line, and what is left after it.
 use mathlib.Core.Bool.{Bool, true, false, cond}
 use mathlib.Core.List.{List, [], _∷_, _++_}
 use mathlib.Core.Path.{_≡_, refl, ap, _∙_}
@@ -9,51 +9,59 @@ use native.Mathlib.Nat.{not-suc-le-zero, le-of-suc-le-suc}
 use lib.ListN.{length, getD, take, drop, drop-of-length-le}
 use lib.Seq.{split-at, drop-cons}
 use lib.Dec.{eqb}
-use borrow.Author.Tests.{eqb-true, ne-eqb}
+use borrow.Author.Tests.{eqb-true, eq-eqb, ne-eqb}
 use Rattle.text.specs.Decimal.{Digits}
 use Rattle.text.specs.Format.{newline, joined, lines}
-use Rattle.text.specs.Input.{lineLength}
+use Rattle.text.specs.Input.{lengthTo, lineLength}
 
--- a line is no longer than the text
-pub line-within : (bs : List ℕ) → lineLength bs ≤ length bs
-unfolding lineLength
-line-within [] = omega arith
-line-within (b ∷ bs) = go (eqb b newline) (line-within bs)
+-- what ends at a mark is no longer than all
+pub mark-within : (m : ℕ) (bs : List ℕ) → lengthTo m bs ≤ length bs
+unfolding lengthTo
+mark-within m [] = omega arith
+mark-within m (b ∷ bs) = go (eqb b m) (mark-within m bs)
   where
-    go : (t : Bool) → lineLength bs ≤ length bs → cond t 0 (suc (lineLength bs)) ≤ suc (length bs)
+    go : (t : Bool) → lengthTo m bs ≤ length bs → cond t 0 (suc (lengthTo m bs)) ≤ suc (length bs)
     go true ih = omega arith
     go false ih = omega arith
 
--- a line that ends before the text does ends at a newline
-pub line-stop : (bs : List ℕ) → lineLength bs < length bs → getD bs (lineLength bs) 0 ≡ newline
-unfolding lineLength
-line-stop [] l = absurd (not-suc-le-zero l)
-line-stop (b ∷ bs) l = go (eqb b newline) refl (line-stop bs) l
+-- what ends before the bytes do ends at the mark
+pub mark-stop : (m : ℕ) (bs : List ℕ) → lengthTo m bs < length bs → getD bs (lengthTo m bs) 0 ≡ m
+unfolding lengthTo
+mark-stop m [] l = absurd (not-suc-le-zero l)
+mark-stop m (b ∷ bs) l = go (eqb b m) refl (mark-stop m bs) l
   where
-    go : (t : Bool) → eqb b newline ≡ t → (lineLength bs < length bs → getD bs (lineLength bs) 0 ≡ newline)
-        → cond t 0 (suc (lineLength bs)) < suc (length bs) → getD (b ∷ bs) (cond t 0 (suc (lineLength bs))) 0 ≡ newline
-    go true e ih l = eqb-true b newline e
+    go :
+        (t : Bool) → eqb b m ≡ t → (lengthTo m bs < length bs → getD bs (lengthTo m bs) 0 ≡ m)
+        → cond t 0 (suc (lengthTo m bs)) < suc (length bs) → getD (b ∷ bs) (cond t 0 (suc (lengthTo m bs))) 0 ≡ m
+    go true e ih l = eqb-true b m e
     go false e ih l = ih (le-of-suc-le-suc l)
+
+-- from an index on: the mark there ends it at once, any other byte belongs to it, and past the last byte there is nothing
+pub mark-here : (m : ℕ) (bs : List ℕ) (i : ℕ) → i < length bs → getD bs i 0 ≡ m → lengthTo m (drop i bs) ≡ 0
+unfolding lengthTo
+mark-here m bs i l e = rw (drop-cons bs i 0 l, e, eq-eqb m m refl)
+
+pub mark-on : (m : ℕ) (bs : List ℕ) (i : ℕ) → i < length bs → (getD bs i 0 ≡ m → ⊥) → lengthTo m (drop i bs) ≡ suc (lengthTo m (drop (i + 1) bs))
+unfolding lengthTo
+mark-on m bs i l n = rw (add-one, drop-cons bs i 0 l, ne-eqb (getD bs i 0) m n)
+
+pub mark-none : (m : ℕ) (bs : List ℕ) (i : ℕ) → length bs ≤ i → lengthTo m (drop i bs) ≡ 0
+unfolding lengthTo
+mark-none m bs i l = rw (drop-of-length-le bs l)
+
+-- a line is no longer than the text, and one that ends before the text does ends at a newline
+pub line-within : (bs : List ℕ) → lineLength bs ≤ length bs
+line-within = mark-within newline
+
+pub line-stop : (bs : List ℕ) → lineLength bs < length bs → getD bs (lineLength bs) 0 ≡ newline
+line-stop = mark-stop newline
 
 pub line-split : (bs : List ℕ) → lineLength bs < length bs → bs ≡ take (lineLength bs) bs ++ (newline ∷ drop (suc (lineLength bs)) bs)
 line-split bs l = split-at bs (lineLength bs) 0 l ∙ ap (λ (b : ℕ). take (lineLength bs) bs ++ (b ∷ drop (suc (lineLength bs)) bs)) (line-stop bs l)
 
--- from an index on: a newline there ends the line at once, any other byte is the line's, and past the last byte there is no line
-pub line-here : (bs : List ℕ) (i : ℕ) → i < length bs → getD bs i 0 ≡ newline → lineLength (drop i bs) ≡ 0
-unfolding lineLength
-line-here bs i l e = rw (drop-cons bs i 0 l, e)
-
-pub line-on : (bs : List ℕ) (i : ℕ) → i < length bs → (getD bs i 0 ≡ newline → ⊥) → lineLength (drop i bs) ≡ suc (lineLength (drop (i + 1) bs))
-unfolding lineLength
-line-on bs i l n = rw (add-one, drop-cons bs i 0 l, ne-eqb (getD bs i 0) newline n)
-
-pub line-none : (bs : List ℕ) (i : ℕ) → length bs ≤ i → lineLength (drop i bs) ≡ 0
-unfolding lineLength
-line-none bs i l = rw (drop-of-length-le bs l)
-
 -- the lines of a text that is not empty: the first one, and the lines of what stands after its newline
 pub lines-first : (b : ℕ) (bs : List ℕ) → lines (b ∷ bs) ≡ take (lineLength (b ∷ bs)) (b ∷ bs) ∷ lines (drop (suc (lineLength (b ∷ bs))) (b ∷ bs))
-unfolding lines lineLength
+unfolding lines lengthTo
 lines-first b [] = go (eqb b newline)
   where
     go : (t : Bool) → cond t ([] ∷ []) (joined b []) ≡ take (cond t 0 1) (b ∷ []) ∷ lines (drop (suc (cond t 0 1)) (b ∷ []))

@@ -12,10 +12,14 @@ use Rattle.text.specs.declared.Input.{Input}
 use Rattle.text.specs.declared.line.Found.{Found}
 use Rattle.text.specs.declared.line.Found.the-variants.{Value, Nothing}
 
--- how many bytes stand before the first newline, or in all where there is none
-unfoldable pub lineLength : List ℕ → ℕ
-lineLength [] = 0
-lineLength (b ∷ bs) = cond (eqb b newline) 0 (suc (lineLength bs))
+-- how many bytes stand before the first byte `mark`, or in all where there is none
+unfoldable pub lengthTo : ℕ → List ℕ → ℕ
+lengthTo mark [] = 0
+lengthTo mark (b ∷ bs) = cond (eqb b mark) 0 (suc (lengthTo mark bs))
+
+-- .. before the first newline: the length of the first line
+abbrev pub lineLength : List ℕ → ℕ
+lineLength bs = lengthTo newline bs
 
 -- the number that a line says, or nothing
 abbrev pub foundIn : List ℕ → Found

@@ -50,7 +50,7 @@ pub fn read(bytes: &[u8]) -> Input
     let mut count: usize = 0;
     let mut at: usize = 0;
     while at < bytes.len() {
-        let end = line::end_from(bytes, at);
+        let end = line::end_from(bytes, at, b'\n');
         match line::number(&bytes[at..end]) {
             Found::Nothing => return no_text(),
             Found::Value(number) => {

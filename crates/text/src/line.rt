@@ -1,8 +1,8 @@
-// One line of the input: where it ends, and which number it says.
+// One line of the input: where it or a word of it ends, and which number it says.
 ghost use mathlib.Core.Path.{_≡_};
 ghost use Prim.Native.Nat.{_+_};
 ghost use lib.ListN.{drop};
-ghost use Rattle.text.specs.Input.{lineLength, foundIn};
+ghost use Rattle.text.specs.Input.{lengthTo, foundIn};
 
 // The largest number that a line may say.
 const LARGEST: u64 = u32::MAX as u64;
@@ -13,13 +13,13 @@ pub enum Found {
     Nothing,
 }
 
-// Where the line that starts at `from` ends: at its newline, or at the end of the bytes.
-pub fn end_from(bytes: &[u8], from: usize) -> usize
-    ensures { λ r. ⌜ r ≡ from + lineLength (drop from (now (bytes .entry))) ⌝ }
+// Where a line or a word that starts at `from` ends: before its mark, a newline or a space, or at the end of the bytes.
+pub fn end_from(bytes: &[u8], from: usize, mark: u8) -> usize
+    ensures { λ r. ⌜ r ≡ from + lengthTo mark (drop from (now (bytes .entry))) ⌝ }
 {
     let mut end = from;
     while end < bytes.len() {
-        if bytes[end] == b'\n' {
+        if bytes[end] == mark {
             return end;
         }
         end += 1;

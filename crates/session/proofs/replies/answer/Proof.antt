@@ -11,13 +11,13 @@ use Rattle.session.proofs.Replying.{said-advance, run-advance, last-adv
 use Rattle.session.proofs.replies.answer.Statement.{statement}
 use Rattle.session.proofs.replies.answer.Tie as tie
 
--- the state after `enum-told`
-abbrev enum-told-from-say-row : tie.After-say-row → tie.After-enum-told
-enum-told-from-say-row c = c .before .before .before
+-- the state after `operation2`
+abbrev operation2 : tie.After-say-row → tie.After-operation2
+operation2 c = c .before .before .before .before
 
--- the state after `enum-told2`
-abbrev enum-told2 : tie.After-say-word → tie.After-enum-told2
-enum-told2 c = c .before .before .before
+-- the state after `enum-told`
+abbrev enum-told-from-say-word : tie.After-say-word → tie.After-enum-told
+enum-told-from-say-word c = c .before .before .before
 
 -- the state after `advance`
 abbrev advance : tie.After-say-answer → tie.After-advance
@@ -39,8 +39,8 @@ slice-aggregate-say-answer c = search needs
 say-answer-requires : tie.Need-say-answer-requires
 say-answer-requires c κs = search needs
 
-enum-told : tie.Need-enum-told
-enum-told c = search needs
+enum-known-operation-2 : tie.Need-enum-known-operation-2
+enum-known-operation-2 c = search needs
 
 row-requires : tie.Need-row-requires
 row-requires c κs = search needs
@@ -48,8 +48,8 @@ row-requires c κs = search needs
 say-row-requires : tie.Need-say-row-requires
 say-row-requires c κs = search needs
 
-enum-told-2 : tie.Need-enum-told-2
-enum-told-2 c = search needs
+enum-told : tie.Need-enum-told
+enum-told c = search needs
 
 slice-aggregate-say-word : tie.Need-slice-aggregate-say-word
 slice-aggregate-say-word c = search needs
@@ -62,24 +62,24 @@ returns c =
     let a = entry c .args in
     let v = advance c .advance .ensures .value in
     let o = advance c .before .before .operation .given .1 in (
-      said-of (ap (λ (x : Advanced). answerLine (letters "taken") (x .answer)) v ∙ said-advance (a .operation) (a .run) _ o) (c .say-answer .ensures),
-      ap (λ (x : Advanced). x .run) v ∙ run-advance (a .operation) (a .run) _ o,
-      last-advance (a .operation) _ o,
+      said-of (ap (λ (x : Advanced). answerLine (letters "taken") (x .answer)) v ∙ said-advance (a .operation) (a .run) _ _ o) (c .say-answer .ensures),
+      ap (λ (x : Advanced). x .run) v ∙ run-advance (a .operation) (a .run) _ _ o,
+      last-advance (a .operation) _ _ o,
     )
 
 returns-2 : tie.Need-returns-2
 returns-2 c =
-    let a = enum-told-from-say-row c .before .before .args in
-    let o = enum-told-from-say-row c .enum-told .given .1 in (
-      said-of (ap (λ (x : rows.Row). shownLine (a .run .cores) (x .answer) (x .bytes)) (c .before .before .row .ensures .value) ∙ said-row (a .operation) (a .run) o) (c .say-row .ensures),
-      run-row (a .operation) (a .run) o,
-      last-row (a .operation) o,
+    let a = operation2 c .before .before .args in
+    let o = operation2 c .operation2 .given .1 in (
+      said-of (ap (λ (x : rows.Row). shownLine (a .run .cores) (x .answer) (x .bytes)) (c .before .before .row .ensures .value) ∙ said-row (a .operation) (a .run) _ o) (c .say-row .ensures),
+      run-row (a .operation) (a .run) _ o,
+      last-row (a .operation) _ o,
     )
 
 returns-3 : tie.Need-returns-3
 returns-3 c =
-    let a = enum-told2 c .before .before .args in
-    let o = enum-told2 c .enum-told2 .given .1 in (
+    let a = enum-told-from-say-word c .before .before .args in
+    let o = enum-told-from-say-word c .enum-told .given .1 in (
       said-of (said-none (a .operation) (a .run) o) (c .say-word .ensures),
       run-none (a .operation) (a .run) o,
       last-none (a .operation) o,
@@ -93,10 +93,10 @@ answer-spec =
     advance-requires
     slice-aggregate-say-answer
     say-answer-requires
-    enum-told
+    enum-known-operation-2
     row-requires
     say-row-requires
-    enum-told-2
+    enum-told
     slice-aggregate-say-word
     say-word-requires
     returns

@@ -1,0 +1,155 @@
+-- Lines and what they ask, and operations of a small run with what is said to them, computed from the definitions.
+use mathlib.Core.List.{List, [], _∷_, map}
+use mathlib.Core.Path.{_≡_, refl}
+use Prim.Native.Nat.{ℕ}
+use Prim.Native.String.{String}
+use lib.ListN.{drop, replicate}
+use Rattle.model.specs.Grants.{claimants, given, grants, left}
+use Rattle.model.specs.Row.{owner, row}
+use Rattle.model.specs.Search.{any, kept, least, memb, upFrom}
+use Rattle.model.proofs.LineByLine.{LineByLine, by-line}
+use Rattle.phase.specs.declared.Phase.the-variants.{Working}
+use Rattle.phase.specs.declared.Task.{Task}
+use Rattle.phase.specs.Task.{unused}
+use Rattle.run.specs.declared.Run.{Run}
+use Rattle.run.specs.Run.{grantsIn, mapFirst, moved}
+use Rattle.run.specs.Numbers.{runOut, firstLateIn, misemptiedIn, misreportedIn}
+use Rattle.run.specs.Advance.{advanceAnswer, advanceOf}
+use Rattle.run.specs.Row.{rowAnswer, bytesIn, rowOf}
+use Rattle.text.specs.Decimal.{all, value, decimal, lastDigits, digitCount, digitsWithin}
+use Rattle.text.specs.Format.{isNumber}
+use Rattle.text.specs.Output.{letters, fields, lineOf}
+use Rattle.session.specs.declared.operations.Operation.{Operation}
+use Rattle.session.specs.declared.operations.Operation.the-variants.{Advance, Row, Nothing}
+use Rattle.session.specs.Operation.{wordsIn, numbersOf, numbersBehind, operationBy, operationOf, plain, answerLine, shownLine, said, runAfter}
+use Rattle.session.specs.Talk.{nothing, lastLine, linesFrom, replies}
+
+-- WHAT A LINE ASKS
+
+-- a line and the operation that it is
+pub record Line : Type 0 where
+  pub text : String
+  pub operation : Operation
+
+abbrev asks : String → Operation → Line
+asks s o = record { text = s; operation = o }
+
+abbrev pub lines : List Line
+lines =
+    asks "a 1" (Advance 1 0)
+    ∷ asks "a 1 2" (Advance 1 2)
+    ∷ asks "r" (Row 0)
+    ∷ asks "r 1" (Row 1)
+    -- a letter is needed, and it is the first byte
+    ∷ asks "" Nothing
+    ∷ asks " " Nothing
+    ∷ asks " r" Nothing
+    ∷ asks " a 1" Nothing
+    ∷ asks "1" Nothing
+    ∷ asks "A 1" Nothing
+    ∷ asks "R" Nothing
+    ∷ asks "--" Nothing
+    -- an advance has one number or two, a row none or one
+    ∷ asks "a" Nothing
+    ∷ asks "a 1 2 3" Nothing
+    ∷ asks "r 1 2" Nothing
+    -- one space before each number, and nothing behind the last
+    ∷ asks "a " Nothing
+    ∷ asks "a  1" Nothing
+    ∷ asks "a 1 " Nothing
+    ∷ asks "a 1  2" Nothing
+    ∷ asks "a 1 2 " Nothing
+    ∷ asks "r " Nothing
+    ∷ asks "r  1" Nothing
+    ∷ asks "r 1 " Nothing
+    ∷ asks "a1" Nothing
+    ∷ asks "a1 2" Nothing
+    ∷ asks "r1" Nothing
+    ∷ asks "ar 1" Nothing
+    ∷ asks "a\t1" Nothing
+    ∷ asks "a 1,2" Nothing
+    -- digits alone
+    ∷ asks "a +1" Nothing
+    ∷ asks "a 1 -2" Nothing
+    ∷ asks "a r" Nothing
+    ∷ asks "r\r" Nothing
+    ∷ asks "a 1\r" Nothing
+    ∷ asks "a 1 2\r" Nothing
+    -- one to ten digits, zeros in front among them
+    ∷ asks "a 0000000001 0000000002" (Advance 1 2)
+    ∷ asks "r 0000000003" (Row 3)
+    ∷ asks "a 00000000001" Nothing
+    ∷ asks "a 00000000001 2" Nothing
+    ∷ asks "a 1 00000000002" Nothing
+    ∷ asks "r 00000000003" Nothing
+    -- up to 4,294,967,295
+    ∷ asks "a 4294967295" (Advance 4294967295 0)
+    ∷ asks "a 4294967296" Nothing
+    ∷ asks "a 0 4294967295" (Advance 0 4294967295)
+    ∷ asks "a 0 4294967296" Nothing
+    ∷ asks "a 4294967296 0" Nothing
+    ∷ asks "r 4294967295" (Row 4294967295)
+    ∷ asks "r 4294967296" Nothing
+    -- the longest operation has 23 bytes; one byte more is none
+    ∷ asks "a 4294967295 4294967295" (Advance 4294967295 4294967295)
+    ∷ asks "a 4294967295 42949672950" Nothing
+    ∷ asks "a 4294967295 4294967295 " Nothing
+    ∷ asks "a 4294967295  4294967295" Nothing
+    ∷ []
+
+-- what the definitions say of a line; it is named by its text
+abbrev worked : Line → Line
+worked l = asks (l .text) (operationOf (letters (l .text)))
+
+each-line : LineByLine worked lines lines
+unfolding operationOf operationBy numbersBehind numbersOf wordsIn isNumber all value
+each-line =
+    let past-40 : LineByLine worked (drop 40 lines) (drop 40 lines) =
+    (refl, (refl, (refl, (refl, (refl, (refl, (refl, (refl, (refl, (refl, (refl, (refl, tt)))))))))))) in
+    let past-20 : LineByLine worked (drop 20 lines) (drop 20 lines) =
+    (refl, (refl, (refl, (refl, (refl, (refl, (refl, (refl, (refl, (refl, (refl, (refl, (refl, (refl, (refl, (refl, (refl, (refl, (refl, (refl, past-40)))))))))))))))))))) in
+    (refl, (refl, (refl, (refl, (refl, (refl, (refl, (refl, (refl, (refl, (refl, (refl, (refl, (refl, (refl, (refl, (refl, (refl, (refl, (refl, past-20))))))))))))))))))))
+
+pub lines-asked : map (λ l. asks (l .text) (operationOf (letters (l .text)))) lines ≡ lines
+lines-asked = by-line worked lines lines each-line
+
+-- WHAT IS SAID
+
+-- one core and two tasks of one tick in their release tick, greedy
+abbrev task : Task
+task = record { offset = 0; width = 1; length = 1; deadline = 2; period = 2; phase = Working 0 0 }
+
+abbrev pub pair : Run
+pair = record { rule = 1; cores = 1; fence = 0; count = 2; tasks = task ∷ task ∷ replicate 30 unused }
+
+-- operations of this run, and what is said to them
+pub record Talk : Type 0 where
+  pub input : String
+  pub output : String
+
+abbrev pub talks : List Talk
+talks =
+    -- a row asked with empties shows who has the core then, and changes nothing
+    record { input = "r\nr 1\nr 2\nr 3\nr 4\nr"; output = "row 1\nrow 2\nrow 1\nrow 0\nrefused 20 0\nrow 1\n" }
+    -- reports are the first number and empties the second
+    ∷ record { input = "a 2\na 1 1\na 2 1\nr\na 0 1\na 0\nr"; output = "refused 16 0\nrefused 16 0\ntaken\nrow 0\nrefused 20 0\ntaken\nrow 1\n" }
+    ∷ record { input = "a 1 2\nr"; output = "taken\nrow 0\n" }
+    ∷ record { input = "a 1\nr"; output = "taken\nrow 2\n" }
+    -- after a line that is no operation nothing is said
+    ∷ record { input = "r 1 2\nr\n"; output = "not an operation\n" }
+    ∷ []
+
+abbrev saying : Talk → List ℕ
+saying t = replies pair (linesFrom nothing [] (letters (t .input)))
+
+abbrev expected : Talk → List ℕ
+expected t = letters (t .output)
+
+each-talk : LineByLine saying talks (map expected talks)
+unfolding replies linesFrom lastLine said runAfter plain answerLine shownLine operationOf operationBy numbersBehind numbersOf wordsIn isNumber all value lineOf fields decimal
+    lastDigits digitCount digitsWithin any least memb upFrom kept owner row given left grants claimants advanceOf advanceAnswer rowOf rowAnswer bytesIn runOut firstLateIn
+    misemptiedIn misreportedIn grantsIn mapFirst moved
+each-talk = (refl, (refl, (refl, (refl, (refl, tt)))))
+
+pub talks-said : map (λ t. replies pair (linesFrom nothing [] (letters (t .input)))) talks ≡ map (λ t. letters (t .output)) talks
+talks-said = by-line saying talks (map expected talks) each-talk
