@@ -6,9 +6,11 @@ pub mod Inverse
 mod Putting
 mod Keeping
 mod Sentences
+mod Longest
 pub mod Kept
 pub mod Listed
 pub mod Past
 pub mod Fourteen
 pub mod Examples
 pub mod SentenceExamples
+pub mod FigureExamples
