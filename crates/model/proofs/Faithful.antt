@@ -12,11 +12,11 @@ use borrow.Author.Tests.{eq-eqb, eqb-true, le-leb, leb-false, leb-true, lt-ltb, 
 use Rattle.model.proofs.Bools.{and-both, and-left, and-right, not-true-false}
 use Rattle.model.proofs.Digits.{bit-high}
 use Rattle.model.proofs.FullLength.{late-job}
-use Rattle.model.proofs.Jobs.{after-release, before-due, newest-is}
-use Rattle.model.proofs.Runs.{full-tick, missed-at, moveOf, moved}
+use Rattle.model.proofs.Jobs.{after-release, before-due, mk, newest-is}
+use Rattle.model.proofs.Runs.{early-book, full-tick, missed-at, moveOf, moved}
 use Rattle.model.proofs.Search.{any-of, any-some}
 use Rattle.model.proofs.Starts.{Periods, S-release, hyperperiod-divides, hyperperiod-least, hyperperiod-pos, release-first, release-from}
-use Rattle.model.specs.Book.{AllTaken, Answer, Book, Entry, Job, Missed, answer, answersFrom, book, bookFrom, claims, emptiable, emptied, emptyBook}
+use Rattle.model.specs.Book.{AllTaken, Answer, Book, Entry, Job, Missed, answer, answersFrom, book, bookFrom, claims, emptiable, emptied, emptyBook, endedWith}
 use Rattle.model.specs.Book.{enter, entered, full, jobClaims, keep, late, misemptied, misreported, refused, reportable, step, taken, takenFrom, takenIn}
 use Rattle.model.specs.Book.{takenOf, taskClaims}
 use Rattle.model.specs.Horizon.{Later, LeastCommonMultiple, S, hyperperiod, releaseFrom}
@@ -133,6 +133,14 @@ emptiable-exact s ok b p = (
         let n : newest (task s p) (b .tick) ≡ k =
         newest-is (task s p) k (b .tick) (ok p l .constrained) (le-of-eq e) (omega (arith, ok p l .deadline-pos)) in
         rw (n, lt-ltb p (length (s .tasks)) l, eq-eqb (release (task s p) k) (b .tick) e, o)
+
+-- an empty job of any list ends with no ticks, had or claimed
+pub empty-ends :
+    (s : Table) (xs : List Entry) (e : ℕ → Bool) (p k : ℕ) → e p ≡ true → release (task s p) k ≡ book s xs .tick
+    → emptied s e (book s xs) .job p k ≡ mk 0 0 true
+unfolding emptied
+empty-ends s xs e p k h r =
+    rw (h, eq-eqb (release (task s p) k) (book s xs .tick) r) (ap endedWith (early-book s xs p k (le-of-eq (sym r))))
 
 -- a deadline of place p is found missed at t exactly if it is
 pub missed-exact :

@@ -187,6 +187,11 @@ early-moved s m b e p k h = rw (off, now) (rw and-false (e p k (omega arith)))
         let r = after-release (s .rule) (task s p) k (b .tick) (before .job p k) (and-left (jobClaims s before p k) (inRow s before p) c) in
         omega arith)
 
+early-run : (s : Table) (ms : List Move) (b : Book) → Early s b → Early s (run s b ms)
+unfolding run
+early-run s [] b e = e
+early-run s (m ∷ ms) b e = early-run s ms (moved s m b) (early-moved s m b e)
+
 -- THE REFUSING LISTS: the book of a list is the run of those of its advances that are taken
 pub book-run : (s : Table) (xs : List Entry) (b : Book) → bookFrom s b xs ≡ run s b (movesOf (takenFrom s b xs))
 unfolding bookFrom takenFrom run enter
@@ -208,3 +213,7 @@ book-tick s xs =
 pub good-book : (s : Table) → AllSound s → (xs : List Entry) → GoodBook s (book s xs)
 good-book s ok xs =
     subst (GoodBook s) (sym (book-run s xs emptyBook)) (good-run s ok (movesOf (takenOf s xs)) emptyBook (good-start s ok))
+
+-- and a job is fresh until its release
+pub early-book : (s : Table) (xs : List Entry) → Early s (book s xs)
+early-book s xs = subst (Early s) (sym (book-run s xs emptyBook)) (early-run s (movesOf (takenOf s xs)) emptyBook (early-start s))

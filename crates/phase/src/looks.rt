@@ -1,3 +1,4 @@
+// A phase as it is seen when cores are chosen: whose job is released in this very tick, and an empty one.
 ghost use mathlib.Core.Path.{_≡_};
 ghost use Rattle.model.specs.Task.{ruleOf};
 ghost use Rattle.phase.specs.Phase.{released, seen};

@@ -1,4 +1,4 @@
-// Who claims in the present tick, with which widths, and the bytes of the tick's row.
+// Who claims in the present tick, with which widths, and whose job is released in it.
 ghost use mathlib.Core.Path.{_≡_};
 ghost use Prim.Native.Nat.{_≤_};
 ghost use Rattle.run.specs.Claims.{ClaimsOf};
