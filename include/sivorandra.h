@@ -195,8 +195,8 @@ uint32_t sivorandra_facts(const uint8_t *bytes, size_t bytes_len,
    task's figure, and some full-length job takes just that; in a run of a firm table no job takes longer, however early jobs end. Of a table
    that is full and not firm a job can take longer where others end early. Words past the last task are 0, and so are all 32 where it is
    refused; words behind them stay.
-   It costs at most twice what sivorandra_judge takes where that goes from one release, end or deadline to the next (it always goes so: where
-   the periods are short, judge is faster), and about as much of the stack. */
+   It takes at most twice the time of sivorandra_judge (measured: as long where that goes from one release, end or deadline to the next, as
+   this call always does, and half as long again where the periods are short), and 6,000 bytes of the stack. */
 uint32_t sivorandra_longest(const uint32_t *words, size_t words_len,
                             uint32_t *figures, size_t figures_len,
                             uint32_t *answer, size_t answer_len);
