@@ -4,8 +4,8 @@
 // The library's advance is timed inside `sivorandra_replay`, which moves a run by value through the list. Its row is timed through `sivorandra_row`, which reads
 // the run from its words first; so the sum is an upper bound of what an advance with its row costs.
 //
-// The simulator knows no fence and no empty jobs, and reads three header words: it gets the same tasks on just the unfenced cores, where every answer is the same, and the entries
-// have no empty jobs.
+// The simulator knows no fence, no empty jobs and no withdrawals, and reads three header words: it gets the same tasks on just the unfenced cores, where every answer is the same, and the entries
+// are advances without empty jobs.
 
 use std::hint::black_box;
 
@@ -13,8 +13,8 @@ const TICKS: usize = 50_000;
 const RUNS: usize = 5;
 /// The words of a table before its records.
 const HEAD: usize = 5;
-/// The words of a run: rule, cores, count and fence, and eight for each of the 32 places.
-const RUN_WORDS: usize = 5 + 8 * 32;
+/// The words of a run: rule, cores, count, fence and withdrawn set, and eight for each of the 32 places.
+const RUN_WORDS: usize = 6 + 8 * 32;
 /// An entry of a list in words: 0, reports, empties.
 type Entry = [u32; 3];
 /// 10 of 64 cores, of both words.
@@ -72,6 +72,7 @@ struct Run {
     rule: u32,
     cores: u32,
     fence: u64,
+    withdrawn: u32,
     count: usize,
     tasks: [Task; 32],
 }
@@ -129,7 +130,7 @@ impl Run {
     fn start(words: &[u32]) -> Run {
         let unused = Task { offset: 0, width: 0, length: 0, deadline: 0, period: 0, phase: Resting(0) };
         let fence = u64::from(words[3]) | u64::from(words[4]) << 32;
-        let mut run = Run { rule: words[2], cores: words[1], fence, count: 0, tasks: [unused; 32] };
+        let mut run = Run { rule: words[2], cores: words[1], fence, withdrawn: 0, count: 0, tasks: [unused; 32] };
         let mut record = words[0] as usize;
         while record != 0 {
             let at = HEAD + 6 * (record - 1);
@@ -148,7 +149,7 @@ impl Run {
             return Err(14 * 256);
         }
         let all = u64::MAX >> (64 - self.cores);
-        if self.fence & !all != 0 || self.fence == all {
+        if self.fence & !all != 0 || self.fence == all || u64::from(self.withdrawn) >> self.count != 0 {
             return Err(14 * 256);
         }
         let unfenced = (all & !self.fence).count_ones();
@@ -176,9 +177,10 @@ impl Run {
         if empties & !released != 0 {
             return Err(20 * 256);
         }
-        working &= !empties;
+        let empty = released & (empties | self.withdrawn);
+        working &= !empty;
         if self.rule != 3 {
-            claiming &= !empties;
+            claiming &= !empty;
         }
         let (mut granted, mut free) = (0, unfenced);
         while claiming != 0 {
@@ -203,9 +205,9 @@ impl Run {
         if reports & !(tick.granted & tick.working) != 0 {
             return 16 * 256;
         }
-        let rule = self.rule;
+        let (rule, empty) = (self.rule, empties | self.withdrawn);
         for (place, task) in self.tasks[..self.count].iter_mut().enumerate() {
-            task.phase = task.next(rule, empties >> place & 1 != 0, tick.granted >> place & 1 != 0, reports >> place & 1 != 0);
+            task.phase = task.next(rule, empty >> place & 1 != 0, tick.granted >> place & 1 != 0, reports >> place & 1 != 0);
         }
         0
     }

@@ -4,16 +4,16 @@
    No call keeps a pointer, or writes anywhere but into the slices lent for writing.
 
    What a call costs:
-   - Memory: none from the heap. Of the stack less than SIVORANDRA_STACK_BYTES (measured: replay 12,000 bytes, start 11,000, advance and
-     sentence 9,000, plan 7,000, judge 6,000, row 5,000, facts 1,000).
+   - Memory: none from the heap. Of the stack less than SIVORANDRA_STACK_BYTES (measured: replay 13,000 bytes, start 11,000, advance,
+     withdraw and sentence 9,000, plan 7,000, judge 6,000, row 5,000, facts 1,000).
    - Threads: the library has no state and no data that is written to, so any number of threads may call at once, each with slices of its own
      to be written to; slices that are only read may be shared. Of the C library it calls memcpy and memset alone.
-   - Time: row and advance take some microseconds at most, a bound by the 32 tasks and 64 cores alone. judge goes from one release, end or
-     deadline to the next, or tick by tick where the periods are short: 10 to 100 ns each on x86-64, by how many tasks move. There are at most
+   - Time: row, advance and withdraw take some microseconds at most, a bound by the 32 tasks and 64 cores alone. judge goes from one release,
+     end or deadline to the next, or tick by tick where the periods are short: 10 to 100 ns each on x86-64, by how many tasks move. There are at most
      as many of these moments as ticks up to the horizon or the first miss. A horizon of 10,000,000 takes a second at most; the largest,
      1,000,000,000, milliseconds where the periods are long, and two minutes where all 32 tasks move in every tick. No call can be stopped
      from outside: where that is too long, judge in a process of its own. judge_ticks takes every tick; start takes as long as judge, sentence
-     about three times as long; plan judges up to b, and takes every tick up to b; replay takes a start, and an advance for each entry;
+     about three times as long; plan judges up to b, and takes every tick up to b; replay takes a start, and an advance or a withdrawal for each entry;
      facts goes once over its bytes.
 
    A run in words belongs to the version that wrote it: the words may change with the version. Keep SIVORANDRA_VERSION beside a run that is
@@ -31,17 +31,17 @@ extern "C" {
 /* The version of this header; sivorandra_version says that of the library that is linked. One number, which grows with the version:
    major * 10000 + minor * 100 + patch. */
 #define SIVORANDRA_VERSION_MAJOR 0
-#define SIVORANDRA_VERSION_MINOR 7
+#define SIVORANDRA_VERSION_MINOR 9
 #define SIVORANDRA_VERSION_PATCH 0
 #define SIVORANDRA_VERSION (SIVORANDRA_VERSION_MAJOR * 10000 + SIVORANDRA_VERSION_MINOR * 100 + SIVORANDRA_VERSION_PATCH)
-#define SIVORANDRA_VERSION_TEXT "0.7.0"
+#define SIVORANDRA_VERSION_TEXT "0.9.0"
 
 /* No call takes more bytes of the stack. */
 #define SIVORANDRA_STACK_BYTES 16384
 
 /* What every call but sivorandra_version returns: the call is answered, or a lent slice is too short and everything is as found; so it is
-   where the words of a replay's `entries` are no entries. Short `rows` of a plan are 11 instead, and too few words for a run lent to row or
-   advance are no run: 14. */
+   where the words of a replay's `entries` are no entries. Short `rows` of a plan are 11 instead, and too few words for a run lent to row,
+   advance or withdraw are no run: 14. */
 #define SIVORANDRA_ANSWERED 0u
 #define SIVORANDRA_SHORT 1u
 
@@ -72,13 +72,15 @@ enum sivorandra_number {
     SIVORANDRA_SHORT_ROWS = 11,   /* plan: `rows` has fewer than (b - a) * cores bytes */
     SIVORANDRA_PAST_MISS = 12,    /* plan: b is above the tick of the first miss */
     SIVORANDRA_TABLE_MISSES = 13, /* start, replay, longest: the verdict is a miss */
-    SIVORANDRA_NOT_A_RUN = 14,    /* row, advance: the words are no run */
+    SIVORANDRA_NOT_A_RUN = 14,    /* row, advance, withdraw: the words are no run */
     SIVORANDRA_LATE = 15,         /* row, advance: the position, the lowest that is late, has not ended its job at its deadline */
     SIVORANDRA_BAD_REPORT = 16,   /* advance: for a position past the count, or a task that is not working or has no cores in this tick */
     SIVORANDRA_NO_MISS = 17,      /* sentence: the table has no miss */
     SIVORANDRA_SHORT_BUFFER = 18, /* sentence: `buffer` is shorter than the sentence */
     SIVORANDRA_BAD_FENCE = 19,    /* the fence names a core past the count, or all cores */
-    SIVORANDRA_BAD_EMPTY = 20     /* row, advance: for a position past the count, or a task whose job is not released in this very tick */
+    SIVORANDRA_BAD_EMPTY = 20,    /* row, advance: for a position past the count, or a task whose job is not released in this very tick */
+    SIVORANDRA_NOT_FIRM = 21,     /* withdraw: the rule is greedy and some width is above the next one: without a task others could be late */
+    SIVORANDRA_NO_POSITION = 22   /* withdraw: the position is 0 or past the count */
 };
 
 /* The limits of a table. D is at least 1 and at most T. */
@@ -100,10 +102,10 @@ enum sivorandra_number {
 #define SIVORANDRA_TABLE_RECORD_WORDS 6
 #define SIVORANDRA_TABLE_WORDS (SIVORANDRA_TABLE_HEAD_WORDS + SIVORANDRA_TABLE_RECORD_WORDS * SIVORANDRA_MOST_TASKS) /* the most */
 
-/* The words that a run kept between calls takes: rule, cores, count and the fence, its low word first, then 32 places of which the first count
-   are used; a place is O, v, C, D, T, the kind of its phase (0 Coming, 1 Working, 2 Holding, 3 Resting) and its two numbers, 0 for one that
-   it does not have. */
-#define SIVORANDRA_RUN_HEAD_WORDS 5
+/* The words that a run kept between calls takes: rule, cores, count, the fence, its low word first, and the set of withdrawn positions, bit 0
+   for position 1, then 32 places of which the first count are used; a place is O, v, C, D, T, the kind of its phase (0 Coming, 1 Working,
+   2 Holding, 3 Resting) and its two numbers, 0 for one that it does not have. */
+#define SIVORANDRA_RUN_HEAD_WORDS 6
 #define SIVORANDRA_RUN_PLACE_WORDS 8
 #define SIVORANDRA_RUN_WORDS (SIVORANDRA_RUN_HEAD_WORDS + SIVORANDRA_RUN_PLACE_WORDS * SIVORANDRA_MOST_TASKS)
 
@@ -111,9 +113,10 @@ enum sivorandra_number {
 #define SIVORANDRA_ROW_BYTES SIVORANDRA_MOST_CORES
 #define SIVORANDRA_FENCED 255u
 
-/* The words of an entry of a replay's list: 0, the reports and the empties of an advance. */
+/* The words of an entry of a replay's list: 0, the reports and the empties of an advance; or 1, the position of a withdrawal, and 0. */
 #define SIVORANDRA_ENTRY_WORDS 3
 #define SIVORANDRA_ENTRY_ADVANCE 0u
+#define SIVORANDRA_ENTRY_WITHDRAW 1u
 
 /* No sentence is longer: a buffer of so many bytes is never refused with 18. */
 #define SIVORANDRA_SENTENCE_BYTES 700
@@ -142,10 +145,10 @@ uint32_t sivorandra_plan(const uint32_t *words, size_t words_len, uint32_t a, ui
                          uint32_t *answer, size_t answer_len);
 
 /* Starts a run, takes it through `entries`, and asks its row with no empty job: done, row refused, or refused where the start is.
-   An entry has SIVORANDRA_ENTRY_WORDS words: SIVORANDRA_ENTRY_ADVANCE, and the reports and the empties of sivorandra_advance. Its answer
-   goes into `numbers`, 0 for taken or else number * 256 + position; the last row into 64 bytes of `row`.
-   `numbers` needs a word for each entry; what stands behind stays. A refused row is 64 zeros; a refused start, which is
-   answered even where `entries` are none and `numbers` or `row` is short, leaves both as found. */
+   An entry has SIVORANDRA_ENTRY_WORDS words: SIVORANDRA_ENTRY_ADVANCE, and the reports and the empties of sivorandra_advance; or
+   SIVORANDRA_ENTRY_WITHDRAW, the position of sivorandra_withdraw, and 0. Its answer goes into `numbers`, 0 for taken or else
+   number * 256 + position; the last row into 64 bytes of `row`. `numbers` needs a word for each entry; what stands behind stays. A refused
+   row is 64 zeros; a refused start, which is answered even where `entries` are none and `numbers` or `row` is short, leaves both as found. */
 uint32_t sivorandra_replay(const uint32_t *words, size_t words_len,
                            const uint32_t *entries, size_t entries_len,
                            uint32_t *numbers, size_t numbers_len,
@@ -174,6 +177,12 @@ uint32_t sivorandra_row(const uint32_t *run, size_t run_len, uint32_t empties,
    this very tick and empty, as for row: a report on it is refused with 16. */
 uint32_t sivorandra_advance(uint32_t *run, size_t run_len, uint32_t reports, uint32_t empties,
                             uint32_t *answer, size_t answer_len);
+
+/* Takes the task of a position, from 1, out of the run for good, at any time: done, or refused and `run` as found. A job of it that was released
+   before this tick goes on; one released in this very tick, and all later ones, are empty, with or without their bit. Once more is the same
+   as once. Words that are no run are refused with 14, as by row; a late position (15) is not looked at. */
+uint32_t sivorandra_withdraw(uint32_t *run, size_t run_len, uint32_t position,
+                             uint32_t *answer, size_t answer_len);
 
 /* Writes the miss of the table in `words` as a sentence at the front of `buffer`, with no newline and no NUL: its length, or refused. Bytes
    behind the sentence stay, and a refusal leaves `buffer` as found; 17 says that the table has no miss, 18 that `buffer` is shorter than

@@ -10,7 +10,7 @@ import tempfile
 ROOT = pathlib.Path(__file__).resolve().parents[1]
 LONGEST = 300  # bytes of anything that a failing test shows
 BLOCK = 1 << 16
-STAGE = "105"  # the last request that changes what is read or printed
+STAGE = "106"  # the last request that changes what is read or printed
 passed = failed = 0
 
 

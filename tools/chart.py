@@ -14,6 +14,7 @@ LOOKS = {
     "fenced": {"fill": "url(#hatch)", "stroke": "#888"},
     "ends": {"fill": "#e2e2e2"},
     "empty": {"fill": "#fff"},
+    "out": {"fill": "#fff"},
     "unused": {"fill": "#fff", "stroke": "#555", "stroke_width": 1.2, "stroke_dasharray": "3 2"},
     "held": {"fill": "url(#light)", "stroke": "#888"},
     "blank": {"fill": "#f6c8c8"},
@@ -226,6 +227,15 @@ class Chart(Sheet):
             self.add("title", f"the job that position {position} releases in tick {tick} is empty")
             self.ring(self.x(tick) + min(8, self.wide / 2), self.base(position - 1) - 4)
 
+    # Where a position is withdrawn: a bar with a foot over the beginning of the tick, in its strip.
+    def withdrawn(self, tick, position):
+        with self.group(id=f"out{position}-{tick}"):
+            self.add("title", f"position {position} is withdrawn in tick {tick}")
+            self.gate(self.x(tick) + 1.5, self.base(position - 1))
+
+    def gate(self, x, y):
+        self.add("path", d=f"M{round(x, 2)} {round(y - 14, 2)}v14m0 -14h7m-7 14h7", stroke="#000", stroke_width=2, fill="none")
+
     def ring(self, x, y):
         self.add("circle", cx=round(x, 2), cy=round(y, 2), r=4 if self.wide >= 12 else 3, fill="#fff", stroke="#000", stroke_width=1.5)
 
@@ -301,6 +311,8 @@ class Chart(Sheet):
                 self.stop(44, at, 12, 3)
             if name == "empty":
                 self.ring(30, at + 6)
+            if name == "out":
+                self.gate(26, at + 13)
             if name == "longest":
                 self.bracket(16, 44, at + 1)
             self.text(50, at + 10, words)

@@ -28,10 +28,12 @@ PART = 200  # lines of a list that are sent at once: with a row asked after each
 FURTHER = 1_000_000  # lines of a list that are read after those that are drawn
 SENTENCES = 3  # on refused advances, in one picture
 LATE = 15  # the number of a row that is refused as a task is late
-EXPECTED = "'a REPORTS', 'a REPORTS EMPTIES', 'r' or 'r EMPTIES' (numbers up to 4294967295) was expected"
+EXPECTED = "'a REPORTS', 'a REPORTS EMPTIES', 'w POSITION', 'r' or 'r EMPTIES' (numbers up to 4294967295) was expected"
 MISTAKES = {
     16: "it reports a position that is not there, not working or without cores in this tick",
     20: "it calls a job empty that is not there, or was not released in this tick",
+    21: "the table is not firm, so no task is taken out",
+    22: "there is no such position",
 }
 
 Task = collections.namedtuple("Task", "O v C D T")
@@ -250,11 +252,13 @@ def numbers_in(line):
     return int(fields[1]), int(fields[2])
 
 
-# The reports and the empty jobs that an advance names, or none for a row asked; None where a line is no operation.
+# The letter and the numbers of an operation; an advance has both its sets. None where a line is no operation.
 def operation_in(line):
-    found = re.fullmatch(rb"(?:r|a ([0-9]{1,10}))(?: ([0-9]{1,10}))?", line)
-    numbers = [number and int(number) for number in found.groups()] if found else [1 << 32]
-    return None if any(number and number >= 1 << 32 for number in numbers) else () if numbers[0] is None else (numbers[0], numbers[1] or 0)
+    if not re.fullmatch(rb"(r|a [0-9]{1,10})( [0-9]{1,10})?|w [0-9]{1,10}", line):
+        return None
+    letter, *numbers = line.decode().split(" ")
+    numbers = [int(number) for number in numbers] + [0] * (letter == "a" and len(numbers) == 1)
+    return (letter, *numbers) if all(number < 1 << 32 for number in numbers) else None
 
 
 # The lines of a list, some at a time; the first that is no operation is the last, whatever comes after it.
@@ -280,9 +284,10 @@ def parts(name, source):
 class Listed:
     def __init__(self, table, asked):
         self.table, self.asked = table, asked
-        self.tick, self.advances, self.more = 0, 0, ""
+        self.tick, self.advances, self.withdrawals, self.more = 0, 0, 0, ""
         self.jobs = {}  # of a position's job that was released last: which it is, the ticks that it had or held, whether it ended
         self.rows, self.held, self.ended, self.empty, self.unused = [], set(), [], [], []
+        self.withdrawn, self.out = set(), []  # the positions that are withdrawn, and the drawn ticks in which they were
         self.refusals, self.marks, self.words, self.late = 0, {}, [], None
         self.parsed = functools.lru_cache(1024)(lambda line: row_in(line.split()[1:], self.tick, table))
 
@@ -300,18 +305,32 @@ class Listed:
     def hold(self):
         self.held |= {(self.tick, position) for position in self.positions if self.job(position)[2]}
 
-    # The empty jobs of an advance that is taken end before its row, which is this one.
-    def emptied(self, empties, line):
-        row = self.parsed(line)
-        self.positions = set(row) - {0, FENCED}
-        for position in places(empties):
-            self.job(position)[2] = True
-            self.rest(position, self.tick)
+    # The jobs of these positions that are released in this very tick are empty: they end before its row.
+    def end_empty(self, positions):
+        for position in positions:
+            task = self.table.tasks[position - 1]
+            if self.tick >= task.O and (self.tick - task.O) % task.T == 0 and not self.job(position)[2]:
+                self.job(position)[2] = True
+                self.rest(position, self.tick)
+                if self.drawn():
+                    self.empty.append((self.tick, position))
+
+    # The tick's row is this one, since jobs of these positions are empty.
+    def emptied(self, positions, line):
+        if line.startswith(b"row "):
+            row = self.parsed(line)
+            self.positions = set(row) - {0, FENCED}
+            self.end_empty(positions)
             if self.drawn():
-                self.empty.append((self.tick, position))
+                self.rows[-1] = row
+                self.hold()
+
+    # A withdrawal that is taken stays in its tick, whose row may be another now.
+    def withdraw(self, position, line):
+        self.withdrawn.add(position)
         if self.drawn():
-            self.rows[-1] = row
-            self.hold()
+            self.out.append((self.tick, position))
+        self.emptied([position], line)
 
     # What a job that has ended does not take of its length, from a tick on. Under idling its cells are held instead.
     def rest(self, position, tick):
@@ -325,6 +344,7 @@ class Listed:
         if line.startswith(b"row "):
             row = self.parsed(line)
             self.positions = set(row) - {0, FENCED}
+            self.end_empty(sorted(self.withdrawn))
             if self.drawn():
                 self.rows.append(row)
                 self.hold()
@@ -365,41 +385,50 @@ class Listed:
                 why = f": {MISTAKES[number]}" if number in MISTAKES else ""
                 self.words.append(f"At tick {self.tick} '{operation}' is refused, number {number}{f', position {position}' if position else ''}{why}.")
 
-    # What the program says to each line of the list; they are sent in parts, with a row asked after each advance.
+    # What the program says to each line of the list; they are sent in parts, with a row asked after each.
     def follow(self, name, source, process):
         self.row(next_line(process.stdout))
         read = since = 0
         for part in parts(name, source):
             sent = [(line, operation_in(line)) for line in part]
-            process.stdin.write(b"".join(asking(line, numbers) for line, numbers in sent))
+            process.stdin.write(b"".join(asking(line, operation) for line, operation in sent))
             process.stdin.flush()
-            for line, numbers in sent:
+            for line, operation in sent:
                 read, since = read + 1, since + 1
-                if numbers == ():
+                if operation and operation[0] == "r":
                     continue
-                left = next_line(process.stdout) if numbers and numbers[1] else None
+                left = next_line(process.stdout) if has_empties(operation) else None
                 answer = next_line(process.stdout)
                 if answer == b"not an operation":
                     raise Declined(f"{name}: line {read}: {stands(line)} stands there; {EXPECTED}", REFUSED)
-                self.advances += 1
                 asked = next_line(process.stdout)
-                if answer == b"taken":
+                letter, *numbers = operation
+                self.advances += letter == "a"
+                self.withdrawals += letter == "w"
+                if answer != b"taken":
+                    self.refused(line.decode(), answer)
+                elif letter == "w":
+                    self.withdraw(numbers[0], asked)
+                else:
                     if left:
-                        self.emptied(numbers[1], left)
+                        self.emptied(places(numbers[1]), left)
                     self.taken(numbers[0], asked)
                     since = since if self.tick >= self.asked.end else 0
-                else:
-                    self.refused(line.decode(), answer)
             if since >= FURTHER:
                 self.more = "more than "
                 return
 
 
-# What is sent for a line of a list: of a row asked nothing, before an advance with empty jobs the row that they leave, after an advance the next row.
-def asking(line, numbers):
-    if numbers == ():
+# Whether an operation is an advance with empty jobs.
+def has_empties(operation):
+    return operation is not None and operation[0] == "a" and operation[2] > 0
+
+
+# What is sent for a line of a list: of a row asked nothing, before an advance with empty jobs the row that they leave, after a move the next row.
+def asking(line, operation):
+    if operation and operation[0] == "r":
         return b""
-    return (b"r %d\n" % numbers[1] if numbers and numbers[1] else b"") + line + b"\nr\n"
+    return (b"r %d\n" % operation[2] if has_empties(operation) else b"") + line + b"\nr\n"
 
 
 # The positions of a set.
@@ -414,17 +443,17 @@ def stands(line):
 
 # What stands over the picture of a list, and what of it is red.
 def list_words(listed, ticks):
-    advances = number_of(listed.advances, "advance")
-    title = f"The first {advances} of a list" if listed.more else f"A list of {advances}" if listed.advances else "A list without an advance"
+    advances = number_of(listed.advances, "advance") + (f" and {number_of(listed.withdrawals, 'withdrawal')}" if listed.withdrawals else "")
+    title = f"The first {advances} of a list" if listed.more else f"A list of {advances}" if listed.advances or listed.withdrawals else "A list without an advance"
     if listed.late:
         title += f": position {listed.late[1]} misses its deadline at tick {listed.late[0]}"
     elif listed.refusals:
         title += f", {listed.refusals:,} refused"
-    elif listed.advances:
-        title += ", all taken" if listed.advances > 1 else ", taken"
+    elif listed.advances + listed.withdrawals:
+        title += ", all taken" if listed.advances + listed.withdrawals > 1 else ", taken"
     red = listed.words[:]
     if listed.refusals > len(red) + bool(listed.late):
-        red.append(f"In all {number_of(listed.refusals, 'advance')} are refused.")
+        red.append(f"In all {number_of(listed.refusals, 'line')} of the list are refused." if listed.withdrawals else f"In all {number_of(listed.refusals, 'advance')} are refused.")
     if listed.late:
         tick, position, had = listed.late
         red.append(f"At tick {tick} the row is refused, number {LATE}, position {position}: its job is due and had {had} of {listed.table.tasks[position - 1].C}.")
@@ -450,6 +479,8 @@ def list_chart(listed):
         sheet.ends(tick, position)
     for tick, position in listed.empty:
         sheet.empty(tick, position)
+    for tick, position in listed.out:
+        sheet.withdrawn(tick, position)
     if late:
         sheet.late(*late, f"refused at tick {late[0]}, number {LATE}, position {late[1]}", sheet.top - 26)
     for tick, number in sorted(listed.marks.items()):
@@ -457,11 +488,13 @@ def list_chart(listed):
     sheet.ticks()
     sheet.legend(*([("ends", "ends here: the list reports that the job ends in this tick")] if listed.ended else []),
                  *([("empty", "empty: the job is released in this tick and has nothing to do")] if listed.empty else []),
+                 *([("out", "withdrawn: a job under way goes on, those released from then on are empty")] if listed.out else []),
                  *([("unused", "the rest of the job's length, which it does not take")] if listed.unused else []),
                  *([("held", "the job has ended: its cores are held and not used")] if listed.held else []),
                  *([("blank", "a tick whose row is refused")] if blank else []))
     ends = [f"Position {position} ends in tick {tick} with {had} of {table.tasks[position - 1].C}." for tick, position, had in listed.ended]
     ends += [f"The job that position {position} releases in tick {tick} is empty." for tick, position in listed.empty]
+    ends += [f"Position {position} is withdrawn in tick {tick}." for tick, position in listed.out]
     return sheet.out(head[0], head[1:] + red + ends), REFUSED if listed.late or listed.refusals else FINE
 
 

@@ -2,8 +2,9 @@
 """Plays a list of operations through the program `replay` and prints its answers with their ticks: replay.py LIST PROGRAM... < table
 
 First start's answer and the row of tick 0; then for each line `a REPORTS EMPTIES` what is said to it, and where it is taken the row of the next tick. Where its empty
-jobs leave another row than was shown, that row comes before the answer. A line `r` asks what is shown already, `r EMPTIES` the row that these leave. It counts the ticks
-and nothing else, and reads a line when the one before is answered: LIST may be a pipe. Status 2: something is refused, or a line is no operation."""
+jobs leave another row than was shown, that row comes before the answer. A withdrawal, `w POSITION`, stays in its tick; where it leaves another row, that comes after the
+answer. A line `r` asks what is shown already, `r EMPTIES` the row that these leave. It counts the ticks and nothing else, and reads a line when the one before is answered:
+LIST may be a pipe. Status 2: something is refused, or a line is no operation."""
 import os
 import re
 import subprocess
@@ -11,7 +12,7 @@ import sys
 
 LONGEST = 2168  # bytes: no table is longer, and the program reads no more
 MOST = 60  # bytes that are read of a line, and more than an operation has
-EXPECTED = "'a REPORTS', 'a REPORTS EMPTIES', 'r' or 'r EMPTIES' (numbers up to 4294967295) was expected"
+EXPECTED = "'a REPORTS', 'a REPORTS EMPTIES', 'w POSITION', 'r' or 'r EMPTIES' (numbers up to 4294967295) was expected"
 NONE = b"not an operation"
 
 
@@ -77,13 +78,14 @@ def played(program, table, lines, name):
             raise Trouble(f"{name}: line {number}: {stands} stands there; {EXPECTED}", 2)
         if left != row and left.startswith(b"row "):
             yield b"%d %s" % (tick, left.removeprefix(b"row "))
-        if line.startswith(b"a"):
+        if not line.startswith(b"r"):
             yield b"%d %s %s" % (tick, line, answer)
         elif answer != row:
             yield b"%d %s" % (tick, answer.removeprefix(b"row "))
-        row = heard()
-        if answer == b"taken":
-            tick += 1
+        shown, row = row, heard()
+        on = line.startswith(b"a") and answer == b"taken"
+        tick += on
+        if on or row != shown:
             yield b"%d %s" % (tick, row.removeprefix(b"row "))
 
 

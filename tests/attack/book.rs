@@ -7,7 +7,7 @@ include!("../gangsim.rs");
 use sivorandra::{Entry as Asked, Refusal as Refused, Verdict as Judged, ROW_BYTES, RUN_HEAD_WORDS, RUN_PLACE_WORDS, RUN_WORDS};
 
 /// The last request that the project has.
-const REQUEST: u32 = 105;
+const REQUEST: u32 = 106;
 
 /// Lets the simulator read tables as the last request does.
 pub fn begin() {
@@ -90,6 +90,9 @@ pub const fn phase_at(place: usize) -> usize {
     RUN_HEAD_WORDS + RUN_PLACE_WORDS * place + 5
 }
 
+/// Where the words of a run have the withdrawn set.
+pub const WITHDRAWN: usize = 5;
+
 /// The kinds.
 pub const COMING: u32 = 0;
 pub const WORKING: u32 = 1;
@@ -129,6 +132,7 @@ impl Cab {
                 let (reports, empties) = (reports.into(), empties.into());
                 (self.run.advance(reports, empties), self.book.as_mut().map(|book| book.advance(reports, empties)))
             }
+            Asked::Withdraw { position } => (self.run.withdraw(position.into()), self.book.as_mut().map(|book| book.withdraw(position.into()))),
             other => panic!("no such entry: {other:?}"),
         };
         let next = next.map_err(said);
@@ -138,6 +142,16 @@ impl Cab {
         }
         self.run = next?;
         Ok(())
+    }
+
+    /// The number of positions.
+    pub fn count(&self) -> u32 {
+        self.run.count as u32
+    }
+
+    /// The set of withdrawn positions.
+    pub fn withdrawn(&self) -> u32 {
+        self.run.withdrawn as u32
     }
 
     /// The set of positions whose job may be empty: it is released in this very tick.
@@ -161,7 +175,7 @@ impl Cab {
 /// The words of a run; its places past the count stay as they are in `before`.
 fn encoded(run: &Run, before: &[u32; RUN_WORDS]) -> [u32; RUN_WORDS] {
     let mut words = *before;
-    words[..RUN_HEAD_WORDS].copy_from_slice(&[run.rule, run.cores, run.count as u32, run.fence as u32, (run.fence >> 32) as u32]);
+    words[..RUN_HEAD_WORDS].copy_from_slice(&[run.rule, run.cores, run.count as u32, run.fence as u32, (run.fence >> 32) as u32, run.withdrawn as u32]);
     for place in 0..run.n().min(PLACES) {
         let task = &run.tasks[place];
         let (kind, first, second) = match run.phases[place] {
@@ -181,7 +195,7 @@ fn encoded(run: &Run, before: &[u32; RUN_WORDS]) -> [u32; RUN_WORDS] {
 /// The run in words whose phases below the count are phases; past it zeros and Resting(0).
 fn decoded(words: &[u32; RUN_WORDS]) -> Run {
     let mut run = Run::zeros();
-    (run.rule, run.cores, run.count, run.fence) = (words[0], words[1], words[2].into(), fence_in(&words[3..]));
+    (run.rule, run.cores, run.count, run.fence, run.withdrawn) = (words[0], words[1], words[2].into(), fence_in(&words[3..]), words[5].into());
     for place in 0..run.n().min(PLACES) {
         let [offset, width, length, deadline, period, kind, first, second] = std::array::from_fn(|at| u64::from(words[RUN_HEAD_WORDS + RUN_PLACE_WORDS * place + at]));
         run.tasks[place] = Task { offset, width, length, deadline, period, width2: width };
@@ -199,6 +213,11 @@ fn decoded(words: &[u32; RUN_WORDS]) -> Run {
 pub fn built(words: &[u32; RUN_WORDS]) -> (bool, Cab) {
     let run = decoded(words);
     (run.check14().is_err(), Cab { book: None, run })
+}
+
+/// What stands before the line `--`, and the operations after it.
+pub fn split(text: &[u8]) -> (Vec<u8>, Vec<String>) {
+    split_input(text)
 }
 
 /// A run built by hand, as text: its words, and the operations after it.

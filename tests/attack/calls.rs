@@ -11,6 +11,7 @@ extern "C" {
     fn sivorandra_replay(words: *const u32, words_len: usize, entries: *const u32, entries_len: usize, numbers: *mut u32, numbers_len: usize, row: *mut u8, row_len: usize, answer: *mut u32, answer_len: usize) -> u32;
     fn sivorandra_start(words: *const u32, words_len: usize, run: *mut u32, run_len: usize, answer: *mut u32, answer_len: usize) -> u32;
     fn sivorandra_row(run: *const u32, run_len: usize, empties: u32, row: *mut u8, row_len: usize, answer: *mut u32, answer_len: usize) -> u32;
+    fn sivorandra_withdraw(run: *mut u32, run_len: usize, position: u32, answer: *mut u32, answer_len: usize) -> u32;
     fn sivorandra_advance(run: *mut u32, run_len: usize, reports: u32, empties: u32, answer: *mut u32, answer_len: usize) -> u32;
 }
 
@@ -163,6 +164,7 @@ pub const fn reported(reports: u32) -> Entry {
 pub fn enter(run: &mut Run, entry: Entry) -> Said<()> {
     match entry {
         Entry::Advance { reports, empties } => run.advance(reports, empties),
+        Entry::Withdraw { position } => run.withdraw(position),
         other => panic!("no such entry: {other:?}"),
     }
 }
@@ -171,11 +173,12 @@ pub fn enter(run: &mut Run, entry: Entry) -> Said<()> {
 fn in_words(entry: &Entry) -> [u32; 3] {
     match *entry {
         Entry::Advance { reports, empties } => [0, reports, empties],
+        Entry::Withdraw { position } => [1, position, 0],
         other => panic!("no such entry: {other:?}"),
     }
 }
 
-/// Words that are no list of entries: some are missing or too many, or the first of an entry is another.
+/// Words that are no list of entries: some are missing or too many, the first of an entry is another, or the last of a withdrawal is not 0.
 fn spoilt(rng: &mut Rng, entries: &[u32]) -> Vec<u32> {
     let mut words = entries.to_vec();
     if words.is_empty() || rng.once_in(3) {
@@ -184,7 +187,7 @@ fn spoilt(rng: &mut Rng, entries: &[u32]) -> Vec<u32> {
         words.truncate(words.len() - 1 - rng.below(2));
     } else {
         let at = 3 * rng.below(words.len() / 3);
-        words[at] = rng.pick(&[1, 2, 3, 256, u32::MAX]);
+        (words[at], words[at + 2]) = rng.pick(&[(1, 1), (1, u32::MAX), (2, 0), (3, 0), (256, 0), (u32::MAX, 0)]);
     }
     words
 }
@@ -282,6 +285,7 @@ impl Kept {
             let (words, len) = (run.lent().as_mut_ptr(), run.len());
             let value = match entry {
                 Entry::Advance { reports, empties } => unsafe { sivorandra_advance(words, len, reports, empties, answer.as_mut_ptr(), answer.len()) },
+                Entry::Withdraw { position } => unsafe { sivorandra_withdraw(words, len, position, answer.as_mut_ptr(), answer.len()) },
                 other => panic!("no such entry: {other:?}"),
             };
             run.as_found_if(value == 1, "the run")?;
@@ -293,7 +297,7 @@ impl Kept {
         Ok(got)
     }
 
-    /// Row and advance of too few words for a run, which 14 turns down, and a row asked into too few bytes.
+    /// Row, advance and withdrawal of too few words for a run, which 14 turns down, and a row asked into too few bytes.
     pub fn cut(&mut self, rng: &mut Rng) -> Tried<()> {
         let Kept { run, row } = self;
         let (words, bytes) = (rng.below(RUN_WORDS), rng.below(ROW_BYTES));
@@ -304,6 +308,9 @@ impl Kept {
         answer = [0; 3];
         same("the value of an advance of too few words", 0, unsafe { sivorandra_advance(run.lent().as_mut_ptr(), words, 0, 0, answer.as_mut_ptr(), 3) })?;
         same("an advance of too few words", [3, 14, 0], answer)?;
+        answer = [0; 3];
+        same("the value of a withdrawal from too few words", 0, unsafe { sivorandra_withdraw(run.lent().as_mut_ptr(), words, 1, answer.as_mut_ptr(), 3) })?;
+        same("a withdrawal from too few words", [3, 14, 0], answer)?;
         run.as_found("too few words")?;
         answer = [7; 3];
         same("the value of a row in too few bytes", 1, unsafe { sivorandra_row(run.lent().as_ptr(), run.len(), 0, row.lent().as_mut_ptr(), bytes, answer.as_mut_ptr(), 3) })?;

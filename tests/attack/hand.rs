@@ -1,7 +1,8 @@
 //! Runs built by hand: number 14 at each limit, the fence among them, 15, and what no started run shows.
-use crate::book::{self, phase_at, COMING, HOLDING, RESTING, WORKING};
+use crate::book::{self, phase_at, COMING, HOLDING, RESTING, WITHDRAWN, WORKING};
 use crate::calls::{enter, reported, same, same_run, Kept, Tried};
 use crate::fences;
+use crate::random::position;
 use crate::rng::Rng;
 use crate::Counts;
 use sivorandra::{Entry, Refusal, Run, RUN_HEAD_WORDS, RUN_PLACE_WORDS, RUN_WORDS};
@@ -18,7 +19,7 @@ fn run(rule: u32, cores: u32, places: &[Place]) -> Words {
 /// A run of these places with a fence.
 pub fn fenced(rule: u32, cores: u32, fence: u64, places: &[Place]) -> Words {
     let mut words = [0; RUN_WORDS];
-    words[..RUN_HEAD_WORDS].copy_from_slice(&[rule, cores, places.len() as u32, fence as u32, (fence >> 32) as u32]);
+    words[..RUN_HEAD_WORDS].copy_from_slice(&[rule, cores, places.len() as u32, fence as u32, (fence >> 32) as u32, 0]);
     for (at, place) in words[RUN_HEAD_WORDS..].chunks_mut(RUN_PLACE_WORDS).enumerate() {
         place.copy_from_slice(places.get(at).unwrap_or(&[0, 0, 0, 0, 0, RESTING, 0, 0]));
     }
@@ -27,7 +28,7 @@ pub fn fenced(rule: u32, cores: u32, fence: u64, places: &[Place]) -> Words {
 
 /// Whether the words hold no run, or number 14 turns it down (scope, 'The run in the cab').
 fn turned_down(words: &Words) -> bool {
-    let [rule, cores, count, low, high, ..] = *words;
+    let [rule, cores, count, low, high, withdrawn, ..] = *words;
     let within = |n: u32, low: u32, high: u32| low <= n && n <= high;
     let is_phase = |place: &[u32]| match place[5] {
         COMING | RESTING => place[7] == 0,
@@ -52,7 +53,7 @@ fn turned_down(words: &Words) -> bool {
             }
     };
     let mut used = words[RUN_HEAD_WORDS..].chunks(RUN_PLACE_WORDS).take(count as usize);
-    !(within(count, 1, 32) && within(cores, 1, 64) && within(rule, 1, 3) && !past && unfenced > 0 && used.all(|place| is_phase(place) && fits(place)))
+    !(within(count, 1, 32) && within(cores, 1, 64) && within(rule, 1, 3) && !past && unfenced > 0 && u64::from(withdrawn) >> count == 0 && used.all(|place| is_phase(place) && fits(place)))
 }
 
 pub const OUT: Refusal = Refusal::NotARun;
@@ -64,8 +65,9 @@ fn compare(rng: &mut Rng, counts: &mut Counts, words: &Words, ticks: usize) -> T
         let sets = [0, 1, u32::MAX];
         let asked = rng.pick(&sets);
         counts.answer(&kept.row(rng, asked, Err(OUT))?);
-        let entry = Entry::Advance { reports: rng.pick(&sets), empties: rng.pick(&sets) };
-        counts.entered(entry, &kept.enter(rng, entry, Err(OUT))?);
+        for entry in [Entry::Advance { reports: rng.pick(&sets), empties: rng.pick(&sets) }, Entry::Withdraw { position: rng.pick(&sets) }] {
+            counts.entered(entry, &kept.enter(rng, entry, Err(OUT))?);
+        }
         return Ok(());
     }
     let (out, mut cab) = book::built(words);
@@ -83,7 +85,7 @@ fn compare(rng: &mut Rng, counts: &mut Counts, words: &Words, ticks: usize) -> T
         let reports = any_of(cab.may_report(given));
         let empties = if rng.once_in(2) { 0 } else { given };
         counts.answer(&kept.row(rng, asked, cab.row(asked)).map_err(|why| format!("with the empty jobs {asked}: {why}"))?);
-        let entry = Entry::Advance { reports, empties };
+        let entry = if rng.once_in(6) { Entry::Withdraw { position: position(rng, cab.count()) } } else { Entry::Advance { reports, empties } };
         let answer = cab.enter(entry);
         if answer.is_ok() {
             now = cab.words(&now);
@@ -138,13 +140,14 @@ pub fn case(seed: u64, counts: &mut Counts) -> Tried<()> {
     let (left, fence) = if rng.once_in(2) { (cores, 0) } else { fences::any(&mut rng, cores) };
     let places: Vec<Place> = (0..count).map(|_| place(&mut rng, rule, left)).collect();
     let mut words = fenced(rule, cores, fence, &places);
+    words[WITHDRAWN] = if rng.once_in(2) { 0 } else { rng.word() & (u32::MAX >> (32 - count)) };
     litter(&mut rng, &mut words);
     if rng.once_in(3) {
         let place = RUN_HEAD_WORDS + RUN_PLACE_WORDS * rng.below(count as usize);
         let w = words[place..][..RUN_PLACE_WORDS].to_vec();
         match rng.below(8) {
-            6 => words[1 + rng.below(4)] ^= 1 << rng.below(7),
-            7 => words[rng.pick(&[3, 4])] ^= 1 << rng.below(32),
+            6 => words[1 + rng.below(5)] ^= 1 << rng.below(7),
+            7 => words[rng.pick(&[3, 4, WITHDRAWN])] ^= 1 << rng.below(32),
             0 => words[0] = near(&mut rng, &[1, 3, u32::MAX]),
             1 => words[1] = near(&mut rng, &[1, 64, w[1]]),
             2 => words[2] = near(&mut rng, &[1, 32, count, u32::MAX]),
@@ -223,6 +226,14 @@ fn limits() -> Vec<(String, Words, Words)> {
     let all = run(2, 64, &[PLAIN; 32]);
     let holding = [5, 1, 4, 6, 8, HOLDING, 3, 2];
     limits.extend(fences::limits());
+    for count in [1, 2, 3, 31] {
+        let (within, past) = ((1u32 << count) - 1, 1 << count);
+        let of = |withdrawn: u32| head(WITHDRAWN, withdrawn, run(2, 4, &vec![PLAIN; count]));
+        limits.push((format!("the withdrawn set of {count}"), of(within), of(past)));
+        limits.push((format!("the withdrawn set of {count}, far"), of(past >> 1), of(1 << 31)));
+        limits.push((format!("the withdrawn set of {count}, and one more"), of(0), of(within | past)));
+    }
+    limits.push(("the withdrawn set of 32".into(), head(WITHDRAWN, u32::MAX, all), head(2, 31, head(WITHDRAWN, u32::MAX, all))));
     limits.extend([
         ("rule at least 1".into(), one, head(0, 0, one)),
         ("rule at most 3".into(), head(0, 3, one), head(0, 4, one)),
@@ -250,6 +261,7 @@ fn limit(counts: &mut Counts, inside: &Words, outside: &Words) -> Tried<()> {
         same("row with 14", out, Run::from_words(*words).row(0) == Err(OUT))?;
         let mut run = Run::from_words(*words);
         same("advance with 14", out, run.advance(0, 0) == Err(OUT))?;
+        same("withdraw with 14", out, run.withdraw(0) == Err(OUT))?;
         same("the test's own reading of 14", out, turned_down(words))?;
         compare(&mut rng, counts, words, 3)?;
     }
@@ -365,6 +377,68 @@ fn emptied() -> Tried<()> {
     Ok(())
 }
 
+/// One task on one core that is taken out: the rule, the phase, and the phase one tick on. A job released in this tick is empty, one released before goes on.
+fn taken_out() -> Tried<()> {
+    let cases = [
+        (1, [COMING, 5, 0], [COMING, 4, 0]),
+        (1, [COMING, 1, 0], [WORKING, 0, 0]),
+        (1, [WORKING, 0, 0], [RESTING, 1, 0]),
+        (2, [WORKING, 0, 0], [RESTING, 1, 0]),
+        (3, [WORKING, 0, 0], [HOLDING, 1, 1]),
+        (1, [WORKING, 1, 0], [WORKING, 2, 1]),
+        (2, [WORKING, 2, 1], [WORKING, 3, 2]),
+        (3, [WORKING, 4, 3], [RESTING, 5, 0]),
+        (3, [HOLDING, 0, 0], [HOLDING, 1, 1]),
+        (3, [HOLDING, 2, 1], [HOLDING, 3, 2]),
+        (1, [RESTING, 7, 0], [WORKING, 0, 0]),
+    ];
+    for (rule, phase, next) in cases {
+        let of = |[kind, first, second]: [u32; 3], withdrawn: u32| {
+            let mut words = run(rule, 1, &[[5, 1, 4, 6, 8, kind, first, second]]);
+            words[WITHDRAWN] = withdrawn;
+            words
+        };
+        let mut held = Run::from_words(of(phase, 0));
+        same("withdraw", Ok(()), held.withdraw(1))?;
+        same_run("only the set moves", &of(phase, 1), held.words())?;
+        same("withdraw again", Ok(()), held.withdraw(1))?;
+        same_run("once more is the same as once", &of(phase, 1), held.words())?;
+        if phase == [WORKING, 0, 0] {
+            same("a report on it", Err(Refusal::BadReport), held.advance(1, 0))?;
+            same("its empty bit changes nothing", held.row(0), held.row(1))?;
+            let mut other = held.clone();
+            same("its empty bit", Ok(()), other.advance(0, 1))?;
+            same_run("with its empty bit", &of(next, 1), other.words())?;
+        }
+        same("advance", Ok(()), held.advance(0, 0))?;
+        same_run("one tick on", &of(next, 1), held.words())?;
+    }
+    Ok(())
+}
+
+/// 14, then 21, then 22; 15 is not looked at.
+fn not_taken_out(counts: &mut Counts) -> Tried<()> {
+    let (wide, late) = ([5, 2, 4, 6, 8, WORKING, 2, 1], [5, 1, 4, 6, 8, WORKING, 6, 1]);
+    for (rule, places, firm) in [(1, [PLAIN, wide], true), (1, [wide, PLAIN], false), (2, [wide, PLAIN], true), (3, [wide, PLAIN], true), (1, [late, wide], true), (1, [wide, late], false)] {
+        let words = run(rule, 4, &places);
+        for position in [0, 1, 2, 3, 32, 33, 1 << 31, u32::MAX] {
+            let known = (1..=2).contains(&position);
+            let expected = if !firm { Err(Refusal::NotFirm) } else if known { Ok(()) } else { Err(Refusal::NoPosition) };
+            let mut held = Run::from_words(words);
+            let answer = held.withdraw(position);
+            counts.answer(&answer);
+            same("withdraw", expected, answer)?;
+            let mut after = words;
+            after[WITHDRAWN] = if expected.is_ok() { 1 << (position - 1) } else { 0 };
+            same_run("the run", &after, held.words())?;
+            let mut out = words;
+            out[0] = 4;
+            same("14 first", Err(OUT), Run::from_words(out).withdraw(position))?;
+        }
+    }
+    Ok(())
+}
+
 /// 20 for a position past the count and for every phase but Working(0, 0), before 16.
 fn not_emptied(counts: &mut Counts) -> Tried<()> {
     let phases = [[COMING, 1, 0], [WORKING, 1, 0], [WORKING, 1, 1], [HOLDING, 0, 0], [HOLDING, 1, 0], [HOLDING, 1, 1], [RESTING, 1, 0], [RESTING, 7, 0]];
@@ -401,6 +475,8 @@ fn past_the_count(counts: &mut Counts, count: u32) -> Tried<()> {
             let answer = plain.advance(reports, empties);
             counts.answer(&answer);
             same("advance", answer, held.advance(reports, empties))?;
+            let place = 1 + rng.below(32) as u32;
+            same("withdraw", plain.withdraw(place), held.withdraw(place))?;
             let used = RUN_HEAD_WORDS + RUN_PLACE_WORDS * count as usize;
             same("the words up to the count", &plain.words()[..used], &held.words()[..used])?;
             same("the words past the count", &littered[used..], &held.words()[used..])?;
@@ -426,6 +502,8 @@ pub fn all(counts: &mut Counts) -> Vec<(String, Tried<()>)> {
     }
     done.push(("an empty job beside another".into(), emptied()));
     done.push(("what cannot be empty".into(), not_emptied(counts)));
+    done.push(("a task taken out".into(), taken_out()));
+    done.push(("what cannot be taken out".into(), not_taken_out(counts)));
     done.push(("a hold holds others back".into(), held_back()));
     done.push(("rows with a fence".into(), fences::rows()));
     for count in 1..32 {

@@ -1,5 +1,5 @@
 //! The lists of one small table beside each other, at one tick: how far each job is in each of them, as the library's runs say it.
-use crate::book::{phase_at, WORKING};
+use crate::book::{phase_at, WITHDRAWN, WORKING};
 use crate::calls::Tried;
 use crate::Counts;
 use sivorandra::{Entry, RUN_WORDS};
@@ -26,6 +26,11 @@ impl Line {
     }
 }
 
+/// The ticks that a list takes: a withdrawal takes none.
+pub fn ticks(entries: &[Entry]) -> usize {
+    entries.iter().filter(|entry| matches!(entry, Entry::Advance { .. })).count()
+}
+
 /// A list of entries, all taken, and the jobs after it: `per_place` of each place, those to come among them.
 #[derive(Clone)]
 pub struct List {
@@ -44,7 +49,7 @@ impl List {
     /// The list with one entry more, which took the run from `before` to `after`.
     pub fn with(&self, entry: Entry, before: &[u32; RUN_WORDS], after: &[u32; RUN_WORDS]) -> List {
         let mut next = self.clone();
-        let tick = self.entries.len() as u32;
+        let tick = ticks(&self.entries) as u32;
         next.entries.push(entry);
         let Entry::Advance { empties, .. } = entry else { return next };
         for place in 0..before[2] as usize {
@@ -55,8 +60,9 @@ impl List {
             let number = (tick - phase[1] - task[0]) / task[4];
             let then = &after[phase_at(place)..][..3];
             let goes_on = then[0] == WORKING && then[1] == phase[1] + 1;
-            let line = match (empties >> place & 1, goes_on) {
-                (1, _) => Line { had: 0, ended: true },
+            let empty = phase[1] == 0 && (empties | before[WITHDRAWN]) >> place & 1 == 1;
+            let line = match (empty, goes_on) {
+                (true, _) => Line { had: 0, ended: true },
                 (_, true) => Line { had: then[2], ended: false },
                 (_, false) => Line { had: phase[2] + 1, ended: true },
             };

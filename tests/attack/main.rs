@@ -37,10 +37,12 @@ const FEWEST_OVERTAKEN: u64 = 1_000;
 /// At least so many tables with a fence are not refused, and so many with one in the second word, and so many with one that leaves one core.
 const FEWEST_FENCED: u64 = 1_000;
 /// The numbers that the calls tried here can answer; 17 and 18 are the sentence's.
-const NUMBERS: [usize; 18] = [1, 2, 3, 4, 5, 6, 7, 8, 9, 10, 11, 12, 13, 14, 15, 16, 19, 20];
-const LAST: usize = 20;
+const NUMBERS: [usize; 20] = [1, 2, 3, 4, 5, 6, 7, 8, 9, 10, 11, 12, 13, 14, 15, 16, 19, 20, 21, 22];
+const LAST: usize = 22;
 /// At least so many advances with an empty job are taken.
 const FEWEST_EMPTY: u64 = 100_000;
+/// At least so many withdrawals are taken.
+const FEWEST_WITHDRAWN: u64 = 10_000;
 
 /// What was seen, of the library's answers.
 #[derive(Default)]
@@ -61,8 +63,9 @@ pub struct Counts {
     /// Replays that end in a missed deadline.
     late: u64,
     advances: u64,
-    /// Advances with an empty job that are taken.
+    /// Advances with an empty job that are taken, and withdrawals.
     empty: u64,
+    withdrawn: u64,
     runs: u64,
     nodes: u64,
     /// Nodes at which a deadline is missed.
@@ -83,8 +86,14 @@ impl Counts {
     /// An entry of a list and its answer.
     pub fn entered(&mut self, entry: Entry, answer: &Said<()>) {
         self.answer(answer);
-        self.advances += 1;
-        self.empty += u64::from(answer.is_ok() && matches!(entry, Entry::Advance { empties, .. } if empties != 0));
+        match entry {
+            Entry::Withdraw { .. } => self.withdrawn += u64::from(answer.is_ok()),
+            Entry::Advance { empties, .. } => {
+                self.advances += 1;
+                self.empty += u64::from(answer.is_ok() && empties != 0);
+            }
+            other => panic!("no such entry: {other:?}"),
+        }
     }
 
     pub fn verdict(&mut self, verdict: &Said<Verdict>) {
@@ -125,6 +134,7 @@ impl Counts {
         self.late += other.late;
         self.advances += other.advances;
         self.empty += other.empty;
+        self.withdrawn += other.withdrawn;
         self.runs += other.runs;
         self.nodes += other.nodes;
         self.ends += other.ends;
@@ -205,8 +215,8 @@ fn main() {
             }
         }
     });
-    let Counts { tables, firm, full, miss, fenced, second, alone, plans, replays, late, advances, empty, runs, nodes, ends, abreast, overtaken, .. } = counts;
-    println!("attack: {tables} tables (firm {firm}, full {full}, miss {miss}), {plans} plans, {replays} replays ({late} to a missed deadline), {advances} advances ({empty} taken with an empty job), {runs} runs built by hand");
+    let Counts { tables, firm, full, miss, fenced, second, alone, plans, replays, late, advances, empty, withdrawn, runs, nodes, ends, abreast, overtaken, .. } = counts;
+    println!("attack: {tables} tables (firm {firm}, full {full}, miss {miss}), {plans} plans, {replays} replays ({late} to a missed deadline), {advances} advances ({empty} taken with an empty job), {withdrawn} withdrawals taken, {runs} runs built by hand");
     println!("attack: {} small tables searched, {nodes} nodes ({ends} at a missed deadline)", counts.searched.len());
     println!("attack: {abreast} pairs of lists of firm tables with no longer job in the first, which is abreast; {overtaken} of full tables, where it is behind");
     println!("attack: {fenced} of the tables that are not refused have a fence, {second} of them in the second word, {alone} that leaves one core");
@@ -221,6 +231,7 @@ fn main() {
             counts.count(if seen >= FEWEST_FENCED { Ok(()) } else { Err(format!("only {seen} tables with a fence{what}")) });
         }
         counts.count(if empty >= FEWEST_EMPTY { Ok(()) } else { Err(format!("only {empty} advances taken with an empty job")) });
+        counts.count(if withdrawn >= FEWEST_WITHDRAWN { Ok(()) } else { Err(format!("only {withdrawn} withdrawals taken")) });
         let searched = counts.searched.len();
         counts.count(if searched >= FEWEST_SEARCHED { Ok(()) } else { Err(format!("only {searched} small tables")) });
         counts.count(if abreast >= FEWEST_ABREAST { Ok(()) } else { Err(format!("only {abreast} pairs of lists of firm tables with no longer job in the first")) });

@@ -83,8 +83,16 @@ fn empties(rng: &mut Rng, cab: &Cab, often: u32) -> u32 {
     if rng.once_in(2) { 0 } else { any_of(rng, cab.may_be_empty(), often) }
 }
 
-/// The next entry.
+/// A position, mostly one that there is.
+pub fn position(rng: &mut Rng, count: u32) -> u32 {
+    if rng.once_in(8) { rng.pick(&[0, count + 1, 33, 1 << 31, u32::MAX]) } else { rng.from(1, count) }
+}
+
+/// The next entry: in few lists, and now and then, a withdrawal.
 fn entry(rng: &mut Rng, cab: &Cab, often: u32) -> Entry {
+    if rng.once_in(8 * often) {
+        return Entry::Withdraw { position: position(rng, cab.count()) };
+    }
     let empties = empties(rng, cab, often);
     Entry::Advance { reports: any_of(rng, cab.may_report(empties), often), empties }
 }

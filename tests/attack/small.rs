@@ -1,4 +1,4 @@
-//! Every way of ending jobs early, or of having empty ones, within the first ticks of a small table, the run kept in words beside the book.
+//! Every way of ending jobs early, of having empty ones and of taking a task out, within the first ticks of a small table, the run kept in words beside the book.
 use crate::book::{self, Cab, Said};
 use crate::calls::{self, same, same_run, Tried};
 use crate::lists::{self, List};
@@ -12,6 +12,8 @@ const FEWEST_TICKS: usize = 4;
 const MOST_TICKS: usize = 12;
 const FEWEST_NODES: u64 = 200;
 const MOST_NODES: u64 = 20_000;
+/// So many tasks are taken out in a list.
+const MOST_WITHDRAWN: u32 = 1;
 
 /// All subsets of a set.
 fn subsets(set: u32) -> impl Iterator<Item = u32> {
@@ -23,17 +25,28 @@ fn subsets(set: u32) -> impl Iterator<Item = u32> {
     })
 }
 
+/// The positions that are taken out here.
+fn withdrawals(firm: bool, cab: &Cab) -> std::ops::RangeInclusive<u32> {
+    if firm && cab.withdrawn().count_ones() < MOST_WITHDRAWN { 1..=cab.count() } else { 1..=0 }
+}
+
 /// The nodes below this one by the book alone, counted up to a limit.
-fn nodes(cab: &Cab, ticks: usize, limit: u64) -> u64 {
+fn nodes(firm: bool, cab: &Cab, ticks: usize, limit: u64) -> u64 {
     let mut count = 1;
     if ticks == 0 {
         return count;
+    }
+    for position in withdrawals(firm, cab) {
+        let mut next = cab.clone();
+        if count <= limit && next.enter(Entry::Withdraw { position }).is_ok() {
+            count += nodes(firm, &next, ticks, limit - count.min(limit));
+        }
     }
     for empties in subsets(cab.may_be_empty()) {
         for reports in subsets(cab.may_report(empties)) {
             let mut next = cab.clone();
             if count <= limit && next.enter(Entry::Advance { reports, empties }).is_ok() {
-                count += nodes(&next, ticks - 1, limit - count.min(limit));
+                count += nodes(firm, &next, ticks - 1, limit - count.min(limit));
             }
         }
     }
@@ -41,10 +54,10 @@ fn nodes(cab: &Cab, ticks: usize, limit: u64) -> u64 {
 }
 
 /// For how many ticks the table is searched, if it is.
-fn depth(cab: &Cab) -> Option<usize> {
+fn depth(firm: bool, cab: &Cab) -> Option<usize> {
     let mut found = None;
     for ticks in FEWEST_TICKS..=MOST_TICKS {
-        match nodes(cab, ticks, MOST_NODES) {
+        match nodes(firm, cab, ticks, MOST_NODES) {
             size if size > MOST_NODES => break,
             size if size >= FEWEST_NODES => found = Some(ticks),
             _ => (),
@@ -64,7 +77,7 @@ struct Search {
 impl Search {
     fn visit(&mut self, run: &Run, cab: &Cab, list: List, counts: &mut Counts) -> Tried<()> {
         counts.nodes += 1;
-        let tick = self.list.len();
+        let tick = lists::ticks(&self.list);
         same_run("the run", &cab.words(run.words()), run.words())?;
         let row = cab.row(0);
         same("row", row, run.row(0))?;
@@ -80,6 +93,7 @@ impl Search {
             return same_run("a run that has missed", run.words(), next.words());
         }
         if tick < self.ticks {
+            self.withdraw(run, cab, &list, counts)?;
             let sets = 0..2 << run.words()[2];
             for empties in sets.clone() {
                 same(&format!("row with {empties} empty"), cab.row(empties), run.row(empties))?;
@@ -99,11 +113,32 @@ impl Search {
         Ok(())
     }
 
+    /// Each position taken out, and those that there are not: 21 on a table that is not firm, else 22 for these. Where a task is out already, another is not tried here.
+    fn withdraw(&mut self, run: &Run, cab: &Cab, list: &List, counts: &mut Counts) -> Tried<()> {
+        for position in [0, cab.count() + 1, 33, u32::MAX] {
+            let refusal = if self.firm { Refusal::NoPosition } else { Refusal::NotFirm };
+            self.enter(run, cab, list, Entry::Withdraw { position }, Err(refusal), counts)?;
+        }
+        for position in 1..=cab.count() {
+            let entry = Entry::Withdraw { position };
+            if !self.firm {
+                self.enter(run, cab, list, entry, Err(Refusal::NotFirm), counts)?;
+            } else if run.withdrawn() >> (position - 1) & 1 == 1 {
+                let mut again = run.clone();
+                same("once more", Ok(()), again.withdraw(position))?;
+                same_run("once more is the same as once", run.words(), again.words())?;
+            } else if withdrawals(self.firm, cab).contains(&position) {
+                self.enter(run, cab, list, entry, Ok(()), counts)?;
+            }
+        }
+        Ok(())
+    }
+
     /// An entry that is to be answered so, and where it is taken all that comes after it.
     fn enter(&mut self, run: &Run, cab: &Cab, list: &List, entry: Entry, expected: Said<()>, counts: &mut Counts) -> Tried<()> {
         let mut next = run.clone();
         let answer = calls::enter(&mut next, entry);
-        counts.entered(entry, &answer);
+        counts.answer(&answer);
         same(&format!("{entry:?}"), expected, answer)?;
         if answer.is_err() {
             return same_run("a refused run", run.words(), next.words());
@@ -129,7 +164,7 @@ pub fn case(seed: u64, counts: &mut Counts) -> Tried<()> {
             Verdict::Miss { .. } => continue,
         };
         let Ok(cab) = known.start() else { continue };
-        let Some(ticks) = depth(&cab) else { continue };
+        let Some(ticks) = depth(firm, &cab) else { continue };
         let mut list = Vec::new();
         let searched = (|| {
             let run = Run::start(&words).map_err(|refusal| format!("start: {refusal:?}"))?;

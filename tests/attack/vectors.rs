@@ -1,5 +1,5 @@
-//! The examples through replay, the plan vectors, and those of runs built by hand: INDEX has lines 'NAME plan A B LEN' and 'NAME run'; NAME.in is the table's text,
-//! or the run's and then operations, NAME.out what is to be printed.
+//! The examples through replay, the plan vectors, and those of runs built by hand and started: INDEX has lines 'NAME plan A B LEN', 'NAME run' and 'NAME phases';
+//! NAME.in is the table's text, or the run's or the table's and then operations, NAME.out what is to be printed.
 use crate::book;
 use crate::calls::{self, reported, same, Lent, Tried};
 use crate::rng::Rng;
@@ -35,10 +35,8 @@ fn one(number: &str, a: &str, b: &str, len: &str) -> Tried<()> {
     same(&format!("for {:?}", String::from_utf8_lossy(&text)), String::from_utf8_lossy(&expected), got.into())
 }
 
-/// What the library says to the operations on a run built by hand: `r [EMPTIES]` a row, `a REPORTS [EMPTIES]` an advance, `p` the run as text.
-fn operated(text: &[u8]) -> Tried<String> {
-    let (words, operations) = book::built_from(text, &calls::NO_RUN);
-    let mut run = Run::from_words(words);
+/// What the library says to the operations on a run: `r [EMPTIES]` a row, `a REPORTS [EMPTIES]` an advance, `w POSITION` a withdrawal, `p` the run as text.
+fn operated(mut run: Run, operations: Vec<String>) -> Tried<String> {
     let mut out = String::new();
     for operation in operations {
         let mut words = operation.split(' ');
@@ -52,16 +50,32 @@ fn operated(text: &[u8]) -> Tried<String> {
                 format!("row {}\n", row[..cores].iter().map(u8::to_string).collect::<Vec<_>>().join(" "))
             }),
             Some("a") if !sets.is_empty() => run.advance(sets[0], empties(1)).map_or_else(refused, |()| "taken\n".into()),
+            Some("w") if sets.len() == 1 => run.withdraw(sets[0]).map_or_else(refused, |()| "taken\n".into()),
             _ => return Err(format!("no operation: {operation}")),
         };
     }
     Ok(out)
 }
 
-fn one_run(name: &str) -> Tried<()> {
+/// .. on one that is built by hand.
+fn built(text: &[u8]) -> Tried<String> {
+    let (words, operations) = book::built_from(text, &calls::NO_RUN);
+    operated(Run::from_words(words), operations)
+}
+
+/// .. on one that is started, with start's answer before them.
+fn started(text: &[u8]) -> Tried<String> {
+    let (before, operations) = book::split(text);
+    match book::numbers(&before).and_then(|words| Run::start(&words)) {
+        Ok(run) => Ok("ok\n".to_string() + &operated(run, operations)?),
+        Err(refusal) => Ok(refused(refusal)),
+    }
+}
+
+fn one_run(name: &str, said: fn(&[u8]) -> Tried<String>) -> Tried<()> {
     let read = |end| fs::read(format!("tests/vectors/{name}.{end}")).map_err(|why| why.to_string());
     let (text, expected) = (read("in")?, read("out")?);
-    same(&format!("for {:?}", String::from_utf8_lossy(&text)), String::from_utf8_lossy(&expected), operated(&text)?.into())
+    same(&format!("for {:?}", String::from_utf8_lossy(&text)), String::from_utf8_lossy(&expected), said(&text)?.into())
 }
 
 /// Example B with its report, that the job of position 1 ends after tick 0 (figure 2, right side), and with an empty job there, and B3 with the same, through replay.
@@ -98,7 +112,8 @@ pub fn all() -> Vec<(String, Tried<()>)> {
     let index = fs::read_to_string("tests/vectors/INDEX").unwrap_or_default();
     let plans = index.lines().filter_map(|line| match line.split(' ').collect::<Vec<_>>()[..] {
         [number, "plan", a, b, len] => Some((format!("vector {number}"), one(number, a, b, len))),
-        [name, "run"] => Some((format!("vector {name}, a run"), one_run(name))),
+        [name, "run"] => Some((format!("vector {name}, a run"), one_run(name, built))),
+        [name, "phases"] => Some((format!("vector {name}, a run that is started"), one_run(name, started))),
         _ => None,
     });
     plans.chain(examples()).collect()

@@ -1,5 +1,5 @@
 /* Hostile calls of the library from C, each beside what the header says of it: NULL with length 0, lengths around every limit,
-   counts and words of all ones, fences, empty jobs, lists that are none, anything past the count. Every slice lies between guards, which must stay.
+   counts and words of all ones, fences, empty jobs, withdrawn positions, lists that are none, anything past the count. Every slice lies between guards, which must stay.
    Prints each call that differs; the last line is 'N calls, M wrong'. */
 #include <stdio.h>
 #include <string.h>
@@ -117,6 +117,7 @@ static uint32_t shown(void) { return shown_with(0); }
 static uint32_t sentence(const uint32_t *table, size_t len) { return sivorandra_sentence(table, len, bytes_at(&row), row.len, ANSWER); }
 static uint32_t advance_with(uint32_t reports, uint32_t empties) { return sivorandra_advance(words_at(&run), run.len, reports, empties, ANSWER); }
 static uint32_t advance(uint32_t reports) { return advance_with(reports, 0); }
+static uint32_t withdraw(uint32_t position) { return sivorandra_withdraw(words_at(&run), run.len, position, ANSWER); }
 static uint32_t longest(const uint32_t *table, size_t len) { return sivorandra_longest(table, len, words_at(&numbers), numbers.len, ANSWER); }
 
 /* A slice of length 0 whose pointer is NULL. */
@@ -153,6 +154,9 @@ static void nulls(void)
     fresh(), NONE(run), refused(14), expect("advance: no run", 0, advance(0));
     fresh(), NONE(answer), expect("advance: no answer", 1, advance(0));
     fresh(), NONE(run), NONE(answer), expect("advance: nothing", 1, advance(ONES));
+    fresh(), NONE(run), refused(14), expect("withdraw: no run", 0, withdraw(1));
+    fresh(), NONE(answer), expect("withdraw: no answer", 1, withdraw(1));
+    fresh(), NONE(run), NONE(answer), expect("withdraw: nothing", 1, withdraw(ONES));
 }
 
 /* The sentence and its facts: lengths around every limit, and NULL for each slice. `row` is the buffer. */
@@ -310,7 +314,7 @@ static void bounds(void)
 /* The lengths of the slices that a call writes to. */
 static void lengths(void)
 {
-    static const size_t lens[] = { 0, 1, 2, 3, 4, 5, 63, 64, 65, 259, 260, 261, 262 };
+    static const size_t lens[] = { 0, 1, 2, 3, 4, 5, 63, 64, 65, 259, 260, 261, 262, 263 };
     uint32_t first[RUN], next[RUN];
     uint32_t three[3];
     sivorandra_start(full, TABLE, first, RUN, three, 3);
@@ -325,6 +329,7 @@ static void lengths(void)
         expect("start: words of the run", !holds, start(full, TABLE));
         fresh(), run.len = len, holds ? answered(0, 0, 0) : refused(14), row_bytes(rows, holds ? 3 : 0), expect("row: words of the run", 0, shown());
         fresh(), run.len = len, holds ? answered(0, 0, 0) : refused(14), run_words(holds ? next : first, RUN), expect("advance: words of the run", 0, advance(0));
+        fresh(), run.len = len, refused(holds ? 21 : 14), expect("withdraw: words of the run", 0, withdraw(1));
         fresh(), row.len = len;
         if (shows)
             answered(0, 0, 0), row_bytes(rows, 3);
@@ -347,12 +352,13 @@ static void built(void)
 {
     static const uint32_t faults[][2] = {
         { 0, 0 }, { 0, 4 }, { 0, 0xffffffffu }, { 1, 0 }, { 1, 65 }, { 1, 0xffffffffu }, { 2, 0 }, { 2, 4 }, { 2, 33 }, { 2, 0xffffffffu },
-        { 3, 8 }, { 3, 7 }, { 3, 15 }, { 3, 6 }, { 3, 0xffffffffu }, { 4, 1 }, { 4, 0xffffffffu },
+        { 3, 8 }, { 3, 7 }, { 3, 15 }, { 3, 6 }, { 3, 0xffffffffu }, { 4, 1 }, { 4, 0xffffffffu }, { 5, 8 }, { 5, 9 }, { 5, 0x80000000u }, { 5, 0xffffffffu },
         { KIND, 2 }, { KIND, 4 }, { KIND, 0xffffffffu }, { KIND + 1, 0xffffffffu }, { KIND + 2, 0xffffffffu },
     };
     for (size_t i = 0; i < sizeof faults / sizeof faults[0]; i++) {
         fresh(), set(faults[i][0], 1, faults[i][1]), refused(14), row_bytes(NULL, 0), expect("row: a fault", 0, shown());
         fresh(), set(faults[i][0], 1, faults[i][1]), refused(14), expect("advance: a fault", 0, advance(ONES));
+        fresh(), set(faults[i][0], 1, faults[i][1]), refused(14), expect("withdraw: a fault", 0, withdraw(0));
     }
     fresh(), set(0, RUN, 0), refused(14), row_bytes(NULL, 0), expect("row: all zeros", 0, shown());
     fresh(), set(0, RUN, 0), refused(14), expect("advance: all zeros", 0, advance(0));
@@ -407,7 +413,7 @@ static void fences(void)
     fresh(), row.len = 24, refused(11), expect("plan: fenced cores count for 11", 0, plan(table, TABLE, 0, 5));
     fresh(), row.len = 25, answered(0, 0, 0), memcpy(row.want + GUARD, spread, sizeof spread), expect("plan: just room", 0, plan(table, TABLE, 0, 5));
 
-    static const uint32_t head[HEAD] = { 1, 5, 3, 10, 0 }, high[HEAD] = { 1, 34, 3, 0xfffffff0u, 1 };
+    static const uint32_t head[HEAD] = { 1, 5, 3, 10, 0, 0 }, high[HEAD] = { 1, 34, 3, 0xfffffff0u, 1, 0 };
     sivorandra_start(full, TABLE, first, RUN, three, 3);
     memcpy(first, head, sizeof head), memcpy(next, first, sizeof first);
     fresh(), answered(0, 0, 0), run_words(first, RUN), expect("start: the fence is in the run", 0, start(table, TABLE));
@@ -469,7 +475,51 @@ static void empty_jobs(void)
     }
 }
 
-/* Words that are a replay's list, and words that are none: not three an entry, or another first word. */
+/* Positions withdrawn from the run of `full` under idling, in its first tick and in its second; what is refused; and the set built by hand. */
+static void withdrawals(void)
+{
+    static const uint8_t second[3] = { 1, 1, 3 };
+    uint32_t first[RUN], next[RUN], three[3];
+    for (uint32_t tick = 0; tick < 2; tick++) {
+        fresh(), memcpy(first, run.now + GUARD, sizeof first), first[0] = SIVORANDRA_IDLING;
+        if (tick)
+            sivorandra_advance(first, RUN, 0, 0, three, 3);
+        for (uint32_t position = 0; position < 6; position++) {
+            uint32_t at = position < 4 ? position : position == 4 ? 33 : ONES, known = at >= 1 && at <= 3;
+            memcpy(next, first, sizeof first), next[5] = known ? 1u << (at - 1) : 0;
+            fresh(), words(&run, RUN, first, RUN), known ? answered(0, 0, 0) : refused(22), run_words(next, RUN), expect("withdraw: a position", 0, withdraw(at));
+            fresh(), words(&run, RUN, next, RUN), known ? answered(0, 0, 0) : refused(22), expect("withdraw: the same again", 0, withdraw(at));
+            fresh(), words(&run, RUN, next, RUN), answered(0, 0, 0), row_bytes(second, 3), expect("row: a withdrawn one holds, or goes on", 0, shown());
+            fresh(), words(&run, RUN, first, RUN), set(0, 1, SIVORANDRA_GREEDY), refused(21), expect("withdraw: 21 before 22", 0, withdraw(at));
+        }
+    }
+    for (uint32_t withdrawn = 0; withdrawn < 8; withdrawn++) {
+        fresh(), memcpy(next, run.now + GUARD, sizeof next), next[0] = SIVORANDRA_LIMITED;
+        for (uint32_t p = 0; p < 3; p++)
+            if (withdrawn >> p & 1)
+                sivorandra_withdraw(next, RUN, p + 1, three, 3);
+        fresh(), words(&run, RUN, next, RUN), answered(0, 0, 0);
+        uint32_t got = shown();
+        uint8_t want[3] = { 0 };
+        uint32_t free = 0;
+        for (uint32_t p = 0; p < 3; p++) {
+            uint32_t width = p < 2 ? 2 : 1;
+            if (withdrawn >> p & 1)
+                continue;
+            if (free + width > 3)
+                break;
+            for (uint32_t i = 0; i < width; i++)
+                want[free++] = (uint8_t)(p + 1);
+        }
+        row_bytes(want, 3), expect("row: every set withdrawn", 0, got);
+        fresh(), words(&run, RUN, next, RUN), answered(0, 0, 0), row_bytes(want, 3), expect("row: with their empty bits", 0, shown_with(withdrawn));
+    }
+    fresh(), set(KIND + 1, 1, 5), refused(21), expect("withdraw: 15 is not looked at", 0, withdraw(1));
+    fresh(), set(KIND + 1, 1, 5), set(0, 1, SIVORANDRA_IDLING), answered(0, 0, 0), run.want[GUARD + 5] = 1, expect("withdraw: a late run", 0, withdraw(1));
+    fresh(), set(0, 1, SIVORANDRA_IDLING), set(USED, RUN - USED, ONES), answered(0, 0, 0), run.want[GUARD + 5] = 4, expect("withdraw: ones past the count", 0, withdraw(3));
+}
+
+/* Words that are a replay's list, and words that are none: not three an entry, another first word, or a last word of a withdrawal. */
 static void lists(void)
 {
     static const uint32_t two[6] = { 0, 1, 1, 0, 2, 1 };
@@ -485,18 +535,23 @@ static void lists(void)
         expect("replay: words of the list", len % 3 != 0, replay(full, TABLE, two, len));
     }
     for (size_t at = 0; at < 2; at++)
-        for (uint32_t kind = 1; kind < 4; kind++) {
+        for (uint32_t kind = 1; kind < 4; kind++) { /* 1 is a withdrawal, whose last word is not 0 here */
             uint32_t entries[6];
             memcpy(entries, two, sizeof two), entries[3 * at] = kind == 3 ? ONES : kind;
             fresh(), expect("replay: no such entry", 1, replay(full, TABLE, entries, 6));
             fresh(), refused(13), expect("replay: no such entry, no start", 0, replay(miss, TABLE, entries, 6));
         }
+    static const uint32_t out[6] = { 1, 1, 0, 1, 4, 0 };
+    fresh(), answered(0, 0, 0), row_bytes(rows, 3), numbers.want[GUARD] = numbers.want[GUARD + 1] = 21 * 256, expect("replay: withdrawals from a full table", 0, replay(full, TABLE, out, 6));
+    uint32_t idling[TABLE];
+    memcpy(idling, full, sizeof idling), idling[2] = SIVORANDRA_IDLING;
+    fresh(), answered(0, 0, 0), row_bytes(rows, 3), numbers.want[GUARD] = 0, numbers.want[GUARD + 1] = 22 * 256, expect("replay: withdrawals", 0, replay(idling, TABLE, out, 6));
     fresh(), numbers.len = 1, expect("replay: a number too few", 1, replay(full, TABLE, two, 6));
 }
 
 int main(void)
 {
-    nulls(), sentences(), tables(), horizons(), bounds(), lengths(), built(), fences(), empty_jobs(), lists(), longest_answers();
+    nulls(), sentences(), tables(), horizons(), bounds(), lengths(), built(), fences(), empty_jobs(), withdrawals(), lists(), longest_answers();
     printf("%u calls, %u wrong\n", calls, wrong);
     return wrong != 0;
 }

@@ -44,6 +44,7 @@ static uint32_t plan(uint32_t a, uint32_t b, size_t len) { return sivorandra_pla
 static uint32_t start(void) { return sivorandra_start(table, words, run, RUN, answer, SIVORANDRA_ANSWER_WORDS); }
 static uint32_t row(uint32_t empties) { return sivorandra_row(run, RUN, empties, rows, SIVORANDRA_ROW_BYTES, answer, SIVORANDRA_ANSWER_WORDS); }
 static uint32_t advance(uint32_t reports, uint32_t empties) { return sivorandra_advance(run, RUN, reports, empties, answer, SIVORANDRA_ANSWER_WORDS); }
+static uint32_t withdraw(uint32_t position) { return sivorandra_withdraw(run, RUN, position, answer, SIVORANDRA_ANSWER_WORDS); }
 static uint32_t sentence(size_t len) { return sivorandra_sentence(table, words, rows, len, answer, SIVORANDRA_ANSWER_WORDS); }
 static uint32_t longest(void) { return sivorandra_longest(table, words, run, SIVORANDRA_MOST_TASKS, answer, SIVORANDRA_ANSWER_WORDS); }
 
@@ -73,6 +74,17 @@ static void numbers(void)
     expect("the same to the advance", advance(0, 1), PASSES, 0);
     fresh(1), start(), advance(0, 0), expect("an empty job a tick after its release", row(1), SIVORANDRA_BAD_EMPTY, 0);
     expect("the same to the advance", advance(0, 1), SIVORANDRA_BAD_EMPTY, 0);
+    fresh(2), start(), expect("position 0", withdraw(0), SIVORANDRA_NO_POSITION, 0);
+    expect("a position past the count", withdraw(3), SIVORANDRA_NO_POSITION, 0);
+    expect("the last position", withdraw(2), PASSES, 0);
+    expect("the same again", withdraw(2), PASSES, 0);
+    expect("an empty bit on a withdrawn task", row(2), PASSES, 0);
+    expect("a report on a withdrawn task", advance(2, 0), SIVORANDRA_BAD_REPORT, 0);
+    fresh(2), table[V] = 2, start(), expect("greedy and a width above the next", withdraw(1), SIVORANDRA_NOT_FIRM, 0);
+    expect("not firm before no position", withdraw(0), SIVORANDRA_NOT_FIRM, 0);
+    fresh(2), table[V] = 2, table[RULE] = SIVORANDRA_LIMITED, start(), expect("the same under limited", withdraw(1), PASSES, 0);
+    fresh(2), table[V] = 2, table[RULE] = SIVORANDRA_IDLING, start(), expect("the same under idling", withdraw(1), PASSES, 0);
+    with(C, 6), start(), expect("no run to withdraw from", withdraw(1), SIVORANDRA_NOT_A_RUN, 0);
     fresh(1), expect("no miss", sentence(sizeof rows), SIVORANDRA_NO_MISS, 0);
     with(C, 6), expect("a short buffer", sentence(1), SIVORANDRA_SHORT_BUFFER, 0);
     with(C, 6), expect("a miss has no longest answers", longest(), SIVORANDRA_TABLE_MISSES, 0);

@@ -28,7 +28,7 @@ pub use refusal::Refusal;
 use std::fmt;
 
 /// The version that these bindings are for: major * 10000 + minor * 100 + patch. `version` is that of the library that is linked.
-pub const VERSION: u32 = 700;
+pub const VERSION: u32 = 900;
 
 /// The most tasks on a chain, and the most records of a table.
 pub const MOST_TASKS: usize = 32;
@@ -58,8 +58,8 @@ pub const TABLE_RECORD_WORDS: usize = 6;
 /// The most words of a table.
 pub const TABLE_WORDS: usize = TABLE_HEAD_WORDS + TABLE_RECORD_WORDS * MOST_TASKS;
 
-/// The words of a run in front of its places: rule, cores, count, and the fence, its low word first.
-pub const RUN_HEAD_WORDS: usize = 5;
+/// The words of a run in front of its places: rule, cores, count, the fence, its low word first, and the set of withdrawn positions.
+pub const RUN_HEAD_WORDS: usize = 6;
 /// The words of a place: O, v, C, D, T, the kind of its phase (0 Coming, 1 Working, 2 Holding, 3 Resting) and its two numbers, 0 for one that it does not have.
 pub const RUN_PLACE_WORDS: usize = 8;
 /// The words that a run takes: it has 32 places, of which the first count are used.
@@ -142,12 +142,18 @@ pub enum Entry {
         /// Bit p: the job of position p + 1, released in this very tick, is empty.
         empties: u32,
     },
+    /// A task taken out, as by `Run::withdraw`; no tick passes.
+    Withdraw {
+        /// The position, from 1.
+        position: u32,
+    },
 }
 
 impl Entry {
     fn words(self) -> [u32; ENTRY_WORDS] {
         match self {
             Entry::Advance { reports, empties } => [0, reports, empties],
+            Entry::Withdraw { position } => [1, position, 0],
         }
     }
 }
@@ -230,6 +236,7 @@ extern "C" {
     ) -> u32;
     fn sivorandra_start(words: *const u32, words_len: usize, run: *mut u32, run_len: usize, answer: *mut u32, answer_len: usize) -> u32;
     fn sivorandra_row(run: *const u32, run_len: usize, empties: u32, row: *mut u8, row_len: usize, answer: *mut u32, answer_len: usize) -> u32;
+    fn sivorandra_withdraw(run: *mut u32, run_len: usize, position: u32, answer: *mut u32, answer_len: usize) -> u32;
     fn sivorandra_sentence(words: *const u32, words_len: usize, buffer: *mut u8, buffer_len: usize, answer: *mut u32, answer_len: usize) -> u32;
     fn sivorandra_facts(bytes: *const u8, bytes_len: usize, facts: *mut u64, facts_len: usize, answer: *mut u32, answer_len: usize) -> u32;
     fn sivorandra_advance(run: *mut u32, run_len: usize, reports: u32, empties: u32, answer: *mut u32, answer_len: usize) -> u32;
@@ -427,7 +434,7 @@ impl Run {
         Ok(Run { words: run })
     }
 
-    /// A run from its words, which may be any: what is no run is refused with 14 by `row` and `advance`.
+    /// A run from its words, which may be any: what is no run is refused with 14 by `row`, `advance` and `withdraw`.
     ///
     /// ```
     /// use sivorandra::{Refusal, Run, RUN_WORDS};
@@ -474,6 +481,18 @@ impl Run {
         self.words[2] as usize
     }
 
+    /// The set of withdrawn positions, bit p for position p + 1. Of words that are no run it is what stands in its place.
+    ///
+    /// ```
+    /// let mut run = sivorandra::Run::start(&[1, 3, 1, 0, 0, 0, 0, 2, 2, 5, 5])?;
+    /// run.withdraw(1)?;
+    /// assert_eq!(run.withdrawn(), 1);
+    /// # Ok::<(), sivorandra::Refusal>(())
+    /// ```
+    pub fn withdrawn(&self) -> u32 {
+        self.words[5]
+    }
+
     /// The row of the present tick, where bit p of `empties` says that the job of position p + 1, released in this very tick, is empty. The run stays as it is: the same set is
     /// to be said to `advance`.
     ///
@@ -508,5 +527,31 @@ impl Run {
     /// ```
     pub fn advance(&mut self, reports: u32, empties: u32) -> Result<(), Refusal> {
         done(ask(|answer, len| unsafe { sivorandra_advance(self.words.as_mut_ptr(), self.words.len(), reports, empties, answer, len) }))
+    }
+
+    /// Takes the task of a position, from 1, out of the run for good, at any time. A job of it that was released before this tick goes on; one released in this very tick, and all
+    /// later ones, are empty, with or without their bit. A refusal leaves the run as it is: 21 where the table is not firm by its rule and widths, 22 where there is no such
+    /// position; 15 is not looked at.
+    ///
+    /// ```
+    /// use sivorandra::{Refusal, Run};
+    ///
+    /// let mut run = Run::start(&[1, 3, 1, 0, 0, 0, 0, 2, 2, 5, 5])?;
+    /// run.advance(0, 0)?;
+    /// run.withdraw(1)?;
+    /// assert_eq!(run.row(0)?[..run.cores()], [1, 1, 0]); // the job of tick 0 goes on
+    /// for _ in 1..5 {
+    ///     run.advance(0, 0)?;
+    /// }
+    /// assert_eq!(run.row(0)?[..run.cores()], [0, 0, 0]); // that of tick 5 is empty
+    /// assert_eq!(run.withdraw(2), Err(Refusal::NoPosition));
+    ///
+    /// // greedy, and the wider task first: the others would not be safe
+    /// let mut full = Run::start(&[1, 3, 1, 0, 0, 2, 0, 2, 2, 5, 5, 0, 0, 1, 4, 5, 5])?;
+    /// assert_eq!(full.withdraw(1), Err(Refusal::NotFirm));
+    /// # Ok::<(), Refusal>(())
+    /// ```
+    pub fn withdraw(&mut self, position: u32) -> Result<(), Refusal> {
+        done(ask(|answer, len| unsafe { sivorandra_withdraw(self.words.as_mut_ptr(), self.words.len(), position, answer, len) }))
     }
 }

@@ -48,7 +48,7 @@ pub enum Refusal {
     PastMiss,
     /// 13, of a start: the verdict is a miss.
     TableMisses,
-    /// 14, of a row or an advance: the words are no run.
+    /// 14, of a row, an advance or a withdrawal: the words are no run.
     NotARun,
     /// 15, of a row or an advance: this position, the lowest that is late, has not ended its job at its deadline.
     Late {
@@ -65,6 +65,10 @@ pub enum Refusal {
     BadFence,
     /// 20, of a row or an advance: an empty job for a position past the count, or for a task whose job is not released in this very tick.
     BadEmpty,
+    /// 21, of a withdrawal: the rule is greedy and some width is above the next one, so that others could be late without a task.
+    NotFirm,
+    /// 22, of a withdrawal: the position is 0 or past the count.
+    NoPosition,
     /// A number that these bindings do not know, from a library that is newer.
     Other {
         /// The number.
@@ -106,6 +110,8 @@ impl Refusal {
             (18, 0) => Refusal::ShortBuffer,
             (19, 0) => Refusal::BadFence,
             (20, 0) => Refusal::BadEmpty,
+            (21, 0) => Refusal::NotFirm,
+            (22, 0) => Refusal::NoPosition,
             (number, position) => Refusal::Other { number, position },
         }
     }
@@ -137,6 +143,8 @@ impl Refusal {
             Refusal::ShortBuffer => 18,
             Refusal::BadFence => 19,
             Refusal::BadEmpty => 20,
+            Refusal::NotFirm => 21,
+            Refusal::NoPosition => 22,
             Refusal::Other { number, .. } => number,
         }
     }
@@ -181,6 +189,8 @@ impl fmt::Display for Refusal {
             Refusal::ShortBuffer => write!(out, "the buffer is shorter than the sentence"),
             Refusal::BadFence => write!(out, "the fence names a core past the count, or all cores"),
             Refusal::BadEmpty => write!(out, "an empty job for a position past the count, or for a task whose job is not released in this tick"),
+            Refusal::NotFirm => write!(out, "the rule is greedy and some width is above the next one, so that others could be late without a task"),
+            Refusal::NoPosition => write!(out, "the position is 0 or past the count"),
             Refusal::Other { position: 0, .. } => write!(out, "turned down"),
             Refusal::Other { position, .. } => write!(out, "turned down at position {position}"),
         }?;

@@ -22,6 +22,7 @@ four = record {
   rule = 1;
   cores = 2;
   fence = 3 + 4 * 2 ^ 32;
+  withdrawn = 5;
   count = 4;
   tasks =
       task 11 12 13 14 15 (Coming 16)
@@ -32,11 +33,11 @@ four = record {
 
 abbrev four-words : List ℕ
 four-words =
-    1 ∷ (2 ∷ (4 ∷ (3 ∷ (4
+    1 ∷ (2 ∷ (4 ∷ (3 ∷ (4 ∷ (5
     ∷ (11 ∷ (12 ∷ (13 ∷ (14 ∷ (15 ∷ (0 ∷ (16 ∷ (0
     ∷ (21 ∷ (22 ∷ (23 ∷ (24 ∷ (25 ∷ (1 ∷ (26 ∷ (27
     ∷ (31 ∷ (32 ∷ (33 ∷ (34 ∷ (35 ∷ (2 ∷ (36 ∷ (37
-    ∷ (41 ∷ (42 ∷ (43 ∷ (44 ∷ (45 ∷ (3 ∷ (46 ∷ (0 ∷ []))))))))))))))))))))))))))))))))))))
+    ∷ (41 ∷ (42 ∷ (43 ∷ (44 ∷ (45 ∷ (3 ∷ (46 ∷ (0 ∷ [])))))))))))))))))))))))))))))))))))))
 
 -- all ones
 abbrev ones : ℕ
@@ -61,7 +62,7 @@ abbrev unused-words : ℕ → List ℕ
 unused-words zero = []
 unused-words (suc n) = 0 ∷ (0 ∷ (0 ∷ (0 ∷ (0 ∷ (3 ∷ (0 ∷ (0 ∷ unused-words n)))))))
 
-pub refused-layout : encode emptyRun ≡ 0 ∷ (0 ∷ (0 ∷ (0 ∷ (0 ∷ unused-words 32))))
+pub refused-layout : encode emptyRun ≡ 0 ∷ (0 ∷ (0 ∷ (0 ∷ (0 ∷ (0 ∷ unused-words 32)))))
 unfolding encodeTo placesWords
 refused-layout = refl
 
@@ -76,6 +77,6 @@ unfolding holds
 one-short = refl
 
 -- all ones below the count are no run
-pub ones-below : decode (1 ∷ (2 ∷ (1 ∷ (0 ∷ (0 ∷ replicate 256 ones))))) ≡ none
+pub ones-below : decode (1 ∷ (2 ∷ (1 ∷ (0 ∷ (0 ∷ (0 ∷ replicate 256 ones)))))) ≡ none
 unfolding holds arePlaces
 ones-below = refl

@@ -1,5 +1,5 @@
 -- Number 14 of a buffer has the causes listed and no other: the places below the count decide whether it holds a run, and the run's own 14 the rest.
--- (`no-run-exact`: what holds no run; `row-fourteen` and `advance-fourteen`: what is answered.)
+-- (`no-run-exact`: what holds no run; `row-fourteen`, `advance-fourteen` and `withdraw-fourteen`: what is answered.)
 use mathlib.Core.Path.{_≡_, refl, sym, ap, _∙_}
 use mathlib.Core.Bool.{Bool, true, false, _&&_, cond, true≢false}
 use mathlib.Core.List.{List}
@@ -14,12 +14,14 @@ use borrow.Author.Tests.{leb-true, leb-false, lt-leb, eqb-false, ne-eqb}
 use Rattle.run.specs.declared.Answer.{Answer}
 use Rattle.run.specs.declared.Answer.the-variants.{Taken, Refused}
 use Rattle.run.specs.declared.Run.{Run}
-use Rattle.run.specs.Numbers.{RunOut, runOut, firstLateIn, misemptiedIn, misreportedIn}
+use Rattle.run.specs.Numbers.{RunOut, runOut, strangerIn, firstLateIn, misemptiedIn, misreportedIn}
+use Rattle.run.specs.Run.{firmIn}
 use Rattle.run.specs.Row.{rowAnswer, rowOf}
 use Rattle.run.specs.Advance.{advanceAnswer, advanceOf}
+use Rattle.run.specs.Withdraw.{withdrawAnswer, withdrawOf}
 use Rattle.run.proofs.Limits.{run-decides}
 use Rattle.capi.specs.Encoding.{headWords, eachWords, kindAt, secondAt, places, wordsTo, runWords, isPhase, isPlace, arePlaces, countIn, holds, runIn, Held, run, none, decode}
-use Rattle.capi.specs.Runs.{rowFrom, advanceFrom}
+use Rattle.capi.specs.Runs.{rowFrom, advanceFrom, withdrawFrom}
 use Rattle.capi.specs.Fourteen.{NoPhase, NoRun, short, many, no-place, BufferOut}
 use Rattle.capi.proofs.Places.{place-at, by-held, held-short, held-many, held-by}
 
@@ -144,6 +146,11 @@ not-misreported : (t : Bool) → cond t (Refused 16 0) Taken ≡ Refused 14 0 �
 not-misreported true e = not-number 16 0 (λ z. omega arith) e
 not-misreported false e = not-taken e
 
+not-withdrawn : (f u : Bool) → cond f (cond u (Refused 22 0) Taken) (Refused 21 0) ≡ Refused 14 0 → ⊥
+not-withdrawn true true e = not-number 22 0 (λ z. omega arith) e
+not-withdrawn true false e = not-taken e
+not-withdrawn false u e = not-number 21 0 (λ z. omega arith) e
+
 module _ (r : Run) (e : ℕ) where
   row-out : rowAnswer r e ≡ Refused 14 0 → RunOut r
   unfolding rowAnswer
@@ -167,6 +174,15 @@ module _ (r : Run) (e : ℕ) where
   advance-out-back : (x : ℕ) → RunOut r → advanceAnswer r x e ≡ Refused 14 0
   unfolding advanceAnswer
   advance-out-back x h = simp (run-decides r .1 h)
+
+module _ (r : Run) (u : Bool) where
+  withdraw-out : withdrawAnswer r u ≡ Refused 14 0 → RunOut r
+  unfolding withdrawAnswer
+  withdraw-out q = run-decides r .0 (fourteen-by (runOut r) _ (not-withdrawn (firmIn r) u) q)
+
+  withdraw-out-back : RunOut r → withdrawAnswer r u ≡ Refused 14 0
+  unfolding withdrawAnswer
+  withdraw-out-back h = simp (run-decides r .1 h)
 
 module _ (ws : List ℕ) where
   -- an answer that goes by what the buffer holds is 14 exactly if 14 applies to the buffer
@@ -193,3 +209,9 @@ module _ (ws : List ℕ) where
   pub advance-fourteen : (x e : ℕ) → (advanceFrom (decode ws) x e ws .answer ≡ Refused 14 0) ↔ BufferOut ws
   unfolding advanceOf
   advance-fourteen x e = by-buffer (λ h. advanceFrom h x e ws .answer) refl (advance-out (runIn ws) e x) (advance-out-back (runIn ws) e x)
+
+  -- and a withdrawal
+  pub withdraw-fourteen : (p : ℕ) → (withdrawFrom (decode ws) p ws .answer ≡ Refused 14 0) ↔ BufferOut ws
+  unfolding withdrawOf
+  withdraw-fourteen p =
+      by-buffer (λ h. withdrawFrom h p ws .answer) refl (withdraw-out (runIn ws) (strangerIn (runIn ws) p)) (withdraw-out-back (runIn ws) (strangerIn (runIn ws) p))

@@ -88,8 +88,15 @@ module _ (n : ℕ) (r : Run) (behind : List ℕ) (all : length (r .tasks) ≡ pl
   run-back : runIn (encodeTo n r ++ behind) ≡ cleared r
   unfolding runIn encodeTo
   run-back =
-      (λ i. record { rule = r .rule; cores = r .cores; fence = fence-back (r .fence) i; count = count-back i; tasks = padded (count-back i) (placesIn (count-back i) written) })
-      ∙ ap (λ (ts : List Task). record { rule = r .rule; cores = r .cores; fence = r .fence; count = r .count; tasks = padded (r .count) ts })
+      (λ i. record {
+        rule = r .rule;
+        cores = r .cores;
+        fence = fence-back (r .fence) i;
+        withdrawn = r .withdrawn;
+        count = count-back i;
+        tasks = padded (count-back i) (placesIn (count-back i) written);
+      })
+      ∙ ap (λ (ts : List Task). record { rule = r .rule; cores = r .cores; fence = r .fence; withdrawn = r .withdrawn; count = r .count; tasks = padded (r .count) ts })
       (places-back (r .count) (take n (r .tasks)) behind within ∙ take-take (r .count) n (r .tasks) few)
 
   pub decode-to : decode (encodeTo n r ++ behind) ≡ run (cleared r)
@@ -168,15 +175,20 @@ words-back ws narrow e =
     let used : take n (padded n read) ≡ read = take-at read (replicate (places - n) unused) n (length-read n (drop headWords ws)) in
     let low : lowWord (fenceIn ws) ≡ getD ws 3 0 = omega (arith, narrow) in
     let high : highWord (fenceIn ws) ≡ getD ws 4 0 = omega (arith, narrow) in
-    (λ i. getD ws 0 0 ∷ (getD ws 1 0 ∷ (counted i ∷ (low i ∷ (high i ∷ (placesWords (used i) ++ drop (wordsTo n) ws))))))
-    ∙ (ap (λ (l : List ℕ). getD ws 0 0 ∷ (getD ws 1 0 ∷ (n ∷ (getD ws 3 0 ∷ (getD ws 4 0 ∷ (placesWords read ++ l)))))) (sym (drop-drop (eachWords * n) headWords ws))
-    ∙ (ap (λ (l : List ℕ). getD ws 0 0 ∷ (getD ws 1 0 ∷ (n ∷ (getD ws 3 0 ∷ (getD ws 4 0 ∷ l))))) (places-forth n (drop headWords ws) (omega arith) (held-places ws e))
+    (λ i. getD ws 0 0 ∷ (getD ws 1 0 ∷ (counted i ∷ (low i ∷ (high i ∷ (getD ws 5 0 ∷ (placesWords (used i) ++ drop (wordsTo n) ws)))))))
+    ∙ (ap (λ (l : List ℕ). head-of (placesWords read ++ l)) (sym (drop-drop (eachWords * n) headWords ws))
+    ∙ (ap head-of (places-forth n (drop headWords ws) (omega arith) (held-places ws e))
     ∙ sym
     (drop-cons ws 0 0 (omega arith)
     ∙ ap (λ (l : List ℕ). getD ws 0 0 ∷ l) (drop-cons ws 1 0 (omega arith)
     ∙ ap (λ (l : List ℕ). getD ws 1 0 ∷ l) (drop-cons ws 2 0 (omega arith)
     ∙ ap (λ (l : List ℕ). getD ws 2 0 ∷ l) (drop-cons ws 3 0 (omega arith)
-    ∙ ap (λ (l : List ℕ). getD ws 3 0 ∷ l) (drop-cons ws 4 0 (omega arith))))))))
+    ∙ ap (λ (l : List ℕ). getD ws 3 0 ∷ l) (drop-cons ws 4 0 (omega arith)
+    ∙ ap (λ (l : List ℕ). getD ws 4 0 ∷ l) (drop-cons ws 5 0 (omega arith)))))))))
+  where
+    -- the words of the head, and what stands behind them
+    head-of : List ℕ → List ℕ
+    head-of l = getD ws 0 0 ∷ (getD ws 1 0 ∷ (countIn ws ∷ (getD ws 3 0 ∷ (getD ws 4 0 ∷ (getD ws 5 0 ∷ l)))))
 
 -- a buffer that is decoded to a run holds it
 pub held-run : (ws : List ℕ) (r : Run) → decode ws ≡ run r → (holds ws ≡ true) × (runIn ws ≡ r)

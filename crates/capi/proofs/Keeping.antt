@@ -13,19 +13,21 @@ use Rattle.run.specs.declared.Row.{Row}
 use Rattle.run.specs.declared.Run.{Run}
 use Rattle.run.specs.declared.Started.{Started}
 use Rattle.run.specs.declared.Advanced.{Advanced}
-use Rattle.model.specs.Book.{Entry}
+use Rattle.model.specs.Book.{Entry, advance, withdraw, only}
 use Rattle.model.specs.Search.{bit}
 use Rattle.model.specs.Sizes.{mostCores}
-use Rattle.run.specs.Run.{moved}
+use Rattle.run.specs.Run.{moved, withdrawnIn}
 use Rattle.run.specs.Answer.{byAnswer}
 use Rattle.run.specs.Start.{startOf}
 use Rattle.run.specs.Row.{noBytes, rowOf}
+use Rattle.run.specs.Numbers.{strangerIn}
 use Rattle.run.specs.Advance.{advanceAnswer, advanceOf}
+use Rattle.run.specs.Withdraw.{withdrawAnswer, withdrawOf}
 use Rattle.demand.specs.Entries.{entryOf}
 use Rattle.capi.specs.Told.{ofAnswer, written}
 use Rattle.capi.specs.Calls.{left, byRoom, room}
 use Rattle.capi.specs.Encoding.{places, runWords, overwritten, countIn, holds, runIn, Held, run, decode}
-use Rattle.capi.specs.Runs.{startCall, rowFrom, rowCall, Advance, kept, entryFrom, advanceFrom, advanceCall}
+use Rattle.capi.specs.Runs.{startCall, rowFrom, rowCall, Entered, kept, entryFrom, advanceFrom, advanceCall, withdrawFrom, withdrawCall}
 use Rattle.capi.proofs.Calls.{both}
 use Rattle.capi.proofs.Places.{by-held, held-few}
 
@@ -84,7 +86,7 @@ module _ (buffer : List ℕ) (e : ℕ) (row answer : List ℕ) where
       (q ∙ ap (λ (v : Row). written (ofAnswer (v .answer)) answer) d)
       ∙ sym (roomy mostCores row answer _ _ h l)
 
--- ADVANCE
+-- ADVANCE AND WITHDRAW
 
 module _ (buffer answer : List ℕ) (x e : ℕ) where
   pub advance-narrow : length answer < 3 → advanceCall buffer x e answer ≡ left 1 (buffer ∷ (answer ∷ []))
@@ -92,25 +94,56 @@ module _ (buffer answer : List ℕ) (x e : ℕ) where
   advance-narrow h = simp (lt-leb 3 (length answer) h)
 
   pub advance-room :
-      (a : Answer) {k m : List ℕ} → 3 ≤ length answer → _≡_ {A = Advance} (record { answer = a; buffer = k }) (advanceFrom (decode buffer) x e buffer)
+      (a : Answer) {k m : List ℕ} → 3 ≤ length answer → _≡_ {A = Entered} (record { answer = a; buffer = k }) (advanceFrom (decode buffer) x e buffer)
       → m ≡ written (ofAnswer a) answer → left 0 (k ∷ (m ∷ [])) ≡ advanceCall buffer x e answer
   unfolding advanceCall
   advance-room a h d q =
       both
-      (ap (λ (v : Advance). v .buffer) d)
-      (q ∙ ap (λ (v : Advance). written (ofAnswer (v .answer)) answer) d)
+      (ap (λ (v : Entered). v .buffer) d)
+      (q ∙ ap (λ (v : Entered). written (ofAnswer (v .answer)) answer) d)
+      ∙ sym (simp (le-leb 3 (length answer) h))
+
+module _ (buffer answer : List ℕ) (p : ℕ) where
+  pub withdraw-narrow : length answer < 3 → withdrawCall buffer p answer ≡ left 1 (buffer ∷ (answer ∷ []))
+  unfolding withdrawCall
+  withdraw-narrow h = simp (lt-leb 3 (length answer) h)
+
+  pub withdraw-room :
+      (a : Answer) {k m : List ℕ} → 3 ≤ length answer → _≡_ {A = Entered} (record { answer = a; buffer = k }) (withdrawFrom (decode buffer) p buffer)
+      → m ≡ written (ofAnswer a) answer → left 0 (k ∷ (m ∷ [])) ≡ withdrawCall buffer p answer
+  unfolding withdrawCall
+  withdraw-room a h d q =
+      both
+      (ap (λ (v : Entered). v .buffer) d)
+      (q ∙ ap (λ (v : Entered). written (ofAnswer (v .answer)) answer) d)
       ∙ sym (simp (le-leb 3 (length answer) h))
 
 -- WHAT A BUFFER HOLDS
 
 -- an entry keeps the count
 pub count-kept : (r : Run) (x : Entry) → entryOf r x .run .count ≡ r .count
-unfolding advanceOf moved
-count-kept r x = go (advanceAnswer r (x .reports) (x .empties))
+unfolding advanceOf withdrawOf
+count-kept r (advance x e) = go (advanceAnswer r x e)
   where
-    go : (a : Answer) → byAnswer a (moved (bit (x .reports)) (x .empties) r) r .count ≡ r .count
+    go : (a : Answer) → byAnswer a (moved (bit x) e r) r .count ≡ r .count
     go Taken = unfold moved in refl
     go (Refused n p) = refl
+count-kept r (withdraw q) = go (withdrawAnswer r (strangerIn r q))
+  where
+    go : (a : Answer) → byAnswer a (withdrawnIn (only q) r) r .count ≡ r .count
+    go Taken = unfold withdrawnIn in refl
+    go (Refused n p) = refl
+
+-- what is kept of an entry, by its answer
+module _ (ws : List ℕ) (a : Advanced) where
+  pub kept-taken :
+      {new : List ℕ} → a .answer ≡ Taken → new ≡ overwritten (a .run .count) (a .run) ws
+      → _≡_ {A = Entered} (record { answer = Taken; buffer = new }) (kept (a .answer) (a .run) ws)
+  kept-taken t n =
+      ap (λ (l : List ℕ). record { answer = Taken; buffer = l }) n ∙ ap (λ (v : Answer). kept v (a .run) ws) (sym t)
+
+  pub kept-refused : {n p : ℕ} → a .answer ≡ Refused n p → _≡_ {A = Entered} (record { answer = Refused n p; buffer = ws }) (kept (a .answer) (a .run) ws)
+  kept-refused t = ap (λ (v : Answer). kept v (a .run) ws) (sym t)
 
 module _ (ws : List ℕ) where
   pub row-held : (e : ℕ) {w : Row} {r : Run} → holds ws ≡ true → r ≡ runIn ws → w ≡ rowOf r e → w ≡ rowFrom (decode ws) e
@@ -128,23 +161,14 @@ module _ (ws : List ℕ) where
         let few = held-few ws h in
         omega arith
 
-    -- an entry on the run that the buffer holds
-    by-entry : (a : Advanced) (r : Run) → holds ws ≡ true → r ≡ runIn ws → a ≡ entryOf r x → kept (a .answer) (a .run) ws ≡ entryFrom (decode ws) x ws
-    by-entry a r h e p =
-        ap (λ (v : Advanced). kept (v .answer) (v .run) ws) (p ∙ ap (λ (q : Run). entryOf q x) e)
-        ∙ ap (λ (v : Held). entryFrom v x ws) (sym (by-held ws h))
+    -- what is kept of an entry on the run that the buffer holds
+    pub entry-held :
+        (a : Advanced) (r : Run) {v : Entered} → holds ws ≡ true → r ≡ runIn ws → a ≡ entryOf r x → v ≡ kept (a .answer) (a .run) ws
+        → v ≡ entryFrom (decode ws) x ws
+    entry-held a r h e p k =
+        k
+        ∙ (ap (λ (v : Advanced). kept (v .answer) (v .run) ws) (p ∙ ap (λ (q : Run). entryOf q x) e)
+        ∙ ap (λ (v : Held). entryFrom v x ws) (sym (by-held ws h)))
 
-    pub entry-taken :
-        (a : Advanced) (r : Run) {new : List ℕ} → holds ws ≡ true → r ≡ runIn ws → a ≡ entryOf r x → a .answer ≡ Taken
-        → new ≡ overwritten (a .run .count) (a .run) ws → _≡_ {A = Advance} (record { answer = Taken; buffer = new }) (entryFrom (decode ws) x ws)
-    entry-taken a r h e p t n =
-        ap (λ (l : List ℕ). record { answer = Taken; buffer = l }) n
-        ∙ (ap (λ (v : Answer). kept v (a .run) ws) (sym t) ∙ by-entry a r h e p)
-
-    pub entry-refused :
-        (a : Advanced) (r : Run) {n p : ℕ} → holds ws ≡ true → r ≡ runIn ws → a ≡ entryOf r x → a .answer ≡ Refused n p
-        → _≡_ {A = Advance} (record { answer = Refused n p; buffer = ws }) (entryFrom (decode ws) x ws)
-    entry-refused a r h e p t = ap (λ (v : Answer). kept v (a .run) ws) (sym t) ∙ by-entry a r h e p
-
-    pub entry-none : holds ws ≡ false → _≡_ {A = Advance} (record { answer = Refused 14 0; buffer = ws }) (entryFrom (decode ws) x ws)
+    pub entry-none : holds ws ≡ false → _≡_ {A = Entered} (record { answer = Refused 14 0; buffer = ws }) (entryFrom (decode ws) x ws)
     entry-none h = ap (λ (v : Held). entryFrom v x ws) (sym (by-held ws h))

@@ -7,7 +7,7 @@ use Prim.Native.Nat.{ℕ, _-_, _≤_}
 use native.Mathlib.Omega.{arith}
 use lib.ListN.{length, take, drop, replicate, length-append, length-drop, length-map, length-replicate, take-append-drop}
 use lib.Seq.{take-at, drop-at}
-use Rattle.model.specs.Book.{Entry}
+use Rattle.model.specs.Book.{Entry, advance, withdraw, only}
 use Rattle.model.specs.Search.{bit}
 use Rattle.model.specs.Task as model
 use Rattle.table.specs.Words.{rule, tableOf}
@@ -15,18 +15,18 @@ use Rattle.run.specs.declared.Answer.{Answer}
 use Rattle.run.specs.declared.Answer.the-variants.{Taken, Refused}
 use Rattle.run.specs.declared.Run.{Run}
 use Rattle.run.specs.declared.Started.{Started}
-use Rattle.run.specs.declared.Advanced.{Advanced}
 use Rattle.phase.specs.declared.Task.{Task}
 use Rattle.phase.specs.Task.{unused, startTask}
-use Rattle.run.specs.Run.{moved}
+use Rattle.run.specs.Run.{moved, withdrawnIn}
 use Rattle.run.specs.Answer.{told, byAnswer}
 use Rattle.run.specs.Start.{startedRun, startAnswer, startOf}
+use Rattle.run.specs.Numbers.{strangerIn}
 use Rattle.run.specs.Advance.{advanceAnswer, advanceOf}
+use Rattle.run.specs.Withdraw.{withdrawAnswer, withdrawOf}
 use Rattle.demand.specs.Entries.{entryOf}
 use Rattle.run.proofs.Places.{length-mapFirst, drop-mapFirst}
 use Rattle.run.proofs.StartExact.{start-of}
 use Rattle.run.proofs.ByVerdict.{start-taken, start-refused}
-use Rattle.run.proofs.Cases.{advance-taken, advance-refused}
 use Rattle.capi.specs.Encoding.{headWords, places, wordsTo, runWords, encodeTo, encode, overwritten, placesIn, countIn, holds, runIn, Held, run, decode, cleared}
 use Rattle.capi.specs.Runs.{startedIn, entryFrom}
 use Rattle.capi.proofs.Places.{length-read, held-long, held-few}
@@ -41,7 +41,7 @@ pub record Fits (r : Run) : Type 0 where
 -- such a run is as it is when it is cleared
 pub clear-fits : (r : Run) → Fits r → cleared r ≡ r
 clear-fits r f =
-    ap (λ (ts : List Task). record { rule = r .rule; cores = r .cores; fence = r .fence; count = r .count; tasks = ts })
+    ap (λ (ts : List Task). record { rule = r .rule; cores = r .cores; fence = r .fence; withdrawn = r .withdrawn; count = r .count; tasks = ts })
     (ap (λ (l : List Task). take (r .count) (r .tasks) ++ l) (sym (f .past)) ∙ take-append-drop (r .count) (r .tasks))
 
 -- START
@@ -83,7 +83,7 @@ start-held ws buffer =
 pub started-back : (ws : List ℕ) → decode (encode (startOf ws .run)) ≡ run (startOf ws .run)
 started-back ws = ap decode (sym (append-nil (encode (startOf ws .run)))) ∙ start-held ws []
 
--- ADVANCE
+-- AN ENTRY
 
 fits-held : (ws : List ℕ) → holds ws ≡ true → Fits (runIn ws)
 unfolding runIn
@@ -109,14 +109,29 @@ fits-moved f e r h = record {
   past = drop-mapFirst _ (r .count) (r .tasks) ∙ h .past;
 }
 
+fits-withdrawn : (x : ℕ) (r : Run) → Fits r → Fits (withdrawnIn x r)
+unfolding withdrawnIn
+fits-withdrawn x r h = record { all = h .all; few = h .few; past = h .past }
+
 -- what an entry returns fits, taken or refused
 pub fits-entered : (r : Run) (x : Entry) → Fits r → Fits (entryOf r x .run)
-unfolding advanceOf
-fits-entered r x f = go (advanceAnswer r (x .reports) (x .empties))
+unfolding advanceOf withdrawOf
+fits-entered r (advance x e) f = go (advanceAnswer r x e)
   where
-    go : (a : Answer) → Fits (byAnswer a (moved (bit (x .reports)) (x .empties) r) r)
-    go Taken = fits-moved (bit (x .reports)) (x .empties) r f
+    go : (a : Answer) → Fits (byAnswer a (moved (bit x) e r) r)
+    go Taken = fits-moved (bit x) e r f
     go (Refused n p) = f
+fits-entered r (withdraw q) f = go (withdrawAnswer r (strangerIn r q))
+  where
+    go : (a : Answer) → Fits (byAnswer a (withdrawnIn (only q) r) r)
+    go Taken = fits-withdrawn (only q) r f
+    go (Refused n p) = f
+
+-- an entry that is refused returns the run as given
+as-given : (r : Run) (x : Entry) (n p : ℕ) → entryOf r x .answer ≡ Refused n p → entryOf r x .run ≡ r
+unfolding advanceOf withdrawOf
+as-given r (advance x e) n p t = ap (λ (a : Answer). byAnswer a (moved (bit x) e r) r) t
+as-given r (withdraw q) n p t = ap (λ (a : Answer). byAnswer a (withdrawnIn (only q) r) r) t
 
 -- a run that fits, written into a long buffer up to its count, is held there
 pub fits-written : (r : Run) (ws : List ℕ) → Fits r → runWords ≤ length ws → decode (overwritten (r .count) r ws) ≡ run r
@@ -134,15 +149,17 @@ pub advance-held :
     → (entryFrom (decode ws) x ws .answer ≡ entryOf r x .answer) × (decode (entryFrom (decode ws) x ws .buffer) ≡ run (entryOf r x .run))
 advance-held ws r x e = (
   ap (λ (h : Held). entryFrom h x ws .answer) e,
-  ap (λ (h : Held). decode (entryFrom h x ws .buffer)) e ∙ go (advanceAnswer r (x .reports) (x .empties)) refl,
+  ap (λ (h : Held). decode (entryFrom h x ws .buffer)) e ∙ go (entryOf r x .answer) refl,
 )
   where
-    After : Advanced → Type 0
-    After v = decode (byAnswer (v .answer) (overwritten (v .run .count) (v .run) ws) ws) ≡ run (v .run)
+    next : Run
+    next = entryOf r x .run
 
-    go : (a : Answer) → advanceAnswer r (x .reports) (x .empties) ≡ a → After (entryOf r x)
+    left : Answer → List ℕ
+    left a = byAnswer a (overwritten (next .count) next ws) ws
+
+    go : (a : Answer) → entryOf r x .answer ≡ a → decode (left (entryOf r x .answer)) ≡ run next
     go Taken t =
         let f = held-fits ws r e in
-        let next = moved (bit (x .reports)) (x .empties) r in
-        subst After (sym (advance-taken r (x .empties) (x .reports) t)) (fits-written next ws (fits-moved (bit (x .reports)) (x .empties) r (f .0)) (f .1))
-    go (Refused n p) t = subst After (sym (advance-refused r (x .empties) (x .reports) n p t)) e
+        ap (λ (a : Answer). decode (left a)) t ∙ fits-written next ws (fits-entered r x (f .0)) (f .1)
+    go (Refused n p) t = ap (λ (a : Answer). decode (left a)) t ∙ (e ∙ ap run (sym (as-given r x n p t)))

@@ -12,5 +12,6 @@ pub mod Listed
 pub mod Past
 pub mod Fourteen
 pub mod Examples
+pub mod RunExamples
 pub mod SentenceExamples
 pub mod FigureExamples

@@ -57,6 +57,7 @@ cleared-unread r all few x e =
       rule = refl;
       cores = refl;
       fence = refl;
+      withdrawn = refl;
       count = refl;
       tasks = sym (take-at (take n (r .tasks)) (replicate (places - n) unused) n (length-take-le n (r .tasks) (omega arith)));
     }) x e
@@ -109,6 +110,7 @@ module _ (ws vs : List ℕ) (s : SameUsed ws vs) where
       rule = sym (same-word 0 (omega arith)) i;
       cores = sym (same-word 1 (omega arith)) i;
       fence = fenceOf (sym (same-word 3 (omega arith)) i) (sym (same-word 4 (omega arith)) i);
+      withdrawn = sym (same-word 5 (omega arith)) i;
       count = sym same-count i;
       tasks = (ap (λ (n : ℕ). padded n (placesIn n (drop headWords vs))) (sym same-count) ∙ ap (padded (countIn ws)) (same-read .read)) i;
     }

@@ -10,11 +10,11 @@ use borrow.Rule.Slice.PartMut.{putMid, postOf, post-is}
 use Rattle.run.specs.declared.Run.{Run}
 use Rattle.capi.specs.Encoding.{headWords, eachWords, placesWords, encodeTo, overwritten}
 
--- the head's five stores, over a list of at least five words
+-- the head's six stores, over a list of at least six words
 pub head-put :
-    (ws : List ℕ) (a b c d e : ℕ) → headWords ≤ length ws
-    → set (set (set (set (set ws 0 a) 1 b) 2 c) 3 d) 4 e ≡ a ∷ (b ∷ (c ∷ (d ∷ (e ∷ drop headWords ws))))
-head-put ws a b c d e h = sets-eq (a ∷ (b ∷ (c ∷ (d ∷ (e ∷ []))))) ws 0 h
+    (ws : List ℕ) (a b c d e f : ℕ) → headWords ≤ length ws
+    → set (set (set (set (set (set ws 0 a) 1 b) 2 c) 3 d) 4 e) 5 f ≡ a ∷ (b ∷ (c ∷ (d ∷ (e ∷ (f ∷ drop headWords ws)))))
+head-put ws a b c d e f h = sets-eq (a ∷ (b ∷ (c ∷ (d ∷ (e ∷ (f ∷ [])))))) ws 0 h
 
 -- a buffer whose head was written: what stands behind the head is as it was
 pub head-behind : (ws vs : List ℕ) (r : Run) (n : ℕ) → vs ≡ overwritten 0 r ws → drop (headWords + n) vs ≡ drop (headWords + n) ws

@@ -1,4 +1,4 @@
--- A run in a lent buffer: rule, cores, count and the fence in two words, then eight words for each of the 32 places. What stands past the count is not looked at.
+-- A run in a lent buffer: rule, cores, count, the fence in two words and the withdrawn set, then eight words for each of the 32 places. What stands past the count is not looked at.
 use mathlib.Core.Bool.{Bool, true, _&&_, _||_, cond}
 use mathlib.Core.List.{List, [], _∷_, _++_}
 use Prim.Native.Nat.{ℕ, zero, suc, _+_, _*_, _-_, _/_, _%_, _^_}
@@ -16,9 +16,9 @@ use Rattle.model.specs.Sizes.{mostTasks}
 
 -- THE SIZES
 
--- the words in front of the places: rule, cores, count, and the fence in two
+-- the words in front of the places: rule, cores, count, the fence in two, and the withdrawn set
 abbrev pub headWords : ℕ
-headWords = 5
+headWords = 6
 
 -- the words of a place
 abbrev pub eachWords : ℕ
@@ -83,7 +83,8 @@ highWord fence = fence / 2 ^ 32
 
 -- the head of a run and its first n places
 unfoldable pub encodeTo : ℕ → Run → List ℕ
-encodeTo n r = r .rule ∷ (r .cores ∷ (countWord (r .count) ∷ (lowWord (r .fence) ∷ (highWord (r .fence) ∷ placesWords (take n (r .tasks))))))
+encodeTo n r =
+    r .rule ∷ (r .cores ∷ (countWord (r .count) ∷ (lowWord (r .fence) ∷ (highWord (r .fence) ∷ (r .withdrawn ∷ placesWords (take n (r .tasks)))))))
 
 -- a run in words: the head and all places
 abbrev pub encode : Run → List ℕ
@@ -146,7 +147,14 @@ fenceIn ws = fenceOf (getD ws 3 0) (getD ws 4 0)
 
 -- the run that stands in front of the buffer
 unfoldable pub runIn : List ℕ → Run
-runIn ws = record { rule = getD ws 0 0; cores = getD ws 1 0; fence = fenceIn ws; count = countIn ws; tasks = padded (countIn ws) (placesIn (countIn ws) (drop headWords ws)) }
+runIn ws = record {
+  rule = getD ws 0 0;
+  cores = getD ws 1 0;
+  fence = fenceIn ws;
+  withdrawn = getD ws 5 0;
+  count = countIn ws;
+  tasks = padded (countIn ws) (placesIn (countIn ws) (drop headWords ws));
+}
 
 -- what a buffer holds
 pub data Held : Type 0 where
@@ -159,4 +167,11 @@ decode ws = cond (holds ws) (run (runIn ws)) none
 
 -- a run with its places past the count cleared: zeros and Resting(0), as start leaves them
 abbrev pub cleared : Run → Run
-cleared r = record { rule = r .rule; cores = r .cores; fence = r .fence; count = r .count; tasks = padded (r .count) (take (r .count) (r .tasks)) }
+cleared r = record {
+  rule = r .rule;
+  cores = r .cores;
+  fence = r .fence;
+  withdrawn = r .withdrawn;
+  count = r .count;
+  tasks = padded (r .count) (take (r .count) (r .tasks));
+}

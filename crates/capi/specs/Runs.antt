@@ -1,4 +1,4 @@
--- What start, row and advance leave, where the run is held in a lent buffer of words.
+-- What start, row, advance and withdraw leave, where the run is held in a lent buffer of words.
 use mathlib.Core.Bool.{_&&_}
 use mathlib.Core.List.{List, [], _∷_, _++_}
 use Prim.Native.Nat.{ℕ}
@@ -11,7 +11,7 @@ use Rattle.run.specs.declared.Run.{Run}
 use Rattle.run.specs.Answer.{byAnswer}
 use Rattle.run.specs.Start.{startOf}
 use Rattle.run.specs.Row.{noBytes, rowOf}
-use Rattle.model.specs.Book.{Entry}
+use Rattle.model.specs.Book.{Entry, advance, withdraw}
 use Rattle.demand.specs.Entries.{entryOf}
 use Rattle.capi.specs.Told.{ofAnswer, written}
 use Rattle.capi.specs.Calls.{Left, byRoom, room}
@@ -42,25 +42,34 @@ rowCall buffer e row answer =
     ((w .bytes ++ drop mostCores row) ∷ (written (ofAnswer (w .answer)) answer ∷ []))
     (row ∷ (answer ∷ []))
 
--- an advance's answer, and the buffer afterwards
-pub record Advance : Type 0 where
+-- an entry's answer, and the buffer afterwards
+pub record Entered : Type 0 where
   pub answer : Answer
   pub buffer : List ℕ
 
--- the run one tick on, with the places below its count; a refusal leaves the buffer as found
-abbrev pub kept : Answer → Run → List ℕ → Advance
+-- the run that an entry returns, with the places below its count; a refusal leaves the buffer as found
+abbrev pub kept : Answer → Run → List ℕ → Entered
 kept a r ws = record { answer = a; buffer = byAnswer a (overwritten (r .count) r ws) ws }
 
 -- an entry of a list on the run that a buffer holds; 14 where it holds none
-abbrev pub entryFrom : Held → Entry → List ℕ → Advance
+abbrev pub entryFrom : Held → Entry → List ℕ → Entered
 entryFrom (run r) x ws = kept (entryOf r x .answer) (entryOf r x .run) ws
 entryFrom none x ws = record { answer = Refused 14 0; buffer = ws }
 
 -- an advance with reports x and empties e
-abbrev pub advanceFrom : Held → ℕ → ℕ → List ℕ → Advance
-advanceFrom h x e ws = entryFrom h (record { reports = x; empties = e }) ws
+abbrev pub advanceFrom : Held → ℕ → ℕ → List ℕ → Entered
+advanceFrom h x e ws = entryFrom h (advance x e) ws
 
 unfoldable pub advanceCall : List ℕ → ℕ → ℕ → List ℕ → Left
 advanceCall buffer x e answer =
     let a = advanceFrom (decode buffer) x e buffer in
+    byRoom (room answer) (a .buffer ∷ (written (ofAnswer (a .answer)) answer ∷ [])) (buffer ∷ (answer ∷ []))
+
+-- the withdrawal of position p
+abbrev pub withdrawFrom : Held → ℕ → List ℕ → Entered
+withdrawFrom h p ws = entryFrom h (withdraw p) ws
+
+unfoldable pub withdrawCall : List ℕ → ℕ → List ℕ → Left
+withdrawCall buffer p answer =
+    let a = withdrawFrom (decode buffer) p buffer in
     byRoom (room answer) (a .buffer ∷ (written (ofAnswer (a .answer)) answer ∷ [])) (buffer ∷ (answer ∷ []))

@@ -31,7 +31,7 @@ abbrev pub ofPlanned : Planned → Told
 ofPlanned plan.Written = says 0 0 0
 ofPlanned (plan.Refused n p) = says 3 n p
 
--- start, row and advance: 0 taken, 3 Refused number position
+-- start, row, advance and withdraw: 0 taken, 3 Refused number position
 abbrev pub ofAnswer : Answer → Told
 ofAnswer run.Taken = says 0 0 0
 ofAnswer (run.Refused n p) = says 3 n p

@@ -1,23 +1,24 @@
-// A run in a lent buffer of words: its head, and then its places, of which those past the count are neither read nor changed by row and advance.
+// A run in a lent buffer of words: its head, and then its places, of which those past the count are neither read nor changed by row, advance and withdraw.
 ghost use mathlib.Core.Path.{_≡_};
 ghost use mathlib.Core.List.{_++_};
 ghost use Prim.Native.Nat.{_+_, _≤_};
 ghost use lib.ListN.{length, drop};
 ghost use Rattle.capi.specs.Encoding.{headWords, eachWords, places, runWords, ofPhase, placeWith, countWord, lowWord, highWord};
 ghost use Rattle.capi.specs.Encoding.{overwritten, phaseOf, isPhase, placeIn, countIn, holds, runIn, decode};
-ghost use Rattle.capi.specs.Runs.{rowFrom, advanceFrom};
+ghost use Rattle.capi.specs.Runs.{rowFrom, kept, advanceFrom, withdrawFrom};
 ghost use Rattle.model.specs.Sizes.{mostCores};
 use crate::told::Told;
 use model::ROW;
 use phase::Phase;
 use phase::Task;
+use run::Advanced;
 use run::Answer;
 use run::Row;
 use run::Run;
 use table::limits::HIGH;
 
-// The words in front of the places: rule, cores, count, and the fence in two.
-const HEAD: usize = 5;
+// The words in front of the places: rule, cores, count, the fence in two, and the withdrawn set.
+const HEAD: usize = 6;
 // The words of a place.
 const EACH: usize = 8;
 // Where a place has the kind of its phase ..
@@ -105,6 +106,7 @@ fn put_head(run: Run, words: &mut [u32])
     words[2] = count_word(run.count);
     words[3] = low_word(run.fence);
     words[4] = high_word(run.fence);
+    words[5] = run.withdrawn;
 }
 
 // Writes the head and the first `shown` places of the run; what stands behind them stays.
@@ -204,6 +206,7 @@ pub(crate) fn run_in(words: &[u32]) -> Run
         rule: words[0],
         cores: words[1],
         fence: fence,
+        withdrawn: words[5],
         count: count,
         tasks: tasks,
     }
@@ -236,6 +239,22 @@ pub(crate) fn put_row(bytes: [u8; ROW], row: &mut [u8])
     }
 }
 
+// Writes the run that an entry returned, up to its count, where it is taken; a refusal leaves the words as found. Hands the answer on.
+fn keep(entered: Advanced, words: &mut [u32]) -> Answer
+    requires { ⌜ (entered .run .count ≤ places) × (runWords ≤ length (now words)) ⌝ }
+    ensures { λ r. ⌜ record { answer = r; buffer = now (words .exit) } ≡ kept (entered .answer) (entered .run) (now (words .entry)) ⌝ }
+{
+    let answer = entered.answer;
+    match answer {
+        Answer::Taken => {
+            let next = entered.run;
+            put_run(next, next.count, words);
+            Answer::Taken
+        }
+        Answer::Refused(number, position) => Answer::Refused(number, position),
+    }
+}
+
 // Advances the run that the buffer holds, and leaves the words past its count; 14 where it holds none.
 pub(crate) fn advance(words: &mut [u32], reports: u32, empties: u32) -> Answer
     ensures { λ r. ⌜ record { answer = r; buffer = now (words .exit) } ≡ advanceFrom (decode (now (words .entry))) reports empties (now (words .entry)) ⌝ }
@@ -243,17 +262,19 @@ pub(crate) fn advance(words: &mut [u32], reports: u32, empties: u32) -> Answer
     if holds(words) {
         let held = run_in(words);
         let advanced = held.advance(reports, empties);
-        let answer = advanced.answer;
-        match answer {
-            Answer::Taken => {
-                let next = advanced.run;
-                put_run(next, next.count, words);
-                return Answer::Taken;
-            }
-            Answer::Refused(number, position) => {
-                return Answer::Refused(number, position);
-            }
-        }
+        return keep(advanced, words);
+    }
+    Answer::Refused(14, 0)
+}
+
+// Withdraws a position of the run that the buffer holds, and leaves the words past its count; 14 where it holds none.
+pub(crate) fn withdraw(words: &mut [u32], position: u32) -> Answer
+    ensures { λ r. ⌜ record { answer = r; buffer = now (words .exit) } ≡ withdrawFrom (decode (now (words .entry))) position (now (words .entry)) ⌝ }
+{
+    if holds(words) {
+        let held = run_in(words);
+        let withdrawn = held.withdraw(position);
+        return keep(withdrawn, words);
     }
     Answer::Refused(14, 0)
 }

@@ -1,4 +1,4 @@
--- The answers of an advance as numbers: each answer is small, and the numbers of a list tell its answers.
+-- The answers of an entry as numbers: each answer is small, and the numbers of a list tell its answers.
 use mathlib.Core.Path.{_≡_, refl, ap}
 use mathlib.Core.Bool.{Bool, true, false, cond}
 use mathlib.Core.List.{List, [], _∷_, map}
@@ -12,16 +12,18 @@ use Rattle.run.specs.declared.Run.{Run}
 use Rattle.run.specs.declared.Answer.{Answer}
 use Rattle.run.specs.declared.Answer.the-variants.{Taken, Refused}
 use Rattle.run.specs.Answer.{told}
-use Rattle.run.specs.Numbers.{runOut, firstLateIn, misemptiedIn, misreportedIn}
+use Rattle.run.specs.Run.{firmIn}
+use Rattle.run.specs.Numbers.{runOut, strangerIn, firstLateIn, misemptiedIn, misreportedIn}
 use Rattle.run.specs.Advance.{advanceAnswer, advanceOf}
+use Rattle.run.specs.Withdraw.{withdrawAnswer, withdrawOf}
 use Rattle.run.proofs.RunOut.{few}
 use Rattle.demand.specs.Entries.{entryOf, answers}
 use Rattle.demand.specs.Replay.{code, Small, codes}
 
--- the answers of an advance are small
-pub small-answer : (r : Run) (x e : ℕ) → Small (told (advanceOf r x e .answer))
+-- the answers of an advance are small ..
+small-advance : (r : Run) (x e : ℕ) → Small (told (advanceOf r x e .answer))
 unfolding advanceOf advanceAnswer
-small-answer r x e = by-out (runOut r) refl
+small-advance r x e = by-out (runOut r) refl
   where
     by-sets : (t u : Bool) → Small (told (cond t (Refused 20 0) (cond u (Refused 16 0) Taken)))
     by-sets true u = ((omega arith, omega arith), omega arith)
@@ -39,6 +41,21 @@ small-answer r x e = by-out (runOut r) refl
         → Small (told (cond t (Refused 14 0) (cond (ltb (firstLateIn r) (r .count)) (Refused 15 (suc (firstLateIn r))) rest)))
     by-out true q = ((omega arith, omega arith), omega arith)
     by-out false q = by-late q (ltb (firstLateIn r) (r .count)) refl
+
+-- .. and those of a withdrawal
+small-withdraw : (r : Run) (p : ℕ) → Small (told (withdrawOf r p .answer))
+unfolding withdrawOf withdrawAnswer
+small-withdraw r p = go (runOut r) (firmIn r) (strangerIn r p)
+  where
+    go : (t u v : Bool) → Small (told (cond t (Refused 14 0) (cond u (cond v (Refused 22 0) Taken) (Refused 21 0))))
+    go true u v = ((omega arith, omega arith), omega arith)
+    go false false v = ((omega arith, omega arith), omega arith)
+    go false true true = ((omega arith, omega arith), omega arith)
+    go false true false = tt
+
+pub small-answer : (r : Run) (x : model.Entry) → Small (told (entryOf r x .answer))
+small-answer r (model.advance x e) = small-advance r x e
+small-answer r (model.withdraw p) = small-withdraw r p
 
 -- LAW: no two small answers have the same number ..
 pub code-tells : (a b : model.Answer) → Small a → Small b → code a ≡ code b → a ≡ b
@@ -60,6 +77,6 @@ codes-tell r s (x ∷ xs) (y ∷ ys) e =
     let a : code (told (entryOf r x .answer)) ≡ code (told (entryOf s y .answer)) = cc in
     let b : codes (entryOf r x .run) xs ≡ codes (entryOf s y .run) ys = cc in
     let u = code-tells (told (entryOf r x .answer)) (told (entryOf s y .answer))
-    (small-answer r (x .reports) (x .empties)) (small-answer s (y .reports) (y .empties)) a in
+    (small-answer r x) (small-answer s y) a in
     let v = codes-tell (entryOf r x .run) (entryOf s y .run) xs ys b in
     λ i. u i ∷ v i

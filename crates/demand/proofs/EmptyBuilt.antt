@@ -4,7 +4,7 @@ use mathlib.Core.List.{List, [], _∷_, map}
 use mathlib.Core.Path.{_≡_, refl}
 use Prim.Native.Nat.{ℕ}
 use Prim.Native.String.{String}
-use Rattle.model.specs.Book.{Entry}
+use Rattle.model.specs.Book.{Entry, advance}
 use Rattle.model.specs.Grants.{claimants, given, grants, left}
 use Rattle.model.specs.Row.{owner, row}
 use Rattle.model.specs.Search.{any, kept, least, memb, upFrom}
@@ -16,7 +16,7 @@ use Rattle.run.specs.declared.Answer.{Answer}
 use Rattle.run.specs.declared.Answer.the-variants.{Taken, Refused}
 use Rattle.run.specs.declared.Row.{Row}
 use Rattle.run.specs.Run.{grantsIn, mapFirst, moved}
-use Rattle.run.specs.Numbers.{runOut, firstLateIn, misemptiedIn, misreportedIn}
+use Rattle.run.specs.Numbers.{pastCount, runOut, firstLateIn, misemptiedIn, misreportedIn}
 use Rattle.run.specs.Advance.{advanceAnswer, advanceOf}
 use Rattle.run.specs.Row.{rowAnswer, bytesIn, rowOf}
 use Rattle.demand.specs.Entries.{answers, after}
@@ -31,32 +31,32 @@ abbrev pub worked-named : Named → Named
 worked-named l = record { name = l .name; line = worked (l .line) }
 
 -- an advance with a set of reports and a set of empty jobs, and one with both empty
-abbrev sets : ℕ → ℕ → Entry
-sets x e = record { reports = x; empties = e }
+abbrev pub sets : ℕ → ℕ → Entry
+sets x e = advance x e
 
-abbrev none : Entry
+abbrev pub none : Entry
 none = sets 0 0
 
--- from its parts: the run, the advances, their answers, the rows, the run after
-abbrev built : String → Run → List Entry → List Answer → List Row → Run → Named
-built n r xs gs ws e = record { name = n; line = record { from = r; advances = xs; gets = gs; shows = ws; ends = e } }
+-- from its parts: the run, the list, its answers, the rows, the run after
+abbrev pub built : String → Run → List Entry → List Answer → List Row → Run → Named
+built n r xs gs ws e = record { name = n; line = record { from = r; entries = xs; gets = gs; shows = ws; ends = e } }
 
 -- 20 and 16, and a row refused by 20
-abbrev empty-no : Answer
+abbrev pub empty-no : Answer
 empty-no = Refused 20 0
 
-abbrev report-no : Answer
+abbrev pub report-no : Answer
 report-no = Refused 16 0
 
-abbrev row-20 : Row
+abbrev pub row-20 : Row
 row-20 = no 20 0
 
 -- one task (0, 1, 3, 4, 6) on one core in a phase, under a rule
-abbrev single : ℕ → Phase → Run
+abbrev pub single : ℕ → Phase → Run
 single r ph = one r 1 (t 0 1 3 4 6 ph)
 
 -- C, D and T of 1
-abbrev least-one : ℕ → Phase → Run
+abbrev pub least-one : ℕ → Phase → Run
 least-one r ph = one r 1 (t 0 1 1 1 1 ph)
 
 -- two tasks as wide as two cores, under greedy
@@ -121,7 +121,7 @@ empty-lines =
 
 -- every line is what the definitions say, line by line
 computed : LineByLine worked-named empty-lines empty-lines
-unfolding any least memb upFrom kept owner row given left grants claimants answers after rows advanceOf advanceAnswer rowOf rowAnswer bytesIn runOut
+unfolding any least memb upFrom kept owner row given left grants claimants answers after rows advanceOf advanceAnswer rowOf rowAnswer bytesIn pastCount runOut
     firstLateIn misemptiedIn misreportedIn grantsIn mapFirst moved
 computed = (refl, (refl, (refl, (refl, (refl, (refl, (refl, (refl, (refl, (refl, (refl, (refl, (refl, (refl, (refl, (refl, (refl, (refl, (refl, (refl, (refl, (refl, (refl, tt)))))))))))))))))))))))
 

@@ -1,5 +1,5 @@
--- The marked lines of the table of examples, and those with empty jobs, through `replay`: what its contract says of the words of a line's table and of the
--- line's advances is what the line says.
+-- The marked lines of the table of examples, and those with empty jobs and with withdrawals, through `replay`: what its contract says of the words of a
+-- line's table and of the line's list is what the line says.
 -- So B with its report shows the right side of figure 2 of Goossens and Berten row by row, up to the miss; and B3 with the same report shows the rows that it shows without.
 use mathlib.Core.Path.{_≡_, refl, sym, ap, _∙_, subst}
 use mathlib.Core.List.{List, [], _∷_, map, _++_}
@@ -7,16 +7,18 @@ use Prim.Native.Nat.{ℕ, zero, suc, _/_, _%_, _^_, _≤_}
 use native.Mathlib.Nat.{not-suc-le-zero, le-of-suc-le-suc}
 use lib.ListN.{length, getD, take, drop}
 use lib.Seq.{length-take-le}
-use Rattle.model.specs.Book.{Book, Entry, Answer, taken, refused, Asked, shown, answersFrom, bookFrom, emptyBook, book, enter, asked, quiet, rowsFrom}
+use Rattle.model.specs.Book.{Book, Entry, emptiesOf, Answer, taken, refused, Asked, shown, answersFrom, bookFrom, emptyBook, book, enter, asked, quiet, rowsFrom}
 use Rattle.model.specs.Book.{claims, full, served, step, work}
 use Rattle.model.specs.Grants.{claimants, given, grants, left}
 use Rattle.model.specs.Horizon.{S, horizon, hyperperiod, lcm}
 use Rattle.model.specs.Search.{any, kept, least, memb, upFrom}
 use Rattle.model.specs.Task.{Table, Task, Rule, greedy, limited, idling}
-use Rattle.model.specs.Verdict.{Verdict, Firm, Full, Miss, firm, firstMiss, missedAt, missedIn, rising, verdict}
+use Rattle.model.specs.Firm.{firm, rising}
+use Rattle.model.specs.Verdict.{Verdict, Firm, Full, Miss, firstMiss, missedAt, missedIn, verdict}
 use Rattle.model.proofs.LineByLine.{LineByLine, by-line}
 use Rattle.model.proofs.Examples.{Line, worked, lines, examples}
 use Rattle.model.proofs.EmptyExamples.{empty-lines, empty-examples}
+use Rattle.model.proofs.WithdrawExamples.{withdraw-lines, withdraw-examples}
 use Rattle.table.specs.Words.{met, count, chain, tableOf}
 use Rattle.table.specs.Answer.{headerNumber, lastStep, endingOf, firstOut, byHorizon, byTasks, byWalk, answerOf}
 use Rattle.judge.specs.Judged.{verdictOf}
@@ -50,13 +52,13 @@ wordsOf l = 1 ∷ l .table .cores ∷ numberOf (l .table .rule) ∷ l .table .fe
 
 -- WHAT IS SHOWN OF A LINE
 
--- a replay of its first k advances writes its first k answers, and is told its row k where that is asked with no empty job, as a replay asks
+-- a replay of its first k entries writes its first k answers, and is told its row k where that is asked with no empty job, as a replay asks
 abbrev pub Shows : Line → Type 0
 Shows l =
-    (k : ℕ) → k ≤ length (l .advances) → (numbers bytes : List ℕ) (o : Outcome)
-    → ReplayOf (wordsOf l) (listing (take k (l .advances))) numbers bytes o → Fits (listing (take k (l .advances))) numbers bytes
+    (k : ℕ) → k ≤ length (l .entries) → (numbers bytes : List ℕ) (o : Outcome)
+    → ReplayOf (wordsOf l) (listing (take k (l .entries))) numbers bytes o → Fits (listing (take k (l .entries))) numbers bytes
     → (o .numbers ≡ map code (take k (l .answers)) ++ drop k numbers)
-    × (getD (l .advances) k quiet .empties ≡ 0 → rowSaid (o .answer) (take 64 (o .bytes)) ≡ askedIn64 (getD (l .rows) k (shown [])))
+    × (emptiesOf (getD (l .entries) k quiet) ≡ 0 → rowSaid (o .answer) (take 64 (o .bytes)) ≡ askedIn64 (getD (l .rows) k (shown [])))
 
 -- a replay of any words is refused by 13, and everything is as found
 abbrev pub Misses : Line → Type 0
@@ -78,10 +80,10 @@ answers-take s b xs zero = refl
 answers-take s b [] (suc k) = refl
 answers-take s b (x ∷ xs) (suc k) = ap (λ (l : List Answer). answersFrom s b (x ∷ []) ++ l) (answers-take s (enter s x b) xs k)
 
--- row k is asked with the empty jobs of the advance that follows it
+-- row k is asked with the empty jobs of the entry that follows it
 rows-at :
     (s : Table) (b : Book) (xs : List Entry) (k : ℕ) (d : Asked) → k ≤ length xs
-    → getD (rowsFrom s b xs) k d ≡ asked s (bookFrom s b (take k xs)) (getD xs k quiet .empties)
+    → getD (rowsFrom s b xs) k d ≡ asked s (bookFrom s b (take k xs)) (emptiesOf (getD xs k quiet))
 unfolding rowsFrom bookFrom
 rows-at s b [] zero d h = refl
 rows-at s b (x ∷ xs) zero d h = refl
@@ -98,12 +100,12 @@ module _ (l : Line) (works : worked l ≡ l) (table : tableOf (wordsOf l) ≡ l 
   shows : told (startOf (wordsOf l) .answer) ≡ taken → Shows l
   shows start k h numbers bytes o r fit = (
     b .each-answer ∙ (ap (λ (al : List Answer). map code al ++ drop (length xs) numbers) said
-        ∙ ap (λ (n : ℕ). map code (take k (l .answers)) ++ drop n numbers) (length-take-le k (l .advances) h)),
+        ∙ ap (λ (n : ℕ). map code (take k (l .answers)) ++ drop n numbers) (length-take-le k (l .entries) h)),
     λ q. b .row-after ∙ ap askedIn64 (row q),
   )
     where
       xs : List Entry
-      xs = take k (l .advances)
+      xs = take k (l .entries)
 
       b : ByTheBook (wordsOf l) xs numbers bytes o
       b = subst (λ (ys : List Entry). ByTheBook (wordsOf l) ys numbers bytes o) (entries-listing xs) (r .book (start-taken (wordsOf l) .0 start) fit)
@@ -111,13 +113,13 @@ module _ (l : Line) (works : worked l ≡ l) (table : tableOf (wordsOf l) ≡ l 
       said : answersFrom (tableOf (wordsOf l)) emptyBook xs ≡ take k (l .answers)
       said =
           ap (λ (s : Table). answersFrom s emptyBook xs) table
-          ∙ (answers-take (l .table) emptyBook (l .advances) k ∙ ap (λ (m : Line). take k (m .answers)) works)
+          ∙ (answers-take (l .table) emptyBook (l .entries) k ∙ ap (λ (m : Line). take k (m .answers)) works)
 
-      row : getD (l .advances) k quiet .empties ≡ 0 → asked (tableOf (wordsOf l)) (book (tableOf (wordsOf l)) xs) 0 ≡ getD (l .rows) k (shown [])
+      row : emptiesOf (getD (l .entries) k quiet) ≡ 0 → asked (tableOf (wordsOf l)) (book (tableOf (wordsOf l)) xs) 0 ≡ getD (l .rows) k (shown [])
       row q =
           ap (λ (s : Table). asked s (book s xs) 0) table
           ∙ (ap (asked (l .table) (book (l .table) xs)) (sym q)
-          ∙ (sym (rows-at (l .table) emptyBook (l .advances) k (shown []) h) ∙ ap (λ (m : Line). getD (m .rows) k (shown [])) works))
+          ∙ (sym (rows-at (l .table) emptyBook (l .entries) k (shown []) h) ∙ ap (λ (m : Line). getD (m .rows) k (shown [])) works))
 
   misses : told (startOf (wordsOf l) .answer) ≡ refused 13 0 → Misses l
   misses start es numbers bytes o r =
@@ -171,6 +173,12 @@ unfolding expected records startOf startAnswer verdictOf answerOf byWalk byTasks
     full
 begun-empty = (refl, (refl, (refl, (refl, (refl, (refl, (refl, (refl, (refl, (refl, (refl, (refl, (refl, (refl, (refl, tt)))))))))))))))
 
+begun-withdraw : LineByLine begins withdraw-lines (map expected withdraw-lines)
+unfolding expected records startOf startAnswer verdictOf answerOf byWalk byTasks byHorizon firstOut endingOf lastStep headerNumber tableOf chain count met
+    verdict firstMiss missedIn missedAt firm rising horizon S hyperperiod lcm least any memb upFrom kept given left grants claimants claims served work step
+    full
+begun-withdraw = (refl, (refl, (refl, (refl, (refl, (refl, (refl, (refl, (refl, (refl, (refl, (refl, (refl, (refl, tt))))))))))))))
+
 -- what the definitions say of lines, the contract says of them through `replay`
 through : (ls : List Line) → map worked ls ≡ ls → LineByLine begins ls (map expected ls) → Each (λ l. ByVerdict (l .says) l) ls
 through ls works starts =
@@ -189,3 +197,7 @@ through-replay = through lines examples begun
 -- and every line with empty jobs
 pub empty-through-replay : Each (λ l. ByVerdict (l .says) l) empty-lines
 empty-through-replay = through empty-lines empty-examples begun-empty
+
+-- and every line with withdrawals
+pub withdraw-through-replay : Each (λ l. ByVerdict (l .says) l) withdraw-lines
+withdraw-through-replay = through withdraw-lines withdraw-examples begun-withdraw

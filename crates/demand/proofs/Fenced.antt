@@ -5,9 +5,8 @@ use mathlib.Core.Path.{_≡_, refl, ap, _∙_}
 use Prim.Native.Nat.{ℕ, suc}
 use lib.Dec.{ltb}
 use lib.ListN.{length}
-use Rattle.model.specs.Book.{Book, Entry, asked, book, emptiable, emptied, firstLate, late, misemptied, rowOf, rowRefused, shown, taken}
+use Rattle.model.specs.Book.{Book, Entry, asked, book, emptiable, emptied, emptyIn, firstLate, late, misemptied, rowOf, rowRefused, shown, taken}
 use Rattle.model.specs.Fence.{justOpen}
-use Rattle.model.specs.Search.{bit}
 use Rattle.model.specs.Task.{Table}
 use Rattle.model.proofs.Fence.{fence-lists, fence-row}
 use Rattle.table.specs.Words.{tableOf}
@@ -22,7 +21,7 @@ unfolding asked late misemptied emptiable emptied
 spread-asked s b e = go (ltb (firstLate s b) (length (s .tasks))) (misemptied s b e)
   where
     c : Book
-    c = emptied s (bit e) b
+    c = emptied s (emptyIn b e) b
 
     go : (t u : Bool)
         → cond t (rowRefused 15 (suc (firstLate s b))) (cond u (rowRefused 20 0) (shown (rowOf s c)))

@@ -24,7 +24,7 @@ use Rattle.demand.proofs.Words.{stands-start}
 pub follows : (ws : List ℕ) → told (startOf ws .answer) ≡ taken → (xs : List Entry) → Follows ws xs
 follows ws e xs = record {
   each-answer = same;
-  list-tick = ap takenIn same ∙ sym (tick-taken (tableOf ws) xs);
+  list-tick = ap (takenIn xs) same ∙ sym (tick-taken (tableOf ws) xs);
   row-after = same-asked (tableOf ws) ok (book (tableOf ws) xs) (after (begun ws) xs) stands;
   passes = fails (runOut last) (RunOut last) (run-decides last) (passes-runs last (stands .passes));
 }

@@ -4,7 +4,7 @@ use mathlib.Core.List.{List, [], _∷_, _++_, map}
 use mathlib.Core.Path.{_≡_, refl}
 use Prim.Native.Nat.{ℕ, _-_, _^_}
 use lib.ListN.{drop, replicate}
-use Rattle.model.specs.Book.{Entry}
+use Rattle.model.specs.Book.{Entry, advance, emptiesOf}
 use Rattle.model.specs.Grants.{claimants, given, grants, left}
 use Rattle.model.specs.Row.{owner, row}
 use Rattle.model.specs.Search.{any, kept, least, memb, upFrom}
@@ -19,37 +19,37 @@ use Rattle.run.specs.declared.Row.{Row}
 use Rattle.phase.specs.Task.{unused}
 use Rattle.run.specs.Run.{grantsIn, mapFirst, moved}
 use Rattle.run.specs.Answer.{in64}
-use Rattle.run.specs.Numbers.{runOut, firstLateIn, misemptiedIn, misreportedIn}
+use Rattle.run.specs.Numbers.{pastCount, runOut, firstLateIn, misemptiedIn, misreportedIn}
 use Rattle.run.specs.Advance.{advanceAnswer, advanceOf}
 use Rattle.run.specs.Row.{rowAnswer, bytesIn, noBytes, rowOf}
 use Rattle.demand.specs.Entries.{entryOf, answers, after}
 
--- the row asked before each advance of the list with its empty jobs, and after the last with none
+-- the row asked before each entry of the list with its empty jobs, and after the last with none
 unfoldable pub rows : Run → List Entry → List Row
 rows r [] = rowOf r 0 ∷ []
-rows r (x ∷ xs) = rowOf r (x .empties) ∷ rows (entryOf r x .run) xs
+rows r (x ∷ xs) = rowOf r (emptiesOf x) ∷ rows (entryOf r x .run) xs
 
--- a line: a run and advances; the answer to each advance, the rows, and the run after the list
+-- a line: a run and a list; the answer to each entry, the rows, and the run after the list
 pub record Line : Type 0 where
   pub from : Run
-  pub advances : List Entry
+  pub entries : List Entry
   pub gets : List Answer
   pub shows : List Row
   pub ends : Run
 
--- what the definitions say of a line's run and advances
+-- what the definitions say of a line's run and list
 abbrev pub worked : Line → Line
 worked l = record {
   from = l .from;
-  advances = l .advances;
-  gets = answers (l .from) (l .advances);
-  shows = rows (l .from) (l .advances);
-  ends = after (l .from) (l .advances);
+  entries = l .entries;
+  gets = answers (l .from) (l .entries);
+  shows = rows (l .from) (l .entries);
+  ends = after (l .from) (l .entries);
 }
 
 -- advances with reports alone
 abbrev reported : List ℕ → List Entry
-reported xs = map (λ x. record { reports = x; empties = 0 }) xs
+reported xs = map (λ x. advance x 0) xs
 
 -- a task as (O, v, C, D, T) in a phase
 abbrev pub t : ℕ → ℕ → ℕ → ℕ → ℕ → Phase → Task
@@ -57,17 +57,17 @@ t o v c d p ph = record { offset = o; width = v; length = c; deadline = d; perio
 
 -- a run of one task on m cores with a fence
 abbrev walled : ℕ → ℕ → ℕ → Task → Run
-walled r m f a = record { rule = r; cores = m; fence = f; count = 1; tasks = a ∷ replicate 31 unused }
+walled r m f a = record { rule = r; cores = m; fence = f; withdrawn = 0; count = 1; tasks = a ∷ replicate 31 unused }
 
 -- runs of one, two and three tasks
 abbrev pub one : ℕ → ℕ → Task → Run
 one r m a = walled r m 0 a
 
 abbrev pub two : ℕ → ℕ → Task → Task → Run
-two r m a b = record { rule = r; cores = m; fence = 0; count = 2; tasks = a ∷ b ∷ replicate 30 unused }
+two r m a b = record { rule = r; cores = m; fence = 0; withdrawn = 0; count = 2; tasks = a ∷ b ∷ replicate 30 unused }
 
 abbrev three : ℕ → ℕ → ℕ → Task → Task → Task → Run
-three r m f a b c = record { rule = r; cores = m; fence = f; count = 3; tasks = a ∷ b ∷ c ∷ replicate 29 unused }
+three r m f a b c = record { rule = r; cores = m; fence = f; withdrawn = 0; count = 3; tasks = a ∷ b ∷ c ∷ replicate 29 unused }
 
 -- B as it starts and later, under each rule, on m cores with a fence
 abbrev fencedB : ℕ → ℕ → ℕ → Phase → Phase → Phase → Run
@@ -92,7 +92,7 @@ no n p = record { answer = Refused n p; bytes = noBytes }
 
 -- a run and what its row is answered
 abbrev asked : Run → Row → Line
-asked r w = record { from = r; advances = []; gets = []; shows = w ∷ []; ends = r }
+asked r w = record { from = r; entries = []; gets = []; shows = w ∷ []; ends = r }
 
 -- one task (2, 1, 3, 4, 6) on one core in a phase, under a rule
 abbrev limit : ℕ → Phase → Row → Line
@@ -100,7 +100,7 @@ limit r ph w = asked (one r 1 (t 2 1 3 4 6 ph)) w
 
 -- a count of so many tasks, which rest, on one core; there is a task at each place below it
 abbrev resters : ℕ → Row → Line
-resters n w = asked (record { rule = 1; cores = 1; fence = 0; count = n; tasks = replicate 33 (t 2 1 3 4 6 (Resting 1)) }) w
+resters n w = asked (record { rule = 1; cores = 1; fence = 0; withdrawn = 0; count = n; tasks = replicate 33 (t 2 1 3 4 6 (Resting 1)) }) w
 
 -- one task (O, v, C, D, T) in a phase, on so many cores
 abbrev sized : ℕ → Task → Row → Line
@@ -119,7 +119,7 @@ lines =
     -- B: position 1 reported in tick 0: tick 1 goes to position 2, then 15 with position 3, for ever
     record {
       from = runB 1 (Working 0 0) (Working 0 0) (Working 0 0);
-      advances = reported (1 ∷ 0 ∷ 0 ∷ 2 ∷ []);
+      entries = reported (1 ∷ 0 ∷ 0 ∷ 2 ∷ []);
       gets = Taken ∷ Taken ∷ Refused 15 3 ∷ Refused 15 3 ∷ [];
       shows = on2 1 3 ∷ on2 2 2 ∷ no 15 3 ∷ no 15 3 ∷ no 15 3 ∷ [];
       ends = runB 1 (Resting 2) (Resting 2) (Working 2 1);
@@ -127,7 +127,7 @@ lines =
     -- a report for a position that gets no cores, and one past the count: 16, and the run as given
     ∷ record {
       from = runB 1 (Working 0 0) (Working 0 0) (Working 0 0);
-      advances = reported (2 ∷ 8 ∷ []);
+      entries = reported (2 ∷ 8 ∷ []);
       gets = Refused 16 0 ∷ Refused 16 0 ∷ [];
       shows = on2 1 3 ∷ on2 1 3 ∷ on2 1 3 ∷ [];
       ends = runB 1 (Working 0 0) (Working 0 0) (Working 0 0);
@@ -135,7 +135,7 @@ lines =
     -- B3: the same report changes no row; a report for a holder is 16
     ∷ record {
       from = runB 3 (Working 0 0) (Working 0 0) (Working 0 0);
-      advances = reported (1 ∷ 1 ∷ 0 ∷ []);
+      entries = reported (1 ∷ 1 ∷ 0 ∷ []);
       gets = Taken ∷ Refused 16 0 ∷ Taken ∷ [];
       shows = on2 1 3 ∷ on2 1 3 ∷ on2 1 3 ∷ on2 1 0 ∷ [];
       ends = runB 3 (Holding 2 2) (Working 2 0) (Resting 2);
@@ -143,7 +143,7 @@ lines =
     -- E: the first release of position 1 is one tick ahead
     ∷ record {
       from = runE (Coming 1) (Working 0 0);
-      advances = reported (0 ∷ 0 ∷ []);
+      entries = reported (0 ∷ 0 ∷ []);
       gets = Taken ∷ Taken ∷ [];
       shows = on1 2 ∷ on1 1 ∷ on1 0 ∷ [];
       ends = runE (Resting 1) (Resting 2);
@@ -151,7 +151,7 @@ lines =
     -- a hold without cores ends at z = D, and then rests
     ∷ record {
       from = two 3 1 (t 0 1 3 3 4 (Working 0 0)) (t 0 1 3 3 5 (Holding 2 1));
-      advances = reported (0 ∷ []);
+      entries = reported (0 ∷ []);
       gets = Taken ∷ [];
       shows = on1 1 ∷ on1 1 ∷ [];
       ends = two 3 1 (t 0 1 3 3 4 (Working 1 1)) (t 0 1 3 3 5 (Resting 3));
@@ -159,7 +159,7 @@ lines =
     -- B on four cores of which 0 and 2 are fenced: as on two cores; what is refused shows no fence
     ∷ record {
       from = fencedB 1 4 5 (Working 0 0) (Working 0 0) (Working 0 0);
-      advances = reported (1 ∷ 4 ∷ 0 ∷ []);
+      entries = reported (1 ∷ 4 ∷ 0 ∷ []);
       gets = Taken ∷ Refused 16 0 ∷ Taken ∷ [];
       shows = row64 (255 ∷ 1 ∷ 255 ∷ 3 ∷ []) ∷ row64 (255 ∷ 2 ∷ 255 ∷ 2 ∷ []) ∷ row64 (255 ∷ 2 ∷ 255 ∷ 2 ∷ []) ∷ no 15 3 ∷ [];
       ends = fencedB 1 4 5 (Resting 2) (Resting 2) (Working 2 1);
@@ -167,7 +167,7 @@ lines =
     -- B3 on three cores of which 1 is fenced: held cores with the holder's position
     ∷ record {
       from = fencedB 3 3 2 (Working 0 0) (Working 0 0) (Working 0 0);
-      advances = reported (1 ∷ 0 ∷ []);
+      entries = reported (1 ∷ 0 ∷ []);
       gets = Taken ∷ Taken ∷ [];
       shows = row64 (1 ∷ 255 ∷ 3 ∷ []) ∷ row64 (1 ∷ 255 ∷ 3 ∷ []) ∷ row64 (1 ∷ 255 ∷ 0 ∷ []) ∷ [];
       ends = fencedB 3 3 2 (Holding 2 2) (Working 2 0) (Resting 2);
@@ -220,7 +220,7 @@ lines =
 
 -- every line is what the definitions say, line by line; a line is named by what it is made of
 computed : LineByLine worked lines lines
-unfolding any least memb upFrom kept owner row given left grants claimants answers after rows advanceOf advanceAnswer rowOf rowAnswer bytesIn runOut
+unfolding any least memb upFrom kept owner row given left grants claimants answers after rows advanceOf advanceAnswer rowOf rowAnswer bytesIn pastCount runOut
     firstLateIn misemptiedIn misreportedIn grantsIn mapFirst moved
 computed =
     let past-80 : LineByLine worked (drop 80 lines) (drop 80 lines) =

@@ -16,3 +16,4 @@ pub mod Outcomes
 pub mod Examples
 pub mod HandBuilt
 pub mod EmptyBuilt
+pub mod WithdrawBuilt

@@ -1,6 +1,7 @@
 -- A list of entries, one more at its end; and in words.
-use mathlib.Core.Path.{_≡_, refl, ap, _∙_}
-use mathlib.Core.Bool.{Bool, true, false, not}
+use mathlib.Core.Path.{_≡_, refl, sym, ap, subst₂, _∙_}
+use mathlib.Core.Bool.{Bool, true, false, not, true≢false}
+use mathlib.Core.Logic.{inl, inr}
 use mathlib.Core.List.{List, [], _∷_, _++_, map}
 use Prim.Native.Nat.{ℕ, zero, suc, _+_, _*_, _%_, _<_}
 use native.Mathlib.Nat.{zero-add, not-suc-le-zero, le-of-suc-le-suc}
@@ -8,19 +9,18 @@ use native.Mathlib.Omega.{arith}
 use native.Mathlib.Numerals.{add-one}
 use lib.ListN.{length, getD, length-map}
 use lib.Seq.{ext-getD}
-use lib.Dec.{eqb}
-use borrow.Author.Tests.{eq-eqb, eqb-true, not-false, not-true}
-use Rattle.model.specs.Book.{Entry, quiet}
+use borrow.Author.Tests.{not-false, not-true}
+use Rattle.model.specs.Book.{Entry, advance, withdraw, quiet}
 use Rattle.model.proofs.Lists.{map-at, map-more, up-at, up-length, up-more}
 use Rattle.model.proofs.Bools.{not-true-false}
 use Rattle.model.proofs.Search.{none-any, none-at}
 use Rattle.model.specs.Search.{any, upFrom}
-use Rattle.table.proofs.Decide.{Decides, decides-and, decides-eq}
+use Rattle.table.proofs.Decide.{Decides, decides-and, decides-or, decides-eq}
 use Rattle.run.specs.declared.Run.{Run}
 use Rattle.run.specs.declared.Answer.{Answer}
 use Rattle.run.specs.Answer.{told}
 use Rattle.demand.specs.Entries.{entryOf, answers, after}
-use Rattle.demand.specs.Listing.{Listed, listed, entryCount, kindAt, entryAt, entriesIn}
+use Rattle.demand.specs.Listing.{IsEntry, isEntry, Listed, listed, entryCount, kindAt, secondAt, entryBy, entryAt, entriesIn}
 use Rattle.demand.specs.Replay.{code, codes}
 
 pub after-more : (r : Run) (xs : List Entry) (x : Entry) → after r (xs ++ (x ∷ [])) ≡ entryOf (after r xs) x .run
@@ -63,58 +63,77 @@ entries-more es i =
 pub length-entries : (es : List ℕ) (i : ℕ) → length (map (entryAt es) (upFrom 0 i)) ≡ i
 length-entries es i = length-map (upFrom 0 i) (entryAt es) ∙ up-length 0 i
 
+-- the test decides whether words are an entry's
+pub is-entry-decides : (kind b : ℕ) → Decides (isEntry kind b) (IsEntry kind b)
+is-entry-decides kind b = decides-or _ _ _ _ (decides-eq kind 0) (decides-and _ _ _ _ (decides-eq kind 1) (decides-eq b 0))
+
 -- the test decides whether the words are a list of entries
 pub listed-decides : (es : List ℕ) → Decides (listed es) (Listed es)
 unfolding listed
 listed-decides es = decides-and _ _ _ _ (decides-eq (length es % 3) 0) (all-decides, all-found)
   where
     other : ℕ → Bool
-    other i = not (eqb (kindAt es i) 0)
+    other i = not (isEntry (kindAt es i) (secondAt es i))
 
-    all-decides : not (any (entryCount es) other) ≡ true → (i : ℕ) → i < entryCount es → kindAt es i ≡ 0
+    all-decides : not (any (entryCount es) other) ≡ true → (i : ℕ) → i < entryCount es → IsEntry (kindAt es i) (secondAt es i)
     all-decides e i l =
-        eqb-true (kindAt es i) 0 (not-false (eqb (kindAt es i) 0) (none-at (entryCount es) other i (not-true (any (entryCount es) other) e) l))
+        is-entry-decides (kindAt es i) (secondAt es i) .0
+        (not-false (isEntry (kindAt es i) (secondAt es i)) (none-at (entryCount es) other i (not-true (any (entryCount es) other) e) l))
 
-    all-found : ((i : ℕ) → i < entryCount es → kindAt es i ≡ 0) → not (any (entryCount es) other) ≡ true
-    all-found h = ap not (none-any (entryCount es) other (λ i l. ap not (eq-eqb (kindAt es i) 0 (h i l))))
+    all-found : ((i : ℕ) → i < entryCount es → IsEntry (kindAt es i) (secondAt es i)) → not (any (entryCount es) other) ≡ true
+    all-found h = ap not (none-any (entryCount es) other (λ i l. ap not (is-entry-decides (kindAt es i) (secondAt es i) .1 (h i l))))
 
--- words over, or an entry that is no advance: no list of entries
+-- words over, or words that are no entry's: no list of entries
 pub not-listed-over : (es : List ℕ) → (length es % 3 ≡ 0 → ⊥) → listed es ≡ false
 not-listed-over es n = not-true-false (listed es) (λ e. n (listed-decides es .0 e .0))
 
-pub not-listed-at : (es : List ℕ) (i : ℕ) → i < entryCount es → (kindAt es i ≡ 0 → ⊥) → listed es ≡ false
-not-listed-at es i l n = not-true-false (listed es) (λ e. n (listed-decides es .0 e .1 i l))
+pub not-listed-at : (es : List ℕ) (i : ℕ) → i < entryCount es → isEntry (kindAt es i) (secondAt es i) ≡ false → listed es ≡ false
+not-listed-at es i l n =
+    not-true-false (listed es) (λ e. true≢false (sym (is-entry-decides (kindAt es i) (secondAt es i) .1 (listed-decides es .0 e .1 i l)) ∙ n))
 
 -- a list of entries in words
 unfoldable pub listing : List Entry → List ℕ
 listing [] = []
-listing (x ∷ xs) = 0 ∷ x .reports ∷ x .empties ∷ listing xs
+listing (advance x e ∷ xs) = 0 ∷ x ∷ e ∷ listing xs
+listing (withdraw p ∷ xs) = 1 ∷ p ∷ 0 ∷ listing xs
 
 length-listing : (xs : List Entry) → length (listing xs) ≡ 3 * length xs
 unfolding listing
 length-listing [] = refl
-length-listing (x ∷ xs) = omega (arith, length-listing xs)
+length-listing (advance x e ∷ xs) = omega (arith, length-listing xs)
+length-listing (withdraw p ∷ xs) = omega (arith, length-listing xs)
 
--- each entry stands in its three words
-listing-at : (xs : List Entry) (i : ℕ) → i < length xs → (kindAt (listing xs) i ≡ 0) × (entryAt (listing xs) i ≡ getD xs i quiet)
-unfolding listing
-listing-at [] i l = absurd (not-suc-le-zero l)
-listing-at (x ∷ xs) zero l = (refl, refl)
-listing-at (x ∷ xs) (suc i) l =
-    let ih = listing-at xs i (le-of-suc-le-suc l) in
-    (kind ∙ ih .0, (λ j. record { reports = first j; empties = second j }) ∙ ih .1)
+-- what stands behind three words stands three words on
+further :
+    (a b c : ℕ) (ws : List ℕ) (i : ℕ) (x : Entry) → IsEntry (kindAt ws i) (secondAt ws i) × (entryAt ws i ≡ x)
+    → IsEntry (kindAt (a ∷ b ∷ c ∷ ws) (suc i)) (secondAt (a ∷ b ∷ c ∷ ws) (suc i)) × (entryAt (a ∷ b ∷ c ∷ ws) (suc i) ≡ x)
+further a b c ws i x h = (
+  subst₂ IsEntry (sym kind) (sym second) (h .0),
+  (λ j. entryBy (kind j) (first j) (second j)) ∙ h .1,
+)
   where
     word : ℕ → ℕ
-    word n = getD (listing (x ∷ xs)) n 0
+    word n = getD (a ∷ b ∷ c ∷ ws) n 0
 
-    kind : word (3 * suc i) ≡ getD (listing xs) (3 * i) 0
+    kind : word (3 * suc i) ≡ getD ws (3 * i) 0
     kind = let e : 3 * suc i ≡ suc (suc (suc (3 * i))) = omega arith in ap word e
 
-    first : word (3 * suc i + 1) ≡ getD (listing xs) (3 * i + 1) 0
+    first : word (3 * suc i + 1) ≡ getD ws (3 * i + 1) 0
     first = let e : 3 * suc i + 1 ≡ suc (suc (suc (3 * i + 1))) = omega arith in ap word e
 
-    second : word (3 * suc i + 2) ≡ getD (listing xs) (3 * i + 2) 0
+    second : word (3 * suc i + 2) ≡ getD ws (3 * i + 2) 0
     second = let e : 3 * suc i + 2 ≡ suc (suc (suc (3 * i + 2))) = omega arith in ap word e
+
+-- each entry stands in its three words
+listing-at :
+    (xs : List Entry) (i : ℕ) → i < length xs
+    → IsEntry (kindAt (listing xs) i) (secondAt (listing xs) i) × (entryAt (listing xs) i ≡ getD xs i quiet)
+unfolding listing
+listing-at [] i l = absurd (not-suc-le-zero l)
+listing-at (advance x e ∷ xs) zero l = (inl refl, refl)
+listing-at (withdraw p ∷ xs) zero l = (inr (refl, refl), refl)
+listing-at (advance x e ∷ xs) (suc i) l = further 0 x e (listing xs) i (getD xs i quiet) (listing-at xs i (le-of-suc-le-suc l))
+listing-at (withdraw p ∷ xs) (suc i) l = further 1 p 0 (listing xs) i (getD xs i quiet) (listing-at xs i (le-of-suc-le-suc l))
 
 -- LAW: every list of entries stands in words, and comes back from them
 pub listing-listed : (xs : List Entry) → Listed (listing xs)

@@ -1,9 +1,10 @@
 -- A run and a book that are related, task by task: the same is late and may be empty; as it is seen in a tick the run is tied to the book with its
--- empty jobs ended; and a taken advance keeps them related.
-use mathlib.Core.Path.{_≡_, refl, sym, ap, ap₂, _∙_, subst}
-use mathlib.Core.Bool.{Bool, true, false, not, _&&_}
+-- empty jobs ended; and a taken advance or withdrawal keeps them related.
+use mathlib.Core.Path.{_≡_, refl, sym, ap, ap₂, _∙_, subst, subst₂}
+use mathlib.Core.Bool.{Bool, true, false, not, _&&_, _||_}
 use mathlib.Core.List.{List, [], _∷_, map}
 use Prim.Native.Nat.{ℕ, suc, _-_, _<_}
+use lib.Bits.{bitOr}
 use native.Mathlib.Nat.{le-trans}
 use lib.ListN.{length, replicate, length-map}
 use lib.Seq.{take-at}
@@ -12,7 +13,7 @@ use borrow.Author.Tests.{ltb-false, ltb-true}
 use Rattle.model.specs.Search.{least, bit}
 use Rattle.model.specs.Task.{AllSound, Table, task, Rule, ruleOf, newest}
 use Rattle.model.specs.Task as model
-use Rattle.model.specs.Book.{Book, fresh, emptyBook, emptied, advanced, step, late, firstLate, releasedNow, emptiable, misemptied}
+use Rattle.model.specs.Book.{Book, fresh, emptyBook, emptied, emptyIn, advanced, step, without, late, firstLate, releasedNow, emptiable, misemptied}
 use Rattle.model.proofs.Bools.{same-test}
 use Rattle.model.proofs.Search.{least-lowest, any-same, least-same}
 use Rattle.model.proofs.Faithful.{late-exact}
@@ -23,7 +24,7 @@ use Rattle.run.specs.declared.Run.{Run}
 use Rattle.phase.specs.Phase.{lateIn, released, seen}
 use Rattle.phase.specs.Task.{taskOf, unused, startTask}
 use Rattle.phase.proofs.Phases.{seen-late}
-use Rattle.run.specs.Run.{ruleIn, phaseAt, emptyAt, moved}
+use Rattle.run.specs.Run.{ruleIn, phaseAt, emptyAt, moved, withdrawnIn}
 use Rattle.run.specs.Numbers.{lateAt, firstLateIn, emptiableAt, misemptiedIn}
 use Rattle.run.specs.Start.{startedRun}
 use Rattle.run.proofs.StartPasses.{started-at}
@@ -33,9 +34,10 @@ use Rattle.demand.proofs.Ticks.{tied-start}
 use Rattle.demand.proofs.Alike.{late-is, late-has, newest-does}
 use Rattle.demand.proofs.Looks.{SameTable, Looks, same-task, same-moved, tied-moved}
 
--- the run is of the table, and each task's phase is tied to its line of the book
+-- the run is of the table, the same positions are withdrawn, and each task's phase is tied to its line of the book
 pub record Related (s : Table) (b : Book) (r : Run) : Type 0 where
   pub table : SameTable s r
+  pub same-withdrawn : r .withdrawn ≡ b .withdrawn
   pub tied : (p : ℕ) → p < length (s .tasks) → Tied (s .rule) (task s p) (b .tick) (b .job p) (phaseAt r p)
 
 -- THE START
@@ -57,6 +59,7 @@ related-start n s e ok = record {
         ap (λ (l : List Task). map taskOf l) (take-at (map startTask (s .tasks)) rest (length (s .tasks)) (length-map (s .tasks) startTask))
         ∙ started-tasks (s .tasks);
   };
+  same-withdrawn = refl;
   tied = λ p l.
       subst (λ (t : Task). Tied (s .rule) (task s p) 0 (λ k. fresh) (t .phase)) (sym (started-at (s .tasks) rest p l))
       (tied-start (s .rule) (task s p) (ok p l));
@@ -122,19 +125,40 @@ module _ (s : Table) (ok : AllSound s) (b : Book) (r : Run) (h : Related s b r) 
         any-same e (λ p. bit e p && not (emptiableAt r p)) (λ p. bit e p && not (emptiable s b p))
         (λ p l. ap (λ (m : Bool). bit e p && not m) (same-emptiable p))
 
+    -- whose job is empty is the same of both: those of the empties, and the withdrawn
+    same-empty : (e p : ℕ) → emptyAt r e p ≡ emptyIn b e p
+    same-empty e p = ap (λ (w : ℕ). bit e p || bit w p) (h .same-withdrawn)
+
     -- as it is seen in a tick with the empties e, the run is tied to the book with its empty jobs ended
-    pub looks : (e : ℕ) → Looks s (emptied s (bit e) b) r e
+    pub looks : (e : ℕ) → Looks s (emptied s (emptyIn b e) b) r e
     looks e = record {
       same = h .table;
       tied = λ p l. unfold emptied in
-          subst (λ (u : Rule). Tied (s .rule) (task s p) (b .tick) (emptied s (bit e) b .job p) (seen u (bit e p) (phaseAt r p))) (sym (h .table .same-rule))
-          (tied-seen (s .rule) (task s p) (ok p l) (b .tick) (b .job p) (bit e p) (phaseAt r p) (h .tied p l) (punctual p l));
+          subst₂ (λ (u : Rule) (t : Bool). Tied (s .rule) (task s p) (b .tick) (emptied s (emptyIn b e) b .job p) (seen u t (phaseAt r p)))
+          (sym (h .table .same-rule)) (sym (same-empty e p))
+          (tied-seen (s .rule) (task s p) (ok p l) (b .tick) (b .job p) (emptyIn b e p) (phaseAt r p) (h .tied p l) (punctual p l));
       punctual = λ p l. seen-late (ruleIn r) (task s p .deadline) (emptyAt r e p) (phaseAt r p) (punctual p l);
     }
 
     -- a taken advance keeps them related
-    pub related-on : (f : ℕ → Bool) (e : ℕ) → Related s (advanced s f (bit e) b) (moved f e r)
+    pub related-on : (f : ℕ → Bool) (e : ℕ) → Related s (advanced s f (emptyIn b e) b) (moved f e r)
     related-on f e = record {
-      table = same-moved s ok (emptied s (bit e) b) r e (looks e) f;
-      tied = λ p l. unfold step in tied-moved s ok (emptied s (bit e) b) r e (looks e) f p l;
+      table = same-moved s ok (emptied s (emptyIn b e) b) r e (looks e) f;
+      same-withdrawn = unfold step emptied moved in h .same-withdrawn;
+      tied = λ p l. unfold step in tied-moved s ok (emptied s (emptyIn b e) b) r e (looks e) f p l;
     }
+
+-- a withdrawal keeps them related: only the set moves
+pub related-out : (s : Table) (b : Book) (r : Run) → Related s b r → (x : ℕ) → Related s (without x b) (withdrawnIn x r)
+unfolding withdrawnIn
+related-out s b r h x = record {
+  table = record {
+    same-rule = h .table .same-rule;
+    same-cores = h .table .same-cores;
+    same-fence = h .table .same-fence;
+    same-count = h .table .same-count;
+    same-tasks = h .table .same-tasks;
+  };
+  same-withdrawn = ap (λ (w : ℕ). bitOr w x) (h .same-withdrawn);
+  tied = h .tied;
+}

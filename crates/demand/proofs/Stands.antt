@@ -7,23 +7,26 @@ use native.Mathlib.Omega.{arith}
 use lib.ListN.{length}
 use lib.Dec.{ltb}
 use Rattle.model.specs.Search.{bit}
+use Rattle.model.specs.Firm.{firm}
 use Rattle.model.specs.Task.{AllSound, Table}
-use Rattle.model.specs.Book.{Book, Entry, rowOf, emptied, advanced, Answer, taken, refused, firstLate, misemptied, misreported}
-use Rattle.model.specs.Book.{answer, shown, rowRefused, asked, entered, enter, bookFrom, answersFrom}
+use Rattle.model.specs.Book.{Book, Entry, advance, withdraw, rowOf, emptied, emptyIn, advanced, without, only, afterTaken, Answer, taken, refused, firstLate}
+use Rattle.model.specs.Book.{misemptied, misreported, stranger, answer, shown, rowRefused, asked, entered, enter, bookFrom, answersFrom}
 use Rattle.run.specs.declared.Run.{Run}
 use Rattle.run.specs.declared.Answer as declared
 use Rattle.run.specs.declared.Answer.the-variants.{Taken, Refused}
 use Rattle.run.specs.declared.Row.{Row}
-use Rattle.run.specs.Run.{moved}
+use Rattle.run.specs.Run.{moved, withdrawnIn}
 use Rattle.run.specs.Answer.{told, byAnswer, rowTold, askedIn64, in64}
-use Rattle.run.specs.Numbers.{misemptiedIn, misreportedIn}
+use Rattle.run.specs.Numbers.{misemptiedIn, misreportedIn, strangerIn}
 use Rattle.run.specs.Advance.{advanceAnswer, advanceOf}
+use Rattle.run.specs.Withdraw.{withdrawAnswer, withdrawOf}
 use Rattle.run.specs.Row.{rowAnswer, bytesIn, noBytes}
 use Rattle.run.specs.Row as run
 use Rattle.demand.specs.Entries.{entryOf, answers, after}
-use Rattle.run.proofs.Limits.{Passes, passes-runs, moved-passes}
+use Rattle.run.proofs.Limits.{Passes, passes-runs, moved-passes, withdrawn-passes}
+use Rattle.run.proofs.WithdrawExact.{taken-within}
 use Rattle.demand.proofs.Looks.{same-row, same-misreported}
-use Rattle.demand.proofs.Related.{Related, same-first, same-any, in-time, same-misemptied, looks, related-on}
+use Rattle.demand.proofs.Related.{Related, same-first, same-any, in-time, same-misemptied, looks, related-on, related-out}
 
 -- the run passes 14 and is related to the book
 pub record Stands (s : Table) (b : Book) (r : Run) : Type 0 where
@@ -31,19 +34,19 @@ pub record Stands (s : Table) (b : Book) (r : Run) : Type 0 where
   pub related : Related s b r
 
 module _ (s : Table) (ok : AllSound s) where
-  -- what an entry is answered where nobody is late
-  abbrev inTime : Book → Entry → Answer
-  inTime b x = cond (misemptied s b (x .empties)) (refused 20 0) (cond (misreported s (emptied s (bit (x .empties)) b) (x .reports)) (refused 16 0) taken)
+  -- what an advance is answered where nobody is late
+  abbrev inTime : Book → ℕ → ℕ → Answer
+  inTime b x e = cond (misemptied s b e) (refused 20 0) (cond (misreported s (emptied s (emptyIn b e) b) x) (refused 16 0) taken)
 
-  -- such a run and its book give one answer ..
-  same-answer : (b : Book) (r : Run) → Stands s b r → (x : Entry) → told (advanceAnswer r (x .reports) (x .empties)) ≡ answer s b x
+  -- such a run and its book give one answer to an advance ..
+  same-advance : (b : Book) (r : Run) → Stands s b r → (x e : ℕ) → told (advanceAnswer r x e) ≡ answer s b (advance x e)
   unfolding advanceAnswer answer
-  same-answer b r h x =
+  same-advance b r h x e =
       rw (passes-runs r (h .passes), same-any s ok b r (h .related), same-first s ok b r (h .related))
       (go (ltb (firstLate s b) (length (s .tasks))) refl)
     where
       runs : declared.Answer
-      runs = cond (misemptiedIn r (x .empties)) (Refused 20 0) (cond (misreportedIn r (x .empties) (x .reports)) (Refused 16 0) Taken)
+      runs = cond (misemptiedIn r e) (Refused 20 0) (cond (misreportedIn r e x) (Refused 16 0) Taken)
 
       told-alike : (u v : Bool) → told (cond u (Refused 20 0) (cond v (Refused 16 0) Taken)) ≡ cond u (refused 20 0) (cond v (refused 16 0) taken)
       told-alike true v = refl
@@ -51,14 +54,30 @@ module _ (s : Table) (ok : AllSound s) where
       told-alike false false = refl
 
       go : (t : Bool) → ltb (firstLate s b) (length (s .tasks)) ≡ t
-          → told (cond t (Refused 15 (suc (firstLate s b))) runs) ≡ cond t (refused 15 (suc (firstLate s b))) (inTime b x)
+          → told (cond t (Refused 15 (suc (firstLate s b))) runs) ≡ cond t (refused 15 (suc (firstLate s b))) (inTime b x e)
       go true q = refl
       go false q =
           let it = in-time s ok b r (h .related) q in
-          let c : Book = emptied s (bit (x .empties)) b in
-          told-alike (misemptiedIn r (x .empties)) (misreportedIn r (x .empties) (x .reports))
-          ∙ ap₂ (λ (u v : Bool). cond u (refused 20 0) (cond v (refused 16 0) taken)) (same-misemptied s ok b r (h .related) it (x .empties))
-          (same-misreported s ok c r (x .empties) (looks s ok b r (h .related) it (x .empties)) (x .reports))
+          let c : Book = emptied s (emptyIn b e) b in
+          told-alike (misemptiedIn r e) (misreportedIn r e x)
+          ∙ ap₂ (λ (u v : Bool). cond u (refused 20 0) (cond v (refused 16 0) taken)) (same-misemptied s ok b r (h .related) it e)
+          (same-misreported s ok c r e (looks s ok b r (h .related) it e) x)
+
+  -- .. and to a withdrawal ..
+  same-withdraw : (b : Book) (r : Run) → Stands s b r → (p : ℕ) → told (withdrawAnswer r (strangerIn r p)) ≡ answer s b (withdraw p)
+  unfolding withdrawAnswer answer
+  same-withdraw b r h p =
+      rw (passes-runs r (h .passes), h .related .table .same-rule, h .related .table .same-tasks, h .related .table .same-count)
+      (told-alike (firm (s .rule) (s .tasks)) (stranger s p))
+    where
+      told-alike : (u v : Bool) → told (cond u (cond v (Refused 22 0) Taken) (Refused 21 0)) ≡ cond u (cond v (refused 22 0) taken) (refused 21 0)
+      told-alike false v = refl
+      told-alike true true = refl
+      told-alike true false = refl
+
+  same-answer : (b : Book) (r : Run) → Stands s b r → (x : Entry) → told (entryOf r x .answer) ≡ answer s b x
+  same-answer b r h (advance x e) = unfold advanceOf in same-advance b r h x e
+  same-answer b r h (withdraw p) = unfold withdrawOf in same-withdraw b r h p
 
   -- .. and one row, whatever jobs are empty
   pub same-asked : (b : Book) (r : Run) → Stands s b r → (e : ℕ) → rowTold (run.rowOf r e) ≡ askedIn64 (asked s b e)
@@ -77,45 +96,53 @@ module _ (s : Table) (ok : AllSound s) where
 
       go : (t : Bool) → ltb (firstLate s b) (length (s .tasks)) ≡ t
           → rowTold (gives (cond t (Refused 15 (suc (firstLate s b))) (cond (misemptiedIn r e) (Refused 20 0) Taken)))
-          ≡ askedIn64 (cond t (rowRefused 15 (suc (firstLate s b))) (cond (misemptied s b e) (rowRefused 20 0) (shown (rowOf s (emptied s (bit e) b)))))
+          ≡ askedIn64 (cond t (rowRefused 15 (suc (firstLate s b))) (cond (misemptied s b e) (rowRefused 20 0) (shown (rowOf s (emptied s (emptyIn b e) b)))))
       go true q = refl
       go false q =
           let it = in-time s ok b r (h .related) q in
           rw (same-misemptied s ok b r (h .related) it e)
-          (twenty (misemptied s b e) (rowOf s (emptied s (bit e) b))
-          (ap in64 (same-row s ok (emptied s (bit e) b) r e (looks s ok b r (h .related) it e))))
+          (twenty (misemptied s b e) (rowOf s (emptied s (emptyIn b e) b))
+          (ap in64 (same-row s ok (emptied s (emptyIn b e) b) r e (looks s ok b r (h .related) it e))))
 
   -- an answer's number
   number : Answer → ℕ
   number taken = 0
   number (refused n p) = n
 
-  -- where an entry is taken, nobody is late
-  taken-in-time : (b : Book) (x : Entry) → answer s b x ≡ taken → ltb (firstLate s b) (length (s .tasks)) ≡ false
+  -- where an advance is taken, nobody is late
+  taken-in-time : (b : Book) (x e : ℕ) → answer s b (advance x e) ≡ taken → ltb (firstLate s b) (length (s .tasks)) ≡ false
   unfolding answer number
-  taken-in-time b x e = go (ltb (firstLate s b) (length (s .tasks))) (ap number e)
+  taken-in-time b x e w = go (ltb (firstLate s b) (length (s .tasks))) (ap number w)
     where
-      go : (t : Bool) → number (cond t (refused 15 (suc (firstLate s b))) (inTime b x)) ≡ 0 → t ≡ false
+      go : (t : Bool) → number (cond t (refused 15 (suc (firstLate s b))) (inTime b x e)) ≡ 0 → t ≡ false
       go true q = absurd (omega arith)
       go false q = refl
 
   -- an entry, taken or refused, keeps a run standing for its book
   stands-entry : (b : Book) (r : Run) → Stands s b r → (x : Entry) → Stands s (enter s x b) (entryOf r x .run)
-  unfolding enter advanceOf
-  stands-entry b r h x = go (advanceAnswer r (x .reports) (x .empties)) (same-answer b r h x)
+  unfolding enter afterTaken advanceOf withdrawOf
+  stands-entry b r h (advance x e) = go (advanceAnswer r x e) (same-advance b r h x e)
     where
-      go : (w : declared.Answer) → told w ≡ answer s b x
-          → Stands s (entered (answer s b x) (advanced s (bit (x .reports)) (bit (x .empties)) b) b) (byAnswer w (moved (bit (x .reports)) (x .empties) r) r)
-      go Taken e =
-          rw (sym e)
-          (let it = in-time s ok b r (h .related) (taken-in-time b x (sym e)) in
+      go : (w : declared.Answer) → told w ≡ answer s b (advance x e)
+          → Stands s (entered (answer s b (advance x e)) (advanced s (bit x) (emptyIn b e) b) b) (byAnswer w (moved (bit x) e r) r)
+      go Taken q =
+          rw (sym q)
+          (let it = in-time s ok b r (h .related) (taken-in-time b x e (sym q)) in
           record {
-            passes =
-                moved-passes (bit (x .reports)) (x .empties) r (h .passes)
-                (λ p l. it p (subst (λ (n : ℕ). p < n) (h .related .table .same-count) l));
-            related = related-on s ok b r (h .related) it (bit (x .reports)) (x .empties);
+            passes = moved-passes (bit x) e r (h .passes) (λ p l. it p (subst (λ (n : ℕ). p < n) (h .related .table .same-count) l));
+            related = related-on s ok b r (h .related) it (bit x) e;
           })
-      go (Refused n p) e = rw (sym e) h
+      go (Refused n p) q = rw (sym q) h
+  stands-entry b r h (withdraw p) = go (withdrawAnswer r (strangerIn r p)) refl (same-withdraw b r h p)
+    where
+      go : (w : declared.Answer) → withdrawAnswer r (strangerIn r p) ≡ w → told w ≡ answer s b (withdraw p)
+          → Stands s (entered (answer s b (withdraw p)) (without (only p) b) b) (byAnswer w (withdrawnIn (only p) r) r)
+      go Taken v q =
+          rw (sym q) (record {
+            passes = withdrawn-passes (only p) r (h .passes) (taken-within r p v);
+            related = related-out s b r (h .related) (only p);
+          })
+      go (Refused n i) v q = rw (sym q) h
 
   pub stands-after : (xs : List Entry) (b : Book) (r : Run) → Stands s b r → Stands s (bookFrom s b xs) (after r xs)
   unfolding bookFrom after
@@ -123,7 +150,7 @@ module _ (s : Table) (ok : AllSound s) where
   stands-after (x ∷ xs) b r h = stands-after xs (enter s x b) (entryOf r x .run) (stands-entry b r h x)
 
   pub same-answers : (xs : List Entry) (b : Book) (r : Run) → Stands s b r → map told (answers r xs) ≡ answersFrom s b xs
-  unfolding answers answersFrom advanceOf
+  unfolding answers answersFrom
   same-answers [] b r h = refl
   same-answers (x ∷ xs) b r h =
       ap₂ (λ (a : Answer) (l : List Answer). a ∷ l) (same-answer b r h x)

@@ -9,7 +9,7 @@ use Rattle.run.specs.Answer.{told}
 use Rattle.run.specs.Start.{startOf}
 use Rattle.demand.specs.Follows.{Follows}
 
--- what is claimed of the words of a table and a list xs of entries
+-- what is claimed of the words of a table and a list xs of advances and withdrawals
 pub record Demand (ws : List ℕ) (xs : List Entry) : Type 0 where
   -- start takes the table
   pub started : told (startOf ws .answer) ≡ taken

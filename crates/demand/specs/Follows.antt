@@ -20,7 +20,7 @@ pub record Follows (ws : List ℕ) (xs : List Entry) : Type 0 where
   -- each answer in it, taken or refused with number and position, is the book's
   pub each-answer : map told (answers (begun ws) xs) ≡ answersFrom (tableOf ws) emptyBook xs
   -- the list's tick, the number of advances in it that were not refused, is the book's
-  pub list-tick : takenIn (map told (answers (begun ws) xs)) ≡ book (tableOf ws) xs .tick
+  pub list-tick : takenIn xs (map told (answers (begun ws) xs)) ≡ book (tableOf ws) xs .tick
   -- and so is the row asked of the run after it with any set of empty jobs, or its refusal, byte by byte
   pub row-after : (e : ℕ) → rowTold (rowOf (after (begun ws) xs) e) ≡ askedIn64 (asked (tableOf ws) (book (tableOf ws) xs) e)
   -- 14 never turns that run down

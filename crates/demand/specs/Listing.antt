@@ -1,11 +1,13 @@
--- A list of entries in words, three words an entry: (0, reports, empties) is an advance with its two sets (request 105).
+-- A list of entries in words, three words an entry: (0, reports, empties) is an advance with its two sets (request 105), (1, position, 0) is a
+-- withdrawal (request 106).
 use mathlib.Core.Path.{_≡_}
-use mathlib.Core.Bool.{Bool, not, _&&_}
+use mathlib.Core.Bool.{Bool, not, _&&_, _||_, cond}
 use mathlib.Core.List.{List, map}
+use mathlib.Core.Logic.{_⊎_}
 use Prim.Native.Nat.{ℕ, _+_, _*_, _/_, _%_, _<_}
 use lib.ListN.{length, getD}
 use lib.Dec.{eqb}
-use Rattle.model.specs.Book.{Entry}
+use Rattle.model.specs.Book.{Entry, advance, withdraw}
 use Rattle.model.specs.Search.{any, upFrom}
 
 -- how many entries there are
@@ -16,17 +18,34 @@ entryCount es = length es / 3
 abbrev pub kindAt : List ℕ → ℕ → ℕ
 kindAt es i = getD es (3 * i) 0
 
+abbrev pub firstAt : List ℕ → ℕ → ℕ
+firstAt es i = getD es (3 * i + 1) 0
+
+abbrev pub secondAt : List ℕ → ℕ → ℕ
+secondAt es i = getD es (3 * i + 2) 0
+
+-- the entry that three words are
+abbrev pub entryBy : ℕ → ℕ → ℕ → Entry
+entryBy kind a b = cond (eqb kind 0) (advance a b) (withdraw a)
+
 abbrev pub entryAt : List ℕ → ℕ → Entry
-entryAt es i = record { reports = getD es (3 * i + 1) 0; empties = getD es (3 * i + 2) 0 }
+entryAt es i = entryBy (kindAt es i) (firstAt es i) (secondAt es i)
 
 -- the entries
 abbrev pub entriesIn : List ℕ → List Entry
 entriesIn es = map (entryAt es) (upFrom 0 (entryCount es))
 
--- the words are a list of entries: three words each, none over, and the first of each is 0
+-- words of this kind with this last word are an entry's: an advance's, or a withdrawal's, whose last word is 0; and the test (`is-entry-decides`)
+abbrev pub IsEntry : ℕ → ℕ → Type 0
+IsEntry kind b = (kind ≡ 0) ⊎ ((kind ≡ 1) × (b ≡ 0))
+
+abbrev pub isEntry : ℕ → ℕ → Bool
+isEntry kind b = eqb kind 0 || (eqb kind 1 && eqb b 0)
+
+-- the words are a list of entries: three words each, none over, each an entry's
 abbrev pub Listed : List ℕ → Type 0
-Listed es = (length es % 3 ≡ 0) × ((i : ℕ) → i < entryCount es → kindAt es i ≡ 0)
+Listed es = (length es % 3 ≡ 0) × ((i : ℕ) → i < entryCount es → IsEntry (kindAt es i) (secondAt es i))
 
 -- the test (`listed-decides`)
 unfoldable pub listed : List ℕ → Bool
-listed es = eqb (length es % 3) 0 && not (any (entryCount es) (λ i. not (eqb (kindAt es i) 0)))
+listed es = eqb (length es % 3) 0 && not (any (entryCount es) (λ i. not (isEntry (kindAt es i) (secondAt es i))))

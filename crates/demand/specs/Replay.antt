@@ -24,15 +24,15 @@ use Rattle.demand.specs.Entries.{answers, after}
 use Rattle.demand.specs.Follows.{begun}
 use Rattle.demand.specs.Listing.{Listed, listed, entryCount, entriesIn}
 
--- an answer as one number: 0 for taken, else its number times 256 plus its position (no two answers of an advance share one: `codes-tell`)
+-- an answer as one number: 0 for taken, else its number times 256 plus its position (no two answers of an entry share one: `codes-tell`)
 abbrev pub code : model.Answer → ℕ
 code model.taken = 0
 code (model.refused n p) = n * 256 + p
 
--- an answer that an advance may give: taken, or a number up to 20 with a position up to 32
+-- an answer that an entry may get: taken, or a number up to 22 with a position up to 32
 abbrev pub Small : model.Answer → Type 0
 Small model.taken = Unit {0}
-Small (model.refused n p) = From 1 20 n × (p ≤ mostTasks)
+Small (model.refused n p) = From 1 22 n × (p ≤ mostTasks)
 
 -- the answers of a run to a list of entries, as numbers
 abbrev pub codes : Run → List model.Entry → List ℕ

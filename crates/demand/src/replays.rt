@@ -4,12 +4,13 @@ ghost use mathlib.Core.List.{_++_};
 ghost use Prim.Native.Nat.{_≤_};
 ghost use lib.ListN.{length, drop};
 ghost use Rattle.run.specs.Answer.{told};
-ghost use Rattle.demand.specs.Entries.{after};
-ghost use Rattle.demand.specs.Listing.{listed, entryCount, entriesIn};
+ghost use Rattle.demand.specs.Entries.{entryOf, after};
+ghost use Rattle.demand.specs.Listing.{isEntry, listed, entryCount, entryBy, entriesIn};
 ghost use Rattle.demand.specs.Replay.{code, Small, codes, fits, rowCase, played};
 ghost use Rattle.model.specs.Sizes.{mostCores};
 use crate::Replayed;
 use model::ROW;
+use run::Advanced;
 use run::Answer;
 use run::Run;
 
@@ -24,7 +25,14 @@ fn code(answer: Answer) -> u32
     }
 }
 
-// Whether the words are a list of entries: three words each, none over, and the first of each is 0.
+// Whether words of this kind with this last word are an entry's: an advance's, or a withdrawal's, whose last word is 0.
+fn is_entry(kind: u32, second: u32) -> bool
+    ensures { λ r. ⌜ r ≡ isEntry kind second ⌝ }
+{
+    (kind == 0) | ((kind == 1) & (second == 0))
+}
+
+// Whether the words are a list of entries: three words each, none over, each an entry's.
 fn listed(entries: &[u32]) -> bool
     ensures { λ r. ⌜ r ≡ listed (now (entries .entry)) ⌝ }
 {
@@ -32,11 +40,12 @@ fn listed(entries: &[u32]) -> bool
         let count = entries.len() / 3;
         let mut i: usize = 0;
         while i < count {
-            let kind = entries[3 * i];
-            if kind != 0 {
+            let good = is_entry(entries[3 * i], entries[3 * i + 2]);
+            if good {
+                i += 1;
+            } else {
                 return false;
             }
-            i += 1;
         }
         return true;
     }
@@ -51,8 +60,18 @@ fn fits(entries: &[u32], numbers: usize, bytes: usize) -> bool
     listed(entries) & ((count <= numbers) & (ROW <= bytes))
 }
 
+// An entry on a run, by its three words: its answer, and the next run.
+fn enter(run: Run, kind: u32, first: u32, second: u32) -> Advanced
+    ensures { λ r. ⌜ r ≡ entryOf run (entryBy kind first second) ⌝ }
+{
+    if kind == 0 {
+        return run.advance(first, second);
+    }
+    run.withdraw(first)
+}
+
 // The run after the list; its answers are written as numbers.
-fn advances(run: Run, entries: &[u32], numbers: &mut [u32]) -> Run
+fn through(run: Run, entries: &[u32], numbers: &mut [u32]) -> Run
     requires { ⌜ entryCount (now entries) ≤ length (now numbers) ⌝ }
     ensures { λ r. ⌜ (r ≡ after run (entriesIn (now (entries .entry))))
         × (now (numbers .exit) ≡ codes run (entriesIn (now (entries .entry))) ++ drop (entryCount (now (entries .entry))) (now (numbers .entry))) ⌝ }
@@ -61,10 +80,10 @@ fn advances(run: Run, entries: &[u32], numbers: &mut [u32]) -> Run
     let count = entries.len() / 3;
     let mut i: usize = 0;
     while i < count {
-        let advanced = last.advance(entries[3 * i + 1], entries[3 * i + 2]);
-        let answer = advanced.answer;
+        let entered = enter(last, entries[3 * i], entries[3 * i + 1], entries[3 * i + 2]);
+        let answer = entered.answer;
         numbers[i] = code(answer);
-        let next = advanced.run;
+        let next = entered.run;
         last = next;
         i += 1;
     }
@@ -99,7 +118,7 @@ pub(crate) fn play(run: Run, entries: &[u32], numbers: &mut [u32], bytes: &mut [
         ≡ played run (now (entries .entry)) (now (numbers .entry)) (now (bytes .entry)) ⌝ }
 {
     if fits(entries, numbers.len(), bytes.len()) {
-        let last = advances(run, entries, numbers);
+        let last = through(run, entries, numbers);
         let shown = last.row(0);
         let row = shown.bytes;
         put(row, bytes);

@@ -8,7 +8,8 @@ use Rattle.model.specs.Search.{any, least}
 use Rattle.model.specs.Task.{Table, AllSound}
 use Rattle.model.specs.Book.{Missed}
 use Rattle.model.specs.Horizon.{lastS, hyperperiod, horizon}
-use Rattle.model.specs.Verdict.{FirstMiss, missedAt, missedIn, firm, firstMiss, verdict}
+use Rattle.model.specs.Firm.{firm}
+use Rattle.model.specs.Verdict.{FirstMiss, missedAt, missedIn, firstMiss, verdict}
 use Rattle.model.specs.Verdict as model
 use Rattle.model.proofs.Bools.{not-true-false}
 use Rattle.model.proofs.Search.{any-of, none-any, least-is}

@@ -8,7 +8,8 @@ use lib.ListN.{length, take, drop, length-append, length-replicate, length-map, 
 use Rattle.model.specs.Task.{Table, Rule, greedy, limited, idling, ruleOf, AllSound, task}
 use Rattle.model.specs.Book.{NeverMissed}
 use Rattle.model.specs.Horizon.{lastS, hyperperiod, horizon}
-use Rattle.model.specs.Verdict.{Exact, FirmRule, verdict}
+use Rattle.model.specs.Firm.{FirmRule}
+use Rattle.model.specs.Verdict.{Exact, verdict}
 use Rattle.model.specs.Verdict as model
 use Rattle.model.proofs.Verdict.{verdict-exact}
 use Rattle.model.specs.Sizes.{mostTasks}

@@ -9,7 +9,7 @@ use Prim.Native.Nat.{ℕ, suc, _+_, _-_, _≤_, _<_}
 use lib.ListN.{length, getD}
 use Rattle.model.specs.Task.{nobody, ruleOf}
 use Rattle.model.specs.Task as model
-use Rattle.model.specs.Verdict.{Rising, rising, firm}
+use Rattle.model.specs.Firm.{Rising, rising, firm}
 use borrow.Author.Tests.{eq-eqb, ne-eqb}
 use Rattle.model.proofs.Bools.{not-true-false}
 use Rattle.model.proofs.Verdict.{rising-exact}

@@ -8,7 +8,8 @@ use lib.ListN.{length}
 use Rattle.model.specs.Task.{Table, AllSound, task, ruleOf}
 use Rattle.model.specs.Book.{NeverMissed}
 use Rattle.model.specs.Horizon.{lastS, hyperperiod, horizon}
-use Rattle.model.specs.Verdict.{firm, Rising, FirstMiss, verdict}
+use Rattle.model.specs.Firm.{firm, Rising}
+use Rattle.model.specs.Verdict.{FirstMiss, verdict}
 use Rattle.model.specs.Verdict as model
 use Rattle.model.specs.Sizes.{mostCores, mostTasks}
 use Rattle.table.specs.declared.Answer.{Answer}

@@ -2,7 +2,7 @@
 ghost use mathlib.Core.Path.{_≡_};
 ghost use Prim.Native.Nat.{suc, _≤_};
 ghost use Rattle.model.specs.Task.{ruleOf};
-ghost use Rattle.model.specs.Verdict.{rising, firm};
+ghost use Rattle.model.specs.Firm.{rising, firm};
 ghost use Rattle.model.specs.Sizes.{mostTasks};
 ghost use Rattle.table.specs.Task.{tasksOf};
 ghost use Rattle.judge.specs.FirstMiss.{missedBefore, byMiss};
@@ -40,20 +40,19 @@ fn rising(tasks: [Task; MOST_TASKS], count: usize) -> bool
     true
 }
 
-// Whether the rule and the widths keep their promise for shorter jobs too: rules 2 and 3, and any other where widths never fall.
-fn is_firm(table: Loaded) -> bool
-    requires { ⌜ table .count ≤ mostTasks ⌝ }
-    ensures { λ r. ⌜ r ≡ firm (ruleOf (table .rule)) (tasksOf (table .tasks) (table .count)) ⌝ }
+// Whether the rule and the widths of the first `count` tasks keep their promise for shorter jobs too: rules 2 and 3, and any other where widths
+// never fall. The verdict asks it of a table, number 21 of a run.
+pub fn is_firm(rule: u32, tasks: [Task; MOST_TASKS], count: usize) -> bool
+    requires { ⌜ count ≤ mostTasks ⌝ }
+    ensures { λ r. ⌜ r ≡ firm (ruleOf rule) (tasksOf tasks count) ⌝ }
 {
-    let rule = table.rule;
     if rule == 2 {
         return true;
     }
     if rule == 3 {
         return true;
     }
-    let tasks = table.tasks;
-    rising(tasks, table.count)
+    rising(tasks, count)
 }
 
 // The verdict on a table that misses no deadline.
@@ -61,7 +60,8 @@ pub fn accepted(table: Loaded) -> Verdict
     requires { ⌜ table .count ≤ mostTasks ⌝ }
     ensures { λ r. ⌜ r ≡ acceptedOf table ⌝ }
 {
-    if is_firm(table) {
+    let tasks = table.tasks;
+    if is_firm(table.rule, tasks, table.count) {
         return Verdict::Firm(table.start, table.period);
     }
     Verdict::Full(table.start, table.period)

@@ -13,7 +13,8 @@ use Rattle.model.specs.Grants.{claimants, given, grants, left}
 use Rattle.model.specs.Horizon.{S, horizon, hyperperiod, lastS, lcm}
 use Rattle.model.specs.Search.{any, kept, least, upFrom}
 use Rattle.model.specs.Task.{AllSound, Table, Task, idling, release, task}
-use Rattle.model.specs.Verdict.{Firm, firm, firstMiss, missedAt, missedIn, verdict}
+use Rattle.model.specs.Firm.{firm}
+use Rattle.model.specs.Verdict.{Firm, firstMiss, missedAt, missedIn, verdict}
 use Rattle.longest.specs.Response.{Figure, endedAfter, greatest, longest, longestBy, responseTime}
 use Rattle.longest.proofs.Response.{longest-exact}
 

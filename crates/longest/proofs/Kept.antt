@@ -4,7 +4,7 @@ use lib.ListN.{length}
 use Rattle.model.proofs.Sustain.{finished}
 use Rattle.model.specs.Book.{NeverMissed, book}
 use Rattle.model.specs.Task.{AllSound, Table}
-use Rattle.model.specs.Verdict.{FirmRule}
+use Rattle.model.specs.Firm.{FirmRule}
 use Rattle.longest.specs.Kept.{KeptAlways}
 use Rattle.longest.specs.Response.{longest}
 use Rattle.longest.proofs.Response.{longest-exact}

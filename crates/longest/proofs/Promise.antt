@@ -8,7 +8,7 @@ use Rattle.model.specs.Book as book
 use Rattle.model.specs.Book.{NeverMissed}
 use Rattle.model.specs.Task.{AllSound, Table}
 use Rattle.model.specs.Verdict as verdict
-use Rattle.model.specs.Verdict.{FirmRule}
+use Rattle.model.specs.Firm.{FirmRule}
 use Rattle.model.proofs.Lists.{getD-zeros}
 use Rattle.table.specs.declared.Answer.the-variants as table
 use Rattle.table.specs.declared.Loaded.{Loaded}

@@ -14,7 +14,7 @@ use Rattle.model.specs.Search.{bit}
 use Rattle.model.specs.Task.{Table, task}
 use Rattle.model.specs.Book.{full, Missed, NeverMissed}
 use Rattle.model.specs.Horizon.{horizon}
-use Rattle.model.specs.Verdict.{firm}
+use Rattle.model.specs.Firm.{firm}
 use Rattle.model.proofs.Bools.{and-both, and-left, and-right}
 use Rattle.model.proofs.Digits.{and-bit}
 use Rattle.model.proofs.Horizon.{horizon-enough}

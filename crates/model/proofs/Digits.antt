@@ -84,6 +84,12 @@ same-digits (suc d) x y h k e =
     let rest : x / 2 ≡ y / 2 = same-digits d (x / 2) (y / 2) (half d x h) (half d y k) (λ i l. sym (bit-suc x i) ∙ e (suc i) (omega arith) ∙ bit-suc y i) in
     omega arith
 
+-- with no bound on them
+pub same-set : (x y : ℕ) → ((i : ℕ) → bit x i ≡ bit y i) → x ≡ y
+same-set x y e =
+    let all : x + y < 2 ^ (x + y) = below-pow (x + y) in
+    same-digits (x + y) x y (omega arith) (omega arith) (λ i l. e i)
+
 -- ---- two sets, digit by digit
 
 or-digit : (x y : ℕ) → x < 2 → y < 2 → eqb (max x y) 1 ≡ eqb x 1 || eqb y 1

@@ -6,38 +6,39 @@ use Prim.Native.Nat.{ℕ}
 use Prim.Native.String.{String}
 use Rattle.model.proofs.Examples.{B, Line, on, t, two, worked}
 use Rattle.model.proofs.LineByLine.{LineByLine, by-line}
-use Rattle.model.specs.Book.{Answer, Asked, Entry, answer, answersFrom, asked, claims, emptiable, emptied, enter, full, late, misemptied, misreported}
+use Rattle.model.specs.Book.{Answer, Asked, Entry, advance, afterTaken, answer, answersFrom, asked, claims, emptiable, emptied, enter, full, late, misemptied, misreported}
 use Rattle.model.specs.Book.{refused, reportable, rowRefused, rowsFrom, served, shown, step, taken, work}
 use Rattle.model.specs.Grants.{claimants, given, grants, left}
 use Rattle.model.specs.Horizon.{S, horizon, hyperperiod, lcm}
 use Rattle.model.specs.Row.{owner, row}
 use Rattle.model.specs.Search.{any, kept, least, memb, upFrom}
 use Rattle.model.specs.Task.{Rule, Table, greedy, idling, limited}
-use Rattle.model.specs.Verdict.{Firm, Full, Verdict, firm, firstMiss, missedAt, missedIn, rising, verdict}
+use Rattle.model.specs.Firm.{firm, rising}
+use Rattle.model.specs.Verdict.{Firm, Full, Verdict, firstMiss, missedAt, missedIn, verdict}
 
 -- an advance with a set of reports and a set of empty jobs, and one with both empty
 abbrev sets : ℕ → ℕ → Entry
-sets x e = record { reports = x; empties = e }
+sets x e = advance x e
 
-abbrev none : Entry
+abbrev pub none : Entry
 none = sets 0 0
 
 -- a line from its parts
-abbrev line : String → Table → Verdict → List Entry → List Answer → List Asked → Line
-line n s v xs ws rs = record { name = n; table = s; advances = xs; says = v; answers = ws; rows = rs }
+abbrev pub line : String → Table → Verdict → List Entry → List Answer → List Asked → Line
+line n s v xs ws rs = record { name = n; table = s; entries = xs; says = v; answers = ws; rows = rs }
 
 -- the row of one core, and a row refused by 20
-abbrev one : ℕ → Asked
+abbrev pub one : ℕ → Asked
 one a = shown (a ∷ [])
 
-abbrev row-20 : Asked
+abbrev pub row-20 : Asked
 row-20 = rowRefused 20 0
 
 -- two tasks on one core, one task with C, D and T of 1, and two tasks as wide as the box
-abbrev pair : Rule → Table
+abbrev pub pair : Rule → Table
 pair r = on 1 r (t 0 1 2 4 4 ∷ t 0 1 1 4 4 ∷ [])
 
-abbrev least-task : Rule → Table
+abbrev pub least-task : Rule → Table
 least-task r = on 1 r (t 0 1 1 1 1 ∷ [])
 
 abbrev wide : Table
@@ -88,7 +89,7 @@ empty-lines =
 -- every line is what the definitions say, line by line
 computed : LineByLine worked empty-lines empty-lines
 unfolding verdict firstMiss missedIn missedAt firm rising horizon S hyperperiod lcm least any memb upFrom kept owner row given left grants claimants claims
-    served work step late reportable misreported emptied emptiable misemptied answer asked enter answersFrom rowsFrom full
+    served work step late reportable misreported emptied emptiable misemptied answer asked afterTaken enter answersFrom rowsFrom full
 computed = (refl, (refl, (refl, (refl, (refl, (refl, (refl, (refl, (refl, (refl, (refl, (refl, (refl, (refl, (refl, tt)))))))))))))))
 
 -- .. and as one list

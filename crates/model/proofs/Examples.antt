@@ -1,12 +1,12 @@
 -- The lines of the scope's table of examples that are marked *, and lines of our own for what those leave open (16, two positions late at once, tables with a fence), computed from the definitions.
--- A line's advances go on where start would refuse the table by 13 (A2, F): the book of a list is defined for every table.
+-- A line's list goes on where start would refuse the table by 13 (A2, F): the book of a list is defined for every table.
 use mathlib.Core.Bool.{false, true}
 use mathlib.Core.List.{List, [], map, _∷_}
 use mathlib.Core.Path.{refl, _≡_}
 use Prim.Native.Nat.{ℕ}
 use Prim.Native.String.{String}
-use Rattle.model.specs.Book.{Answer, Asked, Entry, answer, answersFrom, asked, claims, emptiable, emptied, emptyBook, enter, fresh, full, late, misemptied, misreported}
-use Rattle.model.specs.Book.{refused, reportable, rowRefused, rowsFrom, served, shown, step, taken, takenFrom, takenOf, work}
+use Rattle.model.specs.Book.{Answer, Asked, Entry, advance, afterTaken, answer, answersFrom, asked, claims, emptiable, emptied, emptyBook, enter, fresh}
+use Rattle.model.specs.Book.{full, late, misemptied, misreported, refused, reportable, rowRefused, rowsFrom, served, shown, step, taken, takenFrom, takenOf, work}
 use Rattle.model.specs.Fence.{justOpen, spread}
 use Rattle.model.specs.Grants.{claimants, given, grants, left}
 use Rattle.model.specs.Horizon.{S, horizon, hyperperiod, lcm}
@@ -14,7 +14,8 @@ use Rattle.model.specs.Row.{owner, row}
 use Rattle.model.specs.Search.{any, kept, least, memb, upFrom}
 use Rattle.model.specs.Task.{Rule, Table, Task, greedy, idling, limited}
 use Rattle.model.proofs.LineByLine.{LineByLine, by-line}
-use Rattle.model.specs.Verdict.{Firm, Full, Miss, Verdict, firm, firstMiss, missedAt, missedIn, rising, verdict}
+use Rattle.model.specs.Firm.{firm, rising}
+use Rattle.model.specs.Verdict.{Firm, Full, Miss, Verdict, firstMiss, missedAt, missedIn, verdict}
 
 -- a task as (O, v, C, D, T)
 abbrev pub t : ℕ → ℕ → ℕ → ℕ → ℕ → Task
@@ -35,33 +36,33 @@ A r = on 3 r (t 0 2 2 5 5 ∷ t 0 2 3 5 5 ∷ t 0 1 4 5 5 ∷ [])
 abbrev pub B : Rule → Table
 B r = on 2 r (t 0 1 3 3 4 ∷ t 0 2 1 4 4 ∷ t 0 1 2 2 4 ∷ [])
 
--- a line: its name, a table and advances; the verdict, the answer to each advance, the row asked before each advance and after the last
+-- a line: its name, a table and a list; the verdict, the answer to each entry, the row asked before each entry and after the last
 pub record Line : Type 0 where
   pub name : String
   pub table : Table
-  pub advances : List Entry
+  pub entries : List Entry
   pub says : Verdict
   pub answers : List Answer
   pub rows : List Asked
 
--- what the definitions say of a line's table and advances
+-- what the definitions say of a line's table and list
 abbrev pub worked : Line → Line
 worked l = record {
   name = l .name;
   table = l .table;
-  advances = l .advances;
+  entries = l .entries;
   says = verdict (l .table);
-  answers = answersFrom (l .table) emptyBook (l .advances);
-  rows = rowsFrom (l .table) emptyBook (l .advances);
+  answers = answersFrom (l .table) emptyBook (l .entries);
+  rows = rowsFrom (l .table) emptyBook (l .entries);
 }
 
 -- an advance with reports alone
 abbrev pub reports : ℕ → Entry
-reports x = record { reports = x; empties = 0 }
+reports x = advance x 0
 
 -- a line from its parts, the advances by their reports
 abbrev line : String → Table → Verdict → List ℕ → List Answer → List Asked → Line
-line n s v xs ws rs = record { name = n; table = s; advances = map reports xs; says = v; answers = ws; rows = rs }
+line n s v xs ws rs = record { name = n; table = s; entries = map reports xs; says = v; answers = ws; rows = rs }
 
 -- a row of two cores, and of three
 abbrev pub two : ℕ → ℕ → Asked
@@ -121,7 +122,7 @@ lines =
 -- every line is what the definitions say, line by line
 computed : LineByLine worked lines lines
 unfolding verdict firstMiss missedIn missedAt firm rising horizon S hyperperiod lcm least any memb upFrom kept owner row given left grants claimants claims
-    served work step late reportable misreported emptied emptiable misemptied answer asked enter answersFrom rowsFrom full
+    served work step late reportable misreported emptied emptiable misemptied answer asked afterTaken enter answersFrom rowsFrom full
 computed = (refl, (refl, (refl, (refl, (refl, (refl, (refl, (refl, (refl, (refl, (refl, (refl, (refl, (refl, (refl, (refl, (refl, tt)))))))))))))))))
 
 -- .. and as one list
@@ -152,5 +153,6 @@ window = refl
 
 -- of these advances of B the second and the third are taken: the first is refused by 16, the last two by 15
 pub dropped : takenOf (B greedy) (map reports (2 ∷ 1 ∷ 0 ∷ 0 ∷ 8 ∷ [])) ≡ map reports (1 ∷ 0 ∷ [])
-unfolding takenFrom enter answer late misemptied emptiable emptied misreported reportable any least step served work claims claimants grants given left memb upFrom kept
+unfolding takenFrom enter answer afterTaken late misemptied emptiable emptied misreported reportable any least step served work claims claimants grants given left
+    memb upFrom kept
 dropped = refl

@@ -13,12 +13,12 @@ use Rattle.model.proofs.Bools.{and-both, and-left, and-right, not-true-
 use Rattle.model.proofs.Digits.{bit-high}
 use Rattle.model.proofs.FullLength.{late-job}
 use Rattle.model.proofs.Jobs.{after-release, before-due, mk, newest-is}
-use Rattle.model.proofs.Runs.{early-book, full-tick, missed-at, moveOf, moved}
+use Rattle.model.proofs.Runs.{early-book, full-tick, missed-at}
 use Rattle.model.proofs.Search.{any-of, any-some}
 use Rattle.model.proofs.Starts.{Periods, S-release, hyperperiod-divides, hyperperiod-least, hyperperiod-pos, release-first, release-from}
-use Rattle.model.specs.Book.{AllTaken, Answer, Book, Entry, Job, Missed, answer, answersFrom, book, bookFrom, claims, emptiable, emptied, emptyBook, endedWith}
-use Rattle.model.specs.Book.{enter, entered, full, jobClaims, keep, late, misemptied, misreported, refused, reportable, step, taken, takenFrom, takenIn}
-use Rattle.model.specs.Book.{takenOf, taskClaims}
+use Rattle.model.specs.Book.{AllTaken, Answer, Book, Entry, Job, Missed, advance, advanced, afterTaken, answer, answersFrom, book, bookFrom, claims}
+use Rattle.model.specs.Book.{emptiable, emptied, emptyBook, emptyIn, endedWith, enter, entered, full, jobClaims, keep, late, misemptied, misreported, only, refused}
+use Rattle.model.specs.Book.{reportable, step, taken, takenFrom, takenIn, takenOf, taskClaims, ticksOf, withdraw, without}
 use Rattle.model.specs.Horizon.{Later, LeastCommonMultiple, S, hyperperiod, releaseFrom}
 use Rattle.model.specs.Search.{any, bit}
 use Rattle.model.specs.Task.{AllSound, Rule, Sound, Table, Task, due, newest, release, task}
@@ -168,18 +168,20 @@ missed-in-exact s ok t = (
 )
 
 -- THE LIST'S TICK is the number of advances in it that were not refused
-tick-from : (s : Table) (xs : List Entry) (b : Book) → bookFrom s b xs .tick ≡ b .tick + takenIn (answersFrom s b xs)
-unfolding bookFrom answersFrom takenIn enter step emptied
+tick-from : (s : Table) (xs : List Entry) (b : Book) → bookFrom s b xs .tick ≡ b .tick + takenIn xs (answersFrom s b xs)
+unfolding bookFrom answersFrom takenIn enter afterTaken step emptied
 tick-from s [] b = sym (add-zero (b .tick))
-tick-from s (x ∷ xs) b = go (answer s b x) (tick-from s xs)
+tick-from s (x ∷ xs) b = go x (answer s b x) (tick-from s xs)
   where
-    go : (w : Answer) → ((b : Book) → bookFrom s b xs .tick ≡ b .tick + takenIn (answersFrom s b xs))
-        → bookFrom s (entered w (moved s (moveOf x) b) b) xs .tick ≡ b .tick + takenIn (w ∷ answersFrom s (entered w (moved s (moveOf x) b) b) xs)
-    go taken ih = ih (moved s (moveOf x) b) ∙ omega arith
-    go (refused n p) ih = ih b
+    go : (x : Entry) (w : Answer) → ((b : Book) → bookFrom s b xs .tick ≡ b .tick + takenIn xs (answersFrom s b xs))
+        → bookFrom s (entered w (afterTaken s x b) b) xs .tick ≡ b .tick + (ticksOf x w + takenIn xs (answersFrom s (entered w (afterTaken s x b) b) xs))
+    go (advance x e) taken ih = ih (advanced s (bit x) (emptyIn b e) b) ∙ omega arith
+    go (advance x e) (refused n p) ih = ih b ∙ omega arith
+    go (withdraw p) taken ih = ih (without (only p) b) ∙ omega arith
+    go (withdraw p) (refused n q) ih = ih b ∙ omega arith
 
-pub tick-taken : (s : Table) (xs : List Entry) → book s xs .tick ≡ takenIn (answersFrom s emptyBook xs)
-tick-taken s xs = tick-from s xs emptyBook ∙ zero-add (takenIn (answersFrom s emptyBook xs))
+pub tick-taken : (s : Table) (xs : List Entry) → book s xs .tick ≡ takenIn xs (answersFrom s emptyBook xs)
+tick-taken s xs = tick-from s xs emptyBook ∙ zero-add (takenIn xs (answersFrom s emptyBook xs))
 
 -- THE TAKEN ENTRIES of a list: the book of these alone is the book of the list ..
 taken-book-from : (s : Table) (xs : List Entry) (b : Book) → bookFrom s b (takenFrom s b xs) ≡ bookFrom s b xs
@@ -188,8 +190,8 @@ taken-book-from s [] b = refl
 taken-book-from s (x ∷ xs) b = go (answer s b x) refl (taken-book-from s xs)
   where
     go : (w : Answer) → answer s b x ≡ w → ((b : Book) → bookFrom s b (takenFrom s b xs) ≡ bookFrom s b xs)
-        → bookFrom s b (keep w x (takenFrom s (entered w (moved s (moveOf x) b) b) xs)) ≡ bookFrom s (entered w (moved s (moveOf x) b) b) xs
-    go taken e ih = ap (λ (w : Answer). bookFrom s (entered w (moved s (moveOf x) b) b) (takenFrom s (moved s (moveOf x) b) xs)) e ∙ ih (moved s (moveOf x) b)
+        → bookFrom s b (keep w x (takenFrom s (entered w (afterTaken s x b) b) xs)) ≡ bookFrom s (entered w (afterTaken s x b) b) xs
+    go taken e ih = ap (λ (w : Answer). bookFrom s (entered w (afterTaken s x b) b) (takenFrom s (afterTaken s x b) xs)) e ∙ ih (afterTaken s x b)
     go (refused n p) e ih = ih b
 
 pub taken-book : (s : Table) (xs : List Entry) → book s (takenOf s xs) ≡ book s xs
@@ -202,10 +204,10 @@ taken-all-from s [] b = refl
 taken-all-from s (x ∷ xs) b = go (answer s b x) refl (taken-all-from s xs)
   where
     go : (w : Answer) → answer s b x ≡ w → ((b : Book) → AllTaken s b (takenFrom s b xs))
-        → AllTaken s b (keep w x (takenFrom s (entered w (moved s (moveOf x) b) b) xs))
+        → AllTaken s b (keep w x (takenFrom s (entered w (afterTaken s x b) b) xs))
     go taken e ih =
-        ap (λ (w : Answer). w ∷ answersFrom s (entered w (moved s (moveOf x) b) b) (takenFrom s (moved s (moveOf x) b) xs)) e
-        ∙ ap (λ (ws : List Answer). taken ∷ ws) (ih (moved s (moveOf x) b))
+        ap (λ (w : Answer). w ∷ answersFrom s (entered w (afterTaken s x b) b) (takenFrom s (afterTaken s x b) xs)) e
+        ∙ ap (λ (ws : List Answer). taken ∷ ws) (ih (afterTaken s x b))
     go (refused n p) e ih = ih b
 
 pub taken-all : (s : Table) (xs : List Entry) → AllTaken s emptyBook (takenOf s xs)
@@ -217,8 +219,8 @@ unfolding answersFrom takenFrom enter
 taken-same-from s [] b e = refl
 taken-same-from s (x ∷ xs) b e =
     let h : answer s b x ≡ taken = cc in
-    let t : answersFrom s (entered (answer s b x) (moved s (moveOf x) b) b) xs ≡ replicate (length xs) taken = cc in
-    rw h (ap (λ (l : List Entry). x ∷ l) (taken-same-from s xs (moved s (moveOf x) b) (rw h at t)))
+    let t : answersFrom s (entered (answer s b x) (afterTaken s x b) b) xs ≡ replicate (length xs) taken = cc in
+    rw h (ap (λ (l : List Entry). x ∷ l) (taken-same-from s xs (afterTaken s x b) (rw h at t)))
 
 pub taken-same : (s : Table) (xs : List Entry) → AllTaken s emptyBook xs → takenOf s xs ≡ xs
 taken-same s xs e = taken-same-from s xs emptyBook e

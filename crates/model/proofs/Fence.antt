@@ -13,8 +13,8 @@ use Rattle.model.proofs.Digits.{bit-none}
 use Rattle.model.proofs.Lists.{map-at, up-at, up-length}
 use Rattle.model.proofs.Renumbered.{at-map, grants-map, owner-map, some-map}
 use Rattle.model.proofs.Search.{any-same}
-use Rattle.model.specs.Book.{Answer, Book, Entry, answer, answersFrom, book, bookFrom, emptiable, emptied, emptyBook, enter, full, grantsOf, inRow, late}
-use Rattle.model.specs.Book.{misemptied, misreported, none, reportable, rowOf, served, step, taskClaims, widths, work}
+use Rattle.model.specs.Book.{Answer, Book, Entry, advance, afterTaken, answer, answersFrom, book, bookFrom, emptiable, emptied, emptyBook, emptyIn, enter}
+use Rattle.model.specs.Book.{full, grantsOf, inRow, late, misemptied, misreported, none, reportable, rowOf, served, step, taskClaims, widths, withdraw, work}
 use Rattle.model.specs.Fence.{justOpen, openCores, outside, spread, unfenced}
 use Rattle.model.specs.Grants.{claimants, grants, some}
 use Rattle.model.specs.Horizon.{horizon}
@@ -166,6 +166,7 @@ module _ (s : Table) where
   same-step f b = λ i. record {
     tick = suc (b .tick);
     job = λ p k. cond (same-served b p k i) (work (task s p .length) (f p) (b .job p k)) (b .job p k);
+    withdrawn = b .withdrawn;
   }
 
   -- the books of the full-length runs are the same
@@ -220,15 +221,21 @@ module _ (s : Table) where
   -- and in every list: the answers are the same, and so is the book
   same-answer : (b : Book) (x : Entry) → answer s b x ≡ answer (justOpen s) b x
   unfolding answer late misreported reportable misemptied emptiable emptied
-  same-answer b x =
-      let c : Book = emptied s (bit (x .empties)) b in
-      rw (any-same (x .reports) (λ p. bit (x .reports) p && not (inRow s c p && not (c .job p (newest (task s p) (b .tick)) .ended)))
-      (λ p. bit (x .reports) p && not (inRow (justOpen s) c p && not (c .job p (newest (task s p) (b .tick)) .ended)))
+  same-answer b (advance x e) =
+      let c : Book = emptied s (emptyIn b e) b in
+      rw (any-same x (λ p. bit x p && not (inRow s c p && not (c .job p (newest (task s p) (b .tick)) .ended)))
+      (λ p. bit x p && not (inRow (justOpen s) c p && not (c .job p (newest (task s p) (b .tick)) .ended)))
       (λ p l. rw (same-in-row c p)))
+  same-answer b (withdraw p) = refl
+
+  same-after : (x : Entry) (b : Book) → afterTaken s x b ≡ afterTaken (justOpen s) x b
+  unfolding afterTaken emptied
+  same-after (advance x e) b = same-step (bit x) (emptied s (emptyIn b e) b)
+  same-after (withdraw p) b = refl
 
   same-enter : (x : Entry) (b : Book) → enter s x b ≡ enter (justOpen s) x b
-  unfolding enter emptied
-  same-enter x b = rw (same-answer b x, same-step (bit (x .reports)) (emptied s (bit (x .empties)) b))
+  unfolding enter
+  same-enter x b = rw (same-answer b x, same-after x b)
 
   same-lists : (xs : List Entry) (b : Book) → (bookFrom s b xs ≡ bookFrom (justOpen s) b xs) × (answersFrom s b xs ≡ answersFrom (justOpen s) b xs)
   unfolding bookFrom answersFrom

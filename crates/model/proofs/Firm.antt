@@ -1,4 +1,4 @@
--- The firm rules keep their promise for shorter jobs: what holds of every list of advances on a firm table, refused ones included.
+-- The firm rules keep their promise for shorter jobs: what holds of every list of advances and withdrawals on a firm table, refused ones included.
 use mathlib.Core.Bool.{Bool, cond, false, true, true≢false}
 use mathlib.Core.List.{List}
 use mathlib.Core.Path.{ap, refl, subst, sym, _∙_, _≡_}
@@ -14,13 +14,13 @@ use Rattle.model.proofs.Runs.{full-stays, missed-at}
 use Rattle.model.proofs.Search.{least-found}
 use Rattle.model.proofs.Sustain.{abreast-full, abreast-lists, finished}
 use Rattle.model.proofs.Verdict.{verdict-exact}
-use Rattle.model.specs.Book.{Answer, Asked, Book, Entry, NeverMissed, answer, asked, book, emptied, firstLate, full, late, misemptied, misreported}
-use Rattle.model.specs.Book.{quiet, refused, rowOf, rowRefused, shown, taken}
+use Rattle.model.specs.Book.{Answer, Asked, Book, Entry, NeverMissed, advance, answer, asked, book, emptied, emptyIn, firstLate, full, late, misemptied}
+use Rattle.model.specs.Book.{misreported, quiet, refused, rowOf, rowRefused, shown, taken, stranger, withdraw}
 use Rattle.model.specs.Compare.{NoneBehind}
 use Rattle.model.specs.Kept.{Kept}
-use Rattle.model.specs.Search.{bit}
 use Rattle.model.specs.Task.{AllSound, Table, due, task}
-use Rattle.model.specs.Verdict.{Firm, FirmRule, verdict}
+use Rattle.model.specs.Firm.{FirmRule, firm}
+use Rattle.model.specs.Verdict.{Firm, verdict}
 
 module _ (s : Table) (ok : AllSound s) (firmly : FirmRule s) (accepted : NeverMissed s) where
   -- a job that is due has ended
@@ -50,18 +50,24 @@ module _ (s : Table) (ok : AllSound s) (firmly : FirmRule s) (accepted : NeverMi
 
   no-15 : (xs : List Entry) (x : Entry) (p : ℕ) → ¬ (answer s (book s xs) x ≡ refused 15 p)
   unfolding answer number
-  no-15 xs x p e =
+  no-15 xs (advance x g) p e =
       let b : Book = book s xs in
-      go (misemptied s b (x .empties)) (misreported s (emptied s (bit (x .empties)) b) (x .reports)) (rw (none-late xs) at (ap number e))
+      go (misemptied s b g) (misreported s (emptied s (emptyIn b g) b) x) (rw (none-late xs) at (ap number e))
     where
       go : (u v : Bool) → number (cond u (refused 20 0) (cond v (refused 16 0) taken)) ≡ 15 → ⊥
       go true v q = omega arith
       go false true q = omega arith
       go false false q = omega arith
+  no-15 xs (withdraw q) p e = go (firm (s .rule) (s .tasks)) (stranger s q) (ap number e)
+    where
+      go : (u v : Bool) → number (cond u (cond v (refused 22 0) taken) (refused 21 0)) ≡ 15 → ⊥
+      go false v q = omega arith
+      go true true q = omega arith
+      go true false q = omega arith
 
   no-15-row : (xs : List Entry) (e p : ℕ) → ¬ (asked s (book s xs) e ≡ rowRefused 15 p)
   unfolding asked denial
-  no-15-row xs e p q = go (misemptied s (book s xs) e) (rowOf s (emptied s (bit e) (book s xs))) (rw (none-late xs) at (ap denial q))
+  no-15-row xs e p q = go (misemptied s (book s xs) e) (rowOf s (emptied s (emptyIn (book s xs) e) (book s xs))) (rw (none-late xs) at (ap denial q))
     where
       go : (u : Bool) (r : List ℕ) → denial (cond u (rowRefused 20 0) (shown r)) ≡ 15 → ⊥
       go true r q = omega arith

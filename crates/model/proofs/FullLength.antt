@@ -9,10 +9,10 @@ use lib.Dec.{leb, ltb}
 use lib.ListN.{length, replicate}
 use borrow.Author.Tests.{le-ltb, leb-true, not-true}
 use Rattle.model.proofs.Bools.{and-left, and-right, not-true-false}
-use Rattle.model.proofs.Runs.{full-stays, full-tick, missed-at, still-advance}
+use Rattle.model.proofs.Runs.{full-stays, full-tick, full-withdrawn, missed-at, still-advance}
 use Rattle.model.proofs.Search.{any-some, least-none, none-any}
-use Rattle.model.specs.Book.{Book, Missed, Misses, NeverMissed, advanced, answer, book, bookFrom, enter, entered, firstLate, full, late, misemptied}
-use Rattle.model.specs.Book.{misreported, none, quiet, refused, step, taken}
+use Rattle.model.specs.Book.{Book, Missed, Misses, NeverMissed, advanced, afterTaken, answer, book, bookFrom, emptyIn, enter, entered, firstLate, full}
+use Rattle.model.specs.Book.{late, misemptied, misreported, none, quiet, refused, step, taken}
 use Rattle.model.specs.Search.{any, bit}
 use Rattle.model.specs.Task.{Table, due, task}
 
@@ -40,8 +40,8 @@ unfolding answer misemptied misreported any
 none-taken s b h = rw (none-late s b h)
 
 enter-none : (s : Table) (n : ℕ) → ((p : ℕ) → p < length (s .tasks) → late s (full s n) p ≡ false) → enter s quiet (full s n) ≡ full s (suc n)
-unfolding enter full
-enter-none s n h = rw (none-taken s (full s n) h) (still-advance s (full s n))
+unfolding enter full afterTaken
+enter-none s n h = rw (none-taken s (full s n) h) (still-advance s (full s n) (full-withdrawn s n))
 
 go-on :
     (s : Table) (n m : ℕ) → ((t p : ℕ) → t < m + n → p < length (s .tasks) → late s (full s t) p ≡ false)
@@ -78,26 +78,27 @@ full-length s n h = go-on s n 0 (λ t p g l. none t p (omega arith) l) ∙ ap (f
 
 -- PAST A MISS the book of empty sets stays: it is always the full-length run at its own tick
 
--- an advance with empty sets is taken where nobody is late, and else refused
-pub enter-empty : (s : Table) (b : Book) → enter s quiet b ≡ cond (ltb (firstLate s b) (length (s .tasks))) b (step s none b)
-unfolding enter answer misemptied misreported any
-enter-empty s b = go (ltb (firstLate s b) (length (s .tasks)))
+-- an advance with empty sets, where nobody is withdrawn, is taken if nobody is late, and else refused
+pub enter-empty : (s : Table) (b : Book) → b .withdrawn ≡ 0 → enter s quiet b ≡ cond (ltb (firstLate s b) (length (s .tasks))) b (step s none b)
+unfolding enter answer afterTaken misemptied misreported any
+enter-empty s b w = go (ltb (firstLate s b) (length (s .tasks)))
   where
-    go : (t : Bool) → entered (cond t (refused 15 (suc (firstLate s b))) taken) (advanced s (bit 0) (bit 0) b) b ≡ cond t b (step s none b)
+    go : (t : Bool) → entered (cond t (refused 15 (suc (firstLate s b))) taken) (advanced s (bit 0) (emptyIn b 0) b) b ≡ cond t b (step s none b)
     go true = refl
-    go false = still-advance s b
+    go false = still-advance s b w
 
 pub empty-more :
-    (s : Table) (n : ℕ) (b : Book)
-    → bookFrom s b (replicate (suc n) quiet) ≡ bookFrom s (cond (ltb (firstLate s b) (length (s .tasks))) b (step s none b)) (replicate n quiet)
+    (s : Table) (n t : ℕ)
+    → bookFrom s (full s t) (replicate (suc n) quiet)
+    ≡ bookFrom s (cond (ltb (firstLate s (full s t)) (length (s .tasks))) (full s t) (step s none (full s t))) (replicate n quiet)
 unfolding bookFrom
-empty-more s n b = ap (λ (b : Book). bookFrom s b (replicate n quiet)) (enter-empty s b)
+empty-more s n t = ap (λ (b : Book). bookFrom s b (replicate n quiet)) (enter-empty s (full s t) (full-withdrawn s t))
 
 stays-full : (s : Table) (n t : ℕ) → (u : ℕ) × (bookFrom s (full s t) (replicate n quiet) ≡ full s u)
 stays-full s zero t = unfold bookFrom in (t, refl)
 stays-full s (suc n) t =
     let x = go (ltb (firstLate s (full s t)) (length (s .tasks))) (stays-full s n t) (stays-full s n (suc t)) in
-    (x .0, empty-more s n (full s t) ∙ x .1)
+    (x .0, empty-more s n t ∙ x .1)
   where
     go : (b : Bool)
         → (u : ℕ) × (bookFrom s (full s t) (replicate n quiet) ≡ full s u)

@@ -10,7 +10,7 @@ use Rattle.model.proofs.FullLength.{empty-full, empty-more}
 use Rattle.model.proofs.Grants.{claimants-same}
 use Rattle.model.proofs.Jobs.{Reserving, mk}
 use Rattle.model.proofs.Level.{level-asked, same-claimants}
-use Rattle.model.proofs.Runs.{full-claimed, still-emptied}
+use Rattle.model.proofs.Runs.{full-claimed, full-withdrawn, still-emptied}
 use Rattle.model.specs.Book.{Book, Entry, asked, book, bookFrom, claims, emptied, firstLate, full, grantsOf, jobClaims, late, misemptied, none, quiet}
 use Rattle.model.specs.Book.{rowOf, rowRefused, served, shown, step, taskClaims, widths, work}
 use Rattle.model.specs.Grants.{Claimant, claimants, given, grants, left}
@@ -64,6 +64,7 @@ module _ (τs : List Task) (m f : ℕ) where
   same-step n e = λ i. record {
     tick = suc (e i .tick);
     job = λ p k. cond (same-served n e p k i) (work (task I p .length) false (e i .job p k)) (e i .job p k);
+    withdrawn = e i .withdrawn;
   }
 
   same-full : (n : ℕ) → full I n ≡ full G n
@@ -79,9 +80,9 @@ module _ (τs : List Task) (m f : ℕ) where
   same-books : (n t : ℕ) → bookFrom I (full I t) (replicate n quiet) ≡ bookFrom G (full G t) (replicate n quiet)
   same-books zero t = unfold bookFrom in same-full t
   same-books (suc n) t =
-      empty-more I n (full I t)
+      empty-more I n t
       ∙ (go (ltb (firstLate I (full I t)) (length τs)) (ltb (firstLate G (full G t)) (length τs)) (same-late t) (same-books n t) (same-books n (suc t))
-      ∙ sym (empty-more G n (full G t)))
+      ∙ sym (empty-more G n t))
     where
       go : (a b : Bool) → a ≡ b
           → bookFrom I (full I t) (replicate n quiet) ≡ bookFrom G (full G t) (replicate n quiet)
@@ -92,11 +93,11 @@ module _ (τs : List Task) (m f : ℕ) where
       go true false e x y = absurd (true≢false e)
       go false true e x y = absurd (false≢true e)
 
-  same-asked : (b : Book) → rowOf I b ≡ rowOf G b → asked I b 0 ≡ asked G b 0
+  same-asked : (b : Book) → b .withdrawn ≡ 0 → rowOf I b ≡ rowOf G b → asked I b 0 ≡ asked G b 0
   unfolding asked late misemptied any
-  same-asked b e =
+  same-asked b w e =
       ap (λ (r : List ℕ). cond (ltb (firstLate I b) (length τs)) (rowRefused 15 (suc (firstLate I b))) (shown r))
-      (ap (rowOf I) (still-emptied I b) ∙ (e ∙ ap (rowOf G) (sym (still-emptied G b))))
+      (ap (rowOf I) (still-emptied I b w) ∙ (e ∙ ap (rowOf G) (sym (still-emptied G b w))))
 
 -- THE THEOREM: at full length idling and greedy give equal rows
 pub idling-greedy : (τs : List Task) (m f n : ℕ) → rowOf (under idling τs m f) (full (under idling τs m f) n) ≡ rowOf (under greedy τs m f) (full (under greedy τs m f) n)
@@ -120,7 +121,8 @@ idling-greedy-asked τs m f n =
     let at : b ≡ full i (b .tick) = empty-full i n in
     let at′ : b ≡ full g (b .tick) =
     e ∙ (empty-full g n ∙ ap (λ (c : Book). full g (c .tick)) (sym e)) in
-    same-asked τs m f b (ap (rowOf i) at ∙ (idling-greedy τs m f (b .tick) ∙ ap (rowOf g) (sym at′))) ∙ ap (λ (c : Book). asked g c 0) e
+    let out : b .withdrawn ≡ 0 = ap (λ (c : Book). c .withdrawn) at ∙ full-withdrawn i (b .tick) in
+    same-asked τs m f b out (ap (rowOf i) at ∙ (idling-greedy τs m f (b .tick) ∙ ap (rowOf g) (sym at′))) ∙ ap (λ (c : Book). asked g c 0) e
 
 -- THE THEOREM (Goossens and Berten, definition 16): under idling the cores, and so the row, of any book are those of the full-length run at
 -- its tick, whatever jobs of that tick are empty

@@ -1,5 +1,5 @@
 -- Level books: at one tick with the same ticks claimed. Where a job that ended claims until it has claimed C ticks, as under idling, every
--- book is level with the full-length run at its tick, whatever is reported or empty: claims, cores and rows are the same.
+-- book is level with the full-length run at its tick, whatever is reported, empty or withdrawn: claims, cores and rows are the same.
 use mathlib.Core.Bool.{_&&_, Bool}
 use mathlib.Core.List.{List, [], _∷_}
 use mathlib.Core.Path.{ap, refl, subst, sym, _∙_, _≡_}
@@ -8,8 +8,8 @@ use native.Mathlib.Nat.{suc-inj, suc-ne-zero}
 use lib.ListN.{length, length-map, length-replicate, replicate}
 use Rattle.model.proofs.Grants.{claimants-same}
 use Rattle.model.proofs.Jobs.{Reserving, idle-claims, next-claimed, start-claimed}
-use Rattle.model.proofs.Runs.{GoodBook, Move, book-run, book-tick, full-run, good-emptied, good-start, good-step, moved, movesOf, run, stillMove}
-use Rattle.model.specs.Book.{Book, Entry, book, emptied, emptyBook, full, jobClaims, releasedNow, served, step, takenOf, taskClaims, widths}
+use Rattle.model.proofs.Runs.{GoodBook, Move, book-run, book-tick, full-run, good-emptied, good-start, good-step, lines, moved, movesOf, run, stillMove}
+use Rattle.model.specs.Book.{Book, Entry, book, emptied, emptyBook, full, jobClaims, releasedNow, served, step, taskClaims, widths}
 use Rattle.model.specs.Grants.{claimants}
 use Rattle.model.specs.Task.{AllSound, Table, newest, task}
 
@@ -81,11 +81,11 @@ module _ (s : Table) (ok : AllSound s) (reserving : Reserving (s .rule)) where
       (level-runs ms (replicate (length ms) stillMove) (sym (length-replicate (length ms) stillMove)) emptyBook emptyBook level-start)
 
   -- THE THEOREM: every list, refused entries included, is level with the full-length run ..
-  pub level-full : (xs : List Entry) → Level s (book s xs) (full s (book s xs .tick))
+  pub level-full : (xs : List Entry) → Level s (lines (book s xs)) (full s (book s xs .tick))
   level-full xs =
-      let ms : List Move = movesOf (takenOf s xs) in
-      subst (λ (n : ℕ). Level s (book s xs) (full s n)) (book-tick s xs)
-      (subst (λ (b : Book). Level s b (full s (length ms))) (sym (book-run s xs emptyBook)) (level-run ms))
+      let ms : List Move = movesOf s xs in
+      subst (λ (n : ℕ). Level s (lines (book s xs)) (full s n)) (book-tick s xs)
+      (subst (λ (b : Book). Level s b (full s (length ms))) (sym (book-run s xs)) (level-run ms))
 
   -- .. with the empty jobs of a row asked ended, too
   pub level-asked : (xs : List Entry) (e : ℕ → Bool) → Level s (emptied s e (book s xs)) (full s (book s xs .tick))

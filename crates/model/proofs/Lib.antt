@@ -2,6 +2,7 @@
 pub mod LineByLine
 pub mod Examples
 pub mod EmptyExamples
+pub mod WithdrawExamples
 pub mod Bools
 pub mod Search
 pub mod Lists
@@ -24,3 +25,4 @@ pub mod Faithful
 pub mod Verdict
 pub mod Renumbered
 pub mod Fence
+pub mod Withdraw

@@ -1,32 +1,56 @@
 -- No task changes the core of a task above it: what stands below position n changes nothing for positions 1 to n.
-use mathlib.Core.Bool.{Bool, cond, false, true}
+use mathlib.Core.Bool.{Bool, cond, false, true, _||_}
 use mathlib.Core.List.{List, [], map, _∷_}
 use mathlib.Core.Logic.{inl, inr, _⊎_, ⊎-elim}
 use mathlib.Core.Path.{ap, ap₂, refl, subst, subst₂, sym, _∙_, _≡_}
-use Prim.Native.Nat.{_+_, _<_, suc, zero, ℕ, _≤_}
+use Prim.Native.Nat.{_+_, _-_, _<_, suc, zero, ℕ, _≤_}
 use native.Mathlib.Nat.{le-refl}
 use native.Mathlib.Omega.{arith}
 use lib.Dec.{leb, ltb}
 use lib.ListN.{getD, replicate, take}
 use lib.Pow.{high}
 use lib.Seq.{getD-take}
-use borrow.Author.Tests.{le-ltb, leb-false, leb-true, lt-ltb}
+use borrow.Author.Tests.{le-ltb, leb-false, leb-true, lt-ltb, ne-eqb}
+use Rattle.model.proofs.Digits.{bit-power, or-bit}
 use Rattle.model.proofs.FullLength.{empty-full}
 use Rattle.model.proofs.Grants.{claimants-prefix, claimants-take, grants-take}
 use Rattle.model.proofs.Lists.{take-map}
-use Rattle.model.proofs.Runs.{book-run, moveOf, moved, movesOf, run}
-use Rattle.model.specs.Book.{Book, Entry, book, emptied, emptyBook, full, grantsOf, jobClaims, none, quiet, served, step, takenOf, taskClaims, widths}
+use Rattle.model.specs.Book.{Answer, Book, Entry, advance, afterTaken, answer, book, bookFrom, emptied, emptyBook, emptyIn, enter, entered, full, grantsOf}
+use Rattle.model.specs.Book.{jobClaims, keep, none, only, quiet, refused, served, step, taken, takenFrom, takenOf, taskClaims, widths, withdraw, without}
 use Rattle.model.specs.Fence.{openCores}
 use Rattle.model.specs.Grants.{claimants}
-use Rattle.model.specs.Local.{Alike, SameBits, SameCores, SameReports, upTo}
+use Rattle.model.specs.Local.{Alike, SameBits, SameCores, SameEntries, SameEntry, SameReports, noticed, noticedIf, upTo}
 use Rattle.model.specs.Row.{byteOf, owner, row}
 use Rattle.model.specs.Search.{bit, memb, upFrom}
 use Rattle.model.specs.Task.{Table, Task, newest, nobody, task}
 
--- two books with the same tick and the same jobs of the first n places
+-- two books with the same tick, and the same jobs and withdrawals of the first n places
 pub record Agree (n : ℕ) (b b′ : Book) : Type 0 where
   pub ticks : b .tick ≡ b′ .tick
   pub jobs : (p k : ℕ) → p < n → b .job p k ≡ b′ .job p k
+  pub gone : SameBits n (b .withdrawn) (b′ .withdrawn)
+
+alike-self : (n : ℕ) (s : Table) → Alike n s s
+alike-self n s = record { rules = refl; cores = refl; fences = refl; tasks = refl }
+
+or-false : (u : Bool) → u || false ≡ u
+or-false true = refl
+or-false false = refl
+
+-- THE BOOK OF ENTRIES THAT ARE ALL ENTERED, taken or not
+took : Table → Book → List Entry → Book
+took s b [] = b
+took s b (x ∷ xs) = took s (afterTaken s x b) xs
+
+book-took : (s : Table) (xs : List Entry) (b : Book) → bookFrom s b xs ≡ took s b (takenFrom s b xs)
+unfolding bookFrom takenFrom took enter
+book-took s [] b = refl
+book-took s (x ∷ xs) b = go (answer s b x) (book-took s xs)
+  where
+    go : (w : Answer) → ((b : Book) → bookFrom s b xs ≡ took s b (takenFrom s b xs))
+        → bookFrom s (entered w (afterTaken s x b) b) xs ≡ took s b (keep w x (takenFrom s (entered w (afterTaken s x b) b) xs))
+    go taken ih = ih (afterTaken s x b)
+    go (refused n p) ih = ih b
 
 -- WHAT THE FIRST PLACES BRING TO A TICK
 
@@ -148,6 +172,7 @@ module _ (n : ℕ) (s s′ : Table) (al : Alike n s s′) where
   same-step f g fg b b′ ag = record {
     ticks = ap suc (ag .ticks);
     jobs = λ p k l. rw (same-job-claims b b′ ag p k l, same-cores b b′ ag p l, same-task p l, ag .jobs p k l, fg p l);
+    gone = ag .gone;
   }
 
   same-emptied : (e g : ℕ → Bool) → ((q : ℕ) → q < n → e q ≡ g q) → (b b′ : Book) → Agree n b b′ → Agree n (emptied s e b) (emptied s′ g b′)
@@ -155,35 +180,90 @@ module _ (n : ℕ) (s s′ : Table) (al : Alike n s s′) where
   same-emptied e g eg b b′ ag = record {
     ticks = ag .ticks;
     jobs = λ p k l. rw (eg p l, same-task p l, ag .ticks, ag .jobs p k l);
+    gone = ag .gone;
   }
 
   start-agree : Agree n emptyBook emptyBook
-  start-agree = record { ticks = refl; jobs = λ p k l. refl }
+  start-agree = record { ticks = refl; jobs = λ p k l. refl; gone = λ q l. refl }
 
   full-agree : (t : ℕ) → Agree n (full s t) (full s′ t)
   unfolding full
   full-agree zero = start-agree
   full-agree (suc t) = same-step none none (λ q l. refl) (full s t) (full s′ t) (full-agree t)
 
-  same-moved : (x y : Entry) → SameBits n (x .reports) (y .reports) → SameBits n (x .empties) (y .empties) → (b b′ : Book) → Agree n b b′
-      → Agree n (moved s (moveOf x) b) (moved s′ (moveOf y) b′)
-  same-moved x y r e b b′ ag =
-      same-step (bit (x .reports)) (bit (y .reports)) r (emptied s (bit (x .empties)) b) (emptied s′ (bit (y .empties)) b′)
-      (same-emptied (bit (x .empties)) (bit (y .empties)) e b b′ ag)
+  same-without : (b b′ : Book) → Agree n b b′ → (x y : ℕ) → SameBits n x y → Agree n (without x b) (without y b′)
+  same-without b b′ ag x y h = record {
+    ticks = ag .ticks;
+    jobs = ag .jobs;
+    gone = λ q l. or-bit (b .withdrawn) x q ∙ (rw (h q l, ag .gone q l) refl ∙ sym (or-bit (b′ .withdrawn) y q));
+  }
 
-  runs-agree :
-      (xs ys : List Entry) → SameReports n xs ys → (b b′ : Book) → Agree n b b′
-      → Agree n (run s b (movesOf xs)) (run s′ b′ (movesOf ys))
-  unfolding SameReports run
-  runs-agree [] [] r b b′ ag = ag
-  runs-agree [] (y ∷ ys) r b b′ ag = absurd r
-  runs-agree (x ∷ xs) [] r b b′ ag = absurd r
-  runs-agree (x ∷ xs) (y ∷ ys) r b b′ ag =
-      runs-agree xs ys (r .2) (moved s (moveOf x) b) (moved s′ (moveOf y) b′) (same-moved x y (r .0) (r .1) b b′ ag)
+  same-empty : (b b′ : Book) → Agree n b b′ → (e g : ℕ) → SameBits n e g → Agree n (emptied s (emptyIn b e) b) (emptied s′ (emptyIn b′ g) b′)
+  same-empty b b′ ag e g h = same-emptied (emptyIn b e) (emptyIn b′ g) (λ q l. rw (h q l, ag .gone q l)) b b′ ag
 
+  same-after : (x y : Entry) → SameEntry n x y → (b b′ : Book) → Agree n b b′ → Agree n (afterTaken s x b) (afterTaken s′ y b′)
+  unfolding afterTaken
+  same-after (advance x e) (advance y g) h b b′ ag =
+      same-step (bit x) (bit y) (h .0) (emptied s (emptyIn b e) b) (emptied s′ (emptyIn b′ g) b′) (same-empty b b′ ag e g (h .1))
+  same-after (advance x e) (withdraw q) h b b′ ag = absurd h
+  same-after (withdraw p) (advance y g) h b b′ ag = absurd h
+  same-after (withdraw p) (withdraw q) h b b′ ag = same-without b b′ ag (only p) (only q) (λ i l. ap (λ (k : ℕ). bit (only k) i) h)
+
+  took-agree : (xs ys : List Entry) → SameEntries n xs ys → (b b′ : Book) → Agree n b b′ → Agree n (took s b xs) (took s′ b′ ys)
+  unfolding SameEntries took
+  took-agree [] [] r b b′ ag = ag
+  took-agree [] (y ∷ ys) r b b′ ag = absurd r
+  took-agree (x ∷ xs) [] r b b′ ag = absurd r
+  took-agree (x ∷ xs) (y ∷ ys) r b b′ ag = took-agree xs ys (r .1) (afterTaken s x b) (afterTaken s′ y b′) (same-after x y (r .0) b b′ ag)
+
+-- WHAT IS WITHDRAWN BELOW POSITION n IS NOT NOTICED
+
+agree-sym : (n : ℕ) (b c : Book) → Agree n b c → Agree n c b
+agree-sym n b c h = record { ticks = sym (h .ticks); jobs = λ p k l. sym (h .jobs p k l); gone = λ q l. sym (h .gone q l) }
+
+agree-trans : (n : ℕ) (b c d : Book) → Agree n b c → Agree n c d → Agree n b d
+agree-trans n b c d h g = record {
+  ticks = h .ticks ∙ g .ticks;
+  jobs = λ p k l. h .jobs p k l ∙ g .jobs p k l;
+  gone = λ q l. h .gone q l ∙ g .gone q l;
+}
+
+-- a position below n is no place above it
+only-below : (n p q : ℕ) → leb p n ≡ false → q < n → bit (only p) q ≡ false
+only-below n p q h l = bit-power (p - 1) q ∙ ne-eqb q (p - 1) (λ e. omega (arith, leb-false p n h))
+
+-- an entry goes on with what stands behind it, or is left out
+noticed-step :
+    (n : ℕ) (s : Table) (x : Entry) (xs : List Entry) (b c : Book) → Agree n b c
+    → ((d : Book) → Agree n (afterTaken s x b) d → Agree n (took s (afterTaken s x b) xs) (took s d (noticed n xs)))
+    → Agree n (took s (afterTaken s x b) xs) (took s c (noticedIf n x (noticed n xs)))
+noticed-step n s (advance x e) xs b c ag more =
+    unfold took in more (afterTaken s (advance x e) c) (same-after n s s (alike-self n s) (advance x e) (advance x e) (λ q l. refl, λ q l. refl) b c ag)
+noticed-step n s (withdraw p) xs b c ag more = go (leb p n) refl
+  where
+    go : (t : Bool) → leb p n ≡ t
+        → Agree n (took s (afterTaken s (withdraw p) b) xs) (took s c (cond t (withdraw p ∷ noticed n xs) (noticed n xs)))
+    go true h = unfold took in more (afterTaken s (withdraw p) c) (same-after n s s (alike-self n s) (withdraw p) (withdraw p) refl b c ag)
+    go false h = more c (unfold afterTaken in record {
+      ticks = ag .ticks;
+      jobs = ag .jobs;
+      gone = λ q l. or-bit (b .withdrawn) (only p) q ∙ (rw (only-below n p q h l) (or-false (bit (b .withdrawn) q)) ∙ ag .gone q l);
+    })
+
+noticed-took : (n : ℕ) (s : Table) (xs : List Entry) (b c : Book) → Agree n b c → Agree n (took s b xs) (took s c (noticed n xs))
+unfolding noticed took
+noticed-took n s [] b c ag = ag
+noticed-took n s (x ∷ xs) b c ag = noticed-step n s x xs b c ag (noticed-took n s xs (afterTaken s x b))
+
+noticed-book : (n : ℕ) (s : Table) (xs : List Entry) → Agree n (book s xs) (took s emptyBook (noticed n (takenOf s xs)))
+noticed-book n s xs =
+    subst (λ (b : Book). Agree n b (took s emptyBook (noticed n (takenOf s xs)))) (sym (book-took s xs emptyBook))
+    (noticed-took n s (takenOf s xs) emptyBook emptyBook (start-agree n s s (alike-self n s)))
+
+module _ (n : ℕ) (s s′ : Table) (al : Alike n s s′) where
   -- THE THEOREM, for the full-length runs
   pub local-full : (t : ℕ) → SameCores n s (full s t) s′ (full s′ t)
-  local-full t = shown-alike (full s t) (full s′ t) (full-agree t)
+  local-full t = shown-alike n s s′ al (full s t) (full s′ t) (full-agree n s s′ al t)
 
   -- the same of books of empty sets: at every tick that both reach (up to the first miss, all: `full-length`)
   pub local-empty :
@@ -198,9 +278,13 @@ module _ (n : ℕ) (s s′ : Table) (al : Alike n s s′) where
   -- changes nothing and is dropped
   pub local-lists :
       (xs ys : List Entry) → SameReports n (takenOf s xs) (takenOf s′ ys) → (e e′ : ℕ) → SameBits n e e′
-      → SameCores n s (emptied s (bit e) (book s xs)) s′ (emptied s′ (bit e′) (book s′ ys))
+      → SameCores n s (emptied s (emptyIn (book s xs) e) (book s xs)) s′ (emptied s′ (emptyIn (book s′ ys) e′) (book s′ ys))
   local-lists xs ys r e e′ h =
-      shown-alike (emptied s (bit e) (book s xs)) (emptied s′ (bit e′) (book s′ ys))
-      (same-emptied (bit e) (bit e′) h (book s xs) (book s′ ys)
-      (subst₂ (Agree n) (sym (book-run s xs emptyBook)) (sym (book-run s′ ys emptyBook))
-      (runs-agree (takenOf s xs) (takenOf s′ ys) r emptyBook emptyBook start-agree)))
+      let b : Book = book s xs in
+      let b′ : Book = book s′ ys in
+      let ag : Agree n b b′ =
+      agree-trans n b (took s emptyBook (noticed n (takenOf s xs))) b′ (noticed-book n s xs)
+      (agree-trans n (took s emptyBook (noticed n (takenOf s xs))) (took s′ emptyBook (noticed n (takenOf s′ ys))) b′
+      (took-agree n s s′ al (noticed n (takenOf s xs)) (noticed n (takenOf s′ ys)) r emptyBook emptyBook (start-agree n s s′ al))
+      (agree-sym n b′ (took s′ emptyBook (noticed n (takenOf s′ ys))) (noticed-book n s′ ys))) in
+      shown-alike n s s′ al (emptied s (emptyIn b e) b) (emptied s′ (emptyIn b′ e′) b′) (same-empty n s s′ al b b′ ag e e′ h)

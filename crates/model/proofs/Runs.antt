@@ -1,8 +1,9 @@
 -- Books as runs of advances that are all entered: their ticks, what holds of every line, and the book of a list as such a run.
-use mathlib.Core.Bool.{_&&_, Bool, and-false, false, false≢true, true}
-use mathlib.Core.List.{List, [], map, _∷_}
+use mathlib.Core.Bool.{_&&_, Bool, and-false, false, false≢true, true, _||_}
+use mathlib.Core.List.{List, [], _∷_}
 use mathlib.Core.Path.{ap, ap₂, fun-ext, refl, subst, sym, _∙_, _≡_}
 use Prim.Native.Nat.{_+_, _<_, suc, zero, ℕ, _≤_}
+use lib.Bits.{bitOr}
 use native.Mathlib.Nat.{add-suc, add-zero, le-trans, zero-add}
 use native.Mathlib.Omega.{arith}
 use lib.ListN.{length, replicate}
@@ -10,8 +11,9 @@ use borrow.Author.Tests.{ne-eqb}
 use Rattle.model.proofs.Bools.{and-left, not-true-false}
 use Rattle.model.proofs.Digits.{bit-none}
 use Rattle.model.proofs.Jobs.{Good, after-release, good-fresh, good-next, mk, next, next-ended, start-good, whole-next}
-use Rattle.model.specs.Book.{Answer, Book, Entry, Missed, advanced, answer, book, bookFrom, emptied, emptyBook, enter, entered, fresh, full, inRow}
-use Rattle.model.specs.Book.{jobClaims, keep, none, quiet, refused, releasedNow, served, step, taken, takenFrom, takenOf, work}
+use Rattle.model.specs.Book.{Answer, Book, Entry, Missed, advance, advanced, afterTaken, answer, book, bookFrom, emptied, emptyBook, emptyIn, enter}
+use Rattle.model.specs.Book.{entered, fresh, full, inRow, jobClaims, keep, none, only, quiet, refused, releasedNow, served, step, taken, takenFrom}
+use Rattle.model.specs.Book.{takenOf, withdraw, without, work}
 use Rattle.model.specs.Search.{bit}
 use Rattle.model.specs.Task.{AllSound, Table, due, release, task}
 
@@ -29,12 +31,23 @@ unfoldable pub run : Table → Book → List Move → Book
 run s b [] = b
 run s b (m ∷ ms) = run s (moved s m b) ms
 
--- an entry's, and those of a list
-abbrev pub moveOf : Entry → Move
-moveOf x = record { reports = bit (x .reports); empties = bit (x .empties) }
+-- an advance's, with the withdrawn set w
+abbrev pub moveWith : ℕ → ℕ → ℕ → Move
+moveWith w x e = record { reports = bit x; empties = λ p. bit e p || bit w p }
 
-abbrev pub movesOf : List Entry → List Move
-movesOf xs = map moveOf xs
+-- those of a list: a withdrawal is none, and says whose jobs are empty in the advances that follow
+unfoldable pub movesWith : ℕ → List Entry → List Move
+movesWith w [] = []
+movesWith w (advance x e ∷ xs) = moveWith w x e ∷ movesWith w xs
+movesWith w (withdraw p ∷ xs) = movesWith (bitOr w (only p)) xs
+
+-- those of a list's taken entries
+abbrev pub movesOf : Table → List Entry → List Move
+movesOf s xs = movesWith 0 (takenOf s xs)
+
+-- the book but for the withdrawn set, which nothing reads but the entries
+abbrev pub lines : Book → Book
+lines b = record { tick = b .tick; job = b .job; withdrawn = 0 }
 
 pub full-tick : (s : Table) (n : ℕ) → full s n .tick ≡ n
 unfolding full step
@@ -100,13 +113,22 @@ unfolding run full emptied
 full-run s zero = refl
 full-run s (suc n) = step-last s n emptyBook ∙ ap (step s none) (full-run s n)
 
--- no bit of the empty set names an empty job, so an advance whose sets are both empty is a step with no report
-pub still-emptied : (s : Table) (b : Book) → emptied s (bit 0) b ≡ b
-unfolding emptied
-still-emptied s b = ap (λ (f : ℕ → Bool). emptied s f b) (fun-ext bit-none)
+-- in the full-length run nobody is withdrawn
+pub full-withdrawn : (s : Table) (n : ℕ) → full s n .withdrawn ≡ 0
+unfolding full step
+full-withdrawn s zero = refl
+full-withdrawn s (suc n) = full-withdrawn s n
 
-pub still-advance : (s : Table) (b : Book) → advanced s (bit 0) (bit 0) b ≡ step s none b
-still-advance s b = ap₂ (λ (f : ℕ → Bool) (c : Book). step s f c) (fun-ext bit-none) (still-emptied s b)
+-- where nobody is withdrawn no bit of the empty set names an empty job, so an advance whose sets are both empty is a step with no report
+pub still-emptied : (s : Table) (b : Book) → b .withdrawn ≡ 0 → emptied s (emptyIn b 0) b ≡ b
+unfolding emptied
+still-emptied s b w = ap (λ (f : ℕ → Bool). emptied s f b) (fun-ext nobody)
+  where
+    nobody : (p : ℕ) → emptyIn b 0 p ≡ false
+    nobody p = rw (w, bit-none p)
+
+pub still-advance : (s : Table) (b : Book) → b .withdrawn ≡ 0 → advanced s (bit 0) (emptyIn b 0) b ≡ step s none b
+still-advance s b w = ap₂ (λ (f : ℕ → Bool) (c : Book). step s f c) (fun-ext bit-none) (still-emptied s b w)
 
 -- every job that has ended in a book has had C ticks
 abbrev pub WholeBook : Table → Book → Type 0
@@ -124,17 +146,21 @@ full-whole s zero p k e = absurd (false≢true e)
 full-whole s (suc n) p k e = whole-step s (full s n) (full-whole s n) p k e
 
 -- and so in the book of empty sets, past a miss too
-whole-from : (s : Table) (n : ℕ) (b : Book) → WholeBook s b → WholeBook s (bookFrom s b (replicate n quiet))
-unfolding bookFrom enter
-whole-from s zero b w = w
-whole-from s (suc n) b w = whole-from s n (enter s quiet b) (go (answer s b quiet))
+whole-from : (s : Table) (n : ℕ) (b : Book) → b .withdrawn ≡ 0 → WholeBook s b → WholeBook s (bookFrom s b (replicate n quiet))
+unfolding bookFrom enter afterTaken
+whole-from s zero b o w = w
+whole-from s (suc n) b o w = whole-from s n (enter s quiet b) (out (answer s b quiet)) (go (answer s b quiet))
   where
-    go : (a : Answer) → WholeBook s (entered a (advanced s (bit 0) (bit 0) b) b)
-    go taken = subst (WholeBook s) (sym (still-advance s b)) (whole-step s b w)
+    out : (a : Answer) → entered a (advanced s (bit 0) (emptyIn b 0) b) b .withdrawn ≡ 0
+    out taken = unfold step emptied in o
+    out (refused n p) = o
+
+    go : (a : Answer) → WholeBook s (entered a (advanced s (bit 0) (emptyIn b 0) b) b)
+    go taken = subst (WholeBook s) (sym (still-advance s b o)) (whole-step s b w)
     go (refused n p) = w
 
 pub whole-empty : (s : Table) (n : ℕ) → WholeBook s (book s (replicate n quiet))
-whole-empty s n = whole-from s n emptyBook (λ p k e. absurd (false≢true e))
+whole-empty s n = whole-from s n emptyBook refl (λ p k e. absurd (false≢true e))
 
 -- the ticks claimed are no fewer than those had
 had-claimed : (C : ℕ) (f s : Bool) (h c : ℕ) (e : Bool) → h ≤ c → next C f s (mk h c e) .had ≤ next C f s (mk h c e) .claimed
@@ -193,27 +219,34 @@ early-run s [] b e = e
 early-run s (m ∷ ms) b e = early-run s ms (moved s m b) (early-moved s m b e)
 
 -- THE REFUSING LISTS: the book of a list is the run of those of its advances that are taken
-pub book-run : (s : Table) (xs : List Entry) (b : Book) → bookFrom s b xs ≡ run s b (movesOf (takenFrom s b xs))
-unfolding bookFrom takenFrom run enter
-book-run s [] b = refl
-book-run s (x ∷ xs) b = go (answer s b x) (book-run s xs)
+book-from : (s : Table) (xs : List Entry) (b : Book) → lines (bookFrom s b xs) ≡ run s (lines b) (movesWith (b .withdrawn) (takenFrom s b xs))
+unfolding bookFrom takenFrom movesWith run enter afterTaken step emptied served
+book-from s [] b = refl
+book-from s (x ∷ xs) b = go x (answer s b x) (book-from s xs)
   where
-    go : (w : Answer) → ((b : Book) → bookFrom s b xs ≡ run s b (movesOf (takenFrom s b xs)))
-        → bookFrom s (entered w (moved s (moveOf x) b) b) xs ≡ run s b (movesOf (keep w x (takenFrom s (entered w (moved s (moveOf x) b) b) xs)))
-    go taken ih = ih (moved s (moveOf x) b)
-    go (refused n p) ih = ih b
+    go : (x : Entry) (w : Answer)
+        → ((b : Book) → lines (bookFrom s b xs) ≡ run s (lines b) (movesWith (b .withdrawn) (takenFrom s b xs)))
+        → lines (bookFrom s (entered w (afterTaken s x b) b) xs)
+        ≡ run s (lines b) (movesWith (b .withdrawn) (keep w x (takenFrom s (entered w (afterTaken s x b) b) xs)))
+    go (advance x e) taken ih = ih (advanced s (bit x) (emptyIn b e) b)
+    go (advance x e) (refused n p) ih = ih b
+    go (withdraw p) taken ih = ih (without (only p) b)
+    go (withdraw p) (refused n q) ih = ih b
+
+pub book-run : (s : Table) (xs : List Entry) → lines (book s xs) ≡ run s emptyBook (movesOf s xs)
+book-run s xs = book-from s xs emptyBook
 
 -- the list's tick is how many are taken
-pub book-tick : (s : Table) (xs : List Entry) → length (movesOf (takenOf s xs)) ≡ book s xs .tick
+pub book-tick : (s : Table) (xs : List Entry) → length (movesOf s xs) ≡ book s xs .tick
 book-tick s xs =
-    let ms : List Move = movesOf (takenOf s xs) in
-    sym (ap (λ (b : Book). b .tick) (book-run s xs emptyBook) ∙ (run-tick s ms emptyBook ∙ zero-add (length ms)))
+    let ms : List Move = movesOf s xs in
+    sym (ap (λ (b : Book). b .tick) (book-run s xs) ∙ (run-tick s ms emptyBook ∙ zero-add (length ms)))
 
 -- so every line of it is good
 pub good-book : (s : Table) → AllSound s → (xs : List Entry) → GoodBook s (book s xs)
 good-book s ok xs =
-    subst (GoodBook s) (sym (book-run s xs emptyBook)) (good-run s ok (movesOf (takenOf s xs)) emptyBook (good-start s ok))
+    subst (GoodBook s) (sym (book-run s xs)) (good-run s ok (movesOf s xs) emptyBook (good-start s ok))
 
 -- and a job is fresh until its release
 pub early-book : (s : Table) (xs : List Entry) → Early s (book s xs)
-early-book s xs = subst (Early s) (sym (book-run s xs emptyBook)) (early-run s (movesOf (takenOf s xs)) emptyBook (early-start s))
+early-book s xs = subst (Early s) (sym (book-run s xs)) (early-run s (movesOf s xs) emptyBook (early-start s))

@@ -15,13 +15,13 @@ use Rattle.model.proofs.Grants.{RisingList, greedy-limited, limited-mon
 use Rattle.model.proofs.Jobs.{Letting, Reserving, abreast, after-release, before-due, claims-less, claims-open, fresh-near, longer-left, longer-right, newest-is, start}
 use Rattle.model.proofs.Level.{Level, level-emptied, level-start, level-step, same-served}
 use Rattle.model.proofs.Runs.{Early, GoodBook, Move, book-run, book-tick, early-moved, early-start, full-run, full-whole, good-emptied, good-run}
-use Rattle.model.proofs.Runs.{good-start, good-step, moved, movesOf, run, stillMove}
-use Rattle.model.specs.Book.{Book, Entry, Job, book, claims, emptied, emptyBook, fresh, full, inRow, jobClaims, releasedNow, served, step, takenOf, taskClaims, widths}
+use Rattle.model.proofs.Runs.{good-start, good-step, lines, moved, movesOf, run, stillMove}
+use Rattle.model.specs.Book.{Book, Entry, Job, book, claims, emptied, emptyBook, fresh, full, inRow, jobClaims, releasedNow, served, step, taskClaims, widths}
 use Rattle.model.specs.Compare.{Behind, Longer, NoneBehind, NoneLonger}
 use Rattle.model.specs.Fence.{openCores}
 use Rattle.model.specs.Grants.{claimants, grants, some}
 use Rattle.model.specs.Task.{AllSound, Rule, Table, greedy, limited, newest, nobody, release, task}
-use Rattle.model.specs.Verdict.{FirmRule, Rising}
+use Rattle.model.specs.Firm.{FirmRule, Rising}
 
 -- fewer claims take no cores from a task that still claims
 abbrev pub GrantsMono : Rule → List ℕ → Type 0
@@ -219,20 +219,20 @@ module _ (s : Table) (ok : AllSound s) where
     -- two lists that have come to the same tick
     pub abreast-lists :
         (xs ys : List Entry) → book s xs .tick ≡ book s ys .tick
-        → NoneLonger s (book s xs) (book s ys) → Abreast s (book s xs) (book s ys)
+        → NoneLonger s (book s xs) (book s ys) → Abreast s (lines (book s xs)) (lines (book s ys))
     abreast-lists xs ys e =
-        let ms : List Move = movesOf (takenOf s xs) in
-        let ns : List Move = movesOf (takenOf s ys) in
-        subst₂ (λ (a b : Book). NoneLonger s a b → Abreast s a b) (sym (book-run s xs emptyBook)) (sym (book-run s ys emptyBook))
+        let ms : List Move = movesOf s xs in
+        let ns : List Move = movesOf s ys in
+        subst₂ (λ (a b : Book). NoneLonger s a b → Abreast s a b) (sym (book-run s xs)) (sym (book-run s ys))
         (two-runs s ok (kind s firmly) ms ns (book-tick s xs ∙ (e ∙ sym (book-tick s ys))) emptyBook emptyBook
         (early-start s) (early-start s) (start-abreast s ok))
 
     -- a list and the full-length run: the list is behind it on no job
-    pub abreast-full : (xs : List Entry) → Abreast s (book s xs) (full s (book s xs .tick))
+    pub abreast-full : (xs : List Entry) → Abreast s (lines (book s xs)) (full s (book s xs .tick))
     abreast-full xs =
-        let ms : List Move = movesOf (takenOf s xs) in
-        subst (λ (n : ℕ). Abreast s (book s xs) (full s n)) (book-tick s xs)
-        (subst (λ (b : Book). Abreast s b (full s (length ms))) (sym (book-run s xs emptyBook)) (abreast-run (kind s firmly) ms))
+        let ms : List Move = movesOf s xs in
+        subst (λ (n : ℕ). Abreast s (lines (book s xs)) (full s n)) (book-tick s xs)
+        (subst (λ (b : Book). Abreast s b (full s (length ms))) (sym (book-run s xs)) (abreast-run (kind s firmly) ms))
 
     -- what the full-length run has finished is finished
     pub finished : (xs : List Entry) (p k : ℕ) → p < length (s .tasks) → full s (book s xs .tick) .job p k .ended ≡ true → book s xs .job p k .ended ≡ true

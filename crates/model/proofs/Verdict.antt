@@ -18,7 +18,8 @@ use Rattle.model.specs.Book.{NeverMissed, book, full, quiet}
 use Rattle.model.specs.Horizon.{horizon, hyperperiod, lastS}
 use Rattle.model.specs.Search.{any, least}
 use Rattle.model.specs.Task.{AllSound, Rule, Table, Task, greedy, idling, limited}
-use Rattle.model.specs.Verdict.{Exact, Firm, FirmRule, FirstMiss, Full, Miss, Rising, firm, firstMiss, missedAt, missedIn, rising, verdict}
+use Rattle.model.specs.Firm.{FirmRule, Rising, firm, rising}
+use Rattle.model.specs.Verdict.{Exact, Firm, FirstMiss, Full, Miss, firstMiss, missedAt, missedIn, verdict}
 
 -- THE CONDITION ON RULE AND WIDTHS
 

@@ -1,15 +1,18 @@
--- The book of a run (scope, section 'The book of a run'): kept from a table and the two sets of each advance of a list, the reports and the empty jobs (request 105).
+-- The book of a run (scope, section 'The book of a run'): kept from a table and a list of advances, each with its two sets, the reports and the
+-- empty jobs (request 105), and of withdrawals (request 106).
 use mathlib.Core.Bool.{Bool, true, false, not, _&&_, _||_, cond}
 use mathlib.Core.List.{List, [], _∷_, map}
 use mathlib.Core.Path.{_≡_}
-use Prim.Native.Nat.{ℕ, zero, suc, _<_}
+use Prim.Native.Nat.{ℕ, zero, suc, _+_, _-_, _^_, _<_}
 use lib.ListN.{length, getD, replicate}
+use lib.Bits.{bitOr}
 use lib.Dec.{eqb, leb, ltb}
 use Rattle.model.specs.Search.{any, least, bit}
 use Rattle.model.specs.Task.{Task, Rule, greedy, limited, idling, Table, task, release, due, newest}
 use Rattle.model.specs.Fence.{openCores}
 use Rattle.model.specs.Grants.{claimants, grants, some}
 use Rattle.model.specs.Row.{row}
+use Rattle.model.specs.Firm.{firm}
 
 -- a job's line: the ticks had and the ticks claimed, and whether it has ended
 pub record Job : Type 0 where
@@ -21,14 +24,15 @@ pub record Job : Type 0 where
 abbrev pub fresh : Job
 fresh = record { had = 0; claimed = 0; ended = false }
 
--- the book: the tick, and the line of job k of place p
+-- the book: the tick, the line of job k of place p, and the set of withdrawn positions, bit 0 for position 1
 pub record Book : Type 0 where
   pub tick : ℕ
   pub job : ℕ → ℕ → Job
+  pub withdrawn : ℕ
 
--- the book of the empty list: tick 0 and every line fresh
+-- the book of the empty list: tick 0, every line fresh, nobody withdrawn
 abbrev pub emptyBook : Book
-emptyBook = record { tick = 0; job = λ p k. fresh }
+emptyBook = record { tick = 0; job = λ p k. fresh; withdrawn = 0 }
 
 -- EMPTY JOBS
 
@@ -45,7 +49,12 @@ unfoldable pub emptied : Table → (ℕ → Bool) → Book → Book
 emptied s e b = record {
   tick = b .tick;
   job = λ p k. cond (e p && releasedNow s b p k) (endedWith (b .job p k)) (b .job p k);
+  withdrawn = b .withdrawn;
 }
+
+-- whose job is empty where it is released in this tick: the positions of the set e, and the withdrawn ones, with or without their bit
+abbrev pub emptyIn : Book → ℕ → ℕ → Bool
+emptyIn b e p = bit e p || bit (b .withdrawn) p
 
 -- THE CLAIMS AND THE ROW OF A TICK
 
@@ -101,16 +110,37 @@ unfoldable pub step : Table → (ℕ → Bool) → Book → Book
 step s f b = record {
   tick = suc (b .tick);
   job = λ p k. cond (served s b p k) (work (task s p .length) (f p) (b .job p k)) (b .job p k);
+  withdrawn = b .withdrawn;
 }
 
 -- an advance with the reports f and the empty jobs e: these are ended before the claims of the tick are taken
 abbrev pub advanced : Table → (ℕ → Bool) → (ℕ → Bool) → Book → Book
 advanced s f e b = step s f (emptied s e b)
 
--- an entry of a list, which is an advance: its set of reports and its set of empty jobs, bit 0 for position 1
-pub record Entry : Type 0 where
-  pub reports : ℕ
-  pub empties : ℕ
+-- THE ENTRIES OF A LIST
+
+-- an advance with its set of reports and its set of empty jobs, bit 0 for position 1; or the withdrawal of a position
+pub data Entry : Type 0 where
+  advance : ℕ → ℕ → Entry
+  withdraw : ℕ → Entry
+
+-- the empty jobs that an entry names
+abbrev pub emptiesOf : Entry → ℕ
+emptiesOf (advance x e) = e
+emptiesOf (withdraw p) = 0
+
+-- the set of one position
+abbrev pub only : ℕ → ℕ
+only p = 2 ^ (p - 1)
+
+-- a withdrawal of the positions of a set only adds them to the withdrawn ones: a job released before this tick goes on
+abbrev pub without : ℕ → Book → Book
+without x b = record { tick = b .tick; job = b .job; withdrawn = bitOr (b .withdrawn) x }
+
+-- the book after an entry that is taken
+unfoldable pub afterTaken : Table → Entry → Book → Book
+afterTaken s (advance x e) b = advanced s (bit x) (emptyIn b e) b
+afterTaken s (withdraw p) b = without (only p) b
 
 -- REFUSALS
 
@@ -139,19 +169,29 @@ emptiable s b p =
 unfoldable pub misemptied : Table → Book → ℕ → Bool
 misemptied s b e = any e (λ p. bit e p && not (emptiable s b p))
 
+-- a position that is none of the table: 0, or one past the last (`stranger-exact`)
+abbrev pub stranger : Table → ℕ → Bool
+stranger s p = eqb p 0 || ltb (length (s .tasks)) p
+
 -- what a call is answered: taken, or refused with number and position
 pub data Answer : Type 0 where
   taken : Answer
   refused : ℕ → ℕ → Answer
 
--- 15 with the lowest late position; else 20 with position 0; else, with the empty jobs ended, 16 with position 0; else taken
+-- a withdrawal: 21 where the table's rule and widths are not firm; else 22 where a position that it names is none of the table's; else taken.
+-- 15 is not looked at, nor anything else in the book (`withdraw-taken`)
+abbrev pub withdrawing : Table → Bool → Answer
+withdrawing s strange = cond (firm (s .rule) (s .tasks)) (cond strange (refused 22 0) taken) (refused 21 0)
+
+-- an advance: 15 with the lowest late position; else 20 with position 0; else, with the empty jobs ended, 16 with position 0; else taken
 unfoldable pub answer : Table → Book → Entry → Answer
-answer s b x =
+answer s b (advance x e) =
     cond (ltb (firstLate s b) (length (s .tasks)))
     (refused 15 (suc (firstLate s b)))
-    (cond (misemptied s b (x .empties))
+    (cond (misemptied s b e)
     (refused 20 0)
-    (cond (misreported s (emptied s (bit (x .empties)) b) (x .reports)) (refused 16 0) taken))
+    (cond (misreported s (emptied s (emptyIn b e) b) x) (refused 16 0) taken))
+answer s b (withdraw p) = withdrawing s (stranger s p)
 
 -- what a row asked is answered: the row, or refused with number and position
 pub data Asked : Type 0 where
@@ -164,18 +204,18 @@ unfoldable pub asked : Table → Book → ℕ → Asked
 asked s b e =
     cond (ltb (firstLate s b) (length (s .tasks)))
     (rowRefused 15 (suc (firstLate s b)))
-    (cond (misemptied s b e) (rowRefused 20 0) (shown (rowOf s (emptied s (bit e) b))))
+    (cond (misemptied s b e) (rowRefused 20 0) (shown (rowOf s (emptied s (emptyIn b e) b))))
 
 -- THE BOOK OF A LIST
 
--- a refused advance changes nothing in the book
+-- a refused entry changes nothing in the book
 abbrev pub entered : Answer → Book → Book → Book
 entered taken new old = new
 entered (refused n p) new old = old
 
 -- the book after an entry, taken or refused
 unfoldable pub enter : Table → Entry → Book → Book
-enter s x b = entered (answer s b x) (advanced s (bit (x .reports)) (bit (x .empties)) b) b
+enter s x b = entered (answer s b x) (afterTaken s x b) b
 
 -- the book of a list of entries, from book b on
 unfoldable pub bookFrom : Table → Book → List Entry → Book
@@ -191,11 +231,17 @@ unfoldable pub answersFrom : Table → Book → List Entry → List Answer
 answersFrom s b [] = []
 answersFrom s b (x ∷ xs) = answer s b x ∷ answersFrom s (enter s x b) xs
 
--- how many of these answers were not refusals: the list's tick (`tick-taken`)
-unfoldable pub takenIn : List Answer → ℕ
-takenIn [] = 0
-takenIn (taken ∷ ws) = suc (takenIn ws)
-takenIn (refused n p ∷ ws) = takenIn ws
+-- an entry moves the tick if it is an advance that is taken
+abbrev pub ticksOf : Entry → Answer → ℕ
+ticksOf (advance x e) taken = 1
+ticksOf (advance x e) (refused n p) = 0
+ticksOf (withdraw q) w = 0
+
+-- how many advances of a list were not refused, by its answers: the list's tick (`tick-taken`)
+unfoldable pub takenIn : List Entry → List Answer → ℕ
+takenIn [] ws = 0
+takenIn (x ∷ xs) [] = 0
+takenIn (x ∷ xs) (w ∷ ws) = ticksOf x w + takenIn xs ws
 
 -- an entry goes before the others if it is taken, and is dropped if it is refused
 abbrev pub keep : Answer → Entry → List Entry → List Entry
@@ -215,10 +261,10 @@ takenOf s xs = takenFrom s emptyBook xs
 abbrev pub AllTaken : Table → Book → List Entry → Type 0
 AllTaken s b xs = answersFrom s b xs ≡ replicate (length xs) taken
 
--- the row asked before each advance of the list with its empty jobs, and after the last with none
+-- the row asked before each entry of the list with its empty jobs, and after the last with none
 unfoldable pub rowsFrom : Table → Book → List Entry → List Asked
 rowsFrom s b [] = asked s b 0 ∷ []
-rowsFrom s b (x ∷ xs) = asked s b (x .empties) ∷ rowsFrom s (enter s x b) xs
+rowsFrom s b (x ∷ xs) = asked s b (emptiesOf x) ∷ rowsFrom s (enter s x b) xs
 
 -- THE FULL-LENGTH RUN
 
@@ -228,9 +274,9 @@ none p = false
 
 -- an advance whose sets are both empty
 abbrev pub quiet : Entry
-quiet = record { reports = 0; empties = 0 }
+quiet = advance 0 0
 
--- the full-length run at tick n: every advance is entered with no report and no empty job, past a miss too.
+-- the full-length run at tick n: every advance is entered with no report and no empty job, past a miss too; nobody is withdrawn.
 -- It is the scope's, the book of n advances whose sets are both empty, up to the first miss (`full-length`)
 unfoldable pub full : Table → ℕ → Book
 full s zero = emptyBook

@@ -1,4 +1,4 @@
--- What a firm table keeps for every list of advances, refused ones included (demand 3, on the side of the book). `firm-kept` shows it.
+-- What a firm table keeps for every list of advances and withdrawals, refused ones included (demand 3, on the side of the book). `firm-kept` shows it.
 use mathlib.Core.Bool.{true}
 use mathlib.Core.List.{_++_, List}
 use mathlib.Core.Path.{_≡_}
@@ -8,17 +8,17 @@ use Rattle.model.specs.Book.{Entry, Misses, answer, asked, book, quiet, 
 use Rattle.model.specs.Compare.{KeepsAbreast, NoneBehind}
 use Rattle.model.specs.Task.{Table}
 
--- what is claimed of a list xs, whose jobs have lengths from zero up
+-- what is claimed of a list xs, whose jobs have lengths from zero up, and of whose tasks some may be withdrawn
 pub record Kept (s : Table) (xs : List Entry) : Type 0 where
   -- of two lists at one tick, if no job is longer in the first, the first is behind on no job
   pub abreast : (ys : List Entry) → KeepsAbreast s xs ys
-  -- it is behind the full-length run, the book of empty sets, at its tick on no job
+  -- it is behind the full-length run, the book of advances with empty sets, at its tick on no job
   pub level : NoneBehind s (book s xs) (book s (replicate (book s xs .tick) quiet))
   -- every job that the full-length run has finished by the same tick is finished
   pub finished :
       (p k : ℕ) → p < length (s .tasks)
       → book s (replicate (book s xs .tick) quiet) .job p k .ended ≡ true → book s xs .job p k .ended ≡ true
-  -- no deadline is missed, in any prefix of the list
+  -- no deadline is missed, in any prefix of the list: of a withdrawn position neither, whose job that goes on is met
   pub met : (ys zs : List Entry) → xs ≡ ys ++ zs → (p : ℕ) → ¬ Misses s (book s ys) p
   -- 15 is never answered, to an advance or to a row asked
   pub never-15 : (x : Entry) (p : ℕ) → ¬ (answer s (book s xs) x ≡ refused 15 p)

@@ -5,7 +5,7 @@ use mathlib.Core.Path.{_≡_}
 use Prim.Native.Nat.{_<_, ℕ}
 use lib.Dec.{leb}
 use lib.ListN.{getD, take}
-use Rattle.model.specs.Book.{Book, Entry, grantsOf, rowOf}
+use Rattle.model.specs.Book.{Book, Entry, advance, grantsOf, rowOf, withdraw}
 use Rattle.model.specs.Search.{bit}
 use Rattle.model.specs.Task.{Table}
 
@@ -20,12 +20,33 @@ pub record Alike (n : ℕ) (s s′ : Table) : Type 0 where
 abbrev pub SameBits : ℕ → ℕ → ℕ → Type 0
 SameBits n x y = (q : ℕ) → q < n → bit x q ≡ bit y q
 
--- two lists of advances of equal length whose sets, of reports and of empty jobs, agree on positions 1 to n
-unfoldable pub SameReports : ℕ → List Entry → List Entry → Type 0
-SameReports n [] [] = Unit {0}
-SameReports n [] (y ∷ ys) = ⊥
-SameReports n (x ∷ xs) [] = ⊥
-SameReports n (x ∷ xs) (y ∷ ys) = SameBits n (x .reports) (y .reports) × SameBits n (x .empties) (y .empties) × SameReports n xs ys
+-- an entry before others, unless it withdraws a position below position n
+abbrev pub noticedIf : ℕ → Entry → List Entry → List Entry
+noticedIf n (advance x e) xs = advance x e ∷ xs
+noticedIf n (withdraw p) xs = cond (leb p n) (withdraw p ∷ xs) xs
+
+-- the entries of a list that say anything of positions 1 to n: withdrawals of positions below them are left out
+unfoldable pub noticed : ℕ → List Entry → List Entry
+noticed n [] = []
+noticed n (x ∷ xs) = noticedIf n x (noticed n xs)
+
+-- two entries that say the same of positions 1 to n: advances whose sets, of reports and of empty jobs, agree on them, or withdrawals of one position
+abbrev pub SameEntry : ℕ → Entry → Entry → Type 0
+SameEntry n (advance x e) (advance y g) = SameBits n x y × SameBits n e g
+SameEntry n (advance x e) (withdraw q) = ⊥
+SameEntry n (withdraw p) (advance y g) = ⊥
+SameEntry n (withdraw p) (withdraw q) = p ≡ q
+
+-- two lists of equal length whose entries say the same of positions 1 to n
+unfoldable pub SameEntries : ℕ → List Entry → List Entry → Type 0
+SameEntries n [] [] = Unit {0}
+SameEntries n [] (y ∷ ys) = ⊥
+SameEntries n (x ∷ xs) [] = ⊥
+SameEntries n (x ∷ xs) (y ∷ ys) = SameEntry n x y × SameEntries n xs ys
+
+-- two lists that say the same of positions 1 to n
+abbrev pub SameReports : ℕ → List Entry → List Entry → Type 0
+SameReports n xs ys = SameEntries n (noticed n xs) (noticed n ys)
 
 -- a row as positions 1 to n see it: the bytes of positions below them, and of fenced cores, read 0 (n is below 255)
 abbrev pub upTo : ℕ → ℕ → ℕ

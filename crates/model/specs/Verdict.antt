@@ -1,35 +1,15 @@
 -- The verdict on a table that no number turns down (scope, 'Look-ahead and verdict').
-use mathlib.Core.Bool.{_&&_, Bool, cond, not, true}
-use mathlib.Core.List.{List, [], _∷_}
+use mathlib.Core.Bool.{_&&_, Bool, cond, not}
 use mathlib.Core.Logic.{_↔_, _⊎_}
 use mathlib.Core.Path.{_≡_}
-use Prim.Native.Nat.{_<_, suc, ℕ, _≤_}
-use lib.Dec.{eqb, leb}
-use lib.ListN.{getD, length}
+use Prim.Native.Nat.{_<_, suc, ℕ}
+use lib.Dec.{eqb}
+use lib.ListN.{length}
 use Rattle.model.specs.Book.{Missed, NeverMissed, full}
+use Rattle.model.specs.Firm.{FirmRule, firm}
 use Rattle.model.specs.Horizon.{horizon, hyperperiod, lastS}
 use Rattle.model.specs.Search.{any, least}
-use Rattle.model.specs.Task.{Rule, Table, Task, due, greedy, idling, limited, nobody, task}
-
--- widths never fall along the chain: the test (`firm-exact`)
-unfoldable pub rising : List Task → Bool
-rising [] = true
-rising (τ ∷ []) = true
-rising (τ ∷ τ′ ∷ τs) = leb (τ .width) (τ′ .width) && rising (τ′ ∷ τs)
-
--- each width is at most the next
-abbrev pub Rising : List Task → Type 0
-Rising τs = (p : ℕ) → suc p < length τs → getD τs p nobody .width ≤ getD τs (suc p) nobody .width
-
--- firm is for rules 2 and 3, and for rule 1 where widths never fall: the test (`firm-exact`)
-unfoldable pub firm : Rule → List Task → Bool
-firm greedy τs = rising τs
-firm limited τs = true
-firm idling τs = true
-
--- the rule is 2 or 3, or it is 1 and widths never fall
-abbrev pub FirmRule : Table → Type 0
-FirmRule s = (s .rule ≡ limited) ⊎ ((s .rule ≡ idling) ⊎ ((s .rule ≡ greedy) × Rising (s .tasks)))
+use Rattle.model.specs.Task.{Table, due, task}
 
 -- place p of the table misses a deadline at tick t of the full-length run (a job due at t has a number up to t: `missed-exact`)
 unfoldable pub missedAt : Table → ℕ → ℕ → Bool

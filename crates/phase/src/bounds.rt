@@ -1,12 +1,26 @@
-// The limits of a task and of its phase, and lateness.
+// The task of the table that a task is, the limits of it and of its phase, and lateness.
 ghost use mathlib.Core.Path.{_≡_};
 ghost use Rattle.model.specs.Task.{ruleOf};
+ghost use Rattle.table.specs.Task as table;
 ghost use Rattle.phase.specs.Phase.{phaseIn, lateIn};
 ghost use Rattle.phase.specs.Task.{taskOf, outIn};
 use crate::Phase;
 use crate::Task;
 
 impl Task {
+    // The task of the table that it is.
+    pub fn plain(self) -> table::Task
+        ensures { λ r. ⌜ table.taskOf r ≡ taskOf self ⌝ }
+    {
+        table::Task {
+            offset: self.offset,
+            width: self.width,
+            length: self.length,
+            deadline: self.deadline,
+            period: self.period,
+        }
+    }
+
     // Whether the task's phase is within its limits.
     fn phase_in(self, rule: u32) -> bool
         ensures { λ r. ⌜ r ≡ phaseIn (ruleOf rule) (taskOf self) (self .phase) ⌝ }
@@ -26,13 +40,7 @@ impl Task {
     pub fn out(self, rule: u32, wide: u32) -> bool
         ensures { λ r. ⌜ r ≡ outIn wide (ruleOf rule) self ⌝ }
     {
-        let plain = table::Task {
-            offset: self.offset,
-            width: self.width,
-            length: self.length,
-            deadline: self.deadline,
-            period: self.period,
-        };
+        let plain = self.plain();
         !(table::limits::task_number(wide, plain) == 0) | !self.phase_in(rule)
     }
 

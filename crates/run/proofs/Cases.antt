@@ -1,4 +1,4 @@
--- What a row and an advance give, case by case, in the order in which code looks.
+-- What a row, an advance and a withdrawal give, case by case, in the order in which code looks.
 use mathlib.Core.Path.{_≡_, refl, ap}
 use mathlib.Core.Bool.{Bool, true, false, not, cond}
 use Prim.Native.Nat.{ℕ, suc, _+_, _≤_, _<_}
@@ -6,13 +6,15 @@ use native.Mathlib.Numerals.{add-one}
 use lib.Dec.{ltb}
 use borrow.Author.Tests.{lt-ltb, le-ltb}
 use Rattle.model.specs.Search.{bit}
+use Rattle.model.specs.Book.{only}
 use Rattle.run.specs.declared.Run.{Run}
 use Rattle.run.specs.declared.Answer.{Answer}
 use Rattle.run.specs.declared.Answer.the-variants.{Taken, Refused}
-use Rattle.run.specs.Run.{moved}
-use Rattle.run.specs.Numbers.{runOut, firstLateIn, misemptiedIn, misreportedIn}
+use Rattle.run.specs.Run.{firmIn, moved, withdrawnIn}
+use Rattle.run.specs.Numbers.{runOut, strangerIn, firstLateIn, misemptiedIn, misreportedIn}
 use Rattle.run.specs.Row.{rowAnswer, bytesIn, noBytes, rowOf}
 use Rattle.run.specs.Advance.{advanceAnswer, advanceOf}
+use Rattle.run.specs.Withdraw.{withdrawAnswer, withdrawOf}
 
 module _ (r : Run) (e : ℕ) where
   -- a row: 14, 15, 20, shown
@@ -61,3 +63,22 @@ module _ (r : Run) (e : ℕ) where
     pub advance-refused : (n p : ℕ) → advanceAnswer r x e ≡ Refused n p → advanceOf r x e ≡ record { answer = Refused n p; run = r }
     unfolding advanceOf
     advance-refused n p q = rw q refl
+
+-- a withdrawal: 14, 21, 22, taken
+module _ (r : Run) (p : ℕ) where
+  pub withdraw-out : runOut r ≡ true → withdrawOf r p ≡ record { answer = Refused 14 0; run = r }
+  unfolding withdrawOf withdrawAnswer
+  withdraw-out q = rw q refl
+
+  pub withdraw-not-firm : runOut r ≡ false → firmIn r ≡ false → withdrawOf r p ≡ record { answer = Refused 21 0; run = r }
+  unfolding withdrawOf withdrawAnswer
+  withdraw-not-firm q f = rw (q, f) refl
+
+  pub withdraw-stranger : runOut r ≡ false → firmIn r ≡ true → strangerIn r p ≡ true → withdrawOf r p ≡ record { answer = Refused 22 0; run = r }
+  unfolding withdrawOf withdrawAnswer
+  withdraw-stranger q f u = rw (q, f, u) refl
+
+  pub withdraw-taken :
+      runOut r ≡ false → firmIn r ≡ true → strangerIn r p ≡ false → withdrawOf r p ≡ record { answer = Taken; run = withdrawnIn (only p) r }
+  unfolding withdrawOf withdrawAnswer
+  withdraw-taken q f u = rw (q, f, u) refl

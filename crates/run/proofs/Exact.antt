@@ -33,6 +33,7 @@ use Rattle.run.specs.Numbers.{runOut, lateAt, firstLateIn, emptiableAt, 
 use Rattle.run.specs.Advance.{advanceAnswer, advanceOf, AdvanceOf}
 use Rattle.run.specs.Row.{rowAnswer, bytesIn, noBytes, rowOf, RowOf}
 use Rattle.run.proofs.First.{by-taken, by-refused, Right, refused-exact, taken-exact}
+use Rattle.run.proofs.SetTests.{beyond-decides, set-decides}
 use Rattle.run.proofs.Limits.{run-decides}
 use Rattle.run.proofs.Again.{advance-passes}
 use Rattle.run.proofs.Past.{past-unchanged}
@@ -78,36 +79,12 @@ nand-decides : (a b : Bool) (P Q : Type 0) → Decides (not a) P → Decides (no
 nand-decides true b P Q c d = (λ e. inr (d .0 e), λ x. ⊎-elim (λ p. absurd (false≢true (c .1 p))) (λ q. d .1 q) x)
 nand-decides false b P Q c d = (λ e. inl (c .0 refl), λ x. refl)
 
-past-decides : (p n : ℕ) → Decides (not (ltb p n)) (n ≤ p)
-past-decides p n = (λ e. ltb-false p n (not-true (ltb p n) e), λ l. ap not (le-ltb p n l))
-
--- a set has no bit from its number up
-bit-low : (x p : ℕ) → bit x p ≡ true → p < x
-bit-low x p e = go (leb x p) refl
-  where
-    go : (t : Bool) → leb x p ≡ t → p < x
-    go true q = absurd (true≢false (sym e ∙ bit-high x p (leb-true x p q)))
-    go false q = leb-false x p q
-
--- some bit of a set is set where it may not be
-set-decides :
-    (x : ℕ) (f : ℕ → Bool) (P : ℕ → Type 0) → ((p : ℕ) → Decides (not (f p)) (P p))
-    → Decides (any x (λ p. bit x p && not (f p))) ((p : ℕ) × ((bit x p ≡ true) × P p))
-set-decides x f P d = (
-  λ e.
-      let y = any-some x (λ p. bit x p && not (f p)) e in
-      (y .0, (and-left (bit x (y .0)) (not (f (y .0))) (y .2), d (y .0) .0 (and-right (bit x (y .0)) (not (f (y .0))) (y .2)))),
-  λ y.
-      any-of x (λ p. bit x p && not (f p)) (y .0) (bit-low x (y .0) (y .1 .0))
-      (and-both (bit x (y .0)) (not (f (y .0))) (y .1 .0) (d (y .0) .1 (y .1 .1))),
-)
-
 pub misemptied-decides : (r : Run) (e : ℕ) → Decides (misemptiedIn r e) ((p : ℕ) × Misempties r e p)
 unfolding misemptiedIn
 misemptied-decides r e =
     set-decides e (emptiableAt r) (λ p. (r .count ≤ p) ⊎ (¬ (phaseAt r p ≡ Working 0 0)))
     (λ p.
-    nand-decides (ltb p (r .count)) (released (phaseAt r p)) (r .count ≤ p) (¬ (phaseAt r p ≡ Working 0 0)) (past-decides p (r .count))
+    nand-decides (ltb p (r .count)) (released (phaseAt r p)) (r .count ≤ p) (¬ (phaseAt r p ≡ Working 0 0)) (beyond-decides p (r .count))
     (decides-not _ _ (released-decides (phaseAt r p))))
 
 pub misreported-decides : (r : Run) (e x : ℕ) → Decides (misreportedIn r e x) ((p : ℕ) × Misreports r e x p)
@@ -116,7 +93,7 @@ misreported-decides r e x =
     set-decides x (reportableAt r e) (λ p. (r .count ≤ p) ⊎ ((¬ Works r e p) ⊎ (getD (grantsIn r e) p [] ≡ [])))
     (λ p.
     nand-decides (ltb p (r .count)) (working (seenAt r e p) && hasCores r e p) (r .count ≤ p) ((¬ Works r e p) ⊎ (getD (grantsIn r e) p [] ≡ []))
-    (past-decides p (r .count))
+    (beyond-decides p (r .count))
     (nand-decides (working (seenAt r e p)) (hasCores r e p) (¬ Works r e p) (getD (grantsIn r e) p [] ≡ [])
     (decides-not _ _ (works-decides (seenAt r e p))) (none-decides (getD (grantsIn r e) p []))))
 

@@ -1,10 +1,12 @@
--- Laws of the run in the cab: its places and limits, when start, row and advance are refused, and what is never read.
+-- Laws of the run in the cab: its places and limits, when start, row, advance and withdraw are refused, and what is never read.
 pub mod Places
+pub mod SetTests
 pub mod Limits
 pub mod First
 pub mod Past
 pub mod Again
 pub mod Exact
+pub mod WithdrawExact
 pub mod StartPasses
 pub mod StartExact
 pub mod ByVerdict

@@ -1,4 +1,4 @@
--- Number 14: its test decides what it says, what passes it has sound tasks, and a move passes it again.
+-- Number 14: its test decides what it says, what passes it has sound tasks, and a move and a withdrawal pass it again.
 use mathlib.Core.Path.{_≡_, refl, sym, subst}
 use mathlib.Core.Bool.{Bool, true, false, not, _||_, true≢false}
 use Prim.Native.Nat.{ℕ, _<_}
@@ -18,8 +18,9 @@ use Rattle.phase.specs.declared.Task.{Task}
 use Rattle.run.specs.declared.Run.{Run}
 use Rattle.phase.specs.Phase.{PhaseIn, phaseIn}
 use Rattle.phase.specs.Task.{taskOf, pastEnd}
-use Rattle.run.specs.Run.{ruleIn, taskAt, phaseAt, emptyAt, hasCores, mapFirst, nextAt, moved}
-use Rattle.run.specs.Numbers.{wideIn, PlaceOut, RunOut, placeOut, runOut, lateAt}
+use Rattle.run.specs.Run.{ruleIn, taskAt, phaseAt, emptyAt, hasCores, mapFirst, nextAt, moved, withdrawnIn}
+use Rattle.run.specs.Numbers.{wideIn, PlaceOut, RunOut, pastCount, placeOut, runOut, lateAt}
+use Rattle.run.proofs.SetTests.{past-decides, within-or}
 use Rattle.run.proofs.Places.{mapFirst-at}
 use Rattle.phase.proofs.Phases.{phase-decides, seen-in}
 
@@ -37,7 +38,8 @@ run-decides r =
     (decides-or _ _ _ _ (cores-decides (r .cores))
     (decides-or _ _ _ _ (rule-decides (r .rule))
     (decides-or _ _ _ _ (fence-decides (r .cores) (r .fence))
-    (decides-any (r .count) (placeOut r) (PlaceOut r) (place-decides r)))))
+    (decides-or _ _ _ _ (past-decides (r .count) (r .withdrawn))
+    (decides-any (r .count) (placeOut r) (PlaceOut r) (place-decides r))))))
 
 -- WHAT PASSES IT
 
@@ -51,15 +53,19 @@ pub record Passes (r : Run) : Type 0 where
   pub cores : coresOut (r .cores) ≡ false
   pub rule : ruleOut (r .rule) ≡ false
   pub fence : fenceOut (r .cores) (r .fence) ≡ false
+  pub withdrawn : pastCount (r .count) (r .withdrawn) ≡ false
   pub tasks : (p : ℕ) → p < r .count → taskOut (wideIn r) (taskAt r p) ≡ false
   pub phases : (p : ℕ) → p < r .count → PhaseIn (ruleIn r) (taskAt r p) (phaseAt r p)
 
-none-of : (a b c d e : Bool) → a || (b || (c || (d || e))) ≡ false → (a ≡ false) × (b ≡ false) × (c ≡ false) × (d ≡ false) × (e ≡ false)
-none-of true b c d e x = absurd (true≢false x)
-none-of false true c d e x = absurd (true≢false x)
-none-of false false true d e x = absurd (true≢false x)
-none-of false false false true e x = absurd (true≢false x)
-none-of false false false false e x = (refl, refl, refl, refl, x)
+none-of :
+    (a b c d e f : Bool) → a || (b || (c || (d || (e || f)))) ≡ false
+    → (a ≡ false) × (b ≡ false) × (c ≡ false) × (d ≡ false) × (e ≡ false) × (f ≡ false)
+none-of true b c d e f x = absurd (true≢false x)
+none-of false true c d e f x = absurd (true≢false x)
+none-of false false true d e f x = absurd (true≢false x)
+none-of false false false true e f x = absurd (true≢false x)
+none-of false false false false true f x = absurd (true≢false x)
+none-of false false false false false f x = (refl, refl, refl, refl, refl, x)
 
 pub passes-if : (r : Run) → runOut r ≡ false → Passes r
 unfolding runOut
@@ -68,6 +74,7 @@ passes-if r e = record {
   cores = none .1;
   rule = none .2;
   fence = none .3;
+  withdrawn = none .4;
   tasks = λ p l. or-left-false (taskOut (wideIn r) (taskAt r p)) (not (phaseIn (ruleIn r) (taskAt r p) (phaseAt r p))) (at p l);
   phases = λ p l.
       phase-decides (ruleIn r) (taskAt r p) (phaseAt r p) .0
@@ -75,15 +82,18 @@ passes-if r e = record {
       (or-right-false (taskOut (wideIn r) (taskAt r p)) (not (phaseIn (ruleIn r) (taskAt r p) (phaseAt r p))) (at p l)));
 }
   where
-    none : (not (from 1 mostTasks (r .count)) ≡ false) × (coresOut (r .cores) ≡ false) × (ruleOut (r .rule) ≡ false) × (fenceOut (r .cores) (r .fence) ≡ false) × (any (r .count) (placeOut r) ≡ false)
-    none = none-of (not (from 1 mostTasks (r .count))) (coresOut (r .cores)) (ruleOut (r .rule)) (fenceOut (r .cores) (r .fence)) (any (r .count) (placeOut r)) e
+    none : (not (from 1 mostTasks (r .count)) ≡ false) × (coresOut (r .cores) ≡ false) × (ruleOut (r .rule) ≡ false) × (fenceOut (r .cores) (r .fence) ≡ false)
+        × (pastCount (r .count) (r .withdrawn) ≡ false) × (any (r .count) (placeOut r) ≡ false)
+    none =
+        none-of (not (from 1 mostTasks (r .count))) (coresOut (r .cores)) (ruleOut (r .rule)) (fenceOut (r .cores) (r .fence))
+        (pastCount (r .count) (r .withdrawn)) (any (r .count) (placeOut r)) e
 
     at : (p : ℕ) → p < r .count → placeOut r p ≡ false
-    at p l = none-at (r .count) (placeOut r) p (none .4) l
+    at p l = none-at (r .count) (placeOut r) p (none .5) l
 
 pub passes-runs : (r : Run) → Passes r → runOut r ≡ false
 unfolding runOut
-passes-runs r h = rw (h .count, h .cores, h .rule, h .fence) (none-any (r .count) (placeOut r) at)
+passes-runs r h = rw (h .count, h .cores, h .rule, h .fence, h .withdrawn) (none-any (r .count) (placeOut r) at)
   where
     at : (p : ℕ) → p < r .count → placeOut r p ≡ false
     at p l = rw (h .tasks p l, phase-decides (ruleIn r) (taskAt r p) (phaseAt r p) .1 (h .phases p l))
@@ -111,6 +121,7 @@ moved-passes f e r h n = record {
   cores = h .cores;
   rule = h .rule;
   fence = h .fence;
+  withdrawn = h .withdrawn;
   tasks = λ p l. rw (at p l) (h .tasks p l);
   phases = λ p l.
       subst (λ (t : Task). PhaseIn (ruleIn r) (taskOf t) (t .phase)) (sym (at p l))
@@ -120,3 +131,16 @@ moved-passes f e r h n = record {
   where
     at : (p : ℕ) → p < r .count → getD (mapFirst (nextAt r f e) (r .count) (r .tasks)) p pastEnd ≡ nextAt r f e p (getD (r .tasks) p pastEnd)
     at p l = mapFirst-at (nextAt r f e) (r .count) (r .tasks) p pastEnd l (in-array r p (h .tasks p l))
+
+-- A WITHDRAWAL PASSES IT AGAIN, where it names no position past the count
+pub withdrawn-passes : (x : ℕ) (r : Run) → Passes r → pastCount (r .count) x ≡ false → Passes (withdrawnIn x r)
+unfolding withdrawnIn
+withdrawn-passes x r h w = record {
+  count = h .count;
+  cores = h .cores;
+  rule = h .rule;
+  fence = h .fence;
+  withdrawn = within-or (r .count) (r .withdrawn) x (h .withdrawn) w;
+  tasks = h .tasks;
+  phases = h .phases;
+}

@@ -10,6 +10,7 @@ use lib.Dec.{ltb}
 use borrow.Author.Tests.{ltb-true}
 use Rattle.model.proofs.Search.{any-same, least-same}
 use Rattle.model.specs.Search.{bit}
+use Rattle.model.specs.Book.{only}
 use Rattle.model.specs.Fence.{openCount, unfenced}
 use Rattle.model.specs.Task.{ruleOf}
 use Rattle.model.specs.Grants.{Claimant, claimants, grants}
@@ -22,9 +23,10 @@ use Rattle.run.specs.declared.Answer.{Answer}
 use Rattle.run.specs.declared.Answer.the-variants.{Taken, Refused}
 use Rattle.phase.specs.Phase.{claiming, working, phaseIn, lateIn, released, seen}
 use Rattle.phase.specs.Task.{taskOf, pastEnd}
-use Rattle.run.specs.Run.{phaseAt, seenAt, widthsIn, grantsIn, hasCores, nextAt, moved}
+use Rattle.run.specs.Run.{phaseAt, seenAt, widthsIn, grantsIn, hasCores, nextAt, moved, withdrawnIn}
 use Rattle.run.specs.Answer.{byAnswer}
-use Rattle.run.specs.Numbers.{placeOut, runOut, lateAt, firstLateIn, emptiableAt, misemptiedIn, reportableAt, misreportedIn}
+use Rattle.run.specs.Numbers.{placeOut, runOut, strangerIn, lateAt, firstLateIn, emptiableAt, misemptiedIn, reportableAt, misreportedIn}
+use Rattle.run.specs.Withdraw.{withdrawAnswer, withdrawOf}
 use Rattle.run.specs.Advance.{advanceAnswer, advanceOf}
 use Rattle.run.specs.Row.{rowAnswer, bytesIn, rowOf}
 use Rattle.run.specs.Past.{SameBelow, Unread}
@@ -40,12 +42,12 @@ past-unchanged r x e = go (advanceAnswer r x e)
     go (Refused n p) = refl
 
 -- NOT READ: two runs that differ only in the tasks past the count
-module _ (rule cores fence count : ℕ) (ts us : List Task) (same : take count ts ≡ take count us) where
+module _ (rule cores fence withdrawn count : ℕ) (ts us : List Task) (same : take count ts ≡ take count us) where
   abbrev one : Run
-  one = record { rule = rule; cores = cores; fence = fence; count = count; tasks = ts }
+  one = record { rule = rule; cores = cores; fence = fence; withdrawn = withdrawn; count = count; tasks = ts }
 
   abbrev other : Run
-  other = record { rule = rule; cores = cores; fence = fence; count = count; tasks = us }
+  other = record { rule = rule; cores = cores; fence = fence; withdrawn = withdrawn; count = count; tasks = us }
 
   same-at : (p : ℕ) → p < count → getD ts p pastEnd ≡ getD us p pastEnd
   same-at p l =
@@ -72,10 +74,14 @@ module _ (rule cores fence count : ℕ) (ts us : List Task) (same : take count t
           same-and (ltb p count) (ltb p count) (released (phaseAt one p)) (released (phaseAt other p)) refl
           (λ l. ap (λ (t : Task). released (t .phase)) (same-at p (ltb-true p count l)))
 
+  same-withdraw : (p : ℕ) → withdrawAnswer one (strangerIn one p) ≡ withdrawAnswer other (strangerIn other p)
+  unfolding withdrawAnswer
+  same-withdraw p = rw (same-out, same)
+
   -- with the empty jobs e
   module _ (e : ℕ) where
     same-seen : (p : ℕ) → p < count → seenAt one e p ≡ seenAt other e p
-    same-seen p l = ap (λ (t : Task). seen (ruleOf rule) (bit e p) (t .phase)) (same-at p l)
+    same-seen p l = ap (λ (t : Task). seen (ruleOf rule) (bit e p || bit withdrawn p) (t .phase)) (same-at p l)
 
     same-grants : grantsIn one e ≡ grantsIn other e
     unfolding grantsIn
@@ -110,6 +116,7 @@ module _ (rule cores fence count : ℕ) (ts us : List Task) (same : take count t
       rule = refl;
       cores = refl;
       fence = refl;
+      withdrawn = refl;
       count = refl;
       tasks = take-mapFirst (nextAt one f e) (nextAt other f e) count ts us (λ p t l. rw same-grants) same;
     }
@@ -119,14 +126,23 @@ module _ (rule cores fence count : ℕ) (ts us : List Task) (same : take count t
       row = same-row;
       answer = unfold advanceOf in same-advance x;
       run = unfold advanceOf in rw (same-advance x) (go (advanceAnswer other x e));
+      withdraw-answer = λ p. unfold withdrawOf in same-withdraw p;
+      withdraw-run = λ p. unfold withdrawOf in rw (same-withdraw p) (out p (withdrawAnswer other (strangerIn other p)));
     }
       where
+        as-given : SameBelow one other
+        as-given = record { rule = refl; cores = refl; fence = refl; withdrawn = refl; count = refl; tasks = same }
+
         go : (a : Answer) → SameBelow (byAnswer a (moved (bit x) e one) one) (byAnswer a (moved (bit x) e other) other)
         go Taken = same-moved (bit x)
-        go (Refused n p) = record { rule = refl; cores = refl; fence = refl; count = refl; tasks = same }
+        go (Refused n p) = as-given
+
+        out : (p : ℕ) (a : Answer) → SameBelow (byAnswer a (withdrawnIn (only p) one) one) (byAnswer a (withdrawnIn (only p) other) other)
+        out p Taken = unfold withdrawnIn in record { rule = refl; cores = refl; fence = refl; withdrawn = refl; count = refl; tasks = same }
+        out p (Refused n q) = as-given
 
 pub past-unread : (r s : Run) → SameBelow r s → (x e : ℕ) → Unread r s x e
 past-unread r s h x e =
     subst (λ (v : Run). Unread r v x e)
-    (λ i. record { rule = h .rule i; cores = h .cores i; fence = h .fence i; count = h .count i; tasks = s .tasks })
-    (unread (r .rule) (r .cores) (r .fence) (r .count) (r .tasks) (s .tasks) (h .tasks ∙ ap (λ (n : ℕ). take n (s .tasks)) (sym (h .count))) e x)
+    (λ i. record { rule = h .rule i; cores = h .cores i; fence = h .fence i; withdrawn = h .withdrawn i; count = h .count i; tasks = s .tasks })
+    (unread (r .rule) (r .cores) (r .fence) (r .withdrawn) (r .count) (r .tasks) (s .tasks) (h .tasks ∙ ap (λ (n : ℕ). take n (s .tasks)) (sym (h .count))) e x)

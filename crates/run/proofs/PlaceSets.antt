@@ -1,4 +1,4 @@
--- Sets of places, bit by bit: one place added, a set that is gathered place after place, and the widths beside it.
+-- Sets of places, bit by bit: one place added, a set that is gathered place after place, and the widths or the tasks beside it.
 use mathlib.Core.Path.{_≡_, refl, sym, ap, _∙_}
 use mathlib.Core.Bool.{Bool, true, false, _||_, _&&_, and-false, and-true}
 use mathlib.Core.List.{List}
@@ -12,8 +12,11 @@ use borrow.Author.Tests.{lt-ltb, le-ltb, eqb-true, eqb-false, ltb-true, ltb-fals
 use Rattle.model.proofs.Digits.{or-bit, bit-none, bit-power, shifted-one}
 use Rattle.model.specs.Search.{bit}
 use Rattle.run.specs.declared.Run.{Run}
-use Rattle.phase.specs.Task.{pastEnd}
-use Rattle.run.specs.Run.{widthsIn}
+use Rattle.model.specs.Task as model
+use Rattle.table.specs.declared.Task.{Task}
+use Rattle.table.specs.Task as table
+use Rattle.phase.specs.Task.{taskOf, pastEnd}
+use Rattle.run.specs.Run.{taskAt, tasksIn, widthsIn}
 
 -- a place added
 pub with-place : (s q : ℕ) → q < 32 → (p : ℕ) → bit (bitOr s ((1 * 2 ^ q) % 2 ^ 32)) p ≡ bit s p || eqb p q
@@ -76,3 +79,32 @@ widths-stored r ws few a b g =
     let m : p < r .count = omega arith in
     getD-take (r .count) ws p 0 m ∙ g p m
     ∙ sym (List·getD-map (λ t. t .width) (take (r .count) (r .tasks)) p pastEnd ∙ ap (λ t. t .width) (getD-take (r .count) (r .tasks) p pastEnd m)))
+
+-- ---- tasks of the table, stored place after place
+
+pub told-more :
+    (ts : List Task) (f : ℕ → model.Task) (i : ℕ) (t : Task) → i < length ts → table.taskOf t ≡ f i
+    → ((p : ℕ) → p < i → table.taskOf (getD ts p table.noTask) ≡ f p)
+    → (p : ℕ) → p < i + 1 → table.taskOf (getD (set ts i t) p table.noTask) ≡ f p
+told-more ts f i t h v g p l = go (eqb p i) refl
+  where
+    go : (b : Bool) → eqb p i ≡ b → table.taskOf (getD (set ts i t) p table.noTask) ≡ f p
+    go true e =
+        let q : p ≡ i = eqb-true p i e in
+        rw q (ap table.taskOf (getD-set-same ts i t table.noTask h) ∙ v)
+    go false e =
+        let n : (p ≡ i → ⊥) = eqb-false p i e in
+        ap table.taskOf (getD-set-other ts i p t table.noTask n) ∙ g p (omega arith)
+
+-- they are the run's tasks below the count
+pub tasks-told :
+    (r : Run) (ts : List Task) → r .count ≤ 32 → length ts ≡ 32 → length (r .tasks) ≡ 32
+    → ((p : ℕ) → p < r .count → table.taskOf (getD ts p table.noTask) ≡ taskAt r p) → table.tasksOf ts (r .count) ≡ tasksIn r
+tasks-told r ts few a b g =
+    let x : length (table.tasksOf ts (r .count)) ≡ r .count = length-map (take (r .count) ts) table.taskOf ∙ (length-take (r .count) ts ∙ omega arith) in
+    let y : length (tasksIn r) ≡ r .count = length-map (take (r .count) (r .tasks)) taskOf ∙ (length-take (r .count) (r .tasks) ∙ omega arith) in
+    ext-getD model.nobody (table.tasksOf ts (r .count)) (tasksIn r) (x ∙ sym y)
+    (λ p l.
+    let m : p < r .count = omega arith in
+    List·getD-map table.taskOf (take (r .count) ts) p table.noTask ∙ (ap table.taskOf (getD-take (r .count) ts p table.noTask m) ∙ (g p m
+    ∙ sym (List·getD-map taskOf (take (r .count) (r .tasks)) p pastEnd ∙ ap taskOf (getD-take (r .count) (r .tasks) p pastEnd m)))))

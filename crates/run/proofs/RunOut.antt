@@ -1,4 +1,4 @@
--- Number 14 in the order in which code looks: the count, the core count, the rule and the fence, then each place; and the room that a phase leaves for one more tick.
+-- Number 14 in the order in which code looks: the count, the core count, the rule, the fence and the withdrawn set, then each place; and the room that a phase leaves for one more tick.
 use mathlib.Core.Path.{_≡_, refl, ap, _∙_}
 use mathlib.Core.Bool.{Bool, true, false, not, _||_}
 use Prim.Native.Nat.{ℕ, _≤_, _<_, min}
@@ -19,24 +19,29 @@ use Rattle.run.specs.declared.Run.{Run}
 use Rattle.phase.specs.Phase.{PhaseIn}
 use Rattle.phase.specs.Headroom.{Roomy}
 use Rattle.run.specs.Run.{ruleIn, taskAt, phaseAt}
-use Rattle.run.specs.Numbers.{wideIn, placeOut, runOut, lateAt, firstLateIn}
+use Rattle.run.specs.Numbers.{wideIn, pastCount, placeOut, runOut, lateAt, firstLateIn}
 use Rattle.run.proofs.Limits.{or-left-false, passes-if}
 
 -- ---- the head, then the places
 
 abbrev pub headOut : Run → Bool
-headOut r = not (from 1 mostTasks (r .count)) || (coresOut (r .cores) || (ruleOut (r .rule) || fenceOut (r .cores) (r .fence)))
+headOut r =
+    not (from 1 mostTasks (r .count))
+    || (coresOut (r .cores) || (ruleOut (r .rule) || (fenceOut (r .cores) (r .fence) || pastCount (r .count) (r .withdrawn))))
 
-head-first : (a b c d e : Bool) → a || (b || (c || (d || e))) ≡ (a || (b || (c || d))) || e
-head-first true b c d e = refl
-head-first false true c d e = refl
-head-first false false true d e = refl
-head-first false false false d e = refl
+head-first : (a b c d e f : Bool) → a || (b || (c || (d || (e || f)))) ≡ (a || (b || (c || (d || e)))) || f
+head-first true b c d e f = refl
+head-first false true c d e f = refl
+head-first false false true d e f = refl
+head-first false false false true e f = refl
+head-first false false false false e f = refl
 
 module _ (r : Run) where
   by-head : runOut r ≡ headOut r || any (r .count) (placeOut r)
   unfolding runOut
-  by-head = head-first (not (from 1 mostTasks (r .count))) (coresOut (r .cores)) (ruleOut (r .rule)) (fenceOut (r .cores) (r .fence)) (any (r .count) (placeOut r))
+  by-head =
+      head-first (not (from 1 mostTasks (r .count))) (coresOut (r .cores)) (ruleOut (r .rule)) (fenceOut (r .cores) (r .fence))
+      (pastCount (r .count) (r .withdrawn)) (any (r .count) (placeOut r))
 
   pub out-by-head : headOut r ≡ true → runOut r ≡ true
   out-by-head e = by-head ∙ ap (λ (t : Bool). t || any (r .count) (placeOut r)) e
@@ -45,19 +50,22 @@ module _ (r : Run) where
   out-by-place e = by-head ∙ ap (λ (t : Bool). t || any (r .count) (placeOut r)) e
 
   module _ (e : headOut r ≡ false) where
-    rest-in : coresOut (r .cores) || (ruleOut (r .rule) || fenceOut (r .cores) (r .fence)) ≡ false
-    rest-in = or-right-false (not (from 1 mostTasks (r .count))) (coresOut (r .cores) || (ruleOut (r .rule) || fenceOut (r .cores) (r .fence))) e
+    abbrev rest : Bool
+    rest = ruleOut (r .rule) || (fenceOut (r .cores) (r .fence) || pastCount (r .count) (r .withdrawn))
+
+    rest-in : coresOut (r .cores) || rest ≡ false
+    rest-in = or-right-false (not (from 1 mostTasks (r .count))) (coresOut (r .cores) || rest) e
 
     pub head-few : r .count ≤ mostTasks
     head-few =
         from-decides 1 mostTasks (r .count) .0
-        (not-false (from 1 mostTasks (r .count)) (or-left-false (not (from 1 mostTasks (r .count))) (coresOut (r .cores) || (ruleOut (r .rule) || fenceOut (r .cores) (r .fence))) e)) .1
+        (not-false (from 1 mostTasks (r .count)) (or-left-false (not (from 1 mostTasks (r .count))) (coresOut (r .cores) || rest) e)) .1
 
     -- so the unfenced cores, of 64 at most, are those of the core count
     pub head-wide : openCount (r .fence) (min (r .cores) mostCores) ≡ wideIn r
     head-wide =
         let few = from-decides 1 mostCores (r .cores) .0
-        (not-false (from 1 mostCores (r .cores)) (or-left-false (coresOut (r .cores)) (ruleOut (r .rule) || fenceOut (r .cores) (r .fence)) rest-in)) in
+        (not-false (from 1 mostCores (r .cores)) (or-left-false (coresOut (r .cores)) rest rest-in)) in
         let all : min (r .cores) mostCores ≡ r .cores = omega arith in
         ap (openCount (r .fence)) all
 

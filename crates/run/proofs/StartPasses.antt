@@ -23,6 +23,7 @@ use Rattle.phase.specs.Task.{taskOf, pastEnd, unused, startTask}
 use Rattle.run.specs.Start.{startedRun}
 use Rattle.phase.proofs.Phases.{start-in}
 use Rattle.run.proofs.Limits.{Passes}
+use Rattle.run.proofs.SetTests.{within-none}
 
 -- the task at a place of a started run
 pub started-at : (τs : List model.Task) (us : List Task) (p : ℕ) → p < length τs → getD (map startTask τs ++ us) p pastEnd ≡ startTask (getD τs p nobody)
@@ -67,6 +68,7 @@ module _ (ws : List ℕ) (none : NoneApplies ws) where
     cores = rw same-cores cores-in;
     rule = rule-in;
     fence = rw (same-cores, same-fence) fence-in;
+    withdrawn = within-none (length (tableOf ws .tasks));
     tasks = λ p l. rw (at p l, same-cores, same-fence) (task-in p l);
     phases = λ p l.
         subst (λ (t : Task). PhaseIn (model.ruleOf (rule ws)) (taskOf t) (t .phase)) (sym (at p l))

@@ -3,6 +3,7 @@ pub mod Run
 pub mod Answer
 pub mod Numbers
 pub mod Advance
+pub mod Withdraw
 pub mod Row
 pub mod Start
 pub mod Past

@@ -1,21 +1,22 @@
--- Numbers 14, 15, 20 and 16 for what row and advance turn down (scope, 'Numbers for what is turned down', and request 105): when each applies, and
--- which is the first.
+-- Numbers 14, 15, 20 and 16 for what row and advance turn down, and 14, 21 and 22 for what a withdrawal does
+-- (scope, 'Numbers for what is turned down', and requests 105 and 106): when each applies, and which is the first.
 use mathlib.Core.Path.{_≡_}
 use mathlib.Core.Bool.{Bool, true, not, _&&_, _||_}
 use mathlib.Core.List.{[]}
 use mathlib.Core.Logic.{_⊎_}
-use Prim.Native.Nat.{ℕ, suc, _≤_, _<_}
+use Prim.Native.Nat.{ℕ, suc, _^_, _≤_, _<_}
 use lib.ListN.{getD}
-use lib.Dec.{ltb}
+use lib.Dec.{eqb, leb, ltb}
 use Rattle.model.specs.Search.{any, least, bit}
 use Rattle.model.specs.Fence.{openCount}
+use Rattle.model.specs.Firm.{FirmRule}
 use Rattle.model.specs.Sizes.{mostTasks}
 use Rattle.table.specs.Limits.{From, from, CoresOut, coresOut, RuleOut, ruleOut, FenceOut, fenceOut, WidthOut, TimesOut}
 use Rattle.phase.specs.declared.Phase.the-variants.{Working}
 use Rattle.run.specs.declared.Run.{Run}
 use Rattle.phase.specs.Phase.{PhaseIn, working, lateIn, released}
 use Rattle.phase.specs.Task.{outIn}
-use Rattle.run.specs.Run.{ruleIn, placeAt, taskAt, phaseAt, seenAt, grantsIn, hasCores}
+use Rattle.run.specs.Run.{ruleIn, placeAt, taskAt, phaseAt, tableIn, seenAt, grantsIn, hasCores}
 
 -- WHAT EACH NUMBER SAYS
 
@@ -27,11 +28,20 @@ wideIn r = openCount (r .fence) (r .cores)
 abbrev pub PlaceOut : Run → ℕ → Type 0
 PlaceOut r p = (WidthOut (wideIn r) (taskAt r p) ⊎ TimesOut (taskAt r p)) ⊎ (¬ PhaseIn (ruleIn r) (taskAt r p) (phaseAt r p))
 
--- the run's count is not 1 to 32, its core count or rule is out of range, its fence breaks 19, a task breaks 7 or 8, or a phase is outside the limits
+-- a set names a place at or past the count
+abbrev pub PastCount : ℕ → ℕ → Type 0
+PastCount count x = (p : ℕ) × ((bit x p ≡ true) × (count ≤ p))
+
+-- the run's count is not 1 to 32, its core count or rule is out of range, its fence breaks 19, a position past the count is withdrawn, a task breaks
+-- 7 or 8, or a phase is outside the limits
 abbrev pub RunOut : Run → Type 0
 RunOut r =
     (¬ From 1 mostTasks (r .count))
-    ⊎ (CoresOut (r .cores) ⊎ (RuleOut (r .rule) ⊎ (FenceOut (r .cores) (r .fence) ⊎ ((p : ℕ) × (p < r .count) × PlaceOut r p))))
+    ⊎ (CoresOut (r .cores)
+    ⊎ (RuleOut (r .rule)
+    ⊎ (FenceOut (r .cores) (r .fence)
+    ⊎ (PastCount (r .count) (r .withdrawn)
+    ⊎ ((p : ℕ) × (p < r .count) × PlaceOut r p)))))
 
 -- the task at place p is Working at z = D
 abbrev pub Late : Run → ℕ → Type 0
@@ -51,7 +61,8 @@ Misreports r e x p = (bit x p ≡ true) × ((r .count ≤ p) ⊎ ((¬ Works r e 
 
 -- number n applies to a row asked of the run with empties e, with position p
 pub data RowApplies (r : Run) (e : ℕ) : ℕ → ℕ → Type 0 where
-  -- 14. Row or advance: the run's count is not 1 to 32, its core count or rule is out of range, its fence breaks 19, a task breaks 7 or 8, or a phase is outside the limits.
+  -- 14. Row or advance: the run's count is not 1 to 32, its core count or rule is out of range, its fence breaks 19, a position past its count is
+  -- withdrawn, a task breaks 7 or 8, or a phase is outside the limits.
   fourteen : RunOut r → RowApplies r e 14 0
   -- 15. Row or advance: some task is Working at z = D.
   fifteen : (p : ℕ) → p < r .count → Late r p → RowApplies r e 15 (suc p)
@@ -65,7 +76,28 @@ pub data AdvanceApplies (r : Run) (x e : ℕ) : ℕ → ℕ → Type 0 where
   -- 16. Advance: a bit is set for a position past the count, or for a task that isn't Working or gets no cores in this tick.
   sixteen : (p : ℕ) → Misreports r e x p → AdvanceApplies r x e 16 0
 
+-- number n applies to a withdrawal from the run, with position p; `stranger` says that it names a position that is none of the run's
+pub data WithdrawApplies (r : Run) (stranger : Type 0) : ℕ → ℕ → Type 0 where
+  -- 14, as of row and advance
+  not-a-run : RunOut r → WithdrawApplies r stranger 14 0
+  -- 21. Withdraw: the run's rule and widths are not firm.
+  twenty-one : ¬ FirmRule (tableIn r) → WithdrawApplies r stranger 21 0
+  -- 22. Withdraw: no such position.
+  twenty-two : stranger → WithdrawApplies r stranger 22 0
+
+-- no such position: 0, or past the count
+abbrev pub Stranger : Run → ℕ → Type 0
+Stranger r p = (p ≡ 0) ⊎ (r .count < p)
+
 -- THE TESTS THAT DECIDE THEM
+
+-- a set names a place at or past the count: as a number it is no less than that place's digit (`past-decides`)
+unfoldable pub pastCount : ℕ → ℕ → Bool
+pastCount count x = leb (2 ^ count) x
+
+-- no such position (`stranger-decides`)
+abbrev pub strangerIn : Run → ℕ → Bool
+strangerIn r p = eqb p 0 || ltb (r .count) p
 
 -- 14 of one place (`place-decides`)
 abbrev pub placeOut : Run → ℕ → Bool
@@ -75,7 +107,11 @@ placeOut r p = outIn (wideIn r) (ruleIn r) (placeAt r p)
 unfoldable pub runOut : Run → Bool
 runOut r =
     not (from 1 mostTasks (r .count))
-    || (coresOut (r .cores) || (ruleOut (r .rule) || (fenceOut (r .cores) (r .fence) || any (r .count) (placeOut r))))
+    || (coresOut (r .cores)
+    || (ruleOut (r .rule)
+    || (fenceOut (r .cores) (r .fence)
+    || (pastCount (r .count) (r .withdrawn)
+    || any (r .count) (placeOut r)))))
 
 -- 15 of one place (`late-decides`)
 abbrev pub lateAt : Run → ℕ → Bool

@@ -1,10 +1,12 @@
 -- A run by its places: 32 of them, of which the first count are used (scope, 'The run in the cab'). Place p is position p + 1.
-use mathlib.Core.Bool.{Bool}
+use mathlib.Core.Bool.{Bool, _||_}
 use mathlib.Core.List.{List, [], _∷_, map}
 use Prim.Native.Nat.{ℕ, zero, suc}
 use lib.ListN.{getD, take}
+use lib.Bits.{bitOr}
 use Rattle.model.specs.Task as model
 use Rattle.model.specs.Fence.{unfenced}
+use Rattle.model.specs.Firm.{firm}
 use Rattle.model.specs.Grants.{claimants, grants, some}
 use Rattle.model.specs.Search.{bit}
 use Rattle.phase.specs.declared.Phase.{Phase}
@@ -31,11 +33,18 @@ phaseAt r p = placeAt r p .phase
 abbrev pub widthsIn : Run → List ℕ
 widthsIn r = map (λ t. t .width) (take (r .count) (r .tasks))
 
+-- the tasks below the count as a table has them, and the table that the run is of
+abbrev pub tasksIn : Run → List model.Task
+tasksIn r = map taskOf (take (r .count) (r .tasks))
+
+abbrev pub tableIn : Run → model.Table
+tableIn r = record { tasks = tasksIn r; cores = r .cores; fence = r .fence; rule = ruleIn r }
+
 -- EMPTY JOBS: sets have bit 0 for position 1
 
--- the job of place p, if it is released in this very tick, is empty
+-- the job of place p, if it is released in this very tick, is empty: its bit is set, or its position is withdrawn
 abbrev pub emptyAt : Run → ℕ → ℕ → Bool
-emptyAt r e p = bit e p
+emptyAt r e p = bit e p || bit (r .withdrawn) p
 
 -- the phase of place p as cores are chosen
 abbrev pub seenAt : Run → ℕ → ℕ → Phase
@@ -61,12 +70,31 @@ mapFirst f (suc n) (t ∷ ts) = f 0 t ∷ mapFirst (λ p. f (suc p)) n ts
 abbrev pub nextAt : Run → (ℕ → Bool) → ℕ → ℕ → Task → Task
 nextAt r reported e p t = nextTask (ruleIn r) (emptyAt r e p) (hasCores r e p) (reported p) t
 
--- the run one tick on, by who is reported and the set of empty jobs: each task below the count moves, the places past it stay
+-- the run one tick on, by who is reported and the set of empty jobs: each task below the count moves, the places past it stay, and so does the
+-- withdrawn set
 unfoldable pub moved : (ℕ → Bool) → ℕ → Run → Run
 moved reported e r = record {
   rule = r .rule;
   cores = r .cores;
   fence = r .fence;
+  withdrawn = r .withdrawn;
   count = r .count;
   tasks = mapFirst (nextAt r reported e) (r .count) (r .tasks);
+}
+
+-- WITHDRAWALS
+
+-- the run's rule and widths are firm: the test that the verdict asks of a table
+abbrev pub firmIn : Run → Bool
+firmIn r = firm (ruleIn r) (tasksIn r)
+
+-- the run with the positions of a set withdrawn: only the set moves, and every phase stays
+unfoldable pub withdrawnIn : ℕ → Run → Run
+withdrawnIn x r = record {
+  rule = r .rule;
+  cores = r .cores;
+  fence = r .fence;
+  withdrawn = bitOr (r .withdrawn) x;
+  count = r .count;
+  tasks = r .tasks;
 }

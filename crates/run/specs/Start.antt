@@ -22,19 +22,20 @@ use Rattle.phase.specs.Task.{startTask, unused}
 use Rattle.run.specs.Answer.{told, byAnswer}
 use Rattle.run.specs.Numbers.{RunOut}
 
--- a table, whose rule has number n, as it starts; places past the count hold zeros and Resting(0)
+-- a table, whose rule has number n, as it starts, nobody withdrawn; places past the count hold zeros and Resting(0)
 unfoldable pub startedRun : ℕ → model.Table → Run
 startedRun n s = record {
   rule = n;
   cores = s .cores;
   fence = s .fence;
+  withdrawn = 0;
   count = length (s .tasks);
   tasks = map startTask (s .tasks) ++ replicate (mostTasks - length (s .tasks)) unused;
 }
 
 -- a run of all zeros with every phase Resting(0), which 14 turns down (`empty-run-out`)
 abbrev pub emptyRun : Run
-emptyRun = record { rule = 0; cores = 0; fence = 0; count = 0; tasks = replicate mostTasks unused }
+emptyRun = record { rule = 0; cores = 0; fence = 0; withdrawn = 0; count = 0; tasks = replicate mostTasks unused }
 
 -- number n applies to a start from the words, with position p
 pub data StartApplies (ws : List ℕ) : ℕ → ℕ → Type 0 where

@@ -3,18 +3,20 @@ ghost use mathlib.Core.Path.{_≡_};
 ghost use mathlib.Core.Bool.{_||_, not};
 ghost use Prim.Native.Nat.{_≤_};
 ghost use Rattle.table.specs.Limits.{from, coresOut, ruleOut, fenceOut};
-ghost use Rattle.run.specs.Numbers.{runOut, firstLateIn};
+ghost use Rattle.run.specs.Numbers.{runOut, firstLateIn, pastCount};
 ghost use Rattle.model.specs.Sizes.{mostTasks};
 use crate::Run;
+use crate::sets;
 use model::MOST_TASKS;
 
-// Whether a run's count, core count, rule or fence is out of range.
-fn head_out(count: usize, cores: u32, rule: u32, fence: u64) -> bool
-    ensures { λ r. ⌜ r ≡ not (from 1 mostTasks count) || (coresOut cores || (ruleOut rule || fenceOut cores fence)) ⌝ }
+// Whether a run's count, core count, rule, fence or withdrawn set is out of range.
+fn head_out(count: usize, cores: u32, rule: u32, fence: u64, withdrawn: u32) -> bool
+    ensures { λ r. ⌜ r ≡ not (from 1 mostTasks count) || (coresOut cores || (ruleOut rule || (fenceOut cores fence || pastCount count withdrawn))) ⌝ }
 {
     !((1 <= count) & (count <= MOST_TASKS))
         | (table::limits::cores_out(cores)
-            | (table::limits::rule_out(rule) | table::limits::fence_out(cores, fence)))
+            | (table::limits::rule_out(rule)
+                | (table::limits::fence_out(cores, fence) | sets::past(withdrawn, count))))
 }
 
 impl Run {
@@ -26,7 +28,7 @@ impl Run {
         let rule = self.rule;
         let cores = self.cores;
         let count = self.count;
-        if head_out(count, cores, rule, self.fence) {
+        if head_out(count, cores, rule, self.fence, self.withdrawn) {
             return true;
         }
         let wide = cores::open_count(cores, self.fence);

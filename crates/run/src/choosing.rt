@@ -17,7 +17,8 @@ pub struct Claims {
 }
 
 impl Run {
-    // What the tasks below the count bring to the present tick, where bit p of `empties` says that the job of position p + 1 is empty.
+    // What the tasks below the count bring to the present tick, where bit p of `empties` says that the job of position p + 1 is empty; a withdrawn
+    // position's is.
     pub(crate) fn claims(self, empties: u32) -> Claims
         requires { ⌜ self .count ≤ mostTasks ⌝ }
         ensures { λ r. ⌜ ClaimsOf self empties r ⌝ }
@@ -25,6 +26,7 @@ impl Run {
         let run = self;
         let rule = self.rule;
         let count = self.count;
+        let emptied = empties | self.withdrawn;
         let mut claiming: u32 = 0;
         let mut working: u32 = 0;
         let mut released: u32 = 0;
@@ -34,7 +36,7 @@ impl Run {
             let task = run.tasks[i];
             let phase = task.phase;
             let place = i as u32;
-            let seen = phase.seen(rule, sets::has(empties, place));
+            let seen = phase.seen(rule, sets::has(emptied, place));
             claiming = sets::with(claiming, place, seen.claims());
             working = sets::with(working, place, seen.works());
             released = sets::with(released, place, phase.released());

@@ -1,27 +1,31 @@
-// The run in the cab: rule, core count, fence and the tasks with their phases; start, row and advance.
+// The run in the cab: rule, core count, fence, the withdrawn set and the tasks with their phases; start, row, advance and withdraw.
 ghost use mathlib.Core.Path.{_≡_};
 ghost use mathlib.Core.Bool.{cond};
 ghost use Rattle.run.specs.declared.Answer.the-variants.{Taken, Refused};
 ghost use Rattle.run.specs.Row.{RowOf, noBytes};
 ghost use Rattle.run.specs.Advance.{AdvanceOf};
 ghost use Rattle.run.specs.Start.{StartOf};
+ghost use Rattle.run.specs.Withdraw.{WithdrawOf};
 
 mod bounds; // bounds.rt: numbers 14 and 15
 mod choosing; // choosing.rt: who claims in the present tick
 mod moves; // moves.rt: one tick
 mod sets; // sets.rt: sets of places
 mod starts; // starts.rt: the run of a table as it starts
+mod withdrawals; // withdrawals.rt: whether a run is firm, and positions taken out
 
 use judge::Verdict;
 use model::MOST_TASKS;
 use model::ROW;
 use phase::Task;
 
-// A run: the rule's number, the core count, the set of fenced cores, and the tasks in priority order, of which the first count are used.
+// A run: the rule's number, the core count, the set of fenced cores, the set of withdrawn positions (bit 0 for position 1), and the tasks in
+// priority order, of which the first count are used.
 pub struct Run {
     pub rule: u32,
     pub cores: u32,
     pub fence: u64,
+    pub withdrawn: u32,
     pub count: usize,
     pub tasks: [Task; MOST_TASKS],
 }
@@ -38,7 +42,7 @@ pub struct Started {
     pub run: Run,
 }
 
-// What an advance gives: the answer, and the run one tick on.
+// What an advance or a withdrawal gives: the answer, and the next run.
 pub struct Advanced {
     pub answer: Answer,
     pub run: Run,
@@ -124,7 +128,7 @@ impl Run {
         row_refused(20, 0)
     }
 
-    // An advance that is turned down: the run as given.
+    // An advance or a withdrawal that is turned down: the run as given.
     fn refused(self, number: u32, position: u32) -> Advanced
         ensures { λ r. ⌜ r ≡ record { answer = Refused number position; run = self } ⌝ }
     {
@@ -165,5 +169,26 @@ impl Run {
             }
             Answer::Refused(number, position) => self.refused(number, position),
         }
+    }
+
+    // The run with a position taken out: a job of it released before the present tick goes on, one released in this very tick and all later ones
+    // are empty; or 14, 21, 22 and the run as given. 15 is not looked at.
+    pub fn withdraw(self, position: u32) -> Advanced
+        ensures { λ r. ⌜ WithdrawOf self position r ⌝ }
+    {
+        if self.out() {
+            return self.refused(14, 0);
+        }
+        if self.is_firm() {
+            if (position == 0) | ((self.count as u32) < position) {
+                return self.refused(22, 0);
+            }
+            let next = self.without(1u32 << (position - 1));
+            return Advanced {
+                answer: Answer::Taken,
+                run: next,
+            };
+        }
+        self.refused(21, 0)
     }
 }

@@ -17,11 +17,12 @@ impl Run {
         let mut run = self;
         let rule = self.rule;
         let count = self.count;
+        let emptied = empties | self.withdrawn;
         let mut i: usize = 0;
         while i < count {
             let task = run.tasks[i];
             let place = i as u32;
-            let empty = sets::has(empties, place);
+            let empty = sets::has(emptied, place);
             let next = task.next(
                 rule,
                 empty,

@@ -23,6 +23,7 @@ fn empty() -> Run
         rule: 0,
         cores: 0,
         fence: 0,
+        withdrawn: 0,
         count: 0,
         tasks: tasks,
     }
@@ -46,6 +47,7 @@ fn started(rule: u32, cores: u32, fence: u64, tasks: [table::Task; MOST_TASKS], 
         rule: rule,
         cores: cores,
         fence: fence,
+        withdrawn: 0,
         count: count,
         tasks: places,
     }

@@ -12,7 +12,8 @@ use Rattle.model.specs.Search.{any, least}
 use Rattle.model.specs.Task.{Table, AllSound}
 use Rattle.model.specs.Book.{NeverMissed}
 use Rattle.model.specs.Horizon.{horizon, lastS, hyperperiod}
-use Rattle.model.specs.Verdict.{Verdict, Firm, Full, Miss, verdict, firm, firstMiss, missedIn, missedAt, FirstMiss}
+use Rattle.model.specs.Firm.{firm}
+use Rattle.model.specs.Verdict.{Verdict, Firm, Full, Miss, verdict, firstMiss, missedIn, missedAt, FirstMiss}
 use Rattle.model.proofs.Verdict.{verdict-exact}
 use Rattle.model.proofs.Search.{least-below}
 use Rattle.table.specs.declared.Answer.{Answer}

@@ -3,7 +3,7 @@ use mathlib.Core.Path.{_≡_, refl}
 use mathlib.Core.List.{List, [], _∷_, map}
 use Prim.Native.Nat.{ℕ, zero, suc}
 use Prim.Native.String.{String}
-use Rattle.model.specs.Book.{claims, full, served, step, work, bookFrom, enter, answer, late, misemptied, emptied, misreported, reportable}
+use Rattle.model.specs.Book.{claims, full, served, step, work, bookFrom, enter, afterTaken, answer, late, misemptied, emptied, misreported, reportable}
 use Rattle.model.specs.Grants.{claimants, given, grants, left}
 use Rattle.model.specs.Horizon.{S, horizon, hyperperiod, lcm}
 use Rattle.model.specs.Search.{any, kept, least, memb, upFrom}
@@ -62,10 +62,17 @@ sentenceF = "task 1 misses at tick 1 with 1 of 2 ticks."
 abbrev sentenceA2 : String
 sentenceA2 = "task 3 misses at tick 5 with 3 of 4 ticks; task 1 ran 2."
 
+-- a text and what stands behind it
+abbrev joined : String → String → String
+joined String.[] s = s
+joined (String._∷_ c r) s = String._∷_ c (joined r s)
+
 -- its 31 tasks above ran one tick each
 abbrev sentenceCrowd : String
 sentenceCrowd =
-    "task 32 misses at tick 1 with 0 of 1 ticks; task 1 ran 1; task 2 ran 1; task 3 ran 1; task 4 ran 1; task 5 ran 1; task 6 ran 1; task 7 ran 1; task 8 ran 1; task 9 ran 1; task 10 ran 1; task 11 ran 1; task 12 ran 1; task 13 ran 1; task 14 ran 1; task 15 ran 1; task 16 ran 1; task 17 ran 1; task 18 ran 1; task 19 ran 1; task 20 ran 1; task 21 ran 1; task 22 ran 1; task 23 ran 1; task 24 ran 1; task 25 ran 1; task 26 ran 1; task 27 ran 1; task 28 ran 1; task 29 ran 1; task 30 ran 1; task 31 ran 1."
+    joined "task 32 misses at tick 1 with 0 of 1 ticks; task 1 ran 1; task 2 ran 1; task 3 ran 1; task 4 ran 1; task 5 ran 1; task 6 ran 1; task 7 ran 1; task 8 ran 1; task 9 ran 1; task 10 ran 1;"
+    (joined " task 11 ran 1; task 12 ran 1; task 13 ran 1; task 14 ran 1; task 15 ran 1; task 16 ran 1; task 17 ran 1; task 18 ran 1; task 19 ran 1; task 20 ran 1; task 21 ran 1;"
+    " task 22 ran 1; task 23 ran 1; task 24 ran 1; task 25 ran 1; task 26 ran 1; task 27 ran 1; task 28 ran 1; task 29 ran 1; task 30 ran 1; task 31 ran 1.")
 
 abbrev pub lines : List Line
 lines =
@@ -111,7 +118,7 @@ expected l = outcome (l .says) (letters (l .text))
 each-line : LineByLine computed lines (map expected lines)
 unfolding spokenOf byTable byBuffer said head parts namedFrom decimal lastDigits digitCount digitsWithin factsIn missPlace ranWhileWaiting tally firstMiss
     answerOf byWalk byTasks byHorizon firstOut endingOf lastStep headerNumber tableOf chain count met missedIn missedAt horizon S hyperperiod lcm least any kept
-    memb upFrom given left grants claimants claims served work step full bookFrom enter answer late misemptied emptied misreported reportable
+    memb upFrom given left grants claimants claims served work step full bookFrom enter afterTaken answer late misemptied emptied misreported reportable
 each-line = (refl, (refl, (refl, (refl, (refl, (refl, (refl, (refl, (refl, (refl, (refl, (refl, (refl, (refl, (refl, (refl, tt))))))))))))))))
 
 pub spoken-lines : map computed lines ≡ map expected lines

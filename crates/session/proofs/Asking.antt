@@ -20,8 +20,8 @@ use Rattle.text.proofs.Numbers.{found-nothing}
 use Rattle.session.specs.declared.operations.Numbers.{Numbers}
 use Rattle.session.specs.declared.operations.Numbers.the-variants.{Bare, One, Two, Other}
 use Rattle.session.specs.declared.operations.Operation.{Operation}
-use Rattle.session.specs.declared.operations.Operation.the-variants.{Advance, Row, Nothing}
-use Rattle.session.specs.Operation.{noneLong, wordsIn, oneOf, twoOf, numbersOf, numbersBehind, advanceBy, rowBy, operationBy, operationOf}
+use Rattle.session.specs.declared.operations.Operation.the-variants.{Nothing}
+use Rattle.session.specs.Operation.{noneLong, wordsIn, oneOf, twoOf, numbersOf, numbersBehind, advanceBy, rowBy, withdrawBy, operationBy, operationOf}
 
 -- WORDS
 
@@ -152,9 +152,13 @@ pub by-row : (b : ℕ) (ns : Numbers) → b ≡ 114 → rowBy ns ≡ operationBy
 unfolding operationBy
 by-row b ns e = rw e
 
-pub by-none : (b : ℕ) (ns : Numbers) → (b ≡ 97 → ⊥) → (b ≡ 114 → ⊥) → Nothing ≡ operationBy b ns
+pub by-withdraw : (b : ℕ) (ns : Numbers) → b ≡ 119 → withdrawBy ns ≡ operationBy b ns
 unfolding operationBy
-by-none b ns a r = rw (ne-eqb b 97 a, ne-eqb b 114 r)
+by-withdraw b ns e = rw e
+
+pub by-none : (b : ℕ) (ns : Numbers) → (b ≡ 97 → ⊥) → (b ≡ 114 → ⊥) → (b ≡ 119 → ⊥) → Nothing ≡ operationBy b ns
+unfolding operationBy
+by-none b ns a r w = rw (ne-eqb b 97 a, ne-eqb b 114 r, ne-eqb b 119 w)
 
 pub asked-empty : (l : List ℕ) → length l ≡ 0 → Nothing ≡ operationOf l
 unfolding operationOf
@@ -197,12 +201,13 @@ numbers-long l h = ⊎-elim whole part (eq-or-lt-of-le (mark-within space l))
 
 by-other : (b : ℕ) → operationBy b Other ≡ Nothing
 unfolding operationBy
-by-other b = go (eqb b 97) (eqb b 114)
+by-other b = go (eqb b 97) (eqb b 114) (eqb b 119)
   where
-    go : (t u : Bool) → cond t Nothing (cond u Nothing Nothing) ≡ Nothing
-    go true u = refl
-    go false true = refl
-    go false false = refl
+    go : (t u v : Bool) → cond t Nothing (cond u Nothing (cond v Nothing Nothing)) ≡ Nothing
+    go true u v = refl
+    go false true v = refl
+    go false false true = refl
+    go false false false = refl
 
 -- an operation has at most 23 bytes: a letter, and twice a space and ten digits
 pub long-none : (l : List ℕ) → noneLong ≤ length l → operationOf l ≡ Nothing

@@ -1,9 +1,10 @@
--- Lines and what they ask, and operations of a small run with what is said to them, computed from the definitions.
+-- Lines and what they ask, and operations of small runs with what is said to them, computed from the definitions.
 use mathlib.Core.List.{List, [], _∷_, map}
 use mathlib.Core.Path.{_≡_, refl}
 use Prim.Native.Nat.{ℕ}
 use Prim.Native.String.{String}
 use lib.ListN.{drop, replicate}
+use Rattle.model.specs.Firm.{firm, rising}
 use Rattle.model.specs.Grants.{claimants, given, grants, left}
 use Rattle.model.specs.Row.{owner, row}
 use Rattle.model.specs.Search.{any, kept, least, memb, upFrom}
@@ -12,15 +13,16 @@ use Rattle.phase.specs.declared.Phase.the-variants.{Working}
 use Rattle.phase.specs.declared.Task.{Task}
 use Rattle.phase.specs.Task.{unused}
 use Rattle.run.specs.declared.Run.{Run}
-use Rattle.run.specs.Run.{grantsIn, mapFirst, moved}
-use Rattle.run.specs.Numbers.{runOut, firstLateIn, misemptiedIn, misreportedIn}
+use Rattle.run.specs.Run.{grantsIn, mapFirst, moved, withdrawnIn}
+use Rattle.run.specs.Numbers.{pastCount, runOut, firstLateIn, misemptiedIn, misreportedIn}
 use Rattle.run.specs.Advance.{advanceAnswer, advanceOf}
+use Rattle.run.specs.Withdraw.{withdrawAnswer, withdrawOf}
 use Rattle.run.specs.Row.{rowAnswer, bytesIn, rowOf}
 use Rattle.text.specs.Decimal.{all, value, decimal, lastDigits, digitCount, digitsWithin}
 use Rattle.text.specs.Format.{isNumber}
 use Rattle.text.specs.Output.{letters, fields, lineOf}
 use Rattle.session.specs.declared.operations.Operation.{Operation}
-use Rattle.session.specs.declared.operations.Operation.the-variants.{Advance, Row, Nothing}
+use Rattle.session.specs.declared.operations.Operation.the-variants.{Advance, Withdraw, Row, Nothing}
 use Rattle.session.specs.Operation.{wordsIn, numbersOf, numbersBehind, operationBy, operationOf, plain, answerLine, shownLine, said, runAfter}
 use Rattle.session.specs.Talk.{nothing, lastLine, linesFrom, replies}
 
@@ -40,6 +42,7 @@ lines =
     ∷ asks "a 1 2" (Advance 1 2)
     ∷ asks "r" (Row 0)
     ∷ asks "r 1" (Row 1)
+    ∷ asks "w 1" (Withdraw 1)
     -- a letter is needed, and it is the first byte
     ∷ asks "" Nothing
     ∷ asks " " Nothing
@@ -48,11 +51,14 @@ lines =
     ∷ asks "1" Nothing
     ∷ asks "A 1" Nothing
     ∷ asks "R" Nothing
+    ∷ asks "W 1" Nothing
     ∷ asks "--" Nothing
-    -- an advance has one number or two, a row none or one
+    -- an advance has one number or two, a row none or one, a withdrawal one
     ∷ asks "a" Nothing
     ∷ asks "a 1 2 3" Nothing
     ∷ asks "r 1 2" Nothing
+    ∷ asks "w" Nothing
+    ∷ asks "w 1 2" Nothing
     -- one space before each number, and nothing behind the last
     ∷ asks "a " Nothing
     ∷ asks "a  1" Nothing
@@ -62,9 +68,13 @@ lines =
     ∷ asks "r " Nothing
     ∷ asks "r  1" Nothing
     ∷ asks "r 1 " Nothing
+    ∷ asks "w " Nothing
+    ∷ asks "w  1" Nothing
+    ∷ asks "w 1 " Nothing
     ∷ asks "a1" Nothing
     ∷ asks "a1 2" Nothing
     ∷ asks "r1" Nothing
+    ∷ asks "w1" Nothing
     ∷ asks "ar 1" Nothing
     ∷ asks "a\t1" Nothing
     ∷ asks "a 1,2" Nothing
@@ -73,6 +83,7 @@ lines =
     ∷ asks "a 1 -2" Nothing
     ∷ asks "a r" Nothing
     ∷ asks "r\r" Nothing
+    ∷ asks "w 1\r" Nothing
     ∷ asks "a 1\r" Nothing
     ∷ asks "a 1 2\r" Nothing
     -- one to ten digits, zeros in front among them
@@ -82,6 +93,8 @@ lines =
     ∷ asks "a 00000000001 2" Nothing
     ∷ asks "a 1 00000000002" Nothing
     ∷ asks "r 00000000003" Nothing
+    ∷ asks "w 0000000004" (Withdraw 4)
+    ∷ asks "w 00000000004" Nothing
     -- up to 4,294,967,295
     ∷ asks "a 4294967295" (Advance 4294967295 0)
     ∷ asks "a 4294967296" Nothing
@@ -90,6 +103,9 @@ lines =
     ∷ asks "a 4294967296 0" Nothing
     ∷ asks "r 4294967295" (Row 4294967295)
     ∷ asks "r 4294967296" Nothing
+    ∷ asks "w 0" (Withdraw 0)
+    ∷ asks "w 4294967295" (Withdraw 4294967295)
+    ∷ asks "w 4294967296" Nothing
     -- the longest operation has 23 bytes; one byte more is none
     ∷ asks "a 4294967295 4294967295" (Advance 4294967295 4294967295)
     ∷ asks "a 4294967295 42949672950" Nothing
@@ -104,8 +120,10 @@ worked l = asks (l .text) (operationOf (letters (l .text)))
 each-line : LineByLine worked lines lines
 unfolding operationOf operationBy numbersBehind numbersOf wordsIn isNumber all value
 each-line =
+    let past-60 : LineByLine worked (drop 60 lines) (drop 60 lines) =
+    (refl, (refl, (refl, (refl, (refl, (refl, tt)))))) in
     let past-40 : LineByLine worked (drop 40 lines) (drop 40 lines) =
-    (refl, (refl, (refl, (refl, (refl, (refl, (refl, (refl, (refl, (refl, (refl, (refl, tt)))))))))))) in
+    (refl, (refl, (refl, (refl, (refl, (refl, (refl, (refl, (refl, (refl, (refl, (refl, (refl, (refl, (refl, (refl, (refl, (refl, (refl, (refl, past-60)))))))))))))))))))) in
     let past-20 : LineByLine worked (drop 20 lines) (drop 20 lines) =
     (refl, (refl, (refl, (refl, (refl, (refl, (refl, (refl, (refl, (refl, (refl, (refl, (refl, (refl, (refl, (refl, (refl, (refl, (refl, (refl, past-40)))))))))))))))))))) in
     (refl, (refl, (refl, (refl, (refl, (refl, (refl, (refl, (refl, (refl, (refl, (refl, (refl, (refl, (refl, (refl, (refl, (refl, (refl, (refl, past-20))))))))))))))))))))
@@ -115,41 +133,61 @@ lines-asked = by-line worked lines lines each-line
 
 -- WHAT IS SAID
 
--- one core and two tasks of one tick in their release tick, greedy
-abbrev task : Task
-task = record { offset = 0; width = 1; length = 1; deadline = 2; period = 2; phase = Working 0 0 }
+-- a task of one tick in its release tick
+abbrev task : ℕ → Task
+task width = record { offset = 0; width = width; length = 1; deadline = 2; period = 2; phase = Working 0 0 }
 
+-- two of them under greedy: of width 1 on one core; and with widths that fall on two cores, so that the run is not firm
 abbrev pub pair : Run
-pair = record { rule = 1; cores = 1; fence = 0; count = 2; tasks = task ∷ task ∷ replicate 30 unused }
+pair = record { rule = 1; cores = 1; fence = 0; withdrawn = 0; count = 2; tasks = task 1 ∷ task 1 ∷ replicate 30 unused }
 
--- operations of this run, and what is said to them
+abbrev pub falling : Run
+falling = record { rule = 1; cores = 2; fence = 0; withdrawn = 0; count = 2; tasks = task 2 ∷ task 1 ∷ replicate 30 unused }
+
+-- no run: what a refused start leaves
+abbrev pub none : Run
+none = record { rule = 0; cores = 0; fence = 0; withdrawn = 0; count = 0; tasks = replicate 32 unused }
+
+-- operations of a run, and what is said to them
 pub record Talk : Type 0 where
+  pub from : Run
   pub input : String
   pub output : String
+
+abbrev talk : Run → String → String → Talk
+talk r i o = record { from = r; input = i; output = o }
 
 abbrev pub talks : List Talk
 talks =
     -- a row asked with empties shows who has the core then, and changes nothing
-    record { input = "r\nr 1\nr 2\nr 3\nr 4\nr"; output = "row 1\nrow 2\nrow 1\nrow 0\nrefused 20 0\nrow 1\n" }
+    talk pair "r\nr 1\nr 2\nr 3\nr 4\nr" "row 1\nrow 2\nrow 1\nrow 0\nrefused 20 0\nrow 1\n"
     -- reports are the first number and empties the second
-    ∷ record { input = "a 2\na 1 1\na 2 1\nr\na 0 1\na 0\nr"; output = "refused 16 0\nrefused 16 0\ntaken\nrow 0\nrefused 20 0\ntaken\nrow 1\n" }
-    ∷ record { input = "a 1 2\nr"; output = "taken\nrow 0\n" }
-    ∷ record { input = "a 1\nr"; output = "taken\nrow 2\n" }
+    ∷ talk pair "a 2\na 1 1\na 2 1\nr\na 0 1\na 0\nr" "refused 16 0\nrefused 16 0\ntaken\nrow 0\nrefused 20 0\ntaken\nrow 1\n"
+    ∷ talk pair "a 1 2\nr" "taken\nrow 0\n"
+    ∷ talk pair "a 1\nr" "taken\nrow 2\n"
+    -- withdrawn in the release tick: the job is empty at once, and so is the next; an empty bit on it, and withdrawing it again, change nothing
+    ∷ talk pair "w 1\nr\nw 1\nr 1\na 1\na 2 1\nr\na 0\nr\nw 2\nr" "taken\nrow 2\ntaken\nrow 2\nrefused 16 0\ntaken\nrow 0\ntaken\nrow 2\ntaken\nrow 0\n"
+    -- withdrawn a tick later: the job goes on, and the next is empty
+    ∷ talk pair "a 0\nw 2\nr\na 0\na 0\nr" "taken\ntaken\nrow 2\ntaken\ntaken\nrow 0\n"
+    -- no position 0 and none past the count; what is refused changes nothing
+    ∷ talk pair "w 0\nw 3\nw 4294967295\nr" "refused 22 0\nrefused 22 0\nrefused 22 0\nrow 1\n"
+    ∷ talk falling "w 1\nw 0\nr" "refused 21 0\nrefused 21 0\nrow 1 1\n"
+    ∷ talk none "a 0\nw 1\nr\na 1 2" "refused 14 0\nrefused 14 0\nrefused 14 0\nrefused 14 0\n"
     -- after a line that is no operation nothing is said
-    ∷ record { input = "r 1 2\nr\n"; output = "not an operation\n" }
+    ∷ talk pair "r 1 2\nr\n" "not an operation\n"
     ∷ []
 
 abbrev saying : Talk → List ℕ
-saying t = replies pair (linesFrom nothing [] (letters (t .input)))
+saying t = replies (t .from) (linesFrom nothing [] (letters (t .input)))
 
 abbrev expected : Talk → List ℕ
 expected t = letters (t .output)
 
 each-talk : LineByLine saying talks (map expected talks)
 unfolding replies linesFrom lastLine said runAfter plain answerLine shownLine operationOf operationBy numbersBehind numbersOf wordsIn isNumber all value lineOf fields decimal
-    lastDigits digitCount digitsWithin any least memb upFrom kept owner row given left grants claimants advanceOf advanceAnswer rowOf rowAnswer bytesIn runOut firstLateIn
-    misemptiedIn misreportedIn grantsIn mapFirst moved
-each-talk = (refl, (refl, (refl, (refl, (refl, tt)))))
+    lastDigits digitCount digitsWithin any least memb upFrom kept owner row given left grants claimants firm rising advanceOf advanceAnswer withdrawOf withdrawAnswer rowOf
+    rowAnswer bytesIn pastCount runOut firstLateIn misemptiedIn misreportedIn grantsIn mapFirst moved withdrawnIn
+each-talk = (refl, (refl, (refl, (refl, (refl, (refl, (refl, (refl, (refl, (refl, tt))))))))))
 
-pub talks-said : map (λ t. replies pair (linesFrom nothing [] (letters (t .input)))) talks ≡ map (λ t. letters (t .output)) talks
+pub talks-said : map (λ t. replies (t .from) (linesFrom nothing [] (letters (t .input)))) talks ≡ map (λ t. letters (t .output)) talks
 talks-said = by-line saying talks (map expected talks) each-talk

@@ -14,13 +14,14 @@ use Rattle.run.specs.declared.Answer.{Answer}
 use Rattle.run.specs.declared.Answer.the-variants.{Taken, Refused}
 use Rattle.run.specs.declared.Started.{Started}
 use Rattle.run.specs.Advance.{advanceOf}
+use Rattle.run.specs.Withdraw.{withdrawOf}
 use Rattle.run.specs.Row.{rowOf}
 use Rattle.run.specs.Start.{startOf}
 use Rattle.session.specs.declared.Stage.{Stage}
 use Rattle.session.specs.declared.Stage.the-variants.{Table, Operations, Over}
 use Rattle.session.specs.declared.Session.{Session}
 use Rattle.session.specs.declared.operations.Operation.{Operation}
-use Rattle.session.specs.declared.operations.Operation.the-variants.{Advance, Row, Nothing}
+use Rattle.session.specs.declared.operations.Operation.the-variants.{Advance, Withdraw, Row, Nothing}
 use Rattle.session.specs.Operation.{plain, answerLine, shownLine, said, runAfter, isLast}
 use Rattle.session.specs.Talk.{tooMany, isDashes, startLine, opened, replies}
 use Rattle.session.specs.Session.{stageOf, Said, OpenedOf}
@@ -56,6 +57,17 @@ run-advance o r x e q = rw q
 
 pub last-advance : (o : Operation) (x e : ℕ) → o ≡ Advance x e → false ≡ isLast o
 last-advance o x e q = rw q
+
+pub said-withdraw : (o : Operation) (r : Run) (p : ℕ) → o ≡ Withdraw p → answerLine (letters "taken") (withdrawOf r p .answer) ≡ said o r
+unfolding said
+said-withdraw o r p q = rw q
+
+pub run-withdraw : (o : Operation) (r : Run) (p : ℕ) → o ≡ Withdraw p → withdrawOf r p .run ≡ runAfter o r
+unfolding runAfter
+run-withdraw o r p q = rw q
+
+pub last-withdraw : (o : Operation) (p : ℕ) → o ≡ Withdraw p → false ≡ isLast o
+last-withdraw o p q = rw q
 
 pub said-row : (o : Operation) (r : Run) (e : ℕ) → o ≡ Row e → shownLine (r .cores) (rowOf r e .answer) (rowOf r e .bytes) ≡ said o r
 unfolding said

@@ -13,11 +13,12 @@ use Rattle.run.specs.declared.Run.{Run}
 use Rattle.run.specs.declared.Answer.{Answer}
 use Rattle.run.specs.declared.Answer.the-variants.{Taken, Refused}
 use Rattle.run.specs.Advance.{advanceOf}
+use Rattle.run.specs.Withdraw.{withdrawOf}
 use Rattle.run.specs.Row.{rowOf}
 use Rattle.session.specs.declared.operations.Numbers.{Numbers}
 use Rattle.session.specs.declared.operations.Numbers.the-variants.{Bare, One, Two, Other}
 use Rattle.session.specs.declared.operations.Operation.{Operation}
-use Rattle.session.specs.declared.operations.Operation.the-variants.{Advance, Row, Nothing}
+use Rattle.session.specs.declared.operations.Operation.the-variants.{Advance, Withdraw, Row, Nothing}
 
 -- a line of so many bytes is no operation: one more than a letter and two numbers, each with a space before it
 abbrev pub noneLong : ℕ
@@ -65,9 +66,16 @@ rowBy (One e) = Row e
 rowBy (Two e n) = Nothing
 rowBy Other = Nothing
 
--- the operation of a letter, `a` or `r`, and what stands behind it; with any other letter it is none
+-- `w POSITION` withdraws that position
+abbrev pub withdrawBy : Numbers → Operation
+withdrawBy Bare = Nothing
+withdrawBy (One p) = Withdraw p
+withdrawBy (Two p n) = Nothing
+withdrawBy Other = Nothing
+
+-- the operation of a letter, `a`, `r` or `w`, and what stands behind it; with any other letter it is none
 unfoldable pub operationBy : ℕ → Numbers → Operation
-operationBy letter ns = cond (eqb letter 97) (advanceBy ns) (cond (eqb letter 114) (rowBy ns) Nothing)
+operationBy letter ns = cond (eqb letter 97) (advanceBy ns) (cond (eqb letter 114) (rowBy ns) (cond (eqb letter 119) (withdrawBy ns) Nothing))
 
 -- the operation of a line; an empty line is none
 unfoldable pub operationOf : List ℕ → Operation
@@ -91,17 +99,20 @@ shownLine cores (Refused n p) bytes = lineOf (letters "refused") (n ∷ p ∷ []
 -- what is said to an operation of run r
 unfoldable pub said : Operation → Run → List ℕ
 said (Advance x e) r = answerLine (letters "taken") (advanceOf r x e .answer)
+said (Withdraw p) r = answerLine (letters "taken") (withdrawOf r p .answer)
 said (Row e) r = shownLine (r .cores) (rowOf r e .answer) (rowOf r e .bytes)
 said Nothing r = plain (letters "not an operation")
 
 -- the run after it
 unfoldable pub runAfter : Operation → Run → Run
 runAfter (Advance x e) r = advanceOf r x e .run
+runAfter (Withdraw p) r = withdrawOf r p .run
 runAfter (Row e) r = r
 runAfter Nothing r = r
 
 -- a line that is no operation ends the session
 abbrev pub isLast : Operation → Bool
 isLast (Advance x e) = false
+isLast (Withdraw p) = false
 isLast (Row e) = false
 isLast Nothing = true

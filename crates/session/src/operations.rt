@@ -1,11 +1,12 @@
 // What a line asks of the run.
 ghost use mathlib.Core.Path.{_≡_};
-ghost use Rattle.session.specs.Operation.{operationOf, numbersBehind, oneOf, twoOf, advanceBy, rowBy};
+ghost use Rattle.session.specs.Operation.{operationOf, numbersBehind, oneOf, twoOf, advanceBy, rowBy, withdrawBy};
 use text::line::Found;
 
-// An advance with its reports and its empties, a row asked with empties, or nothing that a run can do.
+// An advance with its reports and its empties, a position withdrawn, a row asked with empties, or nothing that a run can do.
 pub enum Operation {
     Advance(u32, u32),
+    Withdraw(u32),
     Row(u32),
     Nothing,
 }
@@ -84,7 +85,19 @@ fn row_by(numbers: Numbers) -> Operation
     }
 }
 
-// The operation of a line: `a REPORTS EMPTIES`, `r EMPTIES`, or none.
+// A withdrawal of the position behind its letter.
+fn withdraw_by(numbers: Numbers) -> Operation
+    ensures { λ r. ⌜ r ≡ withdrawBy numbers ⌝ }
+{
+    match numbers {
+        Numbers::Bare => Operation::Nothing,
+        Numbers::One(position) => Operation::Withdraw(position),
+        Numbers::Two(_, _) => Operation::Nothing,
+        Numbers::Other => Operation::Nothing,
+    }
+}
+
+// The operation of a line: `a REPORTS EMPTIES`, `r EMPTIES`, `w POSITION`, or none.
 pub fn asked(line: &[u8]) -> Operation
     ensures { λ r. ⌜ r ≡ operationOf (now (line .entry)) ⌝ }
 {
@@ -98,6 +111,9 @@ pub fn asked(line: &[u8]) -> Operation
     }
     if line[0] == b'r' {
         return row_by(numbers);
+    }
+    if line[0] == b'w' {
+        return withdraw_by(numbers);
     }
     Operation::Nothing
 }

@@ -1,5 +1,6 @@
 // What is said to an operation.
 ghost use mathlib.Core.Path.{_≡_};
+ghost use mathlib.Core.Bool.{false};
 ghost use mathlib.Core.List.{[], _∷_};
 ghost use Prim.Native.Nat.{_≤_};
 ghost use lib.ListN.{length, take};
@@ -8,6 +9,7 @@ ghost use Rattle.session.specs.Operation.{plain, answerLine, shownLine, 
 ghost use Rattle.session.specs.Session.{Said};
 use crate::operations::Operation;
 use model::ROW;
+use run::Advanced;
 use run::Answer;
 use run::Row;
 use run::Run;
@@ -51,6 +53,20 @@ pub(crate) fn say_answer(word: &[u8], answer: Answer, out: &mut [u8; LINE]) -> u
     }
 }
 
+// Writes the answer to a move of the run, and hands on the run that it leaves.
+fn say_moved(advanced: Advanced, out: &mut [u8; LINE]) -> Reply
+    ensures { λ r. ⌜ Said (answerLine (letters "taken") (advanced .answer)) (now (out .entry)) (now (out .exit)) (r .length) × (r .run ≡ advanced .run) × (r .last ≡ false) ⌝ }
+{
+    let answer = advanced.answer;
+    let next = advanced.run;
+    let length = say_answer(b"taken", answer, out);
+    Reply {
+        run: next,
+        length: length,
+        last: false,
+    }
+}
+
 // Writes the bytes of the first cores of a row.
 fn say_cores(cores: u32, bytes: [u8; ROW], out: &mut [u8; LINE]) -> usize
     ensures { λ r. ⌜ Said (lineOf (letters "row") (take cores bytes)) (now (out .entry)) (now (out .exit)) r ⌝ }
@@ -79,17 +95,8 @@ pub(crate) fn answer(run: Run, operation: Operation, out: &mut [u8; LINE]) -> Re
     ensures { λ r. ⌜ Said (said operation run) (now (out .entry)) (now (out .exit)) (r .length) × (r .run ≡ runAfter operation run) × (r .last ≡ isLast operation) ⌝ }
 {
     match operation {
-        Operation::Advance(reports, empties) => {
-            let advanced = run.advance(reports, empties);
-            let answer = advanced.answer;
-            let next = advanced.run;
-            let length = say_answer(b"taken", answer, out);
-            Reply {
-                run: next,
-                length: length,
-                last: false,
-            }
-        }
+        Operation::Advance(reports, empties) => say_moved(run.advance(reports, empties), out),
+        Operation::Withdraw(position) => say_moved(run.withdraw(position), out),
         Operation::Row(empties) => {
             let row = run.row(empties);
             let length = say_row(run.cores, row, out);

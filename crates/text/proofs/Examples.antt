@@ -9,7 +9,8 @@ use Rattle.model.specs.Grants.{claimants, given, grants, left}
 use Rattle.model.specs.Horizon.{S, horizon, hyperperiod, lcm}
 use Rattle.model.specs.Row.{owner, row}
 use Rattle.model.specs.Search.{any, kept, least, memb, upFrom}
-use Rattle.model.specs.Verdict.{firm, firstMiss, missedAt, missedIn, rising, verdict}
+use Rattle.model.specs.Firm.{firm, rising}
+use Rattle.model.specs.Verdict.{firstMiss, missedAt, missedIn, verdict}
 use Rattle.model.proofs.LineByLine.{LineByLine, by-line}
 use Rattle.model.proofs.Examples.{A, fencedOn, on, t}
 use Rattle.text.specs.Decimal.{all, value, decimal, lastDigits, digitCount, digitsWithin}

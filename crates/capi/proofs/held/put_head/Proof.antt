@@ -1,4 +1,4 @@
--- `capi::held::put_head` meets its contract: the five stores are the head's words. Assumes nothing.
+-- `capi::held::put_head` meets its contract: the six stores are the head's words. Assumes nothing.
 use mathlib.Core.Path.{_≡_, _∙_}
 use mathlib.Core.List.{List, _∷_}
 use Prim.Native.Nat.{ℕ, _≤_}
@@ -13,10 +13,10 @@ use Rattle.capi.proofs.held.put_head.Tie as tie
 
 written :
     (ws : List ℕ) (r : Run) (n l h : ℕ) → headWords ≤ length ws → n ≡ countWord (r .count) → l ≡ lowWord (r .fence) → h ≡ highWord (r .fence)
-    → set (set (set (set (set ws 0 (r .rule)) 1 (r .cores)) 2 n) 3 l) 4 h ≡ overwritten 0 r ws
+    → set (set (set (set (set (set ws 0 (r .rule)) 1 (r .cores)) 2 n) 3 l) 4 h) 5 (r .withdrawn) ≡ overwritten 0 r ws
 unfolding encodeTo placesWords
 written ws r n l h k x y z =
-    head-put ws (r .rule) (r .cores) n l h k ∙ (λ i. r .rule ∷ (r .cores ∷ (x i ∷ (y i ∷ (z i ∷ drop headWords ws)))))
+    head-put ws (r .rule) (r .cores) n l h (r .withdrawn) k ∙ (λ i. r .rule ∷ (r .cores ∷ (x i ∷ (y i ∷ (z i ∷ (r .withdrawn ∷ drop headWords ws))))))
 
 slice-write-words : tie.Need-slice-write-words
 slice-write-words c = search needs
@@ -42,6 +42,9 @@ high-word-requires c κs = search needs
 slice-write-words-5 : tie.Need-slice-write-words-5
 slice-write-words-5 c = simp length-set (omega arith)
 
+slice-write-words-6 : tie.Need-slice-write-words-6
+slice-write-words-6 c = simp length-set (omega arith)
+
 same-length : tie.Need-same-length
 same-length c = search needs
 
@@ -64,5 +67,6 @@ put-head-spec =
     slice-write-words-4
     high-word-requires
     slice-write-words-5
+    slice-write-words-6
     same-length
     returns)

@@ -26,7 +26,7 @@ start ws vs r e = e ∙ ap (λ (l : List ℕ). encodeTo 0 r ++ l) (sym (head-beh
 one-more : (r : Run) (i : ℕ) → i < length (r .tasks) → encodeTo (i + 1) r ≡ encodeTo i r ++ placeWords (getD (r .tasks) i pastEnd)
 unfolding encodeTo
 one-more r i h =
-    ap (λ (l : List ℕ). r .rule ∷ (r .cores ∷ (countWord (r .count) ∷ (lowWord (r .fence) ∷ (highWord (r .fence) ∷ l)))))
+    ap (λ (l : List ℕ). r .rule ∷ (r .cores ∷ (countWord (r .count) ∷ (lowWord (r .fence) ∷ (highWord (r .fence) ∷ (r .withdrawn ∷ l))))))
     (ap placesWords (take-more (r .tasks) i pastEnd h) ∙ words-more (take i (r .tasks)) (getD (r .tasks) i pastEnd))
 
 -- one place more, in a buffer that stays as long as it was
@@ -143,7 +143,7 @@ loop-again c =
     let i = s .loop .i in
     let at = wordsTo i in
     let words = s .loop .words in
-    let len : length (a .t1 .tasks) ≡ places = simp length-map at (g .good .0 .1 .1 .1 .1 .1 .1 .0 .1 .0 .1) in
+    let len : length (a .t1 .tasks) ≡ places = simp length-map at (g .good .0 .1 .1 .1 .1 .1 .1 .1 .0 .1 .0 .1) in
     let l = o .before .before .loop-test .taken in
     let t = getD (a .t1 .tasks) i pastEnd in
     let w = head-of (put-head s) in

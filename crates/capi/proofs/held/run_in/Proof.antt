@@ -26,9 +26,9 @@ unfolding placesIn
 start ws e = e
 
 read : (ws : List ℕ) {ts : List Task} {f : ℕ} → f ≡ fenceIn ws → ts ≡ padded (countIn ws) (placesIn (countIn ws) (drop headWords ws))
-    → _≡_ {A = Run} (record { rule = getD ws 0 0; cores = getD ws 1 0; fence = f; count = countIn ws; tasks = ts }) (runIn ws)
+    → _≡_ {A = Run} (record { rule = getD ws 0 0; cores = getD ws 1 0; fence = f; withdrawn = getD ws 5 0; count = countIn ws; tasks = ts }) (runIn ws)
 unfolding runIn
-read ws x e = λ i. record { rule = getD ws 0 0; cores = getD ws 1 0; fence = x i; count = countIn ws; tasks = e i }
+read ws x e = λ i. record { rule = getD ws 0 0; cores = getD ws 1 0; fence = x i; withdrawn = getD ws 5 0; count = countIn ws; tasks = e i }
 
 abbrev Inv-loop : tie.InvT-loop
 Inv-loop words count tasks₀ i₀ tasks i = (i ≤ count) × (tasks ≡ placesIn i (drop headWords words) ++ drop i made)
@@ -44,8 +44,9 @@ entry c = c .before .before .before
 abbrev loop-from-fence-of : tie.After-fence-of Inv-loop μ-loop → tie.At-loop Inv-loop μ-loop
 loop-from-fence-of c = c .before .before .before .before
 
-abbrev loop-from-shared-slice-known6 : tie.After-shared-slice-known6 Inv-loop μ-loop → tie.At-loop Inv-loop μ-loop
-loop-from-shared-slice-known6 c = loop-from-fence-of (c .before .before)
+-- the state after `fence-of`
+abbrev fence-of : tie.After-shared-slice-known7 Inv-loop μ-loop → tie.After-fence-of Inv-loop μ-loop
+fence-of c = c .before .before .before
 
 shared-slice-read-count : tie.Need-shared-slice-read-count Inv-loop μ-loop
 shared-slice-read-count c = omega arith
@@ -107,16 +108,20 @@ shared-slice-read-t9 c = omega arith
 shared-slice-read-t17 : tie.Need-shared-slice-read-t17 Inv-loop μ-loop
 shared-slice-read-t17 c = omega arith
 
+shared-slice-read-t21 : tie.Need-shared-slice-read-t21 Inv-loop μ-loop
+shared-slice-read-t21 c = omega arith
+
 returns : tie.Need-returns Inv-loop μ-loop
 returns c =
-    let s = loop-from-shared-slice-known6 c in
+    let f = fence-of c in
+    let s = loop-from-fence-of f in
     let ws = entry (s .before) .args .words .now in
     let n = countIn ws in
     let e : s .loop .i ≡ n = omega arith in
     let tasks : s .loop .tasks ≡ padded n (placesIn n (drop headWords ws)) =
     s .loop .inv .1
     ∙ (ap (λ (k : ℕ). placesIn k (drop headWords ws) ++ drop k made) e ∙ ap (λ (l : List Task). placesIn n (drop headWords ws) ++ l) (drop-equal places n unused)) in
-    read ws (c .before .before .fence-of .ensures) tasks
+    read ws (f .fence-of .ensures) tasks
 
 pub run-in-spec : {M : Type 1} → statement M
 run-in-spec =
@@ -141,4 +146,5 @@ run-in-spec =
     fence-of-requires
     shared-slice-read-t9
     shared-slice-read-t17
+    shared-slice-read-t21
     returns)

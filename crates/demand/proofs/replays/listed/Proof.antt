@@ -1,45 +1,56 @@
--- `demand::replays::listed` meets its contract. The loop's invariant: the first word of each entry passed is 0.
+-- `demand::replays::listed` meets its contract. The loop's invariant: the words of each entry passed are an entry's.
 -- Assumes nothing.
-use mathlib.Core.Path.{_≡_, sym}
+use mathlib.Core.Bool.{true}
+use mathlib.Core.Path.{_≡_, sym, _∙_}
 use Prim.Native.Nat.{ℕ, _-_, _≤_, _<_}
 use native.Mathlib.Omega.{arith}
 use borrow.Author.Count.{below-more}
 use borrow.Author.Needs.{needs}
-use Rattle.demand.specs.Listing.{entryCount, kindAt}
-use Rattle.demand.proofs.Listed.{listed-decides, not-listed-over, not-listed-at}
+use Rattle.demand.specs.Listing.{isEntry, entryCount, kindAt, secondAt}
+use Rattle.demand.proofs.Listed.{is-entry-decides, listed-decides, not-listed-over, not-listed-at}
 use Rattle.demand.proofs.replays.listed.Statement.{statement}
 use Rattle.demand.proofs.replays.listed.Tie as tie
 
 abbrev Inv-loop : tie.InvT-loop
-Inv-loop entries count i₀ i = (i ≤ count) × ((count ≡ entryCount entries) × ((k : ℕ) → k < i → kindAt entries k ≡ 0))
+Inv-loop entries count i₀ i = (i ≤ count) × ((count ≡ entryCount entries) × ((k : ℕ) → k < i → isEntry (kindAt entries k) (secondAt entries k) ≡ true))
 
 abbrev μ-loop : tie.MeasureT-loop
 μ-loop entries count i₀ i = count - i
 
 -- the state at the head of the loop
-abbrev loop : tie.After-shared-slice-known Inv-loop μ-loop → tie.At-loop Inv-loop μ-loop
-loop c = c .before .before
+abbrev loop : tie.After-is-entry Inv-loop μ-loop → tie.At-loop Inv-loop μ-loop
+loop c = c .before .before .before .before
 
 -- the state at the call
 abbrev entry : tie.At-loop Inv-loop μ-loop → tie.Start Inv-loop μ-loop
-entry c = c .before .before
+entry c = c .before .before .before
 
 loop-holds : tie.Need-loop-holds Inv-loop μ-loop
 loop-holds c = (search needs, (search needs, λ (k : ℕ) h. absurd (omega arith)))
 
-mul-kind : tie.Need-mul-kind Inv-loop μ-loop
-mul-kind c = omega arith
+mul-is-entry : tie.Need-mul-is-entry Inv-loop μ-loop
+mul-is-entry c = omega arith
 
-mul-kind-2 : tie.Need-mul-kind-2 Inv-loop μ-loop
-mul-kind-2 c = search needs
+mul-is-entry-2 : tie.Need-mul-is-entry-2 Inv-loop μ-loop
+mul-is-entry-2 c = search needs
 
-shared-slice-read-kind : tie.Need-shared-slice-read-kind Inv-loop μ-loop
-shared-slice-read-kind c = omega arith
+shared-slice-read-is-entry : tie.Need-shared-slice-read-is-entry Inv-loop μ-loop
+shared-slice-read-is-entry c = omega arith
 
-returns : tie.Need-returns Inv-loop μ-loop
-returns c =
-    let s = loop (c .before) in
-    sym (not-listed-at (entry s .args .entries .now) (s .loop .i) (omega arith) (c .if2 .taken))
+mul-is-entry-3 : tie.Need-mul-is-entry-3 Inv-loop μ-loop
+mul-is-entry-3 c = omega arith
+
+add-is-entry : tie.Need-add-is-entry Inv-loop μ-loop
+add-is-entry c = omega arith
+
+mul-is-entry-4 : tie.Need-mul-is-entry-4 Inv-loop μ-loop
+mul-is-entry-4 c = search needs
+
+shared-slice-read-is-entry-2 : tie.Need-shared-slice-read-is-entry-2 Inv-loop μ-loop
+shared-slice-read-is-entry-2 c = omega arith
+
+is-entry-requires : tie.Need-is-entry-requires Inv-loop μ-loop
+is-entry-requires c κs = search needs
 
 add-i : tie.Need-add-i Inv-loop μ-loop
 add-i c = omega arith
@@ -49,18 +60,26 @@ loop-less c = omega arith
 
 loop-again : tie.Need-loop-again Inv-loop μ-loop
 loop-again c =
-    let s = loop (c .before) in
-    (omega arith, (s .loop .inv .1 .0, below-more _ _ (s .loop .inv .1 .1) (c .if2 .left)))
+    let l = c .before in
+    let s = loop l in
+    (omega arith, (s .loop .inv .1 .0, below-more _ _ (s .loop .inv .1 .1) (sym (l .is-entry .ensures) ∙ c .if2 .taken)))
+
+returns : tie.Need-returns Inv-loop μ-loop
+returns c =
+    let l = c .before in
+    let s = loop l in
+    sym (not-listed-at (entry s .args .entries .now) (s .loop .i) (omega arith) (sym (l .is-entry .ensures) ∙ c .if2 .left))
 
 returns-2 : tie.Need-returns-2 Inv-loop μ-loop
 returns-2 c =
     let s = c .before in
     let es = entry s .args .entries .now in
     let e : s .loop .i ≡ entryCount es = omega arith in
-    sym (listed-decides es .1 (s .before .if1 .taken, rw e at (s .loop .inv .1 .1)))
+    let all : (k : ℕ) → k < entryCount es → isEntry (kindAt es k) (secondAt es k) ≡ true = rw e at (s .loop .inv .1 .1) in
+    sym (listed-decides es .1 (s .before .if1 .taken, λ k l. is-entry-decides (kindAt es k) (secondAt es k) .0 (all k l)))
 
 returns-3 : tie.Need-returns-3 Inv-loop μ-loop
-returns-3 c = sym (not-listed-over (c .before .args .entries .now) (c .if1 .left))
+returns-3 c = sym (not-listed-over (c .before .before .args .entries .now) (c .if1 .left))
 
 pub listed-spec : {M : Type 1} → statement M
 listed-spec =
@@ -69,12 +88,17 @@ listed-spec =
     Inv-loop
     μ-loop
     loop-holds
-    mul-kind
-    mul-kind-2
-    shared-slice-read-kind
-    returns
+    mul-is-entry
+    mul-is-entry-2
+    shared-slice-read-is-entry
+    mul-is-entry-3
+    add-is-entry
+    mul-is-entry-4
+    shared-slice-read-is-entry-2
+    is-entry-requires
     add-i
     loop-less
     loop-again
+    returns
     returns-2
     returns-3)

@@ -1,4 +1,4 @@
--- `demand::replays::play` meets its contract: unfit where the lent slices are, and else what `advances`, `row` and `put` give.
+-- `demand::replays::play` meets its contract: unfit where the lent slices are, and else what `through`, `row` and `put` give.
 -- Assumes nothing.
 use mathlib.Core.Path.{_≡_, sym, ap, _∙_}
 use mathlib.Core.List.{List, _++_}
@@ -29,12 +29,12 @@ put c = c .before .before .before
 abbrev row-of : tie.After-put-arg → tie.After-row
 row-of c = c .before .before
 
--- the state after `advances`
-abbrev advances : tie.After-row → tie.After-advances
-advances c = c .before .before .before
+-- the state after `through`
+abbrev gone : tie.After-row → tie.After-through
+gone c = c .before .before .before
 
 -- the state in which the slices fit
-abbrev fit : tie.After-advances → tie.Then1
+abbrev fit : tie.After-through → tie.Then1
 fit c = c .before .before
 
 -- an outcome, part by part
@@ -50,14 +50,14 @@ fitting c =
 fits-requires : tie.Need-fits-requires
 fits-requires c κs = search needs
 
-advances-requires : tie.Need-advances-requires
-advances-requires c κs = fitting (c .before) .1
+through-requires : tie.Need-through-requires
+through-requires c κs = fitting (c .before) .1
 
 row-requires : tie.Need-row-requires
 row-requires c κs = search needs
 
 put-requires : tie.Need-put-requires
-put-requires c κs = fitting (fit (advances (row-of c))) .2
+put-requires c κs = fitting (fit (gone (row-of c))) .2
 
 row-case-requires : tie.Need-row-case-requires
 row-case-requires c κs = search needs
@@ -72,14 +72,14 @@ returns : tie.Need-returns
 returns c =
     let u = put c in
     let w = row-of (u .before) in
-    let v = advances w in
+    let v = gone w in
     let f = fit v in
     let a = entry (f .before .before) .args in
     let row : w .row .result ≡ rowOf (after (a .run) (entriesIn (a .entries .now))) 0 =
-    w .row .ensures .value ∙ ap (λ (r : Run). rowOf r 0) (v .advances .ensures .0) in
+    w .row .ensures .value ∙ ap (λ (r : Run). rowOf r 0) (v .through .ensures .0) in
     outcome
     (c .row-case .ensures ∙ ap (λ (q : Row). rowCase (q .answer)) row)
-    (v .advances .ensures .1)
+    (v .through .ensures .1)
     (u .put .ensures ∙ ap (λ (q : Row). q .bytes ++ drop mostCores (a .bytes .now)) row)
     ∙ sym (played-fit (a .run) (a .entries .now) (a .numbers .now) (a .bytes .now) (sym (f .before .fits2 .ensures) ∙ f .if1 .taken))
 
@@ -93,7 +93,7 @@ play-spec =
     tie.close
     (tie.spec
     fits-requires
-    advances-requires
+    through-requires
     row-requires
     put-requires
     row-case-requires

@@ -9,6 +9,7 @@ use lib.ListN.{length, getD, length-set, length-map}
 use lib.Dec.{ltb}
 use borrow.Author.Needs.{needs}
 use Rattle.model.specs.Search.{bit}
+use Rattle.model.proofs.Digits.{or-bit}
 use Rattle.model.specs.Sizes.{mostTasks}
 use Rattle.phase.specs.Phase.{claiming, working, released, seen}
 use Rattle.phase.specs.Task.{pastEnd}
@@ -18,7 +19,7 @@ use Rattle.run.proofs.Run.claims.Statement.{statement}
 use Rattle.run.proofs.Run.claims.Tie as tie
 
 abbrev Inv-loop : tie.InvT-loop
-Inv-loop e run rule count claiming₀ working₀ released₀ widths₀ i₀ c w b ws i =
+Inv-loop e run rule count emptied claiming₀ working₀ released₀ widths₀ i₀ c w b ws i =
     (i ≤ count) × ((length ws ≡ mostTasks)
     × (((p : ℕ) → bit c p ≡ ltb p i && claiming (seenAt run e p))
     × (((p : ℕ) → bit w p ≡ ltb p i && working (seenAt run e p))
@@ -26,7 +27,7 @@ Inv-loop e run rule count claiming₀ working₀ released₀ widths₀ i₀ c w 
     × ((p : ℕ) → p < i → getD ws p 0 ≡ getD (run .tasks) p pastEnd .width)))))
 
 abbrev μ-loop : tie.MeasureT-loop
-μ-loop e run rule count claiming₀ working₀ released₀ widths₀ i₀ c w b ws i = count - i
+μ-loop e run rule count emptied claiming₀ working₀ released₀ widths₀ i₀ c w b ws i = count - i
 
 -- the states after each set has its place
 abbrev second : tie.After-with3 Inv-loop μ-loop → tie.After-with2 Inv-loop μ-loop
@@ -47,10 +48,14 @@ read c = looked c .before
 abbrev loop : tie.After-with3 Inv-loop μ-loop → tie.At-loop Inv-loop μ-loop
 loop c = read c .before .before .before
 
+-- the state at the call
+abbrev entry : tie.At-loop Inv-loop μ-loop → tie.Start Inv-loop μ-loop
+entry s = s .before .before
+
 loop-holds : tie.Need-loop-holds Inv-loop μ-loop
 loop-holds c =
-    let r = c .args .self in
-    let e = c .args .empties in (
+    let r = c .before .args .self in
+    let e = c .before .args .empties in (
       search needs,
       (
         refl,
@@ -112,12 +117,12 @@ loop-less c = omega arith
 loop-again : tie.Need-loop-again Inv-loop μ-loop
 loop-again c =
     let s = loop c in
-    let r = s .before .args .self in
-    let e = s .before .args .empties in
+    let r = entry s .args .self in
+    let e = entry s .args .empties in
     let i = s .loop .i in
     let v = s .loop .inv in
     let phase : looked c .seen .result ≡ seenAt r e i =
-    looked c .seen .ensures ∙ ap (λ (empty : Bool). seen (ruleIn r) empty (phaseAt r i)) (read c .has .ensures) in (
+    looked c .seen .ensures ∙ ap (λ (empty : Bool). seen (ruleIn r) empty (phaseAt r i)) (read c .has .ensures ∙ or-bit e (r .withdrawn) i) in (
       omega arith,
       (
         simp length-set (v .1 .0),
@@ -140,15 +145,15 @@ loop-again c =
 returns : tie.Need-returns Inv-loop μ-loop
 returns c =
     let s = c .before in
-    let r = s .before .args .self in
+    let r = entry s .args .self in
     let v = s .loop .inv in
     let e : s .loop .i ≡ r .count = omega arith in
-    let len : length (r .tasks) ≡ mostTasks = simp length-map at (s .before .good .0 .1 .1 .1 .1 .1 .1 .0 .1 .0 .1) in
+    let len : length (r .tasks) ≡ mostTasks = simp length-map at (entry s .good .0 .1 .1 .1 .1 .1 .1 .1 .0 .1 .0 .1) in
     record {
       claimed = rw e at (v .1 .1 .0);
       worked = rw e at (v .1 .1 .1 .0);
       begun = rw e at (v .1 .1 .1 .1 .0);
-      width = widths-stored r (s .loop .widths) (s .before .pre) (v .1 .0) len (rw e at (v .1 .1 .1 .1 .1));
+      width = widths-stored r (s .loop .widths) (entry s .pre) (v .1 .0) len (rw e at (v .1 .1 .1 .1 .1));
     }
 
 pub claims-spec : {M : Type 1} → statement M

@@ -9,6 +9,7 @@ use native.Mathlib.Nat.{le-refl}
 use lib.ListN.{length, getD, length-map}
 use borrow.Author.Needs.{needs}
 use Rattle.model.specs.Search.{bit}
+use Rattle.model.proofs.Digits.{or-bit}
 use Rattle.model.specs.Sizes.{mostTasks}
 use Rattle.run.specs.declared.Run.{Run}
 use Rattle.phase.specs.Task.{pastEnd}
@@ -24,15 +25,16 @@ movedTo reported e r n = record {
   rule = r .rule;
   cores = r .cores;
   fence = r .fence;
+  withdrawn = r .withdrawn;
   count = r .count;
   tasks = mapFirst (nextAt r reported e) n (r .tasks);
 }
 
 abbrev Inv-loop : tie.InvT-loop
-Inv-loop granted reports empties run₀ rule count i₀ run i = (i ≤ count) × ((count ≤ mostTasks) × (run ≡ movedTo (bit reports) empties run₀ i))
+Inv-loop granted reports empties run₀ rule count emptied i₀ run i = (i ≤ count) × ((count ≤ mostTasks) × (run ≡ movedTo (bit reports) empties run₀ i))
 
 abbrev μ-loop : tie.MeasureT-loop
-μ-loop granted reports empties run₀ rule count i₀ run i = count - i
+μ-loop granted reports empties run₀ rule count emptied i₀ run i = count - i
 
 -- the state after the empty bit is read
 abbrev read : tie.After-has3 Inv-loop μ-loop → tie.After-has Inv-loop μ-loop
@@ -42,9 +44,13 @@ read c = c .before .before
 abbrev loop : tie.After-has Inv-loop μ-loop → tie.At-loop Inv-loop μ-loop
 loop c = c .before .before .before
 
+-- the state at the call
+abbrev entry : tie.At-loop Inv-loop μ-loop → tie.Start Inv-loop μ-loop
+entry s = s .before .before
+
 loop-holds : tie.Need-loop-holds Inv-loop μ-loop
 unfolding mapFirst
-loop-holds c = (search needs, (few (c .args .self) (c .pre .0), refl))
+loop-holds c = (search needs, (few (c .before .args .self) (c .before .pre .0), refl))
 
 mul-task : tie.Need-mul-task Inv-loop μ-loop
 mul-task c = omega arith
@@ -67,10 +73,10 @@ has-requires-3 c κs = omega arith
 next-requires : tie.Need-next-requires Inv-loop μ-loop
 next-requires c κs =
     let s = loop (read c) in
-    let a = s .before .args in
+    let a = entry s .args in
     let i = s .loop .i in
     simp (s .loop .inv .1 .1, mapFirst-past (nextAt (a .self) (bit (a .reports)) (a .empties)) i (a .self .tasks) i pastEnd (le-refl i))
-    (roomy (a .self) (s .before .pre .0) i (omega arith))
+    (roomy (a .self) (entry s .pre .0) i (omega arith))
 
 mul-next : tie.Need-mul-next Inv-loop μ-loop
 mul-next c = omega arith
@@ -88,21 +94,21 @@ loop-again : tie.Need-loop-again Inv-loop μ-loop
 loop-again c =
     let h = read (c .before) in
     let s = loop h in
-    let a = s .before .args in
+    let a = entry s .args in
     let r = a .self in
     let i = s .loop .i in
     let f = nextAt r (bit (a .reports)) (a .empties) in
-    let len : length (r .tasks) ≡ mostTasks = simp length-map at (s .before .good .0 .1 .1 .1 .1 .1 .1 .0 .1 .0 .1) in
+    let len : length (r .tasks) ≡ mostTasks = simp length-map at (entry s .good .0 .1 .1 .1 .1 .1 .1 .1 .0 .1 .0 .1) in
     let past = mapFirst-past f i (r .tasks) i pastEnd (le-refl i) in
     let e : c .next .result ≡ f i (getD (r .tasks) i pastEnd) =
-    simp (c .next .ensures, h .has .ensures, c .before .before .has2 .ensures, c .before .has3 .ensures, s .before .pre .1 i, s .loop .inv .1 .1, past) in
+    simp (c .next .ensures, h .has .ensures ∙ or-bit (a .empties) (r .withdrawn) i, c .before .before .has2 .ensures, c .before .has3 .ensures, entry s .pre .1 i, s .loop .inv .1 .1, past) in
     (omega arith, (omega arith, simp (s .loop .inv .1 .1, e, add-one, mapFirst-step f i (r .tasks) pastEnd (omega arith))))
 
 returns : tie.Need-returns Inv-loop μ-loop
 unfolding moved
 returns c =
     let s = c .before in
-    let a = s .before .args in
+    let a = entry s .args in
     let e : s .loop .i ≡ a .self .count = omega arith in
     s .loop .inv .1 .1 ∙ ap (movedTo (bit (a .reports)) (a .empties) (a .self)) e
 

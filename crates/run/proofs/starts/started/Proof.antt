@@ -34,7 +34,7 @@ starting-more tasks i h =
     ∙ (ap (map startTask) (map-more taskOf (take i tasks) (getD tasks i noTask)) ∙ map-more startTask (tasksOf tasks i) (taskOf (getD tasks i noTask)))
 
 abbrev made : ℕ → ℕ → ℕ → ℕ → List Task → Run
-made rule cores fence count tasks = record { rule = rule; cores = cores; fence = fence; count = count; tasks = tasks }
+made rule cores fence count tasks = record { rule = rule; cores = cores; fence = fence; withdrawn = 0; count = count; tasks = tasks }
 
 abbrev Inv-loop : tie.InvT-loop
 Inv-loop rule cores fence count tasks places₀ i₀ places i =

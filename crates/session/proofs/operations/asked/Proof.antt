@@ -4,7 +4,7 @@ use borrow.Author.Needs.{needs}
 use mathlib.Core.Path.{_≡_, _∙_, ap}
 use lib.ListN.{getD}
 use Rattle.session.specs.Operation.{operationBy, operationOf}
-use Rattle.session.proofs.Asking.{by-advance, by-row, by-none, asked-empty, asked-by}
+use Rattle.session.proofs.Asking.{by-advance, by-row, by-withdraw, by-none, asked-empty, asked-by}
 use Rattle.session.proofs.operations.asked.Statement.{statement}
 use Rattle.session.proofs.operations.asked.Tie as tie
 
@@ -12,15 +12,31 @@ use Rattle.session.proofs.operations.asked.Tie as tie
 abbrev entry : tie.After-behind → tie.Start
 entry c = c .before .before .before .before
 
+-- the state where the test `if2` fails
+abbrev else2-from-row-by : tie.After-row-by → tie.Else2
+else2-from-row-by c = c .before .before .before
+
+abbrev else2-from-else4 : tie.Else4 → tie.Else2
+else2-from-else4 c = c .before .before .before .before
+
+abbrev else2-from-withdraw-by : tie.After-withdraw-by → tie.Else2
+else2-from-withdraw-by c = c .before .before .before .before .before
+
 -- the state after `behind`
 abbrev behind-from-advance-by : tie.After-advance-by → tie.After-behind
 behind-from-advance-by c = c .before .before .before
 
-abbrev behind-from-else3 : tie.Else3 → tie.After-behind
-behind-from-else3 c = c .before .before .before .before
+abbrev behind-from-else2 : tie.Else2 → tie.After-behind
+behind-from-else2 c = c .before .before
 
 abbrev behind-from-row-by : tie.After-row-by → tie.After-behind
-behind-from-row-by c = c .before .before .before .before .before
+behind-from-row-by c = behind-from-else2 (else2-from-row-by c)
+
+abbrev behind-from-withdraw-by : tie.After-withdraw-by → tie.After-behind
+behind-from-withdraw-by c = behind-from-else2 (else2-from-withdraw-by c)
+
+abbrev behind-from-else4 : tie.Else4 → tie.After-behind
+behind-from-else4 c = behind-from-else2 (else2-from-else4 c)
 
 -- the line's operation is that of its first byte and of the numbers that were found
 by-first : (c : tie.After-behind) → operationBy (getD (entry c .args .line .now) 0 0) (c .behind .result) ≡ operationOf (entry c .args .line .now)
@@ -61,8 +77,17 @@ row-by-requires c κs = search needs
 returns-3 : tie.Need-returns-3
 returns-3 c = c .row-by .ensures ∙ by-row _ _ (c .before .if3 .taken) ∙ by-first (behind-from-row-by c)
 
+shared-slice-read-if4 : tie.Need-shared-slice-read-if4
+shared-slice-read-if4 c = search needs
+
+withdraw-by-requires : tie.Need-withdraw-by-requires
+withdraw-by-requires c κs = search needs
+
 returns-4 : tie.Need-returns-4
-returns-4 c = by-none _ _ (c .before .before .if2 .left) (c .if3 .left) ∙ by-first (behind-from-else3 c)
+returns-4 c = c .withdraw-by .ensures ∙ by-withdraw _ _ (c .before .if4 .taken) ∙ by-first (behind-from-withdraw-by c)
+
+returns-5 : tie.Need-returns-5
+returns-5 c = by-none _ _ (else2-from-else4 c .if2 .left) (c .before .before .if3 .left) (c .if4 .left) ∙ by-first (behind-from-else4 c)
 
 pub asked-spec : {M : Type 1} → statement M
 asked-spec =
@@ -79,4 +104,7 @@ asked-spec =
     shared-slice-read-if3
     row-by-requires
     returns-3
-    returns-4)
+    shared-slice-read-if4
+    withdraw-by-requires
+    returns-4
+    returns-5)

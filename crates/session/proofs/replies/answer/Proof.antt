@@ -7,25 +7,26 @@ use Rattle.run.specs.declared.Row as rows
 use Rattle.text.specs.Output.{letters}
 use Rattle.session.specs.Operation.{answerLine, shownLine}
 use Rattle.session.proofs.Saying.{said-of}
-use Rattle.session.proofs.Replying.{said-advance, run-advance, last-advance, said-row, run-row, last-row, said-none, run-none, last-none}
+use Rattle.session.proofs.Replying.{said-advance, run-advance, last-advance, said-withdraw, run-withdraw, last-withdraw}
+use Rattle.session.proofs.Replying.{said-row, run-row, last-row, said-none, run-none, last-none}
 use Rattle.session.proofs.replies.answer.Statement.{statement}
 use Rattle.session.proofs.replies.answer.Tie as tie
 
+-- the state after `operation`
+abbrev operation : tie.After-say-moved → tie.After-operation
+operation c = c .before .before .before .before
+
 -- the state after `operation2`
-abbrev operation2 : tie.After-say-row → tie.After-operation2
+abbrev operation2 : tie.After-say-moved2 → tie.After-operation2
 operation2 c = c .before .before .before .before
+
+-- the state after `operation3`
+abbrev operation3 : tie.After-say-row → tie.After-operation3
+operation3 c = c .before .before .before .before
 
 -- the state after `enum-told`
 abbrev enum-told-from-say-word : tie.After-say-word → tie.After-enum-told
 enum-told-from-say-word c = c .before .before .before
-
--- the state after `advance`
-abbrev advance : tie.After-say-answer → tie.After-advance
-advance c = c .before .before .before .before
-
--- the state at the call
-abbrev entry : tie.After-say-answer → tie.Start
-entry c = advance c .before .before .before .before
 
 enum-known-operation : tie.Need-enum-known-operation
 enum-known-operation c = search needs
@@ -33,14 +34,20 @@ enum-known-operation c = search needs
 advance-requires : tie.Need-advance-requires
 advance-requires c κs = search needs
 
-slice-aggregate-say-answer : tie.Need-slice-aggregate-say-answer
-slice-aggregate-say-answer c = search needs
-
-say-answer-requires : tie.Need-say-answer-requires
-say-answer-requires c κs = search needs
+say-moved-requires : tie.Need-say-moved-requires
+say-moved-requires c κs = search needs
 
 enum-known-operation-2 : tie.Need-enum-known-operation-2
 enum-known-operation-2 c = search needs
+
+withdraw-requires : tie.Need-withdraw-requires
+withdraw-requires c κs = search needs
+
+say-moved-requires-2 : tie.Need-say-moved-requires-2
+say-moved-requires-2 c κs = search needs
+
+enum-known-operation-3 : tie.Need-enum-known-operation-3
+enum-known-operation-3 c = search needs
 
 row-requires : tie.Need-row-requires
 row-requires c κs = search needs
@@ -59,25 +66,38 @@ say-word-requires c κs = search needs
 
 returns : tie.Need-returns
 returns c =
-    let a = entry c .args in
-    let v = advance c .advance .ensures .value in
-    let o = advance c .before .before .operation .given .1 in (
-      said-of (ap (λ (x : Advanced). answerLine (letters "taken") (x .answer)) v ∙ said-advance (a .operation) (a .run) _ _ o) (c .say-answer .ensures),
-      ap (λ (x : Advanced). x .run) v ∙ run-advance (a .operation) (a .run) _ _ o,
-      last-advance (a .operation) _ _ o,
+    let a = operation c .before .before .args in
+    let o = operation c .operation .given .1 in
+    let v = c .before .before .advance .ensures .value in
+    let m = c .say-moved .ensures in (
+      said-of (ap (λ (x : Advanced). answerLine (letters "taken") (x .answer)) v ∙ said-advance (a .operation) (a .run) _ _ o) (m .0),
+      m .1 ∙ ap (λ (x : Advanced). x .run) v ∙ run-advance (a .operation) (a .run) _ _ o,
+      m .2 ∙ last-advance (a .operation) _ _ o,
     )
 
 returns-2 : tie.Need-returns-2
 returns-2 c =
     let a = operation2 c .before .before .args in
-    let o = operation2 c .operation2 .given .1 in (
-      said-of (ap (λ (x : rows.Row). shownLine (a .run .cores) (x .answer) (x .bytes)) (c .before .before .row .ensures .value) ∙ said-row (a .operation) (a .run) _ o) (c .say-row .ensures),
-      run-row (a .operation) (a .run) _ o,
-      last-row (a .operation) _ o,
+    let o = operation2 c .operation2 .given .1 in
+    let v = c .before .before .withdraw .ensures .value in
+    let m = c .say-moved2 .ensures in (
+      said-of (ap (λ (x : Advanced). answerLine (letters "taken") (x .answer)) v ∙ said-withdraw (a .operation) (a .run) _ o) (m .0),
+      m .1 ∙ ap (λ (x : Advanced). x .run) v ∙ run-withdraw (a .operation) (a .run) _ o,
+      m .2 ∙ last-withdraw (a .operation) _ o,
     )
 
 returns-3 : tie.Need-returns-3
 returns-3 c =
+    let a = operation3 c .before .before .args in
+    let o = operation3 c .operation3 .given .1 in (
+      said-of (ap (λ (x : rows.Row). shownLine (a .run .cores) (x .answer) (x .bytes)) (c .before .before .row .ensures .value) ∙ said-row (a .operation) (a .run) _ o)
+          (c .say-row .ensures),
+      run-row (a .operation) (a .run) _ o,
+      last-row (a .operation) _ o,
+    )
+
+returns-4 : tie.Need-returns-4
+returns-4 c =
     let a = enum-told-from-say-word c .before .before .args in
     let o = enum-told-from-say-word c .enum-told .given .1 in (
       said-of (said-none (a .operation) (a .run) o) (c .say-word .ensures),
@@ -91,9 +111,11 @@ answer-spec =
     (tie.spec
     enum-known-operation
     advance-requires
-    slice-aggregate-say-answer
-    say-answer-requires
+    say-moved-requires
     enum-known-operation-2
+    withdraw-requires
+    say-moved-requires-2
+    enum-known-operation-3
     row-requires
     say-row-requires
     enum-told
@@ -101,4 +123,5 @@ answer-spec =
     say-word-requires
     returns
     returns-2
-    returns-3)
+    returns-3
+    returns-4)

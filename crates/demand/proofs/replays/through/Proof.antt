@@ -1,4 +1,4 @@
--- `demand::replays::advances` meets its contract. The loop's invariant: the run is the one after the entries passed, and their answers are written
+-- `demand::replays::through` meets its contract. The loop's invariant: the run is the one after the entries passed, and their answers are written
 -- (`written-more`).
 -- Assumes nothing.
 use mathlib.Core.Path.{_≡_, sym, ap, _∙_}
@@ -18,8 +18,8 @@ use Rattle.demand.specs.Replay.{code, codes}
 use Rattle.run.proofs.Written.{written-more}
 use Rattle.demand.proofs.Listed.{after-more, codes-more, length-codes, entries-more, length-entries}
 use Rattle.demand.proofs.Codes.{small-answer}
-use Rattle.demand.proofs.replays.advances.Statement.{statement}
-use Rattle.demand.proofs.replays.advances.Tie as tie
+use Rattle.demand.proofs.replays.through.Statement.{statement}
+use Rattle.demand.proofs.replays.through.Tie as tie
 
 -- the first i entries of the words
 abbrev first : List ℕ → ℕ → List Entry
@@ -38,50 +38,61 @@ abbrev entry : tie.At-loop Inv-loop μ-loop → tie.Start Inv-loop μ-loop
 entry c = c .before .before .before
 
 -- the state in which the first word of an entry is read
-abbrev read : tie.After-advance Inv-loop μ-loop → tie.After-shared-slice-known2 Inv-loop μ-loop
-read c = c .before .before
+abbrev read : tie.After-enter Inv-loop μ-loop → tie.After-shared-slice-known2 Inv-loop μ-loop
+read c = c .before .before .before
 
 -- the state at the head of the loop
 abbrev loop : tie.After-shared-slice-known2 Inv-loop μ-loop → tie.At-loop Inv-loop μ-loop
 loop c = c .before .before
 
--- the state after the advance
-abbrev advanced : tie.After-next Inv-loop μ-loop → tie.After-advance Inv-loop μ-loop
-advanced c = c .before .before
+-- the state after the entry
+abbrev entered : tie.After-next Inv-loop μ-loop → tie.After-enter Inv-loop μ-loop
+entered c = c .before .before
 
 loop-holds : tie.Need-loop-holds Inv-loop μ-loop
 unfolding after answers upFrom
 loop-holds c = search needs
 
-mul-advance : tie.Need-mul-advance Inv-loop μ-loop
-mul-advance c = omega arith
+mul-enter : tie.Need-mul-enter Inv-loop μ-loop
+mul-enter c = omega arith
 
-add-advance : tie.Need-add-advance Inv-loop μ-loop
-add-advance c = omega arith
+mul-enter-2 : tie.Need-mul-enter-2 Inv-loop μ-loop
+mul-enter-2 c = search needs
 
-mul-advance-2 : tie.Need-mul-advance-2 Inv-loop μ-loop
-mul-advance-2 c = search needs
+shared-slice-read-enter : tie.Need-shared-slice-read-enter Inv-loop μ-loop
+shared-slice-read-enter c = omega arith
 
-shared-slice-read-advance : tie.Need-shared-slice-read-advance Inv-loop μ-loop
-shared-slice-read-advance c = omega arith
+mul-enter-3 : tie.Need-mul-enter-3 Inv-loop μ-loop
+mul-enter-3 c = omega arith
 
-mul-advance-3 : tie.Need-mul-advance-3 Inv-loop μ-loop
-mul-advance-3 c = omega arith
+add-enter : tie.Need-add-enter Inv-loop μ-loop
+add-enter c = omega arith
 
-add-advance-2 : tie.Need-add-advance-2 Inv-loop μ-loop
-add-advance-2 c = omega arith
+mul-enter-4 : tie.Need-mul-enter-4 Inv-loop μ-loop
+mul-enter-4 c = search needs
 
-mul-advance-4 : tie.Need-mul-advance-4 Inv-loop μ-loop
-mul-advance-4 c = search needs
+shared-slice-read-enter-2 : tie.Need-shared-slice-read-enter-2 Inv-loop μ-loop
+shared-slice-read-enter-2 c = omega arith
 
-shared-slice-read-advance-2 : tie.Need-shared-slice-read-advance-2 Inv-loop μ-loop
-shared-slice-read-advance-2 c = omega arith
+mul-enter-5 : tie.Need-mul-enter-5 Inv-loop μ-loop
+mul-enter-5 c = omega arith
 
-advance-requires : tie.Need-advance-requires Inv-loop μ-loop
-advance-requires c κs = search needs
+add-enter-2 : tie.Need-add-enter-2 Inv-loop μ-loop
+add-enter-2 c = omega arith
+
+mul-enter-6 : tie.Need-mul-enter-6 Inv-loop μ-loop
+mul-enter-6 c = search needs
+
+shared-slice-read-enter-3 : tie.Need-shared-slice-read-enter-3 Inv-loop μ-loop
+shared-slice-read-enter-3 c = omega arith
+
+enter-requires : tie.Need-enter-requires Inv-loop μ-loop
+enter-requires c κs = search needs
 
 code-requires : tie.Need-code-requires Inv-loop μ-loop
-code-requires c κs = rw (c .advance .ensures .value) (small-answer _ _ _)
+code-requires c κs =
+    let s = loop (read c) in
+    rw (c .enter .ensures) (small-answer (s .loop .last) (entryAt (entry s .args .entries .now) (s .loop .i)))
 
 mul-numbers : tie.Need-mul-numbers Inv-loop μ-loop
 mul-numbers c = search needs
@@ -97,13 +108,13 @@ loop-less c = omega arith
 
 loop-again : tie.Need-loop-again Inv-loop μ-loop
 loop-again c =
-    let d = advanced c in
+    let d = entered c in
     let s = loop (read d) in
     let a = entry s .args in
     let i = s .loop .i in
     let xs = first (a .entries .now) i in
     let x = entryAt (a .entries .now) i in
-    let v : d .advance .result ≡ entryOf (after (a .run) xs) x = d .advance .ensures .value ∙ ap (λ (r : Run). entryOf r x) (s .loop .inv .1 .1 .1 .0) in
+    let v : d .enter .result ≡ entryOf (after (a .run) xs) x = d .enter .ensures ∙ ap (λ (r : Run). entryOf r x) (s .loop .inv .1 .1 .1 .0) in
     let t : first (a .entries .now) (i + 1) ≡ xs ++ (x ∷ []) = entries-more (a .entries .now) i in
     let n : length (codes (a .run) xs) ≡ i = length-codes (a .run) xs ∙ length-entries (a .entries .now) i in
     let w : c .before .code .result ≡ code (told (entryOf (after (a .run) xs) x .answer)) =
@@ -137,22 +148,25 @@ returns c =
       s .loop .inv .1 .1 .1 .1 ∙ ap (λ (k : ℕ). codes (a .run) (first es k) ++ drop k (a .numbers .now)) e,
     )
 
-pub advances-spec : {M : Type 1} → statement M
-advances-spec =
+pub through-spec : {M : Type 1} → statement M
+through-spec =
     tie.close
     (tie.spec
     Inv-loop
     μ-loop
     loop-holds
-    mul-advance
-    add-advance
-    mul-advance-2
-    shared-slice-read-advance
-    mul-advance-3
-    add-advance-2
-    mul-advance-4
-    shared-slice-read-advance-2
-    advance-requires
+    mul-enter
+    mul-enter-2
+    shared-slice-read-enter
+    mul-enter-3
+    add-enter
+    mul-enter-4
+    shared-slice-read-enter-2
+    mul-enter-5
+    add-enter-2
+    mul-enter-6
+    shared-slice-read-enter-3
+    enter-requires
     code-requires
     mul-numbers
     slice-write-numbers

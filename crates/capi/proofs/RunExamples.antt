@@ -1,0 +1,103 @@
+-- What the calls on a run in a buffer leave, computed from the definitions, for one task (O 0, v 1, C 3, D 3, T 4) on one core under greedy:
+-- which of the two sets of an advance is which, the set of a row, and the positions of a withdrawal.
+use mathlib.Core.Path.{_≡_, refl}
+use mathlib.Core.List.{List, [], _∷_, _++_}
+use Prim.Native.Nat.{ℕ}
+use lib.ListN.{replicate}
+use Rattle.model.specs.Firm.{firm, rising}
+use Rattle.model.specs.Grants.{claimants, given, grants, left}
+use Rattle.model.specs.Row.{owner, row}
+use Rattle.model.specs.Search.{any, kept, least, memb, upFrom}
+use Rattle.phase.specs.declared.Phase.{Phase}
+use Rattle.phase.specs.declared.Phase.the-variants.{Working, Resting}
+use Rattle.run.specs.Run.{grantsIn, mapFirst, moved, withdrawnIn}
+use Rattle.run.specs.Numbers.{pastCount, runOut, firstLateIn, misemptiedIn, misreportedIn}
+use Rattle.run.specs.Advance.{advanceAnswer, advanceOf}
+use Rattle.run.specs.Row.{rowAnswer, bytesIn, rowOf}
+use Rattle.run.specs.Withdraw.{withdrawAnswer, withdrawOf}
+use Rattle.capi.specs.Calls.{Left}
+use Rattle.capi.specs.Encoding.{placeWords, placesWords, encodeTo, arePlaces, placesIn, holds, runIn}
+use Rattle.capi.specs.Runs.{rowCall, advanceCall, withdrawCall}
+
+-- so many words as they are lent
+abbrev lent : ℕ → List ℕ
+lent n = replicate n 77
+
+-- the run in words, with this set withdrawn and its task in this phase, and anything past the count
+abbrev without : ℕ → Phase → List ℕ
+without x ph = 1 ∷ 1 ∷ 1 ∷ 0 ∷ 0 ∷ x ∷ (placeWords (record { offset = 0; width = 1; length = 3; deadline = 3; period = 4; phase = ph }) ++ lent 248)
+
+abbrev one : Phase → List ℕ
+one ph = without 0 ph
+
+-- the call is answered
+abbrev answered : List (List ℕ) → Left
+answered ls = record { value = 0; lent = ls }
+
+-- taken, and refused with number n
+abbrev taken : List ℕ
+taken = 0 ∷ 0 ∷ 0 ∷ []
+
+abbrev refused : ℕ → List ℕ
+refused n = 3 ∷ n ∷ 0 ∷ []
+
+-- a row: without an empty job, with one, and with one a tick too late
+pub row-worked : rowCall (one (Working 0 0)) 0 (lent 65) (lent 3) ≡ answered ((1 ∷ (replicate 63 0 ++ lent 1)) ∷ taken ∷ [])
+unfolding rowCall holds arePlaces runIn placesIn any least memb upFrom kept owner row given left grants claimants rowOf rowAnswer bytesIn pastCount runOut
+    firstLateIn misemptiedIn grantsIn
+row-worked = refl
+
+pub row-emptied : rowCall (one (Working 0 0)) 1 (lent 65) (lent 3) ≡ answered ((replicate 64 0 ++ lent 1) ∷ taken ∷ [])
+unfolding rowCall holds arePlaces runIn placesIn any least memb upFrom kept owner row given left grants claimants rowOf rowAnswer bytesIn pastCount runOut
+    firstLateIn misemptiedIn grantsIn
+row-emptied = refl
+
+pub row-refused : rowCall (one (Working 1 1)) 1 (lent 65) (lent 3) ≡ answered ((replicate 64 0 ++ lent 1) ∷ refused 20 ∷ [])
+unfolding rowCall holds arePlaces runIn placesIn any least memb upFrom kept owner row given left grants claimants rowOf rowAnswer bytesIn pastCount runOut
+    firstLateIn misemptiedIn grantsIn
+row-refused = refl
+
+-- an advance: the reports first, then the empties
+pub advance-reported : advanceCall (one (Working 1 1)) 1 0 (lent 3) ≡ answered (one (Resting 2) ∷ taken ∷ [])
+unfolding advanceCall holds arePlaces runIn placesIn encodeTo placesWords any least memb upFrom kept owner row given left grants claimants
+    advanceOf advanceAnswer pastCount runOut firstLateIn misemptiedIn misreportedIn grantsIn mapFirst moved
+advance-reported = refl
+
+pub advance-not-emptied : advanceCall (one (Working 1 1)) 0 1 (lent 3) ≡ answered (one (Working 1 1) ∷ refused 20 ∷ [])
+unfolding advanceCall holds arePlaces runIn placesIn encodeTo placesWords any least memb upFrom kept owner row given left grants claimants
+    advanceOf advanceAnswer pastCount runOut firstLateIn misemptiedIn misreportedIn grantsIn mapFirst moved
+advance-not-emptied = refl
+
+pub advance-both : advanceCall (one (Working 0 0)) 1 1 (lent 3) ≡ answered (one (Working 0 0) ∷ refused 16 ∷ [])
+unfolding advanceCall holds arePlaces runIn placesIn encodeTo placesWords any least memb upFrom kept owner row given left grants claimants
+    advanceOf advanceAnswer pastCount runOut firstLateIn misemptiedIn misreportedIn grantsIn mapFirst moved
+advance-both = refl
+
+-- a withdrawal: the position 1, neither 0 nor 2; and what it leaves of a job released in this tick, and of one that works
+pub withdraw-first : withdrawCall (one (Working 0 0)) 1 (lent 3) ≡ answered (without 1 (Working 0 0) ∷ taken ∷ [])
+unfolding withdrawCall holds arePlaces runIn placesIn encodeTo placesWords any memb upFrom kept firm rising pastCount runOut withdrawOf withdrawAnswer withdrawnIn
+withdraw-first = refl
+
+pub withdraw-none : withdrawCall (one (Working 0 0)) 0 (lent 3) ≡ answered (one (Working 0 0) ∷ refused 22 ∷ [])
+unfolding withdrawCall holds arePlaces runIn placesIn encodeTo placesWords any memb upFrom kept firm rising pastCount runOut withdrawOf withdrawAnswer withdrawnIn
+withdraw-none = refl
+
+pub withdraw-second : withdrawCall (one (Working 0 0)) 2 (lent 3) ≡ answered (one (Working 0 0) ∷ refused 22 ∷ [])
+unfolding withdrawCall holds arePlaces runIn placesIn encodeTo placesWords any memb upFrom kept firm rising pastCount runOut withdrawOf withdrawAnswer withdrawnIn
+withdraw-second = refl
+
+pub row-without : rowCall (without 1 (Working 0 0)) 0 (lent 65) (lent 3) ≡ answered ((replicate 64 0 ++ lent 1) ∷ taken ∷ [])
+unfolding rowCall holds arePlaces runIn placesIn any least memb upFrom kept owner row given left grants claimants rowOf rowAnswer bytesIn pastCount runOut
+    firstLateIn misemptiedIn grantsIn
+row-without = refl
+
+pub row-goes-on : rowCall (without 1 (Working 1 1)) 0 (lent 65) (lent 3) ≡ answered ((1 ∷ (replicate 63 0 ++ lent 1)) ∷ taken ∷ [])
+unfolding rowCall holds arePlaces runIn placesIn any least memb upFrom kept owner row given left grants claimants rowOf rowAnswer bytesIn pastCount runOut
+    firstLateIn misemptiedIn grantsIn
+row-goes-on = refl
+
+-- a bit past the count is no run's
+pub row-out : rowCall (without 2 (Working 1 1)) 0 (lent 65) (lent 3) ≡ answered ((replicate 64 0 ++ lent 1) ∷ refused 14 ∷ [])
+unfolding rowCall holds arePlaces runIn placesIn any least memb upFrom kept owner row given left grants claimants rowOf rowAnswer bytesIn pastCount runOut
+    firstLateIn misemptiedIn grantsIn
+row-out = refl

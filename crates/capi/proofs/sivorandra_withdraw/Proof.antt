@@ -1,0 +1,64 @@
+-- `capi::sivorandra_withdraw` meets its contract: buffer and answer are those of the withdrawal, and its three words are put where there is room.
+-- Assumes nothing.
+use mathlib.Core.Path.{sym, ap, _∙_}
+use Rattle.capi.specs.declared.told.Told.{Told}
+use Rattle.capi.specs.Told.{written}
+use Rattle.capi.proofs.Keeping.{withdraw-narrow, withdraw-room}
+use borrow.Author.Needs.{needs}
+use Rattle.capi.proofs.sivorandra_withdraw.Statement.{statement}
+use Rattle.capi.proofs.sivorandra_withdraw.Tie as tie
+
+-- the state at the call
+abbrev entry-from-then1 : tie.Then1 → tie.Start
+entry-from-then1 c = c .before .before .before
+
+abbrev entry-from-else1 : tie.Else1 → tie.Start
+entry-from-else1 c = c .before .before .before
+
+-- the state after `withdraw`
+abbrev withdraw-from-of-answer : tie.After-of-answer → tie.After-withdraw
+withdraw-from-of-answer c = c .before .before .before
+
+returns : tie.Need-returns
+returns c =
+    let a = entry-from-then1 c .args in
+    sym (withdraw-narrow (a .run .now) (a .answer .now) (a .position) (c .if1 .taken))
+
+withdraw-requires : tie.Need-withdraw-requires
+withdraw-requires c κs = search needs
+
+of-answer-requires : tie.Need-of-answer-requires
+of-answer-requires c κs = search needs
+
+put-requires : tie.Need-put-requires
+put-requires c κs = search needs
+
+same-length : tie.Need-same-length
+same-length c = search needs
+
+same-length-2 : tie.Need-same-length-2
+same-length-2 c = search needs
+
+returns-2 : tie.Need-returns-2
+returns-2 c =
+    let p = c .before .before in
+    let o = p .before .before in
+    let v = withdraw-from-of-answer o in
+    let e = v .before .before in
+    let a = entry-from-else1 e .args in
+    withdraw-room (a .run .now) (a .answer .now) (a .position) (v .withdraw .result)
+    (e .if1 .left)
+    (v .withdraw .ensures)
+    (p .put .ensures ∙ ap (λ (t : Told). written t (a .answer .now)) (o .of-answer .ensures))
+
+pub sivorandra-withdraw-spec : {M : Type 1} → statement M
+sivorandra-withdraw-spec =
+    tie.close
+    (tie.spec
+    returns
+    withdraw-requires
+    of-answer-requires
+    put-requires
+    same-length
+    same-length-2
+    returns-2)

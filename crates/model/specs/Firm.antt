@@ -1,0 +1,29 @@
+-- Which rules and widths are firm (scope, 'Look-ahead and verdict'): the verdict Firm and number 21 of a withdrawal ask the same.
+use mathlib.Core.Bool.{_&&_, Bool, true}
+use mathlib.Core.List.{List, [], _∷_}
+use mathlib.Core.Logic.{_⊎_}
+use mathlib.Core.Path.{_≡_}
+use Prim.Native.Nat.{_<_, suc, ℕ, _≤_}
+use lib.Dec.{leb}
+use lib.ListN.{getD, length}
+use Rattle.model.specs.Task.{Rule, Table, Task, greedy, idling, limited, nobody}
+
+-- widths never fall along the chain: the test (`firm-exact`)
+unfoldable pub rising : List Task → Bool
+rising [] = true
+rising (τ ∷ []) = true
+rising (τ ∷ τ′ ∷ τs) = leb (τ .width) (τ′ .width) && rising (τ′ ∷ τs)
+
+-- each width is at most the next
+abbrev pub Rising : List Task → Type 0
+Rising τs = (p : ℕ) → suc p < length τs → getD τs p nobody .width ≤ getD τs (suc p) nobody .width
+
+-- firm is for rules 2 and 3, and for rule 1 where widths never fall: the test (`firm-exact`)
+unfoldable pub firm : Rule → List Task → Bool
+firm greedy τs = rising τs
+firm limited τs = true
+firm idling τs = true
+
+-- the rule is 2 or 3, or it is 1 and widths never fall
+abbrev pub FirmRule : Table → Type 0
+FirmRule s = (s .rule ≡ limited) ⊎ ((s .rule ≡ idling) ⊎ ((s .rule ≡ greedy) × Rising (s .tasks)))
