@@ -1,3 +1,4 @@
+-- The laws behind `longest`: the theory over all ticks, the walk over the leaps, and computed examples.
 pub mod Greatest
 pub mod Response
 pub mod Examples
