@@ -8,7 +8,8 @@ use Rattle.model.specs.Book.{claims, full, served, step, work}
 use Rattle.model.specs.Grants.{claimants, given, grants, left}
 use Rattle.model.specs.Horizon.{S, horizon, hyperperiod, lcm}
 use Rattle.model.specs.Search.{any, kept, least, memb, upFrom}
-use Rattle.model.specs.Verdict.{firm, firstMiss, missedAt, missedIn, rising, verdict}
+use Rattle.model.specs.Firm.{firm, rising}
+use Rattle.model.specs.Verdict.{firstMiss, missedAt, missedIn, verdict}
 use Rattle.table.proofs.Examples.{wordsA}
 use Rattle.table.specs.Answer.{answerOf, byHorizon, byTasks, byWalk, endingOf, firstOut, headerNumber, lastStep}
 use Rattle.table.specs.Words.{chain, count, met, tableOf}
