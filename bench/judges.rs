@@ -1,6 +1,6 @@
 //! Times the library's two judges and the peer (bench/peer.rs) in one process and by turns, on tables that are not refused: `judges RUNS TABLE..`.
 //! For each table a line: its name, the ticks up to the horizon or the miss, the moments among them, and in nanoseconds of processor time, best of so many runs,
-//! the faster of the two judges, the judge that goes tick by tick, which runs no more once it has taken some seconds, and the peer that jumps.
+//! the faster of the two judges, the judge that goes tick by tick, which runs no more once it has taken some seconds, the peer that jumps, and the longest answers.
 #[path = "peer.rs"]
 #[allow(dead_code)]
 mod peer;
@@ -14,6 +14,7 @@ const THREAD_TIME: i32 = 3;
 extern "C" {
     fn sivorandra_judge(words: *const u32, words_len: usize, answer: *mut u32, answer_len: usize) -> u32;
     fn sivorandra_judge_ticks(words: *const u32, words_len: usize, answer: *mut u32, answer_len: usize) -> u32;
+    fn sivorandra_longest(words: *const u32, words_len: usize, figures: *mut u32, figures_len: usize, answer: *mut u32, answer_len: usize) -> u32;
     fn clock_gettime(clock: i32, time: *mut [i64; 2]) -> i32;
 }
 
@@ -29,6 +30,14 @@ fn library(judge: Judge, words: &[u32]) -> String {
     let mut answer = [0; 3];
     assert_eq!(unsafe { judge(words.as_ptr(), words.len(), answer.as_mut_ptr(), answer.len()) }, 0, "the call is answered");
     format!("{} {} {}", ["firm", "full", "miss", "refused"][answer[0] as usize], answer[1], answer[2])
+}
+
+/// The longest answers, and the verdict that they go with: 13 for a miss.
+fn longest(words: &[u32], verdict: &str) -> String {
+    let (mut figures, mut answer) = ([0; 32], [0; 3]);
+    let value = unsafe { sivorandra_longest(words.as_ptr(), words.len(), figures.as_mut_ptr(), figures.len(), answer.as_mut_ptr(), answer.len()) };
+    assert_eq!((value, answer), (0, if verdict.starts_with("miss") { [3, 13, 0] } else { [0; 3] }), "the call is answered as the verdict says");
+    verdict.into()
 }
 
 /// How many ticks after 0 and before `end`, or on it, are moments: some job is released, is due, ended or not, or ends.
@@ -73,10 +82,14 @@ fn main() {
         let text = std::fs::read(path).expect("the table can be read");
         let words = peer::numbers(&text).expect("a table's text");
         let table = peer::load(&text).unwrap_or_else(|refusal| panic!("{path} is refused: {refusal:?}"));
-        let judges: [(bool, &dyn Fn() -> String); 3] =
-            [(false, &|| library(sivorandra_judge, &words)), (true, &|| library(sivorandra_judge_ticks, &words)), (false, &|| peer::verdict(&table, true))];
-        let (mut least, mut spent) = ([u64::MAX; 3], [0; 3]);
         let expected = peer::verdict(&table, true);
+        let judges: [(bool, &dyn Fn() -> String); 4] = [
+            (false, &|| library(sivorandra_judge, &words)),
+            (true, &|| library(sivorandra_judge_ticks, &words)),
+            (false, &|| peer::verdict(&table, true)),
+            (false, &|| longest(&words, &expected)),
+        ];
+        let (mut least, mut spent) = ([u64::MAX; 4], [0; 4]);
         for _ in 0..runs {
             for (at, (by_ticks, judge)) in judges.iter().enumerate() {
                 if *by_ticks && spent[at] > ENOUGH {
@@ -94,6 +107,6 @@ fn main() {
             ("miss", rest) => rest.split(' ').next().and_then(|tick| tick.parse().ok()).expect("a tick"),
             _ => (table.s + table.p) as u32,
         };
-        println!("{path} {end} {} {} {} {}", moments(&table, end), least[0], least[1], least[2]);
+        println!("{path} {end} {} {} {} {} {}", moments(&table, end), least[0], least[1], least[2], least[3]);
     }
 }

@@ -31,10 +31,10 @@ extern "C" {
 /* The version of this header; sivorandra_version says that of the library that is linked. One number, which grows with the version:
    major * 10000 + minor * 100 + patch. */
 #define SIVORANDRA_VERSION_MAJOR 0
-#define SIVORANDRA_VERSION_MINOR 8
+#define SIVORANDRA_VERSION_MINOR 9
 #define SIVORANDRA_VERSION_PATCH 0
 #define SIVORANDRA_VERSION (SIVORANDRA_VERSION_MAJOR * 10000 + SIVORANDRA_VERSION_MINOR * 100 + SIVORANDRA_VERSION_PATCH)
-#define SIVORANDRA_VERSION_TEXT "0.8.0"
+#define SIVORANDRA_VERSION_TEXT "0.9.0"
 
 /* No call takes more bytes of the stack. */
 #define SIVORANDRA_STACK_BYTES 16384
@@ -71,7 +71,7 @@ enum sivorandra_number {
     SIVORANDRA_BAD_RANGE = 10,    /* plan: a is above b, or b is above the horizon */
     SIVORANDRA_SHORT_ROWS = 11,   /* plan: `rows` has fewer than (b - a) * cores bytes */
     SIVORANDRA_PAST_MISS = 12,    /* plan: b is above the tick of the first miss */
-    SIVORANDRA_TABLE_MISSES = 13, /* start, replay: the verdict is a miss */
+    SIVORANDRA_TABLE_MISSES = 13, /* start, replay, longest: the verdict is a miss */
     SIVORANDRA_NOT_A_RUN = 14,    /* row, advance, withdraw: the words are no run */
     SIVORANDRA_LATE = 15,         /* row, advance: the position, the lowest that is late, has not ended its job at its deadline */
     SIVORANDRA_BAD_REPORT = 16,   /* advance: for a position past the count, or a task that is not working or has no cores in this tick */
@@ -198,6 +198,17 @@ uint32_t sivorandra_sentence(const uint32_t *words, size_t words_len,
 uint32_t sivorandra_facts(const uint8_t *bytes, size_t bytes_len,
                           uint64_t *facts, size_t facts_len,
                           uint32_t *answer, size_t answer_len);
+
+/* The longest answer of each task of the table in `words`, the most ticks from a job's release to its end, into the first SIVORANDRA_MOST_TASKS
+   words of `figures`, position 1 first: done, or refused by the table's numbers or with 13. No full-length job ever takes longer than its
+   task's figure, and some full-length job takes just that; in a run of a firm table no job takes longer, however early jobs end. Of a table
+   that is full and not firm a job can take longer where others end early. Words past the last task are 0, and so are all 32 where it is
+   refused; words behind them stay.
+   It takes at most twice the time of sivorandra_judge (measured: as long where that goes from one release, end or deadline to the next, as
+   this call always does, and half as long again where the periods are short), and 6,000 bytes of the stack. */
+uint32_t sivorandra_longest(const uint32_t *words, size_t words_len,
+                            uint32_t *figures, size_t figures_len,
+                            uint32_t *answer, size_t answer_len);
 
 #ifdef __cplusplus
 }

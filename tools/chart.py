@@ -18,6 +18,7 @@ LOOKS = {
     "unused": {"fill": "#fff", "stroke": "#555", "stroke_width": 1.2, "stroke_dasharray": "3 2"},
     "held": {"fill": "url(#light)", "stroke": "#888"},
     "blank": {"fill": "#f6c8c8"},
+    "longest": {"fill": "#d8d8d8"},
 }
 
 
@@ -238,6 +239,20 @@ class Chart(Sheet):
     def ring(self, x, y):
         self.add("circle", cx=round(x, 2), cy=round(y, 2), r=4 if self.wide >= 12 else 3, fill="#fff", stroke="#000", stroke_width=1.5)
 
+    # The longest answer of a task beside its strip, against its D; and over a job that takes so long a bracket from release to end.
+    def longest(self, position, figure, release):
+        base = self.base(position - 1)
+        self.text(self.x(self.end) + 11, base - 1, f"longest {figure} of {self.tasks[position - 1].D}", 11, fill="#333", id=f"figure{position}")
+        if release is not None:
+            since, until = self.x(release), self.x(release + figure)
+            with self.group(id=f"longest{position}"):
+                self.add("title", f"the job that position {position} releases in tick {release} ends {figure} ticks later")
+                self.bracket(since, until, base - 11)
+                self.add("text", str(figure), x=round((since + until) / 2, 2), y=base - 12, font_size=8, text_anchor="middle", fill="#000")
+
+    def bracket(self, since, until, y):
+        self.add("path", d=f"M{since} {y + 3}V{y}H{until}V{y + 3}", stroke="#000", fill="none")
+
     def stop(self, x, y, high, thick):
         self.add("rect", x=round(x - thick - 2, 2), y=y, width=thick + 2, height=high, fill="#fff")
         self.add("rect", x=round(x - thick - 1, 2), y=y, width=thick, height=high, fill="#000")
@@ -298,4 +313,6 @@ class Chart(Sheet):
                 self.ring(30, at + 6)
             if name == "out":
                 self.gate(26, at + 13)
+            if name == "longest":
+                self.bracket(16, 44, at + 1)
             self.text(50, at + 10, words)

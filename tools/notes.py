@@ -163,7 +163,7 @@ def notes(text, answer):
     elif number == 9:
         fault = table.horizon_fault()
     elif number == 13:
-        fault = "a table that misses a deadline is not started; --why says more"
+        fault = "a table that misses a deadline is not started, and has no longest answers; --why says more"
     else:
         fault = table.header_fault(number) or table.chain_fault(number)
     return [fault] if fault else []

@@ -2,7 +2,8 @@
 """Draws what the program prints for a table as an SVG 1.1: picture.py [--from TICK] [--to TICK] [--replay LIST] PROGRAM... < table > out.svg
 
 It decides nothing. The cells are the program's rows and the words are the program's verdict; releases, deadlines, the fence and the
-numbers beside each task are the table's. The program's output is read as a stream: only the rows that are drawn are kept, and
+numbers beside each task are the table's; the longest answers are what the program `ask` says, which stands beside it, and the job
+that is marked is found by its cells. The program's output is read as a stream: only the rows that are drawn are kept, and
 after the last of them the program is stopped. With --replay the program is `replay`: it is fed the table and the operations of LIST,
 with a row asked at each tick, and the rows of the list are drawn. A list is read on after the last of these, to say how many there
 are and whether something is refused, but no more than a million lines.
@@ -15,7 +16,7 @@ import re
 import subprocess
 import sys
 
-from chart import BLUE, Chart, Sheet
+from chart import BLUE, Chart, Sheet, moments
 
 LONGEST = 2168  # bytes: no table is longer, and the program reads no more
 BLOCK = 1 << 18  # bytes of rows that are passed over at once
@@ -190,8 +191,28 @@ def rows_of(source, start, end, table, since, position):
     return rows, had
 
 
-# The picture of a verdict that is no refusal, and of the rows that it needs from the program's output.
-def chart(word, first, second, table, source, asked):
+# The longest answers of the tasks, from the lines of `ask`.
+def figures_of(source, table):
+    lines = [line.split() for line in source.read().splitlines()]
+    if [line[0] for line in lines if len(line) == 2 and line[1].isdigit()] != [b"%d" % position for position in range(1, len(table.tasks) + 1)]:
+        raise Trouble(f"the longest answers are {lines[:3]}")
+    return [int(figure) for _, figure in lines]
+
+
+# Of each position the release of the first drawn job that takes just its figure from release to end, by its cells; where all of such a job is drawn.
+def longest_jobs(figures, table, start, rows):
+    found = {}
+    for position, (figure, task) in enumerate(zip(figures, table.tasks), 1):
+        for release in moments(task, 0, start, start + len(rows) - figure):
+            cells = [position in row for row in rows[release - start:release - start + figure]]
+            if sum(cells) == task.C and cells[-1]:
+                found[position] = release
+                break
+    return found
+
+
+# The picture of a verdict that is no refusal, and of the rows that it needs from the program's output; `answers` is what `ask` says to `longest`.
+def chart(word, first, second, table, source, asked, answers):
     count = first + (0 if word == "miss" else second)
     start, end, what = asked.within(count, "there are those of") if asked else stretch(word, first, second)
     seen = word == "miss" and end == first
@@ -200,6 +221,10 @@ def chart(word, first, second, table, source, asked):
     sheet = Chart(table, start, rows, head)
     sheet.cells()
     sheet.strips((first, second) if seen else None)
+    figures = figures_of(answers, table) if word != "miss" else []
+    marked = longest_jobs(figures, table, start, rows)
+    for position, figure in enumerate(figures, 1):
+        sheet.longest(position, figure, marked.get(position))
     if seen:
         sheet.late(first, second, had, f"miss at tick {first}, position {second}", sheet.top - 10)
         head.append(f"The late job had {had} of {table.tasks[second - 1].C}.")
@@ -207,8 +232,9 @@ def chart(word, first, second, table, source, asked):
         sheet.mark("S", first, f"S, tick {first}", sheet.top - 26, BLUE, "6 3")
         sheet.mark("repeat", first + second, f"first repeat, S + P, tick {first + second}", sheet.top - 10, BLUE, "2 3")
     sheet.ticks()
-    sheet.legend()
-    return sheet.out(head[0], head[1:]), MISSED if word == "miss" else FINE
+    sheet.legend(*([("longest", "longest: the most ticks that a job takes from its release to its end, of its D; marked is the first job drawn that takes so many")] if figures else []))
+    tell = [f"Longest answers: {', '.join(f'position {position} {figure} of {task.D}' for position, (figure, task) in enumerate(zip(figures, table.tasks), 1))}."] if figures else []
+    return sheet.out(head[0], head[1:] + tell), MISSED if word == "miss" else FINE
 
 
 def next_line(source):
@@ -477,9 +503,21 @@ def running(program):
     return subprocess.Popen(program, stdin=subprocess.PIPE, stdout=subprocess.PIPE)
 
 
+# What `ask`, which stands beside the program, says to a question on a table. Leaving this stops it.
+@contextlib.contextmanager
+def answering(program, question, text):
+    with running([os.path.join(os.path.dirname(program[-1]), "ask")]) as process:
+        try:
+            process.stdin.write(question + text)
+            process.stdin.close()
+            yield process.stdout
+        finally:
+            process.kill()
+
+
 # The picture of a table, and the status.
 def draw(program, text, asked=Asked()):
-    with running(program) as process:
+    with running(program) as process, answering(program, b"longest\n", text) as answers:
         process.stdin.write(text)
         process.stdin.close()
         fields = process.stdout.readline(64).split()
@@ -490,7 +528,7 @@ def draw(program, text, asked=Asked()):
             return refusal(first, second)
         if word not in VERDICTS:
             raise Trouble(f"the program's verdict is {word!r}")
-        return chart(word, first, second, table_of(text), process.stdout, asked)
+        return chart(word, first, second, table_of(text), process.stdout, asked, answers)
 
 
 # The picture of a list of operations of a table, and the status.

@@ -118,6 +118,7 @@ static uint32_t sentence(const uint32_t *table, size_t len) { return sivorandra_
 static uint32_t advance_with(uint32_t reports, uint32_t empties) { return sivorandra_advance(words_at(&run), run.len, reports, empties, ANSWER); }
 static uint32_t advance(uint32_t reports) { return advance_with(reports, 0); }
 static uint32_t withdraw(uint32_t position) { return sivorandra_withdraw(words_at(&run), run.len, position, ANSWER); }
+static uint32_t longest(const uint32_t *table, size_t len) { return sivorandra_longest(table, len, words_at(&numbers), numbers.len, ANSWER); }
 
 /* A slice of length 0 whose pointer is NULL. */
 #define NONE(slice) ((slice).len = 0, (slice).null = 1)
@@ -200,6 +201,35 @@ static void sentences(void)
     uint64_t none[FACTS] = { 0 };
     fresh(), answered(SIVORANDRA_NO_SENTENCE, 0, 0), expect("facts: no bytes", 0, sivorandra_facts(NULL, 0, none, FACTS, ANSWER));
     fresh(), NONE(answer), expect("facts: no answer", 1, sivorandra_facts(NULL, 0, none, FACTS, ANSWER));
+}
+
+/* The longest answers: 32 words in front and no more, all zeros in a refusal, lengths around 32, and NULL for each slice. `numbers` has the figures. */
+static void figures_given(uint32_t a, uint32_t b, uint32_t c)
+{
+    uint32_t three[3] = { a, b, c };
+    memset(numbers.want + GUARD, 0, SIVORANDRA_MOST_TASKS * sizeof numbers.want[0]);
+    memcpy(numbers.want + GUARD, three, sizeof three);
+}
+
+static void longest_answers(void)
+{
+    enum { FIGURES = SIVORANDRA_MOST_TASKS };
+    static const size_t lens[] = { 1, FIGURES - 1, FIGURES, FIGURES + 1, 100 };
+    for (size_t i = 0; i < sizeof lens / sizeof lens[0]; i++) {
+        fresh(), numbers.len = lens[i];
+        if (lens[i] >= FIGURES)
+            answered(SIVORANDRA_DONE, 0, 0), figures_given(2, 5, 4);
+        expect("longest: figures of every length", lens[i] < FIGURES, longest(full, TABLE));
+        fresh(), numbers.len = lens[i];
+        if (lens[i] >= FIGURES)
+            refused(13), figures_given(0, 0, 0);
+        expect("longest: a miss", lens[i] < FIGURES, longest(miss, TABLE));
+    }
+    fresh(), numbers.len = FIGURES, refused(1), figures_given(0, 0, 0), expect("longest: no words", 0, longest(NULL, 0));
+    fresh(), NONE(numbers), expect("longest: no figures", 1, longest(full, TABLE));
+    fresh(), numbers.len = FIGURES, NONE(answer), expect("longest: no answer", 1, longest(full, TABLE));
+    fresh(), numbers.len = FIGURES, answer.len = 2, expect("longest: a short answer", 1, longest(full, TABLE));
+    fresh(), NONE(numbers), NONE(answer), expect("longest: nothing", 1, longest(NULL, 0));
 }
 
 /* A table of too few, too many or senseless words. */
@@ -521,7 +551,7 @@ static void lists(void)
 
 int main(void)
 {
-    nulls(), sentences(), tables(), horizons(), bounds(), lengths(), built(), fences(), empty_jobs(), withdrawals(), lists();
+    nulls(), sentences(), tables(), horizons(), bounds(), lengths(), built(), fences(), empty_jobs(), withdrawals(), lists(), longest_answers();
     printf("%u calls, %u wrong\n", calls, wrong);
     return wrong != 0;
 }

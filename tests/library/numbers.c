@@ -46,6 +46,7 @@ static uint32_t row(uint32_t empties) { return sivorandra_row(run, RUN, empties,
 static uint32_t advance(uint32_t reports, uint32_t empties) { return sivorandra_advance(run, RUN, reports, empties, answer, SIVORANDRA_ANSWER_WORDS); }
 static uint32_t withdraw(uint32_t position) { return sivorandra_withdraw(run, RUN, position, answer, SIVORANDRA_ANSWER_WORDS); }
 static uint32_t sentence(size_t len) { return sivorandra_sentence(table, words, rows, len, answer, SIVORANDRA_ANSWER_WORDS); }
+static uint32_t longest(void) { return sivorandra_longest(table, words, run, SIVORANDRA_MOST_TASKS, answer, SIVORANDRA_ANSWER_WORDS); }
 
 static void numbers(void)
 {
@@ -86,6 +87,9 @@ static void numbers(void)
     with(C, 6), start(), expect("no run to withdraw from", withdraw(1), SIVORANDRA_NOT_A_RUN, 0);
     fresh(1), expect("no miss", sentence(sizeof rows), SIVORANDRA_NO_MISS, 0);
     with(C, 6), expect("a short buffer", sentence(1), SIVORANDRA_SHORT_BUFFER, 0);
+    with(C, 6), expect("a miss has no longest answers", longest(), SIVORANDRA_TABLE_MISSES, 0);
+    fresh(1), expect("longest answers", longest(), PASSES, 0);
+    with(V, 3), expect("too wide, asked for the longest answers", longest(), SIVORANDRA_BAD_WIDTH, 1);
 
     /* position 1 ends early, the wide task at position 2 goes first, and position 3 is late */
     static const uint32_t b[] = { 1, 2, 1, 0, 0, 2, 0, 1, 3, 3, 4, 3, 0, 2, 1, 4, 4, 0, 0, 1, 2, 2, 4 };

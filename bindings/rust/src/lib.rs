@@ -28,7 +28,7 @@ pub use refusal::Refusal;
 use std::fmt;
 
 /// The version that these bindings are for: major * 10000 + minor * 100 + patch. `version` is that of the library that is linked.
-pub const VERSION: u32 = 800;
+pub const VERSION: u32 = 900;
 
 /// The most tasks on a chain, and the most records of a table.
 pub const MOST_TASKS: usize = 32;
@@ -240,6 +240,7 @@ extern "C" {
     fn sivorandra_sentence(words: *const u32, words_len: usize, buffer: *mut u8, buffer_len: usize, answer: *mut u32, answer_len: usize) -> u32;
     fn sivorandra_facts(bytes: *const u8, bytes_len: usize, facts: *mut u64, facts_len: usize, answer: *mut u32, answer_len: usize) -> u32;
     fn sivorandra_advance(run: *mut u32, run_len: usize, reports: u32, empties: u32, answer: *mut u32, answer_len: usize) -> u32;
+    fn sivorandra_longest(words: *const u32, words_len: usize, figures: *mut u32, figures_len: usize, answer: *mut u32, answer_len: usize) -> u32;
 }
 
 /// The three words of an answer: every slice that these functions lend is long enough.
@@ -371,6 +372,24 @@ pub fn facts_of(bytes: &[u8]) -> Option<Facts> {
     let mut ran = [0; MOST_TASKS];
     ran.copy_from_slice(&words[FACT_HEAD_WORDS..]);
     (case == 0).then_some(Facts { position: words[0] as u32, tick: words[1], had: words[2], length: words[3], ran })
+}
+
+/// The longest answer of each task of a table's words: the most ticks from a job's release to its end, that of position 1 first, and 0 past the last task. No full-length job
+/// ever takes longer and some full-length job takes just that; in a run of a firm table no job takes longer, however early jobs end. 13 where the table misses.
+///
+/// ```
+/// use sivorandra::{longest, Refusal, LIMITED};
+///
+/// let mut table = [1, 3, 1, 0, 0, 2, 0, 2, 2, 5, 5, 3, 0, 2, 3, 5, 5, 0, 0, 1, 4, 5, 5];
+/// assert_eq!(longest(&table)?[..4], [2, 5, 4, 0]);
+/// table[2] = LIMITED;
+/// assert_eq!(longest(&table), Err(Refusal::TableMisses));
+/// # Ok::<(), Refusal>(())
+/// ```
+pub fn longest(words: &[u32]) -> Result<[u32; MOST_TASKS], Refusal> {
+    let mut figures = [0; MOST_TASKS];
+    done(ask(|answer, len| unsafe { sivorandra_longest(words.as_ptr(), words.len(), figures.as_mut_ptr(), figures.len(), answer, len) }))?;
+    Ok(figures)
 }
 
 /// Starts a run, takes it through the entries of a list, and asks its row with no empty job.

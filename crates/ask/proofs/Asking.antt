@@ -2,7 +2,7 @@
 -- Assumes nothing.
 use mathlib.Core.Bool.{Bool, true, false, _&&_, cond, false≢true}
 use mathlib.Core.List.{List, [], _∷_, _++_}
-use mathlib.Core.Path.{_≡_, refl, sym, ap, _∙_}
+use mathlib.Core.Path.{_≡_, refl, sym, ap, ap₂, _∙_}
 use Prim.Native.Nat.{ℕ, zero, suc, _+_, _≤_, _<_}
 use native.Mathlib.Numerals.{add-one}
 use native.Mathlib.Omega.{arith}
@@ -22,7 +22,9 @@ use Rattle.sentence.specs.declared.Spoken.{Spoken}
 use Rattle.sentence.specs.declared.Spoken.the-variants.{Length, Refused}
 use Rattle.sentence.specs.Reading.{begins}
 use Rattle.sentence.specs.Spoken.{spokenTold, spokenOf, SentenceOf}
-use Rattle.ask.specs.Asked.{room, whyBy, whyOf, why, noQuestion, askedBy, asked, enoughAsked}
+use Rattle.ask.specs.declared.Question.{Question}
+use Rattle.ask.specs.declared.Question.the-variants.{Why, Longest}
+use Rattle.ask.specs.Asked.{room, whyBy, whyOf, saidTo, wordOf, saidBehind, noQuestion, askedBy, asked, enoughAsked}
 
 -- THE ANSWER TO `why`
 
@@ -68,15 +70,20 @@ begins-long (c ∷ cs) (b ∷ bs) e = go (eqb c b) (begins-long cs bs) e
     go true more q = let l = more q in omega arith
     go false more q = absurd (false≢true q)
 
--- what is printed where the first line is no question ..
-pub asked-unknown : (bs : List ℕ) → begins why bs ≡ false → asked bs ≡ noQuestion
+-- what is printed where the first line is `why`, ..
+pub asked-why : (bs : List ℕ) → begins (wordOf Why) bs ≡ true → asked bs ≡ saidBehind Why bs
 unfolding asked
-asked-unknown bs e = ap (λ (t : Bool). askedBy t bs) e
+asked-why bs e = ap (λ (t : Bool). askedBy t (begins (wordOf Longest) bs) bs) e
 
--- .. and where it is `why`
-pub asked-known : (bs : List ℕ) → begins why bs ≡ true → asked bs ≡ whyOf (numbersIn (wordsOf (drop (length why) bs)))
+-- .. where it is `longest`, ..
+pub asked-longest : (bs : List ℕ) → begins (wordOf Why) bs ≡ false → begins (wordOf Longest) bs ≡ true → asked bs ≡ saidBehind Longest bs
 unfolding asked
-asked-known bs e = ap (λ (t : Bool). askedBy t bs) e
+asked-longest bs e f = ap₂ (λ (t u : Bool). askedBy t u bs) e f
+
+-- .. and where it is no question
+pub asked-unknown : (bs : List ℕ) → begins (wordOf Why) bs ≡ false → begins (wordOf Longest) bs ≡ false → asked bs ≡ noQuestion
+unfolding asked
+asked-unknown bs e f = ap₂ (λ (t u : Bool). askedBy t u bs) e f
 
 -- so many bytes as the word has tell whether a text begins with it
 begins-enough : (word : List ℕ) (n : ℕ) (bs : List ℕ) → begins word (take (length word + n) bs) ≡ begins word bs
@@ -93,10 +100,15 @@ behind zero n bs = let e : 0 + n ≡ n = omega arith in ap (λ (m : ℕ). take m
 behind (suc k) n [] = ap (drop (suc k)) (take-nil (suc k + n)) ∙ sym (take-nil n)
 behind (suc k) n (b ∷ bs) = let e : suc k + n ≡ suc (k + n) = omega arith in ap (λ (m : ℕ). drop (suc k) (take m (b ∷ bs))) e ∙ behind k n bs
 
--- THEOREM (asked-enough): the first 2,172 bytes of an input decide all that is printed for it
+-- so are those of the longest question and a table for each question
+said-enough : (q : Question) (n : ℕ) (bs : List ℕ) → enoughBytes ≤ n → saidBehind q (take (length (wordOf q) + n) bs) ≡ saidBehind q bs
+said-enough q n bs h =
+    ap (λ (w : Words). saidTo q (numbersIn w))
+    (ap wordsOf (behind (length (wordOf q)) n bs) ∙ first-enough (drop (length (wordOf q)) bs) n h)
+
+-- THEOREM (asked-enough): the first 2,176 bytes of an input decide all that is printed for it
 pub asked-enough : (bs : List ℕ) → asked (take enoughAsked bs) ≡ asked bs
 unfolding asked
 asked-enough bs =
-    let words : wordsOf (drop (length why) (take enoughAsked bs)) ≡ wordsOf (drop (length why) bs) =
-    ap wordsOf (behind (length why) enoughBytes bs) ∙ first-enough (drop (length why) bs) enoughBytes (omega arith) in
-    λ i. cond (begins-enough why enoughBytes bs i) (whyOf (numbersIn (words i))) noQuestion
+    λ i. cond (begins-enough (wordOf Why) (4 + enoughBytes) bs i) (said-enough Why (4 + enoughBytes) bs (omega arith) i)
+    (cond (begins-enough (wordOf Longest) enoughBytes bs i) (said-enough Longest enoughBytes bs (omega arith) i) noQuestion)

@@ -1,2 +1,3 @@
--- The law behind `ask`: what `sentence` answers decides what is printed for a question.
+-- The laws behind `ask`: the lines of figures, and what decides all that is printed for a question.
+pub mod Figures
 pub mod Asking

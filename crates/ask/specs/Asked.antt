@@ -2,8 +2,9 @@
 use mathlib.Core.Bool.{Bool, cond}
 use mathlib.Core.List.{List, [], _∷_, _++_}
 use Prim.Native.Nat.{ℕ, _+_}
-use lib.ListN.{length, drop}
+use lib.ListN.{length, take, drop}
 use Rattle.table.specs.Limits.{mostHorizon}
+use Rattle.table.specs.Words.{tableOf}
 use Rattle.judge.specs.Said.{saidBy}
 use Rattle.judge.specs.Judged.{verdictOf}
 use Rattle.text.specs.Format.{newline, enoughBytes, wordsOf, numbersIn}
@@ -12,6 +13,10 @@ use Rattle.sentence.specs.Sentence.{said}
 use Rattle.sentence.specs.Waiting.{factsOf}
 use Rattle.sentence.specs.Reading.{begins}
 use Rattle.sentence.specs.Spoken.{Told, ofLength, refusedBy, spokenTold, spokenOf}
+use Rattle.longest.specs.Longest.{longestOf}
+use Rattle.ask.specs.declared.Question.{Question}
+use Rattle.ask.specs.declared.Question.the-variants.{Why, Longest}
+use Rattle.ask.specs.Figures.{figuresBy}
 
 -- the room for an answer: a sentence, of at most 700 bytes while ticks are at most 1,000,000,000, and a newline
 abbrev pub room : ℕ
@@ -26,22 +31,36 @@ whyBy (refusedBy n p) ws = firstLine (saidBy (verdictOf ws))
 unfoldable pub whyOf : List ℕ → List ℕ
 whyOf ws = whyBy (spokenTold (spokenOf ws room)) ws
 
--- the question `why`: its word and a newline
-abbrev pub why : List ℕ
-why = letters "why" ++ (newline ∷ [])
+-- the longest answer of each task, or the refusal
+unfoldable pub longestSaid : List ℕ → List ℕ
+longestSaid ws = figuresBy (longestOf ws .answer) (take (length (tableOf ws .tasks)) (longestOf ws .longest))
+
+-- what is said to a question on the words of a table
+abbrev pub saidTo : Question → List ℕ → List ℕ
+saidTo Why ws = whyOf ws
+saidTo Longest ws = longestSaid ws
+
+-- the word of a question and a newline
+abbrev pub wordOf : Question → List ℕ
+wordOf Why = letters "why" ++ (newline ∷ [])
+wordOf Longest = letters "longest" ++ (newline ∷ [])
+
+-- .. on the table that stands behind the word
+abbrev pub saidBehind : Question → List ℕ → List ℕ
+saidBehind q bs = saidTo q (numbersIn (wordsOf (drop (length (wordOf q)) bs)))
 
 -- what is said where the first line is no question
 abbrev pub noQuestion : List ℕ
 noQuestion = letters "no such question" ++ (newline ∷ [])
 
--- by whether the question is `why`
-abbrev pub askedBy : Bool → List ℕ → List ℕ
-askedBy known bs = cond known (whyOf (numbersIn (wordsOf (drop (length why) bs)))) noQuestion
+-- by whether the question is `why`, and whether it is `longest`
+abbrev pub askedBy : Bool → Bool → List ℕ → List ℕ
+askedBy isWhy isLongest bs = cond isWhy (saidBehind Why bs) (cond isLongest (saidBehind Longest bs) noQuestion)
 
 -- everything that is printed for the bytes of an input
 unfoldable pub asked : List ℕ → List ℕ
-asked bs = askedBy (begins why bs) bs
+asked bs = askedBy (begins (wordOf Why) bs) (begins (wordOf Longest) bs) bs
 
 -- how many bytes of an input are enough (`asked-enough`)
 abbrev pub enoughAsked : ℕ
-enoughAsked = length why + enoughBytes
+enoughAsked = length (wordOf Longest) + enoughBytes

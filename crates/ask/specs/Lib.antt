@@ -1,2 +1,3 @@
 -- What `ask` prints: one definition, of the whole input.
+pub mod Figures
 pub mod Asked

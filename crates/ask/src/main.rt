@@ -1,23 +1,38 @@
 // Answers a question on a table: the first line of standard input is the question's word, and the table follows, one decimal number a line.
-// The question `why` is answered by the miss in a sentence, and by the verdict's line where the table has no miss or is refused.
+// The question `why` is answered by the miss in a sentence, and by the verdict's line where the table has no miss or is refused;
+// `longest` by a line for each task, its position and the longest answer of its jobs, and by the refusal.
 ghost use mathlib.Core.Path.{_≡_};
 ghost use Prim.Native.Nat.{_≤_};
 ghost use lib.ListN.{length, take};
+ghost use Rattle.model.specs.Sizes.{mostTasks};
+ghost use Rattle.text.specs.Written.{Put};
+ghost use Rattle.text.specs.Format.{wordsOf, numbersIn};
 ghost use Rattle.stream.specs.Sent.{SentOf};
 ghost use Rattle.stream.specs.Answered.{Answered};
-ghost use Rattle.ask.specs.Asked.{room, whyOf, asked};
+ghost use Rattle.ask.specs.Figures.{figureLines};
+ghost use Rattle.ask.specs.Asked.{room, whyOf, longestSaid, saidTo, asked};
+use model::MOST_TASKS;
 use sentence::LONGEST;
 use sentence::Spoken;
 use sentence::reader;
 use stream::Reading;
 use stream::Sent;
+use table::Answer;
 use text::ENOUGH;
 
-// The bytes of the question and its newline.
-const QUESTION: usize = 4;
+// A question on a table.
+enum Question {
+    Why,
+    Longest,
+}
 
-// How many bytes of an input are enough to tell all that is printed for it: the question, and as many as a table takes.
-const INPUT: usize = QUESTION + ENOUGH;
+// The bytes of each question's word and its newline.
+const WHY: usize = 4;
+
+const FIGURES: usize = 8;
+
+// How many bytes of an input are enough to tell all that is printed for it: the longest question, and as many as a table takes.
+const INPUT: usize = FIGURES + ENOUGH;
 
 // The room for an answer: a sentence and a newline.
 const ROOM: usize = LONGEST + 1;
@@ -47,20 +62,78 @@ fn why(words: &[u32], line: &mut [u8]) -> usize
     }
 }
 
-// Writes the answer to the question on a table.
+// Writes a line for each of the first figures, its position and the figure, at the front of the lines; the answer is where they end.
+fn put_figures(figures: [u32; MOST_TASKS], count: usize, lines: &mut [u8]) -> usize
+    requires { ⌜ (count ≤ mostTasks) × (length (now lines) ≡ room) ⌝ }
+    ensures { λ r. ⌜ (Put (now (lines .entry)) 0 (figureLines 0 (take count figures)) (now (lines .exit)) r) × (r ≤ room) ⌝ }
+{
+    let mut at: usize = 0;
+    let mut place: usize = 0;
+    while place < count {
+        let middle = text::decimal::put(lines, at, place as u64 + 1);
+        let end = text::first::put_field(lines, middle, figures[place]);
+        lines[end] = b'\n';
+        at = end + 1;
+        place += 1;
+    }
+    at
+}
+
+// Writes the longest answer of each task at the front of the lines, or the refusal; the answer is where they end.
+fn longest(words: &[u32], lines: &mut [u8]) -> usize
+    requires { ⌜ length (now lines) ≡ room ⌝ }
+    ensures { λ r. ⌜ (r ≤ room) × (take r (now (lines .exit)) ≡ longestSaid (now (words .entry))) ⌝ }
+{
+    let found = longest::longest(words);
+    let answer = found.answer;
+    match answer {
+        Answer::Passed => {
+            let table = table::load(words);
+            let figures = found.longest;
+            put_figures(figures, table.count, lines)
+        }
+        Answer::Refused(number, position) => {
+            text::first::put_pair(lines, b"refused", number, position)
+        }
+    }
+}
+
+// Writes what is said to a question on a table at the front of the lines; the answer is where it ends.
+fn put(question: Question, words: &[u32], lines: &mut [u8]) -> usize
+    requires { ⌜ length (now lines) ≡ room ⌝ }
+    ensures { λ r. ⌜ (r ≤ room) × (take r (now (lines .exit)) ≡ saidTo question (now (words .entry))) ⌝ }
+{
+    match question {
+        Question::Why => why(words, lines),
+        Question::Longest => longest(words, lines),
+    }
+}
+
+// Prints what is said to a question on the table in these bytes.
+fn say(question: Question, bytes: &[u8]) -> Sent
+    ensures { λ r. ⌜ SentOf 0 (saidTo question (numbersIn (wordsOf (now (bytes .entry))))) r ⌝ }
+{
+    let input = text::read(bytes);
+    let words = input.words;
+    let count = input.count;
+    let mut lines = [0u8; ROOM];
+    let length = put(question, &words[..count], &mut lines);
+    stream::send(0, &lines[..length])
+}
+
+// Prints the answer to the question on a table.
 fn print(bytes: &[u8]) -> Sent
     ensures { λ r. ⌜ SentOf 0 (asked (now (bytes .entry))) r ⌝ }
 {
-    let known = reader::begins_with(bytes, 0, b"why\n");
-    if !known {
-        return stream::send(0, b"no such question\n");
+    let is_why = reader::begins_with(bytes, 0, b"why\n");
+    if is_why {
+        return say(Question::Why, &bytes[WHY..]);
     }
-    let input = text::read(&bytes[QUESTION..]);
-    let words = input.words;
-    let count = input.count;
-    let mut line = [0u8; ROOM];
-    let length = why(&words[..count], &mut line);
-    stream::send(0, &line[..length])
+    let is_longest = reader::begins_with(bytes, 0, b"longest\n");
+    if is_longest {
+        return say(Question::Longest, &bytes[FIGURES..]);
+    }
+    stream::send(0, b"no such question\n")
 }
 
 // Reads standard input until its end, or until it is longer than any question can be, and prints the answer; a read that fails is said, and nothing is printed.

@@ -6,6 +6,7 @@ pub mod Inverse
 mod Putting
 mod Keeping
 mod Sentences
+mod Longest
 pub mod Kept
 pub mod Listed
 pub mod Past
@@ -13,3 +14,4 @@ pub mod Fourteen
 pub mod Examples
 pub mod RunExamples
 pub mod SentenceExamples
+pub mod FigureExamples

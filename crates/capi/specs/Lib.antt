@@ -8,4 +8,5 @@ pub mod Lists
 pub mod Past
 pub mod Fourteen
 pub mod Sentences
+pub mod Figures
 pub mod Version

@@ -8,16 +8,19 @@ ghost use Rattle.capi.specs.Calls.{judgeCall, planCall};
 ghost use Rattle.capi.specs.Replays.{replayCall};
 ghost use Rattle.capi.specs.Runs.{startCall, rowCall, advanceCall, withdrawCall};
 ghost use Rattle.capi.specs.Sentences.{sentenceCall, factsCall};
+ghost use Rattle.capi.specs.Figures.{longestCall};
 ghost use Rattle.capi.specs.Version.{version};
+use model::MOST_TASKS;
 use model::ROW;
 
 mod facts; // facts.rt: the facts of a miss in a lent buffer of words
+mod figures; // figures.rt: a figure for each task in a lent buffer of words
 mod held; // held.rt: a run in a lent buffer of words
 mod replays; // replays.rt: what a replay says
 mod told; // told.rt: an answer in three words
 
 // The version of the library as one number: major * 10000 + minor * 100 + patch.
-const VERSION: u32 = 800;
+const VERSION: u32 = 900;
 
 // The version of the library that is linked; the header has that of the header.
 #[no_mangle]
@@ -211,6 +214,27 @@ pub extern "C" fn sivorandra_facts(bytes: &[u8], facts: &mut [u64], answer: &mut
     let held = found.facts;
     facts::put_facts(held, facts);
     let told = facts::of_found(found.found);
+    told::put(told, answer);
+    0
+}
+
+// The longest answer of each task of a table's words into the first 32 words of `figures`, 0 past the last task: case 0, or 3 Refused number position
+// and 32 zeros.
+#[no_mangle]
+pub extern "C" fn sivorandra_longest(words: &[u32], figures: &mut [u32], answer: &mut [u32]) -> u32
+    ensures { λ r. ⌜ record { value = r; lent = now (figures .exit) ∷ (now (answer .exit) ∷ []) } ≡ longestCall (now (words .entry)) (now (figures .entry)) (now (answer .entry)) ⌝ }
+{
+    if answer.len() < 3 {
+        return 1;
+    }
+    if figures.len() < MOST_TASKS {
+        return 1;
+    }
+    let found = longest::longest(words);
+    let longest = found.longest;
+    figures::put_figures(longest, figures);
+    let given = found.answer;
+    let told = figures::of_figures(given);
     told::put(told, answer);
     0
 }

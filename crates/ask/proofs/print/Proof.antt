@@ -1,45 +1,25 @@
--- `ask::print` meets its contract: the numbers of the text behind the question are asked about, and the line that answers is sent.
--- Assumes nothing.
-use native.Mathlib.Omega.{arith}
+-- `ask::print` meets its contract: the question is told by its word, and the table is the text behind it. Assumes nothing.
 use mathlib.Core.List.{List}
 use mathlib.Core.Path.{_≡_, sym, ap, subst, _∙_}
 use Prim.Native.Nat.{ℕ, _≤_}
-use lib.ListN.{length, drop}
-use lib.Seq.{length-take-le}
-use borrow.Author.Tests.{not-true, not-false}
+use lib.ListN.{length}
 use borrow.Rule.Slice.PartAt.{part-to-end}
-use Rattle.text.specs.Format.{mostNumbers, wordsOf}
-use Rattle.text.specs.Input.{inputOf}
-use Rattle.text.proofs.ReadOf.{numbers-read}
+use Rattle.text.specs.Format.{wordsOf, numbersIn}
 use Rattle.stream.specs.Sent.{SentOf}
-use Rattle.ask.specs.Asked.{whyOf, why}
-use Rattle.ask.proofs.Asking.{begins-long, asked-unknown, asked-known}
+use Rattle.ask.specs.declared.Question.the-variants.{Why, Longest}
+use Rattle.ask.specs.Asked.{wordOf, saidTo}
+use Rattle.ask.proofs.Asking.{begins-long, asked-why, asked-longest, asked-unknown}
 use borrow.Author.Needs.{needs}
 use Rattle.ask.proofs.print.Statement.{statement}
 use Rattle.ask.proofs.print.Tie as tie
 
--- the state after `begins-with`
-abbrev begins-with : tie.After-send → tie.After-begins-with
-begins-with c = c .before .before .before
-
--- the state after `why`
-abbrev why-from-send2 : tie.After-send2 → tie.After-why
-why-from-send2 c = c .before .before .before
-
 -- the state at the call
-abbrev entry-from-else1 : tie.Else1 → tie.Start
-entry-from-else1 c = c .before .before .before .before
+abbrev entry : tie.After-begins-with → tie.Start
+entry c = c .before .before .before
 
-abbrev entry-from-send : tie.After-send → tie.Start
-entry-from-send c = begins-with c .before .before .before
-
--- the state after `read`
-abbrev read : tie.After-send2 → tie.After-read
-read c = why-from-send2 c .before .before .before .before
-
--- the state where the test `if1` fails
-abbrev else1 : tie.After-send2 → tie.Else1
-else1 c = read c .before .before
+-- the state after the first `begins-with`
+abbrev first : tie.After-begins-with2 → tie.After-begins-with
+first c = c .before .before .before
 
 slice-aggregate-begins-with : tie.Need-slice-aggregate-begins-with
 slice-aggregate-begins-with c = search needs
@@ -47,70 +27,76 @@ slice-aggregate-begins-with c = search needs
 begins-with-requires : tie.Need-begins-with-requires
 begins-with-requires c κs = search needs
 
+-- the question `why` stands in front
+why-in-reach : (c : tie.Then1) → length (wordOf Why) ≤ length (entry (c .before) .args .bytes .now)
+why-in-reach c = begins-long (wordOf Why) (entry (c .before) .args .bytes .now) (sym (c .before .begins-with .ensures) ∙ c .if1 .taken)
+
+sub-say : tie.Need-sub-say
+sub-say c = why-in-reach c
+
+part-say-start : tie.Need-part-say-start
+part-say-start c = why-in-reach c
+
+part-say-end : tie.Need-part-say-end
+part-say-end c = search needs
+
+say-requires : tie.Need-say-requires
+say-requires c κs = search needs
+
+returns : tie.Need-returns
+returns c =
+    let b = c .before .before .before in
+    let bs = entry b .args .bytes .now in
+    subst (λ (l : List ℕ). SentOf 0 l (c .say .result))
+    (ap (λ (l : List ℕ). saidTo Why (numbersIn (wordsOf l))) (part-to-end bs (length (wordOf Why)))
+    ∙ sym (asked-why bs (sym (b .begins-with .ensures) ∙ c .before .before .if1 .taken)))
+    (c .say .ensures)
+
+slice-aggregate-begins-with-2 : tie.Need-slice-aggregate-begins-with-2
+slice-aggregate-begins-with-2 c = search needs
+
+begins-with-requires-2 : tie.Need-begins-with-requires-2
+begins-with-requires-2 c κs = search needs
+
+-- the question `longest` stands in front
+longest-in-reach : (c : tie.Then2) → length (wordOf Longest) ≤ length (entry (first (c .before)) .args .bytes .now)
+longest-in-reach c = begins-long (wordOf Longest) (entry (first (c .before)) .args .bytes .now) (sym (c .before .begins-with2 .ensures) ∙ c .if2 .taken)
+
+sub-say-2 : tie.Need-sub-say-2
+sub-say-2 c = longest-in-reach c
+
+part-say-start-2 : tie.Need-part-say-start-2
+part-say-start-2 c = longest-in-reach c
+
+part-say-end-2 : tie.Need-part-say-end-2
+part-say-end-2 c = search needs
+
+say-requires-2 : tie.Need-say-requires-2
+say-requires-2 c κs = search needs
+
+returns-2 : tie.Need-returns-2
+returns-2 c =
+    let b = c .before .before .before in
+    let bs = entry (first b) .args .bytes .now in
+    let not-why = sym (first b .begins-with .ensures) ∙ b .before .before .if1 .left in
+    subst (λ (l : List ℕ). SentOf 0 l (c .say2 .result))
+    (ap (λ (l : List ℕ). saidTo Longest (numbersIn (wordsOf l))) (part-to-end bs (length (wordOf Longest)))
+    ∙ sym (asked-longest bs not-why (sym (b .begins-with2 .ensures) ∙ c .before .before .if2 .taken)))
+    (c .say2 .ensures)
+
 slice-aggregate-send : tie.Need-slice-aggregate-send
 slice-aggregate-send c = search needs
 
 send-requires : tie.Need-send-requires
 send-requires c κs = search needs
 
-returns : tie.Need-returns
-returns c =
-    let bs = entry-from-send c .args .bytes .now in
-    let b = begins-with c .begins-with in
-    subst (λ (l : List ℕ). SentOf 0 l (c .send .result)) (sym (asked-unknown bs (sym (b .ensures) ∙ not-true _ (c .before .before .if1 .taken)))) (c .send .ensures)
-
--- the question stands in front
-in-reach : (c : tie.Else1) → length why ≤ length (entry-from-else1 c .args .bytes .now)
-in-reach c = begins-long why (entry-from-else1 c .args .bytes .now) (sym (c .before .begins-with .ensures) ∙ not-false _ (c .if1 .left))
-
-sub-read : tie.Need-sub-read
-sub-read c = in-reach c
-
-part-read-start : tie.Need-part-read-start
-part-read-start c = in-reach c
-
-part-read-end : tie.Need-part-read-end
-part-read-end c = search needs
-
-read-requires : tie.Need-read-requires
-read-requires c κs = search needs
-
-array-share-prefix-words : tie.Need-array-share-prefix-words
-array-share-prefix-words c = let w : length (c .before .read .result .words) ≡ mostNumbers = search needs in omega (arith, c .before .read .ensures .most, w)
-
-slice-aggregate-why : tie.Need-slice-aggregate-why
-slice-aggregate-why c =
-    let w : length (c .before .before .read .result .words) ≡ mostNumbers = search needs in
-    sym (length-take-le (c .before .before .read .result .count) _ (omega (arith, c .before .before .read .ensures .most, w)))
-
-slice-aggregate-why-2 : tie.Need-slice-aggregate-why-2
-slice-aggregate-why-2 c = search needs
-
-why-requires : tie.Need-why-requires
-why-requires c κs = search needs
-
-array-share-prefix-line : tie.Need-array-share-prefix-line
-array-share-prefix-line c = search needs
-
-slice-aggregate-send-2 : tie.Need-slice-aggregate-send-2
-slice-aggregate-send-2 c =
-    let h = c .before .before .why in
-    sym (length-take-le (h .result) (h .last .1 .0) (array-share-prefix-line (c .before)))
-
-send-requires-2 : tie.Need-send-requires-2
-send-requires-2 c κs = search needs
-
-returns-2 : tie.Need-returns-2
-returns-2 c =
-    let e = else1 c in
-    let bs = entry-from-else1 e .args .bytes .now in
-    let r = read c .read in
-    let b = e .before .begins-with in
-    let y = why-from-send2 c .why in
-    let numbers = numbers-read (r .result) (drop (length why) bs) (r .ensures .value ∙ ap (λ (l : List ℕ). inputOf (wordsOf l)) (part-to-end bs (length why))) in
-    subst (λ (l : List ℕ). SentOf 0 l (c .send2 .result))
-    (y .ensures .1 ∙ (ap whyOf numbers ∙ sym (asked-known bs (sym (b .ensures) ∙ not-false _ (e .if1 .left)))))
-    (c .send2 .ensures)
+returns-3 : tie.Need-returns-3
+returns-3 c =
+    let b = c .before .before .before in
+    let bs = entry (first b) .args .bytes .now in
+    let not-why = sym (first b .begins-with .ensures) ∙ b .before .before .if1 .left in
+    let not-longest = sym (b .begins-with2 .ensures) ∙ c .before .before .if2 .left in
+    subst (λ (l : List ℕ). SentOf 0 l (c .send .result)) (sym (asked-unknown bs not-why not-longest)) (c .send .ensures)
 
 pub print-spec : {M : Type 1} → statement M
 print-spec =
@@ -118,18 +104,18 @@ print-spec =
     (tie.spec
     slice-aggregate-begins-with
     begins-with-requires
+    sub-say
+    part-say-start
+    part-say-end
+    say-requires
+    returns
+    slice-aggregate-begins-with-2
+    begins-with-requires-2
+    sub-say-2
+    part-say-start-2
+    part-say-end-2
+    say-requires-2
+    returns-2
     slice-aggregate-send
     send-requires
-    returns
-    sub-read
-    part-read-start
-    part-read-end
-    read-requires
-    array-share-prefix-words
-    slice-aggregate-why
-    slice-aggregate-why-2
-    why-requires
-    array-share-prefix-line
-    slice-aggregate-send-2
-    send-requires-2
-    returns-2)
+    returns-3)

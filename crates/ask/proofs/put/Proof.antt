@@ -1,0 +1,67 @@
+-- `ask::put` meets its contract: each question has its function. Assumes nothing.
+use mathlib.Core.Path.{sym, ap, _∙_}
+use denote.Ref.{now}
+use Rattle.ask.specs.declared.Question.{Question}
+use Rattle.ask.specs.Asked.{saidTo}
+use borrow.Author.Needs.{needs}
+use Rattle.ask.proofs.put.Statement.{statement}
+use Rattle.ask.proofs.put.Tie as tie
+
+-- the state where the question is known
+abbrev told : tie.After-why → tie.After-enum-told
+told c = c .before .before
+
+abbrev told-2 : tie.After-longest → tie.After-enum-told2
+told-2 c = c .before .before
+
+-- the state at the call
+abbrev entry : tie.After-enum-told → tie.Start
+entry c = c .before .before .before .before
+
+abbrev entry-2 : tie.After-enum-told2 → tie.Start
+entry-2 c = c .before .before .before .before
+
+enum-told : tie.Need-enum-told
+enum-told c = search needs
+
+why-requires : tie.Need-why-requires
+why-requires c κs = search needs
+
+enum-told-2 : tie.Need-enum-told-2
+enum-told-2 c = search needs
+
+longest-requires : tie.Need-longest-requires
+longest-requires c κs = search needs
+
+same-length : tie.Need-same-length
+same-length c = search needs
+
+returns : tie.Need-returns
+returns c =
+    let y = c .before .before in
+    let t = told y in
+    let ws = now (entry t .args .words) in
+    (y .why .ensures .0, y .why .ensures .1 ∙ ap (λ (q : Question). saidTo q ws) (sym (t .enum-told .given .1)))
+
+same-length-2 : tie.Need-same-length-2
+same-length-2 c = search needs
+
+returns-2 : tie.Need-returns-2
+returns-2 c =
+    let y = c .before .before in
+    let t = told-2 y in
+    let ws = now (entry-2 t .args .words) in
+    (y .longest .ensures .0, y .longest .ensures .1 ∙ ap (λ (q : Question). saidTo q ws) (sym (t .enum-told2 .given .1)))
+
+pub put-spec : {M : Type 1} → statement M
+put-spec =
+    tie.close
+    (tie.spec
+    enum-told
+    why-requires
+    enum-told-2
+    longest-requires
+    same-length
+    returns
+    same-length-2
+    returns-2)

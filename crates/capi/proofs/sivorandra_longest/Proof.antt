@@ -1,0 +1,78 @@
+-- `capi::sivorandra_longest` meets its contract: the figures and the answer are put where there is room.
+-- Assumes nothing.
+use mathlib.Core.Path.{sym, ap, _∙_}
+use Rattle.capi.specs.declared.told.Told.{Told}
+use Rattle.capi.specs.Told.{written}
+use Rattle.capi.proofs.Longest.{longest-narrow, longest-short, longest-room}
+use borrow.Author.Needs.{needs}
+use Rattle.capi.proofs.sivorandra_longest.Statement.{statement}
+use Rattle.capi.proofs.sivorandra_longest.Tie as tie
+
+-- the state at the call
+abbrev entry : tie.After-slice-known2 → tie.Start
+entry c = c .before .before .before
+
+-- the state after `put-figures`
+abbrev put-figures : tie.After-of-figures → tie.After-put-figures
+put-figures c = c .before .before .before
+
+-- the state after `longest`
+abbrev longest : tie.After-put-figures → tie.After-longest
+longest c = c .before .before .before
+
+returns : tie.Need-returns
+returns c =
+    let a = entry (c .before) .args in
+    sym (longest-narrow (a .words .now) (a .figures .now) (a .answer .now) (c .if1 .taken))
+
+returns-2 : tie.Need-returns-2
+returns-2 c =
+    let a = entry (c .before .before) .args in
+    sym (longest-short (a .words .now) (a .figures .now) (a .answer .now) (c .before .if1 .left) (c .if2 .taken))
+
+longest-requires : tie.Need-longest-requires
+longest-requires c κs = search needs
+
+put-figures-requires : tie.Need-put-figures-requires
+put-figures-requires c κs = search needs
+
+of-figures-requires : tie.Need-of-figures-requires
+of-figures-requires c κs = search needs
+
+put-requires : tie.Need-put-requires
+put-requires c κs = search needs
+
+same-length : tie.Need-same-length
+same-length c = search needs
+
+same-length-2 : tie.Need-same-length-2
+same-length-2 c = search needs
+
+returns-3 : tie.Need-returns-3
+returns-3 c =
+    let p = c .before .before in
+    let o = p .before .before in
+    let r = put-figures o in
+    let s = longest r in
+    let e = s .before in
+    let a = entry (e .before .before) .args in
+    longest-room (a .words .now) (a .figures .now) (a .answer .now) (s .longest .result)
+    (e .before .if1 .left)
+    (e .if2 .left)
+    (s .longest .ensures .value)
+    (r .put-figures .ensures)
+    (p .put .ensures ∙ ap (λ (t : Told). written t (a .answer .now)) (o .of-figures .ensures))
+
+pub sivorandra-longest-spec : {M : Type 1} → statement M
+sivorandra-longest-spec =
+    tie.close
+    (tie.spec
+    returns
+    returns-2
+    longest-requires
+    put-figures-requires
+    of-figures-requires
+    put-requires
+    same-length
+    same-length-2
+    returns-3)
