@@ -26,7 +26,7 @@ enum-known-phase-4 : tie.Need-enum-known-phase-4
 enum-known-phase-4 c = search needs
 
 returns : tie.Need-returns
-returns c = simp (c .before .before .phase .given .1)
+returns c = simp (c .before .before .before .phase .given .1)
 
 returns-2 : tie.Need-returns-2
 returns-2 c = simp (phase2 c .phase2 .given .1)
