@@ -2,7 +2,7 @@
 ghost use mathlib.Core.Path.{_≡_};
 ghost use Rattle.model.specs.Task.{ruleOf};
 ghost use Rattle.phase.specs.Phase.{resting, holding, ended, worked, nextStand};
-ghost use Rattle.phase.specs.Task.{taskOf, standing, nextTask};
+ghost use Rattle.phase.specs.Task.{taskOf, nextTask};
 ghost use Rattle.phase.specs.Headroom.{Roomy};
 use crate::Phase;
 use crate::Stand;
@@ -106,10 +106,14 @@ impl Task {
         }
     }
 
-    // The task where it stands.
-    fn at(self, stand: Stand) -> Task
-        ensures { λ r. ⌜ r ≡ standing stand (taskOf self) ⌝ }
+    // The task one tick on, by whether its job is empty if it is released in this tick, whether it has cores and whether it is reported.
+    pub fn next(self, rule: u32, empty: bool, ran: bool, reported: bool) -> Task
+        requires { ⌜ Roomy (self .phase) ⌝ }
+        ensures { λ r. ⌜ r ≡ nextTask (ruleOf rule) empty ran reported self ⌝ }
     {
+        let old = self.phase;
+        let seen = old.seen(rule, empty);
+        let stand = self.stepped(rule, ran, reported, seen);
         let phase = stand.phase;
         Task {
             offset: self.offset,
@@ -121,16 +125,5 @@ impl Task {
             even: stand.even,
             phase: phase,
         }
-    }
-
-    // The task one tick on, by whether its job is empty if it is released in this tick, whether it has cores and whether it is reported.
-    pub fn next(self, rule: u32, empty: bool, ran: bool, reported: bool) -> Task
-        requires { ⌜ Roomy (self .phase) ⌝ }
-        ensures { λ r. ⌜ r ≡ nextTask (ruleOf rule) empty ran reported self ⌝ }
-    {
-        let old = self.phase;
-        let seen = old.seen(rule, empty);
-        let stand = self.stepped(rule, ran, reported, seen);
-        self.at(stand)
     }
 }

@@ -12,11 +12,8 @@ seen-requires c κs = search needs
 stepped-requires : tie.Need-stepped-requires
 stepped-requires c κs = rw (c .seen .ensures) (seen-roomy (ruleOf (c .before .args .rule)) (c .before .args .empty) (c .before .args .self .phase) (c .before .pre))
 
-at-requires : tie.Need-at-requires
-at-requires c κs = search needs
-
 returns : tie.Need-returns
-returns c = simp (c .at .ensures, c .before .stepped .ensures, c .before .before .seen .ensures)
+returns c = simp (c .stepped .ensures, c .before .seen .ensures)
 
 pub next-spec : {M : Type 1} → statement M
-next-spec = tie.close (tie.spec seen-requires stepped-requires at-requires returns)
+next-spec = tie.close (tie.spec seen-requires stepped-requires returns)
