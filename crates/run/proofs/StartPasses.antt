@@ -71,7 +71,7 @@ module _ (ws : List ℕ) (none : NoneApplies ws) where
     withdrawn = within-none (length (tableOf ws .tasks));
     tasks = λ p l. rw (at p l, same-cores, same-fence) (task-in p l);
     phases = λ p l.
-        subst (λ (t : Task). PhaseIn (model.ruleOf (rule ws)) (taskOf t) (t .phase)) (sym (at p l))
+        subst (λ (t : Task). PhaseIn (model.ruleOf (rule ws)) (taskOf t) (t .even) (t .phase)) (sym (at p l))
         (start-in (model.ruleOf (rule ws)) (task (tableOf ws) p) (passed-sound ws none p l));
   }
     where
