@@ -8,6 +8,7 @@ pub mod Parts
 pub mod Served
 pub mod Turn
 pub mod Tied
+pub mod Turned
 pub mod Bell
 pub mod Late
 pub mod Walk
