@@ -1,13 +1,14 @@
 -- One tick as code takes it is the step of the definitions: the due moments looked at or the bell not rung, the choice kept or made anew.
-use mathlib.Core.Path.{_≡_, sym, ap, ap₂, _∙_}
-use mathlib.Core.Bool.{Bool, true, false, cond}
+use mathlib.Core.Path.{_≡_, refl, sym, ap, ap₂, _∙_}
+use mathlib.Core.Bool.{Bool, true, false, not, _&&_, _||_, cond}
 use Prim.Native.Nat.{ℕ, _+_, _^_, _≤_, _<_}
-use lib.Dec.{leb}
-use borrow.Author.Tests.{le-leb, lt-leb}
+use lib.Dec.{eqb, leb}
+use borrow.Author.Tests.{eqb-true, le-leb, lt-leb}
 use Rattle.model.specs.Fence.{unfenced}
 use Rattle.model.specs.Search.{bit}
 use Rattle.model.specs.Task.{ruleOf}
 use Rattle.model.specs.Grants.{claimants}
+use Rattle.model.proofs.Bools.{and-left, and-right}
 use Rattle.rule.specs.Shares.{granted}
 use Rattle.rule.specs.Widths.{widthsIn}
 use Rattle.full.specs.Machine.{Machine, releasedDue, earliest, DueMoments, worked}
@@ -47,6 +48,26 @@ module _ (n : Numbers) (s : Stand) where
   pub even-skipped : s .tick < s .bell → s .even ≡ evenAfter n s
   even-skipped l =
       sym (turned-none (n .paired) (s .even) (s .machine .claiming)) ∙ even-looked (s .machine .claiming) (ap (λ (m : Machine). m .claiming) (due-skipped l .0))
+
+  -- whether the claimants or their widths have changed
+  pub unchanged-by :
+      (c e : ℕ) (b : Bool) → c ≡ after n s .claiming → e ≡ evenAfter n s → not (eqb c (s .chosen)) || not (eqb e (s .even)) ≡ b → unchanged n s ≡ not b
+  unchanged-by c e b x y h =
+      ap₂ (λ (u v : ℕ). eqb u (s .chosen) && eqb v (s .even)) (sym x) (sym y)
+      ∙ (both (eqb c (s .chosen)) (eqb e (s .even)) ∙ ap not h)
+    where
+      both : (u v : Bool) → u && v ≡ not (not u || not v)
+      both true true = refl
+      both true false = refl
+      both false v = refl
+
+  pub unchanged-claims : unchanged n s ≡ true → after n s .claiming ≡ s .chosen
+  unchanged-claims h =
+      eqb-true (after n s .claiming) (s .chosen) (and-left (eqb (after n s .claiming) (s .chosen)) (eqb (evenAfter n s) (s .even)) h)
+
+  pub unchanged-even : unchanged n s ≡ true → evenAfter n s ≡ s .even
+  unchanged-even h =
+      eqb-true (evenAfter n s) (s .even) (and-right (eqb (after n s .claiming) (s .chosen)) (eqb (evenAfter n s) (s .even)) h)
 
   granted-by : (b : Bool) → unchanged n s ≡ b → cond b (s .granted) (choice n (after n s .claiming) (evenAfter n s)) ≡ grantedIn n s
   unfolding grantedIn
