@@ -25,9 +25,13 @@ use Rattle.leap.proofs.stand.leap.Tie as tie
 abbrev joined2 : tie.After-shortest → tie.Joined2
 joined2 c = c .before .before .before
 
+-- the state where the ways of the test `if1` meet
+abbrev joined1 : tie.Joined2 → tie.Joined1
+joined1 c = c .before .before
+
 -- the state at the call
 abbrev entry-from-joined2 : tie.Joined2 → tie.Start
-entry-from-joined2 c = c .before .before .before
+entry-from-joined2 c = joined1 c .before .before
 
 abbrev entry-from-turn-due-arg : tie.After-turn-due-arg → tie.Start
 entry-from-turn-due-arg c = c .before .before .before
@@ -56,7 +60,7 @@ after-of c =
     ⊎-elim
     (λ w.
     let d = due-looked (nums s) (stand s) _ _ (w .0 .taken) (w .2 .ensures) (w .4 .ensures) in
-    record { machines = ap₂ machineOf (w .5) (w .6) ∙ d .machines; bell = w .7 ∙ d .bell; even = w .8 ∙ d .even })
+    record { machines = ap₂ machineOf (w .7) (w .8) ∙ d .machines; bell = w .9 ∙ d .bell; even = w .10 ∙ d .even })
     (λ w.
     let d = due-skipped (nums s) (stand s) (w .0 .left) in
     record { machines = ap₂ machineOf (w .1) (w .2) ∙ d .machines; bell = w .3 ∙ d .bell; even = w .4 ∙ d .even })
@@ -70,7 +74,7 @@ claims-of c = ap (λ (m : Machine). m .claiming) (after-of c .machines)
 granted-of : (c : tie.Joined2) → c .if2 .granted ≡ grantedIn (nums (entry-from-joined2 c)) (stand (entry-from-joined2 c))
 granted-of c =
     let s = entry-from-joined2 c in
-    let j = c .before in
+    let j = joined1 c in
     let even = j .if1 .even in
     ⊎-elim
     (λ w. w .4 ∙ chosen-anew (nums s) (stand s) (j .if1 .claiming) even _ (claims-of j) (after-of j .even) (w .0 .taken) (w .2 .ok)
@@ -82,7 +86,7 @@ granted-of c =
 chosen-of : (c : tie.Joined2) → c .if2 .chosen ≡ after (nums (entry-from-joined2 c)) (stand (entry-from-joined2 c)) .claiming
 chosen-of c =
     let s = entry-from-joined2 c in
-    let j = c .before in
+    let j = joined1 c in
     ⊎-elim
     (λ w. w .3 ∙ claims-of j)
     (λ w. w .1 ∙ kept-for (nums s) (stand s) (j .if1 .claiming) (j .if1 .even) (claims-of j) (after-of j .even) (w .0 .left))
@@ -94,7 +98,7 @@ ticks-of :
     → c .shortest .result ≡ ticksIn (nums (entry-from-joined2 (joined2 c))) (stand (entry-from-joined2 (joined2 c)))
 ticks-of c =
     let k = joined2 c in
-    let j = k .before in
+    let j = joined1 k in
     let s = j .before .before in
     ticks-are (nums s) (stand s) (machineOf (j .if1 .places) (j .if1 .claiming)) (j .if1 .bell) (k .if2 .granted) (c .shortest .result) (after-of j .machines)
     (after-of j .bell) (granted-of k) (c .shortest .ensures)
@@ -113,7 +117,7 @@ choose-requires c κs = search needs
 
 sub-shortest : tie.Need-sub-shortest
 sub-shortest c =
-    let j = c .before .before in
+    let j = joined1 (c .before) in
     omega (arith, after-of j .bell, going (j .before .before) .before)
 
 shortest-requires : tie.Need-shortest-requires
@@ -123,7 +127,7 @@ pass-requires : tie.Need-pass-requires
 pass-requires c κs =
     let h = c .before in
     let k = joined2 h in
-    let j = k .before in
+    let j = joined1 k in
     let s = j .before .before in
     let g = going s in
     subst₂ (λ (x : ℕ) (m : Machine). Owing (h .shortest .result) (bit x) m) (sym (granted-of k)) (sym (after-of j .machines))
@@ -132,7 +136,7 @@ pass-requires c κs =
 add-landed : tie.Need-add-landed
 add-landed c =
     let h = c .before .before in
-    let j = joined2 h .before in
+    let j = joined1 (joined2 h) in
     let g = going (j .before .before) in
     omega (arith, ticks-of h, g .short .within, g .before, after-of j .bell)
 
@@ -143,7 +147,7 @@ returns : tie.Need-returns
 returns c =
     let h = shortest c in
     let k = joined2 h in
-    let j = k .before in
+    let j = joined1 k in
     let s = j .before .before in
     let value =
     leap-taken (nums s) (stand s) (machineOf (j .if1 .places) (j .if1 .claiming)) _ (j .if1 .bell) (k .if2 .chosen) (k .if2 .granted) (j .if1 .even) (h .shortest .result)
