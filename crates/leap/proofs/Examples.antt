@@ -115,12 +115,14 @@ pub reached :
     (ticks 7 (loaded 1 1 (task-of 0 1 1 3 5 ∷ [])) ≡ 0 ∷ 1 ∷ 3 ∷ 5 ∷ 6 ∷ 8 ∷ 10 ∷ [])
     × (ticks 4 (loaded 1 1 (task-of 0 1 2 2 2 ∷ [])) ≡ 0 ∷ 2 ∷ 4 ∷ 6 ∷ [])
     × (ticks 4 (loaded 1 1 (task-of 3 1 1 1 2 ∷ [])) ≡ 0 ∷ 3 ∷ 4 ∷ 5 ∷ [])
-unfolding leaps leapt ticksIn grantedIn evenAfter bellAfter after passed fewest looked released dueAt soonest pairedIn widthsIn each setOf grants claimants given left kept upFrom
+unfolding leaps leapt ticksIn grantedIn evenAfter bellAfter after passed fewest looked released dueAt soonest pairedIn widthsIn each setOf
+    grants claimants given left kept upFrom
 reached = (refl, refl, refl)
 
 -- and of two tasks: the second ends at 4, after the first has ended at 2 and made room
 pub reached-by-two : ticks 6 (loaded 2 1 (task-of 0 2 2 6 6 ∷ task-of 0 1 2 5 6 ∷ [])) ≡ 0 ∷ 2 ∷ 4 ∷ 5 ∷ 6 ∷ 8 ∷ []
-unfolding leaps leapt ticksIn grantedIn evenAfter bellAfter after passed fewest looked released dueAt soonest pairedIn widthsIn each setOf grants claimants given left kept upFrom
+unfolding leaps leapt ticksIn grantedIn evenAfter bellAfter after passed fewest looked released dueAt soonest pairedIn widthsIn each setOf
+    grants claimants given left kept upFrom
 reached-by-two = refl
 
 -- TWO WIDTHS (request 108)
@@ -136,7 +138,8 @@ turning = loaded 2 1 (task-of₂ 0 1 2 2 2 2 ∷ task-of 0 1 3 6 6 ∷ [])
 
 pub reached-turning :
     (ticks 5 turning ≡ 0 ∷ 2 ∷ 4 ∷ 5 ∷ 6 ∷ []) × (choices 3 turning ≡ (3, 3, 0) ∷ (3, 1, 1) ∷ (3, 3, 0) ∷ [])
-unfolding leaps leapt ticksIn grantedIn evenAfter bellAfter after passed fewest looked released dueAt soonest pairedIn widthsIn each setOf grants claimants given left kept upFrom
+unfolding leaps leapt ticksIn grantedIn evenAfter bellAfter after passed fewest looked released dueAt soonest pairedIn widthsIn each setOf
+    grants claimants given left kept upFrom
 reached-turning = (refl, refl)
 
 -- the second task's even job does not fit beside the first: it is late at 7, in the second half of 2T, and was not at 3
@@ -148,5 +151,6 @@ abbrev owed : ℕ → Loaded → List ℕ
 owed n x = map (λ i. getD (leaps x i .machine .left) 1 0) (upFrom 0 n)
 
 pub late-in-second-half : (ticks 5 half ≡ 0 ∷ 2 ∷ 3 ∷ 4 ∷ 7 ∷ []) × (owed 5 half ≡ 0 ∷ 0 ∷ 0 ∷ 0 ∷ 2 ∷ []) × (leaps half 4 .due ≡ 2)
-unfolding leaps leapt ticksIn grantedIn evenAfter bellAfter after passed fewest looked released dueAt soonest pairedIn widthsIn each setOf grants claimants given left kept upFrom
+unfolding leaps leapt ticksIn grantedIn evenAfter bellAfter after passed fewest looked released dueAt soonest pairedIn widthsIn each setOf
+    grants claimants given left kept upFrom
 late-in-second-half = (refl, refl, refl)

@@ -145,7 +145,8 @@ module _
     -- what the k ticks enter at place p
     line-at : (j : ℕ) → j < k → (p : ℕ) → lineOn (s .rule) (task s p) (t + j) (granted p) (full s (t + j) .job p) ≡ full s (suc (t + j)) .job p
     line-at j b p =
-        ap (λ (w : Bool). lineOn (s .rule) (task s p) (t + j) w (full s (t + j) .job p)) (sym (same-at (t + j) j (newest-is j b) (quiet j b) p)) ∙ line-next s (t + j) p
+        ap (λ (w : Bool). lineOn (s .rule) (task s p) (t + j) w (full s (t + j) .job p)) (sym (same-at (t + j) j (newest-is j b) (quiet j b) p))
+        ∙ line-next s (t + j) p
 
     left-is : (p j : ℕ) (x : Bool) → x ≡ true → cond x (L p - j) (L p) ≡ L p - j
     left-is p j true q = refl

@@ -64,7 +64,8 @@ pub fn leap(
     places: &mut [u32; TRIPLE],
 ) -> Pace
     requires { ⌜ ((t : Loaded) × Begins t (numbersBy setting (now widths) (now times)) (standAt pace (now places))) ⌝ }
-    ensures { λ r. ⌜ LeapOf (numbersBy setting (now (widths .entry)) (now (times .entry))) (standAt pace (now (places .entry))) (standAt r (now (places .exit))) ⌝ }
+    ensures { λ r. ⌜ LeapOf (numbersBy setting (now (widths .entry)) (now (times .entry)))
+        (standAt pace (now (places .entry))) (standAt r (now (places .exit))) ⌝ }
 {
     let tick = pace.tick;
     let mut claiming = pace.claiming;

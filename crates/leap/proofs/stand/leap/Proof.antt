@@ -54,7 +54,9 @@ going : (s : tie.Start) → Goes (nums s) (stand s)
 going s = goes (s .pre .0) (nums s) (stand s) (s .pre .1)
 
 -- after the due places
-after-of : (c : tie.Joined1) → Seen (nums (c .before .before)) (stand (c .before .before)) (machineOf (c .if1 .places) (c .if1 .claiming)) (c .if1 .bell) (c .if1 .even)
+after-of :
+    (c : tie.Joined1)
+    → Seen (nums (c .before .before)) (stand (c .before .before)) (machineOf (c .if1 .places) (c .if1 .claiming)) (c .if1 .bell) (c .if1 .even)
 after-of c =
     let s = c .before .before in
     ⊎-elim
@@ -74,12 +76,15 @@ claims-of c = ap (λ (m : Machine). m .claiming) (after-of c .machines)
 granted-of : (c : tie.Joined2) → c .if2 .granted ≡ grantedIn (nums (entry-from-joined2 c)) (stand (entry-from-joined2 c))
 granted-of c =
     let s = entry-from-joined2 c in
+    let n = nums s in
     let j = joined1 c in
+    let claiming = j .if1 .claiming in
     let even = j .if1 .even in
     ⊎-elim
-    (λ w. w .4 ∙ chosen-anew (nums s) (stand s) (j .if1 .claiming) even _ (claims-of j) (after-of j .even) (w .0 .taken) (w .2 .ok)
-    (λ q. w .2 .ensures q ∙ granted-open (ruleOf (nums s .rule)) (claimants (widthsIn even (nums s .widths)) (bit (j .if1 .claiming))) _ (nums s .fence) (nums s .cores) (going s .narrow) (w .1 .ensures) q))
-    (λ w. w .2 ∙ chosen-kept (nums s) (stand s) (j .if1 .claiming) even (claims-of j) (after-of j .even) (w .0 .left))
+    (λ w. w .4 ∙ chosen-anew n (stand s) claiming even _ (claims-of j) (after-of j .even) (w .0 .taken) (w .2 .ok)
+    (λ q. w .2 .ensures q
+    ∙ granted-open (ruleOf (n .rule)) (claimants (widthsIn even (n .widths)) (bit claiming)) _ (n .fence) (n .cores) (going s .narrow) (w .1 .ensures) q))
+    (λ w. w .2 ∙ chosen-kept n (stand s) claiming even (claims-of j) (after-of j .even) (w .0 .left))
     (c .if2 .came)
 
 -- and for whom they were chosen
@@ -150,8 +155,8 @@ returns c =
     let j = joined1 k in
     let s = j .before .before in
     let value =
-    leap-taken (nums s) (stand s) (machineOf (j .if1 .places) (j .if1 .claiming)) _ (j .if1 .bell) (k .if2 .chosen) (k .if2 .granted) (j .if1 .even) (h .shortest .result)
-    (c .due-by .result) (after-of j) (chosen-of k) (granted-of k) (ticks-of h) (c .before .before .pass .ensures) (c .due-by .ensures) in
+    leap-taken (nums s) (stand s) (machineOf (j .if1 .places) (j .if1 .claiming)) _ (j .if1 .bell) (k .if2 .chosen) (k .if2 .granted) (j .if1 .even)
+    (h .shortest .result) (c .due-by .result) (after-of j) (chosen-of k) (granted-of k) (ticks-of h) (c .before .before .pass .ensures) (c .due-by .ensures) in
     record { value = value; lands = λ t b. subst (Lands t (stand s)) (sym value) (leap-lands t (nums s) (stand s) b) }
 
 pub leap-spec : {M : Type 1} → statement M
