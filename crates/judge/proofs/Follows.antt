@@ -2,21 +2,22 @@
 use mathlib.Core.Path.{_≡_, refl, sym, ap, _∙_, subst, subst₂}
 use mathlib.Core.Bool.{Bool, true, false, not, _&&_, cond}
 use mathlib.Core.List.{List, [], map}
-use Prim.Native.Nat.{ℕ, _+_, _^_, _≤_, _<_}
+use Prim.Native.Nat.{ℕ, _^_, _≤_, _<_}
 use native.Mathlib.Omega.{arith}
 use lib.Dec.{leb}
-use lib.ListN.{length, getD, List·getD-eq-default}
+use lib.ListN.{length, List·getD-eq-default}
 use borrow.Author.Tests.{leb-true, leb-false}
 use Rattle.model.specs.Fence.{openCores}
 use Rattle.model.specs.Search.{bit}
-use Rattle.model.specs.Task.{Table, task, ruleOf}
+use Rattle.model.specs.Task.{Table, ruleOf}
 use Rattle.model.specs.Grants.{claimants, grants, some}
 use Rattle.model.specs.Book.{Missed}
 use Rattle.model.proofs.Grants.{grants-length}
 use Rattle.model.specs.Sizes.{mostTasks}
 use Rattle.table.specs.declared.Loaded.{Loaded}
 use Rattle.full.specs.Machine.{Machine, releasedDue, earliest, finishes, worked}
-use Rattle.full.specs.Stand.{Numbers, numbersBy, numbersIn, pairedIn, Stand, standAt, begun, after, bellAfter, turnedBy, evenAfter, unchanged, choice, grantedIn, next, Steppable}
+use Rattle.full.specs.Stand.{Numbers, numbersBy, numbersIn, pairedIn, Stand, standAt, begun, Steppable}
+use Rattle.full.specs.Stand.{after, bellAfter, turnedBy, evenAfter, unchanged, choice, grantedIn, next}
 use Rattle.full.specs.declared.columns.Setting.{Setting}
 use Rattle.full.specs.declared.machine.Pace.{Pace}
 use Rattle.full.proofs.Tied.{Ready}

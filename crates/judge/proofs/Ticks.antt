@@ -145,7 +145,8 @@ module _ (t : Loaded) (fit : Fit t) where
     pub front-agree : Agrees s tick m (take (t .count) (widthsIn even (numbersIn t .widths)))
     front-agree =
         first-agree s (fit .sound) few tick m even (a .ready) (a .turns) (map (λ x. x .offset) (t .tasks)) (numbersIn t .widths)
-        (map (λ x. x .length) (t .tasks)) (map (λ x. x .deadline) (t .tasks)) (map (λ x. x .period) (t .tasks)) columns (t .count) (omega (arith, size)) (fit .few)
+        (map (λ x. x .length) (t .tasks)) (map (λ x. x .deadline) (t .tasks)) (map (λ x. x .period) (t .tasks)) columns
+        (t .count) (omega (arith, size)) (fit .few)
 
     -- who is granted cores is in the row
     pub chosen-row : (g : ℕ) → Chosen t (m .claiming) even g → (p : ℕ) → bit g p ≡ inRow s (full s tick) p
