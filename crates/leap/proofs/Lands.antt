@@ -26,8 +26,8 @@ use Rattle.full.proofs.Alike.{Agrees, all-agree, row-places, row-owed}
 use Rattle.full.proofs.Tied.{Ready}
 use Rattle.full.proofs.Turned.{Turning}
 use Rattle.judge.specs.Judged.{tableIn, Fit}
-use Rattle.judge.proofs.Ticks.{size, few, paired}
-use Rattle.judge.proofs.Follows.{columns, choice-chosen}
+use Rattle.judge.proofs.Ticks.{size, few, columns, paired}
+use Rattle.judge.proofs.Follows.{choice-chosen}
 use Rattle.leap.specs.Moment.{Moment, NoneBetween}
 use Rattle.leap.specs.Stand.{Stand, StandsAt, PlaceStands, Standing, Stands, dueAt, soonest, MetBefore}
 use Rattle.leap.specs.Leap.{looked, Owing, passed, after, bellAfter, evenAfter, unchanged, grantedIn, ticksIn, leapt, Begins, Lands}

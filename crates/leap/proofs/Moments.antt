@@ -19,8 +19,7 @@ use Rattle.full.specs.Stand.{Numbers, numbersIn, choice}
 use Rattle.full.proofs.Sets.{set-is}
 use Rattle.full.proofs.Turned.{turning-start}
 use Rattle.judge.specs.Judged.{tableIn, Fit}
-use Rattle.judge.proofs.Ticks.{few, column, paired, chosen-none}
-use Rattle.judge.proofs.Follows.{columns}
+use Rattle.judge.proofs.Ticks.{few, column, columns, paired, chosen-none}
 use Rattle.leap.specs.Moment.{Moment, NextMoment}
 use Rattle.leap.specs.Stand.{Stand, Standing, Stands, begun, MetBefore}
 use Rattle.leap.specs.Leap.{leapt, Lands, leaps, Unmissed, AreMoments}
