@@ -185,7 +185,7 @@ place-forth ws h e =
     let a = getD ws firstAt 0 in
     let b = getD ws secondAt 0 in
     (λ i. placeWith (placeIn ws) (parity-forth n (and-left (isParity n) (isPhase k b) e) i) (phase-forth k a b (and-right (isParity n) (isPhase k b) e) i)
-        ++ drop eachWords ws)
+    ++ drop eachWords ws)
     ∙ front ws h
 
 pub places-forth : (n : ℕ) (ws : List ℕ) → eachWords * n ≤ length ws → arePlaces n ws ≡ true → placesWords (placesIn n ws) ++ drop (eachWords * n) ws ≡ ws
