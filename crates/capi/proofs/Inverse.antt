@@ -24,7 +24,7 @@ use Rattle.capi.specs.declared.told.Told.{Told}
 use Rattle.capi.specs.Told.{says}
 use Rattle.capi.specs.Encoding.{headWords, eachWords, parityAt, kindAt, firstAt, secondAt, places, wordsTo, runWords, ofPhase, parityWord}
 use Rattle.capi.specs.Encoding.{placeWith, placeWords, placesWords, countWord, lowWord, highWord, fenceIn, encodeTo, encode, overwritten}
-use Rattle.capi.specs.Encoding.{phaseOf, isPhase, evenOf, isParity, isStand, placeIn}
+use Rattle.capi.specs.Encoding.{phaseOf, isPhase, evenOf, isParity, placeIn}
 use Rattle.capi.specs.Encoding.{isPlace, placesIn, arePlaces, countIn, holds, padded, runIn, run, none, decode, cleared}
 use Rattle.capi.proofs.Places.{length-words, length-read, by-held, held-long, held-few, held-places}
 

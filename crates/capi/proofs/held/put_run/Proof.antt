@@ -13,7 +13,7 @@ use Rattle.phase.specs.declared.Task.{Task}
 use Rattle.phase.specs.Task.{pastEnd}
 use Rattle.run.proofs.Written.{take-more}
 use Rattle.capi.specs.declared.told.Told.{Told}
-use Rattle.capi.specs.Encoding.{headWords, eachWords, places, wordsTo, runWords, ofPhase, parityWord, placeWith, placeWords}
+use Rattle.capi.specs.Encoding.{eachWords, places, wordsTo, runWords, ofPhase, parityWord, placeWith, placeWords}
 use Rattle.capi.specs.Encoding.{countWord, lowWord, highWord, placesWords, encodeTo, overwritten}
 use Rattle.capi.proofs.Places.{words-more}
 use Rattle.capi.proofs.Inverse.{length-to}
