@@ -48,7 +48,7 @@ returns c =
     let text = put-cells-from-pace c .put-cells in
     let line = c .before .before .put-first in
     start-of (s .args .table) (s .args .end) (s .args .verdict) (machine .result .pace) (machine .result .places) (machine .ensures .0)
-    (columns .result .width) (ap (λ (n : Numbers). n .widths) (columns .ensures)) (text .last .1 .1 .1 .1 .1 .1 .0) (line .last .0) (text .result)
+    (columns .result .widths) (ap (λ (n : Numbers). n .widths) (columns .ensures)) (text .last .1 .1 .1 .1 .1 .1 .1 .0) (line .last .0) (text .result)
     (line .result) (text .ensures) (line .ensures)
 
 pub start-spec : {M : Type 1} → statement M
