@@ -1,4 +1,4 @@
--- The writing tick by tick: the row that the claimants of a tick give, and the buffer.
+-- The writing tick by tick: the row that the claimants of a tick give with their widths in it, and the buffer.
 use native.Mathlib.Omega.{arith}
 use native.Mathlib.Nat.{mul-le-mul-right, le-trans, suc-mul}
 use native.Mathlib.Numerals.{add-one}
@@ -23,14 +23,29 @@ use Rattle.judge.proofs.Ticks.{size, same-widths, After}
 use Rattle.plan.specs.Plan.{over}
 use Rattle.plan.proofs.Buffer.{over-none, over-more, with-length}
 
--- the bytes of a tick in which the places of the set c claim, by a column of widths
-abbrev pub RowBy : Loaded → List ℕ → ℕ → List ℕ → Type 0
-RowBy t v c bytes =
-    bytes ≡ row (t .fence) (t .cores) (grants (ruleOf (t .rule)) (claimants (take (t .count) v) (bit c)) (unfenced (t .fence) (t .cores))) ++ replicate (mostCores - t .cores) 0
+-- the widths of the table's tasks in a tick, by both widths of each place, where those of the set e are at their second
+abbrev widthsBy : Loaded → List ℕ → ℕ → List ℕ
+widthsBy t v e = take (t .count) (widthsIn e v)
+
+-- the bytes of a tick in which the places of the set c claim, those of the set e with their second width
+abbrev pub RowBy : Loaded → List ℕ → ℕ → ℕ → List ℕ → Type 0
+RowBy t v c e bytes =
+    bytes
+    ≡ row (t .fence) (t .cores) (grants (ruleOf (t .rule)) (claimants (widthsBy t v e) (bit c)) (unfenced (t .fence) (t .cores)))
+    ++ replicate (mostCores - t .cores) 0
 
 -- by the table's widths
-abbrev pub RowFor : Loaded → ℕ → List ℕ → Type 0
-RowFor t c bytes = RowBy t (map (λ x. x .width) (t .tasks)) c bytes
+abbrev pub RowFor : Loaded → ℕ → ℕ → List ℕ → Type 0
+RowFor t c e bytes = RowBy t (numbersIn t .widths) c e bytes
+
+-- where neither of two numbers has changed
+pub none-changed : (a b c d : ℕ) → not (eqb a b) || not (eqb c d) ≡ false → (a ≡ b) × (c ≡ d)
+none-changed a b c d e = go (eqb a b) refl (eqb c d) refl e
+  where
+    go : (x : Bool) → eqb a b ≡ x → (y : Bool) → eqb c d ≡ y → not x || not y ≡ false → (a ≡ b) × (c ≡ d)
+    go true p true q h = (eqb-true a b p, eqb-true c d q)
+    go true p false q h = absurd (true≢false h)
+    go false p y q h = absurd (true≢false h)
 
 -- the buffer before a tick: the rows from a on, and after them as found
 pub record Filled (t : Loaded) (a tick at : ℕ) (old out : List ℕ) : Type 0 where

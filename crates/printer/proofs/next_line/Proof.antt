@@ -24,11 +24,11 @@ abbrev entry-from-step : tie.After-step → tie.Start
 entry-from-step c = c .before .before .before
 
 abbrev entry-from-then1 : tie.Then1 → tie.Start
-entry-from-then1 c = entry-from-step (c .before .before .before)
+entry-from-then1 c = entry-from-step (c .before .before .before .before .before)
 
 -- the state after `step`
 abbrev step-from-joined1 : tie.Joined1 → tie.After-step
-step-from-joined1 c = c .before .before .before
+step-from-joined1 c = c .before .before .before .before .before
 
 -- the state at the call
 abbrev entry-from-joined1 : tie.Joined1 → tie.Start
