@@ -19,6 +19,7 @@ use Rattle.model.specs.Sizes.{mostTasks}
 use Rattle.full.specs.Machine.{Machine, released, releasedDue, Owed, finishes, worked, Sized}
 use Rattle.full.proofs.Moves.{released-sized, released-own, released-other, released-past, worked-sized, worked-left, worked-claims, worked-past}
 use Rattle.full.proofs.Sets.{set-has, set-past, set-lt}
+use Rattle.full.proofs.Steps.{unchanged-claims}
 use Rattle.rule.specs.Shares.{granted}
 use Rattle.rule.specs.Widths.{widthsIn}
 use Rattle.full.specs.Stand.{Numbers, Stand, after, evenAfter, unchanged, choice, grantedIn, next, Steppable}
@@ -151,9 +152,7 @@ module _ (n : Numbers) (s : Stand) (h : Safe n s) where
   granted-kept = go (unchanged n s) refl
     where
       go : (b : Bool) → unchanged n s ≡ b → within (cond b (s .granted) (choice n (after n s .claiming) (evenAfter n s))) (after n s .claiming) ≡ true
-      go true e =
-          let same = and-left (eqb (after n s .claiming) (s .chosen)) (eqb (evenAfter n s) (s .even)) e in
-          subst (λ (c : ℕ). within (s .granted) c ≡ true) (sym (eqb-true (after n s .claiming) (s .chosen) same)) (h .kept)
+      go true e = subst (λ (c : ℕ). within (s .granted) c ≡ true) (sym (unchanged-claims n s e)) (h .kept)
       go false e =
           within-of (choice n (after n s .claiming) (evenAfter n s)) (after n s .claiming)
           (set-lt mostTasks

@@ -1,12 +1,13 @@
 -- One tick as the printer takes it is the step of the definitions: the text kept or made anew, and the line of the tick.
 use mathlib.Core.Path.{_≡_, sym, ap, ap₂, _∙_, subst}
-use mathlib.Core.Bool.{Bool, true, false, not, _&&_, _||_, cond}
+use mathlib.Core.Bool.{Bool, true, false, not, _||_, cond}
 use mathlib.Core.List.{List, _++_}
 use Prim.Native.Nat.{ℕ, _≤_}
 use native.Mathlib.Omega.{arith}
 use lib.Dec.{eqb}
 use lib.ListN.{length, take}
-use Rattle.full.specs.Stand.{Numbers, Stand, after, evenAfter, unchanged}
+use Rattle.full.specs.Stand.{Numbers, Stand, after, evenAfter}
+use Rattle.full.proofs.Steps.{unchanged-by}
 use Rattle.text.specs.Decimal.{decimal}
 use Rattle.text.specs.Written.{Put}
 use Rattle.text.proofs.Writing.{put-length, put-front}
@@ -17,12 +18,6 @@ use Rattle.printer.specs.Rows.{textOf, textIn, lineIn}
 abbrev pub Text : Numbers → Stand → List ℕ → ℕ → List ℕ → Type 0
 Text n s kept text row = (take text row ≡ textIn n s kept) × (text ≤ longestCells) × (length row ≡ longestCells)
 
--- of two tests, whether one fails
-one-fails : (x y b : Bool) → not x || not y ≡ b → x && y ≡ not b
-one-fails true true b e = ap not e
-one-fails true false b e = ap not e
-one-fails false y b e = ap not e
-
 module _ (n : Numbers) (s : Stand) (kept : List ℕ) (c e : ℕ) (claims : c ≡ after n s .claiming) (turned : e ≡ evenAfter n s) where
   -- other claimants than those of the text that is kept, or other widths
   abbrev changed : Bool
@@ -32,10 +27,7 @@ module _ (n : Numbers) (s : Stand) (kept : List ℕ) (c e : ℕ) (claims : c ≡
   unfolding textIn
   text-by b h =
       ap₂ (λ (x y : ℕ). cond (not b) kept (textOf n x y)) claims turned
-      ∙ ap (λ (x : Bool). cond x kept (textOf n (after n s .claiming) (evenAfter n s))) (sym same)
-    where
-      same : unchanged n s ≡ not b
-      same = ap₂ (λ (x y : ℕ). eqb x (s .chosen) && eqb y (s .even)) (sym claims) (sym turned) ∙ one-fails (eqb c (s .chosen)) (eqb e (s .even)) b h
+      ∙ ap (λ (x : Bool). cond x kept (textOf n (after n s .claiming) (evenAfter n s))) (sym (unchanged-by n s c e b claims turned h))
 
   -- the text is kept
   pub text-kept : changed ≡ false → kept ≡ textIn n s kept

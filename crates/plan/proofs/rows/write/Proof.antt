@@ -158,26 +158,30 @@ turned c =
 row-of : (c : tie.Joined3 Inv-loop μ-loop) → RowFor (table-of (loop-from-joined3 c .before)) (step c .step .result .chosen) (step c .step .result .even) (c .if3 .row)
 row-of c =
     let g = step c in
-    let p = places-from-step g in
+    let k = loop-from-places2 (g .before) in
+    let p = k .before in
     let t = table-of p in
     ⊎-elim
     (λ w.
     subst (λ (l : List ℕ). RowFor t (g .step .result .chosen) (g .step .result .even) l) (sym (w .5))
     (subst (λ (n : Numbers). RowBy t (n .widths) (g .step .result .chosen) (g .step .result .even) (w .2 .result)) (numbers p) (w .2 .ensures)))
     (λ w.
-    let same = none-changed _ _ _ _ (w .0 .left) in
+    let same = none-changed (g .step .result .chosen) (k .loop .shown) (g .step .result .even) (k .loop .even) (w .0 .left) in
     subst (λ (l : List ℕ). RowFor t (g .step .result .chosen) (g .step .result .even) l) (sym (w .3))
-    (subst₂ (λ (x y : ℕ). RowFor t x y (loop-from-places2 (g .before) .loop .row)) (sym (same .0)) (sym (same .1)) (loop-from-places2 (g .before) .loop .inv .1)))
+    (subst₂ (λ (x y : ℕ). RowFor t x y (k .loop .row)) (sym (same .0)) (sym (same .1)) (k .loop .inv .1)))
     (c .if3 .came)
 
 row-kept : (c : tie.Joined3 Inv-loop μ-loop) → RowFor (table-of (loop-from-joined3 c .before)) (c .if3 .shown) (c .if3 .even) (c .if3 .row)
-row-kept c = subst₂ (λ (x y : ℕ). RowFor (table-of (loop-from-joined3 c .before)) x y (c .if3 .row)) chosen-same even-same (row-of c)
+row-kept c = subst₂ (λ (x y : ℕ). RowFor (table-of (loop-from-joined3 c .before)) x y (c .if3 .row)) (same .0) (same .1) (row-of c)
   where
-    chosen-same : step c .step .result .chosen ≡ c .if3 .shown
-    chosen-same = ⊎-elim (λ w. sym (w .3)) (λ w. none-changed _ _ _ _ (w .0 .left) .0 ∙ sym (w .1)) (c .if3 .came)
-
-    even-same : step c .step .result .even ≡ c .if3 .even
-    even-same = ⊎-elim (λ w. sym (w .4)) (λ w. none-changed _ _ _ _ (w .0 .left) .1 ∙ sym (w .2)) (c .if3 .came)
+    same : (step c .step .result .chosen ≡ c .if3 .shown) × (step c .step .result .even ≡ c .if3 .even)
+    same =
+        let k = loop-from-joined3 c in
+        let g = step c in
+        ⊎-elim
+        (λ w. (sym (w .3), sym (w .4)))
+        (λ w. let h = none-changed (g .step .result .chosen) (k .loop .shown) (g .step .result .even) (k .loop .even) (w .0 .left) in (h .0 ∙ sym (w .1), h .1 ∙ sym (w .2)))
+        (c .if3 .came)
 
 -- THE ANSWERS
 cast-cores : tie.Need-cast-cores Inv-loop μ-loop
@@ -247,7 +251,7 @@ loop-again c =
       rw (tick g)
           (filled-more t (first-of p) (last-of p) (k .loop .pace .tick) (k .loop .at) _ (found-of p) (k .loop .out) _ (j .if3 .row)
           (k .loop .inv .3) (then2-from-slice-known2 c .if2 .taken) (then1 .if1 .taken) (enough-of p)
-          (row-bytes t (fit-of p) (after (numbersIn t) s) (bellAfter (numbersIn t) s) (k .loop .pace .tick) (j .if3 .row)
+          (row-bytes t (fit-of p) (after (numbersIn t) s) (evenAfter (numbersIn t) s) (bellAfter (numbersIn t) s) (k .loop .pace .tick) (j .if3 .row)
           (looked t (fit-of p) s (k .loop .inv .0) (met then1)) row)
           refl (c .before .before .put .ensures)),
     )
