@@ -19,9 +19,9 @@ use Rattle.model.proofs.Digits.{bit-none}
 use Rattle.model.proofs.Runs.{full-tick}
 use Rattle.table.specs.declared.Task.{Task}
 use Rattle.table.specs.declared.Loaded.{Loaded}
+use Rattle.rule.specs.Widths.{widthsIn}
 use Rattle.full.specs.Machine.{Machine}
 use Rattle.full.specs.Stand.{Numbers, numbersIn, choice}
-use Rattle.rule.specs.Widths.{widthsIn}
 use Rattle.full.proofs.Alike.{Agrees, all-agree, row-places, row-owed}
 use Rattle.full.proofs.Tied.{Ready}
 use Rattle.full.proofs.Turned.{Turning}

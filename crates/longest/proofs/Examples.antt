@@ -88,7 +88,7 @@ lines =
     -- C = D, and one less than D; T = 1; a first job that is released late
     ∷ gives (header 1 2 1 ++ entry 0 0 1 2 2 3) (2 ∷ []) ∷ gives (header 1 2 1 ++ entry 0 0 1 1 2 3) (1 ∷ [])
     ∷ gives (header 1 1 1 ++ entry 0 0 1 1 1 1) (1 ∷ []) ∷ gives (header 1 1 1 ++ entry 0 3 1 1 1 2) (1 ∷ [])
-    -- two widths: the second task's longest job is released in the second half of 2T; with one tick more it misses there
+    -- two widths: the second task's longest job comes in the second half of P, which takes 2T; with one tick more it misses there
     ∷ gives (turning 2) (2 ∷ 4 ∷ []) ∷ refuses (turning 3) 13 0
     -- the even job waits for both cores, and alone it never waits
     ∷ gives (header 1 2 2 ++ entry 2 0 1 2 4 4 ++ entry₂ 0 0 1 2 1 4 4) (2 ∷ 3 ∷ []) ∷ gives (header 1 2 2 ++ entry₂ 0 0 1 2 1 1 1) (1 ∷ [])
