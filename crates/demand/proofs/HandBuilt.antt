@@ -1,5 +1,6 @@
 -- Runs built by hand, computed from the definitions: B and B3 with their report, by phases; a first release to come; a hold that ends at D;
 -- runs with a fence; and each limit of 14 from both sides: the count, the cores, the rule, the fence, the width, the times, the phases.
+use mathlib.Core.Bool.{true, false}
 use mathlib.Core.List.{List, [], _∷_, _++_, map}
 use mathlib.Core.Path.{_≡_, refl}
 use Prim.Native.Nat.{ℕ, _-_, _^_}
@@ -51,9 +52,22 @@ worked l = record {
 abbrev reported : List ℕ → List Entry
 reported xs = map (λ x. advance x 0) xs
 
--- a task as (O, v, C, D, T) in a phase
+-- a task as (O, v, C, D, T) in a phase, with both widths v and an odd job
 abbrev pub t : ℕ → ℕ → ℕ → ℕ → ℕ → Phase → Task
-t o v c d p ph = record { offset = o; width = v; length = c; deadline = d; period = p; phase = ph }
+t o v c d p ph = record { offset = o; width = v; length = c; deadline = d; period = p; second = v; even = false; phase = ph }
+
+-- the task with an even job
+abbrev pub at-even : Task → Task
+at-even a = record {
+  offset = a .offset;
+  width = a .width;
+  length = a .length;
+  deadline = a .deadline;
+  period = a .period;
+  second = a .second;
+  even = true;
+  phase = a .phase;
+}
 
 -- a run of one task on m cores with a fence
 abbrev walled : ℕ → ℕ → ℕ → Task → Run
