@@ -70,7 +70,7 @@ at-even a = record {
 }
 
 -- a run of one task on m cores with a fence
-abbrev walled : ℕ → ℕ → ℕ → Task → Run
+abbrev pub walled : ℕ → ℕ → ℕ → Task → Run
 walled r m f a = record { rule = r; cores = m; fence = f; withdrawn = 0; count = 1; tasks = a ∷ replicate 31 unused }
 
 -- runs of one, two and three tasks
@@ -80,7 +80,7 @@ one r m a = walled r m 0 a
 abbrev pub two : ℕ → ℕ → Task → Task → Run
 two r m a b = record { rule = r; cores = m; fence = 0; withdrawn = 0; count = 2; tasks = a ∷ b ∷ replicate 30 unused }
 
-abbrev three : ℕ → ℕ → ℕ → Task → Task → Task → Run
+abbrev pub three : ℕ → ℕ → ℕ → Task → Task → Task → Run
 three r m f a b c = record { rule = r; cores = m; fence = f; withdrawn = 0; count = 3; tasks = a ∷ b ∷ c ∷ replicate 29 unused }
 
 -- B as it starts and later, under each rule, on m cores with a fence
@@ -121,7 +121,7 @@ abbrev sized : ℕ → Task → Row → Line
 sized m a w = asked (one 1 m a) w
 
 -- a row of these bytes, zeros behind them
-abbrev row64 : List ℕ → Row
+abbrev pub row64 : List ℕ → Row
 row64 bytes = record { answer = Taken; bytes = in64 bytes }
 
 -- one task of width v, in a tick in which it claims, on m cores with fence f; what its row is answered

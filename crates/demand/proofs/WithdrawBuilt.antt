@@ -25,7 +25,7 @@ use Rattle.demand.proofs.HandBuilt.{rows, t, one, two, on1, on2, no}
 use Rattle.demand.proofs.EmptyBuilt.{Named, worked-named, built, sets, none, empty-no, report-no, row-20, single, single-even, least-one}
 
 -- a run with a withdrawn set
-abbrev out : ℕ → Run → Run
+abbrev pub out : ℕ → Run → Run
 out x r = record { rule = r .rule; cores = r .cores; fence = r .fence; withdrawn = x; count = r .count; tasks = r .tasks }
 
 -- so many tasks in one phase on one core, under greedy
