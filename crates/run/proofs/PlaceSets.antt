@@ -82,15 +82,17 @@ stored-more r ws i long h g p l = go (eqb p i) refl
     go : (t : Bool) → eqb p i ≡ t → (getD (set one (32 + i) w) p 0 ≡ placeAt r p .width) × (getD (set one (32 + i) w) (32 + p) 0 ≡ placeAt r p .second)
     go true e =
         let q : p ≡ i = eqb-true p i e in
-        subst (λ (k : ℕ). (getD (set one (32 + i) w) k 0 ≡ placeAt r k .width) × (getD (set one (32 + i) w) (32 + k) 0 ≡ placeAt r k .second)) (sym q)
-        (getD-set-other one (32 + i) i w 0 (λ (n : i ≡ 32 + i). omega arith) ∙ getD-set-same ws i v 0 (omega arith),
-        getD-set-same one (32 + i) w 0 (omega (arith, length-set ws i v)))
+        subst (λ (k : ℕ). (getD (set one (32 + i) w) k 0 ≡ placeAt r k .width) × (getD (set one (32 + i) w) (32 + k) 0 ≡ placeAt r k .second)) (sym q) (
+          getD-set-other one (32 + i) i w 0 (λ (n : i ≡ 32 + i). omega arith) ∙ getD-set-same ws i v 0 (omega arith),
+          getD-set-same one (32 + i) w 0 (omega (arith, length-set ws i v)),
+        )
     go false e =
         let n : (p ≡ i → ⊥) = eqb-false p i e in
-        let m : p < i = omega arith in
-        (getD-set-other one (32 + i) p w 0 (λ (q : p ≡ 32 + i). omega arith) ∙ (getD-set-other ws i p v 0 n ∙ g p m .0),
-        getD-set-other one (32 + i) (32 + p) w 0 (λ (q : 32 + p ≡ 32 + i). n (omega arith))
-        ∙ (getD-set-other ws i (32 + p) v 0 (λ (q : 32 + p ≡ i). omega arith) ∙ g p m .1))
+        let m : p < i = omega arith in (
+          getD-set-other one (32 + i) p w 0 (λ (q : p ≡ 32 + i). omega arith) ∙ (getD-set-other ws i p v 0 n ∙ g p m .0),
+          getD-set-other one (32 + i) (32 + p) w 0 (λ (q : 32 + p ≡ 32 + i). n (omega arith))
+              ∙ (getD-set-other ws i (32 + p) v 0 (λ (q : 32 + p ≡ i). omega arith) ∙ g p m .1),
+        )
 
 -- they are the widths of the tasks below the count, each that of its job, where the set is of those whose job is an even one
 pub widths-stored :
