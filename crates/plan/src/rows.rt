@@ -34,7 +34,15 @@ pub(crate) fn write(table: Loaded, a: u32, b: u32, out: &mut [u8])
     let setting = columns.setting;
     let widths = columns.widths;
     let times = columns.times;
-    let idle = rule::show(table.rule, table.cores, table.fence, 0, 0, &widths, table.count);
+    let idle = rule::show(
+        table.rule,
+        table.cores,
+        table.fence,
+        0,
+        0,
+        &widths,
+        table.count,
+    );
     let machine = full::machine::start(table);
     let mut pace = machine.pace;
     let mut places = machine.places;

@@ -71,7 +71,8 @@ none-within b = eq-eqb (bitAnd 0 b) 0 (and-zero-l b)
 module _
     (t : Loaded) (e : ℕ) (v : Verdict) (pace : Pace) (places : List ℕ) (m : standAt pace places ≡ begun t) (widths : List ℕ)
     (w : widths ≡ numbersIn t .widths) (row line : List ℕ) (size ready : ℕ)
-    (p : (Put (replicate longestCells 0) 0 (cells (t .rule) (t .cores) (t .fence) (take (t .count) (widthsIn (pace .even) widths)) 0) row size) × (size ≤ longestCells))
+    (p : (Put (replicate longestCells 0) 0 (cells (t .rule) (t .cores) (t .fence) (take (t .count) (widthsIn (pace .even) widths)) 0) row size)
+    × (size ≤ longestCells))
     (q : (Put (replicate longestLine 0) 0 (firstLine (saidBy v)) line ready) × (ready ≤ longestLine))
   where
     abbrev first : Printer

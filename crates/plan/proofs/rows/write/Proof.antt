@@ -149,13 +149,17 @@ claims c =
     chosen-on _ _ _ (c .step .ensures) ∙ ap (λ (n : Numbers). after n (stand-of k) .claiming) (numbers (k .before))
 
 -- .. and for their widths in it
-turned : (c : tie.After-step Inv-loop μ-loop) → c .step .result .even ≡ evenAfter (numbersIn (table-of (places-from-step c))) (stand-of (loop-from-places2 (c .before)))
+turned :
+    (c : tie.After-step Inv-loop μ-loop)
+    → c .step .result .even ≡ evenAfter (numbersIn (table-of (places-from-step c))) (stand-of (loop-from-places2 (c .before)))
 turned c =
     let k = loop-from-places2 (c .before) in
     even-on _ _ _ (c .step .ensures) ∙ ap (λ (n : Numbers). evenAfter n (stand-of k)) (numbers (k .before))
 
 -- from tick a on the row is that of the claimants and their widths: it was just made, or they are those it was made for
-row-of : (c : tie.Joined3 Inv-loop μ-loop) → RowFor (table-of (loop-from-joined3 c .before)) (step c .step .result .chosen) (step c .step .result .even) (c .if3 .row)
+row-of :
+    (c : tie.Joined3 Inv-loop μ-loop)
+    → RowFor (table-of (loop-from-joined3 c .before)) (step c .step .result .chosen) (step c .step .result .even) (c .if3 .row)
 row-of c =
     let g = step c in
     let k = loop-from-places2 (g .before) in
@@ -180,7 +184,9 @@ row-kept c = subst₂ (λ (x y : ℕ). RowFor (table-of (loop-from-joined3 c .be
         let g = step c in
         ⊎-elim
         (λ w. (sym (w .3), sym (w .4)))
-        (λ w. let h = none-changed (g .step .result .chosen) (k .loop .shown) (g .step .result .even) (k .loop .even) (w .0 .left) in (h .0 ∙ sym (w .1), h .1 ∙ sym (w .2)))
+        (λ w.
+        let h = none-changed (g .step .result .chosen) (k .loop .shown) (g .step .result .even) (k .loop .even) (w .0 .left) in
+        (h .0 ∙ sym (w .1), h .1 ∙ sym (w .2)))
         (c .if3 .came)
 
 -- THE ANSWERS
