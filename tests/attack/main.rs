@@ -37,7 +37,7 @@ const FEWEST_OVERTAKEN: u64 = 1_000;
 /// At least so many tables with a fence are not refused, and so many with one in the second word, and so many with one that leaves one core.
 const FEWEST_FENCED: u64 = 1_000;
 /// At least so many tables with tasks of two widths are firm, full, and miss, and miss with an even job of such a task.
-const FEWEST_PAIRS: u64 = 300;
+const FEWEST_PAIRS: u64 = 1_000;
 /// The numbers that the calls tried here can answer; 17 and 18 are the sentence's.
 const NUMBERS: [usize; 20] = [1, 2, 3, 4, 5, 6, 7, 8, 9, 10, 11, 12, 13, 14, 15, 16, 19, 20, 21, 22];
 const LAST: usize = 22;
