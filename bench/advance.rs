@@ -4,17 +4,18 @@
 // The library's advance is timed inside `sivorandra_replay`, which moves a run by value through the list. Its row is timed through `sivorandra_row`, which reads
 // the run from its words first; so the sum is an upper bound of what an advance with its row costs.
 //
-// The simulator knows no fence, no empty jobs and no withdrawals, and reads three header words: it gets the same tasks on just the unfenced cores, where every answer is the same, and the entries
-// are advances without empty jobs.
+// The simulator knows no fence, no second width, no empty jobs and no withdrawals, and reads three header words and records of six: it gets the same tasks, whose widths are equal, on just the
+// unfenced cores, where every answer is the same, and the entries are advances without empty jobs.
 
 use std::hint::black_box;
 
 const TICKS: usize = 50_000;
 const RUNS: usize = 5;
-/// The words of a table before its records.
+/// The words of a table before its records, and of a record.
 const HEAD: usize = 5;
-/// The words of a run: rule, cores, count, fence and withdrawn set, and eight for each of the 32 places.
-const RUN_WORDS: usize = 6 + 8 * 32;
+const RECORD: usize = 7;
+/// The words of a run: rule, cores, count, fence and withdrawn set, and ten for each of the 32 places.
+const RUN_WORDS: usize = 6 + 10 * 32;
 /// An entry of a list in words: 0, reports, empties.
 type Entry = [u32; 3];
 /// 10 of 64 cores, of both words.
@@ -64,6 +65,8 @@ struct Task {
     length: u32,
     deadline: u32,
     period: u32,
+    second: u32,
+    even: bool,
     phase: Phase,
 }
 
@@ -85,14 +88,19 @@ struct Tick {
 
 impl Task {
     fn in_limits(&self, rule: u32, unfenced: u32) -> bool {
-        let numbers = (1..=unfenced).contains(&self.width) && self.offset <= 1_000_000 && (1..=1_000_000).contains(&self.length) && (1..=1_000_000).contains(&self.period) && (1..=self.period).contains(&self.deadline);
+        let numbers = (1..=unfenced).contains(&self.width) && (1..=unfenced).contains(&self.second) && self.offset <= 1_000_000 && (1..=1_000_000).contains(&self.length) && (1..=1_000_000).contains(&self.period) && (1..=self.period).contains(&self.deadline);
         numbers
             && match self.phase {
-                Coming(left) => (1..=self.offset).contains(&left),
+                Coming(left) => (1..=self.offset).contains(&left) && !self.even,
                 Working(z, u) => z <= self.deadline && u < self.length && u <= z,
                 Holding(z, u) => rule == 3 && z < self.deadline && u < self.length && u <= z,
                 Resting(z) => 1 <= z && z < self.period,
             }
+    }
+
+    /// The width of its job.
+    fn wide(&self) -> u32 {
+        if self.even { self.second } else { self.width }
     }
 
     fn rested(&self, z: u32) -> Phase {
@@ -128,15 +136,16 @@ impl Task {
 
 impl Run {
     fn start(words: &[u32]) -> Run {
-        let unused = Task { offset: 0, width: 0, length: 0, deadline: 0, period: 0, phase: Resting(0) };
+        let unused = Task { offset: 0, width: 0, length: 0, deadline: 0, period: 0, second: 0, even: false, phase: Resting(0) };
         let fence = u64::from(words[3]) | u64::from(words[4]) << 32;
         let mut run = Run { rule: words[2], cores: words[1], fence, withdrawn: 0, count: 0, tasks: [unused; 32] };
         let mut record = words[0] as usize;
         while record != 0 {
-            let at = HEAD + 6 * (record - 1);
+            let at = HEAD + RECORD * (record - 1);
             let offset = words[at + 1];
             let phase = if offset == 0 { Working(0, 0) } else { Coming(offset) };
-            run.tasks[run.count] = Task { offset, width: words[at + 2], length: words[at + 3], deadline: words[at + 4], period: words[at + 5], phase };
+            let (width, second) = (words[at + 2], words[at + 6]);
+            run.tasks[run.count] = Task { offset, width, length: words[at + 3], deadline: words[at + 4], period: words[at + 5], second, even: false, phase };
             run.count += 1;
             record = words[at] as usize;
         }
@@ -186,7 +195,7 @@ impl Run {
         while claiming != 0 {
             let place = claiming.trailing_zeros();
             claiming &= claiming - 1;
-            let width = self.tasks[place as usize].width;
+            let width = self.tasks[place as usize].wide();
             if width <= free {
                 free -= width;
                 granted |= 1 << place;
@@ -207,7 +216,9 @@ impl Run {
         }
         let (rule, empty) = (self.rule, empties | self.withdrawn);
         for (place, task) in self.tasks[..self.count].iter_mut().enumerate() {
-            task.phase = task.next(rule, empty >> place & 1 != 0, tick.granted >> place & 1 != 0, reports >> place & 1 != 0);
+            let next = task.next(rule, empty >> place & 1 != 0, tick.granted >> place & 1 != 0, reports >> place & 1 != 0);
+            task.even ^= matches!(next, Working(0, _)) && !matches!(task.phase, Coming(_));
+            task.phase = next;
         }
         0
     }
@@ -236,7 +247,7 @@ impl Run {
         let mut core = 0;
         for (place, task) in self.tasks[..self.count].iter().enumerate() {
             if granted >> place & 1 != 0 {
-                let end = core + task.width as usize;
+                let end = core + task.wide() as usize;
                 row[core..end].fill(place as u8 + 1);
                 core = end;
             }
@@ -252,7 +263,7 @@ impl Run {
         let mut free = u64::MAX >> (64 - self.cores) & !self.fence;
         for (place, task) in self.tasks[..self.count].iter().enumerate() {
             if granted >> place & 1 != 0 {
-                for _ in 0..task.width {
+                for _ in 0..task.wide() {
                     row[free.trailing_zeros() as usize & 63] = place as u8 + 1;
                     free &= free - 1;
                 }
@@ -292,7 +303,7 @@ fn table(count: u32, rule: u32, fence: u64) -> Vec<u32> {
         for (place, width) in (1..).zip(widths) {
             let period = [8, 10, 16, 20, 40, 80][dice.below(6) as usize];
             let length = period / 2 + dice.below(period / 2);
-            words.extend([if place < count { place + 1 } else { 0 }, dice.below(4), width, length, period, period]);
+            words.extend([if place < count { place + 1 } else { 0 }, dice.below(4), width, length, period, period, width]);
         }
         let mut answer = [0; 3];
         unsafe { sivorandra_judge(words.as_ptr(), words.len(), answer.as_mut_ptr(), 3) };
@@ -305,7 +316,8 @@ fn table(count: u32, rule: u32, fence: u64) -> Vec<u32> {
 /// The table with just its unfenced cores, as the simulator reads it.
 fn for_simulator(words: &[u32]) -> Vec<u32> {
     let fenced = words[3].count_ones() + words[4].count_ones();
-    [&[words[0], words[1] - fenced, words[2]], &words[HEAD..]].concat()
+    let records = words[HEAD..].chunks(RECORD).flat_map(|record| &record[..RECORD - 1]);
+    [words[0], words[1] - fenced, words[2]].iter().chain(records).copied().collect()
 }
 
 /// Entries that are taken: now and then a job that works in the tick ends early.

@@ -44,7 +44,7 @@ fn longest(words: &[u32], verdict: &str) -> String {
 fn moments(table: &Table, end: u32) -> u64 {
     let count = table.tasks.len();
     let mut width = [0; 32];
-    table.tasks.iter().enumerate().for_each(|(place, task)| width[place] = task.width);
+    table.tasks.iter().enumerate().for_each(|(place, task)| width[place] = task.second);
     let (mut left, mut due, mut next) = ([0u32; 32], [u32::MAX; 32], [u32::MAX; 32]);
     table.tasks.iter().enumerate().for_each(|(place, task)| next[place] = task.offset);
     let (mut tick, mut claiming, mut found) = (0, 0u32, 0);
@@ -57,6 +57,7 @@ fn moments(table: &Table, end: u32) -> u64 {
                 let task = &table.tasks[place];
                 (left[place], due[place], next[place]) = (task.length, tick + task.deadline, tick + task.period);
                 claiming |= 1 << place;
+                width[place] ^= task.width ^ task.second;
             }
         }
         let granted = peer::choose(table, &width, claiming);

@@ -43,8 +43,13 @@ def heavy(*parts):
 
 
 def three(path):
-    """The table of the same tasks on just the unfenced cores, with three header words: what the simulator reads, and what was read before there was a fence."""
+    """The table of the same tasks on just the unfenced cores, with three header words and records of six: what the simulator reads, and what was read before there was a fence."""
     return path.parent / "three" / path.name
+
+
+def six(path):
+    """The same table with records of six words, as they were before there were second widths."""
+    return path.parent / "six" / path.name
 
 
 def spent():

@@ -1,6 +1,6 @@
 // A strong peer: a plain Rust judge written for speed by the judges' own methods, to be measured beside them. Not proved; bench/verdict holds its verdicts to the simulator's.
 //
-// The full-length run tick by tick on sets of 32 bits: due moments are looked at only when the bell rings, and the choice is kept while the claimants are unchanged.
+// The full-length run tick by tick on sets of 32 bits: due moments are looked at only when the bell rings, and the choice is kept while the claimants and their widths are unchanged.
 // With the word `jump` it goes from event to event instead: while nobody is due and nobody ends, every tick is as the one before. The deadline of a job that has ended it passes over.
 
 use std::io::Read;
@@ -12,6 +12,23 @@ pub struct Task {
     pub length: u32,
     pub deadline: u32,
     pub period: u32,
+    /// The width of every even job.
+    pub second: u32,
+}
+
+impl Task {
+    fn widest(&self) -> u32 {
+        self.width.max(self.second)
+    }
+
+    fn narrowest(&self) -> u32 {
+        self.width.min(self.second)
+    }
+
+    /// The ticks after which its releases and their widths are as before.
+    fn cycle(&self) -> u64 {
+        u64::from(self.period) << u32::from(self.width != self.second)
+    }
 }
 
 pub struct Table {
@@ -27,9 +44,10 @@ type Refusal = (u32, usize);
 
 const MOST_HORIZON: u64 = 1_000_000_000;
 
-/// Words before the records, and of all of them.
+/// Words before the records, of a record, and of all of them.
 const HEAD: usize = 5;
-const MOST_WORDS: usize = HEAD + 6 * 32;
+const RECORD: usize = 7;
+const MOST_WORDS: usize = HEAD + RECORD * 32;
 
 pub fn numbers(text: &[u8]) -> Option<Vec<u32>> {
     let mut numbers = Vec::with_capacity(MOST_WORDS);
@@ -52,7 +70,7 @@ fn gcd(a: u64, b: u64) -> u64 {
 
 pub fn load(text: &[u8]) -> Result<Table, Refusal> {
     let words = numbers(text).ok_or((1, 0))?;
-    if words.len() < HEAD || (words.len() - HEAD) % 6 != 0 {
+    if words.len() < HEAD || (words.len() - HEAD) % RECORD != 0 {
         return Err((1, 0));
     }
     let (head, cores, rule) = (words[0] as usize, words[1], words[2]);
@@ -72,19 +90,19 @@ pub fn load(text: &[u8]) -> Result<Table, Refusal> {
     }
     let (mut tasks, mut met, mut number) = (Vec::with_capacity(32), 0u64, head);
     while number != 0 {
-        if number > (words.len() - HEAD) / 6 {
+        if number > (words.len() - HEAD) / RECORD {
             return Err((5, 0));
         }
         if met >> number & 1 != 0 {
             return Err((6, 0));
         }
         met |= 1 << number;
-        let record = &words[HEAD + 6 * (number - 1)..][..6];
-        tasks.push(Task { offset: record[1], width: record[2], length: record[3], deadline: record[4], period: record[5] });
+        let record = &words[HEAD + RECORD * (number - 1)..][..RECORD];
+        tasks.push(Task { offset: record[1], width: record[2], length: record[3], deadline: record[4], period: record[5], second: record[6] });
         number = record[0] as usize;
     }
     for (place, task) in tasks.iter().enumerate() {
-        if !(1..=cores).contains(&task.width) {
+        if task.narrowest() < 1 || task.widest() > cores {
             return Err((7, place + 1));
         }
         let limit = 1..=1_000_000;
@@ -96,7 +114,7 @@ pub fn load(text: &[u8]) -> Result<Table, Refusal> {
     for task in &tasks {
         let (offset, period) = (u64::from(task.offset), u64::from(task.period));
         s = offset + s.max(offset).abs_diff(offset).div_ceil(period) * period;
-        p = p / gcd(p, period) * period;
+        p = p / gcd(p, task.cycle()) * task.cycle();
         if p > MOST_HORIZON {
             return Err((9, 0));
         }
@@ -127,7 +145,8 @@ pub fn first_miss<const JUMP: bool>(table: &Table) -> Option<(u32, usize)> {
     let count = table.tasks.len();
     let mut tasks = [Task::default(); 32];
     tasks[..count].copy_from_slice(&table.tasks);
-    let width = tasks.map(|task| task.width);
+    let mut width = tasks.map(|task| task.second); // of the newest job; before the first release the second one, which the first turns
+    let turn = tasks.map(|task| task.width ^ task.second);
     let length = tasks.map(|task| task.length);
     let deadline = tasks.map(|task| task.deadline);
     let period = tasks.map(|task| task.period);
@@ -138,7 +157,7 @@ pub fn first_miss<const JUMP: bool>(table: &Table) -> Option<(u32, usize)> {
         moment[place] = tasks[place].offset;
     }
     let end = (table.s + table.p) as u32;
-    let (mut tick, mut bell, mut claiming, mut chosen, mut granted) = (0, 0, 0u32, 0, 0u32);
+    let (mut tick, mut bell, mut claiming, mut chosen, mut granted, mut turned) = (0, 0, 0u32, 0, 0u32, 0);
     loop {
         if tick == bell {
             let mut due = 0u32;
@@ -155,14 +174,16 @@ pub fn first_miss<const JUMP: bool>(table: &Table) -> Option<(u32, usize)> {
                 moment[place] = tick + deadline[place];
                 next[place] = tick + period[place];
                 claiming |= 1 << place;
+                width[place] ^= turn[place];
+                turned |= turn[place];
             }
             bell = moment.iter().fold(u32::MAX, |a, &b| a.min(b));
         }
         if tick == end {
             return None;
         }
-        if claiming != chosen {
-            chosen = claiming;
+        if claiming != chosen || turned != 0 {
+            (chosen, turned) = (claiming, 0);
             granted = choose(table, &width, claiming);
         }
         let mut ticks = 1;
@@ -191,7 +212,7 @@ pub fn first_miss<const JUMP: bool>(table: &Table) -> Option<(u32, usize)> {
 /// The verdict's line, tick by tick or from event to event.
 pub fn verdict(table: &Table, jump: bool) -> String {
     let miss = if jump { first_miss::<true>(table) } else { first_miss::<false>(table) };
-    let firm = table.rule != 1 || table.tasks.windows(2).all(|pair| pair[0].width <= pair[1].width);
+    let firm = table.rule != 1 || table.tasks.windows(2).all(|pair| pair[0].widest() <= pair[1].narrowest());
     match miss {
         Some((tick, position)) => format!("miss {tick} {position}"),
         None => format!("{} {} {}", if firm { "firm" } else { "full" }, table.s, table.p),

@@ -1,13 +1,13 @@
 #!/usr/bin/env python3
 """Tables for measuring, all of which fit.
 
-    bench/tables.py DIR GANGSIM PEER [box longer more]
+    bench/tables.py DIR GANGSIM PEER [pairs box longer more]
 
 DIR/RULE-KIND.txt: heavy ones of 32 tasks, 64 cores and a horizon of up to 10,000,000, for each rule with short, long and mixed periods and with slow ones, of 10,000 ticks and more; where a name says early,
-deadlines come before the period's end; where it says fenced, 10 of the cores are. The reference simulator picks one that fits. It reads tables of three header words, as they were before there was a fence:
-it has the same tasks on just the unfenced cores, in DIR/three/.
+deadlines come before the period's end; where it says fenced, 10 of the cores are. Their tasks have one width. The reference simulator picks one that fits. It reads tables of three header words and records of six,
+as they were before there was a fence: it has the same tasks on just the unfenced cores, in DIR/three/. In DIR/six/ they stand as they were before there were second widths.
 
-The other folders are made where they are named. DIR/box/: 30 tasks with periods of 500 to 20,000 ticks and a horizon near 1,000,000,000, which the peer picks.
+The other folders are made where they are named. DIR/pairs/: the same with a second width for every third task, so with twice the horizon, which the peer picks. DIR/box/: 30 tasks with periods of 500 to 20,000 ticks and a horizon near 1,000,000,000, which the peer picks.
 DIR/longer/: one table, and the same with all its numbers of ticks times 10 and times 100. DIR/more/: 27 tasks, and up to three more of which each multiplies P.
 """
 import math
@@ -34,11 +34,17 @@ def divisors(whole, least, most):
 
 
 def task(rng, period, count, early, offset=0):
-    """A task (O, v, C, D, T) of so many that load the cores to about a third."""
+    """A task (O, v, C, D, T, w) of one width, of so many that load the cores to about a third."""
     width = rng.randint(1, 12)
     length = max(1, int(period * CORES * LOAD / count / width * rng.uniform(0.4, 0.9)))
     deadline = rng.randint(-(-3 * period // 4), period) if early else period
-    return (offset, width, min(length, deadline), deadline, period)
+    return (offset, width, min(length, deadline), deadline, period, width)
+
+
+def paired(made, seed):
+    """The same with another second width, no wider by much, for every third task."""
+    rng = random.Random(seed)
+    return [(*one[:5], rng.randint(1, one[1] + 2)) if at % 3 == 0 else one for at, one in enumerate(made)]
 
 
 def heavy(kind, early, seed):
@@ -70,7 +76,7 @@ def longer(seed):
         if math.lcm(*periods) == BOX // 100:
             break
     made = [task(rng, period, 30, rng.random() < 0.5) for period in periods]
-    return {f"times {times}": [(O * times, v, C * times, D * times, T * times) for O, v, C, D, T in made] for times in (1, 10, 100)}
+    return {f"times {times}": [(O * times, v, C * times, D * times, T * times, w) for O, v, C, D, T, w in made] for times in (1, 10, 100)}
 
 
 def more(seed):
@@ -86,11 +92,11 @@ def more(seed):
     return {f"{count} tasks": made[:count] for count in range(27, 31)}
 
 
-def words(made, *header):
-    """The text of a table of these tasks: the head, what else is in its header, the records."""
+def words(made, *header, record=7):
+    """The text of a table of these tasks: the head, what else is in its header, the records of so many words."""
     numbers = [1, *header]
     for at, task in enumerate(made):
-        numbers += [at + 2 if at + 1 < len(made) else 0, *task]
+        numbers += [at + 2 if at + 1 < len(made) else 0, *task[:record - 1]]
     return "".join(f"{n}\n" for n in numbers)
 
 
@@ -109,8 +115,8 @@ def first_that(found, seeds=300):
 
 
 def write_heavy(folder, gangsim):
-    three = folder / "three"
-    three.mkdir(parents=True, exist_ok=True)
+    for other in ("three", "six"):
+        (folder / other).mkdir(parents=True, exist_ok=True)
     for rule in (1, 2, 3):
         for kind in POOLS:
             for name, early, fence in ((f"{rule}-{kind}", False, 0), (f"{rule}-{kind}-early", True, 0), (f"{rule}-{kind}-fenced", False, FENCE)):
@@ -119,12 +125,26 @@ def write_heavy(folder, gangsim):
 
                 def found(seed):
                     made = heavy(kind, early, seed)
-                    text = words(made, CORES - fence.bit_count(), rule)
+                    text = words(made, CORES - fence.bit_count(), rule, record=6)
                     return (made, text) if fits([gangsim, "verdict"], text) else None
 
                 made, text = first_that(found)
-                (three / f"{name}.txt").write_text(text)
-                (folder / f"{name}.txt").write_text(words(made, CORES, rule, fence % 2**32, fence // 2**32))
+                header = CORES, rule, fence % 2**32, fence // 2**32
+                (folder / "three" / f"{name}.txt").write_text(text)
+                (folder / "six" / f"{name}.txt").write_text(words(made, *header, record=6))
+                (folder / f"{name}.txt").write_text(words(made, *header))
+
+
+def write_pairs(folder, peer):
+    folder.mkdir(parents=True, exist_ok=True)
+    for rule in (1, 2, 3):
+        for kind in POOLS:
+
+            def found(seed):
+                text = words(paired(heavy(kind, False, seed), seed), CORES, rule, 0, 0)
+                return text if fits([peer, "jump"], text) else None
+
+            (folder / f"{rule}-{kind}-pairs.txt").write_text(first_that(found))
 
 
 def write_boxes(folder, peer):
@@ -154,6 +174,8 @@ def write_family(folder, peer, family):
 def main():
     folder, gangsim, peer, *parts = pathlib.Path(sys.argv[1]), *sys.argv[2:]
     write_heavy(folder, gangsim)
+    if "pairs" in parts:
+        write_pairs(folder / "pairs", peer)
     if "box" in parts:
         write_boxes(folder / "box", peer)
     for name, family in (("longer", longer), ("more", more)):

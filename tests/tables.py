@@ -1,9 +1,9 @@
-"""Random tables as text: small and tight, all rules, with a fence and without, permuted records, records off the chain, every number 1 to 9 and 19, faults of the text;
-and for those who ask no rows tables with long periods and a horizon of up to 1,000,000,000."""
+"""Random tables as text: small and tight, all rules, with a fence and without, a third of them with tasks of two widths, permuted records, records off the chain, every number 1 to 9 and 19,
+faults of the text; and for those who ask no rows tables with long periods and a horizon of up to 1,000,000,000. A task is O, v, C, D, T and w."""
 import math
 import random
 
-HEAD, RECORD = 5, 6  # words
+HEAD, RECORD = 5, 7  # words
 WORD = 2**32
 LIMIT = 1_000_000_000  # no horizon is larger
 # Pairs of periods whose least common multiple falls short of the limit by less than the largest offset.
@@ -16,7 +16,43 @@ UP_TO_THE_LIMIT = [73_513_440, 367_567_200, 735_134_400, 931_170_240, 980_179_20
 def task(rng, cores):
     period = rng.choice([1, 2, 3, 4, 5, 6, 8, 10, 12])
     deadline = rng.randint(1, period)
-    return [rng.choice([0, 0, 0, 1, 2, 5]), rng.randint(1, cores), rng.randint(1, max(1, deadline)), deadline, period]
+    width = rng.randint(1, cores)
+    return [rng.choice([0, 0, 0, 1, 2, 5]), width, rng.randint(1, max(1, deadline)), deadline, period, width]
+
+
+def some_pairs(rng, tasks, cores):
+    """Some of the tasks, or one of them, get any second width."""
+    for task in rng.choice([tasks, rng.sample(tasks, (len(tasks) + 1) // 2), [rng.choice(tasks)]]):
+        task[5] = rng.randint(1, cores)
+
+
+def rising_pairs(rng, tasks, cores):
+    """Neither width of a task is above one of the next: firm under every rule, where no deadline is missed."""
+    widths = sorted(rng.randint(1, cores) for _ in range(2 * len(tasks)))
+    for at, task in enumerate(tasks):
+        task[2], (task[1], task[5]) = (task[2] + 1) // 2, rng.sample(widths[2 * at:2 * at + 2], 2)
+
+
+def crossing_pairs(rng, tasks, cores):
+    """First widths rise and so do second ones, or first ones rise and second ones fall: under rule 1 mostly full and not firm."""
+    first, second = (sorted(rng.randint(1, cores) for _ in tasks) for _ in range(2))
+    for task, odd, even in zip(tasks, first, rng.choice([second, second[::-1]])):
+        task[1], task[2], task[5] = odd, (task[2] + 1) // 2, even
+
+
+def second_half(rng, tasks, cores):
+    """Tasks of width 1 that run in every tick, with the same jobs in the same ticks; the second width of the lowest may be too wide: then it misses in the second half of 2T."""
+    period = rng.randint(1, 6)
+    del tasks[cores:]
+    tasks[:] = [[0, 1, period, period, period, 1] for _ in tasks]
+    tasks[-1][5] = rng.randint(cores - len(tasks) + 1, cores)
+
+
+def with_pairs(rng, tasks, cores):
+    """Every third table has tasks of two widths."""
+    if rng.random() < 1 / 3:
+        rng.choice([some_pairs, some_pairs, rising_pairs, crossing_pairs, second_half])(rng, tasks, cores)
+    return tasks
 
 
 def two_words(fence):
@@ -74,17 +110,34 @@ def linked(rng, cores, fenced, tasks):
 def numbers(rng):
     """The words of a table within the limits."""
     cores, fenced = among(rng, rng.choice([1, 2, 2, 3, 4, 6, 8, 64]))
-    return linked(rng, cores, fenced, [task(rng, cores - fenced.bit_count()) for _ in range(rng.randint(1, 6))])
+    usable = cores - fenced.bit_count()
+    return linked(rng, cores, fenced, with_pairs(rng, [task(rng, usable) for _ in range(rng.randint(1, 6))], usable))
 
 
-def long_task(rng, usable, periods, load, early):
-    """A task with a long period and this share of the cores' time."""
+def frail(rng):
+    """The words of three greedy tasks so tight that an early end can make another late: the second is too wide beside the first, the third is not. In every second table even jobs of the
+    first and third may be narrower, and the second's have another width."""
+    cores, long, short = rng.randint(2, 5), rng.randint(2, 6), rng.randint(1, 3)
+    first, period, third = rng.randint(1, cores - 1), long + short + rng.randint(0, 2), rng.randint(1, long)
+    widths = [(first, rng.randint(1, first)), [rng.randint(cores - first + 1, cores) for _ in range(2)], sorted((rng.randint(1, cores - first) for _ in range(2)), reverse=True)]
+    if rng.random() < 0.5:
+        widths = [(width, width) for width, _ in widths]
+    among = rng.choice([cores, cores + 1, 35, 64])
+    words = [1, among, 1, *two_words(leaving(rng, cores, among))]
+    for following, (odd, even), length, deadline in zip((2, 3, 0), widths, (long, short, third), (rng.randint(long, period), period, third + rng.randint(0, short - 1))):
+        words += [following, 0, odd, length, deadline, period, even]
+    return words
+
+
+def long_task(rng, usable, whole, periods, load, early):
+    """A task with a long period and this share of the cores' time; at times with two widths, where that leaves the hyperperiod as it is."""
     period = rng.choice(periods)
     deadline = rng.randint(period // 2, period) if early else period
     width = rng.randint(1, usable)
     length = int(period * usable / width * load)
     offset = rng.choice([0, 0, rng.randint(1, period), rng.randint(1, 1_000_000)])
-    return [offset, width, max(1, min(length, deadline)), deadline, period]
+    second = rng.randint(1, usable) if whole % (2 * period) == 0 and rng.random() < 0.3 else width
+    return [offset, width, max(1, min(length, deadline)), deadline, period, second]
 
 
 def long_periods(rng, hyperperiods):
@@ -93,15 +146,20 @@ def long_periods(rng, hyperperiods):
     whole = rng.choice(hyperperiods)
     periods = [whole // k for k in range(-(-whole // 1_000_000), whole // 10_000 + 1) if whole % k == 0]
     count, load, early = rng.choice([1, 2, 4, 8, 16, 32]), rng.choice([0.3, 0.5, 0.7, 0.9, 1.0]), rng.random() < 0.5
-    return linked(rng, cores, fenced, [long_task(rng, cores - fenced.bit_count(), periods, load / count * rng.uniform(0.5, 1.5), early) for _ in range(count)])
+    return linked(rng, cores, fenced, [long_task(rng, cores - fenced.bit_count(), whole, periods, load / count * rng.uniform(0.5, 1.5), early) for _ in range(count)])
 
 
 def clash(rng):
-    """The words of a table of two tasks that cannot run together and have no room to wait; their periods share no factor, so that they meet late, if at all before the horizon."""
+    """The words of a table of two tasks that cannot run together and have no room to wait; their periods share no factor, so that they meet late, if at all before the horizon.
+    Where the first has two widths they can, with every second job of it."""
     cores, fenced = among(rng, rng.choice([1, 3, 64]))
+    usable = cores - fenced.bit_count()
     first, second = rng.choice([*NEAR, (997, 1009), (9973, 10_007), (10_007, 99_991)])
     room = rng.randint(0, 2)
-    tasks = [[rng.randint(0, first), cores - fenced.bit_count(), 1 + room, 1 + room, first], [rng.randint(0, second), 1, 1, 1 + room // 2, second]]
+    widths = [usable, usable]
+    if first % 2 == 0 and rng.random() < 0.5:
+        first, widths[rng.randrange(2)] = first // 2, max(1, usable - 1)
+    tasks = [[rng.randint(0, first), widths[0], 1 + room, 1 + room, first, widths[1]], [rng.randint(0, second), 1, 1, 1 + room // 2, second, 1]]
     return linked(rng, cores, fenced, tasks)
 
 
@@ -124,11 +182,15 @@ def stretched(words, times):
 
 
 def about_the_limit(rng, words):
-    """The words with such periods and offsets that the horizon is the limit, or one or some ticks more or less."""
+    """The words with such periods and offsets that the horizon is the limit, or one or some ticks more or less. A task of two widths has half the period, or one width where that is odd."""
     pair = rng.choice(NEAR)
     places = chain_of(words)
     for at, place in enumerate(places):
         words[place + 1], words[place + 5] = 0, pair[at % 2]
+        if pair[at % 2] % 2:
+            words[place + 6] = words[place + 2]
+        elif words[place + 6] != words[place + 2]:
+            words[place + 5] //= 2
     words[places[-1] + 1] = LIMIT - math.lcm(*pair) + rng.choice([-1, 0, 0, 0, 1, 1, 1, 1000])
 
 
@@ -158,7 +220,7 @@ def spoilt(rng, words, printed):
     elif kind == 5:
         words[record] = rng.choice([rng.randint(0, 40), rng.randint(1, records)])
     elif kind == 6:
-        words[record + rng.randint(1, 5)] = rng.choice([0, 1, 1000000, 1000001, WORD - 1])
+        words[record + rng.randint(1, 6)] = rng.choice([0, 1, 1000000, 1000001, WORD - 1])
     elif kind == 7:
         periods = rng.choice([[999983, 999979], [64, 15625]] if printed else [[999983, 999979], [128, 78125], [999983, 128, 64], [999979, 250]])
         for at in range(HEAD, len(words), RECORD):
@@ -169,12 +231,12 @@ def spoilt(rng, words, printed):
         if printed:
             late_at_once(words)
     elif kind == 8:
-        words[record + 2] = rng.choice([unfenced(words), unfenced(words) + 1, words[1]])
+        words[record + rng.choice([2, 6])] = rng.choice([0, unfenced(words), unfenced(words) + 1, words[1]])
     elif kind in (9, 10):
         all_cores = (1 << words[1]) - 1
         words[3:5] = two_words(rng.choice([all_cores, all_cores ^ 1, all_cores >> 1, (all_cores + 1) % 2**64, fence_of(words) | 1 << rng.randrange(64), 2**64 - 1, rng.getrandbits(64)]))
         if kind == 10:  # beside another fault, which a number before 19 or after it turns down
-            at = rng.choice([0, 1, 2, record, record + 2, record + 3])
+            at = rng.choice([0, 1, 2, record, record + 2, record + 3, record + 6])
             words[at] = rng.choice([0, 33, 65])
     else:
         words[rng.randrange(len(words))] = rng.randint(0, WORD - 1)

@@ -89,6 +89,11 @@ def moments(task, after, start, end):
     return range(first + max(0, -(-(start - first) // task.T)) * task.T, end + 1, task.T)
 
 
+# The numbers beside the strip of a task; v and w as one where they are the same.
+def fields_of(task):
+    return str(task.O), f"{task.v}/{task.w}" if task.v != task.w else str(task.v), str(task.C), str(task.D), str(task.T)
+
+
 # The chart of the rows from a tick on: cores over ticks, below it a strip for each task. `head` is what stands over it, the title first.
 class Chart(Sheet):
     def __init__(self, table, start, rows, head, red=()):
@@ -100,7 +105,9 @@ class Chart(Sheet):
         self.strip = 24 if len(self.tasks) <= 12 else 18
         self.names = [f"{place + 1} (record {record})" for place, record in enumerate(table.records)]
         self.box = 12 + 6 * max(map(len, self.names))
-        self.columns = [max(len(name), *(len(str(task[k])) for task in self.tasks)) + 2 for k, name in enumerate(self.tasks[0]._fields)]
+        self.pairs = any(task.v != task.w for task in self.tasks)
+        self.fields = [("O", "v/w" if self.pairs else "v", "C", "D", "T"), *map(fields_of, self.tasks)]  # of the line over the strips and of each strip
+        self.columns = [max(len(field) for field in column) + 2 for column in zip(*self.fields)]
         self.left = 16 + max(40, self.box + 14 + 6.1 * sum(self.columns))
         self.top = 69 + 19 * (len(head) - 3 + len(red)) + 57
         self.under = self.top + self.cores * self.high
@@ -179,17 +186,17 @@ class Chart(Sheet):
     # The strips: for each task its numbers, the time from release to deadline, the ticks in which it runs, its releases and deadlines.
     # `late` is the tick and the position of a miss; `unused` has position, first tick and last of what a job that ended early does not take.
     def strips(self, late, held=(), unused=()):
-        label = lambda fields: "".join(str(field).rjust(width) for field, width in zip(fields, self.columns))
+        label = lambda fields: "".join(field.rjust(width) for field, width in zip(fields, self.columns))
         self.parts.append('<defs><path id="up" d="M0 0V-14M-3 -9L0 -15L3 -9Z" stroke="#000" fill="#000"/>'
                           '<path id="down" d="M0 -14V0M-3.5 -6L0 0L3.5 -6" stroke="#000" fill="none"/></defs>')
         self.add("text", "position", x=22, y=self.under + 38, font_size=11, fill="#333")
-        self.add("text", label(self.tasks[0]._fields), x=16 + self.box, y=self.under + 38, **MONO)
+        self.add("text", label(self.fields[0]), x=16 + self.box, y=self.under + 38, **MONO)
         for place, task in enumerate(self.tasks):
             base, (fill, ink) = self.base(place), colour(place + 1)
             with self.group(id=f"task{place + 1}"):
                 self.add("rect", x=16, y=base - 12, width=self.box, height=14, fill=fill)
                 self.add("text", self.names[place], x=22, y=base - 1, font_size=11, fill=ink)
-                self.add("text", label(task), x=16 + self.box, y=base - 1, **MONO)
+                self.add("text", label(self.fields[place + 1]), x=16 + self.box, y=base - 1, **MONO)
                 for due in moments(task, task.D, self.start + 1, self.end + task.D - 1):
                     self.bar(max(self.start, due - task.D), min(self.end, due), base, fill="#d8d8d8")
                 for _, at, length in runs([place + 1 if place + 1 in row else 0 for row in self.rows], self.start, self.tasks):
@@ -302,6 +309,9 @@ class Chart(Sheet):
         self.add("rect", x=150, y=y - 8, width=20, height=8, fill="#d8d8d8")
         self.text(175, y, "from release to deadline; coloured where the task runs")
         self.text(16, y + 18, "The number in a cell is the position of the task that has the core; an empty cell is an idle core.")
+        if self.pairs:
+            y += 18
+            self.text(16, y + 18, "v/w: the first, third and each odd job of the task takes v cores, each even job w.")
         if self.fenced:
             more = ("fenced", "a fenced core: it belongs to the hydraulics, and no task has it"), *more
         for k, (name, words) in enumerate(more):

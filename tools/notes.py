@@ -5,9 +5,9 @@ It decides nothing: the number is the program's, and where the table has no such
 import math
 import sys
 
-HEAD, RECORD = 5, 6  # words of a table and of a record
-MOST_BYTES, MOST_RECORDS, LARGEST, TICKS, HORIZON = 2167, 32, 2**32 - 1, 1_000_000, 1_000_000_000
-FIELDS = ("next", "O", "v", "C", "D", "T")
+HEAD, RECORD = 5, 7  # words of a table and of a record
+MOST_BYTES, MOST_RECORDS, LARGEST, TICKS, HORIZON = 2519, 32, 2**32 - 1, 1_000_000, 1_000_000_000
+FIELDS = ("next", "O", "v", "C", "D", "T", "w")
 SIGNS = {b" ": "a space", b"\t": "a tab", b"-": "a minus sign", b"+": "a plus sign", b".": "a decimal point", b",": "a comma"}
 TAKEN_FOR = {b"O": 0, b"o": 0, b"l": 1, b"I": 1}  # letters that look like digits
 
@@ -119,7 +119,8 @@ class Table:
         record = self.chain[position - 1]
         unfenced = sum(1 for core in range(min(self.cores, 64)) if not self.fence >> core & 1)
         period = self.word(record, "T")
-        limits = [("v", 1, unfenced, " (the unfenced cores)")] if number == 7 else [("O", 0, TICKS, ""), ("C", 1, TICKS, ""), ("T", 1, TICKS, ""), ("D", 1, period, " (its T)")]
+        widths = [(field, 1, unfenced, " (the unfenced cores)") for field in ("v", "w")]
+        limits = widths if number == 7 else [("O", 0, TICKS, ""), ("C", 1, TICKS, ""), ("T", 1, TICKS, ""), ("D", 1, period, " (its T)")]
         for field, least, most, what in limits:
             word = self.word(record, field)
             if not least <= word <= most:
@@ -127,12 +128,12 @@ class Table:
         return None
 
     def horizon(self):
-        """S and P of the tasks on the chain, whose periods are not 0."""
+        """S and P of the tasks on the chain, whose periods are not 0. In P a task of two widths counts with two periods."""
         start, period = 0, 1
         for record in self.chain:
             offset, every = self.word(record, "O"), self.word(record, "T")
             start = offset + max(0, -(-(start - offset) // every)) * every
-            period = math.lcm(period, every)
+            period = math.lcm(period, every if self.word(record, "v") == self.word(record, "w") else 2 * every)
         return start, period
 
     def horizon_fault(self):
@@ -143,7 +144,7 @@ class Table:
 
     def off_chain(self):
         for record in sorted(set(range(1, self.records + 1)) - set(self.chain)):
-            yield f"lines {self.line(record, 'next')} to {self.line(record, 'T')}: record {record} is on no chain, so it is no task"
+            yield f"lines {self.line(record, 'next')} to {self.line(record, FIELDS[-1])}: record {record} is on no chain, so it is no task"
 
 
 def notes(text, answer):

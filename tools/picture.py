@@ -18,10 +18,10 @@ import sys
 
 from chart import BLUE, Chart, Sheet, moments
 
-LONGEST = 2168  # bytes: no table is longer, and the program reads no more
+LONGEST = 2520  # bytes: no table is longer, and the program reads no more
 BLOCK = 1 << 18  # bytes of rows that are passed over at once
 MOST = 100  # ticks in one picture
-HEAD, RECORD = 5, 6  # words of a table and of a record
+HEAD, RECORD = 5, 7  # words of a table and of a record
 FENCED = 255  # on a fenced core in every row
 LINE = 60  # bytes that are read of a line of a list, and more than an operation has
 PART = 200  # lines of a list that are sent at once: with a row asked after each they are fewer bytes than any pipe holds
@@ -36,7 +36,7 @@ MISTAKES = {
     22: "there is no such position",
 }
 
-Task = collections.namedtuple("Task", "O v C D T")
+Task = collections.namedtuple("Task", "O v C D T w")
 Table = collections.namedtuple("Table", "cores rule fenced tasks records")
 RULES = {1: "greedy", 2: "limited", 3: "idling"}
 VERDICTS = {
@@ -45,13 +45,13 @@ VERDICTS = {
     "miss": "Miss: the task at position {1} misses its deadline at tick {0}",
 }
 REFUSALS = {
-    1: ["This is no table: it is not one decimal number a line,", "or not 5 words and then at most 32 whole records of six."],
+    1: ["This is no table: it is not one decimal number a line,", "or not 5 words and then at most 32 whole records of seven."],
     2: ["The core count (word 1) is not 1 to 64."],
     3: ["The rule (word 2) is not 1, 2 or 3."],
     4: ["The head (word 0) is zero: the chain has no record."],
     5: ["Along the chain a number past the last record is met."],
     6: ["Along the chain a record is met again: it never ends."],
-    7: ["The width v of the task at position {} is 0 or above the number of unfenced cores."],
+    7: ["A width, v or w, of the task at position {} is 0 or above the number of unfenced cores."],
     8: ["The O, C, D or T of the task at position {} is outside its limits."],
     9: ["The horizon, the last S plus P, is above 1,000,000,000 ticks."],
     13: ["The table misses a deadline at full length, so no run of it is started.", "A picture without a list shows the miss."],

@@ -10,7 +10,7 @@ import re
 import subprocess
 import sys
 
-LONGEST = 2168  # bytes: no table is longer, and the program reads no more
+LONGEST = 2520  # bytes: no table is longer, and the program reads no more
 MOST = 60  # bytes that are read of a line, and more than an operation has
 EXPECTED = "'a REPORTS', 'a REPORTS EMPTIES', 'w POSITION', 'r' or 'r EMPTIES' (numbers up to 4294967295) was expected"
 NONE = b"not an operation"

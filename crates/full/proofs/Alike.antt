@@ -1,15 +1,16 @@
--- After the due moments of a tick the machine's claimants are the book's, and so are the grants, the row and who is in it.
+-- After the due moments of a tick the machine's claimants are the book's, and their widths; and so are the grants, the row and who is in it.
 use mathlib.Core.Path.{_≡_, refl, sym, ap, _∙_, subst}
 use mathlib.Core.Bool.{Bool, true, false, false≢true, true≢false}
-use mathlib.Core.List.{List, [], _∷_, _++_, map}
+use mathlib.Core.List.{List, [], _∷_, map}
 use Prim.Native.Nat.{ℕ, suc, _≤_, _<_}
-use lib.ListN.{length, getD, take, length-map, List·getD-map, List·getD-eq-default}
-use lib.Seq.{getD-take, take-at, length-take-le, ext-getD}
+use native.Mathlib.Omega.{arith}
+use lib.ListN.{length, getD, take, length-map, List·getD-eq-default}
+use lib.Seq.{getD-take, length-take-le}
 use lib.Dec.{leb}
 use borrow.Author.Tests.{leb-true, leb-false, ltb-true}
 use Rattle.model.specs.Fence.{openCores}
 use Rattle.model.specs.Search.{bit, upFrom}
-use Rattle.model.specs.Task.{Table, task, nobody, AllSound, newest}
+use Rattle.model.specs.Task.{Table, task, nobody, AllSound, newest, widthOf}
 use Rattle.model.specs.Grants.{Claimant, claimants, grants, some}
 use Rattle.model.specs.Row.{byteOf, owner, row}
 use Rattle.model.specs.Book.{claims, taskClaims, widths, grantsOf, rowOf, inRow, full}
@@ -17,26 +18,35 @@ use Rattle.model.proofs.Bools.{not-false-true}
 use Rattle.full.specs.Machine.{Machine, Owed}
 use Rattle.model.proofs.Runs.{full-tick, full-claimed}
 use Rattle.full.proofs.Place.{claims-owed, tied-claims}
-use Rattle.full.proofs.Tied.{Ready}
-use Rattle.model.proofs.Grants.{grants-take, claimants-prefix, claimants-same, grants-length, grants-none}
+use Rattle.full.proofs.Tied.{Ready, Columns}
+use Rattle.full.proofs.Turned.{Turning, width-newest}
+use Rattle.model.proofs.Grants.{grants-take, grants-widths, claimants-prefix, claimants-same, grants-length, grants-none}
+use Rattle.model.proofs.Lists.{map-at}
 use Rattle.model.proofs.Rows.{owner-take}
+use Rattle.rule.specs.Widths.{widthsIn}
+use Rattle.rule.proofs.Widths.{widths-length, widths-at, front-length, front-at}
 
--- widths that are the table's, place by place
-pub widths-first :
-    (s : Table) (ws : List ℕ) → length (s .tasks) ≤ length ws → ((p : ℕ) → p < length (s .tasks) → getD ws p 0 ≡ task s p .width)
-    → take (length (s .tasks)) ws ≡ widths s
-widths-first s ws long e =
-    ext-getD 0 (take (length (s .tasks)) ws) (widths s) (size ∙ sym (length-map (s .tasks) (λ τ. τ .width)))
-    (λ i l.
-    let l′ : i < length (s .tasks) = subst (λ (n : ℕ). i < n) size l in
-    getD-take (length (s .tasks)) ws i 0 l′ ∙ (e i l′ ∙ sym (List·getD-map (λ τ. τ .width) (s .tasks) i nobody)))
+-- widths that are right for the places that claim: those of their newest jobs. What stands at the other places does not matter
+pub record Agrees (s : Table) (t : ℕ) (m : Machine) (ws : List ℕ) : Type 0 where
+  pub long : length (s .tasks) ≤ length ws
+  pub same : (p : ℕ) → p < length (s .tasks) → bit (m .claiming) p ≡ true → getD ws p 0 ≡ widthOf (task s p) (newest (task s p) t)
+
+-- the widths of a machine that is ready, of all 32 places and of the first ones
+module _
+    (s : Table) (ok : AllSound s) (few : length (s .tasks) ≤ 32) (t : ℕ) (m : Machine) (even : ℕ) (h : Ready s t m) (turns : Turning s m even)
+    (O v C D T : List ℕ) (of : Columns s O v C D T)
   where
-    size : length (take (length (s .tasks)) ws) ≡ length (s .tasks)
-    size = length-take-le (length (s .tasks)) ws long
+    pub all-agree : Agrees s t m (widthsIn even v)
+    all-agree = record {
+      long = omega (arith, widths-length even v);
+      same = λ p l c. widths-at even v p (omega arith) ∙ width-newest s ok t m even h turns O v C D T of p l c;
+    }
 
--- widths with zeros, or anything else, after the table's
-pub widths-padded : (s : Table) (ws : List ℕ) → take (length (s .tasks)) (widths s ++ ws) ≡ widths s
-widths-padded s ws = take-at (widths s) ws (length (s .tasks)) (length-map (s .tasks) (λ τ. τ .width))
+    pub first-agree : (n : ℕ) → length (s .tasks) ≤ n → n ≤ 32 → Agrees s t m (take n (widthsIn even v))
+    first-agree n k l = record {
+      long = omega (arith, front-length even v n l);
+      same = λ p q c. front-at even v n p (omega arith) l ∙ width-newest s ok t m even h turns O v C D T of p q c;
+    }
 
 module _ (s : Table) (ok : AllSound s) (t : ℕ) (m : Machine) (h : Ready s t m) where
   -- the claimants are the book's
@@ -62,8 +72,8 @@ module _ (s : Table) (ok : AllSound s) (t : ℕ) (m : Machine) (h : Ready s t m)
                 ∙ e),
           )
 
-  module _ (ws : List ℕ) (same : take (length (s .tasks)) ws ≡ widths s) where
-    -- the grants by the machine's claimants, whose widths begin with the table's
+  module _ (ws : List ℕ) (agree : Agrees s t m ws) where
+    -- the grants by the machine's claimants, whose widths are right
     abbrev chosen : List (List ℕ)
     chosen = grants (s .rule) (claimants ws (bit (m .claiming))) (openCores s)
 
@@ -71,11 +81,22 @@ module _ (s : Table) (ok : AllSound s) (t : ℕ) (m : Machine) (h : Ready s t m)
     pub grants-first : take (length (s .tasks)) chosen ≡ grantsOf s (full s t)
     grants-first =
         grants-take (s .rule) (length (s .tasks)) (claimants ws (bit (m .claiming))) (openCores s)
-        ∙ ap (λ (bs : List Claimant). grants (s .rule) bs (openCores s))
-        (claimants-prefix (length (s .tasks)) ws (bit (m .claiming))
-        ∙ (ap (λ (vs : List ℕ). claimants vs (bit (m .claiming))) same
-        ∙ claimants-same (widths s) (bit (m .claiming)) (taskClaims s (full s t))
-        (λ q l. claims-alike q (subst (λ (n : ℕ). q < n) (length-map (s .tasks) (λ τ. τ .width)) l))))
+        ∙ (ap (λ (bs : List Claimant). grants (s .rule) bs (openCores s)) (claimants-prefix (length (s .tasks)) ws (bit (m .claiming)))
+        ∙ (grants-widths (s .rule) (take (length (s .tasks)) ws) (widths s t) (bit (m .claiming)) (openCores s) (front ∙ sym back) right
+        ∙ (ap (λ (bs : List Claimant). grants (s .rule) bs (openCores s))
+        (claimants-same (widths s t) (bit (m .claiming)) (taskClaims s (full s t)) (λ q l. claims-alike q (omega (arith, back))))
+        ∙ ap (λ (u : ℕ). grants (s .rule) (claimants (widths s u) (taskClaims s (full s t))) (openCores s)) (sym (full-tick s t)))))
+      where
+        front : length (take (length (s .tasks)) ws) ≡ length (s .tasks)
+        front = length-take-le (length (s .tasks)) ws (agree .long)
+
+        back : length (widths s t) ≡ length (s .tasks)
+        back = length-map (s .tasks) (λ τ. widthOf τ (newest τ t))
+
+        right : (p : ℕ) → p < length (take (length (s .tasks)) ws) → bit (m .claiming) p ≡ true → getD (take (length (s .tasks)) ws) p 0 ≡ getD (widths s t) p 0
+        right p l c =
+            let q : p < length (s .tasks) = omega (arith, front) in
+            getD-take (length (s .tasks)) ws p 0 q ∙ (agree .same p q c ∙ sym (map-at (λ τ. widthOf τ (newest τ t)) (s .tasks) p 0 nobody q))
 
     -- .. and past them nobody is given cores
     pub grants-past : (p : ℕ) → length (s .tasks) ≤ p → getD chosen p [] ≡ []
@@ -86,7 +107,9 @@ module _ (s : Table) (ok : AllSound s) (t : ℕ) (m : Machine) (h : Ready s t m)
     grants-alike p = go (leb (length (s .tasks)) p) refl
       where
         size : length (grantsOf s (full s t)) ≡ length (s .tasks)
-        size = grants-length (s .rule) (widths s) (taskClaims s (full s t)) (openCores s) ∙ length-map (s .tasks) (λ τ. τ .width)
+        size =
+            grants-length (s .rule) (widths s (full s t .tick)) (taskClaims s (full s t)) (openCores s)
+            ∙ length-map (s .tasks) (λ τ. widthOf τ (newest τ (full s t .tick)))
 
         go : (x : Bool) → leb (length (s .tasks)) p ≡ x → getD chosen p [] ≡ getD (grantsOf s (full s t)) p []
         go true q =

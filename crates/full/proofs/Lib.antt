@@ -1,4 +1,5 @@
 -- The tie of the machine to the full-length run of the book: from one line of jobs and one place to a tick and to a whole run.
+pub mod Examples
 pub mod Lines
 pub mod Places
 pub mod Sets
@@ -8,6 +9,7 @@ pub mod Parts
 pub mod Served
 pub mod Turn
 pub mod Tied
+pub mod Turned
 pub mod Bell
 pub mod Late
 pub mod Walk

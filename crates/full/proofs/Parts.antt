@@ -1,11 +1,11 @@
--- A list that has several numbers for each of 32 places: a store in one part of it, and a read. The machine of such a list.
+-- A list that has several numbers for each of 32 places: a store in one part of it, and a read. The machine of a list of three for each.
 use mathlib.Core.Path.{_≡_, refl, sym, ap, _∙_}
-use mathlib.Core.List.{List, [], _∷_}
+use mathlib.Core.List.{List, [], _∷_, _++_}
 use Prim.Native.Nat.{ℕ, zero, suc, _+_, _-_, _≤_, _<_}
 use native.Mathlib.Nat.{zero-add, suc-add, not-suc-le-zero, le-of-suc-le-suc}
 use native.Mathlib.Omega.{arith}
-use lib.ListN.{length, getD, set, take, drop, length-take, length-drop}
-use lib.Seq.{getD-take, getD-drop, take-set-le, length-take-le}
+use lib.ListN.{length, getD, set, take, drop, length-drop, take-append-drop}
+use lib.Seq.{getD-take, getD-drop, take-all, take-set-le, length-take-le}
 use Rattle.full.specs.Places.{part}
 use Rattle.full.specs.Machine.{Machine, machine, machineOf, Sized}
 use Rattle.full.proofs.Moves.{same-machine}
@@ -60,6 +60,21 @@ part-after k xs i v h = ap (take 32) (drop-set-lt k xs i v h)
 pub part-length : (k : ℕ) (xs : List ℕ) → k + 32 ≤ length xs → length (part k xs) ≡ 32
 unfolding part
 part-length k xs h = length-take-le 32 (drop k xs) (omega (arith, length-drop k xs))
+
+-- A LIST OF TWO for each place
+
+-- a store at each of its parts
+module _ (xs : List ℕ) (p v w : ℕ) (h : p < 32) where
+  pub pair-first : part 0 (set (set xs p v) (32 + p) w) ≡ set (part 0 xs) p v
+  pair-first = part-before 0 (set xs p v) (32 + p) w (omega arith) ∙ unfold part in take-set 32 xs p v
+
+  pub pair-second : part 32 (set (set xs p v) (32 + p) w) ≡ set (part 32 xs) p w
+  pair-second = part-set 32 (set xs p v) p w ∙ ap (λ (l : List ℕ). set l p w) (part-after 32 xs p v (omega arith))
+
+-- it is its two parts
+pub pair-parts : (xs : List ℕ) → length xs ≡ 64 → part 0 xs ++ part 32 xs ≡ xs
+unfolding part
+pair-parts xs e = ap (λ (l : List ℕ). take 32 xs ++ l) (take-all 32 (drop 32 xs) (omega (arith, length-drop 32 xs))) ∙ take-append-drop 32 xs
 
 -- THE MACHINE of a list of 96
 

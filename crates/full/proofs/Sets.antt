@@ -1,16 +1,17 @@
--- The set of the places that pass a test: its digits, its size, and a set with one place more.
+-- The set of the places that pass a test: its digits, its size, and a set with one place more. The set of those at their second width, in a tick.
 use mathlib.Core.Path.{_≡_, refl, sym, ap, _∙_}
-use mathlib.Core.Bool.{Bool, true, false, _||_, cond}
+use mathlib.Core.Bool.{Bool, true, false, not, _&&_, _||_, cond}
 use Prim.Native.Nat.{ℕ, zero, suc, _+_, _*_, _/_, _%_, _^_, _≤_, _<_}
 use native.Mathlib.Nat.{not-suc-le-zero, le-of-suc-le-suc, pow-suc}
 use native.Mathlib.Omega.{arith}
-use lib.Bits.{bitOr, or-lt}
+use lib.Bits.{bitAnd, bitOr, bitXor, and-zero-l, or-lt, xor-self, xor-zero-r}
 use lib.Dec.{eqb}
 use lib.Pow.{pow-lt}
 use Rattle.model.specs.Search.{bit}
 use Rattle.model.proofs.Bools.{or-comm}
-use Rattle.model.proofs.Digits.{bit-zero, bit-suc, bit-past, bit-power, or-bit, same-digits}
+use Rattle.model.proofs.Digits.{bit-zero, bit-suc, bit-past, bit-power, and-bit, or-bit, xor-bit, same-digits}
 use Rattle.full.specs.Places.{setOf}
+use Rattle.full.specs.Stand.{turnedBy}
 
 -- the lowest digit and the rest
 digit : (b : Bool) (x y : ℕ) → x ≡ cond b 1 0 + 2 * y → (bit x 0 ≡ b) × (x / 2 ≡ y)
@@ -51,3 +52,16 @@ pub set-with : (x p : ℕ) → x < 2 ^ 32 → p < 32 → bitOr x (2 ^ p) ≡ set
 set-with x p h l =
     set-is 32 (bitOr x (2 ^ p)) (λ q. eqb q p || bit x q) (or-lt 32 x (2 ^ p) h (pow-lt l))
     (λ i k. or-bit x (2 ^ p) i ∙ or-comm (bit x i) (bit (2 ^ p) i) ∙ ap (λ (b : Bool). b || bit x i) (bit-power p i))
+
+-- THE SECOND WIDTHS: a place turns where it has two and its claim is new
+abbrev pub turnedBit : Bool → Bool → Bool → Bool → Bool
+turnedBit q e c c′ = cond e (not (cond c′ (not c) c && q)) (cond c′ (not c) c && q)
+
+pub turned-bit : (q e c c′ p : ℕ) → bit (turnedBy q e c c′) p ≡ turnedBit (bit q p) (bit e p) (bit c p) (bit c′ p)
+turned-bit q e c c′ p =
+    xor-bit e (bitAnd (bitXor c′ c) q) p
+    ∙ ap (λ (b : Bool). cond (bit e p) (not b) b) (and-bit (bitXor c′ c) q p ∙ ap (λ (b : Bool). b && bit q p) (xor-bit c′ c p))
+
+-- where the claimants stay nobody does
+pub turned-none : (q e c : ℕ) → turnedBy q e c c ≡ e
+turned-none q e c = ap (λ (x : ℕ). bitXor e (bitAnd x q)) (xor-self c) ∙ (ap (bitXor e) (and-zero-l q) ∙ xor-zero-r e)

@@ -7,12 +7,12 @@ use mathlib.Core.Logic.{⊎-elim}
 use Prim.Native.Nat.{ℕ, suc, _+_, _-_, _≤_, _<_}
 use native.Mathlib.Nat.{le-trans, eq-or-lt-of-le, not-suc-le-zero}
 use native.Mathlib.Omega.{arith}
-use lib.ListN.{length, getD, take, replicate, getD-replicate}
+use lib.ListN.{length, getD, replicate, getD-replicate}
 use lib.Dec.{leb}
 use borrow.Author.Tests.{leb-true, leb-false}
 use Rattle.model.specs.Search.{bit}
 use Rattle.model.specs.Task.{Task, Table, task, AllSound}
-use Rattle.model.specs.Book.{Job, emptyBook, widths, inRow, served, step, full}
+use Rattle.model.specs.Book.{Job, emptyBook, inRow, served, step, full}
 use Rattle.model.proofs.Runs.{full-tick, full-claimed}
 use Rattle.model.proofs.Digits.{bit-none}
 use Rattle.full.specs.Machine.{Machine, started, released, finishes, worked, Sized}
@@ -41,11 +41,13 @@ Tied s t m = Walked s t 0 m
 abbrev pub Ready : Table → ℕ → Machine → Type 0
 Ready s t m = Walked s t (length (s .tasks)) m
 
--- the lists that a machine is stepped with are the columns of the table: offsets, widths, lengths, deadlines, periods
+-- the lists that a machine is stepped with are the columns of the table: offsets, widths, the first of each place before the second, lengths, deadlines,
+-- periods
 pub record Columns (s : Table) (O v C D T : List ℕ) : Type 0 where
   pub places : length O ≡ 32
   pub offsets : (p : ℕ) → p < length (s .tasks) → getD O p 0 ≡ task s p .offset
-  pub first-widths : take (length (s .tasks)) v ≡ widths s
+  pub odd-widths : (p : ℕ) → p < length (s .tasks) → getD v p 0 ≡ task s p .oddWidth
+  pub even-widths : (p : ℕ) → p < length (s .tasks) → getD v (32 + p) 0 ≡ task s p .evenWidth
   pub lengths : (p : ℕ) → p < length (s .tasks) → getD C p 0 ≡ task s p .length
   pub deadlines : (p : ℕ) → p < length (s .tasks) → getD D p 0 ≡ task s p .deadline
   pub periods : (p : ℕ) → p < length (s .tasks) → getD T p 0 ≡ task s p .period

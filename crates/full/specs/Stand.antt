@@ -1,9 +1,10 @@
--- One tick of a run, said for every run, whoever made it: the machine, with the choice that is kept while the claimants are unchanged.
+-- One tick of a run, said for every run, whoever made it: the machine, with the choice that is kept while the claimants and their widths are unchanged.
 -- That a run which stands as the table's full-length run does before a tick stands so after it is proved where the table is at hand, in crate `judge`.
 use mathlib.Core.Path.{_≡_}
-use mathlib.Core.Bool.{Bool, cond}
-use mathlib.Core.List.{List, map}
+use mathlib.Core.Bool.{Bool, not, _&&_, cond}
+use mathlib.Core.List.{List, _++_, map}
 use Prim.Native.Nat.{ℕ, _+_, _^_, _≤_, _<_}
+use lib.Bits.{bitAnd, bitXor}
 use lib.Dec.{eqb, leb}
 use lib.ListN.{getD}
 use Rattle.model.specs.Search.{bit}
@@ -12,18 +13,27 @@ use Rattle.model.specs.Task.{ruleOf}
 use Rattle.model.specs.Grants.{claimants}
 use Rattle.model.specs.Sizes.{mostCores, mostTasks}
 use Rattle.table.specs.declared.Loaded.{Loaded}
+use Rattle.table.specs.declared.Task.{Task}
+use Rattle.table.specs.Task.{noTask}
 use Rattle.rule.specs.Shares.{granted}
+use Rattle.rule.specs.Widths.{widthsIn}
 use Rattle.full.specs.Places.{part, setOf, second, third}
 use Rattle.full.specs.Machine.{Machine, machineOf, started, releasedDue, earliest, Owed, worked}
 use Rattle.full.specs.declared.machine.Pace.{Pace}
 use Rattle.full.specs.declared.columns.Setting.{Setting}
 
--- the numbers of a table that its run is stepped with
+-- the set of the places whose two widths differ
+unfoldable pub pairedIn : List Task → ℕ
+pairedIn ts = setOf mostTasks (λ p. not (eqb (getD ts p noTask .width) (getD ts p noTask .second)))
+
+-- the numbers of a table that its run is stepped with: among them the set of the places with two widths, and both widths of each place, the first of
+-- every place before the second of any
 pub record Numbers : Type 0 where
   pub rule : ℕ
   pub cores : ℕ
   pub fence : ℕ
   pub count : ℕ
+  pub paired : ℕ
   pub widths : List ℕ
   pub lengths : List ℕ
   pub deadlines : List ℕ
@@ -36,6 +46,7 @@ numbersBy x v times = record {
   cores = x .cores;
   fence = x .fence;
   count = x .count;
+  paired = x .paired;
   widths = v;
   lengths = part 0 times;
   deadlines = part second times;
@@ -49,27 +60,45 @@ numbersIn t = record {
   cores = t .cores;
   fence = t .fence;
   count = t .count;
-  widths = map (λ x. x .width) (t .tasks);
+  paired = pairedIn (t .tasks);
+  widths = map (λ x. x .width) (t .tasks) ++ map (λ x. x .second) (t .tasks);
   lengths = map (λ x. x .length) (t .tasks);
   deadlines = map (λ x. x .deadline) (t .tasks);
   periods = map (λ x. x .period) (t .tasks);
 }
 
--- a run before a tick: its machine; the bell, before which nothing is due; the claimants that the choice is kept for, and who is granted cores by it
+-- a run before a tick: its machine; the bell, before which nothing is due; the claimants that the choice is kept for, and who is granted cores by it;
+-- of the places with two widths, those that are at their second
 pub record Stand : Type 0 where
   pub tick : ℕ
   pub machine : Machine
   pub bell : ℕ
   pub chosen : ℕ
   pub granted : ℕ
+  pub even : ℕ
 
 -- .. as code has it: a pace, and the numbers of the places in one list
 abbrev pub standAt : Pace → List ℕ → Stand
-standAt p places = record { tick = p .tick; machine = machineOf places (p .claiming); bell = p .bell; chosen = p .chosen; granted = p .granted }
+standAt p places = record {
+  tick = p .tick;
+  machine = machineOf places (p .claiming);
+  bell = p .bell;
+  chosen = p .chosen;
+  granted = p .granted;
+  even = p .even;
+}
 
--- before tick 0: nobody claims or is granted cores, and the bell has rung
+-- before tick 0: nobody claims or is granted cores, and the bell has rung. Each place with two widths is at its second, so that its first release
+-- turns it to its first
 abbrev pub begun : Loaded → Stand
-begun t = record { tick = 0; machine = started (map (λ x. x .offset) (t .tasks)); bell = 0; chosen = 0; granted = 0 }
+begun t = record {
+  tick = 0;
+  machine = started (map (λ x. x .offset) (t .tasks));
+  bell = 0;
+  chosen = 0;
+  granted = 0;
+  even = pairedIn (t .tasks);
+}
 
 -- the due moments of the tick are looked at where the bell has rung
 unfoldable pub after : Numbers → Stand → Machine
@@ -80,17 +109,26 @@ after n s =
 unfoldable pub bellAfter : Numbers → Stand → ℕ
 bellAfter n s = cond (leb (s .bell) (s .tick)) (earliest (n .count) (after n s .moment)) (s .bell)
 
--- the claimants are those of the choice that is kept
-abbrev pub unchanged : Numbers → Stand → Bool
-unchanged n s = eqb (after n s .claiming) (s .chosen)
+-- the set `even` where a release turns a place of the set `paired` to its other width: in the due moments of a tick the claimants `before` become those
+-- of `behind`, and who is new among them was released
+abbrev pub turnedBy : ℕ → ℕ → ℕ → ℕ → ℕ
+turnedBy paired even before behind = bitXor even (bitAnd (bitXor behind before) paired)
 
--- the set of the places that the rule gives cores where those of the set c claim
-abbrev pub choice : Numbers → ℕ → ℕ
-choice n c = setOf mostTasks (granted (ruleOf (n .rule)) (claimants (n .widths) (bit c)) (unfenced (n .fence) (n .cores)))
+-- the places that are at their second width in the tick
+unfoldable pub evenAfter : Numbers → Stand → ℕ
+evenAfter n s = turnedBy (n .paired) (s .even) (s .machine .claiming) (after n s .claiming)
+
+-- the claimants are those of the choice that is kept, and so are their widths
+abbrev pub unchanged : Numbers → Stand → Bool
+unchanged n s = eqb (after n s .claiming) (s .chosen) && eqb (evenAfter n s) (s .even)
+
+-- the set of the places that the rule gives cores where those of the set c claim, and those of the set e are at their second width
+abbrev pub choice : Numbers → ℕ → ℕ → ℕ
+choice n c e = setOf mostTasks (granted (ruleOf (n .rule)) (claimants (widthsIn e (n .widths)) (bit c)) (unfenced (n .fence) (n .cores)))
 
 -- who is granted cores: kept, or chosen anew
 unfoldable pub grantedIn : Numbers → Stand → ℕ
-grantedIn n s = cond (unchanged n s) (s .granted) (choice n (after n s .claiming))
+grantedIn n s = cond (unchanged n s) (s .granted) (choice n (after n s .claiming) (evenAfter n s))
 
 -- the run before the next tick
 unfoldable pub next : Numbers → Stand → Stand
@@ -100,6 +138,7 @@ next n s = record {
   bell = bellAfter n s;
   chosen = after n s .claiming;
   granted = grantedIn n s;
+  even = evenAfter n s;
 }
 
 -- a run that can be stepped: there are at most 32 tasks and 64 cores, its sums stay small, and who is granted cores is owed ticks

@@ -1,7 +1,8 @@
--- What ties one place of the machine to its line of jobs in the book.
+-- What ties one place of the machine to its line of jobs in the book, and its width to the job that it works on.
 use mathlib.Core.Path.{_≡_}
-use mathlib.Core.Bool.{Bool, true, false}
-use Prim.Native.Nat.{ℕ, suc, _+_, _≤_, _<_}
+use mathlib.Core.Bool.{Bool, true, false, not, _&&_}
+use Prim.Native.Nat.{ℕ, suc, _+_, _%_, _≤_, _<_}
+use lib.Dec.{eqb}
 use Rattle.model.specs.Task.{Task, release, due}
 use Rattle.model.specs.Book.{Job, fresh}
 
@@ -36,3 +37,16 @@ pub record Rests (τ : Task) (seen : ℕ) (js : ℕ → Job) (l m n : ℕ) : Typ
 abbrev pub TiedAt : Task → ℕ → (ℕ → Job) → ℕ → ℕ → ℕ → Bool → Type 0
 TiedAt τ seen js l m n true = Works τ seen js l m n
 TiedAt τ seen js l m n false = Rests τ seen js l m n
+
+-- THE WIDTH
+
+-- job k is an even one of a task with two widths: jobs count from 0 here, so its number is odd
+abbrev pub evenJob : Task → ℕ → Bool
+evenJob τ k = eqb (k % 2) 1 && not (eqb (τ .oddWidth) (τ .evenWidth))
+
+-- e says whether a place is at its second width, and n is its next release: e is right for the job before that one, which is odd or even as the job after
+-- it is. So before its first release a place with two widths is at its second
+pub record Turns (τ : Task) (n : ℕ) (e : Bool) : Type 0 where
+  pub number : ℕ
+  pub following : n ≡ release τ number
+  pub mark : e ≡ evenJob τ (suc number)

@@ -1,36 +1,57 @@
 // The table's numbers, place by place, as the machine is stepped with them.
 ghost use mathlib.Core.Path.{_≡_};
-ghost use Rattle.full.specs.Stand.{numbersBy, numbersIn};
+ghost use Rattle.full.specs.Stand.{numbersBy, numbersIn, pairedIn};
 use crate::TRIPLE;
 use model::MOST_TASKS;
+use rule::PAIR;
 use table::Loaded;
+use table::Task;
 
-// What stays as it is in a run, beside the tasks: the rule, how many cores there are, the fence, and how many tasks.
+// What stays as it is in a run, beside the tasks: the rule, how many cores there are, the fence, how many tasks, and the set of the places with two widths.
 pub struct Setting {
     pub rule: u32,
     pub cores: u32,
     pub fence: u64,
     pub count: usize,
+    pub paired: u32,
 }
 
-// The numbers of a table that its run is stepped with; in `times` the lengths stand first, then the deadlines, then the periods.
+// The numbers of a table that its run is stepped with; in `widths` the first of each place stand before the second, in `times` the lengths stand first,
+// then the deadlines, then the periods.
 pub struct Columns {
     pub setting: Setting,
-    pub width: [u32; MOST_TASKS],
+    pub widths: [u32; PAIR],
     pub times: [u32; TRIPLE],
+}
+
+// The set of the places whose two widths differ.
+pub fn paired_in(tasks: [Task; MOST_TASKS]) -> u32
+    ensures { λ r. ⌜ r ≡ pairedIn tasks ⌝ }
+{
+    let mut paired: u32 = 0;
+    let mut i: usize = 0;
+    while i < MOST_TASKS {
+        let task = tasks[i];
+        if task.width != task.second {
+            paired |= 1u32 << (i as u32);
+        }
+        i += 1;
+    }
+    paired
 }
 
 // The numbers of a table, place by place.
 pub fn columns_of(table: Loaded) -> Columns
-    ensures { λ r. ⌜ numbersBy (r .setting) (r .width) (r .times) ≡ numbersIn table ⌝ }
+    ensures { λ r. ⌜ numbersBy (r .setting) (r .widths) (r .times) ≡ numbersIn table ⌝ }
 {
     let tasks = table.tasks;
-    let mut width = [0u32; MOST_TASKS];
+    let mut widths = [0u32; PAIR];
     let mut times = [0u32; TRIPLE];
     let mut i: usize = 0;
     while i < MOST_TASKS {
         let task = tasks[i];
-        width[i] = task.width;
+        widths[i] = task.width;
+        widths[MOST_TASKS + i] = task.second;
         times[i] = task.length;
         times[crate::DEADLINE + i] = task.deadline;
         times[crate::PERIOD + i] = task.period;
@@ -41,10 +62,11 @@ pub fn columns_of(table: Loaded) -> Columns
         cores: table.cores,
         fence: table.fence,
         count: table.count,
+        paired: paired_in(tasks),
     };
     Columns {
         setting: setting,
-        width: width,
+        widths: widths,
         times: times,
     }
 }

@@ -10,6 +10,7 @@ ghost use Rattle.full.specs.Stand.{numbersBy, standAt, Steppable, next};
 use columns::Setting;
 use machine::Pace;
 use model::MOST_TASKS;
+use rule::PAIR;
 
 pub mod columns; // columns.rt: the table's numbers, as the machine is stepped with them
 pub mod machine; // machine.rt: the machine, and how it starts
@@ -110,30 +111,33 @@ pub fn work(granted: u32, claiming: u32, places: &mut [u32; TRIPLE]) -> u32
     set
 }
 
-// One tick, for runs in which nobody is late: the due moments where the bell has rung, the choice where the claimants have changed, the work.
+// One tick, for runs in which nobody is late: the due moments where the bell has rung, which turn who is released to its other width; the choice where
+// the claimants or their widths have changed; the work.
 pub fn step(
     setting: Setting,
-    width: &[u32; MOST_TASKS],
+    widths: &[u32; PAIR],
     times: &[u32; TRIPLE],
     pace: Pace,
     places: &mut [u32; TRIPLE],
 ) -> Pace
-    requires { ⌜ Steppable (numbersBy setting (now width) (now times)) (standAt pace (now places)) ⌝ }
-    ensures { λ r. ⌜ standAt r (now (places .exit)) ≡ next (numbersBy setting (now (width .entry)) (now (times .entry))) (standAt pace (now (places .entry))) ⌝ }
+    requires { ⌜ Steppable (numbersBy setting (now widths) (now times)) (standAt pace (now places)) ⌝ }
+    ensures { λ r. ⌜ standAt r (now (places .exit)) ≡ next (numbersBy setting (now (widths .entry)) (now (times .entry))) (standAt pace (now (places .entry))) ⌝ }
 {
     let tick = pace.tick;
     let mut claiming = pace.claiming;
     let mut bell = pace.bell;
+    let mut even = pace.even;
     if bell <= tick {
         let due = release_due(tick, setting.count, claiming, times, places);
+        even ^= (due.claiming ^ claiming) & setting.paired;
         claiming = due.claiming;
         bell = due.bell;
     }
     let mut chosen = pace.chosen;
     let mut granted = pace.granted;
-    if claiming != chosen {
+    if (claiming != chosen) | (even != pace.even) {
         let free = cores::open_cores(setting.cores, setting.fence);
-        granted = rule::choose(setting.rule, free, claiming, width);
+        granted = rule::choose(setting.rule, free, claiming, even, widths);
         chosen = claiming;
     }
     let after = work(granted, claiming, places);
@@ -143,5 +147,6 @@ pub fn step(
         claiming: after,
         chosen: chosen,
         granted: granted,
+        even: even,
     }
 }

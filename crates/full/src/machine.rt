@@ -8,13 +8,14 @@ use model::MOST_TASKS;
 use table::Loaded;
 
 // Where a run stands before a tick: the bell, before which nothing is due; the set of claimants; the claimants for whom the kept choice was made,
-// and who is granted cores by it.
+// and who is granted cores by it; of the places with two widths, those that are at their second.
 pub struct Pace {
     pub tick: u32,
     pub bell: u32,
     pub claiming: u32,
     pub chosen: u32,
     pub granted: u32,
+    pub even: u32,
 }
 
 // The machine: its pace, and the three numbers of each place.
@@ -23,7 +24,7 @@ pub struct Machine {
     pub places: [u32; TRIPLE],
 }
 
-// The machine before tick 0: nobody claims, nobody is granted cores, and each task waits for its first release.
+// The machine before tick 0: nobody claims, nobody is granted cores, and each task waits for its first release, which turns it to its first width.
 pub fn start(table: Loaded) -> Machine
     ensures { λ r. ⌜ (standAt (r .pace) (r .places) ≡ begun table) × (length (r .places) ≡ triple) ⌝ }
 {
@@ -42,6 +43,7 @@ pub fn start(table: Loaded) -> Machine
         claiming: 0,
         chosen: 0,
         granted: 0,
+        even: crate::columns::paired_in(tasks),
     };
     Machine {
         pace: pace,

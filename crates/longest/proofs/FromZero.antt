@@ -23,9 +23,9 @@ abbrev pub early : Table
 early = on 4 idling (t 6 2 1 2 3 ∷ t 0 4 1 4 6 ∷ t 0 2 1 2 4 ∷ [])
 
 sound : AllSound early
-sound zero l = record { width-pos = omega arith; length-pos = omega arith; deadline-pos = omega arith; constrained = omega arith }
-sound (suc zero) l = record { width-pos = omega arith; length-pos = omega arith; deadline-pos = omega arith; constrained = omega arith }
-sound (suc (suc zero)) l = record { width-pos = omega arith; length-pos = omega arith; deadline-pos = omega arith; constrained = omega arith }
+sound zero l = record { odd-pos = omega arith; even-pos = omega arith; length-pos = omega arith; deadline-pos = omega arith; constrained = omega arith }
+sound (suc zero) l = record { odd-pos = omega arith; even-pos = omega arith; length-pos = omega arith; deadline-pos = omega arith; constrained = omega arith }
+sound (suc (suc zero)) l = record { odd-pos = omega arith; even-pos = omega arith; length-pos = omega arith; deadline-pos = omega arith; constrained = omega arith }
 sound (suc (suc (suc p))) l = absurd (omega arith)
 
 -- what is computed: the table is Firm, the figure of its third task, S and P, and that its jobs 2, 3 and 4 end after a tick

@@ -154,9 +154,9 @@ full-longest s ok xs n = none-longer s (book s xs) (book s (replicate n quiet)) 
 -- B UNDER GREEDY
 
 sound-B : AllSound (B greedy)
-sound-B zero l = record { width-pos = omega arith; length-pos = omega arith; deadline-pos = omega arith; constrained = omega arith }
-sound-B (suc zero) l = record { width-pos = omega arith; length-pos = omega arith; deadline-pos = omega arith; constrained = omega arith }
-sound-B (suc (suc zero)) l = record { width-pos = omega arith; length-pos = omega arith; deadline-pos = omega arith; constrained = omega arith }
+sound-B zero l = record { odd-pos = omega arith; even-pos = omega arith; length-pos = omega arith; deadline-pos = omega arith; constrained = omega arith }
+sound-B (suc zero) l = record { odd-pos = omega arith; even-pos = omega arith; length-pos = omega arith; deadline-pos = omega arith; constrained = omega arith }
+sound-B (suc (suc zero)) l = record { odd-pos = omega arith; even-pos = omega arith; length-pos = omega arith; deadline-pos = omega arith; constrained = omega arith }
 sound-B (suc (suc (suc p))) l = absurd (omega arith)
 
 -- position 1 reported in tick 0, and the same ticks at full length

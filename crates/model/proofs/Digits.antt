@@ -1,7 +1,7 @@
 -- A set's binary digits: one by one, of the empty set and of one number, how |, & and ^ read them, the set without one number,
 -- and the lowest number, which trailing zeros finds.
 use mathlib.Core.Path.{_≡_, refl, sym, ap, ap₂, _∙_, subst}
-use mathlib.Core.Bool.{true, false, true≢false, false≢true, not, _&&_, _||_, and-true, and-false}
+use mathlib.Core.Bool.{true, false, true≢false, false≢true, not, _&&_, _||_, cond, and-true, and-false}
 use mathlib.Core.Logic.{⊎-elim}
 use Prim.Native.Nat.{ℕ, zero, suc, _+_, _-_, _*_, _/_, _%_, _^_, _≤_, _<_, min, max}
 use native.Mathlib.Nat.{div-div-eq-div-mul, div-eq-of-lt, div-one, eq-zero-or-pos, le-trans, pow-suc, pow-succ', zero-div}
@@ -123,6 +123,24 @@ and-bit a b i =
     let y = b / 2 ^ i in
     let e : bitAnd a b / 2 ^ i % 2 ≡ min (x % 2) (y % 2) = ap (λ (z : ℕ). z % 2) (and-shr a b i) ∙ omega (arith, and-step x y) in
     ap (λ (z : ℕ). eqb z 1) e ∙ and-digit (x % 2) (y % 2) (omega arith) (omega arith)
+
+-- a ^ b: the digits of one of them alone
+xor-digit : (x y : ℕ) → x < 2 → y < 2 → (differ x y < 2) × (eqb (differ x y) 1 ≡ cond (eqb x 1) (not (eqb y 1)) (eqb y 1))
+xor-digit zero zero h k = (omega arith, refl)
+xor-digit zero (suc zero) h k = (omega arith, refl)
+xor-digit (suc zero) zero h k = (omega arith, refl)
+xor-digit (suc zero) (suc zero) h k = (omega arith, refl)
+xor-digit (suc (suc x)) y h k = absurd (omega arith)
+xor-digit zero (suc (suc y)) h k = absurd (omega arith)
+xor-digit (suc zero) (suc (suc y)) h k = absurd (omega arith)
+
+pub xor-bit : (a b i : ℕ) → bit (bitXor a b) i ≡ cond (bit a i) (not (bit b i)) (bit b i)
+xor-bit a b i =
+    let x = a / 2 ^ i in
+    let y = b / 2 ^ i in
+    let d = xor-digit (x % 2) (y % 2) (omega arith) (omega arith) in
+    let e : bitXor a b / 2 ^ i % 2 ≡ differ (x % 2) (y % 2) = ap (λ (z : ℕ). z % 2) (xor-shr a b i) ∙ omega (arith, xor-step x y, d .0) in
+    ap (λ (z : ℕ). eqb z 1) e ∙ d .1
 
 -- a & (a ^ b): the digits of a that b does not have
 without-digit : (x y : ℕ) → x < 2 → y < 2 → (differ x y < 2) × (eqb (min x (differ x y)) 1 ≡ eqb x 1 && not (eqb y 1))

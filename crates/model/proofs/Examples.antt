@@ -17,9 +17,12 @@ use Rattle.model.proofs.LineByLine.{LineByLine, by-line}
 use Rattle.model.specs.Firm.{firm, rising}
 use Rattle.model.specs.Verdict.{Firm, Full, Miss, Verdict, firstMiss, missedAt, missedIn, verdict}
 
--- a task as (O, v, C, D, T)
+-- a task as (O, v, C, D, T), with both widths v; and with widths v and w
 abbrev pub t : ℕ → ℕ → ℕ → ℕ → ℕ → Task
-t o v c d p = record { offset = o; width = v; length = c; deadline = d; period = p }
+t o v c d p = record { offset = o; oddWidth = v; length = c; deadline = d; period = p; evenWidth = v }
+
+abbrev pub t₂ : ℕ → ℕ → ℕ → ℕ → ℕ → ℕ → Task
+t₂ o v w c d p = record { offset = o; oddWidth = v; length = c; deadline = d; period = p; evenWidth = w }
 
 -- a table of m cores under a rule
 abbrev pub on : ℕ → Rule → List Task → Table

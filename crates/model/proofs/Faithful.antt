@@ -15,7 +15,7 @@ use Rattle.model.proofs.FullLength.{late-job}
 use Rattle.model.proofs.Jobs.{after-release, before-due, mk, newest-is}
 use Rattle.model.proofs.Runs.{early-book, full-tick, missed-at}
 use Rattle.model.proofs.Search.{any-of, any-some}
-use Rattle.model.proofs.Starts.{Periods, S-release, hyperperiod-divides, hyperperiod-least, hyperperiod-pos, release-first, release-from}
+use Rattle.model.proofs.Starts.{Periods, S-release, hyperperiod-cycles, hyperperiod-least, hyperperiod-pos, release-first, release-from}
 use Rattle.model.specs.Book.{AllTaken, Answer, Book, Entry, Job, Missed, advance, advanced, afterTaken, answer, answersFrom, book, bookFrom, claims}
 use Rattle.model.specs.Book.{emptiable, emptied, emptyBook, emptyIn, endedWith, enter, entered, full, jobClaims, keep, late, misemptied, misreported, only, refused}
 use Rattle.model.specs.Book.{reportable, step, taken, takenFrom, takenIn, takenOf, taskClaims, ticksOf, withdraw, without}
@@ -251,6 +251,6 @@ P-exact s ok =
     let periods : Periods (s .tasks) = λ p l. le-trans (ok p l .deadline-pos) (ok p l .constrained) in
     record {
       positive = hyperperiod-pos (s .tasks);
-      common = λ p. hyperperiod-divides (s .tasks) p periods;
+      common = λ p. hyperperiod-cycles (s .tasks) p periods;
       least = hyperperiod-least (s .tasks) periods;
     }

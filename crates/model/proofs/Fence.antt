@@ -148,8 +148,8 @@ module _ (s : Table) where
   -- the cores that are given, offered, borrowed and shown are those of the other table, by these numbers
   core-grants : (b : Book) → grantsOf s b ≡ map (map core) (grantsOf (justOpen s) b)
   core-grants b =
-      ap (grants (s .rule) (claimants (widths s) (taskClaims s b))) open-core
-      ∙ grants-map core (s .rule) (claimants (widths s) (taskClaims s b)) (openCores (justOpen s))
+      ap (grants (s .rule) (claimants (widths s (b .tick)) (taskClaims s b))) open-core
+      ∙ grants-map core (s .rule) (claimants (widths s (b .tick)) (taskClaims s b)) (openCores (justOpen s))
 
   core-given : (b : Book) (p : ℕ) → getD (grantsOf s b) p [] ≡ map core (getD (grantsOf (justOpen s) b) p [])
   core-given b p = ap (λ (l : List (List ℕ)). getD l p []) (core-grants b) ∙ at-map core (grantsOf (justOpen s) b) p

@@ -7,19 +7,20 @@ use Prim.Native.Nat.{_*_, _+_, _-_, _/_, _<_, suc, zero, ℕ, _≤_}
 use native.Mathlib.Nat.{add-mul-div-right, div-mul-le-self, eq-or-lt-of-le, le-dest, le-div-iff-mul-le, le-of-suc-le-suc, le-refl, le-trans, lt-of-mul-lt-mul-right, mul-le-mul-right, not-suc-le-zero}
 use native.Mathlib.Omega.{arith}
 use lib.Dec.{leb}
-use lib.ListN.{getD, length}
+use lib.ListN.{getD, length, take}
 use lib.Seq.{getD-take}
 use borrow.Author.Tests.{leb-false, leb-true}
 use Rattle.model.proofs.Bools.{not-false-true, same-and, same-test}
-use Rattle.model.proofs.Grants.{claimants-take, grants-take}
+use Rattle.model.proofs.Grants.{claimants-cut, grants-take}
 use Rattle.model.proofs.Jobs.{after-release, before-due, claims-if, newest-is, still}
+use Rattle.model.proofs.Lists.{map-first}
 use Rattle.model.proofs.Runs.{full-fresh, full-tick, missed-at}
-use Rattle.model.proofs.Starts.{Periods, S-last, S-release, S-rises, hyperperiod-divides, hyperperiod-pos}
+use Rattle.model.proofs.Starts.{Periods, S-last, S-release, S-rises, hyperperiod-divides, hyperperiod-pos, width-shift}
 use Rattle.model.specs.Book.{Job, Missed, NeverMissed, claims, full, inRow, jobClaims, served, step, taskClaims, widths}
 use Rattle.model.specs.Grants.{claimants, grants, some}
 use Rattle.model.specs.Horizon.{S, horizon, hyperperiod}
 use Rattle.model.specs.Fence.{openCores}
-use Rattle.model.specs.Task.{AllSound, Rule, Table, Task, due, newest, release, task}
+use Rattle.model.specs.Task.{AllSound, Rule, Table, Task, due, newest, nobody, release, task, widthOf}
 
 -- claims at a tick and P later are the same
 claims-shift :
@@ -38,16 +39,16 @@ claims-shift r τ k m t P j e = same-test (claims r τ k t j) (claims r τ (k + 
         let l = before-due r τ (k + m) (t + P) j c in
         claims-if r τ k t j (omega arith) (omega arith) (still r τ (k + m) (t + P) j c)
 
--- the cores of place p depend only on the claims of places up to p
+-- the cores of place p depend only on the widths and claims of places up to p
 pub row-local :
-    (r : Rule) (ws F : List ℕ) (c d : ℕ → Bool) (p : ℕ) → ((q : ℕ) → q ≤ p → c q ≡ d q)
-    → getD (grants r (claimants ws c) F) p [] ≡ getD (grants r (claimants ws d) F) p []
-row-local r ws F c d p e =
+    (r : Rule) (ws vs F : List ℕ) (c d : ℕ → Bool) (p : ℕ) → take (suc p) ws ≡ take (suc p) vs → ((q : ℕ) → q ≤ p → c q ≡ d q)
+    → getD (grants r (claimants ws c) F) p [] ≡ getD (grants r (claimants vs d) F) p []
+row-local r ws vs F c d p w e =
     sym (getD-take (suc p) (grants r (claimants ws c) F) p [] (le-refl (suc p)))
     ∙ (ap (λ (l : List (List ℕ)). getD l p []) (grants-take r (suc p) (claimants ws c) F
-    ∙ (ap (λ l. grants r l F) (claimants-take ws (suc p) c d (λ q h. e q (le-of-suc-le-suc h)))
-    ∙ sym (grants-take r (suc p) (claimants ws d) F)))
-    ∙ getD-take (suc p) (grants r (claimants ws d) F) p [] (le-refl (suc p)))
+    ∙ (ap (λ l. grants r l F) (claimants-cut (suc p) ws vs c d w (λ q h. e q (le-of-suc-le-suc h)))
+    ∙ sym (grants-take r (suc p) (claimants vs d) F)))
+    ∙ getD-take (suc p) (grants r (claimants vs d) F) p [] (le-refl (suc p)))
 
 -- each S with P is within the horizon
 covers : (s : Table) → Periods (s .tasks) → (p : ℕ) → p < length (s .tasks) → S (s .tasks) p + hyperperiod (s .tasks) ≤ horizon s
@@ -113,6 +114,22 @@ module _ (s : Table) (ok : AllSound s) where
       same = let d = le-dest begun in
           subst (λ (x : ℕ). full s x .job p k ≡ full s (x + P) .job p (k + m)) (d .1) (rep m (mm .1) k from-S (d .0))
 
+  -- and its widths: the newest job at t + P is an even number of jobs later, where the widths differ
+  width-repeat :
+      (p : ℕ) → p < length (s .tasks) → (t : ℕ) → S (s .tasks) p ≤ t
+      → widthOf (task s p) (newest (task s p) t) ≡ widthOf (task s p) (newest (task s p) (t + P))
+  width-repeat p l t h =
+      let mm = hyperperiod-divides (s .tasks) p periods l in
+      let aa = S-release (s .tasks) p in
+      let later : t + P - task s p .offset ≡ t - task s p .offset + mm .0 * task s p .period = omega (arith, aa .1, mm .1) in
+      sym (ap (widthOf (task s p)) (ap (λ (x : ℕ). x / task s p .period) later ∙ add-mul-div-right (t - task s p .offset) (mm .0) (periods p l))
+      ∙ width-shift (s .tasks) p periods l (mm .0) (mm .1) (newest (task s p) t))
+
+  widths-repeat : (p : ℕ) → p < length (s .tasks) → (t : ℕ) → S (s .tasks) p ≤ t → take (suc p) (widths s t) ≡ take (suc p) (widths s (t + P))
+  widths-repeat p l t h =
+      map-first (λ τ. widthOf τ (newest τ t)) (λ τ. widthOf τ (newest τ (t + P))) nobody (suc p) (s .tasks)
+      (λ q g i. width-repeat q i t (le-trans (S-rises (s .tasks) q p periods (le-of-suc-le-suc g) l) h))
+
   module _ (p : ℕ) (l : p < length (s .tasks)) (above : (q : ℕ) → q < p → Repeats q) (m : ℕ) (e : P ≡ m * task s p .period) where
     -- a job is in the row exactly if the job P later is
     served-repeat :
@@ -122,7 +139,8 @@ module _ (s : Table) (ok : AllSound s) where
     served-repeat k t h same =
         same-and (jobClaims s (full s t) p k) (jobClaims s (full s (t + P)) p (k + m))
         (inRow s (full s t) p) (inRow s (full s (t + P)) p) own
-        (λ c. ap some (row-local (s .rule) (widths s) (openCores s) (taskClaims s (full s t)) (taskClaims s (full s (t + P))) p (all c)))
+        (λ c. ap some (row-local (s .rule) (widths s (full s t .tick)) (widths s (full s (t + P) .tick)) (openCores s) (taskClaims s (full s t)) (taskClaims s (full s (t + P))) p
+        (rw (full-tick s t, full-tick s (t + P)) (widths-repeat p l t h)) (all c)))
       where
         own : jobClaims s (full s t) p k ≡ jobClaims s (full s (t + P)) p (k + m)
         own = rw (full-tick s t, full-tick s (t + P), ← same) (claims-shift (s .rule) (task s p) k m t P (full s t .job p k) e)

@@ -49,9 +49,10 @@ module _ (τs : List Task) (m f : ℕ) where
 
   same-grants : (n : ℕ) → full I n ≡ full G n → grantsOf I (full I n) ≡ grantsOf G (full G n)
   same-grants n e =
-      choose-alike (claimants (widths I) (taskClaims I (full I n))) (openCores I)
+      choose-alike (claimants (widths I (full I n .tick)) (taskClaims I (full I n))) (openCores I)
       ∙ ap (λ (x : List Claimant). grants greedy x (openCores I))
-      (claimants-same (widths I) (taskClaims I (full I n)) (taskClaims G (full G n))
+      (ap (λ (b : Book). claimants (widths I (b .tick)) (taskClaims I (full I n))) e
+      ∙ claimants-same (widths I (full G n .tick)) (taskClaims I (full I n)) (taskClaims G (full G n))
       (λ q l. same-claims n e q (newest (task I q) (full I n .tick)) ∙ ap (λ (b : Book). jobClaims G (full G n) q (newest (task G q) (b .tick))) e))
 
   same-served : (n : ℕ) → full I n ≡ full G n → (p k : ℕ) → served I (full I n) p k ≡ served G (full G n) p k

@@ -31,8 +31,10 @@ module _ (s : Table) (ok : AllSound s) (reserving : Reserving (s .rule)) where
       same-claims a b ab p (newest (task s p) (a .tick)) l
       ∙ ap (λ (t : ℕ). jobClaims s b p (newest (task s p) t)) (ab .same-tick)
 
-  pub same-claimants : (a b : Book) → Level s a b → claimants (widths s) (taskClaims s a) ≡ claimants (widths s) (taskClaims s b)
-  same-claimants a b ab = claimants-same (widths s) (taskClaims s a) (taskClaims s b) (λ q h. same-task-claims a b ab q (rw length-map at h))
+  pub same-claimants : (a b : Book) → Level s a b → claimants (widths s (a .tick)) (taskClaims s a) ≡ claimants (widths s (b .tick)) (taskClaims s b)
+  same-claimants a b ab =
+      claimants-same (widths s (a .tick)) (taskClaims s a) (taskClaims s b) (λ q h. same-task-claims a b ab q (rw length-map at h))
+      ∙ ap (λ (t : ℕ). claimants (widths s t) (taskClaims s b)) (ab .same-tick)
 
   pub same-served : (a b : Book) → Level s a b → (p k : ℕ) → p < length (s .tasks) → served s a p k ≡ served s b p k
   unfolding served

@@ -3,6 +3,7 @@ pub mod LineByLine
 pub mod Examples
 pub mod EmptyExamples
 pub mod WithdrawExamples
+pub mod WidthExamples
 pub mod Bools
 pub mod Search
 pub mod Lists
@@ -19,6 +20,7 @@ pub mod Horizon
 pub mod Level
 pub mod Sustain
 pub mod Firm
+pub mod EqualPairs
 pub mod Idling
 pub mod Local
 pub mod Faithful

@@ -13,7 +13,7 @@ use lib.Seq.{getD-take}
 use borrow.Author.Tests.{le-ltb, leb-false, leb-true, lt-ltb, ne-eqb}
 use Rattle.model.proofs.Digits.{bit-power, or-bit}
 use Rattle.model.proofs.FullLength.{empty-full}
-use Rattle.model.proofs.Grants.{claimants-prefix, claimants-take, grants-take}
+use Rattle.model.proofs.Grants.{claimants-cut, grants-take}
 use Rattle.model.proofs.Lists.{take-map}
 use Rattle.model.specs.Book.{Answer, Book, Entry, advance, afterTaken, answer, book, bookFrom, emptied, emptyBook, emptyIn, enter, entered, full, grantsOf}
 use Rattle.model.specs.Book.{jobClaims, keep, none, only, quiet, refused, served, step, taken, takenFrom, takenOf, taskClaims, widths, withdraw, without}
@@ -22,7 +22,7 @@ use Rattle.model.specs.Grants.{claimants}
 use Rattle.model.specs.Local.{Alike, SameBits, SameCores, SameEntries, SameEntry, SameReports, noticed, noticedIf, upTo}
 use Rattle.model.specs.Row.{byteOf, owner, row}
 use Rattle.model.specs.Search.{bit, memb, upFrom}
-use Rattle.model.specs.Task.{Table, Task, newest, nobody, task}
+use Rattle.model.specs.Task.{Table, Task, newest, nobody, task, widthOf}
 
 -- two books with the same tick, and the same jobs and withdrawals of the first n places
 pub record Agree (n : ℕ) (b b′ : Book) : Type 0 where
@@ -54,13 +54,11 @@ book-took s (x ∷ xs) b = go (answer s b x) (book-took s xs)
 
 -- WHAT THE FIRST PLACES BRING TO A TICK
 
-claimants-cut :
-    (n : ℕ) (τs σs : List Task) (c d : ℕ → Bool) → take n τs ≡ take n σs → ((q : ℕ) → q < n → c q ≡ d q)
-    → take n (claimants (map (λ τ. τ .width) τs) c) ≡ take n (claimants (map (λ τ. τ .width) σs) d)
-claimants-cut n τs σs c d e h =
-    claimants-prefix n (map (λ τ. τ .width) τs) c
-    ∙ (ap (λ (x : List ℕ). claimants x c) (take-map (λ (τ : Task). τ .width) n τs ∙ (ap (λ (x : List Task). map (λ τ. τ .width) x) e ∙ sym (take-map (λ (τ : Task). τ .width) n σs)))
-    ∙ (sym (claimants-prefix n (map (λ τ. τ .width) σs) c) ∙ claimants-take (map (λ τ. τ .width) σs) n c d h))
+-- the widths of the first n places in tick t
+first-widths : (n t : ℕ) (s s′ : Table) → take n (s .tasks) ≡ take n (s′ .tasks) → take n (widths s t) ≡ take n (widths s′ t)
+first-widths n t s s′ e =
+    take-map (λ τ. widthOf τ (newest τ t)) n (s .tasks)
+    ∙ (ap (λ (x : List Task). map (λ τ. widthOf τ (newest τ t)) x) e ∙ sym (take-map (λ τ. widthOf τ (newest τ t)) n (s′ .tasks)))
 
 -- WHAT THE FIRST PLACES SHOW IN A ROW
 
@@ -149,9 +147,11 @@ module _ (n : ℕ) (s s′ : Table) (al : Alike n s s′) where
 
   same-grants : (b b′ : Book) → Agree n b b′ → take n (grantsOf s b) ≡ take n (grantsOf s′ b′)
   same-grants b b′ ag =
-      grants-take (s .rule) n (claimants (widths s) (taskClaims s b)) (openCores s)
-      ∙ (rw (claimants-cut n (s .tasks) (s′ .tasks) (taskClaims s b) (taskClaims s′ b′) (al .tasks) (same-claims b b′ ag), al .rules, al .cores, al .fences)
-      (sym (grants-take (s′ .rule) n (claimants (widths s′) (taskClaims s′ b′)) (openCores s′))))
+      let ws : take n (widths s (b .tick)) ≡ take n (widths s′ (b′ .tick)) =
+      first-widths n (b .tick) s s′ (al .tasks) ∙ ap (λ (t : ℕ). take n (widths s′ t)) (ag .ticks) in
+      grants-take (s .rule) n (claimants (widths s (b .tick)) (taskClaims s b)) (openCores s)
+      ∙ (rw (claimants-cut n (widths s (b .tick)) (widths s′ (b′ .tick)) (taskClaims s b) (taskClaims s′ b′) ws (same-claims b b′ ag), al .rules, al .cores, al .fences)
+      (sym (grants-take (s′ .rule) n (claimants (widths s′ (b′ .tick)) (taskClaims s′ b′)) (openCores s′))))
 
   same-cores : (b b′ : Book) → Agree n b b′ → (p : ℕ) → p < n → getD (grantsOf s b) p [] ≡ getD (grantsOf s′ b′) p []
   same-cores b b′ ag p l =

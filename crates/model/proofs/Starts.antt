@@ -1,19 +1,30 @@
--- S and P: each S is a release, the S never fall, and P is the least common multiple of the periods.
+-- S and P: each S is a release, the S never fall, and P is the least common multiple of the cycles.
+use mathlib.Core.Bool.{Bool, cond, false, true}
 use mathlib.Core.List.{List, [], _∷_}
 use mathlib.Core.Logic.{⊎-elim}
 use mathlib.Core.Path.{ap, refl, subst⁻¹, sym, _∙_, _≡_}
-use Prim.Native.Nat.{_*_, _+_, _-_, _/_, _<_, suc, zero, ℕ, _≤_, _∣_}
-use native.Mathlib.Nat.{div-add-mod', div-mul-cancel, dvd-mul-left, dvd-trans, one-dvd, div-lt-iff-lt-mul, eq-or-lt-of-le}
+use Prim.Native.Nat.{_%_, _*_, _+_, _-_, _/_, _<_, suc, zero, ℕ, _≤_, _∣_}
+use native.Mathlib.Nat.{div-add-mod', div-mul-cancel, dvd-mul-left, dvd-trans, one-dvd, div-lt-iff-lt-mul, eq-of-mul-eq-mul-right, eq-or-lt-of-le}
 use native.Mathlib.Nat.{le-of-dvd, le-of-eq, le-of-suc-le-suc, le-trans, mod-lt, mul-le-mul-right, not-suc-le-zero}
 use native.Mathlib.Omega.{arith}
+use lib.Dec.{eqb}
 use lib.ListN.{getD, length, take}
+use borrow.Author.Tests.{eqb-true}
 use Rattle.model.proofs.Multiples.{lcm-assoc, lcm-comm, lcm-divides, lcm-left, lcm-pos, lcm-right}
 use Rattle.model.specs.Horizon.{CommonMultiple, S, hyperperiod, lastS, lcm, releaseFrom}
-use Rattle.model.specs.Task.{Task, nobody, release}
+use Rattle.model.specs.Task.{Task, cycle, nobody, release, widthOf}
 
 -- every period is positive
 abbrev pub Periods : List Task → Type 0
 Periods τs = (p : ℕ) → p < length τs → 0 < getD τs p nobody .period
+
+-- so is every cycle
+pub cycle-pos : (τ : Task) → 0 < τ .period → 0 < cycle τ
+cycle-pos τ h = go (eqb (τ .oddWidth) (τ .evenWidth))
+  where
+    go : (t : Bool) → 0 < cond t (τ .period) (2 * τ .period)
+    go true = h
+    go false = omega arith
 
 -- the release taken is not before t ..
 pub release-from : (τ : Task) (t : ℕ) → 0 < τ .period → t ≤ releaseFrom τ t
@@ -52,45 +63,79 @@ S-release τs (suc p) =
 pub hyperperiod-pos : (τs : List Task) → 0 < hyperperiod τs
 unfolding hyperperiod
 hyperperiod-pos [] = omega arith
-hyperperiod-pos (τ ∷ τs) = lcm-pos (τ .period) (hyperperiod τs) (hyperperiod-pos τs)
+hyperperiod-pos (τ ∷ τs) = lcm-pos (cycle τ) (hyperperiod τs) (hyperperiod-pos τs)
 
--- every period divides P
-pub period-divides : (τs : List Task) (p : ℕ) → Periods τs → p < length τs → getD τs p nobody .period ∣ hyperperiod τs
+-- every cycle divides P
+pub cycle-divides : (τs : List Task) (p : ℕ) → Periods τs → p < length τs → cycle (getD τs p nobody) ∣ hyperperiod τs
 unfolding hyperperiod
-period-divides [] p h l = absurd (not-suc-le-zero l)
-period-divides (τ ∷ τs) zero h l = lcm-left (τ .period) (hyperperiod τs) (h 0 (omega arith))
-period-divides (τ ∷ τs) (suc p) h l =
-    dvd-trans (getD τs p nobody .period) (period-divides τs p (λ p l. h (suc p) (omega arith)) (omega arith)) (lcm-right (τ .period) (hyperperiod τs))
+cycle-divides [] p h l = absurd (not-suc-le-zero l)
+cycle-divides (τ ∷ τs) zero h l = lcm-left (cycle τ) (hyperperiod τs) (cycle-pos τ (h 0 (omega arith)))
+cycle-divides (τ ∷ τs) (suc p) h l =
+    dvd-trans (cycle (getD τs p nobody)) (cycle-divides τs p (λ p l. h (suc p) (omega arith)) (omega arith)) (lcm-right (cycle τ) (hyperperiod τs))
 
+pub hyperperiod-cycles : (τs : List Task) (p : ℕ) → Periods τs → p < length τs → (m : ℕ) × (hyperperiod τs ≡ m * cycle (getD τs p nobody))
+hyperperiod-cycles τs p h l =
+    let T : ℕ = cycle (getD τs p nobody) in
+    (hyperperiod τs / T, sym (div-mul-cancel T (cycle-divides τs p h l)))
+
+-- so P is a number of periods ..
 pub hyperperiod-divides : (τs : List Task) (p : ℕ) → Periods τs → p < length τs → (m : ℕ) × (hyperperiod τs ≡ m * getD τs p nobody .period)
-hyperperiod-divides τs p h l =
-    let T : ℕ = getD τs p nobody .period in
-    (hyperperiod τs / T, sym (div-mul-cancel T (period-divides τs p h l)))
+hyperperiod-divides τs p h l = go (eqb (τ .oddWidth) (τ .evenWidth)) (hyperperiod-cycles τs p h l)
+  where
+    τ : Task
+    τ = getD τs p nobody
 
--- P divides every common multiple of the periods
-pub hyperperiod-common : (τs : List Task) → Periods τs → (n : ℕ) → ((p : ℕ) → p < length τs → getD τs p nobody .period ∣ n) → hyperperiod τs ∣ n
+    go : (t : Bool) → (m : ℕ) × (hyperperiod τs ≡ m * cond t (τ .period) (2 * τ .period)) → (m : ℕ) × (hyperperiod τs ≡ m * τ .period)
+    go true x = x
+    go false x = (2 * x .0, x .1 ∙ omega arith)
+
+-- .. after which the widths are the same again: an even number where they differ
+pub width-shift :
+    (τs : List Task) (p : ℕ) → Periods τs → p < length τs → (m : ℕ) → hyperperiod τs ≡ m * getD τs p nobody .period
+    → (k : ℕ) → widthOf (getD τs p nobody) (k + m) ≡ widthOf (getD τs p nobody) k
+width-shift τs p h l m e k = go (eqb (τ .oddWidth) (τ .evenWidth)) refl (hyperperiod-cycles τs p h l)
+  where
+    τ : Task
+    τ = getD τs p nobody
+
+    same : (t u : Bool) → τ .oddWidth ≡ τ .evenWidth → cond t (τ .oddWidth) (τ .evenWidth) ≡ cond u (τ .oddWidth) (τ .evenWidth)
+    same true true q = refl
+    same true false q = q
+    same false true q = sym q
+    same false false q = refl
+
+    go : (t : Bool) → eqb (τ .oddWidth) (τ .evenWidth) ≡ t → (n : ℕ) × (hyperperiod τs ≡ n * cond t (τ .period) (2 * τ .period))
+        → widthOf τ (k + m) ≡ widthOf τ k
+    go true q x = same (eqb ((k + m) % 2) 0) (eqb (k % 2) 0) (eqb-true (τ .oddWidth) (τ .evenWidth) q)
+    go false q x =
+        let twice : m ≡ 2 * x .0 = eq-of-mul-eq-mul-right (τ .period) (h p l) m (2 * x .0) (sym e ∙ (x .1 ∙ omega arith)) in
+        let even : (k + m) % 2 ≡ k % 2 = omega arith in
+        ap (λ (n : ℕ). cond (eqb n 0) (τ .oddWidth) (τ .evenWidth)) even
+
+-- P divides every common multiple of the cycles
+pub hyperperiod-common : (τs : List Task) → Periods τs → (n : ℕ) → ((p : ℕ) → p < length τs → cycle (getD τs p nobody) ∣ n) → hyperperiod τs ∣ n
 unfolding hyperperiod
 hyperperiod-common [] h n d = one-dvd n
 hyperperiod-common (τ ∷ τs) h n d =
-    lcm-divides (τ .period) (hyperperiod τs) n (h 0 (omega arith)) (hyperperiod-pos τs) (d 0 (omega arith))
+    lcm-divides (cycle τ) (hyperperiod τs) n (cycle-pos τ (h 0 (omega arith))) (hyperperiod-pos τs) (d 0 (omega arith))
     (hyperperiod-common τs (λ p l. h (suc p) (omega arith)) n (λ p l. d (suc p) (omega arith)))
 
 pub hyperperiod-least : (τs : List Task) → Periods τs → (n : ℕ) → 0 < n → CommonMultiple τs n → hyperperiod τs ≤ n
 hyperperiod-least τs h n pos d =
     le-of-dvd pos
     (hyperperiod-common τs h n
-    (λ p l. subst⁻¹ (λ (x : ℕ). getD τs p nobody .period ∣ x) (d p l .1) (dvd-mul-left (getD τs p nobody .period) (d p l .0))))
+    (λ p l. subst⁻¹ (λ (x : ℕ). cycle (getD τs p nobody) ∣ x) (d p l .1) (dvd-mul-left (cycle (getD τs p nobody)) (d p l .0))))
 
--- one more task: the least common multiple with its period
+-- one more task: the least common multiple with its cycle
 pub hyperperiod-more :
     (τs : List Task) (i : ℕ) → Periods τs → i < length τs
-    → hyperperiod (take (suc i) τs) ≡ lcm (hyperperiod (take i τs)) (getD τs i nobody .period)
+    → hyperperiod (take (suc i) τs) ≡ lcm (hyperperiod (take i τs)) (cycle (getD τs i nobody))
 unfolding hyperperiod
 hyperperiod-more [] i h l = absurd (not-suc-le-zero l)
-hyperperiod-more (τ ∷ τs) zero h l = lcm-comm (τ .period) 1 (h 0 l) (omega arith)
+hyperperiod-more (τ ∷ τs) zero h l = lcm-comm (cycle τ) 1 (cycle-pos τ (h 0 l)) (omega arith)
 hyperperiod-more (τ ∷ τs) (suc i) h l =
-    ap (lcm (τ .period)) (hyperperiod-more τs i (λ p q. h (suc p) (omega arith)) (omega arith))
-    ∙ lcm-assoc (τ .period) (hyperperiod (take i τs)) (getD τs i nobody .period) (h 0 (omega arith)) (hyperperiod-pos (take i τs)) (h (suc i) l)
+    ap (lcm (cycle τ)) (hyperperiod-more τs i (λ p q. h (suc p) (omega arith)) (omega arith))
+    ∙ lcm-assoc (cycle τ) (hyperperiod (take i τs)) (cycle (getD τs i nobody)) (cycle-pos τ (h 0 (omega arith))) (hyperperiod-pos (take i τs)) (cycle-pos (getD τs i nobody) (h (suc i) l))
 
 -- fewer tasks: a divisor
 pub hyperperiod-fewer : (τs : List Task) (i : ℕ) → Periods τs → hyperperiod (take i τs) ∣ hyperperiod τs
@@ -98,7 +143,7 @@ unfolding hyperperiod
 hyperperiod-fewer τs zero h = one-dvd (hyperperiod τs)
 hyperperiod-fewer [] (suc i) h = one-dvd 1
 hyperperiod-fewer (τ ∷ τs) (suc i) h =
-    let pos : 0 < τ .period = h 0 (omega arith) in
-    lcm-divides (τ .period) (hyperperiod (take i τs)) (lcm (τ .period) (hyperperiod τs)) pos (hyperperiod-pos (take i τs))
-    (lcm-left (τ .period) (hyperperiod τs) pos)
-    (dvd-trans (hyperperiod (take i τs)) (hyperperiod-fewer τs i (λ p q. h (suc p) (omega arith))) (lcm-right (τ .period) (hyperperiod τs)))
+    let pos : 0 < cycle τ = cycle-pos τ (h 0 (omega arith)) in
+    lcm-divides (cycle τ) (hyperperiod (take i τs)) (lcm (cycle τ) (hyperperiod τs)) pos (hyperperiod-pos (take i τs))
+    (lcm-left (cycle τ) (hyperperiod τs) pos)
+    (dvd-trans (hyperperiod (take i τs)) (hyperperiod-fewer τs i (λ p q. h (suc p) (omega arith))) (lcm-right (cycle τ) (hyperperiod τs)))

@@ -1,26 +1,28 @@
 -- Sustainability: under a firm rule, of two runs at one tick of which the first has no longer job, the first is behind on none.
 -- Whoever runs in the longer run and still claims in the shorter one runs there too.
-use mathlib.Core.Bool.{_&&_, Bool, and-false, false, false≢true, true}
+use mathlib.Core.Bool.{_&&_, Bool, and-false, cond, false, false≢true, true}
 use mathlib.Core.List.{List, [], _∷_}
 use mathlib.Core.Logic.{inl, inr}
 use mathlib.Core.Path.{ap, refl, subst, subst₂, sym, _∙_, _≡_}
-use Prim.Native.Nat.{_<_, suc, ℕ, _≤_}
-use native.Mathlib.Nat.{le-of-eq, suc-inj, suc-ne-zero}
+use Prim.Native.Nat.{_%_, _<_, suc, ℕ, _≤_}
+use native.Mathlib.Nat.{le-of-eq, le-trans, suc-inj, suc-ne-zero}
 use native.Mathlib.Omega.{arith}
-use lib.ListN.{List·getD-map, getD, length, length-map, length-replicate, replicate}
+use lib.Dec.{eqb}
+use lib.ListN.{getD, length, length-map, length-replicate, replicate}
 use borrow.Author.Tests.{eqb-true}
 use Rattle.model.proofs.Bools.{and-both, and-left, and-right, not-false-true}
 use Rattle.model.proofs.Compare.{none-longer}
 use Rattle.model.proofs.Grants.{RisingList, greedy-limited, limited-mono}
 use Rattle.model.proofs.Jobs.{Letting, Reserving, abreast, after-release, before-due, claims-less, claims-open, fresh-near, longer-left, longer-right, newest-is, start}
 use Rattle.model.proofs.Level.{Level, level-emptied, level-start, level-step, same-served}
+use Rattle.model.proofs.Lists.{map-at}
 use Rattle.model.proofs.Runs.{Early, GoodBook, Move, book-run, book-tick, early-moved, early-start, full-run, full-whole, good-emptied, good-run}
 use Rattle.model.proofs.Runs.{good-start, good-step, lines, moved, movesOf, run, stillMove}
 use Rattle.model.specs.Book.{Book, Entry, Job, book, claims, emptied, emptyBook, fresh, full, inRow, jobClaims, releasedNow, served, step, taskClaims, widths}
 use Rattle.model.specs.Compare.{Behind, Longer, NoneBehind, NoneLonger}
 use Rattle.model.specs.Fence.{openCores}
 use Rattle.model.specs.Grants.{claimants, grants, some}
-use Rattle.model.specs.Task.{AllSound, Rule, Table, greedy, limited, newest, nobody, release, task}
+use Rattle.model.specs.Task.{AllSound, Rule, Table, Task, greedy, limited, narrowest, newest, nobody, release, task, widest, widthOf}
 use Rattle.model.specs.Firm.{FirmRule, Rising}
 
 -- fewer claims take no cores from a task that still claims
@@ -37,21 +39,31 @@ mono-greedy : (ws : List ℕ) → RisingList ws → GrantsMono greedy ws
 mono-greedy ws h c d F cd p cp e =
     rw (greedy-limited ws c F h) (mono-limited ws c d F cd p cp (rw (greedy-limited ws d F h) at e))
 
--- widths that never fall along the tasks never fall in the list of widths
-rising-widths : (s : Table) → Rising (s .tasks) → RisingList (widths s)
-rising-widths s h p l =
-    rw (List·getD-map (λ τ. τ .width) (s .tasks) p nobody, List·getD-map (λ τ. τ .width) (s .tasks) (suc p) nobody)
-    (h p (rw length-map at l))
+-- a job's width lies between its task's
+between : (τ : Task) (k : ℕ) → (narrowest τ ≤ widthOf τ k) × (widthOf τ k ≤ widest τ)
+between τ k = go (eqb (k % 2) 0)
+  where
+    go : (t : Bool) → (narrowest τ ≤ cond t (τ .oddWidth) (τ .evenWidth)) × (cond t (τ .oddWidth) (τ .evenWidth) ≤ widest τ)
+    go true = (omega arith, omega arith)
+    go false = (omega arith, omega arith)
+
+-- widths that never fall along the tasks never fall in the list of any tick's widths
+rising-widths : (s : Table) → Rising (s .tasks) → (t : ℕ) → RisingList (widths s t)
+rising-widths s h t p l =
+    let l′ : suc p < length (s .tasks) = rw length-map at l in
+    let w : Task → ℕ = λ τ. widthOf τ (newest τ t) in
+    rw (map-at w (s .tasks) p 0 nobody (omega arith), map-at w (s .tasks) (suc p) 0 nobody l′)
+    (le-trans (between (task s p) (newest (task s p) t) .1) (le-trans (h p l′) (between (task s (suc p)) (newest (task s (suc p)) t) .0)))
 
 -- what the firm rules have
 pub data Kind (s : Table) : Type 0 where
-  letting : GrantsMono (s .rule) (widths s) → Letting (s .rule) → Kind s
+  letting : ((t : ℕ) → GrantsMono (s .rule) (widths s t)) → Letting (s .rule) → Kind s
   holding : Reserving (s .rule) → Kind s
 
 kind : (s : Table) → FirmRule s → Kind s
-kind s (inl e) = letting (subst (λ r. GrantsMono r (widths s)) (sym e) (mono-limited (widths s))) (subst Letting (sym e) (λ τ j. refl))
+kind s (inl e) = letting (λ t. subst (λ r. GrantsMono r (widths s t)) (sym e) (mono-limited (widths s t))) (subst Letting (sym e) (λ τ j. refl))
 kind s (inr (inl e)) = holding (subst Reserving (sym e) (λ τ j. refl))
-kind s (inr (inr (e, h))) = letting (subst (λ r. GrantsMono r (widths s)) (sym e) (mono-greedy (widths s) (rising-widths s h))) (subst Letting (sym e) (λ τ j. refl))
+kind s (inr (inr (e, h))) = letting (λ t. subst (λ r. GrantsMono r (widths s t)) (sym e) (mono-greedy (widths s t) (rising-widths s h t))) (subst Letting (sym e) (λ τ j. refl))
 
 -- two books at one tick, of which the first is behind on no job; where ended jobs still claim they are level
 pub record Abreast (s : Table) (a b : Book) : Type 0 where
@@ -72,7 +84,7 @@ module _ (s : Table) where
 module _ (s : Table) (ok : AllSound s) where
   -- a job in the second book's row that has not ended in the first is in the first book's row
   follow-letting :
-      (a b : Book) → Abreast s a b → GrantsMono (s .rule) (widths s) → Letting (s .rule)
+      (a b : Book) → Abreast s a b → ((t : ℕ) → GrantsMono (s .rule) (widths s t)) → Letting (s .rule)
       → (p k : ℕ) → p < length (s .tasks) → a .job p k .ended ≡ false → served s b p k ≡ true → served s a p k ≡ true
   unfolding served
   follow-letting a b ab mono let′ p k l o e =
@@ -85,10 +97,11 @@ module _ (s : Table) (ok : AllSound s) where
       (after-release (s .rule) (task s p) k (a .tick) (a .job p k) ca′)
       (before-due (s .rule) (task s p) k (a .tick) (a .job p k) ca′) in
       and-both (jobClaims s a p k) (inRow s a p) ca′
-      (mono (taskClaims s a) (taskClaims s b) (openCores s) subset p
-      (subst (λ (m : ℕ). jobClaims s a p m ≡ true) (sym nk) ca′) rb)
+      (subst (λ (t : ℕ). some (getD (grants (s .rule) (claimants (widths s t) (taskClaims s a)) (openCores s)) p []) ≡ true) (sym (ab .same-tick))
+      (mono (b .tick) (taskClaims s a) (taskClaims s b) (openCores s) subset p
+      (subst (λ (m : ℕ). jobClaims s a p m ≡ true) (sym nk) ca′) rb))
     where
-      subset : (q : ℕ) → q < length (widths s) → taskClaims s a q ≡ true → taskClaims s b q ≡ true
+      subset : (q : ℕ) → q < length (widths s (b .tick)) → taskClaims s a q ≡ true → taskClaims s b q ≡ true
       subset q h c =
           claims-less (s .rule) (task s q) (newest (task s q) (b .tick)) (b .tick)
           (a .job q (newest (task s q) (b .tick))) (b .job q (newest (task s q) (b .tick))) let′ (ab .near q (newest (task s q) (b .tick)) (rw length-map at h))

@@ -17,7 +17,7 @@ use Rattle.model.proofs.Search.{any-of, least-any, least-below, least-l
 use Rattle.model.specs.Book.{NeverMissed, book, full, quiet}
 use Rattle.model.specs.Horizon.{horizon, hyperperiod, lastS}
 use Rattle.model.specs.Search.{any, least}
-use Rattle.model.specs.Task.{AllSound, Rule, Table, Task, greedy, idling, limited}
+use Rattle.model.specs.Task.{AllSound, Rule, Table, Task, greedy, idling, limited, narrowest, widest}
 use Rattle.model.specs.Firm.{FirmRule, Rising, firm, rising}
 use Rattle.model.specs.Verdict.{Exact, Firm, FirstMiss, Full, Miss, firstMiss, missedAt, missedIn, verdict}
 
@@ -27,15 +27,15 @@ rising-says : (τs : List Task) → rising τs ≡ true → Rising τs
 unfolding rising
 rising-says [] e p l = absurd (not-suc-le-zero l)
 rising-says (τ ∷ []) e p l = absurd (not-suc-le-zero (le-of-suc-le-suc l))
-rising-says (τ ∷ τ′ ∷ τs) e zero l = leb-true (τ .width) (τ′ .width) (and-left (leb (τ .width) (τ′ .width)) (rising (τ′ ∷ τs)) e)
-rising-says (τ ∷ τ′ ∷ τs) e (suc p) l = rising-says (τ′ ∷ τs) (and-right (leb (τ .width) (τ′ .width)) (rising (τ′ ∷ τs)) e) p (le-of-suc-le-suc l)
+rising-says (τ ∷ τ′ ∷ τs) e zero l = leb-true (widest τ) (narrowest τ′) (and-left (leb (widest τ) (narrowest τ′)) (rising (τ′ ∷ τs)) e)
+rising-says (τ ∷ τ′ ∷ τs) e (suc p) l = rising-says (τ′ ∷ τs) (and-right (leb (widest τ) (narrowest τ′)) (rising (τ′ ∷ τs)) e) p (le-of-suc-le-suc l)
 
 rising-found : (τs : List Task) → Rising τs → rising τs ≡ true
 unfolding rising
 rising-found [] h = refl
 rising-found (τ ∷ []) h = refl
 rising-found (τ ∷ τ′ ∷ τs) h =
-    and-both (leb (τ .width) (τ′ .width)) (rising (τ′ ∷ τs)) (le-leb (τ .width) (τ′ .width) (h 0 (omega arith)))
+    and-both (leb (widest τ) (narrowest τ′)) (rising (τ′ ∷ τs)) (le-leb (widest τ) (narrowest τ′) (h 0 (omega arith)))
     (rising-found (τ′ ∷ τs) (λ p l. h (suc p) (omega arith)))
 
 pub rising-exact : (τs : List Task) → (rising τs ≡ true) ↔ Rising τs

@@ -8,7 +8,7 @@ use lib.ListN.{length, getD, replicate}
 use lib.Bits.{bitOr}
 use lib.Dec.{eqb, leb, ltb}
 use Rattle.model.specs.Search.{any, least, bit}
-use Rattle.model.specs.Task.{Task, Rule, greedy, limited, idling, Table, task, release, due, newest}
+use Rattle.model.specs.Task.{Task, Rule, greedy, limited, idling, Table, task, release, due, newest, widthOf}
 use Rattle.model.specs.Fence.{openCores}
 use Rattle.model.specs.Grants.{claimants, grants, some}
 use Rattle.model.specs.Row.{row}
@@ -76,13 +76,13 @@ jobClaims s b p k = claims (s .rule) (task s p) k (b .tick) (b .job p k)
 abbrev pub taskClaims : Table → Book → ℕ → Bool
 taskClaims s b p = jobClaims s b p (newest (task s p) (b .tick))
 
--- the widths of the tasks
-abbrev pub widths : Table → List ℕ
-widths s = map (λ τ. τ .width) (s .tasks)
+-- the widths of the tasks in tick t: those of their newest jobs
+abbrev pub widths : Table → ℕ → List ℕ
+widths s t = map (λ τ. widthOf τ (newest τ t)) (s .tasks)
 
 -- from the claims the table's rule gives the cores of each place, of those outside the fence ..
 abbrev pub grantsOf : Table → Book → List (List ℕ)
-grantsOf s b = grants (s .rule) (claimants (widths s) (taskClaims s b)) (openCores s)
+grantsOf s b = grants (s .rule) (claimants (widths s (b .tick)) (taskClaims s b)) (openCores s)
 
 -- .. and so the row
 abbrev pub rowOf : Table → Book → List ℕ

@@ -6,17 +6,17 @@ use mathlib.Core.Path.{_≡_}
 use Prim.Native.Nat.{_<_, suc, ℕ, _≤_}
 use lib.Dec.{leb}
 use lib.ListN.{getD, length}
-use Rattle.model.specs.Task.{Rule, Table, Task, greedy, idling, limited, nobody}
+use Rattle.model.specs.Task.{Rule, Table, Task, greedy, idling, limited, narrowest, nobody, widest}
 
--- widths never fall along the chain: the test (`firm-exact`)
+-- widths never fall along the chain, the larger of each task being at most the smaller of the next: the test (`rising-exact`)
 unfoldable pub rising : List Task → Bool
 rising [] = true
 rising (τ ∷ []) = true
-rising (τ ∷ τ′ ∷ τs) = leb (τ .width) (τ′ .width) && rising (τ′ ∷ τs)
+rising (τ ∷ τ′ ∷ τs) = leb (widest τ) (narrowest τ′) && rising (τ′ ∷ τs)
 
--- each width is at most the next
+-- each larger width is at most the next smaller one
 abbrev pub Rising : List Task → Type 0
-Rising τs = (p : ℕ) → suc p < length τs → getD τs p nobody .width ≤ getD τs (suc p) nobody .width
+Rising τs = (p : ℕ) → suc p < length τs → widest (getD τs p nobody) ≤ narrowest (getD τs (suc p) nobody)
 
 -- firm is for rules 2 and 3, and for rule 1 where widths never fall: the test (`firm-exact`)
 unfoldable pub firm : Rule → List Task → Bool

@@ -5,7 +5,7 @@ use Prim.Native.Nat.{_%_, _*_, _+_, _-_, _/_, _<_, suc, zero, ℕ, _≤_}
 use lib.Dec.{eqb}
 use lib.ListN.{getD, length}
 use Rattle.model.specs.Search.{least}
-use Rattle.model.specs.Task.{Table, Task, nobody, release}
+use Rattle.model.specs.Task.{Table, Task, cycle, nobody, release}
 
 -- O, or if larger, the first release of a task not before t (`release-from`, `release-first`)
 abbrev pub releaseFrom : Task → ℕ → ℕ
@@ -24,10 +24,10 @@ lastS τs = S τs (length τs - 1)
 unfoldable pub lcm : ℕ → ℕ → ℕ
 lcm a b = suc (least a (λ k. eqb (suc k * b % a) 0)) * b
 
--- P, the hyperperiod: the least common multiple of the periods (`P-exact`)
+-- P, the hyperperiod: the least common multiple of the periods, a task whose widths differ counting with 2T (`P-exact`)
 unfoldable pub hyperperiod : List Task → ℕ
 hyperperiod [] = 1
-hyperperiod (τ ∷ τs) = lcm (τ .period) (hyperperiod τs)
+hyperperiod (τ ∷ τs) = lcm (cycle τ) (hyperperiod τs)
 
 -- the last S plus P
 unfoldable pub horizon : Table → ℕ
@@ -40,11 +40,11 @@ pub record Later (τ : Task) (before here : ℕ) : Type 0 where
   pub first : (k : ℕ) → before ≤ release τ k → here ≤ release τ k
   pub offset : before ≤ τ .offset → here ≡ τ .offset
 
--- n is a multiple of the period of every task
+-- n is a multiple of every task's period, of 2T where its widths differ
 abbrev pub CommonMultiple : List Task → ℕ → Type 0
-CommonMultiple τs n = (p : ℕ) → p < length τs → (m : ℕ) × (n ≡ m * getD τs p nobody .period)
+CommonMultiple τs n = (p : ℕ) → p < length τs → (m : ℕ) × (n ≡ m * cycle (getD τs p nobody))
 
--- n is the least common multiple of the periods: of their positive common multiples the least (`P-exact` shows it of P)
+-- n is the least number that all of these divide: of their positive common multiples the least (`P-exact` shows it of P)
 pub record LeastCommonMultiple (τs : List Task) (n : ℕ) : Type 0 where
   pub positive : 0 < n
   pub common : CommonMultiple τs n

@@ -2,17 +2,18 @@
 -- Places and jobs count from 0 here: place p is position p + 1, and job k is the paper's job k + 1.
 use mathlib.Core.Bool.{cond}
 use mathlib.Core.List.{List}
-use Prim.Native.Nat.{ℕ, _+_, _*_, _-_, _/_, _≤_, _<_}
+use Prim.Native.Nat.{ℕ, _+_, _*_, _-_, _/_, _%_, _≤_, _<_, max, min}
 use lib.ListN.{length, getD}
 use lib.Dec.{eqb}
 
--- a task: offset O, width v, length C, deadline D, period T
+-- a task: offset O, length C, deadline D, period T, and its widths (request 108): v of its odd jobs and w of its even ones
 pub record Task : Type 0 where
   pub offset : ℕ
-  pub width : ℕ
+  pub oddWidth : ℕ
   pub length : ℕ
   pub deadline : ℕ
   pub period : ℕ
+  pub evenWidth : ℕ
 
 -- scope, 'The table': the rule is 1 greedy, 2 limited, 3 idling
 pub data Rule : Type 0 where
@@ -31,15 +32,16 @@ pub record Table : Type 0 where
 
 -- no task: what stands past the last place
 abbrev pub nobody : Task
-nobody = record { offset = 0; width = 0; length = 0; deadline = 0; period = 0 }
+nobody = record { offset = 0; oddWidth = 0; length = 0; deadline = 0; period = 0; evenWidth = 0 }
 
 -- the task at place p
 abbrev pub task : Table → ℕ → Task
 task s p = getD (s .tasks) p nobody
 
--- the limits on one task that the theorems use: v, C and D are at least 1, and D is at most T
+-- the limits on one task that the theorems use: v, w, C and D are at least 1, and D is at most T
 pub record Sound (τ : Task) : Type 0 where
-  pub width-pos : 1 ≤ τ .width
+  pub odd-pos : 1 ≤ τ .oddWidth
+  pub even-pos : 1 ≤ τ .evenWidth
   pub length-pos : 1 ≤ τ .length
   pub deadline-pos : 1 ≤ τ .deadline
   pub constrained : τ .deadline ≤ τ .period
@@ -55,6 +57,21 @@ release τ k = τ .offset + k * τ .period
 -- scope: and must have its C ticks, on v cores together, by that tick plus D
 abbrev pub due : Task → ℕ → ℕ
 due τ k = release τ k + τ .deadline
+
+-- the width of job k: jobs count from 0 here, so that an even k is an odd job of the paper
+abbrev pub widthOf : Task → ℕ → ℕ
+widthOf τ k = cond (eqb (k % 2) 0) (τ .oddWidth) (τ .evenWidth)
+
+-- the larger and the smaller of a task's widths
+abbrev pub widest : Task → ℕ
+widest τ = max (τ .oddWidth) (τ .evenWidth)
+
+abbrev pub narrowest : Task → ℕ
+narrowest τ = min (τ .oddWidth) (τ .evenWidth)
+
+-- after how many ticks a task's releases and widths repeat: T, or 2T where the widths differ
+abbrev pub cycle : Task → ℕ
+cycle τ = cond (eqb (τ .oddWidth) (τ .evenWidth)) (τ .period) (2 * τ .period)
 
 -- the job of a task that is released last by tick t, and job 0 before the first release; only it can claim in t, since D ≤ T (`only-newest`)
 abbrev pub newest : Task → ℕ → ℕ

@@ -1,6 +1,6 @@
--- The test of a phase decides its limits, and a tick keeps a phase within them.
+-- The test of a phase and its parity decides their limits, and a tick keeps them within these.
 use mathlib.Core.Path.{_≡_, refl, ap}
-use mathlib.Core.Bool.{Bool, true, false, _&&_, _||_, cond, false≢true}
+use mathlib.Core.Bool.{Bool, true, false, not, _&&_, _||_, cond, false≢true, true≢false}
 use Prim.Native.Nat.{ℕ, _+_, _-_, _≤_, _<_}
 use native.Mathlib.Omega.{arith}
 use lib.Dec.{eqb}
@@ -9,7 +9,8 @@ use Rattle.model.specs.Task.{Task, Sound, Rule, greedy, limited, idling, ruleOf
 use Rattle.table.proofs.Decide.{Decides, decides-le, decides-lt, decides-and}
 use Rattle.phase.specs.declared.Phase.{Phase}
 use Rattle.phase.specs.declared.Phase.the-variants.{Coming, Working, Holding, Resting}
-use Rattle.phase.specs.Phase.{PhaseIn, idles, phaseIn, lateIn, released, emptyPhase, seen, startPhase, resting, holding, ended, worked, nextPhase}
+use Rattle.phase.specs.declared.Stand.{Stand}
+use Rattle.phase.specs.Phase.{PhaseIn, idles, phaseIn, lateIn, released, emptyPhase, seen, stand, startStand, resting, holding, ended, worked, nextStand}
 
 -- TESTS
 
@@ -37,110 +38,122 @@ idles-decides greedy = (λ e. absurd (false≢true e), λ e. ap idles e)
 idles-decides limited = (λ e. absurd (false≢true e), λ e. ap idles e)
 idles-decides idling = (λ e. refl, λ e. refl)
 
+-- a job is odd if it is not an even one
+odd-decides : (e : Bool) → Decides (not e) (e ≡ false)
+odd-decides true = (λ q. absurd (false≢true q), λ q. absurd (true≢false q))
+odd-decides false = (λ q. refl, λ q. refl)
+
 -- the test is true exactly within the limits
-pub phase-decides : (r : Rule) (τ : Task) (ph : Phase) → Decides (phaseIn r τ ph) (PhaseIn r τ ph)
-phase-decides r τ (Coming left) = decides-and _ _ _ _ (decides-le 1 left) (decides-le left (τ .offset))
-phase-decides r τ (Working z u) = (
+pub phase-decides : (r : Rule) (τ : Task) (even : Bool) (ph : Phase) → Decides (phaseIn r τ even ph) (PhaseIn r τ even ph)
+phase-decides r τ even (Coming left) =
+    decides-and _ _ _ _ (decides-and _ _ _ _ (decides-le 1 left) (decides-le left (τ .offset))) (odd-decides even)
+phase-decides r τ even (Working z u) = (
   λ e. let x = deciding .0 e in ((omega arith, x .0), x .1 .0, x .1 .1),
   λ x. deciding .1 (x .0 .1, (x .1, x .2)),
 )
   where
-    deciding : Decides (phaseIn r τ (Working z u)) ((z ≤ τ .deadline) × ((u < τ .length) × (u ≤ z)))
+    deciding : Decides (phaseIn r τ even (Working z u)) ((z ≤ τ .deadline) × ((u < τ .length) × (u ≤ z)))
     deciding = decides-and _ _ _ _ (decides-le z (τ .deadline)) (decides-and _ _ _ _ (decides-lt u (τ .length)) (decides-le u z))
-phase-decides r τ (Holding z u) = (
+phase-decides r τ even (Holding z u) = (
   λ e. let x = deciding .0 e in (x .0, x .1 .0, x .1 .1 .0, x .1 .1 .1),
   λ x. deciding .1 (x .0, (x .1, (x .2, x .3))),
 )
   where
-    deciding : Decides (phaseIn r τ (Holding z u)) ((r ≡ idling) × ((z < τ .deadline) × ((u < τ .length) × (u ≤ z))))
+    deciding : Decides (phaseIn r τ even (Holding z u)) ((r ≡ idling) × ((z < τ .deadline) × ((u < τ .length) × (u ≤ z))))
     deciding =
         decides-and _ _ _ _ (idles-decides r)
         (decides-and _ _ _ _ (decides-lt z (τ .deadline))
         (decides-and _ _ _ _ (decides-lt u (τ .length)) (decides-le u z)))
-phase-decides r τ (Resting z) = (
+phase-decides r τ even (Resting z) = (
   λ e. let x = deciding .0 e in (x .0, omega arith),
   λ x. deciding .1 (x .0, omega arith),
 )
   where
-    deciding : Decides (phaseIn r τ (Resting z)) ((1 ≤ z) × (z < τ .period))
+    deciding : Decides (phaseIn r τ even (Resting z)) ((1 ≤ z) × (z < τ .period))
     deciding = decides-and _ _ _ _ (decides-le 1 z) (decides-lt z (τ .period))
 
 -- a hold ends at z = D, whatever it has claimed
-pub hold-ends : (τ : Task) (u : ℕ) → holding τ (τ .deadline) u ≡ resting τ (τ .deadline)
-hold-ends τ u = rw (eq-eqb (τ .deadline) (τ .deadline) refl) (go (eqb u (τ .length)))
+pub hold-ends : (τ : Task) (even : Bool) (u : ℕ) → holding τ even (τ .deadline) u ≡ resting τ even (τ .deadline)
+hold-ends τ even u = rw (eq-eqb (τ .deadline) (τ .deadline) refl) (go (eqb u (τ .length)))
   where
-    go : (x : Bool) → cond (x || true) (resting τ (τ .deadline)) (Holding (τ .deadline) u) ≡ resting τ (τ .deadline)
+    go : (x : Bool) → cond (x || true) (resting τ even (τ .deadline)) (stand even (Holding (τ .deadline) u)) ≡ resting τ even (τ .deadline)
     go true = refl
     go false = refl
 
 -- ONE TICK KEEPS THE LIMITS
 
+-- where a task stands is within the limits
+abbrev pub StandIn : Rule → Task → Stand → Type 0
+StandIn r τ w = PhaseIn r τ (w .even) (w .phase)
+
 module _ (r : Rule) (τ : Task) (ok : Sound τ) where
-  resting-in : (z : ℕ) → 1 ≤ z → z ≤ τ .period → PhaseIn r τ (resting τ z)
-  resting-in z a b =
-      by-eq (λ (x : Bool). PhaseIn r τ (cond x (Working 0 0) (Resting z))) z (τ .period)
+  resting-in : (even : Bool) (z : ℕ) → 1 ≤ z → z ≤ τ .period → StandIn r τ (resting τ even z)
+  resting-in even z a b =
+      by-eq (λ (x : Bool). StandIn r τ (cond x (stand (not even) (Working 0 0)) (stand even (Resting z)))) z (τ .period)
       (λ e. ((omega arith, omega arith), ok .length-pos, omega arith))
       (λ n. (a, omega arith))
 
-  holding-in : r ≡ idling → (z u : ℕ) → 1 ≤ z → z ≤ τ .deadline → u ≤ τ .length → u ≤ z → PhaseIn r τ (holding τ z u)
-  holding-in i z u a b d w =
-      by-eq (λ (x : Bool). PhaseIn r τ (cond (x || eqb z (τ .deadline)) (resting τ z) (Holding z u))) u (τ .length)
-      (λ e. resting-in z a (omega (arith, ok .constrained)))
+  holding-in :
+      r ≡ idling → (even : Bool) (z u : ℕ) → 1 ≤ z → z ≤ τ .deadline → u ≤ τ .length → u ≤ z → StandIn r τ (holding τ even z u)
+  holding-in i even z u a b d w =
+      by-eq (λ (x : Bool). StandIn r τ (cond (x || eqb z (τ .deadline)) (resting τ even z) (stand even (Holding z u)))) u (τ .length)
+      (λ e. resting-in even z a (omega (arith, ok .constrained)))
       (λ n.
-      by-eq (λ (x : Bool). PhaseIn r τ (cond x (resting τ z) (Holding z u))) z (τ .deadline)
-      (λ e. resting-in z a (omega (arith, ok .constrained)))
+      by-eq (λ (x : Bool). StandIn r τ (cond x (resting τ even z) (stand even (Holding z u)))) z (τ .deadline)
+      (λ e. resting-in even z a (omega (arith, ok .constrained)))
       (λ m. (i, omega arith, omega arith, w)))
 
-  ended-in : (z u : ℕ) → 1 ≤ z → z ≤ τ .deadline → u ≤ τ .length → u ≤ z → PhaseIn r τ (ended r τ z u)
-  ended-in z u a b d w = go (idles r) refl
+  ended-in : (even : Bool) (z u : ℕ) → 1 ≤ z → z ≤ τ .deadline → u ≤ τ .length → u ≤ z → StandIn r τ (ended r τ even z u)
+  ended-in even z u a b d w = go (idles r) refl
     where
-      go : (x : Bool) → idles r ≡ x → PhaseIn r τ (cond x (holding τ z u) (resting τ z))
-      go true e = holding-in (idles-decides r .0 e) z u a b d w
-      go false e = resting-in z a (omega (arith, ok .constrained))
+      go : (x : Bool) → idles r ≡ x → StandIn r τ (cond x (holding τ even z u) (resting τ even z))
+      go true e = holding-in (idles-decides r .0 e) even z u a b d w
+      go false e = resting-in even z a (omega (arith, ok .constrained))
 
-  worked-in : (f : Bool) (z u : ℕ) → 1 ≤ z → z ≤ τ .deadline → u ≤ τ .length → u ≤ z → PhaseIn r τ (worked r τ f z u)
-  worked-in true z u a b d w = ended-in z u a b d w
-  worked-in false z u a b d w =
-      by-eq (λ (x : Bool). PhaseIn r τ (cond x (ended r τ z u) (Working z u))) u (τ .length)
-      (λ e. ended-in z u a b d w)
+  worked-in : (f even : Bool) (z u : ℕ) → 1 ≤ z → z ≤ τ .deadline → u ≤ τ .length → u ≤ z → StandIn r τ (worked r τ f even z u)
+  worked-in true even z u a b d w = ended-in even z u a b d w
+  worked-in false even z u a b d w =
+      by-eq (λ (x : Bool). StandIn r τ (cond x (ended r τ even z u) (stand even (Working z u)))) u (τ .length)
+      (λ e. ended-in even z u a b d w)
       (λ n. ((omega arith, b), omega arith, w))
 
   -- a phase within its limits, whose task is not late, is within them one tick on
-  pub next-in : (ran f : Bool) (ph : Phase) → PhaseIn r τ ph → lateIn (τ .deadline) ph ≡ false → PhaseIn r τ (nextPhase r τ ran f ph)
-  next-in ran f (Coming left) h n =
-      by-eq (λ (x : Bool). PhaseIn r τ (cond x (Working 0 0) (Coming (left - 1)))) (left - 1) 0
+  pub next-in :
+      (ran f even : Bool) (ph : Phase) → PhaseIn r τ even ph → lateIn (τ .deadline) ph ≡ false → StandIn r τ (nextStand r τ ran f even ph)
+  next-in ran f even (Coming left) h n =
+      by-eq (λ (x : Bool). StandIn r τ (stand even (cond x (Working 0 0) (Coming (left - 1))))) (left - 1) 0
       (λ e. ((omega arith, omega arith), ok .length-pos, omega arith))
-      (λ e. (omega arith, omega arith))
-  next-in true f (Working z u) h n =
+      (λ e. ((omega arith, omega arith), h .1))
+  next-in true f even (Working z u) h n =
       let less = eqb-false z (τ .deadline) n in
-      worked-in f (z + 1) (u + 1) (omega arith) (omega arith) (omega arith) (omega arith)
-  next-in false f (Working z u) h n =
+      worked-in f even (z + 1) (u + 1) (omega arith) (omega arith) (omega arith) (omega arith)
+  next-in false f even (Working z u) h n =
       let less = eqb-false z (τ .deadline) n in
       ((omega arith, omega arith), h .1, omega arith)
-  next-in true f (Holding z u) h n = holding-in (h .0) (z + 1) (u + 1) (omega arith) (omega arith) (omega arith) (omega arith)
-  next-in false f (Holding z u) h n = holding-in (h .0) (z + 1) u (omega arith) (omega arith) (omega arith) (omega arith)
-  next-in ran f (Resting z) h n = resting-in (z + 1) (omega arith) (omega arith)
+  next-in true f even (Holding z u) h n = holding-in (h .0) even (z + 1) (u + 1) (omega arith) (omega arith) (omega arith) (omega arith)
+  next-in false f even (Holding z u) h n = holding-in (h .0) even (z + 1) u (omega arith) (omega arith) (omega arith) (omega arith)
+  next-in ran f even (Resting z) h n = resting-in even (z + 1) (omega arith) (omega arith)
 
   -- .. and so if its job, released in this tick, is empty
   pub seen-in :
-      (empty ran f : Bool) (ph : Phase) → PhaseIn r τ ph → lateIn (τ .deadline) ph ≡ false
-      → PhaseIn r τ (nextPhase r τ ran f (seen r empty ph))
-  seen-in empty ran f ph h n = go (empty && released ph)
+      (empty ran f even : Bool) (ph : Phase) → PhaseIn r τ even ph → lateIn (τ .deadline) ph ≡ false
+      → StandIn r τ (nextStand r τ ran f even (seen r empty ph))
+  seen-in empty ran f even ph h n = go (empty && released ph)
     where
-      none : (x : Bool) → idles r ≡ x → PhaseIn r τ (nextPhase r τ ran f (cond x (Holding 0 0) (Resting 0)))
-      none true e = next-in ran f (Holding 0 0) (idles-decides r .0 e, ok .deadline-pos, ok .length-pos, omega arith) refl
-      none false e = resting-in (0 + 1) (omega arith) (omega (arith, ok .constrained, ok .deadline-pos))
+      none : (x : Bool) → idles r ≡ x → StandIn r τ (nextStand r τ ran f even (cond x (Holding 0 0) (Resting 0)))
+      none true e = next-in ran f even (Holding 0 0) (idles-decides r .0 e, ok .deadline-pos, ok .length-pos, omega arith) refl
+      none false e = resting-in even (0 + 1) (omega arith) (omega (arith, ok .constrained, ok .deadline-pos))
 
-      go : (x : Bool) → PhaseIn r τ (nextPhase r τ ran f (cond x (emptyPhase r) ph))
+      go : (x : Bool) → StandIn r τ (nextStand r τ ran f even (cond x (emptyPhase r) ph))
       go true = none (idles r) refl
-      go false = next-in ran f ph h n
+      go false = next-in ran f even ph h n
 
-  -- and so is the phase at the start
-  pub start-in : PhaseIn r τ (startPhase (τ .offset))
+  -- and so is the start
+  pub start-in : StandIn r τ (startStand (τ .offset))
   start-in =
-      by-eq (λ (x : Bool). PhaseIn r τ (cond x (Working 0 0) (Coming (τ .offset)))) (τ .offset) 0
+      by-eq (λ (x : Bool). StandIn r τ (stand false (cond x (Working 0 0) (Coming (τ .offset))))) (τ .offset) 0
       (λ e. ((omega arith, omega arith), ok .length-pos, omega arith))
-      (λ n. (omega arith, omega arith))
+      (λ n. ((omega arith, omega arith), refl))
 
 -- an empty job is not late
 pub seen-late : (r : Rule) (D : ℕ) (empty : Bool) (ph : Phase) → lateIn D ph ≡ false → lateIn D (seen r empty ph) ≡ false

@@ -18,16 +18,17 @@ impl Task {
             length: self.length,
             deadline: self.deadline,
             period: self.period,
+            second: self.second,
         }
     }
 
-    // Whether the task's phase is within its limits.
+    // Whether the task's phase is within its limits, and so is its parity.
     fn phase_in(self, rule: u32) -> bool
-        ensures { λ r. ⌜ r ≡ phaseIn (ruleOf rule) (taskOf self) (self .phase) ⌝ }
+        ensures { λ r. ⌜ r ≡ phaseIn (ruleOf rule) (taskOf self) (self .even) (self .phase) ⌝ }
     {
         let phase = self.phase;
         match phase {
-            Phase::Coming(left) => (1 <= left) & (left <= self.offset),
+            Phase::Coming(left) => ((1 <= left) & (left <= self.offset)) & !self.even,
             Phase::Working(z, u) => (z <= self.deadline) & ((u < self.length) & (u <= z)),
             Phase::Holding(z, u) => {
                 (rule == 3) & ((z < self.deadline) & ((u < self.length) & (u <= z)))
@@ -36,7 +37,7 @@ impl Task {
         }
     }
 
-    // Whether the task breaks 7 or 8 on so many unfenced cores, or its phase is outside the limits.
+    // Whether the task breaks 7 or 8 on so many unfenced cores, or its phase or its parity is outside the limits.
     pub fn out(self, rule: u32, wide: u32) -> bool
         ensures { λ r. ⌜ r ≡ outIn wide (ruleOf rule) self ⌝ }
     {

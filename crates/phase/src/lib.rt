@@ -16,13 +16,22 @@ pub enum Phase {
     Resting(u32),
 }
 
-// A task of the run: offset O, width v, length C, deadline D, period T, and its phase.
+// Where a task stands: whether its job is an even one, and its phase.
+pub struct Stand {
+    pub even: bool,
+    pub phase: Phase,
+}
+
+// A task of the run: offset O, width v of its odd jobs, length C, deadline D, period T, width w of its even jobs; whether its job is an
+// even one (odd until the second release, then changing at each), and its phase.
 pub struct Task {
     pub offset: u32,
     pub width: u32,
     pub length: u32,
     pub deadline: u32,
     pub period: u32,
+    pub second: u32,
+    pub even: bool,
     pub phase: Phase,
 }
 

@@ -1,12 +1,12 @@
 // A task as it starts from a table, and what stands in a place past the count.
 ghost use mathlib.Core.Path.{_≡_};
 ghost use Rattle.table.specs.Task as table;
-ghost use Rattle.phase.specs.Phase.{startPhase};
+ghost use Rattle.phase.specs.Phase.{startStand};
 ghost use Rattle.phase.specs.Task.{unused, startTask};
 use crate::Phase;
 use crate::Task;
 
-// A place past the count: zeros and Resting(0).
+// A place past the count: zeros, odd and Resting(0).
 pub fn unused() -> Task
     ensures { λ r. ⌜ r ≡ unused ⌝ }
 {
@@ -16,13 +16,15 @@ pub fn unused() -> Task
         length: 0,
         deadline: 0,
         period: 0,
+        second: 0,
+        even: false,
         phase: Phase::Resting(0),
     }
 }
 
 // The phase at tick 0 of a task of this offset.
 fn start_phase(offset: u32) -> Phase
-    ensures { λ r. ⌜ r ≡ startPhase offset ⌝ }
+    ensures { λ r. ⌜ r ≡ startStand offset .phase ⌝ }
 {
     if offset == 0 {
         Phase::Working(0, 0)
@@ -31,7 +33,7 @@ fn start_phase(offset: u32) -> Phase
     }
 }
 
-// A task of the table as it starts.
+// A task of the table as it starts: its first job is an odd one.
 pub fn start_task(task: table::Task) -> Task
     ensures { λ r. ⌜ r ≡ startTask (table.taskOf task) ⌝ }
 {
@@ -42,6 +44,8 @@ pub fn start_task(task: table::Task) -> Task
         length: task.length,
         deadline: task.deadline,
         period: task.period,
+        second: task.second,
+        even: false,
         phase: phase,
     }
 }

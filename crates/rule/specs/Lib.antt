@@ -1,3 +1,4 @@
--- What the tick rule gives to the claimants, as shares of cores, and the row that shows it.
+-- The widths of a tick, what the tick rule gives to the claimants, as shares of cores, and the row that shows it.
+pub mod Widths
 pub mod Shares
 pub mod Painted

@@ -1,8 +1,8 @@
 // The tick rule: who of the claimants is given cores in a tick, which cores, and the row that shows it.
 ghost use mathlib.Core.Path.{_≡_};
 ghost use mathlib.Core.List.{map, _++_};
-ghost use Prim.Native.Nat.{ℕ, _+_, _-_, _≤_};
-ghost use lib.ListN.{length, take, replicate};
+ghost use Prim.Native.Nat.{ℕ, _+_, _-_, _≤_, _<_};
+ghost use lib.ListN.{getD, take, replicate};
 ghost use Rattle.model.specs.Search.{bit};
 ghost use Rattle.model.specs.Task.{ruleOf};
 ghost use Rattle.model.specs.Fence.{unfenced};
@@ -12,9 +12,13 @@ ghost use Rattle.model.specs.Sizes.{mostCores, mostTasks};
 ghost use Rattle.cores.specs.Cores.{cores};
 ghost use Rattle.rule.specs.Shares.{served, GrantedAs, granted};
 ghost use Rattle.rule.specs.Painted.{painted, shown};
+ghost use Rattle.rule.specs.Widths.{widthsIn};
 use model::FENCED;
 use model::MOST_TASKS;
 use model::ROW;
+
+// Each place has two widths: the first of every place stands before the second of any. How many they are.
+pub const PAIR: usize = 2 * MOST_TASKS;
 
 // What the tick rule says to a claimant: it takes its cores, it is passed over, or it ends the tick's choosing.
 pub enum Served {
@@ -36,9 +40,18 @@ pub fn serve(rule: u32, free: u32, width: u32) -> Served
     Served::Passed
 }
 
+// The width of a place in a tick: its second where the place is in the set, else its first.
+pub fn width_at(even: u32, widths: &[u32; PAIR], place: u32) -> u32
+    requires { ⌜ place < mostTasks ⌝ }
+    ensures { λ r. ⌜ r ≡ getD (widthsIn even (now (widths .entry))) place 0 ⌝ }
+{
+    let turned = (even >> place) % 2;
+    widths[MOST_TASKS * turned as usize + place as usize]
+}
+
 // The set of positions that are given cores, of the set that claims; bit 0 is for position 1. The free cores are counted once.
-pub fn choose(rule: u32, free: u64, claims: u32, widths: &[u32; MOST_TASKS]) -> u32
-    ensures { λ r. ⌜ ((p : ℕ) → bit r p ≡ granted (ruleOf rule) (claimants (now (widths .entry)) (bit claims)) (cores free) p) ⌝ }
+pub fn choose(rule: u32, free: u64, claims: u32, even: u32, widths: &[u32; PAIR]) -> u32
+    ensures { λ r. ⌜ ((p : ℕ) → bit r p ≡ granted (ruleOf rule) (claimants (widthsIn even (now (widths .entry))) (bit claims)) (cores free) p) ⌝ }
 {
     let mut chosen: u32 = 0;
     let mut left = u64::count_ones(free);
@@ -46,7 +59,7 @@ pub fn choose(rule: u32, free: u64, claims: u32, widths: &[u32; MOST_TASKS]) -> 
     while 0 < rest {
         let p = u32::trailing_zeros(rest);
         rest &= rest - 1;
-        let width = widths[p as usize];
+        let width = width_at(even, widths, p);
         match serve(rule, left, width) {
             Served::Takes => {
                 left -= width;
@@ -63,33 +76,27 @@ pub fn choose(rule: u32, free: u64, claims: u32, widths: &[u32; MOST_TASKS]) -> 
     chosen
 }
 
-// How many widths there are. A reference does not tell its reader the length of its array; this does.
-fn places(widths: [u32; MOST_TASKS]) -> usize
-    ensures { λ r. ⌜ (r ≡ mostTasks) × (length widths ≡ mostTasks) ⌝ }
-{
-    MOST_TASKS
-}
-
 // The set of cores of each of the first `count` positions, 0 where it is given none; `claims` is the set that claims, bit 0 for position 1.
 pub fn grants(
     rule: u32,
     free: u64,
     claims: u32,
-    widths: &[u32; MOST_TASKS],
+    even: u32,
+    widths: &[u32; PAIR],
     count: usize,
 ) -> [u64; MOST_TASKS]
-    ensures { λ r. ⌜ GrantedAs (ruleOf rule) (claimants (take count (now (widths .entry))) (bit claims)) count free r ⌝ }
+    ensures { λ r. ⌜ GrantedAs (ruleOf rule) (claimants (take count (widthsIn even (now (widths .entry)))) (bit claims)) count free r ⌝ }
 {
-    let all = places(*widths);
     let mut sets = [0u64; MOST_TASKS];
     let mut set = free;
     let mut left = u64::count_ones(free);
     let mut rest = claims;
     while 0 < rest {
-        let at = u32::trailing_zeros(rest) as usize;
+        let p = u32::trailing_zeros(rest);
+        let at = p as usize;
         rest &= rest - 1;
         if at < count {
-            let width = widths[at];
+            let width = width_at(even, widths, p);
             match serve(rule, left, width) {
                 Served::Takes => {
                     let taken = cores::lowest(set, width);
@@ -143,14 +150,15 @@ pub fn show(
     cores: u32,
     fence: u64,
     claiming: u32,
-    widths: &[u32; MOST_TASKS],
+    even: u32,
+    widths: &[u32; PAIR],
     count: usize,
 ) -> [u8; ROW]
     requires { ⌜ (cores ≤ mostCores) × (count ≤ mostTasks) ⌝ }
-    ensures { λ r. ⌜ r ≡ row fence cores (grants (ruleOf rule) (claimants (take count (now (widths .entry))) (bit claiming)) (unfenced fence cores)) ++ replicate (mostCores - cores) 0 ⌝ }
+    ensures { λ r. ⌜ r ≡ row fence cores (grants (ruleOf rule) (claimants (take count (widthsIn even (now (widths .entry)))) (bit claiming)) (unfenced fence cores)) ++ replicate (mostCores - cores) 0 ⌝ }
 {
     let free = cores::open_cores(cores, fence);
-    let sets = grants(rule, free, claiming, widths, count);
+    let sets = grants(rule, free, claiming, even, widths, count);
     let fenced = cores::without(cores::first_cores(cores), free);
     let start = paint([0u8; ROW], fenced, FENCED);
     row_of(start, 1, &sets, count)

@@ -18,10 +18,12 @@ use Rattle.model.proofs.Bools.{not-false-true}
 use Rattle.model.proofs.Grants.{claimants-same}
 use Rattle.model.proofs.Search.{none-any, none-at}
 use Rattle.rule.specs.Shares.{granted}
+use Rattle.rule.specs.Widths.{widthsIn}
 use Rattle.run.specs.declared.Run.{Run}
 use Rattle.run.specs.declared.choosing.Claims.{Claims}
 use Rattle.phase.specs.Phase.{claiming, working}
-use Rattle.run.specs.Run.{ruleIn, seenAt, widthsIn, grantsIn, hasCores}
+use Rattle.phase.specs.Task.{widthNow}
+use Rattle.run.specs.Run.{ruleIn, seenAt, widthsNow, grantsIn, hasCores}
 use Rattle.run.specs.Numbers.{emptiableAt, misemptiedIn, reportableAt, misreportedIn}
 use Rattle.run.specs.Claims.{ClaimsOf}
 
@@ -56,18 +58,22 @@ module _ (r : Run) (e : ℕ) (c : Claims) (h : ClaimsOf r e c) where
   past q l = h .claimed q ∙ ap (λ (t : Bool). t && claiming (seenAt r e q)) (le-ltb q (r .count) l)
 
   -- the set that the choosing gives is that of the places with cores
-  pub has-cores : (p : ℕ) → granted (ruleIn r) (claimants (c .widths) (bit (c .claiming))) (unfenced (r .fence) (r .cores)) p ≡ hasCores r e p
+  pub has-cores :
+      (p : ℕ)
+      → granted (ruleIn r) (claimants (widthsIn (c .even) (c .widths)) (bit (c .claiming))) (unfenced (r .fence) (r .cores)) p ≡ hasCores r e p
   unfolding grantsIn
   has-cores p =
-      granted-front (ruleIn r) (r .count) (c .widths) (bit (c .claiming)) (λ q. claiming (seenAt r e q)) (unfenced (r .fence) (r .cores)) p below past
+      granted-front (ruleIn r) (r .count) (widthsIn (c .even) (c .widths)) (bit (c .claiming)) (λ q. claiming (seenAt r e q))
+      (unfenced (r .fence) (r .cores)) p below past
       ∙ ap (λ (ws : List ℕ). granted (ruleIn r) (claimants ws (λ q. claiming (seenAt r e q))) (unfenced (r .fence) (r .cores)) p) (h .width)
 
   -- the claimants below the count
-  pub same-claimants : claimants (take (r .count) (c .widths)) (bit (c .claiming)) ≡ claimants (widthsIn r) (λ q. claiming (seenAt r e q))
+  pub same-claimants :
+      claimants (take (r .count) (widthsIn (c .even) (c .widths))) (bit (c .claiming)) ≡ claimants (widthsNow r) (λ q. claiming (seenAt r e q))
   same-claimants =
       ap (λ (ws : List ℕ). claimants ws (bit (c .claiming))) (h .width)
-      ∙ claimants-same (widthsIn r) (bit (c .claiming)) (λ q. claiming (seenAt r e q))
-      (λ q l. below q (omega (arith, length-map (take (r .count) (r .tasks)) (λ t. t .width), length-take (r .count) (r .tasks))))
+      ∙ claimants-same (widthsNow r) (bit (c .claiming)) (λ q. claiming (seenAt r e q))
+      (λ q l. below q (omega (arith, length-map (take (r .count) (r .tasks)) widthNow, length-take (r .count) (r .tasks))))
 
   -- the set of the places that may be reported
   may-end : (g : ℕ) → ((p : ℕ) → bit g p ≡ hasCores r e p) → (p : ℕ) → bit (bitAnd g (c .working)) p ≡ reportableAt r e p

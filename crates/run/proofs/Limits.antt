@@ -18,7 +18,7 @@ use Rattle.phase.specs.declared.Task.{Task}
 use Rattle.run.specs.declared.Run.{Run}
 use Rattle.phase.specs.Phase.{PhaseIn, phaseIn}
 use Rattle.phase.specs.Task.{taskOf, pastEnd}
-use Rattle.run.specs.Run.{ruleIn, taskAt, phaseAt, emptyAt, hasCores, mapFirst, nextAt, moved, withdrawnIn}
+use Rattle.run.specs.Run.{ruleIn, taskAt, evenAt, phaseAt, emptyAt, hasCores, mapFirst, nextAt, moved, withdrawnIn}
 use Rattle.run.specs.Numbers.{wideIn, PlaceOut, RunOut, pastCount, placeOut, runOut, lateAt}
 use Rattle.run.proofs.SetTests.{past-decides, within-or}
 use Rattle.run.proofs.Places.{mapFirst-at}
@@ -29,7 +29,7 @@ use Rattle.phase.proofs.Phases.{phase-decides, seen-in}
 pub place-decides : (r : Run) (p : ℕ) → Decides (placeOut r p) (PlaceOut r p)
 place-decides r p =
     decides-or _ _ _ _ (task-decides (wideIn r) (taskAt r p))
-    (decides-not _ _ (phase-decides (ruleIn r) (taskAt r p) (phaseAt r p)))
+    (decides-not _ _ (phase-decides (ruleIn r) (taskAt r p) (evenAt r p) (phaseAt r p)))
 
 pub run-decides : (r : Run) → Decides (runOut r) (RunOut r)
 unfolding runOut
@@ -55,7 +55,7 @@ pub record Passes (r : Run) : Type 0 where
   pub fence : fenceOut (r .cores) (r .fence) ≡ false
   pub withdrawn : pastCount (r .count) (r .withdrawn) ≡ false
   pub tasks : (p : ℕ) → p < r .count → taskOut (wideIn r) (taskAt r p) ≡ false
-  pub phases : (p : ℕ) → p < r .count → PhaseIn (ruleIn r) (taskAt r p) (phaseAt r p)
+  pub phases : (p : ℕ) → p < r .count → PhaseIn (ruleIn r) (taskAt r p) (evenAt r p) (phaseAt r p)
 
 none-of :
     (a b c d e f : Bool) → a || (b || (c || (d || (e || f)))) ≡ false
@@ -75,11 +75,11 @@ passes-if r e = record {
   rule = none .2;
   fence = none .3;
   withdrawn = none .4;
-  tasks = λ p l. or-left-false (taskOut (wideIn r) (taskAt r p)) (not (phaseIn (ruleIn r) (taskAt r p) (phaseAt r p))) (at p l);
+  tasks = λ p l. or-left-false (taskOut (wideIn r) (taskAt r p)) (not (phaseIn (ruleIn r) (taskAt r p) (evenAt r p) (phaseAt r p))) (at p l);
   phases = λ p l.
-      phase-decides (ruleIn r) (taskAt r p) (phaseAt r p) .0
-      (not-false (phaseIn (ruleIn r) (taskAt r p) (phaseAt r p))
-      (or-right-false (taskOut (wideIn r) (taskAt r p)) (not (phaseIn (ruleIn r) (taskAt r p) (phaseAt r p))) (at p l)));
+      phase-decides (ruleIn r) (taskAt r p) (evenAt r p) (phaseAt r p) .0
+      (not-false (phaseIn (ruleIn r) (taskAt r p) (evenAt r p) (phaseAt r p))
+      (or-right-false (taskOut (wideIn r) (taskAt r p)) (not (phaseIn (ruleIn r) (taskAt r p) (evenAt r p) (phaseAt r p))) (at p l)));
 }
   where
     none : (not (from 1 mostTasks (r .count)) ≡ false) × (coresOut (r .cores) ≡ false) × (ruleOut (r .rule) ≡ false) × (fenceOut (r .cores) (r .fence) ≡ false)
@@ -96,7 +96,7 @@ unfolding runOut
 passes-runs r h = rw (h .count, h .cores, h .rule, h .fence, h .withdrawn) (none-any (r .count) (placeOut r) at)
   where
     at : (p : ℕ) → p < r .count → placeOut r p ≡ false
-    at p l = rw (h .tasks p l, phase-decides (ruleIn r) (taskAt r p) (phaseAt r p) .1 (h .phases p l))
+    at p l = rw (h .tasks p l, phase-decides (ruleIn r) (taskAt r p) (evenAt r p) (phaseAt r p) .1 (h .phases p l))
 
 -- a task that 7 and 8 pass is sound
 pub sound-if : (m : ℕ) (τ : model.Task) → taskOut m τ ≡ false → model.Sound τ
@@ -124,8 +124,8 @@ moved-passes f e r h n = record {
   withdrawn = h .withdrawn;
   tasks = λ p l. rw (at p l) (h .tasks p l);
   phases = λ p l.
-      subst (λ (t : Task). PhaseIn (ruleIn r) (taskOf t) (t .phase)) (sym (at p l))
-      (seen-in (ruleIn r) (taskAt r p) (sound-if (wideIn r) (taskAt r p) (h .tasks p l)) (emptyAt r e p) (hasCores r e p) (f p)
+      subst (λ (t : Task). PhaseIn (ruleIn r) (taskOf t) (t .even) (t .phase)) (sym (at p l))
+      (seen-in (ruleIn r) (taskAt r p) (sound-if (wideIn r) (taskAt r p) (h .tasks p l)) (emptyAt r e p) (hasCores r e p) (f p) (evenAt r p)
       (phaseAt r p) (h .phases p l) (n p l));
 }
   where

@@ -22,8 +22,8 @@ use Rattle.run.specs.declared.Run.{Run}
 use Rattle.run.specs.declared.Answer.{Answer}
 use Rattle.run.specs.declared.Answer.the-variants.{Taken, Refused}
 use Rattle.phase.specs.Phase.{claiming, working, phaseIn, lateIn, released, seen}
-use Rattle.phase.specs.Task.{taskOf, pastEnd}
-use Rattle.run.specs.Run.{phaseAt, seenAt, widthsIn, grantsIn, hasCores, nextAt, moved, withdrawnIn}
+use Rattle.phase.specs.Task.{taskOf, pastEnd, widthNow}
+use Rattle.run.specs.Run.{phaseAt, seenAt, widthsNow, grantsIn, hasCores, nextAt, moved, withdrawnIn}
 use Rattle.run.specs.Answer.{byAnswer}
 use Rattle.run.specs.Numbers.{placeOut, runOut, strangerIn, lateAt, firstLateIn, emptiableAt, misemptiedIn, reportableAt, misreportedIn}
 use Rattle.run.specs.Withdraw.{withdrawAnswer, withdrawOf}
@@ -57,7 +57,7 @@ module _ (rule cores fence withdrawn count : ℕ) (ts us : List Task) (same : ta
   unfolding runOut
   same-out =
       rw (any-same count (placeOut one) (placeOut other)
-      (λ p l. ap (λ (t : Task). taskOut (openCount fence cores) (taskOf t) || not (phaseIn (ruleOf rule) (taskOf t) (t .phase))) (same-at p l)))
+      (λ p l. ap (λ (t : Task). taskOut (openCount fence cores) (taskOf t) || not (phaseIn (ruleOf rule) (taskOf t) (t .even) (t .phase))) (same-at p l)))
 
   same-late : firstLateIn one ≡ firstLateIn other
   unfolding firstLateIn
@@ -86,10 +86,10 @@ module _ (rule cores fence withdrawn count : ℕ) (ts us : List Task) (same : ta
     same-grants : grantsIn one e ≡ grantsIn other e
     unfolding grantsIn
     same-grants =
-        ap (λ (l : List Task). grants (ruleOf rule) (claimants (map (λ t. t .width) l) (λ p. claiming (seenAt one e p))) (unfenced fence cores)) same
+        ap (λ (l : List Task). grants (ruleOf rule) (claimants (map widthNow l) (λ p. claiming (seenAt one e p))) (unfenced fence cores)) same
         ∙ ap (λ (bs : List Claimant). grants (ruleOf rule) bs (unfenced fence cores))
-        (claimants-same (widthsIn other) (λ p. claiming (seenAt one e p)) (λ p. claiming (seenAt other e p))
-        (λ p l. ap claiming (same-seen p (omega (arith, length-map (take count us) (λ t. t .width), length-take count us)))))
+        (claimants-same (widthsNow other) (λ p. claiming (seenAt one e p)) (λ p. claiming (seenAt other e p))
+        (λ p l. ap claiming (same-seen p (omega (arith, length-map (take count us) widthNow, length-take count us)))))
 
     same-reportable : (p : ℕ) → reportableAt one e p ≡ reportableAt other e p
     same-reportable p =

@@ -18,7 +18,7 @@ use Rattle.phase.specs.declared.Phase.the-variants.{Coming, Working, Holding, R
 use Rattle.run.specs.declared.Run.{Run}
 use Rattle.phase.specs.Phase.{PhaseIn}
 use Rattle.phase.specs.Headroom.{Roomy}
-use Rattle.run.specs.Run.{ruleIn, taskAt, phaseAt}
+use Rattle.run.specs.Run.{ruleIn, taskAt, evenAt, phaseAt}
 use Rattle.run.specs.Numbers.{wideIn, pastCount, placeOut, runOut, lateAt, firstLateIn}
 use Rattle.run.proofs.Limits.{or-left-false, passes-if}
 
@@ -72,11 +72,13 @@ module _ (r : Run) where
 -- ---- what a run that passes 14 has
 
 -- a phase within its limits leaves room, where O, D and T are at most 1,000,000
-room : (r : model.Rule) (τ : model.Task) (ph : Phase) → τ .offset ≤ mostTime → τ .deadline ≤ mostTime → τ .period ≤ mostTime → PhaseIn r τ ph → Roomy ph
-room r τ (Coming left) o d t h = h .0
-room r τ (Working z u) o d t h = (omega arith, omega arith)
-room r τ (Holding z u) o d t h = (omega arith, omega arith)
-room r τ (Resting z) o d t h = omega arith
+room :
+    (r : model.Rule) (τ : model.Task) (even : Bool) (ph : Phase) → τ .offset ≤ mostTime → τ .deadline ≤ mostTime → τ .period ≤ mostTime
+    → PhaseIn r τ even ph → Roomy ph
+room r τ even (Coming left) o d t h = h .0 .0
+room r τ even (Working z u) o d t h = (omega arith, omega arith)
+room r τ even (Holding z u) o d t h = (omega arith, omega arith)
+room r τ even (Resting z) o d t h = omega arith
 
 module _ (r : Run) (e : runOut r ≡ false) where
   pub few : r .count ≤ mostTasks
@@ -89,7 +91,8 @@ module _ (r : Run) (e : runOut r ≡ false) where
   pub roomy : (p : ℕ) → p < r .count → Roomy (phaseAt r p)
   roomy p l =
       let i = inside-test (wideIn r) (taskAt r p) (passes-if r e .tasks p l) in
-      room (ruleIn r) (taskAt r p) (phaseAt r p) (i .offset-most) (omega (arith, i .deadline-from, i .period-from)) (i .period-from .1) (passes-if r e .phases p l)
+      room (ruleIn r) (taskAt r p) (evenAt r p) (phaseAt r p) (i .offset-most) (omega (arith, i .deadline-from, i .period-from)) (i .period-from .1)
+      (passes-if r e .phases p l)
 
 -- the first late place is at most the count
 pub late-most : (r : Run) → firstLateIn r ≤ r .count

@@ -1,19 +1,20 @@
--- What the tasks of a run bring to the present tick, as sets of places and an array of widths.
+-- What the tasks of a run bring to the present tick, as sets of places and an array with both widths of each.
 use mathlib.Core.Path.{_≡_}
 use mathlib.Core.Bool.{_&&_}
 use Prim.Native.Nat.{ℕ}
 use lib.ListN.{take}
 use lib.Dec.{ltb}
 use Rattle.model.specs.Search.{bit}
+use Rattle.rule.specs.Widths.{widthsIn}
 use Rattle.run.specs.declared.Run.{Run}
 use Rattle.run.specs.declared.choosing.Claims.{Claims}
 use Rattle.phase.specs.Phase.{claiming, working, released}
-use Rattle.run.specs.Run.{phaseAt, seenAt, widthsIn}
+use Rattle.run.specs.Run.{phaseAt, seenAt, widthsNow}
 
 -- the places below the count whose task claims as it is seen with the empty jobs e, those whose task is then Working, those whose job is
--- released in this very tick, and the widths of the tasks below the count
+-- released in this very tick; and the widths of the tasks below the count, each the first or the second as its job is odd or even
 pub record ClaimsOf (r : Run) (e : ℕ) (c : Claims) : Type 0 where
   pub claimed : (p : ℕ) → bit (c .claiming) p ≡ ltb p (r .count) && claiming (seenAt r e p)
   pub worked : (p : ℕ) → bit (c .working) p ≡ ltb p (r .count) && working (seenAt r e p)
   pub begun : (p : ℕ) → bit (c .released) p ≡ ltb p (r .count) && released (phaseAt r p)
-  pub width : take (r .count) (c .widths) ≡ widthsIn r
+  pub width : take (r .count) (widthsIn (c .even) (c .widths)) ≡ widthsNow r

@@ -16,7 +16,7 @@ use Rattle.phase.specs.declared.Phase.the-variants.{Working}
 use Rattle.run.specs.declared.Run.{Run}
 use Rattle.phase.specs.Phase.{PhaseIn, working, lateIn, released}
 use Rattle.phase.specs.Task.{outIn}
-use Rattle.run.specs.Run.{ruleIn, placeAt, taskAt, phaseAt, tableIn, seenAt, grantsIn, hasCores}
+use Rattle.run.specs.Run.{ruleIn, placeAt, taskAt, evenAt, phaseAt, tableIn, seenAt, grantsIn, hasCores}
 
 -- WHAT EACH NUMBER SAYS
 
@@ -24,16 +24,16 @@ use Rattle.run.specs.Run.{ruleIn, placeAt, taskAt, phaseAt, tableIn, see
 abbrev pub wideIn : Run → ℕ
 wideIn r = openCount (r .fence) (r .cores)
 
--- the task at place p breaks 7 or 8, or its phase is outside the limits
+-- the task at place p breaks 7 or 8, or its phase or its parity is outside the limits
 abbrev pub PlaceOut : Run → ℕ → Type 0
-PlaceOut r p = (WidthOut (wideIn r) (taskAt r p) ⊎ TimesOut (taskAt r p)) ⊎ (¬ PhaseIn (ruleIn r) (taskAt r p) (phaseAt r p))
+PlaceOut r p = (WidthOut (wideIn r) (taskAt r p) ⊎ TimesOut (taskAt r p)) ⊎ (¬ PhaseIn (ruleIn r) (taskAt r p) (evenAt r p) (phaseAt r p))
 
 -- a set names a place at or past the count
 abbrev pub PastCount : ℕ → ℕ → Type 0
 PastCount count x = (p : ℕ) × ((bit x p ≡ true) × (count ≤ p))
 
 -- the run's count is not 1 to 32, its core count or rule is out of range, its fence breaks 19, a position past the count is withdrawn, a task breaks
--- 7 or 8, or a phase is outside the limits
+-- 7 or 8, or a phase or a parity is outside the limits: a task Coming has an odd job before it
 abbrev pub RunOut : Run → Type 0
 RunOut r =
     (¬ From 1 mostTasks (r .count))
@@ -62,7 +62,7 @@ Misreports r e x p = (bit x p ≡ true) × ((r .count ≤ p) ⊎ ((¬ Works r e 
 -- number n applies to a row asked of the run with empties e, with position p
 pub data RowApplies (r : Run) (e : ℕ) : ℕ → ℕ → Type 0 where
   -- 14. Row or advance: the run's count is not 1 to 32, its core count or rule is out of range, its fence breaks 19, a position past its count is
-  -- withdrawn, a task breaks 7 or 8, or a phase is outside the limits.
+  -- withdrawn, a task breaks 7 or 8, or a phase or a parity is outside the limits.
   fourteen : RunOut r → RowApplies r e 14 0
   -- 15. Row or advance: some task is Working at z = D.
   fifteen : (p : ℕ) → p < r .count → Late r p → RowApplies r e 15 (suc p)

@@ -13,25 +13,28 @@ use Rattle.phase.specs.declared.Phase.{Phase}
 use Rattle.phase.specs.declared.Task.{Task}
 use Rattle.run.specs.declared.Run.{Run}
 use Rattle.phase.specs.Phase.{claiming, seen}
-use Rattle.phase.specs.Task.{taskOf, pastEnd, nextTask}
+use Rattle.phase.specs.Task.{taskOf, pastEnd, widthNow, nextTask}
 
 -- the run's rule
 abbrev pub ruleIn : Run → model.Rule
 ruleIn r = model.ruleOf (r .rule)
 
--- what stands at place p: a task and its phase
+-- what stands at place p: a task, whether its job is an even one (request 108), and its phase
 abbrev pub placeAt : Run → ℕ → Task
 placeAt r p = getD (r .tasks) p pastEnd
 
 abbrev pub taskAt : Run → ℕ → model.Task
 taskAt r p = taskOf (placeAt r p)
 
+abbrev pub evenAt : Run → ℕ → Bool
+evenAt r p = placeAt r p .even
+
 abbrev pub phaseAt : Run → ℕ → Phase
 phaseAt r p = placeAt r p .phase
 
--- the widths of the tasks below the count
-abbrev pub widthsIn : Run → List ℕ
-widthsIn r = map (λ t. t .width) (take (r .count) (r .tasks))
+-- the widths of the tasks below the count, each that of its job
+abbrev pub widthsNow : Run → List ℕ
+widthsNow r = map widthNow (take (r .count) (r .tasks))
 
 -- the tasks below the count as a table has them, and the table that the run is of
 abbrev pub tasksIn : Run → List model.Task
@@ -54,7 +57,7 @@ seenAt r e p = seen (ruleIn r) (emptyAt r e p) (phaseAt r p)
 
 -- the tasks that work or hold claim; the rule gives the cores of each in the present tick, from those outside the fence
 unfoldable pub grantsIn : Run → ℕ → List (List ℕ)
-grantsIn r e = grants (ruleIn r) (claimants (widthsIn r) (λ p. claiming (seenAt r e p))) (unfenced (r .fence) (r .cores))
+grantsIn r e = grants (ruleIn r) (claimants (widthsNow r) (λ p. claiming (seenAt r e p))) (unfenced (r .fence) (r .cores))
 
 -- the task at place p gets cores in this tick
 abbrev pub hasCores : Run → ℕ → ℕ → Bool

@@ -1,4 +1,4 @@
-// Who claims in the present tick, with which widths, and whose job is released in it.
+// Who claims in the present tick, with which of its widths, and whose job is released in it.
 ghost use mathlib.Core.Path.{_≡_};
 ghost use Prim.Native.Nat.{_≤_};
 ghost use Rattle.run.specs.Claims.{ClaimsOf};
@@ -8,12 +8,14 @@ use crate::sets;
 use model::MOST_TASKS;
 
 // What the tasks bring to a tick: the set of those that claim, the set of those that are Working, the set of those whose job is released in this
-// very tick, and the widths. The first two are of the tasks as they are seen with their empty jobs.
+// very tick, the set of those whose job is an even one, and both widths: the first of each place, then the second of each. The first two sets are
+// of the tasks as they are seen with their empty jobs.
 pub struct Claims {
     pub claiming: u32,
     pub working: u32,
     pub released: u32,
-    pub widths: [u32; MOST_TASKS],
+    pub even: u32,
+    pub widths: [u32; rule::PAIR],
 }
 
 impl Run {
@@ -30,7 +32,8 @@ impl Run {
         let mut claiming: u32 = 0;
         let mut working: u32 = 0;
         let mut released: u32 = 0;
-        let mut widths = [0u32; MOST_TASKS];
+        let mut even: u32 = 0;
+        let mut widths = [0u32; rule::PAIR];
         let mut i: usize = 0;
         while i < count {
             let task = run.tasks[i];
@@ -40,13 +43,16 @@ impl Run {
             claiming = sets::with(claiming, place, seen.claims());
             working = sets::with(working, place, seen.works());
             released = sets::with(released, place, phase.released());
+            even = sets::with(even, place, task.even);
             widths[i] = task.width;
+            widths[MOST_TASKS + i] = task.second;
             i += 1;
         }
         Claims {
             claiming: claiming,
             working: working,
             released: released,
+            even: even,
             widths: widths,
         }
     }

@@ -117,6 +117,7 @@ impl Run {
                 self.cores,
                 self.fence,
                 claims.claiming,
+                claims.even,
                 &widths,
                 self.count,
             );
@@ -150,7 +151,7 @@ impl Run {
         let claims = self.claims(empties);
         let widths = claims.widths;
         let free = cores::open_cores(self.cores, self.fence);
-        let granted = rule::choose(self.rule, free, claims.claiming, &widths);
+        let granted = rule::choose(self.rule, free, claims.claiming, claims.even, &widths);
         let begun = empties & claims.released;
         let ending = reports & (granted & claims.working);
         let answer = in_order(

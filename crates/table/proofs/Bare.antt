@@ -62,10 +62,11 @@ module _ (ws : List ℕ) (long : headerWords ≤ length ws) where
   same-task : (n : ℕ) → taskOfRecord us n ≡ taskOfRecord ws n
   same-task n = λ i. record {
     offset = same-field n 1 i;
-    width = same-field n 2 i;
+    oddWidth = same-field n 2 i;
     length = same-field n 3 i;
     deadline = same-field n 4 i;
     period = same-field n 5 i;
+    evenWidth = same-field n 6 i;
   }
 
   same-at : (p : ℕ) → taskAt us p ≡ taskAt ws p

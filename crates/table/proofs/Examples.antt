@@ -5,10 +5,10 @@ use Prim.Native.Nat.{ℕ, zero, suc, _+_, _-_, _*_, _/_, _^_}
 use Prim.Native.String.{String}
 use lib.ListN.{length, drop, replicate}
 use Rattle.model.specs.Search.{any, kept, least, upFrom}
-use Rattle.model.specs.Task.{Task, Table, greedy}
+use Rattle.model.specs.Task.{Task, Table, cycle, greedy}
 use Rattle.model.specs.Horizon.{S, lastS, lcm, hyperperiod, horizon, releaseFrom}
 use Rattle.model.proofs.LineByLine.{LineByLine, by-line}
-use Rattle.model.proofs.Examples.{t, on, A}
+use Rattle.model.proofs.Examples.{t, t₂, on, A}
 use Rattle.table.proofs.Starts.{since}
 use Rattle.table.specs.declared.Answer.the-variants.{Passed}
 use Rattle.table.specs.declared.Loaded.{Loaded}
@@ -45,7 +45,7 @@ passes s start period horizon =
       horizon = horizon;
     }
 
--- a header with the two words of a fence, one with an empty fence, and a record's six words
+-- a header with the two words of a fence, one with an empty fence, and a record's seven words, with both widths v; and with widths v and w
 abbrev fenced : ℕ → ℕ → ℕ → ℕ → ℕ → List ℕ
 fenced h m r low high = h ∷ m ∷ r ∷ low ∷ high ∷ []
 
@@ -53,7 +53,10 @@ abbrev header : ℕ → ℕ → ℕ → List ℕ
 header h m r = fenced h m r 0 0
 
 abbrev entry : ℕ → ℕ → ℕ → ℕ → ℕ → ℕ → List ℕ
-entry n o v c d p = n ∷ o ∷ v ∷ c ∷ d ∷ p ∷ []
+entry n o v c d p = n ∷ o ∷ v ∷ c ∷ d ∷ p ∷ v ∷ []
+
+abbrev entry₂ : ℕ → ℕ → ℕ → ℕ → ℕ → ℕ → ℕ → List ℕ
+entry₂ n o v w c d p = n ∷ o ∷ v ∷ c ∷ d ∷ p ∷ w ∷ []
 
 -- A with its records permuted and record 2 off the chain: the chain is 3, 1, 4
 abbrev pub wordsA : List ℕ
@@ -84,11 +87,11 @@ longTable o = on 1 greedy (map (λ p. t 0 1 1 1 p) powers ++ (t o 1 1 1 37 ∷ [
 
 -- the words of one task on m cores, under rule 1
 abbrev alone : ℕ → Task → List ℕ
-alone m τ = header 1 m 1 ++ entry 0 (τ .offset) (τ .width) (τ .length) (τ .deadline) (τ .period)
+alone m τ = header 1 m 1 ++ entry₂ 0 (τ .offset) (τ .oddWidth) (τ .evenWidth) (τ .length) (τ .deadline) (τ .period)
 
 -- it passes; it is refused, with number n and position p
 abbrev fits : String → ℕ → Task → Line
-fits s m τ = line s (alone m τ) (passes (on m greedy (τ ∷ [])) (τ .offset) (τ .period) (τ .offset + τ .period))
+fits s m τ = line s (alone m τ) (passes (on m greedy (τ ∷ [])) (τ .offset) (cycle τ) (τ .offset + cycle τ))
 
 abbrev breaks : String → ℕ → ℕ → ℕ → Task → Line
 breaks s n p m τ = line s (alone m τ) (refusal n p)
@@ -112,8 +115,8 @@ abbrev pub lines : List Line
 lines =
     line "A, its records permuted, one of them off the chain" wordsA (passes (A greedy) 0 5 5)
     ∷ line "H: two words" (3 ∷ 1 ∷ []) (refusal 1 0)
-    ∷ line "197 words pass 1" (replicate 197 0) (refusal 2 0)
-    ∷ line "203 words do not" (replicate 203 0) (refusal 1 0)
+    ∷ line "229 words pass 1" (replicate 229 0) (refusal 2 0)
+    ∷ line "236 words do not" (replicate 236 0) (refusal 1 0)
     ∷ line "four words" (1 ∷ 1 ∷ 1 ∷ 0 ∷ []) (refusal 1 0)
     ∷ line "five words" (1 ∷ 1 ∷ 1 ∷ 0 ∷ 0 ∷ []) (refusal 5 0)
     ∷ line "0 cores and rule 9 together" (header 1 0 9 ++ entry 0 0 1 1 1 1) (refusal 2 0)
@@ -133,6 +136,16 @@ lines =
     ∷ breaks "width 0" 7 1 64 (t 0 0 1 1 1)
     ∷ breaks "width 65 of 64 cores" 7 1 64 (t 0 65 1 1 1)
     ∷ breaks "width 2 of one core" 7 1 1 (t 0 2 1 1 1)
+    ∷ fits "two widths, P with 2T" 64 (t₂ 0 64 1 1 1 5)
+    ∷ fits "two widths the other way round" 64 (t₂ 3 1 64 1 1 5)
+    ∷ breaks "second width 0" 7 1 64 (t₂ 0 1 0 1 1 1)
+    ∷ breaks "second width 65 of 64 cores" 7 1 64 (t₂ 0 1 65 1 1 1)
+    ∷ breaks "second width 2 of one core, and C 0" 7 1 1 (t₂ 0 1 2 0 1 1)
+    ∷ line "S keeps T: the first release of position 2 not before 1, an even job's" (header 1 2 1 ++ entry 2 1 1 1 2 2 ++ entry₂ 0 0 1 2 1 1 3)
+    (passes (on 2 greedy (t 1 1 1 2 2 ∷ t₂ 0 1 2 1 1 3 ∷ [])) 3 6 9)
+    ∷ line "2T stands in P beside an odd period" (header 1 2 1 ++ entry 2 0 1 1 3 3 ++ entry₂ 0 0 1 2 1 1 5)
+    (passes (on 2 greedy (t 0 1 1 3 3 ∷ t₂ 0 1 2 1 1 5 ∷ [])) 0 30 30)
+    ∷ line "a length 0 at position 1 before a second width 0 at position 2" (header 1 2 1 ++ entry 2 0 1 0 1 1 ++ entry₂ 0 0 1 0 1 1 1) (refusal 8 1)
     ∷ breaks "O above 1,000,000" 8 1 1 (t 1000001 1 1 1 1)
     ∷ breaks "C 0" 8 1 1 (t 0 1 0 1 1)
     ∷ breaks "C above 1,000,000" 8 1 1 (t 0 1 1000001 1 1)
@@ -240,10 +253,12 @@ bare-last = refl
 computed : LineByLine worked lines lines
 unfolding chained kept loadOf answerOf byWalk byTasks byHorizon firstOut endingOf lastStep headerNumber tableOf chain count met horizon S hyperperiod lcm least any upFrom
 computed =
-    let past-38 : LineByLine worked (drop 38 lines) (drop 38 lines) =
+    let past-46 : LineByLine worked (drop 46 lines) (drop 46 lines) =
     (refl, (refl, (refl, (refl, (refl, (refl, (refl, (refl, (refl, (refl, (refl, (refl, (refl, (refl, (refl, (refl, (refl, (refl, (refl, tt))))))))))))))))))) in
+    let past-27 : LineByLine worked (drop 27 lines) (drop 27 lines) =
+    (refl, (refl, (refl, (refl, (refl, (refl, (refl, (refl, (refl, (refl, (refl, (refl, (refl, (refl, (refl, (refl, (refl, (refl, (refl, past-46))))))))))))))))))) in
     let past-19 : LineByLine worked (drop 19 lines) (drop 19 lines) =
-    (refl, (refl, (refl, (refl, (refl, (refl, (refl, (refl, (refl, (refl, (refl, (refl, (refl, (refl, (refl, (refl, (refl, (refl, (refl, past-38))))))))))))))))))) in
+    (refl, (refl, (refl, (refl, (refl, (refl, (refl, (refl, past-27)))))))) in
     (refl, (refl, (refl, (refl, (refl, (refl, (refl, (refl, (refl, (refl, (refl, (refl, (refl, (refl, (refl, (refl, (refl, (refl, (refl, past-19)))))))))))))))))))
 
 -- .. and as one list

@@ -1,4 +1,5 @@
 -- P, the hyperperiod, of the tasks that code keeps: one more task, all the tasks, and the limit on the horizon.
+use mathlib.Core.Bool.{Bool, cond, false, true}
 use mathlib.Core.Path.{_≡_, sym, ap, _∙_, subst⁻¹}
 use mathlib.Core.List.{List}
 use Prim.Native.Nat.{ℕ, suc, _+_, _*_, _/_, min, _≤_, _<_}
@@ -7,18 +8,27 @@ use native.Mathlib.Numerals.{add-one}
 use native.Mathlib.Omega.{arith}
 use lib.ListN.{length, getD, take}
 use lib.Seq.{take-all}
-use lib.Dec.{ltb}
+use lib.Dec.{eqb, ltb}
 use borrow.Author.Tests.{lt-ltb, ltb-true}
 use Rattle.model.specs.Task as model
 use Rattle.model.specs.Task.{nobody}
 use Rattle.model.specs.Horizon.{lcm, hyperperiod}
 use Rattle.model.proofs.Bools.{same-test}
-use Rattle.model.proofs.Starts.{Periods, hyperperiod-pos, hyperperiod-more, hyperperiod-fewer}
+use Rattle.model.proofs.Starts.{Periods, cycle-pos, hyperperiod-pos, hyperperiod-more, hyperperiod-fewer}
 use Rattle.table.specs.declared.Task.{Task}
-use Rattle.table.specs.Task.{tasksOf, noTask, InLimits}
+use Rattle.table.specs.Task.{taskOf, tasksOf, noTask, InLimits, Within}
+use Rattle.table.specs.Limits.{mostTime}
 use Rattle.table.specs.Gcd.{Gcd}
 use Rattle.table.proofs.Places.{tasks-length, task-at}
 use Rattle.table.proofs.Gcd.{lcm-by-gcd}
+
+-- a cycle is at most twice the longest period
+pub cycle-most : (t : Task) → Within t → model.cycle (taskOf t) ≤ 2 * mostTime
+cycle-most t w = go (eqb (t .width) (t .second))
+  where
+    go : (b : Bool) → cond b (t .period) (2 * t .period) ≤ 2 * mostTime
+    go true = omega (arith, w .period-most)
+    go false = omega (arith, w .period-most)
 
 module _ (tasks : List Task) (count : ℕ) (limits : InLimits tasks count) (there : count ≤ length tasks) where
   periods : Periods (tasksOf tasks count)
@@ -28,16 +38,16 @@ module _ (tasks : List Task) (count : ℕ) (limits : InLimits tasks count) (ther
 
   -- one more task, by the greatest common divisor
   pub hyperperiod-next :
-      (m i g : ℕ) → m ≡ hyperperiod (take i (tasksOf tasks count)) → i < count → Gcd m (getD tasks i noTask .period) g
-      → m / g * getD tasks i noTask .period ≡ hyperperiod (take (i + 1) (tasksOf tasks count))
+      (m i g : ℕ) → m ≡ hyperperiod (take i (tasksOf tasks count)) → i < count → Gcd m (model.cycle (taskOf (getD tasks i noTask))) g
+      → m / g * model.cycle (taskOf (getD tasks i noTask)) ≡ hyperperiod (take (i + 1) (tasksOf tasks count))
   hyperperiod-next m i g e h d =
-      let T : ℕ = getD tasks i noTask .period in
+      let T : ℕ = model.cycle (taskOf (getD tasks i noTask)) in
       let τs : List model.Task = tasksOf tasks count in
       let m-pos : 0 < m = omega (arith, hyperperiod-pos (take i τs)) in
-      let same : getD τs i nobody .period ≡ T = ap (λ (τ : model.Task). τ .period) (task-at tasks count i h) in
-      let more : hyperperiod (take (suc i) τs) ≡ lcm (hyperperiod (take i τs)) (getD τs i nobody .period) =
+      let same : model.cycle (getD τs i nobody) ≡ T = ap model.cycle (task-at tasks count i h) in
+      let more : hyperperiod (take (suc i) τs) ≡ lcm (hyperperiod (take i τs)) (model.cycle (getD τs i nobody)) =
       hyperperiod-more τs i periods (omega (arith, tasks-length tasks count there)) in
-      sym (lcm-by-gcd m T g m-pos (limits i h .period-least) d) ∙ rw (add-one, more, same, e)
+      sym (lcm-by-gcd m T g m-pos (cycle-pos (taskOf (getD tasks i noTask)) (limits i h .period-least)) d) ∙ rw (add-one, more, same, e)
 
   -- once above a limit, above it at the end
   pub hyperperiod-over : (n i : ℕ) → n < hyperperiod (take i (tasksOf tasks count)) → n + 1 ≡ min (hyperperiod (tasksOf tasks count)) (n + 1)

@@ -9,9 +9,10 @@ use Rattle.table.specs.Limits.{From, from, WidthOut, TimesOut, taskOut, 
 use Rattle.table.proofs.Decide.{stable, fails}
 use Rattle.table.proofs.Tests.{from-decides, task-decides}
 
--- v 1 to the number m of unfenced cores; O 0 to 1,000,000; C and T 1 to 1,000,000; D 1 to T
+-- v and w 1 to the number m of unfenced cores; O 0 to 1,000,000; C and T 1 to 1,000,000; D 1 to T
 pub record Inside (m : ℕ) (τ : Task) : Type 0 where
-  pub width-from : From 1 m (τ .width)
+  pub odd-from : From 1 m (τ .oddWidth)
+  pub even-from : From 1 m (τ .evenWidth)
   pub offset-most : τ .offset ≤ mostTime
   pub length-from : From 1 mostTime (τ .length)
   pub period-from : From 1 mostTime (τ .period)
@@ -22,11 +23,14 @@ within a b x n = stable (from a b x) (From a b x) (from-decides a b x) n
 
 pub inside : (m : ℕ) (τ : Task) → ¬ (WidthOut m τ ⊎ TimesOut τ) → Inside m τ
 inside m τ n =
-    let zero : ¬ (τ .width ≡ 0) = λ e. n (inl (inl e)) in
-    let wide : ¬ (m < τ .width) = λ e. n (inl (inr e)) in
+    let zero : ¬ (τ .oddWidth ≡ 0) = λ e. n (inl (inl (inl e))) in
+    let wide : ¬ (m < τ .oddWidth) = λ e. n (inl (inl (inr e))) in
+    let zero′ : ¬ (τ .evenWidth ≡ 0) = λ e. n (inl (inr (inl e))) in
+    let wide′ : ¬ (m < τ .evenWidth) = λ e. n (inl (inr (inr e))) in
     let late : ¬ (mostTime < τ .offset) = λ e. n (inr (inl e)) in
     record {
-      width-from = omega arith;
+      odd-from = omega arith;
+      even-from = omega arith;
       offset-most = omega arith;
       length-from = within 1 mostTime (τ .length) (λ e. n (inr (inr (inl e))));
       period-from = within 1 mostTime (τ .period) (λ e. n (inr (inr (inr (inl e)))));
@@ -39,7 +43,8 @@ inside-test m τ e = inside m τ (fails (taskOut m τ) (WidthOut m τ ⊎ TimesO
 -- and so within what the theorems of the model ask
 pub inside-sound : (m : ℕ) (τ : Task) → Inside m τ → Sound τ
 inside-sound m τ i = record {
-  width-pos = i .width-from .0;
+  odd-pos = i .odd-from .0;
+  even-pos = i .even-from .0;
   length-pos = i .length-from .0;
   deadline-pos = i .deadline-from .0;
   constrained = i .deadline-from .1;

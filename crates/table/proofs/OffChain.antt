@@ -111,13 +111,15 @@ module _ (ws us : List ℕ) (s : SameOnChain ws us) where
         let n = count-last in
         let c = reaches-down (suc k) (lastStep ws) (omega arith) (last-reached ws) in
         let d = reaches-down k (suc k) (omega arith) c in
-        let f : (j : ℕ) → j < 6 → field ws (met ws k) j ≡ field us (met ws k) j = λ j h. s .on-chain k j d (record-met k c) h in
+        let f : (j : ℕ) → j < 7 → field ws (met ws k) j ≡ field us (met ws k) j = λ j h. s .on-chain k j d (record-met k c) h in
         let one = f 1 (omega arith) in
         let two = f 2 (omega arith) in
         let three = f 3 (omega arith) in
         let four = f 4 (omega arith) in
         let five = f 5 (omega arith) in
-        let same : taskOfRecord ws (met ws k) ≡ taskOfRecord us (met ws k) = λ i. record { offset = one i; width = two i; length = three i; deadline = four i; period = five i } in
+        let six = f 6 (omega arith) in
+        let same : taskOfRecord ws (met ws k) ≡ taskOfRecord us (met ws k) =
+        λ i. record { offset = one i; oddWidth = two i; length = three i; deadline = four i; period = five i; evenWidth = six i } in
         same ∙ ap (taskOfRecord us) (same-met k d)
 
     same-tasks : tableOf ws .tasks ≡ tableOf us .tasks

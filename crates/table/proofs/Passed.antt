@@ -89,8 +89,8 @@ module _ (ws : List ℕ) (none : NoneApplies ws) where
   passed-sound p l = inside-sound wideIn (task (tableOf ws) p) (passed-inside p l)
 
   -- no width is above the number of unfenced cores
-  pub passed-widths : (p : ℕ) → p < length (tableOf ws .tasks) → task (tableOf ws) p .width ≤ wideIn
-  passed-widths p l = passed-inside p l .width-from .1
+  pub passed-widths : (p : ℕ) → p < length (tableOf ws .tasks) → (task (tableOf ws) p .oddWidth ≤ wideIn) × (task (tableOf ws) p .evenWidth ≤ wideIn)
+  passed-widths p l = (passed-inside p l .odd-from .1, passed-inside p l .even-from .1)
 
   -- the horizon is at most 1,000,000,000
   pub passed-horizon : horizon (tableOf ws) ≤ mostHorizon

@@ -15,7 +15,7 @@ use Rattle.model.specs.Search.{bit}
 use Rattle.model.specs.Task.{Task}
 use Rattle.model.specs.Sizes.{mostCores, mostTasks}
 use Rattle.table.specs.Words.{headerWords, recordWords, records, met}
-use Rattle.table.specs.Limits.{From, from, CoresOut, coresOut, RuleOut, ruleOut, FenceOut, fenceOut, WidthOut, widthOut, TimesOut, timesOut, taskOut, mostTime}
+use Rattle.table.specs.Limits.{From, from, CoresOut, coresOut, RuleOut, ruleOut, FenceOut, fenceOut, OneOut, oneOut, WidthOut, widthOut, TimesOut, timesOut, taskOut, mostTime}
 use Rattle.table.specs.Numbers.{WordsOut, EndAt, PastAt, AgainAt}
 use Rattle.table.specs.Answer.{wordsOut, pastAt, againAt, stopsAt}
 use Rattle.model.proofs.Digits.{bit-zero, bit-suc, bit-past, odd-half, below-pow, lowest-of}
@@ -81,8 +81,11 @@ fence-decides m f = (λ e. to (leb-true (2 ^ m - 1) f e), λ x. le-leb (2 ^ m - 
         go false b = omega (arith, ltb-false f (2 ^ m) b)
     from (inr h) = all-there m f h
 
+one-decides : (m v : ℕ) → Decides (oneOut m v) (OneOut m v)
+one-decides m v = decides-or _ _ _ _ (decides-eq v 0) (decides-lt m v)
+
 pub width-decides : (m : ℕ) (τ : Task) → Decides (widthOut m τ) (WidthOut m τ)
-width-decides m τ = decides-or _ _ _ _ (decides-eq (τ .width) 0) (decides-lt m (τ .width))
+width-decides m τ = decides-or _ _ _ _ (one-decides m (τ .oddWidth)) (one-decides m (τ .evenWidth))
 
 pub times-decides : (τ : Task) → Decides (timesOut τ) (TimesOut τ)
 times-decides τ =

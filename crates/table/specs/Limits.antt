@@ -48,13 +48,20 @@ FenceOut m fence = ((c : ℕ) × (m ≤ c) × (bit fence c ≡ true)) ⊎ ((c : 
 abbrev pub fenceOut : ℕ → ℕ → Bool
 fenceOut m fence = leb (2 ^ m - 1) fence
 
--- 7: a task's width is 0 or above the number m of unfenced cores
-abbrev pub WidthOut : ℕ → Task → Type 0
-WidthOut m τ = (τ .width ≡ 0) ⊎ (m < τ .width)
+-- a width is 0 or above the number m of unfenced cores
+abbrev pub OneOut : ℕ → ℕ → Type 0
+OneOut m v = (v ≡ 0) ⊎ (m < v)
 
--- .. as a test (`width-decides`)
+-- 7: so is a width of the task, that of its odd jobs or that of its even ones (request 108)
+abbrev pub WidthOut : ℕ → Task → Type 0
+WidthOut m τ = OneOut m (τ .oddWidth) ⊎ OneOut m (τ .evenWidth)
+
+-- .. as tests (`width-decides`)
+abbrev pub oneOut : ℕ → ℕ → Bool
+oneOut m v = eqb v 0 || ltb m v
+
 abbrev pub widthOut : ℕ → Task → Bool
-widthOut m τ = eqb (τ .width) 0 || ltb m (τ .width)
+widthOut m τ = oneOut m (τ .oddWidth) || oneOut m (τ .evenWidth)
 
 -- 8: a task's O, C, T or D is outside its limits: O 0 to 1,000,000; C and T 1 to 1,000,000; D 1 to T
 abbrev pub TimesOut : Task → Type 0

@@ -22,7 +22,14 @@ use Rattle.table.specs.Answer.{answerOf, endingOf}
 
 -- a task of the model as code keeps it
 abbrev pub placed : model.Task → Task
-placed τ = record { offset = τ .offset; width = τ .width; length = τ .length; deadline = τ .deadline; period = τ .period }
+placed τ = record {
+  offset = τ .offset;
+  width = τ .oddWidth;
+  length = τ .length;
+  deadline = τ .deadline;
+  period = τ .period;
+  second = τ .evenWidth;
+}
 
 -- 32 places: the tasks in priority order, then zeros
 abbrev pub places : List model.Task → List Task

@@ -50,7 +50,7 @@ pub data Applies (ws : List ℕ) : ℕ → ℕ → Type 0 where
   five : (k : ℕ) → Reaches ws k → PastAt ws k → Applies ws 5 0
   -- 6. Walking the chain, a record is met again (5 and 6: whichever the walk meets first).
   six : (k : ℕ) → Reaches ws k → AgainAt ws k → Applies ws 6 0
-  -- 7. A task's width is 0 or above the number of unfenced cores.
+  -- 7. A width of a task, that of its odd jobs or that of its even ones, is 0 or above the number of unfenced cores.
   seven : (p : ℕ) → Position ws p → WidthOut (openCount (fence ws) (cores ws)) (taskAt ws p) → Applies ws 7 p
   -- 8. A task's O, C, T or D is outside its limits.
   eight : (p : ℕ) → Position ws p → TimesOut (taskAt ws p) → Applies ws 8 p

@@ -6,9 +6,16 @@ use Rattle.model.specs.Task as model
 use Rattle.table.specs.declared.Task.{Task}
 use Rattle.table.specs.Limits.{mostTime}
 
--- a task's five numbers, as the model has them
+-- a task's six numbers, as the model has them
 abbrev pub taskOf : Task → model.Task
-taskOf t = record { offset = t .offset; width = t .width; length = t .length; deadline = t .deadline; period = t .period }
+taskOf t = record {
+  offset = t .offset;
+  oddWidth = t .width;
+  length = t .length;
+  deadline = t .deadline;
+  period = t .period;
+  evenWidth = t .second;
+}
 
 -- the tasks of the first count places, in priority order
 abbrev pub tasksOf : List Task → ℕ → List model.Task
@@ -16,7 +23,7 @@ tasksOf tasks count = map taskOf (take count tasks)
 
 -- no task: what stands past the count
 abbrev pub noTask : Task
-noTask = record { offset = 0; width = 0; length = 0; deadline = 0; period = 0 }
+noTask = record { offset = 0; width = 0; length = 0; deadline = 0; period = 0; second = 0 }
 
 -- the limits on one task that finding S and P asks for: O at most 1,000,000, T from 1 to 1,000,000
 pub record Within (t : Task) : Type 0 where

@@ -10,9 +10,9 @@ use Rattle.model.specs.Task.{Task, Table, ruleOf}
 abbrev pub headerWords : ℕ
 headerWords = 5
 
--- a record has six
+-- a record has seven (request 108)
 abbrev pub recordWords : ℕ
-recordWords = 6
+recordWords = 7
 
 -- word i, counted from 0
 abbrev pub word : List ℕ → ℕ → ℕ
@@ -49,10 +49,17 @@ field ws n j = word ws (headerWords + (n - 1) * recordWords + j)
 abbrev pub next : List ℕ → ℕ → ℕ
 next ws n = field ws n 0
 
--- the others are offset O, width v, length C, deadline D, period T
+-- the others are offset O, width v of odd jobs, length C, deadline D, period T, and last width w of even jobs
 abbrev pub taskOfRecord : List ℕ → ℕ → Task
 taskOfRecord ws n =
-    record { offset = field ws n 1; width = field ws n 2; length = field ws n 3; deadline = field ws n 4; period = field ws n 5 }
+    record {
+      offset = field ws n 1;
+      oddWidth = field ws n 2;
+      length = field ws n 3;
+      deadline = field ws n 4;
+      period = field ws n 5;
+      evenWidth = field ws n 6;
+    }
 
 -- the number that the walk meets at step k: the head, then the next of each record met
 unfoldable pub met : List ℕ → ℕ → ℕ

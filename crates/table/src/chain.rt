@@ -34,6 +34,7 @@ pub(crate) fn no_task() -> Task
         length: 0,
         deadline: 0,
         period: 0,
+        second: 0,
     }
 }
 
@@ -49,6 +50,7 @@ fn task_of(words: &[u32], number: usize) -> Task
         length: words[at + 3],
         deadline: words[at + 4],
         period: words[at + 5],
+        second: words[at + 6],
     }
 }
 

@@ -1,9 +1,10 @@
-// P, the least common multiple of the periods.
+// P, the least common multiple of the periods, a task whose widths differ counting with 2T.
 ghost use mathlib.Core.Path.{_≡_};
 ghost use Prim.Native.Nat.{_+_, _≤_, min};
 ghost use Rattle.model.specs.Horizon.{hyperperiod};
 ghost use Rattle.model.specs.Sizes.{mostTasks};
-ghost use Rattle.table.specs.Task.{tasksOf, InLimits};
+ghost use Rattle.model.specs.Task.{cycle};
+ghost use Rattle.table.specs.Task.{taskOf, tasksOf, InLimits};
 ghost use Rattle.table.specs.Gcd.{Gcd};
 ghost use Rattle.table.specs.Limits.{mostHorizon};
 use crate::Task;
@@ -29,6 +30,18 @@ pub(crate) fn gcd(a: u64, b: u64) -> u64
     x
 }
 
+// After how many ticks a task's releases and widths repeat: T, or 2T where its widths differ.
+fn cycle(task: Task) -> u64
+    ensures { λ r. ⌜ r ≡ cycle (taskOf task) ⌝ }
+{
+    let period = task.period as u64;
+    if task.width == task.second {
+        period
+    } else {
+        2 * period
+    }
+}
+
 // P, or one more than the longest horizon where it is above that.
 pub(crate) fn hyperperiod(tasks: [Task; MOST_TASKS], count: usize) -> u32
     requires { ⌜ count ≤ mostTasks ⌝ ∗ ⌜ InLimits tasks count ⌝ }
@@ -37,8 +50,9 @@ pub(crate) fn hyperperiod(tasks: [Task; MOST_TASKS], count: usize) -> u32
     let mut multiple: u64 = 1;
     let mut i = 0;
     while i < count {
-        let period = tasks[i].period as u64;
-        multiple = multiple / gcd(multiple, period) * period;
+        let task = tasks[i];
+        let span = cycle(task);
+        multiple = multiple / gcd(multiple, span) * span;
         if LIMIT < multiple {
             return PAST;
         }

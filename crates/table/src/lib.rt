@@ -7,7 +7,7 @@ mod chain; // chain.rt: the walk along the chain, numbers 5 and 6
 mod checks; // checks.rt: numbers 7 to 9, and what passes
 mod start; // start.rt: S of a position from the S before it
 mod positions; // positions.rt: the walk along the positions that finds the last S
-mod hyperperiod; // hyperperiod.rt: P, the least common multiple of the periods
+mod hyperperiod; // hyperperiod.rt: P, the least common multiple of the periods, of 2T where widths differ
 
 use chain::Ending;
 use model::MOST_TASKS;
@@ -15,15 +15,16 @@ use model::MOST_TASKS;
 // How many words the header has, and how many each record.
 pub const HEADER: usize = 5;
 
-pub const RECORD: usize = 6;
+pub const RECORD: usize = 7;
 
-// A task of the table: offset O, width v, length C, deadline D, period T.
+// A task of the table: offset O, width v of its odd jobs, length C, deadline D, period T, and width w of its even jobs.
 pub struct Task {
     pub offset: u32,
     pub width: u32,
     pub length: u32,
     pub deadline: u32,
     pub period: u32,
+    pub second: u32,
 }
 
 // Whether a table passes all of these numbers, or the number that turns it down, with its position.

@@ -43,11 +43,11 @@ pub fn fence_out(cores: u32, fence: u64) -> bool
     (cores <= MOST_CORES) & (cores::first_cores(cores) <= fence)
 }
 
-// Whether a task's width is 0 or above the number of unfenced cores (number 7).
+// Whether a width of a task, that of its odd jobs or that of its even ones, is 0 or above the number of unfenced cores (number 7).
 fn width_out(wide: u32, task: Task) -> bool
     ensures { λ r. ⌜ r ≡ widthOut wide (taskOf task) ⌝ }
 {
-    (task.width == 0) | (wide < task.width)
+    ((task.width == 0) | (wide < task.width)) | ((task.second == 0) | (wide < task.second))
 }
 
 // Whether a task's O, C, T or D is outside its limits (number 8).

@@ -10,7 +10,7 @@ use Prim.Native.Nat.{ℕ, _-_, _^_, _≤_, _<_}
 use lib.Bits.{bitOr}
 use lib.Count.{trailingZeros}
 use lib.Dec.{eqb, ltb}
-use lib.ListN.{length, getD}
+use lib.ListN.{getD}
 use Rattle.model.specs.Task.{Rule, ruleOf}
 use Rattle.model.specs.Search.{bit}
 use Rattle.model.specs.Grants.{claimants, endsChoosing}
@@ -18,17 +18,21 @@ use Rattle.model.proofs.Digits.{Lowest, Turn, turn, shifted-one, or-bit, bit-po
 use Rattle.rule.proofs.Choosing.{places, places-on, places-none, places-fits, places-passed, places-ended}
 use Rattle.cores.specs.Cores.{cores}
 use Rattle.rule.specs.Shares.{served, granted}
+use Rattle.rule.specs.Widths.{widthsIn}
 use Rattle.cores.proofs.Cores.{cores-length}
 use Rattle.rule.proofs.Granting.{takes, passes, ends}
 use Rattle.rule.proofs.choose.Statement.{statement}
 use Rattle.rule.proofs.choose.Tie as tie
 
 abbrev Inv-loop : tie.InvT-loop
-Inv-loop rule free claims widths chosen₀ left₀ rest₀ chosen left rest =
-    (rest < 2 ^ 32) × ((p : ℕ) → bit chosen p || places (ruleOf rule) widths rest left p ≡ granted (ruleOf rule) (claimants widths (bit claims)) (cores free) p)
+Inv-loop rule free claims even widths chosen₀ left₀ rest₀ chosen left rest =
+    (rest < 2 ^ 32)
+    × ((p : ℕ)
+    → bit chosen p || places (ruleOf rule) (widthsIn even widths) rest left p
+    ≡ granted (ruleOf rule) (claimants (widthsIn even widths) (bit claims)) (cores free) p)
 
 abbrev μ-loop : tie.MeasureT-loop
-μ-loop rule free claims widths chosen₀ left₀ rest₀ chosen left rest = rest
+μ-loop rule free claims even widths chosen₀ left₀ rest₀ chosen left rest = rest
 
 -- the state at the head of the loop
 abbrev loop : tie.After-serve Inv-loop μ-loop → tie.At-loop Inv-loop μ-loop
@@ -50,35 +54,36 @@ loop-holds c =
     let a = c .args in (
       c .fits .claims .fits,
       λ p. rw bit-none
-          (ap (λ (n : ℕ). places (ruleOf (a .rule)) (a .widths .now) (a .claims) n p) (sym (cores-length (a .free) (c .fits .free .fits)))
-          ∙ places-on (ruleOf (a .rule)) (a .widths .now) (a .claims) p (cores (a .free))),
+          (ap (λ (n : ℕ). places (ruleOf (a .rule)) (widthsIn (a .even) (a .widths .now)) (a .claims) n p) (sym (cores-length (a .free) (c .fits .free .fits)))
+          ∙ places-on (ruleOf (a .rule)) (widthsIn (a .even) (a .widths .now)) (a .claims) p (cores (a .free))),
     )
 
--- ---- one turn, at the lowest digit q of the rest x; y is the rest after it
+-- ---- one turn, at the lowest digit q of the rest x, of width v; y is the rest after it
 
-module _ (r : Rule) (ws : List ℕ) (x y q n chosen : ℕ) (l : Lowest x q) (e : y ≡ x - 2 ^ q) (p : ℕ) where
+module _ (r : Rule) (ws : List ℕ) (x y q v n chosen : ℕ) (l : Lowest x q) (e : y ≡ x - 2 ^ q) (f : v ≡ getD ws q 0) (p : ℕ) where
   -- it fits: what the rest was given is q, where it has a width, and what is given below
-  fits-turn : getD ws q 0 ≤ n → places r ws x n p ≡ (eqb p q && ltb 0 (getD ws q 0)) || places r ws y (n - getD ws q 0) p
-  fits-turn k = rw e (places-fits r ws x q n p l k)
+  fits-turn : v ≤ n → places r ws x n p ≡ (eqb p q && ltb 0 v) || places r ws y (n - v) p
+  fits-turn k = rw (e, f) (places-fits r ws x q n p l (rw (← f) k))
 
-  given-turn : (m : ℕ) → m ≡ 2 ^ q → getD ws q 0 ≤ n → 0 < getD ws q 0 → bit (bitOr chosen m) p || places r ws y (n - getD ws q 0) p ≡ bit chosen p || places r ws x n p
+  given-turn : (m : ℕ) → m ≡ 2 ^ q → v ≤ n → 0 < v → bit (bitOr chosen m) p || places r ws y (n - v) p ≡ bit chosen p || places r ws x n p
   given-turn m d k w =
-      let g = places r ws y (n - getD ws q 0) p in
+      let g = places r ws y (n - v) p in
       let b : bit (bitOr chosen m) p ≡ bit chosen p || eqb p q = or-bit chosen m p ∙ ap (λ (y : ℕ). bit chosen p || bit y p) d ∙ ap (λ (t : Bool). bit chosen p || t) (bit-power q p) in
-      let f : places r ws x n p ≡ eqb p q || g = fits-turn k ∙ ap (λ (t : Bool). eqb p q && t || g) (lt-ltb 0 (getD ws q 0) w) ∙ ap (λ (t : Bool). t || g) (and-true (eqb p q)) in
-      ap (λ (t : Bool). t || g) b ∙ or-assoc (bit chosen p) (eqb p q) g ∙ ap (λ (t : Bool). bit chosen p || t) (sym f)
+      let h : places r ws x n p ≡ eqb p q || g =
+      fits-turn k ∙ ap (λ (t : Bool). eqb p q && t || g) (lt-ltb 0 v w) ∙ ap (λ (t : Bool). t || g) (and-true (eqb p q)) in
+      ap (λ (t : Bool). t || g) b ∙ or-assoc (bit chosen p) (eqb p q) g ∙ ap (λ (t : Bool). bit chosen p || t) (sym h)
 
-  empty-turn : getD ws q 0 ≤ n → getD ws q 0 ≤ 0 → bit chosen p || places r ws y (n - getD ws q 0) p ≡ bit chosen p || places r ws x n p
+  empty-turn : v ≤ n → v ≤ 0 → bit chosen p || places r ws y (n - v) p ≡ bit chosen p || places r ws x n p
   empty-turn k w =
-      let g = places r ws y (n - getD ws q 0) p in
-      let f : places r ws x n p ≡ g = fits-turn k ∙ ap (λ (t : Bool). eqb p q && t || g) (le-ltb 0 (getD ws q 0) w) ∙ ap (λ (t : Bool). t || g) (and-false (eqb p q)) in
-      ap (λ (t : Bool). bit chosen p || t) (sym f)
+      let g = places r ws y (n - v) p in
+      let h : places r ws x n p ≡ g = fits-turn k ∙ ap (λ (t : Bool). eqb p q && t || g) (le-ltb 0 v w) ∙ ap (λ (t : Bool). t || g) (and-false (eqb p q)) in
+      ap (λ (t : Bool). bit chosen p || t) (sym h)
 
-  ended-turn : n < getD ws q 0 → endsChoosing r ≡ true → bit chosen p ≡ bit chosen p || places r ws x n p
-  ended-turn k t = sym (or-false (bit chosen p)) ∙ ap (λ (u : Bool). bit chosen p || u) (sym (places-ended r ws x q n p l k t))
+  ended-turn : n < v → endsChoosing r ≡ true → bit chosen p ≡ bit chosen p || places r ws x n p
+  ended-turn k t = sym (or-false (bit chosen p)) ∙ ap (λ (u : Bool). bit chosen p || u) (sym (places-ended r ws x q n p l (rw (← f) k) t))
 
-  passed-turn : n < getD ws q 0 → endsChoosing r ≡ false → bit chosen p || places r ws y n p ≡ bit chosen p || places r ws x n p
-  passed-turn k t = ap (λ (u : Bool). bit chosen p || u) (rw e (sym (places-passed r ws x q n p l k t)))
+  passed-turn : n < v → endsChoosing r ≡ false → bit chosen p || places r ws y n p ≡ bit chosen p || places r ws x n p
+  passed-turn k t = ap (λ (u : Bool). bit chosen p || u) (rw e (sym (places-passed r ws x q n p l (rw (← f) k) t)))
 
 -- ---- the needs
 
@@ -88,14 +93,8 @@ at-turn c = turn 32 (c .before .loop .rest) (c .loop-test .taken) (c .before .lo
 sub-rest : tie.Need-sub-rest Inv-loop μ-loop
 sub-rest c = omega arith
 
-cast-width : tie.Need-cast-width Inv-loop μ-loop
-cast-width c = omega (arith, at-turn c .place)
-
-mul-width : tie.Need-mul-width Inv-loop μ-loop
-mul-width c = omega (arith, at-turn c .place)
-
-element-copy-out-width : tie.Need-element-copy-out-width Inv-loop μ-loop
-element-copy-out-width c = at-turn c .place
+width-at-requires : tie.Need-width-at-requires Inv-loop μ-loop
+width-at-requires c κs = at-turn c .place
 
 serve-requires : tie.Need-serve-requires Inv-loop μ-loop
 serve-requires c κs = search needs
@@ -103,16 +102,18 @@ serve-requires c κs = search needs
 enum-told : tie.Need-enum-told Inv-loop μ-loop
 enum-told c = search needs
 
--- what the rule said to it
-said : (c : tie.After-serve Inv-loop μ-loop)
-    → c .serve .result ≡ served (ruleOf (loop c .before .args .rule)) (loop c .loop .left) (getD (loop c .before .args .widths .now) (trailingZeros 32 (loop c .loop .rest)) 0)
+-- the width that is read, and what the rule said to it
+abbrev width : tie.After-serve Inv-loop μ-loop → ℕ
+width c = c .before .width-at .result
+
+said : (c : tie.After-serve Inv-loop μ-loop) → c .serve .result ≡ served (ruleOf (loop c .before .args .rule)) (loop c .loop .left) (width c)
 said c = c .serve .ensures
 
 sub-left : tie.Need-sub-left Inv-loop μ-loop
 sub-left c =
     let l = in-loop-from-enum-told c .before .loop in
     let a = in-loop-from-enum-told c .before .before .args in
-    takes (ruleOf (a .rule)) (l .left) (getD (a .widths .now) (trailingZeros 32 (l .rest)) 0) (sym (said (c .before .before)) ∙ c .enum-told .given .1)
+    takes (ruleOf (a .rule)) (l .left) (width (c .before .before)) (sym (said (c .before .before)) ∙ c .enum-told .given .1)
 
 shl-chosen : tie.Need-shl-chosen Inv-loop μ-loop
 shl-chosen c = at-turn (in-loop-from-enum-told (c .before)) .place
@@ -126,8 +127,9 @@ loop-again c =
     let a = t .before .before .args in
     let l = t .before .loop in (
       omega (arith, at-turn t .falls),
-      λ p. given-turn (ruleOf (a .rule)) (a .widths .now) (l .rest) _ (trailingZeros 32 (l .rest)) (l .left) (l .chosen) (at-turn t .lowest)
-          (at-turn t .after) p _ (shifted-one 32 (trailingZeros 32 (l .rest)) (at-turn t .place)) (sub-left (c .before)) (c .if1 .taken) ∙ l .inv .1 p,
+      λ p. given-turn (ruleOf (a .rule)) (widthsIn (a .even) (a .widths .now)) (l .rest) _ (trailingZeros 32 (l .rest)) _ (l .left) (l .chosen)
+          (at-turn t .lowest) (at-turn t .after) (c .before .before .before .before .width-at .ensures) p _
+          (shifted-one 32 (trailingZeros 32 (l .rest)) (at-turn t .place)) (sub-left (c .before)) (c .if1 .taken) ∙ l .inv .1 p,
     )
 
 loop-less-2 : tie.Need-loop-less-2 Inv-loop μ-loop
@@ -139,8 +141,9 @@ loop-again-2 c =
     let a = t .before .before .args in
     let l = t .before .loop in (
       omega (arith, at-turn t .falls),
-      λ p. empty-turn (ruleOf (a .rule)) (a .widths .now) (l .rest) _ (trailingZeros 32 (l .rest)) (l .left)
-          (l .chosen) (at-turn t .lowest) (at-turn t .after) p (sub-left (c .before)) (c .if1 .left) ∙ l .inv .1 p,
+      λ p. empty-turn (ruleOf (a .rule)) (widthsIn (a .even) (a .widths .now)) (l .rest) _ (trailingZeros 32 (l .rest)) _ (l .left)
+          (l .chosen) (at-turn t .lowest) (at-turn t .after) (c .before .before .before .before .width-at .ensures) p
+          (sub-left (c .before)) (c .if1 .left) ∙ l .inv .1 p,
     )
 
 enum-told-2 : tie.Need-enum-told-2 Inv-loop μ-loop
@@ -155,9 +158,10 @@ loop-again-3 c =
     let a = t .before .before .args in
     let l = t .before .loop in
     let q = trailingZeros 32 (l .rest) in
-    let w = passes (ruleOf (a .rule)) (l .left) (getD (a .widths .now) q 0) (sym (said (c .before .before)) ∙ c .enum-told2 .given .1) in (
+    let w = passes (ruleOf (a .rule)) (l .left) (width (c .before .before)) (sym (said (c .before .before)) ∙ c .enum-told2 .given .1) in (
       omega (arith, at-turn t .falls),
-      λ p. passed-turn (ruleOf (a .rule)) (a .widths .now) (l .rest) _ q (l .left) (l .chosen) (at-turn t .lowest) (at-turn t .after) p (w .0) (w .1) ∙ l .inv .1 p,
+      λ p. passed-turn (ruleOf (a .rule)) (widthsIn (a .even) (a .widths .now)) (l .rest) _ q (width (c .before .before)) (l .left) (l .chosen)
+          (at-turn t .lowest) (at-turn t .after) (c .before .before .before .width-at .ensures) p (w .0) (w .1) ∙ l .inv .1 p,
     )
 
 enum-told-3 : tie.Need-enum-told-3 Inv-loop μ-loop
@@ -169,8 +173,9 @@ returns c p =
     let a = t .before .before .args in
     let l = t .before .loop in
     let q = trailingZeros 32 (l .rest) in
-    let w = ends (ruleOf (a .rule)) (l .left) (getD (a .widths .now) q 0) (sym (said (c .before .before)) ∙ c .enum-told3 .given .1) in
-    ended-turn (ruleOf (a .rule)) (a .widths .now) (l .rest) _ q (l .left) (l .chosen) (at-turn t .lowest) (at-turn t .after) p (w .0) (w .1) ∙ l .inv .1 p
+    let w = ends (ruleOf (a .rule)) (l .left) (width (c .before .before)) (sym (said (c .before .before)) ∙ c .enum-told3 .given .1) in
+    ended-turn (ruleOf (a .rule)) (widthsIn (a .even) (a .widths .now)) (l .rest) _ q (width (c .before .before)) (l .left) (l .chosen)
+    (at-turn t .lowest) (at-turn t .after) (c .before .before .before .width-at .ensures) p (w .0) (w .1) ∙ l .inv .1 p
 
 returns-2 : tie.Need-returns-2 Inv-loop μ-loop
 returns-2 c p =
@@ -178,8 +183,8 @@ returns-2 c p =
     let a = c .before .before .args in
     let z : l .rest ≡ 0 = omega arith in
     sym (or-false (bit (l .chosen) p))
-    ∙ ap (λ (t : Bool). bit (l .chosen) p || t) (sym (places-none (ruleOf (a .rule)) (a .widths .now) (l .left) p))
-    ∙ ap (λ (x : ℕ). bit (l .chosen) p || places (ruleOf (a .rule)) (a .widths .now) x (l .left) p) (sym z) ∙ l .inv .1 p
+    ∙ ap (λ (t : Bool). bit (l .chosen) p || t) (sym (places-none (ruleOf (a .rule)) (widthsIn (a .even) (a .widths .now)) (l .left) p))
+    ∙ ap (λ (x : ℕ). bit (l .chosen) p || places (ruleOf (a .rule)) (widthsIn (a .even) (a .widths .now)) x (l .left) p) (sym z) ∙ l .inv .1 p
 
 pub choose-spec : {M : Type 1} → statement M
 choose-spec =
@@ -189,9 +194,7 @@ choose-spec =
     μ-loop
     loop-holds
     sub-rest
-    cast-width
-    mul-width
-    element-copy-out-width
+    width-at-requires
     serve-requires
     enum-told
     sub-left

@@ -3,28 +3,31 @@
 use borrow.Author.Needs.{needs}
 use native.Mathlib.Omega.{arith}
 use mathlib.Core.Path.{_≡_, sym, ap, _∙_}
-use Prim.Native.Nat.{ℕ, _<_}
+use Prim.Native.Nat.{ℕ}
 use lib.Count.{trailingZeros}
 use lib.ListN.{getD, take, length-take}
 use lib.Seq.{getD-take}
 use Rattle.model.specs.Task.{ruleOf}
 use Rattle.model.proofs.Digits.{Turn, turn}
 use Rattle.rule.specs.Shares.{served}
+use Rattle.rule.specs.Widths.{widthsIn}
 use Rattle.cores.proofs.Cores.{front-le}
 use Rattle.rule.proofs.Granting.{takes}
 use Rattle.rule.proofs.Serving.{Held, begun, taken, passed-over, over, skipped, all-granted}
+use Rattle.rule.proofs.Widths.{widths-length}
 use Rattle.rule.proofs.grants.Statement.{statement}
 use Rattle.rule.proofs.grants.Tie as tie
 
 abbrev Inv-loop : tie.InvT-loop
-Inv-loop rule free claims widths count all sets₀ set₀ left₀ rest₀ sets set left rest = Held (ruleOf rule) (take count widths) claims free count sets rest set left
+Inv-loop rule free claims even widths count sets₀ set₀ left₀ rest₀ sets set left rest =
+    Held (ruleOf rule) (take count (widthsIn even widths)) claims free count sets rest set left
 
 abbrev μ-loop : tie.MeasureT-loop
-μ-loop rule free claims widths count all sets₀ set₀ left₀ rest₀ sets set left rest = rest
+μ-loop rule free claims even widths count sets₀ set₀ left₀ rest₀ sets set left rest = rest
 
 -- the state at the call
 abbrev entry-from-loop : tie.At-loop Inv-loop μ-loop → tie.Start Inv-loop μ-loop
-entry-from-loop c = c .before .before .before
+entry-from-loop c = c .before
 
 -- the state in the loop
 abbrev in-loop-from-serve : tie.After-serve Inv-loop μ-loop → tie.In-loop Inv-loop μ-loop
@@ -40,16 +43,13 @@ in-loop-from-lowest c = in-loop-from-serve (serve c)
 
 -- the state at the call
 abbrev entry-from-serve : tie.After-serve Inv-loop μ-loop → tie.Start Inv-loop μ-loop
-entry-from-serve c = in-loop-from-serve c .before .before .before .before
-
-places-requires : tie.Need-places-requires Inv-loop μ-loop
-places-requires c κs = search needs
+entry-from-serve c = entry-from-loop (in-loop-from-serve c .before)
 
 loop-holds : tie.Need-loop-holds Inv-loop μ-loop
 loop-holds c =
-    let s = c .before .before in
-    let a = s .args in
-    begun (ruleOf (a .rule)) (take (a .count) (a .widths .now)) (a .claims) (a .free) (a .count) (s .fits .claims .fits) (s .fits .free .fits)
+    let a = c .args in
+    begun (ruleOf (a .rule)) (take (a .count) (widthsIn (a .even) (a .widths .now))) (a .claims) (a .free) (a .count)
+    (c .fits .claims .fits) (c .fits .free .fits)
 
 at-turn : (c : tie.In-loop Inv-loop μ-loop) → Turn 32 (c .before .loop .rest)
 at-turn c = turn 32 (c .before .loop .rest) (c .loop-test .taken) (c .before .loop .inv .fit)
@@ -60,11 +60,8 @@ cast-at c = omega (arith, at-turn c .place)
 sub-rest : tie.Need-sub-rest Inv-loop μ-loop
 sub-rest c = omega arith
 
-mul-width : tie.Need-mul-width Inv-loop μ-loop
-mul-width c = omega (arith, at-turn (c .before) .place)
-
-element-copy-out-width : tie.Need-element-copy-out-width Inv-loop μ-loop
-element-copy-out-width c = at-turn (c .before) .place
+width-at-requires : tie.Need-width-at-requires Inv-loop μ-loop
+width-at-requires c κs = at-turn (c .before) .place
 
 serve-requires : tie.Need-serve-requires Inv-loop μ-loop
 serve-requires c κs = search needs
@@ -81,34 +78,39 @@ mul-sets c = omega (arith, at-turn (in-loop-from-lowest c) .place)
 array-write-sets : tie.Need-array-write-sets Inv-loop μ-loop
 array-write-sets c = at-turn (in-loop-from-lowest c) .place
 
--- the width that is read is that of the place
-read : (c : tie.Then1 Inv-loop μ-loop)
-    → getD (take (entry-from-loop (c .before .before) .args .count) (entry-from-loop (c .before .before) .args .widths .now)) (trailingZeros 32 (c .before .before .loop .rest)) 0
-    ≡ getD (entry-from-loop (c .before .before) .args .widths .now) (trailingZeros 32 (c .before .before .loop .rest)) 0
+-- the width that is read
+abbrev width : tie.After-serve Inv-loop μ-loop → ℕ
+width c = c .before .width-at .result
+
+-- it is that of the place
+abbrev own : tie.After-serve Inv-loop μ-loop → ℕ
+own c =
+    let a = entry-from-serve c .args in
+    getD (take (a .count) (widthsIn (a .even) (a .widths .now))) (trailingZeros 32 (in-loop-from-serve c .before .loop .rest)) 0
+
+read : (c : tie.After-serve Inv-loop μ-loop) → own c ≡ width c
 read c =
-    let a = entry-from-loop (c .before .before) .args in
-    getD-take (a .count) (a .widths .now) (trailingZeros 32 (c .before .before .loop .rest)) 0 (c .if1 .taken)
+    let a = entry-from-serve c .args in
+    getD-take (a .count) (widthsIn (a .even) (a .widths .now)) (trailingZeros 32 (in-loop-from-serve c .before .loop .rest)) 0 (c .before .before .if1 .taken)
+    ∙ sym (c .before .width-at .ensures)
 
 -- what the rule said to it
 said : (c : tie.After-serve Inv-loop μ-loop)
-    → served (ruleOf (entry-from-serve c .args .rule)) (in-loop-from-serve c .before .loop .left)
-    (getD (take (entry-from-serve c .args .count) (entry-from-serve c .args .widths .now)) (trailingZeros 32 (in-loop-from-serve c .before .loop .rest)) 0)
-    ≡ c .serve .result
+    → served (ruleOf (entry-from-serve c .args .rule)) (in-loop-from-serve c .before .loop .left) (own c) ≡ c .serve .result
 said c =
     let r = ruleOf (entry-from-serve c .args .rule) in
-    ap (served r (in-loop-from-serve c .before .loop .left)) (read (c .before .before)) ∙ sym (c .serve .ensures)
+    ap (served r (in-loop-from-serve c .before .loop .left)) (read c) ∙ sym (c .serve .ensures)
 
 sub-set : tie.Need-sub-set Inv-loop μ-loop
 sub-set c =
     let l = in-loop-from-lowest c .before .loop in
-    let a = entry-from-serve (serve c) .args in
-    front-le (l .set) (getD (a .widths .now) (trailingZeros 32 (l .rest)) 0) (c .lowest .result) (l .inv .whole) (omega (arith, c .lowest .ok)) (c .lowest .ensures)
+    front-le (l .set) (width (serve c)) (c .lowest .result) (l .inv .whole) (omega (arith, c .lowest .ok)) (c .lowest .ensures)
 
 sub-left : tie.Need-sub-left Inv-loop μ-loop
 sub-left c =
     let l = in-loop-from-lowest c .before .loop in
     let a = entry-from-serve (serve c) .args in
-    takes (ruleOf (a .rule)) (l .left) (getD (a .widths .now) (trailingZeros 32 (l .rest)) 0) (sym (serve c .serve .ensures) ∙ c .before .enum-told .given .1)
+    takes (ruleOf (a .rule)) (l .left) (width (serve c)) (sym (serve c .serve .ensures) ∙ c .before .enum-told .given .1)
 
 loop-less : tie.Need-loop-less Inv-loop μ-loop
 loop-less c = at-turn (in-loop-from-lowest c) .falls
@@ -120,10 +122,11 @@ loop-again c =
     let a = entry-from-loop (t .before) .args in
     let l = t .before .loop in
     let q = trailingZeros 32 (l .rest) in
-    let w = read (n .before .before) in
+    let w = read n in
     rw (← w)
-    (taken (ruleOf (a .rule)) (take (a .count) (a .widths .now)) (a .claims) (a .free) (a .count) (l .sets) (l .rest) (l .set) (l .left) q _ (l .inv) (at-turn t .lowest) (at-turn t .after)
-    (n .before .before .if1 .taken) (c .lowest .result) (omega (arith, c .lowest .ok)) (rw w (c .lowest .ensures)) (said n ∙ c .before .enum-told .given .1) (at-turn t .place))
+    (taken (ruleOf (a .rule)) (take (a .count) (widthsIn (a .even) (a .widths .now))) (a .claims) (a .free) (a .count) (l .sets) (l .rest) (l .set) (l .left)
+    q _ (l .inv) (at-turn t .lowest) (at-turn t .after) (n .before .before .if1 .taken) (c .lowest .result) (omega (arith, c .lowest .ok))
+    (rw w (c .lowest .ensures)) (said n ∙ c .before .enum-told .given .1) (at-turn t .place))
 
 enum-told-2 : tie.Need-enum-told-2 Inv-loop μ-loop
 enum-told-2 c = search needs
@@ -137,7 +140,7 @@ loop-again-2 c =
     let t = in-loop-from-serve n in
     let a = entry-from-loop (t .before) .args in
     let l = t .before .loop in
-    passed-over (ruleOf (a .rule)) (take (a .count) (a .widths .now)) (a .claims) (a .free) (a .count) (l .sets) (l .rest) (l .set)
+    passed-over (ruleOf (a .rule)) (take (a .count) (widthsIn (a .even) (a .widths .now))) (a .claims) (a .free) (a .count) (l .sets) (l .rest) (l .set)
     (l .left) (trailingZeros 32 (l .rest)) _ (l .inv) (at-turn t .lowest) (at-turn t .after) (said n ∙ c .enum-told2 .given .1)
 
 enum-told-3 : tie.Need-enum-told-3 Inv-loop μ-loop
@@ -149,9 +152,10 @@ returns c =
     let t = in-loop-from-serve n in
     let a = entry-from-loop (t .before) .args in
     let l = t .before .loop in
-    let h = over (ruleOf (a .rule)) (take (a .count) (a .widths .now)) (a .claims) (a .free) (a .count) (l .sets) (l .rest) (l .set)
+    let h = over (ruleOf (a .rule)) (take (a .count) (widthsIn (a .even) (a .widths .now))) (a .claims) (a .free) (a .count) (l .sets) (l .rest) (l .set)
     (l .left) (trailingZeros 32 (l .rest)) _ (l .inv) (at-turn t .lowest) (at-turn t .after) (said n ∙ c .enum-told3 .given .1) in
-    all-granted (ruleOf (a .rule)) (a .widths .now) (a .claims) (a .free) (a .count) (l .sets) (l .set) (l .left) (t .before .before .places .ensures .1) h
+    all-granted (ruleOf (a .rule)) (widthsIn (a .even) (a .widths .now)) (a .claims) (a .free) (a .count) (l .sets) (l .set) (l .left)
+    (widths-length (a .even) (a .widths .now)) h
 
 loop-less-3 : tie.Need-loop-less-3 Inv-loop μ-loop
 loop-less-3 c = at-turn (c .before) .falls
@@ -161,16 +165,19 @@ loop-again-3 c =
     let t = c .before in
     let a = entry-from-loop (t .before) .args in
     let l = t .before .loop in
-    skipped (ruleOf (a .rule)) (take (a .count) (a .widths .now)) (a .claims) (a .free) (a .count) (l .sets) (l .rest) (l .set) (l .left)
-    (trailingZeros 32 (l .rest)) _ (l .inv) (at-turn t .lowest) (at-turn t .after) (omega (arith, length-take (a .count) (a .widths .now), c .if1 .left))
+    skipped (ruleOf (a .rule)) (take (a .count) (widthsIn (a .even) (a .widths .now))) (a .claims) (a .free) (a .count) (l .sets) (l .rest) (l .set) (l .left)
+    (trailingZeros 32 (l .rest)) _ (l .inv) (at-turn t .lowest) (at-turn t .after)
+    (omega (arith, length-take (a .count) (widthsIn (a .even) (a .widths .now)), c .if1 .left))
 
 returns-2 : tie.Need-returns-2 Inv-loop μ-loop
 returns-2 c =
     let a = entry-from-loop (c .before) .args in
     let l = c .before .loop in
     let z : l .rest ≡ 0 = omega arith in
-    let h : Held (ruleOf (a .rule)) (take (a .count) (a .widths .now)) (a .claims) (a .free) (a .count) (l .sets) 0 (l .set) (l .left) = rw (← z) (l .inv) in
-    all-granted (ruleOf (a .rule)) (a .widths .now) (a .claims) (a .free) (a .count) (l .sets) (l .set) (l .left) (c .before .before .places .ensures .1) h
+    let h : Held (ruleOf (a .rule)) (take (a .count) (widthsIn (a .even) (a .widths .now))) (a .claims) (a .free) (a .count) (l .sets) 0 (l .set) (l .left) =
+    rw (← z) (l .inv) in
+    all-granted (ruleOf (a .rule)) (widthsIn (a .even) (a .widths .now)) (a .claims) (a .free) (a .count) (l .sets) (l .set) (l .left)
+    (widths-length (a .even) (a .widths .now)) h
 
 pub grants-spec : {M : Type 1} → statement M
 grants-spec =
@@ -178,12 +185,10 @@ grants-spec =
     (tie.spec
     Inv-loop
     μ-loop
-    places-requires
     loop-holds
     cast-at
     sub-rest
-    mul-width
-    element-copy-out-width
+    width-at-requires
     serve-requires
     enum-told
     lowest-requires

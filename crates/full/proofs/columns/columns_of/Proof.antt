@@ -1,29 +1,32 @@
--- `full::columns::columns_of` meets its contract: after i turns the first i places of the widths and of each part of the times have the field of
+-- `full::columns::columns_of` meets its contract: after i turns the first i places of each part of the widths and of the times have the field of
 -- the tasks. Assumes nothing.
 use borrow.Author.Needs.{needs}
 use native.Mathlib.Omega.{arith}
-use mathlib.Core.Path.{_≡_, sym, ap, subst}
-use mathlib.Core.List.{List, map}
+use mathlib.Core.Path.{_≡_, refl, sym, ap, ap₂, _∙_, subst}
+use mathlib.Core.List.{List, _++_, map}
 use Prim.Native.Nat.{ℕ, _+_, _-_, _≤_, _<_}
 use lib.ListN as list
 use Rattle.table.specs.declared.Task.{Task}
+use Rattle.table.specs.Task.{noTask}
 use Rattle.full.specs.Places.{part}
 use Rattle.full.specs.Machine.{Machine}
 use Rattle.full.proofs.Fields.{Filled, filled-none, filled-more, filled-all}
-use Rattle.full.proofs.Parts.{stored-all}
+use Rattle.full.proofs.Parts.{pair-first, pair-second, pair-parts, stored-all}
 use Rattle.full.proofs.columns.columns_of.Statement.{statement}
 use Rattle.full.proofs.columns.columns_of.Tie as tie
 
 abbrev Inv-loop : tie.InvT-loop
-Inv-loop table tasks width₀ times₀ i₀ width times i =
+Inv-loop table tasks widths₀ times₀ i₀ widths times i =
     (i ≤ 32)
-    × Filled (λ t. t .width) tasks i width
+    × Filled (λ t. t .width) tasks i (part 0 widths)
+    × Filled (λ t. t .second) tasks i (part 32 widths)
     × Filled (λ t. t .length) tasks i (part 0 times)
     × Filled (λ t. t .deadline) tasks i (part 32 times)
     × Filled (λ t. t .period) tasks i (part 64 times)
+    × (list.length widths ≡ 64)
 
 abbrev μ-loop : tie.MeasureT-loop
-μ-loop table tasks width₀ times₀ i₀ width times i = 32 - i
+μ-loop table tasks widths₀ times₀ i₀ widths times i = 32 - i
 
 -- the state at the call
 abbrev entry-from-past-loop : tie.After-loop Inv-loop μ-loop → tie.Start Inv-loop μ-loop
@@ -43,9 +46,11 @@ loop-holds c =
     let all = all (c .before) in (
       omega arith,
       filled-none (λ t. t .width) ts all,
+      filled-none (λ t. t .second) ts all,
       filled-none (λ t. t .length) ts all,
       filled-none (λ t. t .deadline) ts all,
       filled-none (λ t. t .period) ts all,
+      refl,
     )
 
 mul-task : tie.Need-mul-task Inv-loop μ-loop
@@ -54,11 +59,20 @@ mul-task c = omega arith
 array-copy-out-task : tie.Need-array-copy-out-task Inv-loop μ-loop
 array-copy-out-task c = omega arith
 
-mul-width : tie.Need-mul-width Inv-loop μ-loop
-mul-width c = omega arith
+mul-widths : tie.Need-mul-widths Inv-loop μ-loop
+mul-widths c = omega arith
 
-array-write-width : tie.Need-array-write-width Inv-loop μ-loop
-array-write-width c = omega arith
+array-write-widths : tie.Need-array-write-widths Inv-loop μ-loop
+array-write-widths c = omega arith
+
+add-widths : tie.Need-add-widths Inv-loop μ-loop
+add-widths c = omega arith
+
+mul-widths-2 : tie.Need-mul-widths-2 Inv-loop μ-loop
+mul-widths-2 c = omega arith
+
+array-write-widths-2 : tie.Need-array-write-widths-2 Inv-loop μ-loop
+array-write-widths-2 c = omega arith
 
 mul-times : tie.Need-mul-times Inv-loop μ-loop
 mul-times c = omega arith
@@ -96,34 +110,48 @@ loop-again c =
     let l = c .before .before .loop in
     let ts = s .args .table .tasks in
     let inside : l .i < 32 = omega arith in
+    let v = list.getD ts (l .i) noTask .width in
+    let w = list.getD ts (l .i) noTask .second in
     let stored = stored-all (l .times) 0 (l .i) _ _ _ inside in (
       omega arith,
-      filled-more (λ t. t .width) ts (all s) (l .i) (l .width) inside (l .inv .1),
+      subst (λ (xs : List ℕ). Filled (λ t. t .width) ts (l .i + 1) xs) (sym (pair-first (l .widths) (l .i) v w inside))
+          (filled-more (λ t. t .width) ts (all s) (l .i) (part 0 (l .widths)) inside (l .inv .1)),
+      subst (λ (xs : List ℕ). Filled (λ t. t .second) ts (l .i + 1) xs) (sym (pair-second (l .widths) (l .i) v w inside))
+          (filled-more (λ t. t .second) ts (all s) (l .i) (part 32 (l .widths)) inside (l .inv .2)),
       subst (λ (xs : List ℕ). Filled (λ t. t .length) ts (l .i + 1) xs) (sym (ap (λ (m : Machine). m .left) stored))
-          (filled-more (λ t. t .length) ts (all s) (l .i) (part 0 (l .times)) inside (l .inv .2)),
+          (filled-more (λ t. t .length) ts (all s) (l .i) (part 0 (l .times)) inside (l .inv .3)),
       subst (λ (xs : List ℕ). Filled (λ t. t .deadline) ts (l .i + 1) xs) (sym (ap (λ (m : Machine). m .moment) stored))
-          (filled-more (λ t. t .deadline) ts (all s) (l .i) (part 32 (l .times)) inside (l .inv .3)),
+          (filled-more (λ t. t .deadline) ts (all s) (l .i) (part 32 (l .times)) inside (l .inv .4)),
       subst (λ (xs : List ℕ). Filled (λ t. t .period) ts (l .i + 1) xs) (sym (ap (λ (m : Machine). m .next) stored))
-          (filled-more (λ t. t .period) ts (all s) (l .i) (part 64 (l .times)) inside (l .inv .4)),
+          (filled-more (λ t. t .period) ts (all s) (l .i) (part 64 (l .times)) inside (l .inv .5)),
+      list.length-set (list.set (l .widths) (l .i) v) (32 + l .i) w ∙ (list.length-set (l .widths) (l .i) v ∙ l .inv .6),
     )
+
+paired-in-requires : tie.Need-paired-in-requires Inv-loop μ-loop
+paired-in-requires c κs = search needs
 
 returns : tie.Need-returns Inv-loop μ-loop
 returns c =
-    let s = entry-from-past-loop c in
-    let l = c .before .loop in
+    let past = c .before in
+    let s = entry-from-past-loop past in
+    let l = past .before .loop in
     let t = s .args .table in
     let e : l .i ≡ 32 = omega arith in
     let whole : (f : Task → ℕ) (xs : List ℕ) → Filled f (t .tasks) (l .i) xs → xs ≡ map f (t .tasks) =
     λ f xs p. filled-all f (t .tasks) (all s) xs (subst (λ (n : ℕ). Filled f (t .tasks) n xs) e p) in
+    let both : l .widths ≡ map (λ x. x .width) (t .tasks) ++ map (λ x. x .second) (t .tasks) =
+    sym (pair-parts (l .widths) (l .inv .6))
+    ∙ ap₂ (λ (a b : List ℕ). a ++ b) (whole (λ x. x .width) (part 0 (l .widths)) (l .inv .1)) (whole (λ x. x .second) (part 32 (l .widths)) (l .inv .2)) in
     λ j. record {
       rule = t .rule;
       cores = t .cores;
       fence = t .fence;
       count = t .count;
-      widths = whole (λ x. x .width) (l .width) (l .inv .1) j;
-      lengths = whole (λ x. x .length) (part 0 (l .times)) (l .inv .2) j;
-      deadlines = whole (λ x. x .deadline) (part 32 (l .times)) (l .inv .3) j;
-      periods = whole (λ x. x .period) (part 64 (l .times)) (l .inv .4) j;
+      paired = c .paired-in .ensures j;
+      widths = both j;
+      lengths = whole (λ x. x .length) (part 0 (l .times)) (l .inv .3) j;
+      deadlines = whole (λ x. x .deadline) (part 32 (l .times)) (l .inv .4) j;
+      periods = whole (λ x. x .period) (part 64 (l .times)) (l .inv .5) j;
     }
 
 pub columns-of-spec : {M : Type 1} → statement M
@@ -135,8 +163,11 @@ columns-of-spec =
     loop-holds
     mul-task
     array-copy-out-task
-    mul-width
-    array-write-width
+    mul-widths
+    array-write-widths
+    add-widths
+    mul-widths-2
+    array-write-widths-2
     mul-times
     array-write-times
     add-times
@@ -148,4 +179,5 @@ columns-of-spec =
     add-i
     loop-less
     loop-again
+    paired-in-requires
     returns)

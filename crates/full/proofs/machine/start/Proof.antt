@@ -93,10 +93,13 @@ loop-again c =
       list.length-set (list.set (l .places) (32 + l .i) offset) (64 + l .i) offset ∙ (list.length-set (l .places) (32 + l .i) offset ∙ l .inv .4),
     )
 
+paired-in-requires : tie.Need-paired-in-requires Inv-loop μ-loop
+paired-in-requires c κs = search needs
+
 returns : tie.Need-returns Inv-loop μ-loop
 returns c =
-    let s = entry-from-past-loop c in
-    let l = c .before .loop in
+    let s = entry-from-past-loop (c .before) in
+    let l = c .before .before .loop in
     let ts = s .args .table .tasks in
     let e : l .i ≡ 32 = omega arith in
     let whole : (xs : List ℕ) → Filled (λ t. t .offset) ts (l .i) xs → xs ≡ map (λ t. t .offset) ts =
@@ -107,6 +110,7 @@ returns c =
         bell = 0;
         chosen = 0;
         granted = 0;
+        even = c .paired-in .ensures j;
       },
       l .inv .4,
     )
@@ -129,4 +133,5 @@ start-spec =
     add-i
     loop-less
     loop-again
+    paired-in-requires
     returns)

@@ -6,11 +6,11 @@ use Rattle.phase.proofs.Task.phase_in.Statement.{statement}
 use Rattle.phase.proofs.Task.phase_in.Tie as tie
 
 -- the state after `phase2`
-abbrev phase2 : tie.After-struct-known3 → tie.After-phase2
+abbrev phase2 : tie.After-struct-known4 → tie.After-phase2
 phase2 c = c .before .before .before
 
 -- the state after `phase3`
-abbrev phase3 : tie.After-struct-known5 → tie.After-phase3
+abbrev phase3 : tie.After-struct-known6 → tie.After-phase3
 phase3 c = c .before .before .before
 
 enum-known-phase : tie.Need-enum-known-phase
@@ -26,7 +26,7 @@ enum-known-phase-4 : tie.Need-enum-known-phase-4
 enum-known-phase-4 c = search needs
 
 returns : tie.Need-returns
-returns c = simp (c .before .before .phase .given .1)
+returns c = simp (c .before .before .before .phase .given .1)
 
 returns-2 : tie.Need-returns-2
 returns-2 c = simp (phase2 c .phase2 .given .1)

@@ -47,8 +47,8 @@ add-worked-2 c = let h = rw (c .before .before .seen2 .given .1) at (working (c 
 worked-requires : tie.Need-worked-requires
 worked-requires c κs = search needs
 
-add-t20 : tie.Need-add-t20
-add-t20 c = let h = rw (c .before .before .seen2 .given .1) at (working (c .before) .pre) in omega arith
+add-t22 : tie.Need-add-t22
+add-t22 c = let h = rw (c .before .before .seen2 .given .1) at (working (c .before) .pre) in omega arith
 
 enum-known-seen-3 : tie.Need-enum-known-seen-3
 enum-known-seen-3 c = search needs
@@ -108,7 +108,7 @@ stepped-spec =
     add-worked
     add-worked-2
     worked-requires
-    add-t20
+    add-t22
     enum-known-seen-3
     add-held
     add-held-2

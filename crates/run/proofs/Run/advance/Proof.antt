@@ -11,6 +11,7 @@ use borrow.Author.Needs.{needs}
 use Rattle.model.specs.Search.{bit}
 use Rattle.model.specs.Grants.{claimants}
 use Rattle.model.specs.Sizes.{mostTasks}
+use Rattle.rule.specs.Widths.{widthsIn}
 use Rattle.rule.proofs.Sets.{granted-open}
 use Rattle.run.specs.declared.Run.{Run}
 use Rattle.run.specs.declared.Advanced.{Advanced}
@@ -65,7 +66,7 @@ chosen c p =
     let a = entry (w .before) .args in
     let r = a .self in
     c .choose .ensures p
-    ∙ granted-open (ruleIn r) (claimants (w .claims .result .widths) (bit (w .claims .result .claiming))) _
+    ∙ granted-open (ruleIn r) (claimants (widthsIn (w .claims .result .even) (w .claims .result .widths)) (bit (w .claims .result .claiming))) _
     (r .fence) (r .cores) (few-cores r (passes (w .before .before))) (c .before .before .open-cores .ensures) p
     ∙ has-cores r (a .empties) (w .claims .result) (w .claims .ensures) p
 
