@@ -4,12 +4,12 @@
 #include <stdio.h>
 #include "sivorandra.h"
 
-/* head, cores, rule, two words of fenced cores; then for each record: next, offset, width, length, deadline, period */
+/* head, cores, rule, two words of fenced cores; then for each record: next, offset, width, length, deadline, period, width of even jobs */
 static const uint32_t table[] = {
     1, 3, 1, 0, 0,
-    2, 0, 2, 2, 5, 5,
-    3, 0, 2, 3, 5, 5,
-    0, 0, 1, 4, 5, 5,
+    2, 0, 2, 2, 5, 5, 2,
+    3, 0, 2, 3, 5, 5, 2,
+    0, 0, 1, 4, 5, 5, 1,
 };
 enum { WORDS = sizeof table / sizeof table[0], CORES = 3 };
 

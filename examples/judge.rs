@@ -2,12 +2,12 @@
 //! `cargo run --manifest-path bindings/rust/Cargo.toml --example judge`
 use sivorandra::{judge, plan, sentence, Refusal, Run, Verdict};
 
-// head, cores, rule, two words of fenced cores; then for each record: next, offset, width, length, deadline, period
-const TABLE: [u32; 23] = [
+// head, cores, rule, two words of fenced cores; then for each record: next, offset, width, length, deadline, period, width of even jobs
+const TABLE: [u32; 26] = [
     1, 3, 1, 0, 0, //
-    2, 0, 2, 2, 5, 5, //
-    3, 0, 2, 3, 5, 5, //
-    0, 0, 1, 4, 5, 5,
+    2, 0, 2, 2, 5, 5, 2, //
+    3, 0, 2, 3, 5, 5, 2, //
+    0, 0, 1, 4, 5, 5, 1,
 ];
 const CORES: usize = 3;
 

@@ -59,13 +59,13 @@ extern "C" {
 /* By which number a call is turned down: the first that applies, where 19 comes between 3 and 4, and 20 between 15 and 16. The position is 0
    but with 7, 8 and 15. Later versions may have more numbers. */
 enum sivorandra_number {
-    SIVORANDRA_NOT_A_TABLE = 1,   /* fewer than 5 words, the rest no whole records of six, or more than 32 records */
+    SIVORANDRA_NOT_A_TABLE = 1,   /* fewer than 5 words, the rest no whole records of seven, or more than 32 records */
     SIVORANDRA_BAD_CORES = 2,     /* the core count is not 1 to 64 */
     SIVORANDRA_BAD_RULE = 3,      /* the rule is not 1, 2 or 3 */
     SIVORANDRA_NO_HEAD = 4,       /* the head is zero */
     SIVORANDRA_NO_RECORD = 5,     /* along the chain a number past the last record is met */
     SIVORANDRA_RECORD_AGAIN = 6,  /* along the chain a record is met again */
-    SIVORANDRA_BAD_WIDTH = 7,     /* the width of the position is 0 or above the number of unfenced cores */
+    SIVORANDRA_BAD_WIDTH = 7,     /* a width of the position is 0 or above the number of unfenced cores */
     SIVORANDRA_BAD_TIME = 8,      /* O, C, T or D of the position is outside its limits */
     SIVORANDRA_LONG_HORIZON = 9,  /* the horizon is above SIVORANDRA_MOST_HORIZON */
     SIVORANDRA_BAD_RANGE = 10,    /* plan: a is above b, or b is above the horizon */
@@ -79,7 +79,7 @@ enum sivorandra_number {
     SIVORANDRA_SHORT_BUFFER = 18, /* sentence: `buffer` is shorter than the sentence */
     SIVORANDRA_BAD_FENCE = 19,    /* the fence names a core past the count, or all cores */
     SIVORANDRA_BAD_EMPTY = 20,    /* row, advance: for a position past the count, or a task whose job is not released in this very tick */
-    SIVORANDRA_NOT_FIRM = 21,     /* withdraw: the rule is greedy and some width is above the next one: without a task others could be late */
+    SIVORANDRA_NOT_FIRM = 21,     /* withdraw: the rule is greedy and a width of some task is above one of the next: without a task others could be late */
     SIVORANDRA_NO_POSITION = 22   /* withdraw: the position is 0 or past the count */
 };
 
@@ -97,16 +97,18 @@ enum sivorandra_number {
 #define SIVORANDRA_IDLING 3u
 
 /* The words of a table in front of its records: head, cores, rule, and the fence, the set of cores that no task has,
-   its low word first: bit c of the low word is core c, bit c of the high word core 32 + c. */
+   its low word first: bit c of the low word is core c, bit c of the high word core 32 + c. A record is next, O, v, C, D, T and w: odd jobs of
+   the task, its first, third and so on, take v cores, even ones w; where the two differ the task counts with 2T in P. */
 #define SIVORANDRA_TABLE_HEAD_WORDS 5
-#define SIVORANDRA_TABLE_RECORD_WORDS 6
+#define SIVORANDRA_TABLE_RECORD_WORDS 7
 #define SIVORANDRA_TABLE_WORDS (SIVORANDRA_TABLE_HEAD_WORDS + SIVORANDRA_TABLE_RECORD_WORDS * SIVORANDRA_MOST_TASKS) /* the most */
 
 /* The words that a run kept between calls takes: rule, cores, count, the fence, its low word first, and the set of withdrawn positions, bit 0
-   for position 1, then 32 places of which the first count are used; a place is O, v, C, D, T, the kind of its phase (0 Coming, 1 Working,
-   2 Holding, 3 Resting) and its two numbers, 0 for one that it does not have. */
+   for position 1, then 32 places of which the first count are used; a place is O, v, C, D, T, w, the parity of its job (0 odd, 1 even; it
+   changes at each release but the first), the kind of its phase (0 Coming, 1 Working, 2 Holding, 3 Resting) and its two numbers, 0 for one
+   that it does not have. */
 #define SIVORANDRA_RUN_HEAD_WORDS 6
-#define SIVORANDRA_RUN_PLACE_WORDS 8
+#define SIVORANDRA_RUN_PLACE_WORDS 10
 #define SIVORANDRA_RUN_WORDS (SIVORANDRA_RUN_HEAD_WORDS + SIVORANDRA_RUN_PLACE_WORDS * SIVORANDRA_MOST_TASKS)
 
 /* The bytes of a row: core 0 first, the position, 0 for idle, or 255 for a fenced core. */
@@ -164,7 +166,7 @@ uint32_t sivorandra_start(const uint32_t *words, size_t words_len,
 
 /* The row of the present tick: done or refused. Taken or refused, it writes all 64 bytes of the row that is returned: bytes past the
    core count are 0, and a refused row is 64 zeros, on fenced cores too. Words that are no run are refused with 14: too few, a count above
-   32, or no phase in a place below the count. Places past the count are not read.
+   32, or no parity or phase in a place below the count, such as an even job of a task Coming. Places past the count are not read.
    Bit p of `empties` says that the job of position p + 1, released in this very tick (its phase is Working with both numbers 0), is empty: it
    ends before cores are given out. The run stays as it is: the same set is to be said to the advance. */
 uint32_t sivorandra_row(const uint32_t *run, size_t run_len, uint32_t empties,

@@ -7,7 +7,7 @@ include!("../gangsim.rs");
 use sivorandra::{Entry as Asked, Refusal as Refused, Verdict as Judged, ROW_BYTES, RUN_HEAD_WORDS, RUN_PLACE_WORDS, RUN_WORDS};
 
 /// The last request that the project has.
-const REQUEST: u32 = 106;
+const REQUEST: u32 = 108;
 
 /// Lets the simulator read tables as the last request does.
 pub fn begin() {
@@ -50,6 +50,19 @@ impl Known {
         self.table.cores as usize
     }
 
+    /// Whether a task has two widths, and whether the late job is an even one of such a task.
+    pub fn pairs(&self) -> (bool, bool) {
+        let two = |task: &Task| task.width != task.width2;
+        let late_even = match self.verdict {
+            Verdict::Miss { tick, position } => {
+                let task = &self.table.tasks[position as usize - 1];
+                two(task) && (tick - task.deadline - task.offset) / task.period % 2 == 1
+            }
+            _ => false,
+        };
+        (self.table.tasks.iter().any(two), late_even)
+    }
+
     pub fn horizon(&self) -> u32 {
         self.table.horizon() as u32
     }
@@ -85,9 +98,14 @@ fn fence_in(words: &[u32]) -> u64 {
     u64::from(words[0]) | u64::from(words[1]) << 32
 }
 
-/// Where the words of a run have the phase of a place: its kind and its two numbers.
+/// Where the words of a run have a place: O, v, C, D, T, w, the parity of its job, and its phase.
+pub const fn place_at(place: usize) -> usize {
+    RUN_HEAD_WORDS + RUN_PLACE_WORDS * place
+}
+
+/// Where they have its phase: its kind and its two numbers.
 pub const fn phase_at(place: usize) -> usize {
-    RUN_HEAD_WORDS + RUN_PLACE_WORDS * place + 5
+    place_at(place) + 7
 }
 
 /// Where the words of a run have the withdrawn set.
@@ -184,21 +202,22 @@ fn encoded(run: &Run, before: &[u32; RUN_WORDS]) -> [u32; RUN_WORDS] {
             Phase::Holding { z, u } => (HOLDING, z, u),
             Phase::Resting(z) => (RESTING, z, 0),
         };
-        let now = [task.offset, task.width, task.length, task.deadline, task.period, kind.into(), first, second];
+        let now = [task.offset, task.width, task.length, task.deadline, task.period, task.width2, run.even[place].into(), kind.into(), first, second];
         for (at, number) in now.into_iter().enumerate() {
-            words[RUN_HEAD_WORDS + RUN_PLACE_WORDS * place + at] = number as u32;
+            words[place_at(place) + at] = number as u32;
         }
     }
     words
 }
 
-/// The run in words whose phases below the count are phases; past it zeros and Resting(0).
+/// The run in words whose parities and phases below the count are such; past it zeros and Resting(0).
 fn decoded(words: &[u32; RUN_WORDS]) -> Run {
     let mut run = Run::zeros();
     (run.rule, run.cores, run.count, run.fence, run.withdrawn) = (words[0], words[1], words[2].into(), fence_in(&words[3..]), words[5].into());
     for place in 0..run.n().min(PLACES) {
-        let [offset, width, length, deadline, period, kind, first, second] = std::array::from_fn(|at| u64::from(words[RUN_HEAD_WORDS + RUN_PLACE_WORDS * place + at]));
-        run.tasks[place] = Task { offset, width, length, deadline, period, width2: width };
+        let [offset, width, length, deadline, period, width2, even, kind, first, second] = std::array::from_fn(|at| u64::from(words[place_at(place) + at]));
+        run.tasks[place] = Task { offset, width, length, deadline, period, width2 };
+        run.even[place] = even == 1;
         run.phases[place] = match kind as u32 {
             COMING => Phase::Coming(first),
             WORKING => Phase::Working { z: first, had: second, reserved: second },

@@ -3,7 +3,7 @@ use crate::calls::{same, Tried};
 use sivorandra::{judge, judge_ticks, plan, replay, Refusal, Replay, Run, ROW_BYTES};
 
 /// Example A, whose first row has position 1 on cores 0 and 1 and position 3 on core 2.
-const TABLE: [u32; 23] = [1, 3, 1, 0, 0, 2, 0, 2, 2, 5, 5, 3, 0, 2, 3, 5, 5, 0, 0, 1, 4, 5, 5];
+const TABLE: [u32; 26] = [1, 3, 1, 0, 0, 2, 0, 2, 2, 5, 5, 2, 3, 0, 2, 3, 5, 5, 2, 0, 0, 1, 4, 5, 5, 1];
 
 fn refused<T>(number: u32) -> Result<T, Refusal> {
     Err(Refusal::new(number, 0))

@@ -1,7 +1,7 @@
 //! Fences of runs built by hand: what 14 says of each core and each count, and the rows with 255.
 use crate::book::{RESTING, WORKING};
 use crate::calls::{same, Kept, Tried};
-use crate::hand::{fenced, Place, Words, OUT, PLAIN};
+use crate::hand::{fenced, odd, Place, Words, OUT, PLAIN};
 use crate::rng::Rng;
 use sivorandra::{Refusal, Run, ROW_BYTES, RUN_HEAD_WORDS};
 
@@ -17,7 +17,12 @@ pub fn any(rng: &mut Rng, cores: u32) -> (u32, u64) {
 
 /// A task of this width, between two jobs.
 const fn wide(width: u32) -> Place {
-    [5, width, 4, 6, 8, RESTING, 1, 0]
+    odd([5, width, 4, 6, 8, RESTING, 1, 0])
+}
+
+/// A task whose even jobs have this width, between two jobs.
+const fn second(width: u32) -> Place {
+    [5, 1, 4, 6, 8, width, 0, RESTING, 1, 0]
 }
 
 /// Each limit by name, a run inside and a run outside.
@@ -28,6 +33,7 @@ pub fn limits() -> Vec<(String, Words, Words)> {
         ("a fence far".into(), fenced(1, 2, 0, &[PLAIN]), fenced(1, 2, u64::MAX, &[PLAIN])),
         ("width 3 of 64 cores, 61 of them fenced".into(), fenced(3, 64, !(0b111 << 40), &[PLAIN, wide(3)]), fenced(3, 64, !(0b11 << 40), &[PLAIN, wide(3)])),
         ("the width of the last place".into(), fenced(1, 4, 0b0010, &[PLAIN, PLAIN, wide(3)]), fenced(1, 4, 0b1010, &[PLAIN, PLAIN, wide(3)])),
+        ("the second width of the last place".into(), fenced(1, 4, 0b0010, &[PLAIN, second(3)]), fenced(1, 4, 0b1010, &[PLAIN, second(3)])),
     ];
     for core in 0..64 {
         let cores = (core + 2).min(64);
@@ -44,14 +50,17 @@ pub fn limits() -> Vec<(String, Words, Words)> {
 
 /// The row of a fenced run: 255 on fenced cores, 0 past the count, all zeros where it is refused; and an advance keeps the fence.
 pub fn rows() -> Tried<()> {
-    let two = [0, 2, 4, 6, 8, WORKING, 1, 1];
-    let late = [5, 1, 4, 6, 8, WORKING, 6, 1];
+    let two = odd([0, 2, 4, 6, 8, WORKING, 1, 1]);
+    let late = odd([5, 1, 4, 6, 8, WORKING, 6, 1]);
+    let four_or_two = |even| [0, 4, 4, 6, 8, 2, even, WORKING, 1, 1];
     for (name, words, cores) in [
         ("the lowest cores outside", fenced(1, 6, 0b010110, &[two, PLAIN]), &[1, 255, 255, 1, 255, 2][..]),
         ("an idle core among fenced ones", fenced(2, 5, 0b10101, &[PLAIN]), &[255, 1, 255, 0, 255]),
         ("nobody claims", fenced(3, 4, 0b1001, &[wide(1)]), &[255, 0, 0, 255]),
         ("the second does not fit and ends the choosing", fenced(2, 5, 0b00110, &[two, two, PLAIN]), &[1, 255, 255, 1, 0]),
         ("the second does not fit and is passed over", fenced(1, 5, 0b00110, &[two, two, PLAIN]), &[1, 255, 255, 1, 3]),
+        ("an odd job", fenced(1, 6, 0b000110, &[four_or_two(0), PLAIN]), &[1, 255, 255, 1, 1, 1]),
+        ("an even job", fenced(1, 6, 0b000110, &[four_or_two(1), PLAIN]), &[1, 255, 255, 1, 2, 0]),
     ] {
         let mut row = [0; ROW_BYTES];
         row[..cores.len()].copy_from_slice(cores);
@@ -63,7 +72,7 @@ pub fn rows() -> Tried<()> {
     let mut rng = Rng::new(1);
     let halves = std::array::from_fn(|core| if core < 32 { 1 } else { 255 });
     for (words, row) in [
-        (fenced(1, 64, u64::MAX << 32, &[[0, 32, 4, 6, 8, WORKING, 1, 1]]), Ok(halves)),
+        (fenced(1, 64, u64::MAX << 32, &[odd([0, 32, 4, 6, 8, WORKING, 1, 1])]), Ok(halves)),
         (fenced(1, 3, 0b010, &[late]), Err(Refusal::Late { position: 1 })),
         (fenced(1, 3, 0b111, &[PLAIN]), Err(OUT)),
         (fenced(4, 3, 0b010, &[PLAIN]), Err(OUT)),

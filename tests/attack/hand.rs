@@ -1,5 +1,5 @@
 //! Runs built by hand: number 14 at each limit, the fence among them, 15, and what no started run shows.
-use crate::book::{self, phase_at, COMING, HOLDING, RESTING, WITHDRAWN, WORKING};
+use crate::book::{self, phase_at, place_at, COMING, HOLDING, RESTING, WITHDRAWN, WORKING};
 use crate::calls::{enter, reported, same, same_run, Kept, Tried};
 use crate::fences;
 use crate::random::position;
@@ -7,9 +7,19 @@ use crate::rng::Rng;
 use crate::Counts;
 use sivorandra::{Entry, Refusal, Run, RUN_HEAD_WORDS, RUN_PLACE_WORDS, RUN_WORDS};
 
-/// O, v, C, D, T, and the phase: its kind and two numbers.
+/// O, v, C, D, T, w, the parity of the job, and the phase: its kind and two numbers.
 pub type Place = [u32; RUN_PLACE_WORDS];
 pub type Words = [u32; RUN_WORDS];
+/// A place of one width whose job is an odd one: O, v, C, D, T, and the phase.
+type Odd = [u32; 8];
+
+pub const fn odd([o, v, c, d, t, kind, first, second]: Odd) -> Place {
+    [o, v, c, d, t, v, 0, kind, first, second]
+}
+
+/// Where a place has its second width, and the parity of its job.
+const SECOND: usize = 5;
+const EVEN: usize = 6;
 
 /// A run of these places without a fence; past the count zeros and Resting(0).
 fn run(rule: u32, cores: u32, places: &[Place]) -> Words {
@@ -21,7 +31,7 @@ pub fn fenced(rule: u32, cores: u32, fence: u64, places: &[Place]) -> Words {
     let mut words = [0; RUN_WORDS];
     words[..RUN_HEAD_WORDS].copy_from_slice(&[rule, cores, places.len() as u32, fence as u32, (fence >> 32) as u32, 0]);
     for (at, place) in words[RUN_HEAD_WORDS..].chunks_mut(RUN_PLACE_WORDS).enumerate() {
-        place.copy_from_slice(places.get(at).unwrap_or(&[0, 0, 0, 0, 0, RESTING, 0, 0]));
+        place.copy_from_slice(places.get(at).unwrap_or(&odd([0, 0, 0, 0, 0, RESTING, 0, 0])));
     }
     words
 }
@@ -30,30 +40,34 @@ pub fn fenced(rule: u32, cores: u32, fence: u64, places: &[Place]) -> Words {
 fn turned_down(words: &Words) -> bool {
     let [rule, cores, count, low, high, withdrawn, ..] = *words;
     let within = |n: u32, low: u32, high: u32| low <= n && n <= high;
-    let is_phase = |place: &[u32]| match place[5] {
-        COMING | RESTING => place[7] == 0,
-        kind => kind == WORKING || kind == HOLDING,
+    let is_stand = |place: &[u32]| {
+        place[EVEN] <= 1
+            && match place[7] {
+                COMING | RESTING => place[9] == 0,
+                kind => kind == WORKING || kind == HOLDING,
+            }
     };
     let is_fenced = |core: u32| if core < 32 { low >> core & 1 == 1 } else { high >> (core - 32) & 1 == 1 };
     let unfenced = (0..cores.min(64)).filter(|&core| !is_fenced(core)).count() as u32;
     let past = (cores.min(64)..64).any(is_fenced);
     let fits = |place: &[u32]| {
-        let [o, v, c, d, t, kind, first, u] = place[..] else { unreachable!() };
+        let [o, v, c, d, t, w, even, kind, first, u] = place[..] else { unreachable!() };
         let z = first;
         within(v, 1, unfenced)
+            && within(w, 1, unfenced)
             && o <= 1_000_000
             && within(c, 1, 1_000_000)
             && within(t, 1, 1_000_000)
             && within(d, 1, t)
             && match kind {
-                COMING => within(first, 1, o),
+                COMING => within(first, 1, o) && even == 0,
                 WORKING => z <= d && u < c && u <= z,
                 HOLDING => rule == 3 && z < d && u < c && u <= z,
                 _ => within(z, 1, t - 1),
             }
     };
     let mut used = words[RUN_HEAD_WORDS..].chunks(RUN_PLACE_WORDS).take(count as usize);
-    !(within(count, 1, 32) && within(cores, 1, 64) && within(rule, 1, 3) && !past && unfenced > 0 && u64::from(withdrawn) >> count == 0 && used.all(|place| is_phase(place) && fits(place)))
+    !(within(count, 1, 32) && within(cores, 1, 64) && within(rule, 1, 3) && !past && unfenced > 0 && u64::from(withdrawn) >> count == 0 && used.all(|place| is_stand(place) && fits(place)))
 }
 
 pub const OUT: Refusal = Refusal::NotARun;
@@ -108,6 +122,7 @@ fn place(rng: &mut Rng, rule: u32, cores: u32) -> Place {
     let c = if rng.once_in(8) { rng.from(1, 1_000_000) } else { rng.from(1, d.min(12)) };
     let o = rng.pick(&[0, 1, 3, 1_000_000]);
     let v = if rng.once_in(4) { rng.from(1, cores) } else { rng.from(1, cores.min(2)) };
+    let w = if rng.once_in(3) { rng.from(1, cores) } else { v };
     let z = |rng: &mut Rng, low: u32, high: u32| if rng.once_in(3) { high } else { rng.from(low, high) };
     let phase = match rng.below(8) {
         0 if o > 0 => [COMING, rng.pick(&[1, o, o.div_ceil(2)]), 0],
@@ -122,7 +137,8 @@ fn place(rng: &mut Rng, rule: u32, cores: u32) -> Place {
             [WORKING, z, rng.from(0, z.min(c - 1))]
         }
     };
-    [o, v, c, d, t, phase[0], phase[1], phase[2]]
+    let even = if phase[0] == COMING { 0 } else { rng.from(0, 1) };
+    [o, v, c, d, t, w, even, phase[0], phase[1], phase[2]]
 }
 
 /// Anything in the places past the count.
@@ -143,17 +159,18 @@ pub fn case(seed: u64, counts: &mut Counts) -> Tried<()> {
     words[WITHDRAWN] = if rng.once_in(2) { 0 } else { rng.word() & (u32::MAX >> (32 - count)) };
     litter(&mut rng, &mut words);
     if rng.once_in(3) {
-        let place = RUN_HEAD_WORDS + RUN_PLACE_WORDS * rng.below(count as usize);
+        let place = place_at(rng.below(count as usize));
         let w = words[place..][..RUN_PLACE_WORDS].to_vec();
-        match rng.below(8) {
+        match rng.below(9) {
             6 => words[1 + rng.below(5)] ^= 1 << rng.below(7),
             7 => words[rng.pick(&[3, 4, WITHDRAWN])] ^= 1 << rng.below(32),
             0 => words[0] = near(&mut rng, &[1, 3, u32::MAX]),
             1 => words[1] = near(&mut rng, &[1, 64, w[1]]),
             2 => words[2] = near(&mut rng, &[1, 32, count, u32::MAX]),
-            3 => words[place + rng.below(5)] = near(&mut rng, &[1, cores, left, w[4], w[3], 1_000_000]),
-            4 => words[place + 5] = near(&mut rng, &[0, 3, u32::MAX]),
-            _ => words[place + rng.pick(&[6, 7])] = near(&mut rng, &[1, w[0], w[2], w[3], w[4], w[6], u32::MAX]),
+            3 => words[place + rng.below(6)] = near(&mut rng, &[1, cores, left, w[4], w[3], 1_000_000]),
+            4 => words[place + 7] = near(&mut rng, &[0, 3, u32::MAX]),
+            5 => words[place + EVEN] = near(&mut rng, &[0, 1, u32::MAX]),
+            _ => words[place + rng.pick(&[8, 9])] = near(&mut rng, &[1, w[0], w[2], w[3], w[4], w[8], u32::MAX]),
         }
     }
     let ticks = 1 + rng.below(10);
@@ -161,7 +178,7 @@ pub fn case(seed: u64, counts: &mut Counts) -> Tried<()> {
 }
 
 /// The limits of one place: what is inside, and what is outside by one number.
-fn place_limits() -> Vec<(&'static str, Place, Place)> {
+fn place_limits() -> Vec<(&'static str, Odd, Odd)> {
     const M: u32 = 1_000_000;
     vec![
         ("width at least 1", [5, 1, 4, 6, 8, RESTING, 1, 0], [5, 0, 4, 6, 8, RESTING, 1, 0]),
@@ -202,13 +219,32 @@ fn place_limits() -> Vec<(&'static str, Place, Place)> {
     ]
 }
 
+/// The limits of the second width and of the parity.
+fn pair_limits() -> Vec<(&'static str, Place, Place)> {
+    vec![
+        ("second width at least 1", [5, 1, 4, 6, 8, 1, 0, RESTING, 1, 0], [5, 1, 4, 6, 8, 0, 0, RESTING, 1, 0]),
+        ("second width at most the cores", [5, 1, 4, 6, 8, 64, 0, RESTING, 1, 0], [5, 1, 4, 6, 8, 65, 0, RESTING, 1, 0]),
+        ("first width of an even job at least 1", [5, 1, 4, 6, 8, 2, 1, RESTING, 1, 0], [5, 0, 4, 6, 8, 2, 1, RESTING, 1, 0]),
+        ("first width of an even job at most the cores", [5, 64, 4, 6, 8, 2, 1, RESTING, 1, 0], [5, 65, 4, 6, 8, 2, 1, RESTING, 1, 0]),
+        ("second width far", [5, 1, 4, 6, 8, 64, 1, WORKING, 1, 0], [5, 1, 4, 6, 8, u32::MAX, 1, WORKING, 1, 0]),
+        ("no even job is Coming", [5, 1, 4, 6, 8, 1, 0, COMING, 1, 0], [5, 1, 4, 6, 8, 1, 1, COMING, 1, 0]),
+        ("no even job is Coming, of two widths", [5, 1, 4, 6, 8, 2, 0, COMING, 5, 0], [5, 1, 4, 6, 8, 2, 1, COMING, 5, 0]),
+        ("an even job Working", [5, 1, 4, 6, 8, 2, 1, WORKING, 0, 0], [5, 1, 4, 6, 8, 2, 2, WORKING, 0, 0]),
+        ("an even job Holding", [5, 1, 4, 6, 8, 2, 1, HOLDING, 3, 1], [5, 1, 4, 6, 8, 2, 2, HOLDING, 3, 1]),
+        ("an even job Resting", [5, 1, 4, 6, 8, 2, 1, RESTING, 1, 0], [5, 1, 4, 6, 8, 2, 2, RESTING, 1, 0]),
+        ("a parity at most 1, far", [5, 1, 4, 6, 8, 1, 1, WORKING, 2, 1], [5, 1, 4, 6, 8, 1, u32::MAX, WORKING, 2, 1]),
+        ("a parity at most 1, by its last bits", [5, 1, 4, 6, 8, 1, 0, WORKING, 2, 1], [5, 1, 4, 6, 8, 1, 256, WORKING, 2, 1]),
+    ]
+}
+
 /// A place that is within its limits whatever the rule.
-pub const PLAIN: Place = [5, 1, 4, 6, 8, WORKING, 2, 1];
+pub const PLAIN: Place = odd([5, 1, 4, 6, 8, WORKING, 2, 1]);
 
 /// Each limit by name, a run inside and a run outside.
 fn limits() -> Vec<(String, Words, Words)> {
     let mut limits = Vec::new();
-    for (name, inside, outside) in place_limits() {
+    let odd_limits = place_limits().into_iter().map(|(name, inside, outside)| (name, odd(inside), odd(outside)));
+    for (name, inside, outside) in odd_limits.chain(pair_limits()) {
         for (at, count) in [(0, 1), (0, 3), (1, 3), (2, 3), (30, 32), (31, 32)] {
             let with = |place: Place| {
                 let mut places = vec![PLAIN; count];
@@ -224,7 +260,7 @@ fn limits() -> Vec<(String, Words, Words)> {
     };
     let one = run(1, 2, &[PLAIN]);
     let all = run(2, 64, &[PLAIN; 32]);
-    let holding = [5, 1, 4, 6, 8, HOLDING, 3, 2];
+    let holding = odd([5, 1, 4, 6, 8, HOLDING, 3, 2]);
     limits.extend(fences::limits());
     for count in [1, 2, 3, 31] {
         let (within, past) = ((1u32 << count) - 1, 1 << count);
@@ -241,7 +277,7 @@ fn limits() -> Vec<(String, Words, Words)> {
         ("cores at least 1".into(), head(1, 1, one), head(1, 0, one)),
         ("cores at most 64".into(), all, head(1, 65, all)),
         ("cores far".into(), head(1, 64, one), head(1, u32::MAX, one)),
-        ("width at most 1 core".into(), run(1, 1, &[PLAIN]), run(1, 1, &[PLAIN, [5, 2, 4, 6, 8, RESTING, 1, 0]])),
+        ("width at most 1 core".into(), run(1, 1, &[PLAIN]), run(1, 1, &[PLAIN, odd([5, 2, 4, 6, 8, RESTING, 1, 0])])),
         ("count at least 1".into(), one, head(2, 0, one)),
         ("count at most 32".into(), all, head(2, 33, all)),
         ("count far".into(), all, head(2, u32::MAX, all)),
@@ -250,6 +286,8 @@ fn limits() -> Vec<(String, Words, Words)> {
         ("Holding under rule 3, not 2".into(), run(3, 2, &[PLAIN, holding]), run(2, 2, &[PLAIN, holding])),
         ("kinds below the count alone".into(), head(phase_at(31), 4, one), head(phase_at(0), 4, one)),
         ("second numbers below the count alone".into(), head(phase_at(31) + 2, 1, one), head(phase_at(0), COMING, one)),
+        ("parities below the count alone".into(), head(place_at(1) + EVEN, 2, one), head(place_at(0) + EVEN, 2, one)),
+        ("second widths below the count alone".into(), head(place_at(1) + SECOND, 99, one), head(place_at(0) + SECOND, 99, one)),
     ]);
     limits
 }
@@ -270,7 +308,7 @@ fn limit(counts: &mut Counts, inside: &Words, outside: &Words) -> Tried<()> {
 
 /// Late positions: 15 with the lowest, after 14 and before 20 and 16, in row and advance.
 fn lateness(counts: &mut Counts) -> Tried<()> {
-    let late = [5, 1, 4, 6, 8, WORKING, 6, 1];
+    let late = odd([5, 1, 4, 6, 8, WORKING, 6, 1]);
     for set in 1u32..1 << 6 {
         let mut places = vec![PLAIN; 6];
         (0..6).filter(|place| set & 1 << place != 0).for_each(|place| places[place] = late);
@@ -287,15 +325,15 @@ fn lateness(counts: &mut Counts) -> Tried<()> {
                     same_run("the late run", &words, held.words())?;
                 }
             }
-            words[RUN_HEAD_WORDS + RUN_PLACE_WORDS * 5 + 1] = 5;
+            words[place_at(5) + if rule == 2 { SECOND } else { 1 }] = 5;
             same("14 before 15", Err(OUT), Run::from_words(words).advance(0, 0))?;
         }
     }
     Ok(())
 }
 
-/// One task on one core whose job is released in this tick and empty: the rule, the place, and the phase one tick on.
-fn empty_moves() -> Vec<(&'static str, u32, Place, [u32; 3])> {
+/// One task alone whose job is released in this tick and empty: the rule, the place, and the phase one tick on.
+fn empty_moves() -> Vec<(&'static str, u32, Odd, [u32; 3])> {
     vec![
         ("an empty job rests", 1, [5, 1, 4, 6, 8, WORKING, 0, 0], [RESTING, 1, 0]),
         ("an empty job rests", 2, [5, 1, 4, 6, 8, WORKING, 0, 0], [RESTING, 1, 0]),
@@ -308,8 +346,8 @@ fn empty_moves() -> Vec<(&'static str, u32, Place, [u32; 3])> {
     ]
 }
 
-/// One task on one core: the rule, the place, the reports, and the phase one tick on, as the scope's sentences say.
-fn moves() -> Vec<(&'static str, u32, Place, u32, [u32; 3])> {
+/// One task alone: the rule, the place, the reports, and the phase one tick on, as the scope's sentences say.
+fn moves() -> Vec<(&'static str, u32, Odd, u32, [u32; 3])> {
     vec![
         ("a Coming counts down", 1, [5, 1, 4, 6, 8, COMING, 5, 0], 0, [COMING, 4, 0]),
         ("Coming 0 left works", 1, [5, 1, 4, 6, 8, COMING, 1, 0], 0, [WORKING, 0, 0]),
@@ -339,17 +377,40 @@ fn moves() -> Vec<(&'static str, u32, Place, u32, [u32; 3])> {
     ]
 }
 
-fn a_move(rule: u32, place: Place, entry: Entry, phase: [u32; 3]) -> Tried<()> {
-    let mut held = Run::from_words(run(rule, 1, &[place]));
-    same("advance", Ok(()), enter(&mut held, entry))?;
-    let [o, v, c, d, t, ..] = place;
-    let next = run(rule, 1, &[[o, v, c, d, t, phase[0], phase[1], phase[2]]]);
-    same_run("one tick on", &next, held.words())
+/// A move of a place on two cores, with one width and with two, of an odd job and, where it is not Coming, of an even one: the parity changes with each release but the first.
+fn a_move(rule: u32, [o, v, c, d, t, kind, first, second]: Odd, entry: Entry, phase: [u32; 3]) -> Tried<()> {
+    for (w, even) in [(v, 0), (v + 1, 0), (v, 1), (v + 1, 1)] {
+        if (kind, even) == (COMING, 1) {
+            continue;
+        }
+        let mut held = Run::from_words(run(rule, 2, &[[o, v, c, d, t, w, even, kind, first, second]]));
+        same("advance", Ok(()), enter(&mut held, entry))?;
+        let then = if phase == [WORKING, 0, 0] && kind != COMING { 1 - even } else { even };
+        let next = run(rule, 2, &[[o, v, c, d, t, w, then, phase[0], phase[1], phase[2]]]);
+        same_run("one tick on", &next, held.words())?;
+    }
+    Ok(())
+}
+
+/// What a row shows of an odd job, of an even one and of one that holds: its own width.
+fn widths() -> Tried<()> {
+    for (name, even, [kind, first, second], row) in [
+        ("an odd job", 0, [WORKING, 1, 1], [1, 1, 1, 0]),
+        ("an even job", 1, [WORKING, 1, 1], [1, 1, 2, 2]),
+        ("an odd job that holds", 0, [HOLDING, 1, 1], [1, 1, 1, 0]),
+        ("an even job that holds", 1, [HOLDING, 1, 1], [1, 1, 2, 2]),
+        ("an odd job that has ended", 0, [RESTING, 1, 0], [2, 2, 0, 0]),
+        ("an even job that has ended", 1, [RESTING, 1, 0], [2, 2, 0, 0]),
+    ] {
+        let words = run(3, 4, &[[0, 3, 4, 6, 8, 2, even, kind, first, second], odd([0, 2, 4, 6, 8, WORKING, 1, 1])]);
+        same(name, Ok(row), Run::from_words(words).row(0).map(|row| [row[0], row[1], row[2], row[3]]))?;
+    }
+    Ok(())
 }
 
 /// Held cores have the holder's position, and hold others back; its reports are refused with 16.
 fn held_back() -> Tried<()> {
-    let mut held = Run::from_words(run(3, 2, &[[0, 2, 4, 6, 8, HOLDING, 5, 1], [0, 1, 2, 8, 8, WORKING, 5, 0]]));
+    let mut held = Run::from_words(run(3, 2, &[odd([0, 2, 4, 6, 8, HOLDING, 5, 1]), odd([0, 1, 2, 8, 8, WORKING, 5, 0])]));
     same("the row", Ok([1, 1]), held.row(0).map(|row| [row[0], row[1]]))?;
     same("the holder reported", Err(Refusal::BadReport), held.advance(1, 0))?;
     same("the waiting one reported", Err(Refusal::BadReport), held.advance(2, 0))?;
@@ -361,7 +422,7 @@ fn held_back() -> Tried<()> {
 /// An empty job of the first of two wide tasks: under idling it holds its cores, else the second has them and may be reported. A row asked changes nothing, a refused
 /// advance keeps nothing of its empty jobs, and a report on an empty job is 16.
 fn emptied() -> Tried<()> {
-    let wide = [0, 2, 4, 6, 8, WORKING, 0, 0];
+    let wide = odd([0, 2, 4, 6, 8, WORKING, 0, 0]);
     for (rule, row, reported) in [(1, [2, 2], Ok(())), (2, [2, 2], Ok(())), (3, [1, 1], Err(Refusal::BadReport))] {
         let words = run(rule, 2, &[wide, wide]);
         let mut held = Run::from_words(words);
@@ -393,33 +454,50 @@ fn taken_out() -> Tried<()> {
         (1, [RESTING, 7, 0], [WORKING, 0, 0]),
     ];
     for (rule, phase, next) in cases {
-        let of = |[kind, first, second]: [u32; 3], withdrawn: u32| {
-            let mut words = run(rule, 1, &[[5, 1, 4, 6, 8, kind, first, second]]);
+        let of = |even: u32, [kind, first, second]: [u32; 3], withdrawn: u32| {
+            let mut words = run(rule, 1, &[[5, 1, 4, 6, 8, 1, even, kind, first, second]]);
             words[WITHDRAWN] = withdrawn;
             words
         };
-        let mut held = Run::from_words(of(phase, 0));
+        let mut held = Run::from_words(of(0, phase, 0));
         same("withdraw", Ok(()), held.withdraw(1))?;
-        same_run("only the set moves", &of(phase, 1), held.words())?;
+        same_run("only the set moves", &of(0, phase, 1), held.words())?;
         same("withdraw again", Ok(()), held.withdraw(1))?;
-        same_run("once more is the same as once", &of(phase, 1), held.words())?;
+        same_run("once more is the same as once", &of(0, phase, 1), held.words())?;
         if phase == [WORKING, 0, 0] {
             same("a report on it", Err(Refusal::BadReport), held.advance(1, 0))?;
             same("its empty bit changes nothing", held.row(0), held.row(1))?;
             let mut other = held.clone();
             same("its empty bit", Ok(()), other.advance(0, 1))?;
-            same_run("with its empty bit", &of(next, 1), other.words())?;
+            same_run("with its empty bit", &of(0, next, 1), other.words())?;
         }
         same("advance", Ok(()), held.advance(0, 0))?;
-        same_run("one tick on", &of(next, 1), held.words())?;
+        let even = u32::from(next == [WORKING, 0, 0] && phase[0] != COMING);
+        same_run("one tick on", &of(even, next, 1), held.words())?;
     }
     Ok(())
 }
 
 /// 14, then 21, then 22; 15 is not looked at.
 fn not_taken_out(counts: &mut Counts) -> Tried<()> {
-    let (wide, late) = ([5, 2, 4, 6, 8, WORKING, 2, 1], [5, 1, 4, 6, 8, WORKING, 6, 1]);
-    for (rule, places, firm) in [(1, [PLAIN, wide], true), (1, [wide, PLAIN], false), (2, [wide, PLAIN], true), (3, [wide, PLAIN], true), (1, [late, wide], true), (1, [wide, late], false)] {
+    let (wide, late) = (odd([5, 2, 4, 6, 8, WORKING, 2, 1]), odd([5, 1, 4, 6, 8, WORKING, 6, 1]));
+    let of = |v: u32, w: u32, even: u32| [5, v, 4, 6, 8, w, even, WORKING, 2, 1];
+    let cases = [
+        (1, [PLAIN, wide], true),
+        (1, [wide, PLAIN], false),
+        (2, [wide, PLAIN], true),
+        (3, [wide, PLAIN], true),
+        (1, [late, wide], true),
+        (1, [wide, late], false),
+        (1, [of(1, 2, 0), of(2, 3, 0)], true),
+        (1, [of(2, 1, 0), of(3, 2, 1)], true),
+        (1, [of(1, 3, 0), of(2, 4, 0)], false),
+        (1, [of(1, 3, 0), of(2, 4, 1)], false),
+        (1, [of(3, 1, 1), of(3, 2, 0)], false),
+        (2, [of(1, 3, 0), of(2, 4, 0)], true),
+        (3, [of(3, 1, 0), of(1, 2, 1)], true),
+    ];
+    for (rule, places, firm) in cases {
         let words = run(rule, 4, &places);
         for position in [0, 1, 2, 3, 32, 33, 1 << 31, u32::MAX] {
             let known = (1..=2).contains(&position);
@@ -443,7 +521,7 @@ fn not_taken_out(counts: &mut Counts) -> Tried<()> {
 fn not_emptied(counts: &mut Counts) -> Tried<()> {
     let phases = [[COMING, 1, 0], [WORKING, 1, 0], [WORKING, 1, 1], [HOLDING, 0, 0], [HOLDING, 1, 0], [HOLDING, 1, 1], [RESTING, 1, 0], [RESTING, 7, 0]];
     for [kind, first, second] in phases {
-        let words = run(3, 4, &[[5, 1, 4, 6, 8, WORKING, 0, 0], [5, 1, 4, 6, 8, kind, first, second]]);
+        let words = run(3, 4, &[odd([5, 1, 4, 6, 8, WORKING, 0, 0]), odd([5, 1, 4, 6, 8, kind, first, second])]);
         let mut held = Run::from_words(words);
         for empties in [2, 3, 4, 5, 1 << 31, u32::MAX] {
             same("row", Err(Refusal::BadEmpty), held.row(empties).map(|_| ()))?;
@@ -505,6 +583,7 @@ pub fn all(counts: &mut Counts) -> Vec<(String, Tried<()>)> {
     done.push(("a task taken out".into(), taken_out()));
     done.push(("what cannot be taken out".into(), not_taken_out(counts)));
     done.push(("a hold holds others back".into(), held_back()));
+    done.push(("the width of a job".into(), widths()));
     done.push(("rows with a fence".into(), fences::rows()));
     for count in 1..32 {
         done.push((format!("anything past a count of {count}"), past_the_count(counts, count)));

@@ -1,5 +1,5 @@
 //! The lists of one small table beside each other, at one tick: how far each job is in each of them, as the library's runs say it.
-use crate::book::{phase_at, WITHDRAWN, WORKING};
+use crate::book::{phase_at, place_at, WITHDRAWN, WORKING};
 use crate::calls::Tried;
 use crate::Counts;
 use sivorandra::{Entry, RUN_WORDS};
@@ -53,7 +53,7 @@ impl List {
         next.entries.push(entry);
         let Entry::Advance { empties, .. } = entry else { return next };
         for place in 0..before[2] as usize {
-            let (task, phase) = (&before[phase_at(place) - 5..][..5], &before[phase_at(place)..][..3]);
+            let (task, phase) = (&before[place_at(place)..][..5], &before[phase_at(place)..][..3]);
             if phase[0] != WORKING {
                 continue;
             }

@@ -36,6 +36,8 @@ const FEWEST_ABREAST: u64 = 100_000;
 const FEWEST_OVERTAKEN: u64 = 1_000;
 /// At least so many tables with a fence are not refused, and so many with one in the second word, and so many with one that leaves one core.
 const FEWEST_FENCED: u64 = 1_000;
+/// At least so many tables with tasks of two widths are firm, full, and miss, and miss with an even job of such a task.
+const FEWEST_PAIRS: u64 = 1_000;
 /// The numbers that the calls tried here can answer; 17 and 18 are the sentence's.
 const NUMBERS: [usize; 20] = [1, 2, 3, 4, 5, 6, 7, 8, 9, 10, 11, 12, 13, 14, 15, 16, 19, 20, 21, 22];
 const LAST: usize = 22;
@@ -56,6 +58,8 @@ pub struct Counts {
     fenced: u64,
     second: u64,
     alone: u64,
+    /// Tables with a task of two widths: firm ones, full ones, those that miss, and of these those whose late job is an even one of such a task.
+    pairs: [u64; 4],
     numbers: [u64; LAST + 1],
     tables: u64,
     plans: u64,
@@ -105,6 +109,17 @@ impl Counts {
         }
     }
 
+    /// Of a table that is not refused: whether a task has two widths, and whether the late job is an even one of such a task.
+    pub fn pairs(&mut self, (pairs, late_even): (bool, bool), verdict: Said<Verdict>) {
+        let at = match verdict {
+            Ok(Verdict::Firm { .. }) => 0,
+            Ok(Verdict::Full { .. }) => 1,
+            _ => 2,
+        };
+        self.pairs[at] += u64::from(pairs);
+        self.pairs[3] += u64::from(late_even);
+    }
+
     fn count(&mut self, tried: Tried<()>) {
         match tried {
             Ok(()) => self.passed += 1,
@@ -120,6 +135,7 @@ impl Counts {
     fn add(&mut self, other: Counts) {
         let numbers = self.numbers.iter_mut().zip(other.numbers);
         numbers.for_each(|(here, there)| *here += there);
+        self.pairs.iter_mut().zip(other.pairs).for_each(|(here, there)| *here += there);
         self.passed += other.passed;
         self.failed += other.failed;
         self.firm += other.firm;
@@ -220,6 +236,8 @@ fn main() {
     println!("attack: {} small tables searched, {nodes} nodes ({ends} at a missed deadline)", counts.searched.len());
     println!("attack: {abreast} pairs of lists of firm tables with no longer job in the first, which is abreast; {overtaken} of full tables, where it is behind");
     println!("attack: {fenced} of the tables that are not refused have a fence, {second} of them in the second word, {alone} that leaves one core");
+    let [pairs_firm, pairs_full, pairs_miss, late_even] = counts.pairs;
+    println!("attack: tables with a task of two widths: firm {pairs_firm}, full {pairs_full}, miss {pairs_miss}, {late_even} of them with an even job of such a task");
     let often: Vec<String> = NUMBERS.map(|number| format!("{number}: {}", counts.numbers[number])).to_vec();
     println!("attack: numbers among the answers: {}", often.join(", "));
     if long.is_none() {
@@ -229,6 +247,9 @@ fn main() {
         }
         for (what, seen) in [("", fenced), (" in the second word", second), (" that leaves one core", alone)] {
             counts.count(if seen >= FEWEST_FENCED { Ok(()) } else { Err(format!("only {seen} tables with a fence{what}")) });
+        }
+        for (what, seen) in ["are firm", "are full", "miss", "miss with an even job"].into_iter().zip(counts.pairs) {
+            counts.count(if seen >= FEWEST_PAIRS { Ok(()) } else { Err(format!("only {seen} tables with two widths {what}")) });
         }
         counts.count(if empty >= FEWEST_EMPTY { Ok(()) } else { Err(format!("only {empty} advances taken with an empty job")) });
         counts.count(if withdrawn >= FEWEST_WITHDRAWN { Ok(()) } else { Err(format!("only {withdrawn} withdrawals taken")) });

@@ -185,7 +185,8 @@ fn compare(rng: &mut Rng, counts: &mut Counts, words: &[u32], list: &mut Vec<Ent
     same("verdict tick by tick", expected, calls::judge(rng, words, true)?)?;
     same("verdict tick by tick in Rust", expected, sivorandra::judge_ticks(words))?;
     counts.verdict(&got);
-    if known.is_ok() {
+    if let Ok(known) = &known {
+        counts.pairs(known.pairs(), got);
         compare_unfenced(counts, words, got)?;
     }
     compare_plans(rng, counts, words, &known)?;

@@ -1,9 +1,15 @@
-//! Random tables: small and tight ones, wide ones, long ones, with a fence and without, with permuted records, records off the chain, and faults for each number 1 to 9 and 19.
+//! Random tables: small and tight ones, wide ones, long ones, with a fence and without, a third of them with tasks of two widths, with permuted records, records off the chain,
+//! and faults for each number 1 to 9 and 19.
 use crate::rng::Rng;
 use sivorandra::{TABLE_HEAD_WORDS as HEAD, TABLE_RECORD_WORDS as RECORD};
 
-/// A task: O, v, C, D, T.
-type Task = [u32; 5];
+/// A task: O, v, C, D, T, w.
+type Task = [u32; 6];
+
+/// A task of one width.
+const fn one([o, v, c, d, t]: [u32; 5]) -> Task {
+    [o, v, c, d, t, v]
+}
 
 /// A task that leaves its width about 1/`share` of the time to itself.
 fn task(rng: &mut Rng, cores: u32, periods: &[u32], share: u32) -> Task {
@@ -12,13 +18,43 @@ fn task(rng: &mut Rng, cores: u32, periods: &[u32], share: u32) -> Task {
     let most = (deadline / share).max(1) + u32::from(rng.once_in(20));
     let length = rng.from(1, most);
     let offset = if rng.once_in(2) { 0 } else { rng.from(0, 2 * period) };
-    [offset, rng.from(1, cores), length, deadline, period]
+    one([offset, rng.from(1, cores), length, deadline, period])
 }
 
 /// At most `most` tasks.
 fn tasks(rng: &mut Rng, most: u32, cores: u32, periods: &[u32], share: u32) -> Vec<Task> {
     let count = rng.from(1, most);
     (0..count).map(|_| task(rng, cores, periods, share)).collect()
+}
+
+/// Second widths for some of the tasks of every third table: any, such that no task is wider than the next, such that both widths rise and cross, or for the lowest alone.
+fn pair(rng: &mut Rng, cores: u32, tasks: &mut [Task]) {
+    if !rng.once_in(3) {
+        return;
+    }
+    let count = tasks.len();
+    let rising = |rng: &mut Rng, many: usize| {
+        let mut widths: Vec<u32> = (0..many).map(|_| rng.from(1, cores)).collect();
+        widths.sort();
+        widths
+    };
+    match rng.below(5) {
+        0 | 1 => tasks.iter_mut().for_each(|task| task[5] = if rng.once_in(2) { rng.from(1, cores) } else { task[1] }),
+        2 => {
+            let widths = rising(rng, 2 * count);
+            for (task, two) in tasks.iter_mut().zip(widths.chunks(2)) {
+                let at = rng.below(2);
+                (task[1], task[5]) = (two[at], two[1 - at]);
+            }
+        }
+        3 => {
+            let (first, second) = (rising(rng, count), rising(rng, count));
+            for (at, task) in tasks.iter_mut().enumerate() {
+                (task[1], task[5]) = (first[at], second[at]);
+            }
+        }
+        _ => tasks[count - 1][5] = rng.from(1, cores),
+    }
 }
 
 /// The set of the cores below a count.
@@ -49,7 +85,12 @@ fn set_fence(words: &mut [u32], fence: u64) {
 }
 
 /// The words of the tasks in priority order on so many cores, among which fenced ones may stand, in records of any order, with others off the chain.
-fn words(rng: &mut Rng, left: u32, rule: u32, tasks: &[Task]) -> Vec<u32> {
+fn words(rng: &mut Rng, left: u32, rule: u32, mut tasks: Vec<Task>) -> Vec<u32> {
+    pair(rng, left, &mut tasks);
+    linked(rng, left, rule, &tasks)
+}
+
+fn linked(rng: &mut Rng, left: u32, rule: u32, tasks: &[Task]) -> Vec<u32> {
     let (cores, fence) = among(rng, left);
     let off = if rng.once_in(2) { 0 } else { rng.below(3).min(32 - tasks.len()) };
     let mut places: Vec<usize> = (1..=tasks.len() + off).collect();
@@ -86,9 +127,9 @@ fn spoil(rng: &mut Rng, words: &mut Vec<u32>) {
         6 => words[record] = rng.pick(&[33, u32::MAX, 1 << 31]),
         7 => {
             let left = fence_of(words).1;
-            words[record + 2] = rng.pick(&[0, 1, left, left + 1, words[1], words[1].wrapping_add(1), u32::MAX]);
+            words[record + rng.pick(&[2, 6])] = rng.pick(&[0, 1, left, left + 1, words[1], words[1].wrapping_add(1), u32::MAX]);
         }
-        8 => words[record + 1 + rng.below(5)] = rng.pick(&[0, 1, 1_000_000, 1_000_001, u32::MAX]),
+        8 => words[record + 1 + rng.below(6)] = rng.pick(&[0, 1, 1_000_000, 1_000_001, u32::MAX]),
         9 => words[record + 4] = words[record + 5].wrapping_add(rng.from(0, 1)),
         10 | 11 => {
             let (all, fence, any) = (all_of(words[1]), fence_of(words).0, rng.next());
@@ -108,16 +149,17 @@ fn long_or_late(rng: &mut Rng) -> (u32, Vec<Task>) {
     let (first, second) = rng.pick(&[(128, 78_125), (1_000_000, 10), (1_000_000, 625_000), (999_983, 999_979), (3, 999_999), (9, 1_000_000), (11, 909_091), (10, 1_000_000)]);
     let offset = rng.pick(&[0, 0, 1, 1_000_000]);
     let length = if rng.once_in(400) { 1 } else { 4 };
-    (4, vec![[offset, 2, 1, first.min(3), first], [0, 1, length, second.min(3), second]])
+    (4, vec![one([offset, 2, 1, first.min(3), first]), one([0, 1, length, second.min(3), second])])
 }
 
 /// A horizon of 1,000,000,000, or one tick more or less, with a task that misses at once. Without a fault: the simulator takes too long for a table that does not miss.
 fn at_the_limit(rng: &mut Rng) -> Vec<u32> {
-    // the least common multiple falls short of the limit by the first period
+    // the least common multiple falls short of the limit by the first period; a task of two widths has half of it
     let (first, second) = rng.pick(&[(1_000, 999_999), (31_250, 31_999), (25_000, 39_999), (15_625, 63_999)]);
     let offset = rng.from(first - 1, first + 1);
     let rule = rng.from(1, 3);
-    words(rng, 4, rule, &[[0, 2, 4, 3, first], [offset, 1, 1, 3, second]])
+    let late = if first % 2 == 0 && rng.once_in(2) { [0, 2, 4, 3, first / 2, rng.pick(&[1, 3])] } else { one([0, 2, 4, 3, first]) };
+    linked(rng, 4, rule, &[late, one([offset, 1, 1, 3, second])])
 }
 
 /// A horizon from some thousands to a million.
@@ -138,9 +180,9 @@ fn frail(rng: &mut Rng) -> (u32, Vec<Task>) {
     let wide = rng.from(cores - first + 1, cores);
     let narrow = rng.from(1, cores - first);
     let offset = rng.from(0, 2);
-    let mut tasks = vec![[offset, first, long, rng.from(long, period), period], [offset, wide, short, period, period], [offset, narrow, third, room, period]];
+    let mut tasks = vec![one([offset, first, long, rng.from(long, period), period]), one([offset, wide, short, period, period]), one([offset, narrow, third, room, period])];
     if rng.once_in(3) {
-        tasks.push([rng.from(0, 5), rng.from(1, cores), 1, 2 * period, 2 * period]);
+        tasks.push(one([rng.from(0, 5), rng.from(1, cores), 1, 2 * period, 2 * period]));
     }
     (cores, tasks)
 }
@@ -171,7 +213,7 @@ pub fn any(rng: &mut Rng) -> Vec<u32> {
         }
     };
     let rule = rng.pick(&[1, 1, 2, 3]);
-    let mut words = words(rng, cores, rule, &tasks);
+    let mut words = words(rng, cores, rule, tasks);
     if rng.once_in(4) {
         spoil(rng, &mut words);
         if rng.once_in(4) {
@@ -190,10 +232,10 @@ pub fn small(rng: &mut Rng) -> Vec<u32> {
         let one = |_| {
             let period = rng.from(2, 8);
             let deadline = rng.from(1.max(period / 2), period);
-            [rng.pick(&[0, 0, 1, 3]), rng.from(1, cores), rng.from(1, deadline.min(5)), deadline, period]
+            one([rng.pick(&[0, 0, 1, 3]), rng.from(1, cores), rng.from(1, deadline.min(5)), deadline, period])
         };
         (cores, (0..count).map(one).collect())
     };
     let rule = rng.from(1, 3);
-    words(rng, cores, rule, &tasks)
+    words(rng, cores, rule, tasks)
 }

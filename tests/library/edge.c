@@ -1,17 +1,17 @@
 /* Hostile calls of the library from C, each beside what the header says of it: NULL with length 0, lengths around every limit,
-   counts and words of all ones, fences, empty jobs, withdrawn positions, lists that are none, anything past the count. Every slice lies between guards, which must stay.
+   counts and words of all ones, fences, odd and even jobs, empty jobs, withdrawn positions, lists that are none, anything past the count. Every slice lies between guards, which must stay.
    Prints each call that differs; the last line is 'N calls, M wrong'. */
 #include <stdio.h>
 #include <string.h>
 #include "sivorandra.h"
 
 enum { RUN = SIVORANDRA_RUN_WORDS, ROW = SIVORANDRA_ROW_BYTES, HEAD = SIVORANDRA_RUN_HEAD_WORDS, PLACE = SIVORANDRA_RUN_PLACE_WORDS };
-enum { GUARD = 8, MOST = 300, KIND = HEAD + 5, TABLE = 23, USED = HEAD + PLACE * 3 };
+enum { GUARD = 8, MOST = 360, PARITY = HEAD + 6, KIND = PARITY + 1, TABLE = 26, USED = HEAD + PLACE * 3 };
 static const uint32_t ONES = 0xffffffffu;
 
-/* head, cores, rule, two words of fenced cores; then for each record: next, offset, width, length, deadline, period */
-static const uint32_t full[TABLE] = { 1, 3, 1, 0, 0, 2, 0, 2, 2, 5, 5, 3, 0, 2, 3, 5, 5, 0, 0, 1, 4, 5, 5 };
-static const uint32_t miss[TABLE] = { 1, 2, 2, 0, 0, 2, 0, 1, 3, 3, 4, 3, 0, 2, 1, 4, 4, 0, 0, 1, 2, 2, 4 };
+/* head, cores, rule, two words of fenced cores; then for each record: next, offset, width, length, deadline, period, width of even jobs */
+static const uint32_t full[TABLE] = { 1, 3, 1, 0, 0, 2, 0, 2, 2, 5, 5, 2, 3, 0, 2, 3, 5, 5, 2, 0, 0, 1, 4, 5, 5, 1 };
+static const uint32_t miss[TABLE] = { 1, 2, 2, 0, 0, 2, 0, 1, 3, 3, 4, 1, 3, 0, 2, 1, 4, 4, 2, 0, 0, 1, 2, 2, 4, 1 };
 static const uint8_t rows[] = { 1, 1, 3, 1, 1, 3, 2, 2, 3, 2, 2, 3, 2, 2, 0 };
 
 /* A slice to lend, and what must stand there after the call; NULL where it has no length and says so. */
@@ -162,8 +162,8 @@ static void nulls(void)
 /* The sentence and its facts: lengths around every limit, and NULL for each slice. `row` is the buffer. */
 static void sentences(void)
 {
-    enum { LATE = 11 };
-    static const uint32_t late[LATE] = { 1, 1, 1, 0, 0, 0, 0, 1, 2, 1, 1 };
+    enum { LATE = 12 };
+    static const uint32_t late[LATE] = { 1, 1, 1, 0, 0, 0, 0, 1, 2, 1, 1, 1 };
     static const char said[] = "task 1 misses at tick 1 with 1 of 2 ticks.";
     enum { LENGTH = sizeof said - 1, FACTS = SIVORANDRA_FACT_WORDS };
     static const uint64_t told[4] = { 1, 1, 1, 2 };
@@ -236,7 +236,7 @@ static void longest_answers(void)
 static void tables(void)
 {
     static const struct { size_t len; uint32_t number; } lens[] = {
-        { 0, 1 }, { 1, 1 }, { 2, 1 }, { 3, 1 }, { 4, 1 }, { 5, 5 }, { 6, 1 }, { 10, 1 }, { 11, 5 }, { 17, 5 }, { 21, 1 }, { 22, 1 },
+        { 0, 1 }, { 1, 1 }, { 2, 1 }, { 3, 1 }, { 4, 1 }, { 5, 5 }, { 6, 1 }, { 11, 1 }, { 12, 5 }, { 17, 1 }, { 19, 5 }, { 23, 1 }, { 25, 1 },
     };
     static uint32_t ones[1 << 20];
     memset(ones, 0xff, sizeof ones);
@@ -246,7 +246,7 @@ static void tables(void)
         fresh(), refused(lens[i].number), expect("plan: fewer words", 0, plan(full, lens[i].len, ONES, 0));
         fresh(), refused(lens[i].number), no_run(), expect("start: fewer words", 0, start(full, lens[i].len));
     }
-    static const struct { size_t len; uint32_t number; } many[] = { { 4, 1 }, { 5, 2 }, { 195, 1 }, { 197, 2 }, { 198, 1 }, { 203, 1 }, { 1 << 20, 1 } };
+    static const struct { size_t len; uint32_t number; } many[] = { { 4, 1 }, { 5, 2 }, { 197, 1 }, { 228, 1 }, { 229, 2 }, { 230, 1 }, { 236, 1 }, { 1 << 20, 1 } };
     for (size_t i = 0; i < sizeof many / sizeof many[0]; i++) {
         fresh(), refused(many[i].number), expect("judge: all ones", 0, judge(ones, many[i].len));
         fresh(), refused(many[i].number), expect("judge_ticks: all ones", 0, ticks(ones, many[i].len));
@@ -264,12 +264,12 @@ static void tables(void)
 /* A horizon of SIVORANDRA_MOST_HORIZON, and of one tick more. Where `late`, the first task misses at tick 1. */
 static void horizons(void)
 {
-    enum { TWO = 17, MOST_HORIZON = SIVORANDRA_MOST_HORIZON };
-    static const uint32_t two[TWO] = { 1, 64, 1, 0, 0, 2, 0, 1, 1, 1, 1000, 0, 1000, 1, 1, 999999, 999999 };
+    enum { TWO = 19, MOST_HORIZON = SIVORANDRA_MOST_HORIZON };
+    static const uint32_t two[TWO] = { 1, 64, 1, 0, 0, 2, 0, 1, 1, 1, 1000, 1, 0, 1000, 1, 1, 999999, 999999, 1 };
     for (uint32_t late = 0; late < 2; late++)
         for (uint32_t more = 0; more < 2; more++) {
             uint32_t table[TWO];
-            memcpy(table, two, sizeof table), table[8] += late, table[12] += more;
+            memcpy(table, two, sizeof table), table[8] += late, table[13] += more;
             for (uint32_t i = 0; i < 2; i++) {
                 if (i && !late && !more)
                     continue; /* so many ticks, one by one: tests/outside/leap */
@@ -314,7 +314,7 @@ static void bounds(void)
 /* The lengths of the slices that a call writes to. */
 static void lengths(void)
 {
-    static const size_t lens[] = { 0, 1, 2, 3, 4, 5, 63, 64, 65, 259, 260, 261, 262, 263 };
+    static const size_t lens[] = { 0, 1, 2, 3, 4, 5, 63, 64, 65, 262, 324, 325, 326, 327 };
     uint32_t first[RUN], next[RUN];
     uint32_t three[3];
     sivorandra_start(full, TABLE, first, RUN, three, 3);
@@ -353,7 +353,7 @@ static void built(void)
     static const uint32_t faults[][2] = {
         { 0, 0 }, { 0, 4 }, { 0, 0xffffffffu }, { 1, 0 }, { 1, 65 }, { 1, 0xffffffffu }, { 2, 0 }, { 2, 4 }, { 2, 33 }, { 2, 0xffffffffu },
         { 3, 8 }, { 3, 7 }, { 3, 15 }, { 3, 6 }, { 3, 0xffffffffu }, { 4, 1 }, { 4, 0xffffffffu }, { 5, 8 }, { 5, 9 }, { 5, 0x80000000u }, { 5, 0xffffffffu },
-        { KIND, 2 }, { KIND, 4 }, { KIND, 0xffffffffu }, { KIND + 1, 0xffffffffu }, { KIND + 2, 0xffffffffu },
+        { PARITY - 1, 0 }, { PARITY - 1, 4 }, { PARITY - 1, 0xffffffffu }, { PARITY, 2 }, { PARITY, 3 }, { PARITY, 0xffffffffu }, { KIND, 2 }, { KIND, 4 }, { KIND, 0xffffffffu }, { KIND + 1, 0xffffffffu }, { KIND + 2, 0xffffffffu },
     };
     for (size_t i = 0; i < sizeof faults / sizeof faults[0]; i++) {
         fresh(), set(faults[i][0], 1, faults[i][1]), refused(14), row_bytes(NULL, 0), expect("row: a fault", 0, shown());
@@ -440,6 +440,32 @@ static void fences(void)
     fresh(), words(&run, RUN, first, RUN), set(4, 1, 1), refused(14), row_bytes(NULL, 0), expect("row: 14 is all zeros", 0, shown());
     static const uint32_t entries[6] = { 0, 1, 0, 0, 8, 0 };
     fresh(), answered(0, 0, 0), numbers.want[GUARD] = 0, numbers.want[GUARD + 1] = 16 * 256, row_bytes(spread + 10, 5), expect("replay: fenced", 0, replay(table, TABLE, entries, 6));
+}
+
+/* A task that takes four cores on odd jobs and two on even ones: its row and its words in each of six ticks, the first of them Coming. */
+static void parities(void)
+{
+    enum { ONE = 12, TICKS = 6 };
+    static const uint32_t turning[ONE] = { 1, 4, 1, 0, 0, 0, 1, 4, 1, 1, 2, 2 };
+    static const uint32_t stands[TICKS][4] = { { 0, 0, 1, 0 }, { 0, 1, 0, 0 }, { 0, 3, 1, 0 }, { 1, 1, 0, 0 }, { 1, 3, 1, 0 }, { 0, 1, 0, 0 } };
+    static const uint8_t of[2][4] = { { 1, 1, 1, 1 }, { 1, 1, 0, 0 } };
+    uint32_t at[TICKS][RUN], three[3];
+    for (size_t tick = 0; tick < TICKS; tick++) {
+        sivorandra_start(turning, ONE, at[tick], RUN, three, 3);
+        memcpy(at[tick] + PARITY, stands[tick], sizeof stands[tick]);
+    }
+    fresh(), answered(0, 0, 0), run_words(at[0], RUN), expect("start: two widths", 0, start(turning, ONE));
+    for (size_t tick = 0; tick < TICKS; tick++) {
+        size_t works = stands[tick][1] == 1;
+        fresh(), words(&run, RUN, at[tick], RUN), answered(0, 0, 0), row_bytes(of[stands[tick][0]], works ? 4 : 0), expect("row: odd and even jobs", 0, shown());
+        if (tick + 1 < TICKS)
+            fresh(), words(&run, RUN, at[tick], RUN), answered(0, 0, 0), run_words(at[tick + 1], RUN), expect("advance: odd and even jobs", 0, advance(works));
+        for (uint32_t parity = 2; parity < 4; parity++)
+            fresh(), words(&run, RUN, at[tick], RUN), set(PARITY, 1, parity), refused(14), expect("advance: no parity", 0, advance(0));
+    }
+    fresh(), words(&run, RUN, at[0], RUN), set(PARITY, 1, 1), refused(14), row_bytes(NULL, 0), expect("row: an even job of a task Coming", 0, shown());
+    fresh(), words(&run, RUN, at[0], RUN), set(PARITY, 1, 1), refused(14), expect("advance: an even job of a task Coming", 0, advance(0));
+    fresh(), words(&run, RUN, at[0], RUN), set(PARITY, 1, 1), refused(14), expect("withdraw: an even job of a task Coming", 0, withdraw(1));
 }
 
 /* Empty jobs: every set of the three positions in the tick in which all are released, bits past the count, and a tick later. */
@@ -551,7 +577,7 @@ static void lists(void)
 
 int main(void)
 {
-    nulls(), sentences(), tables(), horizons(), bounds(), lengths(), built(), fences(), empty_jobs(), withdrawals(), lists(), longest_answers();
+    nulls(), sentences(), tables(), horizons(), bounds(), lengths(), built(), fences(), parities(), empty_jobs(), withdrawals(), lists(), longest_answers();
     printf("%u calls, %u wrong\n", calls, wrong);
     return wrong != 0;
 }

@@ -5,7 +5,7 @@
 #include "sivorandra.h"
 
 enum { HEAD = SIVORANDRA_TABLE_HEAD_WORDS, RECORD = SIVORANDRA_TABLE_RECORD_WORDS, MOST = SIVORANDRA_MOST_TASKS + 1, RUN = SIVORANDRA_RUN_WORDS };
-enum { CORES = 1, RULE = 2, FENCE = 3, NEXT = HEAD, O, V, C, D, T };
+enum { CORES = 1, RULE = 2, FENCE = 3, NEXT = HEAD, O, V, C, D, T, W };
 enum { PASSES = 0 };
 
 static uint32_t table[HEAD + RECORD * MOST], run[RUN], answer[SIVORANDRA_ANSWER_WORDS];
@@ -19,7 +19,7 @@ static void fresh(uint32_t tasks)
     static const uint32_t head[HEAD] = { 1, 2, SIVORANDRA_GREEDY, 0, 0 };
     memcpy(table, head, sizeof head);
     for (uint32_t i = 0; i < tasks; i++) {
-        uint32_t record[RECORD] = { i + 1 < tasks ? i + 2 : 0, 0, 1, 1, 5, 5 };
+        uint32_t record[RECORD] = { i + 1 < tasks ? i + 2 : 0, 0, 1, 1, 5, 5, 1 };
         memcpy(table + HEAD + i * RECORD, record, sizeof record);
     }
     words = HEAD + RECORD * tasks;
@@ -58,6 +58,8 @@ static void numbers(void)
     with(0, 2), expect("no such record", judge(), SIVORANDRA_NO_RECORD, 0);
     with(NEXT, 1), expect("a record again", judge(), SIVORANDRA_RECORD_AGAIN, 0);
     with(V, 3), expect("too wide", judge(), SIVORANDRA_BAD_WIDTH, 1);
+    with(W, 3), expect("too wide on even jobs", judge(), SIVORANDRA_BAD_WIDTH, 1);
+    with(W, 0), expect("no core on even jobs", judge(), SIVORANDRA_BAD_WIDTH, 1);
     with(T, 4), expect("D above T", judge(), SIVORANDRA_BAD_TIME, 1);
     fresh(2), table[T] = 999999, table[RECORD + T] = 1009, expect("a long horizon", judge(), SIVORANDRA_LONG_HORIZON, 0);
     fresh(1), expect("a above b", plan(1, 0, sizeof rows), SIVORANDRA_BAD_RANGE, 0);
@@ -82,6 +84,8 @@ static void numbers(void)
     expect("a report on a withdrawn task", advance(2, 0), SIVORANDRA_BAD_REPORT, 0);
     fresh(2), table[V] = 2, start(), expect("greedy and a width above the next", withdraw(1), SIVORANDRA_NOT_FIRM, 0);
     expect("not firm before no position", withdraw(0), SIVORANDRA_NOT_FIRM, 0);
+    fresh(2), table[W] = 2, start(), expect("the same on even jobs", withdraw(1), SIVORANDRA_NOT_FIRM, 0);
+    fresh(2), table[RECORD + W] = 2, start(), expect("greedy and no width above the next", withdraw(1), PASSES, 0);
     fresh(2), table[V] = 2, table[RULE] = SIVORANDRA_LIMITED, start(), expect("the same under limited", withdraw(1), PASSES, 0);
     fresh(2), table[V] = 2, table[RULE] = SIVORANDRA_IDLING, start(), expect("the same under idling", withdraw(1), PASSES, 0);
     with(C, 6), start(), expect("no run to withdraw from", withdraw(1), SIVORANDRA_NOT_A_RUN, 0);
@@ -92,7 +96,7 @@ static void numbers(void)
     with(V, 3), expect("too wide, asked for the longest answers", longest(), SIVORANDRA_BAD_WIDTH, 1);
 
     /* position 1 ends early, the wide task at position 2 goes first, and position 3 is late */
-    static const uint32_t b[] = { 1, 2, 1, 0, 0, 2, 0, 1, 3, 3, 4, 3, 0, 2, 1, 4, 4, 0, 0, 1, 2, 2, 4 };
+    static const uint32_t b[] = { 1, 2, 1, 0, 0, 2, 0, 1, 3, 3, 4, 1, 3, 0, 2, 1, 4, 4, 2, 0, 0, 1, 2, 2, 4, 1 };
     memcpy(table, b, sizeof b), words = sizeof b / sizeof b[0];
     start(), expect("an early end", advance(1, 0), PASSES, 0);
     expect("one more tick", advance(0, 0), PASSES, 0);
@@ -120,6 +124,9 @@ static void limits(void)
     fresh(2), table[T] = 1000, table[RECORD + O] = 1000, table[RECORD + T] = 999999, expect("the largest horizon", judge(), PASSES, 0);
     expect("its horizon", answer[1] + answer[2] != SIVORANDRA_MOST_HORIZON, PASSES, 0);
     table[RECORD + O]++, expect("a tick more", judge(), SIVORANDRA_LONG_HORIZON, 0);
+    table[RECORD + O] = 0, table[W] = 2, expect("2T where the widths differ", judge(), SIVORANDRA_LONG_HORIZON, 0);
+    table[T] = 500, expect("half of it", judge(), PASSES, 0);
+    expect("its P", answer[2] != 999999000u, PASSES, 0);
     with(FENCE, 1), start(), expect("a fenced core", row(0), PASSES, 0);
     expect("its byte", rows[0] != SIVORANDRA_FENCED, PASSES, 0);
 }

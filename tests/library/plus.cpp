@@ -5,7 +5,7 @@
 
 int main()
 {
-    std::vector<uint32_t> table = { 1, 3, SIVORANDRA_GREEDY, 0, 0, 2, 0, 2, 2, 5, 5, 3, 0, 2, 3, 5, 5, 0, 0, 1, 4, 5, 5 };
+    std::vector<uint32_t> table = { 1, 3, SIVORANDRA_GREEDY, 0, 0, 2, 0, 2, 2, 5, 5, 2, 3, 0, 2, 3, 5, 5, 2, 0, 0, 1, 4, 5, 5, 1 };
     uint32_t answer[SIVORANDRA_ANSWER_WORDS] = {};
     if (sivorandra_judge(table.data(), table.size(), answer, SIVORANDRA_ANSWER_WORDS) != SIVORANDRA_ANSWERED || answer[0] != SIVORANDRA_FULL)
         return 1;

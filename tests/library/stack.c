@@ -68,13 +68,13 @@ static size_t taken(size_t call)
     return used;
 }
 
-/* 32 tasks with these lengths, deadlines and periods, their widths 1 and 2 by turns, on 64 cores or just beside a fence of so many of them. */
+/* 32 tasks with these lengths, deadlines and periods, their widths 1 and 2 by turns, and 2 and 1 on even jobs, on 64 cores or just beside a fence of so many of them. */
 static void make(uint32_t rule, uint32_t c, uint32_t d, uint32_t t, uint32_t fence)
 {
     uint32_t head[SIVORANDRA_TABLE_HEAD_WORDS] = { 1, SIVORANDRA_MOST_CORES, rule, fence, 0 };
     memcpy(table, head, sizeof head);
     for (uint32_t i = 0; i < TASKS; i++) {
-        uint32_t record[SIVORANDRA_TABLE_RECORD_WORDS] = { (i + 2) % (TASKS + 1), i, 1 + i % 2, c, d, t };
+        uint32_t record[SIVORANDRA_TABLE_RECORD_WORDS] = { (i + 2) % (TASKS + 1), i, 1 + i % 2, c, d, t, 2 - i % 2 };
         memcpy(table + SIVORANDRA_TABLE_HEAD_WORDS + i * SIVORANDRA_TABLE_RECORD_WORDS, record, sizeof record);
     }
     words = TABLE;

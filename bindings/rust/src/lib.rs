@@ -3,16 +3,17 @@
 //! With cargo the build script finds libsivorandra.a (`tools/archive` makes it; SIVORANDRA_LIB names the folder of another); with rustc alone:
 //! `rustc --edition 2021 --crate-type rlib --crate-name sivorandra -L native=target/staticlib bindings/rust/src/lib.rs`
 //!
-//! A table is given by its words: head, cores, rule and two words of fence, then next, O, v, C, D and T of each record.
+//! A table is given by its words: head, cores, rule and two words of fence, then next, O, v, C, D, T and w of each record. Odd jobs of a task, its first, third and so on,
+//! take v cores, even ones w.
 //!
 //! ```
 //! use sivorandra::{judge, Verdict};
 //!
 //! let table = [
 //!     1, 3, 1, 0, 0, // head, cores, rule, fence
-//!     2, 0, 2, 2, 5, 5, // next, offset, width, length, deadline, period
-//!     3, 0, 2, 3, 5, 5, //
-//!     0, 0, 1, 4, 5, 5,
+//!     2, 0, 2, 2, 5, 5, 2, // next, offset, width, length, deadline, period, width of even jobs
+//!     3, 0, 2, 3, 5, 5, 2, //
+//!     0, 0, 1, 4, 5, 5, 1,
 //! ];
 //! assert_eq!(judge(&table)?, Verdict::Full { start: 0, period: 5 });
 //! # Ok::<(), sivorandra::Refusal>(())
@@ -53,15 +54,28 @@ pub const IDLING: u32 = 3;
 /// The words of a table in front of its records: head, cores, rule, and the fence, the set of cores that no task has, its low word first:
 /// bit c of the low word is core c, bit c of the high word core 32 + c.
 pub const TABLE_HEAD_WORDS: usize = 5;
-/// The words of a record: next, O, v, C, D, T.
-pub const TABLE_RECORD_WORDS: usize = 6;
+/// The words of a record: next, O, v, C, D, T, w. Odd jobs take v cores, even ones w; where the two differ the task counts with 2T in P.
+///
+/// ```
+/// use sivorandra::{judge, plan, Verdict};
+///
+/// // four cores on one job, two on the next
+/// let table = [1, 4, 1, 0, 0, 0, 0, 4, 1, 1, 1, 2];
+/// assert_eq!(judge(&table)?, Verdict::Firm { start: 0, period: 2 });
+/// let mut rows = [0; 8];
+/// plan(&table, 0, 2, &mut rows)?;
+/// assert_eq!(rows, [1, 1, 1, 1, 1, 1, 0, 0]);
+/// # Ok::<(), sivorandra::Refusal>(())
+/// ```
+pub const TABLE_RECORD_WORDS: usize = 7;
 /// The most words of a table.
 pub const TABLE_WORDS: usize = TABLE_HEAD_WORDS + TABLE_RECORD_WORDS * MOST_TASKS;
 
 /// The words of a run in front of its places: rule, cores, count, the fence, its low word first, and the set of withdrawn positions.
 pub const RUN_HEAD_WORDS: usize = 6;
-/// The words of a place: O, v, C, D, T, the kind of its phase (0 Coming, 1 Working, 2 Holding, 3 Resting) and its two numbers, 0 for one that it does not have.
-pub const RUN_PLACE_WORDS: usize = 8;
+/// The words of a place: O, v, C, D, T, w, the parity of its job (0 odd, 1 even; it changes at each release but the first), the kind of its phase (0 Coming, 1 Working, 2 Holding,
+/// 3 Resting) and its two numbers, 0 for one that it does not have.
+pub const RUN_PLACE_WORDS: usize = 10;
 /// The words that a run takes: it has 32 places, of which the first count are used.
 pub const RUN_WORDS: usize = RUN_HEAD_WORDS + RUN_PLACE_WORDS * MOST_TASKS;
 
@@ -127,7 +141,7 @@ impl fmt::Display for Verdict {
 /// use sivorandra::{replay, Entry};
 ///
 /// // in tick 0 the job of position 1 is empty, and in tick 1 that of position 2 ends
-/// let table = [1, 3, 1, 0, 0, 2, 0, 2, 2, 5, 5, 3, 0, 2, 3, 5, 5, 0, 0, 1, 4, 5, 5];
+/// let table = [1, 3, 1, 0, 0, 2, 0, 2, 2, 5, 5, 2, 3, 0, 2, 3, 5, 5, 2, 0, 0, 1, 4, 5, 5, 1];
 /// let list = [Entry::Advance { reports: 0, empties: 1 }, Entry::Advance { reports: 2, empties: 0 }];
 /// assert_eq!(replay(&table, &list)?.row?[..3], [3, 0, 0]);
 /// # Ok::<(), sivorandra::Refusal>(())
@@ -163,7 +177,7 @@ impl Entry {
 /// ```
 /// use sivorandra::{replay, Entry, Refusal};
 ///
-/// let table = [1, 3, 1, 0, 0, 2, 0, 2, 2, 5, 5, 3, 0, 2, 3, 5, 5, 0, 0, 1, 4, 5, 5];
+/// let table = [1, 3, 1, 0, 0, 2, 0, 2, 2, 5, 5, 2, 3, 0, 2, 3, 5, 5, 2, 0, 0, 1, 4, 5, 5, 1];
 /// let replay = replay(&table, &[2, 1].map(|reports| Entry::Advance { reports, empties: 0 }))?;
 /// assert_eq!(replay.answers, [Err(Refusal::BadReport), Ok(())]);
 /// assert_eq!(replay.row?[..3], [2, 2, 3]);
@@ -183,7 +197,7 @@ pub struct Replay {
 /// ```
 /// use sivorandra::Run;
 ///
-/// let table = [1, 3, 1, 0, 0, 2, 0, 2, 2, 5, 5, 3, 0, 2, 3, 5, 5, 0, 0, 1, 4, 5, 5];
+/// let table = [1, 3, 1, 0, 0, 2, 0, 2, 2, 5, 5, 2, 3, 0, 2, 3, 5, 5, 2, 0, 0, 1, 4, 5, 5, 1];
 /// let mut run = Run::start(&table)?;
 /// assert_eq!(run.row(0)?[..run.cores()], [1, 1, 3]);
 /// run.advance(1, 0)?; // the job of position 1 ends after this tick
@@ -281,7 +295,7 @@ pub fn version() -> u32 {
 /// ```
 /// use sivorandra::{judge, Refusal, Verdict};
 ///
-/// let mut table = [1, 3, 1, 0, 0, 2, 0, 2, 2, 5, 5, 3, 0, 2, 3, 5, 5, 0, 0, 1, 4, 5, 5];
+/// let mut table = [1, 3, 1, 0, 0, 2, 0, 2, 2, 5, 5, 2, 3, 0, 2, 3, 5, 5, 2, 0, 0, 1, 4, 5, 5, 1];
 /// assert_eq!(judge(&table), Ok(Verdict::Full { start: 0, period: 5 }));
 /// table[2] = sivorandra::LIMITED;
 /// assert_eq!(judge(&table), Ok(Verdict::Miss { tick: 5, position: 3 }));
@@ -297,7 +311,7 @@ pub fn judge(words: &[u32]) -> Result<Verdict, Refusal> {
 /// ```
 /// use sivorandra::{judge, judge_ticks};
 ///
-/// let table = [1, 3, 1, 0, 0, 2, 0, 2, 2, 5, 5, 3, 0, 2, 3, 5, 5, 0, 0, 1, 4, 5, 5];
+/// let table = [1, 3, 1, 0, 0, 2, 0, 2, 2, 5, 5, 2, 3, 0, 2, 3, 5, 5, 2, 0, 0, 1, 4, 5, 5, 1];
 /// assert_eq!(judge_ticks(&table), judge(&table));
 /// ```
 pub fn judge_ticks(words: &[u32]) -> Result<Verdict, Refusal> {
@@ -309,7 +323,7 @@ pub fn judge_ticks(words: &[u32]) -> Result<Verdict, Refusal> {
 /// ```
 /// use sivorandra::{plan, Refusal};
 ///
-/// let table = [1, 3, 1, 0, 0, 2, 0, 2, 2, 5, 5, 3, 0, 2, 3, 5, 5, 0, 0, 1, 4, 5, 5];
+/// let table = [1, 3, 1, 0, 0, 2, 0, 2, 2, 5, 5, 2, 3, 0, 2, 3, 5, 5, 2, 0, 0, 1, 4, 5, 5, 1];
 /// let mut rows = [0; 6];
 /// plan(&table, 3, 5, &mut rows)?;
 /// assert_eq!(rows, [2, 2, 3, 2, 2, 0]);
@@ -326,7 +340,7 @@ pub fn plan(words: &[u32], a: u32, b: u32, rows: &mut [u8]) -> Result<(), Refusa
 /// ```
 /// use sivorandra::{sentence_in, Refusal, SENTENCE_BYTES};
 ///
-/// let table = [1, 3, 2, 0, 0, 2, 0, 2, 2, 5, 5, 3, 0, 2, 3, 5, 5, 0, 0, 1, 4, 5, 5];
+/// let table = [1, 3, 2, 0, 0, 2, 0, 2, 2, 5, 5, 2, 3, 0, 2, 3, 5, 5, 2, 0, 0, 1, 4, 5, 5, 1];
 /// let mut buffer = [0; SENTENCE_BYTES];
 /// let length = sentence_in(&table, &mut buffer)?;
 /// assert_eq!(&buffer[..length], b"task 3 misses at tick 5 with 3 of 4 ticks; task 1 ran 2.");
@@ -346,7 +360,7 @@ pub fn sentence_in(words: &[u32], buffer: &mut [u8]) -> Result<usize, Refusal> {
 /// ```
 /// use sivorandra::{sentence, Refusal, GREEDY};
 ///
-/// let mut table = [1, 3, 2, 0, 0, 2, 0, 2, 2, 5, 5, 3, 0, 2, 3, 5, 5, 0, 0, 1, 4, 5, 5];
+/// let mut table = [1, 3, 2, 0, 0, 2, 0, 2, 2, 5, 5, 2, 3, 0, 2, 3, 5, 5, 2, 0, 0, 1, 4, 5, 5, 1];
 /// assert_eq!(sentence(&table)?, "task 3 misses at tick 5 with 3 of 4 ticks; task 1 ran 2.");
 /// table[2] = GREEDY;
 /// assert_eq!(sentence(&table), Err(Refusal::NoMiss));
@@ -380,7 +394,7 @@ pub fn facts_of(bytes: &[u8]) -> Option<Facts> {
 /// ```
 /// use sivorandra::{longest, Refusal, LIMITED};
 ///
-/// let mut table = [1, 3, 1, 0, 0, 2, 0, 2, 2, 5, 5, 3, 0, 2, 3, 5, 5, 0, 0, 1, 4, 5, 5];
+/// let mut table = [1, 3, 1, 0, 0, 2, 0, 2, 2, 5, 5, 2, 3, 0, 2, 3, 5, 5, 2, 0, 0, 1, 4, 5, 5, 1];
 /// assert_eq!(longest(&table)?[..4], [2, 5, 4, 0]);
 /// table[2] = LIMITED;
 /// assert_eq!(longest(&table), Err(Refusal::TableMisses));
@@ -398,7 +412,7 @@ pub fn longest(words: &[u32]) -> Result<[u32; MOST_TASKS], Refusal> {
 /// use sivorandra::{replay, Entry, Refusal};
 ///
 /// // position 1 ends early, the wide task at position 2 goes first, and position 3 is late
-/// let table = [1, 2, 1, 0, 0, 2, 0, 1, 3, 3, 4, 3, 0, 2, 1, 4, 4, 0, 0, 1, 2, 2, 4];
+/// let table = [1, 2, 1, 0, 0, 2, 0, 1, 3, 3, 4, 1, 3, 0, 2, 1, 4, 4, 2, 0, 0, 1, 2, 2, 4, 1];
 /// let replay = replay(&table, &[1, 0].map(|reports| Entry::Advance { reports, empties: 0 }))?;
 /// assert_eq!(replay.answers, [Ok(()), Ok(())]);
 /// assert_eq!(replay.row, Err(Refusal::Late { position: 3 }));
@@ -425,7 +439,7 @@ impl Run {
     /// ```
     /// use sivorandra::{Refusal, Run};
     ///
-    /// let late = [1, 1, 1, 0, 0, 0, 0, 1, 2, 1, 1]; // C is above D
+    /// let late = [1, 1, 1, 0, 0, 0, 0, 1, 2, 1, 1, 1]; // C is above D
     /// assert_eq!(Run::start(&late), Err(Refusal::TableMisses));
     /// ```
     pub fn start(words: &[u32]) -> Result<Run, Refusal> {
@@ -451,7 +465,7 @@ impl Run {
     /// ```
     /// use sivorandra::Run;
     ///
-    /// let run = Run::start(&[1, 3, 1, 0, 0, 0, 0, 2, 2, 5, 5])?;
+    /// let run = Run::start(&[1, 3, 1, 0, 0, 0, 0, 2, 2, 5, 5, 2])?;
     /// assert_eq!(Run::from_words(*run.words()), run);
     /// # Ok::<(), sivorandra::Refusal>(())
     /// ```
@@ -462,7 +476,7 @@ impl Run {
     /// The core count, fenced ones too: so many bytes of a row are cores. Of words that are no run it is what stands in its place.
     ///
     /// ```
-    /// let run = sivorandra::Run::start(&[1, 3, 1, 0, 0, 0, 0, 2, 2, 5, 5])?;
+    /// let run = sivorandra::Run::start(&[1, 3, 1, 0, 0, 0, 0, 2, 2, 5, 5, 2])?;
     /// assert_eq!(run.cores(), 3);
     /// # Ok::<(), sivorandra::Refusal>(())
     /// ```
@@ -473,7 +487,7 @@ impl Run {
     /// How many tasks the run has, at positions 1 to this. Of words that are no run it is what stands in its place.
     ///
     /// ```
-    /// let run = sivorandra::Run::start(&[1, 3, 1, 0, 0, 0, 0, 2, 2, 5, 5])?;
+    /// let run = sivorandra::Run::start(&[1, 3, 1, 0, 0, 0, 0, 2, 2, 5, 5, 2])?;
     /// assert_eq!(run.tasks(), 1);
     /// # Ok::<(), sivorandra::Refusal>(())
     /// ```
@@ -484,7 +498,7 @@ impl Run {
     /// The set of withdrawn positions, bit p for position p + 1. Of words that are no run it is what stands in its place.
     ///
     /// ```
-    /// let mut run = sivorandra::Run::start(&[1, 3, 1, 0, 0, 0, 0, 2, 2, 5, 5])?;
+    /// let mut run = sivorandra::Run::start(&[1, 3, 1, 0, 0, 0, 0, 2, 2, 5, 5, 2])?;
     /// run.withdraw(1)?;
     /// assert_eq!(run.withdrawn(), 1);
     /// # Ok::<(), sivorandra::Refusal>(())
@@ -499,7 +513,7 @@ impl Run {
     /// ```
     /// use sivorandra::{Refusal, Run};
     ///
-    /// let mut run = Run::start(&[1, 3, 1, 0, 0, 0, 0, 2, 2, 5, 5])?;
+    /// let mut run = Run::start(&[1, 3, 1, 0, 0, 0, 0, 2, 2, 5, 5, 2])?;
     /// assert_eq!(run.row(0)?[..run.cores()], [1, 1, 0]);
     /// assert_eq!(run.row(1)?[..run.cores()], [0, 0, 0]);
     /// run.advance(0, 0)?;
@@ -518,7 +532,7 @@ impl Run {
     /// ```
     /// use sivorandra::{Refusal, Run};
     ///
-    /// let mut run = Run::start(&[1, 3, 1, 0, 0, 0, 0, 2, 2, 5, 5])?;
+    /// let mut run = Run::start(&[1, 3, 1, 0, 0, 0, 0, 2, 2, 5, 5, 2])?;
     /// assert_eq!(run.advance(2, 0), Err(Refusal::BadReport)); // there is no position 2
     /// assert_eq!(run.advance(1, 1), Err(Refusal::BadReport)); // an empty job does not work
     /// run.advance(1, 0)?;
@@ -536,7 +550,7 @@ impl Run {
     /// ```
     /// use sivorandra::{Refusal, Run};
     ///
-    /// let mut run = Run::start(&[1, 3, 1, 0, 0, 0, 0, 2, 2, 5, 5])?;
+    /// let mut run = Run::start(&[1, 3, 1, 0, 0, 0, 0, 2, 2, 5, 5, 2])?;
     /// run.advance(0, 0)?;
     /// run.withdraw(1)?;
     /// assert_eq!(run.row(0)?[..run.cores()], [1, 1, 0]); // the job of tick 0 goes on
@@ -547,7 +561,7 @@ impl Run {
     /// assert_eq!(run.withdraw(2), Err(Refusal::NoPosition));
     ///
     /// // greedy, and the wider task first: the others would not be safe
-    /// let mut full = Run::start(&[1, 3, 1, 0, 0, 2, 0, 2, 2, 5, 5, 0, 0, 1, 4, 5, 5])?;
+    /// let mut full = Run::start(&[1, 3, 1, 0, 0, 2, 0, 2, 2, 5, 5, 2, 0, 0, 1, 4, 5, 5, 1])?;
     /// assert_eq!(full.withdraw(1), Err(Refusal::NotFirm));
     /// # Ok::<(), Refusal>(())
     /// ```

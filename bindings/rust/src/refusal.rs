@@ -8,15 +8,15 @@ use std::fmt;
 /// use sivorandra::{judge, Refusal};
 ///
 /// // one task of width 2 on one core
-/// let refusal = judge(&[1, 1, 1, 0, 0, 0, 0, 2, 1, 5, 5]).unwrap_err();
+/// let refusal = judge(&[1, 1, 1, 0, 0, 0, 0, 2, 1, 5, 5, 2]).unwrap_err();
 /// assert_eq!(refusal, Refusal::BadWidth { position: 1 });
 /// assert_eq!((refusal.number(), refusal.position()), (7, 1));
-/// assert_eq!(refusal.to_string(), "the width of position 1 is 0 or above the number of unfenced cores (number 7)");
+/// assert_eq!(refusal.to_string(), "a width of position 1 is 0 or above the number of unfenced cores (number 7)");
 /// ```
 #[derive(Clone, Copy, Debug, PartialEq, Eq, Hash)]
 #[non_exhaustive]
 pub enum Refusal {
-    /// 1: fewer than 5 words, the rest no whole records of six, or more than 32 records.
+    /// 1: fewer than 5 words, the rest no whole records of seven, or more than 32 records.
     NotATable,
     /// 2: the core count is not 1 to 64.
     BadCores,
@@ -28,7 +28,7 @@ pub enum Refusal {
     NoRecord,
     /// 6: along the chain a record is met again.
     RecordAgain,
-    /// 7: the width of this position is 0 or above the number of unfenced cores.
+    /// 7: a width of this position is 0 or above the number of unfenced cores.
     BadWidth {
         /// The position, from 1.
         position: u32,
@@ -65,7 +65,7 @@ pub enum Refusal {
     BadFence,
     /// 20, of a row or an advance: an empty job for a position past the count, or for a task whose job is not released in this very tick.
     BadEmpty,
-    /// 21, of a withdrawal: the rule is greedy and some width is above the next one, so that others could be late without a task.
+    /// 21, of a withdrawal: the rule is greedy and a width of some task is above one of the next, so that others could be late without a task.
     NotFirm,
     /// 22, of a withdrawal: the position is 0 or past the count.
     NoPosition,
@@ -169,13 +169,13 @@ impl fmt::Display for Refusal {
     /// What the number means, and the number.
     fn fmt(&self, out: &mut fmt::Formatter<'_>) -> fmt::Result {
         match *self {
-            Refusal::NotATable => write!(out, "fewer than 5 words, the rest no whole records of six, or more than 32 records"),
+            Refusal::NotATable => write!(out, "fewer than 5 words, the rest no whole records of seven, or more than 32 records"),
             Refusal::BadCores => write!(out, "the core count is not 1 to 64"),
             Refusal::BadRule => write!(out, "the rule is not 1, 2 or 3"),
             Refusal::NoHead => write!(out, "the head is zero"),
             Refusal::NoRecord => write!(out, "along the chain a number past the last record is met"),
             Refusal::RecordAgain => write!(out, "along the chain a record is met again"),
-            Refusal::BadWidth { position } => write!(out, "the width of position {position} is 0 or above the number of unfenced cores"),
+            Refusal::BadWidth { position } => write!(out, "a width of position {position} is 0 or above the number of unfenced cores"),
             Refusal::BadTime { position } => write!(out, "O, C, T or D of position {position} is outside its limits"),
             Refusal::LongHorizon => write!(out, "the horizon is above 1,000,000,000"),
             Refusal::BadRange => write!(out, "a is above b, or b is above the horizon"),
@@ -189,7 +189,7 @@ impl fmt::Display for Refusal {
             Refusal::ShortBuffer => write!(out, "the buffer is shorter than the sentence"),
             Refusal::BadFence => write!(out, "the fence names a core past the count, or all cores"),
             Refusal::BadEmpty => write!(out, "an empty job for a position past the count, or for a task whose job is not released in this tick"),
-            Refusal::NotFirm => write!(out, "the rule is greedy and some width is above the next one, so that others could be late without a task"),
+            Refusal::NotFirm => write!(out, "the rule is greedy and a width of some task is above one of the next, so that others could be late without a task"),
             Refusal::NoPosition => write!(out, "the position is 0 or past the count"),
             Refusal::Other { position: 0, .. } => write!(out, "turned down"),
             Refusal::Other { position, .. } => write!(out, "turned down at position {position}"),

@@ -41,7 +41,7 @@ fn a_refusal_is_an_error() {
 fn a_run_tells_its_counts() {
     let mut table = vec![1, 64, 3, 2, 0];
     for next in 2..MOST_TASKS as u32 + 2 {
-        table.extend([if next > MOST_TASKS as u32 { 0 } else { next }, 0, 1, 1, 9, 9]);
+        table.extend([if next > MOST_TASKS as u32 { 0 } else { next }, 0, 1, 1, 9, 9, 1]);
     }
     let run = Run::start(&table).unwrap();
     assert_eq!((run.cores(), run.tasks()), (64, MOST_TASKS));

@@ -106,7 +106,7 @@ said-enough q n bs h =
     ap (λ (w : Words). saidTo q (numbersIn w))
     (ap wordsOf (behind (length (wordOf q)) n bs) ∙ first-enough (drop (length (wordOf q)) bs) n h)
 
--- THEOREM (asked-enough): the first 2,176 bytes of an input decide all that is printed for it
+-- THEOREM (asked-enough): the first 2,528 bytes of an input decide all that is printed for it
 pub asked-enough : (bs : List ℕ) → asked (take enoughAsked bs) ≡ asked bs
 unfolding asked
 asked-enough bs =

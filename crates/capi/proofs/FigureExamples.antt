@@ -24,7 +24,7 @@ abbrev lent : ℕ → List ℕ
 lent n = replicate n 77
 
 abbrev wordsF : List ℕ
-wordsF = 1 ∷ 1 ∷ 1 ∷ 0 ∷ 0 ∷ 0 ∷ 0 ∷ 1 ∷ 2 ∷ 1 ∷ 2 ∷ []
+wordsF = 1 ∷ 1 ∷ 1 ∷ 0 ∷ 0 ∷ 0 ∷ 0 ∷ 1 ∷ 2 ∷ 1 ∷ 2 ∷ 1 ∷ []
 
 pub figures-left : longestCall wordsA (lent 33) (lent 4) ≡ calls.left 0 ((2 ∷ 5 ∷ 4 ∷ (replicate 29 0 ++ lent 1)) ∷ (0 ∷ 0 ∷ 0 ∷ lent 1) ∷ [])
 unfolding longestCall longestOf figuresIn longestBy greatest responseTime verdictOf verdict firstMiss missedIn missedAt firm rising answerOf byWalk byTasks byHorizon firstOut endingOf

@@ -20,9 +20,10 @@ use Rattle.run.specs.Row.{rowAnswer, rowOf}
 use Rattle.run.specs.Advance.{advanceAnswer, advanceOf}
 use Rattle.run.specs.Withdraw.{withdrawAnswer, withdrawOf}
 use Rattle.run.proofs.Limits.{run-decides}
-use Rattle.capi.specs.Encoding.{headWords, eachWords, kindAt, secondAt, places, wordsTo, runWords, isPhase, isPlace, arePlaces, countIn, holds, runIn, Held, run, none, decode}
+use Rattle.capi.specs.Encoding.{headWords, eachWords, parityAt, kindAt, secondAt, places, wordsTo, runWords, isPhase, isStand, isPlace}
+use Rattle.capi.specs.Encoding.{arePlaces, countIn, holds, runIn, Held, run, none, decode}
 use Rattle.capi.specs.Runs.{rowFrom, advanceFrom, withdrawFrom}
-use Rattle.capi.specs.Fourteen.{NoPhase, NoRun, short, many, no-place, BufferOut}
+use Rattle.capi.specs.Fourteen.{NoPhase, NoStand, NoRun, short, many, no-place, BufferOut}
 use Rattle.capi.proofs.Places.{place-at, by-held, held-short, held-many, held-by}
 
 -- NO PLACE
@@ -43,8 +44,6 @@ no-phase-back k b (inl h) = simp (lt-leb k 3 h)
 no-phase-back k b (inr (inl e, h)) = ap (λ (n : ℕ). isPhase n b) e ∙ ne-eqb b 0 (λ z. omega arith)
 no-phase-back k b (inr (inr e, h)) = ap (λ (n : ℕ). isPhase n b) e ∙ ne-eqb b 0 (λ z. omega arith)
 
--- ONE OF SEVERAL PLACES
-
 and-false : (a b : Bool) → a && b ≡ false → (a ≡ false) ⊎ (b ≡ false)
 and-false true b e = inr e
 and-false false b e = inl refl
@@ -52,6 +51,15 @@ and-false false b e = inl refl
 right-false : (a b : Bool) → b ≡ false → a && b ≡ false
 right-false true b e = e
 right-false false b e = refl
+
+no-stand : (n k b : ℕ) → isStand n k b ≡ false → NoStand n k b
+no-stand n k b e = ⊎-elim (λ h. inl (leb-false n 1 h)) (λ h. inr (no-phase k b h)) (and-false (leb n 1) (isPhase k b) e)
+
+no-stand-back : (n k b : ℕ) → NoStand n k b → isStand n k b ≡ false
+no-stand-back n k b (inl h) = simp (lt-leb n 1 h)
+no-stand-back n k b (inr h) = right-false (leb n 1) (isPhase k b) (no-phase-back k b h)
+
+-- ONE OF SEVERAL PLACES
 
 -- place p from the second place on
 after-first : (p : ℕ) (ws : List ℕ) → isPlace (drop (eachWords * p) (drop eachWords ws)) ≡ isPlace (drop (eachWords * suc p) ws)
@@ -79,7 +87,9 @@ not-all (suc n) ws (suc p) l h =
 
 module _ (ws : List ℕ) where
   -- the words of place p, in the buffer
-  in-buffer : (p : ℕ) → isPlace (drop (eachWords * p) (drop headWords ws)) ≡ isPhase (getD ws (wordsTo p + kindAt) 0) (getD ws (wordsTo p + secondAt) 0)
+  in-buffer :
+      (p : ℕ) → isPlace (drop (eachWords * p) (drop headWords ws))
+      ≡ isStand (getD ws (wordsTo p + parityAt) 0) (getD ws (wordsTo p + kindAt) 0) (getD ws (wordsTo p + secondAt) 0)
   in-buffer p = ap isPlace (drop-drop (eachWords * p) headWords ws) ∙ place-at ws (wordsTo p)
 
   no-run : holds ws ≡ false → NoRun ws
@@ -89,7 +99,7 @@ module _ (ws : List ℕ) where
       by-count h true c =
           let l = leb-true (countIn ws) places c in
           let q = some-not (countIn ws) (drop headWords ws) (sym (held-by ws h l) ∙ e) in
-          no-place (q .0) (q .1) (no-phase _ _ (sym (in-buffer (q .0)) ∙ q .2))
+          no-place (q .0) (q .1) (no-stand _ _ _ (sym (in-buffer (q .0)) ∙ q .2))
       by-count h false c = many (leb-false (countIn ws) places c)
 
       by-length : (t : Bool) → leb runWords (length ws) ≡ t → NoRun ws
@@ -104,7 +114,7 @@ module _ (ws : List ℕ) where
       by-count h true c (many l) = held-many ws h l
       by-count h true c (no-place p l n) =
           held-by ws h (leb-true (countIn ws) places c)
-          ∙ not-all (countIn ws) (drop headWords ws) p l (in-buffer p ∙ no-phase-back _ _ n)
+          ∙ not-all (countIn ws) (drop headWords ws) p l (in-buffer p ∙ no-stand-back _ _ _ n)
       by-count h false c y = held-many ws h (leb-false (countIn ws) places c)
 
       by-length : (t : Bool) → leb runWords (length ws) ≡ t → NoRun ws → holds ws ≡ false

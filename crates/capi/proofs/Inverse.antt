@@ -22,8 +22,9 @@ use Rattle.run.specs.Numbers.{RunOut}
 use Rattle.table.specs.Words.{fenceOf}
 use Rattle.capi.specs.declared.told.Told.{Told}
 use Rattle.capi.specs.Told.{says}
-use Rattle.capi.specs.Encoding.{headWords, eachWords, kindAt, firstAt, secondAt, places, wordsTo, runWords, ofPhase, placeWith, placeWords}
-use Rattle.capi.specs.Encoding.{placesWords, countWord, lowWord, highWord, fenceIn, encodeTo, encode, overwritten, phaseOf, isPhase, placeIn}
+use Rattle.capi.specs.Encoding.{headWords, eachWords, parityAt, kindAt, firstAt, secondAt, places, wordsTo, runWords, ofPhase, parityWord}
+use Rattle.capi.specs.Encoding.{placeWith, placeWords, placesWords, countWord, lowWord, highWord, fenceIn, encodeTo, encode, overwritten}
+use Rattle.capi.specs.Encoding.{phaseOf, isPhase, evenOf, isParity, placeIn}
 use Rattle.capi.specs.Encoding.{isPlace, placesIn, arePlaces, countIn, holds, padded, runIn, run, none, decode, cleared}
 use Rattle.capi.proofs.Places.{length-words, length-read, by-held, held-long, held-few, held-places}
 
@@ -41,21 +42,41 @@ phase-back (Working z u) = refl
 phase-back (Holding z u) = refl
 phase-back (Resting z) = refl
 
+parity-is : (e : Bool) → isParity (parityWord e) ≡ true
+parity-is true = refl
+parity-is false = refl
+
+parity-back : (e : Bool) → evenOf (parityWord e) ≡ e
+parity-back true = refl
+parity-back false = refl
+
 pub places-are : (n : ℕ) (ts : List Task) (behind : List ℕ) → n ≤ length ts → arePlaces n (placesWords ts ++ behind) ≡ true
 unfolding arePlaces placesWords
 places-are zero ts behind h = refl
 places-are (suc n) [] behind h = absurd (not-suc-le-zero h)
 places-are (suc n) (t ∷ ts) behind h =
-    and-both _ (arePlaces n (placesWords ts ++ behind)) (phase-is (t .phase)) (places-are n ts behind (le-of-suc-le-suc h))
+    and-both _ (arePlaces n (placesWords ts ++ behind))
+    (and-both (isParity (parityWord (t .even))) _ (parity-is (t .even)) (phase-is (t .phase)))
+    (places-are n ts behind (le-of-suc-le-suc h))
 
-withPhase : Task → Phase → Task
-withPhase t ph = record { offset = t .offset; width = t .width; length = t .length; deadline = t .deadline; period = t .period; phase = ph }
+withStand : Task → Bool → Phase → Task
+withStand t e ph = record {
+  offset = t .offset;
+  width = t .width;
+  length = t .length;
+  deadline = t .deadline;
+  period = t .period;
+  second = t .second;
+  even = e;
+  phase = ph;
+}
 
 pub places-back : (n : ℕ) (ts : List Task) (behind : List ℕ) → n ≤ length ts → placesIn n (placesWords ts ++ behind) ≡ take n ts
-unfolding placesIn placesWords withPhase
+unfolding placesIn placesWords withStand
 places-back zero ts behind h = refl
 places-back (suc n) [] behind h = absurd (not-suc-le-zero h)
-places-back (suc n) (t ∷ ts) behind h = λ i. withPhase t (phase-back (t .phase) i) ∷ places-back n ts behind (le-of-suc-le-suc h) i
+places-back (suc n) (t ∷ ts) behind h =
+    λ i. withStand t (parity-back (t .even) i) (phase-back (t .phase) i) ∷ places-back n ts behind (le-of-suc-le-suc h) i
 
 -- the two words of a fence
 fence-back : (f : ℕ) → fenceOf (lowWord f) (highWord f) ≡ f
@@ -134,8 +155,16 @@ phase-forth (suc (suc (suc (suc k)))) a b e =
     let l = leb-true (suc (suc (suc (suc k)))) 3 (and-left (leb (suc (suc (suc (suc k)))) 3) _ e) in
     absurd (omega arith)
 
+-- and so is a parity's word
+parity-forth : (n : ℕ) → isParity n ≡ true → parityWord (evenOf n) ≡ n
+parity-forth zero e = refl
+parity-forth (suc zero) e = refl
+parity-forth (suc (suc n)) e = let l = leb-true (suc (suc n)) 1 e in absurd (omega arith)
+
 -- the words of a place in front, one by one
-front : (ws : List ℕ) → eachWords ≤ length ws → placeWith (placeIn ws) (says (getD ws kindAt 0) (getD ws firstAt 0) (getD ws secondAt 0)) ++ drop eachWords ws ≡ ws
+front :
+    (ws : List ℕ) → eachWords ≤ length ws
+    → placeWith (placeIn ws) (getD ws parityAt 0) (says (getD ws kindAt 0) (getD ws firstAt 0) (getD ws secondAt 0)) ++ drop eachWords ws ≡ ws
 front ws h =
     sym
     (drop-cons ws 0 0 (omega arith)
@@ -145,11 +174,19 @@ front ws h =
     ∙ ap (λ (l : List ℕ). getD ws 3 0 ∷ l) (drop-cons ws 4 0 (omega arith)
     ∙ ap (λ (l : List ℕ). getD ws 4 0 ∷ l) (drop-cons ws 5 0 (omega arith)
     ∙ ap (λ (l : List ℕ). getD ws 5 0 ∷ l) (drop-cons ws 6 0 (omega arith)
-    ∙ ap (λ (l : List ℕ). getD ws 6 0 ∷ l) (drop-cons ws 7 0 (omega arith)))))))))
+    ∙ ap (λ (l : List ℕ). getD ws 6 0 ∷ l) (drop-cons ws 7 0 (omega arith)
+    ∙ ap (λ (l : List ℕ). getD ws 7 0 ∷ l) (drop-cons ws 8 0 (omega arith)
+    ∙ ap (λ (l : List ℕ). getD ws 8 0 ∷ l) (drop-cons ws 9 0 (omega arith)))))))))))
 
 place-forth : (ws : List ℕ) → eachWords ≤ length ws → isPlace ws ≡ true → placeWords (placeIn ws) ++ drop eachWords ws ≡ ws
 place-forth ws h e =
-    ap (λ (t : Told). placeWith (placeIn ws) t ++ drop eachWords ws) (phase-forth (getD ws kindAt 0) (getD ws firstAt 0) (getD ws secondAt 0) e) ∙ front ws h
+    let n = getD ws parityAt 0 in
+    let k = getD ws kindAt 0 in
+    let a = getD ws firstAt 0 in
+    let b = getD ws secondAt 0 in
+    (λ i. placeWith (placeIn ws) (parity-forth n (and-left (isParity n) (isPhase k b) e) i) (phase-forth k a b (and-right (isParity n) (isPhase k b) e) i)
+    ++ drop eachWords ws)
+    ∙ front ws h
 
 pub places-forth : (n : ℕ) (ws : List ℕ) → eachWords * n ≤ length ws → arePlaces n ws ≡ true → placesWords (placesIn n ws) ++ drop (eachWords * n) ws ≡ ws
 unfolding arePlaces placesIn placesWords

@@ -1,6 +1,7 @@
--- What the calls on a run in a buffer leave, computed from the definitions, for one task (O 0, v 1, C 3, D 3, T 4) on one core under greedy:
--- which of the two sets of an advance is which, the set of a row, and the positions of a withdrawal.
+-- What the calls on a run in a buffer leave, computed from the definitions, for one task (O 0, v 1, C 3, D 3, T 4, w 2) on two cores under greedy:
+-- which of the two sets of an advance is which, the set of a row, the positions of a withdrawal, and the parity of a job.
 use mathlib.Core.Path.{_≡_, refl}
+use mathlib.Core.Bool.{Bool, true, false}
 use mathlib.Core.List.{List, [], _∷_, _++_}
 use Prim.Native.Nat.{ℕ}
 use lib.ListN.{replicate}
@@ -9,7 +10,7 @@ use Rattle.model.specs.Grants.{claimants, given, grants, left}
 use Rattle.model.specs.Row.{owner, row}
 use Rattle.model.specs.Search.{any, kept, least, memb, upFrom}
 use Rattle.phase.specs.declared.Phase.{Phase}
-use Rattle.phase.specs.declared.Phase.the-variants.{Working, Resting}
+use Rattle.phase.specs.declared.Phase.the-variants.{Coming, Working, Resting}
 use Rattle.run.specs.Run.{grantsIn, mapFirst, moved, withdrawnIn}
 use Rattle.run.specs.Numbers.{pastCount, runOut, firstLateIn, misemptiedIn, misreportedIn}
 use Rattle.run.specs.Advance.{advanceAnswer, advanceOf}
@@ -23,12 +24,22 @@ use Rattle.capi.specs.Runs.{rowCall, advanceCall, withdrawCall}
 abbrev lent : ℕ → List ℕ
 lent n = replicate n 77
 
--- the run in words, with this set withdrawn and its task in this phase, and anything past the count
-abbrev without : ℕ → Phase → List ℕ
-without x ph = 1 ∷ 1 ∷ 1 ∷ 0 ∷ 0 ∷ x ∷ (placeWords (record { offset = 0; width = 1; length = 3; deadline = 3; period = 4; phase = ph }) ++ lent 248)
+-- the run in words, with this set withdrawn, its task at an odd or an even job in this phase, and anything past the count
+abbrev words : ℕ → Bool → Phase → List ℕ
+words x e ph =
+    1 ∷ 2 ∷ 1 ∷ 0 ∷ 0 ∷ x
+    ∷ (placeWords (record { offset = 0; width = 1; length = 3; deadline = 3; period = 4; second = 2; even = e; phase = ph }) ++ lent 310)
 
+-- at an odd job, with this set withdrawn
+abbrev without : ℕ → Phase → List ℕ
+without x ph = words x false ph
+
+-- .. with nobody withdrawn, and so at an even one
 abbrev one : Phase → List ℕ
-one ph = without 0 ph
+one ph = words 0 false ph
+
+abbrev second : Phase → List ℕ
+second ph = words 0 true ph
 
 -- the call is answered
 abbrev answered : List (List ℕ) → Left
@@ -101,3 +112,25 @@ pub row-out : rowCall (without 2 (Working 1 1)) 0 (lent 65) (lent 3) ≡ answere
 unfolding rowCall holds arePlaces runIn placesIn any least memb upFrom kept owner row given left grants claimants rowOf rowAnswer bytesIn pastCount runOut
     firstLateIn misemptiedIn grantsIn
 row-out = refl
+
+-- an even job has the second width; the next release turns to it, and the one after that back
+pub row-even : rowCall (second (Working 0 0)) 0 (lent 65) (lent 3) ≡ answered ((1 ∷ 1 ∷ (replicate 62 0 ++ lent 1)) ∷ taken ∷ [])
+unfolding rowCall holds arePlaces runIn placesIn any least memb upFrom kept owner row given left grants claimants rowOf rowAnswer bytesIn pastCount runOut
+    firstLateIn misemptiedIn grantsIn
+row-even = refl
+
+pub advance-to-even : advanceCall (one (Resting 3)) 0 0 (lent 3) ≡ answered (second (Working 0 0) ∷ taken ∷ [])
+unfolding advanceCall holds arePlaces runIn placesIn encodeTo placesWords any least memb upFrom kept owner row given left grants claimants
+    advanceOf advanceAnswer pastCount runOut firstLateIn misemptiedIn misreportedIn grantsIn mapFirst moved
+advance-to-even = refl
+
+pub advance-to-odd : advanceCall (second (Resting 3)) 0 0 (lent 3) ≡ answered (one (Working 0 0) ∷ taken ∷ [])
+unfolding advanceCall holds arePlaces runIn placesIn encodeTo placesWords any least memb upFrom kept owner row given left grants claimants
+    advanceOf advanceAnswer pastCount runOut firstLateIn misemptiedIn misreportedIn grantsIn mapFirst moved
+advance-to-odd = refl
+
+-- no even job is coming
+pub row-coming : rowCall (second (Coming 1)) 0 (lent 65) (lent 3) ≡ answered ((replicate 64 0 ++ lent 1) ∷ refused 14 ∷ [])
+unfolding rowCall holds arePlaces runIn placesIn any least memb upFrom kept owner row given left grants claimants rowOf rowAnswer bytesIn pastCount runOut
+    firstLateIn misemptiedIn grantsIn
+row-coming = refl

@@ -1,4 +1,4 @@
--- A run in a lent buffer: rule, cores, count, the fence in two words and the withdrawn set, then eight words for each of the 32 places. What stands past the count is not looked at.
+-- A run in a lent buffer: rule, cores, count, the fence in two words and the withdrawn set, then ten words for each of the 32 places. What stands past the count is not looked at.
 use mathlib.Core.Bool.{Bool, true, _&&_, _||_, cond}
 use mathlib.Core.List.{List, [], _∷_, _++_}
 use Prim.Native.Nat.{ℕ, zero, suc, _+_, _*_, _-_, _/_, _%_, _^_}
@@ -22,11 +22,15 @@ headWords = 6
 
 -- the words of a place
 abbrev pub eachWords : ℕ
-eachWords = 8
+eachWords = 10
 
--- where a place has the kind of its phase ..
+-- where a place has the parity of its job ..
+abbrev pub parityAt : ℕ
+parityAt = 6
+
+-- .. the kind of its phase ..
 abbrev pub kindAt : ℕ
-kindAt = 5
+kindAt = parityAt + 1
 
 -- .. its first number ..
 abbrev pub firstAt : ℕ
@@ -57,13 +61,18 @@ ofPhase (Working z u) = says 1 z u
 ofPhase (Holding z u) = says 2 z u
 ofPhase (Resting z) = says 3 z 0
 
--- a task's five words, and the three of a phase
-abbrev pub placeWith : Task → Told → List ℕ
-placeWith t ph = t .offset ∷ (t .width ∷ (t .length ∷ (t .deadline ∷ (t .period ∷ (ph .kind ∷ (ph .first ∷ (ph .second ∷ [])))))))
+-- a job's parity (request 108): 0 odd, 1 even
+abbrev pub parityWord : Bool → ℕ
+parityWord even = cond even 1 0
 
--- a place: offset, width, length, deadline, period, and the phase
+-- a task's six words, that of a parity, and the three of a phase
+abbrev pub placeWith : Task → ℕ → Told → List ℕ
+placeWith t n ph =
+    t .offset ∷ (t .width ∷ (t .length ∷ (t .deadline ∷ (t .period ∷ (t .second ∷ (n ∷ (ph .kind ∷ (ph .first ∷ (ph .second ∷ [])))))))))
+
+-- a place: offset, width of odd jobs, length, deadline, period, width of even jobs, and the parity and the phase
 abbrev pub placeWords : Task → List ℕ
-placeWords t = placeWith t (ofPhase (t .phase))
+placeWords t = placeWith t (parityWord (t .even)) (ofPhase (t .phase))
 
 -- places, one after the other
 unfoldable pub placesWords : List Task → List ℕ
@@ -104,6 +113,18 @@ phaseOf k a b = cond (eqb k 0) (Coming a) (cond (eqb k 1) (Working a b) (cond (e
 abbrev pub isPhase : ℕ → ℕ → Bool
 isPhase k b = leb k 3 && ((eqb k 1 || eqb k 2) || eqb b 0)
 
+-- the parity of a word ..
+abbrev pub evenOf : ℕ → Bool
+evenOf n = eqb n 1
+
+-- .. and that it has one
+abbrev pub isParity : ℕ → Bool
+isParity n = leb n 1
+
+-- a parity, and a phase
+abbrev pub isStand : ℕ → ℕ → ℕ → Bool
+isStand n k b = isParity n && isPhase k b
+
 -- the place whose words stand in front
 abbrev pub placeIn : List ℕ → Task
 placeIn ws = record {
@@ -112,12 +133,14 @@ placeIn ws = record {
   length = getD ws 2 0;
   deadline = getD ws 3 0;
   period = getD ws 4 0;
+  second = getD ws 5 0;
+  even = evenOf (getD ws parityAt 0);
   phase = phaseOf (getD ws kindAt 0) (getD ws firstAt 0) (getD ws secondAt 0);
 }
 
--- they are a place: they have a phase
+-- they are a place: they have a parity and a phase
 abbrev pub isPlace : List ℕ → Bool
-isPlace ws = isPhase (getD ws kindAt 0) (getD ws secondAt 0)
+isPlace ws = isStand (getD ws parityAt 0) (getD ws kindAt 0) (getD ws secondAt 0)
 
 -- the first n places
 unfoldable pub placesIn : ℕ → List ℕ → List Task
@@ -133,7 +156,7 @@ arePlaces (suc n) ws = isPlace ws && arePlaces n (drop eachWords ws)
 abbrev pub countIn : List ℕ → ℕ
 countIn ws = getD ws 2 0
 
--- a buffer holds a run: it has the words of one, the count is at most 32, and every phase below the count is one
+-- a buffer holds a run: it has the words of one, the count is at most 32, and every parity and phase below the count is one
 unfoldable pub holds : List ℕ → Bool
 holds ws = leb runWords (length ws) && (leb (countIn ws) places && arePlaces (countIn ws) (drop headWords ws))
 

@@ -3,8 +3,8 @@ ghost use mathlib.Core.Path.{_≡_};
 ghost use mathlib.Core.List.{_++_};
 ghost use Prim.Native.Nat.{_+_, _≤_};
 ghost use lib.ListN.{length, drop};
-ghost use Rattle.capi.specs.Encoding.{headWords, eachWords, places, runWords, ofPhase, placeWith, countWord, lowWord, highWord};
-ghost use Rattle.capi.specs.Encoding.{overwritten, phaseOf, isPhase, placeIn, countIn, holds, runIn, decode};
+ghost use Rattle.capi.specs.Encoding.{headWords, eachWords, places, runWords, ofPhase, parityWord, placeWith, countWord, lowWord, highWord};
+ghost use Rattle.capi.specs.Encoding.{overwritten, phaseOf, isStand, placeIn, countIn, holds, runIn, decode};
 ghost use Rattle.capi.specs.Runs.{rowFrom, kept, advanceFrom, withdrawFrom};
 ghost use Rattle.model.specs.Sizes.{mostCores};
 use crate::told::Told;
@@ -20,9 +20,11 @@ use table::limits::HIGH;
 // The words in front of the places: rule, cores, count, the fence in two, and the withdrawn set.
 const HEAD: usize = 6;
 // The words of a place.
-const EACH: usize = 8;
-// Where a place has the kind of its phase ..
-const KIND: usize = 5;
+const EACH: usize = 10;
+// Where a place has the parity of its job ..
+const PARITY: usize = 6;
+// .. the kind of its phase ..
+const KIND: usize = PARITY + 1;
 // .. its first number ..
 const FIRST: usize = KIND + 1;
 // .. and its second.
@@ -60,16 +62,25 @@ fn of_phase(phase: Phase) -> Told
     }
 }
 
-// Writes a place with its phase into the first words.
-fn put_place(task: Task, phase: Told, words: &mut [u32])
+// The parity of a job in a word.
+fn parity_word(even: bool) -> u32
+    ensures { λ r. ⌜ r ≡ parityWord even ⌝ }
+{
+    if even { 1 } else { 0 }
+}
+
+// Writes a place with its parity and its phase into the first words.
+fn put_place(task: Task, parity: u32, phase: Told, words: &mut [u32])
     requires { ⌜ eachWords ≤ length (now words) ⌝ }
-    ensures { λ r. ⌜ now (words .exit) ≡ placeWith task phase ++ drop eachWords (now (words .entry)) ⌝ }
+    ensures { λ r. ⌜ now (words .exit) ≡ placeWith task parity phase ++ drop eachWords (now (words .entry)) ⌝ }
 {
     words[0] = task.offset;
     words[1] = task.width;
     words[2] = task.length;
     words[3] = task.deadline;
     words[4] = task.period;
+    words[5] = task.second;
+    words[PARITY] = parity;
     words[KIND] = phase.kind;
     words[FIRST] = phase.first;
     words[SECOND] = phase.second;
@@ -119,17 +130,18 @@ pub(crate) fn put_run(run: Run, shown: usize, words: &mut [u32])
     while i < shown {
         let task = run.tasks[i];
         let phase = task.phase;
+        let parity = parity_word(task.even);
         let at = HEAD + EACH * i;
-        put_place(task, of_phase(phase), &mut words[at..]);
+        put_place(task, parity, of_phase(phase), &mut words[at..]);
         i += 1;
     }
 }
 
-// Whether a phase has this kind and this second number.
-fn is_phase(kind: u32, second: u32) -> bool
-    ensures { λ r. ⌜ r ≡ isPhase kind second ⌝ }
+// Whether a parity is one, and a phase has this kind and this second number.
+fn is_stand(parity: u32, kind: u32, second: u32) -> bool
+    ensures { λ r. ⌜ r ≡ isStand parity kind second ⌝ }
 {
-    (kind <= 3) & (((kind == 1) | (kind == 2)) | (second == 0))
+    (parity <= 1) & ((kind <= 3) & (((kind == 1) | (kind == 2)) | (second == 0)))
 }
 
 // The phase of a kind and its numbers.
@@ -160,6 +172,8 @@ fn place_in(words: &[u32], at: usize) -> Task
         length: words[at + 2],
         deadline: words[at + 3],
         period: words[at + 4],
+        second: words[at + 5],
+        even: words[at + PARITY] == 1,
         phase: phase,
     }
 }
@@ -178,7 +192,7 @@ pub(crate) fn holds(words: &[u32]) -> bool
     let mut i: usize = 0;
     while i < count {
         let at = HEAD + EACH * i;
-        if is_phase(words[at + KIND], words[at + SECOND]) {
+        if is_stand(words[at + PARITY], words[at + KIND], words[at + SECOND]) {
             i += 1;
         } else {
             return false;

@@ -20,7 +20,7 @@ use Rattle.run.specs.Numbers.{pastCount, runOut, firstLateIn, misemptiedIn, mis
 use Rattle.run.specs.Advance.{advanceAnswer, advanceOf}
 use Rattle.run.specs.Row.{rowAnswer, bytesIn, rowOf}
 use Rattle.demand.specs.Entries.{answers, after}
-use Rattle.demand.proofs.HandBuilt.{Line, worked, rows, t, one, two, runB, on1, on2, no}
+use Rattle.demand.proofs.HandBuilt.{Line, worked, rows, t, at-even, one, two, runB, on1, on2, no}
 
 -- a line with its name
 pub record Named : Type 0 where
@@ -59,6 +59,13 @@ single r ph = one r 1 (t 0 1 3 4 6 ph)
 abbrev pub least-one : ℕ → Phase → Run
 least-one r ph = one r 1 (t 0 1 1 1 1 ph)
 
+-- each of these with an even job
+abbrev pub single-even : ℕ → Phase → Run
+single-even r ph = one r 1 (at-even (t 0 1 3 4 6 ph))
+
+abbrev least-even : ℕ → Phase → Run
+least-even r ph = one r 1 (at-even (t 0 1 1 1 1 ph))
+
 -- two tasks as wide as two cores, under greedy
 abbrev wide : Phase → Phase → Run
 wide a b = two 1 2 (t 0 2 2 5 5 a) (t 0 2 3 5 5 b)
@@ -75,12 +82,12 @@ empty-lines =
     (two 3 1 (t 0 1 2 3 3 (Working 0 0)) (t 0 1 1 3 3 (Working 0 0))) (sets 0 2 ∷ []) (Taken ∷ []) (on1 1 ∷ on1 1 ∷ [])
     (two 3 1 (t 0 1 2 3 3 (Working 1 1)) (t 0 1 1 3 3 (Holding 1 0)))
     ∷ built "C, D and T of 1 under greedy: the next job is released at once"
-    (least-one 1 (Working 0 0)) (sets 0 1 ∷ []) (Taken ∷ []) (on1 0 ∷ on1 1 ∷ []) (least-one 1 (Working 0 0))
+    (least-one 1 (Working 0 0)) (sets 0 1 ∷ []) (Taken ∷ []) (on1 0 ∷ on1 1 ∷ []) (least-even 1 (Working 0 0))
     ∷ built "and under idling, where the empty one has its core"
-    (least-one 3 (Working 0 0)) (sets 0 1 ∷ []) (Taken ∷ []) (on1 1 ∷ on1 1 ∷ []) (least-one 3 (Working 0 0))
+    (least-one 3 (Working 0 0)) (sets 0 1 ∷ []) (Taken ∷ []) (on1 1 ∷ on1 1 ∷ []) (least-even 3 (Working 0 0))
     ∷ built "D of 1 under idling: a hold without cores ends with its tick"
     (two 3 1 (t 0 1 1 1 1 (Working 0 0)) (t 0 1 1 1 2 (Working 0 0))) (sets 0 2 ∷ []) (Taken ∷ []) (on1 1 ∷ on1 1 ∷ [])
-    (two 3 1 (t 0 1 1 1 1 (Working 0 0)) (t 0 1 1 1 2 (Resting 1)))
+    (two 3 1 (at-even (t 0 1 1 1 1 (Working 0 0))) (t 0 1 1 1 2 (Resting 1)))
     ∷ built "C of 1 under idling: a hold with cores ends with its tick"
     (one 3 1 (t 0 1 1 2 2 (Working 0 0))) (sets 0 1 ∷ []) (Taken ∷ []) (on1 1 ∷ on1 0 ∷ []) (one 3 1 (t 0 1 1 2 2 (Resting 1)))
     ∷ built "an empty bit on Working(0,1): that is no run"
@@ -97,7 +104,7 @@ empty-lines =
     (one 1 1 (t 2 1 3 4 6 (Coming 1))) (sets 0 1 ∷ none ∷ sets 0 1 ∷ []) (empty-no ∷ Taken ∷ Taken ∷ []) (row-20 ∷ on1 0 ∷ on1 0 ∷ on1 0 ∷ [])
     (one 1 1 (t 2 1 3 4 6 (Resting 1)))
     ∷ built "on Resting, and in the tick of the next release"
-    (single 1 (Resting 5)) (sets 0 1 ∷ none ∷ sets 0 1 ∷ []) (empty-no ∷ Taken ∷ Taken ∷ []) (row-20 ∷ on1 0 ∷ on1 0 ∷ on1 0 ∷ []) (single 1 (Resting 1))
+    (single 1 (Resting 5)) (sets 0 1 ∷ none ∷ sets 0 1 ∷ []) (empty-no ∷ Taken ∷ Taken ∷ []) (row-20 ∷ on1 0 ∷ on1 0 ∷ on1 0 ∷ []) (single-even 1 (Resting 1))
     ∷ built "past the count, also beside a good bit"
     (single 1 (Working 0 0)) (sets 0 2 ∷ sets 0 3 ∷ sets 0 64 ∷ []) (empty-no ∷ empty-no ∷ empty-no ∷ []) (row-20 ∷ row-20 ∷ row-20 ∷ on1 1 ∷ [])
     (single 1 (Working 0 0))

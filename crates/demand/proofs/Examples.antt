@@ -1,5 +1,5 @@
--- The marked lines of the table of examples, and those with empty jobs and with withdrawals, through `replay`: what its contract says of the words of a
--- line's table and of the line's list is what the line says.
+-- The marked lines of the table of examples, and those with empty jobs, with withdrawals and with two widths, through `replay`: what its contract says
+-- of the words of a line's table and of the line's list is what the line says.
 -- So B with its report shows the right side of figure 2 of Goossens and Berten row by row, up to the miss; and B3 with the same report shows the rows that it shows without.
 use mathlib.Core.Path.{_≡_, refl, sym, ap, _∙_, subst}
 use mathlib.Core.List.{List, [], _∷_, map, _++_}
@@ -19,6 +19,7 @@ use Rattle.model.proofs.LineByLine.{LineByLine, by-line}
 use Rattle.model.proofs.Examples.{Line, worked, lines, examples}
 use Rattle.model.proofs.EmptyExamples.{empty-lines, empty-examples}
 use Rattle.model.proofs.WithdrawExamples.{withdraw-lines, withdraw-examples}
+use Rattle.model.proofs.WidthExamples.{width-lines, width-examples}
 use Rattle.table.specs.Words.{met, count, chain, tableOf}
 use Rattle.table.specs.Answer.{headerNumber, lastStep, endingOf, firstOut, byHorizon, byTasks, byWalk, answerOf}
 use Rattle.judge.specs.Judged.{verdictOf}
@@ -38,7 +39,7 @@ numberOf idling = 3
 
 -- a task's record
 abbrev entry : ℕ → Task → List ℕ
-entry next τ = next ∷ τ .offset ∷ τ .width ∷ τ .length ∷ τ .deadline ∷ τ .period ∷ []
+entry next τ = next ∷ τ .offset ∷ τ .oddWidth ∷ τ .length ∷ τ .deadline ∷ τ .period ∷ τ .evenWidth ∷ []
 
 -- the records of tasks in priority order, numbered from n on
 unfoldable pub records : ℕ → List Task → List ℕ
@@ -179,6 +180,12 @@ unfolding expected records startOf startAnswer verdictOf answerOf byWalk byTasks
     full
 begun-withdraw = (refl, (refl, (refl, (refl, (refl, (refl, (refl, (refl, (refl, (refl, (refl, (refl, (refl, (refl, tt))))))))))))))
 
+begun-width : LineByLine begins width-lines (map expected width-lines)
+unfolding expected records startOf startAnswer verdictOf answerOf byWalk byTasks byHorizon firstOut endingOf lastStep headerNumber tableOf chain count met
+    verdict firstMiss missedIn missedAt firm rising horizon S hyperperiod lcm least any memb upFrom kept given left grants claimants claims served work step
+    full
+begun-width = (refl, (refl, (refl, (refl, (refl, (refl, (refl, (refl, (refl, (refl, (refl, (refl, tt))))))))))))
+
 -- what the definitions say of lines, the contract says of them through `replay`
 through : (ls : List Line) → map worked ls ≡ ls → LineByLine begins ls (map expected ls) → Each (λ l. ByVerdict (l .says) l) ls
 through ls works starts =
@@ -201,3 +208,7 @@ empty-through-replay = through empty-lines empty-examples begun-empty
 -- and every line with withdrawals
 pub withdraw-through-replay : Each (λ l. ByVerdict (l .says) l) withdraw-lines
 withdraw-through-replay = through withdraw-lines withdraw-examples begun-withdraw
+
+-- and every line with two widths
+pub width-through-replay : Each (λ l. ByVerdict (l .says) l) width-lines
+width-through-replay = through width-lines width-examples begun-width

@@ -1,5 +1,6 @@
 -- Runs built by hand, computed from the definitions: B and B3 with their report, by phases; a first release to come; a hold that ends at D;
 -- runs with a fence; and each limit of 14 from both sides: the count, the cores, the rule, the fence, the width, the times, the phases.
+use mathlib.Core.Bool.{true, false}
 use mathlib.Core.List.{List, [], _∷_, _++_, map}
 use mathlib.Core.Path.{_≡_, refl}
 use Prim.Native.Nat.{ℕ, _-_, _^_}
@@ -51,12 +52,25 @@ worked l = record {
 abbrev reported : List ℕ → List Entry
 reported xs = map (λ x. advance x 0) xs
 
--- a task as (O, v, C, D, T) in a phase
+-- a task as (O, v, C, D, T) in a phase, with both widths v and an odd job
 abbrev pub t : ℕ → ℕ → ℕ → ℕ → ℕ → Phase → Task
-t o v c d p ph = record { offset = o; width = v; length = c; deadline = d; period = p; phase = ph }
+t o v c d p ph = record { offset = o; width = v; length = c; deadline = d; period = p; second = v; even = false; phase = ph }
+
+-- the task with an even job
+abbrev pub at-even : Task → Task
+at-even a = record {
+  offset = a .offset;
+  width = a .width;
+  length = a .length;
+  deadline = a .deadline;
+  period = a .period;
+  second = a .second;
+  even = true;
+  phase = a .phase;
+}
 
 -- a run of one task on m cores with a fence
-abbrev walled : ℕ → ℕ → ℕ → Task → Run
+abbrev pub walled : ℕ → ℕ → ℕ → Task → Run
 walled r m f a = record { rule = r; cores = m; fence = f; withdrawn = 0; count = 1; tasks = a ∷ replicate 31 unused }
 
 -- runs of one, two and three tasks
@@ -66,7 +80,7 @@ one r m a = walled r m 0 a
 abbrev pub two : ℕ → ℕ → Task → Task → Run
 two r m a b = record { rule = r; cores = m; fence = 0; withdrawn = 0; count = 2; tasks = a ∷ b ∷ replicate 30 unused }
 
-abbrev three : ℕ → ℕ → ℕ → Task → Task → Task → Run
+abbrev pub three : ℕ → ℕ → ℕ → Task → Task → Task → Run
 three r m f a b c = record { rule = r; cores = m; fence = f; withdrawn = 0; count = 3; tasks = a ∷ b ∷ c ∷ replicate 29 unused }
 
 -- B as it starts and later, under each rule, on m cores with a fence
@@ -107,7 +121,7 @@ abbrev sized : ℕ → Task → Row → Line
 sized m a w = asked (one 1 m a) w
 
 -- a row of these bytes, zeros behind them
-abbrev row64 : List ℕ → Row
+abbrev pub row64 : List ℕ → Row
 row64 bytes = record { answer = Taken; bytes = in64 bytes }
 
 -- one task of width v, in a tick in which it claims, on m cores with fence f; what its row is answered

@@ -17,3 +17,4 @@ pub mod Examples
 pub mod HandBuilt
 pub mod EmptyBuilt
 pub mod WithdrawBuilt
+pub mod WidthBuilt

@@ -1,33 +1,33 @@
 -- A run as it is seen in a tick, and a book with its empty jobs ended: task by task tied, they give the same cores, show the same row, let the same
 -- be reported; and a tick on they are tied again.
 use mathlib.Core.Path.{_≡_, refl, sym, ap, ap₂, _∙_, subst}
-use mathlib.Core.Bool.{Bool, true, false, not, _&&_, false≢true}
-use mathlib.Core.List.{List, [], _∷_, map}
+use mathlib.Core.Bool.{Bool, true, false, not, _&&_, cond, false≢true}
+use mathlib.Core.List.{List, [], _∷_}
 use Prim.Native.Nat.{ℕ, zero, suc, _<_}
 use native.Mathlib.Omega.{arith}
 use lib.ListN.{length, getD, take, length-map, length-take, List·getD-map}
-use lib.Seq.{getD-take}
+use lib.Seq.{ext-getD, getD-take}
 use lib.Dec.{ltb}
 use borrow.Author.Tests.{lt-ltb}
-use Rattle.model.proofs.Lists.{map-map}
+use Rattle.model.proofs.Lists.{map-at}
 use Rattle.model.specs.Fence.{openCores, unfenced}
 use Rattle.model.specs.Search.{bit}
-use Rattle.model.specs.Task.{AllSound, Table, task, nobody, Rule, newest}
+use Rattle.model.specs.Task.{AllSound, Table, task, nobody, Rule, newest, widthOf}
 use Rattle.model.specs.Task as model
 use Rattle.model.specs.Grants.{Claimant, claimants, grants, left, some}
 use Rattle.model.specs.Row.{row}
 use Rattle.model.specs.Book.{Book, widths, taskClaims, grantsOf, rowOf, inRow, served, step, reportable, misreported}
 use Rattle.model.proofs.Search.{any-same}
 use Rattle.model.proofs.Grants.{claimants-same, runs}
-use Rattle.phase.specs.declared.Phase.{Phase}
+use Rattle.phase.specs.declared.Stand.{Stand}
 use Rattle.phase.specs.declared.Task.{Task}
 use Rattle.run.specs.declared.Run.{Run}
-use Rattle.phase.specs.Phase.{claiming, working, lateIn, nextPhase}
-use Rattle.phase.specs.Task.{taskOf, pastEnd}
-use Rattle.run.specs.Run.{ruleIn, taskAt, phaseAt, seenAt, widthsIn, grantsIn, hasCores, nextAt, moved}
+use Rattle.phase.specs.Phase.{claiming, working, lateIn, stand, nextStand}
+use Rattle.phase.specs.Task.{taskOf, pastEnd, widthNow}
+use Rattle.run.specs.Run.{ruleIn, placeAt, taskAt, evenAt, phaseAt, tasksIn, seenAt, widthsNow, grantsIn, hasCores, nextAt, moved}
 use Rattle.run.specs.Numbers.{reportableAt, misreportedIn}
 use Rattle.run.proofs.Places.{mapFirst-at, take-kept}
-use Rattle.demand.proofs.Tied.{Tied}
+use Rattle.demand.proofs.Tied.{Tied, TiedAt}
 use Rattle.demand.proofs.Ticks.{tied-on}
 use Rattle.demand.proofs.Alike.{Does, newest-does}
 
@@ -37,12 +37,12 @@ pub record SameTable (s : Table) (r : Run) : Type 0 where
   pub same-cores : r .cores ≡ s .cores
   pub same-fence : r .fence ≡ s .fence
   pub same-count : r .count ≡ length (s .tasks)
-  pub same-tasks : map taskOf (take (r .count) (r .tasks)) ≡ s .tasks
+  pub same-tasks : tasksIn r ≡ s .tasks
 
--- and each task's phase, as it is seen in a tick with the empties e, is tied to its line of the book c; nobody is late
+-- and each task's phase, as it is seen in a tick with the empties e, and its parity are tied to its line of the book c; nobody is late
 pub record Looks (s : Table) (c : Book) (r : Run) (e : ℕ) : Type 0 where
   pub same : SameTable s r
-  pub tied : (p : ℕ) → p < length (s .tasks) → Tied (s .rule) (task s p) (c .tick) (c .job p) (seenAt r e p)
+  pub tied : (p : ℕ) → p < length (s .tasks) → Tied (s .rule) (task s p) (c .tick) (c .job p) (evenAt r p) (seenAt r e p)
   pub punctual : (p : ℕ) → p < length (s .tasks) → lateIn (task s p .deadline) (seenAt r e p) ≡ false
 
 -- WHO HAS CORES
@@ -68,8 +68,8 @@ cores-claims : (r : Run) (e p : ℕ) → hasCores r e p ≡ true → (p < r .cou
 unfolding grantsIn
 cores-claims r e p h =
     let claims : ℕ → Bool = λ q. claiming (seenAt r e q) in
-    let x = claimants-at (widthsIn r) claims p (grants-claims (ruleIn r) (claimants (widthsIn r) claims) (unfenced (r .fence) (r .cores)) p h) in
-    let n : length (widthsIn r) ≡ length (take (r .count) (r .tasks)) = length-map (take (r .count) (r .tasks)) (λ t. t .width) in
+    let x = claimants-at (widthsNow r) claims p (grants-claims (ruleIn r) (claimants (widthsNow r) claims) (unfenced (r .fence) (r .cores)) p h) in
+    let n : length (widthsNow r) ≡ length (take (r .count) (r .tasks)) = length-map (take (r .count) (r .tasks)) widthNow in
     (omega (arith, length-take (r .count) (r .tasks)), x .1)
 
 -- OF ONE TABLE
@@ -83,34 +83,57 @@ module _ (s : Table) (r : Run) (h : SameTable s r) where
       ap taskOf (sym (getD-take (r .count) (r .tasks) p pastEnd (below-count p l)))
       ∙ (sym (List·getD-map taskOf (take (r .count) (r .tasks)) p pastEnd) ∙ ap (λ (x : List model.Task). getD x p nobody) (h .same-tasks))
 
+  same-length : length (take (r .count) (r .tasks)) ≡ length (s .tasks)
+  same-length = sym (length-map (take (r .count) (r .tasks)) taskOf) ∙ ap (λ (x : List model.Task). length x) (h .same-tasks)
+
   -- a place of the table is a place of the array
   in-array : (p : ℕ) → p < length (s .tasks) → p < length (r .tasks)
-  in-array p l =
-      let n : length (take (r .count) (r .tasks)) ≡ length (s .tasks) =
-      sym (length-map (take (r .count) (r .tasks)) taskOf) ∙ ap (λ (x : List model.Task). length x) (h .same-tasks) in
-      omega (arith, length-take (r .count) (r .tasks))
-
-  same-widths : widthsIn r ≡ widths s
-  same-widths =
-      sym (map-map (λ (τ : model.Task). τ .width) taskOf (take (r .count) (r .tasks)))
-      ∙ ap (λ (x : List model.Task). map (λ (τ : model.Task). τ .width) x) (h .same-tasks)
+  in-array p l = omega (arith, same-length, length-take (r .count) (r .tasks))
 
 -- IN ONE TICK
 
 module _ (s : Table) (ok : AllSound s) (c : Book) (r : Run) (e : ℕ) (h : Looks s c r e) where
-  does : (p : ℕ) → (l : p < length (s .tasks)) → Does (s .rule) (task s p) (ok p l) (c .tick) (c .job p) (newest (task s p) (c .tick)) (seenAt r e p)
-  does p l = newest-does (s .rule) (task s p) (ok p l) (c .tick) (c .job p) (seenAt r e p) (h .tied p l) (h .punctual p l)
+  does :
+      (p : ℕ) → (l : p < length (s .tasks))
+      → Does (s .rule) (task s p) (ok p l) (c .tick) (c .job p) (evenAt r p) (newest (task s p) (c .tick)) (seenAt r e p)
+  does p l = newest-does (s .rule) (task s p) (ok p l) (c .tick) (c .job p) (evenAt r p) (seenAt r e p) (h .tied p l) (h .punctual p l)
+
+  -- the width of each job, by its parity
+  same-width : (p : ℕ) → p < length (s .tasks) → widthNow (placeAt r p) ≡ widthOf (task s p) (newest (task s p) (c .tick))
+  same-width p l =
+      ap (λ (τ : model.Task). cond (evenAt r p) (τ .evenWidth) (τ .oddWidth)) (same-task s r (h .same) p l)
+      ∙ (turned (evenAt r p) (task s p .evenWidth) (task s p .oddWidth)
+      ∙ ap (λ (x : Bool). cond x (task s p .oddWidth) (task s p .evenWidth)) (sym (does p l .parity)))
+    where
+      turned : (x : Bool) (a b : ℕ) → cond x a b ≡ cond (not x) b a
+      turned true a b = refl
+      turned false a b = refl
+
+  same-widths : widthsNow r ≡ widths s (c .tick)
+  same-widths =
+      ext-getD 0 (widthsNow r) (widths s (c .tick)) (lengths ∙ sym (length-map (s .tasks) wide))
+      (λ p q.
+      let l : p < length (s .tasks) = subst (λ (n : ℕ). p < n) lengths q in
+      map-at widthNow (take (r .count) (r .tasks)) p 0 pastEnd (subst (λ (n : ℕ). p < n) (sym (same-length s r (h .same))) l)
+      ∙ (ap widthNow (getD-take (r .count) (r .tasks) p pastEnd (below-count s r (h .same) p l))
+      ∙ (same-width p l ∙ sym (map-at wide (s .tasks) p 0 nobody l))))
+    where
+      wide : model.Task → ℕ
+      wide τ = widthOf τ (newest τ (c .tick))
+
+      lengths : length (widthsNow r) ≡ length (s .tasks)
+      lengths = length-map (take (r .count) (r .tasks)) widthNow ∙ same-length s r (h .same)
 
   -- the cores of each place, and so the row
   same-grants : grantsIn r e ≡ grantsOf s c
   unfolding grantsIn
   same-grants =
-      ap (λ (u : Rule). grants u (claimants (widthsIn r) (λ p. claiming (seenAt r e p))) (unfenced (r .fence) (r .cores))) (h .same .same-rule)
-      ∙ (ap₂ (λ (ws F : List ℕ). grants (s .rule) (claimants ws (λ p. claiming (seenAt r e p))) F) (same-widths s r (h .same))
+      ap (λ (u : Rule). grants u (claimants (widthsNow r) (λ p. claiming (seenAt r e p))) (unfenced (r .fence) (r .cores))) (h .same .same-rule)
+      ∙ (ap₂ (λ (ws F : List ℕ). grants (s .rule) (claimants ws (λ p. claiming (seenAt r e p))) F) same-widths
       (ap₂ unfenced (h .same .same-fence) (h .same .same-cores))
       ∙ ap (λ (bs : List Claimant). grants (s .rule) bs (openCores s))
-      (sym (claimants-same (widths s) (taskClaims s c) (λ p. claiming (seenAt r e p))
-      (λ p l. does p (subst (λ (n : ℕ). p < n) (length-map (s .tasks) (λ τ. τ .width)) l) .claimed))))
+      (sym (claimants-same (widths s (c .tick)) (taskClaims s c) (λ p. claiming (seenAt r e p))
+      (λ p l. does p (subst (λ (n : ℕ). p < n) (length-map (s .tasks) (λ τ. widthOf τ (newest τ (c .tick)))) l) .claimed))))
 
   pub same-row : row (r .fence) (r .cores) (grantsIn r e) ≡ rowOf s c
   same-row = λ i. row (h .same .same-fence i) (h .same .same-cores i) (same-grants i)
@@ -154,20 +177,21 @@ module _ (s : Table) (ok : AllSound s) (c : Book) (r : Run) (e : ℕ) (h : Looks
 
   moved-at :
       (f : ℕ → Bool) (p : ℕ) → p < length (s .tasks)
-      → phaseAt (moved f e r) p ≡ nextPhase (s .rule) (task s p) (inRow s c p) (f p) (seenAt r e p)
+      → stand (evenAt (moved f e r) p) (phaseAt (moved f e r) p)
+      ≡ nextStand (s .rule) (task s p) (inRow s c p) (f p) (evenAt r p) (seenAt r e p)
   unfolding moved
   moved-at f p l =
-      ap (λ (t : Task). t .phase)
+      ap (λ (t : Task). stand (t .even) (t .phase))
       (mapFirst-at (nextAt r f e) (r .count) (r .tasks) p pastEnd (below-count s r (h .same) p l) (in-array s r (h .same) p l))
-      ∙ (λ i. nextPhase (h .same .same-rule i) (same-task s r (h .same) p l i) (same-cores-at p i) (f p) (seenAt r e p))
+      ∙ (λ i. nextStand (h .same .same-rule i) (same-task s r (h .same) p l i) (same-cores-at p i) (f p) (evenAt r p) (seenAt r e p))
 
   pub tied-moved :
       (f : ℕ → Bool) (p : ℕ) → p < length (s .tasks)
-      → Tied (s .rule) (task s p) (suc (c .tick)) (step s f c .job p) (phaseAt (moved f e r) p)
+      → Tied (s .rule) (task s p) (suc (c .tick)) (step s f c .job p) (evenAt (moved f e r) p) (phaseAt (moved f e r) p)
   unfolding step served
   tied-moved f p l =
-      subst (λ (ph : Phase). Tied (s .rule) (task s p) (suc (c .tick)) (step s f c .job p) ph) (sym (moved-at f p l))
-      (tied-on (s .rule) (task s p) (ok p l) (c .tick) (c .job p) (inRow s c p) (f p) (seenAt r e p) (h .tied p l) (h .punctual p l))
+      subst (λ (w : Stand). TiedAt (s .rule) (task s p) (suc (c .tick)) (step s f c .job p) w) (sym (moved-at f p l))
+      (tied-on (s .rule) (task s p) (ok p l) (c .tick) (c .job p) (evenAt r p) (inRow s c p) (f p) (seenAt r e p) (h .tied p l) (h .punctual p l))
 
   pub same-moved : (f : ℕ → Bool) → SameTable s (moved f e r)
   same-moved f = record {

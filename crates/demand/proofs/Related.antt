@@ -24,7 +24,7 @@ use Rattle.run.specs.declared.Run.{Run}
 use Rattle.phase.specs.Phase.{lateIn, released, seen}
 use Rattle.phase.specs.Task.{taskOf, unused, startTask}
 use Rattle.phase.proofs.Phases.{seen-late}
-use Rattle.run.specs.Run.{ruleIn, phaseAt, emptyAt, moved, withdrawnIn}
+use Rattle.run.specs.Run.{ruleIn, evenAt, phaseAt, emptyAt, moved, withdrawnIn}
 use Rattle.run.specs.Numbers.{lateAt, firstLateIn, emptiableAt, misemptiedIn}
 use Rattle.run.specs.Start.{startedRun}
 use Rattle.run.proofs.StartPasses.{started-at}
@@ -34,11 +34,11 @@ use Rattle.demand.proofs.Ticks.{tied-start}
 use Rattle.demand.proofs.Alike.{late-is, late-has, newest-does}
 use Rattle.demand.proofs.Looks.{SameTable, Looks, same-task, same-moved, tied-moved}
 
--- the run is of the table, the same positions are withdrawn, and each task's phase is tied to its line of the book
+-- the run is of the table, the same positions are withdrawn, and each task's phase and parity are tied to its line of the book
 pub record Related (s : Table) (b : Book) (r : Run) : Type 0 where
   pub table : SameTable s r
   pub same-withdrawn : r .withdrawn ≡ b .withdrawn
-  pub tied : (p : ℕ) → p < length (s .tasks) → Tied (s .rule) (task s p) (b .tick) (b .job p) (phaseAt r p)
+  pub tied : (p : ℕ) → p < length (s .tasks) → Tied (s .rule) (task s p) (b .tick) (b .job p) (evenAt r p) (phaseAt r p)
 
 -- THE START
 
@@ -61,7 +61,7 @@ related-start n s e ok = record {
   };
   same-withdrawn = refl;
   tied = λ p l.
-      subst (λ (t : Task). Tied (s .rule) (task s p) 0 (λ k. fresh) (t .phase)) (sym (started-at (s .tasks) rest p l))
+      subst (λ (t : Task). Tied (s .rule) (task s p) 0 (λ k. fresh) (t .even) (t .phase)) (sym (started-at (s .tasks) rest p l))
       (tied-start (s .rule) (task s p) (ok p l));
 }
   where
@@ -80,10 +80,11 @@ module _ (s : Table) (ok : AllSound s) (b : Book) (r : Run) (h : Related s b r) 
   same-late p l =
       same-test (lateAt r p) (late s b p)
       (λ e. late-exact s ok b p l .1
-      (late-has (s .rule) (task s p) (ok p l) (b .tick) (b .job p) (phaseAt r p) (h .tied p l) (sym (same-deadline p l) ∙ e)))
+      (late-has (s .rule) (task s p) (ok p l) (b .tick) (b .job p) (evenAt r p) (phaseAt r p) (h .tied p l) (sym (same-deadline p l) ∙ e)))
       (λ e.
       let x = late-exact s ok b p l .0 e in
-      same-deadline p l ∙ late-is (s .rule) (task s p) (ok p l) (b .tick) (b .job p) (phaseAt r p) (h .tied p l) (x .0) (x .1) (x .2))
+      same-deadline p l
+      ∙ late-is (s .rule) (task s p) (ok p l) (b .tick) (b .job p) (evenAt r p) (phaseAt r p) (h .tied p l) (x .0) (x .1) (x .2))
 
   pub same-first : firstLateIn r ≡ firstLate s b
   unfolding firstLateIn
@@ -115,7 +116,7 @@ module _ (s : Table) (ok : AllSound s) (b : Book) (r : Run) (h : Related s b r) 
         go : (x : Bool) → ltb p (length (s .tasks)) ≡ x → x && released (phaseAt r p) ≡ x && releasedNow s b p new && not (b .job p new .ended)
         go true i =
             let l = ltb-true p (length (s .tasks)) i in
-            sym (newest-does (s .rule) (task s p) (ok p l) (b .tick) (b .job p) (phaseAt r p) (h .tied p l) (punctual p l) .fresh-job)
+            sym (newest-does (s .rule) (task s p) (ok p l) (b .tick) (b .job p) (evenAt r p) (phaseAt r p) (h .tied p l) (punctual p l) .fresh-job)
         go false i = refl
 
     -- so 20 is
@@ -134,9 +135,9 @@ module _ (s : Table) (ok : AllSound s) (b : Book) (r : Run) (h : Related s b r) 
     looks e = record {
       same = h .table;
       tied = λ p l. unfold emptied in
-          subst₂ (λ (u : Rule) (t : Bool). Tied (s .rule) (task s p) (b .tick) (emptied s (emptyIn b e) b .job p) (seen u t (phaseAt r p)))
+          subst₂ (λ (u : Rule) (t : Bool). Tied (s .rule) (task s p) (b .tick) (emptied s (emptyIn b e) b .job p) (evenAt r p) (seen u t (phaseAt r p)))
           (sym (h .table .same-rule)) (sym (same-empty e p))
-          (tied-seen (s .rule) (task s p) (ok p l) (b .tick) (b .job p) (emptyIn b e p) (phaseAt r p) (h .tied p l) (punctual p l));
+          (tied-seen (s .rule) (task s p) (ok p l) (b .tick) (b .job p) (emptyIn b e p) (evenAt r p) (phaseAt r p) (h .tied p l) (punctual p l));
       punctual = λ p l. seen-late (ruleIn r) (task s p .deadline) (emptyAt r e p) (phaseAt r p) (punctual p l);
     }
 

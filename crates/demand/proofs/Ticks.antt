@@ -1,6 +1,6 @@
--- A tick keeps the tie of a task's phase to its line of jobs, where the task is not late; and the start is tied to the empty book.
+-- A tick keeps the tie of a task's phase and parity to its line of jobs, where the task is not late; and the start is tied to the empty book.
 use mathlib.Core.Path.{_≡_, refl, sym, ap, _∙_, subst}
-use mathlib.Core.Bool.{Bool, true, false, _&&_, _||_, cond}
+use mathlib.Core.Bool.{Bool, true, false, not, _&&_, _||_, cond}
 use mathlib.Core.Logic.{⊎-elim}
 use Prim.Native.Nat.{ℕ, suc, _+_, _-_, _≤_, _<_}
 use native.Mathlib.Nat.{le-of-suc-le-suc, le-trans, eq-or-lt-of-le}
@@ -13,9 +13,9 @@ use Rattle.model.specs.Book.{Job, fresh, holds, claims, work}
 use Rattle.model.proofs.Jobs.{mk, next, next-ended, next-claimed, claims-if, newest-is, others}
 use Rattle.phase.specs.declared.Phase.{Phase}
 use Rattle.phase.specs.declared.Phase.the-variants.{Coming, Working, Holding, Resting}
-use Rattle.phase.specs.Phase.{idles, lateIn, startPhase, resting, holding, ended, worked, nextPhase}
+use Rattle.phase.specs.Phase.{idles, lateIn, stand, startStand, resting, holding, ended, worked, nextStand}
 use Rattle.phase.proofs.Phases.{by-eq}
-use Rattle.demand.proofs.Tied.{Present, Tied, newest-in, early, hold-if, full-done, none-holds, ended-also, rests-off}
+use Rattle.demand.proofs.Tied.{Present, Tied, TiedAt, parity-suc, newest-in, early, hold-if, full-done, none-holds, ended-also, rests-off}
 
 -- a line after a tick in which its task had cores or not
 abbrev pub lineOn : Rule → Task → ℕ → Bool → Bool → (ℕ → Job) → ℕ → Job
@@ -30,12 +30,13 @@ line-own r τ t w f js i e = rw e
 
 -- where k is the newest, the present job one tick on is still k
 present-on :
-    (r : Rule) (τ : Task) → Sound τ → (t : ℕ) (js : ℕ → Job) (w f : Bool) (k z : ℕ) → newest τ t ≡ k
-    → Present τ t js k z → Present τ (suc t) (lineOn r τ t w f js) k (z + 1)
-present-on r τ ok t js w f k z new h = record {
+    (r : Rule) (τ : Task) → Sound τ → (t : ℕ) (js : ℕ → Job) (even w f : Bool) (k z : ℕ) → newest τ t ≡ k
+    → Present τ t js even k z → Present τ (suc t) (lineOn r τ t w f js) even k (z + 1)
+present-on r τ ok t js even w f k z new h = record {
   when = omega (arith, h .when);
   past = λ i l. ap (λ (j : Job). j .ended) (same i (omega arith)) ∙ h .past i l;
   ahead = λ i l. same i (omega arith) ∙ h .ahead i l;
+  parity = h .parity;
 }
   where
     same : (i : ℕ) → (i ≡ k → ⊥) → lineOn r τ t w f js i ≡ js i
@@ -43,17 +44,18 @@ present-on r τ ok t js w f k z new h = record {
 
 -- AFTER A TICK
 
-module _ (r : Rule) (τ : Task) (ok : Sound τ) (t : ℕ) (js : ℕ → Job) (k z : ℕ) (h : Present τ t js k z) where
+module _ (r : Rule) (τ : Task) (ok : Sound τ) (t : ℕ) (js : ℕ → Job) (even : Bool) (k z : ℕ) (h : Present τ t js even k z) where
   -- a job that has ended rests, or the next is released
-  rested : z ≤ τ .period → js k .ended ≡ true → (holds r τ (js k) ≡ true → τ .deadline ≤ z) → Tied r τ t js (resting τ z)
+  rested : z ≤ τ .period → js k .ended ≡ true → (holds r τ (js k) ≡ true → τ .deadline ≤ z) → TiedAt r τ t js (resting τ even z)
   rested b over done =
-      by-eq (λ (x : Bool). Tied r τ t js (cond x (Working 0 0) (Resting z))) z (τ .period)
+      by-eq (λ (x : Bool). TiedAt r τ t js (cond x (stand (not even) (Working 0 0)) (stand even (Resting z)))) z (τ .period)
       (λ e. record {
         number = suc k;
         present = record {
           when = omega (arith, h .when);
           past = λ i l. ⊎-elim (λ (q : i ≡ k). subst (λ (x : ℕ). js x .ended ≡ true) (sym q) over) (λ (q : i < k). h .past i q) (eq-or-lt-of-le (le-of-suc-le-suc l));
           ahead = λ i l. h .ahead i (omega arith);
+          parity = parity-suc k even (h .parity);
         };
         by-due = omega arith;
         short = ok .length-pos;
@@ -65,12 +67,12 @@ module _ (r : Rule) (τ : Task) (ok : Sound τ) (t : ℕ) (js : ℕ → Job) (k 
   -- a held job
   held-on :
       idles r ≡ true → z ≤ τ .deadline → (u : ℕ) → u ≤ τ .length → js k .ended ≡ true → js k .claimed ≡ u
-      → Tied r τ t js (holding τ z u)
+      → TiedAt r τ t js (holding τ even z u)
   held-on idle b u d over held =
-      by-eq (λ (x : Bool). Tied r τ t js (cond (x || eqb z (τ .deadline)) (resting τ z) (Holding z u))) u (τ .length)
+      by-eq (λ (x : Bool). TiedAt r τ t js (cond (x || eqb z (τ .deadline)) (resting τ even z) (stand even (Holding z u)))) u (τ .length)
       (λ e. rested (le-trans b (ok .constrained)) over (λ q. absurd (full-done r τ (js k) (omega arith) q)))
       (λ n.
-      by-eq (λ (x : Bool). Tied r τ t js (cond x (resting τ z) (Holding z u))) z (τ .deadline)
+      by-eq (λ (x : Bool). TiedAt r τ t js (cond x (resting τ even z) (stand even (Holding z u)))) z (τ .deadline)
       (λ e. rested (le-trans b (ok .constrained)) over (λ q. omega arith))
       (λ m. record {
         number = k;
@@ -83,20 +85,20 @@ module _ (r : Rule) (τ : Task) (ok : Sound τ) (t : ℕ) (js : ℕ → Job) (k 
       }))
 
   -- a job that has just ended
-  ended-on : z ≤ τ .deadline → (u : ℕ) → u ≤ τ .length → js k .ended ≡ true → js k .claimed ≡ u → Tied r τ t js (ended r τ z u)
+  ended-on : z ≤ τ .deadline → (u : ℕ) → u ≤ τ .length → js k .ended ≡ true → js k .claimed ≡ u → TiedAt r τ t js (ended r τ even z u)
   ended-on b u d over held = go (idles r) refl
     where
-      go : (x : Bool) → idles r ≡ x → Tied r τ t js (cond x (holding τ z u) (resting τ z))
+      go : (x : Bool) → idles r ≡ x → TiedAt r τ t js (cond x (holding τ even z u) (resting τ even z))
       go true e = held-on e b u d over held
       go false e = rested (le-trans b (ok .constrained)) over (λ q. absurd (none-holds r τ (js k) e q))
 
   -- an open job after a tick with cores
   worked-on :
       z ≤ τ .deadline → (u : ℕ) (f : Bool) → u ≤ τ .length → u ≤ z → js k ≡ mk u u (f || leb (τ .length) u)
-      → Tied r τ t js (worked r τ f z u)
+      → TiedAt r τ t js (worked r τ f even z u)
   worked-on b u true d w line = ended-on b u d (ap (λ (j : Job). j .ended) line) (ap (λ (j : Job). j .claimed) line)
   worked-on b u false d w line =
-      by-eq (λ (x : Bool). Tied r τ t js (cond x (ended r τ z u) (Working z u))) u (τ .length)
+      by-eq (λ (x : Bool). TiedAt r τ t js (cond x (ended r τ even z u) (stand even (Working z u)))) u (τ .length)
       (λ e. ended-on b u d (ap (λ (j : Job). j .ended) line ∙ le-leb (τ .length) u (omega arith)) (ap (λ (j : Job). j .claimed) line))
       (λ n. record {
         number = k;
@@ -115,29 +117,34 @@ work-open C u f j e = rw e
 -- ONE TICK
 
 -- at the start the first release is now, or it is O ticks ahead
-pub tied-start : (r : Rule) (τ : Task) → Sound τ → Tied r τ 0 (λ k. fresh) (startPhase (τ .offset))
+pub tied-start : (r : Rule) (τ : Task) → Sound τ → TiedAt r τ 0 (λ k. fresh) (startStand (τ .offset))
 tied-start r τ ok =
-    by-eq (λ (x : Bool). Tied r τ 0 (λ k. fresh) (cond x (Working 0 0) (Coming (τ .offset)))) (τ .offset) 0
+    by-eq (λ (x : Bool). TiedAt r τ 0 (λ k. fresh) (stand false (cond x (Working 0 0) (Coming (τ .offset))))) (τ .offset) 0
     (λ e. record {
       number = 0;
-      present = record { when = omega arith; past = λ i l. absurd (omega arith); ahead = λ i l. refl };
+      present = record { when = omega arith; past = λ i l. absurd (omega arith); ahead = λ i l. refl; parity = refl };
       by-due = omega arith;
       short = ok .length-pos;
       within = omega arith;
       line = refl;
     })
-    (λ n. record { some = omega arith; when = omega arith; unmet = λ i. refl })
+    (λ n. record { some = omega arith; when = omega arith; unmet = λ i. refl; odd = refl })
 
 -- the tie holds one tick on, where the task is not late
 pub tied-on :
-    (r : Rule) (τ : Task) → Sound τ → (t : ℕ) (js : ℕ → Job) (w f : Bool) (ph : Phase)
-    → Tied r τ t js ph → lateIn (τ .deadline) ph ≡ false
-    → Tied r τ (suc t) (lineOn r τ t w f js) (nextPhase r τ w f ph)
-tied-on r τ ok t js w f (Coming left) h n =
-    by-eq (λ (x : Bool). Tied r τ (suc t) (lineOn r τ t w f js) (cond x (Working 0 0) (Coming (left - 1)))) (left - 1) 0
+    (r : Rule) (τ : Task) → Sound τ → (t : ℕ) (js : ℕ → Job) (even w f : Bool) (ph : Phase)
+    → Tied r τ t js even ph → lateIn (τ .deadline) ph ≡ false
+    → TiedAt r τ (suc t) (lineOn r τ t w f js) (nextStand r τ w f even ph)
+tied-on r τ ok t js even w f (Coming left) h n =
+    by-eq (λ (x : Bool). TiedAt r τ (suc t) (lineOn r τ t w f js) (stand even (cond x (Working 0 0) (Coming (left - 1))))) (left - 1) 0
     (λ e. record {
       number = 0;
-      present = record { when = omega (arith, h .when, h .some); past = λ i q. absurd (omega arith); ahead = λ i q. unmet i };
+      present = record {
+        when = omega (arith, h .when, h .some);
+        past = λ i q. absurd (omega arith);
+        ahead = λ i q. unmet i;
+        parity = sym (ap not (h .odd));
+      };
       by-due = omega arith;
       short = ok .length-pos;
       within = omega arith;
@@ -147,11 +154,12 @@ tied-on r τ ok t js w f (Coming left) h n =
       some = omega (arith, h .some);
       when = omega (arith, h .when, h .some);
       unmet = unmet;
+      odd = h .odd;
     })
   where
     unmet : (i : ℕ) → lineOn r τ t w f js i ≡ fresh
     unmet i = line-off r τ t w f js i (early r τ t i (js i) (omega (arith, h .when, h .some))) ∙ h .unmet i
-tied-on r τ ok t js w f (Working z u) h n = go w
+tied-on r τ ok t js even w f (Working z u) h n = go w
   where
     k : ℕ
     k = h .number
@@ -165,20 +173,20 @@ tied-on r τ ok t js w f (Working z u) h n = go w
     own : claims r τ k t (js k) ≡ true
     own = claims-if r τ k t (js k) (omega (arith, h .present .when)) (omega (arith, h .present .when, less)) (rw (h .line))
 
-    go : (w : Bool) → Tied r τ (suc t) (lineOn r τ t w f js) (nextPhase r τ w f (Working z u))
+    go : (w : Bool) → TiedAt r τ (suc t) (lineOn r τ t w f js) (nextStand r τ w f even (Working z u))
     go true =
-        worked-on r τ ok (suc t) (lineOn r τ t true f js) k (z + 1) (present-on r τ ok t js true f k z new (h .present))
+        worked-on r τ ok (suc t) (lineOn r τ t true f js) even k (z + 1) (present-on r τ ok t js even true f k z new (h .present))
         (omega (arith, less)) (u + 1) f (omega (arith, h .short)) (omega (arith, h .within))
         (line-own r τ t true f js k own ∙ (work-open (τ .length) u f (js k) (h .line) ∙ rw add-one))
     go false = record {
       number = k;
-      present = present-on r τ ok t js false f k z new (h .present);
+      present = present-on r τ ok t js even false f k z new (h .present);
       by-due = omega (arith, less);
       short = h .short;
       within = omega (arith, h .within);
       line = line-own r τ t false f js k own ∙ h .line;
     }
-tied-on r τ ok t js w f (Holding z u) h n = go w
+tied-on r τ ok t js even w f (Holding z u) h n = go w
   where
     k : ℕ
     k = h .number
@@ -199,17 +207,17 @@ tied-on r τ ok t js w f (Holding z u) h n = go w
         ap (λ (j : Job). j .claimed) (line-own r τ t w f js k own)
         ∙ next-claimed (τ .length) f w (js k .had) (js k .claimed) (js k .ended)
 
-    go : (w : Bool) → Tied r τ (suc t) (lineOn r τ t w f js) (holding τ (z + 1) (cond w (u + 1) u))
+    go : (w : Bool) → TiedAt r τ (suc t) (lineOn r τ t w f js) (holding τ even (z + 1) (cond w (u + 1) u))
     go true =
-        held-on r τ ok (suc t) (lineOn r τ t true f js) k (z + 1) (present-on r τ ok t js true f k z new (h .present))
+        held-on r τ ok (suc t) (lineOn r τ t true f js) even k (z + 1) (present-on r τ ok t js even true f k z new (h .present))
         (h .idle) (omega (arith, h .in-time)) (u + 1) (omega (arith, h .short))
         (over true) (held true ∙ omega (arith, h .held))
     go false =
-        held-on r τ ok (suc t) (lineOn r τ t false f js) k (z + 1) (present-on r τ ok t js false f k z new (h .present))
+        held-on r τ ok (suc t) (lineOn r τ t false f js) even k (z + 1) (present-on r τ ok t js even false f k z new (h .present))
         (h .idle) (omega (arith, h .in-time)) u (omega (arith, h .short))
         (over false) (held false ∙ h .held)
-tied-on r τ ok t js w f (Resting z) h n =
-    rested r τ ok (suc t) (lineOn r τ t w f js) k (z + 1) (present-on r τ ok t js w f k z new (h .present))
+tied-on r τ ok t js even w f (Resting z) h n =
+    rested r τ ok (suc t) (lineOn r τ t w f js) even k (z + 1) (present-on r τ ok t js even w f k z new (h .present))
     (omega (arith, h .short))
     (ap (λ (j : Job). j .ended) same ∙ h .over)
     (λ e. le-trans (h .done (subst (λ (j : Job). holds r τ j ≡ true) same e)) (omega arith))

@@ -1,45 +1,50 @@
 -- A task's phase and its line of jobs in the book: what ties them, and which job claims.
 use mathlib.Core.Path.{_≡_, refl}
 use mathlib.Core.Bool.{Bool, true, false, not, _||_, false≢true, true≢false}
-use Prim.Native.Nat.{ℕ, _+_, _≤_, _<_}
+use Prim.Native.Nat.{ℕ, suc, _+_, _%_, _≤_, _<_}
 use native.Mathlib.Nat.{div-lt-iff-lt-mul, le-div-iff-mul-le, le-antisymm, le-of-suc-le-suc}
 use native.Mathlib.Omega.{arith}
-use borrow.Author.Tests.{ltb-true, lt-ltb}
+use lib.Dec.{eqb}
+use borrow.Author.Tests.{ltb-true, lt-ltb, eqb-true, eqb-false, eq-eqb, ne-eqb}
 use Rattle.model.specs.Task.{Task, Rule, greedy, limited, idling, release, newest}
 use Rattle.model.specs.Book.{Job, fresh, holds, claims}
 use Rattle.model.proofs.Bools.{not-true-false}
 use Rattle.model.proofs.Jobs.{mk, after-release, before-due, still}
 use Rattle.phase.specs.declared.Phase.{Phase}
 use Rattle.phase.specs.declared.Phase.the-variants.{Coming, Working, Holding, Resting}
+use Rattle.phase.specs.declared.Stand.{Stand}
 use Rattle.phase.specs.Phase.{idles}
 
 -- THE TIE
 
--- Coming left: the first release is so many ticks ahead, and every job is fresh
-pub record Comes (τ : Task) (t : ℕ) (js : ℕ → Job) (left : ℕ) : Type 0 where
+-- Coming left: the first release is so many ticks ahead, every job is fresh, and the first is an odd one
+pub record Comes (τ : Task) (t : ℕ) (js : ℕ → Job) (even : Bool) (left : ℕ) : Type 0 where
   pub some : 1 ≤ left
   pub when : t + left ≡ τ .offset
   pub unmet : (i : ℕ) → js i ≡ fresh
+  pub odd : even ≡ false
 
--- the job of this number was released z ticks ago; those before it have ended, those after it are fresh
-pub record Present (τ : Task) (t : ℕ) (js : ℕ → Job) (number z : ℕ) : Type 0 where
+-- the job of this number was released z ticks ago; those before it have ended, those after it are fresh; its number has the run's parity: numbers
+-- count from 0, so that an odd number is an even job
+pub record Present (τ : Task) (t : ℕ) (js : ℕ → Job) (even : Bool) (number z : ℕ) : Type 0 where
   pub when : release τ number + z ≡ t
   pub past : (i : ℕ) → i < number → js i .ended ≡ true
   pub ahead : (i : ℕ) → number < i → js i ≡ fresh
+  pub parity : eqb (number % 2) 0 ≡ not even
 
 -- Working z u: the present job has not ended and has had u ticks
-pub record Works (τ : Task) (t : ℕ) (js : ℕ → Job) (z u : ℕ) : Type 0 where
+pub record Works (τ : Task) (t : ℕ) (js : ℕ → Job) (even : Bool) (z u : ℕ) : Type 0 where
   pub number : ℕ
-  pub present : Present τ t js number z
+  pub present : Present τ t js even number z
   pub by-due : z ≤ τ .deadline
   pub short : u < τ .length
   pub within : u ≤ z
   pub line : js number ≡ mk u u false
 
 -- Holding z u: under a rule by which ended work holds, the present job has ended, has claimed u ticks and is not yet due
-pub record Holds (r : Rule) (τ : Task) (t : ℕ) (js : ℕ → Job) (z u : ℕ) : Type 0 where
+pub record Holds (r : Rule) (τ : Task) (t : ℕ) (js : ℕ → Job) (even : Bool) (z u : ℕ) : Type 0 where
   pub number : ℕ
-  pub present : Present τ t js number z
+  pub present : Present τ t js even number z
   pub idle : idles r ≡ true
   pub in-time : z < τ .deadline
   pub short : u < τ .length
@@ -47,19 +52,28 @@ pub record Holds (r : Rule) (τ : Task) (t : ℕ) (js : ℕ → Job) (z u : ℕ)
   pub held : js number .claimed ≡ u
 
 -- Resting z: the present job has ended, and holds no more before it is due
-pub record Rests (r : Rule) (τ : Task) (t : ℕ) (js : ℕ → Job) (z : ℕ) : Type 0 where
+pub record Rests (r : Rule) (τ : Task) (t : ℕ) (js : ℕ → Job) (even : Bool) (z : ℕ) : Type 0 where
   pub number : ℕ
-  pub present : Present τ t js number z
+  pub present : Present τ t js even number z
   pub short : z < τ .period
   pub over : js number .ended ≡ true
   pub done : holds r τ (js number) ≡ true → τ .deadline ≤ z
 
--- what ties a phase, as it is stored or as it is seen in a tick, to the line of its task's jobs (that a stored one is within its limits is `Passes`)
-abbrev pub Tied : Rule → Task → ℕ → (ℕ → Job) → Phase → Type 0
-Tied r τ t js (Coming left) = Comes τ t js left
-Tied r τ t js (Working z u) = Works τ t js z u
-Tied r τ t js (Holding z u) = Holds r τ t js z u
-Tied r τ t js (Resting z) = Rests r τ t js z
+-- what ties a phase, as it is stored or as it is seen in a tick, and the parity of its job to the line of its task's jobs (that stored ones are
+-- within their limits is `Passes`)
+abbrev pub Tied : Rule → Task → ℕ → (ℕ → Job) → Bool → Phase → Type 0
+Tied r τ t js even (Coming left) = Comes τ t js even left
+Tied r τ t js even (Working z u) = Works τ t js even z u
+Tied r τ t js even (Holding z u) = Holds r τ t js even z u
+Tied r τ t js even (Resting z) = Rests r τ t js even z
+
+abbrev pub TiedAt : Rule → Task → ℕ → (ℕ → Job) → Stand → Type 0
+TiedAt r τ t js w = Tied r τ t js (w .even) (w .phase)
+
+-- the next number has the other parity
+pub parity-suc : (k : ℕ) (even : Bool) → eqb (k % 2) 0 ≡ not even → eqb (suc k % 2) 0 ≡ not (not even)
+parity-suc k true e = let n = eqb-false (k % 2) 0 e in eq-eqb (suc k % 2) 0 (omega arith)
+parity-suc k false e = let n : k % 2 ≡ 0 = eqb-true (k % 2) 0 e in ne-eqb (suc k % 2) 0 (λ (q : suc k % 2 ≡ 0). omega arith)
 
 -- WHICH JOB IS THE NEWEST, AND WHICH CLAIMS
 

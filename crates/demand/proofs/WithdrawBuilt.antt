@@ -22,10 +22,10 @@ use Rattle.run.specs.Withdraw.{withdrawAnswer, withdrawOf}
 use Rattle.run.specs.Row.{rowAnswer, bytesIn, rowOf}
 use Rattle.demand.specs.Entries.{answers, after}
 use Rattle.demand.proofs.HandBuilt.{rows, t, one, two, on1, on2, no}
-use Rattle.demand.proofs.EmptyBuilt.{Named, worked-named, built, sets, none, empty-no, report-no, row-20, single, least-one}
+use Rattle.demand.proofs.EmptyBuilt.{Named, worked-named, built, sets, none, empty-no, report-no, row-20, single, single-even, least-one}
 
 -- a run with a withdrawn set
-abbrev out : ℕ → Run → Run
+abbrev pub out : ℕ → Run → Run
 out x r = record { rule = r .rule; cores = r .cores; fence = r .fence; withdrawn = x; count = r .count; tasks = r .tasks }
 
 -- so many tasks in one phase on one core, under greedy
@@ -68,7 +68,7 @@ withdraw-lines =
     (single 1 (Resting 5)) (withdraw 1 ∷ none ∷ none ∷ [])
     (Taken ∷ Taken ∷ Taken ∷ [])
     (on1 0 ∷ on1 0 ∷ on1 0 ∷ on1 0 ∷ [])
-    (out 1 (single 1 (Resting 1)))
+    (out 1 (single-even 1 (Resting 1)))
     ∷ built "while it holds: the hold goes on"
     (single 3 (Holding 1 1)) (withdraw 1 ∷ none ∷ none ∷ [])
     (Taken ∷ Taken ∷ Taken ∷ [])

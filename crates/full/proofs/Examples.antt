@@ -1,7 +1,7 @@
 -- The run of a table with two widths, computed: 2 cores, rule 1. The first task has widths 1 and 2 and a job in every tick, with O = 0 and C = D = T = 1;
 -- the second has width 1, O = 0, C = 2 and D = T = 4.
 use mathlib.Core.Bool.{false}
-use mathlib.Core.List.{[], _∷_}
+use mathlib.Core.List.{_∷_}
 use mathlib.Core.Path.{_≡_, refl}
 use lib.ListN.{replicate}
 use Rattle.model.specs.Grants.{claimants, given, grants, left}

@@ -1,13 +1,13 @@
 -- The widths: a release turns a place to the width of the job that it works on, and no other move of the machine does. So the width of a place that
 -- claims is that of its newest job.
 use mathlib.Core.Path.{_≡_, refl, sym, ap, _∙_, subst}
-use mathlib.Core.Bool.{Bool, true, false, not, _&&_, cond, true≢false, and-true, and-false}
+use mathlib.Core.Bool.{Bool, true, false, not, _&&_, cond, true≢false}
 use mathlib.Core.List.{List}
-use Prim.Native.Nat.{ℕ, zero, suc, _+_, _*_, _%_, _≤_, _<_}
+use Prim.Native.Nat.{ℕ, zero, suc, _+_, _%_, _≤_, _<_}
 use native.Mathlib.Omega.{arith}
 use lib.ListN.{length, getD}
 use lib.Dec.{eqb}
-use borrow.Author.Tests.{eqb-true, eq-eqb, ne-eqb}
+use borrow.Author.Tests.{eqb-true}
 use Rattle.model.specs.Search.{bit}
 use Rattle.model.specs.Task.{Task, Table, task, Sound, AllSound, release, widthOf, newest}
 use Rattle.model.specs.Book.{Job, full}
@@ -15,10 +15,10 @@ use Rattle.model.proofs.Runs.{full-claimed}
 use Rattle.rule.specs.Widths.{widthIn}
 use Rattle.full.specs.Machine.{Machine, started, worked}
 use Rattle.full.specs.Stand.{turnedBy}
-use Rattle.full.specs.Standing.{Works, Rests, TiedAt, evenJob, Turns}
+use Rattle.full.specs.Standing.{Works, TiedAt, evenJob, Turns}
 use Rattle.full.proofs.Place.{release-order, works-newest}
 use Rattle.full.proofs.Sets.{turnedBit, turned-bit}
-use Rattle.full.proofs.Tied.{Walked, Tied, Ready, Columns}
+use Rattle.full.proofs.Tied.{Tied, Ready, Columns}
 
 -- ODD AND EVEN
 
@@ -159,7 +159,8 @@ module _ (s : Table) (ok : AllSound s) where
       marked =
           turns-works τ (ok p l) (suc t) (full s t .job p) (getD (m .left) p 0) (getD (m .moment) p 0) (getD (m .next) p 0) (bit even p) works (turns p l)
           ∙ ap (evenJob τ)
-          (sym (works-newest (s .rule) τ (ok p l) t (full s t .job p) (full-claimed s t p) (getD (m .left) p 0) (getD (m .moment) p 0) (getD (m .next) p 0) works))
+          (sym
+          (works-newest (s .rule) τ (ok p l) t (full s t .job p) (full-claimed s t p) (getD (m .left) p 0) (getD (m .moment) p 0) (getD (m .next) p 0) works))
 
       read : (b : Bool) → bit even p ≡ b → widthIn even v p ≡ cond b (τ .evenWidth) (τ .oddWidth)
       read true e = ap (λ (b : Bool). getD v (cond b (32 + p) p) 0) e ∙ of .even-widths p l

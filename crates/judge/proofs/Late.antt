@@ -123,5 +123,5 @@ module _ (t : Loaded) (fit : Fit t) (s : Stand) (h : Follows t s) where
   -- before the bell no deadline is missed
   pub look-skipped : s .tick < s .bell → (q : ℕ) → ¬ Missed book q (s .tick)
   look-skipped l q =
-      met-at t fit (s .machine) (s .bell) (s .tick) (h .before .met) (walk-skipped t fit (s .machine) (s .bell) (s .tick) (h .before) l) q (s .tick)
-      (omega arith)
+      met-at t fit (s .machine) (s .even) (s .bell) (s .tick) (h .before .met)
+      (walk-skipped t fit (s .machine) (s .even) (s .bell) (s .tick) (h .before) l) q (s .tick) (omega arith)

@@ -5,9 +5,9 @@ use mathlib.Core.Bool.{true, false}
 use mathlib.Core.List.{List}
 use mathlib.Core.Logic.{⊎-elim}
 use native.Mathlib.Nat.{eq-or-lt-of-le}
-use Prim.Native.Nat.{ℕ, suc, _+_, _-_, _≤_, _<_}
+use Prim.Native.Nat.{ℕ, suc, _+_, _-_, _≤_, _<_, max, min}
 use lib.ListN.{length, getD}
-use Rattle.model.specs.Task.{nobody, ruleOf}
+use Rattle.model.specs.Task.{narrowest, nobody, ruleOf, widest}
 use Rattle.model.specs.Task as model
 use Rattle.model.specs.Firm.{Rising, rising, firm}
 use borrow.Author.Tests.{eq-eqb, ne-eqb}
@@ -17,26 +17,32 @@ use Rattle.table.specs.declared.Task.{Task}
 use Rattle.table.specs.Task.{noTask, tasksOf}
 use Rattle.table.proofs.Places.{tasks-length, task-at}
 
--- the width at a place
-abbrev pub widthAt : List Task → ℕ → ℕ
-widthAt tasks p = getD tasks p noTask .width
+-- the larger and the smaller width at a place
+abbrev pub widestAt : List Task → ℕ → ℕ
+widestAt tasks p = max (getD tasks p noTask .width) (getD tasks p noTask .second)
+
+abbrev pub narrowestAt : List Task → ℕ → ℕ
+narrowestAt tasks p = min (getD tasks p noTask .width) (getD tasks p noTask .second)
 
 -- widths never fall over the first i places
 abbrev pub RisingTo : List Task → ℕ → Type 0
-RisingTo tasks i = (p : ℕ) → suc p < i → widthAt tasks p ≤ widthAt tasks (suc p)
+RisingTo tasks i = (p : ℕ) → suc p < i → widestAt tasks p ≤ narrowestAt tasks (suc p)
 
 -- one place more
-pub rising-more : (tasks : List Task) (i : ℕ) → 1 ≤ i → RisingTo tasks i → widthAt tasks (i - 1) ≤ widthAt tasks i → RisingTo tasks (i + 1)
+pub rising-more : (tasks : List Task) (i : ℕ) → 1 ≤ i → RisingTo tasks i → widestAt tasks (i - 1) ≤ narrowestAt tasks i → RisingTo tasks (i + 1)
 rising-more tasks i some so-far le p l =
     ⊎-elim
-    (λ (e : suc p ≡ i). let d : i - 1 ≡ p = omega arith in subst₂ (λ (a b : ℕ). widthAt tasks a ≤ widthAt tasks b) d (sym e) le)
+    (λ (e : suc p ≡ i). let d : i - 1 ≡ p = omega arith in subst₂ (λ (a b : ℕ). widestAt tasks a ≤ narrowestAt tasks b) d (sym e) le)
     (λ (h : suc p < i). so-far p h)
     (eq-or-lt-of-le (omega arith))
 
 module _ (tasks : List Task) (count : ℕ) (few : count ≤ length tasks) where
   -- the widths of the model's tasks
-  at : (p : ℕ) → p < count → getD (tasksOf tasks count) p nobody .width ≡ widthAt tasks p
-  at p l = ap (λ (τ : model.Task). τ .width) (task-at tasks count p l)
+  wide : (p : ℕ) → p < count → widest (getD (tasksOf tasks count) p nobody) ≡ widestAt tasks p
+  wide p l = ap widest (task-at tasks count p l)
+
+  narrow : (p : ℕ) → p < count → narrowest (getD (tasksOf tasks count) p nobody) ≡ narrowestAt tasks p
+  narrow p l = ap narrowest (task-at tasks count p l)
 
   -- no width falls up to the count
   pub all-rise : (i : ℕ) → count ≤ i → RisingTo tasks i → true ≡ rising (tasksOf tasks count)
@@ -45,18 +51,18 @@ module _ (tasks : List Task) (count : ℕ) (few : count ≤ length tasks) where
       rises : Rising (tasksOf tasks count)
       rises p l =
           let n : length (tasksOf tasks count) ≡ count = tasks-length tasks count few in
-          subst₂ (λ (a b : ℕ). a ≤ b) (sym (at p (omega arith))) (sym (at (suc p) (omega arith))) (so-far p (omega arith))
+          subst₂ (λ (a b : ℕ). a ≤ b) (sym (wide p (omega arith))) (sym (narrow (suc p) (omega arith))) (so-far p (omega arith))
 
   -- a width falls
-  pub one-falls : (i : ℕ) → 1 ≤ i → i < count → widthAt tasks i < widthAt tasks (i - 1) → false ≡ rising (tasksOf tasks count)
+  pub one-falls : (i : ℕ) → 1 ≤ i → i < count → narrowestAt tasks i < widestAt tasks (i - 1) → false ≡ rising (tasksOf tasks count)
   one-falls i some inside less =
       sym (not-true-false (rising (tasksOf tasks count)) (λ e.
       let n : length (tasksOf tasks count) ≡ count = tasks-length tasks count few in
       let s : suc (i - 1) ≡ i = omega arith in
       let h = rising-exact (tasksOf tasks count) .0 e (i - 1) (omega arith) in
-      let g : widthAt tasks (i - 1) ≤ widthAt tasks i =
-      subst₂ (λ (a b : ℕ). a ≤ b) (at (i - 1) (omega arith)) (at i inside)
-      (subst (λ (k : ℕ). getD (tasksOf tasks count) (i - 1) nobody .width ≤ getD (tasksOf tasks count) k nobody .width) s h) in
+      let g : widestAt tasks (i - 1) ≤ narrowestAt tasks i =
+      subst₂ (λ (a b : ℕ). a ≤ b) (wide (i - 1) (omega arith)) (narrow i inside)
+      (subst (λ (k : ℕ). widest (getD (tasksOf tasks count) (i - 1) nobody) ≤ narrowest (getD (tasksOf tasks count) k nobody)) s h) in
       omega arith))
 
 -- FIRM by the rule's number: 2 and 3 are, any other where widths never fall

@@ -1,6 +1,6 @@
 // The judge that goes tick by tick: the verdict on a table's words, from the full-length run.
 ghost use mathlib.Core.Path.{_≡_};
-ghost use Prim.Native.Nat.{suc, _≤_};
+ghost use Prim.Native.Nat.{suc, _≤_, max, min};
 ghost use Rattle.model.specs.Task.{ruleOf};
 ghost use Rattle.model.specs.Firm.{rising, firm};
 ghost use Rattle.model.specs.Sizes.{mostTasks};
@@ -23,7 +23,21 @@ pub enum Verdict {
     Refused(u32, u32),
 }
 
-// Whether widths never fall along the first `count` tasks.
+// The larger of a task's two widths.
+fn wider(a: u32, b: u32) -> u32
+    ensures { λ r. ⌜ r ≡ max a b ⌝ }
+{
+    if a < b { b } else { a }
+}
+
+// The smaller of a task's two widths.
+fn narrower(a: u32, b: u32) -> u32
+    ensures { λ r. ⌜ r ≡ min a b ⌝ }
+{
+    if a < b { a } else { b }
+}
+
+// Whether widths never fall along the first `count` tasks: the larger of each is at most the smaller of the next.
 fn rising(tasks: [Task; MOST_TASKS], count: usize) -> bool
     requires { ⌜ count ≤ mostTasks ⌝ }
     ensures { λ r. ⌜ r ≡ rising (tasksOf tasks count) ⌝ }
@@ -32,7 +46,7 @@ fn rising(tasks: [Task; MOST_TASKS], count: usize) -> bool
     while i < count {
         let above = tasks[i - 1];
         let here = tasks[i];
-        if here.width < above.width {
+        if narrower(here.width, here.second) < wider(above.width, above.second) {
             return false;
         }
         i += 1;

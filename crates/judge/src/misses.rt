@@ -17,7 +17,7 @@ pub fn first_miss(table: Loaded, end: u32) -> Missed
 {
     let columns = full::columns::columns_of(table);
     let setting = columns.setting;
-    let width = columns.width;
+    let widths = columns.widths;
     let times = columns.times;
     let machine = full::machine::start(table);
     let mut pace = machine.pace;
@@ -37,6 +37,6 @@ pub fn first_miss(table: Loaded, end: u32) -> Missed
                 rest &= rest - 1;
             }
         }
-        pace = full::step(setting, &width, &times, pace, &mut places);
+        pace = full::step(setting, &widths, &times, pace, &mut places);
     }
 }

@@ -3,12 +3,15 @@ use mathlib.Core.Path.{_≡_, refl, sym, ap, _∙_, subst}
 use mathlib.Core.Bool.{Bool, true, false, true≢false}
 use mathlib.Core.List.{List}
 use mathlib.Core.Logic.{inl, inr}
-use Prim.Native.Nat.{ℕ, zero, suc, _+_, _-_, _≤_, _<_}
-use native.Mathlib.Nat.{add-zero, add-suc}
+use Prim.Native.Nat.{ℕ, zero, suc, _+_, _*_, _-_, _≤_, _<_}
+use native.Mathlib.Nat.{add-zero, add-suc, div-mul-le-self, le-antisymm, le-div-iff-mul-le}
 use native.Mathlib.Omega.{arith}
+use lib.Dec.{leb}
 use lib.ListN.{length, length-map}
+use lib.Seq.{ext-getD}
+use borrow.Author.Tests.{leb-true, leb-false}
 use Rattle.model.specs.Fence.{openCores}
-use Rattle.model.specs.Task.{Table, task, AllSound, release, due}
+use Rattle.model.specs.Task.{Task, Table, nobody, task, Sound, AllSound, release, due, newest, widthOf}
 use Rattle.model.specs.Grants.{Claimant, claimants, grants}
 use Rattle.model.specs.Row.{row}
 use Rattle.model.specs.Book.{Book, full, jobClaims, taskClaims, widths, grantsOf, rowOf}
@@ -17,6 +20,7 @@ use Rattle.model.proofs.Jobs.{after-release, before-due, claims-if, done-off}
 use Rattle.model.proofs.Runs.{full-tick, full-claimed, full-stays}
 use Rattle.model.proofs.Faithful.{claims-exact}
 use Rattle.model.proofs.Grants.{claimants-same}
+use Rattle.model.proofs.Lists.{map-at}
 use Rattle.leap.specs.Moment.{Ends, Moment, NoneBetween, SameCores}
 
 -- a job ends at the tick after its last
@@ -30,16 +34,66 @@ ends-by s t p k x =
     let z : t ≡ suc t - 1 = omega arith in
     ap (λ (n : ℕ). full s n .job p k .ended) z ∙ x .1
 
--- where the same tasks claim, the cores go to the same
-pub same-claims :
-    (s : Table) (t u : ℕ) → ((p : ℕ) → p < length (s .tasks) → taskClaims s (full s u) p ≡ taskClaims s (full s t) p) → SameCores s t u
-same-claims s t u e = record { grants = same; row = ap (λ (gs : List (List ℕ)). row (s .fence) (s .cores) gs) same }
+-- WIDTHS: they are those of the newest jobs, and so stay while no job is released
+
+-- no job of the task is released after t, up to u
+abbrev pub NoRelease : Task → ℕ → ℕ → Type 0
+NoRelease τ t u = (k : ℕ) → t < release τ k → release τ k ≤ u → ⊥
+
+-- then its newest job is the same
+pub newest-stays : (τ : Task) → Sound τ → (t u : ℕ) → t ≤ u → NoRelease τ t u → newest τ u ≡ newest τ t
+newest-stays τ ok t u h none =
+    le-antisymm
+    (le-div-iff-mul-le pos .1 (go (leb (τ .offset) u) refl))
+    (le-div-iff-mul-le pos .1 (omega (arith, div-mul-le-self (t - τ .offset) (τ .period))))
   where
+    pos : 0 < τ .period
+    pos = omega (arith, ok .deadline-pos, ok .constrained)
+
+    k : ℕ
+    k = newest τ u
+
+    whole : k * τ .period ≤ u - τ .offset
+    whole = div-mul-le-self (u - τ .offset) (τ .period)
+
+    -- it was released by u, and so by t
+    past : τ .offset ≤ u → (b : Bool) → leb (release τ k) t ≡ b → k * τ .period ≤ t - τ .offset
+    past o true q = omega (arith, leb-true (release τ k) t q)
+    past o false q = absurd (none k (leb-false (release τ k) t q) (omega (arith, whole)))
+
+    go : (b : Bool) → leb (τ .offset) u ≡ b → k * τ .period ≤ t - τ .offset
+    go true e = past (leb-true (τ .offset) u e) (leb (release τ k) t) refl
+    go false e = omega (arith, whole, leb-false (τ .offset) u e)
+
+-- the newest job of each task at u is that at t
+abbrev pub SameNewest : Table → ℕ → ℕ → Type 0
+SameNewest s t u = (p : ℕ) → p < length (s .tasks) → newest (task s p) u ≡ newest (task s p) t
+
+pub widths-stay : (s : Table) (t u : ℕ) → SameNewest s t u → widths s u ≡ widths s t
+widths-stay s t u e =
+    ext-getD 0 (widths s u) (widths s t) (size u ∙ sym (size t)) (λ i l.
+    let h : i < length (s .tasks) = subst (λ (n : ℕ). i < n) (size u) l in
+    map-at (λ τ. widthOf τ (newest τ u)) (s .tasks) i 0 nobody h
+    ∙ (ap (widthOf (task s i)) (e i h) ∙ sym (map-at (λ τ. widthOf τ (newest τ t)) (s .tasks) i 0 nobody h)))
+  where
+    size : (w : ℕ) → length (widths s w) ≡ length (s .tasks)
+    size w = length-map (s .tasks) (λ τ. widthOf τ (newest τ w))
+
+-- where the same tasks claim, with the same widths, the cores go to the same
+pub same-claims :
+    (s : Table) (t u : ℕ) → SameNewest s t u → ((p : ℕ) → p < length (s .tasks) → taskClaims s (full s u) p ≡ taskClaims s (full s t) p)
+    → SameCores s t u
+same-claims s t u new e = record { grants = same; row = ap (λ (gs : List (List ℕ)). row (s .fence) (s .cores) gs) same }
+  where
+    wide : widths s (full s u .tick) ≡ widths s (full s t .tick)
+    wide = ap (widths s) (full-tick s u) ∙ (widths-stay s t u new ∙ ap (widths s) (sym (full-tick s t)))
+
     same : grantsOf s (full s u) ≡ grantsOf s (full s t)
     same =
         ap (λ (bs : List Claimant). grants (s .rule) bs (openCores s))
-        (claimants-same (widths s) (taskClaims s (full s u)) (taskClaims s (full s t))
-        (λ q l. e q (subst (λ (n : ℕ). q < n) (length-map (s .tasks) (λ τ. τ .width)) l)))
+        (ap (λ (ws : List ℕ). claimants ws (taskClaims s (full s u))) wide
+        ∙ claimants-same (widths s (full s t .tick)) (taskClaims s (full s u)) (taskClaims s (full s t))
+        (λ q l. e q (subst (λ (n : ℕ). q < n) (length-map (s .tasks) (λ τ. widthOf τ (newest τ (full s t .tick)))) l)))
 
 module _ (s : Table) (ok : AllSound s) where
   -- in the full-length run a job that claims has not ended
@@ -94,8 +148,14 @@ module _ (s : Table) (ok : AllSound s) where
       ∙ (claims-stay (t + d) (none (suc (t + d)) (omega arith) (omega arith)) p l
       ∙ stay-over t d (λ w a b. none w a (omega arith)) p l)
 
+  -- a release is a moment
+  newest-over : (t w u : ℕ) → NoneBetween s t u → t ≤ w → w < u → SameNewest s t w
+  newest-over t w u none a b p l =
+      newest-stays (task s p) (ok p l) t w a (λ k c d. none (release (task s p) k) c (omega arith) (p, k, l, inl refl))
+
   -- THEOREM (same-between): at every tick from t on, up to the first moment after it, the cores are with the tasks that have them at t
   pub same-between : (t u : ℕ) → NoneBetween s t u → (w : ℕ) → t ≤ w → w < u → SameCores s t w
   same-between t u none w a b =
       let e : t + (w - t) ≡ w = omega arith in
-      subst (SameCores s t) e (same-claims s t (t + (w - t)) (stay-over t (w - t) (λ x c d. none x c (omega arith))))
+      subst (SameCores s t) e
+      (same-claims s t (t + (w - t)) (newest-over t (t + (w - t)) u none (omega arith) (omega arith)) (stay-over t (w - t) (λ x c d. none x c (omega arith))))

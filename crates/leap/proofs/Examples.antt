@@ -5,7 +5,7 @@ use mathlib.Core.Logic.{inl, inr}
 use mathlib.Core.Path.{_≡_, refl, sym, ap, _∙_}
 use Prim.Native.Nat.{ℕ, zero, suc, _+_, _-_, _*_, _≤_, _<_, min}
 use native.Mathlib.Omega.{arith}
-use lib.ListN.{length, replicate}
+use lib.ListN.{length, getD, replicate}
 use Rattle.model.specs.Task.{Table, release, due, task, greedy}
 use Rattle.model.specs.Book.{Job, full, step, served, work, claims}
 use Rattle.model.specs.Grants.{claimants, given, left, grants}
@@ -16,11 +16,13 @@ use Rattle.table.specs.declared.Answer.the-variants.{Passed}
 use Rattle.table.specs.declared.Task.{Task}
 use Rattle.table.specs.declared.Loaded.{Loaded}
 use Rattle.table.specs.Task.{noTask}
+use Rattle.rule.specs.Widths.{widthsIn}
 use Rattle.full.specs.Machine.{released}
 use Rattle.full.specs.Places.{each, setOf}
+use Rattle.full.specs.Stand.{pairedIn}
 use Rattle.leap.specs.Moment.{Ends, Happens, Moment}
 use Rattle.leap.specs.Stand.{dueAt, soonest}
-use Rattle.leap.specs.Leap.{looked, fewest, passed, after, bellAfter, grantedIn, ticksIn, leapt, leaps}
+use Rattle.leap.specs.Leap.{looked, fewest, passed, after, bellAfter, evenAfter, grantedIn, ticksIn, leapt, leaps}
 
 -- ONE TASK that ends before its deadline: released at 0 and 5, ended at 1, due at 3
 abbrev early : Table
@@ -84,9 +86,12 @@ none-at-zero (suc p, k, l, x) = omega arith
 
 -- THE TICKS THAT LEAPS REACH
 
--- a task of the supplier's table, and a table of them that was loaded: of so many cores, under a rule
+-- a task of the supplier's table, with widths v and w and with one width; and a table of them that was loaded: of so many cores, under a rule
+abbrev task-of₂ : ℕ → ℕ → ℕ → ℕ → ℕ → ℕ → Task
+task-of₂ o v w c d p = record { offset = o; width = v; length = c; deadline = d; period = p; second = w }
+
 abbrev task-of : ℕ → ℕ → ℕ → ℕ → ℕ → Task
-task-of o v c d p = record { offset = o; width = v; length = c; deadline = d; period = p }
+task-of o v c d p = task-of₂ o v v c d p
 
 abbrev loaded : ℕ → ℕ → List Task → Loaded
 loaded m r ts = record {
@@ -110,10 +115,42 @@ pub reached :
     (ticks 7 (loaded 1 1 (task-of 0 1 1 3 5 ∷ [])) ≡ 0 ∷ 1 ∷ 3 ∷ 5 ∷ 6 ∷ 8 ∷ 10 ∷ [])
     × (ticks 4 (loaded 1 1 (task-of 0 1 2 2 2 ∷ [])) ≡ 0 ∷ 2 ∷ 4 ∷ 6 ∷ [])
     × (ticks 4 (loaded 1 1 (task-of 3 1 1 1 2 ∷ [])) ≡ 0 ∷ 3 ∷ 4 ∷ 5 ∷ [])
-unfolding leaps leapt ticksIn grantedIn bellAfter after passed fewest looked released dueAt soonest each setOf grants claimants given left kept upFrom
+unfolding leaps leapt ticksIn grantedIn evenAfter bellAfter after passed fewest looked released dueAt soonest pairedIn widthsIn each setOf
+    grants claimants given left kept upFrom
 reached = (refl, refl, refl)
 
 -- and of two tasks: the second ends at 4, after the first has ended at 2 and made room
 pub reached-by-two : ticks 6 (loaded 2 1 (task-of 0 2 2 6 6 ∷ task-of 0 1 2 5 6 ∷ [])) ≡ 0 ∷ 2 ∷ 4 ∷ 5 ∷ 6 ∷ 8 ∷ []
-unfolding leaps leapt ticksIn grantedIn bellAfter after passed fewest looked released dueAt soonest each setOf grants claimants given left kept upFrom
+unfolding leaps leapt ticksIn grantedIn evenAfter bellAfter after passed fewest looked released dueAt soonest pairedIn widthsIn each setOf
+    grants claimants given left kept upFrom
 reached-by-two = refl
+
+-- TWO WIDTHS (request 108)
+
+-- what the choice of the i-th leap was made for, who was granted cores by it, and who was at its second width
+abbrev choices : ℕ → Loaded → List (ℕ × ℕ × ℕ)
+choices n x = map (λ i. (leaps x i .chosen, leaps x i .granted, leaps x i .even)) (upFrom 1 n)
+
+-- the first task's jobs end where they are due and the next is released, with width 1 and then 2: the claimants are the same and the choice is not. At 2
+-- the second task has to wait, and goes on at 4
+abbrev turning : Loaded
+turning = loaded 2 1 (task-of₂ 0 1 2 2 2 2 ∷ task-of 0 1 3 6 6 ∷ [])
+
+pub reached-turning :
+    (ticks 5 turning ≡ 0 ∷ 2 ∷ 4 ∷ 5 ∷ 6 ∷ []) × (choices 3 turning ≡ (3, 3, 0) ∷ (3, 1, 1) ∷ (3, 3, 0) ∷ [])
+unfolding leaps leapt ticksIn grantedIn evenAfter bellAfter after passed fewest looked released dueAt soonest pairedIn widthsIn each setOf
+    grants claimants given left kept upFrom
+reached-turning = (refl, refl)
+
+-- the second task's even job does not fit beside the first: it is late at 7, in the second half of 2T, and was not at 3
+abbrev half : Loaded
+half = loaded 2 1 (task-of 0 1 3 4 4 ∷ task-of₂ 0 1 2 2 3 4 ∷ [])
+
+-- what is left of the second task
+abbrev owed : ℕ → Loaded → List ℕ
+owed n x = map (λ i. getD (leaps x i .machine .left) 1 0) (upFrom 0 n)
+
+pub late-in-second-half : (ticks 5 half ≡ 0 ∷ 2 ∷ 3 ∷ 4 ∷ 7 ∷ []) × (owed 5 half ≡ 0 ∷ 0 ∷ 0 ∷ 0 ∷ 2 ∷ []) × (leaps half 4 .due ≡ 2)
+unfolding leaps leapt ticksIn grantedIn evenAfter bellAfter after passed fewest looked released dueAt soonest pairedIn widthsIn each setOf
+    grants claimants given left kept upFrom
+late-in-second-half = (refl, refl, refl)

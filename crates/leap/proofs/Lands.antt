@@ -1,6 +1,6 @@
 -- THEOREM (leap-lands): a leap from the stand of the full-length run at a tick at which no deadline is missed lands on the stand of the least moment
 -- after it, and at every tick up to it the cores stay with the same tasks.
-use mathlib.Core.Path.{_≡_, refl, sym, ap, _∙_, subst, subst₂}
+use mathlib.Core.Path.{_≡_, refl, sym, ap, ap₂, _∙_, subst, subst₂}
 use mathlib.Core.Bool.{Bool, true, false, not, _&&_, cond, true≢false}
 use mathlib.Core.List.{List, map}
 use mathlib.Core.Logic.{_⊎_, inl, inr, ⊎-elim}
@@ -14,25 +14,26 @@ use Rattle.model.specs.Search.{bit}
 use Rattle.model.specs.Sizes.{mostCores, mostTasks}
 use Rattle.model.specs.Task.{Table, task}
 use Rattle.model.specs.Book.{full, inRow, Missed}
-use Rattle.model.proofs.Bools.{and-both}
+use Rattle.model.proofs.Bools.{and-left, and-right}
 use Rattle.model.proofs.Digits.{bit-none}
 use Rattle.model.proofs.Runs.{full-tick}
 use Rattle.table.specs.declared.Task.{Task}
 use Rattle.table.specs.declared.Loaded.{Loaded}
+use Rattle.rule.specs.Widths.{widthsIn}
 use Rattle.full.specs.Machine.{Machine}
 use Rattle.full.specs.Stand.{Numbers, numbersIn, choice}
-use Rattle.full.proofs.Alike.{row-places, row-owed}
-use Rattle.full.proofs.Place.{overdue-is}
+use Rattle.full.proofs.Alike.{Agrees, all-agree, row-places, row-owed}
 use Rattle.full.proofs.Tied.{Ready}
+use Rattle.full.proofs.Turned.{Turning}
 use Rattle.judge.specs.Judged.{tableIn, Fit}
-use Rattle.judge.proofs.Ticks.{size, few, same-widths, Chosen}
-use Rattle.judge.proofs.Follows.{columns, choice-chosen}
+use Rattle.judge.proofs.Ticks.{size, few, columns, paired}
+use Rattle.judge.proofs.Follows.{choice-chosen}
 use Rattle.leap.specs.Moment.{Moment, NoneBetween}
 use Rattle.leap.specs.Stand.{Stand, StandsAt, PlaceStands, Standing, Stands, dueAt, soonest, MetBefore}
-use Rattle.leap.specs.Leap.{looked, Owing, passed, after, bellAfter, grantedIn, ticksIn, leapt, Begins, Lands}
+use Rattle.leap.specs.Leap.{looked, Owing, passed, after, bellAfter, evenAfter, unchanged, grantedIn, ticksIn, leapt, Begins, Lands}
 use Rattle.leap.proofs.Between.{same-between}
 use Rattle.leap.proofs.DuePlaces.{due-is, due-nobody, soonest-below, soonest-rings}
-use Rattle.leap.proofs.Looked.{late-is, nobody-due, looked-stands, plain, looked-ready}
+use Rattle.leap.proofs.Looked.{late-is, nobody-due, looked-stands, looked-turns, plain, looked-ready}
 use Rattle.leap.proofs.Passing.{passed-sized, passed-left, passed-claims, passed-past}
 use Rattle.leap.proofs.Quiet.{row-inside, none-between, ends, landed}
 use Rattle.leap.proofs.Shortest.{Shortest, shortest-some, fewest-is}
@@ -80,6 +81,9 @@ module _ (t : Loaded) (fit : Fit t) (s : Stand) (h : Stands t s) where
     abbrev bell : ℕ
     bell = bellAfter n s
 
+    abbrev even : ℕ
+    even = evenAfter n s
+
     abbrev g : ℕ
     g = grantedIn n s
 
@@ -100,6 +104,11 @@ module _ (t : Loaded) (fit : Fit t) (s : Stand) (h : Stands t s) where
         go false e =
             looked-stands book (fit .sound) (few t fit) (s .tick) (s .machine) (h .machines) (bit (s .due)) due-exact due-past met
             (map (λ x. x .offset) (t .tasks)) (n .widths) (n .lengths) (n .deadlines) (n .periods) (columns t fit)
+
+    -- who is released has turned to its other width
+    turned : Turning book m even
+    unfolding evenAfter
+    turned = looked-turns book (fit .sound) (s .tick) (s .machine) m (n .paired) (s .even) (h .machines) seen (paired t fit) (h .turns)
 
     -- the bell is the earliest moment to come
     bell-is : bell ≡ soonest (t .count) (m .moment)
@@ -125,25 +134,34 @@ module _ (t : Loaded) (fit : Fit t) (s : Stand) (h : Stands t s) where
 
     -- WHO IS GRANTED CORES
 
-    pub kept : g ≡ choice n (m .claiming)
+    pub kept : g ≡ choice n (m .claiming) even
     unfolding grantedIn
-    kept = go (eqb (m .claiming) (s .chosen)) refl
+    kept = go (unchanged n s) refl
       where
-        go : (b : Bool) → eqb (m .claiming) (s .chosen) ≡ b → cond b (s .granted) (choice n (m .claiming)) ≡ choice n (m .claiming)
-        go true e = h .kept ∙ ap (choice n) (sym (eqb-true (m .claiming) (s .chosen) e))
+        go : (b : Bool) → unchanged n s ≡ b → cond b (s .granted) (choice n (m .claiming) even) ≡ choice n (m .claiming) even
+        go true e =
+            let c : m .claiming ≡ s .chosen = eqb-true (m .claiming) (s .chosen) (and-left (eqb (m .claiming) (s .chosen)) (eqb even (s .even)) e) in
+            let w : even ≡ s .even = eqb-true even (s .even) (and-right (eqb (m .claiming) (s .chosen)) (eqb even (s .even)) e) in
+            h .kept ∙ ap₂ (choice n) (sym c) (sym w)
         go false e = refl
 
     ready : Ready book (s .tick) (plain m)
     ready = looked-ready book (s .tick) m (few t fit) seen
 
+    -- the widths are those of the jobs that claim
+    agree : Agrees book (s .tick) (plain m) (widthsIn even (n .widths))
+    agree =
+        all-agree book (fit .sound) (few t fit) (s .tick) (plain m) even ready turned
+        (map (λ x. x .offset) (t .tasks)) (n .widths) (n .lengths) (n .deadlines) (n .periods) (columns t fit)
+
     row : (p : ℕ) → bit g p ≡ inRow book (full book (s .tick)) p
     row p =
         ap (λ (x : ℕ). bit x p) kept
-        ∙ (choice-chosen t fit (m .claiming) p
-        ∙ row-places book (fit .sound) (s .tick) (plain m) ready (map (λ x. x .width) (t .tasks)) (same-widths t fit) p)
+        ∙ (choice-chosen t fit (m .claiming) even p
+        ∙ row-places book (fit .sound) (s .tick) (plain m) ready (widthsIn even (n .widths)) agree p)
 
     pub owing : Owing 1 (bit g) m
-    owing p e = row-owed book (fit .sound) (s .tick) (plain m) ready (map (λ x. x .width) (t .tasks)) (same-widths t fit) (bit g) row p e
+    owing p e = row-owed book (fit .sound) (s .tick) (plain m) ready (widthsIn even (n .widths)) agree (bit g) row p e
 
     -- THE TICKS
 
@@ -238,7 +256,7 @@ module _ (t : Loaded) (fit : Fit t) (s : Stand) (h : Stands t s) where
     unfolding leapt passed
     lands = record {
       next = record { after = omega (arith, some); moment = moment; first = none };
-      stands = record { machines = standing; dues = dues; rings = bell-is; kept = kept; met = met-there };
+      stands = record { machines = standing; dues = dues; rings = bell-is; turns = turned; kept = kept; met = met-there };
       same = λ w a b. same-between book (fit .sound) (s .tick) (s .tick + k) none w a b;
     }
 

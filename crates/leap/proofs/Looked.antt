@@ -15,11 +15,13 @@ use Rattle.model.specs.Book.{Job, full, Missed}
 use Rattle.model.proofs.Runs.{missed-at}
 use Rattle.full.specs.Places.{each, setOf}
 use Rattle.full.specs.Machine.{Machine, machine, released, Sized}
-use Rattle.full.specs.Standing.{TiedAt}
+use Rattle.full.specs.Stand.{turnedBy}
+use Rattle.full.specs.Standing.{TiedAt, Turns}
 use Rattle.full.proofs.Places.{each-length, each-at, each-none, each-still, each-more}
-use Rattle.full.proofs.Sets.{set-has, set-lt, set-past, set-is}
+use Rattle.full.proofs.Sets.{set-has, set-lt, set-past, set-is, turned-bit}
 use Rattle.full.proofs.Place.{overdue-has, overdue-is}
 use Rattle.full.proofs.Tied.{Ready, Columns}
+use Rattle.full.proofs.Turned.{Turning, Paired, turns-due}
 use Rattle.leap.specs.Stand.{StandsAt, PlaceStands, Standing}
 use Rattle.leap.specs.Leap.{turned, comes, looked}
 use Rattle.leap.proofs.Stands.{same-stands, stands-pass, stands-release, stands-turn}
@@ -247,6 +249,17 @@ module _
             go p q true x = unfold looked in set-past 32 (λ p. comes t d m p || bit (m .claiming) p) p (leb-true 32 p x)
             go p q false x = unfold looked in
                 set-has 32 (λ p. comes t d m p || bit (m .claiming) p) p (leb-false 32 p x) ∙ rw (past p q) (h .beyond p q)
+
+-- who is released is turned to its other width. q is the set of the places with two, e that of those at their second
+pub looked-turns :
+    (s : Table) → AllSound s → (t : ℕ) (m m′ : Machine) (q e : ℕ) → Standing s t t m → Standing s t (suc t) m′ → Paired s q → Turning s m e
+    → Turning s m′ (turnedBy q e (m .claiming) (m′ .claiming))
+looked-turns s ok t m m′ q e h h′ two turns p l =
+    subst (Turns (task s p) (getD (m′ .next) p 0)) (sym (turned-bit q e (m .claiming) (m′ .claiming) p))
+    (turns-due (task s p) (ok p l) t (full s t .job p)
+    (getD (m .left) p 0) (cond (bit (m .claiming) p) (getD (m .moment) p 0) (getD (m .next) p 0)) (getD (m .next) p 0)
+    (getD (m′ .left) p 0) (cond (bit (m′ .claiming) p) (getD (m′ .moment) p 0) (getD (m′ .next) p 0)) (getD (m′ .next) p 0)
+    (bit (m .claiming) p) (bit (m′ .claiming) p) (bit e p) (bit q p) (h .places p l .tied) (h′ .places p l .tied) (two p l) (turns p l))
 
 -- THE MACHINE OF CRATE FULL: a place that does not claim has its next release for its moment
 

@@ -17,8 +17,9 @@ use Rattle.table.specs.declared.Loaded.{Loaded}
 use Rattle.full.specs.Machine.{started}
 use Rattle.full.specs.Stand.{Numbers, numbersIn, choice}
 use Rattle.full.proofs.Sets.{set-is}
+use Rattle.full.proofs.Turned.{turning-start}
 use Rattle.judge.specs.Judged.{tableIn, Fit}
-use Rattle.judge.proofs.Ticks.{few, column, Chosen, chosen-none}
+use Rattle.judge.proofs.Ticks.{few, column, columns, paired, chosen-none}
 use Rattle.leap.specs.Moment.{Moment, NextMoment}
 use Rattle.leap.specs.Stand.{Stand, Standing, Stands, begun, MetBefore}
 use Rattle.leap.specs.Leap.{leapt, Lands, leaps, Unmissed, AreMoments}
@@ -53,7 +54,8 @@ module _ (t : Loaded) (fit : Fit t) where
     machines = standing;
     dues = refl;
     rings = refl;
-    kept = set-is 32 0 _ (omega arith) (λ i l. chosen-none t i);
+    turns = turning-start book (fit .sound) (map (λ x. x .offset) (t .tasks)) (n .paired) (columns t fit .offsets) (paired t fit);
+    kept = set-is 32 0 _ (omega arith) (λ i l. chosen-none t (n .paired) i);
     met = λ p w l. absurd (not-suc-le-zero l);
   }
 

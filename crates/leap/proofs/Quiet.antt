@@ -11,7 +11,7 @@ use lib.ListN.{length, getD, length-map, List·getD-eq-default}
 use borrow.Author.Tests.{eqb-true, eqb-false, eq-eqb, ne-eqb, leb-true, leb-false}
 use Rattle.model.specs.Fence.{openCores}
 use Rattle.model.specs.Search.{bit}
-use Rattle.model.specs.Task.{Table, task, AllSound, release, due, newest}
+use Rattle.model.specs.Task.{Table, task, AllSound, release, due, newest, widthOf}
 use Rattle.model.specs.Grants.{some}
 use Rattle.model.specs.Book.{Job, Book, claims, full, step, served, taskClaims, widths, grantsOf, inRow}
 use Rattle.model.proofs.Runs.{full-tick, full-claimed}
@@ -22,7 +22,7 @@ use Rattle.full.proofs.Lines.{lineOn}
 use Rattle.full.proofs.Place.{tied-claims, pass-tied}
 use Rattle.leap.specs.Moment.{Moment, NoneBetween, Ends, SameCores}
 use Rattle.leap.specs.Stand.{StandsAt, Standing}
-use Rattle.leap.proofs.Between.{ends-at, ends-by, same-claims}
+use Rattle.leap.proofs.Between.{SameNewest, ends-at, ends-by, newest-stays, same-claims}
 use Rattle.leap.proofs.Ahead.{ahead-later}
 use Rattle.leap.proofs.Stands.{moment-least, tick-stands, none-ends, last-ends}
 
@@ -36,7 +36,7 @@ pub row-inside : (s : Table) (b : Book) (p : ℕ) → inRow s b p ≡ true → p
 row-inside s b p e = go (leb (length (s .tasks)) p) refl
   where
     size : length (grantsOf s b) ≡ length (s .tasks)
-    size = grants-length (s .rule) (widths s) (taskClaims s b) (openCores s) ∙ length-map (s .tasks) (λ τ. τ .width)
+    size = grants-length (s .rule) (widths s (b .tick)) (taskClaims s b) (openCores s) ∙ length-map (s .tasks) (λ τ. widthOf τ (newest τ (b .tick)))
 
     go : (x : Bool) → leb (length (s .tasks)) p ≡ x → p < length (s .tasks)
     go true q =
@@ -103,20 +103,26 @@ module _
         same true = omega arith
         same false = refl
 
+    -- no job is released after t before the k ticks are over
+    newest-is : (j : ℕ) → j < k → SameNewest s t (t + j)
+    newest-is j b p l =
+        newest-stays (task s p) (ok p l) t (t + j) (omega arith)
+        (λ i x y. absurd (omega (arith, near p l, h .places p l .ahead .first (release (task s p) i) x (i, inl refl))))
+
     -- and so the same have cores
-    same-at : (u j : ℕ) → ((p : ℕ) → p < length (s .tasks) → At u j p) → (p : ℕ) → inRow s (full s u) p ≡ granted p
-    same-at u j a p =
+    same-at : (u j : ℕ) → SameNewest s t u → ((p : ℕ) → p < length (s .tasks) → At u j p) → (p : ℕ) → inRow s (full s u) p ≡ granted p
+    same-at u j new a p =
         ap (λ (gs : List (List ℕ)). some (getD gs p []))
-        (same-claims s t u (λ q l. claims-is u j q l (a q l) ∙ sym (claims-is t 0 q l (start q l))) .grants)
+        (same-claims s t u new (λ q l. claims-is u j q l (a q l) ∙ sym (claims-is t 0 q l (start q l))) .grants)
         ∙ sym (row p)
 
     -- the tick u at place p
-    ticked : (u j : ℕ) → ((p : ℕ) → p < length (s .tasks) → At u j p) → (p : ℕ) → p < length (s .tasks)
+    ticked : (u j : ℕ) → SameNewest s t u → ((p : ℕ) → p < length (s .tasks) → At u j p) → (p : ℕ) → p < length (s .tasks)
         → TiedAt (task s p) (suc u) (full s (suc u) .job p) (cond (granted p) (L p - suc j) (L p))
         (cond (c p && not (granted p && eqb (after j p) 1)) (M p) (N p)) (N p) (c p && not (granted p && eqb (after j p) 1))
-    ticked u j a p l =
+    ticked u j new a p l =
         subst₂ (λ (js : ℕ → Job) (x : ℕ). TiedAt (task s p) (suc u) js x (cond c′ (M p) (N p)) (N p) c′)
-        (ap (λ (w : Bool). lineOn (s .rule) (task s p) u w (full s u .job p)) (sym (same-at u j a p)) ∙ line-next s u p)
+        (ap (λ (w : Bool). lineOn (s .rule) (task s p) u w (full s u .job p)) (sym (same-at u j new a p)) ∙ line-next s u p)
         (one-less (granted p) (L p) j)
         (tick-stands (s .rule) (task s p) (ok p l) u (full s u .job p) (full-claimed s u p) (after j p) (M p) (N p) (c p) (granted p) (a p l))
       where
@@ -130,7 +136,7 @@ module _
         subst (λ (u : ℕ). At u (suc j) p) (sym (add-suc t j))
         (pass-tied (task s p) (suc (t + j)) (full s (suc (t + j)) .job p) (after (suc j) p) (cond (c p) (M p) (N p)) (N p) (c p)
         (subst (λ (x : Bool). TiedAt (task s p) (suc (t + j)) (full s (suc (t + j)) .job p) (after (suc j) p) (cond x (M p) (N p)) (N p) x) still
-        (ticked (t + j) j (λ q i. quiet j (omega arith) q i) p l))
+        (ticked (t + j) j (newest-is j (omega arith)) (λ q i. quiet j (omega arith) q i) p l))
         (λ e. absurd (omega (arith, near p l, moment-least (task s p) (suc t) (full s t .job p) (L p) (M p) (N p) (c p) (h .places p l)))))
       where
         still : c p && not (granted p && eqb (after j p) 1) ≡ c p
@@ -139,7 +145,8 @@ module _
     -- what the k ticks enter at place p
     line-at : (j : ℕ) → j < k → (p : ℕ) → lineOn (s .rule) (task s p) (t + j) (granted p) (full s (t + j) .job p) ≡ full s (suc (t + j)) .job p
     line-at j b p =
-        ap (λ (w : Bool). lineOn (s .rule) (task s p) (t + j) w (full s (t + j) .job p)) (sym (same-at (t + j) j (quiet j b) p)) ∙ line-next s (t + j) p
+        ap (λ (w : Bool). lineOn (s .rule) (task s p) (t + j) w (full s (t + j) .job p)) (sym (same-at (t + j) j (newest-is j b) (quiet j b) p))
+        ∙ line-next s (t + j) p
 
     left-is : (p j : ℕ) (x : Bool) → x ≡ true → cond x (L p - j) (L p) ≡ L p - j
     left-is p j true q = refl
@@ -191,6 +198,6 @@ module _
           (λ (x : Bool).
           TiedAt (task s p) (suc (t + j)) (full s (suc (t + j)) .job p) (cond (granted p) (L p - suc j) (L p)) (cond (c p && not x) (M p) (N p)) (N p) (c p && not x))
           (is-last (granted p) (L p) j (λ g. let q = short p g in omega arith))
-          (ticked (t + j) j (quiet j (omega arith)) p l);
+          (ticked (t + j) j (newest-is j (omega arith)) (quiet j (omega arith)) p l);
       ahead = ahead-later (task s p) (suc t) (suc (t + j)) (M p) (N p) (h .places p l .ahead) (omega arith) (omega (arith, near p l));
     }

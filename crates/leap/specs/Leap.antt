@@ -12,7 +12,7 @@ use Rattle.model.specs.Book.{Missed}
 use Rattle.table.specs.declared.Loaded.{Loaded}
 use Rattle.full.specs.Places.{each, setOf}
 use Rattle.full.specs.Machine.{Machine, machine, released}
-use Rattle.full.specs.Stand.{Numbers, numbersIn, choice}
+use Rattle.full.specs.Stand.{Numbers, numbersIn, turnedBy, choice}
 use Rattle.judge.specs.Judged.{tableIn, Fit}
 use Rattle.leap.specs.Moment.{Moment, NextMoment, SameCores}
 use Rattle.leap.specs.Stand.{Stand, dueAt, soonest, begun, MetBefore, Stands}
@@ -70,9 +70,17 @@ after n s = cond (eqb (s .due) 0) (s .machine) (looked (s .tick) (bit (s .due)) 
 unfoldable pub bellAfter : Numbers → Stand → ℕ
 bellAfter n s = cond (eqb (s .due) 0) (s .bell) (soonest (n .count) (after n s .moment))
 
--- who is granted cores: kept while the claimants are those of the choice, or chosen anew
+-- the places that are at their second width in the ticks of the leap: who begins to claim was released, and has turned
+unfoldable pub evenAfter : Numbers → Stand → ℕ
+evenAfter n s = turnedBy (n .paired) (s .even) (s .machine .claiming) (after n s .claiming)
+
+-- the claimants are those of the choice that is kept, and so are their widths
+abbrev pub unchanged : Numbers → Stand → Bool
+unchanged n s = eqb (after n s .claiming) (s .chosen) && eqb (evenAfter n s) (s .even)
+
+-- who is granted cores: kept while these are unchanged, or chosen anew
 unfoldable pub grantedIn : Numbers → Stand → ℕ
-grantedIn n s = cond (eqb (after n s .claiming) (s .chosen)) (s .granted) (choice n (after n s .claiming))
+grantedIn n s = cond (unchanged n s) (s .granted) (choice n (after n s .claiming) (evenAfter n s))
 
 -- up to the bell, or until the first job that has cores ends
 unfoldable pub ticksIn : Numbers → Stand → ℕ
@@ -87,6 +95,7 @@ leapt n s = record {
   bell = bellAfter n s;
   chosen = after n s .claiming;
   granted = grantedIn n s;
+  even = evenAfter n s;
 }
 
 -- WHAT IS PROMISED

@@ -14,13 +14,13 @@ use Rattle.model.specs.Book.{Job, full, Missed}
 use Rattle.table.specs.declared.Loaded.{Loaded}
 use Rattle.full.specs.Places.{setOf}
 use Rattle.full.specs.Machine.{Machine, machineOf, started, Sized}
-use Rattle.full.specs.Standing.{TiedAt}
-use Rattle.full.specs.Stand.{numbersIn, choice}
+use Rattle.full.specs.Standing.{TiedAt, Turns}
+use Rattle.full.specs.Stand.{pairedIn, numbersIn, choice}
 use Rattle.judge.specs.Judged.{tableIn}
 use Rattle.leap.specs.declared.stand.Pace.{Pace}
 
 -- the machine; the set of the places whose moment this tick is; the bell, the earliest moment of all; the claimants that the choice is kept for, and
--- who is granted cores by it
+-- who is granted cores by it; of the places with two widths, those that are at their second
 pub record Stand : Type 0 where
   pub tick : ℕ
   pub machine : Machine
@@ -28,6 +28,7 @@ pub record Stand : Type 0 where
   pub bell : ℕ
   pub chosen : ℕ
   pub granted : ℕ
+  pub even : ℕ
 
 -- .. as code has it: a pace, and the numbers of the places in one list
 abbrev pub standAt : Pace → List ℕ → Stand
@@ -38,6 +39,7 @@ standAt p places = record {
   bell = p .bell;
   chosen = p .chosen;
   granted = p .granted;
+  even = p .even;
 }
 
 -- the set of those of the first n places whose moment is t
@@ -49,7 +51,7 @@ unfoldable pub soonest : ℕ → List ℕ → ℕ
 soonest zero moments = getD moments 0 0
 soonest (suc n) moments = min (soonest n moments) (getD moments n 0)
 
--- before tick 0: nobody claims or is granted cores, and each task waits for its first release
+-- before tick 0: nobody claims or is granted cores, and each task waits for its first release, which turns it to its first width
 abbrev pub begun : Loaded → Stand
 begun t = record {
   tick = 0;
@@ -58,6 +60,7 @@ begun t = record {
   bell = soonest (t .count) (map (λ x. x .offset) (t .tasks));
   chosen = 0;
   granted = 0;
+  even = pairedIn (t .tasks);
 }
 
 -- WHAT THE NUMBERS SAY. `seen` is the tick where its due moments have not been looked at yet, and one more where they have
@@ -99,5 +102,6 @@ pub record Stands (t : Loaded) (s : Stand) : Type 0 where
   pub machines : Standing (tableIn t) (s .tick) (s .tick) (s .machine)
   pub dues : s .due ≡ dueAt (s .tick) (t .count) (s .machine .moment)
   pub rings : s .bell ≡ soonest (t .count) (s .machine .moment)
-  pub kept : s .granted ≡ choice (numbersIn t) (s .chosen)
+  pub turns : (p : ℕ) → p < length (tableIn t .tasks) → Turns (task (tableIn t) p) (getD (s .machine .next) p 0) (bit (s .even) p)
+  pub kept : s .granted ≡ choice (numbersIn t) (s .chosen) (s .even)
   pub met : MetBefore (tableIn t) (s .tick)

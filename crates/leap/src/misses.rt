@@ -12,7 +12,7 @@ pub fn first_miss(table: Loaded, end: u32) -> Missed
 {
     let columns = full::columns::columns_of(table);
     let setting = columns.setting;
-    let width = columns.width;
+    let widths = columns.widths;
     let times = columns.times;
     let machine = crate::stand::start(table);
     let mut pace = machine.pace;
@@ -29,6 +29,6 @@ pub fn first_miss(table: Loaded, end: u32) -> Missed
             }
             rest &= rest - 1;
         }
-        pace = crate::stand::leap(setting, &width, &times, pace, &mut places);
+        pace = crate::stand::leap(setting, &widths, &times, pace, &mut places);
     }
 }

@@ -35,12 +35,15 @@ gives ws xs = record { words = ws; says = answers.given (xs ++ replicate (mostTa
 abbrev refuses : List ℕ → ℕ → ℕ → Line
 refuses ws n p = record { words = ws; says = turnedDown n p }
 
--- a header with an empty fence, and a record's six words
+-- a header with an empty fence, and a record's seven words, with widths v and w and with both widths v
 abbrev header : ℕ → ℕ → ℕ → List ℕ
 header h m r = h ∷ m ∷ r ∷ 0 ∷ 0 ∷ []
 
+abbrev entry₂ : ℕ → ℕ → ℕ → ℕ → ℕ → ℕ → ℕ → List ℕ
+entry₂ n o v w c d p = n ∷ o ∷ v ∷ c ∷ d ∷ p ∷ w ∷ []
+
 abbrev entry : ℕ → ℕ → ℕ → ℕ → ℕ → ℕ → List ℕ
-entry n o v c d p = n ∷ o ∷ v ∷ c ∷ d ∷ p ∷ []
+entry n o v c d p = entry₂ n o v v c d p
 
 -- the tasks of A on five cores, of which 0 and 3 are fenced; A's and B's records in chain order under a rule; E; F
 abbrev fencedA : List ℕ
@@ -66,6 +69,11 @@ early = header 1 4 3 ++ entry 2 6 2 1 2 3 ++ entry 3 0 4 1 4 6 ++ entry 0 0 2 1 
 abbrev crowded : List ℕ
 crowded = header 1 1 1 ++ chained 7 1 (8 ∷ 27 ∷ 125 ∷ 7 ∷ 11 ∷ 13 ∷ []) ++ entry 0 1001 1 1 1 37
 
+-- two cores, rule 1: the first task takes one core in its odd jobs and both in its even ones, each of which is released where the one before it ends; the
+-- second has this length
+abbrev turning : ℕ → List ℕ
+turning c = header 1 2 1 ++ entry₂ 2 0 1 2 2 2 2 ++ entry 0 0 1 c 6 6
+
 abbrev pub lines : List Line
 lines =
     -- A, which is Full, with its records permuted and with a fence; A2 misses on the horizon; A3
@@ -80,6 +88,10 @@ lines =
     -- C = D, and one less than D; T = 1; a first job that is released late
     ∷ gives (header 1 2 1 ++ entry 0 0 1 2 2 3) (2 ∷ []) ∷ gives (header 1 2 1 ++ entry 0 0 1 1 2 3) (1 ∷ [])
     ∷ gives (header 1 1 1 ++ entry 0 0 1 1 1 1) (1 ∷ []) ∷ gives (header 1 1 1 ++ entry 0 3 1 1 1 2) (1 ∷ [])
+    -- two widths: the second task's longest job comes in the second half of P, which takes 2T; with one tick more it misses there
+    ∷ gives (turning 2) (2 ∷ 4 ∷ []) ∷ refuses (turning 3) 13 0
+    -- the even job waits for both cores, and alone it never waits
+    ∷ gives (header 1 2 2 ++ entry 2 0 1 2 4 4 ++ entry₂ 0 0 1 2 1 4 4) (2 ∷ 3 ∷ []) ∷ gives (header 1 2 2 ++ entry₂ 0 0 1 2 1 1 1) (1 ∷ [])
     -- 32 places, which have 32 figures
     ∷ gives (header 1 32 1 ++ chained 0 1 (replicate 32 1)) (replicate 32 1)
     -- 1, 2 before 13, 7 with its position, and 9 before 13

@@ -19,8 +19,7 @@ use Rattle.full.specs.Machine.{Machine}
 use Rattle.full.specs.Stand.{Numbers, numbersIn}
 use Rattle.full.specs.Standing.{Works, Rests}
 use Rattle.judge.specs.Judged.{tableIn, Fit}
-use Rattle.judge.proofs.Follows.{columns}
-use Rattle.judge.proofs.Ticks.{size, few}
+use Rattle.judge.proofs.Ticks.{size, few, columns}
 use Rattle.leap.specs.Stand.{Stand, StandsAt, Standing, Stands}
 use Rattle.leap.specs.Leap.{after, grantedIn, ticksIn, passed, leapt, Begins, Lands}
 use Rattle.leap.proofs.Lands.{seen, lands}

@@ -16,7 +16,7 @@ pub(crate) fn figures(table: Loaded) -> Figures
 {
     let columns = full::columns::columns_of(table);
     let setting = columns.setting;
-    let width = columns.width;
+    let widths = columns.widths;
     let times = columns.times;
     let machine = leap::stand::start(table);
     let mut pace = machine.pace;
@@ -26,7 +26,7 @@ pub(crate) fn figures(table: Loaded) -> Figures
         if crate::noting::any_left(pace.claiming & pace.due, &places) {
             return crate::refused(13, 0);
         }
-        pace = leap::stand::leap(setting, &width, &times, pace, &mut places);
+        pace = leap::stand::leap(setting, &widths, &times, pace, &mut places);
         let ended = pace.chosen & (pace.chosen ^ pace.claiming);
         crate::noting::note(ended, pace.tick, &times, &places, &mut longest);
     }

@@ -38,6 +38,7 @@ idles-decides greedy = (λ e. absurd (false≢true e), λ e. ap idles e)
 idles-decides limited = (λ e. absurd (false≢true e), λ e. ap idles e)
 idles-decides idling = (λ e. refl, λ e. refl)
 
+-- a job is odd if it is not an even one
 odd-decides : (e : Bool) → Decides (not e) (e ≡ false)
 odd-decides true = (λ q. absurd (false≢true q), λ q. absurd (true≢false q))
 odd-decides false = (λ q. refl, λ q. refl)

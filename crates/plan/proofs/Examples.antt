@@ -1,5 +1,5 @@
--- Plans computed from the definitions, of example A, which fits, and of example F, which misses at tick 1: each limit of 10, 11 and 12 from
--- both sides, and which comes first where two apply.
+-- Plans computed from the definitions, of example A, which fits, of example F, which misses at tick 1, and of tasks with two widths: each limit of
+-- 10, 11 and 12 from both sides, and which comes first where two apply.
 use mathlib.Core.Path.{_≡_, refl}
 use mathlib.Core.List.{List, [], _++_, _∷_, map}
 use Prim.Native.Nat.{ℕ}
@@ -57,7 +57,7 @@ refuses s ws a b n number = record { name = s; words = ws; a = a; b = b; lent = 
 
 -- F: one core, horizon 2, position 1 misses at tick 1
 abbrev wordsF : List ℕ
-wordsF = 1 ∷ 1 ∷ 1 ∷ 0 ∷ 0 ∷ 0 ∷ 0 ∷ 1 ∷ 2 ∷ 1 ∷ 2 ∷ []
+wordsF = 1 ∷ 1 ∷ 1 ∷ 0 ∷ 0 ∷ 0 ∷ 0 ∷ 1 ∷ 2 ∷ 1 ∷ 2 ∷ 1 ∷ []
 
 -- the tasks of A on five cores, of which 0 and 3 are fenced, and of F on 34 cores, of which all but the last are
 abbrev fencedA : List ℕ
@@ -65,6 +65,13 @@ fencedA = 3 ∷ 5 ∷ 1 ∷ 9 ∷ 0 ∷ drop 5 wordsA
 
 abbrev fencedF : List ℕ
 fencedF = 1 ∷ 34 ∷ 1 ∷ 4294967295 ∷ 1 ∷ drop 5 wordsF
+
+-- two cores, horizon 2: one task of widths 1 and 2, released in every tick; and behind one of width 1, where position 2 misses at tick 2
+abbrev pairs : List ℕ
+pairs = 1 ∷ 2 ∷ 1 ∷ 0 ∷ 0 ∷ 0 ∷ 0 ∷ 1 ∷ 1 ∷ 1 ∷ 1 ∷ 2 ∷ []
+
+abbrev behind : List ℕ
+behind = 1 ∷ 2 ∷ 1 ∷ 0 ∷ 0 ∷ 2 ∷ 0 ∷ 1 ∷ 1 ∷ 1 ∷ 1 ∷ 1 ∷ 0 ∷ 0 ∷ 1 ∷ 1 ∷ 1 ∷ 1 ∷ 2 ∷ []
 
 abbrev pub lines : List Line
 lines =
@@ -92,6 +99,10 @@ lines =
     ∷ refuses "b one above the horizon, with a fence" fencedA 4 6 10 10
     ∷ writes "core 32 is fenced by the second word, and core 33 works" fencedF 0 1 35 (replicate 33 255 ++ 1 ∷ 9 ∷ [])
     ∷ refuses "12 on that table" fencedF 0 2 68 12
+    ∷ writes "the same task claims in both ticks, with the other width" pairs 0 2 4 (1 ∷ 0 ∷ 1 ∷ 1 ∷ [])
+    ∷ writes "the second row alone" pairs 1 2 2 (1 ∷ 1 ∷ [])
+    ∷ refuses "b one above a horizon with 2T" pairs 0 3 6 10
+    ∷ writes "the second width does not fit: b = the tick of that miss" behind 0 2 4 (1 ∷ 2 ∷ 1 ∷ 0 ∷ [])
     ∷ []
 
 -- every line is what the definitions say, line by line
@@ -100,7 +111,7 @@ unfolding plannedOf byPlan rowsFrom answerOf byWalk byTasks byHorizon firstOut e
     S hyperperiod lcm least any kept memb upFrom owner row given left grants claimants claims served work step full
 computed =
     let past-12 : LineByLine worked (drop 12 lines) (drop 12 lines) =
-    (refl, (refl, (refl, (refl, (refl, (refl, (refl, (refl, (refl, (refl, (refl, (refl, tt)))))))))))) in
+    (refl, (refl, (refl, (refl, (refl, (refl, (refl, (refl, (refl, (refl, (refl, (refl, (refl, (refl, (refl, (refl, tt)))))))))))))))) in
     (refl, (refl, (refl, (refl, (refl, (refl, (refl, (refl, (refl, (refl, (refl, (refl, past-12))))))))))))
 
 -- .. and as one list

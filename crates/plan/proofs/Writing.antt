@@ -1,36 +1,56 @@
--- The writing tick by tick: the row that the claimants of a tick give, and the buffer.
+-- The writing tick by tick: the row that the claimants of a tick give with their widths in it, and the buffer.
 use native.Mathlib.Omega.{arith}
 use native.Mathlib.Nat.{mul-le-mul-right, le-trans, suc-mul}
 use native.Mathlib.Numerals.{add-one}
 use mathlib.Core.Path.{_≡_, refl, sym, ap, _∙_}
-use mathlib.Core.List.{List, _++_, map}
+use mathlib.Core.Bool.{Bool, true, false, not, _||_, true≢false}
+use mathlib.Core.List.{List, _++_}
 use Prim.Native.Nat.{ℕ, suc, _+_, _-_, _*_, _≤_, _<_}
+use lib.Dec.{eqb}
 use lib.ListN.{length, take, replicate}
-use lib.Seq.{paste, take-at, take-take}
+use lib.Seq.{paste, take-at}
+use borrow.Author.Tests.{eqb-true}
 use Rattle.model.proofs.Rows.{row-length}
 use Rattle.model.specs.Fence.{unfenced}
 use Rattle.model.specs.Search.{bit}
 use Rattle.model.specs.Task.{Table, ruleOf}
 use Rattle.model.specs.Grants.{claimants, grants}
 use Rattle.model.specs.Row.{row}
-use Rattle.model.specs.Book.{rowOf, full, widths}
+use Rattle.model.specs.Book.{rowOf, full}
 use Rattle.model.specs.Sizes.{mostCores}
 use Rattle.table.specs.declared.Loaded.{Loaded}
+use Rattle.rule.specs.Widths.{widthsIn}
 use Rattle.full.specs.Machine.{Machine}
+use Rattle.full.specs.Stand.{numbersIn}
 use Rattle.full.proofs.Alike.{row-alike}
 use Rattle.judge.specs.Judged.{tableIn, Fit}
-use Rattle.judge.proofs.Ticks.{size, same-widths, After}
+use Rattle.judge.proofs.Ticks.{After, front-agree}
 use Rattle.plan.specs.Plan.{over}
 use Rattle.plan.proofs.Buffer.{over-none, over-more, with-length}
 
--- the bytes of a tick in which the places of the set c claim, by a column of widths
-abbrev pub RowBy : Loaded → List ℕ → ℕ → List ℕ → Type 0
-RowBy t v c bytes =
-    bytes ≡ row (t .fence) (t .cores) (grants (ruleOf (t .rule)) (claimants (take (t .count) v) (bit c)) (unfenced (t .fence) (t .cores))) ++ replicate (mostCores - t .cores) 0
+-- the widths of the table's tasks in a tick, by both widths of each place, where those of the set e are at their second
+abbrev widthsBy : Loaded → List ℕ → ℕ → List ℕ
+widthsBy t v e = take (t .count) (widthsIn e v)
+
+-- the bytes of a tick in which the places of the set c claim, those of the set e with their second width
+abbrev pub RowBy : Loaded → List ℕ → ℕ → ℕ → List ℕ → Type 0
+RowBy t v c e bytes =
+    bytes
+    ≡ row (t .fence) (t .cores) (grants (ruleOf (t .rule)) (claimants (widthsBy t v e) (bit c)) (unfenced (t .fence) (t .cores)))
+    ++ replicate (mostCores - t .cores) 0
 
 -- by the table's widths
-abbrev pub RowFor : Loaded → ℕ → List ℕ → Type 0
-RowFor t c bytes = RowBy t (map (λ x. x .width) (t .tasks)) c bytes
+abbrev pub RowFor : Loaded → ℕ → ℕ → List ℕ → Type 0
+RowFor t c e bytes = RowBy t (numbersIn t .widths) c e bytes
+
+-- where neither of two numbers has changed
+pub none-changed : (a b c d : ℕ) → not (eqb a b) || not (eqb c d) ≡ false → (a ≡ b) × (c ≡ d)
+none-changed a b c d e = go (eqb a b) refl (eqb c d) refl e
+  where
+    go : (x : Bool) → eqb a b ≡ x → (y : Bool) → eqb c d ≡ y → not x || not y ≡ false → (a ≡ b) × (c ≡ d)
+    go true p true q h = (eqb-true a b p, eqb-true c d q)
+    go true p false q h = absurd (true≢false h)
+    go false p y q h = absurd (true≢false h)
 
 -- the buffer before a tick: the rows from a on, and after them as found
 pub record Filled (t : Loaded) (a tick at : ℕ) (old out : List ℕ) : Type 0 where
@@ -93,17 +113,17 @@ module _ (t : Loaded) (fit : Fit t) where
   abbrev s : Table
   s = tableIn t
 
-  -- the row that the claimants give is the book's
+  -- the row that the claimants give with their widths is the book's
   pub row-bytes :
-      (m : Machine) (bell tick : ℕ) (bytes : List ℕ) → After t m bell tick → RowFor t (m .claiming) bytes
+      (m : Machine) (even bell tick : ℕ) (bytes : List ℕ) → After t m even bell tick → RowFor t (m .claiming) even bytes
       → take (t .cores) bytes ≡ rowOf s (full s tick)
-  row-bytes m bell tick bytes a e =
+  row-bytes m even bell tick bytes a e =
       ap (take (t .cores)) e
       ∙ (take-at (row (t .fence) (t .cores) given) (replicate (mostCores - t .cores) 0) (t .cores) (row-length (t .fence) (t .cores) given)
-      ∙ row-alike s (fit .sound) tick m (a .ready) (take (t .count) (map (λ x. x .width) (t .tasks))) same)
+      ∙ row-alike s (fit .sound) tick m (a .ready) widths (front-agree t fit m even bell tick a))
     where
-      given : List (List ℕ)
-      given = grants (ruleOf (t .rule)) (claimants (take (t .count) (map (λ x. x .width) (t .tasks))) (bit (m .claiming))) (unfenced (t .fence) (t .cores))
+      widths : List ℕ
+      widths = widthsBy t (numbersIn t .widths) even
 
-      same : take (length (s .tasks)) (take (t .count) (map (λ x. x .width) (t .tasks))) ≡ widths s
-      same = take-take (length (s .tasks)) (t .count) (map (λ x. x .width) (t .tasks)) (omega (arith, size t fit)) ∙ same-widths t fit
+      given : List (List ℕ)
+      given = grants (ruleOf (t .rule)) (claimants widths (bit (m .claiming))) (unfenced (t .fence) (t .cores))

@@ -32,30 +32,41 @@ pub(crate) fn write(table: Loaded, a: u32, b: u32, out: &mut [u8])
     let cores = table.cores as usize;
     let columns = full::columns::columns_of(table);
     let setting = columns.setting;
-    let width = columns.width;
+    let widths = columns.widths;
     let times = columns.times;
-    let idle = rule::show(table.rule, table.cores, table.fence, 0, &width, table.count);
+    let idle = rule::show(
+        table.rule,
+        table.cores,
+        table.fence,
+        0,
+        0,
+        &widths,
+        table.count,
+    );
     let machine = full::machine::start(table);
     let mut pace = machine.pace;
     let mut places = machine.places;
     let mut shown: u32 = 0;
+    let mut even: u32 = 0;
     let mut row = idle;
     let mut at: usize = 0;
     while pace.tick < b {
         let tick = pace.tick;
-        pace = full::step(setting, &width, &times, pace, &mut places);
+        pace = full::step(setting, &widths, &times, pace, &mut places);
         if a <= tick {
-            if pace.chosen != shown {
+            if (pace.chosen != shown) | (pace.even != even) {
                 let fresh = rule::show(
                     table.rule,
                     table.cores,
                     table.fence,
                     pace.chosen,
-                    &width,
+                    pace.even,
+                    &widths,
                     table.count,
                 );
                 row = fresh;
                 shown = pace.chosen;
+                even = pace.even;
             }
             put(row, cores, at, out);
             at += cores;

@@ -1,7 +1,7 @@
 -- A printer as it is made: all that is printed for the words, and so for the bytes, is still to be handed out.
 use native.Mathlib.Omega.{arith}
 use mathlib.Core.Path.{_≡_, refl, sym, ap, ap₂, _∙_, subst, subst⁻¹}
-use mathlib.Core.List.{List, [], _++_, append-nil, map}
+use mathlib.Core.List.{List, [], _++_, append-nil}
 use mathlib.Core.Bool.{true, false}
 use mathlib.Core.Logic.{inl, inr, ⊎-elim}
 use native.Mathlib.Nat.{eq-zero-or-pos}
@@ -29,12 +29,13 @@ use Rattle.table.specs.Words.{cores, fence, tableOf}
 use Rattle.table.specs.Answer.{answerOf, headerNumber}
 use Rattle.table.specs.Load.{loadTold, LoadOf, refusal}
 use Rattle.table.proofs.Exact.{refusal-exact, passed-exact}
-use Rattle.table.specs.Limits.{taskOut}
+use Rattle.table.specs.Limits.{From, OneOut, taskOut}
 use Rattle.table.specs.Task.{taskOf, noTask}
 use Rattle.table.proofs.Inside.{Inside}
 use Rattle.table.proofs.Passed.{passed-cores, passed-inside}
 use Rattle.table.proofs.Places.{task-at}
 use Rattle.table.proofs.Tests.{task-decides}
+use Rattle.rule.specs.Widths.{widthsIn}
 use Rattle.full.specs.declared.machine.Pace.{Pace}
 use Rattle.full.specs.Places.{part}
 use Rattle.full.specs.Stand.{numbersIn, Stand, standAt, begun}
@@ -69,8 +70,9 @@ none-within b = eq-eqb (bitAnd 0 b) 0 (and-zero-l b)
 -- the first line is written, and the run stands before tick 0
 module _
     (t : Loaded) (e : ℕ) (v : Verdict) (pace : Pace) (places : List ℕ) (m : standAt pace places ≡ begun t) (widths : List ℕ)
-    (w : widths ≡ map (λ x. x .width) (t .tasks)) (row line : List ℕ) (size ready : ℕ)
-    (p : (Put (replicate longestCells 0) 0 (cells (t .rule) (t .cores) (t .fence) (take (t .count) widths) 0) row size) × (size ≤ longestCells))
+    (w : widths ≡ numbersIn t .widths) (row line : List ℕ) (size ready : ℕ)
+    (p : (Put (replicate longestCells 0) 0 (cells (t .rule) (t .cores) (t .fence) (take (t .count) (widthsIn (pace .even) widths)) 0) row size)
+    × (size ≤ longestCells))
     (q : (Put (replicate longestLine 0) 0 (firstLine (saidBy v)) line ready) × (ready ≤ longestLine))
   where
     abbrev first : Printer
@@ -84,8 +86,10 @@ module _
       given = 0;
     }
 
-    kept : textKept first ≡ textOf (numbersIn t) 0
-    kept = put-front (p .0) ∙ ap (λ (x : List ℕ). cells (t .rule) (t .cores) (t .fence) (take (t .count) x) 0) w
+    kept : textKept first ≡ textOf (numbersIn t) 0 (begun t .even)
+    kept =
+        put-front (p .0)
+        ∙ ap₂ (λ (x : List ℕ) (y : ℕ). cells (t .rule) (t .cores) (t .fence) (take (t .count) (widthsIn y x)) 0) w (ap (λ (s : Stand). s .even) m)
 
     rows :
         (0 < e → Fit t × (e ≤ t .horizon) × ((q u : ℕ) → u < e → ¬ Missed (tableIn t) q u))
@@ -140,12 +144,16 @@ load-small ws r l = go (r .answer) refl
         let z : r ≡ refusal n p = l .zeros n p (ap loadTold e) in
         (omega (arith, ap (λ (x : Loaded). x .cores) z), omega (arith, ap (λ (x : Loaded). x .count) z))
 
+-- a width that is within its limits
+one-in : (m v : ℕ) → From 1 m v → ¬ OneOut m v
+one-in m v f w = ⊎-elim (λ x. omega (arith, f .0)) (λ x. omega (arith, f .1)) w
+
 -- a task that is within its limits is not turned down
 inside-in : (m : ℕ) (τ : plain.Task) → Inside m τ → taskOut m τ ≡ false
 inside-in m τ i =
     not-true-false (taskOut m τ) (λ e.
     ⊎-elim
-    (λ w. ⊎-elim (λ x. omega (arith, i .width-from .0)) (λ x. omega (arith, i .width-from .1)) w)
+    (λ w. ⊎-elim (one-in m (τ .oddWidth) (i .odd-from)) (one-in m (τ .evenWidth) (i .even-from)) w)
     (λ w. ⊎-elim (λ x. omega (arith, i .offset-most)) (λ w. ⊎-elim (λ x. x (i .length-from)) (λ w. ⊎-elim (λ x. x (i .period-from)) (λ x. x (i .deadline-from)) w) w) w)
     (task-decides m τ .0 e))
 

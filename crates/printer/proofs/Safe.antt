@@ -19,8 +19,10 @@ use Rattle.model.specs.Sizes.{mostTasks}
 use Rattle.full.specs.Machine.{Machine, released, releasedDue, Owed, finishes, worked, Sized}
 use Rattle.full.proofs.Moves.{released-sized, released-own, released-other, released-past, worked-sized, worked-left, worked-claims, worked-past}
 use Rattle.full.proofs.Sets.{set-has, set-past, set-lt}
+use Rattle.full.proofs.Steps.{unchanged-claims}
 use Rattle.rule.specs.Shares.{granted}
-use Rattle.full.specs.Stand.{Numbers, Stand, after, unchanged, choice, grantedIn, next, Steppable}
+use Rattle.rule.specs.Widths.{widthsIn}
+use Rattle.full.specs.Stand.{Numbers, Stand, after, evenAfter, unchanged, choice, grantedIn, next, Steppable}
 use Rattle.printer.specs.Sound.{within, owed, Safe}
 use Rattle.table.specs.Limits.{mostHorizon}
 
@@ -117,17 +119,17 @@ worked-owed g m z h p e = go (leb mostTasks p) refl
 -- A STEP
 
 -- who is chosen is among the claimants
-choice-claims : (n : Numbers) (c p : ℕ) → bit (choice n c) p ≡ true → bit c p ≡ true
-choice-claims n c p e = go (leb mostTasks p) refl
+choice-claims : (n : Numbers) (c v p : ℕ) → bit (choice n c v) p ≡ true → bit c p ≡ true
+choice-claims n c v p e = go (leb mostTasks p) refl
   where
     f : ℕ → Bool
-    f = granted (ruleOf (n .rule)) (claimants (n .widths) (bit c)) (unfenced (n .fence) (n .cores))
+    f = granted (ruleOf (n .rule)) (claimants (widthsIn v (n .widths)) (bit c)) (unfenced (n .fence) (n .cores))
 
     go : (x : Bool) → leb mostTasks p ≡ x → bit c p ≡ true
     go true q = absurd (true≢false (sym e ∙ set-past mostTasks f p (leb-true mostTasks p q)))
     go false q =
         not-false-true (bit c p)
-        (λ z. absurd (false≢true (sym (ap some (grants-none (ruleOf (n .rule)) (n .widths) (bit c) (unfenced (n .fence) (n .cores)) p z))
+        (λ z. absurd (false≢true (sym (ap some (grants-none (ruleOf (n .rule)) (widthsIn v (n .widths)) (bit c) (unfenced (n .fence) (n .cores)) p z))
         ∙ (sym (set-has mostTasks f p (leb-false mostTasks p q)) ∙ e))))
 
 module _ (n : Numbers) (s : Stand) (h : Safe n s) where
@@ -149,12 +151,13 @@ module _ (n : Numbers) (s : Stand) (h : Safe n s) where
   unfolding grantedIn
   granted-kept = go (unchanged n s) refl
     where
-      go : (b : Bool) → unchanged n s ≡ b → within (cond b (s .granted) (choice n (after n s .claiming))) (after n s .claiming) ≡ true
-      go true e = subst (λ (c : ℕ). within (s .granted) c ≡ true) (sym (eqb-true (after n s .claiming) (s .chosen) e)) (h .kept)
+      go : (b : Bool) → unchanged n s ≡ b → within (cond b (s .granted) (choice n (after n s .claiming) (evenAfter n s))) (after n s .claiming) ≡ true
+      go true e = subst (λ (c : ℕ). within (s .granted) c ≡ true) (sym (unchanged-claims n s e)) (h .kept)
       go false e =
-          within-of (choice n (after n s .claiming)) (after n s .claiming)
-          (set-lt mostTasks (granted (ruleOf (n .rule)) (claimants (n .widths) (bit (after n s .claiming))) (unfenced (n .fence) (n .cores))))
-          (choice-claims n (after n s .claiming))
+          within-of (choice n (after n s .claiming) (evenAfter n s)) (after n s .claiming)
+          (set-lt mostTasks
+          (granted (ruleOf (n .rule)) (claimants (widthsIn (evenAfter n s) (n .widths)) (bit (after n s .claiming))) (unfenced (n .fence) (n .cores))))
+          (choice-claims n (after n s .claiming) (evenAfter n s))
 
   -- and so is owed ticks
   pub granted-owed : Owed (bit (grantedIn n s)) (after n s)

@@ -1,13 +1,13 @@
 -- One tick as the printer takes it is the step of the definitions: the text kept or made anew, and the line of the tick.
-use mathlib.Core.Path.{_≡_, sym, ap, _∙_, subst}
-use mathlib.Core.Bool.{Bool, true, false, cond}
+use mathlib.Core.Path.{_≡_, sym, ap, ap₂, _∙_, subst}
+use mathlib.Core.Bool.{Bool, true, false, not, _||_, cond}
 use mathlib.Core.List.{List, _++_}
 use Prim.Native.Nat.{ℕ, _≤_}
 use native.Mathlib.Omega.{arith}
 use lib.Dec.{eqb}
 use lib.ListN.{length, take}
-use borrow.Author.Tests.{eq-eqb, ne-eqb}
-use Rattle.full.specs.Stand.{Numbers, Stand, after, unchanged}
+use Rattle.full.specs.Stand.{Numbers, Stand, after, evenAfter}
+use Rattle.full.proofs.Steps.{unchanged-by}
 use Rattle.text.specs.Decimal.{decimal}
 use Rattle.text.specs.Written.{Put}
 use Rattle.text.proofs.Writing.{put-length, put-front}
@@ -18,25 +18,32 @@ use Rattle.printer.specs.Rows.{textOf, textIn, lineIn}
 abbrev pub Text : Numbers → Stand → List ℕ → ℕ → List ℕ → Type 0
 Text n s kept text row = (take text row ≡ textIn n s kept) × (text ≤ longestCells) × (length row ≡ longestCells)
 
-module _ (n : Numbers) (s : Stand) (kept : List ℕ) where
-  text-by : (b : Bool) → unchanged n s ≡ b → cond b kept (textOf n (after n s .claiming)) ≡ textIn n s kept
+module _ (n : Numbers) (s : Stand) (kept : List ℕ) (c e : ℕ) (claims : c ≡ after n s .claiming) (turned : e ≡ evenAfter n s) where
+  -- other claimants than those of the text that is kept, or other widths
+  abbrev changed : Bool
+  changed = not (eqb c (s .chosen)) || not (eqb e (s .even))
+
+  text-by : (b : Bool) → changed ≡ b → cond (not b) kept (textOf n c e) ≡ textIn n s kept
   unfolding textIn
-  text-by b e = ap (λ (x : Bool). cond x kept (textOf n (after n s .claiming))) (sym e)
+  text-by b h =
+      ap₂ (λ (x y : ℕ). cond (not b) kept (textOf n x y)) claims turned
+      ∙ ap (λ (x : Bool). cond x kept (textOf n (after n s .claiming) (evenAfter n s))) (sym (unchanged-by n s c e b claims turned h))
 
   -- the text is kept
-  pub text-kept : (c : ℕ) → c ≡ after n s .claiming → c ≡ s .chosen → kept ≡ textIn n s kept
-  text-kept c x h = text-by true (eq-eqb (after n s .claiming) (s .chosen) (sym x ∙ h))
+  pub text-kept : changed ≡ false → kept ≡ textIn n s kept
+  text-kept h = text-by false h
 
   -- or made anew
   pub text-put :
-      (c text : ℕ) (row row′ : List ℕ) → c ≡ after n s .claiming → (c ≡ s .chosen → ⊥) → length row ≡ longestCells
-      → (Put row 0 (textOf n c) row′ text) × (text ≤ longestCells) → Text n s kept text row′
-  text-put c text row row′ x ne wide q = (
-    put-front (q .0) ∙ (ap (textOf n) x ∙ text-by false (ne-eqb (after n s .claiming) (s .chosen) (λ h. ne (x ∙ h)))),
+      (text : ℕ) (row row′ : List ℕ) → changed ≡ true → length row ≡ longestCells → (Put row 0 (textOf n c e) row′ text) × (text ≤ longestCells)
+      → Text n s kept text row′
+  text-put text row row′ h wide q = (
+    put-front (q .0) ∙ text-by true h,
     q .1,
     put-length (q .0) (omega (arith, wide, q .1)) ∙ wide,
   )
 
+module _ (n : Numbers) (s : Stand) (kept : List ℕ) where
   -- the line of the tick
   pub line-put :
       (text ready : ℕ) (row old new : List ℕ) → take text row ≡ textIn n s kept → Put old 0 (decimal (s .tick) ++ take text row) new ready

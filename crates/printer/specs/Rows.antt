@@ -1,20 +1,21 @@
--- The rows that a run still gives, said for every run, whoever made it: the steps of crate `full`, with the text that is kept while the claimants are
--- unchanged. That a run which follows a table gives the rows of the book is proved: `rows-follow` in proofs/Follows.antt.
+-- The rows that a run still gives, said for every run, whoever made it: the steps of crate `full`, with the text that is kept while the claimants and
+-- their widths are unchanged. That a run which follows a table gives the rows of the book is proved: `rows-follow` in proofs/Follows.antt.
 use mathlib.Core.Bool.{cond}
 use mathlib.Core.List.{List, [], _++_}
 use Prim.Native.Nat.{ℕ, zero, suc}
 use lib.ListN.{take}
-use Rattle.full.specs.Stand.{Numbers, Stand, after, unchanged, next}
+use Rattle.full.specs.Stand.{Numbers, Stand, after, evenAfter, unchanged, next}
+use Rattle.rule.specs.Widths.{widthsIn}
 use Rattle.text.specs.Decimal.{decimal}
 use Rattle.printer.specs.Cells.{cells}
 
--- the text of the row where the claimants of the set c claim
-abbrev pub textOf : Numbers → ℕ → List ℕ
-textOf n c = cells (n .rule) (n .cores) (n .fence) (take (n .count) (n .widths)) c
+-- the text of the row where the places of the set c claim, those of the set e with their second width
+abbrev pub textOf : Numbers → ℕ → ℕ → List ℕ
+textOf n c e = cells (n .rule) (n .cores) (n .fence) (take (n .count) (widthsIn e (n .widths))) c
 
 -- the text of the row of a tick: the one that is kept, x, or made anew
 unfoldable pub textIn : Numbers → Stand → List ℕ → List ℕ
-textIn n s x = cond (unchanged n s) x (textOf n (after n s .claiming))
+textIn n s x = cond (unchanged n s) x (textOf n (after n s .claiming) (evenAfter n s))
 
 -- the line of the tick
 unfoldable pub lineIn : Numbers → Stand → List ℕ → List ℕ

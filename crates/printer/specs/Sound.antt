@@ -1,6 +1,7 @@
 -- When a printer is sound: its numbers are in the limits within which it can be stepped. `Printer::new` gives sound ones, a piece leaves a sound one
--- sound, and one that is not, forged by its caller, has nothing to hand out. The bell, the moments, the next
--- releases, the texts and the rule are not asked for, and the fence only where 7 measures a width: whatever they are, they say which rows there are. The table's answer, S, P and horizon are not read.
+-- sound, and one that is not, forged by its caller, has nothing to hand out. The bell, the moments, the next releases, who is at its second width, the
+-- texts and the rule are not asked for, and the fence only where 7 measures a width: whatever they are, they say which rows there are. The table's answer,
+-- S, P and horizon are not read.
 use mathlib.Core.Bool.{Bool, true, not, _&&_}
 use mathlib.Core.List.{List}
 use mathlib.Core.Path.{_≡_}

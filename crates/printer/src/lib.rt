@@ -15,7 +15,7 @@ use full::TRIPLE;
 use full::columns::Setting;
 use full::machine::Pace;
 use judge::Verdict;
-use model::MOST_TASKS;
+use rule::PAIR;
 use table::Loaded;
 use text::first;
 use text::row;
@@ -50,27 +50,28 @@ pub struct Piece {
 // Writes the line of a tick, and takes the run one tick on.
 fn next_line(
     setting: Setting,
-    width: &[u32; MOST_TASKS],
+    widths: &[u32; PAIR],
     times: &[u32; TRIPLE],
     stage: Stage,
     places: &mut [u32; TRIPLE],
     text: &mut [u8; CELLS],
     line: &mut [u8; LINE],
 ) -> Stage
-    requires { ⌜ Stepping (numbersBy setting (now width) (now times)) stage (now places) (now text) (now line) ⌝ }
-    ensures { λ r. ⌜ Stepped (numbersBy setting (now (width .entry)) (now (times .entry))) (standAt (stage .pace) (now (places .entry)))
+    requires { ⌜ Stepping (numbersBy setting (now widths) (now times)) stage (now places) (now text) (now line) ⌝ }
+    ensures { λ r. ⌜ Stepped (numbersBy setting (now (widths .entry)) (now (times .entry))) (standAt (stage .pace) (now (places .entry)))
         (take (stage .text) (now (text .entry))) (now (line .entry)) r (now (places .exit)) (now (text .exit)) (now (line .exit)) ⌝ }
 {
     let pace = stage.pace;
-    let next = full::step(setting, width, times, pace, places);
+    let next = full::step(setting, widths, times, pace, places);
     let mut size = stage.text;
-    if next.chosen != pace.chosen {
+    if (next.chosen != pace.chosen) | (next.even != pace.even) {
         size = cells::put_cells(
             setting.rule,
             setting.cores,
             setting.fence,
             next.chosen,
-            width,
+            next.even,
+            widths,
             setting.count,
             text,
         );
@@ -89,22 +90,23 @@ fn start(table: Loaded, end: u32, verdict: Verdict) -> Printer
     ensures { λ r. ⌜ StartOf table end verdict r ⌝ }
 {
     let columns = full::columns::columns_of(table);
-    let width = columns.width;
+    let widths = columns.widths;
     let machine = full::machine::start(table);
     let places = machine.places;
+    let pace = machine.pace;
     let mut text = [0u8; CELLS];
     let size = cells::put_cells(
         table.rule,
         table.cores,
         table.fence,
         0,
-        &width,
+        pace.even,
+        &widths,
         table.count,
         &mut text,
     );
     let mut line = [0u8; LINE];
     let ready = first::put_first(&mut line, verdict);
-    let pace = machine.pace;
     let stage = Stage {
         pace: pace,
         text: size,
@@ -152,7 +154,7 @@ impl Printer {
         let end = self.end;
         let columns = full::columns::columns_of(table);
         let setting = columns.setting;
-        let width = columns.width;
+        let widths = columns.widths;
         let times = columns.times;
         let mut places = self.places;
         let mut stage = self.stage;
@@ -172,7 +174,7 @@ impl Printer {
             }
             stage = next_line(
                 setting,
-                &width,
+                &widths,
                 &times,
                 stage,
                 &mut places,

@@ -2,7 +2,7 @@
 use mathlib.Core.Path.{_≡_, refl}
 use mathlib.Core.List.{List, [], _∷_, _++_, map}
 use Prim.Native.Nat.{ℕ, _^_}
-use lib.ListN.{replicate, take}
+use lib.ListN.{replicate}
 use Rattle.model.specs.Search.{bit, kept, memb, upFrom}
 use Rattle.model.specs.Task.{greedy, limited}
 use Rattle.model.specs.Grants.{claimants, given, left, grants}

@@ -31,7 +31,9 @@ module _ (even : ℕ) (ws : List ℕ) where
   front-at n p h k = getD-take n (widthsIn even ws) p 0 h ∙ widths-at p (omega arith)
 
 -- lists of as many widths as there are places, alike at each of them
-pub front-is : (even : ℕ) (ws vs : List ℕ) (n : ℕ) → n ≤ 32 → length vs ≡ n → ((p : ℕ) → p < n → widthIn even ws p ≡ getD vs p 0) → take n (widthsIn even ws) ≡ vs
+pub front-is :
+    (even : ℕ) (ws vs : List ℕ) (n : ℕ) → n ≤ 32 → length vs ≡ n → ((p : ℕ) → p < n → widthIn even ws p ≡ getD vs p 0)
+    → take n (widthsIn even ws) ≡ vs
 front-is even ws vs n h k e =
     let m = front-length even ws n h in
     ext-getD 0 (take n (widthsIn even ws)) vs (m ∙ sym k) (λ p l. front-at even ws n p (omega (arith, m)) h ∙ e p (omega (arith, m)))

@@ -58,14 +58,18 @@ module _ (r : Run) (e : ℕ) (c : Claims) (h : ClaimsOf r e c) where
   past q l = h .claimed q ∙ ap (λ (t : Bool). t && claiming (seenAt r e q)) (le-ltb q (r .count) l)
 
   -- the set that the choosing gives is that of the places with cores
-  pub has-cores : (p : ℕ) → granted (ruleIn r) (claimants (widthsIn (c .even) (c .widths)) (bit (c .claiming))) (unfenced (r .fence) (r .cores)) p ≡ hasCores r e p
+  pub has-cores :
+      (p : ℕ)
+      → granted (ruleIn r) (claimants (widthsIn (c .even) (c .widths)) (bit (c .claiming))) (unfenced (r .fence) (r .cores)) p ≡ hasCores r e p
   unfolding grantsIn
   has-cores p =
-      granted-front (ruleIn r) (r .count) (widthsIn (c .even) (c .widths)) (bit (c .claiming)) (λ q. claiming (seenAt r e q)) (unfenced (r .fence) (r .cores)) p below past
+      granted-front (ruleIn r) (r .count) (widthsIn (c .even) (c .widths)) (bit (c .claiming)) (λ q. claiming (seenAt r e q))
+      (unfenced (r .fence) (r .cores)) p below past
       ∙ ap (λ (ws : List ℕ). granted (ruleIn r) (claimants ws (λ q. claiming (seenAt r e q))) (unfenced (r .fence) (r .cores)) p) (h .width)
 
   -- the claimants below the count
-  pub same-claimants : claimants (take (r .count) (widthsIn (c .even) (c .widths))) (bit (c .claiming)) ≡ claimants (widthsNow r) (λ q. claiming (seenAt r e q))
+  pub same-claimants :
+      claimants (take (r .count) (widthsIn (c .even) (c .widths))) (bit (c .claiming)) ≡ claimants (widthsNow r) (λ q. claiming (seenAt r e q))
   same-claimants =
       ap (λ (ws : List ℕ). claimants ws (bit (c .claiming))) (h .width)
       ∙ claimants-same (widthsNow r) (bit (c .claiming)) (λ q. claiming (seenAt r e q))

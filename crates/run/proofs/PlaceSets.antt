@@ -1,22 +1,27 @@
--- Sets of places, bit by bit: one place added, a set that is gathered place after place, and the widths or the tasks beside it.
-use mathlib.Core.Path.{_≡_, refl, sym, ap, _∙_}
-use mathlib.Core.Bool.{Bool, true, false, _||_, _&&_, and-false, and-true}
+-- Sets of places, bit by bit: one place added, a set that is gathered place after place, and both widths or the tasks beside it.
+use mathlib.Core.Path.{_≡_, refl, sym, ap, subst, _∙_}
+use mathlib.Core.Bool.{Bool, true, false, _||_, _&&_, cond, and-false, and-true}
 use mathlib.Core.List.{List}
 use Prim.Native.Nat.{ℕ, _+_, _*_, _^_, _%_, _≤_, _<_}
 use native.Mathlib.Omega.{arith}
-use lib.ListN.{length, getD, take, set, length-map, length-take, List·getD-map}
+use lib.ListN.{length, getD, take, set, length-map, length-set, length-take, List·getD-map}
 use lib.Seq.{ext-getD, getD-take, getD-set-same, getD-set-other}
 use lib.Bits.{bitOr}
 use lib.Dec.{eqb, ltb}
 use borrow.Author.Tests.{lt-ltb, le-ltb, eqb-true, eqb-false, ltb-true, ltb-false}
 use Rattle.model.proofs.Digits.{or-bit, bit-none, bit-power, shifted-one}
+use Rattle.model.proofs.Lists.{map-at}
 use Rattle.model.specs.Search.{bit}
+use Rattle.model.specs.Sizes.{mostTasks}
+use Rattle.rule.specs.Widths.{pair, widthIn, widthsIn}
+use Rattle.rule.proofs.Widths.{front-is}
 use Rattle.run.specs.declared.Run.{Run}
 use Rattle.model.specs.Task as model
 use Rattle.table.specs.declared.Task.{Task}
 use Rattle.table.specs.Task as table
-use Rattle.phase.specs.Task.{taskOf, pastEnd}
-use Rattle.run.specs.Run.{taskAt, tasksIn, widthsIn}
+use Rattle.phase.specs.declared.Task as phase
+use Rattle.phase.specs.Task.{taskOf, pastEnd, widthNow}
+use Rattle.run.specs.Run.{placeAt, taskAt, evenAt, tasksIn, widthsNow}
 
 -- a place added
 pub with-place : (s q : ℕ) → q < 32 → (p : ℕ) → bit (bitOr s ((1 * 2 ^ q) % 2 ^ 32)) p ≡ bit s p || eqb p q
@@ -55,30 +60,61 @@ one-more f i p = go (eqb p i) refl (ltb p i) refl
 pub gathered-more : (f : ℕ → Bool) (i x y : ℕ) (b : Bool) → Gathered f i x → b ≡ f i → ((p : ℕ) → bit y p ≡ bit x p || (b && eqb p i)) → Gathered f (i + 1) y
 gathered-more f i x y b g e w p = w p ∙ rw (g p, e) (one-more f i p)
 
--- ---- widths, stored place after place
+-- ---- both widths, stored place after place: the first at the place, the second at as many places further on as there are
 
-pub stored-more : (ws : List ℕ) (w : ℕ → ℕ) (i : ℕ) → i < length ws → ((p : ℕ) → p < i → getD ws p 0 ≡ w p) → (p : ℕ) → p < i + 1 → getD (set ws i (w i)) p 0 ≡ w p
-stored-more ws w i h g p l = go (eqb p i) refl
+abbrev pub Stored : Run → ℕ → List ℕ → Type 0
+Stored r i ws = (p : ℕ) → p < i → (getD ws p 0 ≡ placeAt r p .width) × (getD ws (mostTasks + p) 0 ≡ placeAt r p .second)
+
+pub stored-more :
+    (r : Run) (ws : List ℕ) (i : ℕ) → length ws ≡ pair → i < mostTasks → Stored r i ws
+    → Stored r (i + 1) (set (set ws i (placeAt r i .width)) (mostTasks + i) (placeAt r i .second))
+stored-more r ws i long h g p l = go (eqb p i) refl
   where
-    go : (t : Bool) → eqb p i ≡ t → getD (set ws i (w i)) p 0 ≡ w p
+    v : ℕ
+    v = placeAt r i .width
+
+    w : ℕ
+    w = placeAt r i .second
+
+    one : List ℕ
+    one = set ws i v
+
+    go : (t : Bool) → eqb p i ≡ t → (getD (set one (32 + i) w) p 0 ≡ placeAt r p .width) × (getD (set one (32 + i) w) (32 + p) 0 ≡ placeAt r p .second)
     go true e =
         let q : p ≡ i = eqb-true p i e in
-        rw q (getD-set-same ws i (w i) 0 h)
+        subst (λ (k : ℕ). (getD (set one (32 + i) w) k 0 ≡ placeAt r k .width) × (getD (set one (32 + i) w) (32 + k) 0 ≡ placeAt r k .second)) (sym q) (
+          getD-set-other one (32 + i) i w 0 (λ (n : i ≡ 32 + i). omega arith) ∙ getD-set-same ws i v 0 (omega arith),
+          getD-set-same one (32 + i) w 0 (omega (arith, length-set ws i v)),
+        )
     go false e =
         let n : (p ≡ i → ⊥) = eqb-false p i e in
-        getD-set-other ws i p (w i) 0 n ∙ g p (omega arith)
+        let m : p < i = omega arith in (
+          getD-set-other one (32 + i) p w 0 (λ (q : p ≡ 32 + i). omega arith) ∙ (getD-set-other ws i p v 0 n ∙ g p m .0),
+          getD-set-other one (32 + i) (32 + p) w 0 (λ (q : 32 + p ≡ 32 + i). n (omega arith))
+              ∙ (getD-set-other ws i (32 + p) v 0 (λ (q : 32 + p ≡ i). omega arith) ∙ g p m .1),
+        )
 
--- they are the widths of the tasks below the count
-pub widths-stored : (r : Run) (ws : List ℕ) → r .count ≤ 32 → length ws ≡ 32 → length (r .tasks) ≡ 32
-    → ((p : ℕ) → p < r .count → getD ws p 0 ≡ getD (r .tasks) p pastEnd .width) → take (r .count) ws ≡ widthsIn r
-widths-stored r ws few a b g =
-    let x : length (take (r .count) ws) ≡ r .count = length-take (r .count) ws ∙ omega arith in
-    let y : length (widthsIn r) ≡ r .count = length-map (take (r .count) (r .tasks)) (λ t. t .width) ∙ (length-take (r .count) (r .tasks) ∙ omega arith) in
-    ext-getD 0 (take (r .count) ws) (widthsIn r) (x ∙ sym y)
-    (λ p l.
-    let m : p < r .count = omega arith in
-    getD-take (r .count) ws p 0 m ∙ g p m
-    ∙ sym (List·getD-map (λ t. t .width) (take (r .count) (r .tasks)) p pastEnd ∙ ap (λ t. t .width) (getD-take (r .count) (r .tasks) p pastEnd m)))
+-- they are the widths of the tasks below the count, each that of its job, where the set is of those whose job is an even one
+pub widths-stored :
+    (r : Run) (even : ℕ) (ws : List ℕ) → r .count ≤ 32 → length (r .tasks) ≡ 32 → Gathered (evenAt r) (r .count) even → Stored r (r .count) ws
+    → take (r .count) (widthsIn even ws) ≡ widthsNow r
+widths-stored r even ws few b e g = front-is even ws (widthsNow r) (r .count) few (length-map used widthNow ∙ long) each
+  where
+    used : List phase.Task
+    used = take (r .count) (r .tasks)
+
+    long : length used ≡ r .count
+    long = length-take (r .count) (r .tasks) ∙ omega arith
+
+    by-parity : (p : ℕ) → p < r .count → (x : Bool) → getD ws (cond x (32 + p) p) 0 ≡ cond x (placeAt r p .second) (placeAt r p .width)
+    by-parity p l true = g p l .1
+    by-parity p l false = g p l .0
+
+    each : (p : ℕ) → p < r .count → widthIn even ws p ≡ getD (widthsNow r) p 0
+    each p l =
+        ap (λ (x : Bool). getD ws (cond x (32 + p) p) 0) (e p ∙ ap (λ (t : Bool). t && evenAt r p) (lt-ltb p (r .count) l))
+        ∙ (by-parity p l (evenAt r p)
+        ∙ sym (map-at widthNow used p 0 pastEnd (omega (arith, long)) ∙ ap widthNow (getD-take (r .count) (r .tasks) p pastEnd l)))
 
 -- ---- tasks of the table, stored place after place
 

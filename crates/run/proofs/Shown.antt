@@ -28,7 +28,10 @@ use Rattle.run.proofs.Chosen.{same-claimants}
 -- what the rule shows for the places that claim is the run's row
 pub bytes-shown :
     (r : Run) (e : ℕ) (c : Claims) → ClaimsOf r e c
-    → row (r .fence) (r .cores) (grants (ruleIn r) (claimants (take (r .count) (widthsIn (c .even) (c .widths))) (bit (c .claiming))) (unfenced (r .fence) (r .cores))) ++ replicate (mostCores - r .cores) 0 ≡ bytesIn r e
+    → row (r .fence) (r .cores)
+    (grants (ruleIn r) (claimants (take (r .count) (widthsIn (c .even) (c .widths))) (bit (c .claiming))) (unfenced (r .fence) (r .cores)))
+    ++ replicate (mostCores - r .cores) 0
+    ≡ bytesIn r e
 unfolding grantsIn bytesIn
 bytes-shown r e c h =
     ap (λ (bs : List Claimant). row (r .fence) (r .cores) (grants (ruleIn r) bs (unfenced (r .fence) (r .cores))) ++ replicate (mostCores - r .cores) 0) (same-claimants r e c h)

@@ -48,7 +48,7 @@ module _ (ws : List ℕ) (none : NoneApplies ws) where
       not-true-false (taskOut (openCount (fence ws) (cores ws)) (task (tableOf ws) p)) (λ e.
       let i = passed-inside ws none p l in
       ⊎-elim
-      (λ w. ⊎-elim (λ x. omega arith) (λ x. omega arith) w)
+      (λ w. ⊎-elim (λ x. ⊎-elim (λ y. omega arith) (λ y. omega arith) x) (λ x. ⊎-elim (λ y. omega arith) (λ y. omega arith) x) w)
       (λ w. ⊎-elim (λ x. omega arith) (λ w. ⊎-elim (λ x. x (i .length-from)) (λ w. ⊎-elim (λ x. x (i .period-from)) (λ x. x (i .deadline-from)) w) w) w)
       (task-decides (openCount (fence ws) (cores ws)) (task (tableOf ws) p) .0 e))
 

@@ -1,4 +1,5 @@
--- Sentences of tables computed from the definitions: A2 and F, what counts as waiting and who is named, and 17 and 18 from both sides; one list, one check.
+-- Sentences of tables computed from the definitions: A2 and F, what counts as waiting and who is named, tasks with two widths, and 17 and 18 from both
+-- sides; one list, one check.
 use mathlib.Core.Path.{_≡_, refl}
 use mathlib.Core.List.{List, [], _∷_, map}
 use Prim.Native.Nat.{ℕ, zero, suc}
@@ -43,18 +44,18 @@ outcome a bs = record { says = a; bytes = bs }
 
 -- F: one core, (0,1,2,1,2), rule 1; A: three cores, rule 2 for A2
 abbrev wordsF : List ℕ
-wordsF = 1 ∷ 1 ∷ 1 ∷ 0 ∷ 0 ∷ 0 ∷ 0 ∷ 1 ∷ 2 ∷ 1 ∷ 2 ∷ []
+wordsF = 1 ∷ 1 ∷ 1 ∷ 0 ∷ 0 ∷ 0 ∷ 0 ∷ 1 ∷ 2 ∷ 1 ∷ 2 ∷ 1 ∷ []
 
 abbrev tableA : ℕ → List ℕ
-tableA rule = 1 ∷ 3 ∷ rule ∷ 0 ∷ 0 ∷ 2 ∷ 0 ∷ 2 ∷ 2 ∷ 5 ∷ 5 ∷ 3 ∷ 0 ∷ 2 ∷ 3 ∷ 5 ∷ 5 ∷ 0 ∷ 0 ∷ 1 ∷ 4 ∷ 5 ∷ 5 ∷ []
+tableA rule = 1 ∷ 3 ∷ rule ∷ 0 ∷ 0 ∷ 2 ∷ 0 ∷ 2 ∷ 2 ∷ 5 ∷ 5 ∷ 2 ∷ 3 ∷ 0 ∷ 2 ∷ 3 ∷ 5 ∷ 5 ∷ 2 ∷ 0 ∷ 0 ∷ 1 ∷ 4 ∷ 5 ∷ 5 ∷ 1 ∷ []
 
 -- 32 tasks on 64 cores: 31 of width 2, and then one of width 3, which does not fit; all have one tick of one
 abbrev crowd : List ℕ
 crowd = 1 ∷ 64 ∷ 1 ∷ 0 ∷ 0 ∷ narrow 1 31
   where
     narrow : ℕ → ℕ → List ℕ
-    narrow k zero = 0 ∷ 0 ∷ 3 ∷ 1 ∷ 1 ∷ 1 ∷ []
-    narrow k (suc n) = suc k ∷ 0 ∷ 2 ∷ 1 ∷ 1 ∷ 1 ∷ narrow (suc k) n
+    narrow k zero = 0 ∷ 0 ∷ 3 ∷ 1 ∷ 1 ∷ 1 ∷ 3 ∷ []
+    narrow k (suc n) = suc k ∷ 0 ∷ 2 ∷ 1 ∷ 1 ∷ 1 ∷ 2 ∷ narrow (suc k) n
 
 abbrev sentenceF : String
 sentenceF = "task 1 misses at tick 1 with 1 of 2 ticks."
@@ -85,27 +86,33 @@ lines =
     ∷ line "A: 17 for every buffer" (tableA 1) 99 (refusedBy 17 0) ""
     ∷ line "a number of the table before both" (1 ∷ 0 ∷ 1 ∷ 0 ∷ 0 ∷ []) 0 (refusedBy 2 0) ""
     ∷ misses "two late at one tick: the first in priority"
-    (1 ∷ 1 ∷ 1 ∷ 0 ∷ 0 ∷ 2 ∷ 0 ∷ 1 ∷ 1 ∷ 2 ∷ 2 ∷ 3 ∷ 0 ∷ 1 ∷ 2 ∷ 2 ∷ 2 ∷ 0 ∷ 0 ∷ 1 ∷ 1 ∷ 2 ∷ 2 ∷ []) 56
+    (1 ∷ 1 ∷ 1 ∷ 0 ∷ 0 ∷ 2 ∷ 0 ∷ 1 ∷ 1 ∷ 2 ∷ 2 ∷ 1 ∷ 3 ∷ 0 ∷ 1 ∷ 2 ∷ 2 ∷ 2 ∷ 1 ∷ 0 ∷ 0 ∷ 1 ∷ 1 ∷ 2 ∷ 2 ∷ 1 ∷ []) 56
     "task 2 misses at tick 2 with 1 of 2 ticks; task 1 ran 1."
     ∷ misses "a task above ran four ticks, two of them beside the late job"
-    (1 ∷ 2 ∷ 1 ∷ 0 ∷ 0 ∷ 2 ∷ 0 ∷ 1 ∷ 4 ∷ 4 ∷ 4 ∷ 3 ∷ 0 ∷ 1 ∷ 2 ∷ 4 ∷ 4 ∷ 0 ∷ 0 ∷ 1 ∷ 3 ∷ 4 ∷ 4 ∷ []) 70
+    (1 ∷ 2 ∷ 1 ∷ 0 ∷ 0 ∷ 2 ∷ 0 ∷ 1 ∷ 4 ∷ 4 ∷ 4 ∷ 1 ∷ 3 ∷ 0 ∷ 1 ∷ 2 ∷ 4 ∷ 4 ∷ 1 ∷ 0 ∷ 0 ∷ 1 ∷ 3 ∷ 4 ∷ 4 ∷ 1 ∷ []) 70
     "task 3 misses at tick 4 with 2 of 3 ticks; task 1 ran 2; task 2 ran 2."
     ∷ misses "a task above ran in a tick before the late job's release, which does not count"
-    (1 ∷ 1 ∷ 1 ∷ 0 ∷ 0 ∷ 2 ∷ 0 ∷ 1 ∷ 2 ∷ 4 ∷ 4 ∷ 0 ∷ 1 ∷ 1 ∷ 2 ∷ 2 ∷ 4 ∷ []) 56
+    (1 ∷ 1 ∷ 1 ∷ 0 ∷ 0 ∷ 2 ∷ 0 ∷ 1 ∷ 2 ∷ 4 ∷ 4 ∷ 1 ∷ 0 ∷ 1 ∷ 1 ∷ 2 ∷ 2 ∷ 4 ∷ 1 ∷ []) 56
     "task 2 misses at tick 3 with 1 of 2 ticks; task 1 ran 1."
     ∷ misses "its job of an earlier release counts from then on"
-    (1 ∷ 1 ∷ 1 ∷ 0 ∷ 0 ∷ 2 ∷ 0 ∷ 1 ∷ 3 ∷ 4 ∷ 4 ∷ 0 ∷ 1 ∷ 1 ∷ 2 ∷ 3 ∷ 4 ∷ []) 56
+    (1 ∷ 1 ∷ 1 ∷ 0 ∷ 0 ∷ 2 ∷ 0 ∷ 1 ∷ 3 ∷ 4 ∷ 4 ∷ 1 ∷ 0 ∷ 1 ∷ 1 ∷ 2 ∷ 3 ∷ 4 ∷ 1 ∷ []) 56
     "task 2 misses at tick 4 with 1 of 2 ticks; task 1 ran 2."
     ∷ misses "a task below that ran meanwhile is not named"
-    (1 ∷ 2 ∷ 1 ∷ 0 ∷ 0 ∷ 2 ∷ 0 ∷ 1 ∷ 3 ∷ 3 ∷ 4 ∷ 3 ∷ 0 ∷ 2 ∷ 1 ∷ 2 ∷ 4 ∷ 0 ∷ 0 ∷ 1 ∷ 1 ∷ 4 ∷ 4 ∷ []) 56
+    (1 ∷ 2 ∷ 1 ∷ 0 ∷ 0 ∷ 2 ∷ 0 ∷ 1 ∷ 3 ∷ 3 ∷ 4 ∷ 1 ∷ 3 ∷ 0 ∷ 2 ∷ 1 ∷ 2 ∷ 4 ∷ 2 ∷ 0 ∷ 0 ∷ 1 ∷ 1 ∷ 4 ∷ 4 ∷ 1 ∷ []) 56
     "task 2 misses at tick 2 with 0 of 1 ticks; task 1 ran 2."
     ∷ misses "nor is a task above that did not run"
-    (1 ∷ 2 ∷ 1 ∷ 0 ∷ 0 ∷ 2 ∷ 0 ∷ 1 ∷ 2 ∷ 4 ∷ 4 ∷ 3 ∷ 3 ∷ 1 ∷ 1 ∷ 1 ∷ 4 ∷ 4 ∷ 0 ∷ 1 ∷ 2 ∷ 4 ∷ 4 ∷ 0 ∷ 0 ∷ 1 ∷ 2 ∷ 2 ∷ 4 ∷ []) 70
+    (1 ∷ 2 ∷ 1 ∷ 0 ∷ 0 ∷ 2 ∷ 0 ∷ 1 ∷ 2 ∷ 4 ∷ 4 ∷ 1 ∷ 3 ∷ 3 ∷ 1 ∷ 1 ∷ 1 ∷ 4 ∷ 1 ∷ 4 ∷ 0 ∷ 1 ∷ 2 ∷ 4 ∷ 4 ∷ 1 ∷ 0 ∷ 0 ∷ 1 ∷ 2 ∷ 2 ∷ 4 ∷ 1 ∷ []) 70
     "task 4 misses at tick 2 with 0 of 2 ticks; task 1 ran 2; task 3 ran 2."
     ∷ misses "the same on four cores of which 0 and 2 are fenced"
-    (1 ∷ 4 ∷ 1 ∷ 5 ∷ 0 ∷ 2 ∷ 0 ∷ 1 ∷ 2 ∷ 4 ∷ 4 ∷ 3 ∷ 3 ∷ 1 ∷ 1 ∷ 1 ∷ 4 ∷ 4 ∷ 0 ∷ 1 ∷ 2 ∷ 4 ∷ 4 ∷ 0 ∷ 0 ∷ 1 ∷ 2 ∷ 2 ∷ 4 ∷ []) 70
+    (1 ∷ 4 ∷ 1 ∷ 5 ∷ 0 ∷ 2 ∷ 0 ∷ 1 ∷ 2 ∷ 4 ∷ 4 ∷ 1 ∷ 3 ∷ 3 ∷ 1 ∷ 1 ∷ 1 ∷ 4 ∷ 1 ∷ 4 ∷ 0 ∷ 1 ∷ 2 ∷ 4 ∷ 4 ∷ 1 ∷ 0 ∷ 0 ∷ 1 ∷ 2 ∷ 2 ∷ 4 ∷ 1 ∷ []) 70
     "task 4 misses at tick 2 with 0 of 2 ticks; task 1 ran 2; task 3 ran 2."
     ∷ line "32 tasks" crowd 499 (ofLength 499) sentenceCrowd
+    ∷ misses "its first job of width 1 ran beside the task above, its second of width 2 does not fit"
+    (1 ∷ 2 ∷ 1 ∷ 0 ∷ 0 ∷ 2 ∷ 0 ∷ 1 ∷ 1 ∷ 1 ∷ 1 ∷ 1 ∷ 0 ∷ 0 ∷ 1 ∷ 1 ∷ 1 ∷ 1 ∷ 2 ∷ []) 56
+    "task 2 misses at tick 2 with 0 of 1 ticks; task 1 ran 1."
+    ∷ misses "a task above of widths 2 and 1 counts where it left no core, and not beside the late job"
+    (1 ∷ 2 ∷ 1 ∷ 0 ∷ 0 ∷ 2 ∷ 0 ∷ 2 ∷ 1 ∷ 1 ∷ 1 ∷ 1 ∷ 0 ∷ 0 ∷ 1 ∷ 3 ∷ 4 ∷ 4 ∷ 1 ∷ []) 56
+    "task 2 misses at tick 4 with 2 of 3 ticks; task 1 ran 2."
     ∷ []
 
 abbrev pub computed : Line → Outcome
@@ -119,7 +126,7 @@ each-line : LineByLine computed lines (map expected lines)
 unfolding spokenOf byTable byBuffer said head parts namedFrom decimal lastDigits digitCount digitsWithin factsIn missPlace ranWhileWaiting tally firstMiss
     answerOf byWalk byTasks byHorizon firstOut endingOf lastStep headerNumber tableOf chain count met missedIn missedAt horizon S hyperperiod lcm least any kept
     memb upFrom given left grants claimants claims served work step full bookFrom enter afterTaken answer late misemptied emptied misreported reportable
-each-line = (refl, (refl, (refl, (refl, (refl, (refl, (refl, (refl, (refl, (refl, (refl, (refl, (refl, (refl, (refl, (refl, tt))))))))))))))))
+each-line = (refl, (refl, (refl, (refl, (refl, (refl, (refl, (refl, (refl, (refl, (refl, (refl, (refl, (refl, (refl, (refl, (refl, (refl, tt))))))))))))))))))
 
 pub spoken-lines : map computed lines ≡ map expected lines
 spoken-lines = by-line computed lines (map expected lines) each-line

@@ -1,6 +1,6 @@
 -- The counting pass over the machine: a run that stands as the table's full-length run does, with the waiting ticks counted so far, and what is left of
 -- the late job at the end.
-use mathlib.Core.Path.{_≡_, refl, sym, ap, _∙_, subst}
+use mathlib.Core.Path.{_≡_, refl, sym, ap, _∙_, subst, subst₂}
 use mathlib.Core.Bool.{Bool, true, false, not}
 use mathlib.Core.List.{List, map}
 use Prim.Native.Nat.{ℕ, suc, _+_, _-_, _≤_, _<_}
@@ -14,10 +14,10 @@ use Rattle.model.specs.Verdict.{FirstMiss}
 use Rattle.model.proofs.Jobs.{newest-is}
 use Rattle.table.specs.declared.Loaded.{Loaded}
 use Rattle.full.specs.Machine.{Machine}
-use Rattle.full.specs.Stand.{numbersIn, Stand, begun, after, bellAfter, next}
+use Rattle.full.specs.Stand.{numbersIn, Stand, begun, after, bellAfter, evenAfter, next}
 use Rattle.full.proofs.Late.{missed-late}
 use Rattle.full.specs.Standing.{TiedAt}
-use Rattle.full.proofs.Steps.{tick-on, chosen-on}
+use Rattle.full.proofs.Steps.{tick-on, chosen-on, even-on}
 use Rattle.full.proofs.Tied.{Tied}
 use Rattle.judge.specs.Judged.{tableIn, Fit}
 use Rattle.judge.proofs.Ticks.{Chosen, chosen-row}
@@ -83,8 +83,8 @@ module _ (t : Loaded) (fit : Fit t) (tick place : ℕ) (f : FirstMiss (tableIn t
       -- who is granted cores is in the row of the book
       pub granted-row : (q : ℕ) → bit (y .granted) q ≡ inRow s (bookAt s (x .tick)) q
       granted-row q =
-          chosen-row t fit (after (numbersIn t) x) (bellAfter (numbersIn t) x) (x .tick) (y .granted) (looked t fit x (c .follows) met-here)
-          (subst (λ (n : ℕ). Chosen t n (y .granted)) (chosen-on (numbersIn t) x y e) (on .chosen)) q
+          chosen-row t fit (after (numbersIn t) x) (evenAfter (numbersIn t) x) (bellAfter (numbersIn t) x) (x .tick) (looked t fit x (c .follows) met-here)
+          (y .granted) (subst₂ (λ (n m : ℕ). Chosen t n m (y .granted)) (chosen-on (numbersIn t) x y e) (even-on (numbersIn t) x y e) (on .chosen)) q
           ∙ ap (λ (b : Book). inRow s b q) (sym (same-book s (fit .sound) tick place f (x .tick) (omega arith)))
 
       counting-next : (new : List ℕ) → Counted s tick place (suc (x .tick)) new → Counting t tick place y new

@@ -59,7 +59,7 @@ pub(crate) fn count(table: Loaded, tick: u32, place: usize) -> Facts
     let release = tick - late.deadline;
     let columns = full::columns::columns_of(table);
     let setting = columns.setting;
-    let width = columns.width;
+    let widths = columns.widths;
     let times = columns.times;
     let machine = full::machine::start(table);
     let mut pace = machine.pace;
@@ -67,7 +67,7 @@ pub(crate) fn count(table: Loaded, tick: u32, place: usize) -> Facts
     let mut ran = [0u64; MOST_TASKS];
     while pace.tick < tick {
         let before = pace.tick;
-        pace = full::step(setting, &width, &times, pace, &mut places);
+        pace = full::step(setting, &widths, &times, pace, &mut places);
         if release <= before {
             let granted = pace.granted;
             let runs = has(granted, place);

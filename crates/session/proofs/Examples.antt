@@ -1,4 +1,5 @@
 -- Lines and what they ask, and operations of small runs with what is said to them, computed from the definitions.
+use mathlib.Core.Bool.{false}
 use mathlib.Core.List.{List, [], _∷_, map}
 use mathlib.Core.Path.{_≡_, refl}
 use Prim.Native.Nat.{ℕ}
@@ -133,16 +134,20 @@ lines-asked = by-line worked lines lines each-line
 
 -- WHAT IS SAID
 
--- a task of one tick in its release tick
-abbrev task : ℕ → Task
-task width = record { offset = 0; width = width; length = 1; deadline = 2; period = 2; phase = Working 0 0 }
+-- a task of one tick in the release tick of an odd job, by its widths
+abbrev task : ℕ → ℕ → Task
+task v w = record { offset = 0; width = v; length = 1; deadline = 2; period = 2; second = w; even = false; phase = Working 0 0 }
 
 -- two of them under greedy: of width 1 on one core; and with widths that fall on two cores, so that the run is not firm
 abbrev pub pair : Run
-pair = record { rule = 1; cores = 1; fence = 0; withdrawn = 0; count = 2; tasks = task 1 ∷ task 1 ∷ replicate 30 unused }
+pair = record { rule = 1; cores = 1; fence = 0; withdrawn = 0; count = 2; tasks = task 1 1 ∷ task 1 1 ∷ replicate 30 unused }
 
 abbrev pub falling : Run
-falling = record { rule = 1; cores = 2; fence = 0; withdrawn = 0; count = 2; tasks = task 2 ∷ task 1 ∷ replicate 30 unused }
+falling = record { rule = 1; cores = 2; fence = 0; withdrawn = 0; count = 2; tasks = task 2 2 ∷ task 1 1 ∷ replicate 30 unused }
+
+-- one of them, whose even jobs are wider than its odd ones
+abbrev pub turning : Run
+turning = record { rule = 1; cores = 2; fence = 0; withdrawn = 0; count = 1; tasks = task 1 2 ∷ replicate 31 unused }
 
 -- no run: what a refused start leaves
 abbrev pub none : Run
@@ -173,6 +178,8 @@ talks =
     ∷ talk pair "w 0\nw 3\nw 4294967295\nr" "refused 22 0\nrefused 22 0\nrefused 22 0\nrow 1\n"
     ∷ talk falling "w 1\nw 0\nr" "refused 21 0\nrefused 21 0\nrow 1 1\n"
     ∷ talk none "a 0\nw 1\nr\na 1 2" "refused 14 0\nrefused 14 0\nrefused 14 0\nrefused 14 0\n"
+    -- each release turns to the other width, that of an empty job too
+    ∷ talk turning "r\na 0\nr\na 0\nr\na 0 1\na 0\nr\na 0\na 0\nr" "row 1 0\ntaken\nrow 0 0\ntaken\nrow 1 1\ntaken\ntaken\nrow 1 0\ntaken\ntaken\nrow 1 1\n"
     -- after a line that is no operation nothing is said
     ∷ talk pair "r 1 2\nr\n" "not an operation\n"
     ∷ []
@@ -187,7 +194,7 @@ each-talk : LineByLine saying talks (map expected talks)
 unfolding replies linesFrom lastLine said runAfter plain answerLine shownLine operationOf operationBy numbersBehind numbersOf wordsIn isNumber all value lineOf fields decimal
     lastDigits digitCount digitsWithin any least memb upFrom kept owner row given left grants claimants firm rising advanceOf advanceAnswer withdrawOf withdrawAnswer rowOf
     rowAnswer bytesIn pastCount runOut firstLateIn misemptiedIn misreportedIn grantsIn mapFirst moved withdrawnIn
-each-talk = (refl, (refl, (refl, (refl, (refl, (refl, (refl, (refl, (refl, (refl, tt))))))))))
+each-talk = (refl, (refl, (refl, (refl, (refl, (refl, (refl, (refl, (refl, (refl, (refl, tt)))))))))))
 
 pub talks-said : map (λ t. replies (t .from) (linesFrom nothing [] (letters (t .input)))) talks ≡ map (λ t. letters (t .output)) talks
 talks-said = by-line saying talks (map expected talks) each-talk

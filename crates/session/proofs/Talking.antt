@@ -72,7 +72,7 @@ dashes-two (a ∷ b ∷ c ∷ l) e = absurd (false≢true e)
 pub begins-with : {a b : List ℕ} → b ≡ a → Begins a b
 begins-with {a} e = ([], e ∙ sym (nil-right a))
 
--- 2,170 bytes with no line `--` decide: whatever comes, the table is too long ..
+-- 2,522 bytes with no line `--` decide: whatever comes, the table is too long ..
 pub talk-long : (d l bs : List ℕ) → tooMany ≤ length d + length l → talkFrom nothing d l bs ≡ tooLong
 unfolding talkFrom unclosed
 talk-long d l [] h = go (isDashes l) refl

@@ -55,7 +55,7 @@ isDashes (a ∷ b ∷ []) = eqb a 45 && eqb b 45
 isDashes (a ∷ b ∷ c ∷ l) = false
 
 -- what is said where the whole lines `table` and the bytes l of one more have come, and no line `--` has ended: where the input ends the table is
--- what stands before a last line `--`, or all of it; else nothing yet, but the refusal once 2,171 bytes have come
+-- what stands before a last line `--`, or all of it; else nothing yet, but the refusal once 2,523 bytes have come
 unfoldable pub unclosed : Ahead → List ℕ → List ℕ → List ℕ
 unclosed nothing table l = opened (cond (isDashes l) table (table ++ l)) []
 unclosed unknown table l = cond (leb (tooMany + 1) (length table + length l)) (lineOf (letters "refused") (1 ∷ 0 ∷ [])) []

@@ -22,6 +22,6 @@ lines-text (w ∷ ws) h =
     subst (λ (v : ℕ). Lines (textOf (w ∷ ws)) (v ∷ ws)) (decimal-value w)
     (line (number-of w (h 0 (omega arith))) (lines-text ws (λ i l. h (suc i) (omega arith))))
 
--- at most 197 numbers, each up to 4,294,967,295, are read back from their text
+-- at most 229 numbers, each up to 4,294,967,295, are read back from their text
 pub text-read : (ws : List ℕ) → length ws ≤ mostNumbers → ((i : ℕ) → i < length ws → getD ws i 0 ≤ largest) → wordsOf (textOf ws) ≡ words ws
 text-read ws m h = text-exact (textOf ws) ws .1 (record { lines = lines-text ws h; most = m })

@@ -103,17 +103,17 @@ no-text-exact bs = (λ e ws x. different ws (sym (text-exact bs ws .1 x) ∙ e),
     go (words ws) e h = absurd (h ws (text-exact bs ws .0 e))
     go noText e h = refl
 
--- the longest text: 197 lines of ten digits and a newline
+-- the longest text: 229 lines of ten digits and a newline
 lines-short : {bs ws : List ℕ} → Lines bs ws → length bs ≤ 11 * length ws
 lines-short none = omega arith
 lines-short (last {l} n) = omega (arith, n .short)
 lines-short (line {l} {bs} n t) = let ih = lines-short t in omega (arith, n .short, length-append l (newline ∷ bs))
 
--- more than 2,167 bytes are no table's text
+-- more than 2,519 bytes are no table's text
 pub long-refused : (bs : List ℕ) → mostBytes < length bs → wordsOf bs ≡ noText
 long-refused bs h = no-text-exact bs .1 (λ ws x. let s = lines-short (x .lines) in let m = x .most in omega arith)
 
--- so the first 2,168 bytes of an input are enough
+-- so the first 2,520 bytes of an input are enough
 pub first-enough : (bs : List ℕ) (k : ℕ) → mostBytes < k → wordsOf (take k bs) ≡ wordsOf bs
 first-enough bs k h = go (leb (length bs) k) refl
   where

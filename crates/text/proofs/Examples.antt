@@ -3,6 +3,7 @@ use mathlib.Core.List.{List, [], _∷_, map}
 use mathlib.Core.Path.{_≡_, refl}
 use Prim.Native.Nat.{ℕ}
 use Prim.Native.String.{String}
+use lib.ListN.{replicate}
 use Rattle.model.specs.Task.{Table, greedy, limited}
 use Rattle.model.specs.Book.{claims, full, served, step, work}
 use Rattle.model.specs.Grants.{claimants, given, grants, left}
@@ -12,9 +13,9 @@ use Rattle.model.specs.Search.{any, kept, least, memb, upFrom}
 use Rattle.model.specs.Firm.{firm, rising}
 use Rattle.model.specs.Verdict.{firstMiss, missedAt, missedIn, verdict}
 use Rattle.model.proofs.LineByLine.{LineByLine, by-line}
-use Rattle.model.proofs.Examples.{A, fencedOn, on, t}
+use Rattle.model.proofs.Examples.{A, fencedOn, on, t, t₂}
 use Rattle.text.specs.Decimal.{all, value, decimal, lastDigits, digitCount, digitsWithin}
-use Rattle.text.specs.Format.{Words, words, noText, wordsOf, lines, isNumber}
+use Rattle.text.specs.Format.{Words, words, noText, wordsOf, lines, isNumber, textOf}
 use Rattle.judge.specs.Said.{refused}
 use Rattle.text.specs.Output.{letters, fields, lineOf, firstLine, rowLine, rowLines, printed}
 
@@ -58,6 +59,15 @@ each-text = (refl, (refl, (refl, (refl, (refl, (refl, (refl, (refl, (refl, (refl
 pub texts : map (λ c. case (c .text) (wordsOf (letters (c .text)))) cases ≡ cases
 texts = by-line read cases cases each-text
 
+-- H: the numbers of 32 records are read, those of 33 are not
+pub most-read : wordsOf (textOf (replicate 229 0)) ≡ words (replicate 229 0)
+unfolding wordsOf lines isNumber all value textOf decimal lastDigits digitCount digitsWithin
+most-read = refl
+
+pub more-refused : wordsOf (textOf (replicate 236 0)) ≡ noText
+unfolding wordsOf lines isNumber all value textOf decimal lastDigits digitCount digitsWithin
+more-refused = refl
+
 -- a table by its name, and what is printed for it
 pub record Print : Type 0 where
   pub name : String
@@ -75,6 +85,11 @@ prints =
       table = fencedOn 5 9 greedy (A greedy .tasks);
       text = "full 0 5\n0 255 1 1 255 3\n1 255 1 1 255 3\n2 255 2 2 255 3\n3 255 2 2 255 3\n4 255 2 2 255 0\n";
     }
+    ∷ record {
+      name = "four cores on odd jobs, two on even ones";
+      table = on 4 greedy (t₂ 0 4 2 1 2 2 ∷ t 0 2 1 2 2 ∷ []);
+      text = "full 0 4\n0 1 1 1 1\n1 2 2 0 0\n2 1 1 2 2\n3 0 0 0 0\n";
+    }
     ∷ []
 
 -- what is printed for a table, and what is to be
@@ -87,7 +102,7 @@ expected p = letters (p .text)
 each-print : LineByLine printing prints (map expected prints)
 unfolding printed firstLine rowLine rowLines lineOf fields decimal lastDigits digitCount digitsWithin verdict firstMiss missedIn missedAt firm rising horizon S
     hyperperiod lcm least any kept memb upFrom owner row given left grants claimants claims served work step full
-each-print = (refl, (refl, (refl, (refl, (refl, tt)))))
+each-print = (refl, (refl, (refl, (refl, (refl, (refl, tt))))))
 
 pub prints-exact : map (λ p. printed (p .table)) prints ≡ map (λ p. letters (p .text)) prints
 prints-exact = by-line printing prints (map expected prints) each-print

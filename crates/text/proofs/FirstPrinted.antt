@@ -39,7 +39,7 @@ first-printed bs = go (wordsOf bs)
     go (words ws) = first-of (answerOf ws) (tableOf ws)
     go noText = first-none
 
--- so the first 2,168 bytes of an input decide it
+-- so the first 2,520 bytes of an input decide it
 pub first-line-enough : (bs : List ℕ) → firstFor (take enoughBytes bs) ≡ firstFor bs
 unfolding firstFor
 first-line-enough bs = ap (λ w. firstLine (saidBy (verdictOf (numbersIn w)))) (first-enough bs enoughBytes (omega arith))

@@ -34,7 +34,7 @@ module _ (ws l : List ℕ) (ls : List (List ℕ)) where
   unfolding wordsFrom all
   from-wrong e = rw e
 
-  -- a line more, where 197 have been read
+  -- a line more, where 229 have been read
   pub from-full : length ws ≡ mostNumbers → wordsFrom ws (l ∷ ls) ≡ noText
   unfolding wordsFrom
   from-full e = rw (lt-leb (length ws + suc (length ls)) mostNumbers (omega arith)) (go (all isNumber (l ∷ ls)))

@@ -1,5 +1,5 @@
 -- The text that the program reads (scope, end of 'The table of examples'): one decimal number a line, the last line may lack its newline.
--- Other characters, an empty line, a line of more than ten digits, a number above 4,294,967,295 or more than 197 numbers are turned down.
+-- Other characters, an empty line, a line of more than ten digits, a number above 4,294,967,295 or more than 229 numbers are turned down.
 use mathlib.Core.Bool.{Bool, _&&_, cond}
 use mathlib.Core.List.{List, [], _∷_, _++_, map}
 use Prim.Native.Nat.{ℕ, _+_, _*_, _≤_}
@@ -64,7 +64,7 @@ abbrev pub numbersIn : Words → List ℕ
 numbersIn (words ws) = ws
 numbersIn noText = []
 
--- every line says a number, and there are at most 197: the numbers of the lines
+-- every line says a number, and there are at most 229: the numbers of the lines
 unfoldable pub wordsOf : List ℕ → Words
 wordsOf bs = cond (all isNumber (lines bs) && leb (length (lines bs)) mostNumbers) (words (map value (lines bs))) noText
 

@@ -25,7 +25,7 @@ lineLength bs = lengthTo newline bs
 abbrev pub foundIn : List ℕ → Found
 foundIn l = cond (isNumber l) (Value (value l)) Nothing
 
--- the numbers in 197 places, zeros past the last
+-- the numbers in 229 places, zeros past the last
 abbrev pub placed : List ℕ → List ℕ
 placed ws = ws ++ replicate (mostNumbers - length ws) 0
 
@@ -42,6 +42,6 @@ pub record ReadOf (bs : List ℕ) (r : Input) : Type 0 where
   pub text : (ws : List ℕ) → ((r .accepted ≡ true) × (take (r .count) (r .words) ≡ ws)) ↔ IsText bs ws
   -- turned down exactly if they are the text of no numbers
   pub noText : (r .accepted ≡ false) ↔ ((ws : List ℕ) → ¬ IsText bs ws)
-  -- at most 197 numbers, and zeros past them
+  -- at most 229 numbers, and zeros past them
   pub most : r .count ≤ mostNumbers
   pub past : drop (r .count) (r .words) ≡ replicate (mostNumbers - r .count) 0

@@ -1,7 +1,6 @@
 -- `full::step` meets its contract: it steps as the definitions do, whether the due moments were looked at or the bell had not rung, and whether
 -- the choice is kept or made anew. Assumes nothing.
 use borrow.Author.Needs.{needs}
-use native.Mathlib.Omega.{arith}
 use mathlib.Core.Logic.{⊎-elim}
 use mathlib.Core.Bool.{true, false}
 use mathlib.Core.Path.{_≡_, sym, ap, ap₂, _∙_, subst₂}

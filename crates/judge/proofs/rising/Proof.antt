@@ -1,7 +1,8 @@
 -- `judge::rising` meets its contract: at place i no width has fallen so far, and a width that falls is no rising list. Assumes nothing.
 use borrow.Author.Needs.{needs}
 use native.Mathlib.Omega.{arith}
-use Prim.Native.Nat.{_-_, _≤_}
+use mathlib.Core.Path.{subst₂}
+use Prim.Native.Nat.{ℕ, _-_, _≤_, _<_}
 use Rattle.judge.proofs.Widths.{RisingTo, rising-more, all-rise, one-falls}
 use Rattle.judge.proofs.rising.Statement.{statement}
 use Rattle.judge.proofs.rising.Tie as tie
@@ -16,8 +17,8 @@ abbrev μ-loop : tie.MeasureT-loop
 abbrev loop-from-here : tie.After-here Inv-loop μ-loop → tie.At-loop Inv-loop μ-loop
 loop-from-here c = c .before .before .before
 
-abbrev loop-from-struct-known2 : tie.After-struct-known2 Inv-loop μ-loop → tie.At-loop Inv-loop μ-loop
-loop-from-struct-known2 c = loop-from-here (c .before .before)
+abbrev loop-from-wider : tie.After-wider Inv-loop μ-loop → tie.At-loop Inv-loop μ-loop
+loop-from-wider c = loop-from-here (c .before .before)
 
 loop-holds : tie.Need-loop-holds Inv-loop μ-loop
 loop-holds c = (search needs, λ p l. absurd (omega arith))
@@ -37,11 +38,18 @@ mul-here c = omega arith
 array-copy-out-here : tie.Need-array-copy-out-here Inv-loop μ-loop
 array-copy-out-here c = omega arith
 
+narrower-requires : tie.Need-narrower-requires Inv-loop μ-loop
+narrower-requires c κs = search needs
+
+wider-requires : tie.Need-wider-requires Inv-loop μ-loop
+wider-requires c κs = search needs
+
 returns : tie.Need-returns Inv-loop μ-loop
 returns c =
-    let a = loop-from-struct-known2 (c .before) .before .args in
-    let l = loop-from-struct-known2 (c .before) .loop in
-    one-falls (a .t1) (a .count) (omega arith) (l .i) (l .inv .0) (omega arith) (c .if1 .taken)
+    let a = loop-from-wider (c .before) .before .args in
+    let l = loop-from-wider (c .before) .loop in
+    one-falls (a .t1) (a .count) (omega arith) (l .i) (l .inv .0) (omega arith)
+    (subst₂ (λ (x y : ℕ). x < y) (c .before .before .narrower .ensures) (c .before .wider .ensures) (c .if1 .taken))
 
 add-i : tie.Need-add-i Inv-loop μ-loop
 add-i c = omega arith
@@ -51,9 +59,12 @@ loop-less c = omega arith
 
 loop-again : tie.Need-loop-again Inv-loop μ-loop
 loop-again c =
-    let a = loop-from-struct-known2 (c .before) .before .args in
-    let l = loop-from-struct-known2 (c .before) .loop in
-    (omega arith, rising-more (a .t1) (l .i) (l .inv .0) (l .inv .1) (c .if1 .left))
+    let a = loop-from-wider (c .before) .before .args in
+    let l = loop-from-wider (c .before) .loop in (
+      omega arith,
+      rising-more (a .t1) (l .i) (l .inv .0) (l .inv .1)
+          (subst₂ (λ (x y : ℕ). x ≤ y) (c .before .wider .ensures) (c .before .before .narrower .ensures) (c .if1 .left)),
+    )
 
 returns-2 : tie.Need-returns-2 Inv-loop μ-loop
 returns-2 c =
@@ -73,6 +84,8 @@ rising-spec =
     array-copy-out-above
     mul-here
     array-copy-out-here
+    narrower-requires
+    wider-requires
     returns
     add-i
     loop-less

@@ -7,8 +7,8 @@ use mathlib.Core.Logic.{⊎-elim}
 use mathlib.Core.Path.{_≡_, sym, _∙_, subst₂}
 use Prim.Native.Nat.{ℕ}
 use lib.ListN.{take}
-use Rattle.full.specs.Stand.{Numbers, numbersBy, Stand, standAt, after}
-use Rattle.full.proofs.Steps.{chosen-on}
+use Rattle.full.specs.Stand.{Numbers, numbersBy, Stand, standAt, after, evenAfter}
+use Rattle.full.proofs.Steps.{chosen-on, even-on}
 use Rattle.text.proofs.Writing.{put-length}
 use Rattle.printer.proofs.Safe.{safe-steppable}
 use Rattle.printer.proofs.Step.{Text, text-kept, text-put, line-put}
@@ -24,11 +24,11 @@ abbrev entry-from-step : tie.After-step → tie.Start
 entry-from-step c = c .before .before .before
 
 abbrev entry-from-then1 : tie.Then1 → tie.Start
-entry-from-then1 c = entry-from-step (c .before .before .before)
+entry-from-then1 c = entry-from-step (c .before .before .before .before .before)
 
 -- the state after `step`
 abbrev step-from-joined1 : tie.Joined1 → tie.After-step
-step-from-joined1 c = c .before .before .before
+step-from-joined1 c = c .before .before .before .before .before
 
 -- the state at the call
 abbrev entry-from-joined1 : tie.Joined1 → tie.Start
@@ -36,7 +36,7 @@ entry-from-joined1 c = entry-from-step (step-from-joined1 c)
 
 -- the table's numbers, the run where the function begins, and the text that it keeps
 abbrev nums : tie.Start → Numbers
-nums s = numbersBy (s .args .setting) (s .args .width .now) (s .args .times .now)
+nums s = numbersBy (s .args .setting) (s .args .widths .now) (s .args .times .now)
 
 abbrev stand : tie.Start → Stand
 stand s = standAt (s .args .stage .pace) (s .args .places .now)
@@ -48,6 +48,10 @@ kept s = take (s .args .stage .text) (s .args .text .now)
 claims : (c : tie.After-step) → c .step .result .chosen ≡ after (nums (entry-from-step c)) (stand (entry-from-step c)) .claiming
 claims c = chosen-on _ _ _ (c .step .ensures)
 
+-- .. and for their widths in it
+turned : (c : tie.After-step) → c .step .result .even ≡ evenAfter (nums (entry-from-step c)) (stand (entry-from-step c))
+turned c = even-on _ _ _ (c .step .ensures)
+
 -- the text of the row: kept, or made anew
 text-of : (c : tie.Joined1) → Text (nums (entry-from-joined1 c)) (stand (entry-from-joined1 c)) (kept (entry-from-joined1 c)) (c .if1 .size) (c .if1 .text)
 text-of c =
@@ -57,10 +61,11 @@ text-of c =
     ⊎-elim
     (λ w.
     subst₂ goal (sym (w .4)) (sym (w .3))
-    (text-put (nums s) (stand s) (kept s) (g .step .result .chosen) _ _ _ (claims g) (w .0 .taken) (s .pre .wide) (w .2 .ensures)))
+    (text-put (nums s) (stand s) (kept s) (g .step .result .chosen) (g .step .result .even) (claims g) (turned g) _ _ _ (w .0 .taken) (s .pre .wide)
+    (w .2 .ensures)))
     (λ w.
     subst₂ goal (sym (w .2)) (sym (w .1))
-    (text-kept (nums s) (stand s) (kept s) (g .step .result .chosen) (claims g) (w .0 .left), s .pre .text, s .pre .wide))
+    (text-kept (nums s) (stand s) (kept s) (g .step .result .chosen) (g .step .result .even) (claims g) (turned g) (w .0 .left), s .pre .text, s .pre .wide))
     (c .if1 .came)
 
 step-requires : tie.Need-step-requires

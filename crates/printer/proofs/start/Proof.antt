@@ -8,18 +8,15 @@ use Rattle.printer.proofs.start.Statement.{statement}
 use Rattle.printer.proofs.start.Tie as tie
 
 -- the state after `put-cells`
-abbrev put-cells-from-line2 : tie.After-line2 → tie.After-put-cells
-put-cells-from-line2 c = c .before .before .before .before
-
-abbrev put-cells-from-pace : tie.After-pace → tie.After-put-cells
-put-cells-from-pace c = put-cells-from-line2 (c .before)
+abbrev put-cells : tie.After-line2 → tie.After-put-cells
+put-cells c = c .before .before .before .before
 
 -- the state after `start`
-abbrev start : tie.After-pace → tie.After-start
-start c = put-cells-from-pace c .before .before .before .before
+abbrev start : tie.After-line2 → tie.After-start
+start c = put-cells c .before .before .before .before .before
 
 -- the state after `columns-of`
-abbrev columns-of : tie.After-pace → tie.After-columns-of
+abbrev columns-of : tie.After-line2 → tie.After-columns-of
 columns-of c = start c .before .before
 
 columns-of-requires : tie.Need-columns-of-requires
@@ -45,10 +42,10 @@ returns c =
     let s = columns-of c .before in
     let machine = start c .start in
     let columns = columns-of c .columns-of in
-    let text = put-cells-from-pace c .put-cells in
-    let line = c .before .before .put-first in
+    let text = put-cells c .put-cells in
+    let line = c .before .put-first in
     start-of (s .args .table) (s .args .end) (s .args .verdict) (machine .result .pace) (machine .result .places) (machine .ensures .0)
-    (columns .result .width) (ap (λ (n : Numbers). n .widths) (columns .ensures)) (text .last .1 .1 .1 .1 .1 .1 .0) (line .last .0) (text .result)
+    (columns .result .widths) (ap (λ (n : Numbers). n .widths) (columns .ensures)) (text .last .1 .1 .1 .1 .1 .1 .1 .0) (line .last .0) (text .result)
     (line .result) (text .ensures) (line .ensures)
 
 pub start-spec : {M : Type 1} → statement M

@@ -10,7 +10,7 @@ use Prim.Native.Nat.{ℕ, _-_, _^_, _≤_, _<_}
 use lib.Bits.{bitOr}
 use lib.Count.{trailingZeros}
 use lib.Dec.{eqb, ltb}
-use lib.ListN.{length, getD}
+use lib.ListN.{getD}
 use Rattle.model.specs.Task.{Rule, ruleOf}
 use Rattle.model.specs.Search.{bit}
 use Rattle.model.specs.Grants.{claimants, endsChoosing}
@@ -27,7 +27,9 @@ use Rattle.rule.proofs.choose.Tie as tie
 abbrev Inv-loop : tie.InvT-loop
 Inv-loop rule free claims even widths chosen₀ left₀ rest₀ chosen left rest =
     (rest < 2 ^ 32)
-    × ((p : ℕ) → bit chosen p || places (ruleOf rule) (widthsIn even widths) rest left p ≡ granted (ruleOf rule) (claimants (widthsIn even widths) (bit claims)) (cores free) p)
+    × ((p : ℕ)
+    → bit chosen p || places (ruleOf rule) (widthsIn even widths) rest left p
+    ≡ granted (ruleOf rule) (claimants (widthsIn even widths) (bit claims)) (cores free) p)
 
 abbrev μ-loop : tie.MeasureT-loop
 μ-loop rule free claims even widths chosen₀ left₀ rest₀ chosen left rest = rest
@@ -67,7 +69,8 @@ module _ (r : Rule) (ws : List ℕ) (x y q v n chosen : ℕ) (l : Lowest x q) (e
   given-turn m d k w =
       let g = places r ws y (n - v) p in
       let b : bit (bitOr chosen m) p ≡ bit chosen p || eqb p q = or-bit chosen m p ∙ ap (λ (y : ℕ). bit chosen p || bit y p) d ∙ ap (λ (t : Bool). bit chosen p || t) (bit-power q p) in
-      let h : places r ws x n p ≡ eqb p q || g = fits-turn k ∙ ap (λ (t : Bool). eqb p q && t || g) (lt-ltb 0 v w) ∙ ap (λ (t : Bool). t || g) (and-true (eqb p q)) in
+      let h : places r ws x n p ≡ eqb p q || g =
+      fits-turn k ∙ ap (λ (t : Bool). eqb p q && t || g) (lt-ltb 0 v w) ∙ ap (λ (t : Bool). t || g) (and-true (eqb p q)) in
       ap (λ (t : Bool). t || g) b ∙ or-assoc (bit chosen p) (eqb p q) g ∙ ap (λ (t : Bool). bit chosen p || t) (sym h)
 
   empty-turn : v ≤ n → v ≤ 0 → bit chosen p || places r ws y (n - v) p ≡ bit chosen p || places r ws x n p
@@ -124,8 +127,9 @@ loop-again c =
     let a = t .before .before .args in
     let l = t .before .loop in (
       omega (arith, at-turn t .falls),
-      λ p. given-turn (ruleOf (a .rule)) (widthsIn (a .even) (a .widths .now)) (l .rest) _ (trailingZeros 32 (l .rest)) _ (l .left) (l .chosen) (at-turn t .lowest)
-          (at-turn t .after) (c .before .before .before .before .width-at .ensures) p _ (shifted-one 32 (trailingZeros 32 (l .rest)) (at-turn t .place)) (sub-left (c .before)) (c .if1 .taken) ∙ l .inv .1 p,
+      λ p. given-turn (ruleOf (a .rule)) (widthsIn (a .even) (a .widths .now)) (l .rest) _ (trailingZeros 32 (l .rest)) _ (l .left) (l .chosen)
+          (at-turn t .lowest) (at-turn t .after) (c .before .before .before .before .width-at .ensures) p _
+          (shifted-one 32 (trailingZeros 32 (l .rest)) (at-turn t .place)) (sub-left (c .before)) (c .if1 .taken) ∙ l .inv .1 p,
     )
 
 loop-less-2 : tie.Need-loop-less-2 Inv-loop μ-loop
@@ -138,7 +142,8 @@ loop-again-2 c =
     let l = t .before .loop in (
       omega (arith, at-turn t .falls),
       λ p. empty-turn (ruleOf (a .rule)) (widthsIn (a .even) (a .widths .now)) (l .rest) _ (trailingZeros 32 (l .rest)) _ (l .left)
-          (l .chosen) (at-turn t .lowest) (at-turn t .after) (c .before .before .before .before .width-at .ensures) p (sub-left (c .before)) (c .if1 .left) ∙ l .inv .1 p,
+          (l .chosen) (at-turn t .lowest) (at-turn t .after) (c .before .before .before .before .width-at .ensures) p
+          (sub-left (c .before)) (c .if1 .left) ∙ l .inv .1 p,
     )
 
 enum-told-2 : tie.Need-enum-told-2 Inv-loop μ-loop

@@ -3,7 +3,7 @@
 use borrow.Author.Needs.{needs}
 use native.Mathlib.Omega.{arith}
 use mathlib.Core.Path.{_≡_, sym, ap, _∙_}
-use Prim.Native.Nat.{ℕ, _<_}
+use Prim.Native.Nat.{ℕ}
 use lib.Count.{trailingZeros}
 use lib.ListN.{getD, take, length-take}
 use lib.Seq.{getD-take}
@@ -19,7 +19,8 @@ use Rattle.rule.proofs.grants.Statement.{statement}
 use Rattle.rule.proofs.grants.Tie as tie
 
 abbrev Inv-loop : tie.InvT-loop
-Inv-loop rule free claims even widths count sets₀ set₀ left₀ rest₀ sets set left rest = Held (ruleOf rule) (take count (widthsIn even widths)) claims free count sets rest set left
+Inv-loop rule free claims even widths count sets₀ set₀ left₀ rest₀ sets set left rest =
+    Held (ruleOf rule) (take count (widthsIn even widths)) claims free count sets rest set left
 
 abbrev μ-loop : tie.MeasureT-loop
 μ-loop rule free claims even widths count sets₀ set₀ left₀ rest₀ sets set left rest = rest
@@ -47,7 +48,8 @@ entry-from-serve c = entry-from-loop (in-loop-from-serve c .before)
 loop-holds : tie.Need-loop-holds Inv-loop μ-loop
 loop-holds c =
     let a = c .args in
-    begun (ruleOf (a .rule)) (take (a .count) (widthsIn (a .even) (a .widths .now))) (a .claims) (a .free) (a .count) (c .fits .claims .fits) (c .fits .free .fits)
+    begun (ruleOf (a .rule)) (take (a .count) (widthsIn (a .even) (a .widths .now))) (a .claims) (a .free) (a .count)
+    (c .fits .claims .fits) (c .fits .free .fits)
 
 at-turn : (c : tie.In-loop Inv-loop μ-loop) → Turn 32 (c .before .loop .rest)
 at-turn c = turn 32 (c .before .loop .rest) (c .loop-test .taken) (c .before .loop .inv .fit)
@@ -81,9 +83,12 @@ abbrev width : tie.After-serve Inv-loop μ-loop → ℕ
 width c = c .before .width-at .result
 
 -- it is that of the place
-read : (c : tie.After-serve Inv-loop μ-loop)
-    → getD (take (entry-from-serve c .args .count) (widthsIn (entry-from-serve c .args .even) (entry-from-serve c .args .widths .now))) (trailingZeros 32 (in-loop-from-serve c .before .loop .rest)) 0
-    ≡ width c
+abbrev own : tie.After-serve Inv-loop μ-loop → ℕ
+own c =
+    let a = entry-from-serve c .args in
+    getD (take (a .count) (widthsIn (a .even) (a .widths .now))) (trailingZeros 32 (in-loop-from-serve c .before .loop .rest)) 0
+
+read : (c : tie.After-serve Inv-loop μ-loop) → own c ≡ width c
 read c =
     let a = entry-from-serve c .args in
     getD-take (a .count) (widthsIn (a .even) (a .widths .now)) (trailingZeros 32 (in-loop-from-serve c .before .loop .rest)) 0 (c .before .before .if1 .taken)
@@ -91,9 +96,7 @@ read c =
 
 -- what the rule said to it
 said : (c : tie.After-serve Inv-loop μ-loop)
-    → served (ruleOf (entry-from-serve c .args .rule)) (in-loop-from-serve c .before .loop .left)
-    (getD (take (entry-from-serve c .args .count) (widthsIn (entry-from-serve c .args .even) (entry-from-serve c .args .widths .now))) (trailingZeros 32 (in-loop-from-serve c .before .loop .rest)) 0)
-    ≡ c .serve .result
+    → served (ruleOf (entry-from-serve c .args .rule)) (in-loop-from-serve c .before .loop .left) (own c) ≡ c .serve .result
 said c =
     let r = ruleOf (entry-from-serve c .args .rule) in
     ap (served r (in-loop-from-serve c .before .loop .left)) (read c) ∙ sym (c .serve .ensures)
@@ -121,8 +124,9 @@ loop-again c =
     let q = trailingZeros 32 (l .rest) in
     let w = read n in
     rw (← w)
-    (taken (ruleOf (a .rule)) (take (a .count) (widthsIn (a .even) (a .widths .now))) (a .claims) (a .free) (a .count) (l .sets) (l .rest) (l .set) (l .left) q _ (l .inv) (at-turn t .lowest) (at-turn t .after)
-    (n .before .before .if1 .taken) (c .lowest .result) (omega (arith, c .lowest .ok)) (rw w (c .lowest .ensures)) (said n ∙ c .before .enum-told .given .1) (at-turn t .place))
+    (taken (ruleOf (a .rule)) (take (a .count) (widthsIn (a .even) (a .widths .now))) (a .claims) (a .free) (a .count) (l .sets) (l .rest) (l .set) (l .left)
+    q _ (l .inv) (at-turn t .lowest) (at-turn t .after) (n .before .before .if1 .taken) (c .lowest .result) (omega (arith, c .lowest .ok))
+    (rw w (c .lowest .ensures)) (said n ∙ c .before .enum-told .given .1) (at-turn t .place))
 
 enum-told-2 : tie.Need-enum-told-2 Inv-loop μ-loop
 enum-told-2 c = search needs
@@ -150,7 +154,8 @@ returns c =
     let l = t .before .loop in
     let h = over (ruleOf (a .rule)) (take (a .count) (widthsIn (a .even) (a .widths .now))) (a .claims) (a .free) (a .count) (l .sets) (l .rest) (l .set)
     (l .left) (trailingZeros 32 (l .rest)) _ (l .inv) (at-turn t .lowest) (at-turn t .after) (said n ∙ c .enum-told3 .given .1) in
-    all-granted (ruleOf (a .rule)) (widthsIn (a .even) (a .widths .now)) (a .claims) (a .free) (a .count) (l .sets) (l .set) (l .left) (widths-length (a .even) (a .widths .now)) h
+    all-granted (ruleOf (a .rule)) (widthsIn (a .even) (a .widths .now)) (a .claims) (a .free) (a .count) (l .sets) (l .set) (l .left)
+    (widths-length (a .even) (a .widths .now)) h
 
 loop-less-3 : tie.Need-loop-less-3 Inv-loop μ-loop
 loop-less-3 c = at-turn (c .before) .falls
@@ -161,15 +166,18 @@ loop-again-3 c =
     let a = entry-from-loop (t .before) .args in
     let l = t .before .loop in
     skipped (ruleOf (a .rule)) (take (a .count) (widthsIn (a .even) (a .widths .now))) (a .claims) (a .free) (a .count) (l .sets) (l .rest) (l .set) (l .left)
-    (trailingZeros 32 (l .rest)) _ (l .inv) (at-turn t .lowest) (at-turn t .after) (omega (arith, length-take (a .count) (widthsIn (a .even) (a .widths .now)), c .if1 .left))
+    (trailingZeros 32 (l .rest)) _ (l .inv) (at-turn t .lowest) (at-turn t .after)
+    (omega (arith, length-take (a .count) (widthsIn (a .even) (a .widths .now)), c .if1 .left))
 
 returns-2 : tie.Need-returns-2 Inv-loop μ-loop
 returns-2 c =
     let a = entry-from-loop (c .before) .args in
     let l = c .before .loop in
     let z : l .rest ≡ 0 = omega arith in
-    let h : Held (ruleOf (a .rule)) (take (a .count) (widthsIn (a .even) (a .widths .now))) (a .claims) (a .free) (a .count) (l .sets) 0 (l .set) (l .left) = rw (← z) (l .inv) in
-    all-granted (ruleOf (a .rule)) (widthsIn (a .even) (a .widths .now)) (a .claims) (a .free) (a .count) (l .sets) (l .set) (l .left) (widths-length (a .even) (a .widths .now)) h
+    let h : Held (ruleOf (a .rule)) (take (a .count) (widthsIn (a .even) (a .widths .now))) (a .claims) (a .free) (a .count) (l .sets) 0 (l .set) (l .left) =
+    rw (← z) (l .inv) in
+    all-granted (ruleOf (a .rule)) (widthsIn (a .even) (a .widths .now)) (a .claims) (a .free) (a .count) (l .sets) (l .set) (l .left)
+    (widths-length (a .even) (a .widths .now)) h
 
 pub grants-spec : {M : Type 1} → statement M
 grants-spec =

@@ -51,8 +51,8 @@ returns c =
     w .without .ensures ∙ ap (outside free) (w .before .first-cores .ensures ∙ ap (upFrom 0) all) in
     c .row-of .ensures
     ∙ (ap (λ (start : List ℕ). shown start 1 (map cores (take (a .count) (g .grants .result)))) (p .paint .ensures ∙ ap (painted (replicate 64 0) fencedByte) fenced)
-    ∙ sets-row (ruleOf (a .rule)) (claimants (take (a .count) (widthsIn (a .even) (a .widths .now))) (bit (a .claiming))) (a .count) free (g .grants .result) (g .grants .ensures)
-    (a .fence) (a .cores) (omega arith) opened)
+    ∙ sets-row (ruleOf (a .rule)) (claimants (take (a .count) (widthsIn (a .even) (a .widths .now))) (bit (a .claiming))) (a .count) free
+    (g .grants .result) (g .grants .ensures) (a .fence) (a .cores) (omega arith) opened)
 
 pub show-spec : {M : Type 1} → statement M
 show-spec = tie.close (tie.spec open-cores-requires grants-requires first-cores-requires without-requires paint-requires row-of-requires returns)

@@ -1,6 +1,5 @@
 -- `rule::width_at` meets its contract: the set's digit, times the number of places, is where the width stands (`read-at`). Assumes nothing.
 use borrow.Author.Needs.{needs}
-use native.Mathlib.Omega.{arith}
 use mathlib.Core.Path.{_≡_, sym, ap, _∙_}
 use Prim.Native.Nat.{ℕ}
 use lib.ListN.{getD}

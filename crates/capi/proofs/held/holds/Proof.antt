@@ -24,8 +24,8 @@ abbrev entry-from-then2 : tie.Then2 Inv-loop μ-loop → tie.Start Inv-loop μ-l
 entry-from-then2 c = c .before .before .before .before
 
 -- the state at the head of the loop
-abbrev loop : tie.After-is-phase Inv-loop μ-loop → tie.At-loop Inv-loop μ-loop
-loop c = c .before .before .before .before
+abbrev loop : tie.After-is-stand Inv-loop μ-loop → tie.At-loop Inv-loop μ-loop
+loop c = c .before .before .before .before .before
 
 returns : tie.Need-returns Inv-loop μ-loop
 returns c = sym (held-short (c .before .before .args .words .now) (c .if1 .taken))
@@ -51,26 +51,35 @@ mul-at c = omega arith
 add-at : tie.Need-add-at Inv-loop μ-loop
 add-at c = omega arith
 
-add-is-phase : tie.Need-add-is-phase Inv-loop μ-loop
-add-is-phase c = omega arith
+add-is-stand : tie.Need-add-is-stand Inv-loop μ-loop
+add-is-stand c = omega arith
 
-mul-is-phase : tie.Need-mul-is-phase Inv-loop μ-loop
-mul-is-phase c = omega arith
+mul-is-stand : tie.Need-mul-is-stand Inv-loop μ-loop
+mul-is-stand c = omega arith
 
-shared-slice-read-is-phase : tie.Need-shared-slice-read-is-phase Inv-loop μ-loop
-shared-slice-read-is-phase c = omega arith
+shared-slice-read-is-stand : tie.Need-shared-slice-read-is-stand Inv-loop μ-loop
+shared-slice-read-is-stand c = omega arith
 
-add-is-phase-2 : tie.Need-add-is-phase-2 Inv-loop μ-loop
-add-is-phase-2 c = omega arith
+add-is-stand-2 : tie.Need-add-is-stand-2 Inv-loop μ-loop
+add-is-stand-2 c = omega arith
 
-mul-is-phase-2 : tie.Need-mul-is-phase-2 Inv-loop μ-loop
-mul-is-phase-2 c = omega arith
+mul-is-stand-2 : tie.Need-mul-is-stand-2 Inv-loop μ-loop
+mul-is-stand-2 c = omega arith
 
-shared-slice-read-is-phase-2 : tie.Need-shared-slice-read-is-phase-2 Inv-loop μ-loop
-shared-slice-read-is-phase-2 c = omega arith
+shared-slice-read-is-stand-2 : tie.Need-shared-slice-read-is-stand-2 Inv-loop μ-loop
+shared-slice-read-is-stand-2 c = omega arith
 
-is-phase-requires : tie.Need-is-phase-requires Inv-loop μ-loop
-is-phase-requires c κs = search needs
+add-is-stand-3 : tie.Need-add-is-stand-3 Inv-loop μ-loop
+add-is-stand-3 c = omega arith
+
+mul-is-stand-3 : tie.Need-mul-is-stand-3 Inv-loop μ-loop
+mul-is-stand-3 c = omega arith
+
+shared-slice-read-is-stand-3 : tie.Need-shared-slice-read-is-stand-3 Inv-loop μ-loop
+shared-slice-read-is-stand-3 c = omega arith
+
+is-stand-requires : tie.Need-is-stand-requires Inv-loop μ-loop
+is-stand-requires c κs = search needs
 
 add-i : tie.Need-add-i Inv-loop μ-loop
 add-i c = omega arith
@@ -87,7 +96,7 @@ loop-again c =
     let n = countIn ws in
     let e : wordsTo i + eachWords ≡ wordsTo (i + 1) = omega arith in (
       omega arith,
-      s .loop .inv .1 ∙ (look-on (n - i) (n - (i + 1)) (wordsTo i) ws (omega arith) (place-at ws (wordsTo i) ∙ (sym (p .is-phase .ensures) ∙ c .if3 .taken))
+      s .loop .inv .1 ∙ (look-on (n - i) (n - (i + 1)) (wordsTo i) ws (omega arith) (place-at ws (wordsTo i) ∙ (sym (p .is-stand .ensures) ∙ c .if3 .taken))
           ∙ ap (λ (k : ℕ). arePlaces (n - (i + 1)) (drop k ws)) e),
     )
 
@@ -101,7 +110,7 @@ returns-3 c =
     let n = countIn ws in
     sym
     (held-by ws (f .before .before .if1 .left) (f .if2 .left)
-    ∙ (s .loop .inv .1 ∙ look-stop (n - i) (n - (i + 1)) (wordsTo i) ws (omega arith) (place-at ws (wordsTo i) ∙ (sym (p .is-phase .ensures) ∙ c .if3 .left))))
+    ∙ (s .loop .inv .1 ∙ look-stop (n - i) (n - (i + 1)) (wordsTo i) ws (omega arith) (place-at ws (wordsTo i) ∙ (sym (p .is-stand .ensures) ∙ c .if3 .left))))
 
 returns-4 : tie.Need-returns-4 Inv-loop μ-loop
 returns-4 c =
@@ -126,13 +135,16 @@ holds-spec =
     loop-holds
     mul-at
     add-at
-    add-is-phase
-    mul-is-phase
-    shared-slice-read-is-phase
-    add-is-phase-2
-    mul-is-phase-2
-    shared-slice-read-is-phase-2
-    is-phase-requires
+    add-is-stand
+    mul-is-stand
+    shared-slice-read-is-stand
+    add-is-stand-2
+    mul-is-stand-2
+    shared-slice-read-is-stand-2
+    add-is-stand-3
+    mul-is-stand-3
+    shared-slice-read-is-stand-3
+    is-stand-requires
     add-i
     loop-less
     loop-again

@@ -11,8 +11,8 @@ use Rattle.capi.proofs.held.place_in.Tie as tie
 abbrev phase-of-from-shared-slice-known8 : tie.After-shared-slice-known8 → tie.After-phase-of
 phase-of-from-shared-slice-known8 c = c .before .before .before .before
 
-abbrev phase-of-from-shared-slice-known9 : tie.After-shared-slice-known9 → tie.After-phase-of
-phase-of-from-shared-slice-known9 c = phase-of-from-shared-slice-known8 (c .before)
+abbrev phase-of-from-shared-slice-known11 : tie.After-shared-slice-known11 → tie.After-phase-of
+phase-of-from-shared-slice-known11 c = phase-of-from-shared-slice-known8 (c .before .before .before)
 
 add-phase-of : tie.Need-add-phase-of
 add-phase-of c = omega arith
@@ -86,8 +86,26 @@ mul-t23 c = omega arith
 shared-slice-read-t25 : tie.Need-shared-slice-read-t25
 shared-slice-read-t25 c = omega arith
 
+add-t26 : tie.Need-add-t26
+add-t26 c = omega arith
+
+mul-t27 : tie.Need-mul-t27
+mul-t27 c = omega arith
+
+shared-slice-read-t29 : tie.Need-shared-slice-read-t29
+shared-slice-read-t29 c = omega arith
+
+add-t30 : tie.Need-add-t30
+add-t30 c = omega arith
+
+mul-t31 : tie.Need-mul-t31
+mul-t31 c = omega arith
+
+shared-slice-read-t33 : tie.Need-shared-slice-read-t33
+shared-slice-read-t33 c = omega arith
+
 returns : tie.Need-returns
-returns c = simp (phase-of-from-shared-slice-known9 c .phase-of .ensures, getD-drop, add-zero)
+returns c = simp (phase-of-from-shared-slice-known11 c .phase-of .ensures, getD-drop, add-zero)
 
 pub place-in-spec : {M : Type 1} → statement M
 place-in-spec =
@@ -117,4 +135,10 @@ place-in-spec =
     add-t22
     mul-t23
     shared-slice-read-t25
+    add-t26
+    mul-t27
+    shared-slice-read-t29
+    add-t30
+    mul-t31
+    shared-slice-read-t33
     returns)

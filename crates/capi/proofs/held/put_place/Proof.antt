@@ -32,14 +32,19 @@ slice-write-words-7 c = simp length-set (omega arith)
 slice-write-words-8 : tie.Need-slice-write-words-8
 slice-write-words-8 c = simp length-set (omega arith)
 
+slice-write-words-9 : tie.Need-slice-write-words-9
+slice-write-words-9 c = simp length-set (omega arith)
+
+slice-write-words-10 : tie.Need-slice-write-words-10
+slice-write-words-10 c = simp length-set (omega arith)
+
 same-length : tie.Need-same-length
 same-length c = search needs
 
 returns : tie.Need-returns
 returns c =
-    let t = c .args .task in
-    let ph = c .args .phase in
-    sets-eq (placeWith t ph) (c .args .words .now) 0 (omega arith)
+    let a = c .args in
+    sets-eq (placeWith (a .task) (a .parity) (a .phase)) (a .words .now) 0 (omega arith)
 
 pub put-place-spec : {M : Type 1} → statement M
 put-place-spec =
@@ -53,5 +58,7 @@ put-place-spec =
     slice-write-words-6
     slice-write-words-7
     slice-write-words-8
+    slice-write-words-9
+    slice-write-words-10
     same-length
     returns)

@@ -1,6 +1,6 @@
 -- `capi::held::put_run` meets its contract. The loop's invariant: the places passed are written, and the other words are as found (`words-more`).
 -- Assumes nothing.
-use mathlib.Core.Path.{_≡_, refl, sym, ap, _∙_}
+use mathlib.Core.Path.{_≡_, refl, sym, ap, ap₂, _∙_}
 use mathlib.Core.List.{List, _∷_, _++_}
 use Prim.Native.Nat.{ℕ, _+_, _*_, _-_, _≤_, _<_}
 use native.Mathlib.Omega.{arith}
@@ -9,10 +9,12 @@ use borrow.Rule.Slice.PartAt.{part-to-end}
 use borrow.Rule.Slice.PartMut.{putMid}
 use borrow.Author.Needs.{needs}
 use Rattle.run.specs.declared.Run.{Run}
+use Rattle.phase.specs.declared.Task.{Task}
 use Rattle.phase.specs.Task.{pastEnd}
 use Rattle.run.proofs.Written.{take-more}
 use Rattle.capi.specs.declared.told.Told.{Told}
-use Rattle.capi.specs.Encoding.{headWords, eachWords, places, wordsTo, runWords, placeWith, placeWords, countWord, lowWord, highWord, placesWords, encodeTo, overwritten}
+use Rattle.capi.specs.Encoding.{eachWords, places, wordsTo, runWords, ofPhase, parityWord, placeWith, placeWords}
+use Rattle.capi.specs.Encoding.{countWord, lowWord, highWord, placesWords, encodeTo, overwritten}
 use Rattle.capi.proofs.Places.{words-more}
 use Rattle.capi.proofs.Inverse.{length-to}
 use Rattle.capi.proofs.Putting.{head-length, head-behind, put-more}
@@ -28,6 +30,12 @@ unfolding encodeTo
 one-more r i h =
     ap (λ (l : List ℕ). r .rule ∷ (r .cores ∷ (countWord (r .count) ∷ (lowWord (r .fence) ∷ (highWord (r .fence) ∷ (r .withdrawn ∷ l))))))
     (ap placesWords (take-more (r .tasks) i pastEnd h) ∙ words-more (take i (r .tasks)) (getD (r .tasks) i pastEnd))
+
+-- a place's words, by those of its parity and its phase
+whole :
+    (t : Task) {n : ℕ} {ph : Told} {behind ys : List ℕ} → ys ≡ placeWith t n ph ++ behind → n ≡ parityWord (t .even) → ph ≡ ofPhase (t .phase)
+    → ys ≡ placeWords t ++ behind
+whole t {behind = behind} e p q = e ∙ ap₂ (λ (n : ℕ) (ph : Told). placeWith t n ph ++ behind) p q
 
 -- one place more, in a buffer that stays as long as it was
 next-place :
@@ -55,7 +63,7 @@ put-head c = c .before .before .before
 
 -- the state at the head of the loop
 abbrev loop : tie.After-of-phase Inv-loop μ-loop → tie.At-loop Inv-loop μ-loop
-loop c = c .before .before .before
+loop c = c .before .before .before .before
 
 -- the state at the call
 abbrev entry-from-put-head : tie.After-put-head Inv-loop μ-loop → tie.Start Inv-loop μ-loop
@@ -66,7 +74,7 @@ entry-from-slice-known2 c = entry-from-put-head (c .before .before)
 
 -- the state in the loop
 abbrev in-loop : tie.After-put-place-arg Inv-loop μ-loop → tie.In-loop Inv-loop μ-loop
-in-loop c = c .before .before .before
+in-loop c = c .before .before .before .before
 
 -- the buffer stays as long as it was
 abbrev head-of : tie.After-put-head Inv-loop μ-loop → List ℕ
@@ -98,6 +106,9 @@ mul-at c = omega arith
 add-at : tie.Need-add-at Inv-loop μ-loop
 add-at c = omega arith
 
+parity-word-requires : tie.Need-parity-word-requires Inv-loop μ-loop
+parity-word-requires c κs = search needs
+
 of-phase-requires : tie.Need-of-phase-requires Inv-loop μ-loop
 of-phase-requires c κs = search needs
 
@@ -107,7 +118,7 @@ mul-put-place c = omega arith
 in-reach : (c : tie.After-of-phase Inv-loop μ-loop) → wordsTo (loop c .loop .i) ≤ length (loop c .loop .words)
 in-reach c =
     let s = loop c in
-    let l = c .before .before .loop-test .taken in
+    let l = c .before .before .before .loop-test .taken in
     omega (arith, long s, entry-from-slice-known2 (s .before) .pre .0)
 
 sub-put-place : tie.Need-sub-put-place Inv-loop μ-loop
@@ -141,13 +152,12 @@ loop-again c =
     let g = entry-from-slice-known2 (s .before) in
     let a = g .args in
     let i = s .loop .i in
-    let at = wordsTo i in
     let words = s .loop .words in
     let len : length (a .t1 .tasks) ≡ places = simp length-map at (g .good .0 .1 .1 .1 .1 .1 .1 .1 .0 .1 .0 .1) in
-    let l = o .before .before .loop-test .taken in
+    let l = o .before .before .before .loop-test .taken in
     let t = getD (a .t1 .tasks) i pastEnd in
     let w = head-of (put-head s) in
-    let put = p .put-place .ensures ∙ ap (λ (ph : Told). placeWith t ph ++ drop eachWords (take (length words - at) (drop at words))) (o .of-phase .ensures) in
+    let put = whole t (p .put-place .ensures) (o .before .parity-word .ensures) (o .of-phase .ensures) in
     (omega arith, next-place words w _ (a .t1) i (omega arith) (s .loop .inv .1 .0) (s .loop .inv .1 .1) (in-reach o) (c .before .words2 .given .1) put)
 
 same-length : tie.Need-same-length Inv-loop μ-loop
@@ -173,6 +183,7 @@ put-run-spec =
     loop-holds
     mul-task
     element-copy-out-task
+    parity-word-requires
     mul-at
     add-at
     of-phase-requires

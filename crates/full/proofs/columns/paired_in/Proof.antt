@@ -1,8 +1,7 @@
 -- `full::columns::paired_in` meets its contract: after i turns the set has those of the first i places whose widths differ. Assumes nothing.
-use borrow.Author.Needs.{needs}
 use native.Mathlib.Omega.{arith}
 use mathlib.Core.Logic.{⊎-elim}
-use mathlib.Core.Path.{_≡_, sym, _∙_, subst}
+use mathlib.Core.Path.{_≡_, sym, subst}
 use Prim.Native.Nat.{ℕ, _+_, _-_, _≤_}
 use Rattle.model.proofs.Digits.{shifted-one}
 use Rattle.full.proofs.Fields.{Marked, marked-none, marked-with, marked-not, marked-all}

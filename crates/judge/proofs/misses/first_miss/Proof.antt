@@ -24,18 +24,18 @@ use Rattle.judge.proofs.misses.first_miss.Statement.{statement}
 use Rattle.judge.proofs.misses.first_miss.Tie as tie
 
 abbrev Inv-loop : tie.InvT-loop
-Inv-loop end setting width times pace places rest₀ rest = Looking (machineOf places (pace .claiming)) (pace .tick) rest
+Inv-loop end setting widths times pace places rest₀ rest = Looking (machineOf places (pace .claiming)) (pace .tick) rest
 
 abbrev μ-loop : tie.MeasureT-loop
-μ-loop end setting width times pace places rest₀ rest = rest
+μ-loop end setting widths times pace places rest₀ rest = rest
 
 -- of every table whose run begins so
 abbrev Inv-ticks : tie.InvT-ticks
-Inv-ticks end setting width times pace₀ places₀ pace places =
-    (t : Loaded) → Begins t setting width times pace₀ places₀ → Follows t (standAt pace places) × (pace .tick ≤ end)
+Inv-ticks end setting widths times pace₀ places₀ pace places =
+    (t : Loaded) → Begins t setting widths times pace₀ places₀ → Follows t (standAt pace places) × (pace .tick ≤ end)
 
 abbrev μ-ticks : tie.MeasureT-ticks
-μ-ticks end setting width times pace₀ places₀ pace places = end - pace .tick
+μ-ticks end setting widths times pace₀ places₀ pace places = end - pace .tick
 
 -- the state where the ways of the test `if2` meet
 abbrev joined2 : tie.After-places2 Inv-loop μ-loop Inv-ticks μ-ticks → tie.Joined2 Inv-loop μ-loop Inv-ticks μ-ticks
@@ -75,7 +75,7 @@ table-of p = columns-of-from-places p .before .args .table
 abbrev Of : tie.After-places Inv-loop μ-loop Inv-ticks μ-ticks → Loaded → Type 0
 Of p t =
     let co = columns-of-from-places p in
-    Begins t (co .columns-of .result .setting) (co .columns-of .result .width)
+    Begins t (co .columns-of .result .setting) (co .columns-of .result .widths)
     (co .columns-of .result .times) (p .before .before .start .result .pace) (p .before .before .start .result .places)
 
 own : (p : tie.After-places Inv-loop μ-loop Inv-ticks μ-ticks) → Of p (table-of p)

@@ -37,17 +37,17 @@ abbrev Leapt : Loaded → Stand → Type 0
 Leapt t s = (n : ℕ) × Unmissed t n × (s ≡ leaps t n)
 
 abbrev Inv-loop : tie.InvT-loop
-Inv-loop end setting width times pace places rest₀ rest = Looking (machineOf places (pace .claiming)) (pace .due) rest
+Inv-loop end setting widths times pace places rest₀ rest = Looking (machineOf places (pace .claiming)) (pace .due) rest
 
 abbrev μ-loop : tie.MeasureT-loop
-μ-loop end setting width times pace places rest₀ rest = rest
+μ-loop end setting widths times pace places rest₀ rest = rest
 
 -- of every table whose run begins so
 abbrev Inv-leaps : tie.InvT-leaps
-Inv-leaps end setting width times pace₀ places₀ pace places = (t : Loaded) → Run t setting width times pace₀ places₀ → Leapt t (standAt pace places)
+Inv-leaps end setting widths times pace₀ places₀ pace places = (t : Loaded) → Run t setting widths times pace₀ places₀ → Leapt t (standAt pace places)
 
 abbrev μ-leaps : tie.MeasureT-leaps
-μ-leaps end setting width times pace₀ places₀ pace places = end - pace .tick
+μ-leaps end setting widths times pace₀ places₀ pace places = end - pace .tick
 
 -- the state past the loop
 abbrev past-loop : tie.After-places2 Inv-loop μ-loop Inv-leaps μ-leaps → tie.After-loop Inv-loop μ-loop Inv-leaps μ-leaps
@@ -82,7 +82,7 @@ table-of p = columns-of-from-places p .before .args .table
 abbrev Of : tie.After-places Inv-loop μ-loop Inv-leaps μ-leaps → Loaded → Type 0
 Of p t =
     let co = columns-of-from-places p in
-    Run t (co .columns-of .result .setting) (co .columns-of .result .width)
+    Run t (co .columns-of .result .setting) (co .columns-of .result .widths)
     (co .columns-of .result .times) (p .before .before .start .result .pace) (p .before .before .start .result .places)
 
 own : (p : tie.After-places Inv-loop μ-loop Inv-leaps μ-leaps) → Of p (table-of p)
@@ -96,7 +96,7 @@ own p = record {
 abbrev nums : tie.After-places Inv-loop μ-loop Inv-leaps μ-leaps → Numbers
 nums p =
     let co = columns-of-from-places p in
-    numbersBy (co .columns-of .result .setting) (co .columns-of .result .width)
+    numbersBy (co .columns-of .result .setting) (co .columns-of .result .widths)
     (co .columns-of .result .times)
 
 abbrev stand-of : tie.At-leaps Inv-loop μ-loop Inv-leaps μ-leaps → Stand

@@ -10,13 +10,14 @@ use lib.ListN.{getD}
 use Rattle.model.specs.Search.{bit}
 use Rattle.model.specs.Task.{ruleOf}
 use Rattle.model.specs.Grants.{claimants}
+use Rattle.rule.specs.Widths.{widthsIn}
 use Rattle.rule.proofs.Sets.{granted-open}
 use Rattle.full.specs.Machine.{Machine, machineOf}
 use Rattle.full.specs.Stand.{Numbers, numbersBy}
 use Rattle.leap.specs.Stand.{Stand, standAt}
 use Rattle.leap.specs.Leap.{Owing, after, bellAfter, grantedIn, ticksIn, leapt, Lands}
 use Rattle.leap.proofs.Lands.{Goes, goes, leap-lands}
-use Rattle.leap.proofs.Taken.{due-looked, due-skipped, chosen-kept, chosen-anew, ticks-are, leap-taken}
+use Rattle.leap.proofs.Taken.{Seen, due-looked, due-skipped, chosen-kept, kept-for, chosen-anew, ticks-are, leap-taken}
 use Rattle.leap.proofs.stand.leap.Statement.{statement}
 use Rattle.leap.proofs.stand.leap.Tie as tie
 
@@ -24,9 +25,13 @@ use Rattle.leap.proofs.stand.leap.Tie as tie
 abbrev joined2 : tie.After-shortest → tie.Joined2
 joined2 c = c .before .before .before
 
+-- the state where the ways of the test `if1` meet
+abbrev joined1 : tie.Joined2 → tie.Joined1
+joined1 c = c .before .before
+
 -- the state at the call
 abbrev entry-from-joined2 : tie.Joined2 → tie.Start
-entry-from-joined2 c = c .before .before .before
+entry-from-joined2 c = joined1 c .before .before
 
 abbrev entry-from-turn-due-arg : tie.After-turn-due-arg → tie.Start
 entry-from-turn-due-arg c = c .before .before .before
@@ -40,7 +45,7 @@ shortest c = c .before .before .before .before
 
 -- the table's numbers, and the run where the function begins
 abbrev nums : tie.Start → Numbers
-nums s = numbersBy (s .args .setting) (s .args .width .now) (s .args .times .now)
+nums s = numbersBy (s .args .setting) (s .args .widths .now) (s .args .times .now)
 
 abbrev stand : tie.Start → Stand
 stand s = standAt (s .args .pace) (s .args .places .now)
@@ -51,39 +56,46 @@ going s = goes (s .pre .0) (nums s) (stand s) (s .pre .1)
 -- after the due places
 after-of :
     (c : tie.Joined1)
-    → (machineOf (c .if1 .places) (c .if1 .claiming) ≡ after (nums (c .before .before)) (stand (c .before .before)))
-    × (c .if1 .bell ≡ bellAfter (nums (c .before .before)) (stand (c .before .before)))
+    → Seen (nums (c .before .before)) (stand (c .before .before)) (machineOf (c .if1 .places) (c .if1 .claiming)) (c .if1 .bell) (c .if1 .even)
 after-of c =
     let s = c .before .before in
     ⊎-elim
     (λ w.
     let d = due-looked (nums s) (stand s) _ _ (w .0 .taken) (w .2 .ensures) (w .4 .ensures) in
-    (ap₂ machineOf (w .5) (w .6) ∙ d .0, w .7 ∙ d .1))
+    record { machines = ap₂ machineOf (w .7) (w .8) ∙ d .machines; bell = w .9 ∙ d .bell; even = w .10 ∙ d .even })
     (λ w.
     let d = due-skipped (nums s) (stand s) (w .0 .left) in
-    (ap₂ machineOf (w .1) (w .2) ∙ d .0, w .3 ∙ d .1))
+    record { machines = ap₂ machineOf (w .1) (w .2) ∙ d .machines; bell = w .3 ∙ d .bell; even = w .4 ∙ d .even })
     (c .if1 .came)
 
 -- the claimants
 claims-of : (c : tie.Joined1) → c .if1 .claiming ≡ after (nums (c .before .before)) (stand (c .before .before)) .claiming
-claims-of c = ap (λ (m : Machine). m .claiming) (after-of c .0)
+claims-of c = ap (λ (m : Machine). m .claiming) (after-of c .machines)
 
 -- who is granted cores: kept, or chosen anew
 granted-of : (c : tie.Joined2) → c .if2 .granted ≡ grantedIn (nums (entry-from-joined2 c)) (stand (entry-from-joined2 c))
 granted-of c =
     let s = entry-from-joined2 c in
-    let j = c .before in
+    let n = nums s in
+    let j = joined1 c in
+    let claiming = j .if1 .claiming in
+    let even = j .if1 .even in
     ⊎-elim
-    (λ w. w .4 ∙ chosen-anew (nums s) (stand s) (j .if1 .claiming) _ (claims-of j) (w .0 .taken) (w .2 .ok)
-    (λ q. w .2 .ensures q ∙ granted-open (ruleOf (nums s .rule)) (claimants (nums s .widths) (bit (j .if1 .claiming))) _ (nums s .fence) (nums s .cores) (going s .narrow) (w .1 .ensures) q))
-    (λ w. w .2 ∙ chosen-kept (nums s) (stand s) (j .if1 .claiming) (claims-of j) (w .0 .left))
+    (λ w. w .4 ∙ chosen-anew n (stand s) claiming even _ (claims-of j) (after-of j .even) (w .0 .taken) (w .2 .ok)
+    (λ q. w .2 .ensures q
+    ∙ granted-open (ruleOf (n .rule)) (claimants (widthsIn even (n .widths)) (bit claiming)) _ (n .fence) (n .cores) (going s .narrow) (w .1 .ensures) q))
+    (λ w. w .2 ∙ chosen-kept n (stand s) claiming even (claims-of j) (after-of j .even) (w .0 .left))
     (c .if2 .came)
 
 -- and for whom they were chosen
 chosen-of : (c : tie.Joined2) → c .if2 .chosen ≡ after (nums (entry-from-joined2 c)) (stand (entry-from-joined2 c)) .claiming
 chosen-of c =
-    let j = c .before in
-    ⊎-elim (λ w. w .3 ∙ claims-of j) (λ w. w .1 ∙ (sym (w .0 .left) ∙ claims-of j)) (c .if2 .came)
+    let s = entry-from-joined2 c in
+    let j = joined1 c in
+    ⊎-elim
+    (λ w. w .3 ∙ claims-of j)
+    (λ w. w .1 ∙ kept-for (nums s) (stand s) (j .if1 .claiming) (j .if1 .even) (claims-of j) (after-of j .even) (w .0 .left))
+    (c .if2 .came)
 
 -- how many ticks it takes
 ticks-of :
@@ -91,10 +103,10 @@ ticks-of :
     → c .shortest .result ≡ ticksIn (nums (entry-from-joined2 (joined2 c))) (stand (entry-from-joined2 (joined2 c)))
 ticks-of c =
     let k = joined2 c in
-    let j = k .before in
+    let j = joined1 k in
     let s = j .before .before in
-    ticks-are (nums s) (stand s) (machineOf (j .if1 .places) (j .if1 .claiming)) (j .if1 .bell) (k .if2 .granted) (c .shortest .result) (after-of j .0) (after-of j .1)
-    (granted-of k) (c .shortest .ensures)
+    ticks-are (nums s) (stand s) (machineOf (j .if1 .places) (j .if1 .claiming)) (j .if1 .bell) (k .if2 .granted) (c .shortest .result) (after-of j .machines)
+    (after-of j .bell) (granted-of k) (c .shortest .ensures)
 
 turn-due-requires : tie.Need-turn-due-requires
 turn-due-requires c κs = going (entry-from-turn-due-arg c) .fits
@@ -110,8 +122,8 @@ choose-requires c κs = search needs
 
 sub-shortest : tie.Need-sub-shortest
 sub-shortest c =
-    let j = c .before .before in
-    omega (arith, after-of j .1, going (j .before .before) .before)
+    let j = joined1 (c .before) in
+    omega (arith, after-of j .bell, going (j .before .before) .before)
 
 shortest-requires : tie.Need-shortest-requires
 shortest-requires c κs = search needs
@@ -120,18 +132,18 @@ pass-requires : tie.Need-pass-requires
 pass-requires c κs =
     let h = c .before in
     let k = joined2 h in
-    let j = k .before in
+    let j = joined1 k in
     let s = j .before .before in
     let g = going s in
-    subst₂ (λ (x : ℕ) (m : Machine). Owing (h .shortest .result) (bit x) m) (sym (granted-of k)) (sym (after-of j .0))
+    subst₂ (λ (x : ℕ) (m : Machine). Owing (h .shortest .result) (bit x) m) (sym (granted-of k)) (sym (after-of j .machines))
     (λ p e. (g .owing p e .0, subst (λ (x : ℕ). x ≤ getD (after (nums s) (stand s) .left) p 0) (sym (ticks-of h)) (g .short .below p e)))
 
 add-landed : tie.Need-add-landed
 add-landed c =
     let h = c .before .before in
-    let j = joined2 h .before in
+    let j = joined1 (joined2 h) in
     let g = going (j .before .before) in
-    omega (arith, ticks-of h, g .short .within, g .before, after-of j .1)
+    omega (arith, ticks-of h, g .short .within, g .before, after-of j .bell)
 
 due-by-requires : tie.Need-due-by-requires
 due-by-requires c κs = going (entry-from-pass (c .before)) .few
@@ -140,11 +152,11 @@ returns : tie.Need-returns
 returns c =
     let h = shortest c in
     let k = joined2 h in
-    let j = k .before in
+    let j = joined1 k in
     let s = j .before .before in
     let value =
-    leap-taken (nums s) (stand s) (machineOf (j .if1 .places) (j .if1 .claiming)) _ (j .if1 .bell) (k .if2 .chosen) (k .if2 .granted) (h .shortest .result) (c .due-by .result)
-    (after-of j .0) (after-of j .1) (chosen-of k) (granted-of k) (ticks-of h) (c .before .before .pass .ensures) (c .due-by .ensures) in
+    leap-taken (nums s) (stand s) (machineOf (j .if1 .places) (j .if1 .claiming)) _ (j .if1 .bell) (k .if2 .chosen) (k .if2 .granted) (j .if1 .even)
+    (h .shortest .result) (c .due-by .result) (after-of j) (chosen-of k) (granted-of k) (ticks-of h) (c .before .before .pass .ensures) (c .due-by .ensures) in
     record { value = value; lands = λ t b. subst (Lands t (stand s)) (sym value) (leap-lands t (nums s) (stand s) b) }
 
 pub leap-spec : {M : Type 1} → statement M

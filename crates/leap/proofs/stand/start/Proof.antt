@@ -40,6 +40,7 @@ returns c =
       bell = (c .before .before .earliest .ensures ∙ ap (soonest (t .count)) moment) i;
       chosen = 0;
       granted = 0;
+      even = made .ensures .0 i .even;
     }
 
 pub start-spec : {M : Type 1} → statement M

@@ -17,10 +17,10 @@ use Rattle.longest.proofs.walk.figures.Statement.{statement}
 use Rattle.longest.proofs.walk.figures.Tie as tie
 
 abbrev Inv-loop : tie.InvT-loop
-Inv-loop table setting width times pace₀ places₀ longest₀ pace places longest = Stands table (standAt pace places) × Noted table (pace .tick) longest
+Inv-loop table setting widths times pace₀ places₀ longest₀ pace places longest = Stands table (standAt pace places) × Noted table (pace .tick) longest
 
 abbrev μ-loop : tie.MeasureT-loop
-μ-loop table setting width times pace₀ places₀ longest₀ pace places longest = suc (table .horizon) - pace .tick
+μ-loop table setting widths times pace₀ places₀ longest₀ pace places longest = suc (table .horizon) - pace .tick
 
 -- THE STATES: where the loop is entered, what it rests on, and the turn that each step of it belongs to
 abbrev begin : tie.After-places Inv-loop μ-loop → tie.After-columns-of Inv-loop μ-loop
@@ -51,7 +51,7 @@ table-of p = begin p .before .args .table
 abbrev nums : tie.After-places Inv-loop μ-loop → Numbers
 nums p =
     let r = begin p .columns-of .result in
-    numbersBy (r .setting) (r .width) (r .times)
+    numbersBy (r .setting) (r .widths) (r .times)
 
 fit-of : (p : tie.After-places Inv-loop μ-loop) → Fit (table-of p)
 fit-of p = begin p .before .pre

@@ -1,5 +1,5 @@
 -- `plan::rows::write` meets its contract. Before each tick the run stands as the table's full-length run does (`Follows`) and the buffer has the rows so
--- far (`Filled`); the row is kept with the claimants it was made for (`RowFor`). Assumes nothing.
+-- far (`Filled`); the row is kept with the claimants and the widths it was made for (`RowFor`). Assumes nothing.
 use borrow.Author.Needs.{needs}
 use native.Mathlib.Omega.{arith}
 use mathlib.Core.Path.{_≡_, refl, sym, ap, _∙_, subst, subst₂}
@@ -11,22 +11,22 @@ use lib.ListN as list
 use Rattle.model.specs.Book.{Missed}
 use Rattle.model.specs.Sizes.{mostCores}
 use Rattle.table.specs.declared.Loaded.{Loaded}
-use Rattle.full.specs.Stand.{Numbers, numbersBy, numbersIn, Stand, standAt, after, bellAfter, Steppable, next}
-use Rattle.full.proofs.Steps.{tick-on, chosen-on}
+use Rattle.full.specs.Stand.{Numbers, numbersBy, numbersIn, Stand, standAt, after, bellAfter, evenAfter, Steppable, next}
+use Rattle.full.proofs.Steps.{tick-on, chosen-on, even-on}
 use Rattle.judge.specs.Judged.{tableIn, Fit}
 use Rattle.judge.proofs.Follows.{Follows, follows-start, looked, steppable, follows-on}
 use Rattle.plan.proofs.Late.{all-met}
 use Rattle.plan.specs.Plan.{over}
-use Rattle.plan.proofs.Writing.{RowBy, RowFor, Filled, filled-start, filled-pass, filled-room, filled-more, row-bytes}
+use Rattle.plan.proofs.Writing.{RowBy, RowFor, Filled, filled-start, filled-pass, filled-room, filled-more, none-changed, row-bytes}
 use Rattle.plan.proofs.rows.write.Statement.{statement}
 use Rattle.plan.proofs.rows.write.Tie as tie
 
 abbrev Inv-loop : tie.InvT-loop
-Inv-loop table a b out₀ cores setting width times pace₀ places₀ shown₀ row₀ at₀ out pace places shown row at =
-    Follows table (standAt pace places) × RowFor table shown row × (pace .tick ≤ b) × Filled table a (pace .tick) at out₀ out
+Inv-loop table a b out₀ cores setting widths times pace₀ places₀ shown₀ even₀ row₀ at₀ out pace places shown even row at =
+    Follows table (standAt pace places) × RowFor table shown even row × (pace .tick ≤ b) × Filled table a (pace .tick) at out₀ out
 
 abbrev μ-loop : tie.MeasureT-loop
-μ-loop table a b out₀ cores setting width times pace₀ places₀ shown₀ row₀ at₀ out pace places shown row at = b - pace .tick
+μ-loop table a b out₀ cores setting widths times pace₀ places₀ shown₀ even₀ row₀ at₀ out pace places shown even row at = b - pace .tick
 
 -- the state where the test `if1` holds
 abbrev then1-from-places2 : tie.After-places2 Inv-loop μ-loop → tie.Then1 Inv-loop μ-loop
@@ -38,7 +38,7 @@ places-from-then1 c = c .before .before .before
 
 -- the state after `step`
 abbrev step : tie.Joined3 Inv-loop μ-loop → tie.After-step Inv-loop μ-loop
-step c = c .before .before .before
+step c = c .before .before .before .before
 
 -- the state after `show`
 abbrev show : tie.After-places Inv-loop μ-loop → tie.After-show Inv-loop μ-loop
@@ -50,7 +50,7 @@ joined3 c = c .before .before .before
 
 -- the state where the test `if2` holds
 abbrev then2-from-put-arg : tie.After-put-arg Inv-loop μ-loop → tie.Then2 Inv-loop μ-loop
-then2-from-put-arg c = c .before .before .before
+then2-from-put-arg c = c .before .before .before .before
 
 abbrev then2-from-slice-known2 : tie.After-slice-known2 Inv-loop μ-loop → tie.Then2 Inv-loop μ-loop
 then2-from-slice-known2 c = then2-from-put-arg (c .before .before .before)
@@ -60,21 +60,21 @@ abbrev loop-from-places2 : tie.After-places2 Inv-loop μ-loop → tie.At-loop In
 loop-from-places2 c = then1-from-places2 c .before .before
 
 abbrev loop-from-joined3 : tie.Joined3 Inv-loop μ-loop → tie.At-loop Inv-loop μ-loop
-loop-from-joined3 c = loop-from-places2 (c .before .before .before .before)
+loop-from-joined3 c = loop-from-places2 (step c .before)
 
 -- the state at the call
 abbrev entry-from-setting : tie.After-setting Inv-loop μ-loop → tie.Start Inv-loop μ-loop
 entry-from-setting c = c .before .before .before .before
 
-abbrev entry-from-width2 : tie.After-width2 Inv-loop μ-loop → tie.Start Inv-loop μ-loop
-entry-from-width2 c = entry-from-setting (c .before .before .before)
+abbrev entry-from-widths2 : tie.After-widths2 Inv-loop μ-loop → tie.Start Inv-loop μ-loop
+entry-from-widths2 c = entry-from-setting (c .before .before .before)
 
 -- the state after `columns-of`
-abbrev columns-of-from-width2 : tie.After-width2 Inv-loop μ-loop → tie.After-columns-of Inv-loop μ-loop
-columns-of-from-width2 c = c .before .before .before .before
+abbrev columns-of-from-widths2 : tie.After-widths2 Inv-loop μ-loop → tie.After-columns-of Inv-loop μ-loop
+columns-of-from-widths2 c = c .before .before .before .before
 
 abbrev columns-of-from-places : tie.After-places Inv-loop μ-loop → tie.After-columns-of Inv-loop μ-loop
-columns-of-from-places c = columns-of-from-width2 (c .before .before .before .before)
+columns-of-from-places c = columns-of-from-widths2 (c .before .before .before .before)
 
 -- the state at the call
 abbrev entry-from-places : tie.After-places Inv-loop μ-loop → tie.Start Inv-loop μ-loop
@@ -88,8 +88,8 @@ then1-from-slice-known2 c = then1-from-places2 (then2-from-slice-known2 c .befor
 abbrev places-from-step : tie.After-step Inv-loop μ-loop → tie.After-places Inv-loop μ-loop
 places-from-step c = loop-from-places2 (c .before) .before
 
-abbrev places-from-width4 : tie.After-width4 Inv-loop μ-loop → tie.After-places Inv-loop μ-loop
-places-from-width4 c = places-from-step (c .before .before .before .before)
+abbrev places-from-widths4 : tie.After-widths4 Inv-loop μ-loop → tie.After-places Inv-loop μ-loop
+places-from-widths4 c = places-from-step (c .before .before .before .before .before)
 
 -- THE PLACES. What the function is given, and the numbers that the run is stepped with
 abbrev table-of : tie.After-places Inv-loop μ-loop → Loaded
@@ -114,7 +114,7 @@ enough-of : (p : tie.After-places Inv-loop μ-loop) → (last-of p - first-of p)
 enough-of p = entry-from-places p .pre .4
 
 numbers : (p : tie.After-places Inv-loop μ-loop) → numbersBy (columns-of-from-places p .columns-of .result .setting)
-    (columns-of-from-places p .columns-of .result .width) (columns-of-from-places p .columns-of .result .times) ≡ numbersIn (table-of p)
+    (columns-of-from-places p .columns-of .result .widths) (columns-of-from-places p .columns-of .result .times) ≡ numbersIn (table-of p)
 numbers p = columns-of-from-places p .columns-of .ensures
 
 -- the run before a tick
@@ -148,24 +148,46 @@ claims c =
     let k = loop-from-places2 (c .before) in
     chosen-on _ _ _ (c .step .ensures) ∙ ap (λ (n : Numbers). after n (stand-of k) .claiming) (numbers (k .before))
 
--- from tick a on the row is that of the claimants: it was just made, or they are those it was made for
-row-of : (c : tie.Joined3 Inv-loop μ-loop) → RowFor (table-of (loop-from-joined3 c .before)) (step c .step .result .chosen) (c .if3 .row)
+-- .. and for their widths in it
+turned :
+    (c : tie.After-step Inv-loop μ-loop)
+    → c .step .result .even ≡ evenAfter (numbersIn (table-of (places-from-step c))) (stand-of (loop-from-places2 (c .before)))
+turned c =
+    let k = loop-from-places2 (c .before) in
+    even-on _ _ _ (c .step .ensures) ∙ ap (λ (n : Numbers). evenAfter n (stand-of k)) (numbers (k .before))
+
+-- from tick a on the row is that of the claimants and their widths: it was just made, or they are those it was made for
+row-of :
+    (c : tie.Joined3 Inv-loop μ-loop)
+    → RowFor (table-of (loop-from-joined3 c .before)) (step c .step .result .chosen) (step c .step .result .even) (c .if3 .row)
 row-of c =
     let g = step c in
-    let p = places-from-step g in
+    let k = loop-from-places2 (g .before) in
+    let p = k .before in
     let t = table-of p in
     ⊎-elim
     (λ w.
-    subst (λ (l : List ℕ). RowFor t (g .step .result .chosen) l) (sym (w .4))
-    (subst (λ (n : Numbers). RowBy t (n .widths) (g .step .result .chosen) (w .2 .result)) (numbers p) (w .2 .ensures)))
-    (λ w. subst₂ (λ (x : ℕ) (l : List ℕ). RowFor t x l) (sym (w .0 .left)) (sym (w .2)) (loop-from-places2 (g .before) .loop .inv .1))
+    subst (λ (l : List ℕ). RowFor t (g .step .result .chosen) (g .step .result .even) l) (sym (w .5))
+    (subst (λ (n : Numbers). RowBy t (n .widths) (g .step .result .chosen) (g .step .result .even) (w .2 .result)) (numbers p) (w .2 .ensures)))
+    (λ w.
+    let same = none-changed (g .step .result .chosen) (k .loop .shown) (g .step .result .even) (k .loop .even) (w .0 .left) in
+    subst (λ (l : List ℕ). RowFor t (g .step .result .chosen) (g .step .result .even) l) (sym (w .3))
+    (subst₂ (λ (x y : ℕ). RowFor t x y (k .loop .row)) (sym (same .0)) (sym (same .1)) (k .loop .inv .1)))
     (c .if3 .came)
 
-row-kept : (c : tie.Joined3 Inv-loop μ-loop) → RowFor (table-of (loop-from-joined3 c .before)) (c .if3 .shown) (c .if3 .row)
-row-kept c = subst (λ (x : ℕ). RowFor (table-of (loop-from-joined3 c .before)) x (c .if3 .row)) same (row-of c)
+row-kept : (c : tie.Joined3 Inv-loop μ-loop) → RowFor (table-of (loop-from-joined3 c .before)) (c .if3 .shown) (c .if3 .even) (c .if3 .row)
+row-kept c = subst₂ (λ (x y : ℕ). RowFor (table-of (loop-from-joined3 c .before)) x y (c .if3 .row)) (same .0) (same .1) (row-of c)
   where
-    same : step c .step .result .chosen ≡ c .if3 .shown
-    same = ⊎-elim (λ w. sym (w .3)) (λ w. w .0 .left ∙ sym (w .1)) (c .if3 .came)
+    same : (step c .step .result .chosen ≡ c .if3 .shown) × (step c .step .result .even ≡ c .if3 .even)
+    same =
+        let k = loop-from-joined3 c in
+        let g = step c in
+        ⊎-elim
+        (λ w. (sym (w .3), sym (w .4)))
+        (λ w.
+        let h = none-changed (g .step .result .chosen) (k .loop .shown) (g .step .result .even) (k .loop .even) (w .0 .left) in
+        (h .0 ∙ sym (w .1), h .1 ∙ sym (w .2)))
+        (c .if3 .came)
 
 -- THE ANSWERS
 cast-cores : tie.Need-cast-cores Inv-loop μ-loop
@@ -178,14 +200,14 @@ start-requires : tie.Need-start-requires Inv-loop μ-loop
 start-requires c κs = search needs
 
 show-requires : tie.Need-show-requires Inv-loop μ-loop
-show-requires c κs = let s = entry-from-width2 c in (s .pre .1, s .pre .0 .few)
+show-requires c κs = let s = entry-from-widths2 c in (s .pre .1, s .pre .0 .few)
 
 loop-holds : tie.Need-loop-holds Inv-loop μ-loop
 loop-holds c =
     let begins = c .before .before .start .ensures .0 in
     let e : c .before .before .start .result .pace .tick ≡ 0 = ap (λ (x : Stand). x .tick) begins in (
       subst (Follows (table-of c)) (sym begins) (follows-start (table-of c) (fit-of c)),
-      subst (λ (n : Numbers). RowBy (table-of c) (n .widths) 0 (show c .show .result)) (numbers c) (show c .show .ensures),
+      subst (λ (n : Numbers). RowBy (table-of c) (n .widths) 0 0 (show c .show .result)) (numbers c) (show c .show .ensures),
       omega arith,
       subst (λ (n : ℕ). Filled (table-of c) (first-of c) n 0 (found-of c) (found-of c)) (sym e) (filled-start (table-of c) (first-of c) (found-of c)),
     )
@@ -198,7 +220,7 @@ step-requires c κs =
     (steppable (table-of p) (fit-of p) (stand-of k) (k .loop .inv .0) (met (then1-from-places2 c)) (small (then1-from-places2 c)))
 
 show-requires-2 : tie.Need-show-requires-2 Inv-loop μ-loop
-show-requires-2 c κs = let p = places-from-width4 c in (cores-of p, fit-of p .few)
+show-requires-2 c κs = let p = places-from-widths4 c in (cores-of p, fit-of p .few)
 
 put-requires : tie.Need-put-requires Inv-loop μ-loop
 put-requires c κs =
@@ -228,14 +250,14 @@ loop-again c =
     let p = k .before in
     let t = table-of p in
     let s = stand-of k in
-    let row = subst (λ (x : ℕ). RowFor t x (j .if3 .row)) (claims g) (row-of j) in (
+    let row = subst₂ (λ (x y : ℕ). RowFor t x y (j .if3 .row)) (claims g) (turned g) (row-of j) in (
       on g,
       row-kept j,
       omega (arith, tick g, then1 .if1 .taken),
       rw (tick g)
           (filled-more t (first-of p) (last-of p) (k .loop .pace .tick) (k .loop .at) _ (found-of p) (k .loop .out) _ (j .if3 .row)
           (k .loop .inv .3) (then2-from-slice-known2 c .if2 .taken) (then1 .if1 .taken) (enough-of p)
-          (row-bytes t (fit-of p) (after (numbersIn t) s) (bellAfter (numbersIn t) s) (k .loop .pace .tick) (j .if3 .row)
+          (row-bytes t (fit-of p) (after (numbersIn t) s) (evenAfter (numbersIn t) s) (bellAfter (numbersIn t) s) (k .loop .pace .tick) (j .if3 .row)
           (looked t (fit-of p) s (k .loop .inv .0) (met then1)) row)
           refl (c .before .before .put .ensures)),
     )

@@ -17,14 +17,14 @@ use Rattle.printer.proofs.Printer.hand_out.Statement.{statement}
 use Rattle.printer.proofs.Printer.hand_out.Tie as tie
 
 abbrev Inv-loop : tie.InvT-loop
-Inv-loop buffer₀ table end setting width times places₀ stage₀ text₀ line₀ given₀ at₀ buffer places stage text line given at =
+Inv-loop buffer₀ table end setting widths times places₀ stage₀ text₀ line₀ given₀ at₀ buffer places stage text line given at =
     Handing
     (record { table = table; end = end; places = places₀; stage = stage₀; row = text₀; line = line₀; given = given₀ })
     (record { table = table; end = end; places = places; stage = stage; row = text; line = line; given = given })
     buffer₀ buffer at
 
 abbrev μ-loop : tie.MeasureT-loop
-μ-loop buffer₀ table end setting width times places₀ stage₀ text₀ line₀ given₀ at₀ buffer places stage text line given at = end - stage .pace .tick
+μ-loop buffer₀ table end setting widths times places₀ stage₀ text₀ line₀ given₀ at₀ buffer places stage text line given at = end - stage .pace .tick
 
 -- the state after `copy`
 abbrev copy : tie.After-struct-known2 Inv-loop μ-loop → tie.After-copy Inv-loop μ-loop
@@ -95,7 +95,7 @@ now-of c = record {
 abbrev numbers-of : tie.At-loop Inv-loop μ-loop → Numbers
 numbers-of c =
     let co = columns-of-from-loop c in
-    numbersBy (co .columns-of .result .setting) (co .columns-of .result .width) (co .columns-of .result .times)
+    numbersBy (co .columns-of .result .setting) (co .columns-of .result .widths) (co .columns-of .result .times)
 
 numbers : (c : tie.At-loop Inv-loop μ-loop) → numbers-of c ≡ numbersIn (given-of c .table)
 numbers c = columns-of-from-loop c .columns-of .ensures

@@ -12,6 +12,7 @@ use Rattle.model.specs.Task.{ruleOf}
 use Rattle.model.specs.Grants.{claimants, grants}
 use Rattle.model.specs.Row.{row}
 use Rattle.model.specs.Sizes.{mostCores}
+use Rattle.rule.specs.Widths.{widthsIn}
 use Rattle.text.specs.Format.{newline}
 use Rattle.text.specs.Output.{fields}
 use Rattle.text.specs.Written.{Put}
@@ -38,7 +39,8 @@ unfolding cells
 returns c =
     let a = show c .before .before .args in
     let s = c .before .before .spell in
-    let gs = grants (ruleOf (a .rule)) (claimants (take (a .count) (a .widths .now)) (bit (a .claims))) (unfenced (a .fence) (a .cores)) in
+    let ws = take (a .count) (widthsIn (a .even) (a .widths .now)) in
+    let gs = grants (ruleOf (a .rule)) (claimants ws (bit (a .claims))) (unfenced (a .fence) (a .cores)) in
     let e = ap (take (a .cores)) (show c .show .ensures) ∙ take-at (row (a .fence) (a .cores) gs) (replicate (mostCores - a .cores) 0) (a .cores) (row-length (a .fence) (a .cores) gs) in
     (subst (λ (xs : List ℕ). Put (a .text .now) 0 (fields xs ++ (newline ∷ [])) (s .last .1 .1 .0) (s .result)) e (s .ensures .0), s .ensures .1)
 

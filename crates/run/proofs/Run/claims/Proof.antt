@@ -1,9 +1,9 @@
 -- `run::Run::claims` meets its contract. The loop's invariant: the sets are those of the places passed, as they are seen with their empty jobs, and
--- the widths of these places are stored.
+-- both widths of these places are stored.
 -- Assumes nothing.
 use mathlib.Core.Path.{_≡_, refl, ap, _∙_}
 use mathlib.Core.Bool.{Bool, _&&_}
-use Prim.Native.Nat.{ℕ, _≤_, _<_, _-_}
+use Prim.Native.Nat.{ℕ, _+_, _≤_, _<_, _-_}
 use native.Mathlib.Omega.{arith}
 use lib.ListN.{length, getD, length-set, length-map}
 use lib.Dec.{ltb}
@@ -12,24 +12,28 @@ use Rattle.model.specs.Search.{bit}
 use Rattle.model.proofs.Digits.{or-bit}
 use Rattle.model.specs.Sizes.{mostTasks}
 use Rattle.phase.specs.Phase.{claiming, working, released, seen}
-use Rattle.phase.specs.Task.{pastEnd}
-use Rattle.run.specs.Run.{ruleIn, phaseAt, seenAt}
-use Rattle.run.proofs.PlaceSets.{gathered-none, gathered-more, stored-more, widths-stored}
+use Rattle.rule.specs.Widths.{pair}
+use Rattle.run.specs.Run.{ruleIn, placeAt, evenAt, phaseAt, seenAt}
+use Rattle.run.proofs.PlaceSets.{gathered-none, gathered-more, Stored, stored-more, widths-stored}
 use Rattle.run.proofs.Run.claims.Statement.{statement}
 use Rattle.run.proofs.Run.claims.Tie as tie
 
 abbrev Inv-loop : tie.InvT-loop
-Inv-loop e run rule count emptied claiming₀ working₀ released₀ widths₀ i₀ c w b ws i =
-    (i ≤ count) × ((length ws ≡ mostTasks)
+Inv-loop e run rule count emptied claiming₀ working₀ released₀ even₀ widths₀ i₀ c w b v ws i =
+    (i ≤ count) × ((length ws ≡ pair)
     × (((p : ℕ) → bit c p ≡ ltb p i && claiming (seenAt run e p))
     × (((p : ℕ) → bit w p ≡ ltb p i && working (seenAt run e p))
     × (((p : ℕ) → bit b p ≡ ltb p i && released (phaseAt run p))
-    × ((p : ℕ) → p < i → getD ws p 0 ≡ getD (run .tasks) p pastEnd .width)))))
+    × (((p : ℕ) → bit v p ≡ ltb p i && evenAt run p)
+    × Stored run i ws)))))
 
 abbrev μ-loop : tie.MeasureT-loop
-μ-loop e run rule count emptied claiming₀ working₀ released₀ widths₀ i₀ c w b ws i = count - i
+μ-loop e run rule count emptied claiming₀ working₀ released₀ even₀ widths₀ i₀ c w b v ws i = count - i
 
 -- the states after each set has its place
+abbrev third : tie.After-with4 Inv-loop μ-loop → tie.After-with3 Inv-loop μ-loop
+third c = c .before
+
 abbrev second : tie.After-with3 Inv-loop μ-loop → tie.After-with2 Inv-loop μ-loop
 second c = c .before .before
 
@@ -52,6 +56,10 @@ loop c = read c .before .before .before
 abbrev entry : tie.At-loop Inv-loop μ-loop → tie.Start Inv-loop μ-loop
 entry s = s .before .before
 
+-- the place is one of the run's
+below : (c : tie.After-with3 Inv-loop μ-loop) → (let s = loop c in (s .loop .i < entry s .args .self .count) × (s .loop .i < mostTasks))
+below c = (read c .before .before .loop-test .taken, omega (arith, read c .before .before .loop-test .taken, entry (loop c) .pre))
+
 loop-holds : tie.Need-loop-holds Inv-loop μ-loop
 loop-holds c =
     let r = c .before .args .self in
@@ -63,7 +71,7 @@ loop-holds c =
           gathered-none (λ p. claiming (seenAt r e p)),
           (
             gathered-none (λ p. working (seenAt r e p)),
-            (gathered-none (λ p. released (phaseAt r p)), λ p h. absurd (omega arith)),
+            (gathered-none (λ p. released (phaseAt r p)), (gathered-none (λ p. evenAt r p), λ p h. absurd (omega arith))),
           ),
         ),
       ),
@@ -102,40 +110,56 @@ released-requires c κs = search needs
 with-requires-3 : tie.Need-with-requires-3 Inv-loop μ-loop
 with-requires-3 c κs = omega arith
 
+with-requires-4 : tie.Need-with-requires-4 Inv-loop μ-loop
+with-requires-4 c κs = omega arith
+
 mul-widths : tie.Need-mul-widths Inv-loop μ-loop
 mul-widths c = omega arith
 
 array-write-widths : tie.Need-array-write-widths Inv-loop μ-loop
 array-write-widths c = omega arith
 
+add-widths : tie.Need-add-widths Inv-loop μ-loop
+add-widths c = omega (arith, below (third c))
+
+mul-widths-2 : tie.Need-mul-widths-2 Inv-loop μ-loop
+mul-widths-2 c = omega (arith, below (third c))
+
+array-write-widths-2 : tie.Need-array-write-widths-2 Inv-loop μ-loop
+array-write-widths-2 c = omega (arith, below (third c), loop (third c) .loop .inv .1 .0)
+
 add-i : tie.Need-add-i Inv-loop μ-loop
-add-i c = omega arith
+add-i c = omega (arith, below (third c))
 
 loop-less : tie.Need-loop-less Inv-loop μ-loop
-loop-less c = omega arith
+loop-less c = omega (arith, below (third c))
 
 loop-again : tie.Need-loop-again Inv-loop μ-loop
 loop-again c =
-    let s = loop c in
+    let h = third c in
+    let s = loop h in
     let r = entry s .args .self in
     let e = entry s .args .empties in
     let i = s .loop .i in
     let v = s .loop .inv in
-    let phase : looked c .seen .result ≡ seenAt r e i =
-    looked c .seen .ensures ∙ ap (λ (empty : Bool). seen (ruleIn r) empty (phaseAt r i)) (read c .has .ensures ∙ or-bit e (r .withdrawn) i) in (
-      omega arith,
+    let phase : looked h .seen .result ≡ seenAt r e i =
+    looked h .seen .ensures ∙ ap (λ (empty : Bool). seen (ruleIn r) empty (phaseAt r i)) (read h .has .ensures ∙ or-bit e (r .withdrawn) i) in (
+      omega (arith, below h),
       (
         simp length-set (v .1 .0),
         (
-          gathered-more (λ p. claiming (seenAt r e p)) i (s .loop .claiming) (first c .with .result) (first c .before .claims .result)
-              (v .1 .1 .0) (first c .before .claims .ensures ∙ ap claiming phase) (first c .with .ensures),
+          gathered-more (λ p. claiming (seenAt r e p)) i (s .loop .claiming) (first h .with .result) (first h .before .claims .result)
+              (v .1 .1 .0) (first h .before .claims .ensures ∙ ap claiming phase) (first h .with .ensures),
           (
-            gathered-more (λ p. working (seenAt r e p)) i (s .loop .working) (second c .with2 .result) (second c .before .works .result)
-                (v .1 .1 .1 .0) (second c .before .works .ensures ∙ ap working phase) (second c .with2 .ensures),
+            gathered-more (λ p. working (seenAt r e p)) i (s .loop .working) (second h .with2 .result) (second h .before .works .result)
+                (v .1 .1 .1 .0) (second h .before .works .ensures ∙ ap working phase) (second h .with2 .ensures),
             (
-              gathered-more (λ p. released (phaseAt r p)) i (s .loop .released) (c .with3 .result) (c .before .released .result)
-                  (v .1 .1 .1 .1 .0) (c .before .released .ensures) (c .with3 .ensures),
-              stored-more (s .loop .widths) (λ p. getD (r .tasks) p pastEnd .width) i (omega arith) (v .1 .1 .1 .1 .1),
+              gathered-more (λ p. released (phaseAt r p)) i (s .loop .released) (h .with3 .result) (h .before .released .result)
+                  (v .1 .1 .1 .1 .0) (h .before .released .ensures) (h .with3 .ensures),
+              (
+                gathered-more (λ p. evenAt r p) i (s .loop .even) (c .with4 .result) (evenAt r i) (v .1 .1 .1 .1 .1 .0) refl (c .with4 .ensures),
+                stored-more r (s .loop .widths) i (v .1 .0) (below h .1) (v .1 .1 .1 .1 .1 .1),
+              ),
             ),
           ),
         ),
@@ -153,7 +177,7 @@ returns c =
       claimed = rw e at (v .1 .1 .0);
       worked = rw e at (v .1 .1 .1 .0);
       begun = rw e at (v .1 .1 .1 .1 .0);
-      width = widths-stored r (s .loop .widths) (entry s .pre) (v .1 .0) len (rw e at (v .1 .1 .1 .1 .1));
+      width = widths-stored r (s .loop .even) (s .loop .widths) (entry s .pre) len (rw e at (v .1 .1 .1 .1 .1 .0)) (rw e at (v .1 .1 .1 .1 .1 .1));
     }
 
 pub claims-spec : {M : Type 1} → statement M
@@ -174,8 +198,12 @@ claims-spec =
     with-requires-2
     released-requires
     with-requires-3
+    with-requires-4
     mul-widths
     array-write-widths
+    add-widths
+    mul-widths-2
+    array-write-widths-2
     add-i
     loop-less
     loop-again

@@ -29,12 +29,12 @@ use Rattle.sentence.proofs.counting.count.Tie as tie
 
 -- of every table whose run begins so and that misses here first
 abbrev Inv-loop : tie.InvT-loop
-Inv-loop tick place late release setting width times pace₀ places₀ ran₀ pace places ran =
-    (t : Loaded) → Begins t setting width times pace₀ places₀ → FirstMiss (tableIn t) tick (suc place) → release ≡ releaseOf (tableIn t) tick place
+Inv-loop tick place late release setting widths times pace₀ places₀ ran₀ pace places ran =
+    (t : Loaded) → Begins t setting widths times pace₀ places₀ → FirstMiss (tableIn t) tick (suc place) → release ≡ releaseOf (tableIn t) tick place
     → Counting t tick place (standAt pace places) ran
 
 abbrev μ-loop : tie.MeasureT-loop
-μ-loop tick place late release setting width times pace₀ places₀ ran₀ pace places ran = tick - pace .tick
+μ-loop tick place late release setting widths times pace₀ places₀ ran₀ pace places ran = tick - pace .tick
 
 -- the state after `places`
 abbrev places-from-else1 : tie.Else1 Inv-loop μ-loop → tie.After-places Inv-loop μ-loop
@@ -104,7 +104,7 @@ place-of p = entry-from-places p .args .place
 abbrev Of : tie.After-places Inv-loop μ-loop → Loaded → Type 0
 Of p t =
     let co = columns-of-from-places p in
-    Begins t (co .columns-of .result .setting) (co .columns-of .result .width)
+    Begins t (co .columns-of .result .setting) (co .columns-of .result .widths)
     (co .columns-of .result .times) (p .before .before .start .result .pace) (p .before .before .start .result .places)
 
 own : (p : tie.After-places Inv-loop μ-loop) → Of p (table-of p)

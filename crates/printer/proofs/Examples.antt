@@ -1,0 +1,91 @@
+-- Tasks with two widths, computed from the definitions: all that is printed for a text, and the same rows by the steps of the run with the text that is kept.
+-- A job ends at its deadline and the next is released in the same tick with the other width: the claimants are the same, and the row is not.
+use mathlib.Core.List.{List, [], _∷_, _++_, map}
+use mathlib.Core.Path.{_≡_, refl}
+use Prim.Native.Nat.{ℕ}
+use Prim.Native.String.{String}
+use Rattle.model.specs.Book.{claims, full, served, step, work}
+use Rattle.model.specs.Firm.{firm, rising}
+use Rattle.model.specs.Grants.{claimants, given, grants, left}
+use Rattle.model.specs.Horizon.{S, horizon, hyperperiod, lcm}
+use Rattle.model.specs.Row.{owner, row}
+use Rattle.model.specs.Search.{any, kept, least, memb, upFrom}
+use Rattle.model.specs.Verdict.{firstMiss, missedAt, missedIn, verdict}
+use Rattle.model.proofs.LineByLine.{LineByLine, by-line}
+use Rattle.rule.specs.Widths.{widthsIn}
+use Rattle.table.specs.Answer.{headerNumber, lastStep, endingOf, firstOut, byHorizon, byTasks, byWalk, answerOf}
+use Rattle.table.specs.Load.{loadOf}
+use Rattle.table.specs.Words.{met, count, chain, tableOf}
+use Rattle.table.specs.declared.Loaded.{Loaded}
+use Rattle.full.specs.Machine.{released, releasedDue, earliest, worked}
+use Rattle.full.specs.Places.{each, setOf}
+use Rattle.full.specs.Stand.{pairedIn, numbersIn, begun, after, bellAfter, evenAfter, grantedIn, next}
+use Rattle.text.specs.Decimal.{all, value, decimal, lastDigits, digitCount, digitsWithin}
+use Rattle.text.specs.Format.{wordsOf, lines, isNumber}
+use Rattle.text.specs.Output.{letters, fields, lineOf, firstLine, rowLine, rowLines, printed, output}
+use Rattle.printer.specs.Cells.{cells}
+use Rattle.printer.specs.Rows.{textOf, textIn, lineIn, linesIn}
+
+-- a table: its name, its words and the text of them, the first line of what is printed, how many rows, and their lines
+pub record Print : Type 0 where
+  pub name : String
+  pub words : List ℕ
+  pub text : String
+  pub first : String
+  pub rows : ℕ
+  pub lines : String
+
+abbrev pub prints : List Print
+prints =
+    record {
+      name = "two cores, one task of widths 1 and 2, released in every tick";
+      words = 1 ∷ 2 ∷ 1 ∷ 0 ∷ 0 ∷ 0 ∷ 0 ∷ 1 ∷ 1 ∷ 1 ∷ 1 ∷ 2 ∷ [];
+      text = "1\n2\n1\n0\n0\n0\n0\n1\n1\n1\n1\n2\n";
+      first = "firm 0 2\n";
+      rows = 2;
+      lines = "0 1 0\n1 1 1\n";
+    }
+    ∷ record {
+      name = "behind a task of width 1 its second width does not fit";
+      words = 1 ∷ 2 ∷ 1 ∷ 0 ∷ 0 ∷ 2 ∷ 0 ∷ 1 ∷ 1 ∷ 1 ∷ 1 ∷ 1 ∷ 0 ∷ 0 ∷ 1 ∷ 1 ∷ 1 ∷ 1 ∷ 2 ∷ [];
+      text = "1\n2\n1\n0\n0\n2\n0\n1\n1\n1\n1\n1\n0\n0\n1\n1\n1\n1\n2\n";
+      first = "miss 2 2\n";
+      rows = 2;
+      lines = "0 1 2\n1 1 0\n";
+    }
+    ∷ []
+
+-- what is printed for a text, and what is to be
+abbrev printing : Print → List ℕ
+printing p = output (letters (p .text))
+
+abbrev whole : Print → List ℕ
+whole p = letters (p .first) ++ letters (p .lines)
+
+each-text : LineByLine printing prints (map whole prints)
+unfolding output wordsOf lines isNumber all value printed firstLine rowLine rowLines lineOf fields decimal lastDigits digitCount digitsWithin answerOf byWalk
+    byTasks byHorizon firstOut endingOf lastStep headerNumber tableOf chain count met verdict firstMiss missedIn missedAt firm rising horizon S hyperperiod lcm
+    least any kept memb upFrom owner row given left grants claimants claims served work step full
+each-text = (refl, (refl, tt))
+
+pub texts : map (λ p. output (letters (p .text))) prints ≡ map (λ p. letters (p .first) ++ letters (p .lines)) prints
+texts = by-line printing prints (map whole prints) each-text
+
+-- the lines that the run of a table gives from tick 0 on, beginning with the text of no claimants
+abbrev pub stepped : Loaded → ℕ → List ℕ
+stepped t k = linesIn (numbersIn t) k (begun t) (textOf (numbersIn t) 0 (begun t .even))
+
+abbrev stepping : Print → List ℕ
+stepping p = stepped (loadOf (p .words)) (p .rows)
+
+abbrev rows : Print → List ℕ
+rows p = letters (p .lines)
+
+each-run : LineByLine stepping prints (map rows prints)
+unfolding linesIn lineIn textIn cells next after bellAfter evenAfter grantedIn pairedIn released releasedDue earliest worked each setOf widthsIn fields decimal
+    lastDigits digitCount digitsWithin loadOf answerOf byWalk byTasks byHorizon firstOut endingOf lastStep headerNumber tableOf chain count met horizon S
+    hyperperiod lcm least any kept memb upFrom owner row given left grants claimants
+each-run = (refl, (refl, tt))
+
+pub runs : map (λ p. stepped (loadOf (p .words)) (p .rows)) prints ≡ map (λ p. letters (p .lines)) prints
+runs = by-line stepping prints (map rows prints) each-run
