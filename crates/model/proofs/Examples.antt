@@ -5,11 +5,13 @@ use mathlib.Core.List.{List, [], map, _∷_}
 use mathlib.Core.Path.{refl, _≡_}
 use Prim.Native.Nat.{ℕ}
 use Prim.Native.String.{String}
-use Rattle.model.specs.Book.{Answer, Asked, Entry, advance, afterTaken, answer, answersFrom, asked, claims, emptiable, emptied, emptyBook, enter, fresh}
-use Rattle.model.specs.Book.{full, late, misemptied, misreported, refused, reportable, rowRefused, rowsFrom, served, shown, step, taken, takenFrom, takenOf, work}
+use Rattle.model.specs.Book.{Answer, Asked, Entry, advance, afterTaken, answer, answersFrom, asked, borrowed, borrowing, claims, emptiable, emptied, emptyBook}
+use Rattle.model.specs.Book.{enter, fresh, full, late, misemptied, misreported, offer, refused, reportable, rowRefused, rowsFrom, seeks, served, shown, step}
+use Rattle.model.specs.Book.{taken, takenFrom, takenOf, work, workLent}
 use Rattle.model.specs.Fence.{justOpen, spread}
 use Rattle.model.specs.Grants.{claimants, given, grants, left}
 use Rattle.model.specs.Horizon.{S, horizon, hyperperiod, lcm}
+use Rattle.model.specs.Lending.{among, beside, lent}
 use Rattle.model.specs.Row.{owner, row}
 use Rattle.model.specs.Search.{any, kept, least, memb, upFrom}
 use Rattle.model.specs.Task.{Rule, Table, Task, greedy, idling, limited}
@@ -125,7 +127,7 @@ lines =
 -- every line is what the definitions say, line by line
 computed : LineByLine worked lines lines
 unfolding verdict firstMiss missedIn missedAt firm rising horizon S hyperperiod lcm least any memb upFrom kept owner row given left grants claimants claims
-    served work step late reportable misreported emptied emptiable misemptied answer asked afterTaken enter answersFrom rowsFrom full
+    served borrowing borrowed offer seeks lent beside among work workLent step late reportable misreported emptied emptiable misemptied answer asked afterTaken enter answersFrom rowsFrom full
 computed = (refl, (refl, (refl, (refl, (refl, (refl, (refl, (refl, (refl, (refl, (refl, (refl, (refl, (refl, (refl, (refl, (refl, tt)))))))))))))))))
 
 -- .. and as one list
@@ -156,6 +158,6 @@ window = refl
 
 -- of these advances of B the second and the third are taken: the first is refused by 16, the last two by 15
 pub dropped : takenOf (B greedy) (map reports (2 ∷ 1 ∷ 0 ∷ 0 ∷ 8 ∷ [])) ≡ map reports (1 ∷ 0 ∷ [])
-unfolding takenFrom enter answer afterTaken late misemptied emptiable emptied misreported reportable any least step served work claims claimants grants given left
-    memb upFrom kept
+unfolding takenFrom enter answer afterTaken late misemptied emptiable emptied misreported reportable any least step served borrowing borrowed
+    offer seeks lent beside among work workLent claims claimants grants given left memb upFrom kept
 dropped = refl

@@ -10,6 +10,7 @@ pub mod Lists
 pub mod Digits
 pub mod Jobs
 pub mod Grants
+pub mod Lending
 pub mod Rows
 pub mod Runs
 pub mod Compare

@@ -5,11 +5,12 @@ use mathlib.Core.Path.{refl, _≡_}
 use Rattle.model.proofs.EmptyExamples.{least-task, line, none, one, pair, row-20}
 use Rattle.model.proofs.Examples.{B, Line, on, t, two, worked}
 use Rattle.model.proofs.LineByLine.{LineByLine, by-line}
-use Rattle.model.specs.Book.{advance, afterTaken, answer, answersFrom, asked, book, bookFrom, claims, emptiable, emptied, enter, full, late, misemptied}
-use Rattle.model.specs.Book.{misreported, refused, reportable, rowRefused, rowsFrom, served, step, taken, withdraw, work}
+use Rattle.model.specs.Book.{advance, afterTaken, answer, answersFrom, asked, book, bookFrom, borrowed, borrowing, claims, emptiable, emptied, enter, full, late}
+use Rattle.model.specs.Book.{misemptied, misreported, offer, refused, reportable, rowRefused, rowsFrom, seeks, served, step, taken, withdraw, work, workLent}
 use Rattle.model.specs.Firm.{firm, rising}
 use Rattle.model.specs.Grants.{claimants, given, grants, left}
 use Rattle.model.specs.Horizon.{S, horizon, hyperperiod, lcm}
+use Rattle.model.specs.Lending.{among, beside, lent}
 use Rattle.model.specs.Row.{owner, row}
 use Rattle.model.specs.Search.{any, kept, least, memb, upFrom}
 use Rattle.model.specs.Task.{Table, greedy, idling, limited}
@@ -99,7 +100,7 @@ withdraw-lines =
 -- every line is what the definitions say, line by line
 computed : LineByLine worked withdraw-lines withdraw-lines
 unfolding verdict firstMiss missedIn missedAt firm rising horizon S hyperperiod lcm least any memb upFrom kept owner row given left grants claimants claims
-    served work step late reportable misreported emptied emptiable misemptied answer asked afterTaken enter answersFrom rowsFrom full
+    served borrowing borrowed offer seeks lent beside among work workLent step late reportable misreported emptied emptiable misemptied answer asked afterTaken enter answersFrom rowsFrom full
 computed = (refl, (refl, (refl, (refl, (refl, (refl, (refl, (refl, (refl, (refl, (refl, (refl, (refl, (refl, tt))))))))))))))
 
 -- .. and as one list

@@ -1,0 +1,204 @@
+-- Lending: where no cores are offered none are borrowed, so rules 1 to 3 lend nothing; what the first places borrow depends on them alone.
+use mathlib.Core.Bool.{Bool, _&&_, and-false, cond, false, not, true}
+use mathlib.Core.List.{List, [], append-nil, map, _++_, _∷_}
+use mathlib.Core.Path.{ap, ap₂, refl, sym, _∙_, _≡_}
+use Prim.Native.Nat.{_+_, _<_, suc, zero, ℕ, _≤_}
+use native.Mathlib.Nat.{add-suc, add-zero}
+use native.Mathlib.Omega.{arith}
+use lib.Dec.{ltb}
+use lib.ListN.{getD, length, length-map, take}
+use lib.Seq.{getD-take}
+use borrow.Author.Tests.{le-ltb}
+use Rattle.model.proofs.Grants.{claimants-cut, given-nothing, grants-length, grants-none, grants-take, left-nothing}
+use Rattle.model.proofs.Jobs.{done-off}
+use Rattle.model.proofs.Lists.{take-map, up-length}
+use Rattle.model.specs.Book.{Book, borrowed, borrowing, borrows, grantsOf, jobClaims, newestEnded, offer, seeks, shownOf, taskClaims, widths}
+use Rattle.model.specs.Fence.{openCores}
+use Rattle.model.specs.Grants.{Claimant, claimants, grants, some}
+use Rattle.model.specs.Lending.{among, beside, lendOnce, lends, lent, shownCores, unlent}
+use Rattle.model.specs.Search.{kept, memb, upFrom}
+use Rattle.model.specs.Task.{Rule, Table, greedy, lending, limited, idling, newest, task, widthOf}
+
+-- the rules but rule 4 lend nothing
+pub not-lending : (r : Rule) → ¬ (r ≡ lending) → lends r ≡ false
+not-lending greedy h = refl
+not-lending limited h = refl
+not-lending idling h = refl
+not-lending lending h = absurd (h refl)
+
+-- WHERE NOTHING IS OFFERED
+
+-- of no free cores nobody is given any
+grants-nothing : (r : Rule) (bs : List Claimant) (q : ℕ) → getD (grants r bs []) q [] ≡ []
+unfolding grants
+grants-nothing r [] q = refl
+grants-nothing r (b ∷ bs) zero = given-nothing b
+grants-nothing r (b ∷ bs) (suc q) = rw (left-nothing r b) (grants-nothing r bs q)
+
+-- nothing beside a list changes nothing, ..
+beside-none : (gs hs : List (List ℕ)) → ((q : ℕ) → getD hs q [] ≡ []) → beside gs hs ≡ gs
+unfolding beside
+beside-none [] hs e = refl
+beside-none (g ∷ gs) [] e = refl
+beside-none (g ∷ gs) (h ∷ hs) e =
+    ap₂ (λ (x : List ℕ) (l : List (List ℕ)). x ∷ l) (ap (λ (x : List ℕ). g ++ x) (e 0) ∙ append-nil g) (beside-none gs hs (λ q. e (suc q)))
+
+-- .. and nothing at a place nothing there
+beside-at : (gs hs : List (List ℕ)) (q : ℕ) → getD hs q [] ≡ [] → getD (beside gs hs) q [] ≡ getD gs q []
+unfolding beside
+beside-at [] hs q e = refl
+beside-at (g ∷ gs) [] q e = refl
+beside-at (g ∷ gs) (h ∷ hs) zero e = ap (λ (x : List ℕ). g ++ x) e ∙ append-nil g
+beside-at (g ∷ gs) (h ∷ hs) (suc q) e = beside-at gs hs q e
+
+map-nil : (ws : List ℕ) (q : ℕ) → getD (map {B = List ℕ} (λ w. []) ws) q [] ≡ []
+map-nil [] q = refl
+map-nil (w ∷ ws) zero = refl
+map-nil (w ∷ ws) (suc q) = map-nil ws q
+
+-- nothing is borrowed
+lent-nothing :
+    (ws : List ℕ) (sk : ℕ → Bool) (o : ℕ → List ℕ) → ((q : ℕ) → o q ≡ [])
+    → (n q : ℕ) → getD (lent ws sk o n) q [] ≡ []
+unfolding lent
+lent-nothing ws sk o e zero q = map-nil ws q
+lent-nothing ws sk o e (suc n) q =
+    let c : ℕ → Bool = λ q. ltb n q && sk q && not (some (getD (lent ws sk o n) q [])) in
+    ap (λ (l : List (List ℕ)). getD l q [])
+    (beside-none (lent ws sk o n) (grants greedy (claimants ws c) (o n))
+    (λ i. rw (e n) (grants-nothing greedy (claimants ws c) i)))
+    ∙ lent-nothing ws sk o e n q
+
+-- LOCALITY: what the first n places borrow depends on the first n places alone
+
+beside-take : (n : ℕ) (gs hs : List (List ℕ)) → take n (beside gs hs) ≡ beside (take n gs) (take n hs)
+unfolding beside
+beside-take zero gs hs = refl
+beside-take (suc n) [] hs = refl
+beside-take (suc n) (g ∷ gs) [] = refl
+beside-take (suc n) (g ∷ gs) (h ∷ hs) = ap {B = List (List ℕ)} (λ l. (g ++ h) ∷ l) (beside-take n gs hs)
+
+pub lent-local :
+    (n : ℕ) (ws vs : List ℕ) (sk sk′ : ℕ → Bool) (o o′ : ℕ → List ℕ)
+    → take n ws ≡ take n vs → ((q : ℕ) → q < n → sk q ≡ sk′ q) → ((q : ℕ) → q < n → o q ≡ o′ q)
+    → (m : ℕ) → m ≤ n → take n (lent ws sk o m) ≡ take n (lent vs sk′ o′ m)
+unfolding lent
+lent-local n ws vs sk sk′ o o′ e es eo zero l =
+    take-map (λ w. []) n ws ∙ (ap (λ (x : List ℕ). map {B = List ℕ} (λ w. []) x) e ∙ sym (take-map (λ w. []) n vs))
+lent-local n ws vs sk sk′ o o′ e es eo (suc m) l = go (lent ws sk o m) (lent vs sk′ o′ m) (lent-local n ws vs sk sk′ o o′ e es eo m (omega arith))
+  where
+    go : (bs bs′ : List (List ℕ)) → take n bs ≡ take n bs′ → take n (lendOnce ws sk (o m) m bs) ≡ take n (lendOnce vs sk′ (o′ m) m bs′)
+    go bs bs′ ih =
+        beside-take n bs (grants greedy (claimants ws c) (o m))
+        ∙ (ap₂ beside ih
+        (grants-take greedy n (claimants ws c) (o m)
+        ∙ (ap₂ (grants greedy) (claimants-cut n ws vs c d e same) (eo m l) ∙ sym (grants-take greedy n (claimants vs d) (o′ m))))
+        ∙ sym (beside-take n bs′ (grants greedy (claimants vs d) (o′ m))))
+      where
+        c : ℕ → Bool
+        c q = ltb m q && sk q && not (some (getD bs q []))
+
+        d : ℕ → Bool
+        d q = ltb m q && sk′ q && not (some (getD bs′ q []))
+
+        same : (q : ℕ) → q < n → ltb m q && sk q && not (some (getD bs q [])) ≡ ltb m q && sk′ q && not (some (getD bs′ q []))
+        same q h =
+            let x : getD bs q [] ≡ getD bs′ q [] = sym (getD-take n bs q [] h) ∙ (ap (λ (z : List (List ℕ)). getD z q []) ih ∙ getD-take n bs′ q [] h) in
+            rw (es q h, x)
+
+-- a place and those below it lend it nothing: what it borrows is settled once the places above it have lent
+pub lent-settled :
+    (ws : List ℕ) (sk : ℕ → Bool) (o : ℕ → List ℕ) (p d : ℕ) → getD (lent ws sk o (p + d)) p [] ≡ getD (lent ws sk o p) p []
+unfolding lent
+lent-settled ws sk o p zero = rw add-zero
+lent-settled ws sk o p (suc d) = rw add-suc (later (lent ws sk o (p + d)) ∙ lent-settled ws sk o p d)
+  where
+    later : (bs : List (List ℕ)) → getD (lendOnce ws sk (o (p + d)) (p + d) bs) p [] ≡ getD bs p []
+    later bs =
+        beside-at bs (grants greedy (claimants ws c) (o (p + d))) p
+        (grants-none greedy ws c (o (p + d)) p (rw (le-ltb (p + d) p (omega arith))))
+      where
+        c : ℕ → Bool
+        c q = ltb (p + d) q && sk q && not (some (getD bs q []))
+
+-- WHAT IS SHOWN
+
+-- of empty lists none has a core
+among-none : (c : ℕ) (bs : List (List ℕ)) → ((q : ℕ) → getD bs q [] ≡ []) → among c bs ≡ false
+unfolding among memb
+among-none c [] e = refl
+among-none c (l ∷ ls) e = rw (e 0) (among-none c ls (λ q. e (suc q)))
+
+unlent-all : (bs : List (List ℕ)) → ((q : ℕ) → getD bs q [] ≡ []) → (g : List ℕ) → unlent bs g ≡ g
+unfolding kept
+unlent-all bs e [] = refl
+unlent-all bs e (c ∷ g) = rw (among-none c bs e, unlent-all bs e g)
+
+map-id : (f : List ℕ → List ℕ) → ((g : List ℕ) → f g ≡ g) → (gs : List (List ℕ)) → map f gs ≡ gs
+map-id f e [] = refl
+map-id f e (g ∷ gs) = ap₂ (λ (x : List ℕ) (l : List (List ℕ)). x ∷ l) (e g) (map-id f e gs)
+
+-- empty lists beside others of as many places
+none-beside : (bs gs : List (List ℕ)) → length bs ≡ length gs → ((q : ℕ) → getD bs q [] ≡ []) → beside bs gs ≡ gs
+unfolding beside
+none-beside [] [] l e = refl
+none-beside [] (g ∷ gs) l e = absurd (omega arith)
+none-beside (b ∷ bs) [] l e = absurd (omega arith)
+none-beside (b ∷ bs) (g ∷ gs) l e =
+    ap₂ (λ (x : List ℕ) (l : List (List ℕ)). x ∷ l) (ap (λ (x : List ℕ). x ++ g) (e 0)) (none-beside bs gs (omega arith) (λ q. e (suc q)))
+
+pub shown-own :
+    (gs bs : List (List ℕ)) → length bs ≡ length gs → ((q : ℕ) → getD bs q [] ≡ []) → shownCores gs bs ≡ gs
+shown-own gs bs l e =
+    ap (beside bs) (map-id (unlent bs) (unlent-all bs e) gs) ∙ none-beside bs gs l e
+
+-- BOOKS IN WHICH NOBODY LENDS
+
+module _ (s : Table) (b : Book) (nothing : (q : ℕ) → offer s b q ≡ []) where
+  pub borrowed-none : (p : ℕ) → borrowed s b p ≡ []
+  unfolding borrowed
+  borrowed-none p = lent-nothing (widths s (b .tick)) (seeks s b) (offer s b) nothing p p
+
+  pub borrows-none : (p : ℕ) → borrows s b p ≡ false
+  borrows-none p = ap some (borrowed-none p)
+
+  pub not-borrowing : (p k : ℕ) → borrowing s b p k ≡ false
+  unfolding borrowing
+  not-borrowing p k = rw (borrows-none p) (and-false (jobClaims s b p k))
+
+  -- the row shows the cores that are given
+  pub shown-given : shownOf s b ≡ grantsOf s b
+  shown-given =
+      shown-own (grantsOf s b) (map (borrowed s b) (upFrom 0 (length (s .tasks)))) lengths (all (upFrom 0 (length (s .tasks))))
+    where
+      lengths : length (map (borrowed s b) (upFrom 0 (length (s .tasks)))) ≡ length (grantsOf s b)
+      lengths =
+          length-map (upFrom 0 (length (s .tasks))) (borrowed s b) ∙ (up-length 0 (length (s .tasks))
+          ∙ sym (grants-length (s .rule) (widths s (b .tick)) (taskClaims s b) (openCores s) ∙ length-map (s .tasks) (λ τ. widthOf τ (newest τ (b .tick)))))
+
+      all : (ps : List ℕ) (q : ℕ) → getD (map (borrowed s b) ps) q [] ≡ []
+      all [] q = refl
+      all (p ∷ ps) zero = borrowed-none p
+      all (p ∷ ps) (suc q) = all ps q
+
+-- those of rules 1 to 3
+pub offer-none : (s : Table) (b : Book) → lends (s .rule) ≡ false → (q : ℕ) → offer s b q ≡ []
+unfolding offer
+offer-none s b e q = rw e
+
+-- and under any rule a book in which who has ended has claimed C ticks
+pub offer-whole :
+    (s : Table) (b : Book) → ((p k : ℕ) → b .job p k .ended ≡ true → task s p .length ≤ b .job p k .claimed)
+    → (q : ℕ) → offer s b q ≡ []
+unfolding offer
+offer-whole s b h q = go (newestEnded s b q) refl
+  where
+    same : (t : Bool) → cond {A = List ℕ} t [] [] ≡ []
+    same true = refl
+    same false = refl
+
+    go : (t : Bool) → newestEnded s b q ≡ t → cond (lends (s .rule) && t) (getD (grantsOf s b) q []) [] ≡ []
+    go false e = rw (and-false (lends (s .rule)))
+    go true e = rw (grants-none (s .rule) (widths s (b .tick)) (taskClaims s b) (openCores s) q
+        (done-off (s .rule) (task s q) (newest (task s q) (b .tick)) (b .tick) (b .job q (newest (task s q) (b .tick))) e (h q (newest (task s q) (b .tick)) e)))
+        (same (lends (s .rule) && true))
