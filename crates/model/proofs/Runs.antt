@@ -173,7 +173,7 @@ had-claimed C f false h c e l = l
 had-claimed C f true h c true l = omega arith
 had-claimed C f true h c false l = omega arith
 
-full-had : (s : Table) (n p k : ℕ) → full s n .job p k .had ≤ full s n .job p k .claimed
+pub full-had : (s : Table) (n p k : ℕ) → full s n .job p k .had ≤ full s n .job p k .claimed
 unfolding full step
 full-had s zero p k = omega arith
 full-had s (suc n) p k = go (full-had s n)

@@ -111,6 +111,6 @@ withdraw-examples = by-line worked withdraw-lines withdraw-lines computed
 pub tick-and-set :
     (book C2 (none ∷ withdraw 3 ∷ withdraw 1 ∷ advance 4 0 ∷ withdraw 1 ∷ none ∷ withdraw 4 ∷ []) .tick ≡ 2)
     × (book C2 (none ∷ withdraw 3 ∷ withdraw 1 ∷ advance 4 0 ∷ withdraw 1 ∷ none ∷ withdraw 4 ∷ []) .withdrawn ≡ 5)
-unfolding bookFrom enter answer afterTaken firm rising late misemptied emptiable emptied misreported reportable any least step served work claims claimants grants
-    given left memb upFrom kept
+unfolding bookFrom enter answer afterTaken firm rising late misemptied emptiable emptied misreported reportable any least step served borrowing borrowed offer
+    seeks lent beside work workLent claims claimants grants given left memb upFrom kept
 tick-and-set = (refl, refl)
