@@ -16,7 +16,7 @@ use Rattle.model.proofs.Jobs.{after-release, before-due, claims-if, new
 use Rattle.model.proofs.Lists.{map-first}
 use Rattle.model.proofs.Runs.{full-fresh, full-next, full-tick, missed-at}
 use Rattle.model.proofs.Starts.{Periods, S-last, S-release, S-rises, hyperperiod-divides, hyperperiod-pos, width-shift}
-use Rattle.model.specs.Book.{Job, Missed, NeverMissed, claims, full, inRow, jobClaims, served, step, taskClaims, widths}
+use Rattle.model.specs.Book.{Job, Missed, NeverMissed, claims, full, inRow, jobClaims, served, taskClaims, widths}
 use Rattle.model.specs.Grants.{claimants, grants, some}
 use Rattle.model.specs.Horizon.{S, horizon, hyperperiod}
 use Rattle.model.specs.Fence.{openCores}

@@ -5,7 +5,7 @@ use mathlib.Core.List.{List, [], _∷_}
 use mathlib.Core.Path.{ap, fun-ext, refl, subst, sym, _∙_, _≡_}
 use Prim.Native.Nat.{suc, zero, ℕ, _≤_}
 use lib.Dec.{ltb}
-use lib.ListN.{length, length-map, replicate}
+use lib.ListN.{length, replicate}
 use Rattle.model.proofs.FullLength.{empty-full, empty-more}
 use Rattle.model.proofs.Grants.{claimants-same}
 use Rattle.model.proofs.Jobs.{Reserving, done-off, mk}

@@ -1,5 +1,6 @@
 -- The theorems on the definitions alone: computed examples, laws of searches, lists and digits, and what the book, the horizon and the verdict promise.
 pub mod LineByLine
+pub mod Computing
 pub mod Examples
 pub mod EmptyExamples
 pub mod WithdrawExamples

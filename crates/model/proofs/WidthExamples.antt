@@ -2,19 +2,14 @@
 -- the parity changes with every job, an empty or withdrawn one included. The row before each entry is asked with the empty jobs that it names.
 use mathlib.Core.List.{List, [], map, _∷_}
 use mathlib.Core.Path.{refl, _≡_}
+use Rattle.model.proofs.Computing.{computing}
 use Rattle.model.proofs.EmptyExamples.{line, none}
 use Rattle.model.proofs.Examples.{Line, fencedOn, on, t, t₂, two, worked}
 use Rattle.model.proofs.LineByLine.{LineByLine, by-line}
-use Rattle.model.specs.Book.{advance, afterTaken, answer, answersFrom, asked, borrowed, borrowing, claims, emptiable, emptied, enter, full, late, misemptied}
-use Rattle.model.specs.Book.{misreported, offer, refused, reportable, rowRefused, rowsFrom, seeks, served, shown, step, taken, withdraw, work, workLent}
-use Rattle.model.specs.Firm.{firm, rising}
-use Rattle.model.specs.Grants.{claimants, given, grants, left}
-use Rattle.model.specs.Horizon.{S, horizon, hyperperiod, lcm}
-use Rattle.model.specs.Lending.{among, beside, lent}
-use Rattle.model.specs.Row.{owner, row}
-use Rattle.model.specs.Search.{any, kept, least, memb, upFrom}
+use Rattle.model.specs.Book.{advance, refused, rowRefused, shown, taken, withdraw}
+use Rattle.model.specs.Search.{upFrom}
 use Rattle.model.specs.Task.{Rule, Table, cycle, greedy, idling, limited, narrowest, widest, widthOf}
-use Rattle.model.specs.Verdict.{Firm, Full, Miss, firstMiss, missedAt, missedIn, verdict}
+use Rattle.model.specs.Verdict.{Firm, Full, Miss}
 
 -- one task with C, D and T of 1, and widths 1 and 2
 abbrev pub alternating : Rule → Table
@@ -58,8 +53,7 @@ width-lines =
 
 -- every line is what the definitions say, line by line
 computed : LineByLine worked width-lines width-lines
-unfolding verdict firstMiss missedIn missedAt firm rising horizon S hyperperiod lcm least any memb upFrom kept owner row given left grants claimants claims
-    served borrowing borrowed offer seeks lent beside among work workLent step late reportable misreported emptied emptiable misemptied answer asked afterTaken enter answersFrom rowsFrom full
+unfolding computing
 computed = (refl, (refl, (refl, (refl, (refl, (refl, (refl, (refl, (refl, (refl, (refl, (refl, tt))))))))))))
 
 -- .. and as one list
