@@ -30,3 +30,5 @@ pub mod Verdict
 pub mod Renumbered
 pub mod Fence
 pub mod Withdraw
+pub mod Counts
+pub mod Crowd
