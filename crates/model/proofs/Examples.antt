@@ -67,7 +67,7 @@ line n s v xs ws rs = record { name = n; table = s; entries = map reports xs; sa
 abbrev pub two : ℕ → ℕ → Asked
 two a b = shown (a ∷ b ∷ [])
 
-abbrev three : ℕ → ℕ → ℕ → Asked
+abbrev pub three : ℕ → ℕ → ℕ → Asked
 three a b c = shown (a ∷ b ∷ c ∷ [])
 
 -- the rows of B3, with the report and without

@@ -5,6 +5,7 @@ pub mod Examples
 pub mod EmptyExamples
 pub mod WithdrawExamples
 pub mod WidthExamples
+pub mod LendExamples
 pub mod Bools
 pub mod Search
 pub mod Lists
