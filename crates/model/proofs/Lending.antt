@@ -1,11 +1,10 @@
 -- Lending: where no cores are offered none are borrowed, so rules 1 to 3 lend nothing; what the first places borrow depends on them alone.
-use mathlib.Core.Bool.{Bool, _&&_, and-false, cond, false, not, true}
+use mathlib.Core.Bool.{Bool, _&&_, and-false, cond, false, true}
 use mathlib.Core.List.{List, [], append-nil, map, _++_, _∷_}
 use mathlib.Core.Path.{ap, ap₂, refl, sym, _∙_, _≡_}
 use Prim.Native.Nat.{_+_, _<_, suc, zero, ℕ, _≤_}
 use native.Mathlib.Nat.{add-suc, add-zero}
 use native.Mathlib.Omega.{arith}
-use lib.Dec.{ltb}
 use lib.ListN.{getD, length, length-map, take}
 use lib.Seq.{getD-take}
 use borrow.Author.Tests.{le-ltb}
@@ -15,7 +14,7 @@ use Rattle.model.proofs.Lists.{take-map, up-length}
 use Rattle.model.specs.Book.{Book, borrowed, borrowing, borrows, grantsOf, jobClaims, newestEnded, offer, seeks, shownOf, taskClaims, widths}
 use Rattle.model.specs.Fence.{openCores}
 use Rattle.model.specs.Grants.{Claimant, claimants, grants, some}
-use Rattle.model.specs.Lending.{among, beside, lendOnce, lends, lent, shownCores, unlent}
+use Rattle.model.specs.Lending.{among, beside, lendOnce, lends, lent, shownCores, tries, unlent}
 use Rattle.model.specs.Search.{kept, memb, upFrom}
 use Rattle.model.specs.Task.{Rule, Table, greedy, lending, limited, idling, newest, task, widthOf}
 
@@ -63,7 +62,7 @@ lent-nothing :
 unfolding lent
 lent-nothing ws sk o e zero q = map-nil ws q
 lent-nothing ws sk o e (suc n) q =
-    let c : ℕ → Bool = λ q. ltb n q && sk q && not (some (getD (lent ws sk o n) q [])) in
+    let c : ℕ → Bool = tries sk n (lent ws sk o n) in
     ap (λ (l : List (List ℕ)). getD l q [])
     (beside-none (lent ws sk o n) (grants greedy (claimants ws c) (o n))
     (λ i. rw (e n) (grants-nothing greedy (claimants ws c) i)))
@@ -89,19 +88,14 @@ lent-local n ws vs sk sk′ o o′ e es eo (suc m) l = go (lent ws sk o m) (lent
   where
     go : (bs bs′ : List (List ℕ)) → take n bs ≡ take n bs′ → take n (lendOnce ws sk (o m) m bs) ≡ take n (lendOnce vs sk′ (o′ m) m bs′)
     go bs bs′ ih =
-        beside-take n bs (grants greedy (claimants ws c) (o m))
+        beside-take n bs (grants greedy (claimants ws (tries sk m bs)) (o m))
         ∙ (ap₂ beside ih
-        (grants-take greedy n (claimants ws c) (o m)
-        ∙ (ap₂ (grants greedy) (claimants-cut n ws vs c d e same) (eo m l) ∙ sym (grants-take greedy n (claimants vs d) (o′ m))))
-        ∙ sym (beside-take n bs′ (grants greedy (claimants vs d) (o′ m))))
+        (grants-take greedy n (claimants ws (tries sk m bs)) (o m)
+        ∙ (ap₂ (grants greedy) (claimants-cut n ws vs (tries sk m bs) (tries sk′ m bs′) e same) (eo m l)
+        ∙ sym (grants-take greedy n (claimants vs (tries sk′ m bs′)) (o′ m))))
+        ∙ sym (beside-take n bs′ (grants greedy (claimants vs (tries sk′ m bs′)) (o′ m))))
       where
-        c : ℕ → Bool
-        c q = ltb m q && sk q && not (some (getD bs q []))
-
-        d : ℕ → Bool
-        d q = ltb m q && sk′ q && not (some (getD bs′ q []))
-
-        same : (q : ℕ) → q < n → ltb m q && sk q && not (some (getD bs q [])) ≡ ltb m q && sk′ q && not (some (getD bs′ q []))
+        same : (q : ℕ) → q < n → tries sk m bs q ≡ tries sk′ m bs′ q
         same q h =
             let x : getD bs q [] ≡ getD bs′ q [] = sym (getD-take n bs q [] h) ∙ (ap (λ (z : List (List ℕ)). getD z q []) ih ∙ getD-take n bs′ q [] h) in
             rw (es q h, x)
@@ -115,11 +109,8 @@ lent-settled ws sk o p (suc d) = rw add-suc (later (lent ws sk o (p + d)) ∙ le
   where
     later : (bs : List (List ℕ)) → getD (lendOnce ws sk (o (p + d)) (p + d) bs) p [] ≡ getD bs p []
     later bs =
-        beside-at bs (grants greedy (claimants ws c) (o (p + d))) p
-        (grants-none greedy ws c (o (p + d)) p (rw (le-ltb (p + d) p (omega arith))))
-      where
-        c : ℕ → Bool
-        c q = ltb (p + d) q && sk q && not (some (getD bs q []))
+        beside-at bs (grants greedy (claimants ws (tries sk (p + d) bs)) (o (p + d))) p
+        (grants-none greedy ws (tries sk (p + d) bs) (o (p + d)) p (rw (le-ltb (p + d) p (omega arith))))
 
 -- WHAT IS SHOWN
 
