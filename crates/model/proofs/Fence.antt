@@ -13,9 +13,9 @@ use Rattle.model.proofs.Digits.{bit-none}
 use Rattle.model.proofs.Lists.{map-at, up-at, up-length}
 use Rattle.model.proofs.Renumbered.{at-map, grants-map, lent-map, owner-map, shown-map, some-map}
 use Rattle.model.proofs.Search.{any-same}
-use Rattle.model.specs.Book.{Answer, Book, Entry, advance, afterTaken, answer, answersFrom, book, bookFrom, borrowed, borrowing, borrows, emptiable, emptied}
-use Rattle.model.specs.Book.{emptyBook, emptyIn, enter, full, grantsOf, inRow, late, misemptied, misreported, newestEnded, none, offer, reportable, rowOf}
-use Rattle.model.specs.Book.{seeks, served, shownOf, step, taskClaims, widths, withdraw, work, workLent}
+use Rattle.model.specs.Book.{Answer, Book, Entry, advance, afterTaken, answer, answersFrom, book, bookFrom, borrowed, borrowing, borrows}
+use Rattle.model.specs.Book.{emptiable, emptied, emptyBook, emptyIn, enter, full, grantsOf, inRow, late, misemptied, misreported, newestEnded}
+use Rattle.model.specs.Book.{none, offer, reportable, rowOf, seeks, served, shownOf, step, taskClaims, widths, withdraw, work, workLent}
 use Rattle.model.specs.Fence.{justOpen, openCores, outside, spread, unfenced}
 use Rattle.model.specs.Grants.{claimants, grants, some}
 use Rattle.model.specs.Horizon.{horizon}

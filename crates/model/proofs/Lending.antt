@@ -190,6 +190,7 @@ offer-whole s b h q = go (newestEnded s b q) refl
 
     go : (t : Bool) → newestEnded s b q ≡ t → cond (lends (s .rule) && t) (getD (grantsOf s b) q []) [] ≡ []
     go false e = rw (and-false (lends (s .rule)))
-    go true e = rw (grants-none (s .rule) (widths s (b .tick)) (taskClaims s b) (openCores s) q
-        (done-off (s .rule) (task s q) (newest (task s q) (b .tick)) (b .tick) (b .job q (newest (task s q) (b .tick))) e (h q (newest (task s q) (b .tick)) e)))
+    go true e =
+        let k : ℕ = newest (task s q) (b .tick) in
+        rw (grants-none (s .rule) (widths s (b .tick)) (taskClaims s b) (openCores s) q (done-off (s .rule) (task s q) k (b .tick) (b .job q k) e (h q k e)))
         (same (lends (s .rule) && true))

@@ -16,9 +16,9 @@ use Rattle.model.proofs.FullLength.{empty-full}
 use Rattle.model.proofs.Grants.{claimants-cut, grants-take}
 use Rattle.model.proofs.Lending.{lent-local, offer-none, shown-given}
 use Rattle.model.proofs.Lists.{take-map}
-use Rattle.model.specs.Book.{Answer, Book, Entry, Job, advance, afterTaken, answer, book, bookFrom, borrowed, borrowing, emptied, emptyBook, emptyIn, enter, entered}
-use Rattle.model.specs.Book.{full, grantsOf, jobClaims, keep, newestEnded, none, offer, only, quiet, refused, seeks, served, step, taken, takenFrom, takenOf}
-use Rattle.model.specs.Book.{taskClaims, widths, withdraw, without}
+use Rattle.model.specs.Book.{Answer, Book, Entry, Job, advance, afterTaken, answer, book, bookFrom, borrowed, borrowing, emptied, emptyBook}
+use Rattle.model.specs.Book.{emptyIn, enter, entered, full, grantsOf, jobClaims, keep, newestEnded, none, offer, only, quiet, refused, seeks}
+use Rattle.model.specs.Book.{served, step, taken, takenFrom, takenOf, taskClaims, widths, withdraw, without}
 use Rattle.model.specs.Fence.{openCores}
 use Rattle.model.specs.Grants.{claimants}
 use Rattle.model.specs.Lending.{lent}
