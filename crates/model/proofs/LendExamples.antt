@@ -2,6 +2,7 @@
 -- and no reserved tick, and who may be reported. The row before each entry is asked with the empty jobs that it names.
 use mathlib.Core.List.{List, [], map, _∷_}
 use mathlib.Core.Path.{refl, _≡_}
+use lib.ListN.{drop}
 use Rattle.model.proofs.Computing.{computing}
 use Rattle.model.proofs.EmptyExamples.{line, none, one}
 use Rattle.model.proofs.Examples.{B, Line, fencedOn, on, t, t₂, three, two, worked}
@@ -127,11 +128,13 @@ lend-lines =
     ∷ []
 
 -- every line is what the definitions say, line by line
+later : LineByLine worked (drop 11 lend-lines) (drop 11 lend-lines)
+unfolding computing
+later = (refl, (refl, (refl, (refl, (refl, (refl, (refl, (refl, (refl, (refl, (refl, tt)))))))))))
+
 computed : LineByLine worked lend-lines lend-lines
 unfolding computing
-computed =
-    (refl, (refl, (refl, (refl, (refl, (refl, (refl, (refl, (refl, (refl, (refl,
-    (refl, (refl, (refl, (refl, (refl, (refl, (refl, (refl, (refl, (refl, (refl, tt))))))))))))))))))))))
+computed = (refl, (refl, (refl, (refl, (refl, (refl, (refl, (refl, (refl, (refl, (refl, later)))))))))))
 
 -- .. and as one list
 pub lend-examples : map worked lend-lines ≡ lend-lines
