@@ -57,7 +57,7 @@ emptied s e b = record {
 abbrev pub emptyIn : Book → ℕ → ℕ → Bool
 emptyIn b e p = bit e p || bit (b .withdrawn) p
 
--- THE CLAIMS AND THE ROW OF A TICK
+-- THE CLAIMS OF A TICK
 
 -- rules 3 and 4: a job that ended still claims while it has claimed fewer than C ticks
 abbrev pub holds : Rule → Task → Job → Bool
@@ -93,6 +93,8 @@ inRow s b p = some (getD (grantsOf s b) p [])
 -- job k of place p is given cores
 unfoldable pub served : Table → Book → ℕ → ℕ → Bool
 served s b p k = jobClaims s b p k && inRow s b p
+
+-- WHAT IS LENT, AND THE ROW OF A TICK
 
 -- the newest job of place p has ended
 abbrev pub newestEnded : Table → Book → ℕ → Bool
