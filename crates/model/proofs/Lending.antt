@@ -138,10 +138,7 @@ lent-seeks ws sk o (suc n) q e = go (lent-seeks ws sk o n q) (beside-some (lent 
     go : (some (getD (lent ws sk o n) q []) ≡ true → sk q ≡ true)
         → (some (getD (lent ws sk o n) q []) ≡ true) ⊎ (some (getD (grants greedy (claimants ws tried) (o n)) q []) ≡ true) → sk q ≡ true
     go ih (inl h) = ih h
-    go ih (inr h) =
-        let t : tries sk n (lent ws sk o n) q ≡ true =
-        not-false-true (tries sk n (lent ws sk o n) q) (λ f. false≢true (sym (ap some (grants-none greedy ws tried (o n) q f)) ∙ h)) in
-        and-right (ltb n q) (sk q) (and-left (ltb n q && sk q) (not (some (getD (lent ws sk o n) q []))) t)
+    go ih (inr h) = not-false-true (sk q) (λ f. false≢true (sym (ap some (grants-none greedy ws tried (o n) q (rw (f, and-false (ltb n q))))) ∙ h))
 
 -- a list of cores for each place, however many have lent
 beside-length : (gs hs : List (List ℕ)) → length (beside gs hs) ≡ length gs
