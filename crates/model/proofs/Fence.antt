@@ -13,13 +13,13 @@ use Rattle.model.proofs.Digits.{bit-none}
 use Rattle.model.proofs.Lists.{map-at, up-at, up-length}
 use Rattle.model.proofs.Renumbered.{at-map, grants-map, lent-map, owner-map, shown-map, some-map}
 use Rattle.model.proofs.Search.{any-same}
-use Rattle.model.specs.Book.{Answer, Book, Entry, advance, afterTaken, answer, answersFrom, book, bookFrom, borrowed, borrowing, borrows, emptiable, emptied}
-use Rattle.model.specs.Book.{emptyBook, emptyIn, enter, full, grantsOf, inRow, late, misemptied, misreported, newestEnded, none, offer, reportable, rowOf}
-use Rattle.model.specs.Book.{seeks, served, shownOf, step, taskClaims, widths, withdraw, work, workLent}
+use Rattle.model.specs.Book.{Answer, Book, Entry, advance, afterTaken, answer, answersFrom, book, bookFrom, borrowed, borrowing, borrows}
+use Rattle.model.specs.Book.{emptiable, emptied, emptyBook, emptyIn, enter, full, grantsOf, inRow, late, lentOf, misemptied, misreported, newestEnded}
+use Rattle.model.specs.Book.{none, offer, reportable, rowOf, seeks, served, shownOf, step, taskClaims, widths, withdraw, work, workLent}
 use Rattle.model.specs.Fence.{justOpen, openCores, outside, spread, unfenced}
 use Rattle.model.specs.Grants.{claimants, grants, some}
 use Rattle.model.specs.Horizon.{horizon}
-use Rattle.model.specs.Lending.{lends, lent, shownCores}
+use Rattle.model.specs.Lending.{lends, shownCores}
 use Rattle.model.specs.Row.{byteOf, owner, row}
 use Rattle.model.specs.Search.{bit, kept, keptIf, upFrom}
 use Rattle.model.specs.Task.{Table, task}
@@ -171,24 +171,19 @@ module _ (s : Table) where
       go true = core-given b p
       go false = refl
 
+  core-lent : (b : Book) → lentOf s b ≡ map (map core) (lentOf (justOpen s) b)
+  core-lent b =
+      lent-map core (widths s (b .tick)) (seeks s b) (seeks (justOpen s) b) (offer s b) (offer (justOpen s) b) (same-seeks b) (core-offer b) (length (s .tasks))
+
   core-borrowed : (b : Book) (p : ℕ) → borrowed s b p ≡ map core (borrowed (justOpen s) b p)
   unfolding borrowed
-  core-borrowed b p =
-      ap (λ (l : List (List ℕ)). getD l p [])
-      (lent-map core (widths s (b .tick)) (seeks s b) (seeks (justOpen s) b) (offer s b) (offer (justOpen s) b) (same-seeks b) (core-offer b) p)
-      ∙ at-map core (lent (widths s (b .tick)) (seeks (justOpen s) b) (offer (justOpen s) b) p) p
+  core-borrowed b p = ap (λ (l : List (List ℕ)). getD l p []) (core-lent b) ∙ at-map core (lentOf (justOpen s) b) p
 
   same-borrows : (b : Book) (p : ℕ) → borrows s b p ≡ borrows (justOpen s) b p
   same-borrows b p = ap some (core-borrowed b p) ∙ some-map core (borrowed (justOpen s) b p)
 
   core-shown : (b : Book) → shownOf s b ≡ map (map core) (shownOf (justOpen s) b)
-  core-shown b =
-      ap₂ shownCores (core-grants b) (all (upFrom 0 (length (s .tasks))))
-      ∙ shown-map core core-apart (grantsOf (justOpen s) b) (map (borrowed (justOpen s) b) (upFrom 0 (length (s .tasks))))
-    where
-      all : (ps : List ℕ) → map (borrowed s b) ps ≡ map (map core) (map (borrowed (justOpen s) b) ps)
-      all [] = refl
-      all (p ∷ ps) = ap₂ (λ (x : List ℕ) (l : List (List ℕ)). x ∷ l) (core-borrowed b p) (all ps)
+  core-shown b = ap₂ shownCores (core-grants b) (core-lent b) ∙ shown-map core core-apart (grantsOf (justOpen s) b) (lentOf (justOpen s) b)
 
   same-served : (b : Book) (p k : ℕ) → served s b p k ≡ served (justOpen s) b p k
   unfolding served

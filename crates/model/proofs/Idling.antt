@@ -12,8 +12,8 @@ use Rattle.model.proofs.Jobs.{Reserving, done-off, mk}
 use Rattle.model.proofs.Lending.{not-borrowing, offer-none, shown-given}
 use Rattle.model.proofs.Level.{level-asked, same-claimants}
 use Rattle.model.proofs.Runs.{full-claimed, full-offer, full-shown, full-withdrawn, still-emptied}
-use Rattle.model.specs.Book.{Book, Entry, asked, book, bookFrom, borrowing, claims, emptied, firstLate, full, grantsOf, jobClaims, late, misemptied, none}
-use Rattle.model.specs.Book.{quiet, rowOf, rowRefused, served, shown, step, taskClaims, widths, work, workLent}
+use Rattle.model.specs.Book.{Book, Entry, asked, book, bookFrom, borrowing, claims, emptied, firstLate, full, grantsOf, jobClaims, late}
+use Rattle.model.specs.Book.{misemptied, none, quiet, rowOf, rowRefused, served, shown, step, taskClaims, widths, work, workLent}
 use Rattle.model.specs.Firm.{firm}
 use Rattle.model.specs.Grants.{Claimant, claimants, endsChoosing, given, grants, left}
 use Rattle.model.specs.Horizon.{horizon}

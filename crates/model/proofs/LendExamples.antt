@@ -2,6 +2,7 @@
 -- and no reserved tick, and who may be reported. The row before each entry is asked with the empty jobs that it names.
 use mathlib.Core.List.{List, [], map, _∷_}
 use mathlib.Core.Path.{refl, _≡_}
+use lib.ListN.{drop}
 use Rattle.model.proofs.Computing.{computing}
 use Rattle.model.proofs.EmptyExamples.{line, none, one}
 use Rattle.model.proofs.Examples.{B, Line, fencedOn, on, t, t₂, three, two, worked}
@@ -82,10 +83,10 @@ lend-lines =
     (taken ∷ taken ∷ taken ∷ taken ∷ [])
     (one 1 ∷ one 2 ∷ one 2 ∷ one 2 ∷ one 1 ∷ [])
     ∷ line "work ends by lent ticks; its own cores are then held, and lent"
-    (on 1 lending (t 0 1 2 4 4 ∷ t 0 1 1 4 4 ∷ t 0 1 1 4 4 ∷ [])) (Firm 0 4)
-    (advance 1 0 ∷ none ∷ advance 2 0 ∷ advance 4 0 ∷ none ∷ [])
-    (taken ∷ taken ∷ refused 16 0 ∷ taken ∷ taken ∷ [])
-    (one 1 ∷ one 2 ∷ one 3 ∷ one 3 ∷ one 3 ∷ one 1 ∷ [])
+    (on 1 lending (t 0 1 3 9 9 ∷ t 0 1 2 9 9 ∷ t 0 1 2 9 9 ∷ [])) (Firm 0 9)
+    (advance 1 0 ∷ none ∷ none ∷ advance 2 0 ∷ advance 4 0 ∷ none ∷ none ∷ [])
+    (taken ∷ taken ∷ taken ∷ refused 16 0 ∷ taken ∷ taken ∷ taken ∷ [])
+    (one 1 ∷ one 2 ∷ one 2 ∷ one 3 ∷ one 3 ∷ one 2 ∷ one 3 ∷ one 3 ∷ [])
     ∷ line "a lent tick is no reserved one: position 2 has had its two, and holds in tick 3"
     (on 2 lending (t 0 2 2 9 9 ∷ t 0 1 2 9 9 ∷ t 0 2 1 9 9 ∷ [])) (Firm 0 9)
     (advance 1 0 ∷ none ∷ none ∷ none ∷ none ∷ [])
@@ -127,9 +128,13 @@ lend-lines =
     ∷ []
 
 -- every line is what the definitions say, line by line
+later : LineByLine worked (drop 11 lend-lines) (drop 11 lend-lines)
+unfolding computing
+later = (refl, (refl, (refl, (refl, (refl, (refl, (refl, (refl, (refl, (refl, (refl, tt)))))))))))
+
 computed : LineByLine worked lend-lines lend-lines
 unfolding computing
-computed = (refl, (refl, (refl, (refl, (refl, (refl, (refl, (refl, (refl, (refl, (refl, (refl, (refl, (refl, (refl, (refl, (refl, (refl, (refl, (refl, (refl, (refl, tt))))))))))))))))))))))
+computed = (refl, (refl, (refl, (refl, (refl, (refl, (refl, (refl, (refl, (refl, (refl, later)))))))))))
 
 -- .. and as one list
 pub lend-examples : map worked lend-lines ≡ lend-lines

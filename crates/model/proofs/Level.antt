@@ -10,7 +10,8 @@ use native.Mathlib.Omega.{arith}
 use lib.ListN.{length, length-map, length-replicate, replicate}
 use Rattle.model.proofs.Grants.{claimants-same}
 use Rattle.model.proofs.Jobs.{Reserving, idle-claims, start-claimed, turn-claimed}
-use Rattle.model.proofs.Runs.{GoodBook, Move, book-run, book-tick, full-claimed, full-had, full-run, good-emptied, good-start, good-step, lines, moved, movesOf, run, stillMove}
+use Rattle.model.proofs.Runs.{GoodBook, Move, book-run, book-tick, full-claimed, full-had, full-run, good-emptied, good-start, good-step}
+use Rattle.model.proofs.Runs.{lines, moved, movesOf, run, stillMove}
 use Rattle.model.specs.Book.{Book, Entry, book, borrowing, emptied, emptyBook, full, jobClaims, releasedNow, served, step, taskClaims, widths}
 use Rattle.model.specs.Compare.{Behind, NoneBehind}
 use Rattle.model.specs.Grants.{claimants}

@@ -14,11 +14,11 @@ use borrow.Author.Tests.{le-ltb, leb-false, leb-true, lt-ltb, ne-eqb}
 use Rattle.model.proofs.Digits.{bit-power, or-bit}
 use Rattle.model.proofs.FullLength.{empty-full}
 use Rattle.model.proofs.Grants.{claimants-cut, grants-take}
-use Rattle.model.proofs.Lending.{lent-local, offer-none, shown-given}
+use Rattle.model.proofs.Lending.{borrowed-above, lent-local, offer-none, shown-given}
 use Rattle.model.proofs.Lists.{take-map}
-use Rattle.model.specs.Book.{Answer, Book, Entry, Job, advance, afterTaken, answer, book, bookFrom, borrowed, borrowing, emptied, emptyBook, emptyIn, enter, entered}
-use Rattle.model.specs.Book.{full, grantsOf, jobClaims, keep, newestEnded, none, offer, only, quiet, refused, seeks, served, step, taken, takenFrom, takenOf}
-use Rattle.model.specs.Book.{taskClaims, widths, withdraw, without}
+use Rattle.model.specs.Book.{Answer, Book, Entry, Job, advance, afterTaken, answer, book, bookFrom, borrowed, borrowing, emptied, emptyBook}
+use Rattle.model.specs.Book.{emptyIn, enter, entered, full, grantsOf, jobClaims, keep, newestEnded, none, offer, only, quiet, refused, seeks}
+use Rattle.model.specs.Book.{served, step, taken, takenFrom, takenOf, taskClaims, widths, withdraw, without}
 use Rattle.model.specs.Fence.{openCores}
 use Rattle.model.specs.Grants.{claimants}
 use Rattle.model.specs.Lending.{lent}
@@ -179,13 +179,14 @@ module _ (n : ℕ) (s s′ : Table) (al : Alike n s s′) where
   same-offer b b′ ag p l = rw (same-cores b b′ ag p l, same-ended b b′ ag p l, al .rules)
 
   same-borrowed : (b b′ : Book) → Agree n b b′ → (p : ℕ) → p < n → borrowed s b p ≡ borrowed s′ b′ p
-  unfolding borrowed
   same-borrowed b b′ ag p l =
-      sym (getD-take n (lent (widths s (b .tick)) (seeks s b) (offer s b) p) p [] l)
+      borrowed-above s b p
+      ∙ (sym (getD-take n (lent (widths s (b .tick)) (seeks s b) (offer s b) p) p [] l)
       ∙ (ap (λ (x : List (List ℕ)). getD x p [])
       (lent-local n (widths s (b .tick)) (widths s′ (b′ .tick)) (seeks s b) (seeks s′ b′) (offer s b) (offer s′ b′)
       (same-widths b b′ ag) (same-seeks b b′ ag) (same-offer b b′ ag) p (omega arith))
-      ∙ getD-take n (lent (widths s′ (b′ .tick)) (seeks s′ b′) (offer s′ b′) p) p [] l)
+      ∙ (getD-take n (lent (widths s′ (b′ .tick)) (seeks s′ b′) (offer s′ b′) p) p [] l
+      ∙ sym (borrowed-above s′ b′ p))))
 
   shown-alike : (b b′ : Book) → Agree n b b′ → SameCores n s b s′ b′
   shown-alike b b′ ag = record {

@@ -3,14 +3,14 @@ use mathlib.Core.Bool.{Bool, _&&_, cond, false, not, true}
 use mathlib.Core.List.{List, [], map, _++_, _∷_}
 use mathlib.Core.Path.{ap, ap₂, refl, sym, _∙_, _≡_}
 use Prim.Native.Nat.{suc, zero, ℕ}
-use lib.Dec.{eqb, ltb}
+use lib.Dec.{eqb}
 use lib.ListN.{List·getD-map, drop, getD, length-map, take}
 use borrow.Author.Tests.{eq-eqb, eqb-true}
 use Rattle.model.proofs.Bools.{same-test}
 use Rattle.model.proofs.Grants.{claimants-same}
 use Rattle.model.proofs.Lists.{take-map}
 use Rattle.model.specs.Grants.{Claimant, claimants, endsChoosing, fits, given, grants, left, some}
-use Rattle.model.specs.Lending.{among, beside, lendOnce, lent, shownCores, unlent}
+use Rattle.model.specs.Lending.{among, beside, lendOnce, lent, shownCores, tries, unlent}
 use Rattle.model.specs.Row.{owner}
 use Rattle.model.specs.Search.{kept, keptIf, memb}
 use Rattle.model.specs.Task.{Rule, greedy}
@@ -74,16 +74,12 @@ module _ (f : ℕ → ℕ) where
     where
       go : (bs bs′ : List (List ℕ)) → bs ≡ map (map f) bs′ → lendOnce ws sk (o n) n bs ≡ map (map f) (lendOnce ws sk′ (o′ n) n bs′)
       go bs bs′ ih =
-          ap₂ beside ih (ap₂ (grants greedy) (claimants-same ws c d (λ q l. same q)) (eo n) ∙ grants-map greedy (claimants ws d) (o′ n))
-          ∙ beside-map bs′ (grants greedy (claimants ws d) (o′ n))
+          ap₂ beside ih
+          (ap₂ (grants greedy) (claimants-same ws (tries sk n bs) (tries sk′ n bs′) (λ q l. same q)) (eo n)
+          ∙ grants-map greedy (claimants ws (tries sk′ n bs′)) (o′ n))
+          ∙ beside-map bs′ (grants greedy (claimants ws (tries sk′ n bs′)) (o′ n))
         where
-          c : ℕ → Bool
-          c q = ltb n q && sk q && not (some (getD bs q []))
-
-          d : ℕ → Bool
-          d q = ltb n q && sk′ q && not (some (getD bs′ q []))
-
-          same : (q : ℕ) → ltb n q && sk q && not (some (getD bs q [])) ≡ ltb n q && sk′ q && not (some (getD bs′ q []))
+          same : (q : ℕ) → tries sk n bs q ≡ tries sk′ n bs′ q
           same q =
               let x : some (getD bs q []) ≡ some (getD bs′ q []) =
               ap (λ (l : List (List ℕ)). some (getD l q [])) ih ∙ (ap some (at-map bs′ q) ∙ some-map (getD bs′ q [])) in

@@ -12,9 +12,10 @@ use Rattle.model.proofs.Bools.{not-true-false}
 use Rattle.model.proofs.Digits.{bit-none}
 use Rattle.model.proofs.Jobs.{Good, after-release, good-fresh, mk, next, start-good, turn-ended, turn-good, turn-whole}
 use Rattle.model.proofs.Lending.{not-borrowing, offer-whole, shown-given}
-use Rattle.model.specs.Book.{Answer, Book, Entry, Missed, advance, advanced, afterTaken, answer, book, bookFrom, borrowed, borrowing, emptied, emptyBook}
-use Rattle.model.specs.Book.{emptyIn, enter, entered, fresh, full, grantsOf, jobClaims, keep, none, offer, only, quiet, refused, releasedNow, seeks, served}
-use Rattle.model.specs.Book.{shownOf, step, taken, takenFrom, takenOf, withdraw, without, work}
+use Rattle.model.specs.Book.{Answer, Book, Entry, Job, Missed, advance, advanced, afterTaken, answer, book, bookFrom, borrowed, borrowing, emptied}
+use Rattle.model.specs.Book.{emptyBook, emptyIn, enter, entered, fresh, full, grantsOf, jobClaims, keep, none, offer, only, quiet, refused}
+use Rattle.model.specs.Book.{releasedNow, rowOf, seeks, served, shownOf, step, taken, takenFrom, takenOf, withdraw, without, work}
+use Rattle.model.specs.Row.{row}
 use Rattle.model.specs.Search.{bit}
 use Rattle.model.specs.Task.{AllSound, Table, due, release, task}
 
@@ -182,8 +183,9 @@ full-had s (suc n) p k = go (full-had s n)
     go ih =
         let whole : (p k : ℕ) → full s n .job p k .ended ≡ true → task s p .length ≤ full s n .job p k .claimed =
         λ q i e. le-trans (full-whole s n q i e) (ih q i) in
+        let j : Job = full s n .job p k in
         rw (not-borrowing s (full s n) (offer-whole s (full s n) whole) p k)
-        (had-claimed (task s p .length) false (served s (full s n) p k) (full s n .job p k .had) (full s n .job p k .claimed) (full s n .job p k .ended) (ih p k))
+        (had-claimed (task s p .length) false (served s (full s n) p k) (j .had) (j .claimed) (j .ended) (ih p k))
 
 -- a job that has ended has claimed C ticks
 pub full-claimed : (s : Table) (n p k : ℕ) → full s n .job p k .ended ≡ true → task s p .length ≤ full s n .job p k .claimed
@@ -196,6 +198,9 @@ full-offer s n = offer-whole s (full s n) (full-claimed s n)
 -- .. so the row shows the cores that are given ..
 pub full-shown : (s : Table) (n : ℕ) → shownOf s (full s n) ≡ grantsOf s (full s n)
 full-shown s n = shown-given s (full s n) (full-offer s n)
+
+pub full-row : (s : Table) (n : ℕ) → rowOf s (full s n) ≡ row (s .fence) (s .cores) (grantsOf s (full s n))
+full-row s n = ap (row (s .fence) (s .cores)) (full-shown s n)
 
 -- .. and a job goes on by these alone
 pub full-next : (s : Table) (n p k : ℕ) → full s (suc n) .job p k ≡ next (task s p .length) false (served s (full s n) p k) (full s n .job p k)

@@ -13,7 +13,8 @@ use borrow.Author.Tests.{eqb-true}
 use Rattle.model.proofs.Bools.{and-both, and-left, and-right, not-false-true}
 use Rattle.model.proofs.Compare.{none-longer}
 use Rattle.model.proofs.Grants.{RisingList, greedy-limited, limited-mono}
-use Rattle.model.proofs.Jobs.{Letting, Reserving, abreast, after-release, before-due, claims-less, claims-open, fresh-near, longer-left, longer-right, newest-is, next, start}
+use Rattle.model.proofs.Jobs.{Letting, Reserving, abreast, after-release, before-due, claims-less, claims-open, fresh-near, longer-left}
+use Rattle.model.proofs.Jobs.{longer-right, newest-is, next, start}
 use Rattle.model.proofs.Lending.{not-borrowing, offer-none}
 use Rattle.model.proofs.Level.{Level, level-emptied, level-near, level-start, level-step, same-served}
 use Rattle.model.proofs.Lists.{map-at}
@@ -67,7 +68,8 @@ kind : (s : Table) → FirmRule s → Kind s
 kind s (inl e) = letting (λ t. subst (λ r. GrantsMono r (widths s t)) (sym e) (mono-limited (widths s t))) (subst Letting (sym e) (λ τ j. refl))
 kind s (inr (inl e)) = holding (subst Reserving (sym e) (λ τ j. refl))
 kind s (inr (inr (inl e))) = holding (subst Reserving (sym e) (λ τ j. refl))
-kind s (inr (inr (inr (e, h)))) = letting (λ t. subst (λ r. GrantsMono r (widths s t)) (sym e) (mono-greedy (widths s t) (rising-widths s h t))) (subst Letting (sym e) (λ τ j. refl))
+kind s (inr (inr (inr (e, h)))) =
+    letting (λ t. subst (λ r. GrantsMono r (widths s t)) (sym e) (mono-greedy (widths s t) (rising-widths s h t))) (subst Letting (sym e) (λ τ j. refl))
 
 -- a rule under which a job that ended claims no more has nobody to lend
 letting-lends : (r : Rule) → Letting r → lends r ≡ false
@@ -242,7 +244,8 @@ module _ (s : Table) (ok : AllSound s) (keeps : lends (s .rule) ≡ false) where
   abreast-run kd ms =
       let still : List Move = replicate (length ms) stillMove in
       subst (λ (b : Book). NoneLonger s (run s emptyBook ms) b → Abreast s (run s emptyBook ms) b) (full-run s (length ms))
-      (two-runs s ok keeps kd ms still (sym (length-replicate (length ms) stillMove)) emptyBook emptyBook (early-start s) (early-start s) (start-abreast s ok keeps))
+      (two-runs s ok keeps kd ms still (sym (length-replicate (length ms) stillMove)) emptyBook emptyBook
+      (early-start s) (early-start s) (start-abreast s ok keeps))
       (none-longer s (run s emptyBook ms) (full s (length ms)) (good-run s ok ms emptyBook (good-start s ok)) (full-whole s (length ms)))
 
   -- THE SAME OF LISTS, refused entries included

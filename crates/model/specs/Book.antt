@@ -7,7 +7,7 @@ use Prim.Native.Nat.{ℕ, zero, suc, _+_, _-_, _^_, _<_}
 use lib.ListN.{length, getD, replicate}
 use lib.Bits.{bitOr}
 use lib.Dec.{eqb, leb, ltb}
-use Rattle.model.specs.Search.{any, least, bit, upFrom}
+use Rattle.model.specs.Search.{any, least, bit}
 use Rattle.model.specs.Task.{Task, Rule, greedy, limited, idling, lending, Table, task, release, due, newest, widthOf}
 use Rattle.model.specs.Fence.{openCores}
 use Rattle.model.specs.Grants.{claimants, grants, some}
@@ -57,7 +57,7 @@ emptied s e b = record {
 abbrev pub emptyIn : Book → ℕ → ℕ → Bool
 emptyIn b e p = bit e p || bit (b .withdrawn) p
 
--- THE CLAIMS AND THE ROW OF A TICK
+-- THE CLAIMS OF A TICK
 
 -- rules 3 and 4: a job that ended still claims while it has claimed fewer than C ticks
 abbrev pub holds : Rule → Task → Job → Bool
@@ -94,6 +94,8 @@ inRow s b p = some (getD (grantsOf s b) p [])
 unfoldable pub served : Table → Book → ℕ → ℕ → Bool
 served s b p k = jobClaims s b p k && inRow s b p
 
+-- WHAT IS LENT, AND THE ROW OF A TICK
+
 -- the newest job of place p has ended
 abbrev pub newestEnded : Table → Book → ℕ → Bool
 newestEnded s b p = b .job p (newest (task s p) (b .tick)) .ended
@@ -106,11 +108,15 @@ offer s b p = cond (lends (s .rule) && newestEnded s b p) (getD (grantsOf s b) p
 unfoldable pub seeks : Table → Book → ℕ → Bool
 seeks s b p = taskClaims s b p && not (newestEnded s b p) && not (inRow s b p)
 
--- the cores that place p borrows, once the places above it have lent (it and those below lend it none: `lent-settled`)
-unfoldable pub borrowed : Table → Book → ℕ → List ℕ
-borrowed s b p = getD (lent (widths s (b .tick)) (seeks s b) (offer s b) p) p []
+-- what each place borrows, once every place has lent
+abbrev pub lentOf : Table → Book → List (List ℕ)
+lentOf s b = lent (widths s (b .tick)) (seeks s b) (offer s b) (length (s .tasks))
 
--- place p borrows some, and is served by them
+-- the cores that place p borrows: from the places above it, for it and those below lend it none (`borrowed-above`)
+unfoldable pub borrowed : Table → Book → ℕ → List ℕ
+borrowed s b p = getD (lentOf s b) p []
+
+-- place p borrows some, and so is served
 abbrev pub borrows : Table → Book → ℕ → Bool
 borrows s b p = some (borrowed s b p)
 
@@ -120,7 +126,7 @@ borrowing s b p k = jobClaims s b p k && borrows s b p
 
 -- the cores of each place as the row shows them ..
 abbrev pub shownOf : Table → Book → List (List ℕ)
-shownOf s b = shownCores (grantsOf s b) (map (borrowed s b) (upFrom 0 (length (s .tasks))))
+shownOf s b = shownCores (grantsOf s b) (lentOf s b)
 
 -- .. and so the row
 abbrev pub rowOf : Table → Book → List ℕ

@@ -1,4 +1,5 @@
--- Lending (request 109; Goossens and Berten, limited slack reclaiming): what the places of a tick borrow from the holders above them, and what a row shows then.
+-- Lending (request 109; Goossens and Berten, limited slack reclaiming): what the places of a tick borrow from the holders above them,
+-- and what a row shows then.
 use mathlib.Core.Bool.{Bool, true, false, _&&_, _||_, not}
 use mathlib.Core.List.{List, [], _∷_, _++_, map}
 use Prim.Native.Nat.{ℕ, zero, suc}
@@ -21,10 +22,14 @@ beside [] hs = []
 beside (g ∷ gs) [] = g ∷ gs
 beside (g ∷ gs) (h ∷ hs) = (g ++ h) ∷ beside gs hs
 
--- place n lends the cores F, where bs is what each place has borrowed so far: the places below it that seek cores and have not been served
--- in this tick are tried in order, as greedy tries them: one whose width fits in what is not yet lent of F takes the lowest of that
+-- place n tries place q, where bs is what each place has borrowed so far: q stands below it, seeks cores and has not been served in this tick
+abbrev pub tries : (ℕ → Bool) → ℕ → List (List ℕ) → ℕ → Bool
+tries seeks n bs q = ltb n q && seeks q && not (some (getD bs q []))
+
+-- place n lends the cores F: those that it tries are taken in order, as greedy takes them: one whose width fits in what is not yet lent of F
+-- takes the lowest of that
 abbrev pub lendOnce : List ℕ → (ℕ → Bool) → List ℕ → ℕ → List (List ℕ) → List (List ℕ)
-lendOnce ws seeks F n bs = beside bs (grants greedy (claimants ws (λ q. ltb n q && seeks q && not (some (getD bs q [])))) F)
+lendOnce ws seeks F n bs = beside bs (grants greedy (claimants ws (tries seeks n bs)) F)
 
 -- what each place has borrowed once the first n places have lent, by priority: ws are the widths, seeks says who seeks cores, and offer what a place lends
 unfoldable pub lent : List ℕ → (ℕ → Bool) → (ℕ → List ℕ) → ℕ → List (List ℕ)

@@ -1,4 +1,5 @@
--- What the whole project is judged by, in reading order: sizes, the table, the fence, who runs in a tick, what is lent, rows, which rules and widths are firm, the book, the horizon and the verdict.
+-- What the whole project is judged by, in reading order: sizes, the table, the fence, who runs in a tick, what is lent, rows,
+-- which rules and widths are firm, the book, the horizon and the verdict.
 pub mod Sizes
 pub mod Search
 pub mod Task
