@@ -10,3 +10,4 @@ pub mod Gathered
 pub mod Unions
 pub mod Borrowed
 pub mod Lending
+pub mod LentSets

@@ -19,9 +19,9 @@ pub record LentAs (ws reserved : List ℕ) (holders seekers count : ℕ) (sets :
   pub gives : map cores (take count sets) ≡ lent ws (bit seekers) (offered reserved holders) count
   pub none : drop count sets ≡ replicate (mostTasks - count) 0
 
--- no place has cores of its own and borrows some
+-- no place has cores of its own and borrows some (`not-both`: so it is where who seeks cores has none)
 abbrev pub NotBoth : List ℕ → List ℕ → Type 0
-NotBoth reserved borrowed = (p : ℕ) → (getD reserved p 0 ≡ 0) ⊎ (getD borrowed p 0 ≡ 0)
+NotBoth reserved borrowed = (p : ℕ) → (cores (getD reserved p 0) ≡ []) ⊎ (cores (getD borrowed p 0) ≡ [])
 
 -- what the row shows of each place below the count: the cores that it borrows, and those reserved for it that nobody borrows (`shown-sets`: the model's
 -- `shownCores`); and no set past the count

@@ -18,7 +18,7 @@ use Rattle.model.specs.Search.{bit, kept}
 use Rattle.model.proofs.Lists.{getD-zeros}
 use Rattle.cores.specs.Cores.{cores}
 use Rattle.cores.proofs.Ascending.{kept-same}
-use Rattle.cores.proofs.Cores.{cores-none, cores-range}
+use Rattle.cores.proofs.Cores.{cores-range}
 use Rattle.rule.specs.Lent.{NotBoth, ShownAs}
 use Rattle.rule.proofs.Unions.{cores-or}
 use Rattle.rule.proofs.shown.Statement.{statement}
@@ -48,7 +48,7 @@ module _ (reserved borrowed : List ℕ) (count : ℕ) (sets : List ℕ) (i lent 
   -- one of the two sets has no core
   one-empty : (cores (getD borrowed i 0) ≡ []) ⊎ (cores w ≡ [])
   unfolding kept
-  one-empty = ⊎-elim (λ e. inr (own ∙ ap (outside lent) (ap cores e ∙ cores-none))) (λ e. inl (ap cores e ∙ cores-none)) (once i)
+  one-empty = ⊎-elim (λ e. inr (own ∙ ap (outside lent) e)) inl (once i)
 
   here : cores x ≡ cores (getD borrowed i 0) ++ unlent (map cores (take count borrowed)) (cores (getD reserved i 0))
   here = cores-or (getD borrowed i 0) w one-empty ∙ ap (λ (l : List ℕ). cores (getD borrowed i 0) ++ l) own-kept
