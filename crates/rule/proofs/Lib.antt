@@ -6,3 +6,8 @@ pub mod Choosing
 pub mod Serving
 pub mod Rows
 pub mod Sets
+pub mod Gathered
+pub mod Unions
+pub mod Borrowed
+pub mod Lending
+pub mod LentSets
