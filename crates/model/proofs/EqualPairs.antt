@@ -25,6 +25,7 @@ equal-cycle τ e = rw (eq-eqb (τ .oddWidth) (τ .evenWidth) e)
 pub equal-rising :
     (τs : List Task) → ((p : ℕ) → p < length τs → getD τs p nobody .oddWidth ≡ getD τs p nobody .evenWidth)
     → Rising τs ↔ ((p : ℕ) → suc p < length τs → getD τs p nobody .oddWidth ≤ getD τs (suc p) nobody .oddWidth)
-equal-rising τs e =
-    ( (λ h p l. omega (arith, h p l, e p (omega arith), e (suc p) l))
-    , (λ h p l. omega (arith, h p l, e p (omega arith), e (suc p) l)))
+equal-rising τs e = (
+  (λ h p l. omega (arith, h p l, e p (omega arith), e (suc p) l)),
+  (λ h p l. omega (arith, h p l, e p (omega arith), e (suc p) l)),
+)
