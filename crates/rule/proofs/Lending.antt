@@ -1,6 +1,6 @@
 -- What holds while the places lend, one turn each: the sets are what the model's places have borrowed so far, and the seekers that are left are those that
 -- the place of the turn tries.
-use borrow.Author.Tests.{eqb-false, eqb-true, le-leb, le-ltb, leb-false, leb-true, lt-leb, lt-ltb, ltb-false, ltb-true, ne-eqb}
+use borrow.Author.Tests.{eqb-false, eqb-true, le-leb, le-ltb, leb-false, leb-true, lt-leb, lt-ltb, ltb-false, ltb-true}
 use native.Mathlib.Omega.{arith}
 use mathlib.Core.Path.{_≡_, refl, sym, ap, ap₂, _∙_, subst}
 use mathlib.Core.Logic.{_⊎_, inl, inr}
@@ -17,12 +17,13 @@ use Rattle.model.specs.Search.{bit}
 use Rattle.model.specs.Task.{greedy}
 use Rattle.model.proofs.Digits.{bit-past, bit-power, shifted-one, without-bit}
 use Rattle.model.proofs.Grants.{claimants-same, grants-none}
+use Rattle.model.proofs.Lending.{lent-length}
 use Rattle.model.proofs.Lists.{getD-zeros}
 use Rattle.cores.specs.Cores.{cores}
 use Rattle.cores.proofs.Cores.{cores-none}
 use Rattle.rule.specs.Lent.{LentAs, offered}
 use Rattle.rule.specs.Shares.{GrantedAs}
-use Rattle.rule.proofs.Borrowed.{had, lent-length, lent-more, lent-none, lent-once, lentBy, none-some, tried}
+use Rattle.rule.proofs.Borrowed.{had, lent-more, lent-none, lent-once, lentBy, none-some, tried}
 use Rattle.rule.proofs.Choosing.{some-append}
 use Rattle.rule.proofs.Granting.{none-given}
 use Rattle.rule.proofs.Sets.{sets-at}

@@ -19,7 +19,7 @@ use Rattle.model.proofs.Lists.{getD-zeros}
 use Rattle.cores.specs.Cores.{cores}
 use Rattle.cores.proofs.Ascending.{kept-same}
 use Rattle.cores.proofs.Cores.{cores-range}
-use Rattle.rule.specs.Lent.{NotBoth, ShownAs}
+use Rattle.rule.specs.Lent.{NotBoth}
 use Rattle.rule.proofs.Unions.{cores-or}
 use Rattle.rule.proofs.shown.Statement.{statement}
 use Rattle.rule.proofs.shown.Tie as tie
