@@ -30,8 +30,9 @@ use Rattle.rule.proofs.Sets.{grants-showable, no-cores, sets-at}
 -- ---- the places of which a list of sets has a core, as `owners` finds them
 
 -- where the sets past the last place are none it is so of every place
-pub owners-all : (sets : List ℕ) (owned : ℕ) → ((p : ℕ) → bit owned p ≡ ltb p 32 && some (cores (getD sets p 0))) → ((p : ℕ) → 32 ≤ p → cores (getD sets p 0) ≡ [])
-    → (p : ℕ) → bit owned p ≡ some (cores (getD sets p 0))
+pub owners-all :
+    (sets : List ℕ) (owned : ℕ) → ((p : ℕ) → bit owned p ≡ ltb p 32 && some (cores (getD sets p 0)))
+    → ((p : ℕ) → 32 ≤ p → cores (getD sets p 0) ≡ []) → (p : ℕ) → bit owned p ≡ some (cores (getD sets p 0))
 owners-all sets owned w past p = w p ∙ go (ltb p 32) refl
   where
     go : (t : Bool) → ltb p 32 ≡ t → t && some (cores (getD sets p 0)) ≡ some (cores (getD sets p 0))
@@ -54,7 +55,8 @@ front-is count sets gs h k e =
 
 -- ---- the sets of a tick: those reserved, and those that are borrowed of them
 
-module _ (ws reserved : List ℕ) (holders seekers count : ℕ) (size : length ws ≡ count) (borrowed : List ℕ) (b : LentAs ws reserved holders seekers count borrowed) where
+module _ (ws reserved : List ℕ) (holders seekers count : ℕ) (size : length ws ≡ count)
+    (borrowed : List ℕ) (b : LentAs ws reserved holders seekers count borrowed) where
   -- no set past the count
   pub borrowed-past : (p : ℕ) → count ≤ p → getD borrowed p 0 ≡ 0
   borrowed-past p h =
@@ -70,7 +72,8 @@ module _ (ws reserved : List ℕ) (holders seekers count : ℕ) (size : length w
       go true e = sym (front-at count borrowed p (ltb-true p count e)) ∙ ap (λ (l : List (List ℕ)). getD l p []) (b .gives)
       go false e =
           let k : count ≤ p = ltb-false p count e in
-          let n : length (lent ws (bit seekers) (offered reserved holders) count) ≤ p = omega (arith, lent-length ws (bit seekers) (offered reserved holders) count) in
+          let n : length (lent ws (bit seekers) (offered reserved holders) count) ≤ p =
+          omega (arith, lent-length ws (bit seekers) (offered reserved holders) count) in
           ap cores (borrowed-past p k) ∙ (cores-none ∙ sym (List·getD-eq-default (lent ws (bit seekers) (offered reserved holders) count) [] n))
 
   -- who does not seek cores borrows none
@@ -94,7 +97,8 @@ module _ (ws reserved : List ℕ) (holders seekers count : ℕ) (size : length w
       (lent-width ws (bit seekers) (offered reserved holders) count p)
 
   -- in the model's words: sk says who seeks cores, o what a place lends
-  module _ (sk : ℕ → Bool) (o : ℕ → List ℕ) (seeking : (q : ℕ) → q < count → bit seekers q ≡ sk q) (offering : (q : ℕ) → q < count → offered reserved holders q ≡ o q) where
+  module _ (sk : ℕ → Bool) (o : ℕ → List ℕ)
+      (seeking : (q : ℕ) → q < count → bit seekers q ≡ sk q) (offering : (q : ℕ) → q < count → offered reserved holders q ≡ o q) where
     -- what each place borrows, once every place has lent
     pub borrowed-list : map cores (take count borrowed) ≡ lent ws sk o count
     borrowed-list =
@@ -180,7 +184,8 @@ module _ (r : Rule) (ws : List ℕ) (c : ℕ → Bool) (count free : ℕ) (size 
 
       lent-twice : (x i j : ℕ) → i < j → In x (getD bs i []) → In x (getD bs j []) → ⊥
       lent-twice x i j l h k =
-          lent-apart ws (bit seekers) (offered reserved holders) 64 ascending (λ y p q z u v. given .apart y p q z (lent-own y p u) (lent-own y q v)) count x i j l
+          lent-apart ws (bit seekers) (offered reserved holders) 64 ascending
+          (λ y p q z u v. given .apart y p q z (lent-own y p u) (lent-own y q v)) count x i j l
           (subst (λ (gs : List (List ℕ)). In x (getD gs i [])) (b .gives) h) (subst (λ (gs : List (List ℕ)). In x (getD gs j [])) (b .gives) k)
 
       open-only : (x j : ℕ) → In x (getD (shownCores gs bs) j []) → (x < m) × (bit f x ≡ false)
