@@ -21,7 +21,7 @@ use Rattle.rule.specs.Widths.{widthsIn}
 use Rattle.rule.proofs.Granting.{same-either}
 use Rattle.run.specs.declared.Run.{Run}
 use Rattle.run.specs.declared.choosing.Claims.{Claims}
-use Rattle.run.specs.declared.loans.Shares.{Shares}
+use Rattle.run.specs.declared.shares.Shares.{Shares}
 use Rattle.phase.specs.declared.Phase.{Phase}
 use Rattle.phase.specs.declared.Phase.the-variants.{Coming, Working, Holding, Resting}
 use Rattle.phase.specs.Phase.{claiming, holder, working}
@@ -66,6 +66,7 @@ module _ (r : Run) (e : ℕ) (c : Claims) (h : ClaimsOf r e c) where
 
   same-offer : (p : ℕ)
       → cond (lends (ruleIn r) && (bit (c .claiming) p && not (bit (c .working) p))) (getD (givenTo (ruleIn r) ws (c .claiming) F) p []) [] ≡ offerIn r e p
+  unfolding offerIn
   same-offer p = go (ltb p (r .count)) refl
     where
       -- who claims and is not Working holds
@@ -78,7 +79,6 @@ module _ (r : Run) (e : ℕ) (c : Claims) (h : ClaimsOf r e c) where
       go : (t : Bool) → ltb p (r .count) ≡ t
           → cond (lends (ruleIn r) && (bit (c .claiming) p && not (bit (c .working) p))) (getD (givenTo (ruleIn r) ws (c .claiming) F) p []) []
           ≡ offerIn r e p
-      unfolding offerIn
       go true q =
           ap₂ (λ (t : Bool) (gs : List (List ℕ)). cond (lends (ruleIn r) && t) (getD gs p []) [])
           (ap₂ (λ (a b : Bool). a && not b) (h .claimed p ∙ ap (λ (t : Bool). t && claiming (seenAt r e p)) q)

@@ -22,8 +22,12 @@ pub past-grants : (r : Run) (e p : ℕ) → r .count ≤ p → getD (grantsIn r 
 unfolding grantsIn
 past-grants r e p l =
     List·getD-eq-default (grantsIn r e) []
-    (omega (arith, grants-length (ruleIn r) (widthsNow r) (λ q. claiming (seenAt r e q)) (unfenced (r .fence) (r .cores)),
-    length-map (take (r .count) (r .tasks)) widthNow, length-take (r .count) (r .tasks)))
+    (omega (
+      arith,
+      grants-length (ruleIn r) (widthsNow r) (λ q. claiming (seenAt r e q)) (unfenced (r .fence) (r .cores)),
+      length-map (take (r .count) (r .tasks)) widthNow,
+      length-take (r .count) (r .tasks),
+    ))
 
 pub past-offer : (r : Run) (e p : ℕ) → r .count ≤ p → offerIn r e p ≡ []
 unfolding offerIn

@@ -1,9 +1,8 @@
 -- Who is given cores and who borrows some, from sets of places: what the sets of a tick under rule 4 say, and that the other rules lend nothing.
 use mathlib.Core.Path.{_≡_, refl, sym, ap, subst, _∙_}
-use mathlib.Core.Bool.{Bool, true, false, _&&_, not, cond, and-false}
+use mathlib.Core.Bool.{Bool, false, _&&_, not, cond}
 use mathlib.Core.List.{List, [], _∷_, map}
-use Prim.Native.Nat.{ℕ, zero, suc, _≤_, _<_}
-use native.Mathlib.Nat.{le-of-eq}
+use Prim.Native.Nat.{ℕ, zero, suc, _≤_}
 use native.Mathlib.Omega.{arith}
 use lib.Dec.{ltb}
 use lib.ListN.{length, getD, take}
@@ -14,7 +13,7 @@ use Rattle.model.specs.Lending.{lends, lent, shownCores}
 use Rattle.model.specs.Search.{bit, memb}
 use Rattle.model.proofs.Bools.{and-right}
 use Rattle.model.proofs.Grants.{grants-length}
-use Rattle.model.proofs.Lending.{lent-above, lent-length, shown-own}
+use Rattle.model.proofs.Lending.{lent-length, shown-own}
 use Rattle.cores.specs.Cores.{cores}
 use Rattle.cores.proofs.Ascending.{In, not-in-none}
 use Rattle.rule.specs.Lent.{NotBoth, offered}
@@ -22,7 +21,7 @@ use Rattle.rule.specs.Shares.{granted}
 use Rattle.rule.proofs.Borrowed.{lent-from, none-some}
 use Rattle.rule.proofs.LentSets.{borrowers, not-both}
 use Rattle.rule.proofs.Sets.{sets-at}
-use Rattle.run.specs.declared.loans.Loans.{Loans}
+use Rattle.run.specs.declared.shares.Loans.{Loans}
 use Rattle.run.specs.Loans.{LoansOf, givenTo, isGiven, lentTo}
 
 -- ---- the choosing over more places than claim
@@ -47,10 +46,10 @@ module _ (r : Rule) where
 -- ---- where nothing is offered nothing is borrowed
 
 pub lent-nothing : (ws : List ℕ) (sk : ℕ → Bool) (o : ℕ → List ℕ) → ((q : ℕ) → o q ≡ []) → (n q : ℕ) → getD (lent ws sk o n) q [] ≡ []
+unfolding memb
 lent-nothing ws sk o e n q = go (getD (lent ws sk o n) q []) refl
   where
     here : (c : ℕ) (cs : List ℕ) → In c (c ∷ cs)
-    unfolding memb
     here c cs = rw (eq-eqb c c refl)
 
     go : (l : List ℕ) → getD (lent ws sk o n) q [] ≡ l → l ≡ []
@@ -80,26 +79,26 @@ module _ (r : Rule) (none : lends r ≡ false) (ws : List ℕ) (claiming working
 module _ (ws : List ℕ) (claiming working free count : ℕ) (size : length ws ≡ count) (few : count ≤ 32) (l : Loans)
     (h : LoansOf ws claiming working free count l) where
   -- the cores that a place lends are those reserved for it
-  offering : (q : ℕ) → offered (l .reserved) (h .holders) q ≡ cond (bit claiming q && not (bit working q)) (getD (givenTo lending ws claiming (cores free)) q []) []
+  offering :
+      (q : ℕ) → offered (l .reserved) (h .holders) q
+      ≡ cond (bit claiming q && not (bit working q)) (getD (givenTo lending ws claiming (cores free)) q []) []
   offering q =
       ap (λ (t : Bool). cond t (cores (getD (l .reserved) q 0)) []) (h .holding q)
-      ∙ ap (λ (g : List ℕ). cond (bit claiming q && not (bit working q)) g []) (sets-at lending (claimants ws (bit claiming)) count free (l .reserved) (h .reserves) q)
-
-  same-lent : lent ws (bit (h .seekers)) (offered (l .reserved) (h .holders)) count ≡ lentTo lending ws claiming working (cores free) count
-  same-lent = λ i. lent ws (λ q. h .seeking q i) (λ q. offering q i) count
+      ∙ ap (λ (g : List ℕ). cond (bit claiming q && not (bit working q)) g [])
+      (sets-at lending (claimants ws (bit claiming)) count free (l .reserved) (h .reserves) q)
 
   -- what each place borrows
   pub borrowed-is : map cores (take count (l .borrowed)) ≡ lentTo lending ws claiming working (cores free) count
-  borrowed-is = h .lends .gives ∙ same-lent
+  borrowed-is = h .lends .gives ∙ (λ i. lent ws (λ q. h .seeking q i) (λ q. offering q i) count)
 
   -- who borrows, as `owners` finds them
   pub who-borrows : (owned : ℕ) → ((p : ℕ) → bit owned p ≡ ltb p 32 && some (cores (getD (l .borrowed) p 0)))
       → (p : ℕ) → bit owned p ≡ some (getD (lentTo lending ws claiming working (cores free) count) p [])
   who-borrows owned w p =
-      borrowers ws (l .reserved) (h .holders) (h .seekers) count size (l .borrowed) (h .lends) (bit (h .seekers)) (offered (l .reserved) (h .holders))
-      (λ q k. refl) (λ q k. refl) few owned w p
-      ∙ ap some (sym (lent-above ws (bit (h .seekers)) (offered (l .reserved) (h .holders)) count p (le-of-eq size))
-      ∙ ap (λ (gs : List (List ℕ)). getD gs p []) same-lent)
+      borrowers ws (l .reserved) (h .holders) (h .seekers) count size (l .borrowed) (h .lends)
+      (λ q. bit working q && not (isGiven lending ws claiming (cores free) q))
+      (λ q. cond (bit claiming q && not (bit working q)) (getD (givenTo lending ws claiming (cores free)) q []) [])
+      (λ q k. h .seeking q) (λ q k. offering q) few owned w p
 
   -- nobody has cores of its own and borrows some
   pub one-or-other : NotBoth (l .reserved) (l .borrowed)

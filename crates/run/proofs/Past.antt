@@ -1,7 +1,7 @@
 -- Places past the count are neither read nor changed.
 use mathlib.Core.Path.{_≡_, refl, sym, ap, ap₂, subst, _∙_}
 use mathlib.Core.Bool.{Bool, true, false, not, _&&_, _||_, cond}
-use mathlib.Core.List.{List, map}
+use mathlib.Core.List.{List, [], map}
 use Prim.Native.Nat.{ℕ, _<_}
 use native.Mathlib.Omega.{arith}
 use lib.ListN.{getD, take, drop, length-map, length-take}
@@ -101,10 +101,10 @@ module _ (rule cores fence withdrawn count : ℕ) (ts us : List Task) (same : ta
         (λ l. rw (same-grants, same-seen p (ltb-true p count l)))
 
     same-offer : (p : ℕ) → offerIn one e p ≡ offerIn other e p
+    unfolding offerIn
     same-offer p = go (ltb p count) refl
       where
         go : (t : Bool) → ltb p count ≡ t → offerIn one e p ≡ offerIn other e p
-        unfolding offerIn
         go true l =
             ap₂ (λ (ph : Phase) (gs : List (List ℕ)). cond (lends (ruleOf rule) && holder ph) (getD gs p []) []) (same-seen p (ltb-true p count l)) same-grants
         go false l = past-offer one e p (ltb-false p count l) ∙ sym (past-offer other e p (ltb-false p count l))

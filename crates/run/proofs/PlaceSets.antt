@@ -1,19 +1,17 @@
 -- Both widths of the places, and tasks of the table, stored place after place beside the sets that are gathered.
 use mathlib.Core.Path.{_≡_, refl, sym, ap, subst, _∙_}
-use mathlib.Core.Bool.{Bool, true, false, _||_, _&&_, cond, and-false, and-true}
+use mathlib.Core.Bool.{Bool, true, false, _&&_, cond}
 use mathlib.Core.List.{List}
-use Prim.Native.Nat.{ℕ, _+_, _*_, _^_, _%_, _≤_, _<_}
+use Prim.Native.Nat.{ℕ, _+_, _≤_, _<_}
 use native.Mathlib.Omega.{arith}
 use lib.ListN.{length, getD, take, set, length-map, length-set, length-take, List·getD-map}
 use lib.Seq.{ext-getD, getD-take, getD-set-same, getD-set-other}
-use lib.Bits.{bitOr}
-use lib.Dec.{eqb, ltb}
-use borrow.Author.Tests.{lt-ltb, le-ltb, eqb-true, eqb-false, ltb-true, ltb-false}
-use Rattle.model.proofs.Digits.{or-bit, bit-none, bit-power, shifted-one}
+use lib.Dec.{eqb}
+use borrow.Author.Tests.{lt-ltb, eqb-true, eqb-false}
 use Rattle.model.proofs.Lists.{map-at}
-use Rattle.model.specs.Search.{bit}
 use Rattle.model.specs.Sizes.{mostTasks}
 use Rattle.rule.specs.Widths.{pair, widthIn, widthsIn}
+use Rattle.rule.proofs.Gathered.{Gathered}
 use Rattle.rule.proofs.Widths.{front-is}
 use Rattle.run.specs.declared.Run.{Run}
 use Rattle.model.specs.Task as model

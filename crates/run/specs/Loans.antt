@@ -12,8 +12,8 @@ use Rattle.model.specs.Search.{bit}
 use Rattle.cores.specs.Cores.{cores}
 use Rattle.rule.specs.Lent.{LentAs}
 use Rattle.rule.specs.Shares.{GrantedAs}
-use Rattle.run.specs.declared.loans.Loans.{Loans}
-use Rattle.run.specs.declared.loans.Shares.{Shares}
+use Rattle.run.specs.declared.shares.Loans.{Loans}
+use Rattle.run.specs.declared.shares.Shares.{Shares}
 
 -- the cores that each place is given
 abbrev pub givenTo : Rule → List ℕ → ℕ → List ℕ → List (List ℕ)

@@ -9,9 +9,9 @@ ghost use Rattle.run.specs.Withdraw.{WithdrawOf};
 
 mod bounds; // bounds.rt: numbers 14 and 15
 mod choosing; // choosing.rt: who claims in the present tick
-mod loans; // loans.rt: who is given cores in a tick, who borrows some, and the row
 mod moves; // moves.rt: one tick
 mod sets; // sets.rt: sets of places
+mod shares; // shares.rt: who is given cores in a tick, who borrows some, and the row
 mod starts; // starts.rt: the run of a table as it starts
 mod withdrawals; // withdrawals.rt: whether a run is firm, and positions taken out
 
@@ -113,7 +113,7 @@ impl Run {
         let begun = empties & claims.released;
         if begun == empties {
             let widths = claims.widths;
-            let bytes = loans::bytes(
+            let bytes = shares::bytes(
                 self.rule,
                 self.cores,
                 self.fence,
@@ -153,7 +153,7 @@ impl Run {
         let claims = self.claims(empties);
         let widths = claims.widths;
         let free = cores::open_cores(self.cores, self.fence);
-        let shares = loans::chosen(
+        let shares = shares::chosen(
             self.rule,
             free,
             claims.claiming,

@@ -72,8 +72,8 @@ pub(crate) fn chosen(
 {
     if rule == LENDING {
         let tick = lent_out(free, claiming, working, even, widths, count);
-        let borrowed = tick.borrowed;
-        let lent = rule::owners(&borrowed);
+        let sets = tick.borrowed;
+        let lent = rule::owners(&sets);
         return Shares {
             given: tick.given,
             lent: lent,
