@@ -28,7 +28,7 @@ lent n = replicate n 77
 abbrev words : ℕ → Bool → Phase → List ℕ
 words x e ph =
     1 ∷ 2 ∷ 1 ∷ 0 ∷ 0 ∷ x
-    ∷ (placeWords (record { offset = 0; width = 1; length = 3; deadline = 3; period = 4; second = 2; even = e; phase = ph }) ++ lent 310)
+    ∷ (placeWords (record { offset = 0; width = 1; length = 3; deadline = 3; period = 4; second = 2; even = e; phase = ph }) ++ lent 341)
 
 -- at an odd job, with this set withdrawn
 abbrev without : ℕ → Phase → List ℕ
@@ -53,78 +53,78 @@ abbrev refused : ℕ → List ℕ
 refused n = 3 ∷ n ∷ 0 ∷ []
 
 -- a row: without an empty job, with one, and with one a tick too late
-pub row-worked : rowCall (one (Working 0 0)) 0 (lent 65) (lent 3) ≡ answered ((1 ∷ (replicate 63 0 ++ lent 1)) ∷ taken ∷ [])
+pub row-worked : rowCall (one (Working 0 0 0)) 0 (lent 65) (lent 3) ≡ answered ((1 ∷ (replicate 63 0 ++ lent 1)) ∷ taken ∷ [])
 unfolding rowCall holds arePlaces runIn placesIn any least memb upFrom kept owner row given left grants claimants rowOf rowAnswer bytesIn pastCount runOut
     firstLateIn misemptiedIn grantsIn
 row-worked = refl
 
-pub row-emptied : rowCall (one (Working 0 0)) 1 (lent 65) (lent 3) ≡ answered ((replicate 64 0 ++ lent 1) ∷ taken ∷ [])
+pub row-emptied : rowCall (one (Working 0 0 0)) 1 (lent 65) (lent 3) ≡ answered ((replicate 64 0 ++ lent 1) ∷ taken ∷ [])
 unfolding rowCall holds arePlaces runIn placesIn any least memb upFrom kept owner row given left grants claimants rowOf rowAnswer bytesIn pastCount runOut
     firstLateIn misemptiedIn grantsIn
 row-emptied = refl
 
-pub row-refused : rowCall (one (Working 1 1)) 1 (lent 65) (lent 3) ≡ answered ((replicate 64 0 ++ lent 1) ∷ refused 20 ∷ [])
+pub row-refused : rowCall (one (Working 1 1 1)) 1 (lent 65) (lent 3) ≡ answered ((replicate 64 0 ++ lent 1) ∷ refused 20 ∷ [])
 unfolding rowCall holds arePlaces runIn placesIn any least memb upFrom kept owner row given left grants claimants rowOf rowAnswer bytesIn pastCount runOut
     firstLateIn misemptiedIn grantsIn
 row-refused = refl
 
 -- an advance: the reports first, then the empties
-pub advance-reported : advanceCall (one (Working 1 1)) 1 0 (lent 3) ≡ answered (one (Resting 2) ∷ taken ∷ [])
+pub advance-reported : advanceCall (one (Working 1 1 1)) 1 0 (lent 3) ≡ answered (one (Resting 2) ∷ taken ∷ [])
 unfolding advanceCall holds arePlaces runIn placesIn encodeTo placesWords any least memb upFrom kept owner row given left grants claimants
     advanceOf advanceAnswer pastCount runOut firstLateIn misemptiedIn misreportedIn grantsIn mapFirst moved
 advance-reported = refl
 
-pub advance-not-emptied : advanceCall (one (Working 1 1)) 0 1 (lent 3) ≡ answered (one (Working 1 1) ∷ refused 20 ∷ [])
+pub advance-not-emptied : advanceCall (one (Working 1 1 1)) 0 1 (lent 3) ≡ answered (one (Working 1 1 1) ∷ refused 20 ∷ [])
 unfolding advanceCall holds arePlaces runIn placesIn encodeTo placesWords any least memb upFrom kept owner row given left grants claimants
     advanceOf advanceAnswer pastCount runOut firstLateIn misemptiedIn misreportedIn grantsIn mapFirst moved
 advance-not-emptied = refl
 
-pub advance-both : advanceCall (one (Working 0 0)) 1 1 (lent 3) ≡ answered (one (Working 0 0) ∷ refused 16 ∷ [])
+pub advance-both : advanceCall (one (Working 0 0 0)) 1 1 (lent 3) ≡ answered (one (Working 0 0 0) ∷ refused 16 ∷ [])
 unfolding advanceCall holds arePlaces runIn placesIn encodeTo placesWords any least memb upFrom kept owner row given left grants claimants
     advanceOf advanceAnswer pastCount runOut firstLateIn misemptiedIn misreportedIn grantsIn mapFirst moved
 advance-both = refl
 
 -- a withdrawal: the position 1, neither 0 nor 2; and what it leaves of a job released in this tick, and of one that works
-pub withdraw-first : withdrawCall (one (Working 0 0)) 1 (lent 3) ≡ answered (without 1 (Working 0 0) ∷ taken ∷ [])
+pub withdraw-first : withdrawCall (one (Working 0 0 0)) 1 (lent 3) ≡ answered (without 1 (Working 0 0 0) ∷ taken ∷ [])
 unfolding withdrawCall holds arePlaces runIn placesIn encodeTo placesWords any memb upFrom kept firm rising pastCount runOut withdrawOf withdrawAnswer withdrawnIn
 withdraw-first = refl
 
-pub withdraw-none : withdrawCall (one (Working 0 0)) 0 (lent 3) ≡ answered (one (Working 0 0) ∷ refused 22 ∷ [])
+pub withdraw-none : withdrawCall (one (Working 0 0 0)) 0 (lent 3) ≡ answered (one (Working 0 0 0) ∷ refused 22 ∷ [])
 unfolding withdrawCall holds arePlaces runIn placesIn encodeTo placesWords any memb upFrom kept firm rising pastCount runOut withdrawOf withdrawAnswer withdrawnIn
 withdraw-none = refl
 
-pub withdraw-second : withdrawCall (one (Working 0 0)) 2 (lent 3) ≡ answered (one (Working 0 0) ∷ refused 22 ∷ [])
+pub withdraw-second : withdrawCall (one (Working 0 0 0)) 2 (lent 3) ≡ answered (one (Working 0 0 0) ∷ refused 22 ∷ [])
 unfolding withdrawCall holds arePlaces runIn placesIn encodeTo placesWords any memb upFrom kept firm rising pastCount runOut withdrawOf withdrawAnswer withdrawnIn
 withdraw-second = refl
 
-pub row-without : rowCall (without 1 (Working 0 0)) 0 (lent 65) (lent 3) ≡ answered ((replicate 64 0 ++ lent 1) ∷ taken ∷ [])
+pub row-without : rowCall (without 1 (Working 0 0 0)) 0 (lent 65) (lent 3) ≡ answered ((replicate 64 0 ++ lent 1) ∷ taken ∷ [])
 unfolding rowCall holds arePlaces runIn placesIn any least memb upFrom kept owner row given left grants claimants rowOf rowAnswer bytesIn pastCount runOut
     firstLateIn misemptiedIn grantsIn
 row-without = refl
 
-pub row-goes-on : rowCall (without 1 (Working 1 1)) 0 (lent 65) (lent 3) ≡ answered ((1 ∷ (replicate 63 0 ++ lent 1)) ∷ taken ∷ [])
+pub row-goes-on : rowCall (without 1 (Working 1 1 1)) 0 (lent 65) (lent 3) ≡ answered ((1 ∷ (replicate 63 0 ++ lent 1)) ∷ taken ∷ [])
 unfolding rowCall holds arePlaces runIn placesIn any least memb upFrom kept owner row given left grants claimants rowOf rowAnswer bytesIn pastCount runOut
     firstLateIn misemptiedIn grantsIn
 row-goes-on = refl
 
 -- a bit past the count is no run's
-pub row-out : rowCall (without 2 (Working 1 1)) 0 (lent 65) (lent 3) ≡ answered ((replicate 64 0 ++ lent 1) ∷ refused 14 ∷ [])
+pub row-out : rowCall (without 2 (Working 1 1 1)) 0 (lent 65) (lent 3) ≡ answered ((replicate 64 0 ++ lent 1) ∷ refused 14 ∷ [])
 unfolding rowCall holds arePlaces runIn placesIn any least memb upFrom kept owner row given left grants claimants rowOf rowAnswer bytesIn pastCount runOut
     firstLateIn misemptiedIn grantsIn
 row-out = refl
 
 -- an even job has the second width; the next release turns to it, and the one after that back
-pub row-even : rowCall (second (Working 0 0)) 0 (lent 65) (lent 3) ≡ answered ((1 ∷ 1 ∷ (replicate 62 0 ++ lent 1)) ∷ taken ∷ [])
+pub row-even : rowCall (second (Working 0 0 0)) 0 (lent 65) (lent 3) ≡ answered ((1 ∷ 1 ∷ (replicate 62 0 ++ lent 1)) ∷ taken ∷ [])
 unfolding rowCall holds arePlaces runIn placesIn any least memb upFrom kept owner row given left grants claimants rowOf rowAnswer bytesIn pastCount runOut
     firstLateIn misemptiedIn grantsIn
 row-even = refl
 
-pub advance-to-even : advanceCall (one (Resting 3)) 0 0 (lent 3) ≡ answered (second (Working 0 0) ∷ taken ∷ [])
+pub advance-to-even : advanceCall (one (Resting 3)) 0 0 (lent 3) ≡ answered (second (Working 0 0 0) ∷ taken ∷ [])
 unfolding advanceCall holds arePlaces runIn placesIn encodeTo placesWords any least memb upFrom kept owner row given left grants claimants
     advanceOf advanceAnswer pastCount runOut firstLateIn misemptiedIn misreportedIn grantsIn mapFirst moved
 advance-to-even = refl
 
-pub advance-to-odd : advanceCall (second (Resting 3)) 0 0 (lent 3) ≡ answered (one (Working 0 0) ∷ taken ∷ [])
+pub advance-to-odd : advanceCall (second (Resting 3)) 0 0 (lent 3) ≡ answered (one (Working 0 0 0) ∷ taken ∷ [])
 unfolding advanceCall holds arePlaces runIn placesIn encodeTo placesWords any least memb upFrom kept owner row given left grants claimants
     advanceOf advanceAnswer pastCount runOut firstLateIn misemptiedIn misreportedIn grantsIn mapFirst moved
 advance-to-odd = refl
