@@ -4,7 +4,6 @@ import math
 import random
 
 HEAD, RECORD = 5, 7  # words
-MOST = HEAD + 32 * RECORD  # words of a table
 WORD = 2**32
 LIMIT = 1_000_000_000  # no horizon is larger
 # Pairs of periods whose least common multiple falls short of the limit by less than the largest offset.
@@ -113,6 +112,21 @@ def numbers(rng):
     cores, fenced = among(rng, rng.choice([1, 2, 2, 3, 4, 6, 8, 64]))
     usable = cores - fenced.bit_count()
     return linked(rng, cores, fenced, with_pairs(rng, [task(rng, usable) for _ in range(rng.randint(1, 6))], usable))
+
+
+def frail(rng):
+    """The words of three greedy tasks so tight that an early end can make another late: the second is too wide beside the first, the third is not. In every second table even jobs of the
+    first and third may be narrower, and the second's have another width."""
+    cores, long, short = rng.randint(2, 5), rng.randint(2, 6), rng.randint(1, 3)
+    first, period, third = rng.randint(1, cores - 1), long + short + rng.randint(0, 2), rng.randint(1, long)
+    widths = [(first, rng.randint(1, first)), [rng.randint(cores - first + 1, cores) for _ in range(2)], sorted((rng.randint(1, cores - first) for _ in range(2)), reverse=True)]
+    if rng.random() < 0.5:
+        widths = [(width, width) for width, _ in widths]
+    among = rng.choice([cores, cores + 1, 35, 64])
+    words = [1, among, 1, *two_words(leaving(rng, cores, among))]
+    for following, (odd, even), length, deadline in zip((2, 3, 0), widths, (long, short, third), (rng.randint(long, period), period, third + rng.randint(0, short - 1))):
+        words += [following, 0, odd, length, deadline, period, even]
+    return words
 
 
 def long_task(rng, usable, whole, periods, load, early):

@@ -8,13 +8,13 @@ use Prim.Native.Nat.{ℕ, zero, suc, _≤_, _<_}
 use native.Mathlib.Omega.{arith}
 use lib.Dec.{eqb, ltb}
 use lib.ListN.{length, getD, length-map}
-use Rattle.model.specs.Grants.{Claimant, claimants, grants, some}
-use Rattle.model.specs.Lending.{among, beside, lent, shownCores, unlent}
+use Rattle.model.specs.Grants.{claimants, grants, some}
+use Rattle.model.specs.Lending.{among, beside, lent, shownCores, tries, unlent}
 use Rattle.model.specs.Search.{kept, memb}
 use Rattle.model.specs.Task.{greedy}
-use Rattle.model.proofs.Bools.{and-left, and-right, or-cases, or-left, or-right}
+use Rattle.model.proofs.Bools.{and-left, and-right, not-true-false, or-cases, or-left, or-right}
 use Rattle.model.proofs.Grants.{grants-length, grants-none}
-use Rattle.model.proofs.Lists.{map-at}
+use Rattle.model.proofs.Lending.{lent-length, lent-seeks}
 use Rattle.cores.proofs.Ascending.{In, Range, memb-kept, not-in-none}
 use Rattle.rule.proofs.Granting.{Apart, apart, idle, in-grants, width-or-none}
 
@@ -67,15 +67,10 @@ module _ (ws : List ℕ) (sk : ℕ → Bool) (o : ℕ → List ℕ) where
 
   -- who is tried as place n lends, and what they are given
   abbrev pub tried : ℕ → ℕ → Bool
-  tried n q = ltb n q && sk q && not (some (had n q))
+  tried n = tries sk n (lent ws sk o n)
 
   abbrev pub lentBy : ℕ → List (List ℕ)
   lentBy n = grants greedy (claimants ws (tried n)) (o n)
-
-  pub lent-length : (n : ℕ) → length (lent ws sk o n) ≡ length ws
-  unfolding lent
-  lent-length zero = length-map ws (λ w. [])
-  lent-length (suc n) = beside-length (lent ws sk o n) (lentBy n) ∙ lent-length n
 
   -- nothing at first, and then what is lent
   pub lent-none : (q : ℕ) → had 0 q ≡ []
@@ -84,7 +79,7 @@ module _ (ws : List ℕ) (sk : ℕ → Bool) (o : ℕ → List ℕ) where
 
   pub lent-more : (n q : ℕ) → had (suc n) q ≡ had n q ++ getD (lentBy n) q []
   unfolding lent
-  lent-more n q = beside-place (lent ws sk o n) (lentBy n) (omega (arith, lent-length n, grants-length greedy ws (tried n) (o n))) q
+  lent-more n q = beside-place (lent ws sk o n) (lentBy n) (omega (arith, lent-length ws sk o n, grants-length greedy ws (tried n) (o n))) q
 
   -- one that is served is not tried again
   pub lent-once : (n q : ℕ) → some (had n q) ≡ true → getD (lentBy n) q [] ≡ []
@@ -96,15 +91,7 @@ module _ (ws : List ℕ) (sk : ℕ → Bool) (o : ℕ → List ℕ) where
 
   -- who does not seek cores borrows none
   pub lent-seekers : (n q : ℕ) → sk q ≡ false → had n q ≡ []
-  lent-seekers zero q e = lent-none q
-  lent-seekers (suc n) q e =
-      lent-more n q
-      ∙ (ap (λ (l : List ℕ). l ++ getD (lentBy n) q []) (lent-seekers n q e)
-      ∙ grants-none greedy ws (tried n) (o n) q (ap (λ (t : Bool). ltb n q && t && not (some (had n q))) e ∙ none (ltb n q) (not (some (had n q)))))
-    where
-      none : (a b : Bool) → a && false && b ≡ false
-      none true b = refl
-      none false b = refl
+  lent-seekers n q e = none-some (had n q) (not-true-false (some (had n q)) (λ h. false≢true (sym e ∙ lent-seeks ws sk o n q h)))
 
   -- one that borrows has its width
   pub lent-width : (n q : ℕ) → (length (had n q) ≡ getD ws q 0) ⊎ (had n q ≡ [])

@@ -1,6 +1,6 @@
 -- What holds while the places lend, one turn each: the sets are what the model's places have borrowed so far, and the seekers that are left are those that
 -- the place of the turn tries.
-use borrow.Author.Tests.{eqb-false, eqb-true, le-leb, le-ltb, leb-false, leb-true, lt-leb, lt-ltb, ltb-false, ltb-true, ne-eqb}
+use borrow.Author.Tests.{eqb-false, eqb-true, le-leb, le-ltb, leb-false, leb-true, lt-leb, lt-ltb, ltb-false, ltb-true}
 use native.Mathlib.Omega.{arith}
 use mathlib.Core.Path.{_≡_, refl, sym, ap, ap₂, _∙_, subst}
 use mathlib.Core.Logic.{_⊎_, inl, inr}
@@ -17,12 +17,13 @@ use Rattle.model.specs.Search.{bit}
 use Rattle.model.specs.Task.{greedy}
 use Rattle.model.proofs.Digits.{bit-past, bit-power, shifted-one, without-bit}
 use Rattle.model.proofs.Grants.{claimants-same, grants-none}
+use Rattle.model.proofs.Lending.{lent-length}
 use Rattle.model.proofs.Lists.{getD-zeros}
 use Rattle.cores.specs.Cores.{cores}
 use Rattle.cores.proofs.Cores.{cores-none}
 use Rattle.rule.specs.Lent.{LentAs, offered}
 use Rattle.rule.specs.Shares.{GrantedAs}
-use Rattle.rule.proofs.Borrowed.{had, lent-length, lent-more, lent-none, lent-once, lentBy, none-some, tried}
+use Rattle.rule.proofs.Borrowed.{had, lent-more, lent-none, lent-once, lentBy, none-some, tried}
 use Rattle.rule.proofs.Choosing.{some-append}
 use Rattle.rule.proofs.Granting.{none-given}
 use Rattle.rule.proofs.Sets.{sets-at}
@@ -56,7 +57,9 @@ module _ (ws reserved : List ℕ) (holders seekers count : ℕ) where
     size = refl;
     gives = λ p l. ap cores (getD-zeros 32 p) ∙ (cores-none ∙ sym (lent-none ws (bit seekers) (offered reserved holders) p));
     past = λ p l k. getD-zeros 32 p;
-    unserved = λ p. sym (first (leb 0 p) (le-leb 0 p (omega arith)) (bit seekers p) (some (borrowedBy 0 p)) (ap some (lent-none ws (bit seekers) (offered reserved holders) p)));
+    unserved = λ p.
+        sym (first (leb 0 p) (le-leb 0 p (omega arith)) (bit seekers p) (some (borrowedBy 0 p))
+        (ap some (lent-none ws (bit seekers) (offered reserved holders) p)));
   }
     where
       first : (a : Bool) → a ≡ true → (b t : Bool) → t ≡ false → (a && b) && not t ≡ b
@@ -65,7 +68,8 @@ module _ (ws reserved : List ℕ) (holders seekers count : ℕ) where
       first false e b t k = absurd (false≢true e)
 
   -- ---- one turn, at place i: the place itself no longer seeks, and then those are left that it tries
-  module _ (sets : List ℕ) (seeking i : ℕ) (h : Lending sets seeking i) (inside : i < 32) (y : ℕ) (ye : y ≡ bitAnd seeking (bitXor seeking ((1 * 2 ^ i) % 2 ^ 32))) where
+  module _ (sets : List ℕ) (seeking i : ℕ) (h : Lending sets seeking i) (inside : i < 32)
+      (y : ℕ) (ye : y ≡ bitAnd seeking (bitXor seeking ((1 * 2 ^ i) % 2 ^ 32))) where
     pub left-lt : y < 2 ^ 32
     left-lt = subst (λ (n : ℕ). n < 2 ^ 32) (sym ye) (omega (arith, and-le-l seeking (bitXor seeking ((1 * 2 ^ i) % 2 ^ 32)), h .fit))
 
@@ -150,7 +154,9 @@ module _ (ws reserved : List ℕ) (holders seekers count : ℕ) where
         size = size;
         gives = joined;
         past = λ p k l. n p l ∙ ap₂ bitOr (h .past p k l) (none-past p k l) ∙ or-zero-l 0;
-        unserved = λ p. without-bit y owned p ∙ (ap (λ (t : Bool). bit y p && not t) (w p ∙ owners-all p (ltb p 32) refl) ∙ next-left p (some (cores (getD more p 0))) (told p));
+        unserved = λ p.
+            without-bit y owned p
+            ∙ (ap (λ (t : Bool). bit y p && not t) (w p ∙ owners-all p (ltb p 32) refl) ∙ next-left p (some (cores (getD more p 0))) (told p));
       }
         where
           -- what each has then

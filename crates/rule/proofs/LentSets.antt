@@ -5,34 +5,34 @@ use mathlib.Core.Logic.{_⊎_, inl, inr, ⊎-elim}
 use mathlib.Core.Bool.{Bool, true, false, _&&_, cond}
 use mathlib.Core.List.{List, [], _++_, map}
 use Prim.Native.Nat.{ℕ, _+_, _-_, _^_, _≤_, _<_}
-use native.Mathlib.Nat.{zero-add}
 use native.Mathlib.Omega.{arith}
 use lib.Count.{ones}
 use lib.Dec.{ltb}
 use lib.ListN.{length, getD, take, length-map, length-take, List·getD-map, List·getD-eq-default}
-use lib.Seq.{ext-getD, getD-drop, getD-take}
-use borrow.Author.Tests.{le-ltb, lt-ltb, ltb-false, ltb-true}
+use lib.Seq.{ext-getD, getD-drop, getD-take, take-all}
+use borrow.Author.Tests.{ltb-false, ltb-true}
 use Rattle.model.specs.Fence.{unfenced}
 use Rattle.model.specs.Grants.{claimants, grants, some}
 use Rattle.model.specs.Lending.{lent, shownCores, unlent}
-use Rattle.model.specs.Search.{bit, memb, upFrom}
+use Rattle.model.specs.Search.{bit, memb}
 use Rattle.model.specs.Task.{Rule}
 use Rattle.model.proofs.Grants.{grants-length}
-use Rattle.model.proofs.Lending.{lent-local, lent-settled}
-use Rattle.model.proofs.Lists.{getD-zeros, up-length}
+use Rattle.model.proofs.Lending.{lent-length, lent-local}
+use Rattle.model.proofs.Lists.{getD-zeros}
 use Rattle.cores.specs.Cores.{cores}
-use Rattle.cores.proofs.Ascending.{In, Range, getD-up, not-in-none}
+use Rattle.cores.proofs.Ascending.{In, Range, not-in-none}
 use Rattle.cores.proofs.Cores.{cores-length, cores-none, cores-range}
 use Rattle.rule.specs.Lent.{LentAs, NotBoth, Showable, ShownAs, offered}
 use Rattle.rule.specs.Shares.{GrantedAs, granted}
-use Rattle.rule.proofs.Borrowed.{lent-apart, lent-from, lent-length, lent-seekers, lent-width, shown-apart, shown-in, shown-length, shown-place}
-use Rattle.rule.proofs.Sets.{grants-showable, no-cores, sets-apart, sets-at}
+use Rattle.rule.proofs.Borrowed.{lent-apart, lent-from, lent-seekers, lent-width, shown-apart, shown-in, shown-length, shown-place}
+use Rattle.rule.proofs.Sets.{grants-showable, no-cores, sets-at}
 
 -- ---- the places of which a list of sets has a core, as `owners` finds them
 
 -- where the sets past the last place are none it is so of every place
-pub owners-all : (sets : List ℕ) (owned : ℕ) → ((p : ℕ) → bit owned p ≡ ltb p 32 && some (cores (getD sets p 0))) → ((p : ℕ) → 32 ≤ p → cores (getD sets p 0) ≡ [])
-    → (p : ℕ) → bit owned p ≡ some (cores (getD sets p 0))
+pub owners-all :
+    (sets : List ℕ) (owned : ℕ) → ((p : ℕ) → bit owned p ≡ ltb p 32 && some (cores (getD sets p 0)))
+    → ((p : ℕ) → 32 ≤ p → cores (getD sets p 0) ≡ []) → (p : ℕ) → bit owned p ≡ some (cores (getD sets p 0))
 owners-all sets owned w past p = w p ∙ go (ltb p 32) refl
   where
     go : (t : Bool) → ltb p 32 ≡ t → t && some (cores (getD sets p 0)) ≡ some (cores (getD sets p 0))
@@ -55,7 +55,8 @@ front-is count sets gs h k e =
 
 -- ---- the sets of a tick: those reserved, and those that are borrowed of them
 
-module _ (ws reserved : List ℕ) (holders seekers count : ℕ) (size : length ws ≡ count) (borrowed : List ℕ) (b : LentAs ws reserved holders seekers count borrowed) where
+module _ (ws reserved : List ℕ) (holders seekers count : ℕ) (size : length ws ≡ count)
+    (borrowed : List ℕ) (b : LentAs ws reserved holders seekers count borrowed) where
   -- no set past the count
   pub borrowed-past : (p : ℕ) → count ≤ p → getD borrowed p 0 ≡ 0
   borrowed-past p h =
@@ -71,7 +72,8 @@ module _ (ws reserved : List ℕ) (holders seekers count : ℕ) (size : length w
       go true e = sym (front-at count borrowed p (ltb-true p count e)) ∙ ap (λ (l : List (List ℕ)). getD l p []) (b .gives)
       go false e =
           let k : count ≤ p = ltb-false p count e in
-          let n : length (lent ws (bit seekers) (offered reserved holders) count) ≤ p = omega (arith, lent-length ws (bit seekers) (offered reserved holders) count) in
+          let n : length (lent ws (bit seekers) (offered reserved holders) count) ≤ p =
+          omega (arith, lent-length ws (bit seekers) (offered reserved holders) count) in
           ap cores (borrowed-past p k) ∙ (cores-none ∙ sym (List·getD-eq-default (lent ws (bit seekers) (offered reserved holders) count) [] n))
 
   -- who does not seek cores borrows none
@@ -95,40 +97,26 @@ module _ (ws reserved : List ℕ) (holders seekers count : ℕ) (size : length w
       (lent-width ws (bit seekers) (offered reserved holders) count p)
 
   -- in the model's words: sk says who seeks cores, o what a place lends
-  module _ (sk : ℕ → Bool) (o : ℕ → List ℕ) (seeking : (q : ℕ) → q < count → bit seekers q ≡ sk q) (offering : (q : ℕ) → q < count → offered reserved holders q ≡ o q) where
-    -- the cores that each place borrows, once the places above it have lent
-    pub borrowed-at : (p : ℕ) → cores (getD borrowed p 0) ≡ getD (lent ws sk o p) p []
-    borrowed-at p = borrowed-in p ∙ go (ltb p count) refl
-      where
-        cut : (n : ℕ) (l : List (List ℕ)) → p < n → getD l p [] ≡ getD (take n l) p []
-        cut n l h = sym (getD-take n l p [] h)
-
-        go : (t : Bool) → ltb p count ≡ t → getD (lent ws (bit seekers) (offered reserved holders) count) p [] ≡ getD (lent ws sk o p) p []
-        go true e =
-            let k : p < count = ltb-true p count e in
-            let z : count ≡ p + (count - p) = omega arith in
-            ap (λ (n : ℕ). getD (lent ws (bit seekers) (offered reserved holders) n) p []) z
-            ∙ (lent-settled ws (bit seekers) (offered reserved holders) p (count - p)
-            ∙ (cut count (lent ws (bit seekers) (offered reserved holders) p) k
-            ∙ (ap (λ (l : List (List ℕ)). getD l p [])
-            (lent-local count ws ws (bit seekers) sk (offered reserved holders) o refl seeking offering p (omega arith))
-            ∙ sym (cut count (lent ws sk o p) k))))
-        go false e =
-            let k : count ≤ p = ltb-false p count e in
-            List·getD-eq-default (lent ws (bit seekers) (offered reserved holders) count) [] (omega (arith, lent-length ws (bit seekers) (offered reserved holders) count))
-            ∙ sym (List·getD-eq-default (lent ws sk o p) [] (omega (arith, lent-length ws sk o p)))
-
-    -- as one list
-    pub borrowed-list : map cores (take count borrowed) ≡ map (λ p. getD (lent ws sk o p) p []) (upFrom 0 count)
+  module _ (sk : ℕ → Bool) (o : ℕ → List ℕ)
+      (seeking : (q : ℕ) → q < count → bit seekers q ≡ sk q) (offering : (q : ℕ) → q < count → offered reserved holders q ≡ o q) where
+    -- what each place borrows, once every place has lent
+    pub borrowed-list : map cores (take count borrowed) ≡ lent ws sk o count
     borrowed-list =
-        front-is count borrowed (map (λ p. getD (lent ws sk o p) p []) (upFrom 0 count))
-        (sym (length-map (take count borrowed) cores) ∙ (ap length (b .gives) ∙ (lent-length ws (bit seekers) (offered reserved holders) count ∙ size)))
-        (length-map (upFrom 0 count) (λ p. getD (lent ws sk o p) p []) ∙ up-length 0 count)
-        (λ p h. borrowed-at p ∙ sym (getD-up (λ q. getD (lent ws sk o q) q []) [] 0 count p h ∙ ap (λ (q : ℕ). getD (lent ws sk o q) q []) (zero-add p)))
+        b .gives
+        ∙ (sym (whole (lent ws (bit seekers) (offered reserved holders) count) (lent-length ws (bit seekers) (offered reserved holders) count))
+        ∙ (lent-local count ws ws (bit seekers) sk (offered reserved holders) o refl seeking offering count (omega arith)
+        ∙ whole (lent ws sk o count) (lent-length ws sk o count)))
+      where
+        whole : (l : List (List ℕ)) → length l ≡ length ws → take count l ≡ l
+        whole l h = take-all count l (omega (arith, h, size))
 
-    -- who borrows, as `owners` finds them
+    -- place by place
+    pub borrowed-at : (p : ℕ) → cores (getD borrowed p 0) ≡ getD (lent ws sk o count) p []
+    borrowed-at p = borrowed-in p ∙ ap (λ (l : List (List ℕ)). getD l p []) (sym (b .gives) ∙ borrowed-list)
+
+    -- and who does, as `owners` finds them
     pub borrowers : count ≤ 32 → (owned : ℕ) → ((p : ℕ) → bit owned p ≡ ltb p 32 && some (cores (getD borrowed p 0)))
-        → (p : ℕ) → bit owned p ≡ some (getD (lent ws sk o p) p [])
+        → (p : ℕ) → bit owned p ≡ some (getD (lent ws sk o count) p [])
     borrowers few owned w p =
         owners-all borrowed owned w (λ q h. ap cores (borrowed-past q (omega arith)) ∙ cores-none) p ∙ ap some (borrowed-at p)
 
@@ -196,7 +184,8 @@ module _ (r : Rule) (ws : List ℕ) (c : ℕ → Bool) (count free : ℕ) (size 
 
       lent-twice : (x i j : ℕ) → i < j → In x (getD bs i []) → In x (getD bs j []) → ⊥
       lent-twice x i j l h k =
-          lent-apart ws (bit seekers) (offered reserved holders) 64 ascending (λ y p q z u v. given .apart y p q z (lent-own y p u) (lent-own y q v)) count x i j l
+          lent-apart ws (bit seekers) (offered reserved holders) 64 ascending
+          (λ y p q z u v. given .apart y p q z (lent-own y p u) (lent-own y q v)) count x i j l
           (subst (λ (gs : List (List ℕ)). In x (getD gs i [])) (b .gives) h) (subst (λ (gs : List (List ℕ)). In x (getD gs j [])) (b .gives) k)
 
       open-only : (x j : ℕ) → In x (getD (shownCores gs bs) j []) → (x < m) × (bit f x ≡ false)

@@ -23,13 +23,14 @@ pub record LentAs (ws reserved : List ℕ) (holders seekers count : ℕ) (sets :
 abbrev pub NotBoth : List ℕ → List ℕ → Type 0
 NotBoth reserved borrowed = (p : ℕ) → (cores (getD reserved p 0) ≡ []) ⊎ (cores (getD borrowed p 0) ≡ [])
 
--- what the row shows of each place below the count: the cores that it borrows, and those reserved for it that nobody borrows (`shown-sets`: the model's
--- `shownCores`); and no set past the count
+-- what a row shows of place p: the cores that it borrows, and those reserved for it that nobody borrows
+abbrev pub shownAt : List ℕ → List ℕ → ℕ → ℕ → List ℕ
+shownAt reserved borrowed count p = cores (getD borrowed p 0) ++ unlent (map cores (take count borrowed)) (cores (getD reserved p 0))
+
+-- what it shows of each place below the count (`shown-sets`: the model's `shownCores`), and no set past the count
 pub record ShownAs (reserved borrowed : List ℕ) (count : ℕ) (sets : List ℕ) : Type 0 where
   pub size : length sets ≡ mostTasks
-  pub gives :
-      (p : ℕ) → p < count
-      → cores (getD sets p 0) ≡ cores (getD borrowed p 0) ++ unlent (map cores (take count borrowed)) (cores (getD reserved p 0))
+  pub gives : (p : ℕ) → p < count → cores (getD sets p 0) ≡ shownAt reserved borrowed count p
   pub none : (p : ℕ) → count ≤ p → getD sets p 0 ≡ 0
 
 -- a row of m cores with this fence can show these lists: no core stands in two, and each is below m and outside the fence

@@ -1,4 +1,4 @@
-// The tick rule: who of the claimants is given cores in a tick, which cores, and the row that shows it.
+// The tick rule: who of the claimants is given cores in a tick, which cores, what is lent of them, and the row that shows it.
 ghost use mathlib.Core.Path.{_≡_};
 ghost use mathlib.Core.Bool.{_&&_};
 ghost use mathlib.Core.List.{map, _++_};

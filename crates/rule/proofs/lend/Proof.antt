@@ -26,7 +26,8 @@ abbrev μ-loop : tie.MeasureT-loop
 loop-holds : tie.Need-loop-holds Inv-loop μ-loop
 loop-holds c =
     let a = c .args in
-    (omega arith, lending-begun (take (a .count) (widthsIn (a .even) (a .widths .now))) (a .reserved .now) (a .holders) (a .seekers) (a .count) (c .fits .seekers .fits))
+    let ws = take (a .count) (widthsIn (a .even) (a .widths .now)) in
+    (omega arith, lending-begun ws (a .reserved .now) (a .holders) (a .seekers) (a .count) (c .fits .seekers .fits))
 
 cast-place : tie.Need-cast-place Inv-loop μ-loop
 cast-place c = omega arith
@@ -58,27 +59,33 @@ add-i c = omega arith
 loop-less : tie.Need-loop-less Inv-loop μ-loop
 loop-less c = omega arith
 
+-- the state before the turn
+abbrev loop : tie.Joined1 Inv-loop μ-loop → tie.At-loop Inv-loop μ-loop
+loop c = c .before .before
+
+-- what holds at place i, with these sets and these seekers
+abbrev Holds : tie.Joined1 Inv-loop μ-loop → List ℕ → ℕ → ℕ → Type 0
+Holds c =
+    let a = loop c .before .args in
+    Lending (take (a .count) (widthsIn (a .even) (a .widths .now))) (a .reserved .now) (a .holders) (a .seekers) (a .count)
+
 -- one turn
-turned :
-    (c : tie.Joined1 Inv-loop μ-loop)
-    → Lending (take (c .before .before .before .args .count) (widthsIn (c .before .before .before .args .even) (c .before .before .before .args .widths .now)))
-    (c .before .before .before .args .reserved .now) (c .before .before .before .args .holders) (c .before .before .before .args .seekers) (c .before .before .before .args .count)
-    (c .if1 .sets) (c .if1 .seeking) (suc (c .before .before .loop .i))
+turned : (c : tie.Joined1 Inv-loop μ-loop) → Holds c (c .if1 .sets) (c .if1 .seeking) (suc (loop c .loop .i))
 turned c =
-    let t = c .before .before in
-    let a = t .before .args in
-    let l = t .loop in
+    let a = loop c .before .args in
+    let l = loop c .loop in
     let ws = take (a .count) (widthsIn (a .even) (a .widths .now)) in
     let y = bitAnd (l .seeking) (bitXor (l .seeking) ((1 * 2 ^ l .i) % 2 ^ 32)) in
-    let inside : l .i < 32 = omega (arith, t .before .pre) in
+    let inside : l .i < 32 = omega (arith, loop c .before .pre) in
     ⊎-elim
     (λ w.
     let all = lends ws (a .reserved .now) (a .holders) (a .seekers) (a .count) (l .sets) (l .seeking) (l .i) (l .inv .1) inside y refl
     (eq-eqb _ _ (w .0 .taken)) (w .2 .result) (w .2 .ensures) (w .4 .result) (w .4 .ensures) (w .6 .result) (search (needs, w .6 .ok)) (w .6 .ensures) in
-    subst₂ (λ (sets : List ℕ) (seeking : ℕ). Lending ws (a .reserved .now) (a .holders) (a .seekers) (a .count) sets seeking (suc (l .i))) (sym (w .7)) (sym (w .8)) all)
+    subst₂ (λ (sets : List ℕ) (seeking : ℕ). Holds c sets seeking (suc (l .i))) (sym (w .7)) (sym (w .8)) all)
     (λ w.
-    let all = lends-none ws (a .reserved .now) (a .holders) (a .seekers) (a .count) (l .sets) (l .seeking) (l .i) (l .inv .1) inside y refl (ne-eqb _ _ (w .0 .left)) in
-    subst₂ (λ (sets : List ℕ) (seeking : ℕ). Lending ws (a .reserved .now) (a .holders) (a .seekers) (a .count) sets seeking (suc (l .i))) (sym (w .1)) (sym (w .2)) all)
+    let all = lends-none ws (a .reserved .now) (a .holders) (a .seekers) (a .count) (l .sets) (l .seeking) (l .i) (l .inv .1) inside y refl
+    (ne-eqb _ _ (w .0 .left)) in
+    subst₂ (λ (sets : List ℕ) (seeking : ℕ). Holds c sets seeking (suc (l .i))) (sym (w .1)) (sym (w .2)) all)
     (c .if1 .came)
 
 loop-again : tie.Need-loop-again Inv-loop μ-loop

@@ -47,8 +47,7 @@ loop-less c = omega arith
 loop-again : tie.Need-loop-again Inv-loop μ-loop
 loop-again c =
     let l = c .before .before .before .before .loop in
-    let has : ℕ → Bool = λ p. some (cores (getD (c .before .before .before .before .before .args .sets .now) p 0)) in
-    (
+    let has : ℕ → Bool = λ p. some (cores (getD (c .before .before .before .before .before .args .sets .now) p 0)) in (
       omega arith,
       ⊎-elim
           (λ w.

@@ -43,10 +43,11 @@ returns c =
     let opened : cores free ≡ unfenced (a .fence) (a .cores) = open-of free (a .fence) (a .cores) (omega arith) (o .open-cores .ensures) in
     let fenced : cores (w .without .result) ≡ outside free (upFrom 0 (a .cores)) =
     w .without .ensures ∙ ap (outside free) (w .before .first-cores .ensures ∙ ap (upFrom 0) all) in
+    let gs = map cores (take (a .count) (a .sets .now)) in
     c .row-of .ensures
-    ∙ (ap (λ (start : List ℕ). shown start 1 (map cores (take (a .count) (a .sets .now)))) (p .paint .ensures ∙ ap (painted (replicate 64 0) fencedByte) fenced)
-    ∙ shown-row 64 (a .cores) (a .fence) (outside free (upFrom 0 (a .cores))) (omega arith) (λ x l. memb-fenced free (a .fence) (a .cores) x l opened)
-    (map cores (take (a .count) (a .sets .now))) (s .pre .1 .apart) (s .pre .1 .open-only))
+    ∙ (ap (λ (start : List ℕ). shown start 1 gs) (p .paint .ensures ∙ ap (painted (replicate 64 0) fencedByte) fenced)
+    ∙ shown-row 64 (a .cores) (a .fence) (outside free (upFrom 0 (a .cores))) (omega arith)
+    (λ x l. memb-fenced free (a .fence) (a .cores) x l opened) gs (s .pre .1 .apart) (s .pre .1 .open-only))
 
 pub row-in-spec : {M : Type 1} → statement M
 row-in-spec = tie.close (tie.spec open-cores-requires first-cores-requires without-requires paint-requires row-of-requires returns)

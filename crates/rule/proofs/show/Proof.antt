@@ -2,7 +2,7 @@
 use borrow.Author.Needs.{needs}
 use native.Mathlib.Omega.{arith}
 use mathlib.Core.Path.{_≡_, ap, _∙_}
-use mathlib.Core.List.{List, map, _++_}
+use mathlib.Core.List.{List, _++_}
 use Prim.Native.Nat.{ℕ, _-_}
 use lib.ListN.{take, replicate}
 use Rattle.model.specs.Fence.{unfenced}
@@ -23,7 +23,7 @@ open-cores-requires c κs = search needs
 grants-requires : tie.Need-grants-requires
 grants-requires c κs = search needs
 
--- they are the sets of the open cores
+-- the cores that are free are the open ones
 opened : (c : tie.After-open-cores) → cores (c .open-cores .result) ≡ unfenced (c .before .args .fence) (c .before .args .cores)
 opened c = open-of (c .open-cores .result) (c .before .args .fence) (c .before .args .cores) (omega arith) (c .open-cores .ensures)
 
@@ -32,18 +32,20 @@ row-in-requires c κs =
     let g = c .before in
     let o = g .before in
     let a = o .before .args in
-    (o .before .pre,
-    sets-showable (ruleOf (a .rule)) (claimants (take (a .count) (widthsIn (a .even) (a .widths .now))) (bit (a .claiming))) (a .count) (o .open-cores .result) (g .grants .result)
-    (g .grants .ensures) (a .fence) (a .cores) (opened o))
+    let bs = claimants (take (a .count) (widthsIn (a .even) (a .widths .now))) (bit (a .claiming)) in (
+      o .before .pre,
+      sets-showable (ruleOf (a .rule)) bs (a .count) (o .open-cores .result) (g .grants .result) (g .grants .ensures) (a .fence) (a .cores) (opened o),
+    )
 
 returns : tie.Need-returns
 returns c =
     let g = c .before .before in
     let o = g .before in
     let a = o .before .args in
+    let bs = claimants (take (a .count) (widthsIn (a .even) (a .widths .now))) (bit (a .claiming)) in
     c .row-in .ensures
     ∙ ap (λ (gs : List (List ℕ)). row (a .fence) (a .cores) gs ++ replicate (64 - a .cores) 0)
-    (g .grants .ensures .gives ∙ ap (grants (ruleOf (a .rule)) (claimants (take (a .count) (widthsIn (a .even) (a .widths .now))) (bit (a .claiming)))) (opened o))
+    (g .grants .ensures .gives ∙ ap (grants (ruleOf (a .rule)) bs) (opened o))
 
 pub show-spec : {M : Type 1} → statement M
 show-spec = tie.close (tie.spec open-cores-requires grants-requires row-in-requires returns)

@@ -19,7 +19,7 @@ use Rattle.model.proofs.Lists.{getD-zeros}
 use Rattle.cores.specs.Cores.{cores}
 use Rattle.cores.proofs.Ascending.{kept-same}
 use Rattle.cores.proofs.Cores.{cores-range}
-use Rattle.rule.specs.Lent.{NotBoth, ShownAs}
+use Rattle.rule.specs.Lent.{NotBoth, shownAt}
 use Rattle.rule.proofs.Unions.{cores-or}
 use Rattle.rule.proofs.shown.Statement.{statement}
 use Rattle.rule.proofs.shown.Tie as tie
@@ -27,9 +27,7 @@ use Rattle.rule.proofs.shown.Tie as tie
 -- the places below i are as they are shown, the others have no set yet
 pub record Shows (reserved borrowed : List ℕ) (count : ℕ) (sets : List ℕ) (i : ℕ) : Type 0 where
   pub size : length sets ≡ 32
-  pub below :
-      (p : ℕ) → p < i
-      → cores (getD sets p 0) ≡ cores (getD borrowed p 0) ++ unlent (map cores (take count borrowed)) (cores (getD reserved p 0))
+  pub below : (p : ℕ) → p < i → cores (getD sets p 0) ≡ shownAt reserved borrowed count p
   pub above : (p : ℕ) → i ≤ p → getD sets p 0 ≡ 0
 
 -- one place more; w is the set of what nobody borrows of its own
@@ -42,15 +40,15 @@ module _ (reserved borrowed : List ℕ) (count : ℕ) (sets : List ℕ) (i lent 
   own-kept : cores w ≡ unlent (map cores (take count borrowed)) (cores (getD reserved i 0))
   own-kept =
       own
-      ∙ kept-same (λ c. not (bit lent c)) (λ c. not (among c (map cores (take count borrowed)))) 0 64 (cores (getD reserved i 0)) (cores-range (getD reserved i 0))
-      (λ c l. ap not (all c l))
+      ∙ kept-same (λ c. not (bit lent c)) (λ c. not (among c (map cores (take count borrowed)))) 0 64 (cores (getD reserved i 0))
+      (cores-range (getD reserved i 0)) (λ c l. ap not (all c l))
 
   -- one of the two sets has no core
   one-empty : (cores (getD borrowed i 0) ≡ []) ⊎ (cores w ≡ [])
   unfolding kept
   one-empty = ⊎-elim (λ e. inr (own ∙ ap (outside lent) e)) inl (once i)
 
-  here : cores x ≡ cores (getD borrowed i 0) ++ unlent (map cores (take count borrowed)) (cores (getD reserved i 0))
+  here : cores x ≡ shownAt reserved borrowed count i
   here = cores-or (getD borrowed i 0) w one-empty ∙ ap (λ (l : List ℕ). cores (getD borrowed i 0) ++ l) own-kept
 
   pub shows-more : Shows reserved borrowed count (set sets i (bitOr (getD borrowed i 0) w)) (i + 1)
@@ -60,11 +58,10 @@ module _ (reserved borrowed : List ℕ) (count : ℕ) (sets : List ℕ) (i lent 
     above = λ p l. getD-set-other sets i p x 0 (λ (e : p ≡ i). omega arith) ∙ h .above p (omega arith);
   }
     where
-      go : (p : ℕ) → p < i + 1 → (t : Bool) → eqb p i ≡ t
-          → cores (getD (set sets i x) p 0) ≡ cores (getD borrowed p 0) ++ unlent (map cores (take count borrowed)) (cores (getD reserved p 0))
+      go : (p : ℕ) → p < i + 1 → (t : Bool) → eqb p i ≡ t → cores (getD (set sets i x) p 0) ≡ shownAt reserved borrowed count p
       go p l true e =
           let q : p ≡ i = eqb-true p i e in
-          subst (λ (n : ℕ). cores (getD (set sets i x) n 0) ≡ cores (getD borrowed n 0) ++ unlent (map cores (take count borrowed)) (cores (getD reserved n 0))) (sym q)
+          subst (λ (n : ℕ). cores (getD (set sets i x) n 0) ≡ shownAt reserved borrowed count n) (sym q)
           (ap cores (getD-set-same sets i x 0 (omega (arith, h .size))) ∙ here)
       go p l false e =
           let n : p ≡ i → ⊥ = eqb-false p i e in
@@ -117,8 +114,8 @@ loop-again c =
     let a = s .args in
     let l = t .loop in (
       omega arith,
-      shows-more (a .reserved .now) (a .borrowed .now) (a .count) (l .sets) (l .i) (u .union .result) (c .without .result) (l .inv .1) (omega (arith, s .pre .0))
-      (u .union .ensures) (c .without .ensures) (s .pre .1),
+      shows-more (a .reserved .now) (a .borrowed .now) (a .count) (l .sets) (l .i) (u .union .result) (c .without .result) (l .inv .1)
+          (omega (arith, s .pre .0)) (u .union .ensures) (c .without .ensures) (s .pre .1),
     )
 
 returns : tie.Need-returns Inv-loop μ-loop
