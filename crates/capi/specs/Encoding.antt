@@ -1,4 +1,5 @@
--- A run in a lent buffer: rule, cores, count, the fence in two words and the withdrawn set, then eleven words for each of the 32 places. What stands past the count is not looked at.
+-- A run in a lent buffer: rule, cores, count, the fence in two words and the withdrawn set, then eleven words for each of the 32 places. What stands past
+-- the count is not looked at.
 use mathlib.Core.Bool.{Bool, true, _&&_, _||_, cond}
 use mathlib.Core.List.{List, [], _∷_, _++_}
 use Prim.Native.Nat.{ℕ, zero, suc, _+_, _*_, _-_, _/_, _%_, _^_}
