@@ -14,6 +14,7 @@ pub mod Listed
 pub mod Codes
 pub mod Outcomes
 pub mod Examples
+pub mod Running
 pub mod HandBuilt
 pub mod EmptyBuilt
 pub mod WithdrawBuilt
