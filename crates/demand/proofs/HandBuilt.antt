@@ -104,7 +104,7 @@ abbrev asked : Run → Row → Line
 asked r w = record { from = r; entries = []; gets = []; shows = w ∷ []; ends = r }
 
 -- one task (2, 1, 3, 4, 6) on one core in a phase, under a rule
-abbrev limit : ℕ → Phase → Row → Line
+abbrev pub limit : ℕ → Phase → Row → Line
 limit r ph w = asked (one r 1 (t 2 1 3 4 6 ph)) w
 
 -- a count of so many tasks, which rest, on one core; there is a task at each place below it

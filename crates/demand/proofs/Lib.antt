@@ -19,3 +19,4 @@ pub mod HandBuilt
 pub mod EmptyBuilt
 pub mod WithdrawBuilt
 pub mod WidthBuilt
+pub mod LendBuilt

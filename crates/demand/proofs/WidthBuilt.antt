@@ -21,7 +21,7 @@ use Rattle.demand.proofs.WithdrawBuilt.{out}
 use Rattle.demand.proofs.Running.{running}
 
 -- a task as (O, v/w, C, D, T) in a phase, with an odd job
-abbrev t₂ : ℕ → ℕ → ℕ → ℕ → ℕ → ℕ → Phase → Task
+abbrev pub t₂ : ℕ → ℕ → ℕ → ℕ → ℕ → ℕ → Phase → Task
 t₂ o v w c d p ph = record { offset = o; width = v; length = c; deadline = d; period = p; second = w; even = false; phase = ph }
 
 -- one task (0, 1/2, 1, 1, 1) on two cores that works, with an odd job and with an even one
