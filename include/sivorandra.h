@@ -4,8 +4,8 @@
    No call keeps a pointer, or writes anywhere but into the slices lent for writing.
 
    What a call costs:
-   - Memory: none from the heap. Of the stack less than SIVORANDRA_STACK_BYTES (measured: replay 13,000 bytes, start 11,000, advance,
-     withdraw and sentence 9,000, plan 7,000, judge 6,000, row 5,000, facts 1,000).
+   - Memory: none from the heap. Of the stack less than SIVORANDRA_STACK_BYTES (measured: sentence 16,200 bytes, replay 15,200, plan 13,100,
+     start 12,500, advance 11,600, withdraw 11,000, judge 9,800, row 6,000, judge_ticks 5,800, facts 700).
    - Threads: the library has no state and no data that is written to, so any number of threads may call at once, each with slices of its own
      to be written to; slices that are only read may be shared. Of the C library it calls memcpy and memset alone.
    - Time: row, advance and withdraw take some microseconds at most, a bound by the 32 tasks and 64 cores alone. judge goes from one release,
@@ -37,7 +37,7 @@ extern "C" {
 #define SIVORANDRA_VERSION_TEXT "0.10.0"
 
 /* No call takes more bytes of the stack. */
-#define SIVORANDRA_STACK_BYTES 16384
+#define SIVORANDRA_STACK_BYTES 20480
 
 /* What every call but sivorandra_version returns: the call is answered, or a lent slice is too short and everything is as found; so it is
    where the words of a replay's `entries` are no entries. Short `rows` of a plan are 11 instead, and too few words for a run lent to row,
@@ -207,7 +207,7 @@ uint32_t sivorandra_facts(const uint8_t *bytes, size_t bytes_len,
    that is full and not firm a job can take longer where others end early. Words past the last task are 0, and so are all 32 where it is
    refused; words behind them stay.
    It takes at most twice the time of sivorandra_judge (measured: as long where that goes from one release, end or deadline to the next, as
-   this call always does, and half as long again where the periods are short), and 6,000 bytes of the stack. */
+   this call always does, and half as long again where the periods are short), and 6,600 bytes of the stack. */
 uint32_t sivorandra_longest(const uint32_t *words, size_t words_len,
                             uint32_t *figures, size_t figures_len,
                             uint32_t *answer, size_t answer_len);

@@ -4,7 +4,6 @@ import math
 import random
 
 HEAD, RECORD = 5, 7  # words
-MOST = HEAD + 32 * RECORD  # words of a table
 WORD = 2**32
 LIMIT = 1_000_000_000  # no horizon is larger
 # Pairs of periods whose least common multiple falls short of the limit by less than the largest offset.
