@@ -161,7 +161,8 @@ expected l = record { table = l .table; start = startSays (l .says) }
 
 -- what an example opens, so that its words' table and the answer of start compute
 unfoldable starting : Unit {0}
-unfolding computing expected records startOf startAnswer verdictOf answerOf byWalk byTasks byHorizon firstOut endingOf lastStep headerNumber tableOf chain count met
+unfolding computing expected records startOf startAnswer verdictOf answerOf byWalk byTasks byHorizon firstOut endingOf lastStep headerNumber tableOf
+    chain count met
 starting = tt
 
 -- line by line
@@ -183,7 +184,10 @@ begun-width = (refl, (refl, (refl, (refl, (refl, (refl, (refl, (refl, (refl, (re
 
 begun-lend : LineByLine begins lend-lines (map expected lend-lines)
 unfolding starting
-begun-lend = (refl, (refl, (refl, (refl, (refl, (refl, (refl, (refl, (refl, (refl, (refl, (refl, (refl, (refl, (refl, (refl, (refl, (refl, (refl, (refl, (refl, (refl, tt))))))))))))))))))))))
+begun-lend =
+    let later : LineByLine begins (drop 11 lend-lines) (map expected (drop 11 lend-lines)) =
+    (refl, (refl, (refl, (refl, (refl, (refl, (refl, (refl, (refl, (refl, (refl, tt))))))))))) in
+    (refl, (refl, (refl, (refl, (refl, (refl, (refl, (refl, (refl, (refl, (refl, later)))))))))))
 
 -- what the definitions say of lines, the contract says of them through `replay`
 through : (ls : List Line) → map worked ls ≡ ls → LineByLine begins ls (map expected ls) → Each (λ l. ByVerdict (l .says) l) ls

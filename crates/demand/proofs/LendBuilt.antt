@@ -190,15 +190,18 @@ count-lines =
 computed : LineByLine worked-named lend-lines lend-lines
 unfolding running rows
 computed =
-    let past-14 : LineByLine worked-named (drop 14 lend-lines) (drop 14 lend-lines) = (refl, (refl, (refl, (refl, (refl, (refl, (refl, (refl, (refl, (refl, (refl, (refl, (refl, tt))))))))))))) in
+    let past-14 : LineByLine worked-named (drop 14 lend-lines) (drop 14 lend-lines) =
+    (refl, (refl, (refl, (refl, (refl, (refl, (refl, (refl, (refl, (refl, (refl, (refl, (refl, tt))))))))))))) in
     (refl, (refl, (refl, (refl, (refl, (refl, (refl, (refl, (refl, (refl, (refl, (refl, (refl, (refl, past-14))))))))))))))
 
 computed-counts : LineByLine worked count-lines count-lines
 unfolding running rows
 computed-counts =
-    let past-17 : LineByLine worked (drop 17 count-lines) (drop 17 count-lines) =
-    (refl, (refl, (refl, (refl, (refl, (refl, (refl, (refl, (refl, (refl, (refl, (refl, (refl, (refl, (refl, (refl, (refl, tt))))))))))))))))) in
-    (refl, (refl, (refl, (refl, (refl, (refl, (refl, (refl, (refl, (refl, (refl, (refl, (refl, (refl, (refl, (refl, (refl, past-17)))))))))))))))))
+    let past-24 : LineByLine worked (drop 24 count-lines) (drop 24 count-lines) =
+    (refl, (refl, (refl, (refl, (refl, (refl, (refl, (refl, (refl, (refl, tt)))))))))) in
+    let past-12 : LineByLine worked (drop 12 count-lines) (drop 12 count-lines) =
+    (refl, (refl, (refl, (refl, (refl, (refl, (refl, (refl, (refl, (refl, (refl, (refl, past-24)))))))))))) in
+    (refl, (refl, (refl, (refl, (refl, (refl, (refl, (refl, (refl, (refl, (refl, (refl, past-12))))))))))))
 
 -- .. and as one list
 pub lending-runs : map worked-named lend-lines ≡ lend-lines

@@ -31,7 +31,8 @@ use Rattle.phase.specs.declared.Task.{Task}
 use Rattle.run.specs.declared.Run.{Run}
 use Rattle.phase.specs.Phase.{claiming, holder, working, lateIn, stand, nextStand}
 use Rattle.phase.specs.Task.{taskOf, pastEnd, widthNow}
-use Rattle.run.specs.Run.{ruleIn, placeAt, taskAt, evenAt, phaseAt, tasksIn, seenAt, widthsNow, grantsIn, hasCores, offerIn, seeksIn, lentIn, hasLent, shownIn, nextAt, moved}
+use Rattle.run.specs.Run.{ruleIn, placeAt, taskAt, evenAt, phaseAt, tasksIn, seenAt, widthsNow, grantsIn, hasCores, offerIn, seeksIn, lentIn, hasLent}
+use Rattle.run.specs.Run.{shownIn, nextAt, moved}
 use Rattle.run.specs.Numbers.{reportableAt, misreportedIn}
 use Rattle.run.proofs.Places.{mapFirst-at, take-kept}
 use Rattle.demand.proofs.Tied.{Tied, TiedAt}

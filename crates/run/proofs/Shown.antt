@@ -19,17 +19,14 @@ use Rattle.run.specs.Answer.{byAnswer}
 use Rattle.run.specs.Numbers.{runOut, firstLateIn, misemptiedIn}
 use Rattle.run.specs.Row.{rowAnswer, bytesIn, noBytes, rowOf}
 use Rattle.run.specs.Claims.{ClaimsOf}
-use Rattle.run.specs.Loans.{givenTo, lentTo}
+use Rattle.run.specs.Loans.{rowAmong}
 use Rattle.run.proofs.RunOut.{few-cores}
-use Rattle.run.proofs.Chosen.{F, same-given, same-lent, ws}
+use Rattle.run.proofs.Chosen.{same-given, same-lent, ws}
 
 -- what is shown for the places that claim and work is the run's row
 pub bytes-shown :
     (r : Run) (e : ℕ) (c : Claims) (h : ClaimsOf r e c)
-    → row (r .fence) (r .cores)
-    (shownCores (givenTo (ruleIn r) (ws r e c h) (c .claiming) (F r e c h)) (lentTo (ruleIn r) (ws r e c h) (c .claiming) (c .working) (F r e c h) (r .count)))
-    ++ replicate (mostCores - r .cores) 0
-    ≡ bytesIn r e
+    → rowAmong (ruleIn r) (ws r e c h) (r .fence) (r .cores) (c .claiming) (c .working) (r .count) ≡ bytesIn r e
 unfolding bytesIn
 bytes-shown r e c h =
     ap (λ (gs : List (List ℕ)). row (r .fence) (r .cores) gs ++ replicate (mostCores - r .cores) 0) (ap₂ shownCores (same-given r e c h) (same-lent r e c h))

@@ -2,13 +2,16 @@
 -- places below the count, F the cores that the rule gives from.
 use mathlib.Core.Path.{_≡_}
 use mathlib.Core.Bool.{Bool, _&&_, not, cond}
-use mathlib.Core.List.{List, []}
-use Prim.Native.Nat.{ℕ}
-use lib.ListN.{getD}
+use mathlib.Core.List.{List, [], _++_}
+use Prim.Native.Nat.{ℕ, _-_}
+use lib.ListN.{getD, replicate}
 use Rattle.model.specs.Task.{Rule, lending}
+use Rattle.model.specs.Fence.{unfenced}
 use Rattle.model.specs.Grants.{claimants, grants, some}
-use Rattle.model.specs.Lending.{lends, lent}
+use Rattle.model.specs.Lending.{lends, lent, shownCores}
+use Rattle.model.specs.Row.{row}
 use Rattle.model.specs.Search.{bit}
+use Rattle.model.specs.Sizes.{mostCores}
 use Rattle.cores.specs.Cores.{cores}
 use Rattle.rule.specs.Lent.{LentAs}
 use Rattle.rule.specs.Shares.{GrantedAs}
@@ -29,6 +32,11 @@ abbrev pub lentTo : Rule → List ℕ → ℕ → ℕ → List ℕ → ℕ → L
 lentTo r ws claiming working F count =
     lent ws (λ p. bit working p && not (isGiven r ws claiming F p))
     (λ p. cond (lends r && (bit claiming p && not (bit working p))) (getD (givenTo r ws claiming F) p []) []) count
+
+-- the row of m cores that shows this, in 64 bytes
+abbrev pub rowAmong : Rule → List ℕ → ℕ → ℕ → ℕ → ℕ → ℕ → List ℕ
+rowAmong r ws fence m claiming working count =
+    row fence m (shownCores (givenTo r ws claiming (unfenced fence m)) (lentTo r ws claiming working (unfenced fence m) count)) ++ replicate (mostCores - m) 0
 
 -- the sets of those that are given cores and of those that borrow some
 pub record SharesOf (r : Rule) (ws : List ℕ) (claiming working : ℕ) (F : List ℕ) (count : ℕ) (s : Shares) : Type 0 where

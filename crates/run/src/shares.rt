@@ -1,18 +1,14 @@
 // Who is given cores in a tick and who borrows some, and the row that shows it.
 ghost use mathlib.Core.Path.{_≡_};
 ghost use mathlib.Core.Bool.{false};
-ghost use mathlib.Core.List.{_++_};
-ghost use Prim.Native.Nat.{ℕ, _-_, _≤_};
-ghost use lib.ListN.{take, replicate};
-ghost use Rattle.model.specs.Fence.{unfenced};
-ghost use Rattle.model.specs.Lending.{shownCores};
-ghost use Rattle.model.specs.Row.{row};
+ghost use Prim.Native.Nat.{ℕ, _≤_};
+ghost use lib.ListN.{take};
 ghost use Rattle.model.specs.Search.{bit};
 ghost use Rattle.model.specs.Sizes.{mostCores, mostTasks};
 ghost use Rattle.model.specs.Task.{lending, ruleOf};
 ghost use Rattle.cores.specs.Cores as listed;
 ghost use Rattle.rule.specs.Widths.{widthsIn};
-ghost use Rattle.run.specs.Loans.{givenTo, lentTo, LoansOf, SharesOf};
+ghost use Rattle.run.specs.Loans.{LoansOf, rowAmong, SharesOf};
 use model::MOST_TASKS;
 use model::ROW;
 
@@ -97,7 +93,7 @@ fn lent_row(
     count: usize,
 ) -> [u8; ROW]
     requires { ⌜ (cores ≤ mostCores) × (count ≤ mostTasks) ⌝ }
-    ensures { λ r. ⌜ r ≡ row fence cores (shownCores (givenTo lending (take count (widthsIn even (now (widths .entry)))) claiming (unfenced fence cores)) (lentTo lending (take count (widthsIn even (now (widths .entry)))) claiming working (unfenced fence cores) count)) ++ replicate (mostCores - cores) 0 ⌝ }
+    ensures { λ r. ⌜ r ≡ rowAmong lending (take count (widthsIn even (now (widths .entry)))) fence cores claiming working count ⌝ }
 {
     let free = cores::open_cores(cores, fence);
     let tick = lent_out(free, claiming, working, even, widths, count);
@@ -119,7 +115,7 @@ pub(crate) fn bytes(
     count: usize,
 ) -> [u8; ROW]
     requires { ⌜ (cores ≤ mostCores) × (count ≤ mostTasks) ⌝ }
-    ensures { λ r. ⌜ r ≡ row fence cores (shownCores (givenTo (ruleOf rule) (take count (widthsIn even (now (widths .entry)))) claiming (unfenced fence cores)) (lentTo (ruleOf rule) (take count (widthsIn even (now (widths .entry)))) claiming working (unfenced fence cores) count)) ++ replicate (mostCores - cores) 0 ⌝ }
+    ensures { λ r. ⌜ r ≡ rowAmong (ruleOf rule) (take count (widthsIn even (now (widths .entry)))) fence cores claiming working count ⌝ }
 {
     if rule == LENDING {
         return lent_row(cores, fence, claiming, working, even, widths, count);

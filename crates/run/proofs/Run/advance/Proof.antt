@@ -59,22 +59,20 @@ late-few c =
     let r = entry c .args .self in
     omega (arith, c .first-late .ensures, late-most r, few r (passes (c .before)))
 
--- what the tasks are given and borrow, of the cores outside the fence
-abbrev Shared : tie.After-chosen → Type 0
-Shared c =
+-- what the tasks are given and borrow of these cores
+abbrev SharedOf : tie.After-chosen → List ℕ → Type 0
+SharedOf c F =
     let w = gathered c in
     let a = start c .args in
-    SharesOf (ruleIn (a .self)) (ws (a .self) (a .empties) (w .claims .result) (w .claims .ensures)) (w .claims .result .claiming) (w .claims .result .working)
-    (unfenced (a .self .fence) (a .self .cores)) (a .self .count) (c .chosen .result)
+    let g = w .claims .result in
+    SharesOf (ruleIn (a .self)) (ws (a .self) (a .empties) g (w .claims .ensures)) (g .claiming) (g .working) F (a .self .count) (c .chosen .result)
 
-shared : (c : tie.After-chosen) → Shared c
+-- they are the cores outside the fence
+shared : (c : tie.After-chosen) → (let r = start c .args .self in SharedOf c (unfenced (r .fence) (r .cores)))
 shared c =
-    let w = gathered c in
-    let a = start c .args in
-    let r = a .self in
-    subst (λ (F : List ℕ). SharesOf (ruleIn r) (ws r (a .empties) (w .claims .result) (w .claims .ensures)) (w .claims .result .claiming) (w .claims .result .working) F (r .count) (c .chosen .result))
-    (open-of (c .before .before .open-cores .result) (r .fence) (r .cores) (few-cores r (passes (w .before .before))) (c .before .before .open-cores .ensures))
-    (c .chosen .ensures)
+    let f = c .before .before .open-cores in
+    let r = start c .args .self in
+    subst (SharedOf c) (open-of (f .result) (r .fence) (r .cores) (few-cores r (passes (gathered c .before .before))) (f .ensures)) (c .chosen .ensures)
 
 -- 20 and 16 are looked at by one test of sets each
 abbrev begun : tie.After-chosen → Bool

@@ -7,13 +7,13 @@ use Prim.Native.Nat.{ℕ, _-_}
 use lib.ListN.{replicate, take}
 use borrow.Author.Tests.{ne-eqb}
 use Rattle.model.specs.Fence.{unfenced}
-use Rattle.model.specs.Lending.{lends, shownCores}
+use Rattle.model.specs.Lending.{lends}
 use Rattle.model.specs.Row.{row}
 use Rattle.model.specs.Sizes.{mostCores}
 use Rattle.model.specs.Task.{ruleOf}
 use Rattle.phase.proofs.Rules.{lends-rule}
 use Rattle.rule.specs.Widths.{widthsIn}
-use Rattle.run.specs.Loans.{givenTo, lentTo}
+use Rattle.run.specs.Loans.{rowAmong}
 use Rattle.run.proofs.Loans.{own-shown}
 use Rattle.run.proofs.shares.bytes.Statement.{statement}
 use Rattle.run.proofs.shares.bytes.Tie as tie
@@ -25,12 +25,7 @@ returns : tie.Need-returns
 returns c =
     let a = c .before .before .args in
     let ws : List ℕ = take (a .count) (widthsIn (a .even) (a .widths .now)) in
-    subst
-    (λ (n : ℕ). c .lent-row .result
-    ≡ row (a .fence) (a .cores)
-    (shownCores (givenTo (ruleOf n) ws (a .claiming) (unfenced (a .fence) (a .cores)))
-    (lentTo (ruleOf n) ws (a .claiming) (a .working) (unfenced (a .fence) (a .cores)) (a .count)))
-    ++ replicate (mostCores - a .cores) 0)
+    subst (λ (n : ℕ). c .lent-row .result ≡ rowAmong (ruleOf n) ws (a .fence) (a .cores) (a .claiming) (a .working) (a .count))
     (sym (c .before .if1 .taken)) (c .lent-row .ensures)
 
 show-requires : tie.Need-show-requires

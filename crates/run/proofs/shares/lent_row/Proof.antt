@@ -56,7 +56,8 @@ shown-requires : tie.Need-shown-requires
 shown-requires c κs =
     let o = lent-in c in
     let a = entry o .args in
-    (few o, one-or-other (ws o) (a .claiming) (a .working) (o .before .open-cores .result) (a .count) (size o) (few o) (o .lent-out .result) (o .lent-out .ensures))
+    let free = o .before .open-cores .result in
+    (few o, one-or-other (ws o) (a .claiming) (a .working) free (a .count) (size o) (few o) (o .lent-out .result) (o .lent-out .ensures))
 
 row-in-requires : tie.Need-row-in-requires
 row-in-requires c κs =
@@ -80,8 +81,8 @@ returns c =
     let h = o .lent-out .ensures in
     c .row-in .ensures
     ∙ ap (λ (gs : List (List ℕ)). row (a .fence) (a .cores) gs ++ replicate (mostCores - a .cores) 0)
-    (shown-sets lending (ws o) (bit (a .claiming)) (a .count) free (size o) (few o) (l .reserved) (h .reserves) (h .holders) (h .seekers) (l .borrowed) (h .lends)
-    (s .shown .result) (s .shown .ensures)
+    (shown-sets lending (ws o) (bit (a .claiming)) (a .count) free (size o) (few o) (l .reserved) (h .reserves) (h .holders) (h .seekers)
+    (l .borrowed) (h .lends) (s .shown .result) (s .shown .ensures)
     ∙ (ap (shownCores (givenTo lending (ws o) (a .claiming) (cores free))) (borrowed-is (ws o) (a .claiming) (a .working) free (a .count) (size o) (few o) l h)
     ∙ ap (λ (F : List ℕ). shownCores (givenTo lending (ws o) (a .claiming) F) (lentTo lending (ws o) (a .claiming) (a .working) F (a .count))) (free-open o)))
 
