@@ -316,7 +316,7 @@ pub fn version() -> u32 {
 /// assert_eq!(judge(&table), Ok(Verdict::Full { start: 0, period: 5 }));
 /// table[2] = sivorandra::LIMITED;
 /// assert_eq!(judge(&table), Ok(Verdict::Miss { tick: 5, position: 3 }));
-/// table[2] = 4;
+/// table[2] = 5;
 /// assert_eq!(judge(&table), Err(Refusal::BadRule));
 /// ```
 pub fn judge(words: &[u32]) -> Result<Verdict, Refusal> {
