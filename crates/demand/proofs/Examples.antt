@@ -180,7 +180,7 @@ begun-withdraw = (refl, (refl, (refl, (refl, (refl, (refl, (refl, (refl, (refl, 
 
 begun-width : LineByLine begins width-lines (map expected width-lines)
 unfolding starting
-begun-width = (refl, (refl, (refl, (refl, (refl, (refl, (refl, (refl, (refl, (refl, (refl, (refl, tt))))))))))))
+begun-width = (refl, (refl, (refl, (refl, (refl, (refl, (refl, (refl, (refl, (refl, (refl, (refl, (refl, tt)))))))))))))
 
 begun-lend : LineByLine begins lend-lines (map expected lend-lines)
 unfolding starting

@@ -14,10 +14,11 @@ use borrow.Author.Tests.{le-ltb, leb-false, leb-true, lt-ltb, ne-eqb}
 use Rattle.model.proofs.Digits.{bit-power, or-bit}
 use Rattle.model.proofs.FullLength.{empty-full}
 use Rattle.model.proofs.Grants.{claimants-cut, grants-take}
-use Rattle.model.proofs.Lending.{borrowed-above, lent-local, offer-none, shown-given}
+use Rattle.model.proofs.Lending.{borrowed-above, lent-local, shown-given}
 use Rattle.model.proofs.Lists.{take-map}
+use Rattle.model.proofs.Runs.{full-offer}
 use Rattle.model.specs.Book.{Answer, Book, Entry, Job, advance, afterTaken, answer, book, bookFrom, borrowed, borrowing, emptied, emptyBook}
-use Rattle.model.specs.Book.{emptyIn, enter, entered, full, grantsOf, jobClaims, keep, newestEnded, none, offer, only, quiet, refused, seeks}
+use Rattle.model.specs.Book.{emptyIn, enter, entered, full, grantsOf, jobClaims, keep, newestEnded, none, offer, only, quiet, refused, rowOf, seeks}
 use Rattle.model.specs.Book.{served, step, taken, takenFrom, takenOf, taskClaims, widths, withdraw, without}
 use Rattle.model.specs.Fence.{openCores}
 use Rattle.model.specs.Grants.{claimants}
@@ -192,11 +193,11 @@ module _ (n : ℕ) (s s′ : Table) (al : Alike n s s′) where
   shown-alike b b′ ag = record {
     lists = same-cores b b′ ag;
     borrows = same-borrowed b b′ ag;
-    bytes = λ keeps.
-        ap (λ (gs : List (List ℕ)). map (upTo n) (row (s .fence) (s .cores) gs)) (shown-given s b (offer-none s b keeps))
+    bytes = λ keeps keeps′.
+        ap (λ (gs : List (List ℕ)). map (upTo n) (row (s .fence) (s .cores) gs)) (shown-given s b keeps)
         ∙ (row-upTo n (s .fence) (s .cores) (grantsOf s b) (grantsOf s′ b′) (same-grants b b′ ag)
         ∙ (ap₂ (λ (f m : ℕ). map (upTo n) (row f m (grantsOf s′ b′))) (al .fences) (al .cores)
-        ∙ ap (λ (gs : List (List ℕ)). map (upTo n) (row (s′ .fence) (s′ .cores) gs)) (sym (shown-given s′ b′ (offer-none s′ b′ (rw (← al .rules) keeps))))));
+        ∙ ap (λ (gs : List (List ℕ)). map (upTo n) (row (s′ .fence) (s′ .cores) gs)) (sym (shown-given s′ b′ keeps′))));
   }
 
   same-step : (f g : ℕ → Bool) → ((q : ℕ) → q < n → f q ≡ g q) → (b b′ : Book) → Agree n b b′ → Agree n (step s f b) (step s′ g b′)
@@ -297,6 +298,10 @@ module _ (n : ℕ) (s s′ : Table) (al : Alike n s s′) where
   -- THE THEOREM, for the full-length runs
   pub local-full : (t : ℕ) → SameCores n s (full s t) s′ (full s′ t)
   local-full t = shown-alike n s s′ al (full s t) (full s′ t) (full-agree n s s′ al t)
+
+  -- .. whose rows, since nobody lends at full length, show them alike under every rule
+  pub local-rows : (t : ℕ) → map (upTo n) (rowOf s (full s t)) ≡ map (upTo n) (rowOf s′ (full s′ t))
+  local-rows t = local-full t .bytes (full-offer s t) (full-offer s′ t)
 
   -- the same of books of empty sets: at every tick that both reach (up to the first miss, all: `full-length`)
   pub local-empty :

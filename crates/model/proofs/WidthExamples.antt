@@ -33,6 +33,10 @@ width-lines =
     ∷ line "both widths rise but cross, 1 and 3 before 2 and 3: full, and a withdrawal is 21"
     (on 3 greedy (t₂ 0 1 3 1 2 2 ∷ t₂ 0 2 3 1 2 2 ∷ [])) (Full 0 4) (withdraw 1 ∷ []) (refused 21 0 ∷ [])
     (shown (1 ∷ 2 ∷ 2 ∷ []) ∷ shown (1 ∷ 2 ∷ 2 ∷ []) ∷ [])
+    ∷ line "v rises and w rises, and where position 1 ends early position 3 is late"
+    (on 4 greedy (t₂ 1 2 1 2 2 4 ∷ t₂ 2 3 1 1 3 4 ∷ t₂ 0 4 2 1 1 2 ∷ [])) (Full 2 8)
+    (none ∷ advance 1 0 ∷ none ∷ none ∷ []) (taken ∷ taken ∷ taken ∷ refused 15 3 ∷ [])
+    (shown (3 ∷ 3 ∷ 3 ∷ 3 ∷ []) ∷ shown (1 ∷ 1 ∷ 0 ∷ 0 ∷ []) ∷ shown (2 ∷ 2 ∷ 2 ∷ 0 ∷ []) ∷ rowRefused 15 3 ∷ rowRefused 15 3 ∷ [])
     ∷ line "one task alone is firm with any two widths"
     (alternating greedy) (Firm 0 2) (withdraw 1 ∷ []) (taken ∷ []) (two 1 0 ∷ two 0 0 ∷ [])
     ∷ line "limited is firm with any widths"
@@ -54,7 +58,7 @@ width-lines =
 -- every line is what the definitions say, line by line
 computed : LineByLine worked width-lines width-lines
 unfolding computing
-computed = (refl, (refl, (refl, (refl, (refl, (refl, (refl, (refl, (refl, (refl, (refl, (refl, tt))))))))))))
+computed = (refl, (refl, (refl, (refl, (refl, (refl, (refl, (refl, (refl, (refl, (refl, (refl, (refl, tt)))))))))))))
 
 -- .. and as one list
 pub width-examples : map worked width-lines ≡ width-lines

@@ -54,7 +54,7 @@ AllSound s = (p : ℕ) → p < length (s .tasks) → Sound (task s p)
 abbrev pub release : Task → ℕ → ℕ
 release τ k = τ .offset + k * τ .period
 
--- scope: and must have its C ticks, on v cores together, by that tick plus D
+-- scope: and must have its C ticks, in each of them as many cores together as the job is wide, by that tick plus D
 abbrev pub due : Task → ℕ → ℕ
 due τ k = release τ k + τ .deadline
 
