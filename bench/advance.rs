@@ -4,8 +4,8 @@
 // The library's advance is timed inside `sivorandra_replay`, which moves a run by value through the list. Its row is timed through `sivorandra_row`, which reads
 // the run from its words first; so the sum is an upper bound of what an advance with its row costs.
 //
-// The simulator knows no fence, no second width, no empty jobs and no withdrawals, and reads three header words and records of six: it gets the same tasks, whose widths are equal, on just the
-// unfenced cores, where every answer is the same, and the entries are advances without empty jobs.
+// The simulator knows no fence, no second width, no empty jobs, no withdrawals and no lending, and reads three header words and records of six: it gets the same tasks, whose widths are equal, on
+// just the unfenced cores, where every answer is the same, and the entries are advances without empty jobs. It has no times under rule 4, which has lines of its own.
 
 use std::hint::black_box;
 
@@ -14,8 +14,9 @@ const RUNS: usize = 5;
 /// The words of a table before its records, and of a record.
 const HEAD: usize = 5;
 const RECORD: usize = 7;
-/// The words of a run: rule, cores, count, fence and withdrawn set, and ten for each of the 32 places.
-const RUN_WORDS: usize = 6 + 10 * 32;
+/// The words of a run: rule, cores, count, fence and withdrawn set, and eleven for each of the 32 places.
+const RUN_WORDS: usize = 6 + 11 * 32;
+const LENDING: u32 = 4;
 /// An entry of a list in words: 0, reports, empties.
 type Entry = [u32; 3];
 /// 10 of 64 cores, of both words.
@@ -49,10 +50,11 @@ mod simulator {
 
 // Straight Rust of the run in the cab: the same records, the same numbers 14, 15, 20 and 16, the same moves.
 
+/// Ticks left; since the release, had and reserved; since the release and reserved; since the release.
 #[derive(Clone, Copy)]
 enum Phase {
     Coming(u32),
-    Working(u32, u32),
+    Working(u32, u32, u32),
     Holding(u32, u32),
     Resting(u32),
 }
@@ -80,10 +82,11 @@ struct Run {
     tasks: [Task; 32],
 }
 
-/// Who has cores in a tick, and who of them works.
+/// Who has cores reserved in a tick, who has work to do, and who borrows.
 struct Tick {
     granted: u32,
     working: u32,
+    served: u32,
 }
 
 impl Task {
@@ -92,8 +95,8 @@ impl Task {
         numbers
             && match self.phase {
                 Coming(left) => (1..=self.offset).contains(&left) && !self.even,
-                Working(z, u) => z <= self.deadline && u < self.length && u <= z,
-                Holding(z, u) => rule == 3 && z < self.deadline && u < self.length && u <= z,
+                Working(z, had, reserved) => z <= self.deadline && had < self.length && had <= z && if rule == LENDING { reserved <= had } else { reserved == had },
+                Holding(z, reserved) => rule >= 3 && z < self.deadline && reserved < self.length && reserved <= z,
                 Resting(z) => 1 <= z && z < self.period,
             }
     }
@@ -104,31 +107,31 @@ impl Task {
     }
 
     fn rested(&self, z: u32) -> Phase {
-        if z == self.period { Working(0, 0) } else { Resting(z) }
+        if z == self.period { Working(0, 0, 0) } else { Resting(z) }
     }
 
-    fn held(&self, z: u32, u: u32) -> Phase {
-        if u == self.length || z == self.deadline { self.rested(z) } else { Holding(z, u) }
+    fn held(&self, z: u32, reserved: u32) -> Phase {
+        if reserved == self.length || z == self.deadline { self.rested(z) } else { Holding(z, reserved) }
     }
 
-    /// An empty job of this tick holds under rule 3, and else claims nothing.
+    /// An empty job of this tick holds under rules 3 and 4, and else claims nothing.
     fn seen(&self, rule: u32, empty: bool) -> Phase {
         match self.phase {
-            Working(0, _) if empty && rule == 3 => Holding(0, 0),
-            Working(0, _) if empty => Resting(0),
+            Working(0, ..) if empty && rule >= 3 => Holding(0, 0),
+            Working(0, ..) if empty => Resting(0),
             phase => phase,
         }
     }
 
-    fn next(&self, rule: u32, empty: bool, ran: bool, reported: bool) -> Phase {
+    fn next(&self, rule: u32, empty: bool, given: bool, lent: bool, reported: bool) -> Phase {
         match self.seen(rule, empty) {
-            Coming(1) => Working(0, 0),
+            Coming(1) => Working(0, 0, 0),
             Coming(left) => Coming(left - 1),
-            Working(z, u) if !ran => Working(z + 1, u),
-            Working(z, u) if !reported && u + 1 < self.length => Working(z + 1, u + 1),
-            Working(z, u) if rule == 3 => self.held(z + 1, u + 1),
-            Working(z, _) => self.rested(z + 1),
-            Holding(z, u) => self.held(z + 1, u + u32::from(ran)),
+            Working(z, had, reserved) if !given && !lent => Working(z + 1, had, reserved),
+            Working(z, had, reserved) if !reported && had + 1 < self.length => Working(z + 1, had + 1, reserved + u32::from(given)),
+            Working(z, _, reserved) if rule >= 3 => self.held(z + 1, reserved + u32::from(given)),
+            Working(z, ..) => self.rested(z + 1),
+            Holding(z, reserved) => self.held(z + 1, reserved + u32::from(given)),
             Resting(z) => self.rested(z + 1),
         }
     }
@@ -143,7 +146,7 @@ impl Run {
         while record != 0 {
             let at = HEAD + RECORD * (record - 1);
             let offset = words[at + 1];
-            let phase = if offset == 0 { Working(0, 0) } else { Coming(offset) };
+            let phase = if offset == 0 { Working(0, 0, 0) } else { Coming(offset) };
             let (width, second) = (words[at + 2], words[at + 6]);
             run.tasks[run.count] = Task { offset, width, length: words[at + 3], deadline: words[at + 4], period: words[at + 5], second, even: false, phase };
             run.count += 1;
@@ -152,9 +155,9 @@ impl Run {
         run
     }
 
-    /// 14, 15 and 20, else who has cores.
+    /// 14, 15 and 20, else who has cores and who borrows some.
     fn tick(&self, empties: u32) -> Result<Tick, u32> {
-        if !(1..=32).contains(&self.count) || !(1..=64).contains(&self.cores) || !(1..=3).contains(&self.rule) {
+        if !(1..=32).contains(&self.count) || !(1..=64).contains(&self.cores) || !(1..=LENDING).contains(&self.rule) {
             return Err(14 * 256);
         }
         let all = u64::MAX >> (64 - self.cores);
@@ -168,7 +171,7 @@ impl Run {
                 return Err(14 * 256);
             }
             match task.phase {
-                Working(z, _) => {
+                Working(z, ..) => {
                     working |= 1 << place;
                     claiming |= 1 << place;
                     released |= u32::from(z == 0) << place;
@@ -188,7 +191,7 @@ impl Run {
         }
         let empty = released & (empties | self.withdrawn);
         working &= !empty;
-        if self.rule != 3 {
+        if self.rule < 3 {
             claiming &= !empty;
         }
         let (mut granted, mut free) = (0, unfenced);
@@ -203,7 +206,31 @@ impl Run {
                 break;
             }
         }
-        Ok(Tick { granted, working })
+        let served = if self.rule == LENDING { self.lend(granted & !working, working & !granted, |_, _| {}) } else { 0 };
+        Ok(Tick { granted, working, served })
+    }
+
+    /// Who borrows: each holder, by priority, lends to those below it that wait and fit in what it has left; `each` is told who borrows from whom, in this order.
+    fn lend(&self, mut holders: u32, mut waiting: u32, mut each: impl FnMut(usize, usize)) -> u32 {
+        let mut served = 0;
+        while holders != 0 && waiting != 0 {
+            let holder = holders.trailing_zeros() as usize;
+            holders &= holders - 1;
+            let mut room = self.tasks[holder].wide();
+            let mut below = waiting & !(u32::MAX >> (31 - holder));
+            while below != 0 && room > 0 {
+                let place = below.trailing_zeros() as usize;
+                below &= below - 1;
+                let width = self.tasks[place].wide();
+                if width <= room {
+                    room -= width;
+                    served |= 1 << place;
+                    each(holder, place);
+                }
+            }
+            waiting &= !served;
+        }
+        served
     }
 
     fn step(&mut self, reports: u32, empties: u32) -> u32 {
@@ -211,13 +238,13 @@ impl Run {
             Ok(tick) => tick,
             Err(number) => return number,
         };
-        if reports & !(tick.granted & tick.working) != 0 {
+        if reports & !((tick.granted | tick.served) & tick.working) != 0 {
             return 16 * 256;
         }
         let (rule, empty) = (self.rule, empties | self.withdrawn);
         for (place, task) in self.tasks[..self.count].iter_mut().enumerate() {
-            let next = task.next(rule, empty >> place & 1 != 0, tick.granted >> place & 1 != 0, reports >> place & 1 != 0);
-            task.even ^= matches!(next, Working(0, _)) && !matches!(task.phase, Coming(_));
+            let next = task.next(rule, empty >> place & 1 != 0, tick.granted >> place & 1 != 0, tick.served >> place & 1 != 0, reports >> place & 1 != 0);
+            task.even ^= matches!(next, Working(0, ..)) && !matches!(task.phase, Coming(_));
             task.phase = next;
         }
         0
@@ -236,14 +263,27 @@ impl Run {
 
     fn paint(&self, empties: u32, row: &mut [u8; 64]) -> u32 {
         row.fill(0);
-        let granted = match self.tick(empties) {
-            Ok(tick) => tick.granted,
+        let tick = match self.tick(empties) {
+            Ok(tick) => tick,
             Err(number) => return number,
         };
         if self.fence != 0 {
-            self.paint_around(granted, row);
-            return 0;
+            self.paint_around(tick.granted, row);
+        } else {
+            self.paint_along(tick.granted, row);
         }
+        if tick.served != 0 {
+            // a borrower takes the lowest cores that still show the holder
+            self.lend(tick.granted & !tick.working, tick.working & !tick.granted, |holder, place| {
+                let unlent = row.iter_mut().filter(|core| **core == holder as u8 + 1);
+                unlent.take(self.tasks[place].wide() as usize).for_each(|core| *core = place as u8 + 1);
+            });
+        }
+        0
+    }
+
+    /// The row without a fence, task by task.
+    fn paint_along(&self, granted: u32, row: &mut [u8; 64]) {
         let mut core = 0;
         for (place, task) in self.tasks[..self.count].iter().enumerate() {
             if granted >> place & 1 != 0 {
@@ -252,7 +292,6 @@ impl Run {
                 core = end;
             }
         }
-        0
     }
 
     /// The row with 255 on fenced cores, core by core.
@@ -326,7 +365,7 @@ fn entries(words: &[u32]) -> Vec<Entry> {
     let mut list = Vec::with_capacity(TICKS);
     for _ in 0..TICKS {
         let tick = run.tick(0).expect("a firm table");
-        let ended = tick.granted & tick.working & if dice.below(4) == 0 { 1 << dice.below(32) } else { 0 };
+        let ended = (tick.granted | tick.served) & tick.working & if dice.below(4) == 0 { 1 << dice.below(32) } else { 0 };
         assert_eq!(run.step(ended, 0), 0);
         list.push([0, ended, 0]);
     }
@@ -343,17 +382,20 @@ fn best(mut work: impl FnMut()) -> f64 {
     (0..RUNS).map(|_| (now(), work(), now())).map(|(from, (), to)| to - from).fold(f64::MAX, f64::min) / TICKS as f64
 }
 
-/// Times of one table: advances without rows and with them, by the library, the simulator, and Rust by value and in place; last the library's advance on a run kept in words.
+/// Times of one table: advances without rows and with them, by the library, the simulator, where it knows the rule, and Rust by value and in place; last the library's advance on a run kept in words.
 fn times(words: &[u32], list: &[Entry]) -> [f64; 9] {
     let mut answer = [0; 3];
     let (mut numbers, mut row, mut others) = (vec![1; TICKS], [0; 64], vec![1; TICKS]);
     let ours = best(|| unsafe {
         sivorandra_replay(words.as_ptr(), words.len(), list.as_ptr().cast(), 3 * list.len(), numbers.as_mut_ptr(), TICKS, row.as_mut_ptr(), 64, answer.as_mut_ptr(), 3);
     });
-    let three = for_simulator(words);
-    let simulator = best(|| simulator::advances(&three, list, false, &mut others));
-    assert_eq!(numbers, others);
-    let simulator_row = best(|| simulator::advances(&three, list, true, &mut others));
+    let (mut simulator, mut simulator_row) = (f64::NAN, f64::NAN);
+    if words[2] != LENDING {
+        let three = for_simulator(words);
+        simulator = best(|| simulator::advances(&three, list, false, &mut others));
+        assert_eq!(numbers, others);
+        simulator_row = best(|| simulator::advances(&three, list, true, &mut others));
+    }
 
     let mut last = Run::start(words);
     let value = best(|| {
@@ -407,24 +449,33 @@ fn times(words: &[u32], list: &[Entry]) -> [f64; 9] {
     [ours, simulator, value, place, ours_row, simulator_row, value_row, place_row, words_alone]
 }
 
+/// The lines of one table size: the mean over some rules.
+fn lines(name: &str, count: u32, fence: u64, rules: &[u32]) {
+    let mut mean = [0.0; 9];
+    for &rule in rules {
+        let words = table(count, rule, fence);
+        let list = entries(&words);
+        for (sum, time) in mean.iter_mut().zip(times(&words, &list)) {
+            *sum += time / rules.len() as f64;
+        }
+    }
+    let known = |text: String| if text.starts_with("NaN") { String::new() } else { text };
+    for (what, at) in [("advance", 0), ("advance with its row", 4)] {
+        let [ours, simulator, value, place] = [mean[at], mean[at + 1], mean[at + 2], mean[at + 3]];
+        let beside = [known(format!("{simulator:.0} ns")), known(format!("{:.2}", ours / simulator))];
+        println!("| {name} | {what} | {ours:.0} ns | {} | {value:.0} ns | {place:.0} ns | {} | {:.2} | {:.2} |", beside[0], beside[1], ours / value, ours / place);
+    }
+    let ours = mean[8];
+    println!("| {name} | advance of a run kept in words | {ours:.0} ns | | | | {} | {:.2} | {:.2} |", known(format!("{:.2}", ours / mean[1])), ours / mean[2], ours / mean[3]);
+}
+
 fn main() {
     println!("| tasks | | library | simulator | Rust by value | Rust in place | library / simulator | library / by value | library / in place |");
     println!("| --- | --- | --- | --- | --- | --- | --- | --- | --- |");
     for (count, fence) in [(1, 0), (8, 0), (32, 0), (32, FENCE)] {
-        let mut mean = [0.0; 9];
-        for rule in 1..=3 {
-            let words = table(count, rule, fence);
-            let list = entries(&words);
-            for (sum, time) in mean.iter_mut().zip(times(&words, &list)) {
-                *sum += time / 3.0;
-            }
-        }
-        let count = if fence == 0 { count.to_string() } else { format!("{count}, fenced") };
-        for (name, at) in [("advance", 0), ("advance with its row", 4)] {
-            let [ours, simulator, value, place] = [mean[at], mean[at + 1], mean[at + 2], mean[at + 3]];
-            println!("| {count} | {name} | {ours:.0} ns | {simulator:.0} ns | {value:.0} ns | {place:.0} ns | {:.2} | {:.2} | {:.2} |", ours / simulator, ours / value, ours / place);
-        }
-        let ours = mean[8];
-        println!("| {count} | advance of a run kept in words | {ours:.0} ns | | | | {:.2} | {:.2} | {:.2} |", ours / mean[1], ours / mean[2], ours / mean[3]);
+        lines(&format!("{count}{}", if fence == 0 { "" } else { ", fenced" }), count, fence, &[1, 2, 3]);
+    }
+    for count in [8, 32] {
+        lines(&format!("{count}, lending"), count, 0, &[LENDING]);
     }
 }

@@ -77,7 +77,7 @@ pub fn load(text: &[u8]) -> Result<Table, Refusal> {
     if !(1..=64).contains(&cores) {
         return Err((2, 0));
     }
-    if !(1..=3).contains(&rule) {
+    if !(1..=4).contains(&rule) {
         return Err((3, 0));
     }
     let (all, fence) = (u64::MAX >> (64 - cores), u64::from(words[3]) | u64::from(words[4]) << 32);

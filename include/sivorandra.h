@@ -4,8 +4,8 @@
    No call keeps a pointer, or writes anywhere but into the slices lent for writing.
 
    What a call costs:
-   - Memory: none from the heap. Of the stack less than SIVORANDRA_STACK_BYTES (measured: sentence 16,200 bytes, replay 15,200, plan 13,100,
-     start 12,500, advance 11,600, withdraw 11,000, judge 9,800, row 6,000, judge_ticks 5,800, facts 700).
+   - Memory: none from the heap. Of the stack less than SIVORANDRA_STACK_BYTES (measured: sentence 16,200 bytes, replay 15,700, plan 13,100,
+     start 12,700, advance 12,200, withdraw 11,900, judge 9,800, row 7,400, longest 6,600, judge_ticks 5,800, facts 700).
    - Threads: the library has no state and no data that is written to, so any number of threads may call at once, each with slices of its own
      to be written to; slices that are only read may be shared. Of the C library it calls memcpy and memset alone.
    - Time: row, advance and withdraw take some microseconds at most, a bound by the 32 tasks and 64 cores alone. judge goes from one release,
@@ -31,10 +31,10 @@ extern "C" {
 /* The version of this header; sivorandra_version says that of the library that is linked. One number, which grows with the version:
    major * 10000 + minor * 100 + patch. */
 #define SIVORANDRA_VERSION_MAJOR 0
-#define SIVORANDRA_VERSION_MINOR 10
+#define SIVORANDRA_VERSION_MINOR 11
 #define SIVORANDRA_VERSION_PATCH 0
 #define SIVORANDRA_VERSION (SIVORANDRA_VERSION_MAJOR * 10000 + SIVORANDRA_VERSION_MINOR * 100 + SIVORANDRA_VERSION_PATCH)
-#define SIVORANDRA_VERSION_TEXT "0.10.0"
+#define SIVORANDRA_VERSION_TEXT "0.11.0"
 
 /* No call takes more bytes of the stack. */
 #define SIVORANDRA_STACK_BYTES 20480
@@ -61,7 +61,7 @@ extern "C" {
 enum sivorandra_number {
     SIVORANDRA_NOT_A_TABLE = 1,   /* fewer than 5 words, the rest no whole records of seven, or more than 32 records */
     SIVORANDRA_BAD_CORES = 2,     /* the core count is not 1 to 64 */
-    SIVORANDRA_BAD_RULE = 3,      /* the rule is not 1, 2 or 3 */
+    SIVORANDRA_BAD_RULE = 3,      /* the rule is not 1 to 4 */
     SIVORANDRA_NO_HEAD = 4,       /* the head is zero */
     SIVORANDRA_NO_RECORD = 5,     /* along the chain a number past the last record is met */
     SIVORANDRA_RECORD_AGAIN = 6,  /* along the chain a record is met again */
@@ -74,7 +74,7 @@ enum sivorandra_number {
     SIVORANDRA_TABLE_MISSES = 13, /* start, replay, longest: the verdict is a miss */
     SIVORANDRA_NOT_A_RUN = 14,    /* row, advance, withdraw: the words are no run */
     SIVORANDRA_LATE = 15,         /* row, advance: the position, the lowest that is late, has not ended its job at its deadline */
-    SIVORANDRA_BAD_REPORT = 16,   /* advance: for a position past the count, or a task that is not working or has no cores in this tick */
+    SIVORANDRA_BAD_REPORT = 16,   /* advance: for a position past the count, or a task that is not working or has no cores, its own or lent, in this tick */
     SIVORANDRA_NO_MISS = 17,      /* sentence: the table has no miss */
     SIVORANDRA_SHORT_BUFFER = 18, /* sentence: `buffer` is shorter than the sentence */
     SIVORANDRA_BAD_FENCE = 19,    /* the fence names a core past the count, or all cores */
@@ -91,10 +91,13 @@ enum sivorandra_number {
 #define SIVORANDRA_MOST_PERIOD 1000000u     /* T, from 1 */
 #define SIVORANDRA_MOST_HORIZON 1000000000u /* S + P; 9 turns down a larger one */
 
-/* The rules. */
+/* The rules. Lending reserves cores as idling gives them. A task whose job has ended, early or empty, then lends those that are reserved for it: of the
+   tasks below it, in order, each that works, has none reserved and has borrowed none in this tick takes the lowest of them that are not lent yet,
+   if its width fits in these. Where no job ends early lending is idling. */
 #define SIVORANDRA_GREEDY 1u
 #define SIVORANDRA_LIMITED 2u
 #define SIVORANDRA_IDLING 3u
+#define SIVORANDRA_LENDING 4u
 
 /* The words of a table in front of its records: head, cores, rule, and the fence, the set of cores that no task has,
    its low word first: bit c of the low word is core c, bit c of the high word core 32 + c. A record is next, O, v, C, D, T and w: odd jobs of
@@ -105,13 +108,17 @@ enum sivorandra_number {
 
 /* The words that a run kept between calls takes: rule, cores, count, the fence, its low word first, and the set of withdrawn positions, bit 0
    for position 1, then 32 places of which the first count are used; a place is O, v, C, D, T, w, the parity of its job (0 odd, 1 even; it
-   changes at each release but the first), the kind of its phase (0 Coming, 1 Working, 2 Holding, 3 Resting) and its two numbers, 0 for one
-   that it does not have. */
+   changes at each release but the first), the kind of its phase and three numbers, 0 for one that it does not have:
+   - 0 Coming: the ticks left to its first release.
+   - 1 Working: the ticks since its release, the ticks that its job has had, and the ticks that cores were reserved for it. The last two are equal
+     but under lending: a lent tick is had and not reserved.
+   - 2 Holding, under idling and lending: the ticks since its release, and the ticks reserved.
+   - 3 Resting: the ticks since its release. */
 #define SIVORANDRA_RUN_HEAD_WORDS 6
-#define SIVORANDRA_RUN_PLACE_WORDS 10
+#define SIVORANDRA_RUN_PLACE_WORDS 11
 #define SIVORANDRA_RUN_WORDS (SIVORANDRA_RUN_HEAD_WORDS + SIVORANDRA_RUN_PLACE_WORDS * SIVORANDRA_MOST_TASKS)
 
-/* The bytes of a row: core 0 first, the position, 0 for idle, or 255 for a fenced core. */
+/* The bytes of a row: core 0 first, the position, which is the borrower's on a lent core, 0 for idle, or 255 for a fenced core. */
 #define SIVORANDRA_ROW_BYTES SIVORANDRA_MOST_CORES
 #define SIVORANDRA_FENCED 255u
 
@@ -166,8 +173,9 @@ uint32_t sivorandra_start(const uint32_t *words, size_t words_len,
 
 /* The row of the present tick: done or refused. Taken or refused, it writes all 64 bytes of the row that is returned: bytes past the
    core count are 0, and a refused row is 64 zeros, on fenced cores too. Words that are no run are refused with 14: too few, a count above
-   32, or no parity or phase in a place below the count, such as an even job of a task Coming. Places past the count are not read.
-   Bit p of `empties` says that the job of position p + 1, released in this very tick (its phase is Working with both numbers 0), is empty: it
+   32, or no parity or phase in a place below the count, such as an even job of a task Coming, or more ticks had than reserved under rules 1 to 3.
+   Places past the count are not read.
+   Bit p of `empties` says that the job of position p + 1, released in this very tick (its phase is Working with three zeros), is empty: it
    ends before cores are given out. The run stays as it is: the same set is to be said to the advance. */
 uint32_t sivorandra_row(const uint32_t *run, size_t run_len, uint32_t empties,
                         uint8_t *row, size_t row_len,
@@ -175,7 +183,7 @@ uint32_t sivorandra_row(const uint32_t *run, size_t run_len, uint32_t empties,
 
 /* Takes the run one tick on: done, or refused and `run` as found. Words that are no run are refused with 14, as by row. A taken advance
    writes the head and the places below the count; places past it are neither read nor changed.
-   Bit p of `reports` says that the job of position p + 1, which works in this tick, ends after it; bit p of `empties` that it is released in
+   Bit p of `reports` says that the job of position p + 1, which works in this tick, on lent cores too, ends after it; bit p of `empties` that it is released in
    this very tick and empty, as for row: a report on it is refused with 16. */
 uint32_t sivorandra_advance(uint32_t *run, size_t run_len, uint32_t reports, uint32_t empties,
                             uint32_t *answer, size_t answer_len);

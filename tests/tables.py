@@ -4,6 +4,7 @@ import math
 import random
 
 HEAD, RECORD = 5, 7  # words
+LENDING = 4  # the last rule
 WORD = 2**32
 LIMIT = 1_000_000_000  # no horizon is larger
 # Pairs of periods whose least common multiple falls short of the limit by less than the largest offset.
@@ -91,8 +92,8 @@ def among(rng, usable):
     return cores, fence(rng, cores) if usable == 64 else leaving(rng, usable, cores)
 
 
-def linked(rng, cores, fenced, tasks):
-    """The words of these tasks in priority order, with their records permuted and some more off the chain."""
+def linked(rng, cores, fenced, tasks, rule=None):
+    """The words of these tasks in priority order under a rule, any where none is given, with their records permuted and some more off the chain."""
     on, off = len(tasks), rng.randint(0, min(2, 32 - len(tasks)))
     places = list(range(1, on + off + 1))
     rng.shuffle(places)
@@ -101,7 +102,7 @@ def linked(rng, cores, fenced, tasks):
         records[number] = [chain[at + 1] if at + 1 < on else 0, *tasks[at]]
     for number in places[on:]:
         records[number] = [rng.randint(0, WORD - 1) for _ in range(RECORD)]
-    words = [chain[0], cores, rng.randint(1, 3), *two_words(fenced)]
+    words = [chain[0], cores, rule or rng.randint(1, LENDING), *two_words(fenced)]
     for number in sorted(records):
         words += records[number]
     return words
@@ -127,6 +128,24 @@ def frail(rng):
     for following, (odd, even), length, deadline in zip((2, 3, 0), widths, (long, short, third), (rng.randint(long, period), period, third + rng.randint(0, short - 1))):
         words += [following, 0, odd, length, deadline, period, even]
     return words
+
+
+def waiting(rng, rule=LENDING):
+    """The words of tasks that mostly fit and wait for those above them, so that under lending there is somebody to lend to: in any order, the wide ones first, or the narrow ones.
+    In every third table some have two widths."""
+    cores, period, count = rng.choice([1, 2, 3, 4, 6]), rng.choice([4, 6, 8, 9, 12]), rng.randint(2, 8)
+    widest = -(-cores // rng.choice([1, 1, 2]))
+    tasks = []
+    for _ in range(count):
+        width, every = rng.randint(1, widest), rng.choice([period, period, period, 2 * period])
+        deadline = rng.choice([every, every, rng.randint((every + 1) // 2, every)])
+        longest = period * cores // (count * widest)
+        tasks.append([rng.choice([0, 0, 0, rng.randint(0, period)]), width, rng.randint(1, max(1, min(longest, deadline))), deadline, every, width])
+    order = rng.choice([-1, 0, 1])
+    tasks.sort(key=lambda task: order * task[1])
+    if rng.random() < 1 / 3:
+        some_pairs(rng, tasks, cores)
+    return linked(rng, *among(rng, cores), tasks, rule)
 
 
 def long_task(rng, usable, whole, periods, load, early):
@@ -214,7 +233,7 @@ def spoilt(rng, words, printed):
     elif kind == 2:
         words[1] = rng.choice([0, 65, WORD - 1])
     elif kind == 3:
-        words[2] = rng.choice([0, 4, 9])
+        words[2] = rng.choice([0, LENDING + 1, 9])
     elif kind == 4:
         words[0] = rng.choice([0, 33, records + 1])
     elif kind == 5:

@@ -93,8 +93,8 @@ class Table:
         inside = 1 <= self.cores <= 64
         if number == 2 and not inside:
             return f"line 2: the core count is {self.cores}; 1 to 64 is allowed"
-        if number == 3 and self.rule not in (1, 2, 3):
-            return f"line 3: the rule is {self.rule}; 1 (greedy), 2 (limited) or 3 (idling) is allowed"
+        if number == 3 and self.rule not in (1, 2, 3, 4):
+            return f"line 3: the rule is {self.rule}; 1 (greedy), 2 (limited), 3 (idling) or 4 (lending) is allowed"
         if number == 4 and self.head == 0:
             return f"line 1: the head is 0; 1 to {self.records}, the number of the first record, is allowed"
         if number == 19 and inside and self.fence >> self.cores:

@@ -38,7 +38,7 @@ MISTAKES = {
 
 Task = collections.namedtuple("Task", "O v C D T w")
 Table = collections.namedtuple("Table", "cores rule fenced tasks records")
-RULES = {1: "greedy", 2: "limited", 3: "idling"}
+RULES = {1: "greedy", 2: "limited", 3: "idling", 4: "lending"}
 VERDICTS = {
     "firm": "Firm: no deadline is ever missed, also when jobs end early",
     "full": "Full: no deadline is ever missed when every job takes its full length",
@@ -47,7 +47,7 @@ VERDICTS = {
 REFUSALS = {
     1: ["This is no table: it is not one decimal number a line,", "or not 5 words and then at most 32 whole records of seven."],
     2: ["The core count (word 1) is not 1 to 64."],
-    3: ["The rule (word 2) is not 1, 2 or 3."],
+    3: ["The rule (word 2) is not 1 to 4."],
     4: ["The head (word 0) is zero: the chain has no record."],
     5: ["Along the chain a number past the last record is met."],
     6: ["Along the chain a record is met again: it never ends."],
@@ -332,11 +332,11 @@ class Listed:
             self.out.append((self.tick, position))
         self.emptied([position], line)
 
-    # What a job that has ended does not take of its length, from a tick on. Under idling its cells are held instead.
+    # What a job that has ended does not take of its length, from a tick on. Under idling its cells are held instead, under lending held or lent.
     def rest(self, position, tick):
         job, task = self.job(position), self.table.tasks[position - 1]
         until = min(tick + task.C - job[1], task.O + job[0] * task.T + task.D)
-        if RULES[self.table.rule] != "idling" and max(tick, self.asked.start) < min(until, self.asked.end):
+        if RULES[self.table.rule] not in ("idling", "lending") and max(tick, self.asked.start) < min(until, self.asked.end):
             self.unused.append((position, tick, until))
 
     # The row of a tick that is reached, or its refusal.
@@ -360,9 +360,12 @@ class Listed:
             self.rows.append([FENCED if core in self.table.fenced else 0 for core in range(self.table.cores)])
 
     # An advance that is taken: a tick goes by for those in its row, the jobs that are reported end, and the next tick has this row.
+    # A job ends at its length too; under lending it may be in later rows and hold.
     def taken(self, reports, line):
         for position in self.positions:
-            self.job(position)[1] += 1
+            job = self.job(position)
+            job[1] += 1
+            job[2] |= job[1] == self.table.tasks[position - 1].C
         for position in places(reports):
             if position not in self.positions:
                 raise Trouble(f"the program took a report for position {position} at tick {self.tick}")

@@ -7,7 +7,7 @@ include!("../gangsim.rs");
 use sivorandra::{Entry as Asked, Refusal as Refused, Verdict as Judged, ROW_BYTES, RUN_HEAD_WORDS, RUN_PLACE_WORDS, RUN_WORDS};
 
 /// The last request that the project has.
-const REQUEST: u32 = 108;
+const REQUEST: u32 = 109;
 
 /// Lets the simulator read tables as the last request does.
 pub fn begin() {
@@ -103,7 +103,7 @@ pub const fn place_at(place: usize) -> usize {
     RUN_HEAD_WORDS + RUN_PLACE_WORDS * place
 }
 
-/// Where they have its phase: its kind and its two numbers.
+/// Where they have its phase: its kind and its three numbers.
 pub const fn phase_at(place: usize) -> usize {
     place_at(place) + 7
 }
@@ -184,6 +184,13 @@ impl Cab {
         (0..self.run.n()).filter(|&place| may(place)).fold(0, |set, place| set | 1 << place)
     }
 
+    /// The set of positions that borrow in the tick of an advance; none in one that is refused by its empty jobs or by a missed deadline, and in a withdrawal.
+    pub fn borrowers(&self, entry: Asked) -> u32 {
+        let Asked::Advance { empties, .. } = entry else { return 0 };
+        let Ok(tick) = self.run.tick(empties.into()) else { return 0 };
+        (0..self.run.n()).filter(|&place| tick.served[place]).fold(0, |set, place| set | 1 << place)
+    }
+
     /// The words of the run, over `before` of which the places past the count stay.
     pub fn words(&self, before: &[u32; RUN_WORDS]) -> [u32; RUN_WORDS] {
         encoded(&self.run, before)
@@ -196,13 +203,13 @@ fn encoded(run: &Run, before: &[u32; RUN_WORDS]) -> [u32; RUN_WORDS] {
     words[..RUN_HEAD_WORDS].copy_from_slice(&[run.rule, run.cores, run.count as u32, run.fence as u32, (run.fence >> 32) as u32, run.withdrawn as u32]);
     for place in 0..run.n().min(PLACES) {
         let task = &run.tasks[place];
-        let (kind, first, second) = match run.phases[place] {
-            Phase::Coming(left) => (COMING, left, 0),
-            Phase::Working { z, had, .. } => (WORKING, z, had),
-            Phase::Holding { z, u } => (HOLDING, z, u),
-            Phase::Resting(z) => (RESTING, z, 0),
+        let (kind, first, second, third) = match run.phases[place] {
+            Phase::Coming(left) => (COMING, left, 0, 0),
+            Phase::Working { z, had, reserved } => (WORKING, z, had, reserved),
+            Phase::Holding { z, u } => (HOLDING, z, u, 0),
+            Phase::Resting(z) => (RESTING, z, 0, 0),
         };
-        let now = [task.offset, task.width, task.length, task.deadline, task.period, task.width2, run.even[place].into(), kind.into(), first, second];
+        let now = [task.offset, task.width, task.length, task.deadline, task.period, task.width2, run.even[place].into(), kind.into(), first, second, third];
         for (at, number) in now.into_iter().enumerate() {
             words[place_at(place) + at] = number as u32;
         }
@@ -215,12 +222,12 @@ fn decoded(words: &[u32; RUN_WORDS]) -> Run {
     let mut run = Run::zeros();
     (run.rule, run.cores, run.count, run.fence, run.withdrawn) = (words[0], words[1], words[2].into(), fence_in(&words[3..]), words[5].into());
     for place in 0..run.n().min(PLACES) {
-        let [offset, width, length, deadline, period, width2, even, kind, first, second] = std::array::from_fn(|at| u64::from(words[place_at(place) + at]));
+        let [offset, width, length, deadline, period, width2, even, kind, first, second, third] = std::array::from_fn(|at| u64::from(words[place_at(place) + at]));
         run.tasks[place] = Task { offset, width, length, deadline, period, width2 };
         run.even[place] = even == 1;
         run.phases[place] = match kind as u32 {
             COMING => Phase::Coming(first),
-            WORKING => Phase::Working { z: first, had: second, reserved: second },
+            WORKING => Phase::Working { z: first, had: second, reserved: third },
             HOLDING => Phase::Holding { z: first, u: second },
             _ => Phase::Resting(first),
         };

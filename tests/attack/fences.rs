@@ -1,5 +1,5 @@
 //! Fences of runs built by hand: what 14 says of each core and each count, and the rows with 255.
-use crate::book::{RESTING, WORKING};
+use crate::book::{HOLDING, RESTING, WORKING};
 use crate::calls::{same, Kept, Tried};
 use crate::hand::{fenced, odd, Place, Words, OUT, PLAIN};
 use crate::rng::Rng;
@@ -22,7 +22,7 @@ const fn wide(width: u32) -> Place {
 
 /// A task whose even jobs have this width, between two jobs.
 const fn second(width: u32) -> Place {
-    [5, 1, 4, 6, 8, width, 0, RESTING, 1, 0]
+    [5, 1, 4, 6, 8, width, 0, RESTING, 1, 0, 0]
 }
 
 /// Each limit by name, a run inside and a run outside.
@@ -52,7 +52,8 @@ pub fn limits() -> Vec<(String, Words, Words)> {
 pub fn rows() -> Tried<()> {
     let two = odd([0, 2, 4, 6, 8, WORKING, 1, 1]);
     let late = odd([5, 1, 4, 6, 8, WORKING, 6, 1]);
-    let four_or_two = |even| [0, 4, 4, 6, 8, 2, even, WORKING, 1, 1];
+    let four_or_two = |even| [0, 4, 4, 6, 8, 2, even, WORKING, 1, 1, 1];
+    let (holds, waits) = (odd([0, 3, 4, 6, 8, HOLDING, 1, 1]), odd([0, 2, 4, 6, 8, WORKING, 1, 0]));
     for (name, words, cores) in [
         ("the lowest cores outside", fenced(1, 6, 0b010110, &[two, PLAIN]), &[1, 255, 255, 1, 255, 2][..]),
         ("an idle core among fenced ones", fenced(2, 5, 0b10101, &[PLAIN]), &[255, 1, 255, 0, 255]),
@@ -61,6 +62,7 @@ pub fn rows() -> Tried<()> {
         ("the second does not fit and is passed over", fenced(1, 5, 0b00110, &[two, two, PLAIN]), &[1, 255, 255, 1, 3]),
         ("an odd job", fenced(1, 6, 0b000110, &[four_or_two(0), PLAIN]), &[1, 255, 255, 1, 1, 1]),
         ("an even job", fenced(1, 6, 0b000110, &[four_or_two(1), PLAIN]), &[1, 255, 255, 1, 2, 0]),
+        ("a borrower on the lowest cores of the holder", fenced(4, 6, 0b010010, &[holds, waits]), &[2, 255, 2, 1, 255, 0]),
     ] {
         let mut row = [0; ROW_BYTES];
         row[..cores.len()].copy_from_slice(cores);
@@ -75,7 +77,7 @@ pub fn rows() -> Tried<()> {
         (fenced(1, 64, u64::MAX << 32, &[odd([0, 32, 4, 6, 8, WORKING, 1, 1])]), Ok(halves)),
         (fenced(1, 3, 0b010, &[late]), Err(Refusal::Late { position: 1 })),
         (fenced(1, 3, 0b111, &[PLAIN]), Err(OUT)),
-        (fenced(4, 3, 0b010, &[PLAIN]), Err(OUT)),
+        (fenced(5, 3, 0b010, &[PLAIN]), Err(OUT)),
     ] {
         let _ = Kept::from(&mut rng, &words).row(&mut rng, 0, row)?;
     }

@@ -1,20 +1,33 @@
-//! Runs built by hand: number 14 at each limit, the fence among them, 15, and what no started run shows.
+//! Runs built by hand: number 14 at each limit, the fence among them, 15, who borrows, and what no started run shows.
 use crate::book::{self, phase_at, place_at, COMING, HOLDING, RESTING, WITHDRAWN, WORKING};
 use crate::calls::{enter, reported, same, same_run, Kept, Tried};
 use crate::fences;
+use crate::lending::{self, IDLING, LENDING};
 use crate::random::position;
 use crate::rng::Rng;
 use crate::Counts;
 use sivorandra::{Entry, Refusal, Run, RUN_HEAD_WORDS, RUN_PLACE_WORDS, RUN_WORDS};
 
-/// O, v, C, D, T, w, the parity of the job, and the phase: its kind and two numbers.
+/// O, v, C, D, T, w, the parity of the job, and the phase: its kind and three numbers.
 pub type Place = [u32; RUN_PLACE_WORDS];
 pub type Words = [u32; RUN_WORDS];
+/// A phase by its kind and two numbers: where it is Working it has had the ticks that were reserved.
+type Phase = [u32; 3];
 /// A place of one width whose job is an odd one: O, v, C, D, T, and the phase.
 type Odd = [u32; 8];
 
 pub const fn odd([o, v, c, d, t, kind, first, second]: Odd) -> Place {
-    [o, v, c, d, t, v, 0, kind, first, second]
+    place_of([o, v, c, d, t], v, 0, whole([kind, first, second]))
+}
+
+/// A place of two widths.
+pub const fn place_of([o, v, c, d, t]: [u32; 5], w: u32, even: u32, [kind, first, second, third]: [u32; 4]) -> Place {
+    [o, v, c, d, t, w, even, kind, first, second, third]
+}
+
+/// The kind and the three numbers of a phase.
+const fn whole([kind, first, second]: Phase) -> [u32; 4] {
+    [kind, first, second, if kind == WORKING { second } else { 0 }]
 }
 
 /// Where a place has its second width, and the parity of its job.
@@ -22,7 +35,7 @@ const SECOND: usize = 5;
 const EVEN: usize = 6;
 
 /// A run of these places without a fence; past the count zeros and Resting(0).
-fn run(rule: u32, cores: u32, places: &[Place]) -> Words {
+pub fn run(rule: u32, cores: u32, places: &[Place]) -> Words {
     fenced(rule, cores, 0, places)
 }
 
@@ -43,16 +56,16 @@ fn turned_down(words: &Words) -> bool {
     let is_stand = |place: &[u32]| {
         place[EVEN] <= 1
             && match place[7] {
-                COMING | RESTING => place[9] == 0,
-                kind => kind == WORKING || kind == HOLDING,
+                COMING | RESTING => place[9] == 0 && place[10] == 0,
+                HOLDING => place[10] == 0,
+                kind => kind == WORKING,
             }
     };
     let is_fenced = |core: u32| if core < 32 { low >> core & 1 == 1 } else { high >> (core - 32) & 1 == 1 };
     let unfenced = (0..cores.min(64)).filter(|&core| !is_fenced(core)).count() as u32;
     let past = (cores.min(64)..64).any(is_fenced);
     let fits = |place: &[u32]| {
-        let [o, v, c, d, t, w, even, kind, first, u] = place[..] else { unreachable!() };
-        let z = first;
+        let [o, v, c, d, t, w, even, kind, z, u, reserved] = place[..] else { unreachable!() };
         within(v, 1, unfenced)
             && within(w, 1, unfenced)
             && o <= 1_000_000
@@ -60,14 +73,14 @@ fn turned_down(words: &Words) -> bool {
             && within(t, 1, 1_000_000)
             && within(d, 1, t)
             && match kind {
-                COMING => within(first, 1, o) && even == 0,
-                WORKING => z <= d && u < c && u <= z,
-                HOLDING => rule == 3 && z < d && u < c && u <= z,
+                COMING => within(z, 1, o) && even == 0,
+                WORKING => z <= d && u < c && u <= z && if rule == LENDING { reserved <= u } else { reserved == u },
+                HOLDING => rule >= IDLING && z < d && u < c && u <= z,
                 _ => within(z, 1, t - 1),
             }
     };
     let mut used = words[RUN_HEAD_WORDS..].chunks(RUN_PLACE_WORDS).take(count as usize);
-    !(within(count, 1, 32) && within(cores, 1, 64) && within(rule, 1, 3) && !past && unfenced > 0 && u64::from(withdrawn) >> count == 0 && used.all(|place| is_stand(place) && fits(place)))
+    !(within(count, 1, 32) && within(cores, 1, 64) && within(rule, 1, LENDING) && !past && unfenced > 0 && u64::from(withdrawn) >> count == 0 && used.all(|place| is_stand(place) && fits(place)))
 }
 
 pub const OUT: Refusal = Refusal::NotARun;
@@ -80,7 +93,7 @@ fn compare(rng: &mut Rng, counts: &mut Counts, words: &Words, ticks: usize) -> T
         let asked = rng.pick(&sets);
         counts.answer(&kept.row(rng, asked, Err(OUT))?);
         for entry in [Entry::Advance { reports: rng.pick(&sets), empties: rng.pick(&sets) }, Entry::Withdraw { position: rng.pick(&sets) }] {
-            counts.entered(entry, &kept.enter(rng, entry, Err(OUT))?);
+            counts.entered(entry, 0, &kept.enter(rng, entry, Err(OUT))?);
         }
         return Ok(());
     }
@@ -100,11 +113,12 @@ fn compare(rng: &mut Rng, counts: &mut Counts, words: &Words, ticks: usize) -> T
         let empties = if rng.once_in(2) { 0 } else { given };
         counts.answer(&kept.row(rng, asked, cab.row(asked)).map_err(|why| format!("with the empty jobs {asked}: {why}"))?);
         let entry = if rng.once_in(6) { Entry::Withdraw { position: position(rng, cab.count()) } } else { Entry::Advance { reports, empties } };
+        let borrowers = cab.borrowers(entry);
         let answer = cab.enter(entry);
         if answer.is_ok() {
             now = cab.words(&now);
         }
-        counts.entered(entry, &kept.enter(rng, entry, answer.map(|()| now))?);
+        counts.entered(entry, borrowers, &kept.enter(rng, entry, answer.map(|()| now))?);
     }
     Ok(())
 }
@@ -125,20 +139,21 @@ fn place(rng: &mut Rng, rule: u32, cores: u32) -> Place {
     let w = if rng.once_in(3) { rng.from(1, cores) } else { v };
     let z = |rng: &mut Rng, low: u32, high: u32| if rng.once_in(3) { high } else { rng.from(low, high) };
     let phase = match rng.below(8) {
-        0 if o > 0 => [COMING, rng.pick(&[1, o, o.div_ceil(2)]), 0],
-        1 | 2 if t > 1 => [RESTING, z(rng, 1, t - 1), 0],
-        3..=5 if rule == 3 => {
+        0 if o > 0 => whole([COMING, rng.pick(&[1, o, o.div_ceil(2)]), 0]),
+        1 | 2 if t > 1 => whole([RESTING, z(rng, 1, t - 1), 0]),
+        3..=5 if rule >= IDLING => {
             let z = z(rng, 0, d - 1);
-            [HOLDING, z, rng.from(0, z.min(c - 1))]
+            whole([HOLDING, z, rng.from(0, z.min(c - 1))])
         }
-        6 => [WORKING, 0, 0],
+        6 => whole([WORKING, 0, 0]),
         _ => {
             let z = if rng.once_in(12) { d } else { rng.from(0, d - 1) };
-            [WORKING, z, rng.from(0, z.min(c - 1))]
+            let had = rng.from(0, z.min(c - 1));
+            [WORKING, z, had, if rule == LENDING { rng.from(0, had) } else { had }]
         }
     };
     let even = if phase[0] == COMING { 0 } else { rng.from(0, 1) };
-    [o, v, c, d, t, w, even, phase[0], phase[1], phase[2]]
+    place_of([o, v, c, d, t], w, even, phase)
 }
 
 /// Anything in the places past the count.
@@ -151,7 +166,7 @@ fn litter(rng: &mut Rng, words: &mut Words) {
 /// A random run built by hand, at times with a fault, and with anything past the count.
 pub fn case(seed: u64, counts: &mut Counts) -> Tried<()> {
     let mut rng = Rng::new(seed);
-    let (rule, cores) = (rng.pick(&[1, 2, 3, 3]), rng.pick(&[1, 2, 3, 4, 8, 64]));
+    let (rule, cores) = (rng.pick(&[1, 2, 3, 3, 4, 4, 4]), rng.pick(&[1, 2, 3, 4, 8, 64]));
     let count = if rng.once_in(8) { rng.from(1, 32) } else { rng.from(1, 5) };
     let (left, fence) = if rng.once_in(2) { (cores, 0) } else { fences::any(&mut rng, cores) };
     let places: Vec<Place> = (0..count).map(|_| place(&mut rng, rule, left)).collect();
@@ -164,13 +179,13 @@ pub fn case(seed: u64, counts: &mut Counts) -> Tried<()> {
         match rng.below(9) {
             6 => words[1 + rng.below(5)] ^= 1 << rng.below(7),
             7 => words[rng.pick(&[3, 4, WITHDRAWN])] ^= 1 << rng.below(32),
-            0 => words[0] = near(&mut rng, &[1, 3, u32::MAX]),
+            0 => words[0] = near(&mut rng, &[1, LENDING, u32::MAX]),
             1 => words[1] = near(&mut rng, &[1, 64, w[1]]),
             2 => words[2] = near(&mut rng, &[1, 32, count, u32::MAX]),
             3 => words[place + rng.below(6)] = near(&mut rng, &[1, cores, left, w[4], w[3], 1_000_000]),
             4 => words[place + 7] = near(&mut rng, &[0, 3, u32::MAX]),
             5 => words[place + EVEN] = near(&mut rng, &[0, 1, u32::MAX]),
-            _ => words[place + rng.pick(&[8, 9])] = near(&mut rng, &[1, w[0], w[2], w[3], w[4], w[8], u32::MAX]),
+            _ => words[place + rng.pick(&[8, 9, 10])] = near(&mut rng, &[1, w[0], w[2], w[3], w[4], w[8], w[9], u32::MAX]),
         }
     }
     let ticks = 1 + rng.below(10);
@@ -222,18 +237,18 @@ fn place_limits() -> Vec<(&'static str, Odd, Odd)> {
 /// The limits of the second width and of the parity.
 fn pair_limits() -> Vec<(&'static str, Place, Place)> {
     vec![
-        ("second width at least 1", [5, 1, 4, 6, 8, 1, 0, RESTING, 1, 0], [5, 1, 4, 6, 8, 0, 0, RESTING, 1, 0]),
-        ("second width at most the cores", [5, 1, 4, 6, 8, 64, 0, RESTING, 1, 0], [5, 1, 4, 6, 8, 65, 0, RESTING, 1, 0]),
-        ("first width of an even job at least 1", [5, 1, 4, 6, 8, 2, 1, RESTING, 1, 0], [5, 0, 4, 6, 8, 2, 1, RESTING, 1, 0]),
-        ("first width of an even job at most the cores", [5, 64, 4, 6, 8, 2, 1, RESTING, 1, 0], [5, 65, 4, 6, 8, 2, 1, RESTING, 1, 0]),
-        ("second width far", [5, 1, 4, 6, 8, 64, 1, WORKING, 1, 0], [5, 1, 4, 6, 8, u32::MAX, 1, WORKING, 1, 0]),
-        ("no even job is Coming", [5, 1, 4, 6, 8, 1, 0, COMING, 1, 0], [5, 1, 4, 6, 8, 1, 1, COMING, 1, 0]),
-        ("no even job is Coming, of two widths", [5, 1, 4, 6, 8, 2, 0, COMING, 5, 0], [5, 1, 4, 6, 8, 2, 1, COMING, 5, 0]),
-        ("an even job Working", [5, 1, 4, 6, 8, 2, 1, WORKING, 0, 0], [5, 1, 4, 6, 8, 2, 2, WORKING, 0, 0]),
-        ("an even job Holding", [5, 1, 4, 6, 8, 2, 1, HOLDING, 3, 1], [5, 1, 4, 6, 8, 2, 2, HOLDING, 3, 1]),
-        ("an even job Resting", [5, 1, 4, 6, 8, 2, 1, RESTING, 1, 0], [5, 1, 4, 6, 8, 2, 2, RESTING, 1, 0]),
-        ("a parity at most 1, far", [5, 1, 4, 6, 8, 1, 1, WORKING, 2, 1], [5, 1, 4, 6, 8, 1, u32::MAX, WORKING, 2, 1]),
-        ("a parity at most 1, by its last bits", [5, 1, 4, 6, 8, 1, 0, WORKING, 2, 1], [5, 1, 4, 6, 8, 1, 256, WORKING, 2, 1]),
+        ("second width at least 1", [5, 1, 4, 6, 8, 1, 0, RESTING, 1, 0, 0], [5, 1, 4, 6, 8, 0, 0, RESTING, 1, 0, 0]),
+        ("second width at most the cores", [5, 1, 4, 6, 8, 64, 0, RESTING, 1, 0, 0], [5, 1, 4, 6, 8, 65, 0, RESTING, 1, 0, 0]),
+        ("first width of an even job at least 1", [5, 1, 4, 6, 8, 2, 1, RESTING, 1, 0, 0], [5, 0, 4, 6, 8, 2, 1, RESTING, 1, 0, 0]),
+        ("first width of an even job at most the cores", [5, 64, 4, 6, 8, 2, 1, RESTING, 1, 0, 0], [5, 65, 4, 6, 8, 2, 1, RESTING, 1, 0, 0]),
+        ("second width far", [5, 1, 4, 6, 8, 64, 1, WORKING, 1, 0, 0], [5, 1, 4, 6, 8, u32::MAX, 1, WORKING, 1, 0, 0]),
+        ("no even job is Coming", [5, 1, 4, 6, 8, 1, 0, COMING, 1, 0, 0], [5, 1, 4, 6, 8, 1, 1, COMING, 1, 0, 0]),
+        ("no even job is Coming, of two widths", [5, 1, 4, 6, 8, 2, 0, COMING, 5, 0, 0], [5, 1, 4, 6, 8, 2, 1, COMING, 5, 0, 0]),
+        ("an even job Working", [5, 1, 4, 6, 8, 2, 1, WORKING, 0, 0, 0], [5, 1, 4, 6, 8, 2, 2, WORKING, 0, 0, 0]),
+        ("an even job Holding", [5, 1, 4, 6, 8, 2, 1, HOLDING, 3, 1, 0], [5, 1, 4, 6, 8, 2, 2, HOLDING, 3, 1, 0]),
+        ("an even job Resting", [5, 1, 4, 6, 8, 2, 1, RESTING, 1, 0, 0], [5, 1, 4, 6, 8, 2, 2, RESTING, 1, 0, 0]),
+        ("a parity at most 1, far", [5, 1, 4, 6, 8, 1, 1, WORKING, 2, 1, 1], [5, 1, 4, 6, 8, 1, u32::MAX, WORKING, 2, 1, 1]),
+        ("a parity at most 1, by its last bits", [5, 1, 4, 6, 8, 1, 0, WORKING, 2, 1, 1], [5, 1, 4, 6, 8, 1, 256, WORKING, 2, 1, 1]),
     ]
 }
 
@@ -244,14 +259,17 @@ pub const PLAIN: Place = odd([5, 1, 4, 6, 8, WORKING, 2, 1]);
 fn limits() -> Vec<(String, Words, Words)> {
     let mut limits = Vec::new();
     let odd_limits = place_limits().into_iter().map(|(name, inside, outside)| (name, odd(inside), odd(outside)));
-    for (name, inside, outside) in odd_limits.chain(pair_limits()) {
+    let under = odd_limits.chain(pair_limits()).flat_map(|(name, inside, outside)| [IDLING, LENDING].map(|rule| (name, rule, inside, outside)));
+    let task = |phase: [u32; 4]| place_of([5, 1, 4, 6, 8], 1, 0, phase);
+    let reserved = lending::limits().into_iter().map(|(name, rule, inside, outside)| (name, rule, task(inside), task(outside)));
+    for (name, rule, inside, outside) in under.chain(reserved) {
         for (at, count) in [(0, 1), (0, 3), (1, 3), (2, 3), (30, 32), (31, 32)] {
             let with = |place: Place| {
                 let mut places = vec![PLAIN; count];
                 places[at] = place;
-                run(3, 64, &places)
+                run(rule, 64, &places)
             };
-            limits.push((format!("{name}, place {} of {count}", at + 1), with(inside), with(outside)));
+            limits.push((format!("{name}, rule {rule}, place {} of {count}", at + 1), with(inside), with(outside)));
         }
     }
     let head = |at: usize, number: u32, mut words: Words| {
@@ -261,6 +279,7 @@ fn limits() -> Vec<(String, Words, Words)> {
     let one = run(1, 2, &[PLAIN]);
     let all = run(2, 64, &[PLAIN; 32]);
     let holding = odd([5, 1, 4, 6, 8, HOLDING, 3, 2]);
+    let lent = place_of([5, 1, 4, 6, 8], 1, 0, [WORKING, 3, 2, 1]);
     limits.extend(fences::limits());
     for count in [1, 2, 3, 31] {
         let (within, past) = ((1u32 << count) - 1, 1 << count);
@@ -272,7 +291,7 @@ fn limits() -> Vec<(String, Words, Words)> {
     limits.push(("the withdrawn set of 32".into(), head(WITHDRAWN, u32::MAX, all), head(2, 31, head(WITHDRAWN, u32::MAX, all))));
     limits.extend([
         ("rule at least 1".into(), one, head(0, 0, one)),
-        ("rule at most 3".into(), head(0, 3, one), head(0, 4, one)),
+        ("rule at most 4".into(), head(0, 4, one), head(0, 5, one)),
         ("rule far".into(), head(0, 2, one), head(0, u32::MAX, one)),
         ("cores at least 1".into(), head(1, 1, one), head(1, 0, one)),
         ("cores at most 64".into(), all, head(1, 65, all)),
@@ -284,8 +303,12 @@ fn limits() -> Vec<(String, Words, Words)> {
         ("count within what is built".into(), one, head(2, 2, one)),
         ("Holding under rule 3, not 1".into(), run(3, 2, &[PLAIN, holding]), run(1, 2, &[PLAIN, holding])),
         ("Holding under rule 3, not 2".into(), run(3, 2, &[PLAIN, holding]), run(2, 2, &[PLAIN, holding])),
+        ("Holding under rule 4, not 1".into(), run(4, 2, &[PLAIN, holding]), run(1, 2, &[PLAIN, holding])),
+        ("Holding under rule 4, not 5".into(), run(4, 2, &[PLAIN, holding]), run(5, 2, &[PLAIN, holding])),
+        ("fewer reserved than had under rule 4, not 3".into(), run(4, 2, &[lent]), run(3, 2, &[lent])),
         ("kinds below the count alone".into(), head(phase_at(31), 4, one), head(phase_at(0), 4, one)),
         ("second numbers below the count alone".into(), head(phase_at(31) + 2, 1, one), head(phase_at(0), COMING, one)),
+        ("third numbers below the count alone".into(), head(phase_at(31) + 3, 1, one), head(phase_at(0) + 3, 2, one)),
         ("parities below the count alone".into(), head(place_at(1) + EVEN, 2, one), head(place_at(0) + EVEN, 2, one)),
         ("second widths below the count alone".into(), head(place_at(1) + SECOND, 99, one), head(place_at(0) + SECOND, 99, one)),
     ]);
@@ -312,7 +335,7 @@ fn lateness(counts: &mut Counts) -> Tried<()> {
     for set in 1u32..1 << 6 {
         let mut places = vec![PLAIN; 6];
         (0..6).filter(|place| set & 1 << place != 0).for_each(|place| places[place] = late);
-        for rule in 1..=3 {
+        for rule in 1..=LENDING {
             let mut words = run(rule, 4, &places);
             let expected = Err(Refusal::Late { position: set.trailing_zeros() + 1 });
             let mut held = Run::from_words(words);
@@ -333,7 +356,7 @@ fn lateness(counts: &mut Counts) -> Tried<()> {
 }
 
 /// One task alone whose job is released in this tick and empty: the rule, the place, and the phase one tick on.
-fn empty_moves() -> Vec<(&'static str, u32, Odd, [u32; 3])> {
+fn empty_moves() -> Vec<(&'static str, u32, Odd, Phase)> {
     vec![
         ("an empty job rests", 1, [5, 1, 4, 6, 8, WORKING, 0, 0], [RESTING, 1, 0]),
         ("an empty job rests", 2, [5, 1, 4, 6, 8, WORKING, 0, 0], [RESTING, 1, 0]),
@@ -343,11 +366,15 @@ fn empty_moves() -> Vec<(&'static str, u32, Odd, [u32; 3])> {
         ("an empty job of period 1", 1, [0, 1, 1, 1, 1, WORKING, 0, 0], [WORKING, 0, 0]),
         ("an empty job of period 1", 3, [0, 1, 1, 1, 1, WORKING, 0, 0], [WORKING, 0, 0]),
         ("the largest numbers", 3, [1_000_000, 1, 1_000_000, 1_000_000, 1_000_000, WORKING, 0, 0], [HOLDING, 1, 1]),
+        ("an empty job holds", 4, [5, 1, 4, 6, 8, WORKING, 0, 0], [HOLDING, 1, 1]),
+        ("an empty job holds C ticks", 4, [5, 1, 1, 6, 8, WORKING, 0, 0], [RESTING, 1, 0]),
+        ("an empty job holds no longer than D", 4, [5, 1, 4, 1, 8, WORKING, 0, 0], [RESTING, 1, 0]),
+        ("an empty job of period 1", 4, [0, 1, 1, 1, 1, WORKING, 0, 0], [WORKING, 0, 0]),
     ]
 }
 
 /// One task alone: the rule, the place, the reports, and the phase one tick on, as the scope's sentences say.
-fn moves() -> Vec<(&'static str, u32, Odd, u32, [u32; 3])> {
+fn moves() -> Vec<(&'static str, u32, Odd, u32, Phase)> {
     vec![
         ("a Coming counts down", 1, [5, 1, 4, 6, 8, COMING, 5, 0], 0, [COMING, 4, 0]),
         ("Coming 0 left works", 1, [5, 1, 4, 6, 8, COMING, 1, 0], 0, [WORKING, 0, 0]),
@@ -378,19 +405,27 @@ fn moves() -> Vec<(&'static str, u32, Odd, u32, [u32; 3])> {
 }
 
 /// A move of a place on two cores, with one width and with two, of an odd job and, where it is not Coming, of an even one: the parity changes with each release but the first.
-fn a_move(rule: u32, [o, v, c, d, t, kind, first, second]: Odd, entry: Entry, phase: [u32; 3]) -> Tried<()> {
+fn a_move(rule: u32, task: [u32; 5], before: [u32; 4], entry: Entry, after: [u32; 4]) -> Tried<()> {
+    let v = task[1];
     for (w, even) in [(v, 0), (v + 1, 0), (v, 1), (v + 1, 1)] {
-        if (kind, even) == (COMING, 1) {
+        if (before[0], even) == (COMING, 1) {
             continue;
         }
-        let mut held = Run::from_words(run(rule, 2, &[[o, v, c, d, t, w, even, kind, first, second]]));
+        let mut held = Run::from_words(run(rule, 2, &[place_of(task, w, even, before)]));
         same("advance", Ok(()), enter(&mut held, entry))?;
-        let then = if phase == [WORKING, 0, 0] && kind != COMING { 1 - even } else { even };
-        let next = run(rule, 2, &[[o, v, c, d, t, w, then, phase[0], phase[1], phase[2]]]);
-        same_run("one tick on", &next, held.words())?;
+        let then = if after == FRESH && before[0] != COMING { 1 - even } else { even };
+        same_run("one tick on", &run(rule, 2, &[place_of(task, w, then, after)]), held.words())?;
     }
     Ok(())
 }
+
+/// O, v, C, D, T of a place, and its phase.
+const fn parts([o, v, c, d, t, kind, first, second]: Odd) -> ([u32; 5], [u32; 4]) {
+    ([o, v, c, d, t], whole([kind, first, second]))
+}
+
+/// The phase of a job that is released in this tick.
+const FRESH: [u32; 4] = [WORKING, 0, 0, 0];
 
 /// What a row shows of an odd job, of an even one and of one that holds: its own width.
 fn widths() -> Tried<()> {
@@ -402,7 +437,7 @@ fn widths() -> Tried<()> {
         ("an odd job that has ended", 0, [RESTING, 1, 0], [2, 2, 0, 0]),
         ("an even job that has ended", 1, [RESTING, 1, 0], [2, 2, 0, 0]),
     ] {
-        let words = run(3, 4, &[[0, 3, 4, 6, 8, 2, even, kind, first, second], odd([0, 2, 4, 6, 8, WORKING, 1, 1])]);
+        let words = run(3, 4, &[place_of([0, 3, 4, 6, 8], 2, even, whole([kind, first, second])), odd([0, 2, 4, 6, 8, WORKING, 1, 1])]);
         same(name, Ok(row), Run::from_words(words).row(0).map(|row| [row[0], row[1], row[2], row[3]]))?;
     }
     Ok(())
@@ -419,11 +454,11 @@ fn held_back() -> Tried<()> {
     same("the row after the hold", Ok([2, 0]), held.row(0).map(|row| [row[0], row[1]]))
 }
 
-/// An empty job of the first of two wide tasks: under idling it holds its cores, else the second has them and may be reported. A row asked changes nothing, a refused
+/// An empty job of the first of two wide tasks: under idling it holds its cores, else the second has them, under lending as a borrower, and may be reported. A row asked changes nothing, a refused
 /// advance keeps nothing of its empty jobs, and a report on an empty job is 16.
 fn emptied() -> Tried<()> {
     let wide = odd([0, 2, 4, 6, 8, WORKING, 0, 0]);
-    for (rule, row, reported) in [(1, [2, 2], Ok(())), (2, [2, 2], Ok(())), (3, [1, 1], Err(Refusal::BadReport))] {
+    for (rule, row, reported) in [(1, [2, 2], Ok(())), (2, [2, 2], Ok(())), (3, [1, 1], Err(Refusal::BadReport)), (4, [2, 2], Ok(()))] {
         let words = run(rule, 2, &[wide, wide]);
         let mut held = Run::from_words(words);
         let first = |run: &Run, empties: u32| run.row(empties).map(|row| [row[0], row[1]]);
@@ -446,16 +481,19 @@ fn taken_out() -> Tried<()> {
         (1, [WORKING, 0, 0], [RESTING, 1, 0]),
         (2, [WORKING, 0, 0], [RESTING, 1, 0]),
         (3, [WORKING, 0, 0], [HOLDING, 1, 1]),
+        (4, [WORKING, 0, 0], [HOLDING, 1, 1]),
         (1, [WORKING, 1, 0], [WORKING, 2, 1]),
         (2, [WORKING, 2, 1], [WORKING, 3, 2]),
         (3, [WORKING, 4, 3], [RESTING, 5, 0]),
         (3, [HOLDING, 0, 0], [HOLDING, 1, 1]),
         (3, [HOLDING, 2, 1], [HOLDING, 3, 2]),
+        (4, [WORKING, 4, 3], [RESTING, 5, 0]),
+        (4, [HOLDING, 2, 1], [HOLDING, 3, 2]),
         (1, [RESTING, 7, 0], [WORKING, 0, 0]),
     ];
     for (rule, phase, next) in cases {
-        let of = |even: u32, [kind, first, second]: [u32; 3], withdrawn: u32| {
-            let mut words = run(rule, 1, &[[5, 1, 4, 6, 8, 1, even, kind, first, second]]);
+        let of = |even: u32, phase: Phase, withdrawn: u32| {
+            let mut words = run(rule, 1, &[place_of([5, 1, 4, 6, 8], 1, even, whole(phase))]);
             words[WITHDRAWN] = withdrawn;
             words
         };
@@ -481,12 +519,13 @@ fn taken_out() -> Tried<()> {
 /// 14, then 21, then 22; 15 is not looked at.
 fn not_taken_out(counts: &mut Counts) -> Tried<()> {
     let (wide, late) = (odd([5, 2, 4, 6, 8, WORKING, 2, 1]), odd([5, 1, 4, 6, 8, WORKING, 6, 1]));
-    let of = |v: u32, w: u32, even: u32| [5, v, 4, 6, 8, w, even, WORKING, 2, 1];
+    let of = |v: u32, w: u32, even: u32| place_of([5, v, 4, 6, 8], w, even, whole([WORKING, 2, 1]));
     let cases = [
         (1, [PLAIN, wide], true),
         (1, [wide, PLAIN], false),
         (2, [wide, PLAIN], true),
         (3, [wide, PLAIN], true),
+        (4, [wide, PLAIN], true),
         (1, [late, wide], true),
         (1, [wide, late], false),
         (1, [of(1, 2, 0), of(2, 3, 0)], true),
@@ -510,7 +549,7 @@ fn not_taken_out(counts: &mut Counts) -> Tried<()> {
             after[WITHDRAWN] = if expected.is_ok() { 1 << (position - 1) } else { 0 };
             same_run("the run", &after, held.words())?;
             let mut out = words;
-            out[0] = 4;
+            out[0] = LENDING + 1;
             same("14 first", Err(OUT), Run::from_words(out).withdraw(position))?;
         }
     }
@@ -520,8 +559,8 @@ fn not_taken_out(counts: &mut Counts) -> Tried<()> {
 /// 20 for a position past the count and for every phase but Working(0, 0), before 16.
 fn not_emptied(counts: &mut Counts) -> Tried<()> {
     let phases = [[COMING, 1, 0], [WORKING, 1, 0], [WORKING, 1, 1], [HOLDING, 0, 0], [HOLDING, 1, 0], [HOLDING, 1, 1], [RESTING, 1, 0], [RESTING, 7, 0]];
-    for [kind, first, second] in phases {
-        let words = run(3, 4, &[odd([5, 1, 4, 6, 8, WORKING, 0, 0]), odd([5, 1, 4, 6, 8, kind, first, second])]);
+    for (rule, [kind, first, second]) in [IDLING, LENDING].into_iter().flat_map(|rule| phases.map(|phase| (rule, phase))) {
+        let words = run(rule, 4, &[odd([5, 1, 4, 6, 8, WORKING, 0, 0]), odd([5, 1, 4, 6, 8, kind, first, second])]);
         let mut held = Run::from_words(words);
         for empties in [2, 3, 4, 5, 1 << 31, u32::MAX] {
             same("row", Err(Refusal::BadEmpty), held.row(empties).map(|_| ()))?;
@@ -540,7 +579,7 @@ fn not_emptied(counts: &mut Counts) -> Tried<()> {
 /// Random words past the count, for every count that leaves places there: row and advance answer as with zeros, and these words come back unchanged.
 fn past_the_count(counts: &mut Counts, count: u32) -> Tried<()> {
     let mut rng = Rng::new(count.into());
-    for rule in 1..=3 {
+    for rule in 1..=LENDING {
         let places: Vec<Place> = (0..count).map(|_| place(&mut rng, rule, 8)).collect();
         let clean = if count % 2 == 0 { run(rule, 8, &places) } else { fenced(rule, 40, 0xff_0f0f_ff0f, &places) };
         let mut littered = clean;
@@ -573,11 +612,18 @@ pub fn all(counts: &mut Counts) -> Vec<(String, Tried<()>)> {
     }
     done.push(("the lowest late position".into(), lateness(counts)));
     for (name, rule, place, reports, phase) in moves() {
-        done.push((format!("{name}, rule {rule}"), a_move(rule, place, reported(reports), phase)));
+        let (task, before) = parts(place);
+        done.push((format!("{name}, rule {rule}"), a_move(rule, task, before, reported(reports), whole(phase))));
     }
     for (name, rule, place, phase) in empty_moves() {
-        done.push((format!("{name}, rule {rule}"), a_move(rule, place, Entry::Advance { reports: 0, empties: 1 }, phase)));
+        let (task, before) = parts(place);
+        done.push((format!("{name}, rule {rule}"), a_move(rule, task, before, Entry::Advance { reports: 0, empties: 1 }, whole(phase))));
     }
+    for (name, period, before, reports, after) in lending::moves() {
+        done.push((format!("{name}, under lending"), a_move(LENDING, [5, 1, 4, 6, period], before, reported(reports), after)));
+    }
+    done.push(("a holder lends".into(), lending::one_lends()));
+    done.push(("two holders lend".into(), lending::two_lend()));
     done.push(("an empty job beside another".into(), emptied()));
     done.push(("what cannot be empty".into(), not_emptied(counts)));
     done.push(("a task taken out".into(), taken_out()));

@@ -101,8 +101,9 @@ fn compare_with_full(firm: bool, lists: &[List]) -> Tried<()> {
     Ok(())
 }
 
-/// The lists of one tick, or as many of them as are compared, each with each: on a firm table a list that has no longer job is behind on none.
-pub fn compare(firm: bool, lists: &[List], counts: &mut Counts) -> Tried<()> {
+/// The lists of one tick, or as many of them as are compared, each with each: on a firm table a list that has no longer job is behind on none, but under lending, where a wider borrower
+/// may crowd out another.
+pub fn compare(firm: bool, lending: bool, lists: &[List], counts: &mut Counts) -> Tried<()> {
     compare_with_full(firm, lists)?;
     let chosen: Vec<&List> = lists.iter().step_by(lists.len().div_ceil(MOST_LISTS).max(1)).collect();
     for a in &chosen {
@@ -112,7 +113,8 @@ pub fn compare(firm: bool, lists: &[List], counts: &mut Counts) -> Tried<()> {
                 continue;
             }
             match a.some(b, Line::behind) {
-                None => counts.abreast += u64::from(firm),
+                None => counts.abreast += u64::from(firm && !lending),
+                Some(_) if lending => counts.crowded += 1,
                 Some(job) if firm => return Err(format!("no job is longer, and one is behind: {}", a.named(b, job))),
                 Some(_) => counts.overtaken += 1,
             }

@@ -5,6 +5,7 @@ mod calls;
 mod empty;
 mod fences;
 mod hand;
+mod lending;
 mod lists;
 mod random;
 mod rng;
@@ -46,6 +47,10 @@ const FEWEST_EMPTY: u64 = 100_000;
 /// At least so many withdrawals are taken.
 const FEWEST_WITHDRAWN: u64 = 10_000;
 
+/// At least so many tables under lending are not refused; so many advances in which somebody borrows are taken, and so many with a borrower reported.
+const FEWEST_LENDING: u64 = 10_000;
+const FEWEST_BORROWED: u64 = 5_000;
+
 /// What was seen, of the library's answers.
 #[derive(Default)]
 pub struct Counts {
@@ -70,13 +75,18 @@ pub struct Counts {
     /// Advances with an empty job that are taken, and withdrawals.
     empty: u64,
     withdrawn: u64,
+    /// Tables under lending that are not refused; advances that are taken in which somebody borrows, and those with a borrower reported.
+    lending: u64,
+    borrowed: u64,
+    borrower_reported: u64,
     runs: u64,
     nodes: u64,
     /// Nodes at which a deadline is missed.
     ends: u64,
-    /// Pairs of lists of which the first has no longer job: on firm tables, where it must be abreast, and on full ones, where it is behind.
+    /// Pairs of lists of which the first has no longer job: on firm tables, where it must be abreast, and on full ones and under lending, where it is behind.
     abreast: u64,
     overtaken: u64,
+    crowded: u64,
     searched: HashSet<Vec<u32>>,
 }
 
@@ -87,17 +97,26 @@ impl Counts {
         }
     }
 
-    /// An entry of a list and its answer.
-    pub fn entered(&mut self, entry: Entry, answer: &Said<()>) {
+    /// An entry of a list, who borrows in its tick, and its answer.
+    pub fn entered(&mut self, entry: Entry, borrowers: u32, answer: &Said<()>) {
         self.answer(answer);
         match entry {
             Entry::Withdraw { .. } => self.withdrawn += u64::from(answer.is_ok()),
-            Entry::Advance { empties, .. } => {
+            Entry::Advance { empties, reports } => {
                 self.advances += 1;
                 self.empty += u64::from(answer.is_ok() && empties != 0);
+                if answer.is_ok() {
+                    self.borrowing(borrowers, reports);
+                }
             }
             other => panic!("no such entry: {other:?}"),
         }
+    }
+
+    /// An advance that is taken: who borrows, and who is reported.
+    pub fn borrowing(&mut self, borrowers: u32, reports: u32) {
+        self.borrowed += u64::from(borrowers != 0);
+        self.borrower_reported += u64::from(borrowers & reports != 0);
     }
 
     pub fn verdict(&mut self, verdict: &Said<Verdict>) {
@@ -151,11 +170,15 @@ impl Counts {
         self.advances += other.advances;
         self.empty += other.empty;
         self.withdrawn += other.withdrawn;
+        self.lending += other.lending;
+        self.borrowed += other.borrowed;
+        self.borrower_reported += other.borrower_reported;
         self.runs += other.runs;
         self.nodes += other.nodes;
         self.ends += other.ends;
         self.abreast += other.abreast;
         self.overtaken += other.overtaken;
+        self.crowded += other.crowded;
         self.searched.extend(other.searched);
     }
 
@@ -231,10 +254,12 @@ fn main() {
             }
         }
     });
-    let Counts { tables, firm, full, miss, fenced, second, alone, plans, replays, late, advances, empty, withdrawn, runs, nodes, ends, abreast, overtaken, .. } = counts;
+    let Counts { tables, firm, full, miss, fenced, second, alone, plans, replays, late, advances, empty, withdrawn, runs, nodes, ends, abreast, overtaken, crowded, .. } = counts;
+    let Counts { lending, borrowed, borrower_reported, .. } = counts;
     println!("attack: {tables} tables (firm {firm}, full {full}, miss {miss}), {plans} plans, {replays} replays ({late} to a missed deadline), {advances} advances ({empty} taken with an empty job), {withdrawn} withdrawals taken, {runs} runs built by hand");
     println!("attack: {} small tables searched, {nodes} nodes ({ends} at a missed deadline)", counts.searched.len());
-    println!("attack: {abreast} pairs of lists of firm tables with no longer job in the first, which is abreast; {overtaken} of full tables, where it is behind");
+    println!("attack: {abreast} pairs of lists of firm tables with no longer job in the first, which is abreast; {overtaken} of full tables, where it is behind, and {crowded} under lending");
+    println!("attack: {lending} of the tables that are not refused are under lending; {borrowed} advances are taken in which somebody borrows, {borrower_reported} with a borrower reported");
     println!("attack: {fenced} of the tables that are not refused have a fence, {second} of them in the second word, {alone} that leaves one core");
     let [pairs_firm, pairs_full, pairs_miss, late_even] = counts.pairs;
     println!("attack: tables with a task of two widths: firm {pairs_firm}, full {pairs_full}, miss {pairs_miss}, {late_even} of them with an even job of such a task");
@@ -252,6 +277,9 @@ fn main() {
             counts.count(if seen >= FEWEST_PAIRS { Ok(()) } else { Err(format!("only {seen} tables with two widths {what}")) });
         }
         counts.count(if empty >= FEWEST_EMPTY { Ok(()) } else { Err(format!("only {empty} advances taken with an empty job")) });
+        for (what, seen, fewest) in [("tables under lending", lending, FEWEST_LENDING), ("advances with a borrower", borrowed, FEWEST_BORROWED), ("advances with a borrower reported", borrower_reported, FEWEST_BORROWED)] {
+            counts.count(if seen >= fewest { Ok(()) } else { Err(format!("only {seen} {what}")) });
+        }
         counts.count(if withdrawn >= FEWEST_WITHDRAWN { Ok(()) } else { Err(format!("only {withdrawn} withdrawals taken")) });
         let searched = counts.searched.len();
         counts.count(if searched >= FEWEST_SEARCHED { Ok(()) } else { Err(format!("only {searched} small tables")) });

@@ -1,6 +1,7 @@
 //! Both verdicts, plan, replay and the run in words beside the simulator, on one random table.
 use crate::book::{self, Cab, Known, Said};
 use crate::calls::{self, reported, same, Kept, Lent, Tried};
+use crate::lending::{IDLING, LENDING};
 use crate::rng::Rng;
 use crate::tables;
 use crate::Counts;
@@ -122,12 +123,13 @@ fn compare_runs(rng: &mut Rng, counts: &mut Counts, words: &[u32], known: &Said<
         }
         let next = begun.as_ref().map_or(reported(at), |cab| entry(rng, cab, often));
         list.push(next);
+        let borrowers = begun.as_ref().map_or(0, |cab| cab.borrowers(next));
         let answer = begun.as_mut().map_or(Err(unmade), |cab| cab.enter(next));
         if let (Ok(cab), Ok(())) = (&begun, answer) {
             held = cab.words(&held);
         }
         let taken = kept.enter(rng, next, answer.map(|()| held)).map_err(|why| format!("entry {at}: {why}"))?;
-        counts.entered(next, &taken);
+        counts.entered(next, borrowers, &taken);
         expected.push(answer);
     }
     if rng.once_in(8) {
@@ -168,6 +170,26 @@ fn compare_unfenced(counts: &mut Counts, words: &[u32], verdict: Said<Verdict>) 
     Ok(())
 }
 
+/// At full length a table under lending has the verdict of the one under idling, and its first rows.
+fn compare_idling(counts: &mut Counts, words: &[u32], known: &Known) -> Tried<()> {
+    if words[2] != LENDING {
+        return Ok(());
+    }
+    counts.lending += 1;
+    let mut idling = words.to_vec();
+    idling[2] = IDLING;
+    same("the verdict under idling", Ok(known.verdict()), sivorandra::judge(&idling))?;
+    let ticks = match known.verdict() {
+        Verdict::Miss { tick, .. } => tick,
+        _ => known.horizon(),
+    };
+    let ticks = ticks.min(20);
+    let (mut rows, mut others) = (vec![1; ticks as usize * known.cores()], vec![2; ticks as usize * known.cores()]);
+    same("the rows", Ok(()), sivorandra::plan(words, 0, ticks, &mut rows))?;
+    same("the rows under idling", Ok(()), sivorandra::plan(&idling, 0, ticks, &mut others))?;
+    same("rows under lending beside those under idling", others, rows)
+}
+
 /// One random table; the error says what differs on what.
 pub fn case(seed: u64, counts: &mut Counts) -> Tried<()> {
     let mut rng = Rng::new(seed);
@@ -188,6 +210,7 @@ fn compare(rng: &mut Rng, counts: &mut Counts, words: &[u32], list: &mut Vec<Ent
     if let Ok(known) = &known {
         counts.pairs(known.pairs(), got);
         compare_unfenced(counts, words, got)?;
+        compare_idling(counts, words, known)?;
     }
     compare_plans(rng, counts, words, &known)?;
     compare_runs(rng, counts, words, &known, list)

@@ -1,6 +1,7 @@
 //! Every way of ending jobs early, of having empty ones and of taking a task out, within the first ticks of a small table, the run kept in words beside the book.
 use crate::book::{self, Cab, Said};
 use crate::calls::{self, same, same_run, Tried};
+use crate::lending::LENDING;
 use crate::lists::{self, List};
 use crate::rng::Rng;
 use crate::tables;
@@ -143,6 +144,9 @@ impl Search {
         if answer.is_err() {
             return same_run("a refused run", run.words(), next.words());
         }
+        if let Entry::Advance { reports, .. } = entry {
+            counts.borrowing(cab.borrowers(entry), reports);
+        }
         self.list.push(entry);
         let mut book = cab.clone();
         same("the book's answer", Ok(()), book.enter(entry))?;
@@ -172,7 +176,7 @@ pub fn case(seed: u64, counts: &mut Counts) -> Tried<()> {
             let visited = search.visit(&run, &cab, List::empty(run.words(), ticks), counts);
             list = search.list;
             visited?;
-            search.lists.iter().try_for_each(|lists| lists::compare(firm, lists, counts))
+            search.lists.iter().try_for_each(|lists| lists::compare(firm, words[2] == LENDING, lists, counts))
         })();
         counts.searched.insert(words.clone());
         return searched.map_err(|why| format!("seed {seed}, small table: {why}\n  table {words:?}\n  list {list:?}"));

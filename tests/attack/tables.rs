@@ -121,7 +121,7 @@ fn spoil(rng: &mut Rng, words: &mut Vec<u32>) {
             words.extend((0..more).map(|_| rng.word()));
         }
         2 => words[1] = rng.pick(&[0, 65, 64, u32::MAX]),
-        3 => words[2] = rng.pick(&[0, 4, 9, u32::MAX]),
+        3 => words[2] = rng.pick(&[0, 5, 9, u32::MAX]),
         4 => words[0] = rng.pick(&[0, 0, 33, records as u32 + 1, u32::MAX]),
         5 => words[record] = rng.from(0, records as u32 + 1),
         6 => words[record] = rng.pick(&[33, u32::MAX, 1 << 31]),
@@ -157,7 +157,7 @@ fn at_the_limit(rng: &mut Rng) -> Vec<u32> {
     // the least common multiple falls short of the limit by the first period; a task of two widths has half of it
     let (first, second) = rng.pick(&[(1_000, 999_999), (31_250, 31_999), (25_000, 39_999), (15_625, 63_999)]);
     let offset = rng.from(first - 1, first + 1);
-    let rule = rng.from(1, 3);
+    let rule = rng.from(1, 4);
     let late = if first % 2 == 0 && rng.once_in(2) { [0, 2, 4, 3, first / 2, rng.pick(&[1, 3])] } else { one([0, 2, 4, 3, first]) };
     linked(rng, 4, rule, &[late, one([offset, 1, 1, 3, second])])
 }
@@ -187,6 +187,18 @@ fn frail(rng: &mut Rng) -> (u32, Vec<Task>) {
     (cores, tasks)
 }
 
+/// Tasks of one period that mostly fit and wait for those above them: where these end early and lend, there is somebody to borrow.
+fn waiting(rng: &mut Rng) -> (u32, Vec<Task>) {
+    let (cores, period, count) = (rng.from(1, 6), rng.pick(&[4, 6, 8, 12]), rng.from(2, 8));
+    let longest = (period / count).max(1);
+    let one = |_| {
+        let every = period * rng.pick(&[1, 1, 1, 2]);
+        let deadline = if rng.once_in(3) { rng.from(every.div_ceil(2), every) } else { every };
+        one([if rng.once_in(4) { rng.from(0, period) } else { 0 }, rng.from(1, cores), rng.from(1, longest.min(deadline)), deadline, every])
+    };
+    (cores, (0..count).map(one).collect())
+}
+
 /// Any table: about one in four has a fault.
 pub fn any(rng: &mut Rng) -> Vec<u32> {
     const SMALL: [u32; 10] = [1, 2, 3, 4, 5, 6, 8, 10, 12, 15];
@@ -198,12 +210,13 @@ pub fn any(rng: &mut Rng) -> Vec<u32> {
             let cores = rng.pick(&[8, 16, 33, 63, 64]);
             (cores, tasks(rng, 32, (cores / 4).max(1), &[8, 12, 16, 24, 48], 4))
         }
-        90..=249 => frail(rng),
-        250..=499 => {
+        90..=199 => frail(rng),
+        200..=349 => waiting(rng),
+        350..=549 => {
             let cores = rng.pick(&[1, 2, 3, 4, 8]);
             (cores, tasks(rng, 8, cores, &[4, 6, 8, 12, 24], 3))
         }
-        500..=749 => {
+        550..=774 => {
             let cores = rng.from(1, 4);
             (cores, tasks(rng, 4, cores, &SMALL, 2))
         }
@@ -212,7 +225,7 @@ pub fn any(rng: &mut Rng) -> Vec<u32> {
             (cores, tasks(rng, 6, cores, &SMALL, 1))
         }
     };
-    let rule = rng.pick(&[1, 1, 2, 3]);
+    let rule = rng.pick(&[1, 1, 2, 3, 4, 4]);
     let mut words = words(rng, cores, rule, tasks);
     if rng.once_in(4) {
         spoil(rng, &mut words);
@@ -227,6 +240,10 @@ pub fn any(rng: &mut Rng) -> Vec<u32> {
 pub fn small(rng: &mut Rng) -> Vec<u32> {
     let (cores, tasks) = if rng.once_in(2) {
         frail(rng)
+    } else if rng.once_in(3) {
+        let (cores, mut tasks) = waiting(rng);
+        tasks.truncate(4);
+        (cores, tasks)
     } else {
         let (cores, count) = (rng.from(1, 3), rng.from(1, 4));
         let one = |_| {
@@ -236,6 +253,6 @@ pub fn small(rng: &mut Rng) -> Vec<u32> {
         };
         (cores, (0..count).map(one).collect())
     };
-    let rule = rng.from(1, 3);
+    let rule = rng.from(1, 4);
     words(rng, cores, rule, tasks)
 }

@@ -78,13 +78,15 @@ fn one_run(name: &str, said: fn(&[u8]) -> Tried<String>) -> Tried<()> {
     same(&format!("for {:?}", String::from_utf8_lossy(&text)), String::from_utf8_lossy(&expected), said(&text)?.into())
 }
 
-/// Example B with its report, that the job of position 1 ends after tick 0 (figure 2, right side), and with an empty job there, and B3 with the same, through replay.
+/// Example B with its report, that the job of position 1 ends after tick 0 (figure 2, right side), and with an empty job there, B3 with the same, and figure 3 of Goossens and Berten,
+/// limited slack reclaiming, with its report (right side), with an empty job there, with a borrower reported and with the holder, which is refused, through replay.
 fn examples() -> Vec<(String, Tried<()>)> {
-    let row = |positions: [u8; 2]| {
+    let row_of = |positions: &[u8]| {
         let mut bytes = [0; ROW_BYTES];
-        bytes[..2].copy_from_slice(&positions);
+        bytes[..positions.len()].copy_from_slice(positions);
         Ok(bytes)
     };
+    let (row, three) = (|positions: [u8; 2]| row_of(&positions), |positions: [u8; 3]| row_of(&positions));
     let late = Err(Refusal::Late { position: 3 });
     let empty = Entry::Advance { reports: 0, empties: 1 };
     let cases = [
@@ -98,6 +100,14 @@ fn examples() -> Vec<(String, Tried<()>)> {
         ("b3-idling-is-firm", vec![reported(1), reported(0), reported(0)], row([2, 2])),
         ("b3-idling-is-firm", vec![empty], row([1, 3])),
         ("b3-idling-is-firm", vec![empty, reported(0), reported(0)], row([2, 2])),
+        ("lending-figure-3", vec![], three([1, 1, 3])),
+        ("lending-figure-3", vec![reported(1)], three([4, 6, 3])),
+        ("lending-figure-3", vec![reported(1), reported(0)], three([5, 5, 4])),
+        ("lending-figure-3", vec![reported(1), reported(0), reported(0)], three([2, 2, 2])),
+        ("lending-figure-3", vec![reported(1), reported(0), reported(0), reported(0)], three([4, 5, 5])),
+        ("lending-figure-3", vec![reported(1), reported(0), reported(0), reported(0), reported(0)], three([5, 5, 6])),
+        ("lending-figure-3", vec![reported(1), reported(8)], three([5, 5, 4])),
+        ("lending-figure-3", vec![empty], three([4, 1, 3])),
     ];
     let one = |table: &str, list: &[Entry], last: Result<[u8; ROW_BYTES], Refusal>| {
         let text = fs::read(format!("tables/{table}.txt")).map_err(|why| why.to_string())?;

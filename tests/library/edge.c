@@ -1,12 +1,12 @@
 /* Hostile calls of the library from C, each beside what the header says of it: NULL with length 0, lengths around every limit,
-   counts and words of all ones, fences, odd and even jobs, empty jobs, withdrawn positions, lists that are none, anything past the count. Every slice lies between guards, which must stay.
+   counts and words of all ones, fences, odd and even jobs, empty jobs, lent cores, withdrawn positions, lists that are none, anything past the count. Every slice lies between guards, which must stay.
    Prints each call that differs; the last line is 'N calls, M wrong'. */
 #include <stdio.h>
 #include <string.h>
 #include "sivorandra.h"
 
 enum { RUN = SIVORANDRA_RUN_WORDS, ROW = SIVORANDRA_ROW_BYTES, HEAD = SIVORANDRA_RUN_HEAD_WORDS, PLACE = SIVORANDRA_RUN_PLACE_WORDS };
-enum { GUARD = 8, MOST = 360, PARITY = HEAD + 6, KIND = PARITY + 1, TABLE = 26, USED = HEAD + PLACE * 3 };
+enum { GUARD = 8, MOST = 384, PARITY = HEAD + 6, KIND = PARITY + 1, TABLE = 26, USED = HEAD + PLACE * 3 };
 static const uint32_t ONES = 0xffffffffu;
 
 /* head, cores, rule, two words of fenced cores; then for each record: next, offset, width, length, deadline, period, width of even jobs */
@@ -314,7 +314,7 @@ static void bounds(void)
 /* The lengths of the slices that a call writes to. */
 static void lengths(void)
 {
-    static const size_t lens[] = { 0, 1, 2, 3, 4, 5, 63, 64, 65, 262, 324, 325, 326, 327 };
+    static const size_t lens[] = { 0, 1, 2, 3, 4, 5, 63, 64, 65, 262, 326, 356, 357, 358, 359 };
     uint32_t first[RUN], next[RUN];
     uint32_t three[3];
     sivorandra_start(full, TABLE, first, RUN, three, 3);
@@ -351,9 +351,9 @@ static void lengths(void)
 static void built(void)
 {
     static const uint32_t faults[][2] = {
-        { 0, 0 }, { 0, 4 }, { 0, 0xffffffffu }, { 1, 0 }, { 1, 65 }, { 1, 0xffffffffu }, { 2, 0 }, { 2, 4 }, { 2, 33 }, { 2, 0xffffffffu },
+        { 0, 0 }, { 0, 5 }, { 0, 0xffffffffu }, { 1, 0 }, { 1, 65 }, { 1, 0xffffffffu }, { 2, 0 }, { 2, 4 }, { 2, 33 }, { 2, 0xffffffffu },
         { 3, 8 }, { 3, 7 }, { 3, 15 }, { 3, 6 }, { 3, 0xffffffffu }, { 4, 1 }, { 4, 0xffffffffu }, { 5, 8 }, { 5, 9 }, { 5, 0x80000000u }, { 5, 0xffffffffu },
-        { PARITY - 1, 0 }, { PARITY - 1, 4 }, { PARITY - 1, 0xffffffffu }, { PARITY, 2 }, { PARITY, 3 }, { PARITY, 0xffffffffu }, { KIND, 2 }, { KIND, 4 }, { KIND, 0xffffffffu }, { KIND + 1, 0xffffffffu }, { KIND + 2, 0xffffffffu },
+        { PARITY - 1, 0 }, { PARITY - 1, 4 }, { PARITY - 1, 0xffffffffu }, { PARITY, 2 }, { PARITY, 3 }, { PARITY, 0xffffffffu }, { KIND, 2 }, { KIND, 4 }, { KIND, 0xffffffffu }, { KIND + 1, 0xffffffffu }, { KIND + 2, 0xffffffffu }, { KIND + 3, 1 }, { KIND + 3, 0xffffffffu },
     };
     for (size_t i = 0; i < sizeof faults / sizeof faults[0]; i++) {
         fresh(), set(faults[i][0], 1, faults[i][1]), refused(14), row_bytes(NULL, 0), expect("row: a fault", 0, shown());
@@ -482,7 +482,7 @@ static void empty_jobs(void)
         fresh(), answered(0, 0, 0), memcpy(next, run.now + GUARD, sizeof next);
         for (uint32_t p = 0; p < 3; p++) {
             int in = of[set][0] == p + 1 || of[set][2] == p + 1, empty = set >> p & 1;
-            uint32_t phase[3] = { empty ? 3 : 1, 1, in };
+            uint32_t phase[4] = { empty ? 3 : 1, 1, in, in };
             memcpy(next + KIND + PLACE * p, phase, sizeof phase);
         }
         run_words(next, RUN), expect("advance: every set of empty jobs", 0, advance_with(0, set));
@@ -492,13 +492,56 @@ static void empty_jobs(void)
         fresh(), refused(20), expect("advance: empty past the count", 0, advance_with(0, past[i]));
         fresh(), refused(20), expect("advance: 20 before 16", 0, advance_with(ONES, past[i]));
         fresh(), set(KIND + 1, 1, 5), answered(SIVORANDRA_REFUSED, 15, 1), row_bytes(NULL, 0), expect("row: 15 before 20", 0, shown_with(past[i]));
-        fresh(), set(0, 1, 4), refused(14), expect("advance: 14 before 20", 0, advance_with(0, past[i]));
+        fresh(), set(0, 1, 5), refused(14), expect("advance: 14 before 20", 0, advance_with(0, past[i]));
     }
     fresh(), memcpy(next, run.now + GUARD, sizeof next), sivorandra_advance(next, RUN, 0, 1, three, 3);
     for (uint32_t set = 1; set < 8; set++) {
         fresh(), words(&run, RUN, next, RUN), refused(20), row_bytes(NULL, 0), expect("row: released a tick ago", 0, shown_with(set));
         fresh(), words(&run, RUN, next, RUN), refused(20), expect("advance: released a tick ago", 0, advance_with(0, set));
     }
+}
+
+/* Under lending position 1, two cores wide, ends after tick 0: position 2 borrows a core in tick 1, has one of its own in tick 2, and holds it in tick 3. Its row and its words in
+   each of five ticks, the reports that are turned down there, and phases that are none. */
+static void lending(void)
+{
+    enum { TWO = 19, TICKS = 5, SECOND = KIND + PLACE };
+    static const uint32_t table[TWO] = { 1, 2, SIVORANDRA_LENDING, 0, 0, 2, 0, 2, 2, 4, 4, 2, 0, 0, 1, 2, 4, 4, 1 };
+    static const struct { uint32_t first[5], second[5], reportable; uint8_t row[2]; } stands[TICKS] = { /* parity, kind, three numbers */
+        { { 0, 1, 0, 0, 0 }, { 0, 1, 0, 0, 0 }, 1, { 1, 1 } }, { { 0, 2, 1, 1, 0 }, { 0, 1, 1, 0, 0 }, 2, { 2, 1 } }, { { 0, 3, 2, 0, 0 }, { 0, 1, 2, 1, 0 }, 2, { 2, 0 } },
+        { { 0, 3, 3, 0, 0 }, { 0, 2, 3, 1, 0 }, 0, { 2, 0 } }, { { 1, 1, 0, 0, 0 }, { 1, 1, 0, 0, 0 }, 1, { 1, 1 } },
+    };
+    uint32_t at[TICKS][RUN], three[3];
+    for (size_t tick = 0; tick < TICKS; tick++) {
+        sivorandra_start(table, TWO, at[tick], RUN, three, 3);
+        memcpy(at[tick] + PARITY, stands[tick].first, sizeof stands[tick].first), memcpy(at[tick] + PARITY + PLACE, stands[tick].second, sizeof stands[tick].second);
+    }
+    fresh(), answered(SIVORANDRA_FIRM, 0, 4), expect("judge: lending", 0, judge(table, TWO));
+    fresh(), answered(0, 0, 0), run_words(at[0], RUN), expect("start: lending", 0, start(table, TWO));
+    for (size_t tick = 0; tick < TICKS; tick++) {
+        fresh(), words(&run, RUN, at[tick], RUN), answered(0, 0, 0), row_bytes(stands[tick].row, 2), expect("row: the borrower on a lent core", 0, shown());
+        if (tick + 1 < TICKS)
+            fresh(), words(&run, RUN, at[tick], RUN), answered(0, 0, 0), run_words(at[tick + 1], RUN), expect("advance: ticks had and reserved", 0, advance(tick == 0));
+        for (uint32_t reports = 1; reports < 4; reports++)
+            if (reports & ~stands[tick].reportable)
+                fresh(), words(&run, RUN, at[tick], RUN), refused(16), expect("advance: a report of one that lends, holds, rests or waits", 0, advance(reports));
+    }
+    static const uint32_t ended[4] = { 2, 2, 0, 0 };
+    uint32_t next[RUN];
+    memcpy(next, at[2], sizeof next), memcpy(next + SECOND, ended, sizeof ended);
+    fresh(), words(&run, RUN, at[1], RUN), answered(0, 0, 0), run_words(next, RUN), expect("advance: a report of the borrower", 0, advance(2));
+    for (uint32_t rule = SIVORANDRA_GREEDY; rule < SIVORANDRA_LENDING; rule++)
+        fresh(), words(&run, RUN, at[2], RUN), set(0, 1, rule), refused(14), row_bytes(NULL, 0), expect("row: more ticks had than reserved", 0, shown());
+    fresh(), words(&run, RUN, at[2], RUN), set(SECOND + 3, 1, 1), answered(0, 0, 0), row_bytes(stands[2].row, 2), expect("row: as many ticks had as reserved", 0, shown());
+    fresh(), words(&run, RUN, at[2], RUN), set(SECOND + 3, 1, 2), refused(14), row_bytes(NULL, 0), expect("row: fewer ticks had than reserved", 0, shown());
+    for (size_t tick = 1; tick < 4; tick++) /* Holding, Resting and Resting */
+        for (uint32_t word = 1; word < 4; word++) {
+            fresh(), words(&run, RUN, at[tick], RUN), set(KIND + 3, 1, word == 3 ? ONES : word), refused(14), row_bytes(NULL, 0), expect("row: a third number of a phase without one", 0, shown());
+            fresh(), words(&run, RUN, at[tick], RUN), set(KIND + 3, 1, word == 3 ? ONES : word), refused(14), expect("advance: a third number of a phase without one", 0, advance(0));
+        }
+    fresh(), words(&run, RUN, at[2], RUN), set(KIND + 2, 1, 1), refused(14), row_bytes(NULL, 0), expect("row: a second number of a phase without one", 0, shown());
+    static const uint32_t entries[6] = { 0, 1, 0, 0, 2, 0 };
+    fresh(), answered(0, 0, 0), row_bytes(stands[2].row, 2), numbers.want[GUARD] = numbers.want[GUARD + 1] = 0, expect("replay: lending", 0, replay(table, TWO, entries, 6));
 }
 
 /* Positions withdrawn from the run of `full` under idling, in its first tick and in its second; what is refused; and the set built by hand. */
@@ -577,7 +620,7 @@ static void lists(void)
 
 int main(void)
 {
-    nulls(), sentences(), tables(), horizons(), bounds(), lengths(), built(), fences(), parities(), empty_jobs(), withdrawals(), lists(), longest_answers();
+    nulls(), sentences(), tables(), horizons(), bounds(), lengths(), built(), fences(), parities(), empty_jobs(), lending(), withdrawals(), lists(), longest_answers();
     printf("%u calls, %u wrong\n", calls, wrong);
     return wrong != 0;
 }

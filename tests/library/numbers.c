@@ -88,6 +88,9 @@ static void numbers(void)
     fresh(2), table[RECORD + W] = 2, start(), expect("greedy and no width above the next", withdraw(1), PASSES, 0);
     fresh(2), table[V] = 2, table[RULE] = SIVORANDRA_LIMITED, start(), expect("the same under limited", withdraw(1), PASSES, 0);
     fresh(2), table[V] = 2, table[RULE] = SIVORANDRA_IDLING, start(), expect("the same under idling", withdraw(1), PASSES, 0);
+    fresh(2), table[V] = 2, table[RULE] = SIVORANDRA_LENDING, start(), expect("the same under lending", withdraw(1), PASSES, 0);
+    expect("a report on the withdrawn task, which lends", advance(1, 0), SIVORANDRA_BAD_REPORT, 0);
+    expect("a report on the task that borrows", advance(2, 0), PASSES, 0);
     with(C, 6), start(), expect("no run to withdraw from", withdraw(1), SIVORANDRA_NOT_A_RUN, 0);
     fresh(1), expect("no miss", sentence(sizeof rows), SIVORANDRA_NO_MISS, 0);
     with(C, 6), expect("a short buffer", sentence(1), SIVORANDRA_SHORT_BUFFER, 0);
@@ -114,7 +117,8 @@ static void limits(void)
     with(CORES, SIVORANDRA_MOST_CORES + 1), expect("a core more", judge(), SIVORANDRA_BAD_CORES, 0);
     with(RULE, SIVORANDRA_LIMITED), expect("limited", judge(), PASSES, 0);
     with(RULE, SIVORANDRA_IDLING), expect("idling", judge(), PASSES, 0);
-    with(RULE, SIVORANDRA_IDLING + 1), expect("a rule more", judge(), SIVORANDRA_BAD_RULE, 0);
+    with(RULE, SIVORANDRA_LENDING), expect("lending", judge(), PASSES, 0);
+    with(RULE, SIVORANDRA_LENDING + 1), expect("a rule more", judge(), SIVORANDRA_BAD_RULE, 0);
     with(O, SIVORANDRA_MOST_OFFSET), expect("the largest O", judge(), PASSES, 0);
     with(O, SIVORANDRA_MOST_OFFSET + 1), expect("O", judge(), SIVORANDRA_BAD_TIME, 1);
     with(C, SIVORANDRA_MOST_LENGTH), expect("the largest C", judge(), PASSES, 0);

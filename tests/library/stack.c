@@ -105,7 +105,7 @@ int main(void)
         return 1;
     stack = place;
     for (size_t i = 0; i < sizeof times / sizeof times[0]; i++)
-        for (uint32_t rule = 1; rule <= 3; rule++)
+        for (uint32_t rule = SIVORANDRA_GREEDY; rule <= SIVORANDRA_LENDING; rule++)
             for (uint32_t fence = 0; fence < 3; fence++)
                 make(rule, times[i].c, times[i].d, times[i].t, fence ? 0xffffffffu >> (fence - 1) : 0), look();
     for (words = 0; words < TABLE; words += 7)

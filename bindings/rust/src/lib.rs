@@ -29,7 +29,7 @@ pub use refusal::Refusal;
 use std::fmt;
 
 /// The version that these bindings are for: major * 10000 + minor * 100 + patch. `version` is that of the library that is linked.
-pub const VERSION: u32 = 1000;
+pub const VERSION: u32 = 1100;
 
 /// The most tasks on a chain, and the most records of a table.
 pub const MOST_TASKS: usize = 32;
@@ -50,6 +50,21 @@ pub const GREEDY: u32 = 1;
 pub const LIMITED: u32 = 2;
 /// The rule that is greedy, but a job that ended early still claims its cores until it has claimed C ticks or is due.
 pub const IDLING: u32 = 3;
+/// The rule that reserves cores as idling gives them, and a job that ended early, or is empty, lends those that are reserved for it: of the tasks below, in order, each that works,
+/// has none reserved and has borrowed none in this tick takes the lowest of them that are not lent yet, if its width fits in these.
+///
+/// ```
+/// use sivorandra::{Refusal, Run, LENDING};
+///
+/// // two cores wanted at position 1, one at position 2
+/// let mut run = Run::start(&[1, 2, LENDING, 0, 0, 2, 0, 2, 2, 4, 4, 2, 0, 0, 1, 2, 4, 4, 1])?;
+/// run.advance(1, 0)?; // position 1 has ended, and a tick more is reserved for it
+/// assert_eq!(run.row(0)?[..run.cores()], [2, 1]); // position 2 borrows one core of two
+/// assert_eq!(run.advance(1, 0), Err(Refusal::BadReport)); // who lends does not work
+/// run.advance(2, 0)?; // who borrows does
+/// # Ok::<(), Refusal>(())
+/// ```
+pub const LENDING: u32 = 4;
 
 /// The words of a table in front of its records: head, cores, rule, and the fence, the set of cores that no task has, its low word first:
 /// bit c of the low word is core c, bit c of the high word core 32 + c.
@@ -73,13 +88,15 @@ pub const TABLE_WORDS: usize = TABLE_HEAD_WORDS + TABLE_RECORD_WORDS * MOST_TASK
 
 /// The words of a run in front of its places: rule, cores, count, the fence, its low word first, and the set of withdrawn positions.
 pub const RUN_HEAD_WORDS: usize = 6;
-/// The words of a place: O, v, C, D, T, w, the parity of its job (0 odd, 1 even; it changes at each release but the first), the kind of its phase (0 Coming, 1 Working, 2 Holding,
-/// 3 Resting) and its two numbers, 0 for one that it does not have.
-pub const RUN_PLACE_WORDS: usize = 10;
+/// The words of a place: O, v, C, D, T, w, the parity of its job (0 odd, 1 even; it changes at each release but the first), the kind of its phase and three numbers, 0 for one that it
+/// does not have. 0 Coming: the ticks left to its first release. 1 Working: the ticks since its release, those that its job has had, and those reserved for it; the last two are equal
+/// but under lending, where a lent tick is had and not reserved. 2 Holding, under idling and lending: the ticks since its release, and those reserved. 3 Resting: the ticks since its
+/// release.
+pub const RUN_PLACE_WORDS: usize = 11;
 /// The words that a run takes: it has 32 places, of which the first count are used.
 pub const RUN_WORDS: usize = RUN_HEAD_WORDS + RUN_PLACE_WORDS * MOST_TASKS;
 
-/// The bytes of a run's row: core 0 first, the position, 0 for idle, or `FENCED`.
+/// The bytes of a run's row: core 0 first, the position, which is the borrower's on a lent core, 0 for idle, or `FENCED`.
 pub const ROW_BYTES: usize = MOST_CORES;
 /// What a row has on a fenced core.
 pub const FENCED: u8 = 255;
@@ -299,7 +316,7 @@ pub fn version() -> u32 {
 /// assert_eq!(judge(&table), Ok(Verdict::Full { start: 0, period: 5 }));
 /// table[2] = sivorandra::LIMITED;
 /// assert_eq!(judge(&table), Ok(Verdict::Miss { tick: 5, position: 3 }));
-/// table[2] = 4;
+/// table[2] = 5;
 /// assert_eq!(judge(&table), Err(Refusal::BadRule));
 /// ```
 pub fn judge(words: &[u32]) -> Result<Verdict, Refusal> {

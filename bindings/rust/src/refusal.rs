@@ -20,7 +20,7 @@ pub enum Refusal {
     NotATable,
     /// 2: the core count is not 1 to 64.
     BadCores,
-    /// 3: the rule is not 1, 2 or 3.
+    /// 3: the rule is not 1 to 4.
     BadRule,
     /// 4: the head is zero.
     NoHead,
@@ -55,7 +55,7 @@ pub enum Refusal {
         /// The position, from 1.
         position: u32,
     },
-    /// 16, of an advance: a report for a position past the count, or for a task that is not working or has no cores in this tick.
+    /// 16, of an advance: a report for a position past the count, or for a task that is not working or has no cores, its own or lent, in this tick.
     BadReport,
     /// 17, of a sentence: the table has no miss.
     NoMiss,
@@ -171,7 +171,7 @@ impl fmt::Display for Refusal {
         match *self {
             Refusal::NotATable => write!(out, "fewer than 5 words, the rest no whole records of seven, or more than 32 records"),
             Refusal::BadCores => write!(out, "the core count is not 1 to 64"),
-            Refusal::BadRule => write!(out, "the rule is not 1, 2 or 3"),
+            Refusal::BadRule => write!(out, "the rule is not 1 to 4"),
             Refusal::NoHead => write!(out, "the head is zero"),
             Refusal::NoRecord => write!(out, "along the chain a number past the last record is met"),
             Refusal::RecordAgain => write!(out, "along the chain a record is met again"),
@@ -184,7 +184,7 @@ impl fmt::Display for Refusal {
             Refusal::TableMisses => write!(out, "the table misses a deadline, and is not started"),
             Refusal::NotARun => write!(out, "this is no run"),
             Refusal::Late { position } => write!(out, "position {position} has not ended its job at its deadline"),
-            Refusal::BadReport => write!(out, "a report for a position past the count, or for a task that is not working or has no cores in this tick"),
+            Refusal::BadReport => write!(out, "a report for a position past the count, or for a task that is not working or has no cores, its own or lent, in this tick"),
             Refusal::NoMiss => write!(out, "the table has no miss"),
             Refusal::ShortBuffer => write!(out, "the buffer is shorter than the sentence"),
             Refusal::BadFence => write!(out, "the fence names a core past the count, or all cores"),

@@ -27,7 +27,7 @@ four = record {
   count = 4;
   tasks =
       task 11 12 13 14 15 16 false (Coming 17)
-      ∷ (task 21 22 23 24 25 26 true (Working 27 28)
+      ∷ (task 21 22 23 24 25 26 true (Working 27 28 29)
       ∷ (task 31 32 33 34 35 36 false (Holding 37 38)
       ∷ (task 41 42 43 44 45 46 true (Resting 47) ∷ replicate 28 unused)));
 }
@@ -35,10 +35,10 @@ four = record {
 abbrev four-words : List ℕ
 four-words =
     1 ∷ (2 ∷ (4 ∷ (3 ∷ (4 ∷ (5
-    ∷ (11 ∷ (12 ∷ (13 ∷ (14 ∷ (15 ∷ (16 ∷ (0 ∷ (0 ∷ (17 ∷ (0
-    ∷ (21 ∷ (22 ∷ (23 ∷ (24 ∷ (25 ∷ (26 ∷ (1 ∷ (1 ∷ (27 ∷ (28
-    ∷ (31 ∷ (32 ∷ (33 ∷ (34 ∷ (35 ∷ (36 ∷ (0 ∷ (2 ∷ (37 ∷ (38
-    ∷ (41 ∷ (42 ∷ (43 ∷ (44 ∷ (45 ∷ (46 ∷ (1 ∷ (3 ∷ (47 ∷ (0 ∷ [])))))))))))))))))))))))))))))))))))))))))))))
+    ∷ (11 ∷ (12 ∷ (13 ∷ (14 ∷ (15 ∷ (16 ∷ (0 ∷ (0 ∷ (17 ∷ (0 ∷ (0
+    ∷ (21 ∷ (22 ∷ (23 ∷ (24 ∷ (25 ∷ (26 ∷ (1 ∷ (1 ∷ (27 ∷ (28 ∷ (29
+    ∷ (31 ∷ (32 ∷ (33 ∷ (34 ∷ (35 ∷ (36 ∷ (0 ∷ (2 ∷ (37 ∷ (38 ∷ (0
+    ∷ (41 ∷ (42 ∷ (43 ∷ (44 ∷ (45 ∷ (46 ∷ (1 ∷ (3 ∷ (47 ∷ (0 ∷ (0 ∷ [])))))))))))))))))))))))))))))))))))))))))))))))))
 
 -- all ones
 abbrev ones : ℕ
@@ -49,7 +49,7 @@ unfolding encodeTo placesWords
 layout = refl
 
 -- an unused place is zeros and Resting(0)
-pub unused-layout : placesWords (unused ∷ []) ≡ 0 ∷ (0 ∷ (0 ∷ (0 ∷ (0 ∷ (0 ∷ (0 ∷ (3 ∷ (0 ∷ (0 ∷ [])))))))))
+pub unused-layout : placesWords (unused ∷ []) ≡ 0 ∷ (0 ∷ (0 ∷ (0 ∷ (0 ∷ (0 ∷ (0 ∷ (3 ∷ (0 ∷ (0 ∷ (0 ∷ []))))))))))
 unfolding placesWords
 unused-layout = refl
 
@@ -61,36 +61,71 @@ all-fenced = refl
 -- the run of a refused start: zeros, and Resting(0) in every place
 abbrev unused-words : ℕ → List ℕ
 unused-words zero = []
-unused-words (suc n) = 0 ∷ (0 ∷ (0 ∷ (0 ∷ (0 ∷ (0 ∷ (0 ∷ (3 ∷ (0 ∷ (0 ∷ unused-words n)))))))))
+unused-words (suc n) = 0 ∷ (0 ∷ (0 ∷ (0 ∷ (0 ∷ (0 ∷ (0 ∷ (3 ∷ (0 ∷ (0 ∷ (0 ∷ unused-words n))))))))))
 
 pub refused-layout : encode emptyRun ≡ 0 ∷ (0 ∷ (0 ∷ (0 ∷ (0 ∷ (0 ∷ unused-words 32)))))
 unfolding encodeTo placesWords
 refused-layout = refl
 
 -- all ones past the count are not read
-pub ones-past : decode (four-words ++ replicate 280 ones) ≡ run four
+pub ones-past : decode (four-words ++ replicate 308 ones) ≡ run four
 unfolding holds arePlaces runIn placesIn
 ones-past = refl
 
 -- one word less is no run
-pub one-short : decode (four-words ++ replicate 279 ones) ≡ none
+pub one-short : decode (four-words ++ replicate 307 ones) ≡ none
 unfolding holds
 one-short = refl
 
 -- all ones below the count are no run
-pub ones-below : decode (1 ∷ (2 ∷ (1 ∷ (0 ∷ (0 ∷ (0 ∷ replicate 320 ones)))))) ≡ none
+pub ones-below : decode (1 ∷ (2 ∷ (1 ∷ (0 ∷ (0 ∷ (0 ∷ replicate 352 ones)))))) ≡ none
 unfolding holds arePlaces
 ones-below = refl
 
--- one task of width 1 with this word for its job's parity
-abbrev with-parity : ℕ → List ℕ
-with-parity n = 1 ∷ (1 ∷ (1 ∷ (0 ∷ (0 ∷ (0 ∷ (0 ∷ (1 ∷ (1 ∷ (1 ∷ (1 ∷ (1 ∷ (n ∷ (1 ∷ (0 ∷ (0 ∷ replicate 310 ones)))))))))))))))
+-- one task of width 1 with these words for its job's parity and for its phase
+abbrev one : ℕ → ℕ → ℕ → ℕ → ℕ → List ℕ
+one n k a b c = 1 ∷ (1 ∷ (1 ∷ (0 ∷ (0 ∷ (0 ∷ (0 ∷ (1 ∷ (1 ∷ (1 ∷ (1 ∷ (1 ∷ (n ∷ (k ∷ (a ∷ (b ∷ (c ∷ replicate 341 ones))))))))))))))))
 
 -- a parity is 0 or 1
-pub even-held : runIn (with-parity 1) .tasks ≡ task 0 1 1 1 1 1 true (Working 0 0) ∷ replicate 31 unused
+pub even-held : runIn (one 1 1 0 0 0) .tasks ≡ task 0 1 1 1 1 1 true (Working 0 0 0) ∷ replicate 31 unused
 unfolding runIn placesIn
 even-held = refl
 
-pub no-parity : decode (with-parity 2) ≡ none
+pub no-parity : decode (one 2 1 0 0 0) ≡ none
 unfolding holds arePlaces
 no-parity = refl
+
+-- the third number is Working's alone ..
+pub third-held : runIn (one 0 1 5 6 7) .tasks ≡ task 0 1 1 1 1 1 false (Working 5 6 7) ∷ replicate 31 unused
+unfolding runIn placesIn
+third-held = refl
+
+pub coming-third : decode (one 0 0 5 0 1) ≡ none
+unfolding holds arePlaces
+coming-third = refl
+
+pub holding-third : decode (one 0 2 5 6 1) ≡ none
+unfolding holds arePlaces
+holding-third = refl
+
+pub resting-third : decode (one 0 3 5 0 1) ≡ none
+unfolding holds arePlaces
+resting-third = refl
+
+-- .. and the second is Holding's too
+pub second-held : runIn (one 0 2 5 6 0) .tasks ≡ task 0 1 1 1 1 1 false (Holding 5 6) ∷ replicate 31 unused
+unfolding runIn placesIn
+second-held = refl
+
+pub coming-second : decode (one 0 0 5 6 0) ≡ none
+unfolding holds arePlaces
+coming-second = refl
+
+pub resting-second : decode (one 0 3 5 6 0) ≡ none
+unfolding holds arePlaces
+resting-second = refl
+
+-- no kind is above 3
+pub no-kind : decode (one 0 4 5 0 0) ≡ none
+unfolding holds arePlaces
+no-kind = refl

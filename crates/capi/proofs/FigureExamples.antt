@@ -4,12 +4,7 @@ use mathlib.Core.Path.{_≡_, refl}
 use mathlib.Core.List.{List, [], _∷_, _++_}
 use Prim.Native.Nat.{ℕ}
 use lib.ListN.{replicate}
-use Rattle.model.specs.Book.{claims, full, served, step, work}
-use Rattle.model.specs.Grants.{claimants, given, grants, left}
-use Rattle.model.specs.Horizon.{S, horizon, hyperperiod, lcm}
-use Rattle.model.specs.Search.{any, kept, least, memb, upFrom}
-use Rattle.model.specs.Firm.{firm, rising}
-use Rattle.model.specs.Verdict.{firstMiss, missedAt, missedIn, verdict}
+use Rattle.model.proofs.Computing.{computing}
 use Rattle.table.proofs.Examples.{wordsA}
 use Rattle.table.specs.Answer.{answerOf, byHorizon, byTasks, byWalk, endingOf, firstOut, headerNumber, lastStep}
 use Rattle.table.specs.Words.{chain, count, met, tableOf}
@@ -27,13 +22,13 @@ abbrev wordsF : List ℕ
 wordsF = 1 ∷ 1 ∷ 1 ∷ 0 ∷ 0 ∷ 0 ∷ 0 ∷ 1 ∷ 2 ∷ 1 ∷ 2 ∷ 1 ∷ []
 
 pub figures-left : longestCall wordsA (lent 33) (lent 4) ≡ calls.left 0 ((2 ∷ 5 ∷ 4 ∷ (replicate 29 0 ++ lent 1)) ∷ (0 ∷ 0 ∷ 0 ∷ lent 1) ∷ [])
-unfolding longestCall longestOf figuresIn longestBy greatest responseTime verdictOf verdict firstMiss missedIn missedAt firm rising answerOf byWalk byTasks byHorizon firstOut endingOf
-    lastStep headerNumber tableOf chain count met horizon S hyperperiod lcm least any memb upFrom kept given left grants claimants claims served work step full
+unfolding computing longestCall longestOf figuresIn longestBy greatest responseTime verdictOf answerOf byWalk byTasks byHorizon firstOut endingOf lastStep
+    headerNumber tableOf chain count met
 figures-left = refl
 
 pub miss-left : longestCall wordsF (lent 33) (lent 4) ≡ calls.left 0 ((replicate 32 0 ++ lent 1) ∷ (3 ∷ 13 ∷ 0 ∷ lent 1) ∷ [])
-unfolding longestCall longestOf figuresIn longestBy greatest responseTime verdictOf verdict firstMiss missedIn missedAt firm rising answerOf byWalk byTasks byHorizon firstOut endingOf
-    lastStep headerNumber tableOf chain count met horizon S hyperperiod lcm least any memb upFrom kept given left grants claimants claims served work step full
+unfolding computing longestCall longestOf figuresIn longestBy greatest responseTime verdictOf answerOf byWalk byTasks byHorizon firstOut endingOf lastStep
+    headerNumber tableOf chain count met
 miss-left = refl
 
 pub figures-too-few : longestCall wordsA (lent 31) (lent 3) ≡ calls.left 1 (lent 31 ∷ lent 3 ∷ [])

@@ -9,7 +9,7 @@ use native.Mathlib.Nat.{not-suc-le-zero, le-of-suc-le-suc}
 use native.Mathlib.Omega.{arith}
 use lib.ListN.{length, getD, drop}
 use lib.Seq.{drop-drop}
-use lib.Dec.{leb, ltb}
+use lib.Dec.{leb, ltb, eqb}
 use borrow.Author.Tests.{leb-true, leb-false, lt-leb, eqb-false, ne-eqb}
 use Rattle.run.specs.declared.Answer.{Answer}
 use Rattle.run.specs.declared.Answer.the-variants.{Taken, Refused}
@@ -20,7 +20,7 @@ use Rattle.run.specs.Row.{rowAnswer, rowOf}
 use Rattle.run.specs.Advance.{advanceAnswer, advanceOf}
 use Rattle.run.specs.Withdraw.{withdrawAnswer, withdrawOf}
 use Rattle.run.proofs.Limits.{run-decides}
-use Rattle.capi.specs.Encoding.{headWords, eachWords, parityAt, kindAt, secondAt, places, wordsTo, runWords, isPhase, isStand, isPlace}
+use Rattle.capi.specs.Encoding.{headWords, eachWords, parityAt, kindAt, secondAt, thirdAt, places, wordsTo, runWords, isPhase, isStand, isPlace}
 use Rattle.capi.specs.Encoding.{arePlaces, countIn, holds, runIn, Held, run, none, decode}
 use Rattle.capi.specs.Runs.{rowFrom, advanceFrom, withdrawFrom}
 use Rattle.capi.specs.Fourteen.{NoPhase, NoStand, NoRun, short, many, no-place, BufferOut}
@@ -32,32 +32,46 @@ positive : (b : ℕ) → (b ≡ 0 → ⊥) → 0 < b
 positive zero n = absurd (n refl)
 positive (suc b) n = omega arith
 
-no-phase : (k b : ℕ) → isPhase k b ≡ false → NoPhase k b
-no-phase zero b e = inr (inl refl, positive b (eqb-false b 0 e))
-no-phase (suc zero) b e = absurd (true≢false e)
-no-phase (suc (suc zero)) b e = absurd (true≢false e)
-no-phase (suc (suc (suc zero))) b e = inr (inr refl, positive b (eqb-false b 0 e))
-no-phase (suc (suc (suc (suc k)))) b e = inl (omega arith)
+right-false : (a b : Bool) → b ≡ false → a && b ≡ false
+right-false true b e = e
+right-false false b e = refl
 
-no-phase-back : (k b : ℕ) → NoPhase k b → isPhase k b ≡ false
-no-phase-back k b (inl h) = simp (lt-leb k 3 h)
-no-phase-back k b (inr (inl e, h)) = ap (λ (n : ℕ). isPhase n b) e ∙ ne-eqb b 0 (λ z. omega arith)
-no-phase-back k b (inr (inr e, h)) = ap (λ (n : ℕ). isPhase n b) e ∙ ne-eqb b 0 (λ z. omega arith)
+-- of a kind that is not Working: a second number where the kind has none, or a third
+no-numbers : (b c : ℕ) {A : Type 0} → A → eqb c 0 && eqb b 0 ≡ false → (A × (0 < b)) ⊎ (0 < c)
+no-numbers b zero a e = inl (a, positive b (eqb-false b 0 e))
+no-numbers b (suc c) a e = inr (omega arith)
+
+no-phase : (k b c : ℕ) → isPhase k b c ≡ false → NoPhase k b c
+no-phase zero b c e = inr (⊎-elim (λ h. inl h) (λ h. inr (λ z. omega arith, h)) (no-numbers b c (inl refl) e))
+no-phase (suc zero) b c e = absurd (true≢false e)
+no-phase (suc (suc zero)) b zero e = absurd (true≢false e)
+no-phase (suc (suc zero)) b (suc c) e = inr (inr (λ z. omega arith, omega arith))
+no-phase (suc (suc (suc zero))) b c e = inr (⊎-elim (λ h. inl h) (λ h. inr (λ z. omega arith, h)) (no-numbers b c (inr refl) e))
+no-phase (suc (suc (suc (suc k)))) b c e = inl (omega arith)
+
+-- a second number where the kind has none
+no-second : (k b c : ℕ) → (eqb k 1 ≡ false) × (eqb k 2 ≡ false) → 0 < b → isPhase k b c ≡ false
+no-second k b c q h =
+    right-false (leb k 3) _
+    (simp (q .0, q .1, ne-eqb b 0 (λ z. omega arith)) (right-false (eqb c 0) false refl))
+
+no-phase-back : (k b c : ℕ) → NoPhase k b c → isPhase k b c ≡ false
+no-phase-back k b c (inl h) = simp (lt-leb k 3 h)
+no-phase-back k b c (inr (inl (inl e, h))) = ap (λ (n : ℕ). isPhase n b c) e ∙ no-second 0 b c (refl, refl) h
+no-phase-back k b c (inr (inl (inr e, h))) = ap (λ (n : ℕ). isPhase n b c) e ∙ no-second 3 b c (refl, refl) h
+no-phase-back k b c (inr (inr (n, h))) =
+    right-false (leb k 3) _ (simp (ne-eqb k 1 n, ne-eqb c 0 (λ z. omega arith)))
 
 and-false : (a b : Bool) → a && b ≡ false → (a ≡ false) ⊎ (b ≡ false)
 and-false true b e = inr e
 and-false false b e = inl refl
 
-right-false : (a b : Bool) → b ≡ false → a && b ≡ false
-right-false true b e = e
-right-false false b e = refl
+no-stand : (n k b c : ℕ) → isStand n k b c ≡ false → NoStand n k b c
+no-stand n k b c e = ⊎-elim (λ h. inl (leb-false n 1 h)) (λ h. inr (no-phase k b c h)) (and-false (leb n 1) (isPhase k b c) e)
 
-no-stand : (n k b : ℕ) → isStand n k b ≡ false → NoStand n k b
-no-stand n k b e = ⊎-elim (λ h. inl (leb-false n 1 h)) (λ h. inr (no-phase k b h)) (and-false (leb n 1) (isPhase k b) e)
-
-no-stand-back : (n k b : ℕ) → NoStand n k b → isStand n k b ≡ false
-no-stand-back n k b (inl h) = simp (lt-leb n 1 h)
-no-stand-back n k b (inr h) = right-false (leb n 1) (isPhase k b) (no-phase-back k b h)
+no-stand-back : (n k b c : ℕ) → NoStand n k b c → isStand n k b c ≡ false
+no-stand-back n k b c (inl h) = simp (lt-leb n 1 h)
+no-stand-back n k b c (inr h) = right-false (leb n 1) (isPhase k b c) (no-phase-back k b c h)
 
 -- ONE OF SEVERAL PLACES
 
@@ -89,7 +103,7 @@ module _ (ws : List ℕ) where
   -- the words of place p, in the buffer
   in-buffer :
       (p : ℕ) → isPlace (drop (eachWords * p) (drop headWords ws))
-      ≡ isStand (getD ws (wordsTo p + parityAt) 0) (getD ws (wordsTo p + kindAt) 0) (getD ws (wordsTo p + secondAt) 0)
+      ≡ isStand (getD ws (wordsTo p + parityAt) 0) (getD ws (wordsTo p + kindAt) 0) (getD ws (wordsTo p + secondAt) 0) (getD ws (wordsTo p + thirdAt) 0)
   in-buffer p = ap isPlace (drop-drop (eachWords * p) headWords ws) ∙ place-at ws (wordsTo p)
 
   no-run : holds ws ≡ false → NoRun ws
@@ -99,7 +113,7 @@ module _ (ws : List ℕ) where
       by-count h true c =
           let l = leb-true (countIn ws) places c in
           let q = some-not (countIn ws) (drop headWords ws) (sym (held-by ws h l) ∙ e) in
-          no-place (q .0) (q .1) (no-stand _ _ _ (sym (in-buffer (q .0)) ∙ q .2))
+          no-place (q .0) (q .1) (no-stand _ _ _ _ (sym (in-buffer (q .0)) ∙ q .2))
       by-count h false c = many (leb-false (countIn ws) places c)
 
       by-length : (t : Bool) → leb runWords (length ws) ≡ t → NoRun ws
@@ -114,7 +128,7 @@ module _ (ws : List ℕ) where
       by-count h true c (many l) = held-many ws h l
       by-count h true c (no-place p l n) =
           held-by ws h (leb-true (countIn ws) places c)
-          ∙ not-all (countIn ws) (drop headWords ws) p l (in-buffer p ∙ no-stand-back _ _ _ n)
+          ∙ not-all (countIn ws) (drop headWords ws) p l (in-buffer p ∙ no-stand-back _ _ _ _ n)
       by-count h false c y = held-many ws h (leb-false (countIn ws) places c)
 
       by-length : (t : Bool) → leb runWords (length ws) ≡ t → NoRun ws → holds ws ≡ false

@@ -9,7 +9,7 @@ use native.Mathlib.Nat.{not-suc-le-zero, le-of-suc-le-suc}
 use native.Mathlib.Omega.{arith}
 use lib.ListN.{length, getD, take, drop, replicate, length-append, length-drop}
 use lib.Seq.{drop-cons, drop-drop, length-take-le, take-take, take-at}
-use lib.Dec.{leb}
+use lib.Dec.{leb, eqb}
 use borrow.Author.Tests.{le-leb, leb-true, leb-false, eqb-true}
 use Rattle.model.proofs.Bools.{and-left, and-right, and-both}
 use Rattle.phase.specs.declared.Phase.{Phase}
@@ -20,26 +20,24 @@ use Rattle.run.specs.declared.Run.{Run}
 use Rattle.model.specs.Sizes.{mostWord}
 use Rattle.run.specs.Numbers.{RunOut}
 use Rattle.table.specs.Words.{fenceOf}
-use Rattle.capi.specs.declared.told.Told.{Told}
-use Rattle.capi.specs.Told.{says}
-use Rattle.capi.specs.Encoding.{headWords, eachWords, parityAt, kindAt, firstAt, secondAt, places, wordsTo, runWords, ofPhase, parityWord}
-use Rattle.capi.specs.Encoding.{placeWith, placeWords, placesWords, countWord, lowWord, highWord, fenceIn, encodeTo, encode, overwritten}
+use Rattle.capi.specs.Encoding.{headWords, eachWords, parityAt, kindAt, firstAt, secondAt, thirdAt, places, wordsTo, runWords, phaseWords}
+use Rattle.capi.specs.Encoding.{ofPhase, parityWord, placeWith, placeWords, placesWords, countWord, lowWord, highWord, fenceIn, encodeTo, encode, overwritten}
 use Rattle.capi.specs.Encoding.{phaseOf, isPhase, evenOf, isParity, placeIn}
 use Rattle.capi.specs.Encoding.{isPlace, placesIn, arePlaces, countIn, holds, padded, runIn, run, none, decode, cleared}
 use Rattle.capi.proofs.Places.{length-words, length-read, by-held, held-long, held-few, held-places}
 
 -- WHAT IS ENCODED IS DECODED
 
-phase-is : (ph : Phase) → isPhase (ofPhase ph .kind) (ofPhase ph .second) ≡ true
+phase-is : (ph : Phase) → isPhase (ofPhase ph .kind) (ofPhase ph .second) (ofPhase ph .third) ≡ true
 phase-is (Coming left) = refl
-phase-is (Working z u) = refl
-phase-is (Holding z u) = refl
+phase-is (Working z had reserved) = refl
+phase-is (Holding z reserved) = refl
 phase-is (Resting z) = refl
 
-phase-back : (ph : Phase) → phaseOf (ofPhase ph .kind) (ofPhase ph .first) (ofPhase ph .second) ≡ ph
+phase-back : (ph : Phase) → phaseOf (ofPhase ph .kind) (ofPhase ph .first) (ofPhase ph .second) (ofPhase ph .third) ≡ ph
 phase-back (Coming left) = refl
-phase-back (Working z u) = refl
-phase-back (Holding z u) = refl
+phase-back (Working z had reserved) = refl
+phase-back (Holding z reserved) = refl
 phase-back (Resting z) = refl
 
 parity-is : (e : Bool) → isParity (parityWord e) ≡ true
@@ -145,13 +143,17 @@ decode-accepted r all fine =
 
 -- WHAT IS DECODED IS ENCODED
 
--- a kind and a second number that a phase has are the phase's own
-phase-forth : (k a b : ℕ) → isPhase k b ≡ true → ofPhase (phaseOf k a b) ≡ says k a b
-phase-forth zero a b e = ap (λ (n : ℕ). says 0 a n) (sym (eqb-true b 0 e))
-phase-forth (suc zero) a b e = refl
-phase-forth (suc (suc zero)) a b e = refl
-phase-forth (suc (suc (suc zero))) a b e = ap (λ (n : ℕ). says 3 a n) (sym (eqb-true b 0 e))
-phase-forth (suc (suc (suc (suc k)))) a b e =
+-- a kind and its numbers that a phase has are the phase's own
+no-number : (k a b c : ℕ) → eqb c 0 && eqb b 0 ≡ true → phaseWords k a 0 0 ≡ phaseWords k a b c
+no-number k a b c e =
+    λ i. phaseWords k a (sym (eqb-true b 0 (and-right (eqb c 0) (eqb b 0) e)) i) (sym (eqb-true c 0 (and-left (eqb c 0) (eqb b 0) e)) i)
+
+phase-forth : (k a b c : ℕ) → isPhase k b c ≡ true → ofPhase (phaseOf k a b c) ≡ phaseWords k a b c
+phase-forth zero a b c e = no-number 0 a b c e
+phase-forth (suc zero) a b c e = refl
+phase-forth (suc (suc zero)) a b c e = ap (λ (n : ℕ). phaseWords 2 a b n) (sym (eqb-true c 0 (and-left (eqb c 0) true e)))
+phase-forth (suc (suc (suc zero))) a b c e = no-number 3 a b c e
+phase-forth (suc (suc (suc (suc k)))) a b c e =
     let l = leb-true (suc (suc (suc (suc k)))) 3 (and-left (leb (suc (suc (suc (suc k)))) 3) _ e) in
     absurd (omega arith)
 
@@ -164,7 +166,8 @@ parity-forth (suc (suc n)) e = let l = leb-true (suc (suc n)) 1 e in absurd (ome
 -- the words of a place in front, one by one
 front :
     (ws : List ℕ) → eachWords ≤ length ws
-    → placeWith (placeIn ws) (getD ws parityAt 0) (says (getD ws kindAt 0) (getD ws firstAt 0) (getD ws secondAt 0)) ++ drop eachWords ws ≡ ws
+    → placeWith (placeIn ws) (getD ws parityAt 0) (phaseWords (getD ws kindAt 0) (getD ws firstAt 0) (getD ws secondAt 0) (getD ws thirdAt 0)) ++ drop eachWords ws
+    ≡ ws
 front ws h =
     sym
     (drop-cons ws 0 0 (omega arith)
@@ -176,7 +179,8 @@ front ws h =
     ∙ ap (λ (l : List ℕ). getD ws 5 0 ∷ l) (drop-cons ws 6 0 (omega arith)
     ∙ ap (λ (l : List ℕ). getD ws 6 0 ∷ l) (drop-cons ws 7 0 (omega arith)
     ∙ ap (λ (l : List ℕ). getD ws 7 0 ∷ l) (drop-cons ws 8 0 (omega arith)
-    ∙ ap (λ (l : List ℕ). getD ws 8 0 ∷ l) (drop-cons ws 9 0 (omega arith)))))))))))
+    ∙ ap (λ (l : List ℕ). getD ws 8 0 ∷ l) (drop-cons ws 9 0 (omega arith)
+    ∙ ap (λ (l : List ℕ). getD ws 9 0 ∷ l) (drop-cons ws 10 0 (omega arith))))))))))))
 
 place-forth : (ws : List ℕ) → eachWords ≤ length ws → isPlace ws ≡ true → placeWords (placeIn ws) ++ drop eachWords ws ≡ ws
 place-forth ws h e =
@@ -184,7 +188,8 @@ place-forth ws h e =
     let k = getD ws kindAt 0 in
     let a = getD ws firstAt 0 in
     let b = getD ws secondAt 0 in
-    (λ i. placeWith (placeIn ws) (parity-forth n (and-left (isParity n) (isPhase k b) e) i) (phase-forth k a b (and-right (isParity n) (isPhase k b) e) i)
+    let c = getD ws thirdAt 0 in
+    (λ i. placeWith (placeIn ws) (parity-forth n (and-left (isParity n) (isPhase k b c) e) i) (phase-forth k a b c (and-right (isParity n) (isPhase k b c) e) i)
     ++ drop eachWords ws)
     ∙ front ws h
 

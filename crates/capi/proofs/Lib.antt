@@ -12,6 +12,8 @@ pub mod Listed
 pub mod Past
 pub mod Fourteen
 pub mod Examples
+pub mod Calling
 pub mod RunExamples
+pub mod LendExamples
 pub mod SentenceExamples
 pub mod FigureExamples

@@ -1,4 +1,5 @@
--- A run in a lent buffer: rule, cores, count, the fence in two words and the withdrawn set, then ten words for each of the 32 places. What stands past the count is not looked at.
+-- A run in a lent buffer: rule, cores, count, the fence in two words and the withdrawn set, then eleven words for each of the 32 places. What stands past
+-- the count is not looked at.
 use mathlib.Core.Bool.{Bool, true, _&&_, _||_, cond}
 use mathlib.Core.List.{List, [], _∷_, _++_}
 use Prim.Native.Nat.{ℕ, zero, suc, _+_, _*_, _-_, _/_, _%_, _^_}
@@ -10,8 +11,7 @@ use Rattle.phase.specs.declared.Task.{Task}
 use Rattle.phase.specs.Task.{unused}
 use Rattle.run.specs.declared.Run.{Run}
 use Rattle.table.specs.Words.{fenceOf}
-use Rattle.capi.specs.declared.told.Told.{Told}
-use Rattle.capi.specs.Told.{says}
+use Rattle.capi.specs.declared.held.PhaseWords.{PhaseWords}
 use Rattle.model.specs.Sizes.{mostTasks}
 
 -- THE SIZES
@@ -22,7 +22,7 @@ headWords = 6
 
 -- the words of a place
 abbrev pub eachWords : ℕ
-eachWords = 10
+eachWords = 11
 
 -- where a place has the parity of its job ..
 abbrev pub parityAt : ℕ
@@ -36,9 +36,13 @@ kindAt = parityAt + 1
 abbrev pub firstAt : ℕ
 firstAt = kindAt + 1
 
--- .. and its second
+-- .. its second ..
 abbrev pub secondAt : ℕ
 secondAt = kindAt + 2
+
+-- .. and its third
+abbrev pub thirdAt : ℕ
+thirdAt = kindAt + 3
 
 -- the places of a run
 abbrev pub places : ℕ
@@ -54,21 +58,26 @@ runWords = wordsTo places
 
 -- THE ENCODING
 
--- a phase: 0 Coming, 1 Working, 2 Holding, 3 Resting, and its numbers, 0 for a second that it does not have
-abbrev pub ofPhase : Phase → Told
-ofPhase (Coming left) = says 0 left 0
-ofPhase (Working z u) = says 1 z u
-ofPhase (Holding z u) = says 2 z u
-ofPhase (Resting z) = says 3 z 0
+-- a kind of phase and three numbers
+abbrev pub phaseWords : ℕ → ℕ → ℕ → ℕ → PhaseWords
+phaseWords k a b c = record { kind = k; first = a; second = b; third = c }
+
+-- a phase: 0 Coming, 1 Working with the ticks since its release, those had and those reserved (request 109), 2 Holding with the ticks since its release
+-- and those reserved, 3 Resting; 0 for a number that it does not have
+abbrev pub ofPhase : Phase → PhaseWords
+ofPhase (Coming left) = phaseWords 0 left 0 0
+ofPhase (Working z had reserved) = phaseWords 1 z had reserved
+ofPhase (Holding z reserved) = phaseWords 2 z reserved 0
+ofPhase (Resting z) = phaseWords 3 z 0 0
 
 -- a job's parity (request 108): 0 odd, 1 even
 abbrev pub parityWord : Bool → ℕ
 parityWord even = cond even 1 0
 
--- a task's six words, that of a parity, and the three of a phase
-abbrev pub placeWith : Task → ℕ → Told → List ℕ
+-- a task's six words, that of a parity, and the four of a phase
+abbrev pub placeWith : Task → ℕ → PhaseWords → List ℕ
 placeWith t n ph =
-    t .offset ∷ (t .width ∷ (t .length ∷ (t .deadline ∷ (t .period ∷ (t .second ∷ (n ∷ (ph .kind ∷ (ph .first ∷ (ph .second ∷ [])))))))))
+    t .offset ∷ (t .width ∷ (t .length ∷ (t .deadline ∷ (t .period ∷ (t .second ∷ (n ∷ (ph .kind ∷ (ph .first ∷ (ph .second ∷ (ph .third ∷ []))))))))))
 
 -- a place: offset, width of odd jobs, length, deadline, period, width of even jobs, and the parity and the phase
 abbrev pub placeWords : Task → List ℕ
@@ -106,12 +115,12 @@ overwritten n r ws = encodeTo n r ++ drop (wordsTo n) ws
 -- THE DECODING
 
 -- the phase of a kind and its numbers
-abbrev pub phaseOf : ℕ → ℕ → ℕ → Phase
-phaseOf k a b = cond (eqb k 0) (Coming a) (cond (eqb k 1) (Working a b) (cond (eqb k 2) (Holding a b) (Resting a)))
+abbrev pub phaseOf : ℕ → ℕ → ℕ → ℕ → Phase
+phaseOf k a b c = cond (eqb k 0) (Coming a) (cond (eqb k 1) (Working a b c) (cond (eqb k 2) (Holding a b) (Resting a)))
 
--- a phase has this kind and this second number: no kind above 3, and no second number but of Working and Holding
-abbrev pub isPhase : ℕ → ℕ → Bool
-isPhase k b = leb k 3 && ((eqb k 1 || eqb k 2) || eqb b 0)
+-- a phase has this kind, this second number and this third: no kind above 3, no third number but of Working, and no second but of Working and Holding
+abbrev pub isPhase : ℕ → ℕ → ℕ → Bool
+isPhase k b c = leb k 3 && (eqb k 1 || (eqb c 0 && (eqb k 2 || eqb b 0)))
 
 -- the parity of a word ..
 abbrev pub evenOf : ℕ → Bool
@@ -122,8 +131,8 @@ abbrev pub isParity : ℕ → Bool
 isParity n = leb n 1
 
 -- a parity, and a phase
-abbrev pub isStand : ℕ → ℕ → ℕ → Bool
-isStand n k b = isParity n && isPhase k b
+abbrev pub isStand : ℕ → ℕ → ℕ → ℕ → Bool
+isStand n k b c = isParity n && isPhase k b c
 
 -- the place whose words stand in front
 abbrev pub placeIn : List ℕ → Task
@@ -135,12 +144,12 @@ placeIn ws = record {
   period = getD ws 4 0;
   second = getD ws 5 0;
   even = evenOf (getD ws parityAt 0);
-  phase = phaseOf (getD ws kindAt 0) (getD ws firstAt 0) (getD ws secondAt 0);
+  phase = phaseOf (getD ws kindAt 0) (getD ws firstAt 0) (getD ws secondAt 0) (getD ws thirdAt 0);
 }
 
 -- they are a place: they have a parity and a phase
 abbrev pub isPlace : List ℕ → Bool
-isPlace ws = isStand (getD ws parityAt 0) (getD ws kindAt 0) (getD ws secondAt 0)
+isPlace ws = isStand (getD ws parityAt 0) (getD ws kindAt 0) (getD ws secondAt 0) (getD ws thirdAt 0)
 
 -- the first n places
 unfoldable pub placesIn : ℕ → List ℕ → List Task

@@ -7,7 +7,6 @@ ghost use Rattle.capi.specs.Encoding.{headWords, eachWords, places, runW
 ghost use Rattle.capi.specs.Encoding.{overwritten, phaseOf, isStand, placeIn, countIn, holds, runIn, decode};
 ghost use Rattle.capi.specs.Runs.{rowFrom, kept, advanceFrom, withdrawFrom};
 ghost use Rattle.model.specs.Sizes.{mostCores};
-use crate::told::Told;
 use model::ROW;
 use phase::Phase;
 use phase::Task;
@@ -20,44 +19,58 @@ use table::limits::HIGH;
 // The words in front of the places: rule, cores, count, the fence in two, and the withdrawn set.
 const HEAD: usize = 6;
 // The words of a place.
-const EACH: usize = 10;
+const EACH: usize = 11;
 // Where a place has the parity of its job ..
 const PARITY: usize = 6;
 // .. the kind of its phase ..
 const KIND: usize = PARITY + 1;
 // .. its first number ..
 const FIRST: usize = KIND + 1;
-// .. and its second.
+// .. its second ..
 const SECOND: usize = KIND + 2;
+// .. and its third.
+const THIRD: usize = KIND + 3;
 // The places of a run.
 pub(crate) const PLACES: usize = model::MOST_TASKS;
 // The words of a run.
 pub(crate) const WORDS: usize = HEAD + EACH * PLACES;
 
-// A phase in three words.
-fn of_phase(phase: Phase) -> Told
+// A phase in words: its kind and three numbers, 0 for one that it does not have.
+pub struct PhaseWords {
+    pub kind: u32,
+    pub first: u32,
+    pub second: u32,
+    pub third: u32,
+}
+
+// A phase in four words.
+fn of_phase(phase: Phase) -> PhaseWords
     ensures { λ r. ⌜ r ≡ ofPhase phase ⌝ }
 {
     match phase {
-        Phase::Coming(left) => Told {
+        Phase::Coming(left) => PhaseWords {
             kind: 0,
             first: left,
             second: 0,
+            third: 0,
         },
-        Phase::Working(z, u) => Told {
+        Phase::Working(z, had, reserved) => PhaseWords {
             kind: 1,
             first: z,
-            second: u,
+            second: had,
+            third: reserved,
         },
-        Phase::Holding(z, u) => Told {
+        Phase::Holding(z, reserved) => PhaseWords {
             kind: 2,
             first: z,
-            second: u,
+            second: reserved,
+            third: 0,
         },
-        Phase::Resting(z) => Told {
+        Phase::Resting(z) => PhaseWords {
             kind: 3,
             first: z,
             second: 0,
+            third: 0,
         },
     }
 }
@@ -70,7 +83,7 @@ fn parity_word(even: bool) -> u32
 }
 
 // Writes a place with its parity and its phase into the first words.
-fn put_place(task: Task, parity: u32, phase: Told, words: &mut [u32])
+fn put_place(task: Task, parity: u32, phase: PhaseWords, words: &mut [u32])
     requires { ⌜ eachWords ≤ length (now words) ⌝ }
     ensures { λ r. ⌜ now (words .exit) ≡ placeWith task parity phase ++ drop eachWords (now (words .entry)) ⌝ }
 {
@@ -84,6 +97,7 @@ fn put_place(task: Task, parity: u32, phase: Told, words: &mut [u32])
     words[KIND] = phase.kind;
     words[FIRST] = phase.first;
     words[SECOND] = phase.second;
+    words[THIRD] = phase.third;
 }
 
 // The count in a word.
@@ -137,22 +151,23 @@ pub(crate) fn put_run(run: Run, shown: usize, words: &mut [u32])
     }
 }
 
-// Whether a parity is one, and a phase has this kind and this second number.
-fn is_stand(parity: u32, kind: u32, second: u32) -> bool
-    ensures { λ r. ⌜ r ≡ isStand parity kind second ⌝ }
+// Whether a parity is one, and a phase has this kind, this second number and this third.
+fn is_stand(parity: u32, kind: u32, second: u32, third: u32) -> bool
+    ensures { λ r. ⌜ r ≡ isStand parity kind second third ⌝ }
 {
-    (parity <= 1) & ((kind <= 3) & (((kind == 1) | (kind == 2)) | (second == 0)))
+    let holding = (kind == 2) | (second == 0);
+    (parity <= 1) & ((kind <= 3) & ((kind == 1) | ((third == 0) & holding)))
 }
 
 // The phase of a kind and its numbers.
-fn phase_of(kind: u32, first: u32, second: u32) -> Phase
-    ensures { λ r. ⌜ r ≡ phaseOf kind first second ⌝ }
+fn phase_of(kind: u32, first: u32, second: u32, third: u32) -> Phase
+    ensures { λ r. ⌜ r ≡ phaseOf kind first second third ⌝ }
 {
     if kind == 0 {
         return Phase::Coming(first);
     }
     if kind == 1 {
-        return Phase::Working(first, second);
+        return Phase::Working(first, second, third);
     }
     if kind == 2 {
         return Phase::Holding(first, second);
@@ -165,7 +180,12 @@ fn place_in(words: &[u32], at: usize) -> Task
     requires { ⌜ at + eachWords ≤ length (now words) ⌝ }
     ensures { λ r. ⌜ r ≡ placeIn (drop at (now (words .entry))) ⌝ }
 {
-    let phase = phase_of(words[at + KIND], words[at + FIRST], words[at + SECOND]);
+    let phase = phase_of(
+        words[at + KIND],
+        words[at + FIRST],
+        words[at + SECOND],
+        words[at + THIRD],
+    );
     Task {
         offset: words[at],
         width: words[at + 1],
@@ -192,7 +212,12 @@ pub(crate) fn holds(words: &[u32]) -> bool
     let mut i: usize = 0;
     while i < count {
         let at = HEAD + EACH * i;
-        if is_stand(words[at + PARITY], words[at + KIND], words[at + SECOND]) {
+        if is_stand(
+            words[at + PARITY],
+            words[at + KIND],
+            words[at + SECOND],
+            words[at + THIRD],
+        ) {
             i += 1;
         } else {
             return false;

@@ -20,7 +20,7 @@ mod replays; // replays.rt: what a replay says
 mod told; // told.rt: an answer in three words
 
 // The version of the library as one number: major * 10000 + minor * 100 + patch.
-const VERSION: u32 = 1000;
+const VERSION: u32 = 1100;
 
 // The version of the library that is linked; the header has that of the header.
 #[no_mangle]

@@ -29,7 +29,7 @@ module _ (r : Rule) (τ : Task) (ok : Sound τ) (t : ℕ) (js : ℕ → Job) (ev
   -- a job that is due and has not ended makes the task late ..
   pub late-is : (ph : Phase) → Tied r τ t js even ph → (i : ℕ) → due τ i ≤ t → js i .ended ≡ false → lateIn (τ .deadline) ph ≡ true
   late-is (Coming left) h i d o = absurd (omega (arith, h .when, h .some))
-  late-is (Working z u) h i d o =
+  late-is (Working z had u) h i d o =
       let e : i ≡ h .number = due-open τ ok t js even (h .number) z (h .present) (le-trans (h .by-due) (ok .constrained)) i d o in
       let d′ : due τ (h .number) ≤ t = subst (λ (x : ℕ). due τ x ≤ t) e d in
       eq-eqb z (τ .deadline) (omega (arith, h .present .when, h .by-due))
@@ -43,7 +43,7 @@ module _ (r : Rule) (τ : Task) (ok : Sound τ) (t : ℕ) (js : ℕ → Job) (ev
   -- .. and a late task has one
   pub late-has : (ph : Phase) → Tied r τ t js even ph → lateIn (τ .deadline) ph ≡ true → (i : ℕ) × (due τ i ≤ t) × (js i .ended ≡ false)
   late-has (Coming left) h e = absurd (false≢true e)
-  late-has (Working z u) h e = (h .number, omega (arith, h .present .when, eqb-true z (τ .deadline) e), ap (λ (j : Job). j .ended) (h .line))
+  late-has (Working z had u) h e = (h .number, omega (arith, h .present .when, eqb-true z (τ .deadline) e), ap (λ (j : Job). j .ended) (h .line))
   late-has (Holding z u) h e = absurd (false≢true e)
   late-has (Resting z) h e = absurd (false≢true e)
 
@@ -70,8 +70,8 @@ module _ (r : Rule) (τ : Task) (ok : Sound τ) (t : ℕ) (js : ℕ → Job) (ev
         parity = sym (ap not (h .odd));
         fresh-job = rw (ne-eqb (release τ 0) t (λ (q : release τ 0 ≡ t). omega (arith, h .when, h .some)));
       })
-  newest-does (Working z u) h n =
-      at-newest (Working z u) (h .number)
+  newest-does (Working z had u) h n =
+      at-newest (Working z had u) (h .number)
       (newest-is τ (h .number) t (ok .constrained) (omega (arith, h .present .when)) (omega (arith, h .present .when, less)))
       (record {
         claimed = claims-if r τ (h .number) t (js (h .number)) (omega (arith, h .present .when)) (omega (arith, h .present .when, less)) (rw (h .line));
@@ -83,10 +83,10 @@ module _ (r : Rule) (τ : Task) (ok : Sound τ) (t : ℕ) (js : ℕ → Job) (ev
       less : z < τ .deadline
       less = omega (arith, eqb-false z (τ .deadline) n, h .by-due)
 
-      now : (x : Bool) → eqb z 0 ≡ x → eqb (release τ (h .number)) t && true ≡ x && eqb u 0
+      now : (x : Bool) → eqb z 0 ≡ x → eqb (release τ (h .number)) t && true ≡ x && eqb had 0
       now true q =
           let y : z ≡ 0 = eqb-true z 0 q in
-          rw (eq-eqb (release τ (h .number)) t (omega (arith, h .present .when)), eq-eqb u 0 (omega (arith, h .within)))
+          rw (eq-eqb (release τ (h .number)) t (omega (arith, h .present .when)), eq-eqb had 0 (omega (arith, h .within)))
       now false q = rw (ne-eqb (release τ (h .number)) t (λ w. eqb-false z 0 q (omega (arith, h .present .when))))
   newest-does (Holding z u) h n =
       at-newest (Holding z u) (h .number)

@@ -5,9 +5,6 @@ use mathlib.Core.Path.{_≡_, refl}
 use Prim.Native.Nat.{ℕ}
 use Prim.Native.String.{String}
 use Rattle.model.specs.Book.{Entry, advance}
-use Rattle.model.specs.Grants.{claimants, given, grants, left}
-use Rattle.model.specs.Row.{owner, row}
-use Rattle.model.specs.Search.{any, kept, least, memb, upFrom}
 use Rattle.model.proofs.LineByLine.{LineByLine, by-line}
 use Rattle.phase.specs.declared.Phase.{Phase}
 use Rattle.phase.specs.declared.Phase.the-variants.{Coming, Working, Holding, Resting}
@@ -15,12 +12,8 @@ use Rattle.run.specs.declared.Run.{Run}
 use Rattle.run.specs.declared.Answer.{Answer}
 use Rattle.run.specs.declared.Answer.the-variants.{Taken, Refused}
 use Rattle.run.specs.declared.Row.{Row}
-use Rattle.run.specs.Run.{grantsIn, mapFirst, moved}
-use Rattle.run.specs.Numbers.{pastCount, runOut, firstLateIn, misemptiedIn, misreportedIn}
-use Rattle.run.specs.Advance.{advanceAnswer, advanceOf}
-use Rattle.run.specs.Row.{rowAnswer, bytesIn, rowOf}
-use Rattle.demand.specs.Entries.{answers, after}
 use Rattle.demand.proofs.HandBuilt.{Line, worked, rows, t, at-even, one, two, runB, on1, on2, no}
+use Rattle.demand.proofs.Running.{running}
 
 -- a line with its name
 pub record Named : Type 0 where
@@ -73,29 +66,29 @@ wide a b = two 1 2 (t 0 2 2 5 5 a) (t 0 2 3 5 5 b)
 abbrev pub empty-lines : List Named
 empty-lines =
     built "greedy: an empty job claims nothing, and stands at z = 1 after its tick"
-    (single 1 (Working 0 0)) (sets 0 1 ∷ []) (Taken ∷ []) (on1 0 ∷ on1 0 ∷ []) (single 1 (Resting 1))
+    (single 1 (Working 0 0 0)) (sets 0 1 ∷ []) (Taken ∷ []) (on1 0 ∷ on1 0 ∷ []) (single 1 (Resting 1))
     ∷ built "limited: the same"
-    (single 2 (Working 0 0)) (sets 0 1 ∷ []) (Taken ∷ []) (on1 0 ∷ on1 0 ∷ []) (single 2 (Resting 1))
+    (single 2 (Working 0 0 0)) (sets 0 1 ∷ []) (Taken ∷ []) (on1 0 ∷ on1 0 ∷ []) (single 2 (Resting 1))
     ∷ built "idling: it holds, and claims its ticks"
-    (single 3 (Working 0 0)) (sets 0 1 ∷ none ∷ none ∷ []) (Taken ∷ Taken ∷ Taken ∷ []) (on1 1 ∷ on1 1 ∷ on1 1 ∷ on1 0 ∷ []) (single 3 (Resting 3))
+    (single 3 (Working 0 0 0)) (sets 0 1 ∷ none ∷ none ∷ []) (Taken ∷ Taken ∷ Taken ∷ []) (on1 1 ∷ on1 1 ∷ on1 1 ∷ on1 0 ∷ []) (single 3 (Resting 3))
     ∷ built "idling without cores: it holds at (1,0)"
-    (two 3 1 (t 0 1 2 3 3 (Working 0 0)) (t 0 1 1 3 3 (Working 0 0))) (sets 0 2 ∷ []) (Taken ∷ []) (on1 1 ∷ on1 1 ∷ [])
-    (two 3 1 (t 0 1 2 3 3 (Working 1 1)) (t 0 1 1 3 3 (Holding 1 0)))
+    (two 3 1 (t 0 1 2 3 3 (Working 0 0 0)) (t 0 1 1 3 3 (Working 0 0 0))) (sets 0 2 ∷ []) (Taken ∷ []) (on1 1 ∷ on1 1 ∷ [])
+    (two 3 1 (t 0 1 2 3 3 (Working 1 1 1)) (t 0 1 1 3 3 (Holding 1 0)))
     ∷ built "C, D and T of 1 under greedy: the next job is released at once"
-    (least-one 1 (Working 0 0)) (sets 0 1 ∷ []) (Taken ∷ []) (on1 0 ∷ on1 1 ∷ []) (least-even 1 (Working 0 0))
+    (least-one 1 (Working 0 0 0)) (sets 0 1 ∷ []) (Taken ∷ []) (on1 0 ∷ on1 1 ∷ []) (least-even 1 (Working 0 0 0))
     ∷ built "and under idling, where the empty one has its core"
-    (least-one 3 (Working 0 0)) (sets 0 1 ∷ []) (Taken ∷ []) (on1 1 ∷ on1 1 ∷ []) (least-even 3 (Working 0 0))
+    (least-one 3 (Working 0 0 0)) (sets 0 1 ∷ []) (Taken ∷ []) (on1 1 ∷ on1 1 ∷ []) (least-even 3 (Working 0 0 0))
     ∷ built "D of 1 under idling: a hold without cores ends with its tick"
-    (two 3 1 (t 0 1 1 1 1 (Working 0 0)) (t 0 1 1 1 2 (Working 0 0))) (sets 0 2 ∷ []) (Taken ∷ []) (on1 1 ∷ on1 1 ∷ [])
-    (two 3 1 (at-even (t 0 1 1 1 1 (Working 0 0))) (t 0 1 1 1 2 (Resting 1)))
+    (two 3 1 (t 0 1 1 1 1 (Working 0 0 0)) (t 0 1 1 1 2 (Working 0 0 0))) (sets 0 2 ∷ []) (Taken ∷ []) (on1 1 ∷ on1 1 ∷ [])
+    (two 3 1 (at-even (t 0 1 1 1 1 (Working 0 0 0))) (t 0 1 1 1 2 (Resting 1)))
     ∷ built "C of 1 under idling: a hold with cores ends with its tick"
-    (one 3 1 (t 0 1 1 2 2 (Working 0 0))) (sets 0 1 ∷ []) (Taken ∷ []) (on1 1 ∷ on1 0 ∷ []) (one 3 1 (t 0 1 1 2 2 (Resting 1)))
+    (one 3 1 (t 0 1 1 2 2 (Working 0 0 0))) (sets 0 1 ∷ []) (Taken ∷ []) (on1 1 ∷ on1 0 ∷ []) (one 3 1 (t 0 1 1 2 2 (Resting 1)))
     ∷ built "an empty bit on Working(0,1): that is no run"
-    (single 1 (Working 0 1)) (sets 0 1 ∷ []) (Refused 14 0 ∷ []) (no 14 0 ∷ no 14 0 ∷ []) (single 1 (Working 0 1))
+    (single 1 (Working 0 1 1)) (sets 0 1 ∷ []) (Refused 14 0 ∷ []) (no 14 0 ∷ no 14 0 ∷ []) (single 1 (Working 0 1 1))
     ∷ built "on a job released a tick ago that has waited"
-    (single 1 (Working 1 0)) (sets 0 1 ∷ []) (empty-no ∷ []) (row-20 ∷ on1 1 ∷ []) (single 1 (Working 1 0))
+    (single 1 (Working 1 0 0)) (sets 0 1 ∷ []) (empty-no ∷ []) (row-20 ∷ on1 1 ∷ []) (single 1 (Working 1 0 0))
     ∷ built "or has worked"
-    (single 1 (Working 1 1)) (sets 0 1 ∷ []) (empty-no ∷ []) (row-20 ∷ on1 1 ∷ []) (single 1 (Working 1 1))
+    (single 1 (Working 1 1 1)) (sets 0 1 ∷ []) (empty-no ∷ []) (row-20 ∷ on1 1 ∷ []) (single 1 (Working 1 1 1))
     ∷ built "on a holder, which is not reported either"
     (single 3 (Holding 1 1)) (sets 0 1 ∷ sets 1 0 ∷ none ∷ []) (empty-no ∷ report-no ∷ Taken ∷ []) (row-20 ∷ on1 1 ∷ on1 1 ∷ on1 1 ∷ []) (single 3 (Holding 2 2))
     ∷ built "on Holding(0,0) built by hand: it is within the limits, and no job that may be empty"
@@ -106,30 +99,29 @@ empty-lines =
     ∷ built "on Resting, and in the tick of the next release"
     (single 1 (Resting 5)) (sets 0 1 ∷ none ∷ sets 0 1 ∷ []) (empty-no ∷ Taken ∷ Taken ∷ []) (row-20 ∷ on1 0 ∷ on1 0 ∷ on1 0 ∷ []) (single-even 1 (Resting 1))
     ∷ built "past the count, also beside a good bit"
-    (single 1 (Working 0 0)) (sets 0 2 ∷ sets 0 3 ∷ sets 0 64 ∷ []) (empty-no ∷ empty-no ∷ empty-no ∷ []) (row-20 ∷ row-20 ∷ row-20 ∷ on1 1 ∷ [])
-    (single 1 (Working 0 0))
+    (single 1 (Working 0 0 0)) (sets 0 2 ∷ sets 0 3 ∷ sets 0 64 ∷ []) (empty-no ∷ empty-no ∷ empty-no ∷ []) (row-20 ∷ row-20 ∷ row-20 ∷ on1 1 ∷ [])
+    (single 1 (Working 0 0 0))
     ∷ built "14 before 20"
-    (single 4 (Working 0 0)) (sets 2 2 ∷ []) (Refused 14 0 ∷ []) (no 14 0 ∷ no 14 0 ∷ []) (single 4 (Working 0 0))
+    (single 5 (Working 0 0 0)) (sets 2 2 ∷ []) (Refused 14 0 ∷ []) (no 14 0 ∷ no 14 0 ∷ []) (single 5 (Working 0 0 0))
     ∷ built "15 before 20"
-    (single 1 (Working 4 0)) (sets 2 2 ∷ []) (Refused 15 1 ∷ []) (no 15 1 ∷ no 15 1 ∷ []) (single 1 (Working 4 0))
+    (single 1 (Working 4 0 0)) (sets 2 2 ∷ []) (Refused 15 1 ∷ []) (no 15 1 ∷ no 15 1 ∷ []) (single 1 (Working 4 0 0))
     ∷ built "20 before 16"
-    (single 1 (Working 0 0)) (sets 2 2 ∷ sets 2 0 ∷ sets 2 1 ∷ []) (empty-no ∷ report-no ∷ report-no ∷ []) (row-20 ∷ on1 1 ∷ on1 0 ∷ on1 1 ∷ [])
-    (single 1 (Working 0 0))
+    (single 1 (Working 0 0 0)) (sets 2 2 ∷ sets 2 0 ∷ sets 2 1 ∷ []) (empty-no ∷ report-no ∷ report-no ∷ []) (row-20 ∷ on1 1 ∷ on1 0 ∷ on1 1 ∷ [])
+    (single 1 (Working 0 0 0))
     ∷ built "a report on an empty job is 16, and nothing of that advance is kept"
-    (single 1 (Working 0 0)) (sets 1 1 ∷ none ∷ []) (report-no ∷ Taken ∷ []) (on1 0 ∷ on1 1 ∷ on1 1 ∷ []) (single 1 (Working 1 1))
+    (single 1 (Working 0 0 0)) (sets 1 1 ∷ none ∷ []) (report-no ∷ Taken ∷ []) (on1 0 ∷ on1 1 ∷ on1 1 ∷ []) (single 1 (Working 1 1 1))
     ∷ built "the same under idling, where it has cores"
-    (single 3 (Working 0 0)) (sets 1 1 ∷ sets 0 1 ∷ []) (report-no ∷ Taken ∷ []) (on1 1 ∷ on1 1 ∷ on1 1 ∷ []) (single 3 (Holding 1 1))
+    (single 3 (Working 0 0 0)) (sets 1 1 ∷ sets 0 1 ∷ []) (report-no ∷ Taken ∷ []) (on1 1 ∷ on1 1 ∷ on1 1 ∷ []) (single 3 (Holding 1 1))
     ∷ built "a report on a task that gets cores only because the one above is empty"
-    (wide (Working 0 0) (Working 0 0)) (sets 2 0 ∷ sets 2 1 ∷ []) (report-no ∷ Taken ∷ []) (on2 1 1 ∷ on2 2 2 ∷ on2 0 0 ∷ []) (wide (Resting 1) (Resting 1))
+    (wide (Working 0 0 0) (Working 0 0 0)) (sets 2 0 ∷ sets 2 1 ∷ []) (report-no ∷ Taken ∷ []) (on2 1 1 ∷ on2 2 2 ∷ on2 0 0 ∷ []) (wide (Resting 1) (Resting 1))
     ∷ built "B with position 1 empty: position 2 takes both cores, and position 3 is late"
-    (runB 1 (Working 0 0) (Working 0 0) (Working 0 0)) (sets 0 1 ∷ none ∷ none ∷ []) (Taken ∷ Taken ∷ Refused 15 3 ∷ [])
-    (on2 2 2 ∷ on2 3 0 ∷ no 15 3 ∷ no 15 3 ∷ []) (runB 1 (Resting 2) (Resting 2) (Working 2 1))
+    (runB 1 (Working 0 0 0) (Working 0 0 0) (Working 0 0 0)) (sets 0 1 ∷ none ∷ none ∷ []) (Taken ∷ Taken ∷ Refused 15 3 ∷ [])
+    (on2 2 2 ∷ on2 3 0 ∷ no 15 3 ∷ no 15 3 ∷ []) (runB 1 (Resting 2) (Resting 2) (Working 2 1 1))
     ∷ []
 
 -- every line is what the definitions say, line by line
 computed : LineByLine worked-named empty-lines empty-lines
-unfolding any least memb upFrom kept owner row given left grants claimants answers after rows advanceOf advanceAnswer rowOf rowAnswer bytesIn pastCount runOut
-    firstLateIn misemptiedIn misreportedIn grantsIn mapFirst moved
+unfolding running rows
 computed = (refl, (refl, (refl, (refl, (refl, (refl, (refl, (refl, (refl, (refl, (refl, (refl, (refl, (refl, (refl, (refl, (refl, (refl, (refl, (refl, (refl, (refl, (refl, tt)))))))))))))))))))))))
 
 -- .. and as one list

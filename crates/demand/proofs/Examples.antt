@@ -1,5 +1,5 @@
--- The marked lines of the table of examples, and those with empty jobs, with withdrawals and with two widths, through `replay`: what its contract says
--- of the words of a line's table and of the line's list is what the line says.
+-- The marked lines of the table of examples, and those with empty jobs, with withdrawals, with two widths and with lending, through `replay`: what its
+-- contract says of the words of a line's table and of the line's list is what the line says.
 -- So B with its report shows the right side of figure 2 of Goossens and Berten row by row, up to the miss; and B3 with the same report shows the rows that it shows without.
 use mathlib.Core.Path.{_≡_, refl, sym, ap, _∙_, subst}
 use mathlib.Core.List.{List, [], _∷_, map, _++_}
@@ -8,18 +8,15 @@ use native.Mathlib.Nat.{not-suc-le-zero, le-of-suc-le-suc}
 use lib.ListN.{length, getD, take, drop}
 use lib.Seq.{length-take-le}
 use Rattle.model.specs.Book.{Book, Entry, emptiesOf, Answer, taken, refused, Asked, shown, answersFrom, bookFrom, emptyBook, book, enter, asked, quiet, rowsFrom}
-use Rattle.model.specs.Book.{claims, full, served, step, work}
-use Rattle.model.specs.Grants.{claimants, given, grants, left}
-use Rattle.model.specs.Horizon.{S, horizon, hyperperiod, lcm}
-use Rattle.model.specs.Search.{any, kept, least, memb, upFrom}
-use Rattle.model.specs.Task.{Table, Task, Rule, greedy, limited, idling}
-use Rattle.model.specs.Firm.{firm, rising}
-use Rattle.model.specs.Verdict.{Verdict, Firm, Full, Miss, firstMiss, missedAt, missedIn, verdict}
+use Rattle.model.specs.Task.{Table, Task, Rule, greedy, limited, idling, lending}
+use Rattle.model.specs.Verdict.{Verdict, Firm, Full, Miss}
+use Rattle.model.proofs.Computing.{computing}
 use Rattle.model.proofs.LineByLine.{LineByLine, by-line}
 use Rattle.model.proofs.Examples.{Line, worked, lines, examples}
 use Rattle.model.proofs.EmptyExamples.{empty-lines, empty-examples}
 use Rattle.model.proofs.WithdrawExamples.{withdraw-lines, withdraw-examples}
 use Rattle.model.proofs.WidthExamples.{width-lines, width-examples}
+use Rattle.model.proofs.LendExamples.{lend-lines, lend-examples}
 use Rattle.table.specs.Words.{met, count, chain, tableOf}
 use Rattle.table.specs.Answer.{headerNumber, lastStep, endingOf, firstOut, byHorizon, byTasks, byWalk, answerOf}
 use Rattle.judge.specs.Judged.{verdictOf}
@@ -36,6 +33,7 @@ abbrev numberOf : Rule → ℕ
 numberOf greedy = 1
 numberOf limited = 2
 numberOf idling = 3
+numberOf lending = 4
 
 -- a task's record
 abbrev entry : ℕ → Task → List ℕ
@@ -161,30 +159,35 @@ begins l = record { table = tableOf (wordsOf l); start = told (startOf (wordsOf 
 expected : Line → Begins
 expected l = record { table = l .table; start = startSays (l .says) }
 
+-- what an example opens, so that its words' table and the answer of start compute
+unfoldable starting : Unit {0}
+unfolding computing expected records startOf startAnswer verdictOf answerOf byWalk byTasks byHorizon firstOut endingOf lastStep headerNumber tableOf
+    chain count met
+starting = tt
+
 -- line by line
 begun : LineByLine begins lines (map expected lines)
-unfolding expected records startOf startAnswer verdictOf answerOf byWalk byTasks byHorizon firstOut endingOf lastStep headerNumber tableOf chain count met
-    verdict firstMiss missedIn missedAt firm rising horizon S hyperperiod lcm least any memb upFrom kept given left grants claimants claims served work step
-    full
+unfolding starting
 begun = (refl, (refl, (refl, (refl, (refl, (refl, (refl, (refl, (refl, (refl, (refl, (refl, (refl, (refl, (refl, (refl, (refl, tt)))))))))))))))))
 
 begun-empty : LineByLine begins empty-lines (map expected empty-lines)
-unfolding expected records startOf startAnswer verdictOf answerOf byWalk byTasks byHorizon firstOut endingOf lastStep headerNumber tableOf chain count met
-    verdict firstMiss missedIn missedAt firm rising horizon S hyperperiod lcm least any memb upFrom kept given left grants claimants claims served work step
-    full
+unfolding starting
 begun-empty = (refl, (refl, (refl, (refl, (refl, (refl, (refl, (refl, (refl, (refl, (refl, (refl, (refl, (refl, (refl, tt)))))))))))))))
 
 begun-withdraw : LineByLine begins withdraw-lines (map expected withdraw-lines)
-unfolding expected records startOf startAnswer verdictOf answerOf byWalk byTasks byHorizon firstOut endingOf lastStep headerNumber tableOf chain count met
-    verdict firstMiss missedIn missedAt firm rising horizon S hyperperiod lcm least any memb upFrom kept given left grants claimants claims served work step
-    full
+unfolding starting
 begun-withdraw = (refl, (refl, (refl, (refl, (refl, (refl, (refl, (refl, (refl, (refl, (refl, (refl, (refl, (refl, tt))))))))))))))
 
 begun-width : LineByLine begins width-lines (map expected width-lines)
-unfolding expected records startOf startAnswer verdictOf answerOf byWalk byTasks byHorizon firstOut endingOf lastStep headerNumber tableOf chain count met
-    verdict firstMiss missedIn missedAt firm rising horizon S hyperperiod lcm least any memb upFrom kept given left grants claimants claims served work step
-    full
-begun-width = (refl, (refl, (refl, (refl, (refl, (refl, (refl, (refl, (refl, (refl, (refl, (refl, tt))))))))))))
+unfolding starting
+begun-width = (refl, (refl, (refl, (refl, (refl, (refl, (refl, (refl, (refl, (refl, (refl, (refl, (refl, tt)))))))))))))
+
+begun-lend : LineByLine begins lend-lines (map expected lend-lines)
+unfolding starting
+begun-lend =
+    let later : LineByLine begins (drop 11 lend-lines) (map expected (drop 11 lend-lines)) =
+    (refl, (refl, (refl, (refl, (refl, (refl, (refl, (refl, (refl, (refl, (refl, tt))))))))))) in
+    (refl, (refl, (refl, (refl, (refl, (refl, (refl, (refl, (refl, (refl, (refl, later)))))))))))
 
 -- what the definitions say of lines, the contract says of them through `replay`
 through : (ls : List Line) → map worked ls ≡ ls → LineByLine begins ls (map expected ls) → Each (λ l. ByVerdict (l .says) l) ls
@@ -212,3 +215,7 @@ withdraw-through-replay = through withdraw-lines withdraw-examples begun-withdra
 -- and every line with two widths
 pub width-through-replay : Each (λ l. ByVerdict (l .says) l) width-lines
 width-through-replay = through width-lines width-examples begun-width
+
+-- and every line with lending
+pub lend-through-replay : Each (λ l. ByVerdict (l .says) l) lend-lines
+lend-through-replay = through lend-lines lend-examples begun-lend

@@ -6,9 +6,6 @@ use mathlib.Core.Path.{_≡_, refl}
 use Prim.Native.Nat.{ℕ, _-_, _^_}
 use lib.ListN.{drop, replicate}
 use Rattle.model.specs.Book.{Entry, advance, emptiesOf}
-use Rattle.model.specs.Grants.{claimants, given, grants, left}
-use Rattle.model.specs.Row.{owner, row}
-use Rattle.model.specs.Search.{any, kept, least, memb, upFrom}
 use Rattle.model.proofs.LineByLine.{LineByLine, by-line}
 use Rattle.phase.specs.declared.Phase.{Phase}
 use Rattle.phase.specs.declared.Phase.the-variants.{Coming, Working, Holding, Resting}
@@ -18,12 +15,10 @@ use Rattle.run.specs.declared.Answer.{Answer}
 use Rattle.run.specs.declared.Answer.the-variants.{Taken, Refused}
 use Rattle.run.specs.declared.Row.{Row}
 use Rattle.phase.specs.Task.{unused}
-use Rattle.run.specs.Run.{grantsIn, mapFirst, moved}
 use Rattle.run.specs.Answer.{in64}
-use Rattle.run.specs.Numbers.{pastCount, runOut, firstLateIn, misemptiedIn, misreportedIn}
-use Rattle.run.specs.Advance.{advanceAnswer, advanceOf}
-use Rattle.run.specs.Row.{rowAnswer, bytesIn, noBytes, rowOf}
+use Rattle.run.specs.Row.{noBytes, rowOf}
 use Rattle.demand.specs.Entries.{entryOf, answers, after}
+use Rattle.demand.proofs.Running.{running}
 
 -- the row asked before each entry of the list with its empty jobs, and after the last with none
 unfoldable pub rows : Run → List Entry → List Row
@@ -109,7 +104,7 @@ abbrev asked : Run → Row → Line
 asked r w = record { from = r; entries = []; gets = []; shows = w ∷ []; ends = r }
 
 -- one task (2, 1, 3, 4, 6) on one core in a phase, under a rule
-abbrev limit : ℕ → Phase → Row → Line
+abbrev pub limit : ℕ → Phase → Row → Line
 limit r ph w = asked (one r 1 (t 2 1 3 4 6 ph)) w
 
 -- a count of so many tasks, which rest, on one core; there is a task at each place below it
@@ -126,37 +121,37 @@ row64 bytes = record { answer = Taken; bytes = in64 bytes }
 
 -- one task of width v, in a tick in which it claims, on m cores with fence f; what its row is answered
 abbrev wall : ℕ → ℕ → ℕ → Row → Line
-wall m f v w = asked (walled 1 m f (t 0 v 3 4 6 (Working 0 0))) w
+wall m f v w = asked (walled 1 m f (t 0 v 3 4 6 (Working 0 0 0))) w
 
 abbrev pub lines : List Line
 lines =
     -- B: position 1 reported in tick 0: tick 1 goes to position 2, then 15 with position 3, for ever
     record {
-      from = runB 1 (Working 0 0) (Working 0 0) (Working 0 0);
+      from = runB 1 (Working 0 0 0) (Working 0 0 0) (Working 0 0 0);
       entries = reported (1 ∷ 0 ∷ 0 ∷ 2 ∷ []);
       gets = Taken ∷ Taken ∷ Refused 15 3 ∷ Refused 15 3 ∷ [];
       shows = on2 1 3 ∷ on2 2 2 ∷ no 15 3 ∷ no 15 3 ∷ no 15 3 ∷ [];
-      ends = runB 1 (Resting 2) (Resting 2) (Working 2 1);
+      ends = runB 1 (Resting 2) (Resting 2) (Working 2 1 1);
     }
     -- a report for a position that gets no cores, and one past the count: 16, and the run as given
     ∷ record {
-      from = runB 1 (Working 0 0) (Working 0 0) (Working 0 0);
+      from = runB 1 (Working 0 0 0) (Working 0 0 0) (Working 0 0 0);
       entries = reported (2 ∷ 8 ∷ []);
       gets = Refused 16 0 ∷ Refused 16 0 ∷ [];
       shows = on2 1 3 ∷ on2 1 3 ∷ on2 1 3 ∷ [];
-      ends = runB 1 (Working 0 0) (Working 0 0) (Working 0 0);
+      ends = runB 1 (Working 0 0 0) (Working 0 0 0) (Working 0 0 0);
     }
     -- B3: the same report changes no row; a report for a holder is 16
     ∷ record {
-      from = runB 3 (Working 0 0) (Working 0 0) (Working 0 0);
+      from = runB 3 (Working 0 0 0) (Working 0 0 0) (Working 0 0 0);
       entries = reported (1 ∷ 1 ∷ 0 ∷ []);
       gets = Taken ∷ Refused 16 0 ∷ Taken ∷ [];
       shows = on2 1 3 ∷ on2 1 3 ∷ on2 1 3 ∷ on2 1 0 ∷ [];
-      ends = runB 3 (Holding 2 2) (Working 2 0) (Resting 2);
+      ends = runB 3 (Holding 2 2) (Working 2 0 0) (Resting 2);
     }
     -- E: the first release of position 1 is one tick ahead
     ∷ record {
-      from = runE (Coming 1) (Working 0 0);
+      from = runE (Coming 1) (Working 0 0 0);
       entries = reported (0 ∷ 0 ∷ []);
       gets = Taken ∷ Taken ∷ [];
       shows = on1 2 ∷ on1 1 ∷ on1 0 ∷ [];
@@ -164,35 +159,36 @@ lines =
     }
     -- a hold without cores ends at z = D, and then rests
     ∷ record {
-      from = two 3 1 (t 0 1 3 3 4 (Working 0 0)) (t 0 1 3 3 5 (Holding 2 1));
+      from = two 3 1 (t 0 1 3 3 4 (Working 0 0 0)) (t 0 1 3 3 5 (Holding 2 1));
       entries = reported (0 ∷ []);
       gets = Taken ∷ [];
       shows = on1 1 ∷ on1 1 ∷ [];
-      ends = two 3 1 (t 0 1 3 3 4 (Working 1 1)) (t 0 1 3 3 5 (Resting 3));
+      ends = two 3 1 (t 0 1 3 3 4 (Working 1 1 1)) (t 0 1 3 3 5 (Resting 3));
     }
     -- B on four cores of which 0 and 2 are fenced: as on two cores; what is refused shows no fence
     ∷ record {
-      from = fencedB 1 4 5 (Working 0 0) (Working 0 0) (Working 0 0);
+      from = fencedB 1 4 5 (Working 0 0 0) (Working 0 0 0) (Working 0 0 0);
       entries = reported (1 ∷ 4 ∷ 0 ∷ []);
       gets = Taken ∷ Refused 16 0 ∷ Taken ∷ [];
       shows = row64 (255 ∷ 1 ∷ 255 ∷ 3 ∷ []) ∷ row64 (255 ∷ 2 ∷ 255 ∷ 2 ∷ []) ∷ row64 (255 ∷ 2 ∷ 255 ∷ 2 ∷ []) ∷ no 15 3 ∷ [];
-      ends = fencedB 1 4 5 (Resting 2) (Resting 2) (Working 2 1);
+      ends = fencedB 1 4 5 (Resting 2) (Resting 2) (Working 2 1 1);
     }
     -- B3 on three cores of which 1 is fenced: held cores with the holder's position
     ∷ record {
-      from = fencedB 3 3 2 (Working 0 0) (Working 0 0) (Working 0 0);
+      from = fencedB 3 3 2 (Working 0 0 0) (Working 0 0 0) (Working 0 0 0);
       entries = reported (1 ∷ 0 ∷ []);
       gets = Taken ∷ Taken ∷ [];
       shows = row64 (1 ∷ 255 ∷ 3 ∷ []) ∷ row64 (1 ∷ 255 ∷ 3 ∷ []) ∷ row64 (1 ∷ 255 ∷ 0 ∷ []) ∷ [];
-      ends = fencedB 3 3 2 (Holding 2 2) (Working 2 0) (Resting 2);
+      ends = fencedB 3 3 2 (Holding 2 2) (Working 2 0 0) (Resting 2);
     }
     -- the limits of 14: the count 1 to 32
     ∷ resters 0 (no 14 0) ∷ resters 1 (on1 0) ∷ resters 32 (on1 0) ∷ resters 33 (no 14 0)
-    -- the rule 1, 2 or 3
-    ∷ limit 0 (Resting 1) (no 14 0) ∷ limit 1 (Resting 1) (on1 0) ∷ limit 2 (Resting 1) (on1 0) ∷ limit 3 (Resting 1) (on1 0) ∷ limit 4 (Resting 1) (no 14 0)
+    -- the rule 1 to 4
+    ∷ limit 0 (Resting 1) (no 14 0) ∷ limit 1 (Resting 1) (on1 0) ∷ limit 2 (Resting 1) (on1 0) ∷ limit 3 (Resting 1) (on1 0)
+    ∷ limit 4 (Resting 1) (on1 0) ∷ limit 5 (Resting 1) (no 14 0)
     -- every number at its least, and every number at its most; 0 and 65 cores
-    ∷ sized 1 (t 0 1 1 1 1 (Working 0 0)) (on1 1)
-    ∷ sized 64 (t 1000000 64 1000000 1000000 1000000 (Working 0 0)) (record { answer = Taken; bytes = replicate 64 1 })
+    ∷ sized 1 (t 0 1 1 1 1 (Working 0 0 0)) (on1 1)
+    ∷ sized 64 (t 1000000 64 1000000 1000000 1000000 (Working 0 0 0)) (record { answer = Taken; bytes = replicate 64 1 })
     ∷ sized 0 (t 2 1 3 4 6 (Resting 1)) (no 14 0) ∷ sized 65 (t 2 1 3 4 6 (Resting 1)) (no 14 0)
     -- a width 0, and one above the cores
     ∷ sized 1 (t 2 0 3 4 6 (Resting 1)) (no 14 0) ∷ sized 1 (t 2 2 3 4 6 (Resting 1)) (no 14 0)
@@ -210,17 +206,17 @@ lines =
     -- O above 1,000,000; C and T 0, and above 1,000,000
     ∷ sized 1 (t 1000001 1 3 4 6 (Resting 1)) (no 14 0)
     ∷ sized 1 (t 2 1 0 4 6 (Resting 1)) (no 14 0) ∷ sized 1 (t 2 1 1000001 4 6 (Resting 1)) (no 14 0)
-    ∷ sized 1 (t 2 1 3 0 0 (Working 0 0)) (no 14 0) ∷ sized 1 (t 2 1 3 1 0 (Working 0 0)) (no 14 0) ∷ sized 1 (t 2 1 3 4 1000001 (Resting 1)) (no 14 0)
+    ∷ sized 1 (t 2 1 3 0 0 (Working 0 0 0)) (no 14 0) ∷ sized 1 (t 2 1 3 1 0 (Working 0 0 0)) (no 14 0) ∷ sized 1 (t 2 1 3 4 1000001 (Resting 1)) (no 14 0)
     -- D 0, 1, T and T + 1
     ∷ sized 1 (t 2 1 3 0 6 (Resting 1)) (no 14 0) ∷ sized 1 (t 2 1 3 1 6 (Resting 1)) (on1 0)
     ∷ sized 1 (t 2 1 3 6 6 (Resting 1)) (on1 0) ∷ sized 1 (t 2 1 3 7 6 (Resting 1)) (no 14 0)
     -- Coming 1 to O
     ∷ limit 1 (Coming 0) (no 14 0) ∷ limit 1 (Coming 1) (on1 0) ∷ limit 1 (Coming 2) (on1 0) ∷ limit 1 (Coming 3) (no 14 0)
-    -- Working z 0 to D, where z = D passes 14 and is 15; u below C and at most z
-    ∷ limit 1 (Working 0 0) (on1 1) ∷ limit 1 (Working 4 0) (no 15 1) ∷ limit 1 (Working 5 0) (no 14 0)
-    ∷ limit 1 (Working 3 2) (on1 1) ∷ limit 1 (Working 3 3) (no 14 0) ∷ limit 1 (Working 2 2) (on1 1) ∷ limit 1 (Working 1 2) (no 14 0)
-    -- Holding under rule 3 only; z 0 to D − 1, u 0 to C − 1, u at most z
-    ∷ limit 3 (Holding 1 1) (on1 1) ∷ limit 2 (Holding 1 1) (no 14 0) ∷ limit 1 (Holding 1 1) (no 14 0)
+    -- Working z 0 to D, where z = D passes 14 and is 15; had below C and at most z (where had and reserved differ: LendBuilt.antt)
+    ∷ limit 1 (Working 0 0 0) (on1 1) ∷ limit 1 (Working 4 0 0) (no 15 1) ∷ limit 1 (Working 5 0 0) (no 14 0)
+    ∷ limit 1 (Working 3 2 2) (on1 1) ∷ limit 1 (Working 3 3 3) (no 14 0) ∷ limit 1 (Working 2 2 2) (on1 1) ∷ limit 1 (Working 1 2 2) (no 14 0)
+    -- Holding under rules 3 and 4 only; z 0 to D − 1, u 0 to C − 1, u at most z
+    ∷ limit 3 (Holding 1 1) (on1 1) ∷ limit 4 (Holding 1 1) (on1 1) ∷ limit 2 (Holding 1 1) (no 14 0) ∷ limit 1 (Holding 1 1) (no 14 0)
     ∷ limit 3 (Holding 0 0) (on1 1) ∷ limit 2 (Holding 0 0) (no 14 0) ∷ limit 1 (Holding 0 0) (no 14 0) ∷ limit 3 (Holding 0 1) (no 14 0)
     ∷ limit 3 (Holding 1 0) (on1 1) ∷ limit 3 (Holding 3 0) (on1 1) ∷ limit 3 (Holding 4 0) (no 14 0)
     ∷ limit 3 (Holding 3 1) (on1 1) ∷ limit 3 (Holding 4 1) (no 14 0)
@@ -234,11 +230,10 @@ lines =
 
 -- every line is what the definitions say, line by line; a line is named by what it is made of
 computed : LineByLine worked lines lines
-unfolding any least memb upFrom kept owner row given left grants claimants answers after rows advanceOf advanceAnswer rowOf rowAnswer bytesIn pastCount runOut
-    firstLateIn misemptiedIn misreportedIn grantsIn mapFirst moved
+unfolding running rows
 computed =
     let past-80 : LineByLine worked (drop 80 lines) (drop 80 lines) =
-    (refl, (refl, (refl, (refl, tt)))) in
+    (refl, (refl, (refl, (refl, (refl, (refl, tt)))))) in
     let past-60 : LineByLine worked (drop 60 lines) (drop 60 lines) =
     (refl, (refl, (refl, (refl, (refl, (refl, (refl, (refl, (refl, (refl, (refl, (refl, (refl, (refl, (refl, (refl, (refl, (refl, (refl, (refl, past-80)))))))))))))))))))) in
     let past-40 : LineByLine worked (drop 40 lines) (drop 40 lines) =

@@ -14,7 +14,9 @@ pub mod Listed
 pub mod Codes
 pub mod Outcomes
 pub mod Examples
+pub mod Running
 pub mod HandBuilt
 pub mod EmptyBuilt
 pub mod WithdrawBuilt
 pub mod WidthBuilt
+pub mod LendBuilt

@@ -1,30 +1,38 @@
--- A run as it is seen in a tick, and a book with its empty jobs ended: task by task tied, they give the same cores, show the same row, let the same
--- be reported; and a tick on they are tied again.
+-- A run as it is seen in a tick, and a book with its empty jobs ended: task by task tied, they give the same cores and lend the same, show the same
+-- row, let the same be reported; and a tick on they are tied again.
 use mathlib.Core.Path.{_≡_, refl, sym, ap, ap₂, _∙_, subst}
-use mathlib.Core.Bool.{Bool, true, false, not, _&&_, cond, false≢true}
-use mathlib.Core.List.{List, [], _∷_}
-use Prim.Native.Nat.{ℕ, zero, suc, _<_}
+use mathlib.Core.Bool.{Bool, true, false, not, _&&_, _||_, and-comm, cond, false≢true, true≢false}
+use mathlib.Core.List.{List, []}
+use Prim.Native.Nat.{ℕ, suc, _<_}
 use native.Mathlib.Omega.{arith}
-use lib.ListN.{length, getD, take, length-map, length-take, List·getD-map}
+use lib.ListN.{length, getD, take, length-map, length-take, List·getD-map, List·getD-eq-default}
 use lib.Seq.{ext-getD, getD-take}
 use lib.Dec.{ltb}
-use borrow.Author.Tests.{lt-ltb}
+use borrow.Author.Tests.{lt-ltb, ltb-false, ltb-true, not-false, not-true}
 use Rattle.model.proofs.Lists.{map-at}
 use Rattle.model.specs.Fence.{openCores, unfenced}
 use Rattle.model.specs.Search.{bit}
-use Rattle.model.specs.Task.{AllSound, Table, task, nobody, Rule, newest, widthOf}
+use Rattle.model.specs.Task.{AllSound, Table, task, nobody, Rule, due, newest, widthOf}
 use Rattle.model.specs.Task as model
-use Rattle.model.specs.Grants.{Claimant, claimants, grants, left, some}
+use Rattle.model.specs.Grants.{Claimant, claimants, grants, some}
+use Rattle.model.specs.Lending.{lends, lent, shownCores}
 use Rattle.model.specs.Row.{row}
-use Rattle.model.specs.Book.{Book, widths, taskClaims, grantsOf, rowOf, inRow, served, step, reportable, misreported}
+use Rattle.model.specs.Book.{Book, Job, claims, widths, taskClaims, grantsOf, rowOf, inRow, served, newestEnded, offer, seeks, lentOf, borrowed, borrows}
+use Rattle.model.specs.Book.{borrowing, step, reportable, misreported}
+use Rattle.model.proofs.Bools.{not-true-false}
 use Rattle.model.proofs.Search.{any-same}
-use Rattle.model.proofs.Grants.{claimants-same, runs}
+use Rattle.model.proofs.Grants.{claimants-same, grants-none}
+use Rattle.model.proofs.Jobs.{before-due}
+use Rattle.model.proofs.Lending.{borrower}
+use Rattle.phase.specs.declared.Phase.{Phase}
+use Rattle.phase.specs.declared.Phase.the-variants.{Coming, Working, Holding, Resting}
 use Rattle.phase.specs.declared.Stand.{Stand}
 use Rattle.phase.specs.declared.Task.{Task}
 use Rattle.run.specs.declared.Run.{Run}
-use Rattle.phase.specs.Phase.{claiming, working, lateIn, stand, nextStand}
+use Rattle.phase.specs.Phase.{claiming, holder, working, lateIn, stand, nextStand}
 use Rattle.phase.specs.Task.{taskOf, pastEnd, widthNow}
-use Rattle.run.specs.Run.{ruleIn, placeAt, taskAt, evenAt, phaseAt, tasksIn, seenAt, widthsNow, grantsIn, hasCores, nextAt, moved}
+use Rattle.run.specs.Run.{ruleIn, placeAt, taskAt, evenAt, phaseAt, tasksIn, seenAt, widthsNow, grantsIn, hasCores, offerIn, seeksIn, lentIn, hasLent}
+use Rattle.run.specs.Run.{shownIn, nextAt, moved}
 use Rattle.run.specs.Numbers.{reportableAt, misreportedIn}
 use Rattle.run.proofs.Places.{mapFirst-at, take-kept}
 use Rattle.demand.proofs.Tied.{Tied, TiedAt}
@@ -45,32 +53,10 @@ pub record Looks (s : Table) (c : Book) (r : Run) (e : ℕ) : Type 0 where
   pub tied : (p : ℕ) → p < length (s .tasks) → Tied (s .rule) (task s p) (c .tick) (c .job p) (evenAt r p) (seenAt r e p)
   pub punctual : (p : ℕ) → p < length (s .tasks) → lateIn (task s p .deadline) (seenAt r e p) ≡ false
 
--- WHO HAS CORES
-
--- who has cores claims, and stands among the claimants
-abbrev noClaimant : Claimant
-noClaimant = record { claims = false; width = 0 }
-
-grants-claims : (r : Rule) (bs : List Claimant) (F : List ℕ) (p : ℕ) → some (getD (grants r bs F) p []) ≡ true → getD bs p noClaimant .claims ≡ true
-unfolding grants
-grants-claims r [] F p e = absurd (false≢true e)
-grants-claims r (b ∷ bs) F zero e = runs b F e .claiming
-grants-claims r (b ∷ bs) F (suc p) e = grants-claims r bs (left r b F) p e
-
-claimants-at : (ws : List ℕ) (c : ℕ → Bool) (p : ℕ) → getD (claimants ws c) p noClaimant .claims ≡ true → (p < length ws) × (c p ≡ true)
-unfolding claimants
-claimants-at [] c p e = absurd (false≢true e)
-claimants-at (w ∷ ws) c zero e = (omega arith, e)
-claimants-at (w ∷ ws) c (suc p) e = let x = claimants-at ws (λ q. c (suc q)) p e in (omega arith, x .1)
-
--- a task with cores works or holds, and is below the count
-cores-claims : (r : Run) (e p : ℕ) → hasCores r e p ≡ true → (p < r .count) × (claiming (seenAt r e p) ≡ true)
-unfolding grantsIn
-cores-claims r e p h =
-    let claims : ℕ → Bool = λ q. claiming (seenAt r e q) in
-    let x = claimants-at (widthsNow r) claims p (grants-claims (ruleIn r) (claimants (widthsNow r) claims) (unfenced (r .fence) (r .cores)) p h) in
-    let n : length (widthsNow r) ≡ length (take (r .count) (r .tasks)) = length-map (take (r .count) (r .tasks)) widthNow in
-    (omega (arith, length-take (r .count) (r .tasks)), x .1)
+-- a place past the last never claims
+claims-nobody : (r : Rule) (τ : model.Task) (k t : ℕ) (j : Job) → τ ≡ nobody → claims r τ k t j ≡ false
+claims-nobody r τ k t j e =
+    not-true-false (claims r τ k t j) (λ q. let l : t < due nobody k = subst (λ (x : model.Task). t < due x k) e (before-due r τ k t j q) in omega arith)
 
 -- OF ONE TABLE
 
@@ -98,6 +84,22 @@ module _ (s : Table) (ok : AllSound s) (c : Book) (r : Run) (e : ℕ) (h : Looks
       → Does (s .rule) (task s p) (ok p l) (c .tick) (c .job p) (evenAt r p) (newest (task s p) (c .tick)) (seenAt r e p)
   does p l = newest-does (s .rule) (task s p) (ok p l) (c .tick) (c .job p) (evenAt r p) (seenAt r e p) (h .tied p l) (h .punctual p l)
 
+  same-claims : (p : ℕ) → p < length (s .tasks) → taskClaims s c p ≡ claiming (seenAt r e p)
+  same-claims p l = does p l .claimed
+
+  -- who claims is a place of the table
+  claims-below : (p : ℕ) → taskClaims s c p ≡ true → p < length (s .tasks)
+  claims-below p q = go (ltb p (length (s .tasks))) refl
+    where
+      new : ℕ
+      new = newest (task s p) (c .tick)
+
+      go : (x : Bool) → ltb p (length (s .tasks)) ≡ x → p < length (s .tasks)
+      go true i = ltb-true p (length (s .tasks)) i
+      go false i =
+          absurd (true≢false (sym q ∙ claims-nobody (s .rule) (task s p) new (c .tick) (c .job p new)
+          (List·getD-eq-default (s .tasks) nobody (ltb-false p (length (s .tasks)) i))))
+
   -- the width of each job, by its parity
   same-width : (p : ℕ) → p < length (s .tasks) → widthNow (placeAt r p) ≡ widthOf (task s p) (newest (task s p) (c .tick))
   same-width p l =
@@ -124,7 +126,7 @@ module _ (s : Table) (ok : AllSound s) (c : Book) (r : Run) (e : ℕ) (h : Looks
       lengths : length (widthsNow r) ≡ length (s .tasks)
       lengths = length-map (take (r .count) (r .tasks)) widthNow ∙ same-length s r (h .same)
 
-  -- the cores of each place, and so the row
+  -- the cores that each place is given
   same-grants : grantsIn r e ≡ grantsOf s c
   unfolding grantsIn
   same-grants =
@@ -133,38 +135,106 @@ module _ (s : Table) (ok : AllSound s) (c : Book) (r : Run) (e : ℕ) (h : Looks
       (ap₂ unfenced (h .same .same-fence) (h .same .same-cores))
       ∙ ap (λ (bs : List Claimant). grants (s .rule) bs (openCores s))
       (sym (claimants-same (widths s (c .tick)) (taskClaims s c) (λ p. claiming (seenAt r e p))
-      (λ p l. does p (subst (λ (n : ℕ). p < n) (length-map (s .tasks) (λ τ. widthOf τ (newest τ (c .tick)))) l) .claimed))))
-
-  pub same-row : row (r .fence) (r .cores) (grantsIn r e) ≡ rowOf s c
-  same-row = λ i. row (h .same .same-fence i) (h .same .same-cores i) (same-grants i)
+      (λ p l. same-claims p (subst (λ (n : ℕ). p < n) (length-map (s .tasks) (λ τ. widthOf τ (newest τ (c .tick)))) l)))))
 
   same-cores-at : (p : ℕ) → hasCores r e p ≡ inRow s c p
   same-cores-at p = ap (λ (x : List (List ℕ)). some (getD x p [])) same-grants
 
+  -- WHAT IS LENT
+
+  -- who claims works exactly if its job is open, and holds exactly if that has ended
+  open-works : (p : ℕ) → p < length (s .tasks) → taskClaims s c p && not (newestEnded s c p) ≡ working (seenAt r e p)
+  open-works p l = ap (λ (x : Bool). x && not (newestEnded s c p)) (same-claims p l) ∙ does p l .open-job
+
+  holds-ended : (ph : Phase) (x : Bool) → claiming ph ≡ true → claiming ph && not x ≡ working ph → holder ph ≡ x
+  holds-ended (Coming left) x a b = absurd (false≢true a)
+  holds-ended (Working z had u) x a b = sym (not-true x b)
+  holds-ended (Holding z u) x a b = sym (not-false x b)
+  holds-ended (Resting z) x a b = absurd (false≢true a)
+
+  same-seeks : (p : ℕ) → seeksIn r e p ≡ seeks s c p
+  unfolding seeksIn seeks
+  same-seeks p = go (ltb p (length (s .tasks))) refl
+    where
+      go : (x : Bool) → ltb p (length (s .tasks)) ≡ x
+          → ltb p (r .count) && (working (seenAt r e p) && not (hasCores r e p)) ≡ taskClaims s c p && not (newestEnded s c p) && not (inRow s c p)
+      go true i =
+          let l = ltb-true p (length (s .tasks)) i in
+          ap (λ (x : Bool). x && (working (seenAt r e p) && not (hasCores r e p))) (lt-ltb p (r .count) (below-count s r (h .same) p l))
+          ∙ ap₂ (λ (x y : Bool). x && not y) (sym (open-works p l)) (same-cores-at p)
+      go false i =
+          ap (λ (x : Bool). x && (working (seenAt r e p) && not (hasCores r e p))) (ap (ltb p) (h .same .same-count) ∙ i)
+          ∙ sym (ap (λ (x : Bool). x && not (newestEnded s c p) && not (inRow s c p))
+          (not-true-false (taskClaims s c p) (λ q. true≢false (sym (lt-ltb p (length (s .tasks)) (claims-below p q)) ∙ i))))
+
+  same-offer : (p : ℕ) → offerIn r e p ≡ offer s c p
+  unfolding offerIn offer
+  same-offer p =
+      ap (λ (u : Rule). cond (lends u && holder (seenAt r e p)) (getD (grantsIn r e) p []) []) (h .same .same-rule)
+      ∙ (ap (λ (x : List (List ℕ)). cond (lends (s .rule) && holder (seenAt r e p)) (getD x p []) []) same-grants
+      ∙ go (taskClaims s c p) refl)
+    where
+      go : (x : Bool) → taskClaims s c p ≡ x
+          → cond (lends (s .rule) && holder (seenAt r e p)) (getD (grantsOf s c) p []) []
+          ≡ cond (lends (s .rule) && newestEnded s c p) (getD (grantsOf s c) p []) []
+      go true q =
+          let l = claims-below p q in
+          ap (λ (x : Bool). cond (lends (s .rule) && x) (getD (grantsOf s c) p []) [])
+          (holds-ended (seenAt r e p) (newestEnded s c p) (sym (same-claims p l) ∙ q) (does p l .open-job))
+      go false q =
+          let n : getD (grantsOf s c) p [] ≡ [] = grants-none (s .rule) (widths s (c .tick)) (taskClaims s c) (openCores s) p q in
+          ap (λ (x : List ℕ). cond (lends (s .rule) && holder (seenAt r e p)) x []) n
+          ∙ (none (lends (s .rule) && holder (seenAt r e p))
+          ∙ sym (ap (λ (x : List ℕ). cond (lends (s .rule) && newestEnded s c p) x []) n ∙ none (lends (s .rule) && newestEnded s c p)))
+        where
+          none : (x : Bool) → cond {A = List ℕ} x [] [] ≡ []
+          none true = refl
+          none false = refl
+
+  -- so the same is borrowed
+  same-lent : lentIn r e ≡ lentOf s c
+  unfolding lentIn
+  same-lent = λ i. lent (same-widths i) (λ q. same-seeks q i) (λ q. same-offer q i) (h .same .same-count i)
+
+  same-lent-at : (p : ℕ) → hasLent r e p ≡ borrows s c p
+  unfolding borrowed
+  same-lent-at p = ap (λ (x : List (List ℕ)). some (getD x p [])) same-lent
+
+  -- THE ROW, AND REPORTS
+
+  pub same-row : row (r .fence) (r .cores) (shownIn r e) ≡ rowOf s c
+  same-row = λ i. row (h .same .same-fence i) (h .same .same-cores i) (shownCores (same-grants i) (same-lent i))
+
+  -- who does not claim is given nothing, and borrows nothing
+  no-cores : (p : ℕ) → taskClaims s c p ≡ false → inRow s c p ≡ false
+  no-cores p q = ap some (grants-none (s .rule) (widths s (c .tick)) (taskClaims s c) (openCores s) p q)
+
+  no-lent : (p : ℕ) → taskClaims s c p ≡ false → borrows s c p ≡ false
+  no-lent p q = not-true-false (borrows s c p) (λ w. true≢false (sym (borrower s c p w .claiming) ∙ q))
+
   -- who may be reported is the same of both
   same-reportable : (p : ℕ) → reportableAt r e p ≡ reportable s c p
   unfolding reportable
-  same-reportable p = rw (← same-cores-at p) (go (hasCores r e p) refl)
+  same-reportable p =
+      ap₂ (λ (x y : Bool). ltb p (r .count) && (working (seenAt r e p) && (x || y))) (same-cores-at p) (same-lent-at p)
+      ∙ go (taskClaims s c p) refl
     where
-      open-job : Bool
-      open-job = not (c .job p (newest (task s p) (c .tick)) .ended)
-
-      reports : (a k o : Bool) → a ≡ true → a && o ≡ k → true && (k && true) ≡ o
-      reports true true o q i = sym i
-      reports true false o q i = sym i
-      reports false k o q i = absurd (false≢true q)
-
       off : (x y : Bool) → x && (y && false) ≡ false
       off true true = refl
       off true false = refl
       off false y = refl
 
-      go : (x : Bool) → hasCores r e p ≡ x → ltb p (r .count) && (working (seenAt r e p) && x) ≡ x && open-job
-      go false q = off (ltb p (r .count)) (working (seenAt r e p))
+      go : (x : Bool) → taskClaims s c p ≡ x
+          → ltb p (r .count) && (working (seenAt r e p) && (inRow s c p || borrows s c p)) ≡ (inRow s c p || borrows s c p) && not (newestEnded s c p)
       go true q =
-          let k = cores-claims r e p q in
-          let l : p < length (s .tasks) = subst (λ (n : ℕ). p < n) (h .same .same-count) (k .0) in
-          rw (lt-ltb p (r .count) (k .0)) (reports (claiming (seenAt r e p)) (working (seenAt r e p)) open-job (k .1) (does p l .open-job))
+          let l = claims-below p q in
+          let w : working (seenAt r e p) ≡ not (newestEnded s c p) = sym (open-works p l) ∙ ap (λ (x : Bool). x && not (newestEnded s c p)) q in
+          ap₂ (λ (x y : Bool). x && (y && (inRow s c p || borrows s c p))) (lt-ltb p (r .count) (below-count s r (h .same) p l)) w
+          ∙ and-comm (not (newestEnded s c p)) (inRow s c p || borrows s c p)
+      go false q =
+          ap₂ (λ (x y : Bool). ltb p (r .count) && (working (seenAt r e p) && (x || y))) (no-cores p q) (no-lent p q)
+          ∙ (off (ltb p (r .count)) (working (seenAt r e p))
+          ∙ sym (ap₂ (λ (x y : Bool). (x || y) && not (newestEnded s c p)) (no-cores p q) (no-lent p q)))
 
   -- so 16 is
   pub same-misreported : (x : ℕ) → misreportedIn r e x ≡ misreported s c x
@@ -178,20 +248,21 @@ module _ (s : Table) (ok : AllSound s) (c : Book) (r : Run) (e : ℕ) (h : Looks
   moved-at :
       (f : ℕ → Bool) (p : ℕ) → p < length (s .tasks)
       → stand (evenAt (moved f e r) p) (phaseAt (moved f e r) p)
-      ≡ nextStand (s .rule) (task s p) (inRow s c p) (f p) (evenAt r p) (seenAt r e p)
+      ≡ nextStand (s .rule) (task s p) (inRow s c p) (borrows s c p) (f p) (evenAt r p) (seenAt r e p)
   unfolding moved
   moved-at f p l =
       ap (λ (t : Task). stand (t .even) (t .phase))
       (mapFirst-at (nextAt r f e) (r .count) (r .tasks) p pastEnd (below-count s r (h .same) p l) (in-array s r (h .same) p l))
-      ∙ (λ i. nextStand (h .same .same-rule i) (same-task s r (h .same) p l i) (same-cores-at p i) (f p) (evenAt r p) (seenAt r e p))
+      ∙ (λ i. nextStand (h .same .same-rule i) (same-task s r (h .same) p l i) (same-cores-at p i) (same-lent-at p i) (f p) (evenAt r p) (seenAt r e p))
 
   pub tied-moved :
       (f : ℕ → Bool) (p : ℕ) → p < length (s .tasks)
       → Tied (s .rule) (task s p) (suc (c .tick)) (step s f c .job p) (evenAt (moved f e r) p) (phaseAt (moved f e r) p)
-  unfolding step served
+  unfolding step served borrowing
   tied-moved f p l =
       subst (λ (w : Stand). TiedAt (s .rule) (task s p) (suc (c .tick)) (step s f c .job p) w) (sym (moved-at f p l))
-      (tied-on (s .rule) (task s p) (ok p l) (c .tick) (c .job p) (evenAt r p) (inRow s c p) (f p) (seenAt r e p) (h .tied p l) (h .punctual p l))
+      (tied-on (s .rule) (task s p) (ok p l) (c .tick) (c .job p) (evenAt r p) (inRow s c p) (borrows s c p) (f p) (seenAt r e p)
+      (h .tied p l) (h .punctual p l))
 
   pub same-moved : (f : ℕ → Bool) → SameTable s (moved f e r)
   same-moved f = record {

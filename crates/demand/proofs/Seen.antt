@@ -1,7 +1,7 @@
 -- Empty jobs: to end them in the book is to see their tasks as holding, or as claiming nothing; the tie is kept.
 use mathlib.Core.Path.{_≡_, refl, sym, ap, _∙_, subst}
 use mathlib.Core.Bool.{Bool, true, false, and-false, _&&_, cond}
-use Prim.Native.Nat.{ℕ, _≤_, _<_}
+use Prim.Native.Nat.{ℕ, _<_}
 use native.Mathlib.Nat.{le-trans}
 use native.Mathlib.Omega.{arith}
 use lib.Dec.{eqb}
@@ -56,7 +56,7 @@ tied-seen r τ ok t js e even (Coming left) h n = rw (and-false e) (record {
   unmet = λ i. not-now τ t e js i (λ q. omega (arith, h .when, h .some)) ∙ h .unmet i;
   odd = h .odd;
 })
-tied-seen r τ ok t js e even (Working z u) h n = by-empty e
+tied-seen r τ ok t js e even (Working z had u) h n = by-empty e
   where
     k : ℕ
     k = h .number
@@ -68,7 +68,7 @@ tied-seen r τ ok t js e even (Working z u) h n = by-empty e
     short = omega (arith, less, ok .constrained)
 
     -- released in this tick: the job ends
-    ends : z ≡ 0 → lineEmptied τ t true js k ≡ mk u u true
+    ends : z ≡ 0 → lineEmptied τ t true js k ≡ mk had u true
     ends q = rw (eq-eqb (release τ k) t (omega (arith, h .present .when)), h .line)
 
     at-zero : z ≡ 0 → Present τ t (lineEmptied τ t true js) even k 0
@@ -82,7 +82,7 @@ tied-seen r τ ok t js e even (Working z u) h n = by-empty e
       in-time = ok .deadline-pos;
       short = ok .length-pos;
       over = ap (λ (j : Job). j .ended) (ends q);
-      held = ap (λ (j : Job). j .claimed) (ends q) ∙ omega (arith, h .within);
+      held = ap (λ (j : Job). j .claimed) (ends q) ∙ omega (arith, h .paid, h .within);
     }
     ending q false i = record {
       number = k;
@@ -92,23 +92,24 @@ tied-seen r τ ok t js e even (Working z u) h n = by-empty e
       done = λ w. absurd (none-holds r τ (lineEmptied τ t true js k) i w);
     }
 
-    stays : (z ≡ 0 → ⊥) → Works τ t (lineEmptied τ t true js) even z u
+    stays : (z ≡ 0 → ⊥) → Works τ t (lineEmptied τ t true js) even z had u
     stays q = record {
       number = k;
       present = present-seen r τ ok t js true even k z short (h .present);
       by-due = h .by-due;
       short = h .short;
       within = h .within;
+      paid = h .paid;
       line = not-now τ t true js k (λ w. q (omega (arith, h .present .when))) ∙ h .line;
     }
 
-    go : (x : Bool) → eqb z 0 ≡ x → Tied r τ t (lineEmptied τ t true js) even (cond (x && eqb u 0) (emptyPhase r) (Working z u))
+    go : (x : Bool) → eqb z 0 ≡ x → Tied r τ t (lineEmptied τ t true js) even (cond (x && eqb had 0) (emptyPhase r) (Working z had u))
     go true q =
         let y : z ≡ 0 = eqb-true z 0 q in
-        rw (eq-eqb u 0 (omega (arith, h .within))) (ending y (idles r) refl)
+        rw (eq-eqb had 0 (omega (arith, h .within))) (ending y (idles r) refl)
     go false q = stays (eqb-false z 0 q)
 
-    by-empty : (e : Bool) → Tied r τ t (lineEmptied τ t e js) even (seen r e (Working z u))
+    by-empty : (e : Bool) → Tied r τ t (lineEmptied τ t e js) even (seen r e (Working z had u))
     by-empty true = go (eqb z 0) refl
     by-empty false = h
 tied-seen r τ ok t js e even (Holding z u) h n = rw (and-false e) (record {

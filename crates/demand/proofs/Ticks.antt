@@ -9,38 +9,41 @@ use native.Mathlib.Omega.{arith}
 use lib.Dec.{leb, eqb}
 use borrow.Author.Tests.{eqb-false, le-leb, lt-leb}
 use Rattle.model.specs.Task.{Task, Sound, Rule, newest}
-use Rattle.model.specs.Book.{Job, fresh, holds, claims, work}
-use Rattle.model.proofs.Jobs.{mk, next, next-ended, next-claimed, claims-if, newest-is, others}
+use Rattle.model.specs.Book.{Job, fresh, holds, claims, work, workLent}
+use Rattle.model.proofs.Jobs.{mk, turn, turn-ended, turn-claimed, claims-if, newest-is, others}
 use Rattle.phase.specs.declared.Phase.{Phase}
 use Rattle.phase.specs.declared.Phase.the-variants.{Coming, Working, Holding, Resting}
 use Rattle.phase.specs.Phase.{idles, lateIn, stand, startStand, resting, holding, ended, worked, nextStand}
 use Rattle.phase.proofs.Phases.{by-eq}
 use Rattle.demand.proofs.Tied.{Present, Tied, TiedAt, parity-suc, newest-in, early, hold-if, full-done, none-holds, ended-also, rests-off}
 
--- a line after a tick in which its task had cores or not
-abbrev pub lineOn : Rule → Task → ℕ → Bool → Bool → (ℕ → Job) → ℕ → Job
-lineOn r τ t w f js i = cond (claims r τ i t (js i) && w) (work (τ .length) f (js i)) (js i)
+-- a line after a tick in which its task was given cores (w), or borrowed some (l), or neither
+abbrev pub lineOn : Rule → Task → ℕ → Bool → Bool → Bool → (ℕ → Job) → ℕ → Job
+lineOn r τ t w l f js i =
+    cond (claims r τ i t (js i) && w) (work (τ .length) f (js i)) (cond (claims r τ i t (js i) && l) (workLent (τ .length) f (js i)) (js i))
 
 -- a job that does not claim is as it was
-line-off : (r : Rule) (τ : Task) (t : ℕ) (w f : Bool) (js : ℕ → Job) (i : ℕ) → claims r τ i t (js i) ≡ false → lineOn r τ t w f js i ≡ js i
-line-off r τ t w f js i e = rw e
+line-off : (r : Rule) (τ : Task) (t : ℕ) (w l f : Bool) (js : ℕ → Job) (i : ℕ) → claims r τ i t (js i) ≡ false → lineOn r τ t w l f js i ≡ js i
+line-off r τ t w l f js i e = rw e
 
-line-own : (r : Rule) (τ : Task) (t : ℕ) (w f : Bool) (js : ℕ → Job) (i : ℕ) → claims r τ i t (js i) ≡ true → lineOn r τ t w f js i ≡ next (τ .length) f w (js i)
-line-own r τ t w f js i e = rw e
+line-own :
+    (r : Rule) (τ : Task) (t : ℕ) (w l f : Bool) (js : ℕ → Job) (i : ℕ) → claims r τ i t (js i) ≡ true
+    → lineOn r τ t w l f js i ≡ turn (τ .length) f w l (js i)
+line-own r τ t w l f js i e = rw e
 
 -- where k is the newest, the present job one tick on is still k
 present-on :
-    (r : Rule) (τ : Task) → Sound τ → (t : ℕ) (js : ℕ → Job) (even w f : Bool) (k z : ℕ) → newest τ t ≡ k
-    → Present τ t js even k z → Present τ (suc t) (lineOn r τ t w f js) even k (z + 1)
-present-on r τ ok t js even w f k z new h = record {
+    (r : Rule) (τ : Task) → Sound τ → (t : ℕ) (js : ℕ → Job) (even w l f : Bool) (k z : ℕ) → newest τ t ≡ k
+    → Present τ t js even k z → Present τ (suc t) (lineOn r τ t w l f js) even k (z + 1)
+present-on r τ ok t js even w l f k z new h = record {
   when = omega (arith, h .when);
-  past = λ i l. ap (λ (j : Job). j .ended) (same i (omega arith)) ∙ h .past i l;
-  ahead = λ i l. same i (omega arith) ∙ h .ahead i l;
+  past = λ i q. ap (λ (j : Job). j .ended) (same i (omega arith)) ∙ h .past i q;
+  ahead = λ i q. same i (omega arith) ∙ h .ahead i q;
   parity = h .parity;
 }
   where
-    same : (i : ℕ) → (i ≡ k → ⊥) → lineOn r τ t w f js i ≡ js i
-    same i ne = line-off r τ t w f js i (others r τ k t i (js i) (ok .constrained) new ne)
+    same : (i : ℕ) → (i ≡ k → ⊥) → lineOn r τ t w l f js i ≡ js i
+    same i ne = line-off r τ t w l f js i (others r τ k t i (js i) (ok .constrained) new ne)
 
 -- AFTER A TICK
 
@@ -48,7 +51,7 @@ module _ (r : Rule) (τ : Task) (ok : Sound τ) (t : ℕ) (js : ℕ → Job) (ev
   -- a job that has ended rests, or the next is released
   rested : z ≤ τ .period → js k .ended ≡ true → (holds r τ (js k) ≡ true → τ .deadline ≤ z) → TiedAt r τ t js (resting τ even z)
   rested b over done =
-      by-eq (λ (x : Bool). TiedAt r τ t js (cond x (stand (not even) (Working 0 0)) (stand even (Resting z)))) z (τ .period)
+      by-eq (λ (x : Bool). TiedAt r τ t js (cond x (stand (not even) (Working 0 0 0)) (stand even (Resting z)))) z (τ .period)
       (λ e. record {
         number = suc k;
         present = record {
@@ -60,6 +63,7 @@ module _ (r : Rule) (τ : Task) (ok : Sound τ) (t : ℕ) (js : ℕ → Job) (ev
         by-due = omega arith;
         short = ok .length-pos;
         within = omega arith;
+        paid = omega arith;
         line = h .ahead (suc k) (omega arith);
       })
       (λ n. record { number = k; present = h; short = omega arith; over = over; done = done })
@@ -92,51 +96,58 @@ module _ (r : Rule) (τ : Task) (ok : Sound τ) (t : ℕ) (js : ℕ → Job) (ev
       go true e = held-on e b u d over held
       go false e = rested (le-trans b (ok .constrained)) over (λ q. absurd (none-holds r τ (js k) e q))
 
-  -- an open job after a tick with cores
+  -- an open job after a tick with cores, its own or borrowed ones
   worked-on :
-      z ≤ τ .deadline → (u : ℕ) (f : Bool) → u ≤ τ .length → u ≤ z → js k ≡ mk u u (f || leb (τ .length) u)
-      → TiedAt r τ t js (worked r τ f even z u)
-  worked-on b u true d w line = ended-on b u d (ap (λ (j : Job). j .ended) line) (ap (λ (j : Job). j .claimed) line)
-  worked-on b u false d w line =
-      by-eq (λ (x : Bool). TiedAt r τ t js (cond x (ended r τ even z u) (stand even (Working z u)))) u (τ .length)
-      (λ e. ended-on b u d (ap (λ (j : Job). j .ended) line ∙ le-leb (τ .length) u (omega arith)) (ap (λ (j : Job). j .claimed) line))
+      z ≤ τ .deadline → (had u : ℕ) (f : Bool) → had ≤ τ .length → had ≤ z → u ≤ had → js k ≡ mk had u (f || leb (τ .length) had)
+      → TiedAt r τ t js (worked r τ f even z had u)
+  worked-on b had u true d w q line = ended-on b u (omega arith) (ap (λ (j : Job). j .ended) line) (ap (λ (j : Job). j .claimed) line)
+  worked-on b had u false d w q line =
+      by-eq (λ (x : Bool). TiedAt r τ t js (cond x (ended r τ even z u) (stand even (Working z had u)))) had (τ .length)
+      (λ e. ended-on b u (omega arith) (ap (λ (j : Job). j .ended) line ∙ le-leb (τ .length) had (omega arith)) (ap (λ (j : Job). j .claimed) line))
       (λ n. record {
         number = k;
         present = h;
         by-due = b;
         short = omega arith;
         within = w;
-        line = line ∙ ap (λ (e : Bool). mk u u e) (lt-leb (τ .length) u (omega arith));
+        paid = q;
+        line = line ∙ ap (λ (e : Bool). mk had u e) (lt-leb (τ .length) had (omega arith));
       })
 
--- a job after a tick in its row, that was not ended: it has had one more, and ends if reported or at C
-work-open : (C u : ℕ) (f : Bool) (j : Job) → j ≡ mk u u false → work C f j ≡ mk (suc u) (suc u) (f || leb C (suc u))
+-- a job that was not ended, after a tick with its own cores: it has had and claimed one more, and ends if reported or at C
+work-open : (C had u : ℕ) (f : Bool) (j : Job) → j ≡ mk had u false → work C f j ≡ mk (suc had) (suc u) (f || leb C (suc had))
 unfolding work
-work-open C u f j e = rw e
+work-open C had u f j e = rw e
+
+-- .. and with borrowed ones: it has had one more and claimed none
+lent-open : (C had u : ℕ) (f : Bool) (j : Job) → j ≡ mk had u false → workLent C f j ≡ mk (suc had) u (f || leb C (suc had))
+unfolding workLent
+lent-open C had u f j e = rw e
 
 -- ONE TICK
 
 -- at the start the first release is now, or it is O ticks ahead
 pub tied-start : (r : Rule) (τ : Task) → Sound τ → TiedAt r τ 0 (λ k. fresh) (startStand (τ .offset))
 tied-start r τ ok =
-    by-eq (λ (x : Bool). TiedAt r τ 0 (λ k. fresh) (stand false (cond x (Working 0 0) (Coming (τ .offset))))) (τ .offset) 0
+    by-eq (λ (x : Bool). TiedAt r τ 0 (λ k. fresh) (stand false (cond x (Working 0 0 0) (Coming (τ .offset))))) (τ .offset) 0
     (λ e. record {
       number = 0;
       present = record { when = omega arith; past = λ i l. absurd (omega arith); ahead = λ i l. refl; parity = refl };
       by-due = omega arith;
       short = ok .length-pos;
       within = omega arith;
+      paid = omega arith;
       line = refl;
     })
     (λ n. record { some = omega arith; when = omega arith; unmet = λ i. refl; odd = refl })
 
 -- the tie holds one tick on, where the task is not late
 pub tied-on :
-    (r : Rule) (τ : Task) → Sound τ → (t : ℕ) (js : ℕ → Job) (even w f : Bool) (ph : Phase)
+    (r : Rule) (τ : Task) → Sound τ → (t : ℕ) (js : ℕ → Job) (even w l f : Bool) (ph : Phase)
     → Tied r τ t js even ph → lateIn (τ .deadline) ph ≡ false
-    → TiedAt r τ (suc t) (lineOn r τ t w f js) (nextStand r τ w f even ph)
-tied-on r τ ok t js even w f (Coming left) h n =
-    by-eq (λ (x : Bool). TiedAt r τ (suc t) (lineOn r τ t w f js) (stand even (cond x (Working 0 0) (Coming (left - 1))))) (left - 1) 0
+    → TiedAt r τ (suc t) (lineOn r τ t w l f js) (nextStand r τ w l f even ph)
+tied-on r τ ok t js even w l f (Coming left) h n =
+    by-eq (λ (x : Bool). TiedAt r τ (suc t) (lineOn r τ t w l f js) (stand even (cond x (Working 0 0 0) (Coming (left - 1))))) (left - 1) 0
     (λ e. record {
       number = 0;
       present = record {
@@ -148,6 +159,7 @@ tied-on r τ ok t js even w f (Coming left) h n =
       by-due = omega arith;
       short = ok .length-pos;
       within = omega arith;
+      paid = omega arith;
       line = unmet 0;
     })
     (λ e. record {
@@ -157,9 +169,9 @@ tied-on r τ ok t js even w f (Coming left) h n =
       odd = h .odd;
     })
   where
-    unmet : (i : ℕ) → lineOn r τ t w f js i ≡ fresh
-    unmet i = line-off r τ t w f js i (early r τ t i (js i) (omega (arith, h .when, h .some))) ∙ h .unmet i
-tied-on r τ ok t js even w f (Working z u) h n = go w
+    unmet : (i : ℕ) → lineOn r τ t w l f js i ≡ fresh
+    unmet i = line-off r τ t w l f js i (early r τ t i (js i) (omega (arith, h .when, h .some))) ∙ h .unmet i
+tied-on r τ ok t js even w l f (Working z had u) h n = go w l
   where
     k : ℕ
     k = h .number
@@ -173,20 +185,25 @@ tied-on r τ ok t js even w f (Working z u) h n = go w
     own : claims r τ k t (js k) ≡ true
     own = claims-if r τ k t (js k) (omega (arith, h .present .when)) (omega (arith, h .present .when, less)) (rw (h .line))
 
-    go : (w : Bool) → TiedAt r τ (suc t) (lineOn r τ t w f js) (nextStand r τ w f even (Working z u))
-    go true =
-        worked-on r τ ok (suc t) (lineOn r τ t true f js) even k (z + 1) (present-on r τ ok t js even true f k z new (h .present))
-        (omega (arith, less)) (u + 1) f (omega (arith, h .short)) (omega (arith, h .within))
-        (line-own r τ t true f js k own ∙ (work-open (τ .length) u f (js k) (h .line) ∙ rw add-one))
-    go false = record {
+    go : (w l : Bool) → TiedAt r τ (suc t) (lineOn r τ t w l f js) (nextStand r τ w l f even (Working z had u))
+    go true l =
+        worked-on r τ ok (suc t) (lineOn r τ t true l f js) even k (z + 1) (present-on r τ ok t js even true l f k z new (h .present))
+        (omega (arith, less)) (had + 1) (u + 1) f (omega (arith, h .short)) (omega (arith, h .within)) (omega (arith, h .paid))
+        (line-own r τ t true l f js k own ∙ (work-open (τ .length) had u f (js k) (h .line) ∙ simp add-one))
+    go false true =
+        worked-on r τ ok (suc t) (lineOn r τ t false true f js) even k (z + 1) (present-on r τ ok t js even false true f k z new (h .present))
+        (omega (arith, less)) (had + 1) u f (omega (arith, h .short)) (omega (arith, h .within)) (omega (arith, h .paid))
+        (line-own r τ t false true f js k own ∙ (lent-open (τ .length) had u f (js k) (h .line) ∙ simp add-one))
+    go false false = record {
       number = k;
-      present = present-on r τ ok t js even false f k z new (h .present);
+      present = present-on r τ ok t js even false false f k z new (h .present);
       by-due = omega (arith, less);
       short = h .short;
       within = omega (arith, h .within);
-      line = line-own r τ t false f js k own ∙ h .line;
+      paid = h .paid;
+      line = line-own r τ t false false f js k own ∙ h .line;
     }
-tied-on r τ ok t js even w f (Holding z u) h n = go w
+tied-on r τ ok t js even w l f (Holding z u) h n = go w
   where
     k : ℕ
     k = h .number
@@ -199,25 +216,25 @@ tied-on r τ ok t js even w f (Holding z u) h n = go w
         claims-if r τ k t (js k) (omega (arith, h .present .when)) (omega (arith, h .present .when, h .in-time))
         (ended-also (js k .ended) (holds r τ (js k)) (h .over) (hold-if r τ (js k) (h .idle) (omega (arith, h .held, h .short))))
 
-    over : (w : Bool) → lineOn r τ t w f js k .ended ≡ true
-    over w = ap (λ (j : Job). j .ended) (line-own r τ t w f js k own) ∙ next-ended (τ .length) f w (js k) (h .over) .0
+    over : (w : Bool) → lineOn r τ t w l f js k .ended ≡ true
+    over w = ap (λ (j : Job). j .ended) (line-own r τ t w l f js k own) ∙ turn-ended (τ .length) f w l (js k) (h .over) .0
 
-    held : (w : Bool) → lineOn r τ t w f js k .claimed ≡ cond w (suc (js k .claimed)) (js k .claimed)
+    held : (w : Bool) → lineOn r τ t w l f js k .claimed ≡ cond w (suc (js k .claimed)) (js k .claimed)
     held w =
-        ap (λ (j : Job). j .claimed) (line-own r τ t w f js k own)
-        ∙ next-claimed (τ .length) f w (js k .had) (js k .claimed) (js k .ended)
+        ap (λ (j : Job). j .claimed) (line-own r τ t w l f js k own)
+        ∙ turn-claimed (τ .length) f w l (js k .had) (js k .claimed) (js k .ended)
 
-    go : (w : Bool) → TiedAt r τ (suc t) (lineOn r τ t w f js) (holding τ even (z + 1) (cond w (u + 1) u))
+    go : (w : Bool) → TiedAt r τ (suc t) (lineOn r τ t w l f js) (holding τ even (z + 1) (cond w (u + 1) u))
     go true =
-        held-on r τ ok (suc t) (lineOn r τ t true f js) even k (z + 1) (present-on r τ ok t js even true f k z new (h .present))
+        held-on r τ ok (suc t) (lineOn r τ t true l f js) even k (z + 1) (present-on r τ ok t js even true l f k z new (h .present))
         (h .idle) (omega (arith, h .in-time)) (u + 1) (omega (arith, h .short))
         (over true) (held true ∙ omega (arith, h .held))
     go false =
-        held-on r τ ok (suc t) (lineOn r τ t false f js) even k (z + 1) (present-on r τ ok t js even false f k z new (h .present))
+        held-on r τ ok (suc t) (lineOn r τ t false l f js) even k (z + 1) (present-on r τ ok t js even false l f k z new (h .present))
         (h .idle) (omega (arith, h .in-time)) u (omega (arith, h .short))
         (over false) (held false ∙ h .held)
-tied-on r τ ok t js even w f (Resting z) h n =
-    rested r τ ok (suc t) (lineOn r τ t w f js) even k (z + 1) (present-on r τ ok t js even w f k z new (h .present))
+tied-on r τ ok t js even w l f (Resting z) h n =
+    rested r τ ok (suc t) (lineOn r τ t w l f js) even k (z + 1) (present-on r τ ok t js even w l f k z new (h .present))
     (omega (arith, h .short))
     (ap (λ (j : Job). j .ended) same ∙ h .over)
     (λ e. le-trans (h .done (subst (λ (j : Job). holds r τ j ≡ true) same e)) (omega arith))
@@ -228,5 +245,5 @@ tied-on r τ ok t js even w f (Resting z) h n =
     new : newest τ t ≡ k
     new = newest-in τ k t (le-trans (ok .deadline-pos) (ok .constrained)) (omega (arith, h .present .when)) (omega (arith, h .present .when, h .short))
 
-    same : lineOn r τ t w f js k ≡ js k
-    same = line-off r τ t w f js k (rests-off r τ t (js k) k z (h .present .when) (h .over) (h .done))
+    same : lineOn r τ t w l f js k ≡ js k
+    same = line-off r τ t w l f js k (rests-off r τ t (js k) k z (h .present .when) (h .over) (h .done))

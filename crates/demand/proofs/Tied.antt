@@ -6,7 +6,7 @@ use native.Mathlib.Nat.{div-lt-iff-lt-mul, le-div-iff-mul-le, le-antisymm, le-of
 use native.Mathlib.Omega.{arith}
 use lib.Dec.{eqb}
 use borrow.Author.Tests.{ltb-true, lt-ltb, eqb-true, eqb-false, eq-eqb, ne-eqb}
-use Rattle.model.specs.Task.{Task, Rule, greedy, limited, idling, release, newest}
+use Rattle.model.specs.Task.{Task, Rule, greedy, limited, idling, lending, release, newest}
 use Rattle.model.specs.Book.{Job, fresh, holds, claims}
 use Rattle.model.proofs.Bools.{not-true-false}
 use Rattle.model.proofs.Jobs.{mk, after-release, before-due, still}
@@ -32,14 +32,15 @@ pub record Present (τ : Task) (t : ℕ) (js : ℕ → Job) (even : Bool) (numbe
   pub ahead : (i : ℕ) → number < i → js i ≡ fresh
   pub parity : eqb (number % 2) 0 ≡ not even
 
--- Working z u: the present job has not ended and has had u ticks
-pub record Works (τ : Task) (t : ℕ) (js : ℕ → Job) (even : Bool) (z u : ℕ) : Type 0 where
+-- Working z h u: the present job has not ended, has had h ticks and claimed u
+pub record Works (τ : Task) (t : ℕ) (js : ℕ → Job) (even : Bool) (z h u : ℕ) : Type 0 where
   pub number : ℕ
   pub present : Present τ t js even number z
   pub by-due : z ≤ τ .deadline
-  pub short : u < τ .length
-  pub within : u ≤ z
-  pub line : js number ≡ mk u u false
+  pub short : h < τ .length
+  pub within : h ≤ z
+  pub paid : u ≤ h
+  pub line : js number ≡ mk h u false
 
 -- Holding z u: under a rule by which ended work holds, the present job has ended, has claimed u ticks and is not yet due
 pub record Holds (r : Rule) (τ : Task) (t : ℕ) (js : ℕ → Job) (even : Bool) (z u : ℕ) : Type 0 where
@@ -63,7 +64,7 @@ pub record Rests (r : Rule) (τ : Task) (t : ℕ) (js : ℕ → Job) (even : Boo
 -- within their limits is `Passes`)
 abbrev pub Tied : Rule → Task → ℕ → (ℕ → Job) → Bool → Phase → Type 0
 Tied r τ t js even (Coming left) = Comes τ t js even left
-Tied r τ t js even (Working z u) = Works τ t js even z u
+Tied r τ t js even (Working z h u) = Works τ t js even z h u
 Tied r τ t js even (Holding z u) = Holds r τ t js even z u
 Tied r τ t js even (Resting z) = Rests r τ t js even z
 
@@ -97,24 +98,28 @@ pub hold-if : (r : Rule) (τ : Task) (j : Job) → idles r ≡ true → j .claim
 hold-if greedy τ j e l = absurd (false≢true e)
 hold-if limited τ j e l = absurd (false≢true e)
 hold-if idling τ j e l = lt-ltb (j .claimed) (τ .length) l
+hold-if lending τ j e l = lt-ltb (j .claimed) (τ .length) l
 
 -- a job that has claimed C ticks holds no more
 pub full-done : (r : Rule) (τ : Task) (j : Job) → τ .length ≤ j .claimed → holds r τ j ≡ true → ⊥
 full-done greedy τ j l e = false≢true e
 full-done limited τ j l e = false≢true e
 full-done idling τ j l e = omega (arith, ltb-true (j .claimed) (τ .length) e)
+full-done lending τ j l e = omega (arith, ltb-true (j .claimed) (τ .length) e)
 
--- under a rule other than idling no job holds
+-- under rules 1 and 2 no job holds
 pub none-holds : (r : Rule) (τ : Task) (j : Job) → idles r ≡ false → holds r τ j ≡ true → ⊥
 none-holds greedy τ j n e = false≢true e
 none-holds limited τ j n e = false≢true e
 none-holds idling τ j n e = true≢false n
+none-holds lending τ j n e = true≢false n
 
 -- holding goes by the ticks claimed
 pub same-holds : (r : Rule) (τ : Task) (a b : Job) → a .claimed ≡ b .claimed → holds r τ a ≡ holds r τ b
 same-holds greedy τ a b e = refl
 same-holds limited τ a b e = refl
 same-holds idling τ a b e = rw e
+same-holds lending τ a b e = rw e
 
 -- an ended job claims if it holds
 ended-only : (a b : Bool) → a ≡ true → not a || b ≡ true → b ≡ true

@@ -15,5 +15,6 @@ pub record Demand (ws : List ℕ) (xs : List Entry) : Type 0 where
   pub started : told (startOf ws .answer) ≡ taken
   -- each answer in the list is the book's, and so is the row asked of the run after it with any empty jobs
   pub follows : Follows ws xs
-  -- no deadline is missed, the list is behind the full-length run on no job, and of two lists at one tick the one with no longer job is never behind
+  -- no deadline is missed, the list is behind the full-length run on no job, and under rules 1 to 3, of two lists at one tick the one with no
+  -- longer job is never behind
   pub kept : Kept (tableOf ws) xs

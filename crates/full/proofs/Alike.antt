@@ -16,7 +16,7 @@ use Rattle.model.specs.Row.{byteOf, owner, row}
 use Rattle.model.specs.Book.{claims, taskClaims, widths, grantsOf, rowOf, inRow, full}
 use Rattle.model.proofs.Bools.{not-false-true}
 use Rattle.full.specs.Machine.{Machine, Owed}
-use Rattle.model.proofs.Runs.{full-tick, full-claimed}
+use Rattle.model.proofs.Runs.{full-tick, full-claimed, full-row}
 use Rattle.full.proofs.Place.{claims-owed, tied-claims}
 use Rattle.full.proofs.Tied.{Ready, Columns}
 use Rattle.full.proofs.Turned.{Turning, width-newest}
@@ -128,7 +128,7 @@ module _ (s : Table) (ok : AllSound s) (t : ℕ) (m : Machine) (h : Ready s t m)
     unfolding row
     row-alike =
         map-same (upFrom 0 (s .cores))
-        ∙ ap (λ (gs : List (List ℕ)). map (byteOf (s .fence) gs) (upFrom 0 (s .cores))) grants-first
+        ∙ ap (λ (gs : List (List ℕ)). map (byteOf (s .fence) gs) (upFrom 0 (s .cores))) grants-first ∙ sym (full-row s t)
       where
         map-same : (cs : List ℕ) → map (byteOf (s .fence) chosen) cs ≡ map (byteOf (s .fence) (take (length (s .tasks)) chosen)) cs
         map-same [] = refl

@@ -12,8 +12,8 @@ use lib.Dec.{leb}
 use borrow.Author.Tests.{leb-true, leb-false}
 use Rattle.model.specs.Search.{bit}
 use Rattle.model.specs.Task.{Task, Table, task, AllSound}
-use Rattle.model.specs.Book.{Job, emptyBook, inRow, served, step, full}
-use Rattle.model.proofs.Runs.{full-tick, full-claimed}
+use Rattle.model.specs.Book.{Job, emptyBook, inRow, served, full}
+use Rattle.model.proofs.Runs.{full-tick, full-claimed, full-next}
 use Rattle.model.proofs.Digits.{bit-none}
 use Rattle.full.specs.Machine.{Machine, started, released, finishes, worked, Sized}
 use Rattle.full.proofs.Lines.{lineOn}
@@ -146,9 +146,10 @@ module _ (s : Table) (ok : AllSound s) (few : length (s .tasks) ≤ 32) where
   book-tick :
       (t p : ℕ) (seen l m n : ℕ) (c : Bool) → TiedAt (task s p) seen (lineOn (s .rule) (task s p) t (inRow s (full s t) p) (full s t .job p)) l m n c
       → TiedAt (task s p) seen (full s (suc t) .job p) l m n c
-  unfolding full step served
+  unfolding served
   book-tick t p seen l m n c h =
-      subst (λ (u : ℕ). TiedAt (task s p) seen (lineOn (s .rule) (task s p) u (inRow s (full s t) p) (full s t .job p)) l m n c) (sym (full-tick s t)) h
+      subst (λ (js : ℕ → Job). TiedAt (task s p) seen js l m n c) (λ i k. sym (full-next s t p k) i)
+      (subst (λ (u : ℕ). TiedAt (task s p) seen (lineOn (s .rule) (task s p) u (inRow s (full s t) p) (full s t .job p)) l m n c) (sym (full-tick s t)) h)
 
   -- a tick whose cores go to the places of the book's row keeps the tie
   pub tick-keeps :

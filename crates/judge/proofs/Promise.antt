@@ -3,9 +3,9 @@ use native.Mathlib.Omega.{arith}
 use mathlib.Core.Path.{_≡_, refl, sym, ap, _∙_, subst}
 use mathlib.Core.List.{List, _++_}
 use mathlib.Core.Logic.{_⊎_, _↔_, inl, inr, ⊎-elim}
-use Prim.Native.Nat.{ℕ, suc, _-_, _≤_, _<_}
+use Prim.Native.Nat.{ℕ, zero, suc, _-_, _≤_, _<_}
 use lib.ListN.{length, take, drop, length-append, length-replicate, length-map, take-append-drop}
-use Rattle.model.specs.Task.{Table, Rule, greedy, limited, idling, ruleOf, AllSound, task}
+use Rattle.model.specs.Task.{Table, Rule, greedy, limited, idling, lending, ruleOf, AllSound, task}
 use Rattle.model.specs.Book.{NeverMissed}
 use Rattle.model.specs.Horizon.{lastS, hyperperiod, horizon}
 use Rattle.model.specs.Firm.{FirmRule}
@@ -64,27 +64,32 @@ rule-of ws n e = ap ruleOf e
 pub firm-words : (ws : List ℕ) → NoneApplies ws → FirmRule (tableOf ws) ↔ FirmWords ws
 firm-words ws none = (says, found)
   where
-    apart : {r r′ : Rule} → tableOf ws .rule ≡ r → tableOf ws .rule ≡ r′ → r ≡ r′
-    apart p q = sym p ∙ q
+    -- greedy is none of the other rules
+    apart : {r : Rule} → rule ws ≡ 1 → tableOf ws .rule ≡ r → greedy ≡ r
+    apart q e = sym (rule-of ws 1 q) ∙ e
+
+    one : rule ws ≡ 1 → FirmRule (tableOf ws) → FirmWords ws
+    one q (inl e) = let x : greedy ≡ limited = apart q e in let z : _≡_ {A = ℕ} 0 1 = cc in absurd (omega arith)
+    one q (inr (inl e)) = let x : greedy ≡ idling = apart q e in let z : _≡_ {A = ℕ} 0 1 = cc in absurd (omega arith)
+    one q (inr (inr (inl e))) = let x : greedy ≡ lending = apart q e in let z : _≡_ {A = ℕ} 0 1 = cc in absurd (omega arith)
+    one q (inr (inr (inr (e, h)))) = inr (inr (inr (q, h)))
+
+    by-number : (n : ℕ) → rule ws ≡ n → 1 ≤ n → n ≤ 4 → FirmRule (tableOf ws) → FirmWords ws
+    by-number zero q a b f = absurd (omega arith)
+    by-number (suc zero) q a b f = one q f
+    by-number (suc (suc zero)) q a b f = inl q
+    by-number (suc (suc (suc zero))) q a b f = inr (inl q)
+    by-number (suc (suc (suc (suc zero)))) q a b f = inr (inr (inl q))
+    by-number (suc (suc (suc (suc (suc n))))) q a b f = absurd (omega arith)
 
     says : FirmRule (tableOf ws) → FirmWords ws
-    says (inl e) = ⊎-elim
-        (λ (q : rule ws ≡ 1). let x : greedy ≡ limited = apart (rule-of ws 1 q) e in let z : _≡_ {A = ℕ} 0 1 = cc in absurd (omega arith))
-        (λ (y : (rule ws ≡ 2) ⊎ (rule ws ≡ 3)). ⊎-elim inl (λ (q : rule ws ≡ 3). inr (inl q)) y)
-        (passed-rule ws none)
-    says (inr (inl e)) = ⊎-elim
-        (λ (q : rule ws ≡ 1). let x : greedy ≡ idling = apart (rule-of ws 1 q) e in let z : _≡_ {A = ℕ} 0 1 = cc in absurd (omega arith))
-        (λ (y : (rule ws ≡ 2) ⊎ (rule ws ≡ 3)). ⊎-elim inl (λ (q : rule ws ≡ 3). inr (inl q)) y)
-        (passed-rule ws none)
-    says (inr (inr (e, h))) = ⊎-elim
-        (λ (q : rule ws ≡ 1). inr (inr (q, h)))
-        (λ (y : (rule ws ≡ 2) ⊎ (rule ws ≡ 3)). ⊎-elim inl (λ (q : rule ws ≡ 3). inr (inl q)) y)
-        (passed-rule ws none)
+    says = by-number (rule ws) refl (passed-rule ws none .0) (passed-rule ws none .1)
 
     found : FirmWords ws → FirmRule (tableOf ws)
     found (inl q) = inl (rule-of ws 2 q)
     found (inr (inl q)) = inr (inl (rule-of ws 3 q))
-    found (inr (inr (q, h))) = inr (inr (rule-of ws 1 q, h))
+    found (inr (inr (inl q))) = inr (inr (inl (rule-of ws 4 q)))
+    found (inr (inr (inr (q, h)))) = inr (inr (inr (rule-of ws 1 q, h)))
 
 -- THE PROMISE
 

@@ -1,17 +1,18 @@
 -- Widths that never fall, place by place.
 use native.Mathlib.Omega.{arith}
-use mathlib.Core.Path.{_≡_, sym, ap, subst, subst₂}
-use mathlib.Core.Bool.{true, false}
+use mathlib.Core.Path.{_≡_, refl, sym, ap, _∙_, subst, subst₂}
+use mathlib.Core.Bool.{true, false, _&&_, false≢true}
 use mathlib.Core.List.{List}
 use mathlib.Core.Logic.{⊎-elim}
 use native.Mathlib.Nat.{eq-or-lt-of-le}
-use Prim.Native.Nat.{ℕ, suc, _+_, _-_, _≤_, _<_, max, min}
+use Prim.Native.Nat.{ℕ, zero, suc, _+_, _-_, _≤_, _<_, max, min}
+use lib.Dec.{leb}
 use lib.ListN.{length, getD}
 use Rattle.model.specs.Task.{narrowest, nobody, ruleOf, widest}
 use Rattle.model.specs.Task as model
 use Rattle.model.specs.Firm.{Rising, rising, firm}
-use borrow.Author.Tests.{eq-eqb, ne-eqb}
-use Rattle.model.proofs.Bools.{not-true-false}
+use borrow.Author.Tests.{leb-true, ne-eqb}
+use Rattle.model.proofs.Bools.{and-left, and-right, not-true-false}
 use Rattle.model.proofs.Verdict.{rising-exact}
 use Rattle.table.specs.declared.Task.{Task}
 use Rattle.table.specs.Task.{noTask, tasksOf}
@@ -65,15 +66,22 @@ module _ (tasks : List Task) (count : ℕ) (few : count ≤ length tasks) where
       (subst (λ (k : ℕ). widest (getD (tasksOf tasks count) (i - 1) nobody) ≤ narrowest (getD (tasksOf tasks count) k nobody)) s h) in
       omega arith))
 
--- FIRM by the rule's number: 2 and 3 are, any other where widths never fall
-pub firm-limited : (n : ℕ) (τs : List model.Task) → n ≡ 2 → firm (ruleOf n) τs ≡ true
+-- FIRM by the rule's number: 2, 3 and 4 are, any other where widths never fall
+pub firm-numbers : (n : ℕ) (τs : List model.Task) → leb 2 n && leb n 4 ≡ true → firm (ruleOf n) τs ≡ true
 unfolding firm
-firm-limited n τs e = rw (eq-eqb n 2 e)
+firm-numbers n τs e = go n (leb-true 2 n (and-left (leb 2 n) (leb n 4) e)) (leb-true n 4 (and-right (leb 2 n) (leb n 4) e))
+  where
+    go : (n : ℕ) → 2 ≤ n → n ≤ 4 → firm (ruleOf n) τs ≡ true
+    go zero a b = absurd (omega arith)
+    go (suc zero) a b = absurd (omega arith)
+    go (suc (suc zero)) a b = refl
+    go (suc (suc (suc zero))) a b = refl
+    go (suc (suc (suc (suc zero)))) a b = refl
+    go (suc (suc (suc (suc (suc n))))) a b = absurd (omega arith)
 
-pub firm-idling : (n : ℕ) (τs : List model.Task) → n ≡ 3 → firm (ruleOf n) τs ≡ true
+pub firm-others : (n : ℕ) (τs : List model.Task) → leb 2 n && leb n 4 ≡ false → firm (ruleOf n) τs ≡ rising τs
 unfolding firm
-firm-idling n τs e = rw (ne-eqb n 2 (λ q. omega arith), eq-eqb n 3 e)
-
-pub firm-greedy : (n : ℕ) (τs : List model.Task) → (n ≡ 2 → ⊥) → (n ≡ 3 → ⊥) → firm (ruleOf n) τs ≡ rising τs
-unfolding firm
-firm-greedy n τs two three = rw (ne-eqb n 2 two, ne-eqb n 3 three)
+firm-others n τs e = rw (ne-eqb n 2 (λ q. none 2 q refl), ne-eqb n 3 (λ q. none 3 q refl), ne-eqb n 4 (λ q. none 4 q refl))
+  where
+    none : (k : ℕ) → n ≡ k → leb 2 k && leb k 4 ≡ true → ⊥
+    none k q t = false≢true (sym e ∙ (ap (λ (i : ℕ). leb 2 i && leb i 4) q ∙ t))

@@ -35,9 +35,9 @@ judgedBy (table.Refused n p) s = said.refused n p
 unfoldable pub verdictOf : List ℕ → Verdict
 verdictOf ws = caseOf (judgedBy (answerOf ws) (tableOf ws))
 
--- the scope's condition for firm: rule 2 or 3, or rule 1 with widths that never fall
+-- the scope's condition for firm: rule 2, 3 or 4, or rule 1 with widths that never fall
 abbrev pub FirmWords : List ℕ → Type 0
-FirmWords ws = (rule ws ≡ 2) ⊎ ((rule ws ≡ 3) ⊎ ((rule ws ≡ 1) × Rising (tableOf ws .tasks)))
+FirmWords ws = (rule ws ≡ 2) ⊎ ((rule ws ≡ 3) ⊎ ((rule ws ≡ 4) ⊎ ((rule ws ≡ 1) × Rising (tableOf ws .tasks))))
 
 -- what is promised of the answer v to the words ws
 pub record Judged (ws : List ℕ) (v : Verdict) : Type 0 where
@@ -49,7 +49,7 @@ pub record Judged (ws : List ℕ) (v : Verdict) : Type 0 where
   pub accepted : ((s p : ℕ) × ((saidBy v ≡ judged (model.Firm s p)) ⊎ (saidBy v ≡ judged (model.Full s p)))) ↔ (NoneApplies ws × NeverMissed (tableOf ws))
   -- Miss t p exactly if no number applies and (t, p) is the earliest missed deadline, at equal ticks the first in priority
   pub miss : (t p : ℕ) → (saidBy v ≡ judged (model.Miss t p)) ↔ (NoneApplies ws × FirstMiss (tableOf ws) t p)
-  -- an accepted table is Firm exactly for rules 2 and 3 and for rule 1 with widths never falling; S and P as defined
+  -- an accepted table is Firm exactly for rules 2, 3 and 4 and for rule 1 with widths never falling; S and P as defined
   pub firm : (s p : ℕ) → (saidBy v ≡ judged (model.Firm s p)) ↔ (NoneApplies ws × NeverMissed (tableOf ws) × FirmWords ws × (s ≡ lastS (tableOf ws .tasks)) × (p ≡ hyperperiod (tableOf ws .tasks)))
   pub full : (s p : ℕ) → (saidBy v ≡ judged (model.Full s p)) ↔ (NoneApplies ws × NeverMissed (tableOf ws) × (¬ FirmWords ws) × (s ≡ lastS (tableOf ws .tasks)) × (p ≡ hyperperiod (tableOf ws .tasks)))
 

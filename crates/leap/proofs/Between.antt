@@ -14,10 +14,10 @@ use Rattle.model.specs.Fence.{openCores}
 use Rattle.model.specs.Task.{Task, Table, nobody, task, Sound, AllSound, release, due, newest, widthOf}
 use Rattle.model.specs.Grants.{Claimant, claimants, grants}
 use Rattle.model.specs.Row.{row}
-use Rattle.model.specs.Book.{Book, full, jobClaims, taskClaims, widths, grantsOf, rowOf}
+use Rattle.model.specs.Book.{Book, full, jobClaims, taskClaims, widths, grantsOf}
 use Rattle.model.proofs.Bools.{same-test, not-true-false}
 use Rattle.model.proofs.Jobs.{after-release, before-due, claims-if, done-off}
-use Rattle.model.proofs.Runs.{full-tick, full-claimed, full-stays}
+use Rattle.model.proofs.Runs.{full-tick, full-claimed, full-row, full-stays}
 use Rattle.model.proofs.Faithful.{claims-exact}
 use Rattle.model.proofs.Grants.{claimants-same}
 use Rattle.model.proofs.Lists.{map-at}
@@ -83,7 +83,10 @@ widths-stay s t u e =
 pub same-claims :
     (s : Table) (t u : ℕ) → SameNewest s t u → ((p : ℕ) → p < length (s .tasks) → taskClaims s (full s u) p ≡ taskClaims s (full s t) p)
     → SameCores s t u
-same-claims s t u new e = record { grants = same; row = ap (λ (gs : List (List ℕ)). row (s .fence) (s .cores) gs) same }
+same-claims s t u new e = record {
+  grants = same;
+  row = full-row s u ∙ (ap (λ (gs : List (List ℕ)). row (s .fence) (s .cores) gs) same ∙ sym (full-row s t));
+}
   where
     wide : widths s (full s u .tick) ≡ widths s (full s t .tick)
     wide = ap (widths s) (full-tick s u) ∙ (widths-stay s t u new ∙ ap (widths s) (sym (full-tick s t)))

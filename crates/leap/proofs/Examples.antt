@@ -7,9 +7,10 @@ use Prim.Native.Nat.{ℕ, zero, suc, _+_, _-_, _*_, _≤_, _<_, min}
 use native.Mathlib.Omega.{arith}
 use lib.ListN.{length, getD, replicate}
 use Rattle.model.specs.Task.{Table, release, due, task, greedy}
-use Rattle.model.specs.Book.{Job, full, step, served, work, claims}
+use Rattle.model.specs.Book.{Job, full}
 use Rattle.model.specs.Grants.{claimants, given, left, grants}
 use Rattle.model.specs.Search.{kept, upFrom}
+use Rattle.model.proofs.Computing.{computing}
 use Rattle.model.proofs.Examples.{t, on}
 use Rattle.model.proofs.Runs.{full-fresh}
 use Rattle.table.specs.declared.Answer.the-variants.{Passed}
@@ -32,12 +33,12 @@ pub released-first : Moment early 0
 released-first = (0, 0, omega arith, inl refl)
 
 pub ends-at-one : Moment early 1
-unfolding full step served work claims grants claimants given left kept upFrom
+unfolding computing
 ends-at-one = (0, 0, omega arith, inr (inr (refl, refl)))
 
 -- a deadline counts though its job has ended
 pub due-though-ended : Moment early 3 × (full early 3 .job 0 0 .ended ≡ true)
-unfolding full step served work claims grants claimants given left kept upFrom
+unfolding computing
 due-though-ended = ((0, 0, omega arith, inr (inl refl)), refl)
 
 pub released-next : Moment early 5
@@ -45,7 +46,7 @@ released-next = (0, 1, omega arith, inl refl)
 
 -- between the end and the deadline, and between the deadline and the release, there is none
 pub none-at-two : ¬ Moment early 2
-unfolding full step served work claims grants claimants given left kept upFrom
+unfolding computing
 none-at-two (zero, k, l, inl e) = omega arith
 none-at-two (zero, k, l, inr (inl e)) = omega arith
 none-at-two (zero, zero, l, inr (inr (e, o))) = true≢false o
@@ -53,7 +54,7 @@ none-at-two (zero, suc k, l, inr (inr (e, o))) = false≢true (sym (ap (λ (j : 
 none-at-two (suc p, k, l, x) = omega arith
 
 pub none-at-four : ¬ Moment early 4
-unfolding full step served work claims grants claimants given left kept upFrom
+unfolding computing
 none-at-four (zero, k, l, inl e) = omega arith
 none-at-four (zero, k, l, inr (inl e)) = omega arith
 none-at-four (zero, zero, l, inr (inr (e, o))) = true≢false o
@@ -65,12 +66,12 @@ abbrev busy : Table
 busy = on 1 greedy (t 0 1 2 2 2 ∷ [])
 
 pub all-at-once : (release (task busy 0) 1 ≡ 2) × (due (task busy 0) 0 ≡ 2) × Ends busy 0 0 2
-unfolding full step served work claims grants claimants given left kept upFrom
+unfolding computing
 all-at-once = (refl, refl, (refl, refl))
 
 -- a late job is due at tick 1 and does not end: a moment all the same
 pub due-though-late : Moment (on 1 greedy (t 0 1 2 1 2 ∷ [])) 1 × (full (on 1 greedy (t 0 1 2 1 2 ∷ [])) 1 .job 0 0 .ended ≡ false)
-unfolding full step served work claims grants claimants given left kept upFrom
+unfolding computing
 due-though-late = ((0, 0, omega arith, inr (inl refl)), refl)
 
 -- the first release is at 3: tick 0, where the first leap begins, is no moment
@@ -124,6 +125,14 @@ pub reached-by-two : ticks 6 (loaded 2 1 (task-of 0 2 2 6 6 ∷ task-of 0 1 2 5 
 unfolding leaps leapt ticksIn grantedIn evenAfter bellAfter after passed fewest looked released dueAt soonest pairedIn widthsIn each setOf
     grants claimants given left kept upFrom
 reached-by-two = refl
+
+-- RULE 4 (request 109): at full length nothing is lent, so the moments are those of rule 3
+pub reached-lending :
+    (ticks 6 (loaded 2 4 (task-of 0 2 2 6 6 ∷ task-of 0 1 2 5 6 ∷ [])) ≡ 0 ∷ 2 ∷ 4 ∷ 5 ∷ 6 ∷ 8 ∷ [])
+    × (ticks 6 (loaded 2 3 (task-of 0 2 2 6 6 ∷ task-of 0 1 2 5 6 ∷ [])) ≡ 0 ∷ 2 ∷ 4 ∷ 5 ∷ 6 ∷ 8 ∷ [])
+unfolding leaps leapt ticksIn grantedIn evenAfter bellAfter after passed fewest looked released dueAt soonest pairedIn widthsIn each setOf
+    grants claimants given left kept upFrom
+reached-lending = (refl, refl)
 
 -- TWO WIDTHS (request 108)
 

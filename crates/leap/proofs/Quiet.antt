@@ -1,5 +1,5 @@
 -- The ticks of a leap: up to the first release, deadline or end the same tasks claim, and each that has cores is owed one tick less at every tick.
-use mathlib.Core.Path.{_≡_, refl, sym, ap, _∙_, subst, subst₂}
+use mathlib.Core.Path.{_≡_, refl, sym, ap, _∙_, fun-ext, subst, subst₂}
 use mathlib.Core.Bool.{Bool, true, false, not, _&&_, cond, and-true, true≢false, false≢true}
 use mathlib.Core.List.{List, []}
 use mathlib.Core.Logic.{_⊎_, inl, inr, ⊎-elim}
@@ -13,8 +13,8 @@ use Rattle.model.specs.Fence.{openCores}
 use Rattle.model.specs.Search.{bit}
 use Rattle.model.specs.Task.{Table, task, AllSound, release, due, newest, widthOf}
 use Rattle.model.specs.Grants.{some}
-use Rattle.model.specs.Book.{Job, Book, claims, full, step, served, taskClaims, widths, grantsOf, inRow}
-use Rattle.model.proofs.Runs.{full-tick, full-claimed}
+use Rattle.model.specs.Book.{Job, Book, claims, full, served, taskClaims, widths, grantsOf, inRow}
+use Rattle.model.proofs.Runs.{full-tick, full-claimed, full-next}
 use Rattle.model.proofs.Grants.{grants-length}
 use Rattle.full.specs.Standing.{TiedAt}
 use Rattle.full.specs.Machine.{Machine}
@@ -28,8 +28,10 @@ use Rattle.leap.proofs.Stands.{moment-least, tick-stands, none-ends, la
 
 -- the tick that the book enters, at one place
 line-next : (s : Table) (u p : ℕ) → lineOn (s .rule) (task s p) u (inRow s (full s u) p) (full s u .job p) ≡ full s (suc u) .job p
-unfolding full step served
-line-next s u p = ap (λ (x : ℕ). lineOn (s .rule) (task s p) x (inRow s (full s u) p) (full s u .job p)) (sym (full-tick s u))
+unfolding served
+line-next s u p =
+    ap (λ (x : ℕ). lineOn (s .rule) (task s p) x (inRow s (full s u) p) (full s u .job p)) (sym (full-tick s u))
+    ∙ fun-ext (λ i. sym (full-next s u p i))
 
 -- who is in the row is a place of the table
 pub row-inside : (s : Table) (b : Book) (p : ℕ) → inRow s b p ≡ true → p < length (s .tasks)

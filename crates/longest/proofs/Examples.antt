@@ -3,13 +3,8 @@ use mathlib.Core.List.{List, [], _++_, map, _∷_}
 use mathlib.Core.Path.{refl, _≡_}
 use Prim.Native.Nat.{ℕ, _-_}
 use lib.ListN.{drop, length, replicate}
-use Rattle.model.specs.Book.{claims, full, served, step, work}
-use Rattle.model.specs.Grants.{claimants, given, grants, left}
-use Rattle.model.specs.Horizon.{S, horizon, hyperperiod, lcm}
-use Rattle.model.specs.Search.{any, kept, least, memb, upFrom}
+use Rattle.model.proofs.Computing.{computing}
 use Rattle.model.specs.Sizes.{mostTasks}
-use Rattle.model.specs.Firm.{firm, rising}
-use Rattle.model.specs.Verdict.{firstMiss, missedAt, missedIn, verdict}
 use Rattle.table.proofs.Examples.{chained, wordsA}
 use Rattle.table.specs.Answer.{answerOf, byHorizon, byTasks, byWalk, endingOf, firstOut, headerNumber, lastStep}
 use Rattle.table.specs.Words.{chain, count, met, tableOf}
@@ -76,10 +71,12 @@ turning c = header 1 2 1 ++ entry₂ 2 0 1 2 2 2 2 ++ entry 0 0 1 c 6 6
 
 abbrev pub lines : List Line
 lines =
-    -- A, which is Full, with its records permuted and with a fence; A2 misses on the horizon; A3
+    -- A, which is Full, with its records permuted and with a fence; A2 misses on the horizon; A3, and rule 4 with its figures
     gives wordsA (2 ∷ 5 ∷ 4 ∷ []) ∷ gives fencedA (2 ∷ 5 ∷ 4 ∷ []) ∷ refuses (ruledA 2) 13 0 ∷ gives (ruledA 3) (2 ∷ 5 ∷ 4 ∷ [])
-    -- B, B2 and B3
+    ∷ gives (ruledA 4) (2 ∷ 5 ∷ 4 ∷ [])
+    -- B, B2, B3 and B4
     ∷ gives (ruledB 1) (3 ∷ 4 ∷ 2 ∷ []) ∷ refuses (ruledB 2) 13 0 ∷ gives (ruledB 3) (3 ∷ 4 ∷ 2 ∷ [])
+    ∷ gives (ruledB 4) (3 ∷ 4 ∷ 2 ∷ [])
     -- E, and F, which misses at tick 1
     ∷ gives wordsE (1 ∷ 2 ∷ []) ∷ refuses wordsF 13 0
     -- the worst job comes before the last S; and one that ends after the horizon
@@ -101,6 +98,6 @@ lines =
 
 -- every line is what the definitions say
 pub examples : map worked lines ≡ lines
-unfolding longestOf figuresIn longestBy greatest responseTime verdictOf verdict firstMiss missedIn missedAt firm rising chained answerOf byWalk byTasks byHorizon firstOut endingOf lastStep
-    headerNumber tableOf chain count met horizon S hyperperiod lcm least any memb upFrom kept given left grants claimants claims served work step full
+unfolding longestOf figuresIn longestBy greatest responseTime verdictOf chained answerOf byWalk byTasks byHorizon firstOut endingOf lastStep headerNumber
+    tableOf chain count met computing
 examples = refl

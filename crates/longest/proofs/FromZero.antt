@@ -5,16 +5,14 @@ use mathlib.Core.Logic.{inl}
 use mathlib.Core.Path.{refl, subst, _≡_}
 use Prim.Native.Nat.{_*_, _+_, _-_, suc, zero, ℕ, _≤_}
 use native.Mathlib.Omega.{arith}
+use Rattle.model.proofs.Computing.{computing}
 use Rattle.model.proofs.Examples.{on, t}
 use Rattle.model.proofs.Horizon.{repeat-all}
 use Rattle.model.proofs.Verdict.{verdict-exact}
-use Rattle.model.specs.Book.{Job, NeverMissed, claims, full, served, step, work}
-use Rattle.model.specs.Grants.{claimants, given, grants, left}
-use Rattle.model.specs.Horizon.{S, horizon, hyperperiod, lastS, lcm}
-use Rattle.model.specs.Search.{any, kept, least, upFrom}
+use Rattle.model.specs.Book.{Job, NeverMissed, full}
+use Rattle.model.specs.Horizon.{S, hyperperiod, lastS}
 use Rattle.model.specs.Task.{AllSound, Table, Task, idling, release, task}
-use Rattle.model.specs.Firm.{firm}
-use Rattle.model.specs.Verdict.{Firm, firstMiss, missedAt, missedIn, verdict}
+use Rattle.model.specs.Verdict.{Firm, verdict}
 use Rattle.longest.specs.Response.{Figure, endedAfter, greatest, longest, longestBy, responseTime}
 use Rattle.longest.proofs.Response.{longest-exact}
 
@@ -39,7 +37,7 @@ pub record Computed : Type 0 where
   pub fourth : endedAfter early 2 4 1 ≡ true
 
 computed : Computed
-unfolding verdict firstMiss missedIn missedAt firm longestBy greatest responseTime horizon S hyperperiod lcm least any upFrom kept given left grants claimants claims served work step full
+unfolding longestBy greatest responseTime computing
 computed = record { fits = refl; figure = refl; start = refl; period = refl; second = refl; third = refl; fourth = refl }
 
 -- the last S is that of the third task

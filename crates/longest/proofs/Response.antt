@@ -1,6 +1,7 @@
 -- THE LONGEST TIME of each task: what the jobs show that have ended by the horizon, since a job due after the horizon goes as the one P before it.
 use mathlib.Core.Bool.{Bool, cond, false, false≢true, true, true≢false}
-use mathlib.Core.Path.{ap, refl, subst, sym, _∙_, _≡_}
+use mathlib.Core.List.{List}
+use mathlib.Core.Path.{ap, fun-ext, refl, subst, sym, _∙_, _≡_}
 use Prim.Native.Nat.{_*_, _+_, _<_, suc, zero, ℕ, _≤_}
 use native.Mathlib.Nat.{le-dest, le-of-suc-le-suc, le-refl, le-trans, lt-of-mul-lt-mul-right, mul-le-mul-left, mul-one, not-suc-le-zero}
 use native.Mathlib.Omega.{arith}
@@ -9,13 +10,15 @@ use lib.ListN.{length}
 use borrow.Author.Tests.{leb-false, leb-true}
 use Rattle.model.proofs.Bools.{not-false-true}
 use Rattle.model.proofs.Horizon.{repeat-all}
+use Rattle.model.proofs.Idling.{lending-idling, under}
 use Rattle.model.proofs.Runs.{full-fresh, full-stays, missed-at}
 use Rattle.model.proofs.Search.{any-of, least-any, least-lowest}
 use Rattle.model.proofs.Starts.{Periods, S-last, S-release, hyperperiod-divides, hyperperiod-pos}
-use Rattle.model.specs.Book.{Job, NeverMissed, full}
+use Rattle.model.specs.Book.{Book, Job, NeverMissed, full}
 use Rattle.model.specs.Horizon.{S, horizon, hyperperiod}
-use Rattle.model.specs.Task.{AllSound, Sound, Table, Task, due, release, task}
-use Rattle.longest.specs.Response.{Figure, endedAfter, longest, longestBy, responseTime}
+use Rattle.model.specs.Search.{least}
+use Rattle.model.specs.Task.{AllSound, Sound, Table, Task, due, idling, lending, release, task}
+use Rattle.longest.specs.Response.{Figure, endedAfter, greatest, longest, longestBy, responseTime}
 use Rattle.longest.proofs.Greatest.{greatest-at, greatest-is}
 
 -- what has ended stays ended
@@ -164,3 +167,16 @@ longest-range s ok nm p l = (least-one (longest s p) refl, omega (arith, over))
 
     over : ¬ (task s p .deadline < longest s p)
     over h = true≢false (sym (met s ok nm p l (x .reached .0)) ∙ x .reached .2 (task s p .deadline) h)
+
+-- THE THEOREM (lending-longest): under rule 4 each figure is that of rule 3, since the full-length runs are equal
+pub lending-longest : (τs : List Task) (m f p : ℕ) → longest (under lending τs m f) p ≡ longest (under idling τs m f) p
+unfolding longestBy responseTime horizon
+lending-longest τs m f p = ap by-run (fun-ext (λ n. lending-idling τs m f n .0))
+  where
+    i : Table
+    i = under idling τs m f
+
+    by-run : (ℕ → Book) → ℕ
+    by-run b =
+        greatest (suc (horizon i)) (λ k.
+        cond (b (horizon i) .job p k .ended) (least (suc (task i p .deadline)) (λ z. b (release (task i p) k + z) .job p k .ended)) 0)

@@ -9,19 +9,16 @@ use native.Mathlib.Omega.{arith}
 use lib.Dec.{eqb, ltb}
 use lib.ListN.{replicate}
 use borrow.Author.Tests.{eq-eqb, eqb-true, lt-ltb, ltb-true, not-true}
-use Rattle.model.proofs.LineByLine.{LineByLine, by-line}
 use Rattle.model.proofs.Bools.{and-both, and-left, and-right, or-cases, or-left, or-right}
+use Rattle.model.proofs.Computing.{computing}
 use Rattle.model.proofs.Examples.{B, reports}
 use Rattle.model.proofs.Jobs.{mk}
+use Rattle.model.proofs.LineByLine.{LineByLine, by-line}
 use Rattle.model.proofs.Runs.{GoodBook, WholeBook, good-book, whole-empty}
-use Rattle.model.specs.Book.{Book, Entry, Job, afterTaken, answer, book, bookFrom, claims, emptiable, emptied, enter, full, late, misemptied, misreported, quiet, reportable, served, step, work}
+use Rattle.model.specs.Book.{Book, Entry, Job, book, quiet}
 use Rattle.model.specs.Compare.{Behind, FullLongest, KeepsAbreast, Longer, NoneLonger, behind, longer}
-use Rattle.model.specs.Grants.{claimants, given, grants, left}
-use Rattle.model.specs.Horizon.{S, horizon, hyperperiod, lcm}
-use Rattle.model.specs.Search.{any, kept, least, memb, upFrom}
 use Rattle.model.specs.Task.{AllSound, Table, greedy}
-use Rattle.model.specs.Firm.{firm, rising}
-use Rattle.model.specs.Verdict.{Full, firstMiss, missedAt, missedIn, verdict}
+use Rattle.model.specs.Verdict.{Full, verdict}
 
 -- THE TESTS
 
@@ -168,12 +165,10 @@ none-reported = quiet ∷ quiet ∷ []
 
 -- at tick 2 the job of position 3 has ended at full length, and has had one tick where position 1 was reported in tick 0
 pub B-behind : Behind (book (B greedy) one-reported .job 2 0) (book (B greedy) none-reported .job 2 0)
-unfolding bookFrom enter answer afterTaken late misemptied emptiable emptied misreported reportable any least step served work claims claimants grants given left
-    memb upFrom kept
+unfolding computing
 B-behind = (refl, inl refl)
 
 -- both lists are at tick 2 and no job is longer in the first, which is behind: B is Full, and is not kept abreast
 pub full-not-abreast : (verdict (B greedy) ≡ Full 0 4) × (¬ KeepsAbreast (B greedy) one-reported none-reported)
-unfolding verdict firstMiss missedIn missedAt firm rising horizon S hyperperiod lcm full bookFrom enter answer afterTaken late misemptied emptiable emptied misreported
-    reportable any least step served work claims claimants grants given left memb upFrom kept
+unfolding computing
 full-not-abreast = (refl, λ h. h refl (full-longest (B greedy) sound-B one-reported 2) 2 0 (omega arith) B-behind)

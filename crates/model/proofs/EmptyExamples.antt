@@ -4,17 +4,12 @@ use mathlib.Core.List.{List, [], map, _∷_}
 use mathlib.Core.Path.{refl, _≡_}
 use Prim.Native.Nat.{ℕ}
 use Prim.Native.String.{String}
+use Rattle.model.proofs.Computing.{computing}
 use Rattle.model.proofs.Examples.{B, Line, on, t, two, worked}
 use Rattle.model.proofs.LineByLine.{LineByLine, by-line}
-use Rattle.model.specs.Book.{Answer, Asked, Entry, advance, afterTaken, answer, answersFrom, asked, claims, emptiable, emptied, enter, full, late, misemptied, misreported}
-use Rattle.model.specs.Book.{refused, reportable, rowRefused, rowsFrom, served, shown, step, taken, work}
-use Rattle.model.specs.Grants.{claimants, given, grants, left}
-use Rattle.model.specs.Horizon.{S, horizon, hyperperiod, lcm}
-use Rattle.model.specs.Row.{owner, row}
-use Rattle.model.specs.Search.{any, kept, least, memb, upFrom}
+use Rattle.model.specs.Book.{Answer, Asked, Entry, advance, refused, rowRefused, shown, taken}
 use Rattle.model.specs.Task.{Rule, Table, greedy, idling, limited}
-use Rattle.model.specs.Firm.{firm, rising}
-use Rattle.model.specs.Verdict.{Firm, Full, Verdict, firstMiss, missedAt, missedIn, verdict}
+use Rattle.model.specs.Verdict.{Firm, Full, Verdict}
 
 -- an advance with a set of reports and a set of empty jobs, and one with both empty
 abbrev sets : ℕ → ℕ → Entry
@@ -88,8 +83,7 @@ empty-lines =
 
 -- every line is what the definitions say, line by line
 computed : LineByLine worked empty-lines empty-lines
-unfolding verdict firstMiss missedIn missedAt firm rising horizon S hyperperiod lcm least any memb upFrom kept owner row given left grants claimants claims
-    served work step late reportable misreported emptied emptiable misemptied answer asked afterTaken enter answersFrom rowsFrom full
+unfolding computing
 computed = (refl, (refl, (refl, (refl, (refl, (refl, (refl, (refl, (refl, (refl, (refl, (refl, (refl, (refl, (refl, tt)))))))))))))))
 
 -- .. and as one list

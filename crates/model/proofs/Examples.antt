@@ -5,17 +5,13 @@ use mathlib.Core.List.{List, [], map, _∷_}
 use mathlib.Core.Path.{refl, _≡_}
 use Prim.Native.Nat.{ℕ}
 use Prim.Native.String.{String}
-use Rattle.model.specs.Book.{Answer, Asked, Entry, advance, afterTaken, answer, answersFrom, asked, claims, emptiable, emptied, emptyBook, enter, fresh}
-use Rattle.model.specs.Book.{full, late, misemptied, misreported, refused, reportable, rowRefused, rowsFrom, served, shown, step, taken, takenFrom, takenOf, work}
-use Rattle.model.specs.Fence.{justOpen, spread}
-use Rattle.model.specs.Grants.{claimants, given, grants, left}
-use Rattle.model.specs.Horizon.{S, horizon, hyperperiod, lcm}
-use Rattle.model.specs.Row.{owner, row}
-use Rattle.model.specs.Search.{any, kept, least, memb, upFrom}
-use Rattle.model.specs.Task.{Rule, Table, Task, greedy, idling, limited}
+use Rattle.model.proofs.Computing.{computing}
 use Rattle.model.proofs.LineByLine.{LineByLine, by-line}
-use Rattle.model.specs.Firm.{firm, rising}
-use Rattle.model.specs.Verdict.{Firm, Full, Miss, Verdict, firstMiss, missedAt, missedIn, verdict}
+use Rattle.model.specs.Book.{Answer, Asked, Entry, advance, answersFrom, claims, emptyBook, fresh, refused, rowRefused, rowsFrom, shown, taken, takenOf}
+use Rattle.model.specs.Fence.{justOpen, spread}
+use Rattle.model.specs.Search.{kept, upFrom}
+use Rattle.model.specs.Task.{Rule, Table, Task, greedy, idling, limited}
+use Rattle.model.specs.Verdict.{Firm, Full, Miss, Verdict, verdict}
 
 -- a task as (O, v, C, D, T), with both widths v; and with widths v and w
 abbrev pub t : ℕ → ℕ → ℕ → ℕ → ℕ → Task
@@ -71,7 +67,7 @@ line n s v xs ws rs = record { name = n; table = s; entries = map reports xs; sa
 abbrev pub two : ℕ → ℕ → Asked
 two a b = shown (a ∷ b ∷ [])
 
-abbrev three : ℕ → ℕ → ℕ → Asked
+abbrev pub three : ℕ → ℕ → ℕ → Asked
 three a b c = shown (a ∷ b ∷ c ∷ [])
 
 -- the rows of B3, with the report and without
@@ -124,8 +120,7 @@ lines =
 
 -- every line is what the definitions say, line by line
 computed : LineByLine worked lines lines
-unfolding verdict firstMiss missedIn missedAt firm rising horizon S hyperperiod lcm least any memb upFrom kept owner row given left grants claimants claims
-    served work step late reportable misreported emptied emptiable misemptied answer asked afterTaken enter answersFrom rowsFrom full
+unfolding computing
 computed = (refl, (refl, (refl, (refl, (refl, (refl, (refl, (refl, (refl, (refl, (refl, (refl, (refl, (refl, (refl, (refl, (refl, tt)))))))))))))))))
 
 -- .. and as one list
@@ -156,6 +151,5 @@ window = refl
 
 -- of these advances of B the second and the third are taken: the first is refused by 16, the last two by 15
 pub dropped : takenOf (B greedy) (map reports (2 ∷ 1 ∷ 0 ∷ 0 ∷ 8 ∷ [])) ≡ map reports (1 ∷ 0 ∷ [])
-unfolding takenFrom enter answer afterTaken late misemptied emptiable emptied misreported reportable any least step served work claims claimants grants given left
-    memb upFrom kept
+unfolding computing
 dropped = refl

@@ -1,5 +1,5 @@
 -- Fenced cores: the verdict is that of the table with just its unfenced cores, and the rows are that table's rows spread over them.
-use mathlib.Core.Bool.{Bool, _&&_, cond, false, not, true}
+use mathlib.Core.Bool.{Bool, _&&_, cond, false, not, true, _||_}
 use mathlib.Core.List.{List, [], map, _++_, _∷_}
 use mathlib.Core.Path.{ap, ap₂, fun-ext, refl, sym, _∙_, _≡_}
 use Prim.Native.Nat.{_+_, _<_, suc, zero, ℕ, _≤_}
@@ -11,16 +11,18 @@ use lib.Seq.{ext-getD, getD-append-seam}
 use borrow.Author.Tests.{lt-ltb, ltb-true}
 use Rattle.model.proofs.Digits.{bit-none}
 use Rattle.model.proofs.Lists.{map-at, up-at, up-length}
-use Rattle.model.proofs.Renumbered.{at-map, grants-map, owner-map, some-map}
+use Rattle.model.proofs.Renumbered.{at-map, grants-map, lent-map, owner-map, shown-map, some-map}
 use Rattle.model.proofs.Search.{any-same}
-use Rattle.model.specs.Book.{Answer, Book, Entry, advance, afterTaken, answer, answersFrom, book, bookFrom, emptiable, emptied, emptyBook, emptyIn, enter}
-use Rattle.model.specs.Book.{full, grantsOf, inRow, late, misemptied, misreported, none, reportable, rowOf, served, step, taskClaims, widths, withdraw, work}
+use Rattle.model.specs.Book.{Answer, Book, Entry, advance, afterTaken, answer, answersFrom, book, bookFrom, borrowed, borrowing, borrows}
+use Rattle.model.specs.Book.{emptiable, emptied, emptyBook, emptyIn, enter, full, grantsOf, inRow, late, lentOf, misemptied, misreported, newestEnded}
+use Rattle.model.specs.Book.{none, offer, reportable, rowOf, seeks, served, shownOf, step, taskClaims, widths, withdraw, work, workLent}
 use Rattle.model.specs.Fence.{justOpen, openCores, outside, spread, unfenced}
 use Rattle.model.specs.Grants.{claimants, grants, some}
 use Rattle.model.specs.Horizon.{horizon}
+use Rattle.model.specs.Lending.{lends, shownCores}
 use Rattle.model.specs.Row.{byteOf, owner, row}
 use Rattle.model.specs.Search.{bit, kept, keptIf, upFrom}
-use Rattle.model.specs.Task.{Table, newest, task}
+use Rattle.model.specs.Task.{Table, task}
 use Rattle.model.specs.Verdict.{firstMiss, missedAt, missedIn, verdict}
 
 -- THE UNFENCED CORES
@@ -157,15 +159,48 @@ module _ (s : Table) where
   same-in-row : (b : Book) (p : ℕ) → inRow s b p ≡ inRow (justOpen s) b p
   same-in-row b p = ap some (core-given b p) ∙ some-map core (getD (grantsOf (justOpen s) b) p [])
 
+  same-seeks : (b : Book) (p : ℕ) → seeks s b p ≡ seeks (justOpen s) b p
+  unfolding seeks
+  same-seeks b p = rw (same-in-row b p)
+
+  core-offer : (b : Book) (p : ℕ) → offer s b p ≡ map core (offer (justOpen s) b p)
+  unfolding offer
+  core-offer b p = go (lends (s .rule) && newestEnded s b p)
+    where
+      go : (t : Bool) → cond {A = List ℕ} t (getD (grantsOf s b) p []) [] ≡ map core (cond {A = List ℕ} t (getD (grantsOf (justOpen s) b) p []) [])
+      go true = core-given b p
+      go false = refl
+
+  core-lent : (b : Book) → lentOf s b ≡ map (map core) (lentOf (justOpen s) b)
+  core-lent b =
+      lent-map core (widths s (b .tick)) (seeks s b) (seeks (justOpen s) b) (offer s b) (offer (justOpen s) b) (same-seeks b) (core-offer b) (length (s .tasks))
+
+  core-borrowed : (b : Book) (p : ℕ) → borrowed s b p ≡ map core (borrowed (justOpen s) b p)
+  unfolding borrowed
+  core-borrowed b p = ap (λ (l : List (List ℕ)). getD l p []) (core-lent b) ∙ at-map core (lentOf (justOpen s) b) p
+
+  same-borrows : (b : Book) (p : ℕ) → borrows s b p ≡ borrows (justOpen s) b p
+  same-borrows b p = ap some (core-borrowed b p) ∙ some-map core (borrowed (justOpen s) b p)
+
+  core-shown : (b : Book) → shownOf s b ≡ map (map core) (shownOf (justOpen s) b)
+  core-shown b = ap₂ shownCores (core-grants b) (core-lent b) ∙ shown-map core core-apart (grantsOf (justOpen s) b) (lentOf (justOpen s) b)
+
   same-served : (b : Book) (p k : ℕ) → served s b p k ≡ served (justOpen s) b p k
   unfolding served
   same-served b p k = rw (same-in-row b p)
+
+  same-borrowing : (b : Book) (p k : ℕ) → borrowing s b p k ≡ borrowing (justOpen s) b p k
+  unfolding borrowing
+  same-borrowing b p k = rw (same-borrows b p)
 
   same-step : (f : ℕ → Bool) (b : Book) → step s f b ≡ step (justOpen s) f b
   unfolding step
   same-step f b = λ i. record {
     tick = suc (b .tick);
-    job = λ p k. cond (same-served b p k i) (work (task s p .length) (f p) (b .job p k)) (b .job p k);
+    job = λ p k.
+        cond (same-served b p k i)
+        (work (task s p .length) (f p) (b .job p k))
+        (cond (same-borrowing b p k i) (workLent (task s p .length) (f p) (b .job p k)) (b .job p k));
     withdrawn = b .withdrawn;
   }
 
@@ -192,27 +227,27 @@ module _ (s : Table) where
   pub fence-row : (b : Book) → rowOf s b ≡ spread (s .fence) (s .cores) (rowOf (justOpen s) b)
   unfolding row spread
   fence-row b =
-      map-up (byteOf (s .fence) (grantsOf s b)) spreadByte 0 (s .cores) (λ c a l. byte c (omega arith) (bit (s .fence) c) refl)
+      map-up (byteOf (s .fence) (shownOf s b)) spreadByte 0 (s .cores) (λ c a l. byte c (omega arith) (bit (s .fence) c) refl)
     where
       small : List ℕ
-      small = map (byteOf 0 (grantsOf (justOpen s) b)) (upFrom 0 n)
+      small = map (byteOf 0 (shownOf (justOpen s) b)) (upFrom 0 n)
 
       spreadByte : ℕ → ℕ
       spreadByte c = cond (bit (s .fence) c) 255 (getD small (length (unfenced (s .fence) c)) 0)
 
       byte : (c : ℕ) → c < s .cores → (t : Bool) → bit (s .fence) c ≡ t
-          → cond (bit (s .fence) c) 255 (owner c 1 (grantsOf s b)) ≡ cond (bit (s .fence) c) 255 (getD small (length (unfenced (s .fence) c)) 0)
+          → cond (bit (s .fence) c) 255 (owner c 1 (shownOf s b)) ≡ cond (bit (s .fence) c) 255 (getD small (length (unfenced (s .fence) c)) 0)
       byte c l true q = rw q
       byte c l false q =
           let k : ℕ = length (unfenced (s .fence) c) in
           let at = place-of (s .fence) (s .cores) c l q in
           let here : getD (upFrom 0 n) k 0 ≡ k = up-at 0 n k 0 (at .0) ∙ zero-add k in
-          let shown : getD small k 0 ≡ owner k 1 (grantsOf (justOpen s) b) =
-          map-at (byteOf 0 (grantsOf (justOpen s) b)) (upFrom 0 n) k 0 0 (rw (up-length 0 n) (at .0))
-          ∙ (ap (byteOf 0 (grantsOf (justOpen s) b)) here ∙ rw (bit-none k)) in
+          let shown : getD small k 0 ≡ owner k 1 (shownOf (justOpen s) b) =
+          map-at (byteOf 0 (shownOf (justOpen s) b)) (upFrom 0 n) k 0 0 (rw (up-length 0 n) (at .0))
+          ∙ (ap (byteOf 0 (shownOf (justOpen s) b)) here ∙ rw (bit-none k)) in
           rw (q, shown)
-          (ap₂ (λ (x : ℕ) (gs : List (List ℕ)). owner x 1 gs) (sym (core-at k (at .0) ∙ at .1)) (core-grants b)
-          ∙ owner-map core core-apart k 1 (grantsOf (justOpen s) b))
+          (ap₂ (λ (x : ℕ) (gs : List (List ℕ)). owner x 1 gs) (sym (core-at k (at .0) ∙ at .1)) (core-shown b)
+          ∙ owner-map core core-apart k 1 (shownOf (justOpen s) b))
 
   -- in the full-length run
   pub fence-rows : (t : ℕ) → rowOf s (full s t) ≡ spread (s .fence) (s .cores) (rowOf (justOpen s) (full (justOpen s) t))
@@ -223,9 +258,9 @@ module _ (s : Table) where
   unfolding answer late misreported reportable misemptied emptiable emptied
   same-answer b (advance x e) =
       let c : Book = emptied s (emptyIn b e) b in
-      rw (any-same x (λ p. bit x p && not (inRow s c p && not (c .job p (newest (task s p) (b .tick)) .ended)))
-      (λ p. bit x p && not (inRow (justOpen s) c p && not (c .job p (newest (task s p) (b .tick)) .ended)))
-      (λ p l. rw (same-in-row c p)))
+      rw (any-same x (λ p. bit x p && not ((inRow s c p || borrows s c p) && not (newestEnded s c p)))
+      (λ p. bit x p && not ((inRow (justOpen s) c p || borrows (justOpen s) c p) && not (newestEnded s c p)))
+      (λ p l. rw (same-in-row c p, same-borrows c p)))
   same-answer b (withdraw p) = refl
 
   same-after : (x : Entry) (b : Book) → afterTaken s x b ≡ afterTaken (justOpen s) x b

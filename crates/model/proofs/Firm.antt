@@ -10,9 +10,10 @@ use lib.ListN.{length, replicate}
 use borrow.Author.Tests.{ltb-true}
 use Rattle.model.proofs.Bools.{not-false-true, not-true-false}
 use Rattle.model.proofs.FullLength.{full-length, late-job}
+use Rattle.model.proofs.Lending.{not-lending}
 use Rattle.model.proofs.Runs.{full-stays, missed-at}
 use Rattle.model.proofs.Search.{least-found}
-use Rattle.model.proofs.Sustain.{abreast-full, abreast-lists, finished}
+use Rattle.model.proofs.Sustain.{abreast-lists, finished, none-behind}
 use Rattle.model.proofs.Verdict.{verdict-exact}
 use Rattle.model.specs.Book.{Answer, Asked, Book, Entry, NeverMissed, advance, answer, asked, book, emptied, emptyIn, firstLate, full, late, misemptied}
 use Rattle.model.specs.Book.{misreported, quiet, refused, rowOf, rowRefused, shown, taken, stranger, withdraw}
@@ -80,8 +81,8 @@ module _ (s : Table) (ok : AllSound s) (firmly : FirmRule s) (accepted : NeverMi
   -- THE THEOREM
   pub firm-kept : (xs : List Entry) → Kept s xs
   firm-kept xs = record {
-    abreast = λ ys e nl. abreast-lists s ok firmly xs ys e nl .near;
-    level = subst (NoneBehind s (book s xs)) (sym (scope-full (book s xs .tick))) (abreast-full s ok firmly xs .near);
+    abreast = λ other ys e nl. abreast-lists s ok (not-lending (s .rule) other) firmly xs ys e nl .near;
+    level = subst (NoneBehind s (book s xs)) (sym (scope-full (book s xs .tick))) (none-behind s ok firmly xs);
     finished = λ p k l e. finished s ok firmly xs p k l (subst (λ (b : Book). b .job p k .ended ≡ true) (scope-full (book s xs .tick)) e);
     met = λ ys zs e p m. true≢false (sym (met-due ys p (m .1 .0) (m .0) (le-of-eq (m .1 .1))) ∙ m .1 .2);
     never-15 = no-15 xs;

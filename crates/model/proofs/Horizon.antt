@@ -14,9 +14,9 @@ use Rattle.model.proofs.Bools.{not-false-true, same-and, same-test}
 use Rattle.model.proofs.Grants.{claimants-cut, grants-take}
 use Rattle.model.proofs.Jobs.{after-release, before-due, claims-if, newest-is, still}
 use Rattle.model.proofs.Lists.{map-first}
-use Rattle.model.proofs.Runs.{full-fresh, full-tick, missed-at}
+use Rattle.model.proofs.Runs.{full-fresh, full-next, full-tick, missed-at}
 use Rattle.model.proofs.Starts.{Periods, S-last, S-release, S-rises, hyperperiod-divides, hyperperiod-pos, width-shift}
-use Rattle.model.specs.Book.{Job, Missed, NeverMissed, claims, full, inRow, jobClaims, served, step, taskClaims, widths}
+use Rattle.model.specs.Book.{Job, Missed, NeverMissed, claims, full, inRow, jobClaims, served, taskClaims, widths}
 use Rattle.model.specs.Grants.{claimants, grants, some}
 use Rattle.model.specs.Horizon.{S, horizon, hyperperiod}
 use Rattle.model.specs.Fence.{openCores}
@@ -166,8 +166,7 @@ module _ (s : Table) (ok : AllSound s) where
     job-repeat :
         (k t : ℕ) → S (s .tasks) p ≤ t → full s t .job p k ≡ full s (t + P) .job p (k + m)
         → full s (suc t) .job p k ≡ full s (suc (t + P)) .job p (k + m)
-    unfolding full step
-    job-repeat k t h same = rw (served-repeat k t h same, same)
+    job-repeat k t h same = rw (full-next s t p k, full-next s (t + P) p (k + m), served-repeat k t h same, same)
 
     repeats :
         (k : ℕ) → S (s .tasks) p ≤ release (task s p) k
@@ -237,7 +236,7 @@ module _ (s : Table) (ok : AllSound s) where
           let when : due τ i + P ≡ due τ k = omega (arith, ap (λ (x : ℕ). x * τ .period) ik, mm .1) in
           carry p l m (mm .1) i k (omega (arith, aa .1)) ik when (ih i (omega arith))
 
--- THE THEOREM. For all three rules: if no deadline up to and including the horizon is missed at full length, none ever is
+-- THE THEOREM. For all four rules: if no deadline up to and including the horizon is missed at full length, none ever is
 pub horizon-enough :
     (s : Table) → AllSound s
     → ((p t : ℕ) → t ≤ horizon s → ¬ Missed s p t)

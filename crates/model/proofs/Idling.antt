@@ -1,42 +1,46 @@
--- Idling: at full length it gives the rows of greedy, and whatever is reported or empty it gives the rows of its full-length run.
+-- Idling and lending: at full length both give the rows of greedy; whatever is reported, empty or withdrawn, idling gives the rows of its full-length
+-- run, and lending reserves the cores that its full-length run gives.
 use mathlib.Core.Bool.{Bool, cond, false, false≢true, true, true≢false}
 use mathlib.Core.List.{List, [], _∷_}
-use mathlib.Core.Path.{ap, refl, subst, sym, _∙_, _≡_}
+use mathlib.Core.Path.{ap, fun-ext, refl, subst, sym, _∙_, _≡_}
 use Prim.Native.Nat.{suc, zero, ℕ, _≤_}
 use lib.Dec.{ltb}
-use lib.ListN.{length, length-map, replicate}
-use borrow.Author.Tests.{le-ltb}
+use lib.ListN.{length, replicate}
 use Rattle.model.proofs.FullLength.{empty-full, empty-more}
 use Rattle.model.proofs.Grants.{claimants-same}
-use Rattle.model.proofs.Jobs.{Reserving, mk}
+use Rattle.model.proofs.Jobs.{Reserving, done-off, mk}
+use Rattle.model.proofs.Lending.{not-borrowing, offer-none, shown-given}
 use Rattle.model.proofs.Level.{level-asked, same-claimants}
-use Rattle.model.proofs.Runs.{full-claimed, full-withdrawn, still-emptied}
-use Rattle.model.specs.Book.{Book, Entry, asked, book, bookFrom, claims, emptied, firstLate, full, grantsOf, jobClaims, late, misemptied, none, quiet}
-use Rattle.model.specs.Book.{rowOf, rowRefused, served, shown, step, taskClaims, widths, work}
-use Rattle.model.specs.Grants.{Claimant, claimants, given, grants, left}
+use Rattle.model.proofs.Runs.{full-claimed, full-offer, full-shown, full-withdrawn, still-emptied}
+use Rattle.model.specs.Book.{Book, Entry, asked, book, bookFrom, borrowing, claims, emptied, firstLate, full, grantsOf, jobClaims, late}
+use Rattle.model.specs.Book.{misemptied, none, quiet, rowOf, rowRefused, served, shown, step, taskClaims, widths, work, workLent}
+use Rattle.model.specs.Firm.{firm}
+use Rattle.model.specs.Grants.{Claimant, claimants, endsChoosing, given, grants, left}
+use Rattle.model.specs.Horizon.{horizon}
 use Rattle.model.specs.Row.{row}
 use Rattle.model.specs.Fence.{openCores}
 use Rattle.model.specs.Search.{any}
-use Rattle.model.specs.Task.{AllSound, Rule, Table, Task, greedy, idling, newest, task}
+use Rattle.model.specs.Task.{AllSound, Rule, Table, Task, greedy, idling, lending, newest, task}
+use Rattle.model.specs.Verdict.{firstMiss, missedAt, missedIn, verdict}
 
--- the rules choose alike
-choose-alike : (bs : List Claimant) (F : List ℕ) → grants idling bs F ≡ grants greedy bs F
+-- the rules that pass over a misfit choose alike
+choose-alike : (r : Rule) → endsChoosing r ≡ false → (bs : List Claimant) (F : List ℕ) → grants r bs F ≡ grants greedy bs F
 unfolding grants left
-choose-alike [] F = refl
-choose-alike (b ∷ bs) F = ap {B = List (List ℕ)} (λ x. given b F ∷ x) (choose-alike bs (left greedy b F))
+choose-alike r e [] F = refl
+choose-alike r e (b ∷ bs) F = rw e (ap {B = List (List ℕ)} (λ x. given b F ∷ x) (choose-alike r e bs (left greedy b F)))
 
--- a job that has claimed C ticks once it has ended claims alike under both
-claims-alike : (τ : Task) (k t h c : ℕ) (e : Bool) → (e ≡ true → τ .length ≤ c) → claims idling τ k t (mk h c e) ≡ claims greedy τ k t (mk h c e)
-unfolding claims
-claims-alike τ k t h c false g = refl
-claims-alike τ k t h c true g = rw (le-ltb c (τ .length) (g refl))
+-- a job that has claimed C ticks once it has ended claims alike under all rules
+claims-alike : (r : Rule) (τ : Task) (k t h c : ℕ) (e : Bool) → (e ≡ true → τ .length ≤ c) → claims r τ k t (mk h c e) ≡ claims greedy τ k t (mk h c e)
+claims-alike r τ k t h c true g = done-off r τ k t (mk h c true) refl (g refl) ∙ sym (done-off greedy τ k t (mk h c true) refl (g refl))
+claims-alike r τ k t h c false g = unfold claims in refl
 
 abbrev pub under : Rule → List Task → ℕ → ℕ → Table
 under r τs m f = record { tasks = τs; cores = m; fence = f; rule = r }
 
-module _ (τs : List Task) (m f : ℕ) where
+-- AT FULL LENGTH a rule that passes over misfits is greedy
+module _ (r : Rule) (passes : endsChoosing r ≡ false) (τs : List Task) (m f : ℕ) where
   abbrev I : Table
-  I = under idling τs m f
+  I = under r τs m f
 
   abbrev G : Table
   G = under greedy τs m f
@@ -44,12 +48,12 @@ module _ (τs : List Task) (m f : ℕ) where
   same-claims : (n : ℕ) → full I n ≡ full G n → (p k : ℕ) → jobClaims I (full I n) p k ≡ jobClaims G (full G n) p k
   same-claims n e p k =
       subst (λ (b : Book). jobClaims I (full I n) p k ≡ jobClaims G b p k) e
-      (claims-alike (task I p) k (full I n .tick) (full I n .job p k .had) (full I n .job p k .claimed) (full I n .job p k .ended)
+      (claims-alike r (task I p) k (full I n .tick) (full I n .job p k .had) (full I n .job p k .claimed) (full I n .job p k .ended)
       (full-claimed I n p k))
 
   same-grants : (n : ℕ) → full I n ≡ full G n → grantsOf I (full I n) ≡ grantsOf G (full G n)
   same-grants n e =
-      choose-alike (claimants (widths I (full I n .tick)) (taskClaims I (full I n))) (openCores I)
+      choose-alike r passes (claimants (widths I (full I n .tick)) (taskClaims I (full I n))) (openCores I)
       ∙ ap (λ (x : List Claimant). grants greedy x (openCores I))
       (ap (λ (b : Book). claimants (widths I (b .tick)) (taskClaims I (full I n))) e
       ∙ claimants-same (widths I (full G n .tick)) (taskClaims I (full I n)) (taskClaims G (full G n))
@@ -59,12 +63,19 @@ module _ (τs : List Task) (m f : ℕ) where
   unfolding served
   same-served n e p k = rw (same-claims n e p k, same-grants n e)
 
+  -- nobody borrows
+  same-borrowing : (n p k : ℕ) → borrowing I (full I n) p k ≡ borrowing G (full G n) p k
+  same-borrowing n p k = not-borrowing I (full I n) (full-offer I n) p k ∙ sym (not-borrowing G (full G n) (full-offer G n) p k)
+
   -- a path between books, which hold functions, is a path at each job
   same-step : (n : ℕ) → full I n ≡ full G n → step I none (full I n) ≡ step G none (full G n)
   unfolding step
   same-step n e = λ i. record {
     tick = suc (e i .tick);
-    job = λ p k. cond (same-served n e p k i) (work (task I p .length) false (e i .job p k)) (e i .job p k);
+    job = λ p k.
+        cond (same-served n e p k i)
+        (work (task I p .length) false (e i .job p k))
+        (cond (same-borrowing n p k i) (workLent (task I p .length) false (e i .job p k)) (e i .job p k));
     withdrawn = e i .withdrawn;
   }
 
@@ -72,6 +83,9 @@ module _ (τs : List Task) (m f : ℕ) where
   unfolding full
   same-full zero = refl
   same-full (suc n) = same-step n (same-full n)
+
+  same-row : (n : ℕ) → rowOf I (full I n) ≡ rowOf G (full G n)
+  same-row n = ap (row f m) (full-shown I n ∙ (same-grants n (same-full n) ∙ sym (full-shown G n)))
 
   -- the same places are late under both, so the books of empty sets stay at the same tick
   same-late : (t : ℕ) → ltb (firstLate I (full I t)) (length τs) ≡ ltb (firstLate G (full G t)) (length τs)
@@ -100,42 +114,94 @@ module _ (τs : List Task) (m f : ℕ) where
       ap (λ (r : List ℕ). cond (ltb (firstLate I b) (length τs)) (rowRefused 15 (suc (firstLate I b))) (shown r))
       (ap (rowOf I) (still-emptied I b w) ∙ (e ∙ ap (rowOf G) (sym (still-emptied G b w))))
 
+  same-asked-empty : (n : ℕ) → asked I (book I (replicate n quiet)) 0 ≡ asked G (book G (replicate n quiet)) 0
+  same-asked-empty n =
+      let b : Book = book I (replicate n quiet) in
+      let e : b ≡ book G (replicate n quiet) = unfold full in same-books n 0 in
+      let at : b ≡ full I (b .tick) = empty-full I n in
+      let at′ : b ≡ full G (b .tick) =
+      e ∙ (empty-full G n ∙ ap (λ (c : Book). full G (c .tick)) (sym e)) in
+      let out : b .withdrawn ≡ 0 = ap (λ (c : Book). c .withdrawn) at ∙ full-withdrawn I (b .tick) in
+      same-asked b out (ap (rowOf I) at ∙ (same-row (b .tick) ∙ ap (rowOf G) (sym at′))) ∙ ap (λ (c : Book). asked G c 0) e
+
 -- THE THEOREM: at full length idling and greedy give equal rows
 pub idling-greedy : (τs : List Task) (m f n : ℕ) → rowOf (under idling τs m f) (full (under idling τs m f) n) ≡ rowOf (under greedy τs m f) (full (under greedy τs m f) n)
-idling-greedy τs m f n = ap (row f m) (same-grants τs m f n (same-full τs m f n))
+idling-greedy = same-row idling refl
 
 -- the same of the books of n empty sets, past a miss too: the books are equal ..
 pub idling-greedy-books : (τs : List Task) (m f n : ℕ) → book (under idling τs m f) (replicate n quiet) ≡ book (under greedy τs m f) (replicate n quiet)
 unfolding full
-idling-greedy-books τs m f n = same-books τs m f n 0
+idling-greedy-books τs m f n = same-books idling refl τs m f n 0
 
 -- .. and so is what a row asked is answered, the row or 15 with its position
 pub idling-greedy-asked :
     (τs : List Task) (m f n : ℕ)
     → asked (under idling τs m f) (book (under idling τs m f) (replicate n quiet)) 0
     ≡ asked (under greedy τs m f) (book (under greedy τs m f) (replicate n quiet)) 0
-idling-greedy-asked τs m f n =
-    let i : Table = under idling τs m f in
-    let g : Table = under greedy τs m f in
-    let b : Book = book i (replicate n quiet) in
-    let e : b ≡ book g (replicate n quiet) = idling-greedy-books τs m f n in
-    let at : b ≡ full i (b .tick) = empty-full i n in
-    let at′ : b ≡ full g (b .tick) =
-    e ∙ (empty-full g n ∙ ap (λ (c : Book). full g (c .tick)) (sym e)) in
-    let out : b .withdrawn ≡ 0 = ap (λ (c : Book). c .withdrawn) at ∙ full-withdrawn i (b .tick) in
-    same-asked τs m f b out (ap (rowOf i) at ∙ (idling-greedy τs m f (b .tick) ∙ ap (rowOf g) (sym at′))) ∙ ap (λ (c : Book). asked g c 0) e
+idling-greedy-asked = same-asked-empty idling refl
 
--- THE THEOREM (Goossens and Berten, definition 16): under idling the cores, and so the row, of any book are those of the full-length run at
--- its tick, whatever jobs of that tick are empty
-pub idling-grants :
-    (s : Table) → AllSound s → s .rule ≡ idling → (xs : List Entry) (e : ℕ → Bool)
+-- THE THEOREM (request 109): at full length lending is idling, in its book and in its rows ..
+pub lending-idling :
+    (τs : List Task) (m f n : ℕ)
+    → (full (under lending τs m f) n ≡ full (under idling τs m f) n)
+    × (rowOf (under lending τs m f) (full (under lending τs m f) n) ≡ rowOf (under idling τs m f) (full (under idling τs m f) n))
+lending-idling τs m f n = (
+  same-full lending refl τs m f n ∙ sym (same-full idling refl τs m f n),
+  same-row lending refl τs m f n ∙ sym (same-row idling refl τs m f n),
+)
+
+-- .. in the verdict ..
+pub lending-idling-verdict : (τs : List Task) (m f : ℕ) → verdict (under lending τs m f) ≡ verdict (under idling τs m f)
+unfolding verdict firstMiss horizon firm
+lending-idling-verdict τs m f = rw (same-missed-in, fun-ext same-missed-at)
+  where
+    l : Table
+    l = under lending τs m f
+
+    i : Table
+    i = under idling τs m f
+
+    same-missed-at : (t : ℕ) → missedAt l t ≡ missedAt i t
+    same-missed-at t = unfold missedAt in fun-ext (λ p. rw (lending-idling τs m f t .0))
+
+    same-missed-in : missedIn l ≡ missedIn i
+    same-missed-in = unfold missedIn in fun-ext (λ t. rw (same-missed-at t))
+
+-- .. and in the books of n empty sets, past a miss too, and what a row asked is answered
+pub lending-idling-books : (τs : List Task) (m f n : ℕ) → book (under lending τs m f) (replicate n quiet) ≡ book (under idling τs m f) (replicate n quiet)
+unfolding full
+lending-idling-books τs m f n = same-books lending refl τs m f n 0 ∙ sym (same-books idling refl τs m f n 0)
+
+pub lending-idling-asked :
+    (τs : List Task) (m f n : ℕ)
+    → asked (under lending τs m f) (book (under lending τs m f) (replicate n quiet)) 0
+    ≡ asked (under idling τs m f) (book (under idling τs m f) (replicate n quiet)) 0
+lending-idling-asked τs m f n = same-asked-empty lending refl τs m f n ∙ sym (same-asked-empty idling refl τs m f n)
+
+-- THE THEOREM (Goossens and Berten, definition 16 and limited slack reclaiming): where an ended job claims until it has claimed C ticks, as under
+-- idling and lending, the cores of any book, given or reserved, are those of the full-length run at its tick, whatever jobs of that tick are empty
+pub reserved-grants :
+    (s : Table) → AllSound s → Reserving (s .rule) → (xs : List Entry) (e : ℕ → Bool)
     → grantsOf s (emptied s e (book s xs)) ≡ grantsOf s (full s (book s xs .tick))
-idling-grants s ok i xs e =
-    let reserving : Reserving (s .rule) = subst Reserving (sym i) (λ τ j. refl) in
+reserved-grants s ok reserving xs e =
     ap (λ (x : List Claimant). grants (s .rule) x (openCores s))
     (same-claimants s ok reserving (emptied s e (book s xs)) (full s (book s xs .tick)) (level-asked s ok reserving xs e))
 
+pub idling-grants :
+    (s : Table) → AllSound s → s .rule ≡ idling → (xs : List Entry) (e : ℕ → Bool)
+    → grantsOf s (emptied s e (book s xs)) ≡ grantsOf s (full s (book s xs .tick))
+idling-grants s ok i = reserved-grants s ok (subst Reserving (sym i) (λ τ j. refl))
+
+pub lending-grants :
+    (s : Table) → AllSound s → s .rule ≡ lending → (xs : List Entry) (e : ℕ → Bool)
+    → grantsOf s (emptied s e (book s xs)) ≡ grantsOf s (full s (book s xs .tick))
+lending-grants s ok i = reserved-grants s ok (subst Reserving (sym i) (λ τ j. refl))
+
+-- under idling so is the row
 pub idling-rows :
     (s : Table) → AllSound s → s .rule ≡ idling → (xs : List Entry) (e : ℕ → Bool)
     → rowOf s (emptied s e (book s xs)) ≡ rowOf s (full s (book s xs .tick))
-idling-rows s ok i xs e = ap (row (s .fence) (s .cores)) (idling-grants s ok i xs e)
+idling-rows s ok i xs e =
+    let b : Book = emptied s e (book s xs) in
+    ap (row (s .fence) (s .cores))
+    (shown-given s b (offer-none s b (rw i)) ∙ (idling-grants s ok i xs e ∙ sym (full-shown s (book s xs .tick))))

@@ -8,9 +8,9 @@ use native.Mathlib.Omega.{arith}
 use lib.Dec.{leb, ltb}
 use borrow.Author.Tests.{le-leb, leb-false, leb-true, lt-ltb, ltb-true, not-true}
 use Rattle.model.proofs.Bools.{and-left, and-right, not-true-false, or-left-true, or-right-false}
-use Rattle.model.specs.Book.{Job, claims, endedWith, holds, work}
+use Rattle.model.specs.Book.{Job, claims, endedWith, holds, work, workLent}
 use Rattle.model.specs.Compare.{Behind, Longer}
-use Rattle.model.specs.Task.{Rule, Task, due, greedy, idling, limited, newest, release}
+use Rattle.model.specs.Task.{Rule, Task, due, greedy, idling, lending, limited, newest, release}
 
 -- a claiming job is inside its window
 pub after-release : (r : Rule) (τ : Task) (k t : ℕ) (j : Job) → claims r τ k t j ≡ true → release τ k ≤ t
@@ -45,7 +45,7 @@ newest-is τ k t c h l =
 pub claims-open : (r : Rule) (τ : Task) (k t : ℕ) (a b : Job) → claims r τ k t b ≡ true → a .ended ≡ false → claims r τ k t a ≡ true
 claims-open r τ k t a b e o = claims-if r τ k t a (after-release r τ k t b e) (before-due r τ k t b e) (rw o)
 
--- a job after a tick, in which it was in the row or not
+-- a job after a tick, in which it was given cores or not
 abbrev pub next : ℕ → Bool → Bool → Job → Job
 next C f s j = cond s (work C f j) j
 
@@ -140,6 +140,15 @@ good-next C f true h c false g = record {
   paid = λ o. omega (arith, g .paid refl);
 }
 
+-- where nobody lends, a job that has not ended has had as many ticks as it has claimed
+pub even-next :
+    (C : ℕ) (f s : Bool) (h c : ℕ) (e : Bool) → (e ≡ false → c ≡ h)
+    → next C f s (mk h c e) .ended ≡ false → next C f s (mk h c e) .claimed ≡ next C f s (mk h c e) .had
+unfolding work
+even-next C f false h c e g o = g o
+even-next C f true h c true g o = absurd (true≢false o)
+even-next C f true h c false g o = ap suc (g refl)
+
 -- in the full-length run a job ends only at C ticks
 pub whole-next : (C : ℕ) (s : Bool) (h c : ℕ) (e : Bool) → (e ≡ true → C ≤ h) → next C false s (mk h c e) .ended ≡ true → C ≤ next C false s (mk h c e) .had
 unfolding work
@@ -154,6 +163,44 @@ next-claimed C f false h c e = refl
 next-claimed C f true h c true = refl
 next-claimed C f true h c false = refl
 
+-- LENDING: a job after a tick in which it was given cores (s), or borrowed some (l), or neither
+abbrev pub turn : ℕ → Bool → Bool → Bool → Job → Job
+turn C f s l j = cond s (work C f j) (cond l (workLent C f j) j)
+
+pub turn-ended : (C : ℕ) (f s l : Bool) (j : Job) → j .ended ≡ true → (turn C f s l j .ended ≡ true) × (turn C f s l j .had ≡ j .had)
+unfolding workLent
+turn-ended C f true l j e = next-ended C f true j e
+turn-ended C f false true j e = rw e (refl, refl)
+turn-ended C f false false j e = (e, refl)
+
+pub turn-good : (C : ℕ) (f s l : Bool) (h c : ℕ) (e : Bool) → Good C (mk h c e) → Good C (turn C f s l (mk h c e))
+unfolding workLent
+turn-good C f true l h c e g = good-next C f true h c e g
+turn-good C f false false h c e g = g
+turn-good C f false true h c true g = g
+turn-good C f false true h c false g = record {
+  within = g .short refl;
+  short = λ o. leb-false C (suc h) (or-right-false f (leb C (suc h)) o);
+  paid = λ o. omega (arith, g .paid refl);
+}
+
+pub turn-whole :
+    (C : ℕ) (s l : Bool) (h c : ℕ) (e : Bool) → (e ≡ true → C ≤ h)
+    → turn C false s l (mk h c e) .ended ≡ true → C ≤ turn C false s l (mk h c e) .had
+unfolding workLent
+turn-whole C true l h c e w o = whole-next C true h c e w o
+turn-whole C false false h c e w o = w o
+turn-whole C false true h c true w o = w o
+turn-whole C false true h c false w o = leb-true C (suc h) o
+
+-- ticks claimed do not grow by lent ones
+pub turn-claimed : (C : ℕ) (f s l : Bool) (h c : ℕ) (e : Bool) → turn C f s l (mk h c e) .claimed ≡ cond s (suc c) c
+unfolding workLent
+turn-claimed C f true l h c e = next-claimed C f true h c e
+turn-claimed C f false false h c e = refl
+turn-claimed C f false true h c true = refl
+turn-claimed C f false true h c false = refl
+
 -- EMPTY JOBS
 
 -- a job before a tick, empty or not
@@ -167,6 +214,10 @@ start-claimed false j = refl
 pub start-good : (C : ℕ) (x : Bool) (j : Job) → Good C j → Good C (start x j)
 start-good C true j g = record { within = g .within; short = λ o. absurd (true≢false o); paid = λ o. absurd (true≢false o) }
 start-good C false j g = g
+
+pub start-even : (x : Bool) (j : Job) → (j .ended ≡ false → j .claimed ≡ j .had) → start x j .ended ≡ false → start x j .claimed ≡ start x j .had
+start-even true j g o = absurd (true≢false o)
+start-even false j g o = g o
 
 -- an empty job is behind nothing
 pub start-near : (x : Bool) (a b : Job) → ¬ Behind a b → ¬ Behind (start x a) b
@@ -221,4 +272,5 @@ done-off r τ k t j e l = not-true-false (claims r τ k t j) (λ c. go (j .ended
     go true q greedy h = false≢true h
     go true q limited h = false≢true h
     go true q idling h = omega (arith, ltb-true (j .claimed) (τ .length) h)
+    go true q lending h = omega (arith, ltb-true (j .claimed) (τ .length) h)
     go false q r h = false≢true q

@@ -1,15 +1,19 @@
--- Level books: at one tick with the same ticks claimed. Where a job that ended claims until it has claimed C ticks, as under idling, every
--- book is level with the full-length run at its tick, whatever is reported, empty or withdrawn: claims, cores and rows are the same.
+-- Level books: at one tick with the same ticks claimed. Where a job that ended claims until it has claimed C ticks, as under idling and lending,
+-- every book is level with the full-length run at its tick, whatever is reported, empty, withdrawn or lent: claims and cores are the same.
 use mathlib.Core.Bool.{_&&_, Bool}
 use mathlib.Core.List.{List, [], _∷_}
+use mathlib.Core.Logic.{inl, inr}
 use mathlib.Core.Path.{ap, refl, subst, sym, _∙_, _≡_}
 use Prim.Native.Nat.{_<_, suc, ℕ}
 use native.Mathlib.Nat.{suc-inj, suc-ne-zero}
+use native.Mathlib.Omega.{arith}
 use lib.ListN.{length, length-map, length-replicate, replicate}
 use Rattle.model.proofs.Grants.{claimants-same}
-use Rattle.model.proofs.Jobs.{Reserving, idle-claims, next-claimed, start-claimed}
-use Rattle.model.proofs.Runs.{GoodBook, Move, book-run, book-tick, full-run, good-emptied, good-start, good-step, lines, moved, movesOf, run, stillMove}
-use Rattle.model.specs.Book.{Book, Entry, book, emptied, emptyBook, full, jobClaims, releasedNow, served, step, taskClaims, widths}
+use Rattle.model.proofs.Jobs.{Reserving, idle-claims, start-claimed, turn-claimed}
+use Rattle.model.proofs.Runs.{GoodBook, Move, book-run, book-tick, full-claimed, full-had, full-run, good-emptied, good-start, good-step}
+use Rattle.model.proofs.Runs.{lines, moved, movesOf, run, stillMove}
+use Rattle.model.specs.Book.{Book, Entry, book, borrowing, emptied, emptyBook, full, jobClaims, releasedNow, served, step, taskClaims, widths}
+use Rattle.model.specs.Compare.{Behind, NoneBehind}
 use Rattle.model.specs.Grants.{claimants}
 use Rattle.model.specs.Task.{AllSound, Table, newest, task}
 
@@ -40,7 +44,7 @@ module _ (s : Table) (ok : AllSound s) (reserving : Reserving (s .rule)) where
   unfolding served
   same-served a b ab p k l = rw (same-claims a b ab p k l, same-claimants a b ab)
 
-  -- level books stay level, whatever is reported ..
+  -- level books stay level, whatever is reported and lent ..
   pub level-step : (f g : ℕ → Bool) (a b : Book) → Level s a b → Level s (step s f a) (step s g b)
   unfolding step
   level-step f g a b ab = record {
@@ -48,9 +52,9 @@ module _ (s : Table) (ok : AllSound s) (reserving : Reserving (s .rule)) where
     good-a = good-step s ok f a (ab .good-a);
     good-b = good-step s ok g b (ab .good-b);
     same-claimed = λ p k l.
-        next-claimed (task s p .length) (f p) (served s a p k) (a .job p k .had) (a .job p k .claimed) (a .job p k .ended)
+        turn-claimed (task s p .length) (f p) (served s a p k) (borrowing s a p k) (a .job p k .had) (a .job p k .claimed) (a .job p k .ended)
         ∙ (rw (same-served a b ab p k l, ab .same-claimed p k l) refl
-        ∙ sym (next-claimed (task s p .length) (g p) (served s b p k) (b .job p k .had) (b .job p k .claimed) (b .job p k .ended)));
+        ∙ sym (turn-claimed (task s p .length) (g p) (served s b p k) (borrowing s b p k) (b .job p k .had) (b .job p k .claimed) (b .job p k .ended)));
   }
 
   -- .. or empty
@@ -98,3 +102,15 @@ module _ (s : Table) (ok : AllSound s) (reserving : Reserving (s .rule)) where
     good-b = ab .good-b;
     same-claimed = λ p k l. start-claimed (e p && releasedNow s (book s xs) p k) (book s xs .job p k) ∙ ab .same-claimed p k l;
   }
+
+  -- so no list is behind the full-length run: what that has had it has claimed, and a job that has not ended has had what it has claimed
+  pub level-near : (xs : List Entry) → NoneBehind s (book s xs) (full s (book s xs .tick))
+  level-near xs p k l = near
+    where
+      ab : Level s (lines (book s xs)) (full s (book s xs .tick))
+      ab = level-full xs
+
+      near : ¬ Behind (book s xs .job p k) (full s (book s xs .tick) .job p k)
+      near (o, inl e) =
+          omega (arith, ab .good-a p k l .short o, ab .good-a p k l .paid o, ab .same-claimed p k l, full-claimed s (book s xs .tick) p k e)
+      near (o, inr h) = omega (arith, h .1, ab .good-a p k l .paid o, ab .same-claimed p k l, full-had s (book s xs .tick) p k)

@@ -1,15 +1,18 @@
 -- The theorems on the definitions alone: computed examples, laws of searches, lists and digits, and what the book, the horizon and the verdict promise.
 pub mod LineByLine
+pub mod Computing
 pub mod Examples
 pub mod EmptyExamples
 pub mod WithdrawExamples
 pub mod WidthExamples
+pub mod LendExamples
 pub mod Bools
 pub mod Search
 pub mod Lists
 pub mod Digits
 pub mod Jobs
 pub mod Grants
+pub mod Lending
 pub mod Rows
 pub mod Runs
 pub mod Compare
@@ -28,3 +31,5 @@ pub mod Verdict
 pub mod Renumbered
 pub mod Fence
 pub mod Withdraw
+pub mod Counts
+pub mod Crowd

@@ -14,11 +14,15 @@ use borrow.Author.Tests.{le-ltb, leb-false, leb-true, lt-ltb, ne-eqb}
 use Rattle.model.proofs.Digits.{bit-power, or-bit}
 use Rattle.model.proofs.FullLength.{empty-full}
 use Rattle.model.proofs.Grants.{claimants-cut, grants-take}
+use Rattle.model.proofs.Lending.{borrowed-above, lent-local, shown-given}
 use Rattle.model.proofs.Lists.{take-map}
-use Rattle.model.specs.Book.{Answer, Book, Entry, advance, afterTaken, answer, book, bookFrom, emptied, emptyBook, emptyIn, enter, entered, full, grantsOf}
-use Rattle.model.specs.Book.{jobClaims, keep, none, only, quiet, refused, served, step, taken, takenFrom, takenOf, taskClaims, widths, withdraw, without}
+use Rattle.model.proofs.Runs.{full-offer}
+use Rattle.model.specs.Book.{Answer, Book, Entry, Job, advance, afterTaken, answer, book, bookFrom, borrowed, borrowing, emptied, emptyBook}
+use Rattle.model.specs.Book.{emptyIn, enter, entered, full, grantsOf, jobClaims, keep, newestEnded, none, offer, only, quiet, refused, rowOf, seeks}
+use Rattle.model.specs.Book.{served, step, taken, takenFrom, takenOf, taskClaims, widths, withdraw, without}
 use Rattle.model.specs.Fence.{openCores}
 use Rattle.model.specs.Grants.{claimants}
+use Rattle.model.specs.Lending.{lent}
 use Rattle.model.specs.Local.{Alike, SameBits, SameCores, SameEntries, SameEntry, SameReports, noticed, noticedIf, upTo}
 use Rattle.model.specs.Row.{byteOf, owner, row}
 use Rattle.model.specs.Search.{bit, memb, upFrom}
@@ -145,10 +149,12 @@ module _ (n : ℕ) (s s′ : Table) (al : Alike n s s′) where
       same-job-claims b b′ ag p (newest (task s p) (b .tick)) l
       ∙ rw (same-task p l, ag .ticks)
 
+  same-widths : (b b′ : Book) → Agree n b b′ → take n (widths s (b .tick)) ≡ take n (widths s′ (b′ .tick))
+  same-widths b b′ ag = first-widths n (b .tick) s s′ (al .tasks) ∙ ap (λ (t : ℕ). take n (widths s′ t)) (ag .ticks)
+
   same-grants : (b b′ : Book) → Agree n b b′ → take n (grantsOf s b) ≡ take n (grantsOf s′ b′)
   same-grants b b′ ag =
-      let ws : take n (widths s (b .tick)) ≡ take n (widths s′ (b′ .tick)) =
-      first-widths n (b .tick) s s′ (al .tasks) ∙ ap (λ (t : ℕ). take n (widths s′ t)) (ag .ticks) in
+      let ws = same-widths b b′ ag in
       grants-take (s .rule) n (claimants (widths s (b .tick)) (taskClaims s b)) (openCores s)
       ∙ (rw (claimants-cut n (widths s (b .tick)) (widths s′ (b′ .tick)) (taskClaims s b) (taskClaims s′ b′) ws (same-claims b b′ ag), al .rules, al .cores, al .fences)
       (sym (grants-take (s′ .rule) n (claimants (widths s′ (b′ .tick)) (taskClaims s′ b′)) (openCores s′))))
@@ -159,19 +165,47 @@ module _ (n : ℕ) (s s′ : Table) (al : Alike n s s′) where
       ∙ (ap (λ (x : List (List ℕ)). getD x p []) (same-grants b b′ ag)
       ∙ getD-take n (grantsOf s′ b′) p [] l)
 
+  -- who has ended, seeks and offers, and so what is borrowed
+  same-ended : (b b′ : Book) → Agree n b b′ → (p : ℕ) → p < n → newestEnded s b p ≡ newestEnded s′ b′ p
+  same-ended b b′ ag p l =
+      ap (λ (j : Job). j .ended) (ag .jobs p (newest (task s p) (b .tick)) l)
+      ∙ ap₂ (λ (τ : Task) (t : ℕ). b′ .job p (newest τ t) .ended) (same-task p l) (ag .ticks)
+
+  same-seeks : (b b′ : Book) → Agree n b b′ → (p : ℕ) → p < n → seeks s b p ≡ seeks s′ b′ p
+  unfolding seeks
+  same-seeks b b′ ag p l = rw (same-claims b b′ ag p l, same-ended b b′ ag p l, same-cores b b′ ag p l)
+
+  same-offer : (b b′ : Book) → Agree n b b′ → (p : ℕ) → p < n → offer s b p ≡ offer s′ b′ p
+  unfolding offer
+  same-offer b b′ ag p l = rw (same-cores b b′ ag p l, same-ended b b′ ag p l, al .rules)
+
+  same-borrowed : (b b′ : Book) → Agree n b b′ → (p : ℕ) → p < n → borrowed s b p ≡ borrowed s′ b′ p
+  same-borrowed b b′ ag p l =
+      borrowed-above s b p
+      ∙ (sym (getD-take n (lent (widths s (b .tick)) (seeks s b) (offer s b) p) p [] l)
+      ∙ (ap (λ (x : List (List ℕ)). getD x p [])
+      (lent-local n (widths s (b .tick)) (widths s′ (b′ .tick)) (seeks s b) (seeks s′ b′) (offer s b) (offer s′ b′)
+      (same-widths b b′ ag) (same-seeks b b′ ag) (same-offer b b′ ag) p (omega arith))
+      ∙ (getD-take n (lent (widths s′ (b′ .tick)) (seeks s′ b′) (offer s′ b′) p) p [] l
+      ∙ sym (borrowed-above s′ b′ p))))
+
   shown-alike : (b b′ : Book) → Agree n b b′ → SameCores n s b s′ b′
   shown-alike b b′ ag = record {
     lists = same-cores b b′ ag;
-    bytes =
-        row-upTo n (s .fence) (s .cores) (grantsOf s b) (grantsOf s′ b′) (same-grants b b′ ag)
-        ∙ ap₂ (λ (f m : ℕ). map (upTo n) (row f m (grantsOf s′ b′))) (al .fences) (al .cores);
+    borrows = same-borrowed b b′ ag;
+    bytes = λ keeps keeps′.
+        ap (λ (gs : List (List ℕ)). map (upTo n) (row (s .fence) (s .cores) gs)) (shown-given s b keeps)
+        ∙ (row-upTo n (s .fence) (s .cores) (grantsOf s b) (grantsOf s′ b′) (same-grants b b′ ag)
+        ∙ (ap₂ (λ (f m : ℕ). map (upTo n) (row f m (grantsOf s′ b′))) (al .fences) (al .cores)
+        ∙ ap (λ (gs : List (List ℕ)). map (upTo n) (row (s′ .fence) (s′ .cores) gs)) (sym (shown-given s′ b′ keeps′))));
   }
 
   same-step : (f g : ℕ → Bool) → ((q : ℕ) → q < n → f q ≡ g q) → (b b′ : Book) → Agree n b b′ → Agree n (step s f b) (step s′ g b′)
-  unfolding step served
+  unfolding step served borrowing
   same-step f g fg b b′ ag = record {
     ticks = ap suc (ag .ticks);
-    jobs = λ p k l. rw (same-job-claims b b′ ag p k l, same-cores b b′ ag p l, same-task p l, ag .jobs p k l, fg p l);
+    jobs = λ p k l.
+        rw (same-job-claims b b′ ag p k l, same-cores b b′ ag p l, same-borrowed b b′ ag p l, same-task p l, ag .jobs p k l, fg p l);
     gone = ag .gone;
   }
 
@@ -264,6 +298,10 @@ module _ (n : ℕ) (s s′ : Table) (al : Alike n s s′) where
   -- THE THEOREM, for the full-length runs
   pub local-full : (t : ℕ) → SameCores n s (full s t) s′ (full s′ t)
   local-full t = shown-alike n s s′ al (full s t) (full s′ t) (full-agree n s s′ al t)
+
+  -- .. whose rows, since nobody lends at full length, show them alike under every rule
+  pub local-rows : (t : ℕ) → map (upTo n) (rowOf s (full s t)) ≡ map (upTo n) (rowOf s′ (full s′ t))
+  local-rows t = local-full t .bytes (full-offer s t) (full-offer s′ t)
 
   -- the same of books of empty sets: at every tick that both reach (up to the first miss, all: `full-length`)
   pub local-empty :

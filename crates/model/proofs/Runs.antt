@@ -8,12 +8,14 @@ use native.Mathlib.Nat.{add-suc, add-zero, le-trans, zero-add}
 use native.Mathlib.Omega.{arith}
 use lib.ListN.{length, replicate}
 use borrow.Author.Tests.{ne-eqb}
-use Rattle.model.proofs.Bools.{and-left, not-true-false}
+use Rattle.model.proofs.Bools.{not-true-false}
 use Rattle.model.proofs.Digits.{bit-none}
-use Rattle.model.proofs.Jobs.{Good, after-release, good-fresh, good-next, mk, next, next-ended, start-good, whole-next}
-use Rattle.model.specs.Book.{Answer, Book, Entry, Missed, advance, advanced, afterTaken, answer, book, bookFrom, emptied, emptyBook, emptyIn, enter}
-use Rattle.model.specs.Book.{entered, fresh, full, inRow, jobClaims, keep, none, only, quiet, refused, releasedNow, served, step, taken, takenFrom}
-use Rattle.model.specs.Book.{takenOf, withdraw, without, work}
+use Rattle.model.proofs.Jobs.{Good, after-release, good-fresh, mk, next, start-good, turn-ended, turn-good, turn-whole}
+use Rattle.model.proofs.Lending.{not-borrowing, offer-whole, shown-given}
+use Rattle.model.specs.Book.{Answer, Book, Entry, Job, Missed, advance, advanced, afterTaken, answer, book, bookFrom, borrowed, borrowing, emptied}
+use Rattle.model.specs.Book.{emptyBook, emptyIn, enter, entered, fresh, full, grantsOf, jobClaims, keep, none, offer, only, quiet, refused}
+use Rattle.model.specs.Book.{releasedNow, rowOf, seeks, served, shownOf, step, taken, takenFrom, takenOf, withdraw, without, work}
+use Rattle.model.specs.Row.{row}
 use Rattle.model.specs.Search.{bit}
 use Rattle.model.specs.Task.{AllSound, Table, due, release, task}
 
@@ -58,16 +60,19 @@ full-tick s (suc n) = ap suc (full-tick s n)
 pub missed-at : (s : Table) (p t k : ℕ) → p < length (s .tasks) → due (task s p) k ≡ t → full s t .job p k .ended ≡ false → Missed s p t
 missed-at s p t k l e o = (l, (k, e ∙ sym (full-tick s t), o))
 
--- a job is fresh until its release
-pub full-fresh : (s : Table) (n p k : ℕ) → n ≤ release (task s p) k → full s n .job p k ≡ fresh
-unfolding full step
-full-fresh s zero p k h = refl
-full-fresh s (suc n) p k h = rw off (full-fresh s n p k (omega arith))
+-- before its release a job stays as it is
+before-release : (s : Table) (f : ℕ → Bool) (b : Book) (p k : ℕ) → b .tick < release (task s p) k → step s f b .job p k ≡ b .job p k
+unfolding step served borrowing
+before-release s f b p k h = rw off
   where
-    off : served s (full s n) p k ≡ false
-    off = unfold served in not-true-false (served s (full s n) p k) (λ e.
-        let r = after-release (s .rule) (task s p) k (full s n .tick) (full s n .job p k) (and-left (jobClaims s (full s n) p k) (inRow s (full s n) p) e) in
-        omega (arith, full-tick s n))
+    off : jobClaims s b p k ≡ false
+    off = not-true-false (jobClaims s b p k) (λ e. let r = after-release (s .rule) (task s p) k (b .tick) (b .job p k) e in omega arith)
+
+-- so it is fresh until then
+pub full-fresh : (s : Table) (n p k : ℕ) → n ≤ release (task s p) k → full s n .job p k ≡ fresh
+unfolding full
+full-fresh s zero p k h = refl
+full-fresh s (suc n) p k h = before-release s none (full s n) p k (omega (arith, full-tick s n)) ∙ full-fresh s n p k (omega arith)
 
 -- every line of a book is good
 abbrev pub GoodBook : Table → Book → Type 0
@@ -77,7 +82,7 @@ module _ (s : Table) (ok : AllSound s) where
   pub good-step : (f : ℕ → Bool) (b : Book) → GoodBook s b → GoodBook s (step s f b)
   unfolding step
   good-step f b g p k l =
-      good-next (task s p .length) (f p) (served s b p k) (b .job p k .had) (b .job p k .claimed) (b .job p k .ended) (g p k l)
+      turn-good (task s p .length) (f p) (served s b p k) (borrowing s b p k) (b .job p k .had) (b .job p k .claimed) (b .job p k .ended) (g p k l)
 
   pub good-emptied : (e : ℕ → Bool) (b : Book) → GoodBook s b → GoodBook s (emptied s e b)
   unfolding emptied
@@ -137,7 +142,7 @@ WholeBook s b = (p k : ℕ) → b .job p k .ended ≡ true → task s p .length 
 whole-step : (s : Table) (b : Book) → WholeBook s b → WholeBook s (step s none b)
 unfolding step
 whole-step s b w p k =
-    whole-next (task s p .length) (served s b p k) (b .job p k .had) (b .job p k .claimed) (b .job p k .ended) (w p k)
+    turn-whole (task s p .length) (served s b p k) (borrowing s b p k) (b .job p k .had) (b .job p k .claimed) (b .job p k .ended) (w p k)
 
 -- in it a job ends only at C ticks, and stays ended
 pub full-whole : (s : Table) (n : ℕ) → WholeBook s (full s n)
@@ -162,29 +167,53 @@ whole-from s (suc n) b o w = whole-from s n (enter s quiet b) (out (answer s b q
 pub whole-empty : (s : Table) (n : ℕ) → WholeBook s (book s (replicate n quiet))
 whole-empty s n = whole-from s n emptyBook refl (λ p k e. absurd (false≢true e))
 
--- the ticks claimed are no fewer than those had
+-- the ticks claimed are no fewer than those had: nobody lends, since who has ended has claimed C ticks
 had-claimed : (C : ℕ) (f s : Bool) (h c : ℕ) (e : Bool) → h ≤ c → next C f s (mk h c e) .had ≤ next C f s (mk h c e) .claimed
 unfolding work
 had-claimed C f false h c e l = l
 had-claimed C f true h c true l = omega arith
 had-claimed C f true h c false l = omega arith
 
-full-had : (s : Table) (n p k : ℕ) → full s n .job p k .had ≤ full s n .job p k .claimed
+pub full-had : (s : Table) (n p k : ℕ) → full s n .job p k .had ≤ full s n .job p k .claimed
 unfolding full step
 full-had s zero p k = omega arith
-full-had s (suc n) p k =
-    had-claimed (task s p .length) false (served s (full s n) p k) (full s n .job p k .had) (full s n .job p k .claimed) (full s n .job p k .ended) (full-had s n p k)
+full-had s (suc n) p k = go (full-had s n)
+  where
+    go : ((p k : ℕ) → full s n .job p k .had ≤ full s n .job p k .claimed) → full s (suc n) .job p k .had ≤ full s (suc n) .job p k .claimed
+    go ih =
+        let whole : (p k : ℕ) → full s n .job p k .ended ≡ true → task s p .length ≤ full s n .job p k .claimed =
+        λ q i e. le-trans (full-whole s n q i e) (ih q i) in
+        let j : Job = full s n .job p k in
+        rw (not-borrowing s (full s n) (offer-whole s (full s n) whole) p k)
+        (had-claimed (task s p .length) false (served s (full s n) p k) (j .had) (j .claimed) (j .ended) (ih p k))
 
 -- a job that has ended has claimed C ticks
 pub full-claimed : (s : Table) (n p k : ℕ) → full s n .job p k .ended ≡ true → task s p .length ≤ full s n .job p k .claimed
 full-claimed s n p k e = le-trans (full-whole s n p k e) (full-had s n p k)
+
+-- AT FULL LENGTH NOTHING IS LENT, under any rule ..
+pub full-offer : (s : Table) (n q : ℕ) → offer s (full s n) q ≡ []
+full-offer s n = offer-whole s (full s n) (full-claimed s n)
+
+-- .. so the row shows the cores that are given ..
+pub full-shown : (s : Table) (n : ℕ) → shownOf s (full s n) ≡ grantsOf s (full s n)
+full-shown s n = shown-given s (full s n) (full-offer s n)
+
+pub full-row : (s : Table) (n : ℕ) → rowOf s (full s n) ≡ row (s .fence) (s .cores) (grantsOf s (full s n))
+full-row s n = ap (row (s .fence) (s .cores)) (full-shown s n)
+
+-- .. and a job goes on by these alone
+pub full-next : (s : Table) (n p k : ℕ) → full s (suc n) .job p k ≡ next (task s p .length) false (served s (full s n) p k) (full s n .job p k)
+unfolding full step
+full-next s n p k = rw (not-borrowing s (full s n) (full-offer s n) p k)
 
 pub full-stays : (s : Table) (n d p k : ℕ) → full s n .job p k .ended ≡ true → full s (n + d) .job p k .ended ≡ true
 full-stays s n zero p k e = rw add-zero e
 full-stays s n (suc d) p k e = rw add-suc (more (full-stays s n d p k e))
   where
     more : full s (n + d) .job p k .ended ≡ true → full s (suc (n + d)) .job p k .ended ≡ true
-    more h = unfold full step in next-ended (task s p .length) false (served s (full s (n + d)) p k) (full s (n + d) .job p k) h .0
+    more h = unfold full step in
+        turn-ended (task s p .length) false (served s (full s (n + d)) p k) (borrowing s (full s (n + d)) p k) (full s (n + d) .job p k) h .0
 
 pub run-tick : (s : Table) (ms : List Move) (b : Book) → run s b ms .tick ≡ b .tick + length ms
 unfolding run step emptied
@@ -199,19 +228,16 @@ pub early-start : (s : Table) → Early s emptyBook
 early-start s p k h = refl
 
 pub early-moved : (s : Table) (m : Move) (b : Book) → Early s b → Early s (moved s m b)
-unfolding step emptied
-early-moved s m b e p k h = rw (off, now) (rw and-false (e p k (omega arith)))
+early-moved s m b e p k h = before-release s (m .reports) (emptied s (m .empties) b) p k later ∙ same
   where
-    before : Book
-    before = emptied s (m .empties) b
+    later : emptied s (m .empties) b .tick < release (task s p) k
+    later = unfold step emptied in h
 
     now : releasedNow s b p k ≡ false
-    now = ne-eqb (release (task s p) k) (b .tick) (omega arith)
+    now = unfold step emptied in ne-eqb (release (task s p) k) (b .tick) (omega arith)
 
-    off : served s before p k ≡ false
-    off = unfold served in not-true-false (served s before p k) (λ c.
-        let r = after-release (s .rule) (task s p) k (b .tick) (before .job p k) (and-left (jobClaims s before p k) (inRow s before p) c) in
-        omega arith)
+    same : emptied s (m .empties) b .job p k ≡ fresh
+    same = unfold step emptied in rw (now, and-false (m .empties p)) (e p k (omega arith))
 
 early-run : (s : Table) (ms : List Move) (b : Book) → Early s b → Early s (run s b ms)
 unfolding run
@@ -220,7 +246,7 @@ early-run s (m ∷ ms) b e = early-run s ms (moved s m b) (early-moved s m b e)
 
 -- THE REFUSING LISTS: the book of a list is the run of those of its advances that are taken
 book-from : (s : Table) (xs : List Entry) (b : Book) → lines (bookFrom s b xs) ≡ run s (lines b) (movesWith (b .withdrawn) (takenFrom s b xs))
-unfolding bookFrom takenFrom movesWith run enter afterTaken step emptied served
+unfolding bookFrom takenFrom movesWith run enter afterTaken step emptied served borrowing borrowed offer seeks
 book-from s [] b = refl
 book-from s (x ∷ xs) b = go x (answer s b x) (book-from s xs)
   where

@@ -1,6 +1,6 @@
--- Sustainability: under a firm rule, of two runs at one tick of which the first has no longer job, the first is behind on none.
--- Whoever runs in the longer run and still claims in the shorter one runs there too.
-use mathlib.Core.Bool.{_&&_, Bool, and-false, cond, false, false≢true, true}
+-- Sustainability: under a firm rule that lends nothing, of two runs at one tick of which the first has no longer job, the first is behind on none:
+-- whoever runs in the longer run and still claims in the shorter one runs there too. Under every firm rule no list is behind the full-length run.
+use mathlib.Core.Bool.{_&&_, Bool, and-false, cond, false, false≢true, true, true≢false}
 use mathlib.Core.List.{List, [], _∷_}
 use mathlib.Core.Logic.{inl, inr}
 use mathlib.Core.Path.{ap, refl, subst, subst₂, sym, _∙_, _≡_}
@@ -13,16 +13,20 @@ use borrow.Author.Tests.{eqb-true}
 use Rattle.model.proofs.Bools.{and-both, and-left, and-right, not-false-true}
 use Rattle.model.proofs.Compare.{none-longer}
 use Rattle.model.proofs.Grants.{RisingList, greedy-limited, limited-mono}
-use Rattle.model.proofs.Jobs.{Letting, Reserving, abreast, after-release, before-due, claims-less, claims-open, fresh-near, longer-left, longer-right, newest-is, start}
-use Rattle.model.proofs.Level.{Level, level-emptied, level-start, level-step, same-served}
+use Rattle.model.proofs.Jobs.{Letting, Reserving, abreast, after-release, before-due, claims-less, claims-open, fresh-near, longer-left}
+use Rattle.model.proofs.Jobs.{longer-right, newest-is, next, start}
+use Rattle.model.proofs.Lending.{not-borrowing, offer-none}
+use Rattle.model.proofs.Level.{Level, level-emptied, level-near, level-start, level-step, same-served}
 use Rattle.model.proofs.Lists.{map-at}
 use Rattle.model.proofs.Runs.{Early, GoodBook, Move, book-run, book-tick, early-moved, early-start, full-run, full-whole, good-emptied, good-run}
 use Rattle.model.proofs.Runs.{good-start, good-step, lines, moved, movesOf, run, stillMove}
-use Rattle.model.specs.Book.{Book, Entry, Job, book, claims, emptied, emptyBook, fresh, full, inRow, jobClaims, releasedNow, served, step, taskClaims, widths}
+use Rattle.model.specs.Book.{Book, Entry, Job, book, borrowing, claims, emptied, emptyBook, fresh, full, inRow, jobClaims, releasedNow, served, step}
+use Rattle.model.specs.Book.{taskClaims, widths}
 use Rattle.model.specs.Compare.{Behind, Longer, NoneBehind, NoneLonger}
 use Rattle.model.specs.Fence.{openCores}
 use Rattle.model.specs.Grants.{claimants, grants, some}
-use Rattle.model.specs.Task.{AllSound, Rule, Table, Task, greedy, limited, narrowest, newest, nobody, release, task, widest, widthOf}
+use Rattle.model.specs.Lending.{lends}
+use Rattle.model.specs.Task.{AllSound, Rule, Table, Task, greedy, idling, lending, limited, narrowest, newest, nobody, release, task, widest, widthOf}
 use Rattle.model.specs.Firm.{FirmRule, Rising}
 
 -- fewer claims take no cores from a task that still claims
@@ -63,7 +67,16 @@ pub data Kind (s : Table) : Type 0 where
 kind : (s : Table) → FirmRule s → Kind s
 kind s (inl e) = letting (λ t. subst (λ r. GrantsMono r (widths s t)) (sym e) (mono-limited (widths s t))) (subst Letting (sym e) (λ τ j. refl))
 kind s (inr (inl e)) = holding (subst Reserving (sym e) (λ τ j. refl))
-kind s (inr (inr (e, h))) = letting (λ t. subst (λ r. GrantsMono r (widths s t)) (sym e) (mono-greedy (widths s t) (rising-widths s h t))) (subst Letting (sym e) (λ τ j. refl))
+kind s (inr (inr (inl e))) = holding (subst Reserving (sym e) (λ τ j. refl))
+kind s (inr (inr (inr (e, h)))) =
+    letting (λ t. subst (λ r. GrantsMono r (widths s t)) (sym e) (mono-greedy (widths s t) (rising-widths s h t))) (subst Letting (sym e) (λ τ j. refl))
+
+-- a rule under which a job that ended claims no more has nobody to lend
+letting-lends : (r : Rule) → Letting r → lends r ≡ false
+letting-lends greedy h = refl
+letting-lends limited h = refl
+letting-lends idling h = refl
+letting-lends lending h = absurd (true≢false (h (record { offset = 0; oddWidth = 1; length = 1; deadline = 1; period = 1; evenWidth = 1 }) fresh))
 
 -- two books at one tick, of which the first is behind on no job; where ended jobs still claim they are level
 pub record Abreast (s : Table) (a b : Book) : Type 0 where
@@ -81,7 +94,11 @@ module _ (s : Table) where
   unfolding step emptied
   same-moved m n a b e = ap suc e
 
-module _ (s : Table) (ok : AllSound s) where
+module _ (s : Table) (ok : AllSound s) (keeps : lends (s .rule) ≡ false) where
+  -- nobody borrows
+  nobody-borrows : (b : Book) (p k : ℕ) → borrowing s b p k ≡ false
+  nobody-borrows b = not-borrowing s b (offer-none s b keeps)
+
   -- a job in the second book's row that has not ended in the first is in the first book's row
   follow-letting :
       (a b : Book) → Abreast s a b → ((t : ℕ) → GrantsMono (s .rule) (widths s t)) → Letting (s .rule)
@@ -121,9 +138,10 @@ module _ (s : Table) (ok : AllSound s) where
   abreast-step kd f g a b ab nl = record {
     same-tick = ap suc (ab .same-tick);
     near = λ p k l.
-        abreast (task s p .length) (f p) (g p) (served s a p k) (served s b p k)
+        rw (nobody-borrows a p k, nobody-borrows b p k)
+        (abreast (task s p .length) (f p) (g p) (served s a p k) (served s b p k)
         (a .job p k .had) (a .job p k .claimed) (a .job p k .ended) (b .job p k .had) (b .job p k .claimed) (b .job p k .ended)
-        (ab .near p k l) (follow kd a b ab p k l) (nl p k l);
+        (ab .near p k l) (follow kd a b ab p k l) (rw (nobody-borrows a p k, nobody-borrows b p k) at (nl p k l)));
     good-a = good-step s ok f a (ab .good-a);
     good-b = good-step s ok g b (ab .good-b);
     level = λ e. unfold step in level-step s ok e f g a b (ab .level e);
@@ -173,8 +191,10 @@ module _ (s : Table) (ok : AllSound s) where
   longer-moved m n a b p k h =
       let a′ = emptied s (m .empties) a in
       let b′ = emptied s (n .empties) b in
-      longer-left (task s p .length) (m .reports p) (served s a′ p k) (a′ .job p k .had) (a′ .job p k .claimed) (a′ .job p k .ended) (moved s n b .job p k)
-      (longer-right (task s p .length) (n .reports p) (served s b′ p k) (a′ .job p k) (b′ .job p k .had) (b′ .job p k .claimed) (b′ .job p k .ended) h)
+      rw (nobody-borrows a′ p k, nobody-borrows b′ p k)
+      (longer-left (task s p .length) (m .reports p) (served s a′ p k) (a′ .job p k .had) (a′ .job p k .claimed) (a′ .job p k .ended)
+      (next (task s p .length) (n .reports p) (served s b′ p k) (b′ .job p k))
+      (longer-right (task s p .length) (n .reports p) (served s b′ p k) (a′ .job p k) (b′ .job p k .had) (b′ .job p k .claimed) (b′ .job p k .ended) h))
 
   longer-run :
       (ms ns : List Move) → length ms ≡ length ns → (a b : Book) → Early s b → a .tick ≡ b .tick → (p k : ℕ)
@@ -218,13 +238,14 @@ module _ (s : Table) (ok : AllSound s) where
       never (o, inl d) = false≢true d
       never (o, inr d) = omega arith
 
-module _ (s : Table) (ok : AllSound s) where
+module _ (s : Table) (ok : AllSound s) (keeps : lends (s .rule) ≡ false) where
   -- no job of a run is longer than at full length, so a run goes abreast of the full-length run
   abreast-run : Kind s → (ms : List Move) → Abreast s (run s emptyBook ms) (full s (length ms))
   abreast-run kd ms =
       let still : List Move = replicate (length ms) stillMove in
       subst (λ (b : Book). NoneLonger s (run s emptyBook ms) b → Abreast s (run s emptyBook ms) b) (full-run s (length ms))
-      (two-runs s ok kd ms still (sym (length-replicate (length ms) stillMove)) emptyBook emptyBook (early-start s) (early-start s) (start-abreast s ok))
+      (two-runs s ok keeps kd ms still (sym (length-replicate (length ms) stillMove)) emptyBook emptyBook
+      (early-start s) (early-start s) (start-abreast s ok keeps))
       (none-longer s (run s emptyBook ms) (full s (length ms)) (good-run s ok ms emptyBook (good-start s ok)) (full-whole s (length ms)))
 
   -- THE SAME OF LISTS, refused entries included
@@ -237,8 +258,8 @@ module _ (s : Table) (ok : AllSound s) where
         let ms : List Move = movesOf s xs in
         let ns : List Move = movesOf s ys in
         subst₂ (λ (a b : Book). NoneLonger s a b → Abreast s a b) (sym (book-run s xs)) (sym (book-run s ys))
-        (two-runs s ok (kind s firmly) ms ns (book-tick s xs ∙ (e ∙ sym (book-tick s ys))) emptyBook emptyBook
-        (early-start s) (early-start s) (start-abreast s ok))
+        (two-runs s ok keeps (kind s firmly) ms ns (book-tick s xs ∙ (e ∙ sym (book-tick s ys))) emptyBook emptyBook
+        (early-start s) (early-start s) (start-abreast s ok keeps))
 
     -- a list and the full-length run: the list is behind it on no job
     pub abreast-full : (xs : List Entry) → Abreast s (lines (book s xs)) (full s (book s xs .tick))
@@ -247,6 +268,16 @@ module _ (s : Table) (ok : AllSound s) where
         subst (λ (n : ℕ). Abreast s (lines (book s xs)) (full s n)) (book-tick s xs)
         (subst (λ (b : Book). Abreast s b (full s (length ms))) (sym (book-run s xs)) (abreast-run (kind s firmly) ms))
 
-    -- what the full-length run has finished is finished
-    pub finished : (xs : List Entry) (p k : ℕ) → p < length (s .tasks) → full s (book s xs .tick) .job p k .ended ≡ true → book s xs .job p k .ended ≡ true
-    finished xs p k l e = not-false-true (book s xs .job p k .ended) (λ o. abreast-full xs .near p k l (o, inl e))
+-- UNDER EVERY FIRM RULE
+module _ (s : Table) (ok : AllSound s) (firmly : FirmRule s) where
+  -- a list is behind the full-length run on no job: where ended jobs still claim, since it is level with it
+  pub none-behind : (xs : List Entry) → NoneBehind s (book s xs) (full s (book s xs .tick))
+  none-behind xs = go (kind s firmly)
+    where
+      go : Kind s → NoneBehind s (book s xs) (full s (book s xs .tick))
+      go (letting mono let′) = abreast-full s ok (letting-lends (s .rule) let′) firmly xs .near
+      go (holding r) = level-near s ok r xs
+
+  -- what the full-length run has finished is finished
+  pub finished : (xs : List Entry) (p k : ℕ) → p < length (s .tasks) → full s (book s xs .tick) .job p k .ended ≡ true → book s xs .job p k .ended ≡ true
+  finished xs p k l e = not-false-true (book s xs .job p k .ended) (λ o. none-behind xs p k l (o, inl e))

@@ -2,18 +2,14 @@
 -- the parity changes with every job, an empty or withdrawn one included. The row before each entry is asked with the empty jobs that it names.
 use mathlib.Core.List.{List, [], map, _∷_}
 use mathlib.Core.Path.{refl, _≡_}
+use Rattle.model.proofs.Computing.{computing}
 use Rattle.model.proofs.EmptyExamples.{line, none}
 use Rattle.model.proofs.Examples.{Line, fencedOn, on, t, t₂, two, worked}
 use Rattle.model.proofs.LineByLine.{LineByLine, by-line}
-use Rattle.model.specs.Book.{advance, afterTaken, answer, answersFrom, asked, claims, emptiable, emptied, enter, full, late, misemptied}
-use Rattle.model.specs.Book.{misreported, refused, reportable, rowRefused, rowsFrom, served, shown, step, taken, withdraw, work}
-use Rattle.model.specs.Firm.{firm, rising}
-use Rattle.model.specs.Grants.{claimants, given, grants, left}
-use Rattle.model.specs.Horizon.{S, horizon, hyperperiod, lcm}
-use Rattle.model.specs.Row.{owner, row}
-use Rattle.model.specs.Search.{any, kept, least, memb, upFrom}
+use Rattle.model.specs.Book.{advance, refused, rowRefused, shown, taken, withdraw}
+use Rattle.model.specs.Search.{upFrom}
 use Rattle.model.specs.Task.{Rule, Table, cycle, greedy, idling, limited, narrowest, widest, widthOf}
-use Rattle.model.specs.Verdict.{Firm, Full, Miss, firstMiss, missedAt, missedIn, verdict}
+use Rattle.model.specs.Verdict.{Firm, Full, Miss}
 
 -- one task with C, D and T of 1, and widths 1 and 2
 abbrev pub alternating : Rule → Table
@@ -37,6 +33,10 @@ width-lines =
     ∷ line "both widths rise but cross, 1 and 3 before 2 and 3: full, and a withdrawal is 21"
     (on 3 greedy (t₂ 0 1 3 1 2 2 ∷ t₂ 0 2 3 1 2 2 ∷ [])) (Full 0 4) (withdraw 1 ∷ []) (refused 21 0 ∷ [])
     (shown (1 ∷ 2 ∷ 2 ∷ []) ∷ shown (1 ∷ 2 ∷ 2 ∷ []) ∷ [])
+    ∷ line "v rises and w rises, and where position 1 ends early position 3 is late"
+    (on 4 greedy (t₂ 1 2 1 2 2 4 ∷ t₂ 2 3 1 1 3 4 ∷ t₂ 0 4 2 1 1 2 ∷ [])) (Full 2 8)
+    (none ∷ advance 1 0 ∷ none ∷ none ∷ []) (taken ∷ taken ∷ taken ∷ refused 15 3 ∷ [])
+    (shown (3 ∷ 3 ∷ 3 ∷ 3 ∷ []) ∷ shown (1 ∷ 1 ∷ 0 ∷ 0 ∷ []) ∷ shown (2 ∷ 2 ∷ 2 ∷ 0 ∷ []) ∷ rowRefused 15 3 ∷ rowRefused 15 3 ∷ [])
     ∷ line "one task alone is firm with any two widths"
     (alternating greedy) (Firm 0 2) (withdraw 1 ∷ []) (taken ∷ []) (two 1 0 ∷ two 0 0 ∷ [])
     ∷ line "limited is firm with any widths"
@@ -57,9 +57,8 @@ width-lines =
 
 -- every line is what the definitions say, line by line
 computed : LineByLine worked width-lines width-lines
-unfolding verdict firstMiss missedIn missedAt firm rising horizon S hyperperiod lcm least any memb upFrom kept owner row given left grants claimants claims
-    served work step late reportable misreported emptied emptiable misemptied answer asked afterTaken enter answersFrom rowsFrom full
-computed = (refl, (refl, (refl, (refl, (refl, (refl, (refl, (refl, (refl, (refl, (refl, (refl, tt))))))))))))
+unfolding computing
+computed = (refl, (refl, (refl, (refl, (refl, (refl, (refl, (refl, (refl, (refl, (refl, (refl, (refl, tt)))))))))))))
 
 -- .. and as one list
 pub width-examples : map worked width-lines ≡ width-lines

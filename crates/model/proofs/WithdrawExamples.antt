@@ -2,18 +2,13 @@
 -- rule, beside empty bits and reports, and by which number they are refused. The row before each entry is asked with the empty jobs that it names.
 use mathlib.Core.List.{List, [], map, _∷_}
 use mathlib.Core.Path.{refl, _≡_}
+use Rattle.model.proofs.Computing.{computing}
 use Rattle.model.proofs.EmptyExamples.{least-task, line, none, one, pair, row-20}
 use Rattle.model.proofs.Examples.{B, Line, on, t, two, worked}
 use Rattle.model.proofs.LineByLine.{LineByLine, by-line}
-use Rattle.model.specs.Book.{advance, afterTaken, answer, answersFrom, asked, book, bookFrom, claims, emptiable, emptied, enter, full, late, misemptied}
-use Rattle.model.specs.Book.{misreported, refused, reportable, rowRefused, rowsFrom, served, step, taken, withdraw, work}
-use Rattle.model.specs.Firm.{firm, rising}
-use Rattle.model.specs.Grants.{claimants, given, grants, left}
-use Rattle.model.specs.Horizon.{S, horizon, hyperperiod, lcm}
-use Rattle.model.specs.Row.{owner, row}
-use Rattle.model.specs.Search.{any, kept, least, memb, upFrom}
+use Rattle.model.specs.Book.{advance, book, refused, rowRefused, taken, withdraw}
 use Rattle.model.specs.Task.{Table, greedy, idling, limited}
-use Rattle.model.specs.Verdict.{Firm, Full, Miss, firstMiss, missedAt, missedIn, verdict}
+use Rattle.model.specs.Verdict.{Firm, Full, Miss}
 
 -- E, whose position 1 comes at tick 1, and C2, whose widths never fall
 abbrev E : Table
@@ -98,8 +93,7 @@ withdraw-lines =
 
 -- every line is what the definitions say, line by line
 computed : LineByLine worked withdraw-lines withdraw-lines
-unfolding verdict firstMiss missedIn missedAt firm rising horizon S hyperperiod lcm least any memb upFrom kept owner row given left grants claimants claims
-    served work step late reportable misreported emptied emptiable misemptied answer asked afterTaken enter answersFrom rowsFrom full
+unfolding computing
 computed = (refl, (refl, (refl, (refl, (refl, (refl, (refl, (refl, (refl, (refl, (refl, (refl, (refl, (refl, tt))))))))))))))
 
 -- .. and as one list
@@ -110,6 +104,5 @@ withdraw-examples = by-line worked withdraw-lines withdraw-lines computed
 pub tick-and-set :
     (book C2 (none ∷ withdraw 3 ∷ withdraw 1 ∷ advance 4 0 ∷ withdraw 1 ∷ none ∷ withdraw 4 ∷ []) .tick ≡ 2)
     × (book C2 (none ∷ withdraw 3 ∷ withdraw 1 ∷ advance 4 0 ∷ withdraw 1 ∷ none ∷ withdraw 4 ∷ []) .withdrawn ≡ 5)
-unfolding bookFrom enter answer afterTaken firm rising late misemptied emptiable emptied misreported reportable any least step served work claims claimants grants
-    given left memb upFrom kept
+unfolding computing
 tick-and-set = (refl, refl)

@@ -1,10 +1,11 @@
--- Who runs in a tick, from who claims (scope, section 'Who runs in a tick'; Goossens and Berten, definitions 5 and 18). Idling chooses as greedy does; its claims are in Book.antt.
+-- Who runs in a tick, from who claims (scope, section 'Who runs in a tick'; Goossens and Berten, definitions 5 and 18).
+-- Idling and lending choose as greedy does; their claims are in Book.antt, and what is lent in Lending.antt.
 use mathlib.Core.Bool.{Bool, true, false, _&&_, cond}
 use mathlib.Core.List.{List, [], _∷_}
 use Prim.Native.Nat.{ℕ, suc}
 use lib.ListN.{length, take, drop}
 use lib.Dec.{leb}
-use Rattle.model.specs.Task.{Rule, greedy, limited, idling}
+use Rattle.model.specs.Task.{Rule, greedy, limited, idling, lending}
 
 -- what a task brings to a tick: whether it has a job that claims, and its width
 pub record Claimant : Type 0 where
@@ -20,11 +21,12 @@ claimants (w ∷ ws) c = record { claims = c 0; width = w } ∷ claimants ws (λ
 abbrev pub fits : Claimant → List ℕ → Bool
 fits b free = b .claims && leb (b .width) (length free)
 
--- limited: the first task that doesn't fit ends the tick's choosing; greedy and idling pass over it
+-- limited: the first task that doesn't fit ends the tick's choosing; the other rules pass over it
 abbrev pub endsChoosing : Rule → Bool
 endsChoosing greedy = false
 endsChoosing limited = true
 endsChoosing idling = false
+endsChoosing lending = false
 
 -- the cores that a task is given, of the free ones in ascending order: the lowest-numbered, or none
 unfoldable pub given : Claimant → List ℕ → List ℕ

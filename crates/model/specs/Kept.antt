@@ -6,12 +6,12 @@ use Prim.Native.Nat.{_<_, ℕ}
 use lib.ListN.{length, replicate}
 use Rattle.model.specs.Book.{Entry, Misses, answer, asked, book, quiet, refused, rowRefused}
 use Rattle.model.specs.Compare.{KeepsAbreast, NoneBehind}
-use Rattle.model.specs.Task.{Table}
+use Rattle.model.specs.Task.{Table, lending}
 
 -- what is claimed of a list xs, whose jobs have lengths from zero up, and of whose tasks some may be withdrawn
 pub record Kept (s : Table) (xs : List Entry) : Type 0 where
-  -- of two lists at one tick, if no job is longer in the first, the first is behind on no job
-  pub abreast : (ys : List Entry) → KeepsAbreast s xs ys
+  -- under rules 1 to 3, of two lists at one tick, if no job is longer in the first, the first is behind on no job (under rule 4 it may be: `lending-crowds`)
+  pub abreast : ¬ (s .rule ≡ lending) → (ys : List Entry) → KeepsAbreast s xs ys
   -- it is behind the full-length run, the book of advances with empty sets, at its tick on no job
   pub level : NoneBehind s (book s xs) (book s (replicate (book s xs .tick) quiet))
   -- every job that the full-length run has finished by the same tick is finished

@@ -1,9 +1,11 @@
--- What the whole project is judged by, in reading order: sizes, the table, the fence, who runs in a tick, rows, which rules and widths are firm, the book, the horizon and the verdict.
+-- What the whole project is judged by, in reading order: sizes, the table, the fence, who runs in a tick, what is lent, rows,
+-- which rules and widths are firm, the book, the horizon and the verdict.
 pub mod Sizes
 pub mod Search
 pub mod Task
 pub mod Fence
 pub mod Grants
+pub mod Lending
 pub mod Row
 pub mod Firm
 pub mod Book

@@ -5,7 +5,7 @@ use mathlib.Core.Path.{_≡_}
 use Prim.Native.Nat.{_<_, ℕ}
 use lib.Dec.{leb}
 use lib.ListN.{getD, take}
-use Rattle.model.specs.Book.{Book, Entry, advance, grantsOf, rowOf, withdraw}
+use Rattle.model.specs.Book.{Book, Entry, advance, borrowed, grantsOf, offer, rowOf, withdraw}
 use Rattle.model.specs.Search.{bit}
 use Rattle.model.specs.Task.{Table}
 
@@ -52,7 +52,13 @@ SameReports n xs ys = SameEntries n (noticed n xs) (noticed n ys)
 abbrev pub upTo : ℕ → ℕ → ℕ
 upTo n byte = cond (leb byte n) byte 0
 
--- positions 1 to n have the same cores in the rows of two books: as lists of cores, and as bytes
+-- nobody lends in a book: so it is under rules 1 to 3 (`offer-none`), and under every rule at full length (`full-offer`)
+abbrev pub NobodyLends : Table → Book → Type 0
+NobodyLends s b = (q : ℕ) → offer s b q ≡ []
+
+-- positions 1 to n have the same cores in two books: as lists of the cores that they are given, or that are reserved for them, as lists of those
+-- that they borrow, and, where nobody lends, as bytes of the rows (where one does, a row shows a borrower on cores of a place above it: `lending-shows`)
 pub record SameCores (n : ℕ) (s : Table) (b : Book) (s′ : Table) (b′ : Book) : Type 0 where
   pub lists : (p : ℕ) → p < n → getD (grantsOf s b) p [] ≡ getD (grantsOf s′ b′) p []
-  pub bytes : map (upTo n) (rowOf s b) ≡ map (upTo n) (rowOf s′ b′)
+  pub borrows : (p : ℕ) → p < n → borrowed s b p ≡ borrowed s′ b′ p
+  pub bytes : NobodyLends s b → NobodyLends s′ b′ → map (upTo n) (rowOf s b) ≡ map (upTo n) (rowOf s′ b′)

@@ -15,13 +15,13 @@ pub record Task : Type 0 where
   pub period : ℕ
   pub evenWidth : ℕ
 
--- scope, 'The table': the rule is 1 greedy, 2 limited, 3 idling
+-- scope, 'The table': the rule is 1 greedy, 2 limited, 3 idling; 4 is lending (request 109)
 pub data Rule : Type 0 where
-  greedy limited idling : Rule
+  greedy limited idling lending : Rule
 
--- what a rule's number means: 1 greedy, 2 limited, 3 idling; any other number is read as greedy, and is turned down by 3 and 14
+-- what a rule's number means: 1 greedy, 2 limited, 3 idling, 4 lending; any other number is read as greedy, and is turned down by 3 and 14
 abbrev pub ruleOf : ℕ → Rule
-ruleOf n = cond (eqb n 2) limited (cond (eqb n 3) idling greedy)
+ruleOf n = cond (eqb n 2) limited (cond (eqb n 3) idling (cond (eqb n 4) lending greedy))
 
 -- the tasks in priority order, the core count, the fence (a set of cores, bit c for core c: Fence.antt) and the rule
 pub record Table : Type 0 where
@@ -54,7 +54,7 @@ AllSound s = (p : ℕ) → p < length (s .tasks) → Sound (task s p)
 abbrev pub release : Task → ℕ → ℕ
 release τ k = τ .offset + k * τ .period
 
--- scope: and must have its C ticks, on v cores together, by that tick plus D
+-- scope: and must have its C ticks, in each of them as many cores together as the job is wide, by that tick plus D
 abbrev pub due : Task → ℕ → ℕ
 due τ k = release τ k + τ .deadline
 

@@ -1,21 +1,40 @@
--- Under which rule's number ended work holds its cores; and a phase with room for one more tick has it as it is seen.
-use mathlib.Core.Path.{_≡_, _∙_}
-use mathlib.Core.Bool.{Bool, true, false, _&&_, cond}
+-- Under which rules' numbers ended work holds its cores, and cores are lent; and a phase with room for one more tick has it as it is seen.
+use mathlib.Core.Path.{_≡_, refl}
+use mathlib.Core.Bool.{Bool, true, false, _||_, _&&_, cond}
 use Prim.Native.Nat.{ℕ}
 use native.Mathlib.Omega.{arith}
-use borrow.Author.Tests.{eq-eqb, ne-eqb}
-use Rattle.model.specs.Task.{Rule, ruleOf}
+use lib.Dec.{eqb}
+use Rattle.model.specs.Lending.{lends}
+use Rattle.model.specs.Task.{Rule, greedy, limited, idling, lending, ruleOf}
 use Rattle.phase.specs.declared.Phase.{Phase}
 use Rattle.phase.specs.declared.Phase.the-variants.{Holding, Resting}
 use Rattle.phase.specs.Headroom.{Roomy}
 use Rattle.phase.specs.Phase.{idles, released, emptyPhase, seen}
-use Rattle.phase.proofs.Phases.{idles-rule}
+use Rattle.phase.proofs.Phases.{by-eq}
 
-pub idles-where : (n : ℕ) → n ≡ 3 → idles (ruleOf n) ≡ true
-idles-where n e = idles-rule n ∙ eq-eqb n 3 e
+pub idles-rule : (n : ℕ) → idles (ruleOf n) ≡ eqb n 3 || eqb n 4
+idles-rule n =
+    by-eq (λ (x : Bool). idles (cond x limited (cond (eqb n 3) idling (cond (eqb n 4) lending greedy))) ≡ eqb n 3 || eqb n 4) n 2
+    (λ e. rw e)
+    (λ e. go (eqb n 3) (eqb n 4))
+  where
+    go : (x y : Bool) → idles (cond x idling (cond y lending greedy)) ≡ x || y
+    go true y = refl
+    go false true = refl
+    go false false = refl
 
-pub idles-else : (n : ℕ) → (n ≡ 3 → ⊥) → idles (ruleOf n) ≡ false
-idles-else n e = idles-rule n ∙ ne-eqb n 3 e
+pub lends-rule : (n : ℕ) → lends (ruleOf n) ≡ eqb n 4
+lends-rule n =
+    by-eq (λ (x : Bool). lends (cond x limited (cond (eqb n 3) idling (cond (eqb n 4) lending greedy))) ≡ eqb n 4) n 2
+    (λ e. rw e)
+    (λ e.
+    by-eq (λ (x : Bool). lends (cond x idling (cond (eqb n 4) lending greedy)) ≡ eqb n 4) n 3
+    (λ q. rw q)
+    (λ q. go (eqb n 4)))
+  where
+    go : (y : Bool) → lends (cond y lending greedy) ≡ y
+    go true = refl
+    go false = refl
 
 pub seen-roomy : (r : Rule) (empty : Bool) (ph : Phase) → Roomy ph → Roomy (seen r empty ph)
 seen-roomy r empty ph h = go (empty && released ph)

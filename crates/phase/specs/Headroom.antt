@@ -7,6 +7,6 @@ use Rattle.model.specs.Sizes.{mostWord}
 -- one tick can be taken from what is left, or added to what is counted
 abbrev pub Roomy : Phase → Type 0
 Roomy (Coming left) = 1 ≤ left
-Roomy (Working z u) = (z < mostWord) × (u < mostWord)
-Roomy (Holding z u) = (z < mostWord) × (u < mostWord)
+Roomy (Working z had reserved) = (z < mostWord) × (had < mostWord) × (reserved < mostWord)
+Roomy (Holding z reserved) = (z < mostWord) × (reserved < mostWord)
 Roomy (Resting z) = z < mostWord

@@ -53,6 +53,8 @@ outIn wide r t = taskOut wide (taskOf t) || not (phaseIn r (taskOf t) (t .even) 
 abbrev pub startTask : model.Task → Task
 startTask τ = standing (startStand (τ .offset)) τ
 
--- the task one tick on, by whether its job is empty if it is released in this tick, whether it has cores and whether it is reported
-abbrev pub nextTask : model.Rule → Bool → Bool → Bool → Task → Task
-nextTask r empty ran reported t = standing (nextStand r (taskOf t) ran reported (t .even) (seen r empty (t .phase))) (taskOf t)
+-- the task one tick on, by whether its job is empty if it is released in this tick, whether it is given cores, whether it borrows some and whether it
+-- is reported
+abbrev pub nextTask : model.Rule → Bool → Bool → Bool → Bool → Task → Task
+nextTask r empty given lent reported t =
+    standing (nextStand r (taskOf t) given lent reported (t .even) (seen r empty (t .phase))) (taskOf t)

@@ -29,9 +29,14 @@ impl Task {
         let phase = self.phase;
         match phase {
             Phase::Coming(left) => ((1 <= left) & (left <= self.offset)) & !self.even,
-            Phase::Working(z, u) => (z <= self.deadline) & ((u < self.length) & (u <= z)),
-            Phase::Holding(z, u) => {
-                (rule == 3) & ((z < self.deadline) & ((u < self.length) & (u <= z)))
+            Phase::Working(z, had, reserved) => {
+                let alike = (rule == 4) | (reserved == had);
+                (z <= self.deadline)
+                    & ((had < self.length) & ((had <= z) & ((reserved <= had) & alike)))
+            }
+            Phase::Holding(z, reserved) => {
+                crate::idles(rule)
+                    & ((z < self.deadline) & ((reserved < self.length) & (reserved <= z)))
             }
             Phase::Resting(z) => (1 <= z) & (z < self.period),
         }
@@ -52,7 +57,7 @@ impl Task {
         let phase = self.phase;
         match phase {
             Phase::Coming(_) => false,
-            Phase::Working(z, _) => z == self.deadline,
+            Phase::Working(z, _, _) => z == self.deadline,
             Phase::Holding(_, _) => false,
             Phase::Resting(_) => false,
         }

@@ -1,17 +1,18 @@
 // A task with its phase: what it is doing, and what that claims.
 ghost use mathlib.Core.Path.{_≡_};
-ghost use Rattle.phase.specs.Phase.{claiming, working};
+ghost use Rattle.model.specs.Task.{ruleOf};
+ghost use Rattle.phase.specs.Phase.{claiming, idles, working};
 
 mod bounds; // bounds.rt: the limits of a task and its phase, and lateness
 mod looks; // looks.rt: a phase as it is seen when cores are chosen
 mod moves; // moves.rt: one tick
 pub mod starts; // starts.rt: a task as it starts, and a place past the count
 
-// What a task is doing, with the scope's counts: Coming(ticks left to the first release), Working(ticks since release, ticks had),
-// Holding(ticks since release, ticks claimed), Resting(ticks since release).
+// What a task is doing, with the scope's counts: Coming(ticks left to the first release), Working(ticks since release, ticks had, ticks reserved),
+// Holding(ticks since release, ticks reserved), Resting(ticks since release).
 pub enum Phase {
     Coming(u32),
-    Working(u32, u32),
+    Working(u32, u32, u32),
     Holding(u32, u32),
     Resting(u32),
 }
@@ -35,6 +36,13 @@ pub struct Task {
     pub phase: Phase,
 }
 
+// Whether ended work holds its cores: under rules 3 and 4.
+fn idles(rule: u32) -> bool
+    ensures { λ r. ⌜ r ≡ idles (ruleOf rule) ⌝ }
+{
+    (rule == 3) | (rule == 4)
+}
+
 impl Phase {
     // Whether a task in this phase claims cores.
     pub fn claims(self) -> bool
@@ -42,7 +50,7 @@ impl Phase {
     {
         match self {
             Phase::Coming(_) => false,
-            Phase::Working(_, _) => true,
+            Phase::Working(_, _, _) => true,
             Phase::Holding(_, _) => true,
             Phase::Resting(_) => false,
         }
@@ -54,7 +62,7 @@ impl Phase {
     {
         match self {
             Phase::Coming(_) => false,
-            Phase::Working(_, _) => true,
+            Phase::Working(_, _, _) => true,
             Phase::Holding(_, _) => false,
             Phase::Resting(_) => false,
         }

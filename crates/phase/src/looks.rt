@@ -11,7 +11,7 @@ impl Phase {
     {
         match self {
             Phase::Coming(_) => false,
-            Phase::Working(z, u) => (z == 0) & (u == 0),
+            Phase::Working(z, had, _) => (z == 0) & (had == 0),
             Phase::Holding(_, _) => false,
             Phase::Resting(_) => false,
         }
@@ -22,7 +22,7 @@ impl Phase {
         ensures { λ r. ⌜ r ≡ seen (ruleOf rule) empty self ⌝ }
     {
         if empty & self.released() {
-            if rule == 3 {
+            if crate::idles(rule) {
                 Phase::Holding(0, 0)
             } else {
                 Phase::Resting(0)

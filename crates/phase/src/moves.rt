@@ -1,5 +1,8 @@
 // One tick of a task: where it stands then.
 ghost use mathlib.Core.Path.{_≡_};
+ghost use mathlib.Core.Bool.{cond};
+ghost use Prim.Native.Nat.{_+_, _<_};
+ghost use Rattle.model.specs.Sizes.{mostWord};
 ghost use Rattle.model.specs.Task.{ruleOf};
 ghost use Rattle.phase.specs.Phase.{resting, holding, ended, worked, nextStand};
 ghost use Rattle.phase.specs.Task.{taskOf, nextTask};
@@ -7,6 +10,14 @@ ghost use Rattle.phase.specs.Headroom.{Roomy};
 use crate::Phase;
 use crate::Stand;
 use crate::Task;
+
+// The reserved ticks after this one: one more where cores are given.
+fn counted(reserved: u32, given: bool) -> u32
+    requires { ⌜ reserved < mostWord ⌝ }
+    ensures { λ r. ⌜ r ≡ cond given (reserved + 1) reserved ⌝ }
+{
+    if given { reserved + 1 } else { reserved }
+}
 
 impl Task {
     // Where ended work stands, z ticks after its release: it rests, or the next job is released, whose parity is the other one.
@@ -16,7 +27,7 @@ impl Task {
         if z == self.period {
             Stand {
                 even: !self.even,
-                phase: Phase::Working(0, 0),
+                phase: Phase::Working(0, 0, 0),
             }
         } else {
             Stand {
@@ -26,49 +37,50 @@ impl Task {
         }
     }
 
-    // Where held cores stand, with z and u of the tick that has passed counted.
-    fn held(self, z: u32, u: u32) -> Stand
-        ensures { λ r. ⌜ r ≡ holding (taskOf self) (self .even) z u ⌝ }
+    // Where held cores stand, with z and the reserved ticks of the tick that has passed counted.
+    fn held(self, z: u32, reserved: u32) -> Stand
+        ensures { λ r. ⌜ r ≡ holding (taskOf self) (self .even) z reserved ⌝ }
     {
-        if (u == self.length) | (z == self.deadline) {
+        if (reserved == self.length) | (z == self.deadline) {
             self.rested(z)
         } else {
             Stand {
                 even: self.even,
-                phase: Phase::Holding(z, u),
+                phase: Phase::Holding(z, reserved),
             }
         }
     }
 
     // Where work that has ended stands.
-    fn ended(self, rule: u32, z: u32, u: u32) -> Stand
-        ensures { λ r. ⌜ r ≡ ended (ruleOf rule) (taskOf self) (self .even) z u ⌝ }
+    fn ended(self, rule: u32, z: u32, reserved: u32) -> Stand
+        ensures { λ r. ⌜ r ≡ ended (ruleOf rule) (taskOf self) (self .even) z reserved ⌝ }
     {
-        if rule == 3 {
-            self.held(z, u)
+        if crate::idles(rule) {
+            self.held(z, reserved)
         } else {
             self.rested(z)
         }
     }
 
-    // Where work stands after a tick of it.
-    fn worked(self, rule: u32, reported: bool, z: u32, u: u32) -> Stand
-        ensures { λ r. ⌜ r ≡ worked (ruleOf rule) (taskOf self) reported (self .even) z u ⌝ }
+    // Where work stands after a tick of it, own or lent.
+    fn worked(self, rule: u32, reported: bool, z: u32, had: u32, reserved: u32) -> Stand
+        ensures { λ r. ⌜ r ≡ worked (ruleOf rule) (taskOf self) reported (self .even) z had reserved ⌝ }
     {
-        if reported | (u == self.length) {
-            self.ended(rule, z, u)
+        if reported | (had == self.length) {
+            self.ended(rule, z, reserved)
         } else {
             Stand {
                 even: self.even,
-                phase: Phase::Working(z, u),
+                phase: Phase::Working(z, had, reserved),
             }
         }
     }
 
-    // Where the task stands one tick on from the phase that was seen, by whether it has cores in this tick and whether it is reported.
-    fn stepped(self, rule: u32, ran: bool, reported: bool, seen: Phase) -> Stand
+    // Where the task stands one tick on from the phase that was seen, by whether it is given cores in this tick, whether it borrows some and whether
+    // it is reported.
+    fn stepped(self, rule: u32, given: bool, lent: bool, reported: bool, seen: Phase) -> Stand
         requires { ⌜ Roomy seen ⌝ }
-        ensures { λ r. ⌜ r ≡ nextStand (ruleOf rule) (taskOf self) ran reported (self .even) seen ⌝ }
+        ensures { λ r. ⌜ r ≡ nextStand (ruleOf rule) (taskOf self) given lent reported (self .even) seen ⌝ }
     {
         match seen {
             Phase::Coming(left) => {
@@ -76,7 +88,7 @@ impl Task {
                 if still == 0 {
                     Stand {
                         even: self.even,
-                        phase: Phase::Working(0, 0),
+                        phase: Phase::Working(0, 0, 0),
                     }
                 } else {
                     Stand {
@@ -85,35 +97,31 @@ impl Task {
                     }
                 }
             }
-            Phase::Working(z, u) => {
-                if ran {
-                    self.worked(rule, reported, z + 1, u + 1)
+            Phase::Working(z, had, reserved) => {
+                if given | lent {
+                    self.worked(rule, reported, z + 1, had + 1, counted(reserved, given))
                 } else {
+                    let waited = z + 1;
                     Stand {
                         even: self.even,
-                        phase: Phase::Working(z + 1, u),
+                        phase: Phase::Working(waited, had, reserved),
                     }
                 }
             }
-            Phase::Holding(z, u) => {
-                if ran {
-                    self.held(z + 1, u + 1)
-                } else {
-                    self.held(z + 1, u)
-                }
-            }
+            Phase::Holding(z, reserved) => self.held(z + 1, counted(reserved, given)),
             Phase::Resting(z) => self.rested(z + 1),
         }
     }
 
-    // The task one tick on, by whether its job is empty if it is released in this tick, whether it has cores and whether it is reported.
-    pub fn next(self, rule: u32, empty: bool, ran: bool, reported: bool) -> Task
+    // The task one tick on, by whether its job is empty if it is released in this tick, whether it is given cores, whether it borrows some and whether
+    // it is reported.
+    pub fn next(self, rule: u32, empty: bool, given: bool, lent: bool, reported: bool) -> Task
         requires { ⌜ Roomy (self .phase) ⌝ }
-        ensures { λ r. ⌜ r ≡ nextTask (ruleOf rule) empty ran reported self ⌝ }
+        ensures { λ r. ⌜ r ≡ nextTask (ruleOf rule) empty given lent reported self ⌝ }
     {
         let old = self.phase;
         let seen = old.seen(rule, empty);
-        let stand = self.stepped(rule, ran, reported, seen);
+        let stand = self.stepped(rule, given, lent, reported, seen);
         let phase = stand.phase;
         Task {
             offset: self.offset,

@@ -27,7 +27,7 @@ fn start_phase(offset: u32) -> Phase
     ensures { λ r. ⌜ r ≡ startStand offset .phase ⌝ }
 {
     if offset == 0 {
-        Phase::Working(0, 0)
+        Phase::Working(0, 0, 0)
     } else {
         Phase::Coming(offset)
     }

@@ -1,14 +1,15 @@
 -- The rows in the buffer: how long they are, one row more, and that nothing after the last row is touched.
 use native.Mathlib.Omega.{arith}
 use native.Mathlib.Nat.{add-zero, suc-mul, add-suc, suc-add, zero-mul, mul-le-mul-right, not-suc-le-zero}
-use mathlib.Core.Path.{_≡_, sym, ap, _∙_}
+use mathlib.Core.Path.{_≡_, refl, sym, ap, ap₂, _∙_}
 use mathlib.Core.List.{List, _++_, append-nil, append-assoc}
 use Prim.Native.Nat.{ℕ, zero, suc, _+_, _-_, _*_, _≤_, _<_}
 use lib.ListN.{length, getD, take, drop, length-append, length-drop, List·getD-append}
 use lib.Seq.{paste, take-at, drop-at, drop-drop, getD-append-add, getD-drop}
+use Rattle.model.proofs.Idling.{lending-idling, under}
 use Rattle.model.proofs.Rows.{row-length}
-use Rattle.model.specs.Task.{Table}
-use Rattle.model.specs.Book.{grantsOf, rowOf, full}
+use Rattle.model.specs.Task.{Table, Task, idling, lending}
+use Rattle.model.specs.Book.{shownOf, rowOf, full}
 use Rattle.plan.specs.Rows.{rowsFrom}
 use Rattle.plan.specs.Plan.{over}
 
@@ -19,7 +20,7 @@ module _ (s : Table) where
   rows-length t zero = sym (zero-mul (s .cores))
   rows-length t (suc n) =
       length-append (rowOf s (full s t)) (rowsFrom s (suc t) n)
-      ∙ (ap (λ (k : ℕ). k + length (rowsFrom s (suc t) n)) (row-length (s .fence) (s .cores) (grantsOf s (full s t)))
+      ∙ (ap (λ (k : ℕ). k + length (rowsFrom s (suc t) n)) (row-length (s .fence) (s .cores) (shownOf s (full s t)))
       ∙ (ap (λ (k : ℕ). s .cores + k) (rows-length (suc t) n)
       ∙ (omega arith ∙ sym (suc-mul n (s .cores)))))
 
@@ -82,10 +83,10 @@ module _ (s : Table) where
   rows-at t (suc n) zero c h l =
       let e : zero * s .cores + c ≡ c = omega arith in
       ap (λ (i : ℕ). getD (rowOf s (full s t) ++ rowsFrom s (suc t) n) i 0) e
-      ∙ (List·getD-append (rowOf s (full s t)) (rowsFrom s (suc t) n) 0 c (omega (arith, row-length (s .fence) (s .cores) (grantsOf s (full s t))))
+      ∙ (List·getD-append (rowOf s (full s t)) (rowsFrom s (suc t) n) 0 c (omega (arith, row-length (s .fence) (s .cores) (shownOf s (full s t))))
       ∙ ap (λ (u : ℕ). getD (rowOf s (full s u)) c 0) (sym (add-zero t)))
   rows-at t (suc n) (suc k) c h l =
-      let e : suc k * s .cores + c ≡ length (rowOf s (full s t)) + (k * s .cores + c) = omega (arith, suc-mul k (s .cores), row-length (s .fence) (s .cores) (grantsOf s (full s t))) in
+      let e : suc k * s .cores + c ≡ length (rowOf s (full s t)) + (k * s .cores + c) = omega (arith, suc-mul k (s .cores), row-length (s .fence) (s .cores) (shownOf s (full s t))) in
       ap (λ (i : ℕ). getD (rowOf s (full s t) ++ rowsFrom s (suc t) n) i 0) e
       ∙ (getD-append-add (rowOf s (full s t)) (rowsFrom s (suc t) n) (k * s .cores + c) 0
       ∙ (rows-at (suc t) n k c (omega arith) l ∙ ap (λ (u : ℕ). getD (rowOf s (full s u)) c 0) (suc-add t k ∙ sym (add-suc t k))))
@@ -109,3 +110,9 @@ module _ (s : Table) where
       let f : m + (i - m) ≡ i = omega arith in
       ap (λ (j : ℕ). getD (over s a b old) j 0) e
       ∙ (getD-append-add (rowsFrom s a (b - a)) (drop m old) (i - m) 0 ∙ (getD-drop m old (i - m) 0 ∙ ap (λ (j : ℕ). getD old j 0) f))
+
+-- RULE 4: the rows are those of rule 3 (request 109)
+pub lending-rows : (τs : List Task) (m f t n : ℕ) → rowsFrom (under lending τs m f) t n ≡ rowsFrom (under idling τs m f) t n
+unfolding rowsFrom
+lending-rows τs m f t zero = refl
+lending-rows τs m f t (suc n) = ap₂ (λ (x y : List ℕ). x ++ y) (lending-idling τs m f t .1) (lending-rows τs m f (suc t) n)

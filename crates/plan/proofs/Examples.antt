@@ -5,12 +5,7 @@ use mathlib.Core.List.{List, [], _++_, _∷_, map}
 use Prim.Native.Nat.{ℕ}
 use Prim.Native.String.{String}
 use lib.ListN.{drop, length, replicate}
-use Rattle.model.specs.Book.{claims, full, served, step, work}
-use Rattle.model.specs.Grants.{claimants, given, grants, left}
-use Rattle.model.specs.Horizon.{S, horizon, hyperperiod, lcm}
-use Rattle.model.specs.Row.{owner, row}
-use Rattle.model.specs.Search.{any, kept, least, memb, upFrom}
-use Rattle.model.specs.Verdict.{missedAt, missedIn}
+use Rattle.model.proofs.Computing.{computing}
 use Rattle.model.proofs.LineByLine.{LineByLine, by-line}
 use Rattle.table.specs.Words.{met, count, chain, tableOf}
 use Rattle.table.specs.Answer.{headerNumber, lastStep, endingOf, firstOut, byHorizon, byTasks, byWalk, answerOf}
@@ -55,6 +50,10 @@ writes s ws a b n new = record { name = s; words = ws; a = a; b = b; lent = lent
 abbrev refuses : String → List ℕ → ℕ → ℕ → ℕ → ℕ → Line
 refuses s ws a b n number = record { name = s; words = ws; a = a; b = b; lent = lent n; says = Refused number 0; leaves = lent n }
 
+-- A under a rule
+abbrev ruledA : ℕ → List ℕ
+ruledA r = 3 ∷ 3 ∷ r ∷ drop 3 wordsA
+
 -- F: one core, horizon 2, position 1 misses at tick 1
 abbrev wordsF : List ℕ
 wordsF = 1 ∷ 1 ∷ 1 ∷ 0 ∷ 0 ∷ 0 ∷ 0 ∷ 1 ∷ 2 ∷ 1 ∷ 2 ∷ 1 ∷ []
@@ -85,6 +84,8 @@ lines =
     ∷ writes "the exact buffer" wordsA 1 3 6 (1 ∷ 1 ∷ 3 ∷ 2 ∷ 2 ∷ 3 ∷ [])
     ∷ refuses "one byte less" wordsA 1 3 5 11
     ∷ writes "one byte more, which is not touched" wordsA 1 3 7 (1 ∷ 1 ∷ 3 ∷ 2 ∷ 2 ∷ 3 ∷ 9 ∷ [])
+    ∷ writes "A under rule 3" (ruledA 3) 1 5 12 (1 ∷ 1 ∷ 3 ∷ 2 ∷ 2 ∷ 3 ∷ 2 ∷ 2 ∷ 3 ∷ 2 ∷ 2 ∷ 0 ∷ [])
+    ∷ writes "A under rule 4: the rows of rule 3" (ruledA 4) 1 5 12 (1 ∷ 1 ∷ 3 ∷ 2 ∷ 2 ∷ 3 ∷ 2 ∷ 2 ∷ 3 ∷ 2 ∷ 2 ∷ 0 ∷ [])
     ∷ writes "F: b = the tick of the first miss" wordsF 0 1 1 (1 ∷ [])
     ∷ refuses "F: b one above it" wordsF 0 2 2 12
     ∷ refuses "F: no rows above it" wordsF 2 2 0 12
@@ -107,12 +108,11 @@ lines =
 
 -- every line is what the definitions say, line by line
 computed : LineByLine worked lines lines
-unfolding plannedOf byPlan rowsFrom answerOf byWalk byTasks byHorizon firstOut endingOf lastStep headerNumber tableOf chain count met missedIn missedAt horizon
-    S hyperperiod lcm least any kept memb upFrom owner row given left grants claimants claims served work step full
+unfolding plannedOf byPlan rowsFrom answerOf byWalk byTasks byHorizon firstOut endingOf lastStep headerNumber tableOf chain count met computing
 computed =
-    let past-12 : LineByLine worked (drop 12 lines) (drop 12 lines) =
+    let past-14 : LineByLine worked (drop 14 lines) (drop 14 lines) =
     (refl, (refl, (refl, (refl, (refl, (refl, (refl, (refl, (refl, (refl, (refl, (refl, (refl, (refl, (refl, (refl, tt)))))))))))))))) in
-    (refl, (refl, (refl, (refl, (refl, (refl, (refl, (refl, (refl, (refl, (refl, (refl, past-12))))))))))))
+    (refl, (refl, (refl, (refl, (refl, (refl, (refl, (refl, (refl, (refl, (refl, (refl, (refl, (refl, past-14))))))))))))))
 
 -- .. and as one list
 pub examples : map worked lines ≡ lines

@@ -4,13 +4,11 @@ use mathlib.Core.List.{List, [], _∷_, _++_, map}
 use mathlib.Core.Path.{_≡_, refl}
 use Prim.Native.Nat.{ℕ}
 use Prim.Native.String.{String}
-use Rattle.model.specs.Book.{claims, full, served, step, work}
-use Rattle.model.specs.Firm.{firm, rising}
 use Rattle.model.specs.Grants.{claimants, given, grants, left}
 use Rattle.model.specs.Horizon.{S, horizon, hyperperiod, lcm}
 use Rattle.model.specs.Row.{owner, row}
 use Rattle.model.specs.Search.{any, kept, least, memb, upFrom}
-use Rattle.model.specs.Verdict.{firstMiss, missedAt, missedIn, verdict}
+use Rattle.model.proofs.Computing.{computing}
 use Rattle.model.proofs.LineByLine.{LineByLine, by-line}
 use Rattle.rule.specs.Widths.{widthsIn}
 use Rattle.table.specs.Answer.{headerNumber, lastStep, endingOf, firstOut, byHorizon, byTasks, byWalk, answerOf}
@@ -53,6 +51,14 @@ prints =
       rows = 2;
       lines = "0 1 2\n1 1 0\n";
     }
+    ∷ record {
+      name = "the same two under rule 4 on three cores, where both fit: at full length nobody lends";
+      words = 1 ∷ 3 ∷ 4 ∷ 0 ∷ 0 ∷ 2 ∷ 0 ∷ 1 ∷ 1 ∷ 1 ∷ 1 ∷ 1 ∷ 0 ∷ 0 ∷ 1 ∷ 1 ∷ 1 ∷ 1 ∷ 2 ∷ [];
+      text = "1\n3\n4\n0\n0\n2\n0\n1\n1\n1\n1\n1\n0\n0\n1\n1\n1\n1\n2\n";
+      first = "firm 0 2\n";
+      rows = 2;
+      lines = "0 1 2 0\n1 1 2 2\n";
+    }
     ∷ []
 
 -- what is printed for a text, and what is to be
@@ -64,9 +70,8 @@ whole p = letters (p .first) ++ letters (p .lines)
 
 each-text : LineByLine printing prints (map whole prints)
 unfolding output wordsOf lines isNumber all value printed firstLine rowLine rowLines lineOf fields decimal lastDigits digitCount digitsWithin answerOf byWalk
-    byTasks byHorizon firstOut endingOf lastStep headerNumber tableOf chain count met verdict firstMiss missedIn missedAt firm rising horizon S hyperperiod lcm
-    least any kept memb upFrom owner row given left grants claimants claims served work step full
-each-text = (refl, (refl, tt))
+    byTasks byHorizon firstOut endingOf lastStep headerNumber tableOf chain count met computing
+each-text = (refl, (refl, (refl, tt)))
 
 pub texts : map (λ p. output (letters (p .text))) prints ≡ map (λ p. letters (p .first) ++ letters (p .lines)) prints
 texts = by-line printing prints (map whole prints) each-text
@@ -85,7 +90,7 @@ each-run : LineByLine stepping prints (map rows prints)
 unfolding linesIn lineIn textIn cells next after bellAfter evenAfter grantedIn pairedIn released releasedDue earliest worked each setOf widthsIn fields decimal
     lastDigits digitCount digitsWithin loadOf answerOf byWalk byTasks byHorizon firstOut endingOf lastStep headerNumber tableOf chain count met horizon S
     hyperperiod lcm least any kept memb upFrom owner row given left grants claimants
-each-run = (refl, (refl, tt))
+each-run = (refl, (refl, (refl, tt)))
 
 pub runs : map (λ p. stepped (loadOf (p .words)) (p .rows)) prints ≡ map (λ p. letters (p .lines)) prints
 runs = by-line stepping prints (map rows prints) each-run

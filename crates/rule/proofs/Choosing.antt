@@ -117,7 +117,7 @@ places-on r ws x p free = same-places r (claimants ws (bit x)) (upFrom 0 (length
 pub places-none : (r : Rule) (ws : List ℕ) (n p : ℕ) → places r ws 0 n p ≡ false
 places-none r ws n p = grants-nobody r ws (upFrom 0 n) p
 
-some-append : (a b : List ℕ) → some (a ++ b) ≡ some a || some b
+pub some-append : (a b : List ℕ) → some (a ++ b) ≡ some a || some b
 some-append [] b = refl
 some-append (x ∷ a) b = refl
 

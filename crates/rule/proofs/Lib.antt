@@ -1,8 +1,14 @@
--- Laws of the widths of a tick and of the choosing: claimant by claimant, set by set, and as a painted row; and computed examples.
+-- Laws of the widths of a tick, of the choosing and of lending: claimant by claimant, set by set, and as a painted row; and computed examples.
 pub mod Examples
+pub mod LendExamples
 pub mod Widths
 pub mod Granting
 pub mod Choosing
 pub mod Serving
 pub mod Rows
 pub mod Sets
+pub mod Gathered
+pub mod Unions
+pub mod Borrowed
+pub mod Lending
+pub mod LentSets

@@ -1,6 +1,6 @@
 -- Laws of painted rows: byte by byte, one core or one set more, and the row of the model where no core has two holders.
 use mathlib.Core.Path.{_≡_, refl, sym, ap, ap₂, _∙_}
-use mathlib.Core.Bool.{Bool, true, false, not, _&&_, _||_, cond, false≢true}
+use mathlib.Core.Bool.{Bool, true, false, _&&_, _||_, cond, false≢true}
 use mathlib.Core.List.{List, [], _∷_, _++_, map}
 use Prim.Native.Nat.{ℕ, suc, _+_, _-_, _≤_, _<_}
 use native.Mathlib.Nat.{zero-add}
@@ -11,19 +11,15 @@ use lib.Dec.{eqb, ltb}
 use borrow.Author.Tests.{eqb-true, eqb-false, ne-eqb, ltb-true, ltb-false}
 use Rattle.model.specs.Search.{bit, memb, upFrom}
 use Rattle.model.specs.Row.{byteOf, owner, row}
-use Rattle.model.specs.Fence.{unfenced}
 use Rattle.model.specs.Sizes.{fencedByte}
-use Rattle.model.specs.Task.{Rule}
-use Rattle.model.specs.Grants.{Claimant, grants}
 use Rattle.model.proofs.Bools.{not-true-false}
 use Rattle.model.proofs.Rows.{row-length}
 use Rattle.model.proofs.Lists.{up-length}
 use Rattle.cores.specs.Cores.{cores}
 use Rattle.rule.specs.Painted.{painted, shown}
-use Rattle.cores.proofs.Ascending.{getD-up, In, in-below, memb-kept, range-kept, range-up}
+use Rattle.cores.proofs.Ascending.{getD-up, In}
 use Rattle.cores.proofs.Cores.{cores-none}
-use Rattle.cores.proofs.Open.{in-open}
-use Rattle.rule.proofs.Granting.{Apart, apart, in-grants}
+use Rattle.rule.proofs.Granting.{Apart}
 
 -- ---- one mark
 
@@ -179,10 +175,3 @@ module _ (n m f : ℕ) (F : List ℕ) (few : m ≤ n) (fenced : (c : ℕ) → c 
           ap (λ (i : ℕ). getD (front ++ replicate (n - m) 0) i 0) z
           ∙ getD-append-add front (replicate (n - m) 0) (c - m) 0
           ∙ getD-replicate (n - m) (c - m) 0 0 (omega arith)
-
-  -- so it is with the grants of the unfenced cores
-  pub shown-grants : (r : Rule) (bs : List Claimant)
-      → shown ground 1 (grants r bs (unfenced f m)) ≡ row f m (grants r bs (unfenced f m)) ++ replicate (n - m) 0
-  shown-grants r bs =
-      shown-row (grants r bs (unfenced f m)) (apart r m bs (unfenced f m) (range-kept (λ c. not (bit f c)) 0 m (upFrom 0 m) (range-up 0 m m (omega arith))))
-      (λ c j i. in-open f m c (in-grants r c bs (unfenced f m) j i))

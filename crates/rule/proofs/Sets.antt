@@ -1,33 +1,30 @@
--- What a caller learns of the sets of one tick: place by place, that no two overlap, that each counts its width or nothing, and the row that they show.
-use mathlib.Core.Path.{_≡_, refl, sym, ap, _∙_}
+-- What a caller learns of the sets of one tick: place by place, that no two overlap, that each counts its width or nothing, and that a row can show them.
+use mathlib.Core.Path.{_≡_, refl, sym, ap, _∙_, subst}
 use mathlib.Core.Logic.{_⊎_, inl, inr, ⊎-elim}
-use mathlib.Core.Bool.{Bool, true, false, _&&_}
-use mathlib.Core.List.{List, [], _++_, map}
+use mathlib.Core.Bool.{Bool, true, false, not, _&&_}
+use mathlib.Core.List.{List, [], map}
 use Prim.Native.Nat.{ℕ, _+_, _-_, _^_, _≤_, _<_, min}
 use native.Mathlib.Omega.{arith}
 use lib.Bits.{bitAnd, and-lt}
 use lib.Count.{ones}
 use lib.Dec.{ltb}
-use lib.ListN.{length, getD, take, replicate, length-take, length-map, List·getD-map, List·getD-eq-default}
+use lib.ListN.{length, getD, take, length-take, length-map, List·getD-map, List·getD-eq-default}
 use lib.Seq.{getD-take, getD-drop}
 use borrow.Author.Tests.{ltb-true, ltb-false}
 use Rattle.model.specs.Task.{Rule}
 use Rattle.model.specs.Grants.{Claimant, grants}
-use Rattle.model.specs.Row.{row}
-use Rattle.model.specs.Fence.{outside, unfenced}
-use Rattle.model.specs.Sizes.{fencedByte}
+use Rattle.model.specs.Fence.{unfenced}
 use Rattle.model.specs.Search.{bit, upFrom}
 use Rattle.model.proofs.Bools.{and-left, and-right, not-true-false}
 use Rattle.model.proofs.Lists.{getD-zeros}
 use Rattle.model.proofs.Digits.{and-bit}
 use Rattle.cores.specs.Cores.{cores}
 use Rattle.rule.specs.Shares.{GrantedAs, granted}
-use Rattle.rule.specs.Painted.{painted, shown}
-use Rattle.cores.proofs.Ascending.{range-up, In, kept-same, kept-none}
+use Rattle.rule.specs.Lent.{Showable}
+use Rattle.cores.proofs.Ascending.{range-kept, range-up, In, kept-same, kept-none}
 use Rattle.cores.proofs.Cores.{setOf, cores-none, cores-range, cores-length, set-cores, cores-memb}
-use Rattle.cores.proofs.Open.{memb-fenced, open-of}
-use Rattle.rule.proofs.Granting.{idle, apart, width-or-none}
-use Rattle.rule.proofs.Rows.{shown-grants}
+use Rattle.cores.proofs.Open.{in-open, open-of}
+use Rattle.rule.proofs.Granting.{idle, apart, in-grants, width-or-none}
 
 -- who is given cores of the set of the open ones
 pub granted-open :
@@ -48,6 +45,13 @@ no-common a b h k f =
     (kept-same (bit (bitAnd a b)) (λ c. false) 0 64 (upFrom 0 64) (range-up 0 64 64 (omega arith)) (λ c l.
     and-bit a b c ∙ not-true-false (bit a c && bit b c) (λ e. f c (cores-memb a c l ∙ and-left (bit a c) (bit b c) e) (cores-memb b c l ∙ and-right (bit a c) (bit b c) e)))
     ∙ kept-none (upFrom 0 64))
+
+-- a row can show what is given of the open cores
+pub grants-showable : (r : Rule) (bs : List Claimant) (f m : ℕ) → Showable f m (grants r bs (unfenced f m))
+grants-showable r bs f m = record {
+  apart = apart r m bs (unfenced f m) (range-kept (λ c. not (bit f c)) 0 m (upFrom 0 m) (range-up 0 m m (omega arith)));
+  open-only = λ c j i. in-open f m c (in-grants r c bs (unfenced f m) j i);
+}
 
 module _ (r : Rule) (bs : List Claimant) (count free : ℕ) (sets : List ℕ) (h : GrantedAs r bs count free sets) where
   -- the set of each place has the cores that the model grants it
@@ -82,10 +86,8 @@ module _ (r : Rule) (bs : List Claimant) (count free : ℕ) (sets : List ℕ) (h
       (λ e. inr (no-cores s k (sets-at p ∙ e)))
       (width-or-none r bs (cores free) p)
 
-  -- over a row of zeros with the fence's mark on the fenced cores they show the model's row
-  pub sets-row : (f m : ℕ) → m ≤ 64 → cores free ≡ unfenced f m
-      → shown (painted (replicate 64 0) fencedByte (outside free (upFrom 0 m))) 1 (map cores (take count sets))
-      ≡ row f m (grants r bs (unfenced f m)) ++ replicate (64 - m) 0
-  sets-row f m k o =
-      ap (shown (painted (replicate 64 0) fencedByte (outside free (upFrom 0 m))) 1) (h .gives ∙ ap (grants r bs) o)
-      ∙ shown-grants 64 m f (outside free (upFrom 0 m)) k (λ c l. memb-fenced free f m c l o) r bs
+  -- a row can show them, where they are given of the open cores
+  pub sets-showable : (f m : ℕ) → cores free ≡ unfenced f m → Showable f m (map cores (take count sets))
+  sets-showable f m o =
+      let same : map cores (take count sets) ≡ grants r bs (unfenced f m) = h .gives ∙ ap (grants r bs) o in
+      subst (Showable f m) (sym same) (grants-showable r bs f m)

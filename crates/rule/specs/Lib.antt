@@ -1,4 +1,5 @@
--- The widths of a tick, what the tick rule gives to the claimants, as shares of cores, and the row that shows it.
+-- The widths of a tick, what the tick rule gives to the claimants, as shares of cores, what is lent of it, and the row that shows it.
 pub mod Widths
 pub mod Shares
+pub mod Lent
 pub mod Painted

@@ -1,16 +1,22 @@
-// The tick rule: who of the claimants is given cores in a tick, which cores, and the row that shows it.
+// The tick rule: who of the claimants is given cores in a tick, which cores, what is lent of them, and the row that shows it.
 ghost use mathlib.Core.Path.{_≡_};
+ghost use mathlib.Core.Bool.{_&&_};
 ghost use mathlib.Core.List.{map, _++_};
 ghost use Prim.Native.Nat.{ℕ, _+_, _-_, _≤_, _<_};
+ghost use lib.Bits.{bitOr};
+ghost use lib.Dec.{ltb};
 ghost use lib.ListN.{getD, take, replicate};
 ghost use Rattle.model.specs.Search.{bit};
 ghost use Rattle.model.specs.Task.{ruleOf};
 ghost use Rattle.model.specs.Fence.{unfenced};
-ghost use Rattle.model.specs.Grants.{claimants, grants};
+ghost use Rattle.model.specs.Grants.{claimants, grants, some};
+ghost use Rattle.model.specs.Lending.{among};
 ghost use Rattle.model.specs.Row.{row};
 ghost use Rattle.model.specs.Sizes.{mostCores, mostTasks};
 ghost use Rattle.cores.specs.Cores.{cores};
+ghost use Rattle.cores.specs.Cores as listed;
 ghost use Rattle.rule.specs.Shares.{served, GrantedAs, granted};
+ghost use Rattle.rule.specs.Lent.{LentAs, NotBoth, ShownAs, Showable};
 ghost use Rattle.rule.specs.Painted.{painted, shown};
 ghost use Rattle.rule.specs.Widths.{widthsIn};
 use model::FENCED;
@@ -19,6 +25,9 @@ use model::ROW;
 
 // Each place has two widths: the first of every place stands before the second of any. How many they are.
 pub const PAIR: usize = 2 * MOST_TASKS;
+
+// Rule 1: a claimant that doesn't fit is passed over.
+const GREEDY: u32 = 1;
 
 // What the tick rule says to a claimant: it takes its cores, it is passed over, or it ends the tick's choosing.
 pub enum Served {
@@ -143,8 +152,19 @@ pub fn row_of(start: [u8; ROW], first: u8, sets: &[u64; MOST_TASKS], count: usiz
     out
 }
 
-// The row of a tick in which the places of a set claim the cores outside the fence: core 0 first, the position or 0, 255 on a fenced core;
-// bytes past the core count are 0.
+// The row that shows these sets of cores of the first `count` positions: core 0 first, the position or 0, 255 on a fenced core; bytes past the core
+// count are 0.
+pub fn row_in(cores: u32, fence: u64, sets: &[u64; MOST_TASKS], count: usize) -> [u8; ROW]
+    requires { ⌜ (cores ≤ mostCores) × (count ≤ mostTasks) ⌝ ∗ ⌜ Showable fence cores (map listed.cores (take count (now sets))) ⌝ }
+    ensures { λ r. ⌜ r ≡ row fence cores (map listed.cores (take count (now (sets .entry)))) ++ replicate (mostCores - cores) 0 ⌝ }
+{
+    let free = cores::open_cores(cores, fence);
+    let fenced = cores::without(cores::first_cores(cores), free);
+    let start = paint([0u8; ROW], fenced, FENCED);
+    row_of(start, 1, sets, count)
+}
+
+// The row of a tick in which the places of a set claim the cores outside the fence.
 pub fn show(
     rule: u32,
     cores: u32,
@@ -159,7 +179,103 @@ pub fn show(
 {
     let free = cores::open_cores(cores, fence);
     let sets = grants(rule, free, claiming, even, widths, count);
-    let fenced = cores::without(cores::first_cores(cores), free);
-    let start = paint([0u8; ROW], fenced, FENCED);
-    row_of(start, 1, &sets, count)
+    row_in(cores, fence, &sets, count)
+}
+
+// Whether a set has a core.
+fn any(set: u64) -> bool
+    ensures { λ r. ⌜ r ≡ some (cores set) ⌝ }
+{
+    0 < set
+}
+
+// The set of positions that have a core in their set, bit 0 for position 1.
+pub fn owners(sets: &[u64; MOST_TASKS]) -> u32
+    ensures { λ r. ⌜ ((p : ℕ) → bit r p ≡ ltb p mostTasks && some (cores (getD (now (sets .entry)) p 0))) ⌝ }
+{
+    let mut owners: u32 = 0;
+    let mut i: usize = 0;
+    while i < MOST_TASKS {
+        if any(sets[i]) {
+            owners |= 1u32 << i as u32;
+        }
+        i += 1;
+    }
+    owners
+}
+
+// The sets of each position in one list and in another.
+fn beside(sets: [u64; MOST_TASKS], more: &[u64; MOST_TASKS]) -> [u64; MOST_TASKS]
+    ensures { λ r. ⌜ ((p : ℕ) → p < mostTasks → getD r p 0 ≡ bitOr (getD sets p 0) (getD (now (more .entry)) p 0)) ⌝ }
+{
+    let mut out = sets;
+    let mut i: usize = 0;
+    while i < MOST_TASKS {
+        out[i] |= more[i];
+        i += 1;
+    }
+    out
+}
+
+// The set of cores that each of the first `count` positions borrows, 0 where none. Of the sets reserved for them each holder, by priority, lends its
+// own: the seekers below it that are not yet served are the claimants, and are served as under rule 1.
+pub fn lend(
+    reserved: &[u64; MOST_TASKS],
+    holders: u32,
+    seekers: u32,
+    even: u32,
+    widths: &[u32; PAIR],
+    count: usize,
+) -> [u64; MOST_TASKS]
+    requires { ⌜ count ≤ mostTasks ⌝ }
+    ensures { λ r. ⌜ LentAs (take count (widthsIn even (now (widths .entry)))) (now (reserved .entry)) holders seekers count r ⌝ }
+{
+    let mut sets = [0u64; MOST_TASKS];
+    let mut seeking = seekers;
+    let mut i: usize = 0;
+    while i < count {
+        let place = i as u32;
+        seeking &= seeking ^ (1u32 << place);
+        if (holders >> place) % 2 == 1 {
+            let more = grants(GREEDY, reserved[i], seeking, even, widths, count);
+            seeking &= seeking ^ owners(&more);
+            let next = beside(sets, &more);
+            sets = next;
+        }
+        i += 1;
+    }
+    sets
+}
+
+// The cores that some of the first `count` sets have.
+fn union(sets: &[u64; MOST_TASKS], count: usize) -> u64
+    requires { ⌜ count ≤ mostTasks ⌝ }
+    ensures { λ r. ⌜ ((c : ℕ) → c < mostCores → bit r c ≡ among c (map cores (take count (now (sets .entry))))) ⌝ }
+{
+    let mut all: u64 = 0;
+    let mut i: usize = 0;
+    while i < count {
+        all |= sets[i];
+        i += 1;
+    }
+    all
+}
+
+// The set of cores that the row shows of each of the first `count` positions: those that it borrows, or of its own those that nobody does.
+pub fn shown(
+    reserved: &[u64; MOST_TASKS],
+    borrowed: &[u64; MOST_TASKS],
+    count: usize,
+) -> [u64; MOST_TASKS]
+    requires { ⌜ count ≤ mostTasks ⌝ ∗ ⌜ NotBoth (now reserved) (now borrowed) ⌝ }
+    ensures { λ r. ⌜ ShownAs (now (reserved .entry)) (now (borrowed .entry)) count r ⌝ }
+{
+    let lent = union(borrowed, count);
+    let mut sets = [0u64; MOST_TASKS];
+    let mut i: usize = 0;
+    while i < count {
+        sets[i] = borrowed[i] | cores::without(reserved[i], lent);
+        i += 1;
+    }
+    sets
 }

@@ -1,92 +1,121 @@
--- Who has cores in a run's present tick, from the sets that code gathers: the choosing over 32 places is that over the places below the count.
-use mathlib.Core.Path.{_≡_, refl, sym, ap, _∙_}
-use mathlib.Core.Bool.{Bool, true, false, not, _&&_, true≢false}
-use mathlib.Core.List.{List, [], _∷_}
+-- Who has cores in a run's present tick and who borrows some, from the sets that code gathers; and 20 and 16 by one test of sets each.
+use mathlib.Core.Path.{_≡_, refl, sym, ap, ap₂, _∙_}
+use mathlib.Core.Bool.{Bool, true, false, not, _&&_, _||_, cond, and-assoc, true≢false}
+use mathlib.Core.List.{List, []}
 use Prim.Native.Nat.{ℕ, zero, suc, _/_, _%_, _^_, _≤_, _<_}
 use native.Mathlib.Nat.{lt-of-le-of-lt}
 use native.Mathlib.Omega.{arith}
-use lib.ListN.{take, length-map, length-take}
-use lib.Bits.{bitAnd, and-le-l}
+use lib.ListN.{getD, take, length-map, length-take}
+use lib.Bits.{bitAnd, bitOr, and-le-l}
 use lib.Dec.{eqb, ltb}
 use borrow.Author.Tests.{lt-ltb, le-ltb, eqb-true, eqb-false, ltb-true, ltb-false}
-use Rattle.model.proofs.Digits.{bit-high, bit-zero, bit-suc, half, and-bit}
-use Rattle.model.specs.Task.{Rule}
-use Rattle.model.specs.Grants.{claimants, left, grants, given, some}
+use Rattle.model.proofs.Digits.{bit-high, bit-zero, bit-suc, half, and-bit, or-bit}
+use Rattle.model.specs.Grants.{Claimant, claimants, grants, some}
 use Rattle.model.specs.Fence.{unfenced}
+use Rattle.model.specs.Lending.{lends, lent}
 use Rattle.model.specs.Search.{any, bit}
 use Rattle.model.proofs.Bools.{not-false-true}
 use Rattle.model.proofs.Grants.{claimants-same}
 use Rattle.model.proofs.Search.{none-any, none-at}
-use Rattle.rule.specs.Shares.{granted}
 use Rattle.rule.specs.Widths.{widthsIn}
+use Rattle.rule.proofs.Granting.{same-either}
 use Rattle.run.specs.declared.Run.{Run}
 use Rattle.run.specs.declared.choosing.Claims.{Claims}
-use Rattle.phase.specs.Phase.{claiming, working}
+use Rattle.run.specs.declared.shares.Shares.{Shares}
+use Rattle.phase.specs.declared.Phase.{Phase}
+use Rattle.phase.specs.declared.Phase.the-variants.{Coming, Working, Holding, Resting}
+use Rattle.phase.specs.Phase.{claiming, holder, working}
 use Rattle.phase.specs.Task.{widthNow}
-use Rattle.run.specs.Run.{ruleIn, seenAt, widthsNow, grantsIn, hasCores}
+use Rattle.run.specs.Run.{ruleIn, seenAt, widthsNow, grantsIn, hasCores, offerIn, seeksIn, lentIn, hasLent}
 use Rattle.run.specs.Numbers.{emptiableAt, misemptiedIn, reportableAt, misreportedIn}
 use Rattle.run.specs.Claims.{ClaimsOf}
+use Rattle.run.specs.Loans.{SharesOf, givenTo, isGiven, lentTo}
+use Rattle.run.proofs.Lent.{past-grants, past-offer}
 
--- ---- the choosing over more places than claim
-
-module _ (r : Rule) where
-  nobody-granted : (ws : List ℕ) (c : ℕ → Bool) (free : List ℕ) (p : ℕ) → ((q : ℕ) → c q ≡ false) → granted r (claimants ws c) free p ≡ false
-  unfolding grants claimants given left
-  nobody-granted [] c free p h = refl
-  nobody-granted (w ∷ ws) c free zero h = rw (h 0)
-  nobody-granted (w ∷ ws) c free (suc p) h = rw (h 0) (nobody-granted ws (λ q. c (suc q)) free p (λ q. h (suc q)))
-
-  -- c and d agree on the first n places, and from there on nobody claims by c
-  granted-front : (n : ℕ) (ws : List ℕ) (c d : ℕ → Bool) (free : List ℕ) (p : ℕ) → ((q : ℕ) → q < n → c q ≡ d q) → ((q : ℕ) → n ≤ q → c q ≡ false)
-      → granted r (claimants ws c) free p ≡ granted r (claimants (take n ws) d) free p
-  unfolding grants claimants
-  granted-front zero ws c d free p e f = nobody-granted ws c free p (λ q. f q (omega arith))
-  granted-front (suc n) [] c d free p e f = refl
-  granted-front (suc n) (w ∷ ws) c d free zero e f = ap (λ (t : Bool). some (given (record { claims = t; width = w }) free)) (e 0 (omega arith))
-  granted-front (suc n) (w ∷ ws) c d free (suc p) e f =
-      granted-front n ws (λ q. c (suc q)) (λ q. d (suc q)) (left r (record { claims = c 0; width = w }) free) p
-      (λ q h. e (suc q) (omega arith)) (λ q h. f (suc q) (omega arith))
-      ∙ ap (λ (t : Bool). granted r (claimants (take n ws) (λ q. d (suc q))) (left r (record { claims = t; width = w }) free) p) (e 0 (omega arith))
-
--- ---- who has cores
+-- ---- who has cores, and who borrows some
 
 module _ (r : Run) (e : ℕ) (c : Claims) (h : ClaimsOf r e c) where
   below : (q : ℕ) → q < r .count → bit (c .claiming) q ≡ claiming (seenAt r e q)
   below q l = h .claimed q ∙ ap (λ (t : Bool). t && claiming (seenAt r e q)) (lt-ltb q (r .count) l)
 
-  past : (q : ℕ) → r .count ≤ q → bit (c .claiming) q ≡ false
-  past q l = h .claimed q ∙ ap (λ (t : Bool). t && claiming (seenAt r e q)) (le-ltb q (r .count) l)
+  -- nobody claims past the count
+  pub claims-below : (q : ℕ) → r .count ≤ q → bit (c .claiming) q ≡ false
+  claims-below q l = h .claimed q ∙ ap (λ (t : Bool). t && claiming (seenAt r e q)) (le-ltb q (r .count) l)
 
-  -- the set that the choosing gives is that of the places with cores
-  pub has-cores :
-      (p : ℕ)
-      → granted (ruleIn r) (claimants (widthsIn (c .even) (c .widths)) (bit (c .claiming))) (unfenced (r .fence) (r .cores)) p ≡ hasCores r e p
+  -- the widths of the places below the count, and the cores that the rule gives from
+  abbrev pub ws : List ℕ
+  ws = take (r .count) (widthsIn (c .even) (c .widths))
+
+  abbrev pub F : List ℕ
+  F = unfenced (r .fence) (r .cores)
+
+  -- the cores that are given
+  pub same-given : givenTo (ruleIn r) ws (c .claiming) F ≡ grantsIn r e
   unfolding grantsIn
-  has-cores p =
-      granted-front (ruleIn r) (r .count) (widthsIn (c .even) (c .widths)) (bit (c .claiming)) (λ q. claiming (seenAt r e q))
-      (unfenced (r .fence) (r .cores)) p below past
-      ∙ ap (λ (ws : List ℕ). granted (ruleIn r) (claimants ws (λ q. claiming (seenAt r e q))) (unfenced (r .fence) (r .cores)) p) (h .width)
+  same-given =
+      ap (λ (vs : List ℕ). grants (ruleIn r) (claimants vs (bit (c .claiming))) F) (h .width)
+      ∙ ap (λ (bs : List Claimant). grants (ruleIn r) bs F)
+      (claimants-same (widthsNow r) (bit (c .claiming)) (λ q. claiming (seenAt r e q))
+      (λ q l. below q (omega (arith, length-map (take (r .count) (r .tasks)) widthNow, length-take (r .count) (r .tasks)))))
 
-  -- the claimants below the count
-  pub same-claimants :
-      claimants (take (r .count) (widthsIn (c .even) (c .widths))) (bit (c .claiming)) ≡ claimants (widthsNow r) (λ q. claiming (seenAt r e q))
-  same-claimants =
-      ap (λ (ws : List ℕ). claimants ws (bit (c .claiming))) (h .width)
-      ∙ claimants-same (widthsNow r) (bit (c .claiming)) (λ q. claiming (seenAt r e q))
-      (λ q l. below q (omega (arith, length-map (take (r .count) (r .tasks)) widthNow, length-take (r .count) (r .tasks))))
+  same-seeks : (p : ℕ) → bit (c .working) p && not (isGiven (ruleIn r) ws (c .claiming) F p) ≡ seeksIn r e p
+  unfolding seeksIn
+  same-seeks p =
+      ap₂ (λ (t : Bool) (gs : List (List ℕ)). t && not (some (getD gs p []))) (h .worked p) same-given
+      ∙ and-assoc (ltb p (r .count)) (working (seenAt r e p)) (not (hasCores r e p))
 
-  -- the set of the places that may be reported
-  may-end : (g : ℕ) → ((p : ℕ) → bit g p ≡ hasCores r e p) → (p : ℕ) → bit (bitAnd g (c .working)) p ≡ reportableAt r e p
-  may-end g q p =
-      and-bit g (c .working) p ∙ rw (q p, h .worked p) (turned (hasCores r e p) (ltb p (r .count)) (working (seenAt r e p)))
+  same-offer : (p : ℕ)
+      → cond (lends (ruleIn r) && (bit (c .claiming) p && not (bit (c .working) p))) (getD (givenTo (ruleIn r) ws (c .claiming) F) p []) [] ≡ offerIn r e p
+  unfolding offerIn
+  same-offer p = go (ltb p (r .count)) refl
     where
-      turned : (a b d : Bool) → a && (b && d) ≡ b && (d && a)
-      turned true true true = refl
-      turned true true false = refl
-      turned true false d = refl
-      turned false true true = refl
-      turned false true false = refl
-      turned false false d = refl
+      -- who claims and is not Working holds
+      held : (ph : Phase) → claiming ph && not (working ph) ≡ holder ph
+      held (Coming left) = refl
+      held (Working z had reserved) = refl
+      held (Holding z reserved) = refl
+      held (Resting z) = refl
+
+      go : (t : Bool) → ltb p (r .count) ≡ t
+          → cond (lends (ruleIn r) && (bit (c .claiming) p && not (bit (c .working) p))) (getD (givenTo (ruleIn r) ws (c .claiming) F) p []) []
+          ≡ offerIn r e p
+      go true q =
+          ap₂ (λ (t : Bool) (gs : List (List ℕ)). cond (lends (ruleIn r) && t) (getD gs p []) [])
+          (ap₂ (λ (a b : Bool). a && not b) (h .claimed p ∙ ap (λ (t : Bool). t && claiming (seenAt r e p)) q)
+          (h .worked p ∙ ap (λ (t : Bool). t && working (seenAt r e p)) q)
+          ∙ held (seenAt r e p)) same-given
+      go false q =
+          ap (λ (l : List ℕ). cond (lends (ruleIn r) && (bit (c .claiming) p && not (bit (c .working) p))) l [])
+          (ap (λ (gs : List (List ℕ)). getD gs p []) same-given ∙ past-grants r e p (ltb-false p (r .count) q))
+          ∙ (same-either (lends (ruleIn r) && (bit (c .claiming) p && not (bit (c .working) p))) [] ∙ sym (past-offer r e p (ltb-false p (r .count) q)))
+
+  -- and those that are lent
+  pub same-lent : lentTo (ruleIn r) ws (c .claiming) (c .working) F (r .count) ≡ lentIn r e
+  unfolding lentIn
+  same-lent = λ i. lent (h .width i) (λ p. same-seeks p i) (λ p. same-offer p i) (r .count)
+
+  -- so the sets that the choosing gives are those of the places with cores
+  module _ (s : Shares) (q : SharesOf (ruleIn r) ws (c .claiming) (c .working) F (r .count) s) where
+    pub has-cores : (p : ℕ) → bit (s .given) p ≡ hasCores r e p
+    has-cores p = q .given p ∙ ap (λ (gs : List (List ℕ)). some (getD gs p [])) same-given
+
+    pub has-lent : (p : ℕ) → bit (s .lent) p ≡ hasLent r e p
+    has-lent p = q .lent p ∙ ap (λ (gs : List (List ℕ)). some (getD gs p [])) same-lent
+
+    -- and the set of the places that may be reported
+    may-end : (p : ℕ) → bit (bitAnd (bitOr (s .given) (s .lent)) (c .working)) p ≡ reportableAt r e p
+    may-end p =
+        and-bit (bitOr (s .given) (s .lent)) (c .working) p
+        ∙ (ap₂ (λ (a b : Bool). a && b) (or-bit (s .given) (s .lent) p ∙ ap₂ (λ (a b : Bool). a || b) (has-cores p) (has-lent p)) (h .worked p)
+        ∙ turned (hasCores r e p || hasLent r e p) (ltb p (r .count)) (working (seenAt r e p)))
+      where
+        turned : (a b d : Bool) → a && (b && d) ≡ b && (d && a)
+        turned true true true = refl
+        turned true true false = refl
+        turned true false d = refl
+        turned false true true = refl
+        turned false true false = refl
+        turned false false d = refl
 
 -- ---- sets with the same bits
 
@@ -149,9 +178,10 @@ pub may-begin :
 unfolding misemptiedIn
 may-begin r e c h k l = outside e (c .released) (emptiableAt r) (h .begun) k l
 
--- and 16: the reports are within the places that work and have cores
+-- and 16: the reports are within the places that work and are given or borrow cores
 pub may-report :
-    (r : Run) (e : ℕ) (c : Claims) → ClaimsOf r e c → (g : ℕ) → ((p : ℕ) → bit g p ≡ hasCores r e p) → (x k : ℕ) → x < 2 ^ k
-    → misreportedIn r e x ≡ not (eqb (bitAnd x (bitAnd g (c .working))) x)
+    (r : Run) (e : ℕ) (c : Claims) → (h : ClaimsOf r e c) (s : Shares)
+    → SharesOf (ruleIn r) (ws r e c h) (c .claiming) (c .working) (F r e c h) (r .count) s → (x k : ℕ) → x < 2 ^ k
+    → misreportedIn r e x ≡ not (eqb (bitAnd x (bitAnd (bitOr (s .given) (s .lent)) (c .working))) x)
 unfolding misreportedIn
-may-report r e c h g q x k l = outside x (bitAnd g (c .working)) (reportableAt r e) (may-end r e c h g q) k l
+may-report r e c h s q x k l = outside x (bitAnd (bitOr (s .given) (s .lent)) (c .working)) (reportableAt r e) (may-end r e c h s q) k l

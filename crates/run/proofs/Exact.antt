@@ -1,6 +1,6 @@
 -- Row and advance are refused with n and p exactly if n is the first of 14, 15, 20 and 16 that applies, with position p; and taken exactly if none applies.
 use mathlib.Core.Path.{_≡_, refl, sym, ap, ap₂, _∙_}
-use mathlib.Core.Bool.{Bool, true, false, not, _&&_, cond, true≢false, false≢true}
+use mathlib.Core.Bool.{Bool, true, false, not, _&&_, _||_, cond, true≢false, false≢true}
 use mathlib.Core.List.{List, [], _∷_}
 use mathlib.Core.Logic.{_⊎_, inl, inr, ⊎-elim, _↔_}
 use Prim.Native.Nat.{ℕ, suc, _≤_, _<_}
@@ -26,7 +26,7 @@ use Rattle.run.specs.declared.Answer.the-variants.{Taken, Refused}
 use Rattle.run.specs.declared.Advanced.{Advanced}
 use Rattle.run.specs.declared.Row.{Row}
 use Rattle.phase.specs.Phase.{working, lateIn, released}
-use Rattle.run.specs.Run.{taskAt, phaseAt, seenAt, grantsIn, hasCores, moved}
+use Rattle.run.specs.Run.{taskAt, phaseAt, seenAt, grantsIn, hasCores, borrowedIn, hasLent, moved}
 use Rattle.run.specs.Answer.{told}
 use Rattle.run.specs.Numbers.{RunOut, Late, Misempties, Works, Misreports, RowApplies, fourteen, fifteen, twenty, AdvanceApplies, as-row, sixteen}
 use Rattle.run.specs.Numbers.{runOut, lateAt, firstLateIn, emptiableAt, misemptiedIn, reportableAt, misreportedIn}
@@ -40,39 +40,42 @@ use Rattle.run.proofs.Past.{past-unchanged}
 
 -- THE TESTS OF 15, 20 AND 16
 
-late-in-decides : (D : ℕ) (ph : Phase) → Decides (lateIn D ph) ((u : ℕ) × (ph ≡ Working D u))
-late-in-decides D ph = (there ph, λ x. ap (lateIn D) (x .1) ∙ eq-eqb D D refl)
+late-in-decides : (D : ℕ) (ph : Phase) → Decides (lateIn D ph) ((had u : ℕ) × (ph ≡ Working D had u))
+late-in-decides D ph = (there ph, λ x. ap (lateIn D) (x .2) ∙ eq-eqb D D refl)
   where
-    there : (ph : Phase) → lateIn D ph ≡ true → (u : ℕ) × (ph ≡ Working D u)
+    there : (ph : Phase) → lateIn D ph ≡ true → (had u : ℕ) × (ph ≡ Working D had u)
     there (Coming left) e = absurd (false≢true e)
-    there (Working z u) e = (u, ap (λ (n : ℕ). Working n u) (eqb-true z D e))
+    there (Working z had u) e = (had, u, ap (λ (n : ℕ). Working n had u) (eqb-true z D e))
     there (Holding z u) e = absurd (false≢true e)
     there (Resting z) e = absurd (false≢true e)
 
 pub late-decides : (r : Run) (p : ℕ) → Decides (lateAt r p) (Late r p)
 late-decides r p = late-in-decides (taskAt r p .deadline) (phaseAt r p)
 
-works-decides : (ph : Phase) → Decides (working ph) ((z u : ℕ) × (ph ≡ Working z u))
-works-decides ph = (there ph, λ x. ap working (x .2))
+works-decides : (ph : Phase) → Decides (working ph) ((z had u : ℕ) × (ph ≡ Working z had u))
+works-decides ph = (there ph, λ x. ap working (x .3))
   where
-    there : (ph : Phase) → working ph ≡ true → (z u : ℕ) × (ph ≡ Working z u)
+    there : (ph : Phase) → working ph ≡ true → (z had u : ℕ) × (ph ≡ Working z had u)
     there (Coming left) e = absurd (false≢true e)
-    there (Working z u) e = (z, u, refl)
+    there (Working z had u) e = (z, had, u, refl)
     there (Holding z u) e = absurd (false≢true e)
     there (Resting z) e = absurd (false≢true e)
 
-released-decides : (ph : Phase) → Decides (released ph) (ph ≡ Working 0 0)
-released-decides ph = (there ph, λ x. ap released x)
+released-decides : (ph : Phase) → Decides (released ph) ((u : ℕ) × (ph ≡ Working 0 0 u))
+released-decides ph = (there ph, λ x. ap released (x .1))
   where
-    there : (ph : Phase) → released ph ≡ true → ph ≡ Working 0 0
+    there : (ph : Phase) → released ph ≡ true → (u : ℕ) × (ph ≡ Working 0 0 u)
     there (Coming left) e = absurd (false≢true e)
-    there (Working z u) e = ap₂ (λ (a b : ℕ). Working a b) (eqb-true z 0 (and-left (eqb z 0) (eqb u 0) e)) (eqb-true u 0 (and-right (eqb z 0) (eqb u 0) e))
+    there (Working z had u) e =
+        (u, ap₂ (λ (a b : ℕ). Working a b u) (eqb-true z 0 (and-left (eqb z 0) (eqb had 0) e)) (eqb-true had 0 (and-right (eqb z 0) (eqb had 0) e)))
     there (Holding z u) e = absurd (false≢true e)
     there (Resting z) e = absurd (false≢true e)
 
-none-decides : (l : List ℕ) → Decides (not (some l)) (l ≡ [])
-none-decides [] = (λ e. refl, λ e. refl)
-none-decides (c ∷ cs) = (λ e. absurd (false≢true e), λ e. ap (λ (x : List ℕ). not (some x)) e)
+-- neither of two lists has a core
+none-decides : (k l : List ℕ) → Decides (not (some k || some l)) ((k ≡ []) × (l ≡ []))
+none-decides [] [] = (λ e. (refl, refl), λ e. refl)
+none-decides [] (c ∷ cs) = (λ e. absurd (false≢true e), λ e. ap (λ (x : List ℕ). not (some x)) (e .1))
+none-decides (c ∷ cs) l = (λ e. absurd (false≢true e), λ e. absurd (true≢false (ap some (e .0))))
 
 -- not both: not the one, or not the other
 nand-decides : (a b : Bool) (P Q : Type 0) → Decides (not a) P → Decides (not b) Q → Decides (not (a && b)) (P ⊎ Q)
@@ -82,20 +85,24 @@ nand-decides false b P Q c d = (λ e. inl (c .0 refl), λ x. refl)
 pub misemptied-decides : (r : Run) (e : ℕ) → Decides (misemptiedIn r e) ((p : ℕ) × Misempties r e p)
 unfolding misemptiedIn
 misemptied-decides r e =
-    set-decides e (emptiableAt r) (λ p. (r .count ≤ p) ⊎ (¬ (phaseAt r p ≡ Working 0 0)))
+    set-decides e (emptiableAt r) (λ p. (r .count ≤ p) ⊎ (¬ ((u : ℕ) × (phaseAt r p ≡ Working 0 0 u))))
     (λ p.
-    nand-decides (ltb p (r .count)) (released (phaseAt r p)) (r .count ≤ p) (¬ (phaseAt r p ≡ Working 0 0)) (beyond-decides p (r .count))
+    nand-decides (ltb p (r .count)) (released (phaseAt r p)) (r .count ≤ p) (¬ ((u : ℕ) × (phaseAt r p ≡ Working 0 0 u))) (beyond-decides p (r .count))
     (decides-not _ _ (released-decides (phaseAt r p))))
 
 pub misreported-decides : (r : Run) (e x : ℕ) → Decides (misreportedIn r e x) ((p : ℕ) × Misreports r e x p)
 unfolding misreportedIn
 misreported-decides r e x =
-    set-decides x (reportableAt r e) (λ p. (r .count ≤ p) ⊎ ((¬ Works r e p) ⊎ (getD (grantsIn r e) p [] ≡ [])))
+    set-decides x (reportableAt r e) (λ p. (r .count ≤ p) ⊎ ((¬ Works r e p) ⊎ None p))
     (λ p.
-    nand-decides (ltb p (r .count)) (working (seenAt r e p) && hasCores r e p) (r .count ≤ p) ((¬ Works r e p) ⊎ (getD (grantsIn r e) p [] ≡ []))
+    nand-decides (ltb p (r .count)) (working (seenAt r e p) && (hasCores r e p || hasLent r e p)) (r .count ≤ p) ((¬ Works r e p) ⊎ None p)
     (beyond-decides p (r .count))
-    (nand-decides (working (seenAt r e p)) (hasCores r e p) (¬ Works r e p) (getD (grantsIn r e) p [] ≡ [])
-    (decides-not _ _ (works-decides (seenAt r e p))) (none-decides (getD (grantsIn r e) p []))))
+    (nand-decides (working (seenAt r e p)) (hasCores r e p || hasLent r e p) (¬ Works r e p) (None p)
+    (decides-not _ _ (works-decides (seenAt r e p))) (none-decides (getD (grantsIn r e) p []) (borrowedIn r e p))))
+  where
+    -- no cores of its own, and none that are lent
+    None : ℕ → Type 0
+    None p = (getD (grantsIn r e) p [] ≡ []) × (borrowedIn r e p ≡ [])
 
 -- THE FIRST NUMBER
 

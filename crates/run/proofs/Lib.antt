@@ -1,4 +1,6 @@
--- Laws of the run in the cab: its places and limits, when start, row, advance and withdraw are refused, and what is never read.
+-- Laws of the run in the cab: its places and limits, what is lent in a tick, when start, row, advance and withdraw are refused, and what is never read.
+pub mod Loans
+pub mod Lent
 pub mod Places
 pub mod SetTests
 pub mod Limits

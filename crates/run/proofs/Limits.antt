@@ -18,9 +18,10 @@ use Rattle.phase.specs.declared.Task.{Task}
 use Rattle.run.specs.declared.Run.{Run}
 use Rattle.phase.specs.Phase.{PhaseIn, phaseIn}
 use Rattle.phase.specs.Task.{taskOf, pastEnd}
-use Rattle.run.specs.Run.{ruleIn, taskAt, evenAt, phaseAt, emptyAt, hasCores, mapFirst, nextAt, moved, withdrawnIn}
+use Rattle.run.specs.Run.{ruleIn, taskAt, evenAt, phaseAt, emptyAt, hasCores, hasLent, mapFirst, nextAt, moved, withdrawnIn}
 use Rattle.run.specs.Numbers.{wideIn, PlaceOut, RunOut, pastCount, placeOut, runOut, lateAt}
 use Rattle.run.proofs.SetTests.{past-decides, within-or}
+use Rattle.run.proofs.Lent.{lent-lends}
 use Rattle.run.proofs.Places.{mapFirst-at}
 use Rattle.phase.proofs.Phases.{phase-decides, seen-in}
 
@@ -125,8 +126,8 @@ moved-passes f e r h n = record {
   tasks = λ p l. rw (at p l) (h .tasks p l);
   phases = λ p l.
       subst (λ (t : Task). PhaseIn (ruleIn r) (taskOf t) (t .even) (t .phase)) (sym (at p l))
-      (seen-in (ruleIn r) (taskAt r p) (sound-if (wideIn r) (taskAt r p) (h .tasks p l)) (emptyAt r e p) (hasCores r e p) (f p) (evenAt r p)
-      (phaseAt r p) (h .phases p l) (n p l));
+      (seen-in (ruleIn r) (taskAt r p) (sound-if (wideIn r) (taskAt r p) (h .tasks p l)) (emptyAt r e p) (hasCores r e p) (hasLent r e p) (f p)
+      (evenAt r p) (lent-lends r e p) (phaseAt r p) (h .phases p l) (n p l));
 }
   where
     at : (p : ℕ) → p < r .count → getD (mapFirst (nextAt r f e) (r .count) (r .tasks)) p pastEnd ≡ nextAt r f e p (getD (r .tasks) p pastEnd)

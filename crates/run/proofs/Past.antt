@@ -1,35 +1,38 @@
 -- Places past the count are neither read nor changed.
-use mathlib.Core.Path.{_≡_, refl, sym, ap, subst, _∙_}
-use mathlib.Core.Bool.{Bool, not, _&&_, _||_}
-use mathlib.Core.List.{List, map}
+use mathlib.Core.Path.{_≡_, refl, sym, ap, ap₂, subst, _∙_}
+use mathlib.Core.Bool.{Bool, true, false, not, _&&_, _||_, cond}
+use mathlib.Core.List.{List, [], map}
 use Prim.Native.Nat.{ℕ, _<_}
 use native.Mathlib.Omega.{arith}
 use lib.ListN.{getD, take, drop, length-map, length-take}
 use lib.Seq.{getD-take}
 use lib.Dec.{ltb}
-use borrow.Author.Tests.{ltb-true}
+use borrow.Author.Tests.{ltb-false, ltb-true}
 use Rattle.model.proofs.Search.{any-same, least-same}
 use Rattle.model.specs.Search.{bit}
 use Rattle.model.specs.Book.{only}
 use Rattle.model.specs.Fence.{openCount, unfenced}
 use Rattle.model.specs.Task.{ruleOf}
 use Rattle.model.specs.Grants.{Claimant, claimants, grants}
+use Rattle.model.specs.Lending.{lends, lent}
 use Rattle.model.proofs.Bools.{same-and}
 use Rattle.model.proofs.Grants.{claimants-same}
 use Rattle.table.specs.Limits.{taskOut}
+use Rattle.phase.specs.declared.Phase.{Phase}
 use Rattle.phase.specs.declared.Task.{Task}
 use Rattle.run.specs.declared.Run.{Run}
 use Rattle.run.specs.declared.Answer.{Answer}
 use Rattle.run.specs.declared.Answer.the-variants.{Taken, Refused}
-use Rattle.phase.specs.Phase.{claiming, working, phaseIn, lateIn, released, seen}
+use Rattle.phase.specs.Phase.{claiming, holder, working, phaseIn, lateIn, released, seen}
 use Rattle.phase.specs.Task.{taskOf, pastEnd, widthNow}
-use Rattle.run.specs.Run.{phaseAt, seenAt, widthsNow, grantsIn, hasCores, nextAt, moved, withdrawnIn}
+use Rattle.run.specs.Run.{phaseAt, seenAt, widthsNow, grantsIn, hasCores, offerIn, seeksIn, lentIn, hasLent, nextAt, moved, withdrawnIn}
 use Rattle.run.specs.Answer.{byAnswer}
 use Rattle.run.specs.Numbers.{placeOut, runOut, strangerIn, lateAt, firstLateIn, emptiableAt, misemptiedIn, reportableAt, misreportedIn}
 use Rattle.run.specs.Withdraw.{withdrawAnswer, withdrawOf}
 use Rattle.run.specs.Advance.{advanceAnswer, advanceOf}
 use Rattle.run.specs.Row.{rowAnswer, bytesIn, rowOf}
 use Rattle.run.specs.Past.{SameBelow, Unread}
+use Rattle.run.proofs.Lent.{past-offer}
 use Rattle.run.proofs.Places.{drop-mapFirst, take-mapFirst}
 
 -- NOT CHANGED: what stands past the count comes back as given
@@ -91,10 +94,30 @@ module _ (rule cores fence withdrawn count : ℕ) (ts us : List Task) (same : ta
         (claimants-same (widthsNow other) (λ p. claiming (seenAt one e p)) (λ p. claiming (seenAt other e p))
         (λ p l. ap claiming (same-seen p (omega (arith, length-map (take count us) widthNow, length-take count us)))))
 
+    same-seeks : (p : ℕ) → seeksIn one e p ≡ seeksIn other e p
+    unfolding seeksIn
+    same-seeks p =
+        same-and (ltb p count) (ltb p count) (working (seenAt one e p) && not (hasCores one e p)) (working (seenAt other e p) && not (hasCores other e p)) refl
+        (λ l. rw (same-grants, same-seen p (ltb-true p count l)))
+
+    same-offer : (p : ℕ) → offerIn one e p ≡ offerIn other e p
+    unfolding offerIn
+    same-offer p = go (ltb p count) refl
+      where
+        go : (t : Bool) → ltb p count ≡ t → offerIn one e p ≡ offerIn other e p
+        go true l =
+            ap₂ (λ (ph : Phase) (gs : List (List ℕ)). cond (lends (ruleOf rule) && holder ph) (getD gs p []) []) (same-seen p (ltb-true p count l)) same-grants
+        go false l = past-offer one e p (ltb-false p count l) ∙ sym (past-offer other e p (ltb-false p count l))
+
+    same-lent : lentIn one e ≡ lentIn other e
+    unfolding lentIn
+    same-lent = λ i. lent (map widthNow (same i)) (λ p. same-seeks p i) (λ p. same-offer p i) count
+
     same-reportable : (p : ℕ) → reportableAt one e p ≡ reportableAt other e p
     same-reportable p =
-        same-and (ltb p count) (ltb p count) (working (seenAt one e p) && hasCores one e p) (working (seenAt other e p) && hasCores other e p) refl
-        (λ l. rw (same-grants, same-seen p (ltb-true p count l)))
+        same-and (ltb p count) (ltb p count) (working (seenAt one e p) && (hasCores one e p || hasLent one e p))
+        (working (seenAt other e p) && (hasCores other e p || hasLent other e p)) refl
+        (λ l. rw (same-grants, same-lent, same-seen p (ltb-true p count l)))
 
     same-misreported : (x : ℕ) → misreportedIn one e x ≡ misreportedIn other e x
     unfolding misreportedIn
@@ -108,7 +131,7 @@ module _ (rule cores fence withdrawn count : ℕ) (ts us : List Task) (same : ta
 
     same-row : rowOf one e ≡ rowOf other e
     unfolding rowOf rowAnswer bytesIn
-    same-row = rw (same-out, same-late, same-misemptied e, same-grants)
+    same-row = rw (same-out, same-late, same-misemptied e, same-grants, same-lent)
 
     same-moved : (f : ℕ → Bool) → SameBelow (moved f e one) (moved f e other)
     unfolding moved
@@ -118,7 +141,7 @@ module _ (rule cores fence withdrawn count : ℕ) (ts us : List Task) (same : ta
       fence = refl;
       withdrawn = refl;
       count = refl;
-      tasks = take-mapFirst (nextAt one f e) (nextAt other f e) count ts us (λ p t l. rw same-grants) same;
+      tasks = take-mapFirst (nextAt one f e) (nextAt other f e) count ts us (λ p t l. rw (same-grants, same-lent)) same;
     }
 
     unread : (x : ℕ) → Unread one other x e

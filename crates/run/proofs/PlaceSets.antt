@@ -1,19 +1,17 @@
--- Sets of places, bit by bit: one place added, a set that is gathered place after place, and both widths or the tasks beside it.
+-- Both widths of the places, and tasks of the table, stored place after place beside the sets that are gathered.
 use mathlib.Core.Path.{_≡_, refl, sym, ap, subst, _∙_}
-use mathlib.Core.Bool.{Bool, true, false, _||_, _&&_, cond, and-false, and-true}
+use mathlib.Core.Bool.{Bool, true, false, _&&_, cond}
 use mathlib.Core.List.{List}
-use Prim.Native.Nat.{ℕ, _+_, _*_, _^_, _%_, _≤_, _<_}
+use Prim.Native.Nat.{ℕ, _+_, _≤_, _<_}
 use native.Mathlib.Omega.{arith}
 use lib.ListN.{length, getD, take, set, length-map, length-set, length-take, List·getD-map}
 use lib.Seq.{ext-getD, getD-take, getD-set-same, getD-set-other}
-use lib.Bits.{bitOr}
-use lib.Dec.{eqb, ltb}
-use borrow.Author.Tests.{lt-ltb, le-ltb, eqb-true, eqb-false, ltb-true, ltb-false}
-use Rattle.model.proofs.Digits.{or-bit, bit-none, bit-power, shifted-one}
+use lib.Dec.{eqb}
+use borrow.Author.Tests.{lt-ltb, eqb-true, eqb-false}
 use Rattle.model.proofs.Lists.{map-at}
-use Rattle.model.specs.Search.{bit}
 use Rattle.model.specs.Sizes.{mostTasks}
 use Rattle.rule.specs.Widths.{pair, widthIn, widthsIn}
+use Rattle.rule.proofs.Gathered.{Gathered}
 use Rattle.rule.proofs.Widths.{front-is}
 use Rattle.run.specs.declared.Run.{Run}
 use Rattle.model.specs.Task as model
@@ -22,43 +20,6 @@ use Rattle.table.specs.Task as table
 use Rattle.phase.specs.declared.Task as phase
 use Rattle.phase.specs.Task.{taskOf, pastEnd, widthNow}
 use Rattle.run.specs.Run.{placeAt, taskAt, evenAt, tasksIn, widthsNow}
-
--- a place added
-pub with-place : (s q : ℕ) → q < 32 → (p : ℕ) → bit (bitOr s ((1 * 2 ^ q) % 2 ^ 32)) p ≡ bit s p || eqb p q
-with-place s q h p =
-    or-bit s ((1 * 2 ^ q) % 2 ^ 32) p ∙ ap (λ (t : Bool). bit s p || t) (ap (λ (x : ℕ). bit x p) (shifted-one 32 q h) ∙ bit-power q p)
-
--- the set of the places below i that pass the test
-abbrev pub Gathered : (ℕ → Bool) → ℕ → ℕ → Type 0
-Gathered f i x = (p : ℕ) → bit x p ≡ ltb p i && f p
-
-none-below : (p : ℕ) (b : Bool) → false ≡ ltb p 0 && b
-none-below p b = sym (ap (λ (t : Bool). t && b) (le-ltb p 0 (omega arith)))
-
-pub gathered-none : (f : ℕ → Bool) → Gathered f 0 0
-gathered-none f p = bit-none p ∙ none-below p (f p)
-
-or-none : (a b : Bool) → a || (b && false) ≡ a
-or-none true b = refl
-or-none false b = and-false b
-
-one-more : (f : ℕ → Bool) (i p : ℕ) → (ltb p i && f p) || (f i && eqb p i) ≡ ltb p (i + 1) && f p
-one-more f i p = go (eqb p i) refl (ltb p i) refl
-  where
-    go : (s : Bool) → eqb p i ≡ s → (t : Bool) → ltb p i ≡ t → (t && f p) || (f i && s) ≡ ltb p (i + 1) && f p
-    go true e true l = absurd (omega (arith, eqb-true p i e, ltb-true p i l))
-    go true e false l =
-        let q : p ≡ i = eqb-true p i e in
-        and-true (f i) ∙ ap f (sym q) ∙ sym (ap (λ (t : Bool). t && f p) (lt-ltb p (i + 1) (omega arith)))
-    go false e true l = or-none (f p) (f i) ∙ sym (ap (λ (t : Bool). t && f p) (lt-ltb p (i + 1) (omega (arith, ltb-true p i l))))
-    go false e false l =
-        let n : (p ≡ i → ⊥) = eqb-false p i e in
-        let m : i ≤ p = ltb-false p i l in
-        and-false (f i) ∙ sym (ap (λ (t : Bool). t && f p) (le-ltb p (i + 1) (omega arith)))
-
--- place i looked at too
-pub gathered-more : (f : ℕ → Bool) (i x y : ℕ) (b : Bool) → Gathered f i x → b ≡ f i → ((p : ℕ) → bit y p ≡ bit x p || (b && eqb p i)) → Gathered f (i + 1) y
-gathered-more f i x y b g e w p = w p ∙ rw (g p, e) (one-more f i p)
 
 -- ---- both widths, stored place after place: the first at the place, the second at as many places further on as there are
 

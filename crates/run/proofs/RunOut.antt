@@ -76,8 +76,8 @@ room :
     (r : model.Rule) (τ : model.Task) (even : Bool) (ph : Phase) → τ .offset ≤ mostTime → τ .deadline ≤ mostTime → τ .period ≤ mostTime
     → PhaseIn r τ even ph → Roomy ph
 room r τ even (Coming left) o d t h = h .0 .0
-room r τ even (Working z u) o d t h = (omega arith, omega arith)
-room r τ even (Holding z u) o d t h = (omega arith, omega arith)
+room r τ even (Working z had reserved) o d t h = (omega arith, omega arith, omega arith)
+room r τ even (Holding z reserved) o d t h = (omega arith, omega arith)
 room r τ even (Resting z) o d t h = omega arith
 
 module _ (r : Run) (e : runOut r ≡ false) where

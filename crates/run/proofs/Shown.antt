@@ -1,41 +1,36 @@
--- The bytes of a run's row, from the cores that the tick rule gives to the places that claim.
-use mathlib.Core.Path.{_≡_, refl, sym, ap, _∙_}
+-- The bytes of a run's row, from the cores that the places of its tick are given and borrow.
+use mathlib.Core.Path.{_≡_, refl, sym, ap, ap₂, _∙_}
 use mathlib.Core.List.{List, _++_}
 use mathlib.Core.Bool.{Bool, true, false, cond}
 use Prim.Native.Nat.{ℕ, suc, _+_, _-_}
 use native.Mathlib.Omega.{arith}
-use lib.ListN.{length, take, replicate, length-append, length-replicate}
+use lib.ListN.{length, replicate, length-append, length-replicate}
 use lib.Dec.{ltb}
 use Rattle.model.proofs.Rows.{row-length}
-use Rattle.model.specs.Grants.{Claimant, claimants, grants}
+use Rattle.model.specs.Lending.{shownCores}
 use Rattle.model.specs.Row.{row}
-use Rattle.model.specs.Fence.{unfenced}
-use Rattle.model.specs.Search.{bit}
 use Rattle.model.specs.Sizes.{mostCores}
-use Rattle.rule.specs.Widths.{widthsIn}
 use Rattle.run.specs.declared.Run.{Run}
 use Rattle.run.specs.declared.choosing.Claims.{Claims}
-use Rattle.run.specs.Run.{ruleIn, grantsIn}
+use Rattle.run.specs.Run.{ruleIn, shownIn}
 use Rattle.run.specs.declared.Answer.{Answer}
 use Rattle.run.specs.declared.Answer.the-variants.{Taken, Refused}
 use Rattle.run.specs.Answer.{byAnswer}
 use Rattle.run.specs.Numbers.{runOut, firstLateIn, misemptiedIn}
 use Rattle.run.specs.Row.{rowAnswer, bytesIn, noBytes, rowOf}
 use Rattle.run.specs.Claims.{ClaimsOf}
+use Rattle.run.specs.Loans.{rowAmong}
 use Rattle.run.proofs.RunOut.{few-cores}
-use Rattle.run.proofs.Chosen.{same-claimants}
+use Rattle.run.proofs.Chosen.{same-given, same-lent, ws}
 
--- what the rule shows for the places that claim is the run's row
+-- what is shown for the places that claim and work is the run's row
 pub bytes-shown :
-    (r : Run) (e : ℕ) (c : Claims) → ClaimsOf r e c
-    → row (r .fence) (r .cores)
-    (grants (ruleIn r) (claimants (take (r .count) (widthsIn (c .even) (c .widths))) (bit (c .claiming))) (unfenced (r .fence) (r .cores)))
-    ++ replicate (mostCores - r .cores) 0
-    ≡ bytesIn r e
-unfolding grantsIn bytesIn
+    (r : Run) (e : ℕ) (c : Claims) (h : ClaimsOf r e c)
+    → rowAmong (ruleIn r) (ws r e c h) (r .fence) (r .cores) (c .claiming) (c .working) (r .count) ≡ bytesIn r e
+unfolding bytesIn
 bytes-shown r e c h =
-    ap (λ (bs : List Claimant). row (r .fence) (r .cores) (grants (ruleIn r) bs (unfenced (r .fence) (r .cores))) ++ replicate (mostCores - r .cores) 0) (same-claimants r e c h)
-    ∙ ap (λ (n : ℕ). row (r .fence) (r .cores) (grantsIn r e) ++ replicate (mostCores - n) 0) (sym (row-length (r .fence) (r .cores) (grantsIn r e)))
+    ap (λ (gs : List (List ℕ)). row (r .fence) (r .cores) gs ++ replicate (mostCores - r .cores) 0) (ap₂ shownCores (same-given r e c h) (same-lent r e c h))
+    ∙ ap (λ (n : ℕ). row (r .fence) (r .cores) (shownIn r e) ++ replicate (mostCores - n) 0) (sym (row-length (r .fence) (r .cores) (shownIn r e)))
 
 -- a row has 64 bytes, shown or not
 pub shown-length : (r : Run) (e : ℕ) → length (rowOf r e .bytes) ≡ mostCores
@@ -43,13 +38,13 @@ unfolding rowOf rowAnswer bytesIn
 shown-length r e = by-out (runOut r) refl
   where
     bytes : List ℕ
-    bytes = row (r .fence) (r .cores) (grantsIn r e)
+    bytes = row (r .fence) (r .cores) (shownIn r e)
 
     in-order : runOut r ≡ false → length (bytesIn r e) ≡ mostCores
     in-order q =
         length-append bytes (replicate (mostCores - length bytes) 0)
         ∙ (ap (λ (n : ℕ). length bytes + n) (length-replicate {A = ℕ} (mostCores - length bytes) 0)
-        ∙ omega (arith, row-length (r .fence) (r .cores) (grantsIn r e), few-cores r q))
+        ∙ omega (arith, row-length (r .fence) (r .cores) (shownIn r e), few-cores r q))
 
     -- refused with 15 or 20, or shown
     by-rest :

@@ -1,4 +1,4 @@
--- What the run in the cab is: its places, its answers and their numbers, advance, row and start, and what its tasks bring to a tick.
+-- What the run in the cab is: its places, its answers and their numbers, advance, row and start, and what its tasks bring to a tick, are given and borrow.
 pub mod Run
 pub mod Answer
 pub mod Numbers
@@ -8,3 +8,4 @@ pub mod Row
 pub mod Start
 pub mod Past
 pub mod Claims
+pub mod Loans

@@ -1,5 +1,5 @@
 -- Numbers 14, 15, 20 and 16 for what row and advance turn down, and 14, 21 and 22 for what a withdrawal does
--- (scope, 'Numbers for what is turned down', and requests 105 and 106): when each applies, and which is the first.
+-- (scope, 'Numbers for what is turned down', and requests 105, 106 and 109): when each applies, and which is the first.
 use mathlib.Core.Path.{_≡_}
 use mathlib.Core.Bool.{Bool, true, not, _&&_, _||_}
 use mathlib.Core.List.{[]}
@@ -16,7 +16,7 @@ use Rattle.phase.specs.declared.Phase.the-variants.{Working}
 use Rattle.run.specs.declared.Run.{Run}
 use Rattle.phase.specs.Phase.{PhaseIn, working, lateIn, released}
 use Rattle.phase.specs.Task.{outIn}
-use Rattle.run.specs.Run.{ruleIn, placeAt, taskAt, evenAt, phaseAt, tableIn, seenAt, grantsIn, hasCores}
+use Rattle.run.specs.Run.{ruleIn, placeAt, taskAt, evenAt, phaseAt, tableIn, seenAt, grantsIn, hasCores, borrowedIn, hasLent}
 
 -- WHAT EACH NUMBER SAYS
 
@@ -45,19 +45,20 @@ RunOut r =
 
 -- the task at place p is Working at z = D
 abbrev pub Late : Run → ℕ → Type 0
-Late r p = (u : ℕ) × (phaseAt r p ≡ Working (taskAt r p .deadline) u)
+Late r p = (had reserved : ℕ) × (phaseAt r p ≡ Working (taskAt r p .deadline) had reserved)
 
 -- the bit of place p is set in the empties, which is past the count, or whose task is not Working at (0,0)
 abbrev pub Misempties : Run → ℕ → ℕ → Type 0
-Misempties r e p = (bit e p ≡ true) × ((r .count ≤ p) ⊎ (¬ (phaseAt r p ≡ Working 0 0)))
+Misempties r e p = (bit e p ≡ true) × ((r .count ≤ p) ⊎ (¬ ((reserved : ℕ) × (phaseAt r p ≡ Working 0 0 reserved))))
 
 -- the task at place p is Working as cores are chosen: one whose job is empty no longer is
 abbrev pub Works : Run → ℕ → ℕ → Type 0
-Works r e p = (z u : ℕ) × (seenAt r e p ≡ Working z u)
+Works r e p = (z had reserved : ℕ) × (seenAt r e p ≡ Working z had reserved)
 
--- the bit of place p is set in the reports, which is past the count, or its task isn't Working or gets no cores in this tick
+-- the bit of place p is set in the reports, which is past the count, or its task isn't Working, or is neither given cores in this tick nor borrows any
 abbrev pub Misreports : Run → ℕ → ℕ → ℕ → Type 0
-Misreports r e x p = (bit x p ≡ true) × ((r .count ≤ p) ⊎ ((¬ Works r e p) ⊎ (getD (grantsIn r e) p [] ≡ [])))
+Misreports r e x p =
+    (bit x p ≡ true) × ((r .count ≤ p) ⊎ ((¬ Works r e p) ⊎ ((getD (grantsIn r e) p [] ≡ []) × (borrowedIn r e p ≡ []))))
 
 -- number n applies to a row asked of the run with empties e, with position p
 pub data RowApplies (r : Run) (e : ℕ) : ℕ → ℕ → Type 0 where
@@ -73,7 +74,7 @@ pub data RowApplies (r : Run) (e : ℕ) : ℕ → ℕ → Type 0 where
 pub data AdvanceApplies (r : Run) (x e : ℕ) : ℕ → ℕ → Type 0 where
   -- 14, 15 and 20
   as-row : (n p : ℕ) → RowApplies r e n p → AdvanceApplies r x e n p
-  -- 16. Advance: a bit is set for a position past the count, or for a task that isn't Working or gets no cores in this tick.
+  -- 16. Advance: a bit is set for a position past the count, or for a task that isn't Working or gets no cores in this tick, its own or lent ones.
   sixteen : (p : ℕ) → Misreports r e x p → AdvanceApplies r x e 16 0
 
 -- number n applies to a withdrawal from the run, with position p; `stranger` says that it names a position that is none of the run's
@@ -129,9 +130,9 @@ emptiableAt r p = ltb p (r .count) && released (phaseAt r p)
 unfoldable pub misemptiedIn : Run → ℕ → Bool
 misemptiedIn r e = any e (λ p. bit e p && not (emptiableAt r p))
 
--- the task at place p may be reported: it is Working and gets cores in this tick
+-- the task at place p may be reported: it is Working, and is given or borrows cores in this tick
 abbrev pub reportableAt : Run → ℕ → ℕ → Bool
-reportableAt r e p = ltb p (r .count) && (working (seenAt r e p) && hasCores r e p)
+reportableAt r e p = ltb p (r .count) && (working (seenAt r e p) && (hasCores r e p || hasLent r e p))
 
 -- 16: some bit is set that may not be (`misreported-decides`)
 unfoldable pub misreportedIn : Run → ℕ → ℕ → Bool

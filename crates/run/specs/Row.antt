@@ -1,5 +1,5 @@
 -- The row of a run (scope, 'The run in the cab', and request 105): it shows the present tick with a set of empty jobs, held cores with the holder's
--- position, fenced ones with 255.
+-- position, lent ones with the borrower's (request 109), fenced ones with 255.
 use mathlib.Core.Path.{_≡_}
 use mathlib.Core.Logic.{_↔_}
 use mathlib.Core.Bool.{cond}
@@ -15,7 +15,7 @@ use Rattle.run.specs.declared.Run.{Run}
 use Rattle.run.specs.declared.Answer.{Answer}
 use Rattle.run.specs.declared.Answer.the-variants.{Taken, Refused}
 use Rattle.run.specs.declared.Row.{Row}
-use Rattle.run.specs.Run.{grantsIn}
+use Rattle.run.specs.Run.{shownIn}
 use Rattle.run.specs.Answer.{told, byAnswer, in64}
 use Rattle.run.specs.Numbers.{RowApplies, runOut, firstLateIn, misemptiedIn}
 
@@ -28,7 +28,7 @@ rowAnswer r e =
 
 -- the row of the present tick in 64 bytes
 unfoldable pub bytesIn : Run → ℕ → List ℕ
-bytesIn r e = in64 (row (r .fence) (r .cores) (grantsIn r e))
+bytesIn r e = in64 (row (r .fence) (r .cores) (shownIn r e))
 
 -- 64 zeros
 abbrev pub noBytes : List ℕ

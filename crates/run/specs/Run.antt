@@ -1,18 +1,20 @@
 -- A run by its places: 32 of them, of which the first count are used (scope, 'The run in the cab'). Place p is position p + 1.
-use mathlib.Core.Bool.{Bool, _||_}
+use mathlib.Core.Bool.{Bool, _||_, _&&_, not, cond}
 use mathlib.Core.List.{List, [], _∷_, map}
 use Prim.Native.Nat.{ℕ, zero, suc}
 use lib.ListN.{getD, take}
 use lib.Bits.{bitOr}
+use lib.Dec.{ltb}
 use Rattle.model.specs.Task as model
 use Rattle.model.specs.Fence.{unfenced}
 use Rattle.model.specs.Firm.{firm}
 use Rattle.model.specs.Grants.{claimants, grants, some}
+use Rattle.model.specs.Lending.{lends, lent, shownCores}
 use Rattle.model.specs.Search.{bit}
 use Rattle.phase.specs.declared.Phase.{Phase}
 use Rattle.phase.specs.declared.Task.{Task}
 use Rattle.run.specs.declared.Run.{Run}
-use Rattle.phase.specs.Phase.{claiming, seen}
+use Rattle.phase.specs.Phase.{claiming, working, holder, seen}
 use Rattle.phase.specs.Task.{taskOf, pastEnd, widthNow, nextTask}
 
 -- the run's rule
@@ -53,15 +55,41 @@ emptyAt r e p = bit e p || bit (r .withdrawn) p
 abbrev pub seenAt : Run → ℕ → ℕ → Phase
 seenAt r e p = seen (ruleIn r) (emptyAt r e p) (phaseAt r p)
 
--- ONE TICK
+-- THE CORES OF A TICK
 
--- the tasks that work or hold claim; the rule gives the cores of each in the present tick, from those outside the fence
+-- the tasks that work or hold claim; the rule gives the cores of each in the present tick, from those outside the fence; under rule 4 it reserves them
 unfoldable pub grantsIn : Run → ℕ → List (List ℕ)
 grantsIn r e = grants (ruleIn r) (claimants (widthsNow r) (λ p. claiming (seenAt r e p))) (unfenced (r .fence) (r .cores))
 
--- the task at place p gets cores in this tick
+-- the task at place p is given cores in this tick
 abbrev pub hasCores : Run → ℕ → ℕ → Bool
 hasCores r e p = some (getD (grantsIn r e) p [])
+
+-- the cores that place p lends (request 109): under rule 4 those reserved for a holder
+unfoldable pub offerIn : Run → ℕ → ℕ → List ℕ
+offerIn r e p = cond (lends (ruleIn r) && holder (seenAt r e p)) (getD (grantsIn r e) p []) []
+
+-- place p seeks cores: its task is Working, and is given none
+unfoldable pub seeksIn : Run → ℕ → ℕ → Bool
+seeksIn r e p = ltb p (r .count) && (working (seenAt r e p) && not (hasCores r e p))
+
+-- what each place borrows, once every place has lent, by priority; only rule 4 lends (`lent-lends`)
+unfoldable pub lentIn : Run → ℕ → List (List ℕ)
+lentIn r e = lent (widthsNow r) (seeksIn r e) (offerIn r e) (r .count)
+
+-- the cores that place p borrows
+abbrev pub borrowedIn : Run → ℕ → ℕ → List ℕ
+borrowedIn r e p = getD (lentIn r e) p []
+
+-- the task at place p borrows cores in this tick
+abbrev pub hasLent : Run → ℕ → ℕ → Bool
+hasLent r e p = some (borrowedIn r e p)
+
+-- the cores of each place as the row shows them: those that it borrows, or of its own those that nobody does
+abbrev pub shownIn : Run → ℕ → List (List ℕ)
+shownIn r e = shownCores (grantsIn r e) (lentIn r e)
+
+-- ONE TICK
 
 -- f of its place applied to each of the first n tasks
 unfoldable pub mapFirst : (ℕ → Task → Task) → ℕ → List Task → List Task
@@ -71,7 +99,7 @@ mapFirst f (suc n) (t ∷ ts) = f 0 t ∷ mapFirst (λ p. f (suc p)) n ts
 
 -- what a tick makes of the task at place p
 abbrev pub nextAt : Run → (ℕ → Bool) → ℕ → ℕ → Task → Task
-nextAt r reported e p t = nextTask (ruleIn r) (emptyAt r e p) (hasCores r e p) (reported p) t
+nextAt r reported e p t = nextTask (ruleIn r) (emptyAt r e p) (hasCores r e p) (hasLent r e p) (reported p) t
 
 -- the run one tick on, by who is reported and the set of empty jobs: each task below the count moves, the places past it stay, and so does the
 -- withdrawn set

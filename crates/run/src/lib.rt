@@ -11,6 +11,7 @@ mod bounds; // bounds.rt: numbers 14 and 15
 mod choosing; // choosing.rt: who claims in the present tick
 mod moves; // moves.rt: one tick
 mod sets; // sets.rt: sets of places
+mod shares; // shares.rt: who is given cores in a tick, who borrows some, and the row
 mod starts; // starts.rt: the run of a table as it starts
 mod withdrawals; // withdrawals.rt: whether a run is firm, and positions taken out
 
@@ -96,8 +97,8 @@ fn row_refused(number: u32, position: u32) -> Row
 }
 
 impl Run {
-    // The row of the present tick, held cores with the holder's position, where bit p of `empties` says that the job of position p + 1, released in
-    // this very tick, is empty; or 14, 15 with the lowest late position, or 20.
+    // The row of the present tick, held cores with the holder's position and lent ones with the borrower's, where bit p of `empties` says that the job
+    // of position p + 1, released in this very tick, is empty; or 14, 15 with the lowest late position, or 20.
     pub fn row(self, empties: u32) -> Row
         ensures { λ r. ⌜ RowOf self empties r ⌝ }
     {
@@ -112,11 +113,12 @@ impl Run {
         let begun = empties & claims.released;
         if begun == empties {
             let widths = claims.widths;
-            let bytes = rule::show(
+            let bytes = shares::bytes(
                 self.rule,
                 self.cores,
                 self.fence,
                 claims.claiming,
+                claims.working,
                 claims.even,
                 &widths,
                 self.count,
@@ -151,9 +153,17 @@ impl Run {
         let claims = self.claims(empties);
         let widths = claims.widths;
         let free = cores::open_cores(self.cores, self.fence);
-        let granted = rule::choose(self.rule, free, claims.claiming, claims.even, &widths);
+        let shares = shares::chosen(
+            self.rule,
+            free,
+            claims.claiming,
+            claims.working,
+            claims.even,
+            &widths,
+            self.count,
+        );
         let begun = empties & claims.released;
-        let ending = reports & (granted & claims.working);
+        let ending = reports & ((shares.given | shares.lent) & claims.working);
         let answer = in_order(
             late < self.count,
             late as u32 + 1,
@@ -162,7 +172,7 @@ impl Run {
         );
         match answer {
             Answer::Taken => {
-                let next = self.moved(granted, reports, empties);
+                let next = self.moved(shares.given, shares.lent, reports, empties);
                 Advanced {
                     answer: Answer::Taken,
                     run: next,

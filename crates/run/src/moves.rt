@@ -3,15 +3,15 @@ ghost use mathlib.Core.Path.{_≡_};
 ghost use mathlib.Core.Bool.{false};
 ghost use Prim.Native.Nat.{ℕ};
 ghost use Rattle.model.specs.Search.{bit};
-ghost use Rattle.run.specs.Run.{hasCores, moved};
+ghost use Rattle.run.specs.Run.{hasCores, hasLent, moved};
 ghost use Rattle.run.specs.Numbers.{runOut};
 use crate::Run;
 use crate::sets;
 
 impl Run {
-    // The run one tick on; `granted` is the set of places that have cores in this tick.
-    pub(crate) fn moved(self, granted: u32, reports: u32, empties: u32) -> Run
-        requires { ⌜ runOut self ≡ false ⌝ ∗ ⌜ ((p : ℕ) → bit granted p ≡ hasCores self empties p) ⌝ }
+    // The run one tick on; `given` is the set of places that are given cores in this tick, `lent` that of those that borrow some.
+    pub(crate) fn moved(self, given: u32, lent: u32, reports: u32, empties: u32) -> Run
+        requires { ⌜ runOut self ≡ false ⌝ ∗ ⌜ ((p : ℕ) → bit given p ≡ hasCores self empties p) ⌝ ∗ ⌜ ((p : ℕ) → bit lent p ≡ hasLent self empties p) ⌝ }
         ensures { λ r. ⌜ r ≡ moved (bit reports) empties self ⌝ }
     {
         let mut run = self;
@@ -26,7 +26,8 @@ impl Run {
             let next = task.next(
                 rule,
                 empty,
-                sets::has(granted, place),
+                sets::has(given, place),
+                sets::has(lent, place),
                 sets::has(reports, place),
             );
             run.tasks[i] = next;

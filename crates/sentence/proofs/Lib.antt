@@ -14,6 +14,7 @@ pub mod Longest
 pub mod Adding
 pub mod Tallies
 pub mod Waiting
+pub mod Lending
 pub mod Standing
 pub mod Misses
 pub mod Speaking

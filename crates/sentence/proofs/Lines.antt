@@ -1,14 +1,11 @@
--- Sentences of tables computed from the definitions: A2 and F, what counts as waiting and who is named, tasks with two widths, and 17 and 18 from both
--- sides; one list, one check.
+-- Sentences of tables computed from the definitions: A2 and F, what counts as waiting and who is named, rules 3 and 4, tasks with two widths, and 17 and 18
+-- from both sides; one list, one check.
 use mathlib.Core.Path.{_≡_, refl}
 use mathlib.Core.List.{List, [], _∷_, map}
 use Prim.Native.Nat.{ℕ, zero, suc}
 use Prim.Native.String.{String}
-use Rattle.model.specs.Book.{claims, full, served, step, work, bookFrom, enter, afterTaken, answer, late, misemptied, emptied, misreported, reportable}
-use Rattle.model.specs.Grants.{claimants, given, grants, left}
-use Rattle.model.specs.Horizon.{S, horizon, hyperperiod, lcm}
-use Rattle.model.specs.Search.{any, kept, least, memb, upFrom}
-use Rattle.model.specs.Verdict.{missedAt, missedIn, firstMiss}
+use lib.ListN.{drop}
+use Rattle.model.proofs.Computing.{computing}
 use Rattle.model.proofs.LineByLine.{LineByLine, by-line}
 use Rattle.table.specs.Words.{met, count, chain, tableOf}
 use Rattle.table.specs.Answer.{headerNumber, lastStep, endingOf, firstOut, byHorizon, byTasks, byWalk, answerOf}
@@ -91,6 +88,12 @@ lines =
     ∷ misses "a task above ran four ticks, two of them beside the late job"
     (1 ∷ 2 ∷ 1 ∷ 0 ∷ 0 ∷ 2 ∷ 0 ∷ 1 ∷ 4 ∷ 4 ∷ 4 ∷ 1 ∷ 3 ∷ 0 ∷ 1 ∷ 2 ∷ 4 ∷ 4 ∷ 1 ∷ 0 ∷ 0 ∷ 1 ∷ 3 ∷ 4 ∷ 4 ∷ 1 ∷ []) 70
     "task 3 misses at tick 4 with 2 of 3 ticks; task 1 ran 2; task 2 ran 2."
+    ∷ misses "the same under rule 3"
+    (1 ∷ 2 ∷ 3 ∷ 0 ∷ 0 ∷ 2 ∷ 0 ∷ 1 ∷ 4 ∷ 4 ∷ 4 ∷ 1 ∷ 3 ∷ 0 ∷ 1 ∷ 2 ∷ 4 ∷ 4 ∷ 1 ∷ 0 ∷ 0 ∷ 1 ∷ 3 ∷ 4 ∷ 4 ∷ 1 ∷ []) 70
+    "task 3 misses at tick 4 with 2 of 3 ticks; task 1 ran 2; task 2 ran 2."
+    ∷ misses "and under rule 4: at full length nobody lends"
+    (1 ∷ 2 ∷ 4 ∷ 0 ∷ 0 ∷ 2 ∷ 0 ∷ 1 ∷ 4 ∷ 4 ∷ 4 ∷ 1 ∷ 3 ∷ 0 ∷ 1 ∷ 2 ∷ 4 ∷ 4 ∷ 1 ∷ 0 ∷ 0 ∷ 1 ∷ 3 ∷ 4 ∷ 4 ∷ 1 ∷ []) 70
+    "task 3 misses at tick 4 with 2 of 3 ticks; task 1 ran 2; task 2 ran 2."
     ∷ misses "a task above ran in a tick before the late job's release, which does not count"
     (1 ∷ 1 ∷ 1 ∷ 0 ∷ 0 ∷ 2 ∷ 0 ∷ 1 ∷ 2 ∷ 4 ∷ 4 ∷ 1 ∷ 0 ∷ 1 ∷ 1 ∷ 2 ∷ 2 ∷ 4 ∷ 1 ∷ []) 56
     "task 2 misses at tick 3 with 1 of 2 ticks; task 1 ran 1."
@@ -123,10 +126,12 @@ expected l = outcome (l .says) (letters (l .text))
 
 -- line by line
 each-line : LineByLine computed lines (map expected lines)
-unfolding spokenOf byTable byBuffer said head parts namedFrom decimal lastDigits digitCount digitsWithin factsIn missPlace ranWhileWaiting tally firstMiss
-    answerOf byWalk byTasks byHorizon firstOut endingOf lastStep headerNumber tableOf chain count met missedIn missedAt horizon S hyperperiod lcm least any kept
-    memb upFrom given left grants claimants claims served work step full bookFrom enter afterTaken answer late misemptied emptied misreported reportable
-each-line = (refl, (refl, (refl, (refl, (refl, (refl, (refl, (refl, (refl, (refl, (refl, (refl, (refl, (refl, (refl, (refl, (refl, (refl, tt))))))))))))))))))
+unfolding spokenOf byTable byBuffer said head parts namedFrom decimal lastDigits digitCount digitsWithin factsIn missPlace ranWhileWaiting tally
+    answerOf byWalk byTasks byHorizon firstOut endingOf lastStep headerNumber tableOf chain count met computing
+each-line =
+    let past-10 : LineByLine computed (drop 10 lines) (map expected (drop 10 lines)) =
+    (refl, (refl, (refl, (refl, (refl, (refl, (refl, (refl, (refl, (refl, tt)))))))))) in
+    (refl, (refl, (refl, (refl, (refl, (refl, (refl, (refl, (refl, (refl, past-10))))))))))
 
 pub spoken-lines : map computed lines ≡ map expected lines
 spoken-lines = by-line computed lines (map expected lines) each-line

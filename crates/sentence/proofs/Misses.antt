@@ -11,12 +11,12 @@ use lib.ListN.{length, getD, length-map, List·getD-eq-default}
 use borrow.Author.Tests.{leb-true, leb-false, not-true}
 use Rattle.model.specs.Search.{upFrom}
 use Rattle.model.specs.Task.{Table, AllSound, task, release}
-use Rattle.model.specs.Book.{Book, Job, full, step, work, none, served, jobClaims, inRow}
+use Rattle.model.specs.Book.{Book, Job, full, work, served, jobClaims, inRow}
 use Rattle.model.specs.Verdict.{FirstMiss}
 use Rattle.model.proofs.Bools.{and-left, and-right, not-true-false}
 use Rattle.model.proofs.Jobs.{after-release}
 use Rattle.model.proofs.Lists.{up-length, up-at, map-at}
-use Rattle.model.proofs.Runs.{full-tick, good-full}
+use Rattle.model.proofs.Runs.{full-next, full-tick, good-full}
 use Rattle.table.specs.Limits.{mostHorizon}
 use Rattle.text.specs.Decimal.{digitCount, digitsWithin}
 use Rattle.text.proofs.Decimals.{count-most}
@@ -31,9 +31,11 @@ use Rattle.sentence.proofs.Waiting.{missed-here, due-here, released-her
 
 -- a job has had at most as many ticks as it was served in
 had-served : (s : Table) (p k n : ℕ) → full s n .job p k .had ≤ tally n (λ u. served s (full s u) p k)
-unfolding full step work tally
+unfolding full work tally
 had-served s p k zero = omega arith
-had-served s p k (suc n) = go (served s (full s n) p k) (full s n .job p k .ended) (had-served s p k n)
+had-served s p k (suc n) =
+    subst (λ (x : Job). x .had ≤ cond (served s (full s n) p k) (suc before) before) (sym (full-next s n p k))
+    (go (served s (full s n) p k) (full s n .job p k .ended) (had-served s p k n))
   where
     j : Job
     j = full s n .job p k

@@ -1,7 +1,7 @@
 -- The late job of the first miss: which it is, that the book up to it is the full-length run, and the counts of its waiting ticks tick by tick.
 use mathlib.Core.Path.{_≡_, refl, sym, ap, _∙_, subst}
 use mathlib.Core.Bool.{Bool, true, false, not, _&&_, cond}
-use mathlib.Core.List.{List, map, _++_}
+use mathlib.Core.List.{List, [], map, _++_}
 use Prim.Native.Nat.{ℕ, suc, _+_, _-_, _≤_, _<_}
 use native.Mathlib.Nat.{le-trans}
 use native.Mathlib.Omega.{arith}
@@ -11,12 +11,13 @@ use lib.Seq.{getD-take, length-take-le, ext-getD}
 use borrow.Author.Tests.{leb-true, leb-false, le-leb, lt-leb}
 use Rattle.model.specs.Search.{bit, upFrom}
 use Rattle.model.specs.Task.{Table, AllSound, task, release, due}
-use Rattle.model.specs.Book.{Book, full, inRow, Missed}
+use Rattle.model.specs.Book.{Book, full, inRow, Missed, shownOf}
+use Rattle.model.specs.Grants.{some}
 use Rattle.model.specs.Verdict.{FirstMiss}
-use Rattle.model.proofs.FullLength.{full-length}
+use Rattle.model.proofs.FullLength.{empty-full, full-length}
 use Rattle.model.proofs.Jobs.{newest-is}
 use Rattle.model.proofs.Lists.{getD-zeros, up-length, up-at, map-at}
-use Rattle.model.proofs.Runs.{full-tick}
+use Rattle.model.proofs.Runs.{full-shown, full-tick}
 use Rattle.sentence.specs.Facts.{named}
 use Rattle.sentence.specs.Counting.{added, above}
 use Rattle.sentence.specs.Waiting.{tally, bookAt, releaseOf, lateJob, hadBy, waits, ranWhileWaiting}
@@ -58,6 +59,12 @@ module _ (s : Table) (ok : AllSound s) (t p : ℕ) (f : FirstMiss s t (suc p)) w
 
   pub had-full : hadBy s t p ≡ full s t .job p job .had
   had-full = ap (λ (b : Book). b .job p (lateJob s t p) .had) (same-book t (omega arith)) ∙ ap (λ (k : ℕ). full s t .job p k .had) late-job
+
+-- WHO RUNS: at full length nobody lends, so that who is given cores is just who the row shows, under rule 4 too
+pub shown-runs : (s : Table) (u q : ℕ) → some (getD (shownOf s (bookAt s u)) q []) ≡ inRow s (bookAt s u) q
+shown-runs s u q =
+    ap (λ (b : Book). some (getD (shownOf s b) q [])) (empty-full s u)
+    ∙ (ap (λ (gs : List (List ℕ)). some (getD gs q [])) (full-shown s (bookAt s u .tick)) ∙ ap (λ (b : Book). inRow s b q) (sym (empty-full s u)))
 
 -- ITS WAITING TICKS
 

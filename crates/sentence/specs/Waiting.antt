@@ -33,7 +33,7 @@ lateJob s t p = newest (task s p) (releaseOf s t p)
 abbrev pub hadBy : Table → ℕ → ℕ → ℕ
 hadBy s t p = bookAt s t .job p (lateJob s t p) .had
 
--- tick u, before t, is a waiting tick of it: it is released, and not in the row
+-- tick u, before t, is a waiting tick of it: it is released, and not in the row (who is given cores is in it: `shown-runs`)
 abbrev pub waits : Table → ℕ → ℕ → ℕ → Bool
 waits s t p u = leb (releaseOf s t p) u && not (inRow s (bookAt s u) p)
 

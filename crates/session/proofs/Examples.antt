@@ -5,16 +5,13 @@ use mathlib.Core.Path.{_≡_, refl}
 use Prim.Native.Nat.{ℕ}
 use Prim.Native.String.{String}
 use lib.ListN.{drop, replicate}
-use Rattle.model.specs.Firm.{firm, rising}
-use Rattle.model.specs.Grants.{claimants, given, grants, left}
-use Rattle.model.specs.Row.{owner, row}
-use Rattle.model.specs.Search.{any, kept, least, memb, upFrom}
+use Rattle.model.proofs.Computing.{computing}
 use Rattle.model.proofs.LineByLine.{LineByLine, by-line}
 use Rattle.phase.specs.declared.Phase.the-variants.{Working}
 use Rattle.phase.specs.declared.Task.{Task}
 use Rattle.phase.specs.Task.{unused}
 use Rattle.run.specs.declared.Run.{Run}
-use Rattle.run.specs.Run.{grantsIn, mapFirst, moved, withdrawnIn}
+use Rattle.run.specs.Run.{grantsIn, lentIn, mapFirst, moved, offerIn, seeksIn, withdrawnIn}
 use Rattle.run.specs.Numbers.{pastCount, runOut, firstLateIn, misemptiedIn, misreportedIn}
 use Rattle.run.specs.Advance.{advanceAnswer, advanceOf}
 use Rattle.run.specs.Withdraw.{withdrawAnswer, withdrawOf}
@@ -136,7 +133,7 @@ lines-asked = by-line worked lines lines each-line
 
 -- a task of one tick in the release tick of an odd job, by its widths
 abbrev task : ℕ → ℕ → Task
-task v w = record { offset = 0; width = v; length = 1; deadline = 2; period = 2; second = w; even = false; phase = Working 0 0 }
+task v w = record { offset = 0; width = v; length = 1; deadline = 2; period = 2; second = w; even = false; phase = Working 0 0 0 }
 
 -- two of them under greedy: of width 1 on one core; and with widths that fall on two cores, so that the run is not firm
 abbrev pub pair : Run
@@ -148,6 +145,10 @@ falling = record { rule = 1; cores = 2; fence = 0; withdrawn = 0; count = 2; tas
 -- one of them, whose even jobs are wider than its odd ones
 abbrev pub turning : Run
 turning = record { rule = 1; cores = 2; fence = 0; withdrawn = 0; count = 1; tasks = task 1 2 ∷ replicate 31 unused }
+
+-- two of widths 2 and 1 on two cores, under rule 4
+abbrev pub lending : Run
+lending = record { rule = 4; cores = 2; fence = 0; withdrawn = 0; count = 2; tasks = task 2 2 ∷ task 1 1 ∷ replicate 30 unused }
 
 -- no run: what a refused start leaves
 abbrev pub none : Run
@@ -180,6 +181,8 @@ talks =
     ∷ talk none "a 0\nw 1\nr\na 1 2" "refused 14 0\nrefused 14 0\nrefused 14 0\nrefused 14 0\n"
     -- each release turns to the other width, that of an empty job too
     ∷ talk turning "r\na 0\nr\na 0\nr\na 0 1\na 0\nr\na 0\na 0\nr" "row 1 0\ntaken\nrow 0 0\ntaken\nrow 1 1\ntaken\ntaken\nrow 1 0\ntaken\ntaken\nrow 1 1\n"
+    -- under rule 4 an empty job lends its cores: the row shows the borrower, who may be reported; the lender may not
+    ∷ talk lending "r\nr 1\na 2\na 1 1\na 2 1\nr" "row 1 1\nrow 2 1\nrefused 16 0\nrefused 16 0\ntaken\nrow 2 0\n"
     -- after a line that is no operation nothing is said
     ∷ talk pair "r 1 2\nr\n" "not an operation\n"
     ∷ []
@@ -192,9 +195,9 @@ expected t = letters (t .output)
 
 each-talk : LineByLine saying talks (map expected talks)
 unfolding replies linesFrom lastLine said runAfter plain answerLine shownLine operationOf operationBy numbersBehind numbersOf wordsIn isNumber all value lineOf fields decimal
-    lastDigits digitCount digitsWithin any least memb upFrom kept owner row given left grants claimants firm rising advanceOf advanceAnswer withdrawOf withdrawAnswer rowOf
-    rowAnswer bytesIn pastCount runOut firstLateIn misemptiedIn misreportedIn grantsIn mapFirst moved withdrawnIn
-each-talk = (refl, (refl, (refl, (refl, (refl, (refl, (refl, (refl, (refl, (refl, (refl, tt)))))))))))
+    lastDigits digitCount digitsWithin computing advanceOf advanceAnswer withdrawOf withdrawAnswer rowOf rowAnswer bytesIn pastCount runOut firstLateIn misemptiedIn
+    misreportedIn grantsIn lentIn offerIn seeksIn mapFirst moved withdrawnIn
+each-talk = (refl, (refl, (refl, (refl, (refl, (refl, (refl, (refl, (refl, (refl, (refl, (refl, tt))))))))))))
 
 pub talks-said : map (λ t. replies (t .from) (linesFrom nothing [] (letters (t .input)))) talks ≡ map (λ t. letters (t .output)) talks
 talks-said = by-line saying talks (map expected talks) each-talk

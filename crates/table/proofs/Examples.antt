@@ -127,7 +127,8 @@ lines =
     ∷ ruled "rule 1, and the head 0" 1 4
     ∷ ruled "rule 2, and the head 0" 2 4
     ∷ ruled "rule 3, and the head 0" 3 4
-    ∷ ruled "rule 4" 4 3
+    ∷ ruled "rule 4, and the head 0" 4 4
+    ∷ ruled "rule 5" 5 3
     ∷ fits "every number at its least" 1 (t 0 1 1 1 1)
     ∷ fits "64 cores and width 64" 64 (t 0 64 1 1 1)
     ∷ line "every number at its most, above a task of width 0" (header 1 64 1 ++ entry 2 1000000 64 1000000 1000000 1000000 ++ entry 0 0 0 1 1 1) (refusal 7 2)
@@ -169,7 +170,7 @@ lines =
     ∷ wallOf "a width of what the fence leaves, 2 of 5" 5 25 0 2
     ∷ walled "a width above what the fence leaves" 5 25 0 1 3 7
     ∷ line "2 before 19" (fenced 0 65 1 1 0 ++ entry 0 0 1 1 1 1) (refusal 2 0)
-    ∷ line "3 before 19" (fenced 0 1 4 1 0 ++ entry 0 0 1 1 1 1) (refusal 3 0)
+    ∷ line "3 before 19" (fenced 0 1 5 1 0 ++ entry 0 0 1 1 1 1) (refusal 3 0)
     ∷ line "19 before 4" (fenced 0 1 1 1 0 ++ entry 0 0 1 1 1 1) (refusal 19 0)
     ∷ line "19 before 5 and 7" (fenced 2 1 1 1 0 ++ entry 0 0 0 1 1 1) (refusal 19 0)
     ∷ line "the chain 1, 2, 3 of two records" (header 1 1 1 ++ entry 2 0 1 1 1 1 ++ entry 3 0 1 1 1 1) (refusal 5 0)
@@ -253,13 +254,13 @@ bare-last = refl
 computed : LineByLine worked lines lines
 unfolding chained kept loadOf answerOf byWalk byTasks byHorizon firstOut endingOf lastStep headerNumber tableOf chain count met horizon S hyperperiod lcm least any upFrom
 computed =
-    let past-46 : LineByLine worked (drop 46 lines) (drop 46 lines) =
+    let past-47 : LineByLine worked (drop 47 lines) (drop 47 lines) =
     (refl, (refl, (refl, (refl, (refl, (refl, (refl, (refl, (refl, (refl, (refl, (refl, (refl, (refl, (refl, (refl, (refl, (refl, (refl, tt))))))))))))))))))) in
-    let past-27 : LineByLine worked (drop 27 lines) (drop 27 lines) =
-    (refl, (refl, (refl, (refl, (refl, (refl, (refl, (refl, (refl, (refl, (refl, (refl, (refl, (refl, (refl, (refl, (refl, (refl, (refl, past-46))))))))))))))))))) in
-    let past-19 : LineByLine worked (drop 19 lines) (drop 19 lines) =
-    (refl, (refl, (refl, (refl, (refl, (refl, (refl, (refl, past-27)))))))) in
-    (refl, (refl, (refl, (refl, (refl, (refl, (refl, (refl, (refl, (refl, (refl, (refl, (refl, (refl, (refl, (refl, (refl, (refl, (refl, past-19)))))))))))))))))))
+    let past-28 : LineByLine worked (drop 28 lines) (drop 28 lines) =
+    (refl, (refl, (refl, (refl, (refl, (refl, (refl, (refl, (refl, (refl, (refl, (refl, (refl, (refl, (refl, (refl, (refl, (refl, (refl, past-47))))))))))))))))))) in
+    let past-20 : LineByLine worked (drop 20 lines) (drop 20 lines) =
+    (refl, (refl, (refl, (refl, (refl, (refl, (refl, (refl, past-28)))))))) in
+    (refl, (refl, (refl, (refl, (refl, (refl, (refl, (refl, (refl, (refl, (refl, (refl, (refl, (refl, (refl, (refl, (refl, (refl, (refl, (refl, past-20))))))))))))))))))))
 
 -- .. and as one list
 pub examples : map worked lines ≡ lines

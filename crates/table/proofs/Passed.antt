@@ -2,7 +2,7 @@
 use mathlib.Core.Path.{_≡_, refl, subst}
 use mathlib.Core.Bool.{Bool, true, false, cond}
 use mathlib.Core.List.{List}
-use mathlib.Core.Logic.{_⊎_, ⊎-elim}
+use mathlib.Core.Logic.{⊎-elim}
 use Prim.Native.Nat.{ℕ, suc, _-_, _≤_, _<_}
 use native.Mathlib.Omega.{arith}
 use lib.ListN.{length}
@@ -16,7 +16,7 @@ use Rattle.table.specs.Words.{head, cores, rule, fence, met, count, task
 use Rattle.table.specs.Limits.{From, from, FenceOut, mostHorizon}
 use Rattle.table.specs.Numbers.{WordsOut, EndAt, one, two, three, nineteen, four, seven, eight, nine, NoneApplies}
 use Rattle.table.specs.Answer.{headerNumber, pastAt, againAt, lastStep, endingOf}
-use Rattle.table.proofs.Decide.{stable, decides-eq, decides-or}
+use Rattle.table.proofs.Decide.{stable}
 use Rattle.table.proofs.Tests.{from-decides}
 use Rattle.table.proofs.Walk.{last-reached, last-ends, reaches-short, ends-there, five-decides, six-decides}
 use Rattle.table.proofs.HeaderFine.{header-fine, words-few}
@@ -59,12 +59,9 @@ module _ (ws : List ℕ) (none : NoneApplies ws) where
   pub passed-cores : From 1 mostCores (cores ws)
   passed-cores = stable (from 1 mostCores (cores ws)) (From 1 mostCores (cores ws)) (from-decides 1 mostCores (cores ws)) (λ h. none 2 0 (two h))
 
-  -- rule 1, 2 or 3
-  pub passed-rule : (rule ws ≡ 1) ⊎ ((rule ws ≡ 2) ⊎ (rule ws ≡ 3))
-  passed-rule =
-      stable _ ((rule ws ≡ 1) ⊎ ((rule ws ≡ 2) ⊎ (rule ws ≡ 3)))
-      (decides-or _ _ _ _ (decides-eq (rule ws) 1) (decides-or _ _ _ _ (decides-eq (rule ws) 2) (decides-eq (rule ws) 3)))
-      (λ h. none 3 0 (three h))
+  -- rule 1 to 4
+  pub passed-rule : From 1 4 (rule ws)
+  passed-rule = stable (from 1 4 (rule ws)) (From 1 4 (rule ws)) (from-decides 1 4 (rule ws)) (λ h. none 3 0 (three h))
 
   -- the fence names no core past the count, and not all
   pub passed-fence : ¬ FenceOut (cores ws) (fence ws)

@@ -36,7 +36,7 @@ pub cores-decides : (m : ℕ) → Decides (coresOut m) (CoresOut m)
 cores-decides m = out-decides 1 mostCores m
 
 pub rule-decides : (n : ℕ) → Decides (ruleOut n) (RuleOut n)
-rule-decides n = decides-not _ _ (decides-or _ _ _ _ (decides-eq n 1) (decides-or _ _ _ _ (decides-eq n 2) (decides-eq n 3)))
+rule-decides n = out-decides 1 4 n
 
 -- a set whose cores up to m are all there is not below 2^m − 1 ..
 all-there : (m f : ℕ) → ((c : ℕ) → c < m → bit f c ≡ true) → 2 ^ m - 1 ≤ f

@@ -32,13 +32,13 @@ CoresOut m = ¬ From 1 mostCores m
 abbrev pub coresOut : ℕ → Bool
 coresOut m = not (from 1 mostCores m)
 
--- 3: the rule is not 1, 2 or 3
+-- 3: the rule is not 1 to 4
 abbrev pub RuleOut : ℕ → Type 0
-RuleOut n = ¬ ((n ≡ 1) ⊎ ((n ≡ 2) ⊎ (n ≡ 3)))
+RuleOut n = ¬ From 1 4 n
 
 -- .. as a test (`rule-decides`)
 abbrev pub ruleOut : ℕ → Bool
-ruleOut n = not (eqb n 1 || (eqb n 2 || eqb n 3))
+ruleOut n = not (from 1 4 n)
 
 -- 19: the fence names a core past the count m, or all cores
 abbrev pub FenceOut : ℕ → ℕ → Type 0

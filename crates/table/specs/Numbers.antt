@@ -40,7 +40,7 @@ pub data Applies (ws : List ℕ) : ℕ → ℕ → Type 0 where
   one : WordsOut ws → Applies ws 1 0
   -- 2. The core count is not 1 to 64.
   two : CoresOut (cores ws) → Applies ws 2 0
-  -- 3. The rule is not 1, 2 or 3.
+  -- 3. The rule is not 1 to 4.
   three : RuleOut (rule ws) → Applies ws 3 0
   -- 19. The fence names a core past the count, or all cores.
   nineteen : FenceOut (cores ws) (fence ws) → Applies ws 19 0

@@ -22,11 +22,11 @@ pub fn cores_out(cores: u32) -> bool
     !((1 <= cores) & (cores <= MOST_CORES))
 }
 
-// Whether the rule is not 1, 2 or 3 (number 3).
+// Whether the rule is not 1 to 4 (number 3).
 pub fn rule_out(rule: u32) -> bool
     ensures { λ r. ⌜ r ≡ ruleOut rule ⌝ }
 {
-    !((rule == 1) | ((rule == 2) | (rule == 3)))
+    !((1 <= rule) & (rule <= 4))
 }
 
 // The fence of its two words, low word first.

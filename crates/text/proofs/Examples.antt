@@ -4,14 +4,8 @@ use mathlib.Core.Path.{_≡_, refl}
 use Prim.Native.Nat.{ℕ}
 use Prim.Native.String.{String}
 use lib.ListN.{replicate}
-use Rattle.model.specs.Task.{Table, greedy, limited}
-use Rattle.model.specs.Book.{claims, full, served, step, work}
-use Rattle.model.specs.Grants.{claimants, given, grants, left}
-use Rattle.model.specs.Horizon.{S, horizon, hyperperiod, lcm}
-use Rattle.model.specs.Row.{owner, row}
-use Rattle.model.specs.Search.{any, kept, least, memb, upFrom}
-use Rattle.model.specs.Firm.{firm, rising}
-use Rattle.model.specs.Verdict.{firstMiss, missedAt, missedIn, verdict}
+use Rattle.model.specs.Task.{Table, greedy, idling, lending, limited}
+use Rattle.model.proofs.Computing.{computing}
 use Rattle.model.proofs.LineByLine.{LineByLine, by-line}
 use Rattle.model.proofs.Examples.{A, fencedOn, on, t, t₂}
 use Rattle.text.specs.Decimal.{all, value, decimal, lastDigits, digitCount, digitsWithin}
@@ -78,6 +72,8 @@ abbrev pub prints : List Print
 prints =
     record { name = "A, as the scope prints it"; table = A greedy; text = "full 0 5\n0 1 1 3\n1 1 1 3\n2 2 2 3\n3 2 2 3\n4 2 2 0\n" }
     ∷ record { name = "A2: a miss on the horizon"; table = A limited; text = "miss 5 3\n0 1 1 0\n1 1 1 0\n2 2 2 3\n3 2 2 3\n4 2 2 3\n" }
+    ∷ record { name = "A under rule 3"; table = A idling; text = "firm 0 5\n0 1 1 3\n1 1 1 3\n2 2 2 3\n3 2 2 3\n4 2 2 0\n" }
+    ∷ record { name = "A under rule 4, as under rule 3"; table = A lending; text = "firm 0 5\n0 1 1 3\n1 1 1 3\n2 2 2 3\n3 2 2 3\n4 2 2 0\n" }
     ∷ record { name = "F: the rows stop before the miss"; table = on 1 greedy (t 0 1 2 1 2 ∷ []); text = "miss 1 1\n0 1\n" }
     ∷ record { name = "E: an idle core is 0"; table = on 1 limited (t 1 1 1 1 2 ∷ t 0 1 1 2 3 ∷ []); text = "firm 3 6\n0 2\n1 1\n2 0\n3 1\n4 2\n5 1\n6 2\n7 1\n8 0\n" }
     ∷ record {
@@ -100,9 +96,8 @@ abbrev expected : Print → List ℕ
 expected p = letters (p .text)
 
 each-print : LineByLine printing prints (map expected prints)
-unfolding printed firstLine rowLine rowLines lineOf fields decimal lastDigits digitCount digitsWithin verdict firstMiss missedIn missedAt firm rising horizon S
-    hyperperiod lcm least any kept memb upFrom owner row given left grants claimants claims served work step full
-each-print = (refl, (refl, (refl, (refl, (refl, (refl, tt))))))
+unfolding printed firstLine rowLine rowLines lineOf fields decimal lastDigits digitCount digitsWithin computing
+each-print = (refl, (refl, (refl, (refl, (refl, (refl, (refl, (refl, tt))))))))
 
 pub prints-exact : map (λ p. printed (p .table)) prints ≡ map (λ p. letters (p .text)) prints
 prints-exact = by-line printing prints (map expected prints) each-print

@@ -25,7 +25,7 @@ entry-from-then2 c = c .before .before .before .before
 
 -- the state at the head of the loop
 abbrev loop : tie.After-is-stand Inv-loop μ-loop → tie.At-loop Inv-loop μ-loop
-loop c = c .before .before .before .before .before
+loop c = c .before .before .before .before .before .before
 
 returns : tie.Need-returns Inv-loop μ-loop
 returns c = sym (held-short (c .before .before .args .words .now) (c .if1 .taken))
@@ -77,6 +77,15 @@ mul-is-stand-3 c = omega arith
 
 shared-slice-read-is-stand-3 : tie.Need-shared-slice-read-is-stand-3 Inv-loop μ-loop
 shared-slice-read-is-stand-3 c = omega arith
+
+add-is-stand-4 : tie.Need-add-is-stand-4 Inv-loop μ-loop
+add-is-stand-4 c = omega arith
+
+mul-is-stand-4 : tie.Need-mul-is-stand-4 Inv-loop μ-loop
+mul-is-stand-4 c = omega arith
+
+shared-slice-read-is-stand-4 : tie.Need-shared-slice-read-is-stand-4 Inv-loop μ-loop
+shared-slice-read-is-stand-4 c = omega arith
 
 is-stand-requires : tie.Need-is-stand-requires Inv-loop μ-loop
 is-stand-requires c κs = search needs
@@ -144,6 +153,9 @@ holds-spec =
     add-is-stand-3
     mul-is-stand-3
     shared-slice-read-is-stand-3
+    add-is-stand-4
+    mul-is-stand-4
+    shared-slice-read-is-stand-4
     is-stand-requires
     add-i
     loop-less

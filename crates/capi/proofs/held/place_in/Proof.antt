@@ -8,11 +8,11 @@ use Rattle.capi.proofs.held.place_in.Statement.{statement}
 use Rattle.capi.proofs.held.place_in.Tie as tie
 
 -- the state after `phase-of`
-abbrev phase-of-from-shared-slice-known8 : tie.After-shared-slice-known8 → tie.After-phase-of
-phase-of-from-shared-slice-known8 c = c .before .before .before .before
+abbrev phase-of-from-shared-slice-known9 : tie.After-shared-slice-known9 → tie.After-phase-of
+phase-of-from-shared-slice-known9 c = c .before .before .before .before
 
-abbrev phase-of-from-shared-slice-known11 : tie.After-shared-slice-known11 → tie.After-phase-of
-phase-of-from-shared-slice-known11 c = phase-of-from-shared-slice-known8 (c .before .before .before)
+abbrev phase-of-from-shared-slice-known12 : tie.After-shared-slice-known12 → tie.After-phase-of
+phase-of-from-shared-slice-known12 c = phase-of-from-shared-slice-known9 (c .before .before .before)
 
 add-phase-of : tie.Need-add-phase-of
 add-phase-of c = omega arith
@@ -41,11 +41,29 @@ mul-phase-of-3 c = omega arith
 shared-slice-read-phase-of-3 : tie.Need-shared-slice-read-phase-of-3
 shared-slice-read-phase-of-3 c = omega arith
 
+add-phase-of-4 : tie.Need-add-phase-of-4
+add-phase-of-4 c = omega arith
+
+mul-phase-of-4 : tie.Need-mul-phase-of-4
+mul-phase-of-4 c = omega arith
+
+shared-slice-read-phase-of-4 : tie.Need-shared-slice-read-phase-of-4
+shared-slice-read-phase-of-4 c = omega arith
+
 phase-of-requires : tie.Need-phase-of-requires
 phase-of-requires c κs = search needs
 
 mul-t4 : tie.Need-mul-t4
 mul-t4 c = omega arith
+
+shared-slice-read-t19 : tie.Need-shared-slice-read-t19
+shared-slice-read-t19 c = omega arith
+
+add-t17 : tie.Need-add-t17
+add-t17 c = omega arith
+
+mul-t16 : tie.Need-mul-t16
+mul-t16 c = omega arith
 
 shared-slice-read-t15 : tie.Need-shared-slice-read-t15
 shared-slice-read-t15 c = omega arith
@@ -71,41 +89,32 @@ shared-slice-read-t7 c = omega arith
 add-t5 : tie.Need-add-t5
 add-t5 c = omega arith
 
-mul-t19 : tie.Need-mul-t19
-mul-t19 c = omega arith
+mul-t24 : tie.Need-mul-t24
+mul-t24 c = omega arith
 
-shared-slice-read-t21 : tie.Need-shared-slice-read-t21
-shared-slice-read-t21 c = omega arith
+shared-slice-read-t26 : tie.Need-shared-slice-read-t26
+shared-slice-read-t26 c = omega arith
 
-add-t22 : tie.Need-add-t22
-add-t22 c = omega arith
+add-t27 : tie.Need-add-t27
+add-t27 c = omega arith
 
-mul-t23 : tie.Need-mul-t23
-mul-t23 c = omega arith
+mul-t28 : tie.Need-mul-t28
+mul-t28 c = omega arith
 
-shared-slice-read-t25 : tie.Need-shared-slice-read-t25
-shared-slice-read-t25 c = omega arith
+shared-slice-read-t30 : tie.Need-shared-slice-read-t30
+shared-slice-read-t30 c = omega arith
 
-add-t26 : tie.Need-add-t26
-add-t26 c = omega arith
+add-t31 : tie.Need-add-t31
+add-t31 c = omega arith
 
-mul-t27 : tie.Need-mul-t27
-mul-t27 c = omega arith
+mul-t32 : tie.Need-mul-t32
+mul-t32 c = omega arith
 
-shared-slice-read-t29 : tie.Need-shared-slice-read-t29
-shared-slice-read-t29 c = omega arith
-
-add-t30 : tie.Need-add-t30
-add-t30 c = omega arith
-
-mul-t31 : tie.Need-mul-t31
-mul-t31 c = omega arith
-
-shared-slice-read-t33 : tie.Need-shared-slice-read-t33
-shared-slice-read-t33 c = omega arith
+shared-slice-read-t34 : tie.Need-shared-slice-read-t34
+shared-slice-read-t34 c = omega arith
 
 returns : tie.Need-returns
-returns c = simp (phase-of-from-shared-slice-known11 c .phase-of .ensures, getD-drop, add-zero)
+returns c = simp (phase-of-from-shared-slice-known12 c .phase-of .ensures, getD-drop, add-zero)
 
 pub place-in-spec : {M : Type 1} → statement M
 place-in-spec =
@@ -120,8 +129,14 @@ place-in-spec =
     add-phase-of-3
     mul-phase-of-3
     shared-slice-read-phase-of-3
+    add-phase-of-4
+    mul-phase-of-4
+    shared-slice-read-phase-of-4
     phase-of-requires
     mul-t4
+    shared-slice-read-t19
+    add-t17
+    mul-t16
     shared-slice-read-t15
     add-t13
     mul-t12
@@ -130,15 +145,12 @@ place-in-spec =
     mul-t8
     shared-slice-read-t7
     add-t5
-    mul-t19
-    shared-slice-read-t21
-    add-t22
-    mul-t23
-    shared-slice-read-t25
-    add-t26
-    mul-t27
-    shared-slice-read-t29
-    add-t30
-    mul-t31
-    shared-slice-read-t33
+    mul-t24
+    shared-slice-read-t26
+    add-t27
+    mul-t28
+    shared-slice-read-t30
+    add-t31
+    mul-t32
+    shared-slice-read-t34
     returns)

@@ -38,6 +38,9 @@ slice-write-words-9 c = simp length-set (omega arith)
 slice-write-words-10 : tie.Need-slice-write-words-10
 slice-write-words-10 c = simp length-set (omega arith)
 
+slice-write-words-11 : tie.Need-slice-write-words-11
+slice-write-words-11 c = simp length-set (omega arith)
+
 same-length : tie.Need-same-length
 same-length c = search needs
 
@@ -60,5 +63,6 @@ put-place-spec =
     slice-write-words-8
     slice-write-words-9
     slice-write-words-10
+    slice-write-words-11
     same-length
     returns)

@@ -12,7 +12,7 @@ use Rattle.run.specs.declared.Run.{Run}
 use Rattle.phase.specs.declared.Task.{Task}
 use Rattle.phase.specs.Task.{pastEnd}
 use Rattle.run.proofs.Written.{take-more}
-use Rattle.capi.specs.declared.told.Told.{Told}
+use Rattle.capi.specs.declared.held.PhaseWords.{PhaseWords}
 use Rattle.capi.specs.Encoding.{eachWords, places, wordsTo, runWords, ofPhase, parityWord, placeWith, placeWords}
 use Rattle.capi.specs.Encoding.{countWord, lowWord, highWord, placesWords, encodeTo, overwritten}
 use Rattle.capi.proofs.Places.{words-more}
@@ -33,9 +33,9 @@ one-more r i h =
 
 -- a place's words, by those of its parity and its phase
 whole :
-    (t : Task) {n : ℕ} {ph : Told} {behind ys : List ℕ} → ys ≡ placeWith t n ph ++ behind → n ≡ parityWord (t .even) → ph ≡ ofPhase (t .phase)
+    (t : Task) {n : ℕ} {ph : PhaseWords} {behind ys : List ℕ} → ys ≡ placeWith t n ph ++ behind → n ≡ parityWord (t .even) → ph ≡ ofPhase (t .phase)
     → ys ≡ placeWords t ++ behind
-whole t {behind = behind} e p q = e ∙ ap₂ (λ (n : ℕ) (ph : Told). placeWith t n ph ++ behind) p q
+whole t {behind = behind} e p q = e ∙ ap₂ (λ (n : ℕ) (ph : PhaseWords). placeWith t n ph ++ behind) p q
 
 -- one place more, in a buffer that stays as long as it was
 next-place :

@@ -1,7 +1,7 @@
 -- `phase::Task::phase_in` meets its contract: each arm is the row of tests of its phase.
 -- Assumes nothing.
 use borrow.Author.Needs.{needs}
-use Rattle.phase.proofs.Phases.{idles-rule}
+use Rattle.phase.proofs.Rules.{lends-rule}
 use Rattle.phase.proofs.Task.phase_in.Statement.{statement}
 use Rattle.phase.proofs.Task.phase_in.Tie as tie
 
@@ -11,7 +11,7 @@ phase2 c = c .before .before .before
 
 -- the state after `phase3`
 abbrev phase3 : tie.After-struct-known6 → tie.After-phase3
-phase3 c = c .before .before .before
+phase3 c = c .before .before .before .before
 
 enum-known-phase : tie.Need-enum-known-phase
 enum-known-phase c = search needs
@@ -22,6 +22,9 @@ enum-known-phase-2 c = search needs
 enum-known-phase-3 : tie.Need-enum-known-phase-3
 enum-known-phase-3 c = search needs
 
+idles-requires : tie.Need-idles-requires
+idles-requires c κs = search needs
+
 enum-known-phase-4 : tie.Need-enum-known-phase-4
 enum-known-phase-4 c = search needs
 
@@ -29,10 +32,10 @@ returns : tie.Need-returns
 returns c = simp (c .before .before .before .phase .given .1)
 
 returns-2 : tie.Need-returns-2
-returns-2 c = simp (phase2 c .phase2 .given .1)
+returns-2 c = simp (phase2 c .phase2 .given .1, lends-rule)
 
 returns-3 : tie.Need-returns-3
-returns-3 c = simp (phase3 c .phase3 .given .1, idles-rule)
+returns-3 c = simp (phase3 c .phase3 .given .1, c .before .before .idles .ensures)
 
 returns-4 : tie.Need-returns-4
 returns-4 c = simp (c .before .before .phase4 .given .1)
@@ -44,6 +47,7 @@ phase-in-spec =
     enum-known-phase
     enum-known-phase-2
     enum-known-phase-3
+    idles-requires
     enum-known-phase-4
     returns
     returns-2

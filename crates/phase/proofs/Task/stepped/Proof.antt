@@ -1,10 +1,30 @@
 -- `phase::Task::stepped` meets its contract: each arm is the clause of its phase; the sums fit, since the phase leaves room.
 -- Assumes nothing.
+use mathlib.Core.Path.{_≡_, refl}
+use mathlib.Core.Bool.{Bool, true, false, _||_, cond, false≢true, true≢false}
+use Prim.Native.Nat.{ℕ, _+_}
 use native.Mathlib.Omega.{arith}
 use borrow.Author.Tests.{eq-eqb, ne-eqb}
 use borrow.Author.Needs.{needs}
+use Rattle.model.specs.Task.{Rule, Task, ruleOf}
+use Rattle.phase.specs.declared.Phase.the-variants.{Working}
+use Rattle.phase.specs.declared.Stand.{Stand}
+use Rattle.phase.specs.Phase.{nextStand, worked}
+use Rattle.phase.specs.Task.{taskOf}
 use Rattle.phase.proofs.Task.stepped.Statement.{statement}
 use Rattle.phase.proofs.Task.stepped.Tie as tie
+
+-- a tick of work, own or lent, and one without
+busy : (r : Rule) (τ : Task) (given lent f even : Bool) (z h u : ℕ) → given || lent ≡ true
+    → worked r τ f even (z + 1) (h + 1) (cond given (u + 1) u) ≡ nextStand r τ given lent f even (Working z h u)
+busy r τ true lent f even z h u e = refl
+busy r τ false true f even z h u e = refl
+busy r τ false false f even z h u e = absurd (false≢true e)
+
+idle : (given lent : Bool) → given || lent ≡ false → (own borrowed other : Stand) → cond given own (cond lent borrowed other) ≡ other
+idle true lent e own borrowed other = absurd (true≢false e)
+idle false true e own borrowed other = absurd (true≢false e)
+idle false false e own borrowed other = refl
 
 -- the state at the call, from each arm
 abbrev coming : tie.After-known-told → tie.Start
@@ -20,14 +40,11 @@ abbrev resting : tie.After-known-told4 → tie.Start
 resting c = c .before .before .before
 
 -- the state in which the phase is known, from the calls of two arms
-abbrev worked : tie.After-worked → tie.After-seen2
-worked c = c .before .before .before
+abbrev served : tie.After-worked → tie.After-known-told2
+served c = c .before .before .before
 
-abbrev held : tie.After-held → tie.After-seen3
-held c = c .before .before .before
-
-abbrev held-on : tie.After-held2 → tie.After-seen3
-held-on c = c .before .before .before
+abbrev held : tie.After-held → tie.After-known-told3
+held c = c .before .before
 
 enum-known-seen : tie.Need-enum-known-seen
 enum-known-seen c = search needs
@@ -44,29 +61,26 @@ add-worked c = let h = rw (c .before .before .seen2 .given .1) at (working (c .b
 add-worked-2 : tie.Need-add-worked-2
 add-worked-2 c = let h = rw (c .before .before .seen2 .given .1) at (working (c .before) .pre) in omega arith
 
+counted-requires : tie.Need-counted-requires
+counted-requires c κs = let h = rw (c .before .before .seen2 .given .1) at (working (c .before) .pre) in h .2
+
 worked-requires : tie.Need-worked-requires
 worked-requires c κs = search needs
 
-add-t22 : tie.Need-add-t22
-add-t22 c = let h = rw (c .before .before .seen2 .given .1) at (working (c .before) .pre) in omega arith
+add-waited : tie.Need-add-waited
+add-waited c = let h = rw (c .before .before .seen2 .given .1) at (working (c .before) .pre) in omega arith
 
 enum-known-seen-3 : tie.Need-enum-known-seen-3
 enum-known-seen-3 c = search needs
 
 add-held : tie.Need-add-held
-add-held c = let h = rw (c .before .before .seen3 .given .1) at (holding (c .before) .pre) in omega arith
+add-held c = let h = rw (c .before .seen3 .given .1) at (holding c .pre) in omega arith
 
-add-held-2 : tie.Need-add-held-2
-add-held-2 c = let h = rw (c .before .before .seen3 .given .1) at (holding (c .before) .pre) in omega arith
+counted-requires-2 : tie.Need-counted-requires-2
+counted-requires-2 c κs = let h = rw (c .before .seen3 .given .1) at (holding c .pre) in h .1
 
 held-requires : tie.Need-held-requires
 held-requires c κs = search needs
-
-add-held-3 : tie.Need-add-held-3
-add-held-3 c = let h = rw (c .before .before .seen3 .given .1) at (holding (c .before) .pre) in omega arith
-
-held-requires-2 : tie.Need-held-requires-2
-held-requires-2 c κs = search needs
 
 enum-known-seen-4 : tie.Need-enum-known-seen-4
 enum-known-seen-4 c = search needs
@@ -84,19 +98,22 @@ returns-2 : tie.Need-returns-2
 returns-2 c = simp (c .before .before .seen .given .1, ne-eqb _ _ (c .if1 .left))
 
 returns-3 : tie.Need-returns-3
-returns-3 c = simp (worked c .seen2 .given .1, c .before .if2 .taken, c .worked .ensures)
+returns-3 c =
+    let s = served c in
+    let a = working s .args in
+    simp (s .before .seen2 .given .1, c .worked .ensures, c .before .counted .ensures)
+    (busy (ruleOf (a .rule)) (taskOf (a .self)) (a .given) (a .lent) (a .reported) (a .self .even) _ _ _ (c .before .before .if2 .taken))
 
 returns-4 : tie.Need-returns-4
-returns-4 c = simp (c .before .before .seen2 .given .1, c .if2 .left)
+returns-4 c =
+    let a = working (c .before) .args in
+    simp (c .before .before .seen2 .given .1, idle (a .given) (a .lent) (c .if2 .left))
 
 returns-5 : tie.Need-returns-5
-returns-5 c = simp (held c .seen3 .given .1, c .before .if3 .taken, c .held .ensures)
+returns-5 c = simp (held c .before .seen3 .given .1, c .held .ensures, c .before .counted2 .ensures)
 
 returns-6 : tie.Need-returns-6
-returns-6 c = simp (held-on c .seen3 .given .1, c .before .if3 .left, c .held2 .ensures)
-
-returns-7 : tie.Need-returns-7
-returns-7 c = simp (c .before .before .seen4 .given .1, c .rested .ensures)
+returns-6 c = simp (c .before .before .seen4 .given .1, c .rested .ensures)
 
 pub stepped-spec : {M : Type 1} → statement M
 stepped-spec =
@@ -107,14 +124,13 @@ stepped-spec =
     enum-known-seen-2
     add-worked
     add-worked-2
+    counted-requires
     worked-requires
-    add-t22
+    add-waited
     enum-known-seen-3
     add-held
-    add-held-2
+    counted-requires-2
     held-requires
-    add-held-3
-    held-requires-2
     enum-known-seen-4
     add-rested
     rested-requires
@@ -123,5 +139,4 @@ stepped-spec =
     returns-3
     returns-4
     returns-5
-    returns-6
-    returns-7)
+    returns-6)

@@ -1,27 +1,27 @@
 -- `run::Run::advance` meets its contract: past 14 the answer of `in_order` is the definition's, since each set is within the set of what it may name
 -- exactly if no bit is set that may not be (`may-begin`, `may-report`); and the run goes with the answer.
 -- Assumes nothing.
-use mathlib.Core.Path.{_≡_, sym, ap, _∙_}
+use mathlib.Core.Path.{_≡_, sym, ap, subst, _∙_}
 use mathlib.Core.Bool.{Bool, false, not, cond}
+use mathlib.Core.List.{List}
 use Prim.Native.Nat.{ℕ, _≤_, _+_}
 use native.Mathlib.Omega.{arith}
-use lib.Bits.{bitAnd}
+use lib.Bits.{bitAnd, bitOr}
 use lib.Dec.{eqb, ltb}
 use borrow.Author.Needs.{needs}
-use Rattle.model.specs.Search.{bit}
-use Rattle.model.specs.Grants.{claimants}
+use Rattle.model.specs.Fence.{unfenced}
 use Rattle.model.specs.Sizes.{mostTasks}
-use Rattle.rule.specs.Widths.{widthsIn}
-use Rattle.rule.proofs.Sets.{granted-open}
+use Rattle.cores.proofs.Open.{open-of}
 use Rattle.run.specs.declared.Run.{Run}
 use Rattle.run.specs.declared.Advanced.{Advanced}
 use Rattle.run.specs.declared.Answer.the-variants.{Taken, Refused}
-use Rattle.run.specs.Run.{ruleIn, hasCores}
+use Rattle.run.specs.Run.{ruleIn}
 use Rattle.run.specs.Numbers.{runOut, misemptiedIn, misreportedIn}
 use Rattle.run.specs.Advance.{advanceAnswer}
+use Rattle.run.specs.Loans.{SharesOf}
 use Rattle.run.proofs.Exact.{advance-of}
 use Rattle.run.proofs.RunOut.{few, few-cores, late-most}
-use Rattle.run.proofs.Chosen.{has-cores, may-begin, may-report}
+use Rattle.run.proofs.Chosen.{claims-below, has-cores, has-lent, may-begin, may-report, ws}
 use Rattle.run.proofs.Cases.{advance-out, advance-answer, advance-taken, advance-refused}
 use Rattle.run.proofs.Run.advance.Statement.{statement}
 use Rattle.run.proofs.Run.advance.Tie as tie
@@ -31,12 +31,12 @@ abbrev entry : tie.After-first-late → tie.Start
 entry c = c .before .before .before
 
 -- the state after the claims are gathered
-abbrev gathered : tie.After-choose → tie.After-claims
+abbrev gathered : tie.After-chosen → tie.After-claims
 gathered c = c .before .before .before .before
 
 -- the state after the cores are chosen
-abbrev chosen-in : tie.After-struct-known3 → tie.After-choose
-chosen-in c = c .before .before .before
+abbrev chosen-in : tie.After-struct-known4 → tie.After-chosen
+chosen-in c = c .before .before .before .before
 
 -- the state after the numbers are looked at, where the advance is taken and where it is refused
 abbrev answered : tie.After-moved → tie.After-in-order
@@ -46,7 +46,7 @@ abbrev answered-no : tie.After-refused2 → tie.After-in-order
 answered-no c = c .before .before .before .before
 
 -- the arguments
-abbrev start : tie.After-choose → tie.Start
+abbrev start : tie.After-chosen → tie.Start
 start c = entry (gathered c .before)
 
 -- past the first test the run passes 14
@@ -59,39 +59,43 @@ late-few c =
     let r = entry c .args .self in
     omega (arith, c .first-late .ensures, late-most r, few r (passes (c .before)))
 
--- the set that the choosing gives
-chosen : (c : tie.After-choose) → (p : ℕ) → bit (c .choose .result) p ≡ hasCores (start c .args .self) (start c .args .empties) p
-chosen c p =
+-- what the tasks are given and borrow of these cores
+abbrev SharedOf : tie.After-chosen → List ℕ → Type 0
+SharedOf c F =
     let w = gathered c in
-    let a = entry (w .before) .args in
-    let r = a .self in
-    c .choose .ensures p
-    ∙ granted-open (ruleIn r) (claimants (widthsIn (w .claims .result .even) (w .claims .result .widths)) (bit (w .claims .result .claiming))) _
-    (r .fence) (r .cores) (few-cores r (passes (w .before .before))) (c .before .before .open-cores .ensures) p
-    ∙ has-cores r (a .empties) (w .claims .result) (w .claims .ensures) p
+    let a = start c .args in
+    let g = w .claims .result in
+    SharesOf (ruleIn (a .self)) (ws (a .self) (a .empties) g (w .claims .ensures)) (g .claiming) (g .working) F (a .self .count) (c .chosen .result)
+
+-- they are the cores outside the fence
+shared : (c : tie.After-chosen) → (let r = start c .args .self in SharedOf c (unfenced (r .fence) (r .cores)))
+shared c =
+    let f = c .before .before .open-cores in
+    let r = start c .args .self in
+    subst (SharedOf c) (open-of (f .result) (r .fence) (r .cores) (few-cores r (passes (gathered c .before .before))) (f .ensures)) (c .chosen .ensures)
 
 -- 20 and 16 are looked at by one test of sets each
-abbrev begun : tie.After-choose → Bool
+abbrev begun : tie.After-chosen → Bool
 begun c =
     let e = start c .args .empties in
     eqb (bitAnd e (gathered c .claims .result .released)) e
 
-abbrev inside : tie.After-choose → Bool
+abbrev inside : tie.After-chosen → Bool
 inside c =
     let x = start c .args .reports in
-    eqb (bitAnd x (bitAnd (c .choose .result) (gathered c .claims .result .working))) x
+    eqb (bitAnd x (bitAnd (bitOr (c .chosen .result .given) (c .chosen .result .lent)) (gathered c .claims .result .working))) x
 
-begins : (c : tie.After-choose) → misemptiedIn (start c .args .self) (start c .args .empties) ≡ not (begun c)
+begins : (c : tie.After-chosen) → misemptiedIn (start c .args .self) (start c .args .empties) ≡ not (begun c)
 begins c =
     let w = gathered c in
     let s = entry (w .before) in
     may-begin (s .args .self) (s .args .empties) (w .claims .result) (w .claims .ensures) mostTasks (s .fits .empties .fits)
 
-within : (c : tie.After-choose) → misreportedIn (start c .args .self) (start c .args .empties) (start c .args .reports) ≡ not (inside c)
+within : (c : tie.After-chosen) → misreportedIn (start c .args .self) (start c .args .empties) (start c .args .reports) ≡ not (inside c)
 within c =
     let w = gathered c in
     let s = entry (w .before) in
-    may-report (s .args .self) (s .args .empties) (w .claims .result) (w .claims .ensures) (c .choose .result) (chosen c)
+    may-report (s .args .self) (s .args .empties) (w .claims .result) (w .claims .ensures) (c .chosen .result) (shared c)
     (s .args .reports) mostTasks (s .fits .reports .fits)
 
 -- the answer is the definition's
@@ -132,8 +136,11 @@ claims-requires c κs = few (entry c .args .self) (passes (c .before))
 open-cores-requires : tie.Need-open-cores-requires
 open-cores-requires c κs = search needs
 
-choose-requires : tie.Need-choose-requires
-choose-requires c κs = search needs
+chosen-requires : tie.Need-chosen-requires
+chosen-requires c κs =
+    let w = c .before .before .before in
+    let a = entry (w .before) .args in
+    (few (a .self) (passes (w .before .before)), claims-below (a .self) (a .empties) (w .claims .result) (w .claims .ensures))
 
 cast-in-order : tie.Need-cast-in-order
 cast-in-order c = omega (arith, late-few (gathered (chosen-in c) .before))
@@ -150,7 +157,14 @@ enum-told c = search needs
 moved-requires : tie.Need-moved-requires
 moved-requires c κs =
     let h = chosen-in (c .before .before .before) in
-    (passes (gathered h .before .before), chosen h)
+    let w = gathered h in
+    let a = start h .args in (
+      passes (w .before .before),
+      (
+        has-cores (a .self) (a .empties) (w .claims .result) (w .claims .ensures) (h .chosen .result) (shared h),
+        has-lent (a .self) (a .empties) (w .claims .result) (w .claims .ensures) (h .chosen .result) (shared h),
+      ),
+    )
 
 enum-known-answer : tie.Need-enum-known-answer
 enum-known-answer c = search needs
@@ -182,7 +196,7 @@ advance-spec =
     first-late-requires
     claims-requires
     open-cores-requires
-    choose-requires
+    chosen-requires
     cast-in-order
     add-in-order
     in-order-requires

@@ -13,8 +13,9 @@ use Rattle.model.proofs.Digits.{or-bit}
 use Rattle.model.specs.Sizes.{mostTasks}
 use Rattle.phase.specs.Phase.{claiming, working, released, seen}
 use Rattle.rule.specs.Widths.{pair}
+use Rattle.rule.proofs.Gathered.{gathered-none, gathered-more}
 use Rattle.run.specs.Run.{ruleIn, placeAt, evenAt, phaseAt, seenAt}
-use Rattle.run.proofs.PlaceSets.{gathered-none, gathered-more, Stored, stored-more, widths-stored}
+use Rattle.run.proofs.PlaceSets.{Stored, stored-more, widths-stored}
 use Rattle.run.proofs.Run.claims.Statement.{statement}
 use Rattle.run.proofs.Run.claims.Tie as tie
 

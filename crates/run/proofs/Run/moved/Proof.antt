@@ -31,14 +31,14 @@ movedTo reported e r n = record {
 }
 
 abbrev Inv-loop : tie.InvT-loop
-Inv-loop granted reports empties run₀ rule count emptied i₀ run i = (i ≤ count) × ((count ≤ mostTasks) × (run ≡ movedTo (bit reports) empties run₀ i))
+Inv-loop given lent reports empties run₀ rule count emptied i₀ run i = (i ≤ count) × ((count ≤ mostTasks) × (run ≡ movedTo (bit reports) empties run₀ i))
 
 abbrev μ-loop : tie.MeasureT-loop
-μ-loop granted reports empties run₀ rule count emptied i₀ run i = count - i
+μ-loop given lent reports empties run₀ rule count emptied i₀ run i = count - i
 
 -- the state after the empty bit is read
-abbrev read : tie.After-has3 Inv-loop μ-loop → tie.After-has Inv-loop μ-loop
-read c = c .before .before
+abbrev read : tie.After-has4 Inv-loop μ-loop → tie.After-has Inv-loop μ-loop
+read c = c .before .before .before
 
 -- the state at the head of the loop
 abbrev loop : tie.After-has Inv-loop μ-loop → tie.At-loop Inv-loop μ-loop
@@ -69,6 +69,9 @@ has-requires-2 c κs = omega arith
 
 has-requires-3 : tie.Need-has-requires-3 Inv-loop μ-loop
 has-requires-3 c κs = omega arith
+
+has-requires-4 : tie.Need-has-requires-4 Inv-loop μ-loop
+has-requires-4 c κs = omega arith
 
 next-requires : tie.Need-next-requires Inv-loop μ-loop
 next-requires c κs =
@@ -101,7 +104,7 @@ loop-again c =
     let len : length (r .tasks) ≡ mostTasks = simp length-map at (entry s .good .0 .1 .1 .1 .1 .1 .1 .1 .0 .1 .0 .1) in
     let past = mapFirst-past f i (r .tasks) i pastEnd (le-refl i) in
     let e : c .next .result ≡ f i (getD (r .tasks) i pastEnd) =
-    simp (c .next .ensures, h .has .ensures ∙ or-bit (a .empties) (r .withdrawn) i, c .before .before .has2 .ensures, c .before .has3 .ensures, entry s .pre .1 i, s .loop .inv .1 .1, past) in
+    simp (c .next .ensures, h .has .ensures ∙ or-bit (a .empties) (r .withdrawn) i, c .before .before .before .has2 .ensures, c .before .before .has3 .ensures, c .before .has4 .ensures, entry s .pre .1 .0 i, entry s .pre .1 .1 i, s .loop .inv .1 .1, past) in
     (omega arith, (omega arith, simp (s .loop .inv .1 .1, e, add-one, mapFirst-step f i (r .tasks) pastEnd (omega arith))))
 
 returns : tie.Need-returns Inv-loop μ-loop
@@ -125,6 +128,7 @@ moved-spec =
     has-requires
     has-requires-2
     has-requires-3
+    has-requires-4
     next-requires
     mul-next
     element-set-from-next

@@ -110,8 +110,8 @@ returns-2 c =
 claims-requires : tie.Need-claims-requires
 claims-requires c κs = few (entry (none-found c) .args .self) (passes (none-found c .before))
 
-show-requires : tie.Need-show-requires
-show-requires c κs =
+bytes-requires : tie.Need-bytes-requires
+bytes-requires c κs =
     let f = none-found (gathered (showing c) .before) in
     let r = entry f .args .self in
     (few-cores r (passes (f .before)), few r (passes (f .before)))
@@ -123,8 +123,8 @@ returns-3 c =
     let f = none-found (g .before) in
     let a = entry f .args in
     let m : misemptiedIn (a .self) (a .empties) ≡ false = begun g ∙ ap not (eq-eqb _ _ (t .if3 .taken)) in
-    row-of (a .self) (a .empties) (shown (c .show .result))
-    (ap shown (c .show .ensures ∙ bytes-shown (a .self) (a .empties) (g .claims .result) (g .claims .ensures))
+    row-of (a .self) (a .empties) (shown (c .bytes .result))
+    (ap shown (c .bytes .ensures ∙ bytes-shown (a .self) (a .empties) (g .claims .result) (g .claims .ensures))
     ∙ sym (row-shown (a .self) (a .empties) (passes (f .before)) (in-time (g .before)) m))
 
 row-refused-requires-3 : tie.Need-row-refused-requires-3
@@ -152,7 +152,7 @@ row-spec =
     row-refused-requires-2
     returns-2
     claims-requires
-    show-requires
+    bytes-requires
     returns-3
     row-refused-requires-3
     returns-4)

@@ -5,7 +5,7 @@ use mathlib.Core.Bool.{Bool, _||_, _&&_, or-false}
 use lib.Dec.{eqb}
 use borrow.Author.Needs.{needs}
 use Rattle.model.specs.Search.{bit}
-use Rattle.run.proofs.PlaceSets.{with-place}
+use Rattle.rule.proofs.Gathered.{with-place}
 use Rattle.run.proofs.sets.with.Statement.{statement}
 use Rattle.run.proofs.sets.with.Tie as tie
 

@@ -1,0 +1,105 @@
+-- What rule 4 does not keep (request 109), computed. Of two lists at one tick, no job is longer in the first, and yet the first is behind on a job:
+-- position 2, reported in tick 1, lets position 3, which is wider, borrow before position 4. And a task below changes what a row shows of one above.
+use mathlib.Core.Bool.{Bool, false, false≢true, true, true≢false}
+use mathlib.Core.List.{List, [], _∷_}
+use mathlib.Core.Logic.{inl, inr}
+use mathlib.Core.Path.{ap, refl, subst₂, sym, _∙_, _≡_}
+use Prim.Native.Nat.{_<_, suc, zero, ℕ, _≤_}
+use native.Mathlib.Omega.{arith}
+use Rattle.model.proofs.Computing.{computing}
+use Rattle.model.proofs.Examples.{on, reports, t}
+use Rattle.model.proofs.Jobs.{mk}
+use Rattle.model.proofs.Runs.{early-book}
+use Rattle.model.specs.Book.{Entry, Job, asked, book, borrowed, grantsOf, quiet, shown}
+use Rattle.model.specs.Compare.{Behind, KeepsAbreast, Longer, NoneLonger}
+use Rattle.model.specs.Local.{Alike}
+use Rattle.model.specs.Task.{Table, lending, release, task}
+use Rattle.model.specs.Verdict.{Firm, verdict}
+
+-- BETWEEN TWO SHORTENED RUNS
+
+abbrev pub crowd : Table
+crowd = on 2 lending (t 0 2 3 6 6 ∷ t 0 1 2 6 6 ∷ t 0 2 1 6 6 ∷ t 0 1 2 6 6 ∷ [])
+
+-- the first list reports position 2 in tick 1, the second does not
+abbrev pub reporting : List Entry
+reporting = reports 1 ∷ reports 2 ∷ quiet ∷ []
+
+abbrev pub silent : List Entry
+silent = reports 1 ∷ quiet ∷ quiet ∷ []
+
+-- the first jobs after each
+first : (xs : List Entry) → Job × Job × Job × Job
+first xs = (book crowd xs .job 0 0, book crowd xs .job 1 0, book crowd xs .job 2 0, book crowd xs .job 3 0)
+
+crowded : first reporting ≡ (mk 1 3 true, mk 1 0 true, mk 1 0 true, mk 1 0 false)
+unfolding first computing
+crowded = refl
+
+free : first silent ≡ (mk 1 3 true, mk 2 0 true, mk 0 0 false, mk 2 0 true)
+unfolding first computing
+free = refl
+
+ticks : (book crowd reporting .tick ≡ 3) × (book crowd silent .tick ≡ 3)
+unfolding computing
+ticks = (refl, refl)
+
+-- an ended job that had no more ticks is not longer
+not-longer : (h c h′ c′ : ℕ) (e′ : Bool) → h ≤ h′ → ¬ Longer (mk h c true) (mk h′ c′ e′)
+not-longer h c h′ c′ e′ l (e, inl d) = omega arith
+not-longer h c h′ c′ e′ l (e, inr d) = true≢false (d .1)
+
+-- every second job is released later
+second : (p k : ℕ) → p < 4 → book crowd silent .tick ≤ release (task crowd p) (suc k)
+second zero k l = omega (arith, ticks .1)
+second (suc zero) k l = omega (arith, ticks .1)
+second (suc (suc zero)) k l = omega (arith, ticks .1)
+second (suc (suc (suc zero))) k l = omega (arith, ticks .1)
+second (suc (suc (suc (suc p)))) k l = absurd (omega arith)
+
+none-longer : NoneLonger crowd (book crowd reporting) (book crowd silent)
+unfolding first
+none-longer p (suc k) l = λ x. false≢true (sym (ap (λ (j : Job). j .ended) (early-book crowd silent p (suc k) (second p k l))) ∙ x .0)
+none-longer zero zero l =
+    subst₂ (λ (a b : Job). ¬ Longer a b) (sym (ap (λ x. x .0) crowded)) (sym (ap (λ x. x .0) free)) (not-longer 1 3 1 3 true (omega arith))
+none-longer (suc zero) zero l =
+    subst₂ (λ (a b : Job). ¬ Longer a b) (sym (ap (λ x. x .1) crowded)) (sym (ap (λ x. x .1) free)) (not-longer 1 0 2 0 true (omega arith))
+none-longer (suc (suc zero)) zero l =
+    subst₂ (λ (a b : Job). ¬ Longer a b) (sym (ap (λ x. x .2) crowded)) (sym (ap (λ x. x .2) free)) (λ x. false≢true (x .0))
+none-longer (suc (suc (suc zero))) zero l =
+    subst₂ (λ (a b : Job). ¬ Longer a b) (sym (ap (λ x. x .3) crowded)) (sym (ap (λ x. x .3) free)) fewer
+  where
+    fewer : ¬ Longer (mk 1 0 false) (mk 2 0 true)
+    fewer (e, inl d) = omega arith
+    fewer (e, inr d) = omega arith
+none-longer (suc (suc (suc (suc p)))) zero l = absurd (omega arith)
+
+-- at tick 3 position 4 has ended where nothing more was reported, and has had one tick where position 2 was
+pub crowd-behind : Behind (book crowd reporting .job 3 0) (book crowd silent .job 3 0)
+unfolding first
+crowd-behind = subst₂ Behind (sym (ap (λ x. x .3) crowded)) (sym (ap (λ x. x .3) free)) (refl, inl refl)
+
+-- THE WITNESS: the table is Firm, and is not kept abreast
+pub lending-crowds : (verdict crowd ≡ Firm 0 6) × (¬ KeepsAbreast crowd reporting silent)
+lending-crowds = (unfold computing in refl, λ h. h (ticks .0 ∙ sym (ticks .1)) none-longer 3 0 (omega arith) crowd-behind)
+
+-- WHAT A ROW SHOWS: two tables that differ below position 1 only, after the same report
+
+abbrev alone : Table
+alone = on 3 lending (t 0 3 2 4 4 ∷ [])
+
+abbrev served-below : Table
+served-below = on 3 lending (t 0 3 2 4 4 ∷ t 0 2 2 4 4 ∷ [])
+
+pub alike-above : Alike 1 alone served-below
+alike-above = record { rules = refl; cores = refl; fences = refl; tasks = refl }
+
+-- the cores reserved for position 1 are the same, and it borrows none; the row shows it on the one that it has not lent
+pub lending-shows :
+    (grantsOf alone (book alone (reports 1 ∷ [])) ≡ (0 ∷ 1 ∷ 2 ∷ []) ∷ [])
+    × (grantsOf served-below (book served-below (reports 1 ∷ [])) ≡ (0 ∷ 1 ∷ 2 ∷ []) ∷ [] ∷ [])
+    × (borrowed served-below (book served-below (reports 1 ∷ [])) 1 ≡ 0 ∷ 1 ∷ [])
+    × (asked alone (book alone (reports 1 ∷ [])) 0 ≡ shown (1 ∷ 1 ∷ 1 ∷ []))
+    × (asked served-below (book served-below (reports 1 ∷ [])) 0 ≡ shown (2 ∷ 2 ∷ 1 ∷ []))
+unfolding computing
+lending-shows = (refl, refl, refl, refl, refl)
