@@ -1,0 +1,4 @@
+-- The laws behind `clash`: the chosen places of a list, what a part keeps of the table, the passes, the words of a part, and computed examples.
+pub mod Chosen
+pub mod Parts
+pub mod Passes

@@ -1,0 +1,262 @@
+-- The passes leave tasks that miss and of which none can be spared (`clash-minimal`), and as many passes as tasks are enough (`passes-settle`).
+use mathlib.Core.Bool.{Bool, cond, false, false≢true, not, true, true≢false, _&&_}
+use mathlib.Core.List.{List, [], _∷_}
+use mathlib.Core.Logic.{inl, inr, ⊎-elim}
+use mathlib.Core.Path.{ap, refl, subst, sym, _∙_, _≡_}
+use Prim.Native.Nat.{ℕ, suc, zero, _%_, _*_, _+_, _-_, _<_, _^_, _≤_}
+use native.Mathlib.Nat.{eq-or-lt-of-le, le-refl, le-trans, not-suc-le-zero, pow-suc}
+use native.Mathlib.Omega.{arith}
+use lib.Dec.{eqb}
+use lib.ListN.{length}
+use lib.Pow.{pow-pos}
+use borrow.Author.Tests.{eq-eqb, eqb-false, eqb-true}
+use Rattle.model.proofs.Bools.{and-left, and-right}
+use Rattle.model.proofs.Digits.{Without, bit-past, bit-suc, bit-zero, odd-half}
+use Rattle.model.proofs.Digits as digits
+use Rattle.model.proofs.Verdict.{verdict-exact}
+use Rattle.model.specs.Book.{Missed, NeverMissed}
+use Rattle.model.specs.Search.{bit}
+use Rattle.model.specs.Task.{AllSound, Table, Task}
+use Rattle.model.specs.Verdict.{Exact, Firm, Full, Miss, Verdict, verdict}
+use Rattle.clash.specs.Clash.{Minimal, allPlaces, clashSet, clashes, dropped, isMiss, pass, passes, someLeft}
+use Rattle.clash.specs.Part.{chosen, part, without}
+use Rattle.clash.proofs.Chosen.{chosen-less, chosen-some, chosen-whole}
+use Rattle.clash.proofs.Parts.{part-fewer}
+
+-- ---- what is left still misses, over all ticks
+
+some-left : (τs : List Task) → someLeft τs ≡ true → 0 < length τs
+some-left [] e = absurd (false≢true e)
+some-left (τ ∷ τs) e = omega arith
+
+left-some : (τs : List Task) → 0 < length τs → someLeft τs ≡ true
+left-some [] l = absurd (not-suc-le-zero l)
+left-some (τ ∷ τs) l = refl
+
+module _ (s : Table) (ok : AllSound s) (x : ℕ) where
+  exact : Exact (part s x) (verdict (part s x))
+  exact = verdict-exact (part s x) (part-fewer s ok x .sound)
+
+  missed : (v : Verdict) → verdict (part s x) ≡ v → isMiss v ≡ true → (p t : ℕ) × Missed (part s x) p t
+  missed (Firm a b) e i = absurd (false≢true i)
+  missed (Full a b) e i = absurd (false≢true i)
+  missed (Miss t p) e i = let f = exact .miss t p .0 e in (f .place .0, t, f .missed)
+
+  never : (v : Verdict) → verdict (part s x) ≡ v → isMiss v ≡ false → NeverMissed (part s x)
+  never (Firm a b) e i = exact .accepted .0 (a, b, inl e)
+  never (Full a b) e i = exact .accepted .0 (a, b, inr e)
+  never (Miss t p) e i = absurd (true≢false i)
+
+  -- the test holds: a deadline is missed at some tick, and there is a task
+  pub clashes-some : clashes s x ≡ true → (p t : ℕ) × Missed (part s x) p t
+  unfolding clashes
+  clashes-some e = missed (verdict (part s x)) refl (and-right (someLeft (part s x .tasks)) (isMiss (verdict (part s x))) e)
+
+  pub clashes-left : clashes s x ≡ true → 0 < length (part s x .tasks)
+  unfolding clashes
+  clashes-left e = some-left (part s x .tasks) (and-left (someLeft (part s x .tasks)) (isMiss (verdict (part s x))) e)
+
+  -- it fails: none is at any tick
+  pub clashes-never : clashes s x ≡ false → NeverMissed (part s x)
+  unfolding clashes
+  clashes-never e p t m = go (someLeft (part s x .tasks)) (left-some (part s x .tasks) (omega (arith, m .0))) e
+    where
+      go : (b : Bool) → b ≡ true → b && isMiss (verdict (part s x)) ≡ false → ⊥
+      go true i f = never (verdict (part s x)) refl f p t m
+      go false i f = false≢true i
+
+  -- and where one is, it holds
+  pub missed-clashes : (p t : ℕ) → Missed (part s x) p t → clashes s x ≡ true
+  missed-clashes p t m = go (clashes s x) refl
+    where
+      go : (b : Bool) → clashes s x ≡ b → b ≡ true
+      go true e = refl
+      go false e = absurd (clashes-never e p t m)
+
+-- ---- one pass
+
+module _ (s : Table) where
+  abbrev n : ℕ
+  n = length (s .tasks)
+
+  abbrev size : ℕ → ℕ
+  size x = length (part s x .tasks)
+
+  -- what a look at places, or a pass over them, leaves of a set: no more, the miss with it, and where as many are left, all of them
+  record Left (x y : ℕ) : Type 0 where
+    falls : y ≤ x
+    fewer : size y ≤ size x
+    same : size y ≡ size x → y ≡ x
+    clash-kept : clashes s x ≡ true → clashes s y ≡ true
+
+  left-all : (x : ℕ) → Left x x
+  left-all x = record { falls = le-refl x; fewer = le-refl (size x); same = λ h. refl; clash-kept = λ h. h }
+
+  left-then : (x y z : ℕ) → Left x y → Left y z → Left x z
+  left-then x y z a b = record {
+    falls = le-trans (b .falls) (a .falls);
+    fewer = le-trans (b .fewer) (a .fewer);
+    same = λ h.
+        let e : y ≡ x = a .same (omega (arith, a .fewer, b .fewer)) in
+        b .same (h ∙ ap size (sym e)) ∙ e;
+    clash-kept = λ h. b .clash-kept (a .clash-kept h);
+  }
+
+  -- a place that is kept, left out
+  without-kept : (x p : ℕ) → bit x p ≡ true → without x p ≡ x - 2 ^ p
+  without-kept x p e = rw e
+
+  size-without : (x p : ℕ) → p < n → bit x p ≡ true → suc (size (without x p)) ≡ size x
+  size-without x p l e =
+      rw (without-kept x p e)
+      (chosen-less (bit x) (bit (x - 2 ^ p)) (s .tasks) p l e (digits.without x p e .others))
+
+  -- a look at one place; where it drops nothing the place is needed
+  record Look (p x y : ℕ) : Type 0 where
+    left : Left x y
+    needed : y ≡ x → bit x p ≡ true → clashes s (without x p) ≡ false
+
+  look : (p : ℕ) → p < n → (x : ℕ) → Look p x (dropped s p x)
+  unfolding dropped
+  look p l x = go (bit x p) refl (clashes s (without x p)) refl
+    where
+      go : (t : Bool) → bit x p ≡ t → (u : Bool) → clashes s (without x p) ≡ u → Look p x (cond (t && u) (without x p) x)
+      go true e true c =
+          let w : Without x p = digits.without x p e in
+          let less : suc (size (without x p)) ≡ size x = size-without x p l e in
+          let is : without x p ≡ x - 2 ^ p = without-kept x p e in record {
+            left = record {
+              falls = omega arith;
+              fewer = omega arith;
+              same = λ h. absurd (omega arith);
+              clash-kept = λ h. c;
+            };
+            needed = λ h. absurd (omega (arith, w .within, pow-pos {2} p));
+          }
+      go true e false c = record { left = left-all x; needed = λ h i. c }
+      go false e u c = record { left = left-all x; needed = λ h i. absurd (false≢true (sym e ∙ i)) }
+
+  pub record Passing (i x y : ℕ) : Type 0 where
+    pub left : Left x y
+    pub needed : y ≡ x → (p : ℕ) → p < i → bit x p ≡ true → clashes s (without x p) ≡ false
+
+  pub passing : (i : ℕ) → i ≤ n → (x : ℕ) → Passing i x (pass s i x)
+  unfolding pass
+  passing zero l x = record { left = left-all x; needed = λ h p m. absurd (not-suc-le-zero m) }
+  passing (suc i) l x =
+      let a = look i l x in
+      let b = passing i (omega arith) (dropped s i x) in
+      record { left = left-then x (dropped s i x) (pass s i (dropped s i x)) (a .left) (b .left); needed = λ h. all a b h }
+    where
+      y : ℕ
+      y = dropped s i x
+
+      all : Look i x y → Passing i y (pass s i y) → pass s i y ≡ x → (p : ℕ) → p < suc i → bit x p ≡ true → clashes s (without x p) ≡ false
+      all a b h p m e =
+          let first : y ≡ x = omega (arith, a .left .falls, b .left .falls) in
+          ⊎-elim
+          (λ (q : p ≡ i). subst (λ (j : ℕ). bit x j ≡ true → clashes s (without x j) ≡ false) (sym q) (a .needed first) e)
+          (λ (q : p < i). subst (λ (z : ℕ). bit z p ≡ true → clashes s (without z p) ≡ false) first (b .needed (h ∙ sym first) p q) e)
+          (eq-or-lt-of-le (omega arith))
+
+  -- a pass leaves no more, and where it drops something there are fewer
+  pub pass-falls : (x : ℕ) → pass s n x ≤ x
+  pass-falls x = passing n (le-refl n) x .left .falls
+
+  pub pass-fewer : (x : ℕ) → (pass s n x ≡ x → ⊥) → size (pass s n x) < size x
+  pass-fewer x d =
+      let a = passing n (le-refl n) x .left in
+      ⊎-elim (λ (e : size (pass s n x) ≡ size x). absurd (d (a .same e))) (λ (e : size (pass s n x) < size x). e) (eq-or-lt-of-le (a .fewer))
+
+  -- ---- all passes
+
+  -- where a pass drops nothing, the passes end
+  pub passes-end : (m x : ℕ) → pass s n x ≡ x → passes s m x ≡ x
+  unfolding passes
+  passes-end zero x e = refl
+  passes-end (suc m) x e = rw (eq-eqb (pass s n x) x e)
+
+  -- where it drops something, they go on
+  pub passes-step : (m x : ℕ) → (pass s n x ≡ x → ⊥) → passes s (suc m) x ≡ passes s m (pass s n x)
+  unfolding passes
+  passes-step m x d = go (eqb (pass s n x) x) refl
+    where
+      go : (t : Bool) → eqb (pass s n x) x ≡ t → cond t x (passes s m (pass s n x)) ≡ passes s m (pass s n x)
+      go true e = absurd (d (eqb-true (pass s n x) x e))
+      go false e = refl
+
+  -- as many passes as tasks left are enough: one more drops nothing
+  record Done (x y : ℕ) : Type 0 where
+    left : Left x y
+    settled : pass s n y ≡ y
+
+  done : (m x : ℕ) → size x ≤ m → Done x (passes s m x)
+  unfolding passes
+  done zero x l = record { left = left-all x; settled = a .same (omega (arith, a .fewer)) }
+    where
+      a : Left x (pass s n x)
+      a = passing n (le-refl n) x .left
+  done (suc m) x l = go (eqb (pass s n x) x) refl (done m (pass s n x))
+    where
+      y : ℕ
+      y = pass s n x
+
+      go : (t : Bool) → eqb y x ≡ t → (size y ≤ m → Done y (passes s m y)) → Done x (cond t x (passes s m y))
+      go true e ih = record { left = left-all x; settled = eqb-true y x e }
+      go false e ih =
+          let d = ih (omega (arith, pass-fewer x (eqb-false y x e))) in
+          record { left = left-then x y (passes s m y) (passing n (le-refl n) x .left) (d .left); settled = d .settled }
+
+  -- ---- the whole table
+
+  -- all digits below a count are there
+  all-there : (m p : ℕ) → p < m → bit (2 ^ m - 1) p ≡ true
+  all-there zero p l = absurd (not-suc-le-zero l)
+  all-there (suc m) zero l =
+      let odd = odd-half (2 ^ suc m - 1) (2 ^ m - 1) (omega (arith, pow-suc 2 m, pow-pos {2} m)) .0 in
+      bit-zero (2 ^ suc m - 1) ∙ eq-eqb ((2 ^ suc m - 1) % 2) 1 odd
+  all-there (suc m) (suc p) l =
+      let half = odd-half (2 ^ suc m - 1) (2 ^ m - 1) (omega (arith, pow-suc 2 m, pow-pos {2} m)) .1 in
+      bit-suc (2 ^ suc m - 1) p ∙ (ap (λ (x : ℕ). bit x p) half ∙ all-there m p (omega arith))
+
+  whole-tasks : part s (allPlaces s) .tasks ≡ s .tasks
+  whole-tasks = chosen-whole (bit (allPlaces s)) (s .tasks) (λ q l. all-there n q l)
+
+  pub whole-part : part s (allPlaces s) ≡ s
+  whole-part = λ i. record { tasks = whole-tasks i; cores = s .cores; fence = s .fence; rule = s .rule }
+
+  all-done : Done (allPlaces s) (clashSet s)
+  unfolding clashSet
+  all-done = done n (allPlaces s) (omega (arith, ap {B = ℕ} length whole-tasks))
+
+  -- THEOREM: as many passes as tasks are enough, one more drops nothing
+  pub passes-settle : pass s (length (s .tasks)) (clashSet s) ≡ clashSet s
+  passes-settle = all-done .settled
+
+  -- no place past the count is left
+  pub clash-past : (p : ℕ) → length (s .tasks) ≤ p → bit (clashSet s) p ≡ false
+  clash-past p l = bit-past n (clashSet s) p (omega (arith, all-done .left .falls, pow-pos {2} n)) l
+
+  pub clash-most : clashSet s ≤ allPlaces s
+  clash-most = all-done .left .falls
+
+-- THEOREM: where the table misses, what the passes leave misses, and no task of it can be spared
+pub clash-minimal : (s : Table) → AllSound s → (p t : ℕ) → Missed s p t → Minimal s (clashSet s)
+clash-minimal s ok p t m = record {
+  some = chosen-some (bit (clashSet s)) (s .tasks) (clashes-left s ok (clashSet s) still);
+  misses = clashes-some s ok (clashSet s) still;
+  needed = λ q e.
+      clashes-never s ok (without (clashSet s) q)
+      (passing s (length (s .tasks)) (le-refl (length (s .tasks))) (clashSet s) .needed (passes-settle s) q (within q e) e);
+}
+  where
+    still : clashes s (clashSet s) ≡ true
+    still =
+        all-done s .left .clash-kept
+        (missed-clashes s ok (allPlaces s) p t (subst (λ (r : Table). Missed r p t) (sym (whole-part s)) m))
+
+    within : (q : ℕ) → bit (clashSet s) q ≡ true → q < length (s .tasks)
+    within q e = go (eqb 0 0) refl
+      where
+        go : (b : Bool) → eqb 0 0 ≡ b → q < length (s .tasks)
+        go b i = ?
