@@ -1,4 +1,10 @@
--- The laws behind `clash`: the chosen places of a list, what a part keeps of the table, the passes, the words of a part, and computed examples.
+-- The laws behind `clash`: the chosen places of a list, what a part keeps of the table, the passes, the words of a part and their verdict, and computed
+-- examples.
 pub mod Chosen
 pub mod Parts
-pub mod Passes
+pub mod Minimal
+pub mod Relinked
+pub mod Judging
+pub mod Promise
+pub mod OffChain
+pub mod Examples

@@ -6,10 +6,10 @@ use mathlib.Core.Path.{ap, refl, subst, sym, _∙_, _≡_}
 use Prim.Native.Nat.{ℕ, suc, zero, _%_, _*_, _+_, _-_, _<_, _^_, _≤_}
 use native.Mathlib.Nat.{eq-or-lt-of-le, le-refl, le-trans, not-suc-le-zero, pow-suc}
 use native.Mathlib.Omega.{arith}
-use lib.Dec.{eqb}
+use lib.Dec.{eqb, ltb}
 use lib.ListN.{length}
 use lib.Pow.{pow-pos}
-use borrow.Author.Tests.{eq-eqb, eqb-false, eqb-true}
+use borrow.Author.Tests.{eq-eqb, eqb-false, eqb-true, ltb-false, ltb-true}
 use Rattle.model.proofs.Bools.{and-left, and-right}
 use Rattle.model.proofs.Digits.{Without, bit-past, bit-suc, bit-zero, odd-half}
 use Rattle.model.proofs.Digits as digits
@@ -131,7 +131,7 @@ module _ (s : Table) where
               same = λ h. absurd (omega arith);
               clash-kept = λ h. c;
             };
-            needed = λ h. absurd (omega (arith, w .within, pow-pos {2} p));
+            needed = λ h. absurd (omega (arith, w .within, pow-pos p));
           }
       go true e false c = record { left = left-all x; needed = λ h i. c }
       go false e u c = record { left = left-all x; needed = λ h i. absurd (false≢true (sym e ∙ i)) }
@@ -213,10 +213,10 @@ module _ (s : Table) where
   all-there : (m p : ℕ) → p < m → bit (2 ^ m - 1) p ≡ true
   all-there zero p l = absurd (not-suc-le-zero l)
   all-there (suc m) zero l =
-      let odd = odd-half (2 ^ suc m - 1) (2 ^ m - 1) (omega (arith, pow-suc 2 m, pow-pos {2} m)) .0 in
+      let odd = odd-half (2 ^ suc m - 1) (2 ^ m - 1) (omega (arith, pow-suc 2 m, pow-pos m)) .0 in
       bit-zero (2 ^ suc m - 1) ∙ eq-eqb ((2 ^ suc m - 1) % 2) 1 odd
   all-there (suc m) (suc p) l =
-      let half = odd-half (2 ^ suc m - 1) (2 ^ m - 1) (omega (arith, pow-suc 2 m, pow-pos {2} m)) .1 in
+      let half = odd-half (2 ^ suc m - 1) (2 ^ m - 1) (omega (arith, pow-suc 2 m, pow-pos m)) .1 in
       bit-suc (2 ^ suc m - 1) p ∙ (ap (λ (x : ℕ). bit x p) half ∙ all-there m p (omega arith))
 
   whole-tasks : part s (allPlaces s) .tasks ≡ s .tasks
@@ -235,7 +235,7 @@ module _ (s : Table) where
 
   -- no place past the count is left
   pub clash-past : (p : ℕ) → length (s .tasks) ≤ p → bit (clashSet s) p ≡ false
-  clash-past p l = bit-past n (clashSet s) p (omega (arith, all-done .left .falls, pow-pos {2} n)) l
+  clash-past p l = bit-past n (clashSet s) p (omega (arith, all-done .left .falls, pow-pos n)) l
 
   pub clash-most : clashSet s ≤ allPlaces s
   clash-most = all-done .left .falls
@@ -256,7 +256,8 @@ clash-minimal s ok p t m = record {
         (missed-clashes s ok (allPlaces s) p t (subst (λ (r : Table). Missed r p t) (sym (whole-part s)) m))
 
     within : (q : ℕ) → bit (clashSet s) q ≡ true → q < length (s .tasks)
-    within q e = go (eqb 0 0) refl
+    within q e = go (ltb q (length (s .tasks))) refl
       where
-        go : (b : Bool) → eqb 0 0 ≡ b → q < length (s .tasks)
-        go b i = ?
+        go : (b : Bool) → ltb q (length (s .tasks)) ≡ b → q < length (s .tasks)
+        go true i = ltb-true q (length (s .tasks)) i
+        go false i = absurd (true≢false (sym e ∙ clash-past s q (ltb-false q (length (s .tasks)) i)))
