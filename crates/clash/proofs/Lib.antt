@@ -4,6 +4,7 @@ pub mod Chosen
 pub mod Parts
 pub mod Minimal
 pub mod Relinked
+pub mod Linking
 pub mod Judging
 pub mod Promise
 pub mod OffChain

@@ -106,6 +106,10 @@ linked-next i (n ∷ ns) ws m e h d (suc k) l =
 
 -- ---- the chain of a table that passes
 
+-- the words of a record are there
+pub next-inside : (ws : List ℕ) (n : ℕ) → 1 ≤ n → n ≤ records ws → nextAt n < length ws
+next-inside ws n a b = omega arith
+
 module _ (ws : List ℕ) (none : NoneApplies ws) where
   no-past : pastAt ws (lastStep ws) ≡ false
   no-past = not-true-false (pastAt ws (lastStep ws)) (λ e. none 5 0 (five-decides ws .0 e))
@@ -172,7 +176,7 @@ module _ (ws : List ℕ) (none : NoneApplies ws) (x : ℕ) where
   records-differ = chosen-distinct (bit x) (chain ws) (chain-distinct ws none)
 
   records-there : All (λ n. (1 ≤ n) × (nextAt n < length ws)) ns
-  records-there i l = let h = records-in i l in (h .0, omega arith)
+  records-there i l = let h = records-in i l in (h .0, next-inside ws (getD ns i 0) (h .0) (h .1))
 
   pub same-length : length us ≡ length ws
   unfolding relinked

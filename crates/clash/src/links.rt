@@ -32,16 +32,16 @@ pub(crate) fn relinked(words: &[u32], kept: u32) -> [u32; WORDS]
 {
     let mut copy = copied(words);
     let mut link: usize = 0;
-    let mut rest = kept;
+    let mut place: u32 = 0;
     let mut number = words[0];
     while 0 < number {
         let next = HEADER + (number as usize - 1) * RECORD;
-        if rest % 2 == 1 {
+        if (kept >> place) % 2 == 1 {
             copy[link] = number;
             link = next;
         }
         number = words[next];
-        rest /= 2;
+        place += 1;
     }
     copy[link] = 0;
     copy
