@@ -5,7 +5,7 @@ use mathlib.Core.Path.{ap, refl, sym, _∙_, _≡_}
 use Prim.Native.Nat.{ℕ, suc, zero, _<_, _≤_}
 use native.Mathlib.Nat.{not-suc-le-zero}
 use native.Mathlib.Omega.{arith}
-use lib.Dec.{eqb, eqb·suc-suc, eqb·suc-zero}
+use lib.Dec.{eqb, eqb·suc-suc, eqb·suc-zero, eqb·zero-suc}
 use lib.ListN.{getD, length}
 use Rattle.clash.specs.Part.{chosen}
 
@@ -63,7 +63,7 @@ module _ {A : Type 0} where
       chosen-same (λ q. m (suc q)) (λ q. k (suc q)) xs (λ q i. h (suc q) ∙ rw (eqb·suc-zero q) (and-true (k (suc q)))) in
       rw (gone, e, others)
   chosen-less k m (x ∷ xs) (suc p) l e h =
-      let first : m 0 ≡ k 0 = h 0 ∙ and-true (k 0) in
+      let first : m 0 ≡ k 0 = h 0 ∙ rw (eqb·zero-suc p) (and-true (k 0)) in
       rw first
       (go (k 0)
       (chosen-less (λ q. k (suc q)) (λ q. m (suc q)) xs p (omega arith) e

@@ -77,10 +77,6 @@ turning r = header 1 2 r ++ entry₂ 2 0 1 2 2 2 2 ++ entry 0 0 1 3 6 6
 abbrev turned : List ℕ
 turned = header 3 2 1 ++ entry₂ 2 0 1 2 2 2 2 ++ entry 0 0 1 3 6 6 ++ entry 1 0 1 1 1 4
 
--- 32 tasks on 32 cores, of which the last misses alone
-abbrev lastOf32 : List ℕ
-lastOf32 = header 1 32 1 ++ chained 32 1 (replicate 31 1) ++ entry 0 0 1 2 1 1
-
 abbrev pub lines : List Line
 lines =
     -- one task alone that misses; two of them: the lower is dropped first; and one that does not beside one that does
@@ -95,8 +91,6 @@ lines =
     ∷ keeps (1 ∷ 2 ∷ 1 ∷ 2 ∷ 0 ∷ entry 0 0 1 2 1 2) 1
     -- two widths
     ∷ keeps (turning 1) 3 ∷ keeps (turning 4) 3 ∷ keeps turned 6
-    -- the thirty-second position alone
-    ∷ keeps lastOf32 2147483648
     -- no miss: A, A3, A under rule 4, B
     ∷ refuses wordsA 17 0 ∷ refuses (ruledA 3) 17 0 ∷ refuses (ruledA 4) 17 0 ∷ refuses (ruledB 1) 17 0
     -- 1, 2 before 17, 4, 7 with its position

@@ -4,16 +4,18 @@ use mathlib.Core.List.{List, [], _∷_}
 use mathlib.Core.Logic.{⊎-elim}
 use mathlib.Core.Path.{ap, ap₂, fun-ext, refl, subst, sym, _∙_, _≡_}
 use Prim.Native.Nat.{ℕ, suc, zero, _*_, _+_, _-_, _<_, _≤_}
-use native.Mathlib.Nat.{add-suc, add-zero, eq-or-lt-of-le, suc-add, zero-add}
+use native.Mathlib.Nat.{add-zero, eq-or-lt-of-le, zero-add}
 use native.Mathlib.Omega.{arith}
-use lib.ListN.{drop, drop-of-length-le, length, length-set, set, take}
+use lib.ListN.{drop, drop-of-length-le, length, set, take}
 use lib.Seq.{drop-cons, take-set-lt}
 use Rattle.model.specs.Search.{bit}
-use Rattle.table.proofs.Tasks.{chain-at, chain-length}
+use Rattle.model.specs.Sizes.{mostTasks}
+use Rattle.table.proofs.Passed.{passed-count}
+use Rattle.table.proofs.Tasks.{chain-at, chain-length, table-length}
 use Rattle.table.specs.Numbers.{NoneApplies}
 use Rattle.table.specs.Words.{chain, count, head, met, next, records}
 use Rattle.clash.specs.Part.{chosen}
-use Rattle.clash.specs.Relinked.{linked, mostWords, nextAt, relinked}
+use Rattle.clash.specs.Relinked.{linked, nextAt, relinked}
 use Rattle.clash.proofs.Relinked.{chain-ends, chain-in, next-inside}
 
 -- the records kept from place k on
@@ -43,17 +45,14 @@ rest-end ws x = ap (chosen (λ q. bit x (count ws + q))) (drop-of-length-le (cha
 pub record Linking (ws : List ℕ) (x : ℕ) (copy : List ℕ) (link place number : ℕ) : Type 0 where
   pub within : place ≤ count ws
   pub here : number ≡ met ws place
-  pub size : length copy ≡ mostWords
   pub inside : link < length ws
   pub linking : linked link (rest ws x place) (take (length ws) copy) ≡ relinked ws x
 
-pub linking-start :
-    (ws : List ℕ) (x : ℕ) (copy : List ℕ) → 0 < length ws → length copy ≡ mostWords → take (length ws) copy ≡ ws → Linking ws x copy 0 0 (head ws)
+pub linking-start : (ws : List ℕ) (x : ℕ) (copy : List ℕ) → 0 < length ws → take (length ws) copy ≡ ws → Linking ws x copy 0 0 (head ws)
 unfolding relinked met
-linking-start ws x copy l n e = record {
+linking-start ws x copy l e = record {
   within = omega arith;
   here = refl;
-  size = n;
   inside = l;
   linking = ap₂ (linked 0) (rest-start ws x) e;
 }
@@ -65,6 +64,10 @@ module _ (ws : List ℕ) (none : NoneApplies ws) (x : ℕ) (copy : List ℕ) (li
       ⊎-elim
       (λ (e : place ≡ count ws). absurd (let z : met ws place ≡ 0 = ap (met ws) e ∙ chain-ends ws none in omega (arith, w .here)))
       (λ (e : place < count ws). e) (eq-or-lt-of-le (w .within))
+
+  -- the place is one of 32
+  pub linking-few : 0 < number → place < mostTasks
+  linking-few h = omega (arith, linking-room h, passed-count ws none .1, table-length ws)
 
   pub linking-record : 0 < number → (1 ≤ number) × (number ≤ records ws)
   linking-record h = let r = chain-in ws none place (linking-room h) in omega (arith, w .here, r)
@@ -78,7 +81,6 @@ module _ (ws : List ℕ) (none : NoneApplies ws) (x : ℕ) (copy : List ℕ) (li
   linking-kept h e = record {
     within = linking-room h;
     here = ap (next ws) (w .here);
-    size = length-set copy link number ∙ w .size;
     inside = linking-next h;
     linking =
         ap (linked (nextAt number) (rest ws x (suc place))) (take-set-lt (length ws) copy link number (w .inside))
@@ -97,7 +99,6 @@ module _ (ws : List ℕ) (none : NoneApplies ws) (x : ℕ) (copy : List ℕ) (li
   linking-dropped h e = record {
     within = linking-room h;
     here = ap (next ws) (w .here);
-    size = w .size;
     inside = w .inside;
     linking = ap (λ (ns : List ℕ). linked link ns (take (length ws) copy)) (sym these) ∙ w .linking;
   }

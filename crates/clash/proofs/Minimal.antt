@@ -76,10 +76,10 @@ module _ (s : Table) (ok : AllSound s) (x : ℕ) where
 -- ---- one pass
 
 module _ (s : Table) where
-  abbrev n : ℕ
+  abbrev pub n : ℕ
   n = length (s .tasks)
 
-  abbrev size : ℕ → ℕ
+  abbrev pub size : ℕ → ℕ
   size x = length (part s x .tasks)
 
   -- what a look at places, or a pass over them, leaves of a set: no more, the miss with it, and where as many are left, all of them
@@ -136,11 +136,11 @@ module _ (s : Table) where
       go true e false c = record { left = left-all x; needed = λ h i. c }
       go false e u c = record { left = left-all x; needed = λ h i. absurd (false≢true (sym e ∙ i)) }
 
-  pub record Passing (i x y : ℕ) : Type 0 where
-    pub left : Left x y
-    pub needed : y ≡ x → (p : ℕ) → p < i → bit x p ≡ true → clashes s (without x p) ≡ false
+  record Passing (i x y : ℕ) : Type 0 where
+    left : Left x y
+    needed : y ≡ x → (p : ℕ) → p < i → bit x p ≡ true → clashes s (without x p) ≡ false
 
-  pub passing : (i : ℕ) → i ≤ n → (x : ℕ) → Passing i x (pass s i x)
+  passing : (i : ℕ) → i ≤ n → (x : ℕ) → Passing i x (pass s i x)
   unfolding pass
   passing zero l x = record { left = left-all x; needed = λ h p m. absurd (not-suc-le-zero m) }
   passing (suc i) l x =

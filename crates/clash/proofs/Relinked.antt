@@ -6,6 +6,7 @@ use mathlib.Core.Path.{ap, ap₂, fun-ext, refl, subst, sym, _∙_, _≡_}
 use Prim.Native.Nat.{ℕ, suc, zero, _%_, _*_, _+_, _-_, _/_, _<_, _≤_}
 use native.Mathlib.Nat.{add-zero, le-refl, not-suc-le-zero}
 use native.Mathlib.Omega.{arith}
+use lib.Dec.{eqb}
 use lib.ListN.{List·getD-eq-default, getD, length, length-set, set}
 use lib.Seq.{ext-getD, getD-set-other, getD-set-same}
 use Rattle.model.proofs.Bools.{not-true-false}
@@ -14,7 +15,8 @@ use Rattle.model.specs.Horizon.{horizon}
 use Rattle.model.specs.Search.{bit}
 use Rattle.model.specs.Sizes.{mostTasks}
 use Rattle.model.specs.Task.{Table, Task, nobody, ruleOf, task}
-use Rattle.table.proofs.HeaderFine.{words-long}
+use Rattle.table.proofs.Decide.{decides-eq, stable}
+use Rattle.table.proofs.HeaderFine.{words-few, words-long}
 use Rattle.table.proofs.Inside.{Inside}
 use Rattle.table.proofs.Passed.{passed-horizon, passed-inside, passed-sound}
 use Rattle.table.proofs.Tasks.{chain-at, chain-length, table-at, table-length}
@@ -22,10 +24,10 @@ use Rattle.table.proofs.Tests.{again-decides, past-decides, stops-decides}
 use Rattle.table.proofs.Walk.{ends-there, five-decides, last-ends, last-reached, six-decides, stops-there}
 use Rattle.table.specs.Answer.{againAt, lastStep, pastAt}
 use Rattle.table.specs.Limits.{CoresOut, FenceOut, HorizonOut, RuleOut, TimesOut, WidthOut, mostTime}
-use Rattle.table.specs.Numbers.{AgainAt, Applies, EndAt, NoneApplies, PastAt, Reaches, eight, five, four, nine, nineteen, one, seven, six, three, two}
-use Rattle.table.specs.Words.{chain, cores, count, fence, fenceOf, field, headerWords, met, next, recordWords, records, rule, tableOf, taskAt, taskOfRecord, word}
+use Rattle.table.specs.Numbers.{AgainAt, Applies, EndAt, NoneApplies, PastAt, Reaches, WordsOut, eight, five, four, nine, nineteen, one, seven, six, three, two}
+use Rattle.table.specs.Words.{chain, cores, count, fence, fenceOf, field, head, headerWords, met, next, recordWords, records, rule, tableOf, taskAt, taskOfRecord, word}
 use Rattle.clash.specs.Part.{chosen, part}
-use Rattle.clash.specs.Relinked.{linked, nextAt, relinked}
+use Rattle.clash.specs.Relinked.{linked, mostWords, nextAt, relinked}
 use Rattle.clash.proofs.Chosen.{chosen-all, chosen-map}
 use Rattle.clash.proofs.Parts.{part-fewer}
 
@@ -105,6 +107,14 @@ linked-next i (n ∷ ns) ws m e h d (suc k) l =
     linked-next (nextAt n) ns (set ws i n) m (omega (arith, length-set ws i n)) (λ q j. h (suc q) (omega arith)) (d .1) k (omega arith)
 
 -- ---- the chain of a table that passes
+
+-- a table that passes has no more words than the most
+pub words-most : (ws : List ℕ) → ¬ WordsOut ws → length ws ≤ mostWords
+words-most ws n =
+    let whole : (length ws - headerWords) % recordWords ≡ 0 =
+    stable (eqb ((length ws - headerWords) % recordWords) 0) ((length ws - headerWords) % recordWords ≡ 0)
+    (decides-eq ((length ws - headerWords) % recordWords) 0) (λ d. n (inr (inl d))) in
+    omega (arith, words-long ws n, words-few ws n)
 
 -- the words of a record are there
 pub next-inside : (ws : List ℕ) (n : ℕ) → 1 ≤ n → n ≤ records ws → nextAt n < length ws
@@ -292,6 +302,10 @@ module _ (ws : List ℕ) (none : NoneApplies ws) (x : ℕ) where
   sooner : horizon (tableOf us) ≤ horizon (tableOf ws)
   sooner = subst (λ (s : Table). horizon s ≤ horizon (tableOf ws)) (sym part-table) (part-fewer (tableOf ws) (passed-sound ws none) x .sooner)
 
+  head-kept : head us ≡ getD ns 0 0
+  unfolding met
+  head-kept = met-kept 0 (omega arith)
+
   some-kept : 0 < length (part (tableOf ws) x .tasks) → 0 < length ns
   some-kept l = omega (arith, l, ap {B = ℕ} length tasks-kept, table-length us, count-kept)
 
@@ -302,9 +316,7 @@ module _ (ws : List ℕ) (none : NoneApplies ws) (x : ℕ) where
   part-passes l n p (three h) = none 3 0 (three (subst RuleOut (same-header 2 (omega arith) (omega arith)) h))
   part-passes l n p (nineteen h) =
       none 19 0 (nineteen (subst (FenceOut (cores ws)) same-fence (subst (λ (m : ℕ). FenceOut m (fence us)) same-cores h)))
-  part-passes l n p (four h) =
-      let m : 0 < length ns = some-kept l in
-      omega (arith, h, met-kept 0 (omega arith), records-in 0 m)
+  part-passes l n p (four h) = omega (arith, h, head-kept, records-in 0 (some-kept l))
   part-passes l n p (five k c h) = never-past (five k c h)
   part-passes l n p (six k c h) = never-again (six k c h)
   part-passes l n p (seven q o h) = inside-widths (wide us) (taskAt us q) (inside-kept q (o .0) (o .1)) h

@@ -1,5 +1,5 @@
 -- `clash::links::copied` meets its contract: after i turns the first i words are in their place. Assumes nothing.
-use mathlib.Core.Path.{_≡_, ap, refl, sym, _∙_}
+use mathlib.Core.Path.{_≡_, ap, refl, subst, sym, _∙_}
 use mathlib.Core.List.{List, [], _++_, _∷_}
 use Prim.Native.Nat.{ℕ, suc, _+_, _-_, _≤_, _<_}
 use native.Mathlib.Numerals.{add-one}
@@ -39,10 +39,20 @@ loop-less : tie.Need-loop-less Inv-loop μ-loop
 loop-less c = search needs
 
 loop-again : tie.Need-loop-again Inv-loop μ-loop
-loop-again c = ?
+loop-again c =
+    let l = c .before .before .loop in
+    let ws = c .before .before .before .args .words .now in
+    let more : take (suc (l .i)) (set (l .copy) (l .i) (getD ws (l .i) 0)) ≡ take (suc (l .i)) ws =
+    take-suc-set (l .copy) (l .i) (getD ws (l .i) 0) (omega arith)
+    ∙ (ap (λ (t : List ℕ). t ++ (getD ws (l .i) 0 ∷ [])) (l .inv .0) ∙ sym (take-suc ws (l .i) 0 (omega arith))) in
+    (rw (add-one (l .i)) more, omega arith, length-set (l .copy) (l .i) (getD ws (l .i) 0) ∙ l .inv .2)
 
 returns : tie.Need-returns Inv-loop μ-loop
-returns c = ?
+returns c =
+    let l = c .before .loop in
+    let ws = c .before .before .args .words .now in
+    let over : l .i ≡ length ws = omega (arith, c .loop-test .left) in
+    subst (λ (i : ℕ). take i (l .copy) ≡ take i ws) over (l .inv .0) ∙ take-length ws
 
 pub copied-spec : {M : Type 1} → statement M
 copied-spec =

@@ -12,13 +12,20 @@ shl-result : tie.Need-shl-result
 shl-result c = search needs
 
 sub-result : tie.Need-sub-result
-sub-result c = ?
+sub-result c =
+    let n = c .args .count in
+    omega (arith, shifted-one 64 n (omega (arith, c .pre)), pow-pos n)
 
 cast-result : tie.Need-cast-result
-cast-result c = ?
+cast-result c =
+    let n = c .args .count in
+    let most : 2 ^ n ≤ 2 ^ 32 = pow-mono (c .pre) in
+    omega (arith, shifted-one 64 n (omega (arith, c .pre)), pow-pos n)
 
 returns : tie.Need-returns
-returns c = ?
+returns c =
+    let n = c .args .count in
+    ap (λ (x : ℕ). x - 1) (shifted-one 64 n (omega (arith, c .pre)))
 
 pub all-spec : {M : Type 1} → statement M
 all-spec = tie.close (tie.spec shl-result sub-result cast-result returns)
