@@ -111,6 +111,29 @@ module _ (s : Table) where
       rw (without-kept x p e)
       (chosen-less (bit x) (bit (x - 2 ^ p)) (s .tasks) p l e (digits.without x p e .others))
 
+  -- a look at one place by its cases: it drops the place, the place is needed, or it is not kept
+  pub dropped-drops : (p x : ℕ) → bit x p ≡ true → clashes s (x - 2 ^ p) ≡ true → dropped s p x ≡ x - 2 ^ p
+  unfolding dropped
+  dropped-drops p x e c = rw (e, c)
+
+  pub dropped-needs : (p x : ℕ) → bit x p ≡ true → clashes s (x - 2 ^ p) ≡ false → dropped s p x ≡ x
+  unfolding dropped
+  dropped-needs p x e c = rw (e, c)
+
+  pub dropped-not : (p x : ℕ) → bit x p ≡ false → dropped s p x ≡ x
+  unfolding dropped
+  dropped-not p x e = rw e
+
+  -- a pass by its last place
+  pub pass-step : (p x : ℕ) → 0 < p → pass s (p - 1) (dropped s (p - 1) x) ≡ pass s p x
+  unfolding pass
+  pass-step zero x l = absurd (not-suc-le-zero l)
+  pass-step (suc p) x l = let e : suc p - 1 ≡ p = omega arith in rw e
+
+  pub pass-none : (p x : ℕ) → p ≡ 0 → pass s p x ≡ x
+  unfolding pass
+  pass-none p x e = rw e
+
   -- a look at one place; where it drops nothing the place is needed
   record Look (p x y : ℕ) : Type 0 where
     left : Left x y
