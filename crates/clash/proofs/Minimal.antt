@@ -252,6 +252,21 @@ module _ (s : Table) where
   unfolding clashSet
   all-done = done n (allPlaces s) (omega (arith, ap {B = ℕ} length whole-tasks))
 
+  -- the passes as code makes them: what further ones leave of this set is the answer, as many of them as tasks are left being enough
+  abbrev pub Going : ℕ → Type 0
+  Going x = (m : ℕ) × (size x ≤ m) × (passes s m x ≡ clashSet s)
+
+  pub going-start : Going (allPlaces s)
+  unfolding clashSet
+  going-start = (n, omega (arith, ap {B = ℕ} length whole-tasks), refl)
+
+  pub going-end : (x : ℕ) → Going x → pass s n x ≡ x → x ≡ clashSet s
+  going-end x g e = sym (passes-end (g .0) x e) ∙ g .2
+
+  pub going-on : (x : ℕ) → Going x → (pass s n x ≡ x → ⊥) → Going (pass s n x)
+  going-on x (zero, l, e) d = absurd (omega (arith, l, pass-fewer x d))
+  going-on x (suc m, l, e) d = (m, omega (arith, l, pass-fewer x d), sym (passes-step m x d) ∙ e)
+
   -- THEOREM: as many passes as tasks are enough, one more drops nothing
   pub passes-settle : pass s (length (s .tasks)) (clashSet s) ≡ clashSet s
   passes-settle = all-done .settled

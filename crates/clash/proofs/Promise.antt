@@ -104,8 +104,8 @@ module _ (ws : List ℕ) where
       go (Refused n p) e = refused-promise n p (table-first n p (promised .refused n p .0 (ap saidBy e))) (is (Refused n p) e)
 
   -- what is made of a verdict that is promised is the answer
-  pub by-verdict : (v : Verdict) → Judged ws v → (r : Clashing) → r ≡ clashBy v (clashSet s) → ClashOf ws r
-  by-verdict v j r e = subst (ClashOf ws) (sym (e ∙ is)) clash-promise
+  pub by-verdict : (v u : Verdict) → Judged ws v → v ≡ u → (r : Clashing) → r ≡ clashBy u (clashSet s) → ClashOf ws r
+  by-verdict v u j q r e = subst (ClashOf ws) (sym (e ∙ is)) clash-promise
     where
-      is : clashBy v (clashSet s) ≡ clashOf ws
-      is = unfold clashOf in ap (λ (w : Verdict). clashBy w (clashSet s)) (j .value)
+      is : clashBy u (clashSet s) ≡ clashOf ws
+      is = unfold clashOf in ap (λ (w : Verdict). clashBy w (clashSet s)) (sym q ∙ j .value)
