@@ -1,7 +1,7 @@
 -- What stands at the chosen places of a list.
-use mathlib.Core.Bool.{Bool, cond, false, false≢true, not, true, true≢false, _&&_, and-true}
+use mathlib.Core.Bool.{Bool, and-true, cond, false, not, true, _&&_}
 use mathlib.Core.List.{List, [], map, _∷_}
-use mathlib.Core.Path.{ap, refl, sym, _∙_, _≡_}
+use mathlib.Core.Path.{ap, refl, _∙_, _≡_}
 use Prim.Native.Nat.{ℕ, suc, zero, _<_, _≤_}
 use native.Mathlib.Nat.{not-suc-le-zero}
 use native.Mathlib.Omega.{arith}

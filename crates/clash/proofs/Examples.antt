@@ -2,7 +2,7 @@
 use mathlib.Core.List.{List, [], _++_, map, _∷_}
 use mathlib.Core.Path.{refl, _≡_}
 use Prim.Native.Nat.{ℕ}
-use lib.ListN.{drop, replicate}
+use lib.ListN.{drop}
 use Rattle.model.proofs.Computing.{computing}
 use Rattle.model.proofs.Examples.{on, t}
 use Rattle.model.specs.Task.{Table, greedy}

@@ -1,5 +1,5 @@
 -- The judge's verdict on the words of a part says whether what is left still misses.
-use mathlib.Core.Bool.{Bool, false, true, true≢false, _&&_}
+use mathlib.Core.Bool.{Bool, false, true, _&&_}
 use mathlib.Core.List.{List, [], _∷_}
 use mathlib.Core.Path.{ap, refl, sym, _∙_, _≡_}
 use Prim.Native.Nat.{ℕ, _<_}
@@ -23,8 +23,9 @@ use Rattle.judge.specs.Said.{caseOf, judged}
 use Rattle.clash.specs.Clash.{clashSet, clashes, isMiss, someLeft}
 use Rattle.clash.specs.Part.{part, without}
 use Rattle.clash.specs.Relinked.{relinked}
-use Rattle.clash.proofs.Minimal.{clash-minimal, clashes-some, missed-clashes}
+use Rattle.clash.proofs.Minimal.{clash-minimal}
 use Rattle.clash.proofs.Relinked.{part-empty, part-passes, part-table}
+use Rattle.clash.proofs.Still.{clashes-some, missed-clashes}
 
 -- the answer is a miss
 abbrev pub saysMiss : Verdict → Bool

@@ -2,8 +2,8 @@
 use mathlib.Core.Bool.{Bool, cond, false, true}
 use mathlib.Core.List.{List, [], _∷_}
 use mathlib.Core.Logic.{⊎-elim}
-use mathlib.Core.Path.{ap, ap₂, fun-ext, refl, subst, sym, _∙_, _≡_}
-use Prim.Native.Nat.{ℕ, suc, zero, _*_, _+_, _-_, _<_, _≤_}
+use mathlib.Core.Path.{ap, ap₂, fun-ext, refl, sym, _∙_, _≡_}
+use Prim.Native.Nat.{ℕ, suc, _+_, _-_, _<_, _≤_}
 use native.Mathlib.Nat.{add-zero, eq-or-lt-of-le, zero-add}
 use native.Mathlib.Omega.{arith}
 use lib.ListN.{drop, drop-of-length-le, length, set, take}
@@ -16,7 +16,7 @@ use Rattle.table.specs.Numbers.{NoneApplies}
 use Rattle.table.specs.Words.{chain, count, head, met, next, records}
 use Rattle.clash.specs.Part.{chosen}
 use Rattle.clash.specs.Relinked.{linked, nextAt, relinked}
-use Rattle.clash.proofs.Relinked.{chain-ends, chain-in, next-inside}
+use Rattle.clash.proofs.Linked.{chain-ends, chain-in, next-inside}
 
 -- the records kept from place k on
 abbrev rest : List ℕ → ℕ → ℕ → List ℕ
@@ -29,13 +29,16 @@ rest-more : (ws : List ℕ) (x k : ℕ) → k < count ws → rest ws x k ≡ con
 unfolding chosen
 rest-more ws x k l =
     ap (chosen (λ q. bit x (k + q))) (drop-cons (chain ws) k 0 (omega (arith, chain-length ws)))
-    ∙ (λ i. cond (bit x (here i)) (chain-at ws k 0 l i ∷ chosen (fun-ext others i) (drop (suc k) (chain ws))) (chosen (fun-ext others i) (drop (suc k) (chain ws))))
+    ∙ (λ i. cond (bit x (here i)) (chain-at ws k 0 l i ∷ below i) (below i))
   where
     here : k + 0 ≡ k
     here = add-zero k
 
     others : (q : ℕ) → bit x (k + suc q) ≡ bit x (suc k + q)
     others q = let e : k + suc q ≡ suc k + q = omega arith in ap (bit x) e
+
+    below : chosen (λ q. bit x (k + suc q)) (drop (suc k) (chain ws)) ≡ rest ws x (suc k)
+    below = ap (λ (f : ℕ → Bool). chosen f (drop (suc k) (chain ws))) (fun-ext others)
 
 rest-end : (ws : List ℕ) (x : ℕ) → rest ws x (count ws) ≡ []
 unfolding chosen

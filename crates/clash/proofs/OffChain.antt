@@ -1,6 +1,6 @@
 -- What the words of a record off the chain say changes no answer.
 use mathlib.Core.List.{List}
-use mathlib.Core.Path.{_≡_, ap, refl, sym, _∙_}
+use mathlib.Core.Path.{_≡_, ap, refl, _∙_}
 use Prim.Native.Nat.{ℕ}
 use Rattle.model.specs.Task.{Table}
 use Rattle.table.proofs.OffChain.{off-chain-answer, off-chain-table}

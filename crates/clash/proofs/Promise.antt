@@ -21,7 +21,8 @@ use Rattle.clash.specs.declared.Clashing.{Clashing}
 use Rattle.clash.specs.Answer.{ClashOf, clashBy, clashOf, given, turnedDown}
 use Rattle.clash.specs.Clash.{clashSet}
 use Rattle.clash.specs.Numbers.{Applies, First, NoneApplies, seventeen, words}
-use Rattle.clash.proofs.Minimal.{clash-minimal, clash-past}
+use Rattle.clash.proofs.Dropping.{clash-past}
+use Rattle.clash.proofs.Minimal.{clash-minimal}
 
 taken-refused : {n p : ℕ} → book.taken ≡ book.refused n p → ⊥
 taken-refused e = let z : _≡_ {A = ℕ} 0 1 = cc in omega arith

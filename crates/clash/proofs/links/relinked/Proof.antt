@@ -2,7 +2,7 @@
 use mathlib.Core.List.{List}
 use mathlib.Core.Logic.{⊎-elim}
 use mathlib.Core.Path.{subst, sym}
-use Prim.Native.Nat.{ℕ, suc, _+_, _-_, _*_, _≤_, _<_}
+use Prim.Native.Nat.{ℕ, suc, _-_, _<_, _≤_}
 use denote.Ref.{now}
 use native.Mathlib.Nat.{add-zero}
 use native.Mathlib.Numerals.{add-one}
@@ -13,8 +13,8 @@ use Rattle.table.proofs.HeaderFine.{words-long}
 use Rattle.table.specs.Numbers.{one}
 use Rattle.table.specs.Words.{count, next}
 use Rattle.clash.specs.Relinked.{mostWords, nextAt}
+use Rattle.clash.proofs.Linked.{words-most}
 use Rattle.clash.proofs.Linking.{Linking, linking-dropped, linking-end, linking-few, linking-kept, linking-next, linking-room, linking-start}
-use Rattle.clash.proofs.Relinked.{words-most}
 use Rattle.clash.proofs.links.relinked.Statement.{statement}
 use Rattle.clash.proofs.links.relinked.Tie as tie
 

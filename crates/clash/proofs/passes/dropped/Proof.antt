@@ -8,7 +8,7 @@ use borrow.Author.Tests.{eq-eqb, ne-eqb}
 use Rattle.model.proofs.Digits.{shifted-one, without}
 use Rattle.table.specs.Words.{tableOf}
 use Rattle.clash.specs.Clash.{clashes}
-use Rattle.clash.proofs.Minimal.{dropped-drops, dropped-needs, dropped-not}
+use Rattle.clash.proofs.Dropping.{dropped-drops, dropped-needs, dropped-not}
 use Rattle.clash.proofs.passes.dropped.Statement.{statement}
 use Rattle.clash.proofs.passes.dropped.Tie as tie
 

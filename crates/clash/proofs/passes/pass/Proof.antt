@@ -1,11 +1,11 @@
 -- `clash::passes::pass` meets its contract: what the rest of the pass leaves of the set is what the whole pass does. Assumes nothing.
 use mathlib.Core.Path.{_≡_, ap, refl, sym, _∙_}
-use Prim.Native.Nat.{_-_, _≤_, _<_}
+use Prim.Native.Nat.{_-_, _≤_}
 use denote.Ref.{now}
 use native.Mathlib.Omega.{arith}
 use Rattle.table.specs.Words.{tableOf}
 use Rattle.clash.specs.Clash.{pass}
-use Rattle.clash.proofs.Minimal.{pass-none, pass-step}
+use Rattle.clash.proofs.Dropping.{pass-none, pass-step}
 use Rattle.clash.proofs.passes.pass.Statement.{statement}
 use Rattle.clash.proofs.passes.pass.Tie as tie
 

@@ -4,29 +4,28 @@ use mathlib.Core.Path.{_≡_, ap, subst, sym, _∙_}
 use Prim.Native.Nat.{ℕ}
 use denote.Ref.{now}
 use native.Mathlib.Omega.{arith}
-use lib.ListN.{length, length-take, take}
+use lib.ListN.{length, length-take}
 use borrow.Author.Needs.{needs}
-use Rattle.table.specs.Numbers.{NoneApplies}
 use Rattle.table.specs.Words.{tableOf}
 use Rattle.judge.specs.declared.Verdict.{Verdict}
 use Rattle.judge.specs.declared.Verdict.the-variants.{Firm, Full, Miss, Refused}
 use Rattle.judge.specs.Judged.{Judged}
 use Rattle.clash.specs.Clash.{clashes}
-use Rattle.clash.specs.Relinked.{relinked}
 use Rattle.clash.proofs.Judging.{clashes-by, saysMiss}
 use Rattle.clash.proofs.Relinked.{same-length}
 use Rattle.clash.proofs.passes.still_misses.Statement.{statement}
 use Rattle.clash.proofs.passes.still_misses.Tie as tie
 
--- what the verdict on the words of a part says
-says :
-    (ws : List ℕ) → NoneApplies ws → (x : ℕ) (r : List ℕ) → take (length ws) r ≡ relinked ws x → (v : Verdict) → Judged (take (length ws) r) v
-    → (u : Verdict) → v ≡ u → saysMiss u ≡ clashes (tableOf ws) x
-says ws none x r e v j u q = sym (clashes-by ws none x v (subst (λ (us : List ℕ). Judged us v) e j) ∙ ap saysMiss q)
-
 -- the state at the call
 abbrev call : tie.After-judge → tie.Start
 call c = c .before .before .before .before
+
+-- what the verdict on the words of the part says
+says : (c : tie.After-judge) (u : Verdict) → c .judge .result ≡ u → saysMiss u ≡ clashes (tableOf (now (call c .args .words))) (call c .args .kept)
+says c u q =
+    let v = c .judge .result in
+    let j = subst (λ (us : List ℕ). Judged us v) (c .before .before .relinked .ensures) (c .judge .ensures) in
+    sym (clashes-by (now (call c .args .words)) (call c .pre) (call c .args .kept) v j ∙ ap saysMiss q)
 
 relinked-requires : tie.Need-relinked-requires
 relinked-requires c κs = search needs
@@ -59,24 +58,16 @@ enum-told-4 : tie.Need-enum-told-4
 enum-told-4 c = search needs
 
 returns : tie.Need-returns
-returns c =
-    let j = c .before .before in
-    says _ (call j .pre) _ (j .before .before .relinked .result) (j .before .before .relinked .ensures) (j .judge .result) (j .judge .ensures) (Firm _ _) (c .enum-told .given .1)
+returns c = says (c .before .before) (Firm _ _) (c .enum-told .given .1)
 
 returns-2 : tie.Need-returns-2
-returns-2 c =
-    let j = c .before .before in
-    says _ (call j .pre) _ (j .before .before .relinked .result) (j .before .before .relinked .ensures) (j .judge .result) (j .judge .ensures) (Full _ _) (c .enum-told2 .given .1)
+returns-2 c = says (c .before .before) (Full _ _) (c .enum-told2 .given .1)
 
 returns-3 : tie.Need-returns-3
-returns-3 c =
-    let j = c .before .before in
-    says _ (call j .pre) _ (j .before .before .relinked .result) (j .before .before .relinked .ensures) (j .judge .result) (j .judge .ensures) (Miss _ _) (c .enum-told3 .given .1)
+returns-3 c = says (c .before .before) (Miss _ _) (c .enum-told3 .given .1)
 
 returns-4 : tie.Need-returns-4
-returns-4 c =
-    let j = c .before .before in
-    says _ (call j .pre) _ (j .before .before .relinked .result) (j .before .before .relinked .ensures) (j .judge .result) (j .judge .ensures) (Refused _ _) (c .enum-told4 .given .1)
+returns-4 c = says (c .before .before) (Refused _ _) (c .enum-told4 .given .1)
 
 pub still-misses-spec : {M : Type 1} → statement M
 still-misses-spec =
