@@ -21,9 +21,10 @@ use Rattle.table.proofs.Tests.{again-decides, past-decides, stops-decides}
 use Rattle.table.proofs.Walk.{ends-there, five-decides, six-decides, stops-there}
 use Rattle.table.specs.Answer.{againAt, lastStep, pastAt}
 use Rattle.table.specs.Limits.{CoresOut, FenceOut, RuleOut, TimesOut, WidthOut}
-use Rattle.table.specs.Numbers.{AgainAt, Applies, EndAt, NoneApplies, PastAt, Reaches, WordsOut}
+use Rattle.table.specs.Numbers.{AgainAt, Applies, EndAt, NoneApplies, PastAt, Reaches}
 use Rattle.table.specs.Numbers.{eight, five, four, nine, nineteen, one, seven, six, three, two}
-use Rattle.table.specs.Words.{chain, cores, count, fence, fenceOf, field, head, headerWords, met, next, recordWords, records, tableOf, taskAt, taskOfRecord, word}
+use Rattle.table.specs.Words.{chain, cores, count, fence, fenceOf, field, head, headerWords, met, next, recordWords, records}
+use Rattle.table.specs.Words.{tableOf, taskAt, taskOfRecord, word}
 use Rattle.clash.specs.Part.{chosen, part}
 use Rattle.clash.specs.Relinked.{nextAt, relinked}
 use Rattle.clash.proofs.Chosen.{chosen-all, chosen-map}

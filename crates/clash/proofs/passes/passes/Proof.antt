@@ -37,7 +37,9 @@ abbrev table : tie.After-load Inv-loop μ-loop → Table
 table c = tableOf (now (entry c .args .words))
 
 -- a pass goes over all its tasks
-passed : (c : tie.After-pass Inv-loop μ-loop) → c .pass .result ≡ pass (table (loaded (c .before))) (length (table (loaded (c .before)) .tasks)) (c .before .loop .kept)
+passed :
+    (c : tie.After-pass Inv-loop μ-loop)
+    → c .pass .result ≡ pass (table (loaded (c .before))) (length (table (loaded (c .before)) .tasks)) (c .before .loop .kept)
 passed c =
     let l = loaded (c .before) in
     c .pass .ensures ∙ ap (λ (n : ℕ). pass (table l) n (c .before .loop .kept)) (held l .count)
