@@ -562,7 +562,7 @@ def draw(program, text, asked=Asked(), table=None):
         word, first, second = fields[0].decode("ascii", "replace"), int(fields[1]), int(fields[2])
         if word == "refused":
             return refusal(first, second)
-        if word not in VERDICTS:
+        if word not in VERDICTS or table and word != "miss":
             raise Trouble(f"the program's verdict is {word!r}")
         return chart(word, first, second, table or table_of(text), process.stdout, asked, answers)
 
@@ -575,10 +575,7 @@ def draw_clash(program, text, answer, asked=Asked()):
     table = table._replace(clash=[int(field) for field in answer.split()])
     if not table.clash or table.clash != sorted({*table.clash} & {*range(1, len(table.tasks) + 1)}):
         raise Trouble(f"the clash is {answer!r}")
-    drawn, status = draw(program, relinked(text, table.records, table.clash), asked, table)
-    if status != MISSED:
-        raise Trouble("the program finds no miss in the clash")
-    return drawn, FINE
+    return draw(program, relinked(text, table.records, table.clash), asked, table)[0], FINE
 
 
 # The picture of a list of operations of a table, and the status.
