@@ -31,10 +31,10 @@ extern "C" {
 /* The version of this header; sivorandra_version says that of the library that is linked. One number, which grows with the version:
    major * 10000 + minor * 100 + patch. */
 #define SIVORANDRA_VERSION_MAJOR 0
-#define SIVORANDRA_VERSION_MINOR 11
+#define SIVORANDRA_VERSION_MINOR 12
 #define SIVORANDRA_VERSION_PATCH 0
 #define SIVORANDRA_VERSION (SIVORANDRA_VERSION_MAJOR * 10000 + SIVORANDRA_VERSION_MINOR * 100 + SIVORANDRA_VERSION_PATCH)
-#define SIVORANDRA_VERSION_TEXT "0.11.0"
+#define SIVORANDRA_VERSION_TEXT "0.12.0"
 
 /* No call takes more bytes of the stack. */
 #define SIVORANDRA_STACK_BYTES 20480
@@ -52,6 +52,7 @@ extern "C" {
 #define SIVORANDRA_FULL 1u        /* S and P */
 #define SIVORANDRA_MISS 2u        /* tick and position */
 #define SIVORANDRA_LENGTH 0u      /* from sivorandra_sentence: the sentence's length, and 0 */
+#define SIVORANDRA_KEPT 0u        /* from sivorandra_clash: the set of the positions kept, bit 0 for position 1, and 0 */
 #define SIVORANDRA_REFUSED 3u     /* number, one of enum sivorandra_number, and position */
 #define SIVORANDRA_ROW_REFUSED 4u /* the last row of a replay: number and position */
 #define SIVORANDRA_NO_SENTENCE 5u /* from sivorandra_facts: 0 and 0 */
@@ -75,7 +76,7 @@ enum sivorandra_number {
     SIVORANDRA_NOT_A_RUN = 14,    /* row, advance, withdraw: the words are no run */
     SIVORANDRA_LATE = 15,         /* row, advance: the position, the lowest that is late, has not ended its job at its deadline */
     SIVORANDRA_BAD_REPORT = 16,   /* advance: for a position past the count, or a task that is not working or has no cores, its own or lent, in this tick */
-    SIVORANDRA_NO_MISS = 17,      /* sentence: the table has no miss */
+    SIVORANDRA_NO_MISS = 17,      /* sentence, clash: the table has no miss */
     SIVORANDRA_SHORT_BUFFER = 18, /* sentence: `buffer` is shorter than the sentence */
     SIVORANDRA_BAD_FENCE = 19,    /* the fence names a core past the count, or all cores */
     SIVORANDRA_BAD_EMPTY = 20,    /* row, advance: for a position past the count, or a task whose job is not released in this very tick */
