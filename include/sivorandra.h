@@ -4,8 +4,8 @@
    No call keeps a pointer, or writes anywhere but into the slices lent for writing.
 
    What a call costs:
-   - Memory: none from the heap. Of the stack less than SIVORANDRA_STACK_BYTES (measured: sentence 16,200 bytes, replay 15,700, plan 13,100,
-     start 12,700, advance 12,200, withdraw 11,900, judge 9,800, row 7,400, longest 6,600, judge_ticks 5,800, facts 700).
+   - Memory: none from the heap. Of the stack less than SIVORANDRA_STACK_BYTES (measured: sentence 16,200 bytes, replay 15,700, clash 13,400,
+     plan 13,100, start 12,700, advance 12,200, withdraw 11,900, judge 9,800, row 7,400, longest 6,600, judge_ticks 5,800, facts 700).
    - Threads: the library has no state and no data that is written to, so any number of threads may call at once, each with slices of its own
      to be written to; slices that are only read may be shared. Of the C library it calls memcpy and memset alone.
    - Time: row, advance and withdraw take some microseconds at most, a bound by the 32 tasks and 64 cores alone. judge goes from one release,
@@ -14,7 +14,7 @@
      1,000,000,000, milliseconds where the periods are long, and two minutes where all 32 tasks move in every tick. No call can be stopped
      from outside: where that is too long, judge in a process of its own. judge_ticks takes every tick; start takes as long as judge, sentence
      about three times as long; plan judges up to b, and takes every tick up to b; replay takes a start, and an advance or a withdrawal for each entry;
-     facts goes once over its bytes.
+     facts goes once over its bytes; clash judges the table and parts of it, 529 times at most.
 
    A run in words belongs to the version that wrote it: the words may change with the version. Keep SIVORANDRA_VERSION beside a run that is
    stored, and start again where it differs; 14 finds what is no run, not a run of another version. */
@@ -220,6 +220,17 @@ uint32_t sivorandra_facts(const uint8_t *bytes, size_t bytes_len,
 uint32_t sivorandra_longest(const uint32_t *words, size_t words_len,
                             uint32_t *figures, size_t figures_len,
                             uint32_t *answer, size_t answer_len);
+
+/* The tasks in the clash of the table in `words`, which misses: the set of the positions kept, or refused by the table's numbers or with 17. From
+   the lowest priority upward each task is dropped if what remains still misses and is not empty; whole passes are repeated until one drops
+   nothing. The tasks kept, judged as a table of their own, still miss, and without any one of them the rest never misses a deadline, or is empty.
+   Positions are those of the whole table.
+   A pass judges once for each task that it finds: what remains, up to its first miss or else up to its horizon, which is no later than the whole
+   table's. So it can take much longer than sivorandra_judge, which ends at the first miss: where all 32 tasks are kept, as long as 32 judgings
+   without a miss. Every pass but the last drops a task: with the whole table it judges 529 times at most. It takes 13,400 bytes of the
+   stack. */
+uint32_t sivorandra_clash(const uint32_t *words, size_t words_len,
+                          uint32_t *answer, size_t answer_len);
 
 #ifdef __cplusplus
 }
