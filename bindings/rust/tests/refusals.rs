@@ -1,4 +1,4 @@
-//! Every number there can be, both ways; what is displayed; and a refusal as an error.
+//! Every number there can be, both ways; what is displayed; a refusal as an error; the counts of a run and the positions of a clash.
 use sivorandra::{clash, judge, version, Refusal, Run, MOST_TASKS, VERSION};
 use std::error::Error;
 
