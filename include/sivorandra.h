@@ -4,8 +4,8 @@
    No call keeps a pointer, or writes anywhere but into the slices lent for writing.
 
    What a call costs:
-   - Memory: none from the heap. Of the stack less than SIVORANDRA_STACK_BYTES (measured: sentence 16,200 bytes, replay 15,700, plan 13,100,
-     start 12,700, advance 12,200, withdraw 11,900, judge 9,800, row 7,400, longest 6,600, judge_ticks 5,800, facts 700).
+   - Memory: none from the heap. Of the stack less than SIVORANDRA_STACK_BYTES (measured: sentence 16,200 bytes, replay 15,700, clash 13,400,
+     plan 13,100, start 12,700, advance 12,200, withdraw 11,900, judge 9,800, row 7,400, longest 6,600, judge_ticks 5,800, facts 700).
    - Threads: the library has no state and no data that is written to, so any number of threads may call at once, each with slices of its own
      to be written to; slices that are only read may be shared. Of the C library it calls memcpy and memset alone.
    - Time: row, advance and withdraw take some microseconds at most, a bound by the 32 tasks and 64 cores alone. judge goes from one release,
@@ -14,7 +14,7 @@
      1,000,000,000, milliseconds where the periods are long, and two minutes where all 32 tasks move in every tick. No call can be stopped
      from outside: where that is too long, judge in a process of its own. judge_ticks takes every tick; start takes as long as judge, sentence
      about three times as long; plan judges up to b, and takes every tick up to b; replay takes a start, and an advance or a withdrawal for each entry;
-     facts goes once over its bytes.
+     facts goes once over its bytes; clash judges the table and parts of it, 529 times at most.
 
    A run in words belongs to the version that wrote it: the words may change with the version. Keep SIVORANDRA_VERSION beside a run that is
    stored, and start again where it differs; 14 finds what is no run, not a run of another version. */
@@ -31,10 +31,10 @@ extern "C" {
 /* The version of this header; sivorandra_version says that of the library that is linked. One number, which grows with the version:
    major * 10000 + minor * 100 + patch. */
 #define SIVORANDRA_VERSION_MAJOR 0
-#define SIVORANDRA_VERSION_MINOR 11
+#define SIVORANDRA_VERSION_MINOR 12
 #define SIVORANDRA_VERSION_PATCH 0
 #define SIVORANDRA_VERSION (SIVORANDRA_VERSION_MAJOR * 10000 + SIVORANDRA_VERSION_MINOR * 100 + SIVORANDRA_VERSION_PATCH)
-#define SIVORANDRA_VERSION_TEXT "0.11.0"
+#define SIVORANDRA_VERSION_TEXT "0.12.0"
 
 /* No call takes more bytes of the stack. */
 #define SIVORANDRA_STACK_BYTES 20480
@@ -52,6 +52,7 @@ extern "C" {
 #define SIVORANDRA_FULL 1u        /* S and P */
 #define SIVORANDRA_MISS 2u        /* tick and position */
 #define SIVORANDRA_LENGTH 0u      /* from sivorandra_sentence: the sentence's length, and 0 */
+#define SIVORANDRA_KEPT 0u        /* from sivorandra_clash: the set of the positions kept, bit 0 for position 1, and 0 */
 #define SIVORANDRA_REFUSED 3u     /* number, one of enum sivorandra_number, and position */
 #define SIVORANDRA_ROW_REFUSED 4u /* the last row of a replay: number and position */
 #define SIVORANDRA_NO_SENTENCE 5u /* from sivorandra_facts: 0 and 0 */
@@ -75,7 +76,7 @@ enum sivorandra_number {
     SIVORANDRA_NOT_A_RUN = 14,    /* row, advance, withdraw: the words are no run */
     SIVORANDRA_LATE = 15,         /* row, advance: the position, the lowest that is late, has not ended its job at its deadline */
     SIVORANDRA_BAD_REPORT = 16,   /* advance: for a position past the count, or a task that is not working or has no cores, its own or lent, in this tick */
-    SIVORANDRA_NO_MISS = 17,      /* sentence: the table has no miss */
+    SIVORANDRA_NO_MISS = 17,      /* sentence, clash: the table has no miss */
     SIVORANDRA_SHORT_BUFFER = 18, /* sentence: `buffer` is shorter than the sentence */
     SIVORANDRA_BAD_FENCE = 19,    /* the fence names a core past the count, or all cores */
     SIVORANDRA_BAD_EMPTY = 20,    /* row, advance: for a position past the count, or a task whose job is not released in this very tick */
@@ -219,6 +220,17 @@ uint32_t sivorandra_facts(const uint8_t *bytes, size_t bytes_len,
 uint32_t sivorandra_longest(const uint32_t *words, size_t words_len,
                             uint32_t *figures, size_t figures_len,
                             uint32_t *answer, size_t answer_len);
+
+/* The tasks in the clash of the table in `words`, which misses: the set of the positions kept, or refused by the table's numbers or with 17. From
+   the lowest priority upward each task is dropped if what remains still misses and is not empty; whole passes are repeated until one drops
+   nothing. The tasks kept, judged as a table of their own, still miss, and without any one of them the rest never misses a deadline, or is empty.
+   Positions are those of the whole table.
+   A pass judges once for each task that it finds: what remains, up to its first miss or else up to its horizon, which is no later than the whole
+   table's. So it can take much longer than sivorandra_judge, which ends at the first miss: where all 32 tasks are kept, as long as 32 judgings
+   without a miss. Every pass but the last drops a task: with the whole table it judges 529 times at most. It takes 13,400 bytes of the
+   stack. */
+uint32_t sivorandra_clash(const uint32_t *words, size_t words_len,
+                          uint32_t *answer, size_t answer_len);
 
 #ifdef __cplusplus
 }

@@ -102,16 +102,18 @@ class Chart(Sheet):
         self.cores, self.tasks, self.fenced = table.cores, table.tasks, sorted(table.fenced)
         self.wide = min(80, max(12, 960 / len(rows)))
         self.high = next(size for most, size in ((8, 28), (16, 20), (32, 15), (64, 12)) if self.cores <= most)
-        self.strip = 24 if len(self.tasks) <= 12 else 18
-        self.names = [f"{place + 1} (record {record})" for place, record in enumerate(table.records)]
+        self.drawn = table.drawn  # the positions that have a strip
+        self.strip = 24 if len(self.drawn) <= 12 else 18
+        self.names = [f"{position} (record {table.records[position - 1]})" for position in self.drawn]
         self.box = 12 + 6 * max(map(len, self.names))
-        self.pairs = any(task.v != task.w for task in self.tasks)
-        self.fields = [("O", "v/w" if self.pairs else "v", "C", "D", "T"), *map(fields_of, self.tasks)]  # of the line over the strips and of each strip
+        shown = [self.tasks[position - 1] for position in self.drawn]
+        self.pairs = any(task.v != task.w for task in shown)
+        self.fields = [("O", "v/w" if self.pairs else "v", "C", "D", "T"), *map(fields_of, shown)]  # of the line over the strips and of each strip
         self.columns = [max(len(field) for field in column) + 2 for column in zip(*self.fields)]
         self.left = 16 + max(40, self.box + 14 + 6.1 * sum(self.columns))
         self.top = 69 + 19 * (len(head) - 3 + len(red)) + 57
         self.under = self.top + self.cores * self.high
-        self.foot = self.under + 46 + len(self.tasks) * self.strip
+        self.foot = self.under + 46 + len(self.drawn) * self.strip
         self.reach(self.x(self.end) + 12, self.foot)
         self.text(16, 28, head[0], 17, font_weight="bold")
         for k, line in enumerate([*head[1:], *red]):
@@ -120,8 +122,8 @@ class Chart(Sheet):
     def x(self, tick):
         return round(self.left + (tick - self.start) * self.wide, 2)
 
-    def base(self, place):
-        return self.under + 46 + (place + 1) * self.strip - 4
+    def base(self, position):
+        return self.under + 46 + (self.drawn.index(position) + 1) * self.strip - 4
 
     def bar(self, since, until, base, **words):
         self.add("rect", x=self.x(since), y=base - 8, width=round((until - since) * self.wide, 2), height=8, **words)
@@ -191,27 +193,27 @@ class Chart(Sheet):
                           '<path id="down" d="M0 -14V0M-3.5 -6L0 0L3.5 -6" stroke="#000" fill="none"/></defs>')
         self.add("text", "position", x=22, y=self.under + 38, font_size=11, fill="#333")
         self.add("text", label(self.fields[0]), x=16 + self.box, y=self.under + 38, **MONO)
-        for place, task in enumerate(self.tasks):
-            base, (fill, ink) = self.base(place), colour(place + 1)
-            with self.group(id=f"task{place + 1}"):
+        for place, position in enumerate(self.drawn):
+            task, base, (fill, ink) = self.tasks[position - 1], self.base(position), colour(position)
+            with self.group(id=f"task{position}"):
                 self.add("rect", x=16, y=base - 12, width=self.box, height=14, fill=fill)
                 self.add("text", self.names[place], x=22, y=base - 1, font_size=11, fill=ink)
                 self.add("text", label(self.fields[place + 1]), x=16 + self.box, y=base - 1, **MONO)
                 for due in moments(task, task.D, self.start + 1, self.end + task.D - 1):
                     self.bar(max(self.start, due - task.D), min(self.end, due), base, fill="#d8d8d8")
-                for _, at, length in runs([place + 1 if place + 1 in row else 0 for row in self.rows], self.start, self.tasks):
+                for _, at, length in runs([position if position in row else 0 for row in self.rows], self.start, self.tasks):
                     self.bar(self.start + at, self.start + at + length, base, fill=fill)
-                for tick in sorted(tick for tick, position in held if position == place + 1):
+                for tick in sorted(tick for tick, holder in held if holder == position):
                     self.bar(tick, tick + 1, base, fill="#fff", fill_opacity=0.55)
                     self.bar(tick, tick + 1, base, fill="url(#light)")
-                for since, until in [(max(self.start, since), min(self.end, until)) for position, since, until in unused if position == place + 1]:
+                for since, until in [(max(self.start, since), min(self.end, until)) for early, since, until in unused if early == position]:
                     if since < until:
-                        self.bar(since, until, base, id=f"unused{place + 1}-{since}", **LOOKS["unused"])
-                if late and late[1] == place + 1:
+                        self.bar(since, until, base, id=f"unused{position}-{since}", **LOOKS["unused"])
+                if late and late[1] == position:
                     self.bar(max(self.start, late[0] - task.D), late[0], base, fill="none", stroke=RED, stroke_width=1.5)
                 self.add("line", x1=self.x(self.start), x2=self.x(self.end), y1=base, y2=base, stroke="#888")
                 for name, arrow, after in (("releases", "up", 0), ("deadlines", "down", task.D)):
-                    with self.group(id=f"{name}{place + 1}"):
+                    with self.group(id=f"{name}{position}"):
                         for tick in moments(task, after, self.start, self.end):
                             self.arrow(arrow, self.x(tick), base)
 
@@ -226,19 +228,19 @@ class Chart(Sheet):
             for core, having in enumerate(self.rows[tick - self.start]):
                 if having == position:
                     self.stop(at, self.top + core * self.high + 1, self.high - 2, thick)
-            self.stop(at, self.base(position - 1) - 11, 12, thick)
+            self.stop(at, self.base(position) - 11, 12, thick)
 
     # Where an empty job is released: a ring in its strip.
     def empty(self, tick, position):
         with self.group(id=f"empty{position}-{tick}"):
             self.add("title", f"the job that position {position} releases in tick {tick} is empty")
-            self.ring(self.x(tick) + min(8, self.wide / 2), self.base(position - 1) - 4)
+            self.ring(self.x(tick) + min(8, self.wide / 2), self.base(position) - 4)
 
     # Where a position is withdrawn: a bar with a foot over the beginning of the tick, in its strip.
     def withdrawn(self, tick, position):
         with self.group(id=f"out{position}-{tick}"):
             self.add("title", f"position {position} is withdrawn in tick {tick}")
-            self.gate(self.x(tick) + 1.5, self.base(position - 1))
+            self.gate(self.x(tick) + 1.5, self.base(position))
 
     def gate(self, x, y):
         self.add("path", d=f"M{round(x, 2)} {round(y - 14, 2)}v14m0 -14h7m-7 14h7", stroke="#000", stroke_width=2, fill="none")
@@ -248,7 +250,7 @@ class Chart(Sheet):
 
     # The longest answer of a task beside its strip, against its D; and over a job that takes so long a bracket from release to end.
     def longest(self, position, figure, release):
-        base = self.base(position - 1)
+        base = self.base(position)
         self.text(self.x(self.end) + 11, base - 1, f"longest {figure} of {self.tasks[position - 1].D}", 11, fill="#333", id=f"figure{position}")
         if release is not None:
             since, until = self.x(release), self.x(release + figure)
@@ -276,7 +278,7 @@ class Chart(Sheet):
 
     # A miss: the line across, a cross in the strip, and what the late job had.
     def late(self, tick, position, had, words, y):
-        base = self.base(position - 1)
+        base = self.base(position)
         self.mark("miss", tick, words, y, RED, "none")
         self.add("path", id="late", d=f"M{self.x(tick) - 6} {base - 14}l12 12m0 -12l-12 12", stroke=RED, stroke_width=3, fill="none")
         self.text(self.x(self.end) + 11, base - 1, f"had {had} of {self.tasks[position - 1].C}", 12, fill=RED, id="had")

@@ -118,6 +118,7 @@ static uint32_t sentence(const uint32_t *table, size_t len) { return sivorandra_
 static uint32_t advance_with(uint32_t reports, uint32_t empties) { return sivorandra_advance(words_at(&run), run.len, reports, empties, ANSWER); }
 static uint32_t advance(uint32_t reports) { return advance_with(reports, 0); }
 static uint32_t withdraw(uint32_t position) { return sivorandra_withdraw(words_at(&run), run.len, position, ANSWER); }
+static uint32_t clash(const uint32_t *table, size_t len) { return sivorandra_clash(table, len, ANSWER); }
 static uint32_t longest(const uint32_t *table, size_t len) { return sivorandra_longest(table, len, words_at(&numbers), numbers.len, ANSWER); }
 
 /* A slice of length 0 whose pointer is NULL. */
@@ -133,6 +134,9 @@ static void nulls(void)
     fresh(), refused(1), expect("judge_ticks: no words", 0, ticks(NULL, 0));
     fresh(), NONE(answer), expect("judge_ticks: no answer", 1, ticks(full, TABLE));
     fresh(), NONE(answer), expect("judge_ticks: nothing", 1, ticks(NULL, 0));
+    fresh(), refused(1), expect("clash: no words", 0, clash(NULL, 0));
+    fresh(), NONE(answer), expect("clash: no answer", 1, clash(miss, TABLE));
+    fresh(), NONE(answer), expect("clash: nothing", 1, clash(NULL, 0));
     fresh(), refused(1), expect("plan: no words", 0, plan(NULL, 0, 0, 0));
     fresh(), NONE(row), answered(0, 0, 0), expect("plan: no rows, none asked", 0, plan(full, TABLE, 0, 0));
     fresh(), NONE(row), refused(11), expect("plan: no rows, one asked", 0, plan(full, TABLE, 0, 1));
@@ -243,6 +247,7 @@ static void tables(void)
     for (size_t i = 0; i < sizeof lens / sizeof lens[0]; i++) {
         fresh(), refused(lens[i].number), expect("judge: fewer words", 0, judge(full, lens[i].len));
         fresh(), refused(lens[i].number), expect("judge_ticks: fewer words", 0, ticks(full, lens[i].len));
+        fresh(), refused(lens[i].number), expect("clash: fewer words", 0, clash(miss, lens[i].len));
         fresh(), refused(lens[i].number), expect("plan: fewer words", 0, plan(full, lens[i].len, ONES, 0));
         fresh(), refused(lens[i].number), no_run(), expect("start: fewer words", 0, start(full, lens[i].len));
     }
@@ -250,6 +255,7 @@ static void tables(void)
     for (size_t i = 0; i < sizeof many / sizeof many[0]; i++) {
         fresh(), refused(many[i].number), expect("judge: all ones", 0, judge(ones, many[i].len));
         fresh(), refused(many[i].number), expect("judge_ticks: all ones", 0, ticks(ones, many[i].len));
+        fresh(), refused(many[i].number), expect("clash: all ones", 0, clash(ones, many[i].len));
         fresh(), refused(many[i].number), no_run(), expect("start: all ones", 0, start(ones, many[i].len));
         fresh(), refused(many[i].number), expect("replay: all ones", 0, replay(ones, many[i].len, ones, 1 << 20));
     }
@@ -257,6 +263,8 @@ static void tables(void)
     fresh(), answered(SIVORANDRA_MISS, 2, 3), expect("judge: a miss", 0, judge(miss, TABLE));
     fresh(), answered(SIVORANDRA_FULL, 0, 5), expect("judge_ticks", 0, ticks(full, TABLE));
     fresh(), answered(SIVORANDRA_MISS, 2, 3), expect("judge_ticks: a miss", 0, ticks(miss, TABLE));
+    fresh(), answered(SIVORANDRA_KEPT, 6, 0), expect("clash", 0, clash(miss, TABLE));
+    fresh(), refused(17), expect("clash: no miss", 0, clash(full, TABLE));
     fresh(), refused(13), no_run(), expect("start: a miss", 0, start(miss, TABLE));
     fresh(), refused(13), expect("replay: a miss", 0, replay(miss, TABLE, ones, 2));
 }
@@ -284,6 +292,7 @@ static void horizons(void)
             }
             fresh(), refused(more ? 9 : 10), expect("plan: past the largest horizon", 0, plan(table, TWO, 0, MOST_HORIZON + 1));
             fresh(), refused(more ? 9 : 11), expect("plan: up to the largest horizon", 0, plan(table, TWO, 0, MOST_HORIZON));
+            fresh(), late && !more ? answered(SIVORANDRA_KEPT, 1, 0) : refused(more ? 9 : 17), expect("clash: about the largest horizon", 0, clash(table, TWO));
             if (more || late)
                 fresh(), refused(more ? 9 : 13), no_run(), expect("start: about the largest horizon", 0, start(table, TWO));
             if (more || !late)

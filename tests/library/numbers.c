@@ -47,6 +47,7 @@ static uint32_t advance(uint32_t reports, uint32_t empties) { return sivorandra_
 static uint32_t withdraw(uint32_t position) { return sivorandra_withdraw(run, RUN, position, answer, SIVORANDRA_ANSWER_WORDS); }
 static uint32_t sentence(size_t len) { return sivorandra_sentence(table, words, rows, len, answer, SIVORANDRA_ANSWER_WORDS); }
 static uint32_t longest(void) { return sivorandra_longest(table, words, run, SIVORANDRA_MOST_TASKS, answer, SIVORANDRA_ANSWER_WORDS); }
+static uint32_t clash(void) { return sivorandra_clash(table, words, answer, SIVORANDRA_ANSWER_WORDS); }
 
 static void numbers(void)
 {
@@ -97,6 +98,9 @@ static void numbers(void)
     with(C, 6), expect("a miss has no longest answers", longest(), SIVORANDRA_TABLE_MISSES, 0);
     fresh(1), expect("longest answers", longest(), PASSES, 0);
     with(V, 3), expect("too wide, asked for the longest answers", longest(), SIVORANDRA_BAD_WIDTH, 1);
+    fresh(1), expect("no miss, no clash", clash(), SIVORANDRA_NO_MISS, 0);
+    with(C, 6), expect("a clash", clash(), PASSES, 0);
+    with(C, 6), table[V] = 3, expect("too wide, asked for the clash", clash(), SIVORANDRA_BAD_WIDTH, 1);
 
     /* position 1 ends early, the wide task at position 2 goes first, and position 3 is late */
     static const uint32_t b[] = { 1, 2, 1, 0, 0, 2, 0, 1, 3, 3, 4, 1, 3, 0, 2, 1, 4, 4, 2, 0, 0, 1, 2, 2, 4, 1 };
@@ -131,6 +135,8 @@ static void limits(void)
     table[RECORD + O] = 0, table[W] = 2, expect("2T where the widths differ", judge(), SIVORANDRA_LONG_HORIZON, 0);
     table[T] = 500, expect("half of it", judge(), PASSES, 0);
     expect("its P", answer[2] != 999999000u, PASSES, 0);
+    fresh(SIVORANDRA_MOST_TASKS), table[CORES] = SIVORANDRA_MOST_CORES, table[words - RECORD + C - HEAD] = 6, expect("a clash of the last position", clash(), PASSES, 0);
+    expect("its set", answer[0] != SIVORANDRA_KEPT || answer[1] != 0x80000000u || answer[2] != 0, PASSES, 0);
     with(FENCE, 1), start(), expect("a fenced core", row(0), PASSES, 0);
     expect("its byte", rows[0] != SIVORANDRA_FENCED, PASSES, 0);
 }

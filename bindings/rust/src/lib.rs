@@ -29,7 +29,7 @@ pub use refusal::Refusal;
 use std::fmt;
 
 /// The version that these bindings are for: major * 10000 + minor * 100 + patch. `version` is that of the library that is linked.
-pub const VERSION: u32 = 1100;
+pub const VERSION: u32 = 1200;
 
 /// The most tasks on a chain, and the most records of a table.
 pub const MOST_TASKS: usize = 32;
@@ -272,6 +272,7 @@ extern "C" {
     fn sivorandra_facts(bytes: *const u8, bytes_len: usize, facts: *mut u64, facts_len: usize, answer: *mut u32, answer_len: usize) -> u32;
     fn sivorandra_advance(run: *mut u32, run_len: usize, reports: u32, empties: u32, answer: *mut u32, answer_len: usize) -> u32;
     fn sivorandra_longest(words: *const u32, words_len: usize, figures: *mut u32, figures_len: usize, answer: *mut u32, answer_len: usize) -> u32;
+    fn sivorandra_clash(words: *const u32, words_len: usize, answer: *mut u32, answer_len: usize) -> u32;
 }
 
 /// The three words of an answer: every slice that these functions lend is long enough.
@@ -282,11 +283,16 @@ fn ask(call: impl FnOnce(*mut u32, usize) -> u32) -> [u32; 3] {
     answer
 }
 
-fn done([case, number, position]: [u32; 3]) -> Result<(), Refusal> {
+/// The number that is given in an answer.
+fn given([case, first, second]: [u32; 3]) -> Result<u32, Refusal> {
     match case {
-        0 => Ok(()),
-        _ => Err(Refusal::new(number, position)),
+        0 => Ok(first),
+        _ => Err(Refusal::new(first, second)),
     }
+}
+
+fn done(answer: [u32; 3]) -> Result<(), Refusal> {
+    given(answer).map(|_| ())
 }
 
 fn verdict([case, first, second]: [u32; 3]) -> Result<Verdict, Refusal> {
@@ -365,11 +371,7 @@ pub fn plan(words: &[u32], a: u32, b: u32, rows: &mut [u8]) -> Result<(), Refusa
 /// # Ok::<(), Refusal>(())
 /// ```
 pub fn sentence_in(words: &[u32], buffer: &mut [u8]) -> Result<usize, Refusal> {
-    let [case, first, second] = ask(|answer, len| unsafe { sivorandra_sentence(words.as_ptr(), words.len(), buffer.as_mut_ptr(), buffer.len(), answer, len) });
-    match case {
-        0 => Ok(first as usize),
-        _ => Err(Refusal::new(first, second)),
-    }
+    given(ask(|answer, len| unsafe { sivorandra_sentence(words.as_ptr(), words.len(), buffer.as_mut_ptr(), buffer.len(), answer, len) })).map(|length| length as usize)
 }
 
 /// The miss of a table's words in a sentence; 17 where the table has no miss.
@@ -421,6 +423,23 @@ pub fn longest(words: &[u32]) -> Result<[u32; MOST_TASKS], Refusal> {
     let mut figures = [0; MOST_TASKS];
     done(ask(|answer, len| unsafe { sivorandra_longest(words.as_ptr(), words.len(), figures.as_mut_ptr(), figures.len(), answer, len) }))?;
     Ok(figures)
+}
+
+/// The tasks in the clash of a table's words, which misses: the set of the positions kept, bit p for position p + 1. From the lowest priority upward a task is dropped if what
+/// remains still misses and is not empty, in whole passes until one drops nothing. The tasks kept still miss, and without any one of them the rest does not, or is empty. 17 where
+/// the table has no miss.
+///
+/// ```
+/// use sivorandra::{clash, Refusal, GREEDY};
+///
+/// let mut table = [1, 2, 2, 0, 0, 2, 0, 1, 3, 3, 4, 1, 3, 0, 2, 1, 4, 4, 2, 0, 0, 1, 2, 2, 4, 1];
+/// assert_eq!(clash(&table)?, 0b110); // positions 2 and 3
+/// table[2] = GREEDY;
+/// assert_eq!(clash(&table), Err(Refusal::NoMiss));
+/// # Ok::<(), Refusal>(())
+/// ```
+pub fn clash(words: &[u32]) -> Result<u32, Refusal> {
+    given(ask(|answer, len| unsafe { sivorandra_clash(words.as_ptr(), words.len(), answer, len) }))
 }
 
 /// Starts a run, takes it through the entries of a list, and asks its row with no empty job.

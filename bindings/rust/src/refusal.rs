@@ -46,7 +46,7 @@ pub enum Refusal {
     ShortRows,
     /// 12, of a plan: b is above the tick of the first miss.
     PastMiss,
-    /// 13, of a start: the verdict is a miss.
+    /// 13, of a start, a replay or the longest answers: the verdict is a miss.
     TableMisses,
     /// 14, of a row, an advance or a withdrawal: the words are no run.
     NotARun,
@@ -57,7 +57,7 @@ pub enum Refusal {
     },
     /// 16, of an advance: a report for a position past the count, or for a task that is not working or has no cores, its own or lent, in this tick.
     BadReport,
-    /// 17, of a sentence: the table has no miss.
+    /// 17, of a sentence or a clash: the table has no miss.
     NoMiss,
     /// 18, of a sentence: the buffer is shorter than the sentence.
     ShortBuffer,

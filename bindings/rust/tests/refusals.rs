@@ -1,5 +1,5 @@
-//! Every number there can be, both ways; what is displayed; and a refusal as an error.
-use sivorandra::{judge, version, Refusal, Run, MOST_TASKS, VERSION};
+//! Every number there can be, both ways; what is displayed; a refusal as an error; the counts of a run and the positions of a clash.
+use sivorandra::{clash, judge, version, Refusal, Run, MOST_TASKS, VERSION};
 use std::error::Error;
 
 /// The last number that has a name of its own.
@@ -37,14 +37,29 @@ fn a_refusal_is_an_error() {
     assert_eq!(asked().unwrap_err().downcast_ref(), Some(&Refusal::NotATable));
 }
 
-#[test]
-fn a_run_tells_its_counts() {
+/// A table of as many tasks as there may be, each on a core of its own.
+fn most_tasks() -> Vec<u32> {
     let mut table = vec![1, 64, 3, 2, 0];
     for next in 2..MOST_TASKS as u32 + 2 {
         table.extend([if next > MOST_TASKS as u32 { 0 } else { next }, 0, 1, 1, 9, 9, 1]);
     }
-    let run = Run::start(&table).unwrap();
+    table
+}
+
+#[test]
+fn a_run_tells_its_counts() {
+    let run = Run::start(&most_tasks()).unwrap();
     assert_eq!((run.cores(), run.tasks()), (64, MOST_TASKS));
+}
+
+#[test]
+fn a_clash_tells_its_positions() {
+    for place in [0, 1, MOST_TASKS - 1] {
+        let mut table = most_tasks();
+        assert_eq!(clash(&table), Err(Refusal::NoMiss));
+        table[5 + 7 * place + 3] = 10; // C above D
+        assert_eq!(clash(&table), Ok(1 << place));
+    }
 }
 
 #[test]

@@ -9,8 +9,9 @@ use borrow.Author.Tests.{le-leb, lt-leb}
 use Rattle.table.specs.Words.{tableOf}
 use Rattle.judge.specs.Judged.{verdictOf}
 use Rattle.plan.specs.Plan.{plannedOf, planTold, bufferOf}
-use Rattle.capi.specs.Told.{ofVerdict, ofPlanned, written}
-use Rattle.capi.specs.Calls.{left, byRoom, judgeCall, planCall}
+use Rattle.clash.specs.Answer.{clashOf}
+use Rattle.capi.specs.Told.{ofVerdict, ofPlanned, ofGiven, written}
+use Rattle.capi.specs.Calls.{left, byRoom, judgeCall, planCall, clashCall}
 
 -- two lent slices, each by its equation
 pub both : {k l m n : List ℕ} → k ≡ m → l ≡ n → left 0 (k ∷ (l ∷ [])) ≡ left 0 (m ∷ (n ∷ []))
@@ -31,6 +32,14 @@ module _ (ws answer : List ℕ) where
   pub judge-short : length answer < 3 → judgeCall ws answer ≡ left 1 (answer ∷ [])
   unfolding judgeCall
   judge-short h = no-room answer _ _ h
+
+  pub clash-room : 3 ≤ length answer → clashCall ws answer ≡ left 0 (written (ofGiven (clashOf ws .answer) (clashOf ws .kept)) answer ∷ [])
+  unfolding clashCall
+  clash-room h = with-room answer _ _ h
+
+  pub clash-short : length answer < 3 → clashCall ws answer ≡ left 1 (answer ∷ [])
+  unfolding clashCall
+  clash-short h = no-room answer _ _ h
 
 module _ (ws : List ℕ) (a b : ℕ) (rows answer : List ℕ) where
   pub plan-room :

@@ -6,7 +6,7 @@ pub mod Inverse
 mod Putting
 mod Keeping
 mod Sentences
-mod Longest
+mod FigureCalls
 pub mod Kept
 pub mod Listed
 pub mod Past
@@ -17,3 +17,4 @@ pub mod RunExamples
 pub mod LendExamples
 pub mod SentenceExamples
 pub mod FigureExamples
+pub mod ClashExamples

@@ -7,7 +7,8 @@ use lib.Dec.{leb}
 use Rattle.table.specs.Words.{tableOf}
 use Rattle.judge.specs.Judged.{verdictOf}
 use Rattle.plan.specs.Plan.{plannedOf, planTold, bufferOf}
-use Rattle.capi.specs.Told.{ofVerdict, ofPlanned, written}
+use Rattle.clash.specs.Answer.{clashOf}
+use Rattle.capi.specs.Told.{ofVerdict, ofPlanned, ofGiven, written}
 
 -- the return value, and the lent slices in the order of the parameters
 pub record Left : Type 0 where
@@ -34,3 +35,7 @@ unfoldable pub planCall : List ℕ → ℕ → ℕ → List ℕ → List ℕ →
 planCall ws a b rows answer =
     let v = plannedOf ws a b (length rows) in
     byRoom (room answer) (bufferOf (planTold v) (tableOf ws) a b rows ∷ (written (ofPlanned v) answer ∷ [])) (rows ∷ (answer ∷ []))
+
+-- the tasks in the clash: the set of their positions, bit 0 for position 1
+unfoldable pub clashCall : List ℕ → List ℕ → Left
+clashCall ws answer = byRoom (room answer) (written (ofGiven (clashOf ws .answer) (clashOf ws .kept)) answer ∷ []) (answer ∷ [])

@@ -4,6 +4,8 @@ use mathlib.Core.Path.{_≡_}
 use Prim.Native.Nat.{ℕ, _≤_}
 use lib.ListN.{drop}
 use Rattle.model.specs.Sizes.{mostWord}
+use Rattle.table.specs.declared.Answer as loaded
+use Rattle.table.specs.declared.Answer.the-variants as table
 use Rattle.judge.specs.declared.Verdict.{Verdict}
 use Rattle.judge.specs.declared.Verdict.the-variants as judge
 use Rattle.plan.specs.declared.Planned.{Planned}
@@ -40,6 +42,11 @@ ofAnswer (run.Refused n p) = says 3 n p
 abbrev pub ofSpoken : Spoken → Told
 ofSpoken (sentence.Length n) = says 0 n 0
 ofSpoken (sentence.Refused n p) = says 3 n p
+
+-- longest and clash: 0 given, with a number beside it, 3 Refused number position
+abbrev pub ofGiven : loaded.Answer → ℕ → Told
+ofGiven table.Passed x = says 0 x 0
+ofGiven (table.Refused n p) x = says 3 n p
 
 -- a length fits in a word
 abbrev pub Fits : Spoken → Type 0

@@ -4,7 +4,7 @@
 // The answer stands in the three first words of `answer`: a case and two numbers.
 ghost use mathlib.Core.Path.{_≡_};
 ghost use mathlib.Core.List.{[], _∷_};
-ghost use Rattle.capi.specs.Calls.{judgeCall, planCall};
+ghost use Rattle.capi.specs.Calls.{judgeCall, planCall, clashCall};
 ghost use Rattle.capi.specs.Replays.{replayCall};
 ghost use Rattle.capi.specs.Runs.{startCall, rowCall, advanceCall, withdrawCall};
 ghost use Rattle.capi.specs.Sentences.{sentenceCall, factsCall};
@@ -20,7 +20,7 @@ mod replays; // replays.rt: what a replay says
 mod told; // told.rt: an answer in three words
 
 // The version of the library as one number: major * 10000 + minor * 100 + patch.
-const VERSION: u32 = 1100;
+const VERSION: u32 = 1200;
 
 // The version of the library that is linked; the header has that of the header.
 #[no_mangle]
@@ -234,7 +234,23 @@ pub extern "C" fn sivorandra_longest(words: &[u32], figures: &mut [u32], answer:
     let longest = found.longest;
     figures::put_figures(longest, figures);
     let given = found.answer;
-    let told = figures::of_figures(given);
+    let told = told::of_given(given, 0);
+    told::put(told, answer);
+    0
+}
+
+// The tasks in the clash of a table's words, of which none can be spared: case 0 and the set of their positions, bit p for position p + 1, or 3 Refused
+// number position.
+#[no_mangle]
+pub extern "C" fn sivorandra_clash(words: &[u32], answer: &mut [u32]) -> u32
+    ensures { λ r. ⌜ record { value = r; lent = now (answer .exit) ∷ [] } ≡ clashCall (now (words .entry)) (now (answer .entry)) ⌝ }
+{
+    if answer.len() < 3 {
+        return 1;
+    }
+    let clashing = clash::clash(words);
+    let given = clashing.answer;
+    let told = told::of_given(given, clashing.kept);
     told::put(told, answer);
     0
 }

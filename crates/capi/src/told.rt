@@ -2,7 +2,7 @@
 ghost use mathlib.Core.Path.{_≡_};
 ghost use Prim.Native.Nat.{_≤_};
 ghost use lib.ListN.{length};
-ghost use Rattle.capi.specs.Told.{ofVerdict, ofPlanned, ofAnswer, ofSpoken, Fits, written};
+ghost use Rattle.capi.specs.Told.{ofVerdict, ofPlanned, ofAnswer, ofSpoken, ofGiven, Fits, written};
 use judge::Verdict;
 use plan::Planned;
 use run::Answer;
@@ -91,6 +91,24 @@ pub(crate) fn of_spoken(spoken: Spoken) -> Told
             second: 0,
         },
         Spoken::Refused(number, position) => Told {
+            kind: 3,
+            first: number,
+            second: position,
+        },
+    }
+}
+
+// What longest and clash answer: given, with a number beside it, or a refusal.
+pub(crate) fn of_given(answer: table::Answer, beside: u32) -> Told
+    ensures { λ r. ⌜ r ≡ ofGiven answer beside ⌝ }
+{
+    match answer {
+        table::Answer::Passed => Told {
+            kind: 0,
+            first: beside,
+            second: 0,
+        },
+        table::Answer::Refused(number, position) => Told {
             kind: 3,
             first: number,
             second: position,

@@ -1,9 +1,12 @@
 -- `capi::sivorandra_longest` meets its contract: the figures and the answer are put where there is room.
 -- Assumes nothing.
 use mathlib.Core.Path.{sym, ap, _∙_}
+use Rattle.longest.specs.declared.Figures.{Figures}
+use Rattle.longest.specs.Longest.{longestOf}
 use Rattle.capi.specs.declared.told.Told.{Told}
 use Rattle.capi.specs.Told.{written}
-use Rattle.capi.proofs.Longest.{longest-narrow, longest-short, longest-room}
+use Rattle.capi.specs.Figures.{figuresCall}
+use Rattle.capi.proofs.FigureCalls.{figures-narrow, figures-short, figures-room}
 use borrow.Author.Needs.{needs}
 use Rattle.capi.proofs.sivorandra_longest.Statement.{statement}
 use Rattle.capi.proofs.sivorandra_longest.Tie as tie
@@ -13,7 +16,7 @@ abbrev entry : tie.After-slice-known2 → tie.Start
 entry c = c .before .before .before
 
 -- the state after `put-figures`
-abbrev put-figures : tie.After-of-figures → tie.After-put-figures
+abbrev put-figures : tie.After-of-given → tie.After-put-figures
 put-figures c = c .before .before .before
 
 -- the state after `longest`
@@ -23,12 +26,12 @@ longest c = c .before .before .before
 returns : tie.Need-returns
 returns c =
     let a = entry (c .before) .args in
-    sym (longest-narrow (a .words .now) (a .figures .now) (a .answer .now) (c .if1 .taken))
+    sym (figures-narrow (longestOf (a .words .now) .answer) (longestOf (a .words .now) .longest) (a .figures .now) (a .answer .now) (c .if1 .taken))
 
 returns-2 : tie.Need-returns-2
 returns-2 c =
     let a = entry (c .before .before) .args in
-    sym (longest-short (a .words .now) (a .figures .now) (a .answer .now) (c .before .if1 .left) (c .if2 .taken))
+    sym (figures-short (longestOf (a .words .now) .answer) (longestOf (a .words .now) .longest) (a .figures .now) (a .answer .now) (c .before .if1 .left) (c .if2 .taken))
 
 longest-requires : tie.Need-longest-requires
 longest-requires c κs = search needs
@@ -36,8 +39,8 @@ longest-requires c κs = search needs
 put-figures-requires : tie.Need-put-figures-requires
 put-figures-requires c κs = search needs
 
-of-figures-requires : tie.Need-of-figures-requires
-of-figures-requires c κs = search needs
+of-given-requires : tie.Need-of-given-requires
+of-given-requires c κs = search needs
 
 put-requires : tie.Need-put-requires
 put-requires c κs = search needs
@@ -56,12 +59,13 @@ returns-3 c =
     let s = longest r in
     let e = s .before in
     let a = entry (e .before .before) .args in
-    longest-room (a .words .now) (a .figures .now) (a .answer .now) (s .longest .result)
+    let f = s .longest .result in
+    figures-room (f .answer) (f .longest) (a .figures .now) (a .answer .now)
     (e .before .if1 .left)
     (e .if2 .left)
-    (s .longest .ensures .value)
     (r .put-figures .ensures)
-    (p .put .ensures ∙ ap (λ (t : Told). written t (a .answer .now)) (o .of-figures .ensures))
+    (p .put .ensures ∙ ap (λ (t : Told). written t (a .answer .now)) (o .of-given .ensures))
+    ∙ ap (λ (v : Figures). figuresCall (v .answer) (v .longest) (a .figures .now) (a .answer .now)) (s .longest .ensures .value)
 
 pub sivorandra-longest-spec : {M : Type 1} → statement M
 sivorandra-longest-spec =
@@ -71,7 +75,7 @@ sivorandra-longest-spec =
     returns-2
     longest-requires
     put-figures-requires
-    of-figures-requires
+    of-given-requires
     put-requires
     same-length
     same-length-2
