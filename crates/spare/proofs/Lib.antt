@@ -1,0 +1,2 @@
+-- The laws behind `spare`.
+pub mod Longer
