@@ -1,2 +1,5 @@
 -- The laws behind `spare`.
 pub mod Longer
+pub mod Misses
+pub mod Grown
+pub mod Ordered
