@@ -3,3 +3,5 @@ pub mod Longer
 pub mod Misses
 pub mod Grown
 pub mod Ordered
+pub mod Spare
+pub mod GrownWords
