@@ -5,3 +5,5 @@ pub mod Grown
 pub mod Ordered
 pub mod Spare
 pub mod GrownWords
+pub mod Listed
+pub mod Promise
