@@ -3,7 +3,10 @@ pub mod Longer
 pub mod Misses
 pub mod Grown
 pub mod Ordered
-pub mod Spare
+pub mod Figure
 pub mod GrownWords
 pub mod Listed
 pub mod Promise
+pub mod Judging
+pub mod LongerIn
+pub mod Halving

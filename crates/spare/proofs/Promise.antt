@@ -15,11 +15,15 @@ use Rattle.table.proofs.Order.{first-only, later, not-before-itself, number-mos
 use Rattle.table.proofs.Passed.{passed-count, passed-inside, passed-sound}
 use Rattle.table.specs.declared.Answer.{Answer}
 use Rattle.table.specs.declared.Answer.the-variants.{Passed, Refused}
+use Rattle.table.specs.declared.Loaded.{Loaded}
 use Rattle.table.specs.Answer.{answerOf}
 use Rattle.table.specs.Limits.{mostTime}
+use Rattle.table.specs.Load.{LoadOf, loadTold}
 use Rattle.table.specs.Numbers as numbers
 use Rattle.table.specs.Numbers.{Earlier, place}
 use Rattle.table.specs.Words.{tableOf}
+use Rattle.judge.proofs.Promise.{same-table}
+use Rattle.judge.specs.Judged.{tableIn}
 use Rattle.spare.specs.declared.Sparing.{Sparing}
 use Rattle.spare.specs.Answer.{SpareOf, figuresIn, given, gives, sparing, spareBy, spareOf, turnedDown}
 use Rattle.spare.specs.Numbers.{Applies, First, NoneApplies, twenty-three, words}
@@ -28,7 +32,7 @@ use Rattle.spare.specs.Spare.{Spare, spare}
 use Rattle.spare.proofs.GrownWords.{every-growth}
 use Rattle.spare.proofs.Listed.{figures-at, figures-length, figures-past}
 use Rattle.spare.proofs.Ordered.{gives-exact, ordered-words}
-use Rattle.spare.proofs.Spare.{spare-exact}
+use Rattle.spare.proofs.Figure.{spare-exact}
 
 taken-refused : {n p : ℕ} → book.taken ≡ book.refused n p → ⊥
 taken-refused e = let z : _≡_ {A = ℕ} 0 1 = cc in omega arith
@@ -129,3 +133,19 @@ module _ (ws : List ℕ) where
 
   pub by-value : (r : Sparing) → r ≡ spareOf ws → SpareOf ws r
   by-value r e = subst (SpareOf ws) (sym e) spare-promise
+
+  -- OF THE TABLE THAT WAS LOADED
+  module _ (t : Loaded) (l : LoadOf ws t) where
+    -- what is made of one that passed is the answer to the words
+    pub loaded-promise : t .answer ≡ Passed → (r : Sparing) → r ≡ sparing (gives (tableIn t)) (figuresIn (tableIn t)) → SpareOf ws r
+    loaded-promise e r q =
+        by-value r
+        (q
+        ∙ (ap (λ (w : Table). sparing (gives w) (figuresIn w)) (same-table ws t l e)
+        ∙ (unfold spareOf in ap (λ (a : Answer). spareBy a s) (sym (passed-exact ws .1 (l .passed .0 (ap loadTold e)))))))
+
+    -- a refusal of it is the answer
+    pub turned-promise : (n p : ℕ) → t .answer ≡ Refused n p → (r : Sparing) → r ≡ turnedDown n p → SpareOf ws r
+    turned-promise n p e r q =
+        by-value r
+        (q ∙ (unfold spareOf in ap (λ (a : Answer). spareBy a s) (sym (refusal-exact ws n p .1 (l .refused n p .0 (ap loadTold e))))))
