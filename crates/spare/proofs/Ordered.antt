@@ -45,6 +45,15 @@ gives-exact s ok = (
   λ x. and-both (ordered (s .rule) (s .tasks)) (not (misses s)) (ordered-exact s .1 (x .1)) (rw (never-misses s ok (x .0))),
 )
 
+-- by the two tests
+pub gives-accepted : (s : Table) → ordered (s .rule) (s .tasks) ≡ true → not (misses s) ≡ gives s
+unfolding gives
+gives-accepted s e = rw e
+
+pub gives-never : (s : Table) → ordered (s .rule) (s .tasks) ≡ false → false ≡ gives s
+unfolding gives
+gives-never s e = rw e
+
 -- BY THE RULE'S NUMBER
 
 rule-of : (ws : List ℕ) (n : ℕ) → rule ws ≡ n → tableOf ws .rule ≡ ruleOf n
