@@ -10,3 +10,4 @@ pub mod Promise
 pub mod Judging
 pub mod LongerIn
 pub mod Halving
+pub mod Examples
