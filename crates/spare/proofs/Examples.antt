@@ -75,3 +75,111 @@ not-under-lending = not-under lending refl (inl refl)
 pub not-out-of-order : ¬ LongerMisses greedy
 unfolding computing
 not-out-of-order = not-under greedy refl (inr refl)
+
+-- LINES: the words of a table, and what is answered of them
+
+pub record Line : Type 0 where
+  pub words : List ℕ
+  pub says : Sparing
+
+-- what the definitions say of a line's words
+abbrev pub worked : Line → Line
+worked l = record { words = l .words; says = spareOf (l .words) }
+
+-- these figures are given, with zeros past them; the words are turned down by a number, with its position
+abbrev given : List ℕ → List ℕ → Line
+given ws xs = record { words = ws; says = answers.given (xs ++ replicate (mostTasks - length xs) 0) }
+
+abbrev refuses : List ℕ → ℕ → ℕ → Line
+refuses ws n p = record { words = ws; says = turnedDown n p }
+
+-- a header with an empty fence, and a record's seven words, with widths v and w and with both widths v
+abbrev header : ℕ → ℕ → ℕ → List ℕ
+header h m r = h ∷ m ∷ r ∷ 0 ∷ 0 ∷ []
+
+abbrev entry₂ : ℕ → ℕ → ℕ → ℕ → ℕ → ℕ → ℕ → List ℕ
+entry₂ n o v w c d p = n ∷ o ∷ v ∷ c ∷ d ∷ p ∷ w ∷ []
+
+abbrev entry : ℕ → ℕ → ℕ → ℕ → ℕ → ℕ → List ℕ
+entry n o v c d p = entry₂ n o v v c d p
+
+-- A, B, C and C2 under a rule; E; F with length c
+abbrev ruledA : ℕ → List ℕ
+ruledA r = header 1 3 r ++ entry 2 0 2 2 5 5 ++ entry 3 0 2 3 5 5 ++ entry 0 0 1 4 5 5
+
+abbrev ruledB : ℕ → List ℕ
+ruledB r = header 1 2 r ++ entry 2 0 1 3 3 4 ++ entry 3 0 2 1 4 4 ++ entry 0 0 1 2 2 4
+
+abbrev ruledC : ℕ → List ℕ
+ruledC r = header 1 2 r ++ entry 2 0 1 2 4 4 ++ entry 3 0 2 2 4 4 ++ entry 0 0 1 1 4 4
+
+abbrev ruledC2 : ℕ → List ℕ
+ruledC2 r = header 1 2 r ++ entry 2 0 1 2 4 4 ++ entry 3 0 1 1 4 4 ++ entry 0 0 2 2 4 4
+
+abbrev wordsE : List ℕ
+wordsE = header 1 1 2 ++ entry 2 1 1 1 1 2 ++ entry 0 0 1 1 2 3
+
+abbrev wordsF : ℕ → ℕ → List ℕ
+wordsF r c = header 1 1 r ++ entry 0 0 1 c 1 2
+
+-- one core, rule 2: the tasks of `hurt` in other places: the chain 2, 3, 1 and a fourth record that is not on it
+abbrev hurt : List ℕ
+hurt = header 1 1 2 ++ entry 2 0 1 1 6 6 ++ entry 3 0 1 1 2 6 ++ entry 0 0 1 1 6 6
+
+abbrev permuted : List ℕ
+permuted = header 2 1 2 ++ entry 0 0 1 1 6 6 ++ entry 3 0 1 1 6 6 ++ entry 1 0 1 1 2 6 ++ entry 9 0 0 0 0 0
+
+-- two cores under a rule: the first task takes one core in its odd jobs and both in its even ones, or so does the second
+abbrev turning : ℕ → List ℕ
+turning r = header 1 2 r ++ entry₂ 2 0 1 2 1 3 3 ++ entry 0 0 1 1 3 3
+
+abbrev turned : ℕ → List ℕ
+turned r = header 1 2 r ++ entry 2 0 1 1 3 3 ++ entry₂ 0 0 1 2 1 3 3
+
+-- six tasks that all want one core in tick 0, and so miss at tick 1, and a seventh; their horizon is 1,000,000,001
+abbrev crowded : List ℕ
+crowded = header 1 1 1 ++ chained 7 1 (8 ∷ 27 ∷ 125 ∷ 7 ∷ 11 ∷ 13 ∷ []) ++ entry 0 1001 1 1 1 37
+
+abbrev pub lines : List Line
+lines =
+    -- one task alone may grow to its deadline: it has no spare ticks, or two of them with D below T
+    given (header 1 1 2 ++ entry 0 0 1 2 2 2) (0 ∷ []) ∷ given (header 1 1 2 ++ entry 0 0 1 1 3 5) (2 ∷ [])
+    -- two tasks share two ticks, each alone may have them; one is bounded by the other's deadline
+    ∷ given (header 1 1 2 ++ entry 2 0 1 1 4 4 ++ entry 0 0 1 1 4 4) (2 ∷ 2 ∷ [])
+    ∷ given (header 1 1 2 ++ entry 2 0 1 1 4 4 ++ entry 0 0 1 1 3 4) (1 ∷ 1 ∷ [])
+    -- the second has no room, and so the first none, but the third; with the records in other places
+    ∷ given hurt (0 ∷ 0 ∷ 3 ∷ []) ∷ given permuted (0 ∷ 0 ∷ 3 ∷ [])
+    -- C2, in the width order, under rules 1 and 2; not under 3 and 4, though it is accepted
+    ∷ given (ruledC2 1) (0 ∷ 1 ∷ 0 ∷ []) ∷ given (ruledC2 2) (0 ∷ 1 ∷ 0 ∷ []) ∷ refuses (ruledC2 3) 23 0 ∷ refuses (ruledC2 4) 23 0
+    -- E, whose first job is released late
+    ∷ given wordsE (0 ∷ 0 ∷ [])
+    -- two widths: rule 2 asks for no order, rule 1 for the larger of each to be at most the smaller of the next
+    ∷ given (turning 2) (1 ∷ 1 ∷ []) ∷ refuses (turning 1) 23 0 ∷ given (turned 1) (1 ∷ 1 ∷ []) ∷ given (turned 2) (1 ∷ 1 ∷ [])
+    -- on the one core that the fence leaves of two, and on both
+    ∷ given (1 ∷ 2 ∷ 2 ∷ 2 ∷ 0 ∷ entry 2 0 1 1 2 3 ++ entry 0 0 1 1 3 3) (1 ∷ 1 ∷ [])
+    ∷ given (header 1 2 2 ++ entry 2 0 1 1 2 3 ++ entry 0 0 1 1 3 3) (1 ∷ 2 ∷ [])
+    -- out of the width order under rule 1: A, B and C, which are Full
+    ∷ refuses (ruledA 1) 23 0 ∷ refuses (ruledB 1) 23 0 ∷ refuses (ruledC 1) 23 0
+    -- a miss under rule 2: A2, B2 and C; and under rule 1 in the width order: F
+    ∷ refuses (ruledA 2) 23 0 ∷ refuses (ruledB 2) 23 0 ∷ refuses (ruledC 2) 23 0 ∷ refuses (wordsF 1 2) 23 0 ∷ given (wordsF 1 1) (0 ∷ [])
+    -- rules 3 and 4: A and B, which are Firm
+    ∷ refuses (ruledA 3) 23 0 ∷ refuses (ruledA 4) 23 0 ∷ refuses (ruledB 3) 23 0 ∷ refuses (ruledB 4) 23 0
+    -- 32 places, which have 32 figures
+    ∷ given (header 1 32 1 ++ chained 0 1 (replicate 32 1)) (replicate 32 0)
+    -- C of 1,000,000 and one more: 23 and 8
+    ∷ refuses (wordsF 2 1000000) 23 0 ∷ refuses (wordsF 2 1000001) 8 1
+    -- 1, 2 before 23, 4, 7 with its position, and 9 before 23
+    ∷ refuses (drop 1 (header 1 1 1)) 1 0 ∷ refuses (header 1 0 3 ++ entry 0 0 1 1 2 2) 2 0 ∷ refuses (header 0 1 3 ++ entry 0 0 1 1 2 2) 4 0
+    ∷ refuses (header 1 1 3 ++ entry 2 0 1 1 2 2 ++ entry 0 0 2 1 1 1) 7 2 ∷ refuses crowded 9 0
+    ∷ []
+
+-- every line is what the definitions say
+pub examples : map worked lines ≡ lines
+unfolding spareOf figuresIn gives ordered spare misses chained answerOf byWalk byTasks byHorizon firstOut endingOf lastStep headerNumber tableOf chain count
+    met computing
+examples = refl
+
+-- the words with the third task of `permuted`, its first record, longer by 3
+pub grown-words : grownWords permuted 2 3 ≡ header 2 1 2 ++ entry 0 0 1 4 6 6 ++ entry 3 0 1 1 6 6 ++ entry 1 0 1 1 2 6 ++ entry 9 0 0 0 0 0
+unfolding grownWords met computing
+grown-words = refl

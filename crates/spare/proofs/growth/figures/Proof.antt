@@ -52,7 +52,7 @@ loop-again c =
     let s = tableIn (turn c .before .before .before .args .table) in (
       omega (arith, turn c .if1 .taken),
       subst (λ (g : ℕ). Filled s (set (l .figures) (l .place) g) (l .place + 1)) (sym (c .spare-at .ensures))
-      (filled-more s (l .figures) (l .place) (few (turn c)) (l .inv .1)),
+          (filled-more s (l .figures) (l .place) (few (turn c)) (l .inv .1)),
     )
 
 returns : tie.Need-returns Inv-loop μ-loop
