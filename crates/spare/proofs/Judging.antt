@@ -1,16 +1,14 @@
 -- What is found of the first miss, and which rules a number means: what code asks of a table that was loaded.
-use mathlib.Core.Bool.{Bool, cond, false, true, true≢false, _||_}
+use mathlib.Core.Bool.{Bool, cond, false, true}
 use mathlib.Core.List.{List}
-use mathlib.Core.Logic.{⊎-elim}
 use mathlib.Core.Path.{_≡_, refl, subst, sym, _∙_}
-use Prim.Native.Nat.{ℕ, suc, zero, _+_}
+use Prim.Native.Nat.{ℕ, suc, _+_}
 use native.Mathlib.Omega.{arith}
 use lib.Dec.{eqb}
-use borrow.Author.Tests.{eqb-true}
-use Rattle.model.proofs.Bools.{or-cases}
+use borrow.Author.Tests.{ne-eqb}
 use Rattle.model.specs.Firm.{firm}
 use Rattle.model.specs.Horizon.{horizon}
-use Rattle.model.specs.Task.{Task, greedy, idling, lending, limited, ruleOf}
+use Rattle.model.specs.Task.{Task, greedy, limited, ruleOf}
 use Rattle.table.specs.declared.Loaded.{Loaded}
 use Rattle.judge.proofs.FirstMiss.{never-found, one-found}
 use Rattle.judge.specs.declared.misses.Missed.{Missed}
@@ -35,17 +33,18 @@ found-misses t fit m u v e = go u (subst (λ (b : ℕ). missedBefore (tableIn t)
     go (At a b) q = sym (one-found (tableIn t) (suc (horizon (tableIn t))) a b q)
 
 -- by the rule's number: not for 3 and 4, and for any other where it is firm
-pub ordered-not : (n : ℕ) (τs : List Task) → eqb n 3 || eqb n 4 ≡ true → ordered (ruleOf n) τs ≡ false
+pub ordered-three : (τs : List Task) → ordered (ruleOf 3) τs ≡ false
 unfolding ordered
-ordered-not n τs e = ⊎-elim (λ a. rw (eqb-true n 3 a)) (λ a. rw (eqb-true n 4 a)) (or-cases (eqb n 3) (eqb n 4) e)
+ordered-three τs = refl
 
-pub ordered-firm : (n : ℕ) (τs : List Task) → eqb n 3 || eqb n 4 ≡ false → ordered (ruleOf n) τs ≡ firm (ruleOf n) τs
+pub ordered-four : (τs : List Task) → ordered (ruleOf 4) τs ≡ false
+unfolding ordered
+ordered-four τs = refl
+
+pub ordered-firm : (n : ℕ) (τs : List Task) → ¬ (n ≡ 3) → ¬ (n ≡ 4) → ordered (ruleOf n) τs ≡ firm (ruleOf n) τs
 unfolding ordered firm
-ordered-firm n τs e = go (eqb n 2) (eqb n 3) (eqb n 4) e
+ordered-firm n τs x y = rw (ne-eqb n 3 x, ne-eqb n 4 y) (go (eqb n 2))
   where
-    go : (a b c : Bool) → b || c ≡ false
-        → ordered (cond a limited (cond b idling (cond c lending greedy))) τs ≡ firm (cond a limited (cond b idling (cond c lending greedy))) τs
-    go true b c h = refl
-    go false true c h = absurd (true≢false h)
-    go false false true h = absurd (true≢false h)
-    go false false false h = refl
+    go : (a : Bool) → ordered (cond a limited greedy) τs ≡ firm (cond a limited greedy) τs
+    go true = refl
+    go false = refl

@@ -43,7 +43,10 @@ fn is_ordered(rule: u32, tasks: [Task; MOST_TASKS], count: usize) -> bool
     requires { ⌜ count ≤ mostTasks ⌝ }
     ensures { λ r. ⌜ r ≡ ordered (ruleOf rule) (tasksOf tasks count) ⌝ }
 {
-    if (rule == 3) | (rule == 4) {
+    if rule == 3 {
+        return false;
+    }
+    if rule == 4 {
         return false;
     }
     judge::is_firm(rule, tasks, count)
