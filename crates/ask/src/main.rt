@@ -220,7 +220,12 @@ fn table_behind(question: Question, bytes: &[u8]) -> usize
 fn print(bytes: &[u8]) -> Sent
     ensures { λ r. ⌜ SentOf 0 (asked (now (bytes .entry))) r ⌝ }
 {
-    let questions = [Question::Why, Question::Longest, Question::Clash, Question::Spare];
+    let questions = [
+        Question::Why,
+        Question::Longest,
+        Question::Clash,
+        Question::Spare,
+    ];
     let mut i: usize = 0;
     while i < questions.len() {
         let question = questions[i];
