@@ -10,4 +10,6 @@ pub mod Promise
 pub mod Judging
 pub mod LongerIn
 pub mod Halving
+pub mod OffChain
+pub mod GrowthJudged
 pub mod Examples
