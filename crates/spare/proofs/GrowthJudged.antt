@@ -17,7 +17,7 @@ use Rattle.model.specs.Task.{AllSound, Table, task}
 use Rattle.model.specs.Verdict as model
 use Rattle.model.specs.Verdict.{verdict}
 use Rattle.table.proofs.Exact.{passed-exact}
-use Rattle.table.proofs.Passed.{passed-inside, passed-sound}
+use Rattle.table.proofs.Passed.{passed-sound}
 use Rattle.table.specs.Limits.{mostTime}
 use Rattle.table.specs.Numbers.{NoneApplies}
 use Rattle.table.specs.Words.{tableOf}
