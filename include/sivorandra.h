@@ -5,7 +5,7 @@
 
    What a call costs:
    - Memory: none from the heap. Of the stack less than SIVORANDRA_STACK_BYTES (measured: sentence 16,200 bytes, replay 15,700, clash 13,400,
-     plan 13,100, start 12,700, advance 12,200, withdraw 11,900, judge 9,800, row 7,400, longest 6,600, judge_ticks 5,800, facts 700).
+     plan 13,100, start 12,700, advance 12,200, withdraw 11,900, spare 10,800, judge 9,800, row 7,400, longest 6,600, judge_ticks 5,800, facts 700).
    - Threads: the library has no state and no data that is written to, so any number of threads may call at once, each with slices of its own
      to be written to; slices that are only read may be shared. Of the C library it calls memcpy and memset alone.
    - Time: row, advance and withdraw take some microseconds at most, a bound by the 32 tasks and 64 cores alone. judge goes from one release,
@@ -240,7 +240,7 @@ uint32_t sivorandra_clash(const uint32_t *words, size_t words_len,
    it is refused; words behind them stay. They are given for tables that are accepted under limited, or under greedy with no width of a task above
    one of the next: under idling and lending, and under greedy out of this order, a longer job can save a table in which a shorter one misses.
    It judges the table, and then for each task, by halving between a growth that is accepted and one that misses, about 20 times the table with
-   this task longer; each up to the table's horizon or its first miss, and 641 times at most. It takes STACK bytes of the stack. */
+   this task longer; each up to the table's horizon or its first miss, and 641 times at most. It takes 10,800 bytes of the stack. */
 uint32_t sivorandra_spare(const uint32_t *words, size_t words_len,
                           uint32_t *figures, size_t figures_len,
                           uint32_t *answer, size_t answer_len);
