@@ -15,7 +15,7 @@
      from outside: where that is too long, judge in a process of its own. judge_ticks takes every tick; start takes as long as judge, sentence
      about three times as long; plan judges up to b, and takes every tick up to b; replay takes a start, and an advance or a withdrawal for each entry;
      facts goes once over its bytes; clash judges the table and parts of it, 529 times at most;
-     spare judges the table and about 20 times for each task one in which it is longer, 641 times at most.
+     spare judges the table, and at most 20 times for each task the table with it longer.
 
    A run in words belongs to the version that wrote it: the words may change with the version. Keep SIVORANDRA_VERSION beside a run that is
    stored, and start again where it differs; 14 finds what is no run, not a run of another version. */
@@ -239,8 +239,8 @@ uint32_t sivorandra_clash(const uint32_t *words, size_t words_len,
    accepted too, and one tick more misses a deadline, or takes C past SIVORANDRA_MOST_LENGTH. Words past the last task are 0, and so are all 32 where
    it is refused; words behind them stay. They are given for tables that are accepted under limited, or under greedy with no width of a task above
    one of the next: under idling and lending, and under greedy out of this order, a longer job can save a table in which a shorter one misses.
-   It judges the table, and then for each task, by halving between a growth that is accepted and one that misses, about 20 times the table with
-   this task longer; each up to the table's horizon or its first miss, and 641 times at most. It takes 10,800 bytes of the stack. */
+   It judges the table, and then for each task, by halving between a growth that is accepted and one that misses, at most 20 times the table with
+   this task longer, each up to the horizon or the first miss: 641 judgings at most. It takes 10,800 bytes of the stack. */
 uint32_t sivorandra_spare(const uint32_t *words, size_t words_len,
                           uint32_t *figures, size_t figures_len,
                           uint32_t *answer, size_t answer_len);
