@@ -2,7 +2,7 @@
 -- within its limit. One word changes, which the walk along the chain does not read, nor S, P and the horizon.
 use mathlib.Core.Bool.{Bool, false, true}
 use mathlib.Core.List.{List}
-use mathlib.Core.Logic.{_⊎_, inl, inr, ⊎-elim}
+use mathlib.Core.Logic.{_⊎_, inl, inr}
 use mathlib.Core.Path.{ap, ap₂, fun-ext, refl, subst, sym, _∙_, _≡_}
 use Prim.Native.Nat.{ℕ, suc, zero, _%_, _*_, _+_, _-_, _/_, _<_, _≤_}
 use native.Mathlib.Omega.{arith}
@@ -12,17 +12,15 @@ use lib.Seq.{ext-getD, getD-set-other, getD-set-same}
 use borrow.Author.Tests.{eqb-false, eqb-true, ltb-false, ltb-true}
 use Rattle.model.specs.Fence.{openCount}
 use Rattle.model.specs.Horizon.{horizon}
-use Rattle.model.specs.Search.{least, upFrom}
+use Rattle.model.specs.Search.{least}
 use Rattle.model.specs.Sizes.{mostTasks}
-use Rattle.model.specs.Task.{Table, Task, nobody, ruleOf, task}
-use Rattle.table.proofs.HeaderFine.{words-long}
-use Rattle.table.proofs.Inside.{Inside}
-use Rattle.table.proofs.Passed.{passed-horizon, passed-inside, passed-reached, passed-sound}
-use Rattle.table.proofs.Tasks.{chain-at, chain-length, table-at, table-length}
+use Rattle.model.specs.Task.{Task, nobody, ruleOf, task}
+use Rattle.table.proofs.Passed.{passed-horizon, passed-inside, passed-reached}
+use Rattle.table.proofs.Tasks.{table-at, table-length}
 use Rattle.table.specs.Limits.{CoresOut, FenceOut, RuleOut, TimesOut, WidthOut, mostTime}
-use Rattle.table.specs.Numbers.{AgainAt, Applies, EndAt, NoneApplies, PastAt, Reaches}
+use Rattle.table.specs.Numbers.{NoneApplies, Position, Reaches}
 use Rattle.table.specs.Numbers.{eight, five, four, nine, nineteen, one, seven, six, three, two}
-use Rattle.table.specs.Words.{chain, cores, count, fence, fenceOf, field, head, headerWords, met, next, recordWords, records}
+use Rattle.table.specs.Words.{cores, count, fence, fenceOf, field, headerWords, met, next, recordWords, records}
 use Rattle.table.specs.Words.{tableOf, taskAt, taskOfRecord, word}
 use Rattle.spare.specs.GrownWords.{grownWords, lengthAt}
 use Rattle.spare.specs.Longer.{grown, stretch}
@@ -160,12 +158,15 @@ module _ (ws : List ℕ) (none : NoneApplies ws) (p : ℕ) (l : p < length (tabl
     λ e. c j m .2 (e .0, e .1, same-met (e .0) ∙ (e .2 ∙ sym (same-met j))),
   )
 
+  position : (q : ℕ) → Position us q → Position ws q
+  position q o = (o .0, omega (arith, o .1, same-count))
+
   -- a task is as it was, or is the one that has grown
   abbrev Kept : ℕ → Type 0
   Kept q = (taskAt us q ≡ taskAt ws q) ⊎ ((q ≡ suc p) × (taskAt us q ≡ stretch g (taskAt ws q)))
 
-  task-kept : (q : ℕ) → 1 ≤ q → q ≤ count ws → Kept q
-  task-kept q a b = go (eqb (q - 1) p) refl
+  task-kept : (q : ℕ) → Position ws q → Kept q
+  task-kept q (a, b) = go (eqb (q - 1) p) refl
     where
       same : taskAt us q ≡ taskOfRecord us (met ws (q - 1))
       same = ap (taskOfRecord us) (same-met (q - 1))
@@ -218,14 +219,8 @@ module _ (ws : List ℕ) (none : NoneApplies ws) (p : ℕ) (l : p < length (tabl
     grown-passes n q (four h) = none 4 0 (four (sym (same-header 0 (omega arith)) ∙ h))
     grown-passes n q (five k c h) = none 5 0 (five k (reaches-back k c) (omega (arith, h, same-met k, same-records)))
     grown-passes n q (six k c h) = none 6 0 (six k (reaches-back k c) (h .0, h .1, sym (same-met (h .0)) ∙ (h .2 ∙ same-met k)))
-    grown-passes n q (seven i o h) = none 7 i (seven i (on i o) (never-wide i (task-kept i (o .0) (on i o .1)) h))
-      where
-        on : (i : ℕ) → (1 ≤ i) × (i ≤ count us) → (1 ≤ i) × (i ≤ count ws)
-        on i o = (o .0, omega (arith, o .1, same-count))
-    grown-passes n q (eight i o h) = none 8 i (eight i (on i o) (never-times i (task-kept i (o .0) (on i o .1)) h))
-      where
-        on : (i : ℕ) → (1 ≤ i) × (i ≤ count us) → (1 ≤ i) × (i ≤ count ws)
-        on i o = (o .0, omega (arith, o .1, same-count))
+    grown-passes n q (seven i o h) = none 7 i (seven i (position i o) (never-wide i (task-kept i (position i o)) h))
+    grown-passes n q (eight i o h) = none 8 i (eight i (position i o) (never-times i (task-kept i (position i o)) h))
     grown-passes n q (nine h) =
         omega (arith, h, passed-horizon ws none, ap horizon grown-table, horizon-longer (tableOf ws) (grown (tableOf ws) p g) (grown-longer (tableOf ws) p g))
 

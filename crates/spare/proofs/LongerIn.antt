@@ -1,10 +1,10 @@
 -- A table that was loaded, with one task longer: it is the table that has grown, and fit to be run.
-use mathlib.Core.List.{List, [], map, _∷_}
+use mathlib.Core.List.{List, [], _∷_}
 use mathlib.Core.Path.{_≡_, ap, refl, subst, sym, _∙_}
 use Prim.Native.Nat.{ℕ, suc, zero, _+_, _<_, _≤_}
 use native.Mathlib.Nat.{le-trans}
 use native.Mathlib.Omega.{arith}
-use lib.ListN.{getD, length, length-set, set, take}
+use lib.ListN.{getD, length, length-set, set}
 use Rattle.model.specs.Horizon.{horizon, hyperperiod, lastS}
 use Rattle.model.specs.Task as model
 use Rattle.model.specs.Task.{AllSound, Table, task}

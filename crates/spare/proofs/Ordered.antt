@@ -1,5 +1,5 @@
 -- The rules and widths that spare ticks are given for: the test, and the condition by the rule's number.
-use mathlib.Core.Bool.{Bool, false, false≢true, not, true, _&&_}
+use mathlib.Core.Bool.{false, false≢true, not, true}
 use mathlib.Core.List.{List}
 use mathlib.Core.Logic.{_↔_, inl, inr}
 use mathlib.Core.Path.{ap, refl, subst, sym, _∙_, _≡_}
@@ -9,8 +9,7 @@ use borrow.Author.Tests.{not-true}
 use Rattle.model.proofs.Bools.{and-both, and-left, and-right}
 use Rattle.model.proofs.Verdict.{rising-exact}
 use Rattle.model.specs.Book.{NeverMissed}
-use Rattle.model.specs.Firm.{Rising}
-use Rattle.model.specs.Task.{AllSound, Rule, Table, Task, greedy, idling, lending, limited, ruleOf}
+use Rattle.model.specs.Task.{AllSound, Rule, Table, greedy, idling, lending, limited, ruleOf}
 use Rattle.table.proofs.Passed.{passed-rule}
 use Rattle.table.specs.Numbers.{NoneApplies}
 use Rattle.table.specs.Words.{rule, tableOf}

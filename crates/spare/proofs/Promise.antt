@@ -1,7 +1,7 @@
 -- What is promised of `spare`: its numbers are the first that apply, and its figures hold over all ticks.
 use mathlib.Core.Bool.{Bool, false, false≢true, true}
 use mathlib.Core.List.{List}
-use mathlib.Core.Path.{_≡_, ap, ap₂, refl, subst, sym, _∙_}
+use mathlib.Core.Path.{_≡_, ap, refl, subst, sym, _∙_}
 use Prim.Native.Nat.{ℕ, _<_, _≤_}
 use native.Mathlib.Nat.{le-trans}
 use native.Mathlib.Omega.{arith}
@@ -28,7 +28,7 @@ use Rattle.spare.specs.declared.Sparing.{Sparing}
 use Rattle.spare.specs.Answer.{SpareOf, figuresIn, given, gives, sparing, spareBy, spareOf, turnedDown}
 use Rattle.spare.specs.Numbers.{Applies, First, NoneApplies, twenty-three, words}
 use Rattle.spare.specs.Ordered.{OrderedWords}
-use Rattle.spare.specs.Spare.{Spare, spare}
+use Rattle.spare.specs.Spare.{Spare}
 use Rattle.spare.proofs.GrownWords.{every-growth}
 use Rattle.spare.proofs.Listed.{figures-at, figures-length, figures-past}
 use Rattle.spare.proofs.Ordered.{gives-exact, ordered-words}

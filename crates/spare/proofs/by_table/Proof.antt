@@ -1,9 +1,9 @@
 -- `spare::by_table` meets its contract: the figures where they are given, else 23. Assumes nothing.
 use mathlib.Core.Bool.{Bool}
-use mathlib.Core.Path.{ap, sym, _∙_}
+use mathlib.Core.Path.{_≡_, ap, sym, _∙_}
 use borrow.Author.Needs.{needs}
 use Rattle.judge.specs.Judged.{tableIn}
-use Rattle.spare.specs.Answer.{figuresIn, given, sparing}
+use Rattle.spare.specs.Answer.{figuresIn, given, gives, sparing, turnedDown}
 use Rattle.spare.proofs.by_table.Statement.{statement}
 use Rattle.spare.proofs.by_table.Tie as tie
 
@@ -30,7 +30,9 @@ returns-2 c =
     let t = c .before in
     let g = t .before in
     let s = tableIn (g .before .args .table) in
-    c .refused .ensures ∙ ap (λ (b : Bool). sparing b (figuresIn s)) (sym (t .if1 .left) ∙ g .is-given .ensures)
+    let other : turnedDown 23 0 ≡ sparing (gives s) (figuresIn s) =
+    ap (λ (b : Bool). sparing b (figuresIn s)) (sym (t .if1 .left) ∙ g .is-given .ensures) in
+    c .refused .ensures ∙ other
 
 pub by-table-spec : {M : Type 1} → statement M
 by-table-spec =

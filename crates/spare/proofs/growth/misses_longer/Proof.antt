@@ -1,6 +1,5 @@
 -- `spare::growth::misses_longer` meets its contract: what is asked is the table with the task longer. Assumes nothing.
 use mathlib.Core.Path.{ap, _∙_}
-use Prim.Native.Nat.{ℕ}
 use native.Mathlib.Omega.{arith}
 use borrow.Author.Needs.{needs}
 use Rattle.model.specs.Task.{Task}

@@ -1,11 +1,11 @@
 -- `spare::growth::spare_at` meets its contract. The loop's invariant is `Between`: one growth is accepted, the other misses. Assumes nothing.
 use mathlib.Core.Path.{ap, subst, sym, _∙_}
-use Prim.Native.Nat.{ℕ, suc, _+_, _-_, _<_, _≤_}
+use Prim.Native.Nat.{_+_, _-_, _<_, _≤_}
 use native.Mathlib.Omega.{arith}
 use borrow.Author.Needs.{needs}
 use lib.ListN.{length}
 use Rattle.model.specs.Task as model
-use Rattle.model.specs.Task.{AllSound, Table, task}
+use Rattle.model.specs.Task.{Table, task}
 use Rattle.table.specs.Limits.{mostTime}
 use Rattle.judge.specs.Judged.{tableIn}
 use Rattle.spare.proofs.Halving.{Between, between-end, between-start, length-short}
