@@ -1,0 +1,2 @@
+-- The laws of plans by another planner.
+pub mod Newest
