@@ -1,2 +1,7 @@
--- The laws of plans by another planner.
+-- The laws of plans by another planner, of the state between rows and of a row taken.
 pub mod Newest
+pub mod Missed
+pub mod Counting
+pub mod Passing
+pub mod Looking
+pub mod Working

@@ -9,3 +9,5 @@ pub mod Numbers
 pub mod Said
 pub mod Take
 pub mod Begin
+pub mod Ahead
+pub mod Shown
