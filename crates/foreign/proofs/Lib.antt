@@ -5,3 +5,9 @@ pub mod Counting
 pub mod Passing
 pub mod Looking
 pub mod Working
+pub mod Deciding
+pub mod Starting
+pub mod Cases
+pub mod Order
+pub mod Passes
+pub mod Taking

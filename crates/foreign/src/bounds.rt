@@ -78,7 +78,8 @@ fn same(a: Phase, b: Phase) -> bool
         },
         Phase::Working(z, had, reserved) => match b {
             Phase::Coming(_) => false,
-            Phase::Working(since, ticks, own) => (z == since) & ((had == ticks) & (reserved == own)),
+            Phase::Working(since, ticks, own) => (z == since)
+                & ((had == ticks) & (reserved == own)),
             Phase::Holding(_, _) => false,
             Phase::Resting(_) => false,
         },

@@ -6,6 +6,7 @@ use native.Mathlib.Numerals.{add-one}
 use native.Mathlib.Omega.{arith}
 use Rattle.model.specs.Horizon.{lastS}
 use Rattle.run.proofs.RunOut.{few}
+use Rattle.run.specs.Run.{tasksIn}
 use Rattle.foreign.proofs.Working.{counted-count, counted-tasks}
 use Rattle.foreign.proofs.Supplied.after.Statement.{statement}
 use Rattle.foreign.proofs.Supplied.after.Tie as tie
@@ -21,7 +22,7 @@ arrived-requires c κs =
     let w = c .before in
     let s = w .before .before .before in
     let a = s .args in
-    (simp (w .worked .ensures, counted-count) (few (a .self .run) (s .pre .0)), s .pre .1 .0 ∙ ?)
+    (simp (w .worked .ensures, counted-count) (few (a .self .run) (s .pre .0)), s .pre .1 .0 ∙ sym (ap lastS (ap tasksIn (w .worked .ensures) ∙ counted-tasks (a .self .run) (a .cells .now))))
 
 returns : tie.Need-returns
 returns c = simp (c .arrived .ensures, c .before .before .worked .ensures, add-one)

@@ -23,7 +23,7 @@ returns-2 : tie.Need-returns-2
 returns-2 c = simp (c .enum-told2 .given .1)
 
 returns-3 : tie.Need-returns-3
-returns-3 c = simp (c .before .answer .given .1, c .refused .ensures)
+returns-3 c = simp (c .before .before .answer .given .1, c .refused .ensures)
 
 pub by-answer-spec : {M : Type 1} → statement M
 by-answer-spec =

@@ -78,7 +78,7 @@ loop-again c =
         (
           below-more _ _ (s .loop .inv .1 .1 .0) (sym (e .before .stranger .ensures) ∙ e .if1 .left),
           subst (λ (ns : List ℕ). Counted ns (take (s .loop .core + 1) row)) (sym (next .1))
-          (counted-more (s .loop .cells) row (s .loop .core) (omega arith) (next .0) (s .loop .inv .1 .1 .1)),
+              (counted-more (s .loop .cells) row (s .loop .core) (omega arith) (next .0) (s .loop .inv .1 .1 .1)),
         ),
       ),
     )
