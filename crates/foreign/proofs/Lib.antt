@@ -1,2 +1,4 @@
 -- The laws of plans by another planner.
 pub mod Newest
+pub mod Ticks
+pub mod Owed
