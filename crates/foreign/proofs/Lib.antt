@@ -1,4 +1,9 @@
 -- The laws of plans by another planner.
 pub mod Newest
 pub mod Ticks
+pub mod PhaseBy
 pub mod Owed
+pub mod Steps
+pub mod Meets
+pub mod Exact
+pub mod Answers
