@@ -7,3 +7,4 @@ pub mod Steps
 pub mod Meets
 pub mod Exact
 pub mod Answers
+pub mod Repeats
