@@ -19,7 +19,7 @@ use Rattle.foreign.specs.Checker.{Answer, Ledger, Outcome, accepted, acc
 use Rattle.foreign.specs.Plan.{Agree, FineRow, rowAt}
 use Rattle.foreign.proofs.Meets.{agree-differs, differs-agree, fine-right, late-found, late-not, not-late, right-fine}
 use Rattle.foreign.proofs.Owed.{late-job, owedAt}
-use Rattle.foreign.proofs.Steps.{Closing, Ok, end-last, end-on, ended, standAt, starts, take-ok, unroll}
+use Rattle.foreign.proofs.Steps.{Closing, Ok, end-last, end-on, ended, ledgerAt, starts, take-ok, unroll}
 
 module _ (s : Table) (ok : AllSound s) (rows : List (List ℕ)) where
   abbrev r : ℕ → List ℕ
@@ -29,7 +29,7 @@ module _ (s : Table) (ok : AllSound s) (rows : List (List ℕ)) where
   H = horizon s
 
   abbrev from : ℕ → Outcome
-  from t = checkFrom s (standAt s r t) (drop t rows)
+  from t = checkFrom s (ledgerAt s r t) (drop t rows)
 
   abbrev on : Answer → ℕ → Outcome
   on a t = after a (drop (suc t) rows) (λ next. checkFrom s next (drop (suc t) rows))
@@ -47,12 +47,12 @@ module _ (s : Table) (ok : AllSound s) (rows : List (List ℕ)) where
       reach t (omega arith) (omega arith) (λ u g. b u (omega arith))
       ∙ (unroll s rows t l ∙ ap (λ a. on a t) (take-ok s r t (omega arith) (taken-row t (b t (omega arith))) ∙ end-on s r (suc t) h))
 
-  reach-end : H ≤ length rows → Before s r H → (h : ℕ) → suc h ≡ H → check s rows ≡ on (arrives s (standAt s r (suc h))) h
+  reach-end : H ≤ length rows → Before s r H → (h : ℕ) → suc h ≡ H → check s rows ≡ on (arrives s (ledgerAt s r (suc h))) h
   reach-end l b h e =
       reach h (omega arith) (omega arith) (λ u g. b u (omega arith))
       ∙ (unroll s rows h (omega arith) ∙ ap (λ a. on a h) (take-ok s r h (omega arith) (taken-row h (b h (omega arith)))))
 
-  ending : (o : Outcome) → H ≤ length rows → Before s r H → ((h : ℕ) → suc h ≡ H → on (arrives s (standAt s r (suc h))) h ≡ o) → check s rows ≡ o
+  ending : (o : Outcome) → H ≤ length rows → Before s r H → ((h : ℕ) → suc h ≡ H → on (arrives s (ledgerAt s r (suc h))) h ≡ o) → check s rows ≡ o
   ending o l b end = go H refl
     where
       go : (n : ℕ) → H ≡ n → check s rows ≡ o
@@ -60,26 +60,26 @@ module _ (s : Table) (ok : AllSound s) (rows : List (List ℕ)) where
       go (suc h) e = reach-end l b h (sym e) ∙ end h (sym e)
 
   -- what is answered to the row of t
-  at-row : (t : ℕ) (n u : ℕ) → t < H → t < length rows → Before s r t → takeRow s (standAt s r t) (r t) ≡ refused n u → check s rows ≡ refuses n u
+  at-row : (t : ℕ) (n u : ℕ) → t < H → t < length rows → Before s r t → takeRow s (ledgerAt s r t) (r t) ≡ refused n u → check s rows ≡ refuses n u
   at-row t n u h l b e = reach t h (omega arith) b ∙ (unroll s rows t l ∙ ap (λ a. on a t) e)
 
-  row-11 : (t : ℕ) → t < H → ¬ (length (r t) ≡ s .cores) → takeRow s (standAt s r t) (r t) ≡ refused 11 0
+  row-11 : (t : ℕ) → t < H → ¬ (length (r t) ≡ s .cores) → takeRow s (ledgerAt s r t) (r t) ≡ refused 11 0
   unfolding takeRow
   row-11 t h n = rw (lt-leb H t h, ne-eqb (length (r t)) (s .cores) n)
 
-  row-25 : (t : ℕ) → t < H → length (r t) ≡ s .cores → Late s r t → takeRow s (standAt s r t) (r t) ≡ refused 25 t
+  row-25 : (t : ℕ) → t < H → length (r t) ≡ s .cores → Late s r t → takeRow s (ledgerAt s r t) (r t) ≡ refused 25 t
   unfolding takeRow
   row-25 t h e x = rw (lt-leb H t h, eq-eqb (length (r t)) (s .cores) e, late-found s ok r t x)
 
-  row-24 : (t : ℕ) → t < H → length (r t) ≡ s .cores → ¬ Late s r t → faulty s t (owedAt s r t) (r t) ≡ true → takeRow s (standAt s r t) (r t) ≡ refused 24 t
+  row-24 : (t : ℕ) → t < H → length (r t) ≡ s .cores → ¬ Late s r t → faulty s t (owedAt s r t) (r t) ≡ true → takeRow s (ledgerAt s r t) (r t) ≡ refused 24 t
   unfolding takeRow
   row-24 t h e n f = rw (lt-leb H t h, eq-eqb (length (r t)) (s .cores) e, not-late s ok r t n, f)
 
-  end-25 : (t : ℕ) → t ≡ H → Late s r t → arrives s (standAt s r t) ≡ refused 25 t
+  end-25 : (t : ℕ) → t ≡ H → Late s r t → arrives s (ledgerAt s r t) ≡ refused 25 t
   unfolding arrives closed
   end-25 t e x = rw (eq-eqb t H e, late-found s ok r t x)
 
-  end-26 : (t : ℕ) → t ≡ H → ¬ Late s r t → differs s (standAt s r t) ≡ true → arrives s (standAt s r t) ≡ refused 26 t
+  end-26 : (t : ℕ) → t ≡ H → ¬ Late s r t → differs s (ledgerAt s r t) ≡ true → arrives s (ledgerAt s r t) ≡ refused 26 t
   unfolding arrives closed
   end-26 t e n d = rw (eq-eqb t H e, not-late s ok r t n, d)
 
@@ -96,12 +96,12 @@ module _ (s : Table) (ok : AllSound s) (rows : List (List ℕ)) where
   says-check o (all-well e b n a) =
       ending accepts (omega arith) b (λ h q.
       ap (λ x. on x h) (end-last s r (suc h) q (subst (Closing s r) (sym q) (well n a)))
-      ∙ ap (λ (l : List (List ℕ)). after (accepted (standAt s r (suc h))) l (λ next. checkFrom s next l)) (drop-of-length-le rows {i = suc h} (omega arith)))
+      ∙ ap (λ (l : List (List ℕ)). after (accepted (ledgerAt s r (suc h))) l (λ next. checkFrom s next l)) (drop-of-length-le rows {i = suc h} (omega arith)))
   says-check o (too-few l b) = reach (length rows) l (le-refl (length rows)) b ∙ ended s rows (length rows) (le-refl (length rows))
   says-check o (past l b n a) =
       ending (refuses 10 0) (omega arith) b (λ h q.
       ap (λ x. on x h) (end-last s r (suc h) q (subst (Closing s r) (sym q) (well n a)))
-      ∙ ap (λ (l : List (List ℕ)). after (accepted (standAt s r (suc h))) l (λ next. checkFrom s next l)) (drop-cons rows (suc h) [] (omega arith)))
+      ∙ ap (λ (l : List (List ℕ)). after (accepted (ledgerAt s r (suc h))) l (λ next. checkFrom s next l)) (drop-cons rows (suc h) [] (omega arith)))
   says-check o (size t h l b n) = at-row t 11 0 h l b (row-11 t h n)
   says-check o (late t h l b e x) = at-row t 25 t h l b (row-25 t h e x)
   says-check o (bad t h l b e n f) =
@@ -113,8 +113,8 @@ module _ (s : Table) (ok : AllSound s) (rows : List (List ℕ)) where
       ending (refuses 26 H) l b (λ h q.
       ap (λ a. on a h)
       (end-26 (suc h) q (subst (λ (t : ℕ). ¬ Late s r t) (sym q) n)
-      (subst (λ (t : ℕ). differs s (standAt s r t) ≡ true) (sym q)
-      (not-false-true (differs s (standAt s r H)) (λ e. d (differs-agree s ok r e)))))
+      (subst (λ (t : ℕ). differs s (ledgerAt s r t) ≡ true) (sym q)
+      (not-false-true (differs s (ledgerAt s r H)) (λ e. d (differs-agree s ok r e)))))
       ∙ ap (refuses 26) q)
 
   -- AND THE ROWS HAVE ONE
@@ -123,9 +123,9 @@ module _ (s : Table) (ok : AllSound s) (rows : List (List ℕ)) where
 
   at-end : H ≤ length rows → Before s r H → Answered
   unfolding Answered
-  at-end l b = go (lateNow s H (owedAt s r H)) refl (differs s (standAt s r H)) refl (eqb H (length rows)) refl
+  at-end l b = go (lateNow s H (owedAt s r H)) refl (differs s (ledgerAt s r H)) refl (eqb H (length rows)) refl
     where
-      go : (a : Bool) → lateNow s H (owedAt s r H) ≡ a → (c : Bool) → differs s (standAt s r H) ≡ c → (d : Bool) → eqb H (length rows) ≡ d
+      go : (a : Bool) → lateNow s H (owedAt s r H) ≡ a → (c : Bool) → differs s (ledgerAt s r H) ≡ c → (d : Bool) → eqb H (length rows) ≡ d
           → (o : Outcome) × Says s rows o
       go true e c f d g = (refuses 25 H, late-end l b (late-job s ok r H e))
       go false e true f d g = (refuses 26 H, phases l b (late-not s ok r H e) (λ a. true≢false (sym f ∙ agree-differs s ok r a)))

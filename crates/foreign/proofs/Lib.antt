@@ -8,3 +8,4 @@ pub mod Meets
 pub mod Exact
 pub mod Answers
 pub mod Repeats
+pub mod Stands

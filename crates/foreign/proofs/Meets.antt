@@ -18,7 +18,7 @@ use Rattle.foreign.specs.Plan.{Agree, FineRow, Owed, hadBy, phaseAfter, 
 use Rattle.foreign.proofs.Newest.{newest-begun, offset-last, since-later}
 use Rattle.foreign.proofs.Owed.{Right, before-offset, faulty-right, late-job, late-none, open-owed, openAt, owedAt, right-faulty}
 use Rattle.foreign.proofs.PhaseBy.{owes-phase, phase-from, phase-owes}
-use Rattle.foreign.proofs.Steps.{notedAt, standAt}
+use Rattle.foreign.proofs.Steps.{notedAt, ledgerAt}
 use Rattle.foreign.proofs.Ticks.{fine-works, ticks-grow}
 
 -- from the last S on, what is noted is what was owed there
@@ -117,7 +117,7 @@ module _ (s : Table) (ok : AllSound s) (r : ℕ → List ℕ) where
   owes-end : (p : ℕ) → p < length (s .tasks) → openAt s r H p ≡ task s p .length - hadBy s r p (newest (task s p) H) H
   owes-end p l = open-owed s ok r p l H (omega (arith, far, offset-last s ok p l))
 
-  pub agree-differs : Agree s r → differs s (standAt s r H) ≡ false
+  pub agree-differs : Agree s r → differs s (ledgerAt s r H) ≡ false
   unfolding differs
   agree-differs a = none-any (length (s .tasks)) (λ q. not (eqb (openAt s r H q) (notedAt s r H q))) (λ p l.
       rw (eq-eqb (openAt s r H p) (notedAt s r H p) (owes-end p l ∙ (sym (same p l) ∙ sym (owes-last p l)))))
@@ -129,7 +129,7 @@ module _ (s : Table) (ok : AllSound s) (r : ℕ → List ℕ) where
           (hadBy s r p (newest (task s p) L) L) (hadBy s r p (newest (task s p) H) H)
           (sym (phase-from s r p L (offset-last s ok p l)) ∙ (a p l ∙ phase-from s r p H (omega (arith, far, offset-last s ok p l))))
 
-  pub differs-agree : differs s (standAt s r H) ≡ false → Agree s r
+  pub differs-agree : differs s (ledgerAt s r H) ≡ false → Agree s r
   differs-agree e p l =
       phase-from s r p L (offset-last s ok p l)
       ∙ (ap (λ (z : ℕ). phaseAfter (task s p .length) z (hadBy s r p (newest (task s p) L) L)) (since-later s ok p l)
