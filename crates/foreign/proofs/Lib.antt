@@ -9,3 +9,4 @@ pub mod Exact
 pub mod Answers
 pub mod Repeats
 pub mod Stands
+pub mod Cells
