@@ -10,3 +10,4 @@ pub mod Answers
 pub mod Repeats
 pub mod Stands
 pub mod Cells
+pub mod Own
