@@ -14,8 +14,8 @@ use Rattle.model.proofs.Bools.{not-false-true, not-true-false}
 use Rattle.model.proofs.Starts.{hyperperiod-pos}
 use Rattle.model.specs.Horizon.{horizon, hyperperiod, lastS}
 use Rattle.model.specs.Task.{AllSound, Table, Task, due, newest, release, task}
-use Rattle.foreign.specs.Answers.{Before, Late, Says, all-well, bad, late, late-end, past, phases, size, too-few}
-use Rattle.foreign.specs.Checker.{Answer, Ledger, Outcome, accepted, accepts, after, arrives, check, checkFrom, closed, differs, faulty, lateNow, refused, refuses, takeRow, taken, unfinished}
+use Rattle.foreign.specs.Answers.{Before, Late, Outcome, Says, accepts, all-well, bad, late, late-end, past, phases, refuses, size, too-few, unfinished}
+use Rattle.foreign.proofs.Ledger.{Answer, Ledger, accepted, after, arrives, check, checkFrom, closed, differs, faulty, lateNow, refused, takeRow, taken}
 use Rattle.foreign.specs.Plan.{Agree, FineRow, rowAt}
 use Rattle.foreign.proofs.Meets.{agree-differs, differs-agree, fine-right, late-found, late-not, not-late, right-fine}
 use Rattle.foreign.proofs.Owed.{late-job, owedAt}

@@ -1,5 +1,6 @@
 -- The laws of plans by another planner.
 pub mod Newest
+pub mod Ledger
 pub mod Ticks
 pub mod PhaseBy
 pub mod Owed

@@ -13,7 +13,7 @@ use Rattle.model.proofs.Search.{none-any, none-at}
 use Rattle.model.specs.Horizon.{horizon, hyperperiod, lastS}
 use Rattle.model.specs.Task.{AllSound, Table, Task, due, newest, release, task}
 use Rattle.foreign.specs.Answers.{Late}
-use Rattle.foreign.specs.Checker.{differs, faulty, lateNow}
+use Rattle.foreign.proofs.Ledger.{differs, faulty, lateNow}
 use Rattle.foreign.specs.Plan.{Agree, FineRow, Owed, hadBy, phaseAfter, runs}
 use Rattle.foreign.proofs.Newest.{newest-begun, offset-last, since-later}
 use Rattle.foreign.proofs.Owed.{Right, before-offset, faulty-right, late-job, late-none, open-owed, openAt, owedAt, right-faulty}

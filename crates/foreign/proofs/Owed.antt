@@ -15,7 +15,7 @@ use Rattle.model.proofs.Search.{any-of, any-some, none-any, none-at}
 use Rattle.model.specs.Search.{any, bit}
 use Rattle.model.specs.Sizes.{fencedByte}
 use Rattle.model.specs.Task.{AllSound, Table, Task, due, newest, release, task, widthOf}
-use Rattle.foreign.specs.Checker.{dueAt, faulty, lateNow, opened, releasedAt, strangerAt, worked, wrongAt}
+use Rattle.foreign.proofs.Ledger.{dueAt, faulty, lateNow, opened, releasedAt, strangerAt, worked, wrongAt}
 use Rattle.foreign.specs.Plan.{Stranger, cells, hadBy, runs, ticks}
 use Rattle.foreign.proofs.Newest.{newest-begun, newest-only, newest-release, newest-step}
 use Rattle.foreign.proofs.Ticks.{ticks-none, ticks-on}

@@ -25,7 +25,8 @@ use Rattle.model.specs.Search.{upFrom}
 use Rattle.model.specs.Sizes.{fencedByte}
 use Rattle.model.specs.Task.{AllSound, Table, Task, due, newest, nobody, release, task, widthOf}
 use Rattle.rule.proofs.Granting.{idle, width-or-none}
-use Rattle.foreign.specs.Checker.{accepts, check}
+use Rattle.foreign.specs.Answers.{accepts}
+use Rattle.foreign.proofs.Ledger.{check}
 use Rattle.foreign.specs.Plan.{Acceptable, FineRow, ForEver, InTime, Owed, Stranger, cells, hadBy, ownRow, ownRows, phaseAfter, phaseBy, repeated, rowAt, runs, ticks}
 use Rattle.foreign.proofs.Cells.{row-cells, row-known, some-cells}
 use Rattle.foreign.proofs.Exact.{accepted-exact}

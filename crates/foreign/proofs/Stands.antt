@@ -16,7 +16,7 @@ use Rattle.phase.specs.Phase.{ended, lateIn, nextStand, resting, stand, startSt
 use Rattle.phase.specs.declared.Phase.{Phase}
 use Rattle.phase.specs.declared.Phase.the-variants.{Coming, Resting, Working}
 use Rattle.phase.specs.declared.Stand.{Stand}
-use Rattle.foreign.specs.Checker.{dueAt, releasedAt}
+use Rattle.foreign.proofs.Ledger.{dueAt, releasedAt}
 use Rattle.foreign.specs.Plan.{hadBy, phaseAfter, phaseBy, runs}
 use Rattle.foreign.proofs.Newest.{newest-begun, newest-next, newest-only, newest-release}
 use Rattle.foreign.proofs.Owed.{before-offset, due-now, less-one, offset-release, open-owed, openAt, owed-due, owed-next, owedAt, unreleased}

@@ -1,12 +1,16 @@
--- What each answer to a list of rows means, said of the rows and the table alone (request 112). `answer-exact` shows it both ways.
+-- What a list of rows is answered, and what each answer means, said of the rows and the table alone (request 112). `answer-exact` shows it both ways.
 use mathlib.Core.List.{List}
 use mathlib.Core.Path.{_≡_}
 use Prim.Native.Nat.{_<_, ℕ, _≤_}
 use lib.ListN.{length}
 use Rattle.model.specs.Horizon.{horizon}
 use Rattle.model.specs.Task.{Table, due, task}
-use Rattle.foreign.specs.Checker.{Outcome, accepts, refuses, unfinished}
 use Rattle.foreign.specs.Plan.{Agree, FineRow, hadBy, rowAt}
+
+-- the list is accepted; or all its rows are taken, and rows are missing; or the first refusal, with number and tick, at which the rows stop
+pub data Outcome : Type 0 where
+  accepts unfinished : Outcome
+  refuses : ℕ → ℕ → Outcome
 
 -- a deadline is missed at t: some job due at t has had fewer than C ticks
 abbrev pub Late : Table → (ℕ → List ℕ) → ℕ → Type 0
