@@ -12,3 +12,4 @@ pub mod Repeats
 pub mod Stands
 pub mod Cells
 pub mod Own
+pub mod Passing

@@ -51,7 +51,7 @@ phase-of τ z had = go (ltb had (τ .length)) refl
     go false e = let full : τ .length ≤ had = ltb-false had (τ .length) e in rw (le-ltb 0 (τ .length - had) (omega arith))
 
 -- ended work at C ticks rests, whatever the rule
-end-rests : (r : Rule) (τ : Task) (e : Bool) (z u : ℕ) → u ≡ τ .length → ended r τ e z u ≡ resting τ e z
+pub end-rests : (r : Rule) (τ : Task) (e : Bool) (z u : ℕ) → u ≡ τ .length → ended r τ e z u ≡ resting τ e z
 end-rests greedy τ e z u q = refl
 end-rests limited τ e z u q = refl
 end-rests idling τ e z u q = rw (eq-eqb u (τ .length) q)
