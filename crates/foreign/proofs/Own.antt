@@ -17,7 +17,7 @@ use Rattle.model.proofs.Lists.{map-at, up-at, up-length}
 use Rattle.model.proofs.Rows.{row-length}
 use Rattle.model.proofs.Runs.{full-claimed, full-next, full-row, full-tick, full-whole, good-full, missed-at}
 use Rattle.model.proofs.Starts.{Periods, S-last, S-release, hyperperiod-divides}
-use Rattle.model.specs.Book.{Job, NeverMissed, full, grantsOf, inRow, jobClaims, served, taskClaims, widths, work}
+use Rattle.model.specs.Book.{Job, NeverMissed, full, grantsOf, inRow, jobClaims, rowOf, served, taskClaims, widths, work}
 use Rattle.model.specs.Fence.{openCores}
 use Rattle.model.specs.Grants.{Claimant, claimants, some}
 use Rattle.model.specs.Horizon.{S, horizon, hyperperiod, lastS}
@@ -27,13 +27,20 @@ use Rattle.model.specs.Task.{AllSound, Table, Task, due, newest, nobody, releas
 use Rattle.rule.proofs.Granting.{idle, width-or-none}
 use Rattle.foreign.specs.Answers.{accepts}
 use Rattle.foreign.proofs.Ledger.{check}
-use Rattle.foreign.specs.Plan.{Acceptable, FineRow, ForEver, InTime, Owed, Stranger, cells, hadBy, ownRow, ownRows, phaseAfter, phaseBy, repeated, rowAt, runs, ticks}
+use Rattle.foreign.specs.Plan.{Acceptable, FineRow, ForEver, InTime, Owed, Stranger, cells, hadBy, phaseAfter, phaseBy, repeated, rowAt, runs, ticks}
 use Rattle.foreign.proofs.Cells.{row-cells, row-known, some-cells}
 use Rattle.foreign.proofs.Exact.{accepted-exact}
 use Rattle.foreign.proofs.Newest.{newest-begun, newest-later, newest-next, newest-only, offset-last, since-later}
 use Rattle.foreign.proofs.PhaseBy.{phase-from}
 use Rattle.foreign.proofs.Repeats.{repeats-for-ever}
 use Rattle.foreign.proofs.Ticks.{done-same, fine-same, ticks-none, ticks-on, ticks-same}
+
+-- the rows of the full-length run up to the horizon
+abbrev pub ownRow : Table → ℕ → List ℕ
+ownRow s t = rowOf s (full s t)
+
+abbrev pub ownRows : Table → List (List ℕ)
+ownRows s = map (ownRow s) (upFrom 0 (horizon s))
 
 -- the width of a claimant
 claimant-width : (ws : List ℕ) (c : ℕ → Bool) (p : ℕ) → getD (claimants ws c) p idle .width ≡ getD ws p 0

@@ -8,3 +8,4 @@ pub mod Numbers
 pub mod Said
 pub mod Take
 pub mod Begin
+pub mod Checked
