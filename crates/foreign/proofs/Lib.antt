@@ -13,3 +13,5 @@ pub mod Stands
 pub mod Cells
 pub mod Own
 pub mod Passing
+pub mod SamePhase
+pub mod Tied

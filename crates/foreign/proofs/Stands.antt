@@ -12,7 +12,7 @@ use borrow.Author.Tests.{eq-eqb, eqb-false, eqb-true, le-ltb, leb-false, leb-tru
 use Rattle.model.proofs.Bools.{same-test}
 use Rattle.model.proofs.Jobs.{newest-is}
 use Rattle.model.specs.Task.{AllSound, Rule, Table, Task, due, greedy, idling, lending, limited, newest, release, task}
-use Rattle.phase.specs.Phase.{ended, lateIn, nextStand, resting, stand, startStand, worked}
+use Rattle.phase.specs.Phase.{ended, lateIn, nextStand, resting, stand, startStand, worked, working}
 use Rattle.phase.specs.declared.Phase.{Phase}
 use Rattle.phase.specs.declared.Phase.the-variants.{Coming, Resting, Working}
 use Rattle.phase.specs.declared.Stand.{Stand}
@@ -178,6 +178,20 @@ module _ (s : Table) (ok : AllSound s) (r : ℕ → List ℕ) (p : ℕ) (l : p <
       phase-from s r p t h
       ∙ (phase-of τ (t - release τ (newest τ t)) (hadBy s r p (newest τ t) t)
       ∙ ap (phaseOf τ (t - release τ (newest τ t))) (sym (open-owed s ok r p l t h)))
+
+  -- it works exactly while ticks are owed
+  pub works-said : (t : ℕ) → working (phaseBy s r p t) ≡ ltb 0 (openAt s r t p)
+  works-said t = go (leb (τ .offset) t) refl
+    where
+      works-of : (z o : ℕ) (b : Bool) → working (cond b (Working z (τ .length - o) (τ .length - o)) (Resting z)) ≡ b
+      works-of z o true = refl
+      works-of z o false = refl
+
+      go : (b : Bool) → leb (τ .offset) t ≡ b → working (phaseBy s r p t) ≡ ltb 0 (openAt s r t p)
+      go true e = ap working (said-from t (leb-true (τ .offset) t e)) ∙ works-of (t - release τ (newest τ t)) (openAt s r t p) (ltb 0 (openAt s r t p))
+      go false e =
+          let h = leb-false (τ .offset) t e in
+          ap working (phase-coming s r p t h) ∙ sym (le-ltb 0 (openAt s r t p) (omega (arith, before-offset s ok r p l t h)))
 
   -- .. without a release
   said-on :
