@@ -1,9 +1,9 @@
 -- A STATE OF `take` AND THE ROWS BEFORE IT: what ties them, from the beginning on, and that the tests of such a state are the ledger's up to the first fault.
 use mathlib.Core.Bool.{_&&_, Bool, cond, false, false≢true, not, true, true≢false, _||_}
-use mathlib.Core.List.{List, [], map, _++_}
+use mathlib.Core.List.{List, [], map, _++_, _∷_}
 use mathlib.Core.Path.{ap, ap₂, refl, subst, sym, _∙_, _≡_}
 use Prim.Native.Nat.{_%_, _+_, _-_, _<_, suc, zero, ℕ, _≤_}
-use native.Mathlib.Nat.{le-refl, le-trans}
+use native.Mathlib.Nat.{le-refl, not-suc-le-zero}
 use native.Mathlib.Omega.{arith}
 use lib.Dec.{eqb, leb, ltb}
 use lib.ListN.{List·getD-append, List·getD-map, drop, getD, length, length-map, length-take, replicate, take}
@@ -28,6 +28,7 @@ use Rattle.run.specs.Numbers.{lateAt}
 use Rattle.run.specs.Run.{phaseAt, placeAt, ruleIn, tableIn, tasksIn}
 use Rattle.run.specs.Start.{startedRun}
 use Rattle.run.specs.declared.Run.{Run}
+use Rattle.table.proofs.Passed.{passed-sound}
 use Rattle.table.specs.Numbers.{NoneApplies}
 use Rattle.table.specs.Words.{rule, tableOf}
 use Rattle.foreign.specs.Begin.{firstState}
@@ -196,3 +197,75 @@ module _ (s : Table) (ok : AllSound s) (r : ℕ → List ℕ) where
           rw (ap (λ (y : Table). y .fence) (x .table), x .count)
           (ap (λ (b : Bool). any (length (r t)) (ledger.strangerAt s (r t)) || b)
           (any-same (length (s .tasks)) (wrongAt (w .run) (r t)) (ledger.wrongAt s t (owedAt s r t) (r t)) wrong-same))
+
+      -- 26
+      module _ (last : t ≡ horizon s) where
+        upto : L ≤ t
+        upto = unfold horizon in omega arith
+
+        now-said : (p : ℕ) → p < length (s .tasks) → phaseAt (w .run) p ≡ phaseBy s r p (horizon s)
+        now-said p l = ap (λ (y : declared.Task). y .phase) (place-said p l) ∙ ap (phaseBy s r p) last
+
+        then-said : (p : ℕ) → p < length (s .tasks) → notedAt w p ≡ phaseBy s r p L
+        then-said p l = x .noted upto p l ∙ ap (λ (y : Stand). y .phase) (said L upto p l)
+
+        abbrev other : ℕ → Bool
+        other p = not (samePhase (phaseAt (w .run) p) (notedAt w p))
+
+        agree-state : Agree s r → differs w ≡ false
+        unfolding differs
+        agree-state a =
+            ap (λ (n : ℕ). any n other) (x .count)
+            ∙ none-any (length (s .tasks)) other (λ p l.
+            ap not (same-phase (phaseAt (w .run) p) (notedAt w p) .1 (now-said p l ∙ (sym (a p l) ∙ sym (then-said p l)))))
+
+        state-agree : differs w ≡ false → Agree s r
+        unfolding differs
+        state-agree e p l =
+            sym (then-said p l)
+            ∙ (sym (same-phase (phaseAt (w .run) p) (notedAt w p) .0
+            (not-false (samePhase (phaseAt (w .run) p) (notedAt w p))
+            (none-at (length (s .tasks)) other p (sym (ap (λ (n : ℕ). any n other) (x .count)) ∙ e) l)))
+            ∙ now-said p l)
+
+        pub differs-same : differs w ≡ ledger.differs s (ledgerAt s r (horizon s))
+        differs-same =
+            same-test (differs w) (ledger.differs s (ledgerAt s r (horizon s)))
+            (λ e. not-false-true (ledger.differs s (ledgerAt s r (horizon s))) (λ f. true≢false (sym e ∙ agree-state (differs-agree s ok r f))))
+            (λ e. not-false-true (differs w) (λ f. true≢false (sym e ∙ agree-differs s ok r (state-agree f))))
+
+-- THE BEGINNING
+module _ (ws : List ℕ) (none : NoneApplies ws) (r : ℕ → List ℕ) where
+  abbrev s : Table
+  s = tableOf ws
+
+  abbrev run : Run
+  run = startedRun (rule ws) s
+
+  begun-back : (τs : List Task) → map taskOf (map startTask τs) ≡ τs
+  begun-back [] = refl
+  begun-back (τ ∷ τs) = ap (λ (l : List Task). τ ∷ l) (begun-back τs)
+
+  begun-tasks : tasksIn run ≡ s .tasks
+  unfolding startedRun
+  begun-tasks =
+      ap (map taskOf) (take-at (map startTask (s .tasks)) (replicate (mostTasks - length (s .tasks)) unused) (length (s .tasks)) (length-map (s .tasks) startTask))
+      ∙ begun-back (s .tasks)
+
+  begun-rule : ruleIn run ≡ s .rule
+  unfolding startedRun tableOf
+  begun-rule = refl
+
+  begun-at : (p : ℕ) → p < length (s .tasks) → placeAt run p ≡ standing (standAt s r p 0) (task s p)
+  unfolding startedRun standAt
+  begun-at p l = started-at (s .tasks) (replicate (mostTasks - length (s .tasks)) unused) p l
+
+  pub begun-tied : Tied s (passed-sound ws none) r 0 (firstState ws)
+  begun-tied = record {
+    tick = refl;
+    table = unfold startedRun in ap₂ (λ (τs : List Task) (u : Rule). record { tasks = τs; cores = s .cores; fence = s .fence; rule = u }) begun-tasks begun-rule;
+    count = unfold startedRun in refl;
+    passes = started-state ws none;
+    places = begun-at;
+    noted = arrived-noted s (passed-sound ws none) r run 0 blank begun-tasks (unfold startedRun in refl) begun-at (λ h. absurd (not-suc-le-zero h));
+  }
