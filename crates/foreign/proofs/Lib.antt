@@ -15,3 +15,4 @@ pub mod Own
 pub mod Passing
 pub mod SamePhase
 pub mod Tied
+pub mod Bridge

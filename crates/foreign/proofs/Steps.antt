@@ -48,12 +48,12 @@ module _ (s : Table) (r : ℕ → List ℕ) where
   unfolding arrived owedAt notedAt
   starts = refl
 
-  next-ledger : (t : ℕ) → arrived s (suc t) (worked s t (owedAt s r t) (r t)) (notedAt s r t) ≡ ledgerAt s r (suc t)
+  pub next-ledger : (t : ℕ) → arrived s (suc t) (worked s t (owedAt s r t) (r t)) (notedAt s r t) ≡ ledgerAt s r (suc t)
   unfolding arrived owedAt notedAt
   next-ledger t = refl
 
   -- the answer to the row of tick t, from the state that comes to it
-  data Case (t : ℕ) (a : Answer) : Type 0 where
+  pub data Case (t : ℕ) (a : Answer) : Type 0 where
     fault : (n u : ℕ) → a ≡ refused n u → Case t a
     goes : Ok s r t → suc t < horizon s → a ≡ taken (ledgerAt s r (suc t)) → Case t a
     last : Ok s r t → suc t ≡ horizon s → Closing s r (suc t) → a ≡ accepted (ledgerAt s r (suc t)) → Case t a
@@ -70,7 +70,7 @@ module _ (s : Table) (r : ℕ → List ℕ) where
       go true e false f true g = fault 26 (suc t) refl
       go true e false f false g = last x (eqb-true (suc t) (horizon s) e) (record { on-time = f; same = g }) refl
 
-  cases : (t : ℕ) → Case t (takeRow s (ledgerAt s r t) (r t))
+  pub cases : (t : ℕ) → Case t (takeRow s (ledgerAt s r t) (r t))
   unfolding takeRow
   cases t =
       rw (next-ledger t)
