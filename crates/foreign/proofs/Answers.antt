@@ -169,8 +169,8 @@ module _ (s : Table) (ok : AllSound s) (rows : List (List ℕ)) where
   some-says = onward H 0 (omega arith) (omega arith) (λ u g. absurd (not-suc-le-zero g))
 
   -- THE THEOREM
-  pub answer-exact : (o : Outcome) → (check s rows ≡ o) ↔ Says s rows o
-  answer-exact o = (
+  pub check-says : (o : Outcome) → (check s rows ≡ o) ↔ Says s rows o
+  check-says o = (
     λ e. let x = some-says in subst (Says s rows) (sym (says-check (x .0) (x .1)) ∙ e) (x .1),
     says-check o,
   )

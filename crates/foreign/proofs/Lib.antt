@@ -16,3 +16,4 @@ pub mod Passing
 pub mod SamePhase
 pub mod Tied
 pub mod Bridge
+pub mod Checked

@@ -29,10 +29,10 @@ use Rattle.foreign.specs.Answers.{accepts}
 use Rattle.foreign.proofs.Ledger.{check}
 use Rattle.foreign.specs.Plan.{Acceptable, FineRow, ForEver, InTime, Owed, Stranger, cells, hadBy, phaseAfter, phaseBy, repeated, rowAt, runs, ticks}
 use Rattle.foreign.proofs.Cells.{row-cells, row-known, some-cells}
-use Rattle.foreign.proofs.Exact.{accepted-exact}
+use Rattle.foreign.proofs.Exact.{check-exact}
 use Rattle.foreign.proofs.Newest.{newest-begun, newest-later, newest-next, newest-only, offset-last, since-later}
 use Rattle.foreign.proofs.PhaseBy.{phase-from}
-use Rattle.foreign.proofs.Repeats.{repeats-for-ever}
+use Rattle.foreign.proofs.Repeats.{acceptable-repeats}
 use Rattle.foreign.proofs.Ticks.{done-same, fine-same, ticks-none, ticks-on, ticks-same}
 
 -- the rows of the full-length run up to the horizon
@@ -270,10 +270,6 @@ module _ (s : Table) (ok : AllSound s) (few : length (s .tasks) < fencedByte) wh
       same p t h =
           unfold phaseBy in rw (ticks-same (ownRow s) (rowAt (ownRows s)) p (release (task s p) (newest (task s p) t)) t (λ u g. own-at u (omega arith)))
 
-  -- THE THEOREM
-  pub own-plans : NeverMissed s → check s (ownRows s) ≡ accepts
-  own-plans nm = accepted-exact s ok (ownRows s) .1 (own-acceptable nm)
-
--- what is accepted, repeated from the last S on, is fine for ever
-pub accepted-for-ever : (s : Table) → AllSound s → (rows : List (List ℕ)) → check s rows ≡ accepts → ForEver s (repeated s rows)
-accepted-for-ever s ok rows e = repeats-for-ever s ok rows (accepted-exact s ok rows .0 e)
+  -- so the ledger accepts them
+  pub own-check : NeverMissed s → check s (ownRows s) ≡ accepts
+  own-check nm = check-exact s ok (ownRows s) .1 (own-acceptable nm)

@@ -227,5 +227,5 @@ module _ (s : Table) (ok : AllSound s) (rows : List (List ℕ)) (acc : Acceptabl
                   ap (λ (t : ℕ). hadBy s r p k t) (sym b) ∙ (sym one ∙ (ap (λ (t : ℕ). hadBy s r p i t) a ∙ x))
 
   -- THE THEOREM
-  pub repeats-for-ever : ForEver s (repeated s rows)
-  repeats-for-ever = record { fine = fine-all; done = λ p k l. done-below p l (suc k) k (omega arith) }
+  pub acceptable-repeats : ForEver s (repeated s rows)
+  acceptable-repeats = record { fine = fine-all; done = λ p k l. done-below p l (suc k) k (omega arith) }

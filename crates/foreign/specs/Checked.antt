@@ -40,11 +40,11 @@ outcomeOf ws rows = comesTo unfinished (answersOf ws rows)
 -- what is claimed of the words of a table and a list of rows
 pub record Checked (ws : List ℕ) (rows : List (List ℕ)) : Type 0 where
   -- accepted exactly if the plan is as the request says
-  pub accepted : (outcomeOf ws rows ≡ accepts) ↔ Acceptable (tableOf ws) rows
+  pub accepted-exact : (outcomeOf ws rows ≡ accepts) ↔ Acceptable (tableOf ws) rows
   -- and every answer, with its number and tick, exactly if the rows say so
-  pub answered : (o : Outcome) → (outcomeOf ws rows ≡ o) ↔ Says (tableOf ws) rows o
+  pub answer-exact : (o : Outcome) → (outcomeOf ws rows ≡ o) ↔ Says (tableOf ws) rows o
   -- an accepted plan, repeated from the last S on, meets every deadline for ever, with the width of each job
-  pub for-ever : outcomeOf ws rows ≡ accepts → ForEver (tableOf ws) (repeated (tableOf ws) rows)
+  pub repeats-for-ever : outcomeOf ws rows ≡ accepts → ForEver (tableOf ws) (repeated (tableOf ws) rows)
 
 -- THE TOOL'S OWN PLANS
 
