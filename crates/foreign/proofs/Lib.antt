@@ -17,3 +17,4 @@ pub mod SamePhase
 pub mod Tied
 pub mod Bridge
 pub mod Checked
+pub mod Examples
