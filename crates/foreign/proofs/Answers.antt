@@ -1,21 +1,21 @@
 -- EVERY ANSWER MEANS WHAT IT SAYS: the stepwise answer to a list of rows is the one that the rows have, and the only one.
-use mathlib.Core.Bool.{Bool, cond, false, not, true, true≢false}
-use mathlib.Core.List.{List, [], _∷_}
+use mathlib.Core.Bool.{Bool, false, true, true≢false}
+use mathlib.Core.List.{List, []}
 use mathlib.Core.Logic.{_↔_, ⊎-elim}
 use mathlib.Core.Path.{ap, refl, subst, sym, _∙_, _≡_}
-use Prim.Native.Nat.{_*_, _+_, _-_, _<_, suc, zero, ℕ, _≤_}
-use native.Mathlib.Nat.{eq-or-lt-of-le, le-of-eq, le-refl, le-trans, not-suc-le-zero}
+use Prim.Native.Nat.{_+_, _<_, suc, zero, ℕ, _≤_}
+use native.Mathlib.Nat.{eq-or-lt-of-le, le-refl, not-suc-le-zero}
 use native.Mathlib.Omega.{arith}
-use lib.Dec.{eqb, leb, ltb}
-use lib.ListN.{drop, drop-of-length-le, getD, length, length-drop}
+use lib.Dec.{eqb}
+use lib.ListN.{drop, drop-of-length-le, length}
 use lib.Seq.{drop-cons}
-use borrow.Author.Tests.{eq-eqb, eqb-false, eqb-true, leb-false, leb-true, lt-leb, ltb-false, ltb-true, ne-eqb, not-false}
-use Rattle.model.proofs.Bools.{not-false-true, not-true-false}
+use borrow.Author.Tests.{eq-eqb, eqb-false, eqb-true, lt-leb, ne-eqb}
+use Rattle.model.proofs.Bools.{not-false-true}
 use Rattle.model.proofs.Starts.{hyperperiod-pos}
-use Rattle.model.specs.Horizon.{horizon, hyperperiod, lastS}
-use Rattle.model.specs.Task.{AllSound, Table, Task, due, newest, release, task}
+use Rattle.model.specs.Horizon.{horizon}
+use Rattle.model.specs.Task.{AllSound, Table}
 use Rattle.foreign.specs.Answers.{Before, Late, Outcome, Says, accepts, all-well, bad, late, late-end, past, phases, refuses, size, too-few, unfinished}
-use Rattle.foreign.proofs.Ledger.{Answer, Ledger, accepted, after, arrives, check, checkFrom, closed, differs, faulty, lateNow, refused, takeRow, taken}
+use Rattle.foreign.proofs.Ledger.{Answer, Ledger, accepted, after, arrives, check, checkFrom, closed, differs, faulty, lateNow, refused, takeRow}
 use Rattle.foreign.specs.Plan.{Agree, FineRow, rowAt}
 use Rattle.foreign.proofs.Meets.{agree-differs, differs-agree, fine-right, late-found, late-not, not-late, right-fine}
 use Rattle.foreign.proofs.Owed.{late-job, owedAt}

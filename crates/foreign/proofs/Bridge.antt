@@ -3,20 +3,19 @@ use mathlib.Core.Bool.{Bool, cond, false, not, true, true≢false}
 use mathlib.Core.List.{List, [], _++_, _∷_}
 use mathlib.Core.Path.{ap, refl, subst, sym, _∙_, _≡_}
 use Prim.Native.Nat.{_+_, _<_, suc, zero, ℕ, _≤_}
-use native.Mathlib.Nat.{eq-or-lt-of-le, not-suc-le-zero}
+use native.Mathlib.Nat.{eq-or-lt-of-le}
 use mathlib.Core.Logic.{⊎-elim}
 use native.Mathlib.Omega.{arith}
 use lib.Dec.{eqb, leb}
 use lib.ListN.{drop, drop-of-length-le, length, replicate}
 use lib.Seq.{drop-cons}
-use borrow.Author.Tests.{eqb-true, le-leb, leb-false}
+use borrow.Author.Tests.{eqb-true, le-leb}
 use Rattle.model.specs.Horizon.{horizon}
 use Rattle.model.specs.Task.{AllSound, Table}
-use Rattle.run.specs.Run.{tableIn}
 use Rattle.table.specs.Limits.{horizonOut}
-use Rattle.foreign.specs.Answers.{Outcome, accepts, refuses, unfinished}
+use Rattle.foreign.specs.Answers.{accepts, unfinished}
 use Rattle.foreign.specs.Checked.{answersFrom, comesTo}
-use Rattle.foreign.specs.Numbers.{afterRow, differs, missed, stateOut}
+use Rattle.foreign.specs.Numbers.{afterRow, differs, missed}
 use Rattle.foreign.specs.Plan.{rowAt}
 use Rattle.foreign.specs.Row.{faulty}
 use Rattle.foreign.specs.Said.{Said, accepted, byAnswer, refused, taken, told}

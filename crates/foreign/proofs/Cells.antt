@@ -1,5 +1,5 @@
 -- The bytes of a row: as many cores show a position as its place is given, and there is no stranger among them.
-use mathlib.Core.Bool.{Bool, cond, false, not, true, true≢false, _||_}
+use mathlib.Core.Bool.{Bool, cond, false, not, true, true≢false}
 use mathlib.Core.List.{List, [], map, _∷_}
 use mathlib.Core.Logic.{inl, inr, _⊎_, ⊎-elim}
 use mathlib.Core.Path.{ap, refl, subst, sym, _∙_, _≡_}

@@ -1,13 +1,12 @@
 -- THE THEOREMS ABOUT A WHOLE PLAN, on the words and the rows alone: when it is accepted, what each answer means, that it repeats for ever, and that the
 -- tool's own plans are accepted.
-use mathlib.Core.Bool.{cond, false}
-use mathlib.Core.List.{List, [], map, _++_, _∷_}
-use mathlib.Core.Logic.{_↔_}
-use mathlib.Core.Path.{ap, refl, subst, sym, _∙_, _≡_}
-use Prim.Native.Nat.{_*_, _+_, _-_, _<_, suc, zero, ℕ, _≤_}
-use native.Mathlib.Nat.{add-suc, add-zero, mul-comm, not-suc-le-zero, suc-mul, zero-add, zero-mul}
+use mathlib.Core.Bool.{false}
+use mathlib.Core.List.{List, [], _++_, _∷_}
+use mathlib.Core.Path.{ap, refl, sym, _∙_, _≡_}
+use Prim.Native.Nat.{_*_, _+_, _-_, _<_, suc, zero, ℕ}
+use native.Mathlib.Nat.{add-zero, not-suc-le-zero, suc-mul, zero-add, zero-mul}
 use native.Mathlib.Omega.{arith}
-use lib.ListN.{drop, getD, length, length-map, replicate, take}
+use lib.ListN.{drop, length, length-map, replicate, take}
 use lib.Seq.{drop-append-add, ext-getD, take-at}
 use borrow.Author.Tests.{le-ltb}
 use Rattle.model.proofs.Lists.{map-at, up-at, up-length}
@@ -22,15 +21,13 @@ use Rattle.plan.specs.Rows.{rowsFrom, rowsOf}
 use Rattle.table.proofs.Exact.{passed-exact}
 use Rattle.table.proofs.Passed.{passed-count, passed-horizon, passed-sound}
 use Rattle.table.specs.declared.Answer.{Answer}
-use Rattle.table.specs.Answer.{answerOf}
 use Rattle.table.specs.Limits.{horizonOut, mostHorizon}
 use Rattle.table.specs.Numbers.{NoneApplies}
 use Rattle.table.specs.Words.{tableOf}
-use Rattle.foreign.specs.declared.Begun.{Begun}
-use Rattle.foreign.specs.Answers.{Outcome, Says, accepts, unfinished}
+use Rattle.foreign.specs.Answers.{unfinished}
 use Rattle.foreign.specs.Begin.{beginOf, begunBy, firstState}
-use Rattle.foreign.specs.Checked.{Checked, OwnPlan, answersFrom, comesTo, cut, outcomeOf, written}
-use Rattle.foreign.specs.Plan.{Acceptable, ForEver, repeated, rowAt}
+use Rattle.foreign.specs.Checked.{Checked, OwnPlan, answersFrom, comesTo, outcomeOf, written}
+use Rattle.foreign.specs.Plan.{rowAt}
 use Rattle.foreign.specs.Said.{accepted, taken}
 use Rattle.foreign.specs.declared.Supplied.{Supplied}
 use Rattle.foreign.proofs.Answers.{check-says}

@@ -1,20 +1,20 @@
 -- The tests of one tick and the conditions of one tick, each from the other.
-use mathlib.Core.Bool.{Bool, cond, false, not, true, true≢false}
+use mathlib.Core.Bool.{Bool, cond, false, not, true}
 use mathlib.Core.List.{List}
-use mathlib.Core.Path.{ap, refl, subst, sym, _∙_, _≡_}
+use mathlib.Core.Path.{ap, refl, sym, _∙_, _≡_}
 use Prim.Native.Nat.{_+_, _-_, _<_, suc, zero, ℕ, _≤_}
 use native.Mathlib.Nat.{le-trans}
 use native.Mathlib.Omega.{arith}
 use lib.Dec.{eqb, leb, ltb}
-use lib.ListN.{getD, length}
+use lib.ListN.{length}
 use borrow.Author.Tests.{eq-eqb, eqb-false, eqb-true, leb-false, leb-true, ltb-false, ltb-true, not-false}
 use Rattle.model.proofs.Bools.{not-false-true, not-true-false}
 use Rattle.model.proofs.Search.{none-any, none-at}
 use Rattle.model.specs.Horizon.{horizon, hyperperiod, lastS}
-use Rattle.model.specs.Task.{AllSound, Table, Task, due, newest, release, task}
+use Rattle.model.specs.Task.{AllSound, Table, due, newest, release, task}
 use Rattle.foreign.specs.Answers.{Late}
 use Rattle.foreign.proofs.Ledger.{differs, faulty, lateNow}
-use Rattle.foreign.specs.Plan.{Agree, FineRow, Owed, hadBy, phaseAfter, runs}
+use Rattle.foreign.specs.Plan.{Agree, FineRow, Owed, hadBy, phaseAfter}
 use Rattle.foreign.proofs.Newest.{newest-begun, offset-last, since-later}
 use Rattle.foreign.proofs.Owed.{Right, before-offset, faulty-right, late-job, late-none, open-owed, openAt, owedAt, right-faulty}
 use Rattle.foreign.proofs.PhaseBy.{owes-phase, phase-from, phase-owes}

@@ -1,23 +1,23 @@
 -- What the stepwise ledger says of the rows: the ticks owed are C less those had, and its tests are the conditions of a tick.
 use mathlib.Core.Bool.{_&&_, Bool, cond, false, false≢true, not, true, true≢false, _||_}
-use mathlib.Core.List.{List, []}
+use mathlib.Core.List.{List}
 use mathlib.Core.Logic.{_↔_, inl, inr}
 use mathlib.Core.Path.{ap, refl, subst, sym, _∙_, _≡_}
-use Prim.Native.Nat.{_*_, _+_, _-_, _/_, _<_, suc, zero, ℕ, _≤_}
-use native.Mathlib.Nat.{add-zero, le-refl, le-trans, zero-div}
+use Prim.Native.Nat.{_+_, _-_, _<_, suc, zero, ℕ, _≤_}
+use native.Mathlib.Nat.{le-trans}
 use native.Mathlib.Omega.{arith}
 use lib.Dec.{eqb, leb, ltb}
 use lib.ListN.{getD, length}
-use borrow.Author.Tests.{eq-eqb, eqb-false, eqb-true, le-leb, le-ltb, leb-false, leb-true, lt-leb, lt-ltb, ltb-false, ltb-true, ne-eqb, not-false, not-true}
-use Rattle.model.proofs.Bools.{and-both, and-left, and-right, not-true-false, or-right-false}
+use borrow.Author.Tests.{eq-eqb, eqb-false, eqb-true, leb-false, leb-true, lt-ltb, ltb-false, ltb-true, ne-eqb, not-true}
+use Rattle.model.proofs.Bools.{and-left, and-right, not-true-false, or-right-false}
 use Rattle.model.proofs.Jobs.{newest-is}
-use Rattle.model.proofs.Search.{any-of, any-some, none-any, none-at}
+use Rattle.model.proofs.Search.{any-some, none-any, none-at}
 use Rattle.model.specs.Search.{any, bit}
 use Rattle.model.specs.Sizes.{fencedByte}
 use Rattle.model.specs.Task.{AllSound, Table, Task, due, newest, release, task, widthOf}
 use Rattle.foreign.proofs.Ledger.{dueAt, faulty, lateNow, opened, releasedAt, strangerAt, worked, wrongAt}
-use Rattle.foreign.specs.Plan.{Stranger, cells, hadBy, runs, ticks}
-use Rattle.foreign.proofs.Newest.{newest-begun, newest-only, newest-release, newest-step}
+use Rattle.foreign.specs.Plan.{Stranger, cells, hadBy, runs}
+use Rattle.foreign.proofs.Newest.{newest-begun, newest-release, newest-step}
 use Rattle.foreign.proofs.Ticks.{ticks-none, ticks-on}
 
 -- what is owed at the start of tick t, before the jobs released at it

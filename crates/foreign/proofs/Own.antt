@@ -1,14 +1,14 @@
 -- THE TOOL'S OWN PLANS ARE ACCEPTED: the rows of the full-length run of a table that never misses.
 use mathlib.Core.Bool.{_&&_, Bool, cond, false, false≢true, true, true≢false}
 use mathlib.Core.List.{List, [], map, _∷_}
-use mathlib.Core.Logic.{⊎-elim, _⊎_, inl, inr}
+use mathlib.Core.Logic.{_⊎_, inl, inr}
 use mathlib.Core.Path.{ap, ap₂, refl, subst, sym, _∙_, _≡_}
-use Prim.Native.Nat.{_*_, _+_, _-_, _<_, suc, zero, ℕ, _≤_}
+use Prim.Native.Nat.{_*_, _+_, _<_, suc, zero, ℕ, _≤_}
 use native.Mathlib.Nat.{le-antisymm, le-dest, le-div-iff-mul-le, le-refl, le-trans, mul-le-mul-right, zero-add}
 use native.Mathlib.Omega.{arith}
-use lib.Dec.{eqb, leb, ltb}
-use lib.ListN.{List·getD-map, getD, length, length-map}
-use borrow.Author.Tests.{le-leb, leb-false, leb-true, lt-leb}
+use lib.Dec.{leb, ltb}
+use lib.ListN.{getD, length, length-map}
+use borrow.Author.Tests.{leb-false, leb-true}
 use Rattle.model.proofs.Bools.{and-both, and-left, and-right, not-false-true, not-true-false}
 use Rattle.model.proofs.Grants.{grants-length, grants-none}
 use Rattle.model.proofs.Horizon.{repeat-all}
@@ -27,12 +27,11 @@ use Rattle.model.specs.Task.{AllSound, Table, Task, due, newest, nobody, releas
 use Rattle.rule.proofs.Granting.{idle, width-or-none}
 use Rattle.foreign.specs.Answers.{accepts}
 use Rattle.foreign.proofs.Ledger.{check}
-use Rattle.foreign.specs.Plan.{Acceptable, FineRow, ForEver, InTime, Owed, Stranger, cells, hadBy, phaseAfter, phaseBy, repeated, rowAt, runs, ticks}
+use Rattle.foreign.specs.Plan.{Acceptable, FineRow, InTime, Owed, Stranger, cells, hadBy, phaseAfter, phaseBy, rowAt, runs, ticks}
 use Rattle.foreign.proofs.Cells.{row-cells, row-known, some-cells}
 use Rattle.foreign.proofs.Exact.{check-exact}
 use Rattle.foreign.proofs.Newest.{newest-begun, newest-later, newest-next, newest-only, offset-last, since-later}
 use Rattle.foreign.proofs.PhaseBy.{phase-from}
-use Rattle.foreign.proofs.Repeats.{acceptable-repeats}
 use Rattle.foreign.proofs.Ticks.{done-same, fine-same, ticks-none, ticks-on, ticks-same}
 
 -- the rows of the full-length run up to the horizon

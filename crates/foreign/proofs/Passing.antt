@@ -3,9 +3,8 @@ use mathlib.Core.Bool.{Bool, cond, false, false≢true, not, true, true≢false,
 use mathlib.Core.List.{List}
 use mathlib.Core.Path.{ap, refl, subst, sym, _∙_, _≡_}
 use Prim.Native.Nat.{_+_, _-_, _<_, ℕ}
-use native.Mathlib.Omega.{arith}
 use lib.Dec.{eqb, leb}
-use lib.ListN.{List·getD-eq-default, getD, length}
+use lib.ListN.{List·getD-eq-default, length}
 use borrow.Author.Tests.{eq-eqb, eqb-true, leb-false, leb-true, not-false}
 use Rattle.model.proofs.Bools.{or-right-false}
 use Rattle.model.proofs.Search.{none-any, none-at}
@@ -21,7 +20,7 @@ use Rattle.run.proofs.Limits.{Passes, or-left-false, passes-if, passes-runs, so
 use Rattle.run.proofs.Places.{mapFirst-at, take-kept}
 use Rattle.run.proofs.StartPasses.{start-passes, started-at}
 use Rattle.run.specs.Numbers.{lateAt, runOut, wideIn}
-use Rattle.run.specs.Run.{evenAt, mapFirst, phaseAt, placeAt, ruleIn, taskAt, tasksIn}
+use Rattle.run.specs.Run.{evenAt, phaseAt, placeAt, ruleIn, taskAt, tasksIn}
 use Rattle.run.specs.Start.{startedRun}
 use Rattle.run.specs.declared.Run.{Run}
 use Rattle.table.specs.Limits.{taskOut}

@@ -1,20 +1,19 @@
 -- AN ACCEPTED PLAN REPEATS FOR EVER: from the last S on, what each task has had goes as it went P ticks before.
 use mathlib.Core.Bool.{Bool, cond, false, true}
 use mathlib.Core.List.{List}
-use mathlib.Core.Logic.{⊎-elim}
 use mathlib.Core.Path.{ap, refl, subst, sym, _∙_, _≡_}
 use Prim.Native.Nat.{_%_, _*_, _+_, _-_, _<_, suc, zero, ℕ, _≤_}
 use native.Mathlib.Nat.{add-mod-right, add-suc, add-zero, le-dest, le-of-suc-le-suc, le-trans, lt-of-mul-lt-mul-right, mod-eq-of-lt, not-suc-le-zero}
 use native.Mathlib.Omega.{arith}
 use lib.Dec.{eqb, leb, ltb}
-use lib.ListN.{getD, length}
+use lib.ListN.{length}
 use borrow.Author.Tests.{eqb-false, eqb-true, le-ltb, leb-false, leb-true, lt-ltb, ltb-false, ltb-true}
 use Rattle.model.proofs.Jobs.{newest-is}
 use Rattle.model.proofs.Starts.{Periods, hyperperiod-divides, hyperperiod-pos, width-shift}
 use Rattle.model.specs.Horizon.{horizon, hyperperiod, lastS}
 use Rattle.model.specs.Task.{AllSound, Table, Task, due, newest, release, task, widthOf}
 use Rattle.foreign.specs.Plan.{Acceptable, FineRow, ForEver, InTime, Owed, cells, hadBy, repeated, rowAt, runs}
-use Rattle.foreign.proofs.Newest.{newest-begun, newest-later, newest-next, newest-only, newest-step, offset-last, release-later}
+use Rattle.foreign.proofs.Newest.{newest-begun, newest-later, newest-next, newest-step, offset-last, release-later}
 use Rattle.foreign.proofs.PhaseBy.{phase-from, phase-owes}
 use Rattle.foreign.proofs.Ticks.{done-same, fine-same, fine-works, had-most, ticks-none, ticks-on, ticks-same}
 

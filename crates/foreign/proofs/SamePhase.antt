@@ -1,7 +1,7 @@
 -- Two phases are the same exactly if their test says so.
 use mathlib.Core.Bool.{_&&_, false≢true, true}
 use mathlib.Core.Logic.{_↔_}
-use mathlib.Core.Path.{ap, ap₂, subst, _∙_, _≡_, refl}
+use mathlib.Core.Path.{ap, subst, _∙_, _≡_, refl}
 use Prim.Native.Nat.{ℕ}
 use lib.Dec.{eqb}
 use borrow.Author.Tests.{eq-eqb, eqb-true}

@@ -1,9 +1,9 @@
 -- A TASK MOVED BY THE ROWS: where it stands after each row, moved by `nextStand` as one that is given its cores exactly where it is in the row and is
 -- never reported, is what the rows say, up to the first fault: its phase is `phaseBy`, its parity that of its newest job.
-use mathlib.Core.Bool.{_&&_, Bool, cond, false, false≢true, not, true, true≢false, _||_}
+use mathlib.Core.Bool.{_&&_, Bool, cond, false, not, true}
 use mathlib.Core.List.{List}
 use mathlib.Core.Path.{ap, ap₂, refl, subst, sym, _∙_, _≡_}
-use Prim.Native.Nat.{_%_, _*_, _+_, _-_, _/_, _<_, suc, zero, ℕ, _≤_}
+use Prim.Native.Nat.{_%_, _+_, _-_, _/_, _<_, suc, zero, ℕ, _≤_}
 use native.Mathlib.Nat.{le-trans, zero-div}
 use native.Mathlib.Omega.{arith}
 use lib.Dec.{eqb, leb, ltb}

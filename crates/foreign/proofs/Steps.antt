@@ -1,9 +1,8 @@
 -- The rows taken one by one: the state that comes to each tick, and when a list is accepted.
-use mathlib.Core.Bool.{Bool, cond, false, false≢true, not, true, true≢false}
+use mathlib.Core.Bool.{Bool, cond, false, not, true}
 use mathlib.Core.List.{List, [], _∷_}
 use mathlib.Core.Path.{ap, refl, subst, sym, _∙_, _≡_}
 use Prim.Native.Nat.{_+_, _<_, suc, zero, ℕ, _≤_}
-use native.Mathlib.Nat.{le-of-eq}
 use native.Mathlib.Omega.{arith}
 use lib.Dec.{eqb, leb}
 use lib.ListN.{drop, drop-of-length-le, length, length-drop}
@@ -12,7 +11,7 @@ use borrow.Author.Tests.{eq-eqb, eqb-false, eqb-true, leb-false, lt-leb, ne-eqb}
 use Rattle.model.specs.Horizon.{horizon, lastS}
 use Rattle.model.specs.Task.{Table}
 use Rattle.foreign.specs.Answers.{Outcome, accepts, refuses, unfinished}
-use Rattle.foreign.proofs.Ledger.{Answer, Ledger, accepted, after, arrived, arrives, begun, check, checkFrom, closed, differs, faulty, lateNow, opened, refused, takeRow, taken, worked}
+use Rattle.foreign.proofs.Ledger.{Answer, Ledger, accepted, after, arrived, arrives, begun, check, checkFrom, closed, differs, faulty, lateNow, refused, takeRow, taken, worked}
 use Rattle.foreign.specs.Plan.{rowAt}
 use Rattle.foreign.proofs.Owed.{openAt, owedAt}
 

@@ -1,26 +1,24 @@
 -- A STATE OF `take` AND THE ROWS BEFORE IT: what ties them, from the beginning on, and that the tests of such a state are the ledger's up to the first fault.
 use mathlib.Core.Bool.{_&&_, Bool, cond, false, false≢true, not, true, true≢false, _||_}
-use mathlib.Core.List.{List, [], map, _++_, _∷_}
+use mathlib.Core.List.{List, [], map, _∷_}
 use mathlib.Core.Path.{ap, ap₂, refl, subst, sym, _∙_, _≡_}
-use Prim.Native.Nat.{_%_, _+_, _-_, _<_, suc, zero, ℕ, _≤_}
+use Prim.Native.Nat.{_%_, _-_, _<_, suc, zero, ℕ, _≤_}
 use native.Mathlib.Nat.{le-refl, not-suc-le-zero}
 use native.Mathlib.Omega.{arith}
-use lib.Dec.{eqb, leb, ltb}
-use lib.ListN.{List·getD-append, List·getD-map, drop, getD, length, length-map, length-take, replicate, take}
+use lib.Dec.{eqb, ltb}
+use lib.ListN.{List·getD-append, drop, getD, length, length-map, replicate, take}
 use lib.Seq.{getD-take, take-at}
-use borrow.Author.Tests.{eq-eqb, eqb-false, eqb-true, le-ltb, leb-false, leb-true, lt-ltb, ltb-false, ltb-true, ne-eqb, not-false}
-use Rattle.model.proofs.Bools.{not-false-true, not-true-false, same-test}
-use Rattle.model.proofs.Lists.{map-at, map-map}
+use borrow.Author.Tests.{eqb-false, eqb-true, le-ltb, ltb-false, ltb-true, ne-eqb, not-false}
+use Rattle.model.proofs.Bools.{not-false-true, same-test}
+use Rattle.model.proofs.Lists.{map-at}
 use Rattle.model.proofs.Search.{any-same, none-any, none-at}
-use Rattle.model.specs.Horizon.{horizon, hyperperiod, lastS}
+use Rattle.model.specs.Horizon.{horizon, lastS}
 use Rattle.model.specs.Search.{any}
 use Rattle.model.specs.Sizes.{mostTasks}
-use Rattle.model.specs.Task.{AllSound, Rule, Table, Task, newest, release, ruleOf, task, widthOf}
-use Rattle.phase.specs.Phase.{lateIn, stand, working}
+use Rattle.model.specs.Task.{AllSound, Rule, Table, Task, newest, task}
+use Rattle.phase.specs.Phase.{lateIn, working}
 use Rattle.phase.specs.Task.{nextTask, pastEnd, standing, startTask, taskOf, unused, widthNow}
-use Rattle.phase.specs.Task as phase
-use Rattle.phase.specs.declared.Phase.{Phase}
-use Rattle.phase.specs.declared.Phase.the-variants.{Coming, Resting, Working}
+use Rattle.phase.specs.declared.Phase.the-variants.{Coming, Working}
 use Rattle.phase.specs.declared.Stand.{Stand}
 use Rattle.phase.specs.declared.Task as declared
 use Rattle.run.proofs.StartPasses.{started-at}
@@ -33,20 +31,18 @@ use Rattle.table.specs.Numbers.{NoneApplies}
 use Rattle.table.specs.Words.{rule, tableOf}
 use Rattle.foreign.specs.Begin.{firstState}
 use Rattle.foreign.specs.Numbers.{afterRow, differs, missed, samePhase}
-use Rattle.foreign.specs.Plan.{Agree, cells, hadBy, phaseBy, runs}
-use Rattle.foreign.specs.Row.{faulty, inRow, strangers, worked, workedAt, wrongAt}
-use Rattle.foreign.specs.State.{arrived, blank, noteOf, notedAt, noting, pastNote, startIn}
+use Rattle.foreign.specs.Plan.{Agree, cells, phaseBy}
+use Rattle.foreign.specs.Row.{faulty, inRow, strangers, worked, wrongAt}
+use Rattle.foreign.specs.State.{arrived, blank, noteOf, notedAt, noting, pastNote}
 use Rattle.foreign.specs.declared.Note.{Note}
 use Rattle.foreign.specs.declared.Supplied.{Supplied}
-use Rattle.foreign.proofs.Ledger.{dueAt, lateNow, opened}
+use Rattle.foreign.proofs.Ledger.{dueAt, lateNow}
 use Rattle.foreign.proofs.Ledger as ledger
 use Rattle.foreign.proofs.Meets.{agree-differs, differs-agree}
-use Rattle.foreign.proofs.Newest.{offset-last}
-use Rattle.foreign.proofs.Owed.{before-offset, faulty-right, openAt, owedAt}
+use Rattle.foreign.proofs.Owed.{faulty-right, owedAt}
 use Rattle.foreign.proofs.Passing.{StatePasses, started-state, worked-at, worked-passes, worked-tasks}
-use Rattle.foreign.proofs.PhaseBy.{phase-coming}
 use Rattle.foreign.proofs.SamePhase.{same-phase}
-use Rattle.foreign.proofs.Stands.{Steady, evenAt, late-said, saidStand, stand-said, standAt, works-said}
+use Rattle.foreign.proofs.Stands.{Steady, late-said, saidStand, stand-said, standAt, works-said}
 use Rattle.foreign.proofs.Steps.{Ok, ledgerAt}
 
 -- what is noted of a place below the count is its phase
