@@ -90,7 +90,9 @@ module _ (s : Table) (ok : AllSound s) (near : horizonOut (horizon s) ≡ false)
       where
         go : (a : Bool) → eqb t H ≡ a → (b : Bool) → missed (w .run) ≡ b → (b′ : Bool) → lateNow s t (owedAt s r t) ≡ b′ → (c : Bool) → differs w ≡ c
             → told (cond a (cond b (Refused 25 t) (cond c (Refused 26 t) Accepted)) Taken)
-            ≡ kind (cond a (cond b′ (ledger.refused 25 t) (cond (ledger.differs s (ledgerAt s r t)) (ledger.refused 26 t) (ledger.accepted (ledgerAt s r t)))) (ledger.taken (ledgerAt s r t)))
+            ≡ kind
+            (cond a (cond b′ (ledger.refused 25 t) (cond (ledger.differs s (ledgerAt s r t)) (ledger.refused 26 t) (ledger.accepted (ledgerAt s r t))))
+            (ledger.taken (ledgerAt s r t)))
         go false e b f b′ f′ c d = refl
         go true e true f true f′ c d = refl
         go true e true f false f′ c d = absurd (true≢false (sym f ∙ (missed-same s ok r t w x g ∙ f′)))
@@ -115,10 +117,8 @@ module _ (s : Table) (ok : AllSound s) (near : horizonOut (horizon s) ≡ false)
       ap told (answer-by t w x (r t)) ∙ (unfold takeRow in rw (missed-same s ok r t w x g, next-ledger s r t)
       (go (leb H t) (eqb (length (r t)) (s .cores)) refl (lateNow s t (owedAt s r t)) refl (ledger.faulty s t (owedAt s r t) (r t)) refl))
     where
-      row : List ℕ
-      row = r t
-
-      go : (a b : Bool) → eqb (length (r t)) (s .cores) ≡ b → (c : Bool) → lateNow s t (owedAt s r t) ≡ c → (d : Bool) → ledger.faulty s t (owedAt s r t) (r t) ≡ d
+      go : (a b : Bool) → eqb (length (r t)) (s .cores) ≡ b → (c : Bool) → lateNow s t (owedAt s r t) ≡ c
+          → (d : Bool) → ledger.faulty s t (owedAt s r t) (r t) ≡ d
           → told
           (cond a (Refused 10 0)
           (cond (not b) (Refused 11 0) (cond c (Refused 25 t) (cond (faulty (w .run) (r t)) (Refused 24 t) (arrives (afterRow w (r t)))))))
@@ -169,7 +169,8 @@ module _ (s : Table) (ok : AllSound s) (near : horizonOut (horizon s) ≡ false)
       on o = missed-same s ok r t w x g ∙ o .on-time
 
       go : (a : ledger.Answer) → Case s r t a → told (takeAnswer w (r t)) ≡ kind a
-          → (Tied s ok r (suc t) (afterRow w (r t)) → Good s ok r (suc t) → comesTo unfinished (answersFrom (afterRow w (r t)) rest) ≡ checkFrom s (ledgerAt s r (suc t)) rest)
+          → (Tied s ok r (suc t) (afterRow w (r t)) → Good s ok r (suc t)
+          → comesTo unfinished (answersFrom (afterRow w (r t)) rest) ≡ checkFrom s (ledgerAt s r (suc t)) rest)
           → comesTo unfinished (told (takeAnswer w (r t)) ∷ answersFrom (byAnswer (takeAnswer w (r t)) (afterRow w (r t)) w) rest)
           ≡ after a rest (λ next. checkFrom s next rest)
       go a (fault m u f) q ih = rw (q, f)
@@ -187,7 +188,9 @@ module _ (s : Table) (ok : AllSound s) (near : horizonOut (horizon s) ≡ false)
     all-good : (t : ℕ) → t ≤ H → Good s ok r t
     all-good t h u l = a .ok u (omega arith) (omega arith)
 
-    row-said : (t : ℕ) (w : Supplied) → t < H → Tied s ok r t w → (b : Said) → kind (ledger.arrives s (ledgerAt s r (suc t))) ≡ b → told (takeAnswer w (r t)) ≡ b
+    row-said :
+        (t : ℕ) (w : Supplied) → t < H → Tied s ok r t w → (b : Said) → kind (ledger.arrives s (ledgerAt s r (suc t))) ≡ b
+        → told (takeAnswer w (r t)) ≡ b
     row-said t w h x b f = same-answer t w x (all-good t (omega arith)) ∙ (ap kind (take-ok s r t h (a .ok t (omega arith) h)) ∙ f)
 
     row-on : (t : ℕ) (w : Supplied) → t < H → Tied s ok r t w → Tied s ok r (suc t) (afterRow w (r t))

@@ -82,7 +82,9 @@ module _ (s : Table) where
       ∙ (take-at (rowOf s (full s t)) (rowsFrom s (suc t) n) (s .cores) (row-length (s .fence) (s .cores) (shownOf s (full s t)))
       ∙ ap (λ (u : ℕ). rowOf s (full s u)) (sym (add-zero t)))
   cut-row (suc k) t (suc n) h =
-      ap (λ (i : ℕ). take (s .cores) (drop i (rowOf s (full s t) ++ rowsFrom s (suc t) n))) (suc-mul k (s .cores) ∙ (omega arith ∙ ap (λ (m : ℕ). m + k * s .cores) (sym (row-length (s .fence) (s .cores) (shownOf s (full s t))))))
+      let size : length (rowOf s (full s t)) ≡ s .cores = row-length (s .fence) (s .cores) (shownOf s (full s t)) in
+      let past : suc k * s .cores ≡ length (rowOf s (full s t)) + k * s .cores = suc-mul k (s .cores) ∙ omega arith in
+      ap (λ (i : ℕ). take (s .cores) (drop i (rowOf s (full s t) ++ rowsFrom s (suc t) n))) past
       ∙ (ap (take (s .cores)) (drop-append-add (rowOf s (full s t)) (rowsFrom s (suc t) n) (k * s .cores))
       ∙ (cut-row k (suc t) n (omega arith) ∙ ap (λ (u : ℕ). rowOf s (full s u)) (omega arith)))
 

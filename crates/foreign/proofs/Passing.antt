@@ -28,7 +28,7 @@ use Rattle.table.specs.Numbers.{NoneApplies}
 use Rattle.table.specs.Words.{rule, tableOf}
 use Rattle.foreign.specs.Numbers.{astray, missed, stateOut}
 use Rattle.foreign.specs.Row.{inRow, worked, workedAt}
-use Rattle.foreign.proofs.Stands.{end-rests}
+use Rattle.foreign.proofs.OneTick.{end-rests}
 
 -- the parts of 14 that a state passes
 pub record StatePasses (r : Run) : Type 0 where

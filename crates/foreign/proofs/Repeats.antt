@@ -145,7 +145,9 @@ module _ (s : Table) (ok : AllSound s) (rows : List (List ℕ)) (acc : Acceptabl
     where
       go : (b : Bool) → ltb t H ≡ b → ((u : ℕ) → u < n → FineRow s r u) → FineRow s r t
       go true e ih = let now = ltb-true t H e in fine-same s (rowAt rows) r t (λ u g. early u (omega arith)) (acc .fine t now)
-      go false e ih = from (t - P) (omega (arith, far, ltb-false t H e)) (omega (arith, far, ltb-false t H e)) (ih (t - P) (omega (arith, far, ltb-false t H e, hyperperiod-pos (s .tasks))))
+      go false e ih =
+          let late : H ≤ t = ltb-false t H e in
+          from (t - P) (omega (arith, far)) (omega (arith, far)) (ih (t - P) (omega (arith, far, hyperperiod-pos (s .tasks))))
         where
           from : (u : ℕ) → L ≤ u → u + P ≡ t → FineRow s r u → FineRow s r t
           from u g e x = subst (FineRow s r) e record {

@@ -8,11 +8,11 @@ use native.Mathlib.Nat.{le-trans, zero-div}
 use native.Mathlib.Omega.{arith}
 use lib.Dec.{eqb, leb, ltb}
 use lib.ListN.{length}
-use borrow.Author.Tests.{eq-eqb, eqb-false, eqb-true, le-ltb, leb-false, leb-true, lt-ltb, ltb-false, ltb-true, ne-eqb}
+use borrow.Author.Tests.{eq-eqb, eqb-false, eqb-true, le-ltb, leb-false, leb-true, lt-ltb, ltb-true, ne-eqb}
 use Rattle.model.proofs.Bools.{same-test}
 use Rattle.model.proofs.Jobs.{newest-is}
-use Rattle.model.specs.Task.{AllSound, Rule, Table, Task, due, greedy, idling, lending, limited, newest, release, task}
-use Rattle.phase.specs.Phase.{ended, lateIn, nextStand, resting, stand, startStand, worked, working}
+use Rattle.model.specs.Task.{AllSound, Table, Task, due, newest, release, task}
+use Rattle.phase.specs.Phase.{lateIn, nextStand, resting, stand, startStand, working}
 use Rattle.phase.specs.declared.Phase.{Phase}
 use Rattle.phase.specs.declared.Phase.the-variants.{Coming, Resting, Working}
 use Rattle.phase.specs.declared.Stand.{Stand}
@@ -20,6 +20,7 @@ use Rattle.foreign.proofs.Ledger.{dueAt, releasedAt}
 use Rattle.foreign.specs.Plan.{hadBy, phaseAfter, phaseBy, runs}
 use Rattle.foreign.proofs.Newest.{newest-begun, newest-next, newest-only, newest-release}
 use Rattle.foreign.proofs.Owed.{before-offset, due-now, less-one, offset-release, open-owed, openAt, owed-due, owed-next, owedAt, unreleased}
+use Rattle.foreign.proofs.OneTick.{next-of, next-parity, phase-of, phaseOf}
 use Rattle.foreign.proofs.PhaseBy.{phase-coming, phase-from}
 use Rattle.foreign.proofs.Ticks.{ticks-grow, ticks-none, ticks-on}
 
@@ -35,62 +36,6 @@ evenAt τ t = not (eqb (newest τ t % 2) 0)
 -- where the rows say that it stands
 abbrev pub saidStand : Table → (ℕ → List ℕ) → ℕ → ℕ → Stand
 saidStand s r p t = stand (evenAt (task s p) t) (phaseBy s r p t)
-
--- the phase z ticks after a release with o ticks owed
-abbrev phaseOf : Task → ℕ → ℕ → Phase
-phaseOf τ z o = cond (ltb 0 o) (Working z (τ .length - o) (τ .length - o)) (Resting z)
-
-phase-of : (τ : Task) (z had : ℕ) → phaseAfter (τ .length) z had ≡ phaseOf τ z (τ .length - had)
-phase-of τ z had = go (ltb had (τ .length)) refl
-  where
-    go : (b : Bool) → ltb had (τ .length) ≡ b → cond b (Working z had had) (Resting z) ≡ phaseOf τ z (τ .length - had)
-    go true e =
-        let short : had < τ .length = ltb-true had (τ .length) e in
-        let back : had ≡ τ .length - (τ .length - had) = omega arith in
-        rw (lt-ltb 0 (τ .length - had) (omega arith)) (ap (λ (n : ℕ). Working z n n) back)
-    go false e = let full : τ .length ≤ had = ltb-false had (τ .length) e in rw (le-ltb 0 (τ .length - had) (omega arith))
-
--- ended work at C ticks rests, whatever the rule
-pub end-rests : (r : Rule) (τ : Task) (e : Bool) (z u : ℕ) → u ≡ τ .length → ended r τ e z u ≡ resting τ e z
-end-rests greedy τ e z u q = refl
-end-rests limited τ e z u q = refl
-end-rests idling τ e z u q = rw (eq-eqb u (τ .length) q)
-end-rests lending τ e z u q = rw (eq-eqb u (τ .length) q)
-
-work-ends : (r : Rule) (τ : Task) (e : Bool) (z u : ℕ) → u ≡ τ .length → worked r τ false e z u u ≡ resting τ e z
-work-ends r τ e z u q = ap (λ (b : Bool). cond b (ended r τ e z u) (stand e (Working z u u))) (eq-eqb u (τ .length) q) ∙ end-rests r τ e z u q
-
--- one tick of work or of waiting
-next-of :
-    (rule : Rule) (τ : Task) (ran e : Bool) (z o : ℕ) → o ≤ τ .length → (ran ≡ true → 0 < o)
-    → nextStand rule τ ran false false e (phaseOf τ z o)
-    ≡ cond (ltb 0 (o - cond ran 1 0)) (stand e (Working (z + 1) (τ .length - (o - cond ran 1 0)) (τ .length - (o - cond ran 1 0)))) (resting τ e (z + 1))
-next-of rule τ true e z zero le some-owed = absurd (omega (arith, some-owed refl))
-next-of rule τ false e z zero le some-owed = refl
-next-of rule τ false e z (suc o) le some-owed =
-    let same : τ .length - suc o ≡ τ .length - (suc o - 0) = omega arith in
-    rw (lt-ltb 0 (suc o) (omega arith), lt-ltb 0 (suc o - 0) (omega arith)) (ap (λ (x : ℕ). stand e (Working (z + 1) x x)) same)
-next-of rule τ true e z (suc o) le some-owed = rw (lt-ltb 0 (suc o) (omega arith)) (go o refl)
-  where
-    u : ℕ
-    u = τ .length - suc o + 1
-
-    go : (q : ℕ) → o ≡ q
-        → worked rule τ false e (z + 1) u u ≡ cond (ltb 0 (suc o - 1)) (stand e (Working (z + 1) (τ .length - (suc o - 1)) (τ .length - (suc o - 1)))) (resting τ e (z + 1))
-    go zero f =
-        work-ends rule τ e (z + 1) u (omega arith)
-        ∙ sym (ap (λ (b : Bool). cond b (stand e (Working (z + 1) (τ .length - (suc o - 1)) (τ .length - (suc o - 1)))) (resting τ e (z + 1))) (le-ltb 0 (suc o - 1) (omega arith)))
-    go (suc q) f =
-        let same : u ≡ τ .length - (suc o - 1) = omega arith in
-        rw (ne-eqb u (τ .length) (λ g. omega arith), lt-ltb 0 (suc o - 1) (omega arith)) (ap (λ (x : ℕ). stand e (Working (z + 1) x x)) same)
-
--- the next number has the other parity
-next-parity : (k : ℕ) → not (eqb (suc k % 2) 0) ≡ not (not (eqb (k % 2) 0))
-next-parity k = go (eqb (k % 2) 0) refl
-  where
-    go : (b : Bool) → eqb (k % 2) 0 ≡ b → not (eqb (suc k % 2) 0) ≡ not (not b)
-    go true e = let n = eqb-true (k % 2) 0 e in rw (ne-eqb (suc k % 2) 0 (λ (q : suc k % 2 ≡ 0). omega arith))
-    go false e = let n = eqb-false (k % 2) 0 e in rw (eq-eqb (suc k % 2) 0 (omega arith))
 
 module _ (s : Table) (ok : AllSound s) (r : ℕ → List ℕ) (p : ℕ) (l : p < length (s .tasks)) where
   abbrev τ : Task
@@ -213,7 +158,8 @@ module _ (s : Table) (ok : AllSound s) (r : ℕ → List ℕ) (p : ℕ) (l : p <
   after-tick t e h owing =
       ap (nextStand (s .rule) τ (runs r p t) false false e) (said-from t h)
       ∙ (next-of (s .rule) τ (runs r p t) e (t - release τ (newest τ t)) (openAt s r t p) (omega (arith, open-owed s ok r p l t h)) owing
-      ∙ ap (λ (o : ℕ). cond (ltb 0 o) (stand e (Working (t - release τ (newest τ t) + 1) (τ .length - o) (τ .length - o))) (resting τ e (t - release τ (newest τ t) + 1)))
+      ∙ ap
+      (λ (o : ℕ). cond (ltb 0 o) (stand e (Working (t - release τ (newest τ t) + 1) (τ .length - o) (τ .length - o))) (resting τ e (t - release τ (newest τ t) + 1)))
       (sym (owed-next s ok r p l t)))
 
   -- the step of the tie
@@ -262,7 +208,8 @@ module _ (s : Table) (ok : AllSound s) (r : ℕ → List ℕ) (p : ℕ) (l : p <
           ∙ (move (ltb 0 (owedAt s r (suc t) p))
           ∙ ap₂ (λ (b : Bool) (ph : Phase). stand b ph) (ap (λ (k : ℕ). not (eqb (k % 2) 0)) (sym (newest-stays t h e))) (sym (said-on t h e)))
         where
-          move : (b : Bool) → later b false ≡ stand (evenAt τ t) (cond b (Working (z + 1) (τ .length - owedAt s r (suc t) p) (τ .length - owedAt s r (suc t) p)) (Resting (z + 1)))
+          move : (b : Bool) → later b false
+              ≡ stand (evenAt τ t) (cond b (Working (z + 1) (τ .length - owedAt s r (suc t) p) (τ .length - owedAt s r (suc t) p)) (Resting (z + 1)))
           move true = refl
           move false = refl
 

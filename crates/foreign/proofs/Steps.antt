@@ -11,7 +11,8 @@ use borrow.Author.Tests.{eq-eqb, eqb-false, eqb-true, leb-false, lt-leb, ne-eqb}
 use Rattle.model.specs.Horizon.{horizon, lastS}
 use Rattle.model.specs.Task.{Table}
 use Rattle.foreign.specs.Answers.{Outcome, accepts, refuses, unfinished}
-use Rattle.foreign.proofs.Ledger.{Answer, Ledger, accepted, after, arrived, arrives, begun, check, checkFrom, closed, differs, faulty, lateNow, refused, takeRow, taken, worked}
+use Rattle.foreign.proofs.Ledger.{Answer, Ledger, accepted, after, arrived, arrives, begun, check, checkFrom, closed, differs}
+use Rattle.foreign.proofs.Ledger.{faulty, lateNow, refused, takeRow, taken, worked}
 use Rattle.foreign.specs.Plan.{rowAt}
 use Rattle.foreign.proofs.Owed.{openAt, owedAt}
 

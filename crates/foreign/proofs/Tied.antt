@@ -139,7 +139,9 @@ module _ (s : Table) (ok : AllSound s) (r : ℕ → List ℕ) where
 
   module _ (t : ℕ) (w : Supplied) (x : Tied t w) (good : Good t) where
     -- 25
-    late-place : (u : ℕ) → u ≡ t → (p : ℕ) → p < length (s .tasks) → lateIn (task s p .deadline) (standAt s r p u .phase) ≡ dueAt (task s p) u && ltb 0 (owedAt s r u p)
+    late-place :
+        (u : ℕ) → u ≡ t → (p : ℕ) → p < length (s .tasks)
+        → lateIn (task s p .deadline) (standAt s r p u .phase) ≡ dueAt (task s p) u && ltb 0 (owedAt s r u p)
     late-place zero e p l =
         unfold standAt owedAt in start (eqb (task s p .offset) 0) ∙ sym (none (dueAt (task s p) 0))
       where
