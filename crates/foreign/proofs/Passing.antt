@@ -3,9 +3,9 @@ use mathlib.Core.Bool.{Bool, cond, false, false≢true, not, true, true≢false,
 use mathlib.Core.List.{List}
 use mathlib.Core.Path.{ap, refl, subst, sym, _∙_, _≡_}
 use Prim.Native.Nat.{_+_, _-_, _<_, ℕ}
-use lib.Dec.{eqb, leb}
-use lib.ListN.{List·getD-eq-default, length}
-use borrow.Author.Tests.{eq-eqb, eqb-true, leb-false, leb-true, not-false}
+use lib.Dec.{eqb}
+use lib.ListN.{length}
+use borrow.Author.Tests.{eq-eqb, eqb-true, not-false}
 use Rattle.model.proofs.Bools.{or-right-false}
 use Rattle.model.proofs.Search.{none-any, none-at}
 use Rattle.model.specs.Search.{any}
@@ -16,7 +16,7 @@ use Rattle.phase.specs.Task.{pastEnd, taskOf}
 use Rattle.phase.specs.declared.Phase.{Phase}
 use Rattle.phase.specs.declared.Phase.the-variants.{Coming, Holding, Resting, Working}
 use Rattle.phase.specs.declared.Task.{Task}
-use Rattle.run.proofs.Limits.{Passes, or-left-false, passes-if, passes-runs, sound-if}
+use Rattle.run.proofs.Limits.{Passes, in-array, or-left-false, passes-if, passes-runs, sound-if}
 use Rattle.run.proofs.Places.{mapFirst-at, take-kept}
 use Rattle.run.proofs.StartPasses.{start-passes, started-at}
 use Rattle.run.specs.Numbers.{lateAt, runOut, wideIn}
@@ -103,15 +103,6 @@ next-straight r τ true e (Working z had reserved) h = go (eqb (had + 1) (τ .le
     go false q = let equal : reserved + 1 ≡ had + 1 = ap (λ (n : ℕ). n + 1) same in rw (eq-eqb (reserved + 1) (had + 1) equal)
 next-straight r τ given e (Holding z reserved) h = absurd (true≢false h)
 next-straight r τ given e (Resting z) h = rest-straight τ e (z + 1)
-
--- a place with a task is a place of the array
-in-array : (r : Run) (p : ℕ) → taskOut (wideIn r) (taskAt r p) ≡ false → p < length (r .tasks)
-in-array r p e = go (leb (length (r .tasks)) p) refl
-  where
-    go : (x : Bool) → leb (length (r .tasks)) p ≡ x → p < length (r .tasks)
-    go false q = leb-false (length (r .tasks)) p q
-    go true q =
-        absurd (true≢false (subst (λ (t : Task). taskOut (wideIn r) (taskOf t) ≡ false) (List·getD-eq-default (r .tasks) pastEnd (leb-true (length (r .tasks)) p q)) e))
 
 module _ (r : Run) (row : List ℕ) where
   -- the tasks stay
