@@ -1,8 +1,28 @@
--- The laws of plans by another planner, of the state between rows and of a row taken.
+-- The laws of plans by another planner. Of lists: which job is the newest, the ticks counted in rows, the ledger that is kept of them and what it says, when
+-- a list is accepted and what each answer means, that an accepted plan repeats for ever; a task moved by the rows, states that 14 passes, that `take`
+-- answers as the ledger does; the tool's own plans. Of the code: number 14, who is late, rows counted, what a tick makes of a run, the numbers in their order.
 pub mod Newest
+pub mod Ticks
+pub mod PhaseBy
+pub mod Ledger
+pub mod Owed
+pub mod Steps
+pub mod Meets
+pub mod Exact
+pub mod Answers
+pub mod Repeats
+pub mod OneTick
+pub mod Stands
+pub mod Passing
+pub mod SamePhase
+pub mod Tied
+pub mod Bridge
+pub mod Cells
+pub mod Own
+pub mod Checked
 pub mod Missed
 pub mod Counting
-pub mod Passing
+pub mod StateOut
 pub mod Looking
 pub mod Working
 pub mod Deciding
@@ -11,3 +31,4 @@ pub mod Cases
 pub mod Order
 pub mod Passes
 pub mod Taking
+pub mod Examples

@@ -23,7 +23,7 @@ use Rattle.run.specs.Run.{evenAt, mapFirst, phaseAt, placeAt, ruleIn, taskAt}
 use Rattle.foreign.specs.Numbers.{astray, missed, stateOut}
 use Rattle.foreign.specs.Row.{inRow, worked, workedAt}
 use Rattle.foreign.proofs.Working.{worked-count}
-use Rattle.foreign.proofs.Passing.{none-astray, none-withdrawn, out-astray, passes-run}
+use Rattle.foreign.proofs.StateOut.{none-astray, none-withdrawn, out-astray, passes-run}
 
 -- a task that rests is not astray
 rest-fine : (τ : model.Task) (even : Bool) (z : ℕ) → astray (resting τ even z .phase) ≡ false

@@ -39,7 +39,7 @@ use Rattle.foreign.specs.declared.Supplied.{Supplied}
 use Rattle.foreign.specs.Begin.{BeginOf, beginOf, begunBy, emptyState, firstState}
 use Rattle.foreign.specs.Numbers.{StateOut, astray, stateOut}
 use Rattle.foreign.specs.State.{startIn}
-use Rattle.foreign.proofs.Passing.{out-astray, out-run}
+use Rattle.foreign.proofs.StateOut.{out-astray, out-run}
 use Rattle.foreign.proofs.Deciding.{state-decides}
 
 -- A RUN AS IT STARTS

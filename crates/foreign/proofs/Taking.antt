@@ -31,7 +31,7 @@ use Rattle.foreign.proofs.Deciding.{differs-decides, faulty-decides, mi
 use Rattle.foreign.proofs.Looking.{some-tasks}
 use Rattle.foreign.proofs.Order.{first-only, later, later-tick, no-sooner}
 use Rattle.foreign.proofs.Passes.{worked-passes}
-use Rattle.foreign.proofs.Passing.{passes-run}
+use Rattle.foreign.proofs.StateOut.{passes-run}
 use Rattle.foreign.proofs.Working.{horizon-kept, worked-count, worked-length, worked-past, worked-tasks}
 
 module _ (w : Supplied) (row : List ℕ) where

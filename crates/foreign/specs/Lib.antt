@@ -1,7 +1,6 @@
 -- What a plan by another planner must be, the rows taken one by one, and what each answer to a list of them says; the state between rows, and what
 -- beginning and taking a row promise.
 pub mod Plan
-pub mod Checker
 pub mod Answers
 pub mod State
 pub mod Row
@@ -11,3 +10,4 @@ pub mod Take
 pub mod Begin
 pub mod Ahead
 pub mod Shown
+pub mod Checked

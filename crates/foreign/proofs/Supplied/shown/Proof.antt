@@ -20,7 +20,7 @@ use Rattle.foreign.specs.Shown.{anyWrong, workedWith}
 use Rattle.foreign.specs.State.{arrived, horizonIn}
 use Rattle.foreign.specs.Take.{arrives}
 use Rattle.foreign.proofs.Cases.{take-faulty, take-late, take-on}
-use Rattle.foreign.proofs.Passing.{few, passes-run}
+use Rattle.foreign.proofs.StateOut.{few, passes-run}
 use Rattle.foreign.proofs.Working.{counted-count, counted-tasks, fault-found, horizon-kept, worked-counted}
 use Rattle.foreign.proofs.Supplied.shown.Statement.{statement}
 use Rattle.foreign.proofs.Supplied.shown.Tie as tie

@@ -5,7 +5,7 @@ use mathlib.Core.Bool.{false}
 use mathlib.Core.Path.{sym, _∙_, _≡_}
 use Rattle.foreign.specs.Numbers.{stateOut}
 use Rattle.foreign.proofs.Cases.{take-far, take-out}
-use Rattle.foreign.proofs.Passing.{passes-run}
+use Rattle.foreign.proofs.StateOut.{passes-run}
 use Rattle.foreign.proofs.Taking.{take-of}
 use Rattle.foreign.proofs.Supplied.take.Statement.{statement}
 use Rattle.foreign.proofs.Supplied.take.Tie as tie

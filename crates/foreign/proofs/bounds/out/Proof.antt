@@ -5,7 +5,7 @@ use mathlib.Core.Path.{sym, _∙_, _≡_}
 use mathlib.Core.Bool.{false}
 use Rattle.run.proofs.RunOut.{few}
 use Rattle.run.specs.Numbers.{runOut}
-use Rattle.foreign.proofs.Passing.{out-astray, out-run, out-withdrawn}
+use Rattle.foreign.proofs.StateOut.{out-astray, out-run, out-withdrawn}
 use Rattle.foreign.proofs.bounds.out.Statement.{statement}
 use Rattle.foreign.proofs.bounds.out.Tie as tie
 
