@@ -3,8 +3,8 @@ pub mod Newest
 pub mod Missed
 pub mod Counting
 pub mod Passing
-pub mod Looking
 pub mod Working
+pub mod Looking
 pub mod Deciding
 pub mod Starting
 pub mod Cases
