@@ -1,15 +1,15 @@
 -- The cases of a row taken, in the order in which code looks.
-use mathlib.Core.Bool.{false, not, true}
+use mathlib.Core.Bool.{Bool, false, true}
 use mathlib.Core.List.{List}
 use mathlib.Core.Path.{refl, _≡_}
 use Prim.Native.Nat.{_<_, ℕ, _≤_}
-use lib.Dec.{eqb, leb}
 use lib.ListN.{length}
 use borrow.Author.Tests.{eq-eqb, le-leb, le-ltb, lt-leb, ne-eqb}
 use Rattle.table.specs.Limits.{horizonOut, mostHorizon}
 use Rattle.foreign.specs.declared.Answer.the-variants.{Refused}
 use Rattle.foreign.specs.declared.Entered.{Entered}
 use Rattle.foreign.specs.declared.Supplied.{Supplied}
+use Rattle.foreign.specs.Ahead.{firstNumber}
 use Rattle.foreign.specs.Numbers.{afterRow, missed, stateOut}
 use Rattle.foreign.specs.Row.{faulty}
 use Rattle.foreign.specs.Said.{byAnswer}
@@ -21,15 +21,17 @@ abbrev pub refusal : Supplied → ℕ → ℕ → Entered
 refusal w n t = record { answer = Refused n t; plan = w }
 
 module _ (w : Supplied) (row : List ℕ) where
-  pub take-out : stateOut (w .run) ≡ true → takeOf w row ≡ refusal w 14 0
-  unfolding takeOf takeAnswer
-  take-out e = rw e refl
+  -- 14 and 9, whatever the row is
+  pub take-turned : ¬ (firstNumber (w .run) ≡ 0) → takeOf w row ≡ refusal w (firstNumber (w .run)) 0
+  unfolding takeOf takeAnswer firstNumber
+  take-turned n = go (stateOut (w .run)) refl (horizonOut (horizonIn (w .run))) refl
+    where
+      go : (a : Bool) → stateOut (w .run) ≡ a → (b : Bool) → horizonOut (horizonIn (w .run)) ≡ b → takeOf w row ≡ refusal w (firstNumber (w .run)) 0
+      go true e b f = rw e refl
+      go false e true f = rw (e, f) refl
+      go false e false f = absurd (n (rw (e, f)))
 
   module _ (e : stateOut (w .run) ≡ false) where
-    pub take-far : horizonOut (horizonIn (w .run)) ≡ true → takeOf w row ≡ refusal w 9 0
-    unfolding takeOf takeAnswer
-    take-far f = rw (e, f) refl
-
     module _ (near : horizonIn (w .run) ≤ mostHorizon) where
       pub take-past : horizonIn (w .run) ≤ w .tick → takeOf w row ≡ refusal w 10 0
       unfolding takeOf takeAnswer

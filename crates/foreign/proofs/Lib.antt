@@ -23,8 +23,8 @@ pub mod Checked
 pub mod Missed
 pub mod Counting
 pub mod StateOut
-pub mod Looking
 pub mod Working
+pub mod Looking
 pub mod Deciding
 pub mod Starting
 pub mod Cases

@@ -25,7 +25,9 @@ use Rattle.run.specs.declared.Run.{Run}
 use Rattle.run.specs.Numbers.{runOut, wideIn}
 use Rattle.run.specs.Run.{tableIn, taskAt, tasksIn}
 use Rattle.foreign.specs.State.{horizonIn, startIn}
-use Rattle.foreign.specs.Ahead.{Looked}
+use Rattle.foreign.specs.Ahead.{Ready, firstNumber}
+use Rattle.foreign.specs.Numbers.{stateOut}
+use Rattle.foreign.proofs.Working.{horizon-kept}
 
 module _ (r : Run) (e : runOut r ≡ false) where
   pub some-tasks : 1 ≤ r .count
@@ -53,12 +55,34 @@ look-out r ts start period same s p =
 -- .. and where it does not apply, they are exact
 pub look-near :
     (r : Run) (ts : List Task) (start period : ℕ) → tasksOf ts (r .count) ≡ tasksIn r → start ≡ lastS (tasksOf ts (r .count))
-    → period ≡ min (hyperperiod (tasksOf ts (r .count))) (mostHorizon + 1) → horizonOut (start + period) ≡ false → Looked r start (start + period)
+    → period ≡ min (hyperperiod (tasksOf ts (r .count))) (mostHorizon + 1) → horizonOut (start + period) ≡ false → stateOut r ≡ false → Ready r start (start + period)
 unfolding horizon
-look-near r ts start period same s p near =
+look-near r ts start period same s p near e =
     let most : start + period ≤ mostHorizon = ltb-false mostHorizon (start + period) near in
     let S : start ≡ lastS (tasksIn r) = s ∙ ap lastS same in
     let P : period ≡ min (hyperperiod (tasksIn r)) (mostHorizon + 1) = p ∙ ap (λ (τs : List model.Task). min (hyperperiod τs) (mostHorizon + 1)) same in
     let exact : period ≡ hyperperiod (tasksIn r) = P ∙ capped-exact mostHorizon start (hyperperiod (tasksIn r)) (omega arith) in
     let sum : start + period ≡ lastS (tasksIn r) + hyperperiod (tasksIn r) = omega arith in
-    record { start = S; horizon = sum; within = omega arith }
+    record { passes = e; start = S; horizon = sum; within = omega arith }
+
+-- 14 and 9 by the first number
+pub number-14 : (r : Run) → stateOut r ≡ true → firstNumber r ≡ 14
+unfolding firstNumber
+number-14 r e = rw e
+
+pub number-9 : (r : Run) → stateOut r ≡ false → horizonOut (horizonIn r) ≡ true → firstNumber r ≡ 9
+unfolding firstNumber
+number-9 r e f = rw (e, f)
+
+pub number-none : (r : Run) → stateOut r ≡ false → horizonOut (horizonIn r) ≡ false → firstNumber r ≡ 0
+unfolding firstNumber
+number-none r e f = rw (e, f)
+
+-- a run with the same tasks that passes 14 is ready with the same numbers
+pub ready-again : (r s : Run) (start horizon : ℕ) → Ready r start horizon → tasksIn s ≡ tasksIn r → stateOut s ≡ false → Ready s start horizon
+ready-again r s start horizon h e q = record {
+  passes = q;
+  start = h .start ∙ sym (ap lastS e);
+  horizon = h .horizon ∙ sym (horizon-kept r s e);
+  within = omega (arith, horizon-kept r s e, h .within);
+}

@@ -3,7 +3,7 @@
 use mathlib.Core.Bool.{Bool, cond, false, not, true}
 use mathlib.Core.List.{List, map, _++_}
 use mathlib.Core.Logic.{inl, inr, _⊎_, _↔_, ⊎-elim}
-use mathlib.Core.Path.{ap, refl, subst, sym, _∙_, _≡_}
+use mathlib.Core.Path.{ap, refl, subst, subst⁻¹, sym, _∙_, _≡_}
 use Prim.Native.Nat.{_-_, _<_, suc, ℕ, _≤_}
 use native.Mathlib.Omega.{arith}
 use lib.Dec.{eqb, leb}
@@ -21,6 +21,7 @@ use Rattle.foreign.specs.declared.Answer.the-variants.{Accepted, Refused
 use Rattle.foreign.specs.declared.Entered.{Entered}
 use Rattle.foreign.specs.declared.Note.{Note}
 use Rattle.foreign.specs.declared.Supplied.{Supplied}
+use Rattle.foreign.specs.Ahead.{Ready}
 use Rattle.foreign.specs.Numbers.{Applies, Differs, Earlier, Faulty, First, Last, Missed, NoneApplies, StateOut, afterRow, differs, eleven, fourteen, late-last, late-now, missed, nine, stateOut, ten, twenty-four, twenty-six}
 use Rattle.foreign.specs.Row.{faulty, worked}
 use Rattle.foreign.specs.Said.{byAnswer, told}
@@ -28,7 +29,7 @@ use Rattle.foreign.specs.Said as said
 use Rattle.foreign.specs.State.{horizonIn, noteOf, noting, startIn}
 use Rattle.foreign.specs.Take.{TakeOf, arrives, closed, takeAnswer, takeOf}
 use Rattle.foreign.proofs.Deciding.{differs-decides, faulty-decides, missed-decides, state-decides}
-use Rattle.foreign.proofs.Looking.{some-tasks}
+use Rattle.foreign.proofs.Looking.{ready-again, some-tasks}
 use Rattle.foreign.proofs.Order.{first-only, later, later-tick, no-sooner}
 use Rattle.foreign.proofs.Passes.{worked-passes}
 use Rattle.foreign.proofs.StateOut.{passes-run}
@@ -333,3 +334,21 @@ module _ (w : Supplied) (row : List ℕ) where
       same-notes Taken h = notes-past (eqb (suc t) (startIn (worked r row))) (there (h .0))
       same-notes Accepted h = notes-past (eqb (suc t) (startIn (worked r row))) (there (h .0))
       same-notes (Refused n s) h = refl
+
+  -- where the state was ready, what comes back is ready with the same numbers
+  pub ready-next : (start horizon : ℕ) → Ready r start horizon → Ready (takeOf w row .plan .run) start horizon
+  unfolding takeOf
+  ready-next start horizon h = go (takeAnswer w row) take-right
+    where
+      on : NoneApplies w row → Ready (worked r row) start horizon
+      on none = ready-again r (worked r row) start horizon h (worked-tasks r row) (worked-passes r row (h .passes) (timely none))
+
+      go : (a : Answer) → Right a → Ready (byAnswer a (afterRow w row) w .run) start horizon
+      go Taken x = on (x .0)
+      go Accepted x = on (x .0)
+      go (Refused n s) x = h
+
+  -- a value that is the definition's comes with a state that is ready
+  pub enter-of :
+      (start horizon : ℕ) → Ready r start horizon → (e : Entered) → e ≡ takeOf w row → (e ≡ takeOf w row) × Ready (e .plan .run) start horizon
+  enter-of start horizon h e q = (q, subst⁻¹ (λ (x : Entered). Ready (x .plan .run) start horizon) q (ready-next start horizon h))

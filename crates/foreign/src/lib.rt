@@ -1,19 +1,16 @@
 // Plans from the supplier's own planner, taken row by row: a state by value, its beginning, and the answer to each row.
 ghost use mathlib.Core.Path.{_≡_};
-ghost use mathlib.Core.Bool.{false};
-ghost use Prim.Native.Nat.{_<_, _≤_};
+ghost use Prim.Native.Nat.{_<_};
 ghost use lib.ListN.{length};
 ghost use Rattle.foreign.specs.declared.Answer.the-variants.{Refused};
-ghost use Rattle.foreign.specs.Ahead.{Looked};
+ghost use Rattle.foreign.specs.Ahead.{Ready};
 ghost use Rattle.foreign.specs.Begin.{BeginOf};
-ghost use Rattle.foreign.specs.Numbers.{stateOut};
 ghost use Rattle.foreign.specs.Said.{byAnswer};
-ghost use Rattle.foreign.specs.State.{horizonIn};
 ghost use Rattle.foreign.specs.Take.{TakeOf, takeOf};
 
-mod ahead; // ahead.rt: the last S and the horizon of a run, and number 9
-mod begins; // begins.rt: the state at tick 0
-mod bounds; // bounds.rt: number 14 of a state, and 25
+mod ahead; // ahead.rt: how far a plan goes, and numbers 14 and 9
+mod begins; // begins.rt: a state of all zeros
+mod bounds; // bounds.rt: number 14 of a state, 25 and 26
 mod moves; // moves.rt: one tick, and the phases noted
 mod rows; // rows.rt: what a row shows, and number 24
 
@@ -56,7 +53,33 @@ pub struct Entered {
 pub fn begin(words: &[u32]) -> Begun
     ensures { λ r. ⌜ BeginOf (now (words .entry)) r ⌝ }
 {
-    begins::begin(words)
+    let loaded = table::load(words);
+    let answer = loaded.answer;
+    match answer {
+        table::Answer::Passed => {
+            let tasks = loaded.tasks;
+            let run = run::starts::started(
+                loaded.rule,
+                loaded.cores,
+                loaded.fence,
+                tasks,
+                loaded.count,
+            );
+            let noted = begins::blank();
+            let plan = moves::arrived(run, 0, loaded.start, noted);
+            Begun {
+                answer: table::Answer::Passed,
+                plan: plan,
+            }
+        }
+        table::Answer::Refused(number, position) => {
+            let plan = begins::empty();
+            Begun {
+                answer: table::Answer::Refused(number, position),
+                plan: plan,
+            }
+        }
+    }
 }
 
 impl Supplied {
@@ -89,7 +112,7 @@ impl Supplied {
 
     // The row of a tick before the horizon, one byte a core: 25, 24, or by the state that it leaves.
     fn shown(self, start: u32, horizon: u32, row: &[u8]) -> Entered
-        requires { ⌜ Looked (self .run) start horizon ⌝ ∗ ⌜ stateOut (self .run) ≡ false ⌝ ∗ ⌜ self .tick < horizon ⌝ ∗ ⌜ length (now row) ≡ self .run .cores ⌝ }
+        requires { ⌜ Ready (self .run) start horizon ⌝ ∗ ⌜ self .tick < horizon ⌝ ∗ ⌜ length (now row) ≡ self .run .cores ⌝ }
         ensures { λ r. ⌜ r ≡ takeOf self (now (row .entry)) ⌝ }
     {
         let run = self.run;
@@ -107,10 +130,10 @@ impl Supplied {
         self.by_answer(answer, next)
     }
 
-    // The row of a state that passes 14, whose last S and horizon are known: 10 and 11, and then what the row shows.
-    pub fn entered(self, start: u32, horizon: u32, row: &[u8]) -> Entered
-        requires { ⌜ Looked (self .run) start horizon ⌝ ∗ ⌜ stateOut (self .run) ≡ false ⌝ }
-        ensures { λ r. ⌜ r ≡ takeOf self (now (row .entry)) ⌝ }
+    // The row of this tick, as `take` answers it, where `look` has been asked: for rows in their thousands. What it hands back is ready for the next.
+    pub fn enter(self, start: u32, horizon: u32, row: &[u8]) -> Entered
+        requires { ⌜ Ready (self .run) start horizon ⌝ }
+        ensures { λ r. ⌜ (r ≡ takeOf self (now (row .entry))) × Ready (r .plan .run) start horizon ⌝ }
     {
         let run = self.run;
         if horizon <= self.tick {
@@ -127,14 +150,10 @@ impl Supplied {
     pub fn take(self, row: &[u8]) -> Entered
         ensures { λ r. ⌜ TakeOf self (now (row .entry)) r ⌝ }
     {
-        let run = self.run;
-        if bounds::out(run) {
-            return self.refused(14, 0);
+        let ahead = self.look();
+        if ahead.number != 0 {
+            return self.refused(ahead.number, 0);
         }
-        let ahead = ahead::look(run);
-        if ahead.out {
-            return self.refused(9, 0);
-        }
-        self.entered(ahead.start, ahead.horizon, row)
+        self.enter(ahead.start, ahead.horizon, row)
     }
 }

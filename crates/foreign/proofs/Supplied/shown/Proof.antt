@@ -38,10 +38,10 @@ abbrev looked : tie.After-struct-known → tie.After-missed
 looked c = c .before .before .before .before .before .before
 
 few-at : (s : tie.Start) → s .args .self .run .count ≤ mostTasks
-few-at s = few (s .args .self .run) (s .pre .1 .0)
+few-at s = few (s .args .self .run) (s .pre .0 .passes)
 
 before : (s : tie.Start) → s .args .self .tick < horizonIn (s .args .self .run)
-before s = omega (arith, s .pre .0 .horizon, s .pre .1 .1 .0)
+before s = omega (arith, s .pre .0 .horizon, s .pre .1 .0)
 
 -- no task is late there
 timely : (c : tie.After-struct-known) → missed (called (looked c) .args .self .run) ≡ false
@@ -66,10 +66,10 @@ returns c =
     let m = c .before .before in
     let s = called m in
     c .refused .ensures
-    ∙ sym (take-late (s .args .self) (s .args .row .now) (s .pre .1 .0) (s .pre .0 .within) (before s) (s .pre .1 .1 .1) (sym (m .missed .ensures) ∙ c .before .if1 .taken))
+    ∙ sym (take-late (s .args .self) (s .args .row .now) (s .pre .0 .passes) (s .pre .0 .within) (before s) (s .pre .1 .1) (sym (m .missed .ensures) ∙ c .before .if1 .taken))
 
 counted-requires : tie.Need-counted-requires
-counted-requires c κs = let s = called (c .before) in omega (arith, few-cores (s .args .self .run) (passes-run (s .args .self .run) (s .pre .1 .0)), s .pre .1 .1 .1)
+counted-requires c κs = let s = called (c .before) in omega (arith, few-cores (s .args .self .run) (passes-run (s .args .self .run) (s .pre .0 .passes)), s .pre .1 .1)
 
 any-wrong-requires : tie.Need-any-wrong-requires
 any-wrong-requires c κs = few-at (called (c .before .before .before .before))
@@ -82,12 +82,12 @@ returns-2 c =
     let k = c .before .before in
     let s = called (looked k) in
     c .refused2 .ensures
-    ∙ sym (take-faulty (s .args .self) (s .args .row .now) (s .pre .1 .0) (s .pre .0 .within) (before s) (s .pre .1 .1 .1) (timely k) (sym (found k) ∙ c .before .if2 .taken))
+    ∙ sym (take-faulty (s .args .self) (s .args .row .now) (s .pre .0 .passes) (s .pre .0 .within) (before s) (s .pre .1 .1) (timely k) (sym (found k) ∙ c .before .if2 .taken))
 
 after-requires : tie.Need-after-requires
 after-requires c κs =
     let s = called (looked (c .before .before)) in
-    (passes-run (s .args .self .run) (s .pre .1 .0), (s .pre .0 .start, omega (arith, s .pre .0 .within, before s)))
+    (passes-run (s .args .self .run) (s .pre .0 .passes), (s .pre .0 .start, omega (arith, s .pre .0 .within, before s)))
 
 arrives-requires : tie.Need-arrives-requires
 arrives-requires c κs =
@@ -118,7 +118,7 @@ returns-3 c =
     f .after .ensures ∙ ap (λ (r : Run). arrived r (suc (w .tick)) (w .noted)) (worked-counted (w .run) (n .counted .result .cells) row (few-at s) (n .counted .ensures .counted (or-left-false (n .counted .result .strange) (k .before .any-wrong .result) (e .if2 .left)))) in
     c .by-answer .ensures
     ∙ (ap (λ (x : Answer). by x (f .after .result) w) (a .arrives .ensures)
-    ∙ (ap (λ (v : Supplied). by (arrives v) v w) next ∙ sym (take-on w row (s .pre .1 .0) (s .pre .0 .within) (before s) (s .pre .1 .1 .1) (timely k) fine)))
+    ∙ (ap (λ (v : Supplied). by (arrives v) v w) next ∙ sym (take-on w row (s .pre .0 .passes) (s .pre .0 .within) (before s) (s .pre .1 .1) (timely k) fine)))
 
 pub shown-spec : {M : Type 1} → statement M
 shown-spec =

@@ -1,4 +1,4 @@
--- `foreign::begins::begin` meets its contract: what is loaded is the table of the words, and its run starts at tick 0 (`Starting`).
+-- `foreign::begin` meets its contract: what is loaded is the table of the words, and its run starts at tick 0 (`Starting`).
 -- Assumes nothing.
 use borrow.Author.Needs.{needs}
 use mathlib.Core.Path.{ap, sym, _∙_, _≡_}
@@ -22,8 +22,8 @@ use Rattle.foreign.specs.declared.Supplied.{Supplied}
 use Rattle.foreign.specs.Begin.{emptyState, firstState}
 use Rattle.foreign.specs.State.{arrived, blank, startIn}
 use Rattle.table.specs.declared.Answer.the-variants.{Refused}
-use Rattle.foreign.proofs.begins.begin.Statement.{statement}
-use Rattle.foreign.proofs.begins.begin.Tie as tie
+use Rattle.foreign.proofs.begin.Statement.{statement}
+use Rattle.foreign.proofs.begin.Tie as tie
 
 -- the answer is the table's
 answered : (c : tie.After-load) (a : Answer) → c .load .result .answer ≡ a → answerOf (c .before .before .args .words .now) ≡ a
