@@ -31,3 +31,4 @@ pub mod Cells
 pub mod Own
 pub mod Checked
 pub mod Examples
+pub mod StateExamples
