@@ -1,13 +1,13 @@
 -- A STATE OF `take` AND THE ROWS BEFORE IT: what ties them, from the beginning on, and that the tests of such a state are the ledger's up to the first fault.
 use mathlib.Core.Bool.{_&&_, Bool, cond, false, false≢true, not, true, true≢false, _||_}
-use mathlib.Core.List.{List, [], map, _∷_}
+use mathlib.Core.List.{List, map}
 use mathlib.Core.Path.{ap, ap₂, refl, subst, sym, _∙_, _≡_}
 use Prim.Native.Nat.{_%_, _-_, _<_, suc, zero, ℕ, _≤_}
 use native.Mathlib.Nat.{le-refl, not-suc-le-zero}
 use native.Mathlib.Omega.{arith}
 use lib.Dec.{eqb, ltb}
 use lib.ListN.{List·getD-append, drop, getD, length, length-map, replicate, take}
-use lib.Seq.{getD-take, take-at}
+use lib.Seq.{getD-take}
 use borrow.Author.Tests.{eqb-false, eqb-true, le-ltb, ltb-false, ltb-true, ne-eqb, not-false}
 use Rattle.model.proofs.Bools.{not-false-true, same-test}
 use Rattle.model.proofs.Lists.{map-at}
@@ -17,7 +17,7 @@ use Rattle.model.specs.Search.{any}
 use Rattle.model.specs.Sizes.{mostTasks}
 use Rattle.model.specs.Task.{AllSound, Rule, Table, Task, newest, task}
 use Rattle.phase.specs.Phase.{lateIn, working}
-use Rattle.phase.specs.Task.{nextTask, pastEnd, standing, startTask, taskOf, unused, widthNow}
+use Rattle.phase.specs.Task.{nextTask, pastEnd, standing, taskOf, unused, widthNow}
 use Rattle.phase.specs.declared.Phase.the-variants.{Coming, Working}
 use Rattle.phase.specs.declared.Stand.{Stand}
 use Rattle.phase.specs.declared.Task as declared
@@ -40,6 +40,7 @@ use Rattle.foreign.proofs.Ledger.{dueAt, lateNow}
 use Rattle.foreign.proofs.Ledger as ledger
 use Rattle.foreign.proofs.Meets.{agree-differs, differs-agree}
 use Rattle.foreign.proofs.Owed.{faulty-right, owedAt}
+use Rattle.foreign.proofs.Starting.{started-tasks}
 use Rattle.foreign.proofs.Passing.{StatePasses, started-state, worked-at, worked-passes, worked-tasks}
 use Rattle.foreign.proofs.SamePhase.{same-phase}
 use Rattle.foreign.proofs.Stands.{Steady, late-said, saidStand, stand-said, standAt, works-said}
@@ -240,16 +241,6 @@ module _ (ws : List ℕ) (none : NoneApplies ws) (r : ℕ → List ℕ) where
   abbrev run : Run
   run = startedRun (rule ws) s
 
-  begun-back : (τs : List Task) → map taskOf (map startTask τs) ≡ τs
-  begun-back [] = refl
-  begun-back (τ ∷ τs) = ap (λ (l : List Task). τ ∷ l) (begun-back τs)
-
-  begun-tasks : tasksIn run ≡ s .tasks
-  unfolding startedRun
-  begun-tasks =
-      ap (map taskOf) (take-at (map startTask (s .tasks)) (replicate (mostTasks - length (s .tasks)) unused) (length (s .tasks)) (length-map (s .tasks) startTask))
-      ∙ begun-back (s .tasks)
-
   begun-rule : ruleIn run ≡ s .rule
   unfolding startedRun tableOf
   begun-rule = refl
@@ -261,9 +252,9 @@ module _ (ws : List ℕ) (none : NoneApplies ws) (r : ℕ → List ℕ) where
   pub begun-tied : Tied s (passed-sound ws none) r 0 (firstState ws)
   begun-tied = record {
     tick = refl;
-    table = unfold startedRun in ap₂ (λ (τs : List Task) (u : Rule). record { tasks = τs; cores = s .cores; fence = s .fence; rule = u }) begun-tasks begun-rule;
+    table = unfold startedRun in ap₂ (λ (τs : List Task) (u : Rule). record { tasks = τs; cores = s .cores; fence = s .fence; rule = u }) (started-tasks (rule ws) s) begun-rule;
     count = unfold startedRun in refl;
     passes = started-state ws none;
     places = begun-at;
-    noted = arrived-noted s (passed-sound ws none) r run 0 blank begun-tasks (unfold startedRun in refl) begun-at (λ h. absurd (not-suc-le-zero h));
+    noted = arrived-noted s (passed-sound ws none) r run 0 blank (started-tasks (rule ws) s) (unfold startedRun in refl) begun-at (λ h. absurd (not-suc-le-zero h));
   }

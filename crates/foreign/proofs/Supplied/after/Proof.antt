@@ -1,9 +1,8 @@
 -- `foreign::Supplied::after` meets its contract: the tick, and then what is noted; the tasks, and with them the last S, stay.
 -- Assumes nothing.
-use borrow.Author.Needs.{needs}
 use mathlib.Core.Path.{ap, sym, _∙_}
 use native.Mathlib.Numerals.{add-one}
-use native.Mathlib.Omega.{arith}
+use borrow.Author.Needs.{needs}
 use Rattle.model.specs.Horizon.{lastS}
 use Rattle.run.proofs.RunOut.{few}
 use Rattle.run.specs.Run.{tasksIn}

@@ -1,26 +1,25 @@
 -- `foreign::Supplied::shown` meets its contract: each way out is a case of the definition, in its order (`Cases`); the counts say what the bytes do (`Working`).
 -- Assumes nothing.
-use borrow.Author.Needs.{needs}
 use mathlib.Core.Bool.{Bool, false, _||_}
 use mathlib.Core.Path.{ap, sym, _∙_, _≡_}
-use Prim.Native.Nat.{_<_, suc, ℕ, _≤_}
+use Prim.Native.Nat.{_<_, suc, _≤_}
 use native.Mathlib.Omega.{arith}
-use lib.ListN.{length}
-use Rattle.model.specs.Sizes.{mostCores, mostTasks}
+use borrow.Author.Needs.{needs}
+use Rattle.model.specs.Sizes.{mostTasks}
 use Rattle.run.proofs.Limits.{or-left-false}
 use Rattle.run.proofs.RunOut.{few-cores}
 use Rattle.run.specs.declared.Run.{Run}
+use Rattle.foreign.specs.Numbers.{afterRow, missed}
+use Rattle.foreign.specs.Row.{faulty}
+use Rattle.foreign.specs.Said.{byAnswer}
+use Rattle.foreign.specs.Shown.{workedWith}
+use Rattle.foreign.specs.State.{arrived, horizonIn}
+use Rattle.foreign.specs.Take.{arrives}
 use Rattle.foreign.specs.declared.Answer.{Answer}
 use Rattle.foreign.specs.declared.Entered.{Entered}
 use Rattle.foreign.specs.declared.Supplied.{Supplied}
-use Rattle.foreign.specs.Numbers.{afterRow, missed, stateOut}
-use Rattle.foreign.specs.Row.{faulty}
-use Rattle.foreign.specs.Said.{byAnswer}
-use Rattle.foreign.specs.Shown.{anyWrong, workedWith}
-use Rattle.foreign.specs.State.{arrived, horizonIn}
-use Rattle.foreign.specs.Take.{arrives}
 use Rattle.foreign.proofs.Cases.{take-faulty, take-late, take-on}
-use Rattle.foreign.proofs.StateOut.{few, passes-run}
+use Rattle.foreign.proofs.StateTests.{few, passes-run}
 use Rattle.foreign.proofs.Working.{counted-count, counted-tasks, fault-found, horizon-kept, worked-counted}
 use Rattle.foreign.proofs.Supplied.shown.Statement.{statement}
 use Rattle.foreign.proofs.Supplied.shown.Tie as tie
