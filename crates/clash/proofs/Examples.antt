@@ -77,6 +77,12 @@ turning r = header 1 2 r ++ entry₂ 2 0 1 2 2 2 2 ++ entry 0 0 1 3 6 6
 abbrev turned : List ℕ
 turned = header 3 2 1 ++ entry₂ 2 0 1 2 2 2 2 ++ entry 0 0 1 3 6 6 ++ entry 1 0 1 1 1 4
 
+-- three cores, rule 1: the pass that goes on after a drop keeps positions 3 and 5; one that began anew at the lowest would keep 1, 4 and 5
+abbrev going : List ℕ
+going =
+    header 1 3 1 ++ entry 2 0 1 2 2 6 ++ entry 3 0 1 1 3 3 ++ entry 4 0 3 2 6 6 ++ entry 5 0 2 2 6 6 ++ entry 6 0 1 1 2 3
+    ++ entry 0 0 2 1 1 2
+
 abbrev pub lines : List Line
 lines =
     -- one task alone that misses; two of them: the lower is dropped first; and one that does not beside one that does
@@ -87,6 +93,8 @@ lines =
     ∷ keeps (ruledA 2) 7 ∷ keeps (ruledB 2) 6
     -- the second pass, under the rules under which the four tasks miss, and with the records in other places
     ∷ keeps (fourth 1) 6 ∷ keeps (fourth 3) 6 ∷ keeps (fourth 4) 6 ∷ keeps permuted 6
+    -- a pass goes on after a drop
+    ∷ keeps going 20
     -- F's task on the one core that the fence leaves of two
     ∷ keeps (1 ∷ 2 ∷ 1 ∷ 2 ∷ 0 ∷ entry 0 0 1 2 1 2) 1
     -- two widths
