@@ -6,3 +6,6 @@ pub mod Taking
 pub mod Lines
 pub mod Long
 pub mod Cutting
+pub mod Feeding
+pub mod Ending
+pub mod Whole

@@ -5,7 +5,8 @@ use mathlib.Core.Path.{_∙_, _≡_, ap, ap₂, refl, sym}
 use Prim.Native.Nat.{_+_, _-_, _<_, suc, ℕ, _≤_}
 use native.Mathlib.Numerals.{add-one}
 use lib.Dec.{eqb, leb, ltb}
-use lib.ListN.{length, replicate, take}
+use native.Mathlib.Omega.{arith}
+use lib.ListN.{length, length-append, replicate, take}
 use lib.Seq.{take-append-seam}
 use borrow.Author.Tests.{eq-eqb, le-leb, le-ltb, lt-leb, lt-ltb, ne-eqb}
 use Rattle.model.specs.Sizes.{mostWord}
@@ -92,6 +93,15 @@ step-passed r l n p q e h = rw (← q, e, h)
 pub step-enters : (r : Rows) (l : List ℕ) (p : Bool) → p ≡ passed r l → p ≡ false → enters r (rowIn l) ≡ stepOf r l
 unfolding stepOf
 step-enters r l p q e = rw (← q, e)
+
+-- the numbers that were read are in their places
+pub count-within : (x : Read) (k : Line) → k ≡ lineOf x → k .count ≤ length (k .cells)
+count-within (row t ns) k e =
+    let a : k .count ≡ length ns = ap (λ (y : Line). y .count) e in
+    let b : length (k .cells) ≡ length ns + length {A = ℕ} (replicate (mostCells - length ns) 0) =
+    ap (λ (y : Line). length (y .cells)) e ∙ length-append ns (replicate (mostCells - length ns) 0) in
+    omega (arith, a, b)
+count-within noRow k e = let a : k .count ≡ 0 = ap (λ (y : Line). y .count) e in omega (arith, a)
 
 -- a row of the tick that is wanted is taken ..
 pub enters-row :

@@ -74,9 +74,10 @@ pub record CutOf (bytes : List ℕ) (r : Cut) : Type 0 where
       → tableSays e [] [] (bytes ++ more) ≡ opens e (take (r .from) bytes) (linesFrom e [] (drop (r .from + 3) bytes ++ more))
   pub none : r .found ≡ false → (e : Ahead) (more : List ℕ) → tableSays e [] [] (bytes ++ more) ≡ tableSays e (take (r .from) bytes) (drop (r .from) bytes) more
 
--- from check c the bytes bs have come, in parts of any size, each handed on behind what the one before left; then the check is c′ and `left` is left
+-- from check c, where `left` is left of what has come, the bytes bs come, in parts of any size, each handed on behind what the one before left;
+-- then the check is c′ and `left′` is left. One that is over is handed nothing
 pub data Feeds : Check → List ℕ → List ℕ → List ℕ → Check → Type 0 where
   none : {c : Check} {left : List ℕ} → Feeds c left [] left c
   more :
-      {c c′ : Check} (left chunk : List ℕ) {bs left′ : List ℕ} (r : Fed) → FedOf c (left ++ chunk) r → Feeds (r .check) (drop (r .taken) (left ++ chunk)) bs left′ c′
-      → Feeds c left (chunk ++ bs) left′ c′
+      {c c′ : Check} (left chunk : List ℕ) {bs left′ : List ℕ} (r : Fed) → isOver (c .stage) ≡ false → FedOf c (left ++ chunk) r
+      → Feeds (r .check) (drop (r .taken) (left ++ chunk)) bs left′ c′ → Feeds c left (chunk ++ bs) left′ c′

@@ -1,90 +1,125 @@
+use borrow.Author.Needs.{needs}
+use native.Mathlib.Omega.{arith}
+use mathlib.Core.Path.{_∙_, _≡_, ap, refl, subst⁻¹, sym}
+use mathlib.Core.List.{List}
+use Prim.Native.Nat.{_+_, _-_, ℕ}
+use lib.ListN.{length}
+use Rattle.rows.specs.declared.Rows.{Rows}
+use Rattle.rows.specs.declared.Turn.{Turn}
+use Rattle.rows.specs.Checked.{isMore}
+use Rattle.rows.specs.Check.{PlanFed, overWith}
+use Rattle.rows.proofs.Feeding.{Taken, line-ends, taken-all, taken-long, taken-next, taken-over, taken-waits}
 use Rattle.rows.proofs.feed_plan.Statement.{statement}
 use Rattle.rows.proofs.feed_plan.Tie as tie
-use Rattle.rows.proofs.feed_plan.Reads as reads
-use Rattle.rows.proofs.feed_plan.Lts as lts
-use Rattle.rows.proofs.going.Reads as going-reads
-use Rattle.rows.proofs.is_more.Reads as is-more-reads
-use Rattle.rows.proofs.over.Reads as over-reads
-use Rattle.rows.proofs.step.Reads as step-reads
-use Rattle.text.proofs.line.end_from.Reads as end-from-reads
 
 abbrev Inv-loop : tie.InvT-loop
-Inv-loop bytes from rows₀ at₀ rows at = ?
+Inv-loop bytes from rows₀ at₀ rows at = Taken rows₀ from bytes rows at
 
 abbrev μ-loop : tie.MeasureT-loop
-μ-loop bytes from rows₀ at₀ rows at = ?
+μ-loop bytes from rows₀ at₀ rows at = length bytes - at
+
+-- the arguments of the call
+abbrev start : tie.After-end-from Inv-loop μ-loop → Rows
+start e = e .before .before .before .before .args .start
+
+abbrev from : tie.After-end-from Inv-loop μ-loop → ℕ
+from e = e .before .before .before .before .args .from
+
+abbrev bytes : tie.After-end-from Inv-loop μ-loop → List ℕ
+bytes e = e .before .before .before .before .args .bytes .now
 
 loop-holds : tie.Need-loop-holds Inv-loop μ-loop
-loop-holds c = ?
+loop-holds c = (c .before .pre, λ e more. refl)
 
 end-from-requires : tie.Need-end-from-requires Inv-loop μ-loop
-end-from-requires c κs = ?
+end-from-requires c κs = search needs
 
 sub-if2 : tie.Need-sub-if2 Inv-loop μ-loop
-sub-if2 c = ?
+sub-if2 c = omega (arith, c .before .end-from .ensures)
 
 going-requires : tie.Need-going-requires Inv-loop μ-loop
-going-requires c κs = ?
+going-requires c κs = search needs
 
 returns : tie.Need-returns Inv-loop μ-loop
-returns c = ?
+returns c =
+    let e = c .before .before .before in
+    subst⁻¹ (PlanFed (start e) (from e) (bytes e)) (c .going .ensures) (taken-waits (start e) (from e) (bytes e) (e .before .before .loop .rows) (e .before .before .loop .at) (e .end-from .result) (e .before .before .loop .inv) (e .end-from .ensures) (c .before .before .if1 .taken) (c .before .if2 .taken))
 
 sub-step : tie.Need-sub-step Inv-loop μ-loop
-sub-step c = ?
+sub-step c = omega (arith, c .before .before .end-from .ensures)
 
 part-step-start : tie.Need-part-step-start Inv-loop μ-loop
-part-step-start c = ?
+part-step-start c = search needs
 
 part-step-end : tie.Need-part-step-end Inv-loop μ-loop
-part-step-end c = ?
+part-step-end c = search needs
 
 step-requires : tie.Need-step-requires Inv-loop μ-loop
-step-requires c κs = ?
+step-requires c κs = search needs
 
 over-requires : tie.Need-over-requires Inv-loop μ-loop
-over-requires c κs = ?
+over-requires c κs = search needs
 
 returns-2 : tie.Need-returns-2 Inv-loop μ-loop
-returns-2 c = ?
+returns-2 c =
+    let e = c .before .before .before .before .before .before in
+    subst⁻¹ (PlanFed (start e) (from e) (bytes e)) (c .over .ensures ∙ ap (λ (t : Turn). overWith (t .rows) (t .said) (e .end-from .result)) (c .before .before .step .ensures))
+    (taken-long (start e) (from e) (bytes e) (e .before .before .loop .rows) (e .before .before .loop .at) (e .end-from .result) (e .before .before .loop .inv) (e .end-from .ensures) (c .before .before .before .before .before .if1 .taken) (omega (arith, c .before .before .before .before .if2 .left)))
 
 sub-step-2 : tie.Need-sub-step-2 Inv-loop μ-loop
-sub-step-2 c = ?
+sub-step-2 c = omega (arith, c .before .end-from .ensures)
 
 part-step-start-2 : tie.Need-part-step-start-2 Inv-loop μ-loop
-part-step-start-2 c = ?
+part-step-start-2 c = search needs
 
 part-step-end-2 : tie.Need-part-step-end-2 Inv-loop μ-loop
-part-step-end-2 c = ?
+part-step-end-2 c =
+    let e = c .before in
+    omega (arith, line-ends (start e) (from e) (bytes e) (e .before .before .loop .rows) (e .before .before .loop .at) (e .end-from .result) (e .before .before .loop .inv) (e .end-from .ensures))
 
 step-requires-2 : tie.Need-step-requires-2 Inv-loop μ-loop
-step-requires-2 c κs = ?
+step-requires-2 c κs = search needs
 
 is-more-requires : tie.Need-is-more-requires Inv-loop μ-loop
-is-more-requires c κs = ?
+is-more-requires c κs = search needs
 
 add-over : tie.Need-add-over Inv-loop μ-loop
-add-over c = ?
+add-over c =
+    let e = c .before .before .before .before .before .before in
+    omega (arith, line-ends (start e) (from e) (bytes e) (e .before .before .loop .rows) (e .before .before .loop .at) (e .end-from .result) (e .before .before .loop .inv) (e .end-from .ensures))
 
 over-requires-2 : tie.Need-over-requires-2 Inv-loop μ-loop
-over-requires-2 c κs = ?
+over-requires-2 c κs = search needs
 
 returns-3 : tie.Need-returns-3 Inv-loop μ-loop
-returns-3 c = ?
+returns-3 c =
+    let e = c .before .before .before .before .before .before .before in
+    subst⁻¹ (PlanFed (start e) (from e) (bytes e)) (c .over2 .ensures ∙ ap (λ (t : Turn). overWith (t .rows) (t .said) (e .end-from .result + 1)) (c .before .before .before .before .step2 .ensures))
+    (taken-over (start e) (from e) (bytes e) (e .before .before .loop .rows) (e .before .before .loop .at) (e .end-from .result) (e .before .before .loop .inv) (e .end-from .ensures) (c .before .before .before .before .before .before .if1 .left)
+    (sym (ap (λ (t : Turn). isMore (t .said)) (c .before .before .before .before .step2 .ensures)) ∙ sym (c .before .before .is-more .ensures) ∙ c .before .if3 .left))
 
 add-at : tie.Need-add-at Inv-loop μ-loop
-add-at c = ?
+add-at c =
+    let e = c .before .before .before .before .before .before in
+    omega (arith, line-ends (start e) (from e) (bytes e) (e .before .before .loop .rows) (e .before .before .loop .at) (e .end-from .result) (e .before .before .loop .inv) (e .end-from .ensures))
 
 loop-less : tie.Need-loop-less Inv-loop μ-loop
-loop-less c = ?
+loop-less c =
+    let e = c .before .before .before .before .before .before in
+    omega (arith, e .end-from .ensures, e .before .loop-test .taken)
 
 loop-again : tie.Need-loop-again Inv-loop μ-loop
-loop-again c = ?
+loop-again c =
+    let e = c .before .before .before .before .before .before in
+    subst⁻¹ (λ (t : Turn). Taken (start e) (from e) (bytes e) (t .rows) (e .end-from .result + 1)) (c .before .before .before .step2 .ensures)
+    (taken-next (start e) (from e) (bytes e) (e .before .before .loop .rows) (e .before .before .loop .at) (e .end-from .result) (e .before .before .loop .inv) (e .end-from .ensures) (c .before .before .before .before .before .if1 .left)
+    (sym (ap (λ (t : Turn). isMore (t .said)) (c .before .before .before .step2 .ensures)) ∙ sym (c .before .is-more .ensures) ∙ c .if3 .taken))
 
 going-requires-2 : tie.Need-going-requires-2 Inv-loop μ-loop
-going-requires-2 c κs = ?
+going-requires-2 c κs = search needs
 
 returns-4 : tie.Need-returns-4 Inv-loop μ-loop
-returns-4 c = ?
+returns-4 c = subst⁻¹ (PlanFed _ _ _) (c .going2 .ensures) (taken-all _ _ _ _ _ (c .before .before .loop .inv) (omega (arith, c .before .loop-test .left)))
 
 pub feed-plan-spec : {M : Type 1} → statement M
 feed-plan-spec =
