@@ -20,6 +20,6 @@ saidLine (Fault n t) = lineOf (letters "fault") (n ∷ t ∷ [])
 saidLine (Refused n p) = lineOf (letters "refused") (n ∷ p ∷ [])
 saidLine (Unread n) = lineOf (letters "unread") (n ∷ [])
 
--- everything that the program `check` prints for the bytes that it reads
+-- everything that the program `inspect` prints for the bytes that it reads
 unfoldable pub printed : List ℕ → List ℕ
 printed bs = saidLine (checkedOf bs)
