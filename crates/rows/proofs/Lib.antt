@@ -9,4 +9,3 @@ pub mod Cutting
 pub mod Feeding
 pub mod Ending
 pub mod Whole
-pub mod Examples
