@@ -9,3 +9,4 @@ pub mod Cutting
 pub mod Feeding
 pub mod Ending
 pub mod Whole
+pub mod Examples
