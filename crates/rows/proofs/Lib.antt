@@ -10,3 +10,4 @@ pub mod Feeding
 pub mod Ending
 pub mod Whole
 pub mod Examples
+pub mod Plan

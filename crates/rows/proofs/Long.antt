@@ -236,7 +236,7 @@ long-passed r l h = rw (← verdict-long l h, ne-eqb (length l) 0 (λ e. omega (
     go false true = refl
     go false false = refl
 
-refusal-ends : (n t : ℕ) → isMore (refusal n t) ≡ false
+pub refusal-ends : (n t : ℕ) → isMore (refusal n t) ≡ false
 refusal-ends n t = go (leb 24 n)
   where
     go : (b : Bool) → isMore (cond b (Fault n t) (Refused n t)) ≡ false

@@ -3,3 +3,4 @@ pub mod Line
 pub mod Checked
 pub mod Check
 pub mod Printed
+pub mod Plan
