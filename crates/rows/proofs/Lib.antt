@@ -11,3 +11,4 @@ pub mod Ending
 pub mod Whole
 pub mod Examples
 pub mod Plan
+pub mod Text

@@ -47,7 +47,7 @@ use Rattle.text.specs.Input.{lengthTo}
 -- WORDS AND LINES OF DIGITS
 
 -- digits are no marks
-digits-mark : (m : ℕ) (ds : List ℕ) → Digits ds → m < 48 → lengthTo m ds ≡ length ds
+pub digits-mark : (m : ℕ) (ds : List ℕ) → Digits ds → m < 48 → lengthTo m ds ≡ length ds
 unfolding lengthTo
 digits-mark m [] h q = refl
 digits-mark m (d ∷ ds) h q = rw (ne-eqb d m (λ e. omega (arith, h 0 (omega arith) .0, q, e))) (ap suc (digits-mark m ds (λ i l. h (suc i) (omega (arith, l))) q))
