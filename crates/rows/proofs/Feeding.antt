@@ -1,7 +1,7 @@
 -- The lines of a plan one after another, and the check that is handed back.
 use mathlib.Core.Bool.{Bool, cond, false, true, true≢false}
 use mathlib.Core.List.{List, [], _++_, append-nil, _∷_}
-use mathlib.Core.Path.{_∙_, _≡_, ap, refl, sym}
+use mathlib.Core.Path.{_∙_, _≡_, ap, refl, subst⁻¹, sym}
 use Prim.Native.Nat.{_+_, _-_, _<_, ℕ, _≤_}
 use native.Mathlib.Omega.{arith}
 use lib.ListN.{drop, length, length-drop, take}
@@ -9,17 +9,21 @@ use lib.Seq.{take-all}
 use Rattle.text.specs.Format.{newline}
 use Rattle.text.specs.Input.{lineLength}
 use Rattle.text.proofs.Lines.{line-within, mark-none}
+use Rattle.foreign.specs.declared.Entered.{Entered}
 use Rattle.session.specs.Talk.{Ahead, lastLine, linesFrom, nothing, unknown}
 use Rattle.rows.specs.declared.Check.{Check}
 use Rattle.rows.specs.declared.Fed.{Fed}
+use Rattle.rows.specs.declared.Reach.{Reach}
 use Rattle.rows.specs.declared.Rows.{Rows}
 use Rattle.rows.specs.declared.Said.{Said}
 use Rattle.rows.specs.declared.Said.the-variants.{More}
+use Rattle.rows.specs.declared.Turn.{Turn}
 use Rattle.rows.specs.Line.{longLine}
-use Rattle.rows.specs.Checked.{endSays, isMore, rowsSay, stepOf}
-use Rattle.rows.specs.Check.{FedBy, PlanFed, overWith, planSays, planWith}
+use Rattle.rows.specs.Checked.{endSays, entered, isMore, rowsSay, stepOf}
+use Rattle.rows.specs.Check.{FedBy, PlanFed, Reaches, overWith, planSays, planWith}
 use Rattle.rows.proofs.Lines.{plan-line, plan-rest, rows-end, rows-none, rows-on}
 use Rattle.rows.proofs.Long.{rows-long}
+use Rattle.rows.proofs.Saying.{entered-plan}
 
 -- the answer is there, whatever comes
 pub fed-over :
@@ -41,6 +45,10 @@ plan-over r₀ from bs rows said taken h x = record {
   plan = λ o. absurd (true≢false o);
   line = λ o. absurd (true≢false o);
 }
+
+-- a row that was taken, or not, leaves a plan that goes as far
+pub reaches-on : (a : Reach) (x : Entered) (n : ℕ) (t : Turn) → t ≡ entered (x .answer) (x .plan) n → Reaches a (x .plan) → Reaches a (t .rows .plan)
+reaches-on a x n t e w = subst⁻¹ (λ (u : Turn). Reaches a (u .rows .plan)) e (subst⁻¹ (Reaches a) (entered-plan (x .answer) (x .plan) n) w)
 
 -- a place up to which the lines of the plan have been taken
 abbrev pub Taken : Rows → ℕ → List ℕ → Rows → ℕ → Type 0

@@ -40,7 +40,7 @@ use Rattle.rows.specs.Checked.{entered, enters, goOn, isMore, nextLine, 
 use Rattle.rows.specs.Plan.{Numbers, Sayable, listSays, planText, takes}
 use Rattle.rows.proofs.Lines.{rows-none}
 use Rattle.rows.proofs.Long.{refusal-ends}
-use Rattle.rows.proofs.Saying.{on-end, on-more}
+use Rattle.rows.proofs.Saying.{entered-plan, on-end, on-more}
 use Rattle.session.proofs.Asking.{words-one}
 use Rattle.text.specs.Input.{lengthTo}
 
@@ -189,11 +189,6 @@ taken-tick w ns n = go (takeAnswer w ns)
     go answer.Taken m = refl
     go answer.Accepted m = refl
     go (answer.Refused k t) m = absurd (false≢true (sym (refusal-ends k t) ∙ m))
-
-entered-plan : (a : foreign.Answer) (w : Supplied) (n : ℕ) → entered a w n .rows .plan ≡ w
-entered-plan answer.Taken w n = refl
-entered-plan answer.Accepted w n = refl
-entered-plan (answer.Refused k t) w n = refl
 
 rows-first : (r : Rows) (l : List ℕ) (ls : List (List ℕ)) → rowsSay nothing r (l ∷ ls) ≡ goOn (stepOf r l .said) (rowsSay nothing (stepOf r l .rows) ls)
 unfolding rowsSay

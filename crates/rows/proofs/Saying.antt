@@ -74,6 +74,12 @@ pub entered-refused :
     (a : foreign.Answer) (w : Supplied) (n k t : ℕ) (s : Said) → a ≡ answer.Refused k t → s ≡ refusal k t → turn (rowsAt w n false) s ≡ entered a w n
 entered-refused a w n k t s e h = rw (e, h)
 
+-- the plan after a row is what `take` hands back
+pub entered-plan : (a : foreign.Answer) (w : Supplied) (n : ℕ) → entered a w n .rows .plan ≡ w
+entered-plan answer.Taken w n = refl
+entered-plan answer.Accepted w n = refl
+entered-plan (answer.Refused k t) w n = refl
+
 pub end-accepted : (r : Rows) → r .accepted ≡ true → Accepted ≡ endSays nothing r
 unfolding endSays
 end-accepted r e = rw e

@@ -5,16 +5,23 @@ use mathlib.Core.Path.{_≡_}
 use Prim.Native.Nat.{_+_, _-_, _<_, ℕ, _≤_}
 use lib.ListN.{drop, length, take}
 use Rattle.text.specs.Input.{lineLength}
+use Rattle.foreign.specs.Ahead.{Ready}
+use Rattle.foreign.specs.declared.Supplied.{Supplied}
 use Rattle.session.specs.Talk.{Ahead, linesFrom, nothing, tooMany, unknown}
 use Rattle.rows.specs.declared.Check.{Check}
 use Rattle.rows.specs.declared.Cut.{Cut}
 use Rattle.rows.specs.declared.Fed.{Fed}
+use Rattle.rows.specs.declared.Reach.{Reach}
 use Rattle.rows.specs.declared.Rows.{Rows}
 use Rattle.rows.specs.declared.Said.{Said}
 use Rattle.rows.specs.declared.Said.the-variants.{More}
 use Rattle.rows.specs.declared.Stage.{Stage}
 use Rattle.rows.specs.declared.Stage.the-variants.{Over, Plan, Table}
 use Rattle.rows.specs.Checked.{checkedOf, dueOf, opens, rowsSay, tableSays}
+
+-- a plan goes so far, where that is known
+abbrev pub Reaches : Reach → Supplied → Type 0
+Reaches a w = a .known ≡ true → Ready (w .run) (a .start) (a .horizon)
 
 -- what is said to the bytes of a plan
 abbrev pub planSays : Rows → Ahead → List ℕ → Said

@@ -4,10 +4,11 @@ ghost use Prim.Native.Nat.{_≤_};
 ghost use mathlib.Core.Bool.{cond};
 ghost use mathlib.Core.List.{[]};
 ghost use lib.ListN.{drop, length};
+ghost use Rattle.foreign.specs.Take.{takeOf};
 ghost use Rattle.session.specs.Talk.{isDashes, nothing};
 ghost use Rattle.rows.specs.declared.Stage.the-variants.{Table};
 ghost use Rattle.rows.specs.Checked.{nextLine, passed, refusal, entered, stepOf, isMore, openedOf, endSays, tableSays};
-ghost use Rattle.rows.specs.Check.{planSays, saidIn, saidTo, isOver, overWith, planWith, PlanFed, FedBy, FedOf, NewOf, CutOf};
+ghost use Rattle.rows.specs.Check.{Reaches, planSays, saidIn, saidTo, isOver, overWith, planWith, PlanFed, FedBy, FedOf, NewOf, CutOf};
 
 pub mod line; // line.rt: what a line says
 pub mod words; // words.rt: the line that is printed
@@ -40,6 +41,13 @@ pub struct Rows {
 pub struct Turn {
     pub rows: Rows,
     pub said: Said,
+}
+
+// How far a plan goes, looked at once for its rows in their thousands: the last S and the horizon, known where neither 14 nor 9 turns it down.
+pub struct Reach {
+    pub known: bool,
+    pub start: u32,
+    pub horizon: u32,
 }
 
 // What the bytes that come are read as: the table, the plan, or nothing any more.
@@ -130,9 +138,33 @@ fn enter(row: Entered, lines: u32) -> Turn
     }
 }
 
-// What is said to a line of the plan, and the plan after it.
-fn step(rows: Rows, bytes: &[u8]) -> Turn
-    ensures { λ r. ⌜ r ≡ stepOf rows (now (bytes .entry)) ⌝ }
+// How far a plan goes.
+fn reach_of(plan: Supplied) -> Reach
+    ensures { λ r. ⌜ Reaches r plan ⌝ }
+{
+    let ahead = plan.look();
+    Reach {
+        known: ahead.number == 0,
+        start: ahead.start,
+        horizon: ahead.horizon,
+    }
+}
+
+// Takes a row of a plan that goes so far.
+fn take(plan: Supplied, reach: Reach, row: &[u8]) -> Entered
+    requires { ⌜ Reaches reach plan ⌝ }
+    ensures { λ r. ⌜ (r ≡ takeOf plan (now (row .entry))) × Reaches reach (r .plan) ⌝ }
+{
+    if reach.known {
+        return plan.enter(reach.start, reach.horizon, row);
+    }
+    plan.take(row)
+}
+
+// What is said to a line of a plan that goes so far, and the plan after it.
+fn step(rows: Rows, reach: Reach, bytes: &[u8]) -> Turn
+    requires { ⌜ Reaches reach (rows .plan) ⌝ }
+    ensures { λ r. ⌜ (r ≡ stepOf rows (now (bytes .entry))) × Reaches reach (r .rows .plan) ⌝ }
 {
     let plan = rows.plan;
     let lines = next_line(rows.lines);
@@ -151,7 +183,7 @@ fn step(rows: Rows, bytes: &[u8]) -> Turn
         if read.tick == plan.tick {
             let cells = read.cells;
             let count = read.count;
-            return enter(plan.take(&cells[..count]), lines);
+            return enter(take(plan, reach, &cells[..count]), lines);
         }
     }
     Turn {
@@ -207,6 +239,7 @@ fn feed_plan(start: Rows, bytes: &[u8], from: usize) -> Fed
     requires { ⌜ from ≤ length (now bytes) ⌝ }
     ensures { λ r. ⌜ PlanFed start from (now (bytes .entry)) r ⌝ }
 {
+    let reach = reach_of(start.plan);
     let mut rows = start;
     let mut at = from;
     while at < bytes.len() {
@@ -215,12 +248,12 @@ fn feed_plan(start: Rows, bytes: &[u8], from: usize) -> Fed
             if end - at < line::LONG {
                 return going(rows, at);
             }
-            let turn = step(rows, &bytes[at..end]);
+            let turn = step(rows, reach, &bytes[at..end]);
             let last = turn.rows;
             let said = turn.said;
             return over(last, said, end);
         }
-        let turn = step(rows, &bytes[at..end]);
+        let turn = step(rows, reach, &bytes[at..end]);
         let next = turn.rows;
         let said = turn.said;
         if is_more(said) {} else {
@@ -340,7 +373,7 @@ fn end_plan(start: Rows, bytes: &[u8], from: usize) -> Said
     if taken == bytes.len() {
         return end_rows(rows);
     }
-    let turn = step(rows, &bytes[taken..]);
+    let turn = step(rows, reach_of(rows.plan), &bytes[taken..]);
     let said = turn.said;
     if is_more(said) {
         let last = turn.rows;

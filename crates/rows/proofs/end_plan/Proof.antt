@@ -17,7 +17,11 @@ end-rows-requires : tie.Need-end-rows-requires
 end-rows-requires c κs = search needs
 
 returns-2 : tie.Need-returns-2
-returns-2 c = ended-all _ _ _ _ (c .before .before .before .before .before .before .feed-plan .ensures) _ (sym (c .before .before .before .before .is-over .ensures) ∙ c .before .before .before .if1 .left) (c .before .if2 .taken) (c .end-rows .ensures)
+returns-2 c =
+    ended-all _ _ _ _ (c .before .before .before .before .before .before .feed-plan .ensures) _ (sym (c .before .before .before .before .is-over .ensures) ∙ c .before .before .before .if1 .left) (c .before .if2 .taken) (c .end-rows .ensures)
+
+reach-of-requires : tie.Need-reach-of-requires
+reach-of-requires c κs = search needs
 
 sub-step : tie.Need-sub-step
 sub-step c = search needs
@@ -38,10 +42,14 @@ end-rows-requires-2 : tie.Need-end-rows-requires-2
 end-rows-requires-2 c κs = search needs
 
 returns-3 : tie.Need-returns-3
-returns-3 c = ended-more _ _ _ _ (c .before .before .before .before .before .before .before .before .before .before .before .feed-plan .ensures) _ _ (sym (c .before .before .before .before .before .before .before .before .before .is-over .ensures) ∙ c .before .before .before .before .before .before .before .before .if1 .left) (c .before .before .before .before .before .before .if2 .left) (c .before .before .before .before .step .ensures) (sym (c .before .before .before .is-more .ensures) ∙ c .before .before .if3 .taken) (c .end-rows2 .ensures)
+returns-3 c =
+    ended-more _ _ _ _ (c .before .before .before .before .before .before .before .before .before .before .before .before .feed-plan .ensures) _ _ (sym (c .before .before .before .before .before .before .before .before .before .before .is-over .ensures) ∙ c .before .before .before .before .before .before .before .before .before .if1 .left) (c .before .before .before .before .before .before .before .if2 .left)
+    (c .before .before .before .before .step .ensures .0) (sym (c .before .before .before .is-more .ensures) ∙ c .before .before .if3 .taken) (c .end-rows2 .ensures)
 
 returns-4 : tie.Need-returns-4
-returns-4 c = ended-line _ _ _ _ (c .before .before .before .before .before .before .before .before .before .feed-plan .ensures) _ (sym (c .before .before .before .before .before .before .before .is-over .ensures) ∙ c .before .before .before .before .before .before .if1 .left) (c .before .before .before .before .if2 .left) (c .before .before .step .ensures) (sym (c .before .is-more .ensures) ∙ c .if3 .left)
+returns-4 c =
+    ended-line _ _ _ _ (c .before .before .before .before .before .before .before .before .before .before .feed-plan .ensures) _ (sym (c .before .before .before .before .before .before .before .before .is-over .ensures) ∙ c .before .before .before .before .before .before .before .if1 .left) (c .before .before .before .before .before .if2 .left)
+    (c .before .before .step .ensures .0) (sym (c .before .is-more .ensures) ∙ c .if3 .left)
 
 pub end-plan-spec : {M : Type 1} → statement M
 end-plan-spec =
@@ -52,6 +60,7 @@ end-plan-spec =
     returns
     end-rows-requires
     returns-2
+    reach-of-requires
     sub-step
     part-step-start
     part-step-end
