@@ -6,15 +6,15 @@ use Prim.Native.Nat.{_<_, ℕ, _≤_}
 use lib.ListN.{length}
 use borrow.Author.Tests.{eq-eqb, le-leb, le-ltb, lt-leb, ne-eqb}
 use Rattle.table.specs.Limits.{horizonOut, mostHorizon}
-use Rattle.foreign.specs.declared.Answer.the-variants.{Refused}
-use Rattle.foreign.specs.declared.Entered.{Entered}
-use Rattle.foreign.specs.declared.Supplied.{Supplied}
 use Rattle.foreign.specs.Ahead.{firstNumber}
 use Rattle.foreign.specs.Numbers.{afterRow, missed, stateOut}
 use Rattle.foreign.specs.Row.{faulty}
 use Rattle.foreign.specs.Said.{byAnswer}
 use Rattle.foreign.specs.State.{horizonIn}
 use Rattle.foreign.specs.Take.{arrives, takeAnswer, takeOf}
+use Rattle.foreign.specs.declared.Answer.the-variants.{Refused}
+use Rattle.foreign.specs.declared.Entered.{Entered}
+use Rattle.foreign.specs.declared.Supplied.{Supplied}
 
 -- turned down, the state as given
 abbrev pub refusal : Supplied → ℕ → ℕ → Entered

@@ -1,31 +1,29 @@
 -- The tests of a row's numbers decide what they say.
-use mathlib.Core.Bool.{Bool, false, false≢true, not, true, true≢false, _&&_, _||_, cond}
+use mathlib.Core.Bool.{Bool, false, false≢true, not, true, true≢false, _&&_, cond}
 use mathlib.Core.List.{List}
 use mathlib.Core.Logic.{inl, inr, _⊎_, ⊎-elim}
-use mathlib.Core.Path.{ap, ap₂, refl, sym, _∙_, _≡_}
-use Prim.Native.Nat.{_<_, suc, ℕ}
-use native.Mathlib.Omega.{arith}
+use mathlib.Core.Path.{ap, refl, sym, _∙_, _≡_}
+use Prim.Native.Nat.{suc, ℕ}
 use lib.Dec.{eqb, ltb}
 use lib.ListN.{length}
-use borrow.Author.Tests.{eq-eqb, eqb-true}
-use Rattle.model.proofs.Bools.{and-both, and-left, and-right}
-use Rattle.model.specs.Search.{any, bit}
+use Rattle.model.specs.Search.{bit}
 use Rattle.model.specs.Sizes.{fencedByte}
 use Rattle.table.proofs.Decide.{Decides, decides-and, decides-any, decides-eq, decides-lt, decides-not, decides-or}
-use Rattle.phase.specs.declared.Phase.{Phase}
-use Rattle.phase.specs.declared.Phase.the-variants.{Coming, Holding, Resting, Working}
 use Rattle.phase.specs.Phase.{working}
 use Rattle.phase.specs.Task.{widthNow}
+use Rattle.phase.specs.declared.Phase.{Phase}
+use Rattle.phase.specs.declared.Phase.the-variants.{Coming, Holding, Resting, Working}
 use Rattle.run.proofs.Exact.{late-decides}
 use Rattle.run.proofs.Limits.{run-decides}
-use Rattle.run.specs.declared.Run.{Run}
 use Rattle.run.specs.Numbers.{Late, lateAt}
 use Rattle.run.specs.Run.{phaseAt, placeAt}
-use Rattle.foreign.specs.declared.Supplied.{Supplied}
+use Rattle.run.specs.declared.Run.{Run}
 use Rattle.foreign.specs.Numbers.{Astray, Differs, Faulty, Missed, Owing, StateOut, StrangerAt, WrongAt, astray, differs, missed, samePhase, stateOut}
 use Rattle.foreign.specs.Plan.{cells}
-use Rattle.foreign.specs.Row.{byteAt, faulty, inRow, strangerAt, strangers, wrongAt}
+use Rattle.foreign.specs.Row.{byteAt, faulty, strangerAt, strangers, wrongAt}
 use Rattle.foreign.specs.State.{notedAt}
+use Rattle.foreign.specs.declared.Supplied.{Supplied}
+use Rattle.foreign.proofs.SamePhase.{same-phase}
 
 -- 14
 
@@ -94,41 +92,8 @@ faulty-decides r row =
 
 -- 26
 
-pub same-decides : (a b : Phase) → Decides (samePhase a b) (a ≡ b)
-same-decides a b = (there a b, λ e. ap (samePhase a) (sym e) ∙ itself a)
-  where
-    itself : (a : Phase) → samePhase a a ≡ true
-    itself (Coming a) = eq-eqb a a refl
-    itself (Working a b c) = and-both (eqb a a) (eqb b b && eqb c c) (eq-eqb a a refl) (and-both (eqb b b) (eqb c c) (eq-eqb b b refl) (eq-eqb c c refl))
-    itself (Holding a b) = and-both (eqb a a) (eqb b b) (eq-eqb a a refl) (eq-eqb b b refl)
-    itself (Resting a) = eq-eqb a a refl
-
-    there : (a b : Phase) → samePhase a b ≡ true → a ≡ b
-    there (Coming a) (Coming b) e = ap Coming (eqb-true a b e)
-    there (Coming a) (Working x y z) e = absurd (false≢true e)
-    there (Coming a) (Holding x y) e = absurd (false≢true e)
-    there (Coming a) (Resting x) e = absurd (false≢true e)
-    there (Working a b c) (Coming x) e = absurd (false≢true e)
-    there (Working a b c) (Working x y z) e =
-        let p : a ≡ x = eqb-true a x (and-left (eqb a x) (eqb b y && eqb c z) e) in
-        let rest = and-right (eqb a x) (eqb b y && eqb c z) e in
-        let q : b ≡ y = eqb-true b y (and-left (eqb b y) (eqb c z) rest) in
-        let s : c ≡ z = eqb-true c z (and-right (eqb b y) (eqb c z) rest) in
-        λ i. Working (p i) (q i) (s i)
-    there (Working a b c) (Holding x y) e = absurd (false≢true e)
-    there (Working a b c) (Resting x) e = absurd (false≢true e)
-    there (Holding a b) (Coming x) e = absurd (false≢true e)
-    there (Holding a b) (Working x y z) e = absurd (false≢true e)
-    there (Holding a b) (Holding x y) e =
-        ap₂ (λ (m n : ℕ). Holding m n) (eqb-true a x (and-left (eqb a x) (eqb b y) e)) (eqb-true b y (and-right (eqb a x) (eqb b y) e))
-    there (Holding a b) (Resting x) e = absurd (false≢true e)
-    there (Resting a) (Coming x) e = absurd (false≢true e)
-    there (Resting a) (Working x y z) e = absurd (false≢true e)
-    there (Resting a) (Holding x y) e = absurd (false≢true e)
-    there (Resting a) (Resting x) e = ap Resting (eqb-true a x e)
-
 pub differs-decides : (w : Supplied) → Decides (differs w) (Differs w)
 unfolding differs
 differs-decides w =
     decides-any (w .run .count) (λ p. not (samePhase (phaseAt (w .run) p) (notedAt w p))) (λ p. ¬ (phaseAt (w .run) p ≡ notedAt w p))
-    (λ p. decides-not _ _ (same-decides (phaseAt (w .run) p) (notedAt w p)))
+    (λ p. decides-not _ _ (same-phase (phaseAt (w .run) p) (notedAt w p)))

@@ -15,18 +15,18 @@ use Rattle.table.proofs.Inside.{inside-test}
 use Rattle.table.proofs.Loads.{horizon-test}
 use Rattle.table.proofs.Places.{task-at}
 use Rattle.table.proofs.Tests.{from-decides}
-use Rattle.table.specs.declared.Task.{Task}
 use Rattle.table.specs.Limits.{horizonOut, mostHorizon, taskOut}
 use Rattle.table.specs.Task.{InLimits, noTask, tasksOf}
 use Rattle.table.specs.Task as table
+use Rattle.table.specs.declared.Task.{Task}
 use Rattle.phase.specs.Task.{pastEnd, taskOf}
 use Rattle.run.proofs.Limits.{passes-if}
-use Rattle.run.specs.declared.Run.{Run}
 use Rattle.run.specs.Numbers.{runOut, wideIn}
 use Rattle.run.specs.Run.{tableIn, taskAt, tasksIn}
-use Rattle.foreign.specs.State.{horizonIn, startIn}
+use Rattle.run.specs.declared.Run.{Run}
 use Rattle.foreign.specs.Ahead.{Ready, firstNumber}
 use Rattle.foreign.specs.Numbers.{stateOut}
+use Rattle.foreign.specs.State.{horizonIn}
 use Rattle.foreign.proofs.Working.{horizon-kept}
 
 module _ (r : Run) (e : runOut r ≡ false) where

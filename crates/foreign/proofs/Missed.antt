@@ -1,14 +1,13 @@
 -- Number 25: some task is late exactly if there is a first one that is.
 use mathlib.Core.Bool.{Bool, false, true}
-use mathlib.Core.Path.{refl, sym, _∙_, _≡_}
-use Prim.Native.Nat.{ℕ}
+use mathlib.Core.Path.{refl, _≡_}
 use native.Mathlib.Omega.{arith}
 use lib.Dec.{ltb}
 use borrow.Author.Tests.{le-ltb, lt-ltb}
 use Rattle.model.proofs.Search.{least-below, least-none}
 use Rattle.model.specs.Search.{any, least}
-use Rattle.run.specs.declared.Run.{Run}
 use Rattle.run.specs.Numbers.{firstLateIn, lateAt}
+use Rattle.run.specs.declared.Run.{Run}
 use Rattle.foreign.specs.Numbers.{missed}
 
 pub missed-first : (r : Run) → ltb (firstLateIn r) (r .count) ≡ missed r

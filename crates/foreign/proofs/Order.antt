@@ -1,15 +1,15 @@
 -- The order of a row's numbers: nothing is checked before itself, and one number at most is the first that applies.
 use mathlib.Core.Bool.{Bool, cond, false, true}
 use mathlib.Core.List.{List}
-use mathlib.Core.Logic.{inl, inr, _⊎_, ⊎-elim}
+use mathlib.Core.Logic.{inl, inr}
 use mathlib.Core.Path.{ap₂, refl, sym, _∙_, _≡_}
 use Prim.Native.Nat.{_<_, ℕ, _≤_}
 use native.Mathlib.Omega.{arith}
 use lib.Dec.{eqb, ltb}
 use borrow.Author.Tests.{ltb-false, ltb-true}
 use Rattle.table.specs.Numbers.{placeFrom}
-use Rattle.foreign.specs.declared.Supplied.{Supplied}
 use Rattle.foreign.specs.Numbers.{Applies, Earlier, First, eleven, fourteen, inTick, late-last, late-now, nine, order, ten, twenty-four, twenty-six}
+use Rattle.foreign.specs.declared.Supplied.{Supplied}
 
 -- a number of a later place is not checked before ..
 pub later : (m s n t : ℕ) → placeFrom 1 order n < placeFrom 1 order m → ¬ Earlier m s n t

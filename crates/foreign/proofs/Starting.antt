@@ -1,46 +1,38 @@
 -- The beginning: the run of a table as it starts is of that table, and what is promised of a beginning.
-use mathlib.Core.Bool.{Bool, cond, false, true}
-use mathlib.Core.List.{List, [], map, _++_, _∷_}
+use mathlib.Core.List.{List, [], map, _∷_}
 use mathlib.Core.Path.{ap, refl, subst, sym, _∙_, _≡_}
-use Prim.Native.Nat.{_-_, _<_, ℕ, _≤_}
+use Prim.Native.Nat.{_-_, ℕ, _≤_}
 use native.Mathlib.Omega.{arith}
-use lib.Dec.{eqb}
-use lib.ListN.{getD, length, length-map, replicate, take}
+use lib.ListN.{length, length-map, replicate}
 use lib.Seq.{take-at}
-use Rattle.model.proofs.Search.{none-any}
 use Rattle.model.specs.Book as book
 use Rattle.model.specs.Horizon.{lastS}
-use Rattle.model.specs.Search.{any}
 use Rattle.model.specs.Sizes.{mostTasks}
 use Rattle.model.specs.Task as model
 use Rattle.table.proofs.Decide.{fails}
 use Rattle.table.proofs.Promise.{load-answer, promise, told-passed, told-refused}
-use Rattle.table.specs.declared.Answer.{Answer}
-use Rattle.table.specs.declared.Answer.the-variants.{Passed, Refused}
-use Rattle.table.specs.declared.Loaded.{Loaded}
 use Rattle.table.specs.Answer.{answerOf}
 use Rattle.table.specs.Load.{Holds, LoadOf, loadOf, loadTold, tableWith}
 use Rattle.table.specs.Numbers.{NoneApplies}
 use Rattle.table.specs.Task.{tasksOf}
 use Rattle.table.specs.Words.{rule, tableOf}
-use Rattle.phase.specs.declared.Phase.the-variants.{Coming, Working}
-use Rattle.phase.specs.declared.Task.{Task}
-use Rattle.phase.specs.Task.{pastEnd, startTask, taskOf, unused}
+use Rattle.table.specs.declared.Answer.{Answer}
+use Rattle.table.specs.declared.Answer.the-variants.{Passed, Refused}
+use Rattle.table.specs.declared.Loaded.{Loaded}
+use Rattle.phase.specs.Task.{startTask, taskOf, unused}
 use Rattle.run.proofs.ByVerdict.{loaded-table}
-use Rattle.run.proofs.Limits.{passes-runs}
 use Rattle.run.proofs.StartExact.{empty-run-out}
-use Rattle.run.proofs.StartPasses.{start-passes, started-at}
-use Rattle.run.specs.declared.Run.{Run}
-use Rattle.run.specs.Numbers.{runOut}
-use Rattle.run.specs.Run.{phaseAt, placeAt, tasksIn}
+use Rattle.run.specs.Run.{tasksIn}
 use Rattle.run.specs.Start.{emptyRun, startedRun}
+use Rattle.run.specs.declared.Run.{Run}
+use Rattle.foreign.specs.Begin.{BeginOf, beginOf, begunBy, emptyState, firstState}
+use Rattle.foreign.specs.Numbers.{StateOut, stateOut}
+use Rattle.foreign.specs.State.{startIn}
 use Rattle.foreign.specs.declared.Begun.{Begun}
 use Rattle.foreign.specs.declared.Supplied.{Supplied}
-use Rattle.foreign.specs.Begin.{BeginOf, beginOf, begunBy, emptyState, firstState}
-use Rattle.foreign.specs.Numbers.{StateOut, astray, stateOut}
-use Rattle.foreign.specs.State.{startIn}
-use Rattle.foreign.proofs.Passing.{out-astray, out-run}
 use Rattle.foreign.proofs.Deciding.{state-decides}
+use Rattle.foreign.proofs.Passing.{started-state, state-passes}
+use Rattle.foreign.proofs.StateTests.{out-run}
 
 -- A RUN AS IT STARTS
 
@@ -59,11 +51,6 @@ pub started-count : (n : ℕ) (s : model.Table) → startedRun n s .count ≡ le
 unfolding startedRun
 started-count n s = refl
 
--- the start is Working(0,0) or Coming: nobody is astray
-start-fine : (b : Bool) (O : ℕ) → astray (cond b (Working 0 0 0) (Coming O)) ≡ false
-start-fine true O = refl
-start-fine false O = refl
-
 module _ (ws : List ℕ) where
   abbrev first : Run
   first = startedRun (rule ws) (tableOf ws)
@@ -78,22 +65,6 @@ module _ (ws : List ℕ) where
 
   pub loaded-few : (l : Loaded) → Holds ws l → first .count ≤ mostTasks
   loaded-few l h = omega (arith, started-count (rule ws) (tableOf ws), h .count, h .count-from)
-
-  -- the task at a place
-  first-at : (p : ℕ) → p < length (tableOf ws .tasks) → placeAt first p ≡ startTask (model.task (tableOf ws) p)
-  unfolding startedRun
-  first-at p l = started-at (tableOf ws .tasks) (replicate (mostTasks - length (tableOf ws .tasks)) unused) p l
-
-  -- where the table passes, the run as it starts passes 14
-  pub first-passes : NoneApplies ws → stateOut first ≡ false
-  first-passes none =
-      out-astray first (passes-runs first (start-passes ws none)) (unfold startedRun in refl)
-      ∙ none-any (first .count) (λ p. astray (phaseAt first p)) each
-    where
-      each : (p : ℕ) → p < first .count → astray (phaseAt first p) ≡ false
-      each p l =
-          ap (λ (t : Task). astray (t .phase)) (first-at p (omega (arith, started-count (rule ws) (tableOf ws))))
-          ∙ start-fine (eqb (model.task (tableOf ws) p .offset) 0) (model.task (tableOf ws) p .offset)
 
 -- THE BEGINNING
 
@@ -139,7 +110,7 @@ module _ (ws : List ℕ) where
     zeros = zeros;
     passes = λ q.
         subst (λ (w : Supplied). ¬ StateOut (w .run)) (sym (begun q))
-        (fails (stateOut (first ws)) (StateOut (first ws)) (state-decides (first ws)) (first-passes ws (none-applies q)));
+        (fails (stateOut (first ws)) (StateOut (first ws)) (state-decides (first ws)) (state-passes (first ws) (started-state ws (none-applies q))));
     out = λ n p q. subst (λ (w : Supplied). StateOut (w .run)) (sym (zeros n p q)) (state-decides emptyRun .0 (out-run emptyRun empty-run-out));
   }
     where

@@ -2,38 +2,38 @@
 -- applies; and what it hands back.
 use mathlib.Core.Bool.{Bool, cond, false, not, true}
 use mathlib.Core.List.{List, map, _++_}
-use mathlib.Core.Logic.{inl, inr, _⊎_, _↔_, ⊎-elim}
+use mathlib.Core.Logic.{_⊎_, _↔_, ⊎-elim}
 use mathlib.Core.Path.{ap, refl, subst, subst⁻¹, sym, _∙_, _≡_}
 use Prim.Native.Nat.{_-_, _<_, suc, ℕ, _≤_}
 use native.Mathlib.Omega.{arith}
 use lib.Dec.{eqb, leb}
 use lib.ListN.{drop, length, length-map, take}
 use lib.Seq.{drop-at, length-take-le}
-use borrow.Author.Tests.{eq-eqb, eqb-false, eqb-true, leb-false, leb-true, ltb-false, ltb-true, not-true}
+use borrow.Author.Tests.{eqb-false, eqb-true, leb-false, leb-true, ltb-true}
 use Rattle.model.proofs.Bools.{not-true-false}
-use Rattle.table.proofs.Decide.{decides-eq, decides-le, decides-lt, decides-not, fails}
+use Rattle.table.proofs.Decide.{decides-lt, fails}
 use Rattle.table.specs.Limits.{HorizonOut, horizonOut, mostHorizon}
 use Rattle.run.proofs.Limits.{in-array, passes-if}
-use Rattle.run.specs.declared.Run.{Run}
 use Rattle.run.specs.Run.{tasksIn}
-use Rattle.foreign.specs.declared.Answer.{Answer}
-use Rattle.foreign.specs.declared.Answer.the-variants.{Accepted, Refused, Taken}
-use Rattle.foreign.specs.declared.Entered.{Entered}
-use Rattle.foreign.specs.declared.Note.{Note}
-use Rattle.foreign.specs.declared.Supplied.{Supplied}
+use Rattle.run.specs.declared.Run.{Run}
 use Rattle.foreign.specs.Ahead.{Ready}
-use Rattle.foreign.specs.Numbers.{Applies, Differs, Earlier, Faulty, First, Last, Missed, NoneApplies, StateOut, afterRow, differs, eleven, fourteen, late-last, late-now, missed, nine, stateOut, ten, twenty-four, twenty-six}
+use Rattle.foreign.specs.Numbers.{Applies, eleven, fourteen, late-last, late-now, nine, ten, twenty-four, twenty-six}
+use Rattle.foreign.specs.Numbers.{Differs, Earlier, Faulty, First, Last, Missed, NoneApplies, StateOut, afterRow, differs, missed, stateOut}
 use Rattle.foreign.specs.Row.{faulty, worked}
 use Rattle.foreign.specs.Said.{byAnswer, told}
 use Rattle.foreign.specs.Said as said
 use Rattle.foreign.specs.State.{horizonIn, noteOf, noting, startIn}
 use Rattle.foreign.specs.Take.{TakeOf, arrives, closed, takeAnswer, takeOf}
+use Rattle.foreign.specs.declared.Answer.{Answer}
+use Rattle.foreign.specs.declared.Answer.the-variants.{Accepted, Refused, Taken}
+use Rattle.foreign.specs.declared.Entered.{Entered}
+use Rattle.foreign.specs.declared.Supplied.{Supplied}
 use Rattle.foreign.proofs.Deciding.{differs-decides, faulty-decides, missed-decides, state-decides}
 use Rattle.foreign.proofs.Looking.{ready-again, some-tasks}
 use Rattle.foreign.proofs.Order.{first-only, later, later-tick, no-sooner}
-use Rattle.foreign.proofs.Passes.{worked-passes}
-use Rattle.foreign.proofs.Passing.{passes-run}
-use Rattle.foreign.proofs.Working.{horizon-kept, worked-count, worked-length, worked-past, worked-tasks}
+use Rattle.foreign.proofs.Passing.{state-if, state-passes, worked-passes, worked-tasks}
+use Rattle.foreign.proofs.StateTests.{passes-run}
+use Rattle.foreign.proofs.Working.{horizon-kept, worked-count, worked-length, worked-past}
 
 module _ (w : Supplied) (row : List ℕ) where
   abbrev r : Run
@@ -41,6 +41,10 @@ module _ (w : Supplied) (row : List ℕ) where
 
   abbrev t : ℕ
   t = w .tick
+
+  -- what a row leaves, where nobody is late, passes 14 again
+  next-passes : stateOut r ≡ false → missed r ≡ false → stateOut (worked r row) ≡ false
+  next-passes e m = state-passes (worked r row) (worked-passes r row (state-if r e) m)
 
   -- WHAT AN ANSWER SAYS
 
@@ -287,7 +291,7 @@ module _ (w : Supplied) (row : List ℕ) where
     timely = not-true-false (missed r) (λ e. none 25 t (late-now (missed-decides r .0 e)))
 
     again : ¬ StateOut (worked r row)
-    again = fails _ _ (state-decides (worked r row)) (worked-passes r row passed timely)
+    again = fails _ _ (state-decides (worked r row)) (next-passes passed timely)
 
     -- the places below the count are places of the array
     there : r .count ≤ length (r .tasks)
@@ -341,7 +345,7 @@ module _ (w : Supplied) (row : List ℕ) where
   ready-next start horizon h = go (takeAnswer w row) take-right
     where
       on : NoneApplies w row → Ready (worked r row) start horizon
-      on none = ready-again r (worked r row) start horizon h (worked-tasks r row) (worked-passes r row (h .passes) (timely none))
+      on none = ready-again r (worked r row) start horizon h (worked-tasks r row) (next-passes (h .passes) (timely none))
 
       go : (a : Answer) → Right a → Ready (byAnswer a (afterRow w row) w .run) start horizon
       go Taken x = on (x .0)

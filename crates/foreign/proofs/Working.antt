@@ -1,6 +1,6 @@
 -- One tick of a run in a row: by its counts it is what it is by its bytes; the tasks stay, and what stands past the count.
 use mathlib.Core.Bool.{Bool, false, true, _||_}
-use mathlib.Core.List.{List, [], map, _∷_}
+use mathlib.Core.List.{List, [], _∷_}
 use mathlib.Core.Path.{ap, refl, sym, _∙_, _≡_}
 use Prim.Native.Nat.{_+_, _<_, suc, zero, ℕ, _≤_}
 use native.Mathlib.Omega.{arith}
@@ -10,18 +10,18 @@ use Rattle.model.proofs.Bools.{or-left}
 use Rattle.model.proofs.Search.{any-same}
 use Rattle.model.specs.Horizon.{horizon, hyperperiod, lastS}
 use Rattle.model.specs.Search.{any}
-use Rattle.model.specs.Task as model
 use Rattle.model.specs.Sizes.{mostTasks}
-use Rattle.phase.specs.declared.Task.{Task}
+use Rattle.model.specs.Task as model
 use Rattle.phase.specs.Task.{nextTask}
+use Rattle.phase.specs.declared.Task.{Task}
 use Rattle.run.proofs.Places.{drop-mapFirst, length-mapFirst, take-kept}
-use Rattle.run.specs.declared.Run.{Run}
 use Rattle.run.specs.Run.{mapFirst, placeAt, ruleIn, tasksIn}
-use Rattle.foreign.specs.declared.rows.Shown.{Shown}
+use Rattle.run.specs.declared.Run.{Run}
 use Rattle.foreign.specs.Plan.{cells}
 use Rattle.foreign.specs.Row.{faulty, strangers, worked, workedAt, wrongAt}
-use Rattle.foreign.specs.State.{horizonIn}
 use Rattle.foreign.specs.Shown.{ShownOf, anyWrong, workedWith, wrongWith}
+use Rattle.foreign.specs.State.{horizonIn}
+use Rattle.foreign.specs.declared.rows.Shown.{Shown}
 
 -- changes that agree on the first n places
 mapFirst-same :
@@ -65,10 +65,6 @@ fault-found r row s few h = go (s .strange) refl
     go false e = ap (λ (t : Bool). t || anyWrong r (s .cells)) (h .strange) ∙ wrong-counted r (s .cells) row few (h .counted e)
 
 -- the tasks stay
-pub worked-tasks : (r : Run) (row : List ℕ) → tasksIn (worked r row) ≡ tasksIn r
-unfolding worked
-worked-tasks r row = take-kept (workedAt r row) (r .count) (r .tasks) (λ p t. refl)
-
 pub counted-tasks : (r : Run) (ns : List ℕ) → tasksIn (workedWith r ns) ≡ tasksIn r
 unfolding workedWith
 counted-tasks r ns =

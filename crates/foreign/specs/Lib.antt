@@ -1,7 +1,6 @@
--- What a plan by another planner must be, the rows taken one by one, and what each answer to a list of them says; the state between rows, and what
--- beginning and taking a row promise.
+-- What a plan by another planner must be, and what each answer to a list of rows says; the state between rows, what beginning and taking a row
+-- promise; a whole plan; and what code keeps beside the state: how far the plan goes, what a row shows.
 pub mod Plan
-pub mod Checker
 pub mod Answers
 pub mod State
 pub mod Row
@@ -9,5 +8,6 @@ pub mod Numbers
 pub mod Said
 pub mod Take
 pub mod Begin
+pub mod Checked
 pub mod Ahead
 pub mod Shown

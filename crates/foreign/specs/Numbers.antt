@@ -127,7 +127,7 @@ stateOut r = runOut r || (not (eqb (r .withdrawn) 0) || any (r .count) (λ p. as
 unfoldable pub missed : Run → Bool
 missed r = any (r .count) (lateAt r)
 
--- two phases are the same (`same-decides`)
+-- two phases are the same (`same-phase`)
 abbrev pub samePhase : Phase → Phase → Bool
 samePhase (Coming a) (Coming b) = eqb a b
 samePhase (Coming a) (Working z had reserved) = false

@@ -1,14 +1,13 @@
 -- Plans from the supplier's own planner (request 112): what rows must be, said of the rows and the table alone. A row is a list of bytes, one a core.
 use mathlib.Core.Bool.{_&&_, Bool, cond, false, true}
-use mathlib.Core.List.{List, [], map, _∷_}
+use mathlib.Core.List.{List, [], _∷_}
 use mathlib.Core.Logic.{_⊎_}
 use mathlib.Core.Path.{_≡_}
 use Prim.Native.Nat.{_%_, _+_, _-_, _<_, suc, zero, ℕ, _≤_}
 use lib.Dec.{eqb, leb, ltb}
 use lib.ListN.{getD, length}
-use Rattle.model.specs.Book.{full, rowOf}
 use Rattle.model.specs.Horizon.{horizon, hyperperiod, lastS}
-use Rattle.model.specs.Search.{bit, upFrom}
+use Rattle.model.specs.Search.{bit}
 use Rattle.model.specs.Sizes.{fencedByte}
 use Rattle.model.specs.Task.{Table, due, newest, release, task, widthOf}
 use Rattle.phase.specs.declared.Phase.{Phase}
@@ -100,10 +99,3 @@ repeated s rows t =
 pub record ForEver (s : Table) (r : ℕ → List ℕ) : Type 0 where
   pub fine : (t : ℕ) → FineRow s r t
   pub done : (p k : ℕ) → p < length (s .tasks) → InTime s r p k
-
--- THE TOOL'S OWN PLAN: the rows of the full-length run up to the horizon (`own-written`: they are those of `plan`)
-abbrev pub ownRow : Table → ℕ → List ℕ
-ownRow s t = rowOf s (full s t)
-
-abbrev pub ownRows : Table → List (List ℕ)
-ownRows s = map (ownRow s) (upFrom 0 (horizon s))

@@ -1,5 +1,5 @@
 -- What a row shows as code keeps it: for each byte, how many cores show it; what is wrong with that, and the tick by it.
-use mathlib.Core.Bool.{_&&_, Bool, cond, false, not}
+use mathlib.Core.Bool.{_&&_, Bool, false, not}
 use mathlib.Core.List.{List}
 use mathlib.Core.Path.{_≡_}
 use Prim.Native.Nat.{_<_, suc, ℕ}

@@ -1,27 +1,25 @@
 -- `foreign::begin` meets its contract: what is loaded is the table of the words, and its run starts at tick 0 (`Starting`).
 -- Assumes nothing.
-use borrow.Author.Needs.{needs}
-use mathlib.Core.Path.{ap, sym, _∙_, _≡_}
 use mathlib.Core.List.{List}
+use mathlib.Core.Path.{ap, sym, _∙_, _≡_, subst⁻¹}
 use Prim.Native.Nat.{ℕ, _≤_}
+use borrow.Author.Needs.{needs}
 use Rattle.model.specs.Sizes.{mostTasks}
 use Rattle.table.proofs.Promise.{load-answer}
-use Rattle.table.specs.declared.Answer.{Answer}
-use Rattle.table.specs.declared.Answer.the-variants.{Passed}
-use Rattle.table.specs.declared.Loaded.{Loaded}
 use Rattle.table.specs.Answer.{answerOf}
 use Rattle.table.specs.Load.{Holds, loadTold}
-use Rattle.foreign.proofs.Starting.{begin-of, begin-passed, begin-refused, loaded-few, loaded-run, loaded-start}
-use mathlib.Core.Path.{subst⁻¹}
 use Rattle.table.specs.Words.{rule, tableOf}
-use Rattle.run.specs.declared.Run.{Run}
+use Rattle.table.specs.declared.Answer.{Answer}
+use Rattle.table.specs.declared.Answer.the-variants.{Passed, Refused}
+use Rattle.table.specs.declared.Loaded.{Loaded}
 use Rattle.run.specs.Start.{startedRun}
+use Rattle.run.specs.declared.Run.{Run}
+use Rattle.foreign.specs.Begin.{firstState}
+use Rattle.foreign.specs.State.{arrived, startIn}
 use Rattle.foreign.specs.declared.Begun.{Begun}
 use Rattle.foreign.specs.declared.Note.{Note}
 use Rattle.foreign.specs.declared.Supplied.{Supplied}
-use Rattle.foreign.specs.Begin.{emptyState, firstState}
-use Rattle.foreign.specs.State.{arrived, blank, startIn}
-use Rattle.table.specs.declared.Answer.the-variants.{Refused}
+use Rattle.foreign.proofs.Starting.{begin-of, begin-passed, begin-refused, loaded-few, loaded-run, loaded-start}
 use Rattle.foreign.proofs.begin.Statement.{statement}
 use Rattle.foreign.proofs.begin.Tie as tie
 
@@ -41,7 +39,7 @@ abbrev turned : ℕ → ℕ → Supplied → Begun
 turned n p w = record { answer = Refused n p; plan = w }
 
 -- its run is that of the table as it starts
-begun : (c : tie.After-started) → c .started .result ≡ startedRun (rule (c .before .before .before .before .before .before .args .words .now)) (tableOf (c .before .before .before .before .before .before .args .words .now))
+begun : (c : tie.After-started) → (let ws = c .before .before .before .before .before .before .args .words .now in c .started .result ≡ startedRun (rule ws) (tableOf ws))
 begun c =
     let l = c .before .before .before .before in
     c .started .ensures ∙ loaded-run (l .before .before .args .words .now) (l .load .result) (held l (c .before .before .enum-told .given .1))
@@ -81,7 +79,9 @@ returns c =
     let l = t .before .before .before .before in
     let ws = l .before .before .args .words .now in
     let first : c .arrived .result ≡ firstState ws =
-    c .arrived .ensures ∙ (ap (λ (r : Run). arrived r 0 (b .blank .result)) (begun t) ∙ ap (λ (ns : List Note). arrived (startedRun (rule ws) (tableOf ws)) 0 ns) (b .blank .ensures)) in
+    c .arrived .ensures
+    ∙ (ap (λ (r : Run). arrived r 0 (b .blank .result)) (begun t)
+    ∙ ap (λ (ns : List Note). arrived (startedRun (rule ws) (tableOf ws)) 0 ns) (b .blank .ensures)) in
     begin-of ws (passed (c .arrived .result)) (ap passed first ∙ sym (begin-passed ws (answered l Passed (t .before .before .enum-told .given .1))))
 
 returns-2 : tie.Need-returns-2

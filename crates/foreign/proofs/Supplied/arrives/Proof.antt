@@ -1,7 +1,7 @@
 -- `foreign::Supplied::arrives` meets its contract: the plan is closed exactly at the horizon.
 -- Assumes nothing.
-use borrow.Author.Needs.{needs}
 use mathlib.Core.Path.{sym, _∙_}
+use borrow.Author.Needs.{needs}
 use borrow.Author.Tests.{eq-eqb, ne-eqb}
 use Rattle.foreign.specs.Take.{arrives}
 use Rattle.foreign.proofs.Supplied.arrives.Statement.{statement}

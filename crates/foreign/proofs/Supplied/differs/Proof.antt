@@ -4,14 +4,14 @@ use mathlib.Core.Bool.{Bool, false, not}
 use mathlib.Core.Path.{ap, sym, _∙_, _≡_}
 use Prim.Native.Nat.{_-_, _<_, ℕ, _≤_}
 use native.Mathlib.Omega.{arith}
+use lib.ListN.{getD}
 use borrow.Author.Count.{below-more}
 use borrow.Author.Needs.{needs}
 use Rattle.model.proofs.Search.{any-of, none-any}
 use Rattle.run.specs.Run.{phaseAt}
-use Rattle.foreign.specs.declared.Supplied.{Supplied}
 use Rattle.foreign.specs.Numbers.{differs, samePhase}
 use Rattle.foreign.specs.State.{notedAt, pastNote}
-use lib.ListN.{getD}
+use Rattle.foreign.specs.declared.Supplied.{Supplied}
 use Rattle.foreign.proofs.Supplied.differs.Statement.{statement}
 use Rattle.foreign.proofs.Supplied.differs.Tie as tie
 

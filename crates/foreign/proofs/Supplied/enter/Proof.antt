@@ -1,8 +1,8 @@
 -- `foreign::Supplied::enter` meets its contract: 10, then 11, then what the row shows (`Cases`); what comes back is ready for the next (`ready-next`).
 -- Assumes nothing.
-use borrow.Author.Needs.{needs}
 use mathlib.Core.Path.{sym, _∙_}
 use native.Mathlib.Omega.{arith}
+use borrow.Author.Needs.{needs}
 use Rattle.foreign.proofs.Cases.{take-past, take-size}
 use Rattle.foreign.proofs.Taking.{enter-of}
 use Rattle.foreign.proofs.Supplied.enter.Statement.{statement}

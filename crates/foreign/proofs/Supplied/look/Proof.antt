@@ -1,8 +1,8 @@
 -- `foreign::Supplied::look` meets its contract: 14, then the tasks.
 -- Assumes nothing.
-use borrow.Author.Needs.{needs}
 use mathlib.Core.Path.{subst⁻¹, sym, _∙_}
 use native.Mathlib.Omega.{arith}
+use borrow.Author.Needs.{needs}
 use Rattle.foreign.specs.Ahead.{AheadOf}
 use Rattle.foreign.proofs.Looking.{number-14}
 use Rattle.foreign.proofs.Supplied.look.Statement.{statement}

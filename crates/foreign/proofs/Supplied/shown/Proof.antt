@@ -1,26 +1,25 @@
 -- `foreign::Supplied::shown` meets its contract: each way out is a case of the definition, in its order (`Cases`); the counts say what the bytes do (`Working`).
 -- Assumes nothing.
-use borrow.Author.Needs.{needs}
 use mathlib.Core.Bool.{Bool, false, _||_}
 use mathlib.Core.Path.{ap, sym, _∙_, _≡_}
-use Prim.Native.Nat.{_<_, suc, ℕ, _≤_}
+use Prim.Native.Nat.{_<_, suc, _≤_}
 use native.Mathlib.Omega.{arith}
-use lib.ListN.{length}
-use Rattle.model.specs.Sizes.{mostCores, mostTasks}
+use borrow.Author.Needs.{needs}
+use Rattle.model.specs.Sizes.{mostTasks}
 use Rattle.run.proofs.Limits.{or-left-false}
 use Rattle.run.proofs.RunOut.{few-cores}
 use Rattle.run.specs.declared.Run.{Run}
+use Rattle.foreign.specs.Numbers.{afterRow, missed}
+use Rattle.foreign.specs.Row.{faulty}
+use Rattle.foreign.specs.Said.{byAnswer}
+use Rattle.foreign.specs.Shown.{workedWith}
+use Rattle.foreign.specs.State.{arrived, horizonIn}
+use Rattle.foreign.specs.Take.{arrives}
 use Rattle.foreign.specs.declared.Answer.{Answer}
 use Rattle.foreign.specs.declared.Entered.{Entered}
 use Rattle.foreign.specs.declared.Supplied.{Supplied}
-use Rattle.foreign.specs.Numbers.{afterRow, missed, stateOut}
-use Rattle.foreign.specs.Row.{faulty}
-use Rattle.foreign.specs.Said.{byAnswer}
-use Rattle.foreign.specs.Shown.{anyWrong, workedWith}
-use Rattle.foreign.specs.State.{arrived, horizonIn}
-use Rattle.foreign.specs.Take.{arrives}
 use Rattle.foreign.proofs.Cases.{take-faulty, take-late, take-on}
-use Rattle.foreign.proofs.Passing.{few, passes-run}
+use Rattle.foreign.proofs.StateTests.{few, passes-run}
 use Rattle.foreign.proofs.Working.{counted-count, counted-tasks, fault-found, horizon-kept, worked-counted}
 use Rattle.foreign.proofs.Supplied.shown.Statement.{statement}
 use Rattle.foreign.proofs.Supplied.shown.Tie as tie
@@ -48,7 +47,10 @@ timely : (c : tie.After-struct-known) → missed (called (looked c) .args .self 
 timely c = sym (looked c .missed .ensures) ∙ c .before .before .before .before .before .if1 .left
 
 -- what is found wrong with the row
-found : (c : tie.After-struct-known) → (c .before .before .before .before .counted .result .strange || c .before .any-wrong .result) ≡ faulty (called (looked c) .args .self .run) (called (looked c) .args .row .now)
+found :
+    (c : tie.After-struct-known)
+    → (c .before .before .before .before .counted .result .strange || c .before .any-wrong .result)
+    ≡ faulty (called (looked c) .args .self .run) (called (looked c) .args .row .now)
 found c =
     let k = c .before .before .before .before in
     let s = called (looked c) in
@@ -114,8 +116,10 @@ returns-3 c =
     let w = s .args .self in
     let row = s .args .row .now in
     let fine : faulty (w .run) row ≡ false = sym (found k) ∙ e .if2 .left in
+    let plain : n .counted .result .strange ≡ false = or-left-false (n .counted .result .strange) (k .before .any-wrong .result) (e .if2 .left) in
     let next : f .after .result ≡ afterRow w row =
-    f .after .ensures ∙ ap (λ (r : Run). arrived r (suc (w .tick)) (w .noted)) (worked-counted (w .run) (n .counted .result .cells) row (few-at s) (n .counted .ensures .counted (or-left-false (n .counted .result .strange) (k .before .any-wrong .result) (e .if2 .left)))) in
+    f .after .ensures
+    ∙ ap (λ (r : Run). arrived r (suc (w .tick)) (w .noted)) (worked-counted (w .run) (n .counted .result .cells) row (few-at s) (n .counted .ensures .counted plain)) in
     c .by-answer .ensures
     ∙ (ap (λ (x : Answer). by x (f .after .result) w) (a .arrives .ensures)
     ∙ (ap (λ (v : Supplied). by (arrives v) v w) next ∙ sym (take-on w row (s .pre .0 .passes) (s .pre .0 .within) (before s) (s .pre .1 .1) (timely k) fine)))

@@ -1,10 +1,8 @@
 -- `foreign::Supplied::take` meets its contract: 14 and 9 whatever the row is (`take-turned`), then the row; the value has all that is promised (`take-of`).
 -- Assumes nothing.
-use borrow.Author.Needs.{needs}
 use mathlib.Core.Path.{ap, sym, _∙_}
 use Prim.Native.Nat.{ℕ}
-use Rattle.foreign.specs.declared.Entered.{Entered}
-use Rattle.foreign.specs.Ahead.{firstNumber}
+use borrow.Author.Needs.{needs}
 use Rattle.foreign.proofs.Cases.{refusal, take-turned}
 use Rattle.foreign.proofs.Taking.{take-of}
 use Rattle.foreign.proofs.Supplied.take.Statement.{statement}

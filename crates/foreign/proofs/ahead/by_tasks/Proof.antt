@@ -1,23 +1,25 @@
 -- `foreign::ahead::by_tasks` meets its contract: S and P of the tasks that the run has, P up to one above the limit (`Looking`).
 -- Assumes nothing.
-use borrow.Author.Needs.{needs}
 use mathlib.Core.Bool.{false}
 use mathlib.Core.Path.{subst⁻¹, sym, _∙_, _≡_}
 use Prim.Native.Nat.{_+_}
 use native.Mathlib.Omega.{arith}
+use borrow.Author.Needs.{needs}
 use borrow.Author.Tests.{ltb-false}
+use Rattle.table.specs.Limits.{horizonOut, mostHorizon}
 use Rattle.run.proofs.RunOut.{few}
 use Rattle.run.specs.Numbers.{runOut}
 use Rattle.foreign.specs.Ahead.{AheadOf}
-use Rattle.table.specs.Limits.{horizonOut, mostHorizon}
 use Rattle.foreign.specs.State.{horizonIn}
 use Rattle.foreign.proofs.Looking.{look-near, look-out, number-9, number-none, plain-within, some-tasks}
-use Rattle.foreign.proofs.Passing.{passes-run}
+use Rattle.foreign.proofs.StateTests.{passes-run}
 use Rattle.foreign.proofs.ahead.by_tasks.Statement.{statement}
 use Rattle.foreign.proofs.ahead.by_tasks.Tie as tie
 
 -- what the test says of the horizon
-far : (c : tie.After-horizon-out) → horizonOut (c .before .before .last-start .result + c .before .hyperperiod .result) ≡ horizonOut (horizonIn (c .before .before .before .before .args .run))
+far :
+    (c : tie.After-horizon-out)
+    → horizonOut (c .before .before .last-start .result + c .before .hyperperiod .result) ≡ horizonOut (horizonIn (c .before .before .before .before .args .run))
 far c =
     let s = c .before .before .before in
     look-out (s .before .args .run) (s .plain .result) _ _ (s .plain .ensures) (c .before .before .last-start .ensures) (c .before .hyperperiod .ensures)

@@ -3,8 +3,8 @@
 use mathlib.Core.Path.{ap, _∙_}
 use Prim.Native.Nat.{ℕ}
 use lib.Dec.{ltb}
-use Rattle.foreign.proofs.Missed.{missed-first}
 use borrow.Author.Needs.{needs}
+use Rattle.foreign.proofs.Missed.{missed-first}
 use Rattle.foreign.proofs.bounds.missed.Statement.{statement}
 use Rattle.foreign.proofs.bounds.missed.Tie as tie
 

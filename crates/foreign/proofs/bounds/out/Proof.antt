@@ -1,11 +1,11 @@
--- `foreign::bounds::out` meets its contract: the run, then what is withdrawn, then each place (`Passing`).
+-- `foreign::bounds::out` meets its contract: the run, then what is withdrawn, then each place (`StateTests`).
 -- Assumes nothing.
-use borrow.Author.Needs.{needs}
-use mathlib.Core.Path.{sym, _∙_, _≡_}
 use mathlib.Core.Bool.{false}
+use mathlib.Core.Path.{sym, _∙_, _≡_}
+use borrow.Author.Needs.{needs}
 use Rattle.run.proofs.RunOut.{few}
 use Rattle.run.specs.Numbers.{runOut}
-use Rattle.foreign.proofs.Passing.{out-astray, out-run, out-withdrawn}
+use Rattle.foreign.proofs.StateTests.{out-astray, out-run, out-withdrawn}
 use Rattle.foreign.proofs.bounds.out.Statement.{statement}
 use Rattle.foreign.proofs.bounds.out.Tie as tie
 

@@ -1,9 +1,8 @@
 -- `foreign::moves::arrived` meets its contract: the phases are noted exactly at the last S.
 -- Assumes nothing.
+use mathlib.Core.Path.{_∙_, sym}
 use borrow.Author.Needs.{needs}
-use mathlib.Core.Path.{_∙_}
 use borrow.Author.Tests.{eq-eqb, ne-eqb}
-use mathlib.Core.Path.{sym}
 use Rattle.foreign.proofs.moves.arrived.Statement.{statement}
 use Rattle.foreign.proofs.moves.arrived.Tie as tie
 

@@ -2,7 +2,7 @@
 -- Assumes nothing.
 use mathlib.Core.List.{List, [], map, _++_, _∷_}
 use mathlib.Core.Path.{ap, refl, sym, _∙_, _≡_}
-use Prim.Native.Nat.{_+_, _-_, _<_, ℕ, _≤_}
+use Prim.Native.Nat.{_+_, _-_, ℕ, _≤_}
 use native.Mathlib.Omega.{arith}
 use lib.ListN.{drop, getD, length, length-map, take}
 use lib.Seq.{length-take-le}
@@ -11,8 +11,8 @@ use Rattle.model.proofs.Lists.{map-more}
 use Rattle.model.specs.Sizes.{mostTasks}
 use Rattle.phase.specs.Task.{pastEnd}
 use Rattle.run.proofs.Written.{take-more, written-more}
-use Rattle.foreign.specs.declared.Note.{Note}
 use Rattle.foreign.specs.State.{noteOf, pastNote}
+use Rattle.foreign.specs.declared.Note.{Note}
 use Rattle.foreign.proofs.moves.noting.Statement.{statement}
 use Rattle.foreign.proofs.moves.noting.Tie as tie
 

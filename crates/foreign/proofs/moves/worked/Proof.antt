@@ -11,12 +11,12 @@ use lib.Dec.{ltb}
 use lib.ListN.{getD, length, length-map}
 use borrow.Author.Needs.{needs}
 use Rattle.model.specs.Sizes.{mostTasks}
-use Rattle.phase.specs.declared.Task.{Task}
 use Rattle.phase.specs.Task.{nextTask, pastEnd}
-use Rattle.run.specs.declared.Run.{Run}
-use Rattle.run.specs.Run.{mapFirst, ruleIn}
+use Rattle.phase.specs.declared.Task.{Task}
 use Rattle.run.proofs.Places.{mapFirst-past, mapFirst-step}
 use Rattle.run.proofs.RunOut.{few, roomy}
+use Rattle.run.specs.Run.{mapFirst, ruleIn}
+use Rattle.run.specs.declared.Run.{Run}
 use Rattle.foreign.specs.Shown.{workedWith}
 use Rattle.foreign.proofs.moves.worked.Statement.{statement}
 use Rattle.foreign.proofs.moves.worked.Tie as tie

@@ -1,7 +1,7 @@
 -- `foreign::rows::add` meets its contract: a count below 255 has room for one more.
 -- Assumes nothing.
-use borrow.Author.Needs.{needs}
 use native.Mathlib.Omega.{arith}
+use borrow.Author.Needs.{needs}
 use Rattle.foreign.proofs.rows.add.Statement.{statement}
 use Rattle.foreign.proofs.rows.add.Tie as tie
 

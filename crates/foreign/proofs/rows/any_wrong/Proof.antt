@@ -6,12 +6,12 @@ use mathlib.Core.Path.{ap, sym, _∙_, _≡_}
 use Prim.Native.Nat.{_+_, _-_, _<_, suc, ℕ, _≤_}
 use native.Mathlib.Numerals.{add-one}
 use native.Mathlib.Omega.{arith}
+use lib.ListN.{getD}
 use borrow.Author.Count.{below-more}
 use borrow.Author.Needs.{needs}
-use lib.ListN.{getD}
 use Rattle.model.proofs.Search.{any-of, none-any}
-use Rattle.run.specs.declared.Run.{Run}
 use Rattle.run.specs.Run.{placeAt}
+use Rattle.run.specs.declared.Run.{Run}
 use Rattle.foreign.specs.Shown.{anyWrong, wrongWith}
 use Rattle.foreign.proofs.rows.any_wrong.Statement.{statement}
 use Rattle.foreign.proofs.rows.any_wrong.Tie as tie

@@ -9,10 +9,10 @@ use lib.ListN.{length, take}
 use lib.Seq.{take-all}
 use borrow.Author.Count.{below-more}
 use borrow.Author.Needs.{needs}
-use Rattle.model.specs.Sizes.{mostCores}
 use Rattle.model.proofs.Search.{any-of, none-any}
-use Rattle.foreign.specs.Row.{strangerAt, strangers}
+use Rattle.model.specs.Sizes.{mostCores}
 use Rattle.foreign.specs.Plan as plan
+use Rattle.foreign.specs.Row.{strangerAt, strangers}
 use Rattle.foreign.proofs.Counting.{Counted, counted-more, counted-most, counted-none}
 use Rattle.foreign.proofs.rows.counted.Statement.{statement}
 use Rattle.foreign.proofs.rows.counted.Tie as tie

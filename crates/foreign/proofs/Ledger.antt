@@ -1,4 +1,5 @@
--- A plan taken row by row (request 112), on the table: the state between rows, the answer to each, and the answer to a list.
+-- A plan taken row by row on the table alone, by the ticks owed to each place: a ledger between rows, the answer to each, and the answer to a list. The
+-- theorems go through it; that the states of `take` are answered as it is, is `Bridge`.
 use mathlib.Core.Bool.{_&&_, Bool, cond, not, _||_}
 use mathlib.Core.List.{List, [], _∷_}
 use Prim.Native.Nat.{_-_, suc, ℕ}
@@ -8,6 +9,7 @@ use Rattle.model.specs.Horizon.{horizon, lastS}
 use Rattle.model.specs.Search.{any, bit}
 use Rattle.model.specs.Sizes.{fencedByte}
 use Rattle.model.specs.Task.{Table, Task, due, newest, release, task, widthOf}
+use Rattle.foreign.specs.Answers.{Outcome, accepts, refuses, unfinished}
 use Rattle.foreign.specs.Plan.{cells}
 
 -- the ledger at the start of a tick, before the jobs released at it: the ticks still owed to each place, and those noted at the last S
@@ -81,12 +83,7 @@ takeRow s st row =
     (cond (faulty s (st .tick) (st .owed) row) (refused 24 (st .tick))
     (arrives s (arrived s (suc (st .tick)) (worked s (st .tick) (st .owed) row) (st .noted))))))
 
--- the answer to a list of rows: accepted; all taken and rows missing; or the first refusal, at which the rows stop
-pub data Outcome : Type 0 where
-  accepts : Outcome
-  unfinished : Outcome
-  refuses : ℕ → ℕ → Outcome
-
+-- the answer to a list of rows, which stop at the first refusal
 abbrev pub after : Answer → List (List ℕ) → (Ledger → Outcome) → Outcome
 after (taken st) rows next = next st
 after (accepted st) [] next = accepts
