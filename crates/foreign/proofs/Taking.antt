@@ -17,7 +17,8 @@ use Rattle.run.proofs.Limits.{in-array, passes-if}
 use Rattle.run.specs.Run.{tasksIn}
 use Rattle.run.specs.declared.Run.{Run}
 use Rattle.foreign.specs.Ahead.{Ready}
-use Rattle.foreign.specs.Numbers.{Applies, Differs, Earlier, Faulty, First, Last, Missed, NoneApplies, StateOut, afterRow, differs, eleven, fourteen, late-last, late-now, missed, nine, stateOut, ten, twenty-four, twenty-six}
+use Rattle.foreign.specs.Numbers.{Applies, eleven, fourteen, late-last, late-now, nine, ten, twenty-four, twenty-six}
+use Rattle.foreign.specs.Numbers.{Differs, Earlier, Faulty, First, Last, Missed, NoneApplies, StateOut, afterRow, differs, missed, stateOut}
 use Rattle.foreign.specs.Row.{faulty, worked}
 use Rattle.foreign.specs.Said.{byAnswer, told}
 use Rattle.foreign.specs.Said as said

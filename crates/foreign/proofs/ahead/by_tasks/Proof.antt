@@ -17,7 +17,9 @@ use Rattle.foreign.proofs.ahead.by_tasks.Statement.{statement}
 use Rattle.foreign.proofs.ahead.by_tasks.Tie as tie
 
 -- what the test says of the horizon
-far : (c : tie.After-horizon-out) → horizonOut (c .before .before .last-start .result + c .before .hyperperiod .result) ≡ horizonOut (horizonIn (c .before .before .before .before .args .run))
+far :
+    (c : tie.After-horizon-out)
+    → horizonOut (c .before .before .last-start .result + c .before .hyperperiod .result) ≡ horizonOut (horizonIn (c .before .before .before .before .args .run))
 far c =
     let s = c .before .before .before in
     look-out (s .before .args .run) (s .plain .result) _ _ (s .plain .ensures) (c .before .before .last-start .ensures) (c .before .hyperperiod .ensures)
