@@ -27,7 +27,6 @@ use Rattle.run.specs.declared.Run.{Run}
 use Rattle.foreign.specs.Ahead.{Ready, aheadOf, firstNumber}
 use Rattle.foreign.specs.Numbers.{stateOut}
 use Rattle.foreign.specs.State.{horizonIn}
-use Rattle.foreign.specs.declared.ahead.Ahead.{Ahead}
 use Rattle.foreign.proofs.Working.{horizon-kept}
 
 module _ (r : Run) (e : runOut r ≡ false) where
