@@ -30,9 +30,9 @@ pub moved-more :
 moved-more from before b k w h = (
   length-set b k (getD b (from + k) 0) ∙ w .0,
   ap (λ (i : ℕ). take i (set b k (getD b (from + k) 0))) (add-one k)
-  ∙ take-suc-set b k (getD b (from + k) 0) (omega (arith, h, w .0))
-  ∙ ap₂ (λ (x : List ℕ) (v : ℕ). x ++ (v ∷ [])) (w .1) value
-  ∙ sym (ap (λ (i : ℕ). take i (drop from before)) (add-one k) ∙ take-suc (drop from before) k 0 (omega (arith, h, length-drop from before))),
+      ∙ take-suc-set b k (getD b (from + k) 0) (omega (arith, h, w .0))
+      ∙ ap₂ (λ (x : List ℕ) (v : ℕ). x ++ (v ∷ [])) (w .1) value
+      ∙ sym (ap (λ (i : ℕ). take i (drop from before)) (add-one k) ∙ take-suc (drop from before) k 0 (omega (arith, h, length-drop from before))),
   drop-set-lt (k + 1) b k (getD b (from + k) 0) (omega arith) ∙ sym (drop-drop 1 k b) ∙ ap (drop 1) (w .2) ∙ drop-drop 1 k before,
 )
   where

@@ -136,9 +136,9 @@ module _ (bs : List ℕ) (cut : Cut) (w : CutOf bs cut) where
   table-many c f h =
       fed-over (saidIn Table c) 0 bs (c .rows) (Refused 1 0) (length bs) (omega arith)
       (λ more.
-          w .none f nothing more
-          ∙ table-long (take (cut .from) bs) (drop (cut .from) bs) more
-          (omega (arith, h, w .within, length-take-le (cut .from) bs (w .within), length-drop (cut .from) bs)))
+      w .none f nothing more
+      ∙ table-long (take (cut .from) bs) (drop (cut .from) bs) more
+      (omega (arith, h, w .within, length-take-le (cut .from) bs (w .within), length-drop (cut .from) bs)))
 
   -- at the end of the input all of it is the table, but for a last line `--`
   module _ (t : Turn) (end : ℕ) (f : cut .found ≡ false) (e : end ≡ cond (isDashes (drop (cut .from) bs)) (cut .from) (length bs)) (o : t ≡ openedOf (take end bs)) where

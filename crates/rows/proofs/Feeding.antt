@@ -89,8 +89,8 @@ module _ (r₀ : Rows) (from : ℕ) (bs : List ℕ) (r : Rows) (at end : ℕ) (w
       let x : line ≡ drop at bs = take-all (end - at) (drop at bs) (omega (arith, q, h, length-drop at bs)) in
       plan-over r₀ from bs (stepOf r line .rows) (stepOf r line .said) end (omega (arith, h))
       (λ more.
-          w .1 nothing more ∙ ap (rowsSay nothing r) (plan-rest nothing bs at end more q h) ∙ rows-long r (drop at bs) more (omega (arith, long, h, q, length-drop at bs))
-          ∙ ap (λ (l : List ℕ). stepOf r l .said) (sym x))
+      w .1 nothing more ∙ ap (rowsSay nothing r) (plan-rest nothing bs at end more q h) ∙ rows-long r (drop at bs) more (omega (arith, long, h, q, length-drop at bs))
+      ∙ ap (λ (l : List ℕ). stepOf r l .said) (sym x))
 
   -- .. or its end is still to come
   pub taken-waits : end ≡ length bs → end - at < longLine → PlanFed r₀ from bs (planWith r at)

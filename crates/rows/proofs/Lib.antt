@@ -12,3 +12,4 @@ pub mod Whole
 pub mod Examples
 pub mod Plan
 pub mod Text
+pub mod Own

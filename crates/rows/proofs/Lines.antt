@@ -117,10 +117,10 @@ table-next bs at end w q h =
     let k : end - at ≡ lineLength (drop at bs) = omega (arith, q) in
     let m : at + suc (lineLength (drop at bs)) ≡ end + 1 = omega (arith, q) in
     sym (
-      ap (λ (i : ℕ). take i bs) (sym m) ∙ take-add at (suc (lineLength (drop at bs))) bs
-      ∙ ap (λ (x : List ℕ). take at bs ++ x)
-      (take-suc (drop at bs) (lineLength (drop at bs)) 0 l
-      ∙ ap₂ (λ (i b : ℕ). take i (drop at bs) ++ (b ∷ [])) (sym k) (line-stop (drop at bs) l))
+    ap (λ (i : ℕ). take i bs) (sym m) ∙ take-add at (suc (lineLength (drop at bs))) bs
+    ∙ ap (λ (x : List ℕ). take at bs ++ x)
+    (take-suc (drop at bs) (lineLength (drop at bs)) 0 l
+    ∙ ap₂ (λ (i b : ℕ). take i (drop at bs) ++ (b ∷ [])) (sym k) (line-stop (drop at bs) l))
     )
 
 module _

@@ -152,7 +152,7 @@ many (suc k) (b ∷ l) more h =
         by-rest e (inl w) = inl (
           bytes-split k b l ∙ ap₂ (λ (t u : Bool). t && u) e (w .0),
           ap (take (suc k)) (behind-split b (l ++ more)) ∙ ap₂ (λ (x : List ℕ) (ws : List (List ℕ)). x ∷ ws) (q .1) (ap (λ (y : List ℕ). take k (behind y)) (q .2) ∙ w .1)
-          ∙ sym (ap (take (suc k)) (behind-split b l)),
+              ∙ sym (ap (take (suc k)) (behind-split b l)),
           ap (λ (ws : List (List ℕ)). length (take (suc k) ws)) (behind-split b l) ∙ ap suc (w .2),
         )
         by-rest e (inr w) = inr (
@@ -219,7 +219,7 @@ long-read l more h = ⊎-elim inside (λ q. (row-not (l ++ more) (q .1) ∙ sym 
             let c = long-cells (value (word l)) (rest l) more
             (omega (arith, h, n .short, length-take-le (lengthTo space l) l (mark-within space l), length-drop (lengthTo space l) l)) in (
               row-by (l ++ more) (same ∙ e)
-              ∙ ap₂ (λ (w y : List ℕ). cellsOf (value w) (take mostCells (behind y))) (q .1) (q .2) ∙ c .0 ∙ sym (row-by l e),
+                  ∙ ap₂ (λ (w y : List ℕ). cellsOf (value w) (take mostCells (behind y))) (q .1) (q .2) ∙ c .0 ∙ sym (row-by l e),
               subst⁻¹ Wide (row-by l e) (c .1),
             )
 

@@ -26,23 +26,34 @@ use Rattle.sentence.specs.Reading.{begins}
 use Rattle.session.specs.Operation.{wordsIn}
 use Rattle.session.specs.Talk.{Ahead, lastLine, linesFrom, nothing}
 use Rattle.foreign.specs.Numbers.{afterRow}
-use Rattle.foreign.specs.Said.{byAnswer}
+use Rattle.foreign.specs.Answers.{Outcome, accepts, refuses, unfinished}
+use Rattle.foreign.specs.Checked.{answersFrom, comesTo}
+use Rattle.foreign.specs.Said.{byAnswer, told}
 use Rattle.foreign.specs.Take.{takeAnswer, takeOf}
 use Rattle.foreign.specs.declared.Answer as foreign
 use Rattle.foreign.specs.declared.Answer.the-variants as answer
 use Rattle.foreign.specs.declared.Supplied.{Supplied}
 use Rattle.rows.specs.declared.Rows.{Rows}
 use Rattle.rows.specs.declared.Said.{Said}
-use Rattle.rows.specs.declared.Said.the-variants.{More}
+use Rattle.rows.specs.declared.Said.the-variants.{Accepted, More, Unfinished}
 use Rattle.rows.specs.declared.Turn.{Turn}
 use Rattle.rows.specs.Line.{Read, cellsOf, isByte, isVerdict, longLine, mostCells, noRow, row, rowIn, rowOf}
-use Rattle.rows.specs.Checked.{entered, enters, goOn, isMore, nextLine, passed, rowsAt, rowsSay, stepOf, turn}
-use Rattle.rows.specs.Plan.{Numbers, Sayable, listSays, planText, takes}
+use Rattle.rows.specs.Checked.{endSays, entered, enters, goOn, isMore, nextLine, passed, refusal, rowsAt, rowsSay, stepOf, turn}
+use Rattle.rows.specs.Plan.{Numbers, Sayable, planText, saidOf}
 use Rattle.rows.proofs.Lines.{rows-none}
 use Rattle.rows.proofs.Long.{refusal-ends}
 use Rattle.rows.proofs.Saying.{entered-plan, on-end, on-more}
 use Rattle.session.proofs.Asking.{words-one}
 use Rattle.text.specs.Input.{lengthTo}
+
+-- what is said to a row
+abbrev pub takes : Rows → List ℕ → Turn
+takes r ns = entered (takeOf (r .plan) ns .answer) (takeOf (r .plan) ns .plan) (nextLine (r .lines))
+
+-- what is said to a list of rows, each taken from the state that the one before hands back
+unfoldable pub listSays : Rows → List (List ℕ) → Said
+listSays r [] = endSays nothing r
+listSays r (ns ∷ rows) = goOn (takes r ns .said) (listSays (takes r ns .rows) rows)
 
 -- WORDS AND LINES OF DIGITS
 
@@ -194,7 +205,7 @@ rows-first : (r : Rows) (l : List ℕ) (ls : List (List ℕ)) → rowsSay nothin
 unfolding rowsSay
 rows-first r l ls = refl
 
--- THE THEOREM: a text of rows is answered as the list of these rows is
+-- a text of rows is answered as the list of these rows is
 pub plan-read :
     (r : Rows) (rows : List (List ℕ)) → ((t : ℕ) → t < length rows → Sayable (getD rows t [])) → r .plan .tick + length rows ≤ mostWord
     → rowsSay nothing r (linesFrom nothing [] (planText (r .plan .tick) rows)) ≡ listSays r rows
@@ -226,6 +237,45 @@ plan-read r (ns ∷ rows) f h =
     by-said false m ih =
         on-end (takes r ns .said) (rowsSay nothing (takes r ns .rows) (linesFrom nothing [] (planText (suc (r .plan .tick)) rows))) m
         ∙ sym (on-end (takes r ns .said) (listSays (takes r ns .rows) rows) m)
+
+-- THE LIST, as it is answered row by row
+
+-- what the rows before came to
+abbrev pub before : Bool → Outcome
+before true = accepts
+before false = unfinished
+
+-- one row of it
+module _ (o : Outcome) (t n : ℕ) (rows : List (List ℕ)) where
+  list-row :
+      (a : foreign.Answer) (w : Supplied) → (isMore (entered a w n .said) ≡ true → w .tick ≡ suc t)
+      → listSays (entered a w n .rows) rows ≡ saidOf (comesTo (before (entered a w n .rows .accepted)) (answersFrom (entered a w n .rows .plan) rows)) (entered a w n .rows .plan .tick + length rows)
+      → goOn (entered a w n .said) (listSays (entered a w n .rows) rows) ≡ saidOf (comesTo o (told a ∷ answersFrom w rows)) (t + suc (length rows))
+  unfolding comesTo
+  list-row answer.Taken w f ih =
+      let q : w .tick + length rows ≡ t + suc (length rows) = omega (arith, f refl) in ih ∙ ap (saidOf (comesTo unfinished (answersFrom w rows))) q
+  list-row answer.Accepted w f ih =
+      let q : w .tick + length rows ≡ t + suc (length rows) = omega (arith, f refl) in ih ∙ ap (saidOf (comesTo accepts (answersFrom w rows))) q
+  list-row (answer.Refused k u) w f ih = on-end (refusal k u) (listSays (rowsAt w n false) rows) (refusal-ends k u)
+
+list-said : (r : Rows) (rows : List (List ℕ)) → listSays r rows ≡ saidOf (comesTo (before (r .accepted)) (answersFrom (r .plan) rows)) (r .plan .tick + length rows)
+unfolding listSays answersFrom
+list-said r [] = unfold endSays comesTo in go (r .accepted)
+  where
+    here : r .plan .tick ≡ r .plan .tick + 0
+    here = omega arith
+
+    go : (a : Bool) → cond a Accepted (Unfinished (r .plan .tick)) ≡ saidOf (before a) (r .plan .tick + 0)
+    go true = refl
+    go false = ap Unfinished here
+list-said r (ns ∷ rows) =
+    list-row (before (r .accepted)) (r .plan .tick) (nextLine (r .lines)) rows (takeOf (r .plan) ns .answer) (takeOf (r .plan) ns .plan)
+    (taken-tick (r .plan) ns (nextLine (r .lines))) (list-said (takes r ns .rows) rows)
+
+pub plan-said :
+    (r : Rows) (rows : List (List ℕ)) → ((t : ℕ) → t < length rows → Sayable (getD rows t [])) → r .plan .tick + length rows ≤ mostWord
+    → rowsSay nothing r (linesFrom nothing [] (planText (r .plan .tick) rows)) ≡ saidOf (comesTo (before (r .accepted)) (answersFrom (r .plan) rows)) (r .plan .tick + length rows)
+plan-said r rows f h = plan-read r rows f h ∙ list-said r rows
 
 -- THE FIRST LINE
 

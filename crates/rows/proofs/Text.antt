@@ -3,6 +3,7 @@ use mathlib.Core.Bool.{false, true}
 use mathlib.Core.List.{List, [], _++_, append-assoc, append-nil, _∷_}
 use mathlib.Core.Path.{_∙_, _≡_, ap, refl, subst, sym}
 use Prim.Native.Nat.{_+_, _<_, ℕ, _≤_}
+use native.Mathlib.Nat.{zero-add}
 use native.Mathlib.Omega.{arith}
 use lib.ListN.{getD, length, take}
 use lib.Seq.{take-length}
@@ -17,13 +18,13 @@ use Rattle.text.proofs.Canonical.{text-read}
 use Rattle.text.proofs.Decimals.{decimal-digits}
 use Rattle.session.specs.Talk.{Ahead, isDashes, linesFrom, nothing}
 use Rattle.foreign.specs.Begin.{begunBy, beginOf, firstState}
-use Rattle.foreign.specs.declared.Begun.{Begun}
+use Rattle.foreign.specs.Checked.{outcomeOf}
 use Rattle.rows.specs.declared.Said.{Said}
 use Rattle.rows.specs.declared.Said.the-variants.{Refused}
 use Rattle.rows.specs.Checked.{checkedOf, goOn, opens, openedBy, openedOf, rowsAt, rowsSay, tableSays}
-use Rattle.rows.specs.Plan.{Sayable, listSays, planText}
+use Rattle.rows.specs.Plan.{Sayable, behindDashes, planText, saidOf}
 use Rattle.rows.proofs.Lines.{table-line, table-more}
-use Rattle.rows.proofs.Plan.{digits-mark, plan-read}
+use Rattle.rows.proofs.Plan.{digits-mark, plan-said}
 
 -- a line of digits is no line `--`
 digits-dashes : (ds : List ℕ) → Digits ds → isDashes ds ≡ false
@@ -33,25 +34,21 @@ digits-dashes (a ∷ []) h = refl
 digits-dashes (a ∷ b ∷ []) h = rw (ne-eqb a 45 (λ e. omega (arith, e, h 0 (omega arith) .0)))
 digits-dashes (a ∷ b ∷ c ∷ ds) h = refl
 
--- a line `--` and what stands behind it
-abbrev pub behind-dashes : List ℕ → List ℕ
-behind-dashes bs = 45 ∷ 45 ∷ newline ∷ bs
-
 -- the numbers of a table, one a line, and then the line `--`
-table-text : (e : Ahead) (d ws bs : List ℕ) → tableSays e d [] (textOf ws ++ behind-dashes bs) ≡ opens e (d ++ textOf ws) (linesFrom e [] bs)
+table-text : (e : Ahead) (d ws bs : List ℕ) → tableSays e d [] (textOf ws ++ behindDashes bs) ≡ opens e (d ++ textOf ws) (linesFrom e [] bs)
 unfolding tableSays textOf isDashes
 table-text e d [] bs = ap (λ (x : List ℕ). opens e x (linesFrom e [] bs)) (sym (append-nil d))
 table-text e d (w ∷ ws) bs =
-    ap (tableSays e d []) (append-assoc (decimal w) (newline ∷ textOf ws) (behind-dashes bs))
-    ∙ ap (λ (x : List ℕ). tableSays e d [] (x ++ (newline ∷ (textOf ws ++ behind-dashes bs)))) (sym (take-length (decimal w)))
-    ∙ table-more e d [] (decimal w) (length (decimal w)) (newline ∷ (textOf ws ++ behind-dashes bs)) (omega (arith, digits-mark newline (decimal w) (decimal-digits w) (omega arith)))
-    ∙ ap (λ (x : List ℕ). tableSays e d x (newline ∷ (textOf ws ++ behind-dashes bs))) (take-length (decimal w))
-    ∙ table-line e d (decimal w) (textOf ws ++ behind-dashes bs) (digits-dashes (decimal w) (decimal-digits w))
+    ap (tableSays e d []) (append-assoc (decimal w) (newline ∷ textOf ws) (behindDashes bs))
+    ∙ ap (λ (x : List ℕ). tableSays e d [] (x ++ (newline ∷ (textOf ws ++ behindDashes bs)))) (sym (take-length (decimal w)))
+    ∙ table-more e d [] (decimal w) (length (decimal w)) (newline ∷ (textOf ws ++ behindDashes bs)) (omega (arith, digits-mark newline (decimal w) (decimal-digits w) (omega arith)))
+    ∙ ap (λ (x : List ℕ). tableSays e d x (newline ∷ (textOf ws ++ behindDashes bs))) (take-length (decimal w))
+    ∙ table-line e d (decimal w) (textOf ws ++ behindDashes bs) (digits-dashes (decimal w) (decimal-digits w))
     ∙ table-text e (d ++ (decimal w ++ (newline ∷ []))) ws bs
     ∙ ap (λ (x : List ℕ). opens e x (linesFrom e [] bs)) (append-assoc d (decimal w ++ (newline ∷ [])) (textOf ws) ∙ ap (λ (x : List ℕ). d ++ x) (append-assoc (decimal w) (newline ∷ []) (textOf ws)))
 
 -- a plan begins at tick 0
-begin-tick : (ws : List ℕ) → beginOf ws .plan .tick ≡ 0
+pub begin-tick : (ws : List ℕ) → beginOf ws .plan .tick ≡ 0
 unfolding beginOf
 begin-tick ws = go (answerOf ws)
   where
@@ -64,25 +61,26 @@ module _ (ws : List ℕ) (few : length ws ≤ mostNumbers) (fit : (i : ℕ) → 
   read : numbersIn (wordsOf (textOf ws)) ≡ ws
   read = ap numbersIn (text-read ws few fit)
 
-  said : (bs : List ℕ) → checkedOf (textOf ws ++ behind-dashes bs) ≡ goOn (openedBy (beginOf ws .answer) (beginOf ws .plan) .said) (rowsSay nothing (openedBy (beginOf ws .answer) (beginOf ws .plan) .rows) (linesFrom nothing [] bs))
+  said : (bs : List ℕ) → checkedOf (textOf ws ++ behindDashes bs) ≡ goOn (openedBy (beginOf ws .answer) (beginOf ws .plan) .said) (rowsSay nothing (openedBy (beginOf ws .answer) (beginOf ws .plan) .rows) (linesFrom nothing [] bs))
   unfolding checkedOf opens openedOf
   said bs =
       table-text nothing [] ws bs
       ∙ ap (λ (vs : List ℕ). goOn (openedBy (beginOf vs .answer) (beginOf vs .plan) .said) (rowsSay nothing (openedBy (beginOf vs .answer) (beginOf vs .plan) .rows) (linesFrom nothing [] bs))) read
 
   -- where the table is turned down its number is said, whatever the plan is
-  pub refused-text : (n p : ℕ) (bs : List ℕ) → beginOf ws .answer ≡ table.Refused n p → checkedOf (textOf ws ++ behind-dashes bs) ≡ Refused n p
+  pub refused-text : (n p : ℕ) (bs : List ℕ) → beginOf ws .answer ≡ table.Refused n p → checkedOf (textOf ws ++ behindDashes bs) ≡ Refused n p
   refused-text n p bs e = said bs ∙ rw e
 
   -- else what is said to the bytes of the plan
-  pub begun-text : (bs : List ℕ) → beginOf ws .answer ≡ table.Passed → checkedOf (textOf ws ++ behind-dashes bs) ≡ rowsSay nothing (rowsAt (beginOf ws .plan) 0 false) (linesFrom nothing [] bs)
+  pub begun-text : (bs : List ℕ) → beginOf ws .answer ≡ table.Passed → checkedOf (textOf ws ++ behindDashes bs) ≡ rowsSay nothing (rowsAt (beginOf ws .plan) 0 false) (linesFrom nothing [] bs)
   begun-text bs e = said bs ∙ rw e
 
-  -- THE THEOREM: the text of a table and of rows is answered as the words and the list of rows are
+  -- THE THEOREM: the text of a table and of rows is answered as the words and the list of rows are (what that means, `checked` of crate foreign says)
   pub checked-text :
       (rows : List (List ℕ)) → beginOf ws .answer ≡ table.Passed → ((t : ℕ) → t < length rows → Sayable (getD rows t [])) → length rows ≤ mostWord
-      → checkedOf (textOf ws ++ behind-dashes (planText 0 rows)) ≡ listSays (rowsAt (beginOf ws .plan) 0 false) rows
+      → checkedOf (textOf ws ++ behindDashes (planText 0 rows)) ≡ saidOf (outcomeOf ws rows) (length rows)
   checked-text rows e f h =
       begun-text (planText 0 rows) e
       ∙ ap (λ (t : ℕ). rowsSay nothing (rowsAt (beginOf ws .plan) 0 false) (linesFrom nothing [] (planText t rows))) (sym (begin-tick ws))
-      ∙ plan-read (rowsAt (beginOf ws .plan) 0 false) rows f (omega (arith, h, begin-tick ws))
+      ∙ plan-said (rowsAt (beginOf ws .plan) 0 false) rows f (omega (arith, h, begin-tick ws))
+      ∙ ap (λ (t : ℕ). saidOf (outcomeOf ws rows) (t + length rows)) (begin-tick ws) ∙ ap (saidOf (outcomeOf ws rows)) (zero-add (length rows))

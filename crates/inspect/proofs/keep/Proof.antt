@@ -1,3 +1,5 @@
+-- `inspect::keep` meets its contract: after k turns the first k bytes are in their place, and those behind are as they were (Turning).
+-- Assumes nothing.
 use borrow.Author.Needs.{needs}
 use native.Mathlib.Omega.{arith}
 use mathlib.Core.Path.{refl}

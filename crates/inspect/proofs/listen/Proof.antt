@@ -1,3 +1,5 @@
+-- `inspect::listen` meets its contract: the check is fed what was left and what the read brought (Turning).
+-- Assumes nothing.
 use borrow.Author.Needs.{needs}
 use native.Mathlib.Omega.{arith}
 use mathlib.Core.Path.{_∙_, refl, sym}

@@ -1,3 +1,5 @@
+-- `inspect::main` is safe and ends: there is room behind what is left, and the measure is the number of turns.
+-- Assumes nothing.
 use borrow.Author.Needs.{needs}
 use native.Mathlib.Omega.{arith}
 use mathlib.Core.Path.{_∙_, _≡_, sym}

@@ -1,3 +1,5 @@
+-- `inspect::print` meets its contract: what is sent is what was put at the front of the line.
+-- Assumes nothing.
 use borrow.Author.Needs.{needs}
 use native.Mathlib.Omega.{arith}
 use mathlib.Core.List.{List}

@@ -1,3 +1,5 @@
+-- `rows::begin` meets its contract: the words that `read` gives, up to their count, are the numbers of the text.
+-- Assumes nothing.
 use borrow.Author.Needs.{needs}
 use native.Mathlib.Omega.{arith}
 use mathlib.Core.Path.{_∙_, _≡_, ap, sym}

@@ -1,3 +1,5 @@
+-- `rows::end_plan` meets its contract: what the lines leave is answered, and a last line that lacks its newline (Ending).
+-- Assumes nothing.
 use borrow.Author.Needs.{needs}
 use mathlib.Core.Path.{_∙_, sym}
 use Rattle.rows.proofs.Ending.{ended-all, ended-line, ended-more, ended-over}

@@ -1,3 +1,5 @@
+-- `rows::end_rows` meets its contract: the two ways out are the definition's.
+-- Assumes nothing.
 use Rattle.rows.proofs.Saying.{end-accepted, end-unfinished}
 use Rattle.rows.proofs.end_rows.Statement.{statement}
 use Rattle.rows.proofs.end_rows.Tie as tie

@@ -1,3 +1,5 @@
+-- `rows::end_table` meets its contract: the line `--` is found, or all bytes but a last line `--` are the table (Ending).
+-- Assumes nothing.
 use borrow.Author.Needs.{needs}
 use native.Mathlib.Omega.{arith}
 use mathlib.Core.Path.{_∙_, sym}

@@ -1,3 +1,5 @@
+-- `rows::enter` meets its contract: each answer is its case of the definition.
+-- Assumes nothing.
 use borrow.Author.Needs.{needs}
 use Rattle.rows.proofs.Saying.{entered-accepted, entered-refused, entered-taken}
 use Rattle.rows.proofs.enter.Statement.{statement}

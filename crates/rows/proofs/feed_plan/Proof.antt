@@ -1,3 +1,5 @@
+-- `rows::feed_plan` meets its contract: what is said from the start is what the plan so far says from this place on (Feeding).
+-- Assumes nothing.
 use borrow.Author.Needs.{needs}
 use native.Mathlib.Omega.{arith}
 use mathlib.Core.Path.{_∙_, _≡_, ap, refl, subst⁻¹, sym}
@@ -113,10 +115,12 @@ loop-less c =
 
 loop-again : tie.Need-loop-again Inv-loop μ-loop
 loop-again c =
-    let e = c .before .before .before .before .before .before in
-    (subst⁻¹ (λ (t : Turn). Taken (start e) (from e) (bytes e) (t .rows) (e .end-from .result + 1)) (c .before .before .before .step2 .ensures .0)
-    (taken-next (start e) (from e) (bytes e) (e .before .before .loop .rows) (e .before .before .loop .at) (e .end-from .result) (e .before .before .loop .inv .0) (e .end-from .ensures) (c .before .before .before .before .before .if1 .left)
-    (sym (ap (λ (t : Turn). isMore (t .said)) (c .before .before .before .step2 .ensures .0)) ∙ sym (c .before .is-more .ensures) ∙ c .if3 .taken)), c .before .before .before .step2 .ensures .1)
+    let e = c .before .before .before .before .before .before in (
+      subst⁻¹ (λ (t : Turn). Taken (start e) (from e) (bytes e) (t .rows) (e .end-from .result + 1)) (c .before .before .before .step2 .ensures .0)
+          (taken-next (start e) (from e) (bytes e) (e .before .before .loop .rows) (e .before .before .loop .at) (e .end-from .result) (e .before .before .loop .inv .0) (e .end-from .ensures) (c .before .before .before .before .before .if1 .left)
+          (sym (ap (λ (t : Turn). isMore (t .said)) (c .before .before .before .step2 .ensures .0)) ∙ sym (c .before .is-more .ensures) ∙ c .if3 .taken)),
+      c .before .before .before .step2 .ensures .1,
+    )
 
 going-requires-2 : tie.Need-going-requires-2 Inv-loop μ-loop
 going-requires-2 c κs = search needs

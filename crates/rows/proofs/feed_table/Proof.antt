@@ -1,3 +1,5 @@
+-- `rows::feed_table` meets its contract: the line `--` is found, is still to come, or comes too late (Ending).
+-- Assumes nothing.
 use borrow.Author.Needs.{needs}
 use native.Mathlib.Omega.{arith}
 use mathlib.Core.Path.{_∙_, subst⁻¹, sym}

@@ -1,3 +1,5 @@
+-- `rows::look` meets its contract: up to this place the bytes are whole lines of the table (Cutting).
+-- Assumes nothing.
 use borrow.Author.Needs.{needs}
 use native.Mathlib.Omega.{arith}
 use mathlib.Core.Path.{_∙_, refl, sym}

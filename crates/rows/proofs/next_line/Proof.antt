@@ -1,3 +1,5 @@
+-- `rows::next_line` meets its contract: the two ways out are the definition's.
+-- Assumes nothing.
 use borrow.Author.Needs.{needs}
 use native.Mathlib.Omega.{arith}
 use Rattle.rows.proofs.Saying.{next-more, next-most}

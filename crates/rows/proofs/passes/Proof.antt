@@ -1,3 +1,5 @@
+-- `rows::passes` meets its contract: it is the definition.
+-- Assumes nothing.
 use borrow.Author.Needs.{needs}
 use Rattle.rows.proofs.Saying.{passed-of}
 use Rattle.rows.proofs.passes.Statement.{statement}

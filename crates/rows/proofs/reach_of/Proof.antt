@@ -1,3 +1,5 @@
+-- `rows::reach_of` meets its contract: where the number is 0 the plan is ready.
+-- Assumes nothing.
 use borrow.Author.Needs.{needs}
 use borrow.Author.Tests.{eqb-true}
 use Rattle.rows.proofs.reach_of.Statement.{statement}

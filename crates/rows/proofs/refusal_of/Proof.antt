@@ -1,3 +1,5 @@
+-- `rows::refusal_of` meets its contract: the two ways out are the definition's.
+-- Assumes nothing.
 use native.Mathlib.Omega.{arith}
 use Rattle.rows.proofs.Saying.{fault, refused}
 use Rattle.rows.proofs.refusal_of.Statement.{statement}

@@ -1,3 +1,5 @@
+-- `rows::step` meets its contract: the line is passed over, its row is taken, or it is not read (Saying).
+-- Assumes nothing.
 use borrow.Author.Needs.{needs}
 use mathlib.Core.Path.{_∙_, ap, sym}
 use lib.Seq.{length-take-le}
@@ -16,9 +18,9 @@ passes-requires c κs = search needs
 
 returns : tie.Need-returns
 returns c = (
-      step-passed (c .before .before .before .before .before .args .rows) _ _ _ (c .before .passes .ensures) (c .if1 .taken) (c .before .before .next-line .ensures),
-      c .before .before .before .before .before .pre,
-    )
+  step-passed (c .before .before .before .before .before .args .rows) _ _ _ (c .before .passes .ensures) (c .if1 .taken) (c .before .before .next-line .ensures),
+  c .before .before .before .before .before .pre,
+)
 
 read-requires : tie.Need-read-requires
 read-requires c κs = search needs
@@ -37,24 +39,24 @@ enter-requires c κs = search needs
 
 returns-2 : tie.Need-returns-2
 returns-2 c = (
-      enters-row (c .before .before .before .before .before .before .before .before .before .before .before .before .before .before .args .rows) (rowIn (c .before .before .before .before .before .before .before .before .before .before .before .before .before .before .args .bytes .now)) _ _ _ (c .before .before .before .before .before .before .before .before .read .ensures) (c .before .before .before .before .before .before .before .if2 .taken) (c .before .before .before .before .if3 .taken) (c .before .take .ensures .0)
-    (c .enter .ensures ∙ ap (entered (c .before .take .result .answer) (c .before .take .result .plan)) (c .before .before .before .before .before .before .before .before .before .before .before .next-line .ensures)) ∙ step-enters _ _ _ (c .before .before .before .before .before .before .before .before .before .before .passes .ensures) (c .before .before .before .before .before .before .before .before .before .if1 .left),
-      reaches-on (c .before .before .before .before .before .before .before .before .before .before .before .before .before .before .args .reach) (c .before .take .result) (c .before .before .before .before .before .before .before .before .before .before .before .next-line .result) (c .enter .result) (c .enter .ensures) (c .before .take .ensures .1),
-    )
+  enters-row (c .before .before .before .before .before .before .before .before .before .before .before .before .before .before .args .rows) (rowIn (c .before .before .before .before .before .before .before .before .before .before .before .before .before .before .args .bytes .now)) _ _ _ (c .before .before .before .before .before .before .before .before .read .ensures) (c .before .before .before .before .before .before .before .if2 .taken) (c .before .before .before .before .if3 .taken) (c .before .take .ensures .0)
+      (c .enter .ensures ∙ ap (entered (c .before .take .result .answer) (c .before .take .result .plan)) (c .before .before .before .before .before .before .before .before .before .before .before .next-line .ensures)) ∙ step-enters _ _ _ (c .before .before .before .before .before .before .before .before .before .before .passes .ensures) (c .before .before .before .before .before .before .before .before .before .if1 .left),
+  reaches-on (c .before .before .before .before .before .before .before .before .before .before .before .before .before .before .args .reach) (c .before .take .result) (c .before .before .before .before .before .before .before .before .before .before .before .next-line .result) (c .enter .result) (c .enter .ensures) (c .before .take .ensures .1),
+)
 
 returns-3 : tie.Need-returns-3
 returns-3 c = (
-      enters-other (c .before .before .before .before .before .before .before .before .before .before .args .rows) (rowIn (c .before .before .before .before .before .before .before .before .before .before .args .bytes .now)) _ _ (c .before .before .before .before .read .ensures) (c .if3 .left) (c .before .before .before .before .before .before .before .next-line .ensures)
-    ∙ step-enters _ _ _ (c .before .before .before .before .before .before .passes .ensures) (c .before .before .before .before .before .if1 .left),
-      c .before .before .before .before .before .before .before .before .before .before .pre,
-    )
+  enters-other (c .before .before .before .before .before .before .before .before .before .before .args .rows) (rowIn (c .before .before .before .before .before .before .before .before .before .before .args .bytes .now)) _ _ (c .before .before .before .before .read .ensures) (c .if3 .left) (c .before .before .before .before .before .before .before .next-line .ensures)
+      ∙ step-enters _ _ _ (c .before .before .before .before .before .before .passes .ensures) (c .before .before .before .before .before .if1 .left),
+  c .before .before .before .before .before .before .before .before .before .before .pre,
+)
 
 returns-4 : tie.Need-returns-4
 returns-4 c = (
-      enters-none (c .before .before .before .before .before .before .before .args .rows) (rowIn (c .before .before .before .before .before .before .before .args .bytes .now)) _ _ (c .before .read .ensures) (c .if2 .left) (c .before .before .before .before .next-line .ensures)
-    ∙ step-enters _ _ _ (c .before .before .before .passes .ensures) (c .before .before .if1 .left),
-      c .before .before .before .before .before .before .before .pre,
-    )
+  enters-none (c .before .before .before .before .before .before .before .args .rows) (rowIn (c .before .before .before .before .before .before .before .args .bytes .now)) _ _ (c .before .read .ensures) (c .if2 .left) (c .before .before .before .before .next-line .ensures)
+      ∙ step-enters _ _ _ (c .before .before .before .passes .ensures) (c .before .before .if1 .left),
+  c .before .before .before .before .before .before .before .pre,
+)
 
 pub step-spec : {M : Type 1} → statement M
 step-spec =

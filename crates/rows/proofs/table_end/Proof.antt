@@ -1,3 +1,5 @@
+-- `rows::table_end` meets its contract: the two ways out are the two cases of the test for dashes.
+-- Assumes nothing.
 use borrow.Author.Needs.{needs}
 use Rattle.rows.proofs.Lines.{ends-after, ends-before}
 use Rattle.rows.proofs.table_end.Statement.{statement}

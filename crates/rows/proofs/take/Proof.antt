@@ -1,3 +1,5 @@
+-- `rows::take` meets its contract: where it is known how far the plan goes, `enter` gives what `take` does.
+-- Assumes nothing.
 use borrow.Author.Needs.{needs}
 use mathlib.Core.Bool.{false≢true}
 use mathlib.Core.Path.{_∙_, sym}

@@ -1,3 +1,5 @@
+-- `rows::Check::end` meets its contract: each stage's end says what is said in it.
+-- Assumes nothing.
 use borrow.Author.Needs.{needs}
 use Rattle.rows.specs.declared.Stage.the-variants.{Plan, Table}
 use Rattle.rows.proofs.Ending.{said-in}

@@ -1,3 +1,5 @@
+-- `rows::Check::feed` meets its contract: each stage's feed hands back what says the rest; one that is over stays so.
+-- Assumes nothing.
 use borrow.Author.Needs.{needs}
 use Rattle.rows.specs.declared.Stage.the-variants.{Plan, Table}
 use Rattle.rows.proofs.Ending.{fed-done, fed-in}

@@ -1,3 +1,5 @@
+-- `rows::Check::new` meets its contract: a check before its first byte reads the table.
+-- Assumes nothing.
 use borrow.Author.Needs.{needs}
 use Rattle.rows.proofs.Lines.{new-says}
 use Rattle.rows.proofs.Check.new.Statement.{statement}

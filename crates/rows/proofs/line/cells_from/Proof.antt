@@ -1,3 +1,5 @@
+-- `rows::line::cells_from` meets its contract: the row from the start is that of the numbers read and of the words left (Reading).
+-- Assumes nothing.
 use borrow.Author.Needs.{needs}
 use native.Mathlib.Omega.{arith}
 use mathlib.Core.List.{List, [], _++_, _∷_}
@@ -129,7 +131,7 @@ loop-again c =
       omega (arith, more, room),
       ends e,
       ap (λ (x : ℕ). cellsFrom (head e .before .before .args .tick) (ns ++ (x ∷ [])) (behind (drop (e .end-from .result) line))) (v .1)
-      ∙ sym (from-more (head e .before .before .args .tick) ns _ _ room (byte-found _ n found (omega (arith, c .if2 .left)))) ∙ here e,
+          ∙ sym (from-more (head e .before .before .args .tick) ns _ _ room (byte-found _ n found (omega (arith, c .if2 .left)))) ∙ here e,
     )
 
 returns-4 : tie.Need-returns-4 Inv-loop μ-loop

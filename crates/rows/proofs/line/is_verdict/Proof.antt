@@ -1,3 +1,5 @@
+-- `rows::line::is_verdict` meets its contract: the three words are looked for, and a line that is too long has none.
+-- Assumes nothing.
 use borrow.Author.Needs.{needs}
 use native.Mathlib.Omega.{arith}
 use Rattle.rows.proofs.Saying.{verdict-long, verdict-of}

@@ -1,3 +1,5 @@
+-- `rows::line::read` meets its contract: the first word is the tick, and the words behind it are the numbers (Reading).
+-- Assumes nothing.
 use borrow.Author.Needs.{needs}
 use native.Mathlib.Omega.{arith}
 use mathlib.Core.Path.{_∙_, _≡_, ap, sym}

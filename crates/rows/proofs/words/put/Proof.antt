@@ -1,3 +1,5 @@
+-- `rows::words::put` meets its contract: each answer is its case of the definition (Printing).
+-- Assumes nothing.
 use borrow.Author.Needs.{needs}
 use Rattle.rows.proofs.Printing.{says-accepted, says-fault, says-more, says-refused, says-unfinished, says-unread}
 use Rattle.rows.proofs.words.put.Statement.{statement}

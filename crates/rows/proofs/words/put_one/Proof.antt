@@ -1,3 +1,5 @@
+-- `rows::words::put_one` meets its contract: the word has at most ten letters, and the number at most ten digits (Printing).
+-- Assumes nothing.
 use borrow.Author.Needs.{needs}
 use native.Mathlib.Omega.{arith}
 use mathlib.Core.Path.{_≡_}
