@@ -21,3 +21,4 @@ pub mod LendExamples
 pub mod SentenceExamples
 pub mod FigureExamples
 pub mod ClashExamples
+pub mod SuppliedExamples
