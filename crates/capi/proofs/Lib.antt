@@ -22,3 +22,4 @@ pub mod SentenceExamples
 pub mod FigureExamples
 pub mod ClashExamples
 pub mod SpareExamples
+pub mod SuppliedExamples
