@@ -106,7 +106,7 @@ sound-if m τ e = inside-sound m τ (inside-test m τ e)
 -- A MOVE PASSES IT AGAIN
 
 -- a place with a task is a place of the array
-in-array : (r : Run) (p : ℕ) → taskOut (wideIn r) (taskAt r p) ≡ false → p < length (r .tasks)
+pub in-array : (r : Run) (p : ℕ) → taskOut (wideIn r) (taskAt r p) ≡ false → p < length (r .tasks)
 in-array r p e = go (leb (length (r .tasks)) p) refl
   where
     go : (x : Bool) → leb (length (r .tasks)) p ≡ x → p < length (r .tasks)

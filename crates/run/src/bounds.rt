@@ -21,7 +21,7 @@ fn head_out(count: usize, cores: u32, rule: u32, fence: u64, withdrawn: u32) -> 
 
 impl Run {
     // Whether the run is outside its limits (number 14).
-    pub(crate) fn out(self) -> bool
+    pub fn out(self) -> bool
         ensures { λ r. ⌜ r ≡ runOut self ⌝ }
     {
         let run = self;
@@ -44,7 +44,7 @@ impl Run {
     }
 
     // The first place whose task is Working at its deadline (number 15), or the count.
-    pub(crate) fn first_late(self) -> usize
+    pub fn first_late(self) -> usize
         requires { ⌜ self .count ≤ mostTasks ⌝ }
         ensures { λ r. ⌜ r ≡ firstLateIn self ⌝ }
     {

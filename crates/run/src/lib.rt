@@ -10,9 +10,10 @@ ghost use Rattle.run.specs.Withdraw.{WithdrawOf};
 mod bounds; // bounds.rt: numbers 14 and 15
 mod choosing; // choosing.rt: who claims in the present tick
 mod moves; // moves.rt: one tick
+mod plain; // plain.rt: the tasks as a table has them
 mod sets; // sets.rt: sets of places
 mod shares; // shares.rt: who is given cores in a tick, who borrows some, and the row
-mod starts; // starts.rt: the run of a table as it starts
+pub mod starts; // starts.rt: the run of a table as it starts
 mod withdrawals; // withdrawals.rt: whether a run is firm, and positions taken out
 
 use judge::Verdict;

@@ -14,7 +14,7 @@ use crate::Started;
 use model::MOST_TASKS;
 
 // The run of all zeros with every phase Resting(0).
-fn empty() -> Run
+pub fn empty() -> Run
     ensures { λ r. ⌜ r ≡ emptyRun ⌝ }
 {
     let place = phase::starts::unused();
@@ -30,7 +30,13 @@ fn empty() -> Run
 }
 
 // The run of a table's first `count` tasks as it starts.
-fn started(rule: u32, cores: u32, fence: u64, tasks: [table::Task; MOST_TASKS], count: usize) -> Run
+pub fn started(
+    rule: u32,
+    cores: u32,
+    fence: u64,
+    tasks: [table::Task; MOST_TASKS],
+    count: usize,
+) -> Run
     requires { ⌜ count ≤ mostTasks ⌝ }
     ensures { λ r. ⌜ r ≡ startedRun rule (tableWith cores fence rule (table.tasksOf tasks count)) ⌝ }
 {

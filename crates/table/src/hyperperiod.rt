@@ -43,7 +43,7 @@ fn cycle(task: Task) -> u64
 }
 
 // P, or one more than the longest horizon where it is above that.
-pub(crate) fn hyperperiod(tasks: [Task; MOST_TASKS], count: usize) -> u32
+pub fn hyperperiod(tasks: [Task; MOST_TASKS], count: usize) -> u32
     requires { ⌜ count ≤ mostTasks ⌝ ∗ ⌜ InLimits tasks count ⌝ }
     ensures { λ r. ⌜ r ≡ min (hyperperiod (tasksOf tasks count)) (mostHorizon + 1) ⌝ }
 {

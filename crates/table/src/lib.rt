@@ -4,10 +4,10 @@ ghost use Rattle.table.specs.Load.{LoadOf};
 pub mod limits; // limits.rt: numbers 2, 3, 19, 7 and 8 on plain values
 mod header; // header.rt: numbers 1, 2, 3, 19 and 4
 mod chain; // chain.rt: the walk along the chain, numbers 5 and 6
-mod checks; // checks.rt: numbers 7 to 9, and what passes
+pub mod checks; // checks.rt: numbers 7 to 9, and what passes
 mod start; // start.rt: S of a position from the S before it
-mod positions; // positions.rt: the walk along the positions that finds the last S
-mod hyperperiod; // hyperperiod.rt: P, the least common multiple of the periods, of 2T where widths differ
+pub mod positions; // positions.rt: the walk along the positions that finds the last S
+pub mod hyperperiod; // hyperperiod.rt: P, the least common multiple of the periods, of 2T where widths differ
 
 use chain::Ending;
 use model::MOST_TASKS;

@@ -9,7 +9,7 @@ use crate::start::release_from;
 use model::MOST_TASKS;
 
 // The last S.
-pub(crate) fn last_start(tasks: [Task; MOST_TASKS], count: usize) -> u32
+pub fn last_start(tasks: [Task; MOST_TASKS], count: usize) -> u32
     requires { ⌜ 1 ≤ count ⌝ ∗ ⌜ count ≤ mostTasks ⌝ ∗ ⌜ InLimits tasks count ⌝ }
     ensures { λ r. ⌜ r ≡ lastS (tasksOf tasks count) ⌝ }
 {

@@ -1,103 +1,20 @@
--- `run::Run::is_firm` meets its contract. The loop's invariant: the places passed hold the tasks of the table that the run's tasks are. The judge is
--- asked of these (`tasks-told`).
+-- `run::Run::is_firm` meets its contract: the judge is asked of the run's tasks.
 -- Assumes nothing.
-use mathlib.Core.Path.{_≡_, refl, sym, ap, _∙_}
-use mathlib.Core.List.{List}
-use Prim.Native.Nat.{ℕ, _≤_, _<_, _-_}
-use native.Mathlib.Omega.{arith}
-use lib.ListN.{length, getD, length-set, length-map}
+use mathlib.Core.Path.{ap, _∙_}
 use borrow.Author.Needs.{needs}
-use Rattle.model.specs.Sizes.{mostTasks}
-use Rattle.model.specs.Task as model
 use Rattle.model.specs.Firm.{firm}
-use Rattle.table.specs.Task.{taskOf, noTask}
-use Rattle.run.specs.Run.{ruleIn, taskAt}
-use Rattle.run.proofs.PlaceSets.{told-more, tasks-told}
+use Rattle.run.specs.Run.{ruleIn}
 use Rattle.run.proofs.Run.is_firm.Statement.{statement}
 use Rattle.run.proofs.Run.is_firm.Tie as tie
 
-abbrev Inv-loop : tie.InvT-loop
-Inv-loop self run count tasks₀ i₀ tasks i = (i ≤ count) × ((length tasks ≡ mostTasks) × ((p : ℕ) → p < i → taskOf (getD tasks p noTask) ≡ taskAt run p))
-
-abbrev μ-loop : tie.MeasureT-loop
-μ-loop self run count tasks₀ i₀ tasks i = count - i
-
--- the state at the head of the loop, and at the call
-abbrev loop : tie.After-plain2 Inv-loop μ-loop → tie.At-loop Inv-loop μ-loop
-loop c = c .before .before .before
-
-abbrev entry : tie.At-loop Inv-loop μ-loop → tie.Start Inv-loop μ-loop
-entry s = s .before .before .before
-
-unused-requires : tie.Need-unused-requires Inv-loop μ-loop
-unused-requires c κs = search needs
-
-plain-requires : tie.Need-plain-requires Inv-loop μ-loop
+plain-requires : tie.Need-plain-requires
 plain-requires c κs = search needs
 
-loop-holds : tie.Need-loop-holds Inv-loop μ-loop
-loop-holds c = (search needs, (refl, λ p h. absurd (omega arith)))
-
-mul-task : tie.Need-mul-task Inv-loop μ-loop
-mul-task c = omega arith
-
-element-copy-out-task : tie.Need-element-copy-out-task Inv-loop μ-loop
-element-copy-out-task c = omega arith
-
-plain-requires-2 : tie.Need-plain-requires-2 Inv-loop μ-loop
-plain-requires-2 c κs = search needs
-
-mul-tasks : tie.Need-mul-tasks Inv-loop μ-loop
-mul-tasks c = omega arith
-
-array-set-from-tasks : tie.Need-array-set-from-tasks Inv-loop μ-loop
-array-set-from-tasks c = omega arith
-
-add-i : tie.Need-add-i Inv-loop μ-loop
-add-i c = omega arith
-
-loop-less : tie.Need-loop-less Inv-loop μ-loop
-loop-less c = omega arith
-
-loop-again : tie.Need-loop-again Inv-loop μ-loop
-loop-again c =
-    let s = loop c in
-    let v = s .loop .inv in (
-      omega arith,
-      (
-        simp length-set (v .1 .0),
-        told-more (s .loop .tasks) (taskAt (entry s .args .self)) (s .loop .i) (c .plain2 .result) (omega arith) (c .plain2 .ensures) (v .1 .1),
-      ),
-    )
-
-is-firm-requires : tie.Need-is-firm-requires Inv-loop μ-loop
+is-firm-requires : tie.Need-is-firm-requires
 is-firm-requires c κs = search needs
 
-returns : tie.Need-returns Inv-loop μ-loop
-returns c =
-    let s = c .before .before in
-    let r = entry s .args .self in
-    let v = s .loop .inv in
-    let e : s .loop .i ≡ r .count = omega arith in
-    let len : length (r .tasks) ≡ mostTasks = simp length-map at (entry s .good .0 .1 .1 .1 .1 .1 .1 .1 .0 .1 .0 .1) in
-    c .is-firm .ensures ∙ ap (firm (ruleIn r)) (tasks-told r (s .loop .tasks) (entry s .pre) (v .1 .0) len (rw e at (v .1 .1)))
+returns : tie.Need-returns
+returns c = c .is-firm .ensures ∙ ap (firm (ruleIn (c .before .before .args .self))) (c .before .plain .ensures)
 
 pub is-firm-spec : {M : Type 1} → statement M
-is-firm-spec =
-    tie.close
-    (tie.spec
-    Inv-loop
-    μ-loop
-    unused-requires
-    plain-requires
-    loop-holds
-    mul-task
-    element-copy-out-task
-    plain-requires-2
-    mul-tasks
-    array-set-from-tasks
-    add-i
-    loop-less
-    loop-again
-    is-firm-requires
-    returns)
+is-firm-spec = tie.close (tie.spec plain-requires is-firm-requires returns)
