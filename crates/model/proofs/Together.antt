@@ -1,8 +1,8 @@
 -- Several positions withdrawn together (request 113): the book that single withdrawals of them leave, in any order, or the book as it is.
 use mathlib.Core.Bool.{Bool, cond, false, false≢true, true, _||_}
-use mathlib.Core.List.{List, [], map, _∷_}
+use mathlib.Core.List.{List, [], _∷_}
 use mathlib.Core.Path.{ap, ap₂, refl, sym, _∙_, _≡_}
-use Prim.Native.Nat.{_-_, _<_, _^_, suc, zero, ℕ}
+use Prim.Native.Nat.{_-_, _<_, _^_, suc, ℕ}
 use native.Mathlib.Omega.{arith}
 use lib.Bits.{bitOr, or-zero-r}
 use lib.Dec.{eqb}
@@ -11,7 +11,7 @@ use borrow.Author.Tests.{eq-eqb, le-ltb, ne-eqb}
 use Rattle.model.proofs.Bools.{not-false-true, or-right}
 use Rattle.model.proofs.Digits.{bit-none, bit-power, or-bit, same-set}
 use Rattle.model.proofs.Withdraw.{within-strangers}
-use Rattle.model.specs.Book.{Answer, Book, afterTaken, answer, answersFrom, bookFrom, enter, entered, only, refused, stranger}
+use Rattle.model.specs.Book.{Answer, Book, afterTaken, answer, answersFrom, bookFrom, enter, entered, refused, stranger}
 use Rattle.model.specs.Book.{strangers, taken, withdraw, withdrawAll, withdrawing, without}
 use Rattle.model.specs.Firm.{firm}
 use Rattle.model.specs.Search.{bit, memb}
