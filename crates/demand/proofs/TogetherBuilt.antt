@@ -1,15 +1,18 @@
 -- Runs built by hand with several positions withdrawn together (request 113), computed from the definitions: none, some and all of the positions, up to
 -- all 32, in several phases and under each rule, positions that are withdrawn already, and 14, 21 and 22 in their order. The row before each entry is
 -- asked with the empty jobs that it names, the row after the last with none.
+use mathlib.Core.Bool.{true, false}
 use mathlib.Core.List.{List, [], _∷_, map}
 use mathlib.Core.Path.{_≡_, refl}
 use Prim.Native.Nat.{ℕ}
 use Rattle.model.specs.Book.{withdraw, withdrawAll}
+use Rattle.model.specs.Search.{any, upFrom}
 use Rattle.model.proofs.LineByLine.{LineByLine, by-line}
 use Rattle.phase.specs.declared.Phase.{Phase}
 use Rattle.phase.specs.declared.Phase.the-variants.{Coming, Working, Holding, Resting}
 use Rattle.run.specs.declared.Run.{Run}
 use Rattle.run.specs.declared.Answer.the-variants.{Taken, Refused}
+use Rattle.demand.specs.Listing.{listed, entriesIn}
 use Rattle.demand.proofs.HandBuilt.{rows, t, at-even, two, on1, on2, no}
 use Rattle.demand.proofs.EmptyBuilt.{Named, worked-named, built, none, single}
 use Rattle.demand.proofs.WithdrawBuilt.{out, many}
@@ -109,3 +112,10 @@ computed = (refl, (refl, (refl, (refl, (refl, (refl, (refl, (refl, (refl, (refl,
 -- .. and as one list
 pub together-runs : map worked-named together-lines ≡ together-lines
 together-runs = by-line worked-named together-lines together-lines computed
+
+-- in words a set is of kind 2 with a last word of 0; of a kind above it there is no entry
+pub kinds :
+    (listed (2 ∷ 5 ∷ 0 ∷ []) ≡ true) × (entriesIn (2 ∷ 5 ∷ 0 ∷ 1 ∷ 5 ∷ 0 ∷ []) ≡ withdrawAll 5 ∷ withdraw 5 ∷ [])
+    × (listed (2 ∷ 5 ∷ 1 ∷ []) ≡ false) × (listed (3 ∷ 5 ∷ 0 ∷ []) ≡ false)
+unfolding listed any upFrom
+kinds = (refl, refl, refl, refl)
