@@ -8,17 +8,17 @@
      plan 13,100, start 12,700, advance 12,200, withdraw 11,900, spare 10,800, judge 9,800, row 7,400, longest 6,600, judge_ticks 5,800, facts 700).
    - Threads: the library has no state and no data that is written to, so any number of threads may call at once, each with slices of its own
      to be written to; slices that are only read may be shared. Of the C library it calls memcpy and memset alone.
-   - Time: row, advance and withdraw take some microseconds at most, a bound by the 32 tasks and 64 cores alone. judge goes from one release,
+   - Time: row, advance, withdraw and take take some microseconds at most, a bound by the 32 tasks and 64 cores alone. judge goes from one release,
      end or deadline to the next, or tick by tick where the periods are short: 10 to 100 ns each on x86-64, by how many tasks move. There are at most
      as many of these moments as ticks up to the horizon or the first miss. A horizon of 10,000,000 takes a second at most; the largest,
      1,000,000,000, milliseconds where the periods are long, and two minutes where all 32 tasks move in every tick. No call can be stopped
      from outside: where that is too long, judge in a process of its own. judge_ticks takes every tick; start takes as long as judge, sentence
      about three times as long; plan judges up to b, and takes every tick up to b; replay takes a start, and an advance or a withdrawal for each entry;
      facts goes once over its bytes; clash judges the table and parts of it, 529 times at most;
-     spare judges the table, and at most 20 times for each task the table with it longer.
+     spare judges the table, and at most 20 times for each task the table with it longer; begin judges nothing.
 
-   A run in words belongs to the version that wrote it: the words may change with the version. Keep SIVORANDRA_VERSION beside a run that is
-   stored, and start again where it differs; 14 finds what is no run, not a run of another version. */
+   A run in words, and a plan in words, belong to the version that wrote them: the words may change with the version. Keep SIVORANDRA_VERSION beside
+   what is stored, and start or begin again where it differs; 14 finds what is no run, not a run of another version. */
 #ifndef SIVORANDRA_H
 #define SIVORANDRA_H
 
@@ -32,34 +32,36 @@ extern "C" {
 /* The version of this header; sivorandra_version says that of the library that is linked. One number, which grows with the version:
    major * 10000 + minor * 100 + patch. */
 #define SIVORANDRA_VERSION_MAJOR 0
-#define SIVORANDRA_VERSION_MINOR 13
+#define SIVORANDRA_VERSION_MINOR 14
 #define SIVORANDRA_VERSION_PATCH 0
 #define SIVORANDRA_VERSION (SIVORANDRA_VERSION_MAJOR * 10000 + SIVORANDRA_VERSION_MINOR * 100 + SIVORANDRA_VERSION_PATCH)
-#define SIVORANDRA_VERSION_TEXT "0.13.0"
+#define SIVORANDRA_VERSION_TEXT "0.14.0"
 
 /* No call takes more bytes of the stack. */
 #define SIVORANDRA_STACK_BYTES 20480
 
 /* What every call but sivorandra_version returns: the call is answered, or a lent slice is too short and everything is as found; so it is
    where the words of a replay's `entries` are no entries. Short `rows` of a plan are 11 instead, and too few words for a run lent to row,
-   advance or withdraw are no run: 14. */
+   advance or withdraw, or for a plan lent to take, are no run: 14. */
 #define SIVORANDRA_ANSWERED 0u
 #define SIVORANDRA_SHORT 1u
 
 /* The answer stands in the first three words of `answer`: one of these cases and its two numbers. Words behind them stay. */
 #define SIVORANDRA_ANSWER_WORDS 3
-#define SIVORANDRA_DONE 0u        /* rows written, last row shown, or taken: 0 and 0 */
+#define SIVORANDRA_DONE 0u        /* rows written, last row shown, begun, or taken: 0 and 0 */
 #define SIVORANDRA_FIRM 0u        /* from sivorandra_judge and sivorandra_judge_ticks: S and P */
 #define SIVORANDRA_FULL 1u        /* S and P */
 #define SIVORANDRA_MISS 2u        /* tick and position */
 #define SIVORANDRA_LENGTH 0u      /* from sivorandra_sentence: the sentence's length, and 0 */
 #define SIVORANDRA_KEPT 0u        /* from sivorandra_clash: the set of the positions kept, bit 0 for position 1, and 0 */
-#define SIVORANDRA_REFUSED 3u     /* number, one of enum sivorandra_number, and position */
+#define SIVORANDRA_REFUSED 3u     /* number, one of enum sivorandra_number, and position; from sivorandra_take the tick instead */
 #define SIVORANDRA_ROW_REFUSED 4u /* the last row of a replay: number and position */
 #define SIVORANDRA_NO_SENTENCE 5u /* from sivorandra_facts: 0 and 0 */
+#define SIVORANDRA_ACCEPTED 6u    /* from sivorandra_take: the row is taken as the last, and the whole plan is accepted: 0 and 0 */
 
-/* By which number a call is turned down: the first that applies, where 19 comes between 3 and 4, and 20 between 15 and 16. The position is 0
-   but with 7, 8 and 15. Later versions may have more numbers. */
+/* By which number a call is turned down: the first that applies, where 19 comes between 3 and 4, and 20 between 15 and 16; take's order is 14, 9,
+   10, 11, 25, 24 and, after the last row, 25 and 26. The position is 0 but with 7, 8 and 15; 24 to 26 come with a tick instead. Later versions may
+   have more numbers. */
 enum sivorandra_number {
     SIVORANDRA_NOT_A_TABLE = 1,   /* fewer than 5 words, the rest no whole records of seven, or more than 32 records */
     SIVORANDRA_BAD_CORES = 2,     /* the core count is not 1 to 64 */
@@ -70,11 +72,11 @@ enum sivorandra_number {
     SIVORANDRA_BAD_WIDTH = 7,     /* a width of the position is 0 or above the number of unfenced cores */
     SIVORANDRA_BAD_TIME = 8,      /* O, C, T or D of the position is outside its limits */
     SIVORANDRA_LONG_HORIZON = 9,  /* the horizon is above SIVORANDRA_MOST_HORIZON */
-    SIVORANDRA_BAD_RANGE = 10,    /* plan: a is above b, or b is above the horizon */
-    SIVORANDRA_SHORT_ROWS = 11,   /* plan: `rows` has fewer than (b - a) * cores bytes */
+    SIVORANDRA_BAD_RANGE = 10,    /* plan: a is above b, or b is above the horizon; take: the row is past the horizon */
+    SIVORANDRA_SHORT_ROWS = 11,   /* plan: `rows` has fewer than (b - a) * cores bytes; take: the row's length is not the core count */
     SIVORANDRA_PAST_MISS = 12,    /* plan: b is above the tick of the first miss */
     SIVORANDRA_TABLE_MISSES = 13, /* start, replay, longest: the verdict is a miss */
-    SIVORANDRA_NOT_A_RUN = 14,    /* row, advance, withdraw: the words are no run */
+    SIVORANDRA_NOT_A_RUN = 14,    /* row, advance, withdraw: the words are no run; take: they are no plan's */
     SIVORANDRA_LATE = 15,         /* row, advance: the position, the lowest that is late, has not ended its job at its deadline */
     SIVORANDRA_BAD_REPORT = 16,   /* advance: for a position past the count, or a task that is not working or has no cores, its own or lent, in this tick */
     SIVORANDRA_NO_MISS = 17,      /* sentence, clash: the table has no miss */
@@ -83,7 +85,11 @@ enum sivorandra_number {
     SIVORANDRA_BAD_EMPTY = 20,    /* row, advance: for a position past the count, or a task whose job is not released in this very tick */
     SIVORANDRA_NOT_FIRM = 21,     /* withdraw: the rule is greedy and a width of some task is above one of the next: without a task others could be late */
     SIVORANDRA_NO_POSITION = 22,  /* withdraw: the position is 0 or past the count */
-    SIVORANDRA_SPARE_NOT_GIVEN = 23 /* spare: not accepted under limited, nor under greedy with no width of a task above one of the next */
+    SIVORANDRA_SPARE_NOT_GIVEN = 23, /* spare: not accepted under limited, nor under greedy with no width of a task above one of the next */
+    SIVORANDRA_BAD_ROW = 24,      /* take: a byte of the row that is neither 0 nor a position, a fenced core without 255, a task with another width than
+                                     its job's, or one with no work owed: not released, done, or past its deadline; with the row's tick */
+    SIVORANDRA_DEADLINE_MISSED = 25, /* take: some job is not done at its deadline; with that tick */
+    SIVORANDRA_PHASES_DIFFER = 26 /* take, after the last row: some task's phase is not the one noted at the last S, parity aside; with the horizon */
 };
 
 /* The limits of a table. D is at least 1 and at most T. */
@@ -120,6 +126,11 @@ enum sivorandra_number {
 #define SIVORANDRA_RUN_HEAD_WORDS 6
 #define SIVORANDRA_RUN_PLACE_WORDS 11
 #define SIVORANDRA_RUN_WORDS (SIVORANDRA_RUN_HEAD_WORDS + SIVORANDRA_RUN_PLACE_WORDS * SIVORANDRA_MOST_TASKS)
+
+/* The words that a plan kept between calls takes: those of a run, its tick, and four words for each of its 32 places, the kind of the phase that is
+   noted there and its three numbers, as a place of a run has them. */
+#define SIVORANDRA_NOTE_WORDS 4
+#define SIVORANDRA_PLAN_WORDS (SIVORANDRA_RUN_WORDS + 1 + SIVORANDRA_NOTE_WORDS * SIVORANDRA_MOST_TASKS)
 
 /* The bytes of a row: core 0 first, the position, which is the borrower's on a lent core, 0 for idle, or 255 for a fenced core. */
 #define SIVORANDRA_ROW_BYTES SIVORANDRA_MOST_CORES
@@ -244,6 +255,25 @@ uint32_t sivorandra_clash(const uint32_t *words, size_t words_len,
 uint32_t sivorandra_spare(const uint32_t *words, size_t words_len,
                           uint32_t *figures, size_t figures_len,
                           uint32_t *answer, size_t answer_len);
+
+/* Begins a plan that another planner makes for the table in `words`, whatever the table's verdict: done, or refused by the table's numbers, 1 to 9 and
+   19. Its rows are then lent to sivorandra_take, from tick 0 on, as many as the horizon, S + P.
+   Begun or refused, it writes all SIVORANDRA_PLAN_WORDS words: places past the count are zeros and Resting(0), and nothing is noted, Resting(0), but
+   where S is 0 the phases of the tasks; a refused beginning leaves a plan of all zeros with every phase and note Resting(0), which take turns
+   down with 14. */
+uint32_t sivorandra_begin(const uint32_t *words, size_t words_len,
+                          uint32_t *plan, size_t plan_len,
+                          uint32_t *answer, size_t answer_len);
+
+/* Takes the row of the plan's present tick, one byte a core as sivorandra_plan writes them: done, accepted as the last, or refused and `plan` as found,
+   word for word, so that another row can be tried. A plan that is accepted, repeated from the last S on, meets every deadline at every tick. Each task
+   in the row has its job's cores, in any order, and works for this tick; a job may stop and go on. Lengths of jobs are C; nothing is reserved or lent.
+   A taken row writes the head and the places below the count, and the tick; at the last S it notes the phases of these places. Places and notes past the
+   count are neither read nor changed. Notes are not looked at before the last row: words of one that are no phase stay as they are, and agree with
+   no phase (26). Words whose run is no run are refused with 14, as by row; so are a withdrawn position, a task Holding and unequal counts. */
+uint32_t sivorandra_take(uint32_t *plan, size_t plan_len,
+                         const uint8_t *row, size_t row_len,
+                         uint32_t *answer, size_t answer_len);
 
 #ifdef __cplusplus
 }

@@ -29,15 +29,15 @@ def write_all(block):
         block = block[os.write(1, block):]
 
 
-# The line that is rewritten.
+# The line that is rewritten, where somebody sees it.
 class Line:
-    def __init__(self):
+    def __init__(self, seen=True):
         self.begun = self.last = time.monotonic()
-        self.shown = False
+        self.seen, self.shown = seen, False
 
     def say(self, words):
         now = time.monotonic()
-        if now - self.begun >= QUIET and now - self.last >= EVERY:
+        if self.seen and now - self.begun >= QUIET and now - self.last >= EVERY:
             os.write(2, f"\r\033[Ksivorandra: {words}, {now - self.begun:.0f} s".encode())
             self.last, self.shown = now, True
 

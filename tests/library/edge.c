@@ -5,8 +5,8 @@
 #include <string.h>
 #include "sivorandra.h"
 
-enum { RUN = SIVORANDRA_RUN_WORDS, ROW = SIVORANDRA_ROW_BYTES, HEAD = SIVORANDRA_RUN_HEAD_WORDS, PLACE = SIVORANDRA_RUN_PLACE_WORDS };
-enum { GUARD = 8, MOST = 384, PARITY = HEAD + 6, KIND = PARITY + 1, TABLE = 26, USED = HEAD + PLACE * 3 };
+enum { RUN = SIVORANDRA_RUN_WORDS, ROW = SIVORANDRA_ROW_BYTES, HEAD = SIVORANDRA_RUN_HEAD_WORDS, PLACE = SIVORANDRA_RUN_PLACE_WORDS, PLAN = SIVORANDRA_PLAN_WORDS, NOTES = RUN + 1 };
+enum { GUARD = 8, MOST = 512, PARITY = HEAD + 6, KIND = PARITY + 1, TABLE = 26, USED = HEAD + PLACE * 3 };
 static const uint32_t ONES = 0xffffffffu;
 
 /* head, cores, rule, two words of fenced cores; then for each record: next, offset, width, length, deadline, period, width of even jobs */
@@ -119,6 +119,8 @@ static uint32_t advance_with(uint32_t reports, uint32_t empties) { return sivora
 static uint32_t advance(uint32_t reports) { return advance_with(reports, 0); }
 static uint32_t withdraw(uint32_t position) { return sivorandra_withdraw(words_at(&run), run.len, position, ANSWER); }
 static uint32_t clash(const uint32_t *table, size_t len) { return sivorandra_clash(table, len, ANSWER); }
+static uint32_t begin(const uint32_t *table, size_t len) { return sivorandra_begin(table, len, words_at(&run), run.len, ANSWER); }
+static uint32_t take(const uint8_t *row_lent, size_t len) { return sivorandra_take(words_at(&run), run.len, row_lent, len, ANSWER); }
 static uint32_t longest(const uint32_t *table, size_t len) { return sivorandra_longest(table, len, words_at(&numbers), numbers.len, ANSWER); }
 static uint32_t spare(const uint32_t *table, size_t len) { return sivorandra_spare(table, len, words_at(&numbers), numbers.len, ANSWER); }
 
@@ -245,6 +247,94 @@ static void figures(void)
     figures_by(longest, full, longest_of_full, miss, 13);
     figures_by(spare, hurt, spare_of_hurt, miss, 23);
     figures_by(spare, hurt, spare_of_hurt, full, 23); /* rule 1 out of the width order */
+}
+
+/* Every lent slice afresh, and a plan of the table in `run`: the run at tick 0, and its phases noted, S being 0. */
+static void fresh_plan(void)
+{
+    static uint32_t begun[PLAN];
+    uint32_t three[3];
+    fresh();
+    sivorandra_begin(full, TABLE, begun, PLAN, three, 3);
+    words(&run, PLAN, begun, PLAN);
+}
+
+/* What must stand in the plan: the tick, and the phases of the three tasks. */
+static void plan_words(uint32_t tick, const uint32_t phases[3][4])
+{
+    for (size_t i = 0; i < 3; i++)
+        memcpy(run.want + GUARD + KIND + PLACE * i, phases[i], 4 * sizeof run.want[0]);
+    run.want[GUARD + RUN] = tick;
+}
+
+/* Plans by others: begun and refused, lengths around every limit, NULL for each slice, rows taken up to the last, anything past the count, notes that are no phase. */
+static void supplied(void)
+{
+    static const uint32_t at_one[3][4] = { { 1, 1, 1, 1 }, { 1, 1, 0, 0 }, { 1, 1, 1, 1 } };
+    static const uint32_t at_last[3][4] = { { 3, 4, 0, 0 }, { 1, 4, 2, 2 }, { 3, 4, 0, 0 } };
+    static const uint32_t again[3][4] = { { 1, 0, 0, 0 }, { 1, 0, 0, 0 }, { 1, 0, 0, 0 } };
+    static const uint8_t bad[3] = { 1, 1, 4 }, idle[3] = { 0 };
+    uint32_t want[PLAN] = { 0 };
+    for (size_t at = KIND; at < RUN; at += PLACE)
+        want[at] = 3;
+    for (size_t at = NOTES; at < PLAN; at += SIVORANDRA_NOTE_WORDS)
+        want[at] = 3;
+    fresh(), run.len = PLAN, refused(1), run_words(want, PLAN), expect("begin: no words", 0, begin(NULL, 0));
+    fresh(), run.len = PLAN - 1, expect("begin: a short plan", 1, begin(full, TABLE));
+    fresh(), NONE(run), expect("begin: no plan", 1, begin(full, TABLE));
+    fresh(), run.len = PLAN, NONE(answer), expect("begin: no answer", 1, begin(full, TABLE));
+    fresh(), run.len = PLAN, answer.len = 2, expect("begin: a short answer", 1, begin(full, TABLE));
+    fresh(), memcpy(want, run.now + GUARD, RUN * sizeof want[0]);
+    for (size_t i = 0; i < 3; i++)
+        want[NOTES + SIVORANDRA_NOTE_WORDS * i] = 1;
+    fresh(), run.len = PLAN, answered(0, 0, 0), run_words(want, PLAN), expect("begin: the run that start leaves, and its phases", 0, begin(full, TABLE));
+    fresh(), run.len = PLAN + 3, answered(0, 0, 0), run_words(want, PLAN), expect("begin: a longer plan", 0, begin(full, TABLE));
+
+    fresh_plan(), NONE(run), refused(14), expect("take: no plan", 0, take(rows, 3));
+    fresh_plan(), run.len = PLAN - 1, refused(14), expect("take: a short plan", 0, take(rows, 3));
+    fresh_plan(), run.len = RUN, refused(14), expect("take: a run is no plan", 0, take(rows, 3));
+    fresh_plan(), NONE(answer), expect("take: no answer", 1, take(rows, 3));
+    fresh_plan(), answer.len = 2, expect("take: a short answer", 1, take(rows, 3));
+    fresh_plan(), refused(11), expect("take: no row", 0, take(NULL, 0));
+    fresh_plan(), refused(11), expect("take: a short row", 0, take(rows, 2));
+    fresh_plan(), refused(11), expect("take: a longer row", 0, take(rows, 4));
+    fresh_plan(), refused(24), expect("take: no such position", 0, take(bad, 3));
+    fresh_plan(), answered(0, 0, 0), plan_words(1, at_one), expect("take: a row", 0, take(rows, 3));
+    fresh_plan(), run.len = PLAN + 3, answered(0, 0, 0), plan_words(1, at_one), expect("take: a longer plan", 0, take(rows, 3));
+    fresh_plan(), set(USED, RUN - USED, ONES), set(NOTES + 12, PLAN - NOTES - 12, ONES), answered(0, 0, 0), plan_words(1, at_one), expect("take: anything past the count", 0, take(rows, 3));
+    fresh_plan(), set(NOTES, 12, ONES), answered(0, 0, 0), plan_words(1, at_one), expect("take: notes that are no phase stay", 0, take(rows, 3));
+    fresh_plan(), set(RUN, 1, ONES), refused(10), expect("take: far past the horizon", 0, take(rows, 3));
+    fresh_plan(), set(0, PLAN, ONES), refused(14), expect("take: all ones", 0, take(rows, 3));
+    fresh_plan(), set(0, PLAN, 0), refused(14), expect("take: all zeros", 0, take(rows, 3));
+    fresh_plan(), set(2, 1, 33), refused(14), expect("take: a count above 32", 0, take(rows, 3));
+    fresh_plan(), set(5, 1, 1), refused(14), expect("take: a withdrawn position", 0, take(rows, 3));
+    fresh_plan(), set(KIND, 1, 4), refused(14), expect("take: no such phase", 0, take(rows, 3));
+    fresh_plan(), set(KIND, 1, 2), refused(14), expect("take: a task that holds", 0, take(rows, 3));
+    fresh_plan(), set(KIND + 3, 1, 1), refused(14), expect("take: unequal counts", 0, take(rows, 3));
+
+    /* the rows of our own plan, each refused once before it is taken */
+    fresh_plan();
+    for (uint32_t tick = 0; tick < 5; tick++) {
+        answered(SIVORANDRA_REFUSED, 24, tick), memcpy(run.want, run.now, sizeof run.now), expect("take: a bad row leaves the plan", 0, take(bad, 3));
+        if (tick == 4) {
+            answered(SIVORANDRA_REFUSED, 25, 5), expect("take: a deadline on the horizon", 0, take(idle, 3));
+            set(NOTES, 1, 9), answered(SIVORANDRA_REFUSED, 26, 5), expect("take: a note that is no phase agrees with none", 0, take(rows + 12, 3));
+            set(NOTES, 1, 3), answered(SIVORANDRA_REFUSED, 26, 5), expect("take: another note", 0, take(rows + 12, 3));
+            set(NOTES, 1, 1), set(PARITY, 1, 1), answered(SIVORANDRA_ACCEPTED, 0, 0), plan_words(5, again);
+            for (size_t i = 0; i < 3; i++)
+                run.want[GUARD + PARITY + PLACE * i] = i != 0;
+            expect("take: accepted, parity aside", 0, take(rows + 12, 3));
+            continue;
+        }
+        answered(0, 0, 0);
+        if (tick == 3)
+            plan_words(4, at_last);
+        uint32_t got = take(rows + 3 * tick, 3);
+        if (tick != 3)
+            memcpy(run.want, run.now, sizeof run.now);
+        expect("take: a row of our own", 0, got);
+    }
+    refused(10), expect("take: past the horizon", 0, take(rows, 3));
 }
 
 /* A table of too few, too many or senseless words. */
@@ -640,7 +730,7 @@ static void lists(void)
 
 int main(void)
 {
-    nulls(), sentences(), tables(), horizons(), bounds(), lengths(), built(), fences(), parities(), empty_jobs(), lending(), withdrawals(), lists(), figures();
+    nulls(), sentences(), tables(), horizons(), bounds(), lengths(), built(), fences(), parities(), empty_jobs(), lending(), withdrawals(), lists(), figures(), supplied();
     printf("%u calls, %u wrong\n", calls, wrong);
     return wrong != 0;
 }

@@ -4,11 +4,11 @@
 #include <string.h>
 #include "sivorandra.h"
 
-enum { HEAD = SIVORANDRA_TABLE_HEAD_WORDS, RECORD = SIVORANDRA_TABLE_RECORD_WORDS, MOST = SIVORANDRA_MOST_TASKS + 1, RUN = SIVORANDRA_RUN_WORDS };
+enum { HEAD = SIVORANDRA_TABLE_HEAD_WORDS, RECORD = SIVORANDRA_TABLE_RECORD_WORDS, MOST = SIVORANDRA_MOST_TASKS + 1, RUN = SIVORANDRA_RUN_WORDS, PLAN = SIVORANDRA_PLAN_WORDS };
 enum { CORES = 1, RULE = 2, FENCE = 3, NEXT = HEAD, O, V, C, D, T, W };
 enum { PASSES = 0 };
 
-static uint32_t table[HEAD + RECORD * MOST], run[RUN], answer[SIVORANDRA_ANSWER_WORDS];
+static uint32_t table[HEAD + RECORD * MOST], run[PLAN], answer[SIVORANDRA_ANSWER_WORDS];
 static uint8_t rows[SIVORANDRA_SENTENCE_BYTES];
 static size_t words;
 static unsigned asked, wrong;
@@ -48,6 +48,18 @@ static uint32_t withdraw(uint32_t position) { return sivorandra_withdraw(run, RU
 static uint32_t sentence(size_t len) { return sivorandra_sentence(table, words, rows, len, answer, SIVORANDRA_ANSWER_WORDS); }
 static uint32_t longest(void) { return sivorandra_longest(table, words, run, SIVORANDRA_MOST_TASKS, answer, SIVORANDRA_ANSWER_WORDS); }
 static uint32_t spare(void) { return sivorandra_spare(table, words, run, SIVORANDRA_MOST_TASKS, answer, SIVORANDRA_ANSWER_WORDS); }
+static uint32_t begin(void) { return sivorandra_begin(table, words, run, PLAN, answer, SIVORANDRA_ANSWER_WORDS); }
+static uint32_t take(uint8_t a, uint8_t b)
+{
+    uint8_t two[2] = { a, b };
+    return sivorandra_take(run, PLAN, two, 2, answer, SIVORANDRA_ANSWER_WORDS);
+}
+static uint32_t idle(uint32_t ticks)
+{
+    while (--ticks)
+        take(0, 0);
+    return take(0, 0);
+}
 static uint32_t clash(void) { return sivorandra_clash(table, words, answer, SIVORANDRA_ANSWER_WORDS); }
 
 static void numbers(void)
@@ -109,6 +121,26 @@ static void numbers(void)
     table[RULE] = SIVORANDRA_LENDING, expect("the same under lending", spare(), SIVORANDRA_SPARE_NOT_GIVEN, 0);
     with(C, 6), table[RULE] = SIVORANDRA_LIMITED, expect("a miss under limited", spare(), SIVORANDRA_SPARE_NOT_GIVEN, 0);
     with(V, 3), table[RULE] = SIVORANDRA_IDLING, expect("too wide, asked for the spare ticks", spare(), SIVORANDRA_BAD_WIDTH, 1);
+
+    /* plans by others: a row without a task is idle */
+    with(V, 3), expect("too wide for a plan by others", begin(), SIVORANDRA_BAD_WIDTH, 1);
+    expect("the plan of a refused beginning", take(0, 0), SIVORANDRA_NOT_A_RUN, 0);
+    with(C, 6), expect("a miss by our rule begins", begin(), PASSES, 0);
+    fresh(1), expect("a plan by others", begin(), PASSES, 0);
+    expect("no row", sivorandra_take(run, PLAN, NULL, 0, answer, SIVORANDRA_ANSWER_WORDS), SIVORANDRA_SHORT_ROWS, 0);
+    expect("no such position in a row", take(2, 0), SIVORANDRA_BAD_ROW, 0);
+    expect("another width", take(1, 1), SIVORANDRA_BAD_ROW, 0);
+    expect("a row", take(0, 1), PASSES, 0);
+    expect("nothing owed", take(1, 0), SIVORANDRA_BAD_ROW, 1);
+    expect("idle rows", idle(4), PASSES, 0);
+    expect("the last is accepted", answer[0] != SIVORANDRA_ACCEPTED, PASSES, 0);
+    expect("past the horizon", take(0, 0), SIVORANDRA_BAD_RANGE, 0);
+    fresh(1), begin(), expect("a deadline missed on the horizon", idle(5), SIVORANDRA_DEADLINE_MISSED, 5);
+    expect("the last row again", take(1, 0), PASSES, 0);
+    with(D, 2), begin(), expect("a deadline missed before it", idle(3), SIVORANDRA_DEADLINE_MISSED, 2);
+    fresh(2), table[RECORD + O] = 1, begin(), take(1, 0), take(0, 2), expect("other phases than at the last S", idle(4), SIVORANDRA_PHASES_DIFFER, 6);
+    expect("the last row again", take(0, 1), PASSES, 0);
+    expect("it is accepted", answer[0] != SIVORANDRA_ACCEPTED, PASSES, 0);
 
     /* position 1 ends early, the wide task at position 2 goes first, and position 3 is late */
     static const uint32_t b[] = { 1, 2, 1, 0, 0, 2, 0, 1, 3, 3, 4, 1, 3, 0, 2, 1, 4, 4, 2, 0, 0, 1, 2, 2, 4, 1 };

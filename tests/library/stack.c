@@ -1,5 +1,5 @@
 /* The stack that each call takes, found in a thread whose stack is painted before the call: tables of 32 tasks under each rule, with short and long periods, with a miss
-   and without, and runs of them. Prints the most of each call, and fails where one takes more than the header says. */
+   and without, runs of them, and rows of others' plans. Prints the most of each call, and fails where one takes more than the header says. */
 #define _POSIX_C_SOURCE 200809L
 #include <pthread.h>
 #include <stdio.h>
@@ -10,11 +10,11 @@
 enum { TASKS = SIVORANDRA_MOST_TASKS, TABLE = SIVORANDRA_TABLE_WORDS, RUN = SIVORANDRA_RUN_WORDS, FACTS = SIVORANDRA_FACT_WORDS };
 enum { STACK = 1 << 18, PAINT = 0xa5, TICKS = 200 };
 
-static uint32_t table[TABLE], run[RUN], answer[3], entries[TICKS * SIVORANDRA_ENTRY_WORDS], numbers[TICKS];
-static uint8_t rows[TICKS * SIVORANDRA_MOST_CORES], sentence[SIVORANDRA_SENTENCE_BYTES];
+static uint32_t table[TABLE], run[RUN], supplied[SIVORANDRA_PLAN_WORDS], answer[3], entries[TICKS * SIVORANDRA_ENTRY_WORDS], numbers[TICKS];
+static uint8_t rows[TICKS * SIVORANDRA_MOST_CORES], sentence[SIVORANDRA_SENTENCE_BYTES], idle[SIVORANDRA_MOST_CORES];
 static uint64_t facts[FACTS];
 static size_t words, length;
-static uint32_t end;
+static uint32_t end, last;
 
 static void version(void) { sivorandra_version(); }
 static void judge(void) { sivorandra_judge(table, words, answer, 3); }
@@ -30,11 +30,18 @@ static void read_back(void) { sivorandra_facts(sentence, length, facts, FACTS, a
 static void longest(void) { sivorandra_longest(table, words, numbers, TASKS, answer, 3); }
 static void spare(void) { sivorandra_spare(table, words, numbers, TASKS, answer, 3); }
 static void clash(void) { sivorandra_clash(table, words, answer, 3); }
+static void begin(void) { sivorandra_begin(table, words, supplied, SIVORANDRA_PLAN_WORDS, answer, 3); }
+/* an idle row, at the beginning and as the last */
+static void take(void)
+{
+    sivorandra_take(supplied, SIVORANDRA_PLAN_WORDS, idle, SIVORANDRA_MOST_CORES, answer, 3);
+    supplied[RUN] = last, sivorandra_take(supplied, SIVORANDRA_PLAN_WORDS, idle, SIVORANDRA_MOST_CORES, answer, 3);
+}
 
 static struct { const char *name; void (*call)(void); size_t most; } calls[] = {
     { "version", version, 0 }, { "judge", judge, 0 }, { "judge_ticks", judge_ticks, 0 }, { "plan", plan, 0 }, { "replay", replay, 0 },
     { "start", start, 0 }, { "row", row, 0 }, { "advance", advance, 0 }, { "withdraw", withdraw, 0 }, { "sentence", say, 0 }, { "facts", read_back, 0 },
-    { "longest", longest, 0 }, { "clash", clash, 0 }, { "spare", spare, 0 },
+    { "longest", longest, 0 }, { "clash", clash, 0 }, { "spare", spare, 0 }, { "begin", begin, 0 }, { "take", take, 0 },
 };
 enum { CALLS = sizeof calls / sizeof calls[0] };
 
@@ -85,10 +92,12 @@ static void make(uint32_t rule, uint32_t c, uint32_t d, uint32_t t, uint32_t fen
 static void look(void)
 {
     uint32_t begun[RUN];
-    judge(), end = answer[0] == SIVORANDRA_MISS ? answer[1] : answer[1] + answer[2];
+    judge(), end = answer[0] == SIVORANDRA_MISS ? answer[1] : answer[1] + answer[2], last = end - 1;
     if (end > TICKS)
         end = TICKS;
     start(), memcpy(begun, run, sizeof begun), say(), length = answer[0] == SIVORANDRA_LENGTH ? answer[1] : 0;
+    for (uint32_t c = 0; c < 32; c++)
+        idle[c] = table[3] >> c & 1 ? SIVORANDRA_FENCED : 0;
     for (size_t i = 0; i < CALLS; i++) {
         memcpy(run, begun, sizeof run);
         size_t used = taken(i);

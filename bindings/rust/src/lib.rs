@@ -29,7 +29,7 @@ pub use refusal::Refusal;
 use std::fmt;
 
 /// The version that these bindings are for: major * 10000 + minor * 100 + patch. `version` is that of the library that is linked.
-pub const VERSION: u32 = 1300;
+pub const VERSION: u32 = 1400;
 
 /// The most tasks on a chain, and the most records of a table.
 pub const MOST_TASKS: usize = 32;
@@ -95,6 +95,11 @@ pub const RUN_HEAD_WORDS: usize = 6;
 pub const RUN_PLACE_WORDS: usize = 11;
 /// The words that a run takes: it has 32 places, of which the first count are used.
 pub const RUN_WORDS: usize = RUN_HEAD_WORDS + RUN_PLACE_WORDS * MOST_TASKS;
+
+/// The words of a note of a supplied plan: the kind of the phase that is noted and its three numbers, as a place has them.
+pub const NOTE_WORDS: usize = 4;
+/// The words that a supplied plan takes: those of its run, its tick, and a note for each place.
+pub const PLAN_WORDS: usize = RUN_WORDS + 1 + NOTE_WORDS * MOST_TASKS;
 
 /// The bytes of a run's row: core 0 first, the position, which is the borrower's on a lent core, 0 for idle, or `FENCED`.
 pub const ROW_BYTES: usize = MOST_CORES;
@@ -226,6 +231,44 @@ pub struct Run {
     words: [u32; RUN_WORDS],
 }
 
+/// A plan that another planner makes for a table, taken row by row. Its words can be kept anywhere and read back by the version that wrote them: words that are no plan's are refused
+/// with 14. A plan that is accepted, repeated from the last S on, meets every deadline at every tick.
+///
+/// ```
+/// use sivorandra::{Refusal, RowAnswer, Supplied, LIMITED};
+///
+/// // our own planner misses a deadline by this rule; theirs does not
+/// let table = [1, 3, LIMITED, 0, 0, 2, 0, 2, 2, 5, 5, 2, 3, 0, 2, 3, 5, 5, 2, 0, 0, 1, 4, 5, 5, 1];
+/// let mut plan = Supplied::begin(&table)?;
+/// for row in [[1, 1, 3], [1, 1, 3], [2, 2, 3], [2, 2, 3]] {
+///     assert_eq!(plan.take(&row)?, RowAnswer::Taken);
+/// }
+/// assert_eq!(plan.take(&[0, 0, 0]), Err(Refusal::DeadlineMissed { tick: 5 }));
+/// assert_eq!(plan.take(&[2, 2, 0])?, RowAnswer::Accepted); // a refusal leaves the plan as it is
+/// # Ok::<(), Refusal>(())
+/// ```
+#[derive(Clone, Debug, PartialEq, Eq)]
+pub struct Supplied {
+    words: [u32; PLAN_WORDS],
+}
+
+/// What a row of a supplied plan is answered where it is not refused.
+///
+/// ```
+/// use sivorandra::{RowAnswer, Supplied};
+///
+/// let mut plan = Supplied::begin(&[1, 1, 1, 0, 0, 0, 0, 1, 1, 2, 2, 1])?;
+/// assert_eq!([plan.take(&[0])?, plan.take(&[1])?], [RowAnswer::Taken, RowAnswer::Accepted]);
+/// # Ok::<(), sivorandra::Refusal>(())
+/// ```
+#[derive(Clone, Copy, Debug, PartialEq, Eq, Hash)]
+pub enum RowAnswer {
+    /// The row is taken, and there are more to come.
+    Taken,
+    /// The row is taken as the last, and the whole plan is accepted.
+    Accepted,
+}
+
 /// What a sentence says of a miss.
 ///
 /// ```
@@ -274,6 +317,8 @@ extern "C" {
     fn sivorandra_longest(words: *const u32, words_len: usize, figures: *mut u32, figures_len: usize, answer: *mut u32, answer_len: usize) -> u32;
     fn sivorandra_clash(words: *const u32, words_len: usize, answer: *mut u32, answer_len: usize) -> u32;
     fn sivorandra_spare(words: *const u32, words_len: usize, figures: *mut u32, figures_len: usize, answer: *mut u32, answer_len: usize) -> u32;
+    fn sivorandra_begin(words: *const u32, words_len: usize, plan: *mut u32, plan_len: usize, answer: *mut u32, answer_len: usize) -> u32;
+    fn sivorandra_take(plan: *mut u32, plan_len: usize, row: *const u8, row_len: usize, answer: *mut u32, answer_len: usize) -> u32;
 }
 
 /// The three words of an answer: every slice that these functions lend is long enough.
@@ -628,5 +673,90 @@ impl Run {
     /// ```
     pub fn withdraw(&mut self, position: u32) -> Result<(), Refusal> {
         done(ask(|answer, len| unsafe { sivorandra_withdraw(self.words.as_mut_ptr(), self.words.len(), position, answer, len) }))
+    }
+}
+
+impl Supplied {
+    /// The plan of a table's words as it begins, at tick 0, whatever the table's verdict.
+    ///
+    /// ```
+    /// use sivorandra::{Refusal, Supplied};
+    ///
+    /// assert_eq!(Supplied::begin(&[]), Err(Refusal::NotATable));
+    /// assert!(Supplied::begin(&[1, 1, 1, 0, 0, 0, 0, 1, 2, 1, 1, 1]).is_ok()); // C is above D, and so 25 will come
+    /// ```
+    pub fn begin(words: &[u32]) -> Result<Supplied, Refusal> {
+        let mut plan = [0; PLAN_WORDS];
+        done(ask(|answer, len| unsafe { sivorandra_begin(words.as_ptr(), words.len(), plan.as_mut_ptr(), plan.len(), answer, len) }))?;
+        Ok(Supplied { words: plan })
+    }
+
+    /// A plan from its words, which may be any: what is no plan is refused with 14 by `take`. Words of a note that are no phase are kept, and agree with no phase (26).
+    ///
+    /// ```
+    /// use sivorandra::{Refusal, Supplied, PLAN_WORDS};
+    ///
+    /// let mut plan = Supplied::from_words([0; PLAN_WORDS]);
+    /// assert_eq!(plan.take(&[0]), Err(Refusal::NotARun));
+    /// ```
+    pub fn from_words(words: [u32; PLAN_WORDS]) -> Supplied {
+        Supplied { words }
+    }
+
+    /// The plan's words.
+    ///
+    /// ```
+    /// use sivorandra::Supplied;
+    ///
+    /// let plan = Supplied::begin(&[1, 3, 1, 0, 0, 0, 0, 2, 2, 5, 5, 2])?;
+    /// assert_eq!(Supplied::from_words(*plan.words()), plan);
+    /// # Ok::<(), sivorandra::Refusal>(())
+    /// ```
+    pub fn words(&self) -> &[u32; PLAN_WORDS] {
+        &self.words
+    }
+
+    /// The core count, fenced ones too: a row has so many bytes. Of words that are no plan it is what stands in its place.
+    ///
+    /// ```
+    /// let plan = sivorandra::Supplied::begin(&[1, 3, 1, 0, 0, 0, 0, 2, 2, 5, 5, 2])?;
+    /// assert_eq!(plan.cores(), 3);
+    /// # Ok::<(), sivorandra::Refusal>(())
+    /// ```
+    pub fn cores(&self) -> usize {
+        self.words[1] as usize
+    }
+
+    /// The tick whose row is next: so many rows have been taken.
+    ///
+    /// ```
+    /// let mut plan = sivorandra::Supplied::begin(&[1, 3, 1, 0, 0, 0, 0, 2, 2, 5, 5, 2])?;
+    /// plan.take(&[1, 0, 1])?;
+    /// assert_eq!(plan.tick(), 1);
+    /// # Ok::<(), sivorandra::Refusal>(())
+    /// ```
+    pub fn tick(&self) -> u32 {
+        self.words[RUN_WORDS]
+    }
+
+    /// Takes the row of the present tick, a byte a core: the position that has it, 0 for idle, or `FENCED`. A refusal leaves the plan as it is, so that another row can be tried: 10
+    /// past the horizon, 11 where the row has not a byte for each core, 24 to 26 with their tick.
+    ///
+    /// ```
+    /// use sivorandra::{Refusal, Supplied};
+    ///
+    /// let mut plan = Supplied::begin(&[1, 3, 1, 0, 0, 0, 0, 2, 2, 5, 5, 2])?;
+    /// assert_eq!(plan.take(&[1, 1]), Err(Refusal::ShortRows));
+    /// assert_eq!(plan.take(&[1, 0, 0]), Err(Refusal::BadRow { tick: 0 })); // the job has two cores
+    /// plan.take(&[0, 1, 1])?;
+    /// # Ok::<(), Refusal>(())
+    /// ```
+    pub fn take(&mut self, row: &[u8]) -> Result<RowAnswer, Refusal> {
+        let [case, number, tick] = ask(|answer, len| unsafe { sivorandra_take(self.words.as_mut_ptr(), self.words.len(), row.as_ptr(), row.len(), answer, len) });
+        match case {
+            0 => Ok(RowAnswer::Taken),
+            6 => Ok(RowAnswer::Accepted),
+            _ => Err(Refusal::new(number, tick)),
+        }
     }
 }

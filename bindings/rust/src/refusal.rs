@@ -2,7 +2,7 @@
 use std::error::Error;
 use std::fmt;
 
-/// Why a call is turned down: one variant for each number of the scope, with the position that is at fault where the number has one.
+/// Why a call is turned down: one variant for each number of the scope, with the position that is at fault, or the tick, where the number has one.
 ///
 /// ```
 /// use sivorandra::{judge, Refusal};
@@ -40,15 +40,15 @@ pub enum Refusal {
     },
     /// 9: the horizon, S + P, is above 1,000,000,000.
     LongHorizon,
-    /// 10, of a plan: a is above b, or b is above the horizon.
+    /// 10, of a plan: a is above b, or b is above the horizon; of a row taken: it is past the horizon.
     BadRange,
-    /// 11, of a plan: the buffer has fewer bytes than the rows take.
+    /// 11, of a plan: the buffer has fewer bytes than the rows take; of a row taken: its length is not the core count.
     ShortRows,
     /// 12, of a plan: b is above the tick of the first miss.
     PastMiss,
     /// 13, of a start, a replay or the longest answers: the verdict is a miss.
     TableMisses,
-    /// 14, of a row, an advance or a withdrawal: the words are no run.
+    /// 14, of a row, an advance or a withdrawal: the words are no run; of a row taken: they are no supplied plan's.
     NotARun,
     /// 15, of a row or an advance: this position, the lowest that is late, has not ended its job at its deadline.
     Late {
@@ -71,6 +71,21 @@ pub enum Refusal {
     NoPosition,
     /// 23, of the spare ticks: the table is not accepted under rule 2, nor under rule 1 with no width of a task above one of the next.
     SpareNotGiven,
+    /// 24, of a row taken: a byte that is neither 0 nor a position, a fenced core without 255, a task with another width than its job's, or one with no work owed.
+    BadRow {
+        /// The tick of the row.
+        tick: u32,
+    },
+    /// 25, of a row taken: some job is not done at its deadline.
+    DeadlineMissed {
+        /// The tick of the deadline.
+        tick: u32,
+    },
+    /// 26, of the last row taken: some task's phase is not the one noted at the last S, parity aside.
+    PhasesDiffer {
+        /// The horizon.
+        tick: u32,
+    },
     /// A number that these bindings do not know, from a library that is newer.
     Other {
         /// The number.
@@ -81,13 +96,14 @@ pub enum Refusal {
 }
 
 impl Refusal {
-    /// The refusal of a number and a position, which is 0 where there is none.
+    /// The refusal of a number and a position, which is 0 where there is none; with 24 to 26 it is a tick instead.
     ///
     /// ```
     /// use sivorandra::Refusal;
     ///
     /// assert_eq!(Refusal::new(15, 3), Refusal::Late { position: 3 });
     /// assert_eq!(Refusal::new(9, 0), Refusal::LongHorizon);
+    /// assert_eq!(Refusal::new(24, 7), Refusal::BadRow { tick: 7 });
     /// assert_eq!(Refusal::new(1000, 0), Refusal::Other { number: 1000, position: 0 });
     /// ```
     pub const fn new(number: u32, position: u32) -> Refusal {
@@ -115,6 +131,9 @@ impl Refusal {
             (21, 0) => Refusal::NotFirm,
             (22, 0) => Refusal::NoPosition,
             (23, 0) => Refusal::SpareNotGiven,
+            (24, tick) => Refusal::BadRow { tick },
+            (25, tick) => Refusal::DeadlineMissed { tick },
+            (26, tick) => Refusal::PhasesDiffer { tick },
             (number, position) => Refusal::Other { number, position },
         }
     }
@@ -149,6 +168,9 @@ impl Refusal {
             Refusal::NotFirm => 21,
             Refusal::NoPosition => 22,
             Refusal::SpareNotGiven => 23,
+            Refusal::BadRow { .. } => 24,
+            Refusal::DeadlineMissed { .. } => 25,
+            Refusal::PhasesDiffer { .. } => 26,
             Refusal::Other { number, .. } => number,
         }
     }
@@ -167,6 +189,21 @@ impl Refusal {
             _ => 0,
         }
     }
+
+    /// The tick with 24 to 26, or 0 where the number has none.
+    ///
+    /// ```
+    /// use sivorandra::Refusal;
+    ///
+    /// assert_eq!(Refusal::DeadlineMissed { tick: 5 }.tick(), 5);
+    /// assert_eq!(Refusal::Late { position: 3 }.tick(), 0);
+    /// ```
+    pub const fn tick(self) -> u32 {
+        match self {
+            Refusal::BadRow { tick } | Refusal::DeadlineMissed { tick } | Refusal::PhasesDiffer { tick } => tick,
+            _ => 0,
+        }
+    }
 }
 
 impl fmt::Display for Refusal {
@@ -182,8 +219,8 @@ impl fmt::Display for Refusal {
             Refusal::BadWidth { position } => write!(out, "a width of position {position} is 0 or above the number of unfenced cores"),
             Refusal::BadTime { position } => write!(out, "O, C, T or D of position {position} is outside its limits"),
             Refusal::LongHorizon => write!(out, "the horizon is above 1,000,000,000"),
-            Refusal::BadRange => write!(out, "a is above b, or b is above the horizon"),
-            Refusal::ShortRows => write!(out, "the buffer has fewer bytes than the rows take"),
+            Refusal::BadRange => write!(out, "a is above b, or b is above the horizon, or a row past it"),
+            Refusal::ShortRows => write!(out, "the buffer has fewer bytes than the rows take, or a row not one for each core"),
             Refusal::PastMiss => write!(out, "b is above the tick of the first miss"),
             Refusal::TableMisses => write!(out, "the table misses a deadline, and is not started"),
             Refusal::NotARun => write!(out, "this is no run"),
@@ -196,6 +233,9 @@ impl fmt::Display for Refusal {
             Refusal::NotFirm => write!(out, "the rule is greedy and a width of some task is above one of the next, so that others could be late without a task"),
             Refusal::NoPosition => write!(out, "the position is 0 or past the count"),
             Refusal::SpareNotGiven => write!(out, "the table is not accepted under rule 2, nor under rule 1 with no width of a task above one of the next"),
+            Refusal::BadRow { tick } => write!(out, "the row of tick {tick} has a byte that it may not have, a task with another width than its job's, or one with no work owed"),
+            Refusal::DeadlineMissed { tick } => write!(out, "some job is not done at its deadline at tick {tick}"),
+            Refusal::PhasesDiffer { tick } => write!(out, "at tick {tick}, the horizon, some task is not in the phase that it had at the last S"),
             Refusal::Other { position: 0, .. } => write!(out, "turned down"),
             Refusal::Other { position, .. } => write!(out, "turned down at position {position}"),
         }?;

@@ -3,15 +3,25 @@ use sivorandra::{clash, judge, version, Refusal, Run, MOST_TASKS, VERSION};
 use std::error::Error;
 
 /// The last number that has a name of its own.
-const LAST: u32 = 23;
+const LAST: u32 = 26;
+
+/// Those that come with a position, and those that come with a tick.
+const POSITIONS: [u32; 3] = [7, 8, 15];
+const TICKS: [u32; 3] = [24, 25, 26];
+
+/// The numbers that have a name of their own.
+fn names() -> impl Iterator<Item = u32> {
+    1..=LAST
+}
 
 #[test]
 fn number_and_position_come_back() {
     for number in (0..600).chain([u32::MAX - 1, u32::MAX]) {
         for position in [0, 1, 2, 32, 33, 255, 256, u32::MAX] {
             let refusal = Refusal::new(number, position);
-            assert_eq!((refusal.number(), refusal.position()), (number, position));
-            let named = (1..=LAST).contains(&number) && (position == 0 || [7, 8, 15].contains(&number));
+            let beside = if TICKS.contains(&number) { (0, position) } else { (position, 0) };
+            assert_eq!((refusal.number(), (refusal.position(), refusal.tick())), (number, beside));
+            let named = names().any(|name| name == number) && (position == 0 || POSITIONS.contains(&number) || TICKS.contains(&number));
             assert_eq!(!matches!(refusal, Refusal::Other { .. }), named, "{refusal:?}");
         }
     }
@@ -19,12 +29,13 @@ fn number_and_position_come_back() {
 
 #[test]
 fn each_says_its_meaning_and_number() {
-    let said: Vec<String> = (1..=LAST).map(|number| Refusal::new(number, 0).to_string()).collect();
-    for (number, text) in (1..).zip(&said) {
+    let said: Vec<String> = names().map(|number| Refusal::new(number, 0).to_string()).collect();
+    for (number, text) in names().zip(&said) {
         assert!(text.ends_with(&format!(" (number {number})")), "{text}");
         assert_eq!(said.iter().filter(|other| other.starts_with(text.split(" (number").next().unwrap())).count(), 1, "{text}");
     }
     assert!(Refusal::new(15, 3).to_string().contains("position 3"));
+    assert!(TICKS.iter().all(|&number| Refusal::new(number, 9).to_string().contains("tick 9")));
     assert_eq!(Refusal::new(77, 5).to_string(), "turned down at position 5 (number 77)");
 }
 

@@ -148,7 +148,7 @@ no-number : (k a b c : ℕ) → eqb c 0 && eqb b 0 ≡ true → phaseWords k a 0
 no-number k a b c e =
     λ i. phaseWords k a (sym (eqb-true b 0 (and-right (eqb c 0) (eqb b 0) e)) i) (sym (eqb-true c 0 (and-left (eqb c 0) (eqb b 0) e)) i)
 
-phase-forth : (k a b c : ℕ) → isPhase k b c ≡ true → ofPhase (phaseOf k a b c) ≡ phaseWords k a b c
+pub phase-forth : (k a b c : ℕ) → isPhase k b c ≡ true → ofPhase (phaseOf k a b c) ≡ phaseWords k a b c
 phase-forth zero a b c e = no-number 0 a b c e
 phase-forth (suc zero) a b c e = refl
 phase-forth (suc (suc zero)) a b c e = ap (λ (n : ℕ). phaseWords 2 a b n) (sym (eqb-true c 0 (and-left (eqb c 0) true e)))

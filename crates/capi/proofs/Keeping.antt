@@ -34,14 +34,14 @@ use Rattle.capi.proofs.Places.{by-held, held-few}
 -- THE ROOM FOR AN ANSWER AND FOR n MORE
 
 module _ (n : ℕ) (buffer answer : List ℕ) (lent found : List (List ℕ)) where
-  narrow : length answer < 3 → byRoom (room answer && leb n (length buffer)) lent found ≡ left 1 found
+  pub narrow : length answer < 3 → byRoom (room answer && leb n (length buffer)) lent found ≡ left 1 found
   narrow h = simp (lt-leb 3 (length answer) h)
 
   module _ (h : 3 ≤ length answer) where
-    short : length buffer < n → byRoom (room answer && leb n (length buffer)) lent found ≡ left 1 found
+    pub short : length buffer < n → byRoom (room answer && leb n (length buffer)) lent found ≡ left 1 found
     short l = simp (le-leb 3 (length answer) h, lt-leb n (length buffer) l)
 
-    roomy : n ≤ length buffer → byRoom (room answer && leb n (length buffer)) lent found ≡ left 0 lent
+    pub roomy : n ≤ length buffer → byRoom (room answer && leb n (length buffer)) lent found ≡ left 0 lent
     roomy l = simp (le-leb 3 (length answer) h, le-leb n (length buffer) l)
 
 -- START

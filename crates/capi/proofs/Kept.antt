@@ -46,7 +46,7 @@ clear-fits r f =
 
 -- START
 
-fits-started : (n : ℕ) (s : model.Table) → startedRun n s .count ≤ places → Fits (startedRun n s)
+pub fits-started : (n : ℕ) (s : model.Table) → startedRun n s .count ≤ places → Fits (startedRun n s)
 unfolding startedRun
 fits-started n s h =
     let rest = replicate (places - length (s .tasks)) unused in

@@ -7,10 +7,13 @@ mod Putting
 mod Keeping
 mod Sentences
 mod FigureCalls
+mod Noting
+mod Supplying
 pub mod Kept
 pub mod Listed
 pub mod Past
 pub mod Fourteen
+pub mod SuppliedKept
 pub mod Examples
 pub mod Calling
 pub mod RunExamples
@@ -19,3 +22,4 @@ pub mod SentenceExamples
 pub mod FigureExamples
 pub mod ClashExamples
 pub mod SpareExamples
+pub mod SuppliedExamples

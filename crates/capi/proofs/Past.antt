@@ -121,7 +121,7 @@ module _ (ws vs : List ℕ) (s : SameUsed ws vs) where
       let h = held-run ws r e in
       by-held vs (also-holds (h .0)) ∙ ap run (same-run (h .0) ∙ h .1)
 
-same-held : (ws vs : List ℕ) → SameUsed ws vs → decode ws ≡ decode vs
+pub same-held : (ws vs : List ℕ) → SameUsed ws vs → decode ws ≡ decode vs
 same-held ws vs s = go (decode ws) (decode vs) refl refl
   where
     go : (h g : Held) → decode ws ≡ h → decode vs ≡ g → decode ws ≡ decode vs

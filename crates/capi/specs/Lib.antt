@@ -1,4 +1,4 @@
--- What the calls for C and Rust leave behind: their answers in words, a run in a lent buffer, lists of entries, and sentences.
+-- What the calls for C and Rust leave behind: their answers in words, a run and a supplied plan in a lent buffer, lists of entries, and sentences.
 pub mod Told
 pub mod Calls
 pub mod Replays
@@ -9,4 +9,6 @@ pub mod Past
 pub mod Fourteen
 pub mod Sentences
 pub mod Figures
+pub mod Supplied
+pub mod Taking
 pub mod Version

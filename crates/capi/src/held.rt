@@ -44,7 +44,7 @@ pub struct PhaseWords {
 }
 
 // A phase in four words.
-fn of_phase(phase: Phase) -> PhaseWords
+pub(crate) fn of_phase(phase: Phase) -> PhaseWords
     ensures { λ r. ⌜ r ≡ ofPhase phase ⌝ }
 {
     match phase {
@@ -152,7 +152,7 @@ pub(crate) fn put_run(run: Run, shown: usize, words: &mut [u32])
 }
 
 // Whether a parity is one, and a phase has this kind, this second number and this third.
-fn is_stand(parity: u32, kind: u32, second: u32, third: u32) -> bool
+pub(crate) fn is_stand(parity: u32, kind: u32, second: u32, third: u32) -> bool
     ensures { λ r. ⌜ r ≡ isStand parity kind second third ⌝ }
 {
     let holding = (kind == 2) | (second == 0);
@@ -160,7 +160,7 @@ fn is_stand(parity: u32, kind: u32, second: u32, third: u32) -> bool
 }
 
 // The phase of a kind and its numbers.
-fn phase_of(kind: u32, first: u32, second: u32, third: u32) -> Phase
+pub(crate) fn phase_of(kind: u32, first: u32, second: u32, third: u32) -> Phase
     ensures { λ r. ⌜ r ≡ phaseOf kind first second third ⌝ }
 {
     if kind == 0 {

@@ -1,6 +1,6 @@
-// The library to link: the judge, the plan, the replay and the run in the cab for C and Rust, on numbers and lent slices.
+// The library to link: the judge, the plan, the replay, the run in the cab and plans by others for C and Rust, on numbers and lent slices.
 // Each function but sivorandra_version returns 0 where the call is answered, and 1 where a lent slice is too short or a list of entries is none: then everything is as found.
-// Short rows of a plan are 11 instead, and a buffer lent to row, advance or withdraw that is too short for a run holds none: 14.
+// Short rows of a plan are 11 instead, and a buffer lent to row, advance, withdraw or take that is too short for a run or a plan holds none: 14.
 // The answer stands in the three first words of `answer`: a case and two numbers.
 ghost use mathlib.Core.Path.{_≡_};
 ghost use mathlib.Core.List.{[], _∷_};
@@ -9,6 +9,7 @@ ghost use Rattle.capi.specs.Replays.{replayCall};
 ghost use Rattle.capi.specs.Runs.{startCall, rowCall, advanceCall, withdrawCall};
 ghost use Rattle.capi.specs.Sentences.{sentenceCall, factsCall};
 ghost use Rattle.capi.specs.Figures.{longestCall, spareCall};
+ghost use Rattle.capi.specs.Taking.{beginCall, takeCall};
 ghost use Rattle.capi.specs.Version.{version};
 use model::MOST_TASKS;
 use model::ROW;
@@ -17,10 +18,11 @@ mod facts; // facts.rt: the facts of a miss in a lent buffer of words
 mod figures; // figures.rt: a figure for each task in a lent buffer of words
 mod held; // held.rt: a run in a lent buffer of words
 mod replays; // replays.rt: what a replay says
+mod supplied; // supplied.rt: a supplied plan in a lent buffer of words
 mod told; // told.rt: an answer in three words
 
 // The version of the library as one number: major * 10000 + minor * 100 + patch.
-const VERSION: u32 = 1300;
+const VERSION: u32 = 1400;
 
 // The version of the library that is linked; the header has that of the header.
 #[no_mangle]
@@ -272,6 +274,42 @@ pub extern "C" fn sivorandra_spare(words: &[u32], figures: &mut [u32], answer: &
     figures::put_figures(spare, figures);
     let given = found.answer;
     let told = told::of_given(given, 0);
+    told::put(told, answer);
+    0
+}
+
+// The plan of a table's words from the supplier's own planner as it begins, all its words, into the front of `plan`: case 0, or 3 Refused number position
+// and the plan of all zeros.
+#[no_mangle]
+pub extern "C" fn sivorandra_begin(words: &[u32], plan: &mut [u32], answer: &mut [u32]) -> u32
+    ensures { λ r. ⌜ record { value = r; lent = now (plan .exit) ∷ (now (answer .exit) ∷ []) } ≡ beginCall (now (words .entry)) (now (plan .entry)) (now (answer .entry)) ⌝ }
+{
+    if answer.len() < 3 {
+        return 1;
+    }
+    if plan.len() < supplied::WORDS {
+        return 1;
+    }
+    let begun = foreign::begin(words);
+    let first = begun.plan;
+    supplied::put_plan(first, held::PLACES, true, plan);
+    let given = begun.answer;
+    let told = told::of_given(given, 0);
+    told::put(told, answer);
+    0
+}
+
+// The row of the plan's present tick, one byte a core, as the supplier has it: case 0 taken, 6 taken as the last, and the whole plan accepted; or
+// 3 Refused number tick and `plan` as found; 14 where `plan` holds no plan.
+#[no_mangle]
+pub extern "C" fn sivorandra_take(plan: &mut [u32], row: &[u8], answer: &mut [u32]) -> u32
+    ensures { λ r. ⌜ record { value = r; lent = now (plan .exit) ∷ (now (answer .exit) ∷ []) } ≡ takeCall (now (plan .entry)) (now (row .entry)) (now (answer .entry)) ⌝ }
+{
+    if answer.len() < 3 {
+        return 1;
+    }
+    let given = supplied::take(plan, row);
+    let told = supplied::of_taken(given);
     told::put(told, answer);
     0
 }

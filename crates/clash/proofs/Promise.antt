@@ -23,6 +23,7 @@ use Rattle.clash.specs.Clash.{clashSet}
 use Rattle.clash.specs.Numbers.{Applies, First, NoneApplies, seventeen, words}
 use Rattle.clash.proofs.Dropping.{clash-past}
 use Rattle.clash.proofs.Minimal.{clash-minimal}
+use Rattle.clash.proofs.Relinked.{every-part}
 
 taken-refused : {n p : ℕ} → book.taken ≡ book.refused n p → ⊥
 taken-refused e = let z : _≡_ {A = ℕ} 0 1 = cc in omega arith
@@ -67,6 +68,7 @@ module _ (ws : List ℕ) where
       refused = λ n q. (λ e. absurd (taken-refused e), λ f. absurd (nothing n q (f .0)));
       passed = (λ e. nothing, λ e. refl);
       minimal = λ e. clash-minimal s (passed-sound ws none) p t missed;
+      words = λ e. every-part ws none;
       past = clash-past s;
       zeros = λ n q e. absurd (taken-refused e);
     }
@@ -85,6 +87,7 @@ module _ (ws : List ℕ) where
       refused = λ m q. (only m q, one m q);
       passed = (λ e. absurd (taken-refused (sym e)), λ none. absurd (none n p (first .0)));
       minimal = λ e. absurd (taken-refused (sym e));
+      words = λ e. absurd (taken-refused (sym e));
       past = λ q l. bit-none q;
       zeros = λ m q e. refl;
     }

@@ -3,12 +3,13 @@ use mathlib.Core.Bool.{false}
 use mathlib.Core.List.{List}
 use mathlib.Core.Logic.{_↔_}
 use mathlib.Core.Path.{_≡_}
-use Prim.Native.Nat.{ℕ, _≤_}
+use Prim.Native.Nat.{ℕ, _<_, _≤_}
 use lib.ListN.{length}
 use Rattle.model.specs.Book as book
 use Rattle.model.specs.Search.{bit}
 use Rattle.table.specs.declared.Answer.the-variants as table
 use Rattle.table.specs.Load.{loadTold}
+use Rattle.table.specs.Numbers as table-numbers
 use Rattle.table.specs.Words.{tableOf}
 use Rattle.judge.specs.declared.Verdict.{Verdict}
 use Rattle.judge.specs.declared.Verdict.the-variants.{Firm, Full, Miss, Refused}
@@ -16,6 +17,8 @@ use Rattle.judge.specs.Judged.{verdictOf}
 use Rattle.clash.specs.declared.Clashing.{Clashing}
 use Rattle.clash.specs.Clash.{clashSet, Minimal}
 use Rattle.clash.specs.Numbers.{First, NoneApplies}
+use Rattle.clash.specs.Part.{part}
+use Rattle.clash.specs.Relinked.{relinked}
 
 -- the set of positions kept is given; or it is turned down with number and position, and the set is empty
 abbrev pub given : ℕ → Clashing
@@ -44,6 +47,10 @@ pub record ClashOf (ws : List ℕ) (r : Clashing) : Type 0 where
   pub passed : (loadTold (r .answer) ≡ book.taken) ↔ NoneApplies ws
   -- given: the tasks kept miss, and of them none can be spared, at any tick
   pub minimal : loadTold (r .answer) ≡ book.taken → Minimal (tableOf ws) (r .kept)
+  -- and the words of every part that is not empty, the chain linked over the other records, say that part and pass all of the table's numbers
+  pub words :
+      loadTold (r .answer) ≡ book.taken → (x : ℕ) → 0 < length (part (tableOf ws) x .tasks)
+      → table-numbers.NoneApplies (relinked ws x) × (tableOf (relinked ws x) ≡ part (tableOf ws) x)
   -- no position past the count is kept, and in a refusal none at all
   pub past : (p : ℕ) → length (tableOf ws .tasks) ≤ p → bit (r .kept) p ≡ false
   pub zeros : (n p : ℕ) → loadTold (r .answer) ≡ book.refused n p → r .kept ≡ 0

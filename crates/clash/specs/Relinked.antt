@@ -1,5 +1,5 @@
 -- The words of a part of a table (request 110): the chain is linked over the records that are dropped, and all else stays. `every-part` shows that they say
--- that part, and that no number turns them down.
+-- that part, and that no number turns them down where it is not empty.
 use mathlib.Core.List.{List, [], _∷_}
 use Prim.Native.Nat.{ℕ, _+_, _*_, _-_}
 use lib.ListN.{set}

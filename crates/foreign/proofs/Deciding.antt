@@ -18,7 +18,7 @@ use Rattle.run.proofs.Limits.{run-decides}
 use Rattle.run.specs.Numbers.{Late, lateAt}
 use Rattle.run.specs.Run.{phaseAt, placeAt}
 use Rattle.run.specs.declared.Run.{Run}
-use Rattle.foreign.specs.Numbers.{Astray, Differs, Faulty, Missed, Owing, StateOut, StrangerAt, WrongAt, astray, differs, missed, samePhase, stateOut}
+use Rattle.foreign.specs.Numbers.{AnyLate, Astray, Differs, Faulty, Owing, StateOut, StrangerAt, WrongAt, astray, differs, missed, samePhase, stateOut}
 use Rattle.foreign.specs.Plan.{cells}
 use Rattle.foreign.specs.Row.{byteAt, faulty, strangerAt, strangers, wrongAt}
 use Rattle.foreign.specs.State.{notedAt}
@@ -45,7 +45,7 @@ state-decides r =
 
 -- 25
 
-pub missed-decides : (r : Run) → Decides (missed r) (Missed r)
+pub missed-decides : (r : Run) → Decides (missed r) (AnyLate r)
 unfolding missed
 missed-decides r = decides-any (r .count) (lateAt r) (Late r) (late-decides r)
 

@@ -25,6 +25,7 @@ pub mod Starting
 pub mod Cases
 pub mod Order
 pub mod Taking
+pub mod Past
 pub mod Tied
 pub mod Bridge
 pub mod Cells

@@ -2,11 +2,11 @@
 use mathlib.Core.Bool.{false, true}
 use mathlib.Core.List.{List}
 use mathlib.Core.Path.{ap, sym, _∙_, _≡_}
-use Prim.Native.Nat.{_+_, _<_, min, ℕ, _≤_}
+use Prim.Native.Nat.{_+_, _-_, _<_, min, ℕ, _≤_}
 use native.Mathlib.Omega.{arith}
-use lib.ListN.{List·getD-map, getD, take}
+use lib.ListN.{List·getD-map, getD, length, take}
 use lib.Seq.{getD-take}
-use borrow.Author.Tests.{ltb-false}
+use borrow.Author.Tests.{ltb-false, ne-eqb}
 use Rattle.model.specs.Horizon.{horizon, hyperperiod, lastS}
 use Rattle.model.specs.Sizes.{mostTasks}
 use Rattle.model.specs.Task as model
@@ -20,11 +20,11 @@ use Rattle.table.specs.Task.{InLimits, noTask, tasksOf}
 use Rattle.table.specs.Task as table
 use Rattle.table.specs.declared.Task.{Task}
 use Rattle.phase.specs.Task.{pastEnd, taskOf}
-use Rattle.run.proofs.Limits.{passes-if}
+use Rattle.run.proofs.Limits.{in-array, passes-if}
 use Rattle.run.specs.Numbers.{runOut, wideIn}
 use Rattle.run.specs.Run.{tableIn, taskAt, tasksIn}
 use Rattle.run.specs.declared.Run.{Run}
-use Rattle.foreign.specs.Ahead.{Ready, firstNumber}
+use Rattle.foreign.specs.Ahead.{Ready, aheadOf, firstNumber}
 use Rattle.foreign.specs.Numbers.{stateOut}
 use Rattle.foreign.specs.State.{horizonIn}
 use Rattle.foreign.proofs.Working.{horizon-kept}
@@ -77,6 +77,23 @@ number-9 r e f = rw (e, f)
 pub number-none : (r : Run) → stateOut r ≡ false → horizonOut (horizonIn r) ≡ false → firstNumber r ≡ 0
 unfolding firstNumber
 number-none r e f = rw (e, f)
+
+-- what looking ahead gives: zeros beside a number ..
+pub ahead-turned : (r : Run) (n : ℕ) → firstNumber r ≡ n → ¬ (n ≡ 0) → record { number = n; start = 0; horizon = 0 } ≡ aheadOf r
+unfolding aheadOf
+ahead-turned r n e z = rw (e, ne-eqb n 0 z)
+
+-- .. and where there is none the last S and the horizon
+pub ahead-near :
+    (r : Run) (start horizon : ℕ) → firstNumber r ≡ 0 → Ready r start horizon → record { number = 0; start = start; horizon = horizon } ≡ aheadOf r
+unfolding aheadOf
+ahead-near r start horizon e h = rw (e, h .start, h .horizon)
+
+-- the places below the count are places of the array
+pub all-places : (r : Run) → runOut r ≡ false → r .count ≤ length (r .tasks)
+all-places r e =
+    let l : r .count - 1 < r .count = omega (arith, some-tasks r e) in
+    omega (arith, in-array r (r .count - 1) (passes-if r e .tasks (r .count - 1) l))
 
 -- a run with the same tasks that passes 14 is ready with the same numbers
 pub ready-again : (r s : Run) (start horizon : ℕ) → Ready r start horizon → tasksIn s ≡ tasksIn r → stateOut s ≡ false → Ready s start horizon

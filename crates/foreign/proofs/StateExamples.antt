@@ -22,7 +22,9 @@ use Rattle.run.specs.Numbers.{pastCount, runOut}
 use Rattle.run.specs.Run.{mapFirst}
 use Rattle.run.specs.Start.{startedRun}
 use Rattle.foreign.specs.declared.Note.{Note}
+use Rattle.foreign.specs.declared.ahead.Ahead.{Ahead}
 use Rattle.foreign.specs.declared.Supplied.{Supplied}
+use Rattle.foreign.specs.Ahead.{aheadOf, firstNumber}
 use Rattle.foreign.specs.Begin.{beginOf}
 use Rattle.foreign.specs.Numbers.{differs, missed, stateOut}
 use Rattle.foreign.specs.Plan.{cells}
@@ -204,6 +206,26 @@ computed =
 -- .. and as one list
 pub state-examples : map computes lines ≡ lines
 state-examples = by-line computes lines lines computed
+
+-- HOW FAR PLANS GO: the number, the last S and the horizon
+
+abbrev ahead : ℕ → ℕ → ℕ → Ahead
+ahead n s h = record { number = n; start = s; horizon = h }
+
+-- an offset, at whatever tick; 25 and 10 are no part of it; 14 and 9 have zeros beside them; just within 9
+pub look-examples :
+    map (λ (w : Supplied). aheadOf (w .run))
+    (late (Coming 2) 0 (Resting 0)
+    ∷ late (Working 0 0 0) 2 (Resting 1)
+    ∷ one (Working 4 1 1) 4 (Working 0 0 0)
+    ∷ late (Resting 0) 2 (Resting 1)
+    ∷ without 1
+    ∷ every (64 ∷ 31 ∷ 29 ∷ 27 ∷ 25 ∷ 23 ∷ 19 ∷ []) 0
+    ∷ every (64 ∷ 31 ∷ 29 ∷ 27 ∷ 25 ∷ 23 ∷ []) 0
+    ∷ [])
+    ≡ ahead 0 2 5 ∷ ahead 0 2 5 ∷ ahead 0 0 4 ∷ ahead 14 0 0 ∷ ahead 14 0 0 ∷ ahead 9 0 0 ∷ ahead 0 0 893246400 ∷ []
+unfolding aheadOf firstNumber stateOut runOut pastCount computing
+look-examples = refl
 
 -- A REFUSED ROW, AND PLACES PAST THE COUNT
 

@@ -4,7 +4,7 @@ use mathlib.Core.Bool.{Bool, cond, false, not, true}
 use mathlib.Core.List.{List, map, _++_}
 use mathlib.Core.Logic.{_⊎_, _↔_, ⊎-elim}
 use mathlib.Core.Path.{ap, refl, subst, subst⁻¹, sym, _∙_, _≡_}
-use Prim.Native.Nat.{_-_, _<_, suc, ℕ, _≤_}
+use Prim.Native.Nat.{_<_, suc, ℕ, _≤_}
 use native.Mathlib.Omega.{arith}
 use lib.Dec.{eqb, leb}
 use lib.ListN.{drop, length, length-map, take}
@@ -13,11 +13,11 @@ use borrow.Author.Tests.{eqb-false, eqb-true, leb-false, leb-true, ltb-true}
 use Rattle.model.proofs.Bools.{not-true-false}
 use Rattle.table.proofs.Decide.{decides-lt, fails}
 use Rattle.table.specs.Limits.{HorizonOut, horizonOut, mostHorizon}
-use Rattle.run.proofs.Limits.{in-array, passes-if}
 use Rattle.run.specs.Run.{tasksIn}
 use Rattle.run.specs.declared.Run.{Run}
 use Rattle.foreign.specs.Ahead.{Ready}
-use Rattle.foreign.specs.Numbers.{Applies, Differs, Earlier, Faulty, First, Last, Missed, NoneApplies, StateOut, afterRow, differs, eleven, fourteen, late-last, late-now, missed, nine, stateOut, ten, twenty-four, twenty-six}
+use Rattle.foreign.specs.Numbers.{Applies, eleven, fourteen, late-last, late-now, nine, ten, twenty-four, twenty-six}
+use Rattle.foreign.specs.Numbers.{AnyLate, Differs, Earlier, Faulty, First, Last, NoneApplies, StateOut, afterRow, differs, missed, stateOut}
 use Rattle.foreign.specs.Row.{faulty, worked}
 use Rattle.foreign.specs.Said.{byAnswer, told}
 use Rattle.foreign.specs.Said as said
@@ -28,7 +28,7 @@ use Rattle.foreign.specs.declared.Answer.the-variants.{Accepted, Refused
 use Rattle.foreign.specs.declared.Entered.{Entered}
 use Rattle.foreign.specs.declared.Supplied.{Supplied}
 use Rattle.foreign.proofs.Deciding.{differs-decides, faulty-decides, missed-decides, state-decides}
-use Rattle.foreign.proofs.Looking.{ready-again, some-tasks}
+use Rattle.foreign.proofs.Looking.{all-places, ready-again}
 use Rattle.foreign.proofs.Order.{first-only, later, later-tick, no-sooner}
 use Rattle.foreign.proofs.Passing.{state-if, state-passes, worked-passes, worked-tasks}
 use Rattle.foreign.proofs.StateTests.{passes-run}
@@ -111,7 +111,7 @@ module _ (w : Supplied) (row : List ℕ) where
             earlier m s x (twenty-six l y) = later 26 (suc t) 11 0 (omega arith) x
 
         module _ (n11 : length row ≡ r .cores) where
-          right-25 : Missed r → First w row 25 t
+          right-25 : AnyLate r → First w row 25 t
           right-25 h = (late-now h, earlier)
             where
               earlier : (m s : ℕ) → Earlier m s 25 t → ¬ Applies w row m s
@@ -124,7 +124,7 @@ module _ (w : Supplied) (row : List ℕ) where
               earlier m s x (twenty-four y) = no-sooner 24 t 25 t (omega arith) (omega arith) (omega arith) x
               earlier m s x (twenty-six l y) = later-tick 26 (suc t) 25 t refl (omega arith) x
 
-          module _ (now : ¬ Missed r) where
+          module _ (now : ¬ AnyLate r) where
             right-24 : Faulty r row → First w row 24 t
             right-24 h = (twenty-four h, earlier)
               where
@@ -153,7 +153,7 @@ module _ (w : Supplied) (row : List ℕ) where
                   none m s (twenty-six l y) = omega (arith, h)
 
               module _ (last : Last w) where
-                right-25-last : Missed (worked r row) → First w row 25 (suc t)
+                right-25-last : AnyLate (worked r row) → First w row 25 (suc t)
                 right-25-last h = (late-last last h, earlier)
                   where
                     earlier : (m s : ℕ) → Earlier m s 25 (suc t) → ¬ Applies w row m s
@@ -166,7 +166,7 @@ module _ (w : Supplied) (row : List ℕ) where
                     earlier m s x (twenty-four y) = n24 y
                     earlier m s x (twenty-six l y) = no-sooner 26 (suc t) 25 (suc t) (omega arith) (omega arith) (omega arith) x
 
-                module _ (then : ¬ Missed (worked r row)) where
+                module _ (then : ¬ AnyLate (worked r row)) where
                   right-26 : Differs (afterRow w row) → First w row 26 (suc t)
                   right-26 h = (twenty-six last h, earlier)
                     where
@@ -292,12 +292,8 @@ module _ (w : Supplied) (row : List ℕ) where
     again : ¬ StateOut (worked r row)
     again = fails _ _ (state-decides (worked r row)) (next-passes passed timely)
 
-    -- the places below the count are places of the array
     there : r .count ≤ length (r .tasks)
-    there =
-        let e = passes-run r passed in
-        let l : r .count - 1 < r .count = omega (arith, some-tasks r e) in
-        omega (arith, in-array r (r .count - 1) (passes-if r e .tasks (r .count - 1) l))
+    there = all-places r (passes-run r passed)
 
   -- what is noted of places past the count stays
   notes-past : (b : Bool) → r .count ≤ length (r .tasks) → drop (r .count) (cond b (noting (worked r row) (w .noted)) (w .noted)) ≡ drop (r .count) (w .noted)

@@ -2,6 +2,7 @@
 use mathlib.Core.Bool.{cond, false}
 use mathlib.Core.Path.{_≡_}
 use Prim.Native.Nat.{ℕ, _≤_}
+use lib.Dec.{eqb}
 use Rattle.table.specs.Limits.{horizonOut, mostHorizon}
 use Rattle.run.specs.declared.Run.{Run}
 use Rattle.foreign.specs.declared.ahead.Ahead.{Ahead}
@@ -19,7 +20,18 @@ pub record Ready (r : Run) (s h : ℕ) : Type 0 where
 unfoldable pub firstNumber : Run → ℕ
 firstNumber r = cond (stateOut r) 14 (cond (horizonOut (horizonIn r)) 9 0)
 
--- what looking ahead gives: that number; and where it is 0, the last S and the horizon
+-- what looking ahead gives: that number, and beside 0 the last S and the horizon, beside 14 and 9 zeros
+unfoldable pub aheadOf : Run → Ahead
+aheadOf r = record {
+  number = firstNumber r;
+  start = cond (eqb (firstNumber r) 0) (startIn r) 0;
+  horizon = cond (eqb (firstNumber r) 0) (horizonIn r) 0;
+}
+
+-- what is promised of it
 pub record AheadOf (r : Run) (a : Ahead) : Type 0 where
+  -- its value
+  pub value : a ≡ aheadOf r
+  -- and by it the number, and a run that is ready where the number is 0
   pub number : a .number ≡ firstNumber r
   pub ready : a .number ≡ 0 → Ready r (a .start) (a .horizon)

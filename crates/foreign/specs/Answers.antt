@@ -7,7 +7,8 @@ use Rattle.model.specs.Horizon.{horizon}
 use Rattle.model.specs.Task.{Table, due, task}
 use Rattle.foreign.specs.Plan.{Agree, FineRow, hadBy, rowAt}
 
--- the list is accepted; or all its rows are taken, and rows are missing; or the first refusal, with number and tick, at which the rows stop
+-- the list is accepted; or all its rows are taken, and rows are missing; or the first refusal, at which the rows stop, with its number: 24
+-- to 26 with their tick, else 0
 pub data Outcome : Type 0 where
   accepts unfinished : Outcome
   refuses : ℕ → ℕ → Outcome

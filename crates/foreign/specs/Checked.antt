@@ -1,14 +1,17 @@
 -- A WHOLE PLAN (request 112): a list of rows taken one after another from the beginning of a table's words, up to the first that is refused. `checked`
--- shows what is claimed of every table that passes 9 and every list of rows, `own-plans` of every table that is accepted.
+-- shows what is claimed of every table that passes 9 and every list of rows, `own-plans` of every table that is accepted, `own-buffer` of what `plan` writes.
 use mathlib.Core.List.{List, [], map, _++_, _∷_}
 use mathlib.Core.Logic.{_↔_}
 use mathlib.Core.Path.{_≡_}
 use Prim.Native.Nat.{_*_, _-_, ℕ}
 use lib.ListN.{drop, replicate, take}
+use Rattle.model.specs.Book as book
 use Rattle.model.specs.Horizon.{horizon}
 use Rattle.model.specs.Search.{upFrom}
 use Rattle.model.specs.Task.{Table}
 use Rattle.table.specs.Words.{tableOf}
+use Rattle.plan.specs.declared.Planned.{Planned}
+use Rattle.plan.specs.Plan.{PlanOf, planTold}
 use Rattle.plan.specs.Rows.{rowsOf}
 use Rattle.foreign.specs.declared.Supplied.{Supplied}
 use Rattle.foreign.specs.Answers.{Outcome, Says, accepts, refuses, unfinished}
@@ -59,3 +62,9 @@ written s = cut (s .cores) (horizon s) (rowsOf s 0 (horizon s))
 -- what is claimed of the words of an accepted table: its plan is accepted, and each earlier row is taken
 abbrev pub OwnPlan : List ℕ → Type 0
 OwnPlan ws = answersOf ws (written (tableOf ws)) ≡ replicate (horizon (tableOf ws) - 1) taken ++ (accepted ∷ [])
+
+-- those rows are the front of the buffer that `plan` leaves, where it is asked for rows 0 up to the horizon and they are written (`own-buffer`)
+abbrev pub OwnBuffer : List ℕ → Type 0
+OwnBuffer ws =
+    (old new : List ℕ) (v : Planned) → PlanOf ws 0 (horizon (tableOf ws)) old new v → planTold v ≡ book.taken
+    → cut (tableOf ws .cores) (horizon (tableOf ws)) new ≡ written (tableOf ws)

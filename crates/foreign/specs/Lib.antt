@@ -1,5 +1,5 @@
 -- What a plan by another planner must be, and what each answer to a list of rows says; the state between rows, what beginning and taking a row
--- promise; a whole plan; and what code keeps beside the state: how far the plan goes, what a row shows.
+-- promise; a whole plan; what code keeps beside the state: how far the plan goes, what a row shows; and that places past the count are not read.
 pub mod Plan
 pub mod Answers
 pub mod State
@@ -11,3 +11,4 @@ pub mod Begin
 pub mod Checked
 pub mod Ahead
 pub mod Shown
+pub mod Past

@@ -34,8 +34,8 @@ abbrev pub StateOut : Run → Type 0
 StateOut r = RunOut r ⊎ ((¬ (r .withdrawn ≡ 0)) ⊎ ((p : ℕ) × (p < r .count) × Astray (phaseAt r p)))
 
 -- a deadline is missed: some task is Working at z = D
-abbrev pub Missed : Run → Type 0
-Missed r = (p : ℕ) × (p < r .count) × Late r p
+abbrev pub AnyLate : Run → Type 0
+AnyLate r = (p : ℕ) × (p < r .count) × Late r p
 
 -- core c is fenced without 255, or another core with a byte that is neither 0 nor a position
 abbrev pub StrangerAt : Run → List ℕ → ℕ → Type 0
@@ -43,7 +43,7 @@ StrangerAt r row c =
     ((bit (r .fence) c ≡ true) × (¬ (byteAt row c ≡ fencedByte)))
     ⊎ ((bit (r .fence) c ≡ false) × (r .count < byteAt row c))
 
--- place p has work still owed: its job is released, has had fewer than C ticks, and its deadline has not passed
+-- place p has work still owed: its task is Working (at z = D 25 comes before)
 abbrev pub Owing : Run → ℕ → Type 0
 Owing r p = (z had reserved : ℕ) × (phaseAt r p ≡ Working z had reserved)
 
@@ -78,8 +78,8 @@ pub data Applies (w : Supplied) (row : List ℕ) : ℕ → ℕ → Type 0 where
   -- 11. The row's length isn't the core count.
   eleven : ¬ (length row ≡ w .run .cores) → Applies w row 11 0
   -- 25. A deadline is missed at the start of this tick; after the last row, on the horizon.
-  late-now : Missed (w .run) → Applies w row 25 (w .tick)
-  late-last : Last w → Missed (worked (w .run) row) → Applies w row 25 (suc (w .tick))
+  late-now : AnyLate (w .run) → Applies w row 25 (w .tick)
+  late-last : Last w → AnyLate (worked (w .run) row) → Applies w row 25 (suc (w .tick))
   -- 24. A stranger in the row, a wrong width, or nothing owed.
   twenty-four : Faulty (w .run) row → Applies w row 24 (w .tick)
   -- 26. After the last row the phases differ from those noted at the last S.

@@ -29,7 +29,7 @@ unfoldable pub ticks : (ℕ → List ℕ) → ℕ → ℕ → ℕ → ℕ
 ticks r p a zero = 0
 ticks r p a (suc t) = cond (leb a t && runs r p t) (suc (ticks r p a t)) (ticks r p a t)
 
--- the ticks that job k of place p has had at tick t, up to the release of the next job
+-- the ticks that job k of place p has had at tick t, for t up to the release of the next job
 abbrev pub hadBy : Table → (ℕ → List ℕ) → ℕ → ℕ → ℕ → ℕ
 hadBy s r p k t = ticks r p (release (task s p) k) t
 
@@ -62,7 +62,7 @@ InTime s r p k = hadBy s r p k (due (task s p) k) ≡ task s p .length
 abbrev pub phaseAfter : ℕ → ℕ → ℕ → Phase
 phaseAfter C z had = cond (ltb had C) (Working z had had) (Resting z)
 
--- the phase of place p at tick t, the parity of its job aside: coming before the offset, then that of its newest job
+-- the phase of place p at tick t, where no deadline is missed by t, the parity of its job aside: coming before the offset, then that of its newest job
 unfoldable pub phaseBy : Table → (ℕ → List ℕ) → ℕ → ℕ → Phase
 phaseBy s r p t =
     cond (ltb t (task s p .offset))

@@ -29,7 +29,7 @@ note ph = record { phase = ph }
 abbrev pub noteOf : Task → Note
 noteOf t = note (t .phase)
 
--- nothing noted: Resting(0), which no run has
+-- nothing noted: Resting(0), which no task below the count has in a run that passes 14
 abbrev pub blank : List Note
 blank = replicate mostTasks (note (Resting 0))
 

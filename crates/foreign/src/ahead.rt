@@ -6,7 +6,7 @@ ghost use Rattle.foreign.specs.Numbers.{stateOut};
 use crate::Supplied;
 use run::Run;
 
-// The number that turns every row down, 14 or 9, or 0; and where it is 0, the last S and the horizon.
+// The number that turns every row down, 14 or 9, with zeros; or 0, with the last S and the horizon.
 pub struct Ahead {
     pub number: u32,
     pub start: u32,

@@ -27,7 +27,7 @@ use Rattle.session.specs.Operation.{operationOf}
 -- WORDS
 
 -- a text with no space is one word
-words-one : (l : List ℕ) → lengthTo space l ≡ length l → wordsIn l ≡ l ∷ []
+pub words-one : (l : List ℕ) → lengthTo space l ≡ length l → wordsIn l ≡ l ∷ []
 unfolding wordsIn lengthTo
 words-one [] e = refl
 words-one (b ∷ l) e = go (eqb b space) e (words-one l)
@@ -39,7 +39,7 @@ words-one (b ∷ l) e = go (eqb b space) e (words-one l)
     go false e ih = ap (joined b) (ih (omega arith))
 
 -- else it is its first word, and the words behind the space
-words-more : (l : List ℕ) → lengthTo space l < length l → wordsIn l ≡ take (lengthTo space l) l ∷ wordsIn (drop (suc (lengthTo space l)) l)
+pub words-more : (l : List ℕ) → lengthTo space l < length l → wordsIn l ≡ take (lengthTo space l) l ∷ wordsIn (drop (suc (lengthTo space l)) l)
 unfolding wordsIn lengthTo
 words-more [] h = absurd (not-suc-le-zero h)
 words-more (b ∷ l) h = go (eqb b space) h (words-more l)

@@ -146,7 +146,7 @@ fed-over f s chunk before after text n p h w = record {
         ∙ ap (λ (x : List ℕ). take n after ++ x) (sym (over-silent s (length chunk) n e bs))
 
 -- a part of the front, from a place on
-part-front : (i n : ℕ) (l : List ℕ) → drop i (take n l) ≡ take (n - i) (drop i l)
+pub part-front : (i n : ℕ) (l : List ℕ) → drop i (take n l) ≡ take (n - i) (drop i l)
 part-front zero n l = let e : n ≡ n - 0 = omega arith in ap (λ (k : ℕ). take k l) e
 part-front (suc i) zero l = sym (take-none (drop (suc i) l))
   where

@@ -61,7 +61,7 @@ unfolding opened
 opened-long d ls h = rw (lt-leb (length d) mostBytes h)
 
 -- a line `--` has two bytes
-dashes-two : (l : List ℕ) → isDashes l ≡ true → length l ≡ 2
+pub dashes-two : (l : List ℕ) → isDashes l ≡ true → length l ≡ 2
 unfolding isDashes
 dashes-two [] e = absurd (false≢true e)
 dashes-two (a ∷ []) e = absurd (false≢true e)

@@ -6,7 +6,7 @@ ghost use Rattle.session.specs.declared.Stage.the-variants.{Table, Opera
 ghost use Rattle.session.specs.Talk.{tooMany, nothing};
 ghost use Rattle.session.specs.Session.{Said, spokenIn, stageOf, isOver, stageAfter, FedBy, FedOf, LastOf, NewOf, overWith};
 
-mod open; // open.rt: the table, and the run that it starts
+pub mod open; // open.rt: the table, and the run that it starts
 pub mod operations; // operations.rt: what a line asks
 mod replies; // replies.rt: what is said to an operation
 

@@ -20,7 +20,7 @@ pub struct Opened {
 }
 
 // Whether a line is `--`.
-pub(crate) fn is_dashes(line: &[u8]) -> bool
+pub fn is_dashes(line: &[u8]) -> bool
     ensures { λ r. ⌜ r ≡ isDashes (now (line .entry)) ⌝ }
 {
     if line.len() == 2 {

@@ -1,5 +1,5 @@
 -- THE SPARE TICKS: the figure has what is claimed of it (`spare-exact`), no other number has (`spare-only`), and a growth that is accepted where one tick more
--- misses is the figure (`spare-found`).
+-- misses is the figure (`spare-found`); no larger growth is accepted (`spare-largest`).
 use mathlib.Core.Bool.{Bool, false, true}
 use mathlib.Core.Logic.{inl, inr, _⊎_}
 use mathlib.Core.Path.{refl, subst, sym, _≡_}
@@ -87,6 +87,17 @@ module _ (s : Table) (ok : AllSound s) (p : ℕ) (l : p < length (s .tasks)) whe
       where
         here : NeverMissed (grown s p g)
         here = misses-never (grown s p g) (sound-grown s ok p g) fits
+
+    -- THE LARGEST: where longer jobs miss no less, no growth past the claimed one is accepted
+    pub spare-largest : Ordered s → (g h : ℕ) → Spare s p g → NeverMissed (grown s p h) → h ≤ g
+    spare-largest o g h x fits = omega (arith, not-past)
+      where
+        not-past : ¬ (g < h)
+        not-past i = go (x .no-more)
+          where
+            go : ((q t : ℕ) × Missed (grown s p (suc g)) q t) ⊎ (mostTime < task s p .length + suc g) → ⊥
+            go (inl m) = smaller-growth s ok o p h (suc g) i fits (m .0) (m .1) (m .2)
+            go (inr m) = omega (arith, grown-within h fits)
 
     -- the figure leaves C within the deadline
     pub spare-room : task s p .length + spare s p ≤ task s p .deadline

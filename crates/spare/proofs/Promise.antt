@@ -32,7 +32,7 @@ use Rattle.spare.specs.Spare.{Spare}
 use Rattle.spare.proofs.GrownWords.{every-growth}
 use Rattle.spare.proofs.Listed.{figures-at, figures-length, figures-past}
 use Rattle.spare.proofs.Ordered.{gives-exact, ordered-words}
-use Rattle.spare.proofs.Figure.{spare-exact}
+use Rattle.spare.proofs.Figure.{spare-exact, spare-largest}
 
 taken-refused : {n p : ℕ} → book.taken ≡ book.refused n p → ⊥
 taken-refused e = let z : _≡_ {A = ℕ} 0 1 = cc in omega arith
@@ -84,7 +84,8 @@ module _ (ws : List ℕ) where
       refused = λ n p. (λ f. absurd (taken-refused f), λ f. absurd (nothing n p (f .0)));
       passed = (λ f. nothing, λ f. refl);
       figures = λ f. figure;
-      words = λ f p h l i. every-growth ws none p l h (omega (arith, figure p l .within));
+      largest = λ f p h l. spare-largest s ok p l nm (short p l) (gives-exact s ok .0 e .1) (getD (figuresIn s) p 0) h (figure p l);
+      words = λ f p h l. every-growth ws none p l h;
       size = figures-length s (passed-count ws none .1);
       past = figures-past s;
       zeros = λ n p f. absurd (taken-refused f);
@@ -104,6 +105,7 @@ module _ (ws : List ℕ) where
       refused = λ m q. (only m q, one m q);
       passed = (λ e. absurd (taken-refused (sym e)), λ none. absurd (none n p (first .0)));
       figures = λ e. absurd (taken-refused (sym e));
+      largest = λ e. absurd (taken-refused (sym e));
       words = λ e. absurd (taken-refused (sym e));
       size = refl;
       past = λ q l. getD-zeros 32 q;

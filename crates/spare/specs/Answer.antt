@@ -3,15 +3,17 @@ use mathlib.Core.Bool.{Bool, _&&_, false, not, true}
 use mathlib.Core.List.{List, map, _++_}
 use mathlib.Core.Logic.{_↔_}
 use mathlib.Core.Path.{_≡_}
-use Prim.Native.Nat.{ℕ, _-_, _≤_, _<_}
+use Prim.Native.Nat.{ℕ, _+_, _-_, _≤_, _<_}
 use lib.ListN.{getD, length, replicate}
 use Rattle.model.specs.Book as book
+use Rattle.model.specs.Book.{NeverMissed}
 use Rattle.model.specs.Search.{upFrom}
 use Rattle.model.specs.Sizes.{mostTasks}
-use Rattle.model.specs.Task.{Table}
+use Rattle.model.specs.Task.{Table, task}
 use Rattle.table.specs.declared.Answer.{Answer}
 use Rattle.table.specs.declared.Answer.the-variants.{Passed, Refused}
 use Rattle.table.specs.Answer.{answerOf}
+use Rattle.table.specs.Limits.{mostTime}
 use Rattle.table.specs.Load.{loadTold}
 use Rattle.table.specs.Numbers as table
 use Rattle.table.specs.Words.{tableOf}
@@ -60,9 +62,12 @@ pub record SpareOf (ws : List ℕ) (r : Sparing) : Type 0 where
   pub passed : (loadTold (r .answer) ≡ book.taken) ↔ NoneApplies ws
   -- given: of each task, any growth of C up to the figure is accepted at every tick, and one tick more misses or takes C past 1,000,000
   pub figures : loadTold (r .answer) ≡ book.taken → (p : ℕ) → p < length (tableOf ws .tasks) → Spare (tableOf ws) p (getD (r .spare) p 0)
-  -- and the words with such a growth say the table that has grown, and pass all of the table's numbers
+  -- so it is the largest growth of C alone with which the table is accepted
+  pub largest :
+      loadTold (r .answer) ≡ book.taken → (p h : ℕ) → p < length (tableOf ws .tasks) → NeverMissed (grown (tableOf ws) p h) → h ≤ getD (r .spare) p 0
+  -- and the words with any growth that leaves C within 1,000,000 say the table that has grown, and pass all of the table's numbers
   pub words :
-      loadTold (r .answer) ≡ book.taken → (p h : ℕ) → p < length (tableOf ws .tasks) → h ≤ getD (r .spare) p 0
+      loadTold (r .answer) ≡ book.taken → (p h : ℕ) → p < length (tableOf ws .tasks) → task (tableOf ws) p .length + h ≤ mostTime
       → table.NoneApplies (grownWords ws p h) × (tableOf (grownWords ws p h) ≡ grown (tableOf ws) p h)
   -- there are 32 figures; those past the count are 0, and in a refusal all of them
   pub size : length (r .spare) ≡ mostTasks

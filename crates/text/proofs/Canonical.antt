@@ -10,7 +10,7 @@ use Rattle.text.proofs.Decimals.{decimal-some, decimal-most, decimal-di
 use Rattle.text.proofs.Exact.{text-exact}
 
 -- a number up to the largest, in decimal, is a line that says it
-number-of : (w : ℕ) → w ≤ largest → Number (decimal w)
+pub number-of : (w : ℕ) → w ≤ largest → Number (decimal w)
 number-of w h =
     let e = decimal-value w in
     record { some = decimal-some w; short = decimal-most w (omega arith); digits = decimal-digits w; fits = omega arith }

@@ -39,7 +39,7 @@ abbrev turned : ℕ → ℕ → Supplied → Begun
 turned n p w = record { answer = Refused n p; plan = w }
 
 -- its run is that of the table as it starts
-begun : (c : tie.After-started) → c .started .result ≡ startedRun (rule (c .before .before .before .before .before .before .args .words .now)) (tableOf (c .before .before .before .before .before .before .args .words .now))
+begun : (c : tie.After-started) → (let ws = c .before .before .before .before .before .before .args .words .now in c .started .result ≡ startedRun (rule ws) (tableOf ws))
 begun c =
     let l = c .before .before .before .before in
     c .started .ensures ∙ loaded-run (l .before .before .args .words .now) (l .load .result) (held l (c .before .before .enum-told .given .1))
@@ -79,7 +79,9 @@ returns c =
     let l = t .before .before .before .before in
     let ws = l .before .before .args .words .now in
     let first : c .arrived .result ≡ firstState ws =
-    c .arrived .ensures ∙ (ap (λ (r : Run). arrived r 0 (b .blank .result)) (begun t) ∙ ap (λ (ns : List Note). arrived (startedRun (rule ws) (tableOf ws)) 0 ns) (b .blank .ensures)) in
+    c .arrived .ensures
+    ∙ (ap (λ (r : Run). arrived r 0 (b .blank .result)) (begun t)
+    ∙ ap (λ (ns : List Note). arrived (startedRun (rule ws) (tableOf ws)) 0 ns) (b .blank .ensures)) in
     begin-of ws (passed (c .arrived .result)) (ap passed first ∙ sym (begin-passed ws (answered l Passed (t .before .before .enum-told .given .1))))
 
 returns-2 : tie.Need-returns-2

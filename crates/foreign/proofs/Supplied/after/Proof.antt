@@ -21,7 +21,8 @@ arrived-requires c κs =
     let w = c .before in
     let s = w .before .before .before in
     let a = s .args in
-    (simp (w .worked .ensures, counted-count) (few (a .self .run) (s .pre .0)), s .pre .1 .0 ∙ sym (ap lastS (ap tasksIn (w .worked .ensures) ∙ counted-tasks (a .self .run) (a .cells .now))))
+    let same = ap tasksIn (w .worked .ensures) ∙ counted-tasks (a .self .run) (a .cells .now) in
+    (simp (w .worked .ensures, counted-count) (few (a .self .run) (s .pre .0)), s .pre .1 .0 ∙ sym (ap lastS same))
 
 returns : tie.Need-returns
 returns c = simp (c .arrived .ensures, c .before .before .worked .ensures, add-one)

@@ -4,7 +4,7 @@ use mathlib.Core.Path.{subst⁻¹, sym, _∙_}
 use native.Mathlib.Omega.{arith}
 use borrow.Author.Needs.{needs}
 use Rattle.foreign.specs.Ahead.{AheadOf}
-use Rattle.foreign.proofs.Looking.{number-14}
+use Rattle.foreign.proofs.Looking.{ahead-turned, number-14}
 use Rattle.foreign.proofs.Supplied.look.Statement.{statement}
 use Rattle.foreign.proofs.Supplied.look.Tie as tie
 
@@ -18,8 +18,9 @@ returns : tie.Need-returns
 returns c =
     let o = c .before .before in
     let r = o .before .before .args .self .run in
+    let n = number-14 r (sym (o .out .ensures) ∙ c .before .if1 .taken) in
     subst⁻¹ (AheadOf r) (c .turned .ensures)
-    record { number = sym (number-14 r (sym (o .out .ensures) ∙ c .before .if1 .taken)); ready = λ e. absurd (omega arith) }
+    record { value = ahead-turned r 14 n (omega arith); number = sym n; ready = λ e. absurd (omega arith) }
 
 by-tasks-requires : tie.Need-by-tasks-requires
 by-tasks-requires c κs = sym (c .before .out .ensures) ∙ c .if1 .left

@@ -47,7 +47,10 @@ timely : (c : tie.After-struct-known) → missed (called (looked c) .args .self 
 timely c = sym (looked c .missed .ensures) ∙ c .before .before .before .before .before .if1 .left
 
 -- what is found wrong with the row
-found : (c : tie.After-struct-known) → (c .before .before .before .before .counted .result .strange || c .before .any-wrong .result) ≡ faulty (called (looked c) .args .self .run) (called (looked c) .args .row .now)
+found :
+    (c : tie.After-struct-known)
+    → (c .before .before .before .before .counted .result .strange || c .before .any-wrong .result)
+    ≡ faulty (called (looked c) .args .self .run) (called (looked c) .args .row .now)
 found c =
     let k = c .before .before .before .before in
     let s = called (looked c) in
@@ -113,8 +116,10 @@ returns-3 c =
     let w = s .args .self in
     let row = s .args .row .now in
     let fine : faulty (w .run) row ≡ false = sym (found k) ∙ e .if2 .left in
+    let plain : n .counted .result .strange ≡ false = or-left-false (n .counted .result .strange) (k .before .any-wrong .result) (e .if2 .left) in
     let next : f .after .result ≡ afterRow w row =
-    f .after .ensures ∙ ap (λ (r : Run). arrived r (suc (w .tick)) (w .noted)) (worked-counted (w .run) (n .counted .result .cells) row (few-at s) (n .counted .ensures .counted (or-left-false (n .counted .result .strange) (k .before .any-wrong .result) (e .if2 .left)))) in
+    f .after .ensures
+    ∙ ap (λ (r : Run). arrived r (suc (w .tick)) (w .noted)) (worked-counted (w .run) (n .counted .result .cells) row (few-at s) (n .counted .ensures .counted plain)) in
     c .by-answer .ensures
     ∙ (ap (λ (x : Answer). by x (f .after .result) w) (a .arrives .ensures)
     ∙ (ap (λ (v : Supplied). by (arrives v) v w) next ∙ sym (take-on w row (s .pre .0 .passes) (s .pre .0 .within) (before s) (s .pre .1 .1) (timely k) fine)))

@@ -11,13 +11,15 @@ use Rattle.run.proofs.RunOut.{few}
 use Rattle.run.specs.Numbers.{runOut}
 use Rattle.foreign.specs.Ahead.{AheadOf}
 use Rattle.foreign.specs.State.{horizonIn}
-use Rattle.foreign.proofs.Looking.{look-near, look-out, number-9, number-none, plain-within, some-tasks}
+use Rattle.foreign.proofs.Looking.{ahead-near, ahead-turned, look-near, look-out, number-9, number-none, plain-within, some-tasks}
 use Rattle.foreign.proofs.StateTests.{passes-run}
 use Rattle.foreign.proofs.ahead.by_tasks.Statement.{statement}
 use Rattle.foreign.proofs.ahead.by_tasks.Tie as tie
 
 -- what the test says of the horizon
-far : (c : tie.After-horizon-out) → horizonOut (c .before .before .last-start .result + c .before .hyperperiod .result) ≡ horizonOut (horizonIn (c .before .before .before .before .args .run))
+far :
+    (c : tie.After-horizon-out)
+    → horizonOut (c .before .before .last-start .result + c .before .hyperperiod .result) ≡ horizonOut (horizonIn (c .before .before .before .before .args .run))
 far c =
     let s = c .before .before .before in
     look-out (s .before .args .run) (s .plain .result) _ _ (s .plain .ensures) (c .before .before .last-start .ensures) (c .before .hyperperiod .ensures)
@@ -52,7 +54,7 @@ returns c =
     let t = c .before .before in
     let r = t .before .before .before .before .args .run in
     let f = number-9 r (t .before .before .before .before .pre) (sym (far t) ∙ (sym (t .horizon-out .ensures) ∙ c .before .if1 .taken)) in
-    subst⁻¹ (AheadOf r) (c .turned .ensures) record { number = sym f; ready = λ e. absurd (omega arith) }
+    subst⁻¹ (AheadOf r) (c .turned .ensures) record { value = ahead-turned r 9 f (omega arith); number = sym f; ready = λ e. absurd (omega arith) }
 
 add-t7 : tie.Need-add-t7
 add-t7 c =
@@ -65,10 +67,9 @@ returns-2 c =
     let s = t .before .before .before in
     let r = s .before .args .run in
     let near = sym (t .horizon-out .ensures) ∙ c .if1 .left in
-    record {
-      number = sym (number-none r (s .before .pre) (sym (far t) ∙ near));
-      ready = λ _. look-near r (s .plain .result) _ _ (s .plain .ensures) (t .before .before .last-start .ensures) (t .before .hyperperiod .ensures) near (s .before .pre);
-    }
+    let n = number-none r (s .before .pre) (sym (far t) ∙ near) in
+    let ready = look-near r (s .plain .result) _ _ (s .plain .ensures) (t .before .before .last-start .ensures) (t .before .hyperperiod .ensures) near (s .before .pre) in
+    record { value = ahead-near r _ _ n ready; number = sym n; ready = λ _. ready }
 
 pub by-tasks-spec : {M : Type 1} → statement M
 by-tasks-spec =
