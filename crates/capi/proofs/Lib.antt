@@ -14,6 +14,7 @@ pub mod Fourteen
 pub mod Examples
 pub mod Calling
 pub mod RunExamples
+pub mod TogetherExamples
 pub mod LendExamples
 pub mod SentenceExamples
 pub mod FigureExamples
