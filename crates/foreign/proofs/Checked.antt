@@ -110,7 +110,7 @@ module _ (s : Table) (rest : List ℕ) where
       row : ℕ → List ℕ
       row t = take (s .cores) (drop (t * s .cores) (rowsOf s 0 (horizon s) ++ rest))
 
-own-written : (s : Table) → written s ≡ ownRows s
+pub own-written : (s : Table) → written s ≡ ownRows s
 own-written s = ap (cut (s .cores) (horizon s)) (sym (append-nil (rowsOf s 0 (horizon s)))) ∙ own-cut s []
 
 -- THE THEOREM OF THE BUFFER

@@ -1,7 +1,7 @@
 -- `capi::supplied::take` meets its contract: 14 and 9, or a row of the plan that the buffer holds, or 14.
 -- Assumes nothing.
 use mathlib.Core.Path.{sym, _∙_}
-use Rattle.foreign.proofs.StateOut.{few}
+use Rattle.foreign.proofs.StateTests.{few}
 use Rattle.capi.proofs.Supplying.{plan-long, plan-few, take-looked, take-kept, take-none}
 use borrow.Author.Needs.{needs}
 use Rattle.capi.proofs.supplied.take.Statement.{statement}
