@@ -5,7 +5,7 @@
 
    What a call costs:
    - Memory: none from the heap. Of the stack less than SIVORANDRA_STACK_BYTES (measured: sentence 16,200 bytes, replay 15,700, clash 13,400,
-     plan 13,100, start 12,700, advance 12,200, withdraw and withdraw_all 11,900, spare 10,800, judge 9,800, row 7,400, longest 6,600, judge_ticks 5,800, facts 700).
+     plan 13,100, start 12,700, advance 12,200, withdraw and withdraw_all 11,100, spare 10,800, judge 9,800, row 7,400, longest 6,600, judge_ticks 5,800, facts 700).
    - Threads: the library has no state and no data that is written to, so any number of threads may call at once, each with slices of its own
      to be written to; slices that are only read may be shared. Of the C library it calls memcpy and memset alone.
    - Time: row, advance and the withdrawals take some microseconds at most, a bound by the 32 tasks and 64 cores alone. judge goes from one release,
