@@ -46,7 +46,7 @@ const LAST: usize = 22;
 const FEWEST_EMPTY: u64 = 100_000;
 /// At least so many withdrawals are taken, and so many of several positions together.
 const FEWEST_WITHDRAWN: u64 = 10_000;
-const FEWEST_TOGETHER: u64 = 2_000;
+const FEWEST_TOGETHER: u64 = 10_000;
 
 /// At least so many tables under lending are not refused; so many advances in which somebody borrows are taken, and so many with a borrower reported.
 const FEWEST_LENDING: u64 = 10_000;
