@@ -62,7 +62,7 @@ def played(program, table, lines, name):
         return heard()
 
     # a line `--` ends the table; where the table has one, it is no table with one dash either
-    table = table.replace(b"--", b"-")
+    table = re.sub(rb"-+", b"-", table)
     tick, started = 0, asked(table + (b"\n" if table and not table.endswith(b"\n") else b"") + b"--\n")
     yield started
     if started != b"ok":
