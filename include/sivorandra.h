@@ -5,11 +5,11 @@
 
    What a call costs:
    - Memory: none from the heap. Of the stack less than SIVORANDRA_STACK_BYTES (measured: replay 19,600 bytes, start 16,500, sentence 16,200,
-     take 14,200, clash 13,400, plan 13,100, advance 12,200, withdraw 11,100, spare 10,800, judge 9,800, begin 9,600, row 7,400, longest 6,600,
-     judge_ticks 5,800, facts 700).
+     take 14,200, clash 13,400, plan 13,100, advance 12,200, withdraw and withdraw_all 11,100, spare 10,800, judge 9,800, begin 9,600, row 7,400,
+     longest 6,600, judge_ticks 5,800, facts 700).
    - Threads: the library has no state and no data that is written to, so any number of threads may call at once, each with slices of its own
      to be written to; slices that are only read may be shared. Of the C library it calls memcpy and memset alone.
-   - Time: row, advance, withdraw and take take some microseconds at most, a bound by the 32 tasks and 64 cores alone. judge goes from one release,
+   - Time: row, advance, the withdrawals and take take some microseconds at most, a bound by the 32 tasks and 64 cores alone. judge goes from one release,
      end or deadline to the next, or tick by tick where the periods are short: 10 to 100 ns each on x86-64, by how many tasks move. There are at most
      as many of these moments as ticks up to the horizon or the first miss. A horizon of 10,000,000 takes a second at most; the largest,
      1,000,000,000, milliseconds where the periods are long, and two minutes where all 32 tasks move in every tick. No call can be stopped
@@ -33,17 +33,17 @@ extern "C" {
 /* The version of this header; sivorandra_version says that of the library that is linked. One number, which grows with the version:
    major * 10000 + minor * 100 + patch. */
 #define SIVORANDRA_VERSION_MAJOR 0
-#define SIVORANDRA_VERSION_MINOR 14
+#define SIVORANDRA_VERSION_MINOR 15
 #define SIVORANDRA_VERSION_PATCH 0
 #define SIVORANDRA_VERSION (SIVORANDRA_VERSION_MAJOR * 10000 + SIVORANDRA_VERSION_MINOR * 100 + SIVORANDRA_VERSION_PATCH)
-#define SIVORANDRA_VERSION_TEXT "0.14.0"
+#define SIVORANDRA_VERSION_TEXT "0.15.0"
 
 /* No call takes more bytes of the stack. */
 #define SIVORANDRA_STACK_BYTES 20480
 
 /* What every call but sivorandra_version returns: the call is answered, or a lent slice is too short and everything is as found; so it is
    where the words of a replay's `entries` are no entries. Short `rows` of a plan are 11 instead, and too few words for a run lent to row,
-   advance or withdraw, or for a plan lent to take, are no run: 14. */
+   advance or a withdrawal, or for a plan lent to take, are no run: 14. */
 #define SIVORANDRA_ANSWERED 0u
 #define SIVORANDRA_SHORT 1u
 
@@ -77,15 +77,15 @@ enum sivorandra_number {
     SIVORANDRA_SHORT_ROWS = 11,   /* plan: `rows` has fewer than (b - a) * cores bytes; take: the row's length is not the core count */
     SIVORANDRA_PAST_MISS = 12,    /* plan: b is above the tick of the first miss */
     SIVORANDRA_TABLE_MISSES = 13, /* start, replay, longest: the verdict is a miss */
-    SIVORANDRA_NOT_A_RUN = 14,    /* row, advance, withdraw: the words are no run; take: they are no plan's */
+    SIVORANDRA_NOT_A_RUN = 14,    /* row, advance, withdraw, withdraw_all: the words are no run; take: they are no plan's */
     SIVORANDRA_LATE = 15,         /* row, advance: the position, the lowest that is late, has not ended its job at its deadline */
     SIVORANDRA_BAD_REPORT = 16,   /* advance: for a position past the count, or a task that is not working or has no cores, its own or lent, in this tick */
     SIVORANDRA_NO_MISS = 17,      /* sentence, clash: the table has no miss */
     SIVORANDRA_SHORT_BUFFER = 18, /* sentence: `buffer` is shorter than the sentence */
     SIVORANDRA_BAD_FENCE = 19,    /* the fence names a core past the count, or all cores */
     SIVORANDRA_BAD_EMPTY = 20,    /* row, advance: for a position past the count, or a task whose job is not released in this very tick */
-    SIVORANDRA_NOT_FIRM = 21,     /* withdraw: the rule is greedy and a width of some task is above one of the next: without a task others could be late */
-    SIVORANDRA_NO_POSITION = 22,  /* withdraw: the position is 0 or past the count */
+    SIVORANDRA_NOT_FIRM = 21,     /* withdraw, withdraw_all: the rule is greedy and a width of some task is above one of the next: without a task others could be late */
+    SIVORANDRA_NO_POSITION = 22,  /* withdraw: the position is 0 or past the count; withdraw_all: one is past the count */
     SIVORANDRA_SPARE_NOT_GIVEN = 23, /* spare: not accepted under limited, nor under greedy with no width of a task above one of the next */
     SIVORANDRA_BAD_ROW = 24,      /* take: a byte of the row that is neither 0 nor a position, a fenced core without 255, a task with another width than
                                      its job's, or one with no work owed: not released, done, or past its deadline; with the row's tick */
@@ -137,10 +137,12 @@ enum sivorandra_number {
 #define SIVORANDRA_ROW_BYTES SIVORANDRA_MOST_CORES
 #define SIVORANDRA_FENCED 255u
 
-/* The words of an entry of a replay's list: 0, the reports and the empties of an advance; or 1, the position of a withdrawal, and 0. */
+/* The words of an entry of a replay's list: 0, the reports and the empties of an advance; or 1, the position of a withdrawal, and 0;
+   or 2, the set of a withdrawal of several together, and 0. */
 #define SIVORANDRA_ENTRY_WORDS 3
 #define SIVORANDRA_ENTRY_ADVANCE 0u
 #define SIVORANDRA_ENTRY_WITHDRAW 1u
+#define SIVORANDRA_ENTRY_WITHDRAW_ALL 2u
 
 /* No sentence is longer: a buffer of so many bytes is never refused with 18. */
 #define SIVORANDRA_SENTENCE_BYTES 700
@@ -170,9 +172,10 @@ uint32_t sivorandra_plan(const uint32_t *words, size_t words_len, uint32_t a, ui
 
 /* Starts a run, takes it through `entries`, and asks its row with no empty job: done, row refused, or refused where the start is.
    An entry has SIVORANDRA_ENTRY_WORDS words: SIVORANDRA_ENTRY_ADVANCE, and the reports and the empties of sivorandra_advance; or
-   SIVORANDRA_ENTRY_WITHDRAW, the position of sivorandra_withdraw, and 0. Its answer goes into `numbers`, 0 for taken or else
-   number * 256 + position; the last row into 64 bytes of `row`. `numbers` needs a word for each entry; what stands behind stays. A refused
-   row is 64 zeros; a refused start, which is answered even where `entries` are none and `numbers` or `row` is short, leaves both as found. */
+   SIVORANDRA_ENTRY_WITHDRAW, the position of sivorandra_withdraw, and 0; or SIVORANDRA_ENTRY_WITHDRAW_ALL, the set of
+   sivorandra_withdraw_all, and 0. Its answer goes into `numbers`, 0 for taken or else number * 256 + position; the last row into 64 bytes
+   of `row`. `numbers` needs a word for each entry; what stands behind stays. A refused row is 64 zeros; a refused start, which is answered
+   even where `entries` are none and `numbers` or `row` is short, leaves both as found. */
 uint32_t sivorandra_replay(const uint32_t *words, size_t words_len,
                            const uint32_t *entries, size_t entries_len,
                            uint32_t *numbers, size_t numbers_len,
@@ -208,6 +211,12 @@ uint32_t sivorandra_advance(uint32_t *run, size_t run_len, uint32_t reports, uin
    as once. Words that are no run are refused with 14, as by row; a late position (15) is not looked at. */
 uint32_t sivorandra_withdraw(uint32_t *run, size_t run_len, uint32_t position,
                              uint32_t *answer, size_t answer_len);
+
+/* Takes the tasks of a set of positions out of the run together, as sivorandra_withdraw takes one, all or none: bit p of `set` says position p + 1.
+   Done, or refused and `run` as found: 14, 21 and 22 in this order, for the empty set too, and 22 where a bit is past the count. Done, the run is
+   what single withdrawals of these positions leave, in any order. */
+uint32_t sivorandra_withdraw_all(uint32_t *run, size_t run_len, uint32_t set,
+                                 uint32_t *answer, size_t answer_len);
 
 /* Writes the miss of the table in `words` as a sentence at the front of `buffer`, with no newline and no NUL: its length, or refused. Bytes
    behind the sentence stay, and a refusal leaves `buffer` as found; 17 says that the table has no miss, 18 that `buffer` is shorter than

@@ -29,7 +29,7 @@ PART = 200  # lines of a list that are sent at once: with a row asked after each
 FURTHER = 1_000_000  # lines of a list that are read after those that are drawn
 SENTENCES = 3  # on refused advances, in one picture
 LATE = 15  # the number of a row that is refused as a task is late
-EXPECTED = "'a REPORTS', 'a REPORTS EMPTIES', 'w POSITION', 'r' or 'r EMPTIES' (numbers up to 4294967295) was expected"
+EXPECTED = "'a REPORTS', 'a REPORTS EMPTIES', 'w POSITION', 'W SET', 'r' or 'r EMPTIES' (numbers up to 4294967295) was expected"
 MISTAKES = {
     16: "it reports a position that is not there, not working or without cores in this tick",
     20: "it calls a job empty that is not there, or was not released in this tick",
@@ -277,7 +277,7 @@ def numbers_in(line):
 
 # The letter and the numbers of an operation; an advance has both its sets. None where a line is no operation.
 def operation_in(line):
-    if not re.fullmatch(rb"(r|a [0-9]{1,10})( [0-9]{1,10})?|w [0-9]{1,10}", line):
+    if not re.fullmatch(rb"(r|a [0-9]{1,10})( [0-9]{1,10})?|[wW] [0-9]{1,10}", line):
         return None
     letter, *numbers = line.decode().split(" ")
     numbers = [int(number) for number in numbers] + [0] * (letter == "a" and len(numbers) == 1)
@@ -349,11 +349,11 @@ class Listed:
                 self.hold()
 
     # A withdrawal that is taken stays in its tick, whose row may be another now.
-    def withdraw(self, position, line):
-        self.withdrawn.add(position)
+    def withdraw(self, positions, line):
+        self.withdrawn.update(positions)
         if self.drawn():
-            self.out.append((self.tick, position))
-        self.emptied([position], line)
+            self.out += [(self.tick, position) for position in positions]
+        self.emptied(positions, line)
 
     # What a job that has ended does not take of its length, from a tick on. Under idling its cells are held instead, under lending held or lent.
     def rest(self, position, tick):
@@ -430,11 +430,11 @@ class Listed:
                 asked = next_line(process.stdout)
                 letter, *numbers = operation
                 self.advances += letter == "a"
-                self.withdrawals += letter == "w"
+                self.withdrawals += letter in "wW"
                 if answer != b"taken":
                     self.refused(line.decode(), answer)
-                elif letter == "w":
-                    self.withdraw(numbers[0], asked)
+                elif letter in "wW":
+                    self.withdraw(places(numbers[0]) if letter == "W" else [numbers[0]], asked)
                 else:
                     if left:
                         self.emptied(places(numbers[1]), left)

@@ -7,7 +7,7 @@ include!("../gangsim.rs");
 use sivorandra::{Entry as Asked, Refusal as Refused, Verdict as Judged, ROW_BYTES, RUN_HEAD_WORDS, RUN_PLACE_WORDS, RUN_WORDS};
 
 /// The last request that the project has.
-const REQUEST: u32 = 109;
+const REQUEST: u32 = 113;
 
 /// Lets the simulator read tables as the last request does.
 pub fn begin() {
@@ -151,6 +151,7 @@ impl Cab {
                 (self.run.advance(reports, empties), self.book.as_mut().map(|book| book.advance(reports, empties)))
             }
             Asked::Withdraw { position } => (self.run.withdraw(position.into()), self.book.as_mut().map(|book| book.withdraw(position.into()))),
+            Asked::WithdrawAll { set } => (self.run.withdraw_set(set.into()), self.book.as_mut().map(|book| book.withdraw_set(set.into()))),
             other => panic!("no such entry: {other:?}"),
         };
         let next = next.map_err(said);

@@ -12,6 +12,7 @@ extern "C" {
     fn sivorandra_start(words: *const u32, words_len: usize, run: *mut u32, run_len: usize, answer: *mut u32, answer_len: usize) -> u32;
     fn sivorandra_row(run: *const u32, run_len: usize, empties: u32, row: *mut u8, row_len: usize, answer: *mut u32, answer_len: usize) -> u32;
     fn sivorandra_withdraw(run: *mut u32, run_len: usize, position: u32, answer: *mut u32, answer_len: usize) -> u32;
+    fn sivorandra_withdraw_all(run: *mut u32, run_len: usize, set: u32, answer: *mut u32, answer_len: usize) -> u32;
     fn sivorandra_advance(run: *mut u32, run_len: usize, reports: u32, empties: u32, answer: *mut u32, answer_len: usize) -> u32;
 }
 
@@ -165,6 +166,7 @@ pub fn enter(run: &mut Run, entry: Entry) -> Said<()> {
     match entry {
         Entry::Advance { reports, empties } => run.advance(reports, empties),
         Entry::Withdraw { position } => run.withdraw(position),
+        Entry::WithdrawAll { set } => run.withdraw_all(set),
         other => panic!("no such entry: {other:?}"),
     }
 }
@@ -174,6 +176,7 @@ fn in_words(entry: &Entry) -> [u32; 3] {
     match *entry {
         Entry::Advance { reports, empties } => [0, reports, empties],
         Entry::Withdraw { position } => [1, position, 0],
+        Entry::WithdrawAll { set } => [2, set, 0],
         other => panic!("no such entry: {other:?}"),
     }
 }
@@ -187,7 +190,7 @@ fn spoilt(rng: &mut Rng, entries: &[u32]) -> Vec<u32> {
         words.truncate(words.len() - 1 - rng.below(2));
     } else {
         let at = 3 * rng.below(words.len() / 3);
-        (words[at], words[at + 2]) = rng.pick(&[(1, 1), (1, u32::MAX), (2, 0), (3, 0), (256, 0), (u32::MAX, 0)]);
+        (words[at], words[at + 2]) = rng.pick(&[(1, 1), (1, u32::MAX), (2, 1), (2, u32::MAX), (3, 0), (256, 0), (u32::MAX, 0)]);
     }
     words
 }
@@ -286,6 +289,7 @@ impl Kept {
             let value = match entry {
                 Entry::Advance { reports, empties } => unsafe { sivorandra_advance(words, len, reports, empties, answer.as_mut_ptr(), answer.len()) },
                 Entry::Withdraw { position } => unsafe { sivorandra_withdraw(words, len, position, answer.as_mut_ptr(), answer.len()) },
+                Entry::WithdrawAll { set } => unsafe { sivorandra_withdraw_all(words, len, set, answer.as_mut_ptr(), answer.len()) },
                 other => panic!("no such entry: {other:?}"),
             };
             run.as_found_if(value == 1, "the run")?;
@@ -297,7 +301,7 @@ impl Kept {
         Ok(got)
     }
 
-    /// Row, advance and withdrawal of too few words for a run, which 14 turns down, and a row asked into too few bytes.
+    /// Row, advance and withdrawals of too few words for a run, which 14 turns down, and a row asked into too few bytes.
     pub fn cut(&mut self, rng: &mut Rng) -> Tried<()> {
         let Kept { run, row } = self;
         let (words, bytes) = (rng.below(RUN_WORDS), rng.below(ROW_BYTES));
@@ -311,6 +315,9 @@ impl Kept {
         answer = [0; 3];
         same("the value of a withdrawal from too few words", 0, unsafe { sivorandra_withdraw(run.lent().as_mut_ptr(), words, 1, answer.as_mut_ptr(), 3) })?;
         same("a withdrawal from too few words", [3, 14, 0], answer)?;
+        answer = [0; 3];
+        same("the value of a set withdrawn from too few words", 0, unsafe { sivorandra_withdraw_all(run.lent().as_mut_ptr(), words, 1, answer.as_mut_ptr(), 3) })?;
+        same("a set withdrawn from too few words", [3, 14, 0], answer)?;
         run.as_found("too few words")?;
         answer = [7; 3];
         same("the value of a row in too few bytes", 1, unsafe { sivorandra_row(run.lent().as_ptr(), run.len(), 0, row.lent().as_mut_ptr(), bytes, answer.as_mut_ptr(), 3) })?;

@@ -3,7 +3,7 @@ use crate::book::{self, phase_at, place_at, COMING, HOLDING, RESTING, WITHDRAWN,
 use crate::calls::{enter, reported, same, same_run, Kept, Tried};
 use crate::fences;
 use crate::lending::{self, IDLING, LENDING};
-use crate::random::position;
+use crate::random::withdrawal;
 use crate::rng::Rng;
 use crate::Counts;
 use sivorandra::{Entry, Refusal, Run, RUN_HEAD_WORDS, RUN_PLACE_WORDS, RUN_WORDS};
@@ -92,7 +92,7 @@ fn compare(rng: &mut Rng, counts: &mut Counts, words: &Words, ticks: usize) -> T
         let sets = [0, 1, u32::MAX];
         let asked = rng.pick(&sets);
         counts.answer(&kept.row(rng, asked, Err(OUT))?);
-        for entry in [Entry::Advance { reports: rng.pick(&sets), empties: rng.pick(&sets) }, Entry::Withdraw { position: rng.pick(&sets) }] {
+        for entry in [Entry::Advance { reports: rng.pick(&sets), empties: rng.pick(&sets) }, Entry::Withdraw { position: rng.pick(&sets) }, Entry::WithdrawAll { set: rng.pick(&sets) }] {
             counts.entered(entry, 0, &kept.enter(rng, entry, Err(OUT))?);
         }
         return Ok(());
@@ -112,7 +112,7 @@ fn compare(rng: &mut Rng, counts: &mut Counts, words: &Words, ticks: usize) -> T
         let reports = any_of(cab.may_report(given));
         let empties = if rng.once_in(2) { 0 } else { given };
         counts.answer(&kept.row(rng, asked, cab.row(asked)).map_err(|why| format!("with the empty jobs {asked}: {why}"))?);
-        let entry = if rng.once_in(6) { Entry::Withdraw { position: position(rng, cab.count()) } } else { Entry::Advance { reports, empties } };
+        let entry = if rng.once_in(6) { withdrawal(rng, cab.count()) } else { Entry::Advance { reports, empties } };
         let borrowers = cab.borrowers(entry);
         let answer = cab.enter(entry);
         if answer.is_ok() {
@@ -323,6 +323,7 @@ fn limit(counts: &mut Counts, inside: &Words, outside: &Words) -> Tried<()> {
         let mut run = Run::from_words(*words);
         same("advance with 14", out, run.advance(0, 0) == Err(OUT))?;
         same("withdraw with 14", out, run.withdraw(0) == Err(OUT))?;
+        same("withdraw_all with 14", out, run.withdraw_all(1 << 31) == Err(OUT))?;
         same("the test's own reading of 14", out, turned_down(words))?;
         compare(&mut rng, counts, words, 3)?;
     }
@@ -552,6 +553,21 @@ fn not_taken_out(counts: &mut Counts) -> Tried<()> {
             out[0] = LENDING + 1;
             same("14 first", Err(OUT), Run::from_words(out).withdraw(position))?;
         }
+        for (set, withdrawn) in [0, 1, 2, 3, 4, 5, 7, 1 << 31, 3 | 1 << 31, u32::MAX].into_iter().flat_map(|set| (0..4).map(move |withdrawn| (set, withdrawn))) {
+            let mut before = words;
+            before[WITHDRAWN] = withdrawn;
+            let expected = if !firm { Err(Refusal::NotFirm) } else if set < 4 { Ok(()) } else { Err(Refusal::NoPosition) };
+            let mut held = Run::from_words(before);
+            let answer = held.withdraw_all(set);
+            counts.answer(&answer);
+            same("withdraw_all", expected, answer)?;
+            let mut after = before;
+            after[WITHDRAWN] = if expected.is_ok() { withdrawn | set } else { withdrawn };
+            same_run("the run", &after, held.words())?;
+            let mut out = before;
+            out[0] = LENDING + 1;
+            same("14 first", Err(OUT), Run::from_words(out).withdraw_all(set))?;
+        }
     }
     Ok(())
 }
@@ -594,6 +610,8 @@ fn past_the_count(counts: &mut Counts, count: u32) -> Tried<()> {
             same("advance", answer, held.advance(reports, empties))?;
             let place = 1 + rng.below(32) as u32;
             same("withdraw", plain.withdraw(place), held.withdraw(place))?;
+            let set = rng.word() & rng.word() & rng.word();
+            same("withdraw_all", plain.withdraw_all(set), held.withdraw_all(set))?;
             let used = RUN_HEAD_WORDS + RUN_PLACE_WORDS * count as usize;
             same("the words up to the count", &plain.words()[..used], &held.words()[..used])?;
             same("the words past the count", &littered[used..], &held.words()[used..])?;

@@ -44,8 +44,9 @@ const NUMBERS: [usize; 20] = [1, 2, 3, 4, 5, 6, 7, 8, 9, 10, 11, 12, 13, 14, 15,
 const LAST: usize = 22;
 /// At least so many advances with an empty job are taken.
 const FEWEST_EMPTY: u64 = 100_000;
-/// At least so many withdrawals are taken.
+/// At least so many withdrawals are taken, and so many of several positions together.
 const FEWEST_WITHDRAWN: u64 = 10_000;
+const FEWEST_TOGETHER: u64 = 10_000;
 
 /// At least so many tables under lending are not refused; so many advances in which somebody borrows are taken, and so many with a borrower reported.
 const FEWEST_LENDING: u64 = 10_000;
@@ -72,9 +73,10 @@ pub struct Counts {
     /// Replays that end in a missed deadline.
     late: u64,
     advances: u64,
-    /// Advances with an empty job that are taken, and withdrawals.
+    /// Advances with an empty job that are taken, and withdrawals, of one position and of several together.
     empty: u64,
     withdrawn: u64,
+    together: u64,
     /// Tables under lending that are not refused; advances that are taken in which somebody borrows, and those with a borrower reported.
     lending: u64,
     borrowed: u64,
@@ -102,6 +104,7 @@ impl Counts {
         self.answer(answer);
         match entry {
             Entry::Withdraw { .. } => self.withdrawn += u64::from(answer.is_ok()),
+            Entry::WithdrawAll { set } => self.together += u64::from(answer.is_ok() && set.count_ones() > 1),
             Entry::Advance { empties, reports } => {
                 self.advances += 1;
                 self.empty += u64::from(answer.is_ok() && empties != 0);
@@ -170,6 +173,7 @@ impl Counts {
         self.advances += other.advances;
         self.empty += other.empty;
         self.withdrawn += other.withdrawn;
+        self.together += other.together;
         self.lending += other.lending;
         self.borrowed += other.borrowed;
         self.borrower_reported += other.borrower_reported;
@@ -254,9 +258,9 @@ fn main() {
             }
         }
     });
-    let Counts { tables, firm, full, miss, fenced, second, alone, plans, replays, late, advances, empty, withdrawn, runs, nodes, ends, abreast, overtaken, crowded, .. } = counts;
+    let Counts { tables, firm, full, miss, fenced, second, alone, plans, replays, late, advances, empty, withdrawn, together, runs, nodes, ends, abreast, overtaken, crowded, .. } = counts;
     let Counts { lending, borrowed, borrower_reported, .. } = counts;
-    println!("attack: {tables} tables (firm {firm}, full {full}, miss {miss}), {plans} plans, {replays} replays ({late} to a missed deadline), {advances} advances ({empty} taken with an empty job), {withdrawn} withdrawals taken, {runs} runs built by hand");
+    println!("attack: {tables} tables (firm {firm}, full {full}, miss {miss}), {plans} plans, {replays} replays ({late} to a missed deadline), {advances} advances ({empty} taken with an empty job), {withdrawn} withdrawals and {together} of several positions together taken, {runs} runs built by hand");
     println!("attack: {} small tables searched, {nodes} nodes ({ends} at a missed deadline)", counts.searched.len());
     println!("attack: {abreast} pairs of lists of firm tables with no longer job in the first, which is abreast; {overtaken} of full tables, where it is behind, and {crowded} under lending");
     println!("attack: {lending} of the tables that are not refused are under lending; {borrowed} advances are taken in which somebody borrows, {borrower_reported} with a borrower reported");
@@ -281,6 +285,7 @@ fn main() {
             counts.count(if seen >= fewest { Ok(()) } else { Err(format!("only {seen} {what}")) });
         }
         counts.count(if withdrawn >= FEWEST_WITHDRAWN { Ok(()) } else { Err(format!("only {withdrawn} withdrawals taken")) });
+        counts.count(if together >= FEWEST_TOGETHER { Ok(()) } else { Err(format!("only {together} withdrawals of several positions together taken")) });
         let searched = counts.searched.len();
         counts.count(if searched >= FEWEST_SEARCHED { Ok(()) } else { Err(format!("only {searched} small tables")) });
         counts.count(if abreast >= FEWEST_ABREAST { Ok(()) } else { Err(format!("only {abreast} pairs of lists of firm tables with no longer job in the first")) });

@@ -85,14 +85,31 @@ fn empties(rng: &mut Rng, cab: &Cab, often: u32) -> u32 {
 }
 
 /// A position, mostly one that there is.
-pub fn position(rng: &mut Rng, count: u32) -> u32 {
+fn position(rng: &mut Rng, count: u32) -> u32 {
     if rng.once_in(8) { rng.pick(&[0, count + 1, 33, 1 << 31, u32::MAX]) } else { rng.from(1, count) }
+}
+
+/// A set of positions, mostly of some that there are.
+fn positions(rng: &mut Rng, count: u32) -> u32 {
+    let all = u32::MAX >> (32 - count);
+    match rng.below(8) {
+        0 => 0,
+        1 => all,
+        2 => rng.word(),
+        3 => rng.word() & all | 1 << rng.below(32),
+        _ => rng.word() & all,
+    }
+}
+
+/// The withdrawal of a position, or of several together.
+pub fn withdrawal(rng: &mut Rng, count: u32) -> Entry {
+    if rng.once_in(2) { Entry::Withdraw { position: position(rng, count) } } else { Entry::WithdrawAll { set: positions(rng, count) } }
 }
 
 /// The next entry: in few lists, and now and then, a withdrawal.
 fn entry(rng: &mut Rng, cab: &Cab, often: u32) -> Entry {
     if rng.once_in(8 * often) {
-        return Entry::Withdraw { position: position(rng, cab.count()) };
+        return withdrawal(rng, cab.count());
     }
     let empties = empties(rng, cab, often);
     Entry::Advance { reports: any_of(rng, cab.may_report(empties), often), empties }

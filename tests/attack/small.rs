@@ -132,7 +132,22 @@ impl Search {
                 self.enter(run, cab, list, entry, Ok(()), counts)?;
             }
         }
-        Ok(())
+        (0..2 << cab.count()).chain([1 << 31, u32::MAX]).try_for_each(|set| self.together(run, cab.count(), set))
+    }
+
+    /// Several positions taken out together, beside each alone from the last on: all, or none where one is past the count or the table is not firm.
+    fn together(&self, run: &Run, count: u32, set: u32) -> Tried<()> {
+        let expected = match (self.firm, set >> count) {
+            (false, _) => Err(Refusal::NotFirm),
+            (true, 0) => Ok(()),
+            (true, _) => Err(Refusal::NoPosition),
+        };
+        let (mut all, mut each) = (run.clone(), run.clone());
+        same(&format!("{set} together"), expected, all.withdraw_all(set))?;
+        if expected.is_ok() {
+            (1..=count).rev().filter(|position| set >> (position - 1) & 1 == 1).try_for_each(|position| same("one of them", Ok(()), each.withdraw(position)))?;
+        }
+        same_run(&format!("{set} together"), each.words(), all.words())
     }
 
     /// An entry that is to be answered so, and where it is taken all that comes after it.

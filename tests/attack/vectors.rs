@@ -35,7 +35,8 @@ fn one(number: &str, a: &str, b: &str, len: &str) -> Tried<()> {
     same(&format!("for {:?}", String::from_utf8_lossy(&text)), String::from_utf8_lossy(&expected), got.into())
 }
 
-/// What the library says to the operations on a run: `r [EMPTIES]` a row, `a REPORTS [EMPTIES]` an advance, `w POSITION` a withdrawal, `p` the run as text.
+/// What the library says to the operations on a run: `r [EMPTIES]` a row, `a REPORTS [EMPTIES]` an advance, `w POSITION` a withdrawal,
+/// `W SET` several together, `p` the run as text.
 fn operated(mut run: Run, operations: Vec<String>) -> Tried<String> {
     let mut out = String::new();
     for operation in operations {
@@ -51,6 +52,7 @@ fn operated(mut run: Run, operations: Vec<String>) -> Tried<String> {
             }),
             Some("a") if !sets.is_empty() => run.advance(sets[0], empties(1)).map_or_else(refused, |()| "taken\n".into()),
             Some("w") if sets.len() == 1 => run.withdraw(sets[0]).map_or_else(refused, |()| "taken\n".into()),
+            Some("W") if sets.len() == 1 => run.withdraw_all(sets[0]).map_or_else(refused, |()| "taken\n".into()),
             _ => return Err(format!("no operation: {operation}")),
         };
     }

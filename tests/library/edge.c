@@ -1,5 +1,5 @@
 /* Hostile calls of the library from C, each beside what the header says of it: NULL with length 0, lengths around every limit,
-   counts and words of all ones, fences, odd and even jobs, empty jobs, lent cores, withdrawn positions, lists that are none, anything past the count. Every slice lies between guards, which must stay.
+   counts and words of all ones, fences, odd and even jobs, empty jobs, lent cores, positions withdrawn one by one and together, lists that are none, anything past the count. Every slice lies between guards, which must stay.
    Prints each call that differs; the last line is 'N calls, M wrong'. */
 #include <stdio.h>
 #include <string.h>
@@ -118,6 +118,7 @@ static uint32_t sentence(const uint32_t *table, size_t len) { return sivorandra_
 static uint32_t advance_with(uint32_t reports, uint32_t empties) { return sivorandra_advance(words_at(&run), run.len, reports, empties, ANSWER); }
 static uint32_t advance(uint32_t reports) { return advance_with(reports, 0); }
 static uint32_t withdraw(uint32_t position) { return sivorandra_withdraw(words_at(&run), run.len, position, ANSWER); }
+static uint32_t withdraw_all(uint32_t set) { return sivorandra_withdraw_all(words_at(&run), run.len, set, ANSWER); }
 static uint32_t clash(const uint32_t *table, size_t len) { return sivorandra_clash(table, len, ANSWER); }
 static uint32_t begin(const uint32_t *table, size_t len) { return sivorandra_begin(table, len, words_at(&run), run.len, ANSWER); }
 static uint32_t take(const uint8_t *row_lent, size_t len) { return sivorandra_take(words_at(&run), run.len, row_lent, len, ANSWER); }
@@ -164,6 +165,9 @@ static void nulls(void)
     fresh(), NONE(run), refused(14), expect("withdraw: no run", 0, withdraw(1));
     fresh(), NONE(answer), expect("withdraw: no answer", 1, withdraw(1));
     fresh(), NONE(run), NONE(answer), expect("withdraw: nothing", 1, withdraw(ONES));
+    fresh(), NONE(run), refused(14), expect("withdraw_all: no run", 0, withdraw_all(0));
+    fresh(), NONE(answer), expect("withdraw_all: no answer", 1, withdraw_all(1));
+    fresh(), NONE(run), NONE(answer), expect("withdraw_all: nothing", 1, withdraw_all(ONES));
 }
 
 /* The sentence and its facts: lengths around every limit, and NULL for each slice. `row` is the buffer. */
@@ -440,6 +444,7 @@ static void lengths(void)
         fresh(), run.len = len, holds ? answered(0, 0, 0) : refused(14), row_bytes(rows, holds ? 3 : 0), expect("row: words of the run", 0, shown());
         fresh(), run.len = len, holds ? answered(0, 0, 0) : refused(14), run_words(holds ? next : first, RUN), expect("advance: words of the run", 0, advance(0));
         fresh(), run.len = len, refused(holds ? 21 : 14), expect("withdraw: words of the run", 0, withdraw(1));
+        fresh(), run.len = len, refused(holds ? 21 : 14), expect("withdraw_all: words of the run", 0, withdraw_all(ONES));
         fresh(), row.len = len;
         if (shows)
             answered(0, 0, 0), row_bytes(rows, 3);
@@ -469,6 +474,7 @@ static void built(void)
         fresh(), set(faults[i][0], 1, faults[i][1]), refused(14), row_bytes(NULL, 0), expect("row: a fault", 0, shown());
         fresh(), set(faults[i][0], 1, faults[i][1]), refused(14), expect("advance: a fault", 0, advance(ONES));
         fresh(), set(faults[i][0], 1, faults[i][1]), refused(14), expect("withdraw: a fault", 0, withdraw(0));
+        fresh(), set(faults[i][0], 1, faults[i][1]), refused(14), expect("withdraw_all: a fault", 0, withdraw_all(0));
     }
     fresh(), set(0, RUN, 0), refused(14), row_bytes(NULL, 0), expect("row: all zeros", 0, shown());
     fresh(), set(0, RUN, 0), refused(14), expect("advance: all zeros", 0, advance(0));
@@ -698,6 +704,40 @@ static void withdrawals(void)
     fresh(), set(0, 1, SIVORANDRA_IDLING), set(USED, RUN - USED, ONES), answered(0, 0, 0), run.want[GUARD + 5] = 4, expect("withdraw: ones past the count", 0, withdraw(3));
 }
 
+/* Several positions of the run of `full` withdrawn together under idling and limited, in its first tick and in its second, from every set that is withdrawn already: beside single
+   withdrawals in falling order; sets with a bit past the count, of which nobody is withdrawn; and 21 under greedy for every set, the empty one too. */
+static void together(void)
+{
+    static const uint32_t past[] = { 8, 9, 15, 16, 0x80000000u, 0x80000007u, 0xffffffffu };
+    uint32_t first[RUN], next[RUN], three[3];
+    for (uint32_t turn = 0; turn < 4; turn++)
+        for (uint32_t withdrawn = 0; withdrawn < 8; withdrawn++) {
+            fresh(), memcpy(first, run.now + GUARD, sizeof first), first[0] = turn % 2 ? SIVORANDRA_IDLING : SIVORANDRA_LIMITED;
+            if (turn / 2)
+                sivorandra_advance(first, RUN, 0, 0, three, 3);
+            first[5] = withdrawn;
+            for (uint32_t some = 0; some < 8; some++) {
+                memcpy(next, first, sizeof first), next[5] |= some;
+                fresh(), words(&run, RUN, first, RUN), answered(0, 0, 0), run_words(next, RUN), expect("withdraw_all: every set", 0, withdraw_all(some));
+                memcpy(next, first, sizeof first);
+                for (uint32_t p = 3; p > 0; p--)
+                    if (some >> (p - 1) & 1)
+                        sivorandra_withdraw(next, RUN, p, three, 3);
+                fresh(), words(&run, RUN, first, RUN), answered(0, 0, 0), run_words(next, RUN), expect("withdraw_all: as single ones", 0, withdraw_all(some));
+                fresh(), words(&run, RUN, next, RUN), answered(0, 0, 0), expect("withdraw_all: the same again", 0, withdraw_all(some));
+                fresh(), words(&run, RUN, first, RUN), set(0, 1, SIVORANDRA_GREEDY), refused(21), expect("withdraw_all: 21 for every set", 0, withdraw_all(some));
+            }
+            for (size_t i = 0; i < sizeof past / sizeof past[0]; i++) {
+                fresh(), words(&run, RUN, first, RUN), refused(22), expect("withdraw_all: a bit past the count", 0, withdraw_all(past[i]));
+                fresh(), words(&run, RUN, first, RUN), set(0, 1, SIVORANDRA_GREEDY), refused(21), expect("withdraw_all: 21 before 22", 0, withdraw_all(past[i]));
+                fresh(), words(&run, RUN, first, RUN), set(5, 1, withdrawn | 8), refused(14), expect("withdraw_all: 14 before 22", 0, withdraw_all(past[i]));
+            }
+        }
+    fresh(), set(KIND + 1, 1, 5), refused(21), expect("withdraw_all: 15 is not looked at", 0, withdraw_all(0));
+    fresh(), set(KIND + 1, 1, 5), set(0, 1, SIVORANDRA_IDLING), answered(0, 0, 0), run.want[GUARD + 5] = 5, expect("withdraw_all: a late run", 0, withdraw_all(5));
+    fresh(), set(0, 1, SIVORANDRA_IDLING), set(USED, RUN - USED, ONES), answered(0, 0, 0), run.want[GUARD + 5] = 7, expect("withdraw_all: ones past the count", 0, withdraw_all(7));
+}
+
 /* Words that are a replay's list, and words that are none: not three an entry, another first word, or a last word of a withdrawal. */
 static void lists(void)
 {
@@ -714,9 +754,9 @@ static void lists(void)
         expect("replay: words of the list", len % 3 != 0, replay(full, TABLE, two, len));
     }
     for (size_t at = 0; at < 2; at++)
-        for (uint32_t kind = 1; kind < 4; kind++) { /* 1 is a withdrawal, whose last word is not 0 here */
+        for (uint32_t kind = 1; kind < 5; kind++) { /* 1 and 2 are withdrawals, whose last word is not 0 here */
             uint32_t entries[6];
-            memcpy(entries, two, sizeof two), entries[3 * at] = kind == 3 ? ONES : kind;
+            memcpy(entries, two, sizeof two), entries[3 * at] = kind == 4 ? ONES : kind;
             fresh(), expect("replay: no such entry", 1, replay(full, TABLE, entries, 6));
             fresh(), refused(13), expect("replay: no such entry, no start", 0, replay(miss, TABLE, entries, 6));
         }
@@ -725,12 +765,17 @@ static void lists(void)
     uint32_t idling[TABLE];
     memcpy(idling, full, sizeof idling), idling[2] = SIVORANDRA_IDLING;
     fresh(), answered(0, 0, 0), row_bytes(rows, 3), numbers.want[GUARD] = 0, numbers.want[GUARD + 1] = 22 * 256, expect("replay: withdrawals", 0, replay(idling, TABLE, out, 6));
+    static const uint32_t sets[6] = { SIVORANDRA_ENTRY_WITHDRAW_ALL, 5, 0, SIVORANDRA_ENTRY_WITHDRAW_ALL, 10, 0 };
+    static const uint32_t turns[TABLE] = { 1, 1, 2, 0, 0, 2, 0, 1, 1, 3, 3, 1, 3, 0, 1, 1, 3, 3, 1, 0, 0, 1, 1, 3, 3, 1 };
+    static const uint8_t second = 2; /* the position that is left */
+    fresh(), answered(0, 0, 0), row_bytes(rows, 3), numbers.want[GUARD] = numbers.want[GUARD + 1] = 21 * 256, expect("replay: sets from a full table", 0, replay(full, TABLE, sets, 6));
+    fresh(), answered(0, 0, 0), row_bytes(&second, 1), numbers.want[GUARD] = 0, numbers.want[GUARD + 1] = 22 * 256, expect("replay: sets", 0, replay(turns, TABLE, sets, 6));
     fresh(), numbers.len = 1, expect("replay: a number too few", 1, replay(full, TABLE, two, 6));
 }
 
 int main(void)
 {
-    nulls(), sentences(), tables(), horizons(), bounds(), lengths(), built(), fences(), parities(), empty_jobs(), lending(), withdrawals(), lists(), figures(), supplied();
+    nulls(), sentences(), tables(), horizons(), bounds(), lengths(), built(), fences(), parities(), empty_jobs(), lending(), withdrawals(), together(), lists(), figures(), supplied();
     printf("%u calls, %u wrong\n", calls, wrong);
     return wrong != 0;
 }

@@ -45,6 +45,7 @@ static uint32_t start(void) { return sivorandra_start(table, words, run, RUN, an
 static uint32_t row(uint32_t empties) { return sivorandra_row(run, RUN, empties, rows, SIVORANDRA_ROW_BYTES, answer, SIVORANDRA_ANSWER_WORDS); }
 static uint32_t advance(uint32_t reports, uint32_t empties) { return sivorandra_advance(run, RUN, reports, empties, answer, SIVORANDRA_ANSWER_WORDS); }
 static uint32_t withdraw(uint32_t position) { return sivorandra_withdraw(run, RUN, position, answer, SIVORANDRA_ANSWER_WORDS); }
+static uint32_t withdraw_all(uint32_t set) { return sivorandra_withdraw_all(run, RUN, set, answer, SIVORANDRA_ANSWER_WORDS); }
 static uint32_t sentence(size_t len) { return sivorandra_sentence(table, words, rows, len, answer, SIVORANDRA_ANSWER_WORDS); }
 static uint32_t longest(void) { return sivorandra_longest(table, words, run, SIVORANDRA_MOST_TASKS, answer, SIVORANDRA_ANSWER_WORDS); }
 static uint32_t spare(void) { return sivorandra_spare(table, words, run, SIVORANDRA_MOST_TASKS, answer, SIVORANDRA_ANSWER_WORDS); }
@@ -106,6 +107,16 @@ static void numbers(void)
     expect("a report on the withdrawn task, which lends", advance(1, 0), SIVORANDRA_BAD_REPORT, 0);
     expect("a report on the task that borrows", advance(2, 0), PASSES, 0);
     with(C, 6), start(), expect("no run to withdraw from", withdraw(1), SIVORANDRA_NOT_A_RUN, 0);
+    expect("no run to withdraw several from", withdraw_all(0), SIVORANDRA_NOT_A_RUN, 0);
+    fresh(2), start(), expect("several, of which one is past the count", withdraw_all(7), SIVORANDRA_NO_POSITION, 0);
+    expect("nobody", withdraw_all(0), PASSES, 0);
+    expect("a report on one that is not withdrawn", advance(1, 0), PASSES, 0);
+    expect("all", withdraw_all(3), PASSES, 0);
+    expect("the same again", withdraw_all(3), PASSES, 0);
+    expect("a report on one of them", advance(1, 0), SIVORANDRA_BAD_REPORT, 0);
+    fresh(2), table[V] = 2, start(), expect("greedy and a width above the next, several", withdraw_all(3), SIVORANDRA_NOT_FIRM, 0);
+    expect("nobody either", withdraw_all(0), SIVORANDRA_NOT_FIRM, 0);
+    expect("not firm before one past the count", withdraw_all(4), SIVORANDRA_NOT_FIRM, 0);
     fresh(1), expect("no miss", sentence(sizeof rows), SIVORANDRA_NO_MISS, 0);
     with(C, 6), expect("a short buffer", sentence(1), SIVORANDRA_SHORT_BUFFER, 0);
     with(C, 6), expect("a miss has no longest answers", longest(), SIVORANDRA_TABLE_MISSES, 0);
@@ -181,6 +192,9 @@ static void limits(void)
     expect("its spare tick", run[0] != 1, PASSES, 0);
     table[C]++, expect("the largest C", spare(), PASSES, 0);
     expect("no spare tick", run[0] != 0, PASSES, 0);
+    fresh(SIVORANDRA_MOST_TASKS), table[CORES] = SIVORANDRA_MOST_CORES, start(), expect("all of the most tasks withdrawn", withdraw_all(0xffffffffu), PASSES, 0);
+    expect("their set", run[SIVORANDRA_RUN_HEAD_WORDS - 1] != 0xffffffffu, PASSES, 0);
+    fresh(SIVORANDRA_MOST_TASKS - 1), table[CORES] = SIVORANDRA_MOST_CORES, start(), expect("a task more", withdraw_all(0x80000000u), SIVORANDRA_NO_POSITION, 0);
     with(FENCE, 1), start(), expect("a fenced core", row(0), PASSES, 0);
     expect("its byte", rows[0] != SIVORANDRA_FENCED, PASSES, 0);
 }

@@ -25,6 +25,7 @@ static void start(void) { sivorandra_start(table, words, run, RUN, answer, 3); }
 static void row(void) { sivorandra_row(run, RUN, 0, rows, sizeof rows, answer, 3); }
 static void advance(void) { sivorandra_advance(run, RUN, 0, 0, answer, 3); }
 static void withdraw(void) { sivorandra_withdraw(run, RUN, TASKS, answer, 3); }
+static void withdraw_all(void) { sivorandra_withdraw_all(run, RUN, 0xffffffffu, answer, 3); }
 static void say(void) { sivorandra_sentence(table, words, sentence, sizeof sentence, answer, 3); }
 static void read_back(void) { sivorandra_facts(sentence, length, facts, FACTS, answer, 3); }
 static void longest(void) { sivorandra_longest(table, words, numbers, TASKS, answer, 3); }
@@ -40,8 +41,9 @@ static void take(void)
 
 static struct { const char *name; void (*call)(void); size_t most; } calls[] = {
     { "version", version, 0 }, { "judge", judge, 0 }, { "judge_ticks", judge_ticks, 0 }, { "plan", plan, 0 }, { "replay", replay, 0 },
-    { "start", start, 0 }, { "row", row, 0 }, { "advance", advance, 0 }, { "withdraw", withdraw, 0 }, { "sentence", say, 0 }, { "facts", read_back, 0 },
-    { "longest", longest, 0 }, { "clash", clash, 0 }, { "spare", spare, 0 }, { "begin", begin, 0 }, { "take", take, 0 },
+    { "start", start, 0 }, { "row", row, 0 }, { "advance", advance, 0 }, { "withdraw", withdraw, 0 },
+    { "withdraw_all", withdraw_all, 0 }, { "sentence", say, 0 }, { "facts", read_back, 0 }, { "longest", longest, 0 }, { "clash", clash, 0 }, { "spare", spare, 0 },
+    { "begin", begin, 0 }, { "take", take, 0 },
 };
 enum { CALLS = sizeof calls / sizeof calls[0] };
 
@@ -109,6 +111,7 @@ static void look(void)
 int main(void)
 {
     entries[TICKS / 2 * SIVORANDRA_ENTRY_WORDS] = SIVORANDRA_ENTRY_WITHDRAW, entries[TICKS / 2 * SIVORANDRA_ENTRY_WORDS + 1] = 1;
+    entries[TICKS / 3 * SIVORANDRA_ENTRY_WORDS] = SIVORANDRA_ENTRY_WITHDRAW_ALL, entries[TICKS / 3 * SIVORANDRA_ENTRY_WORDS + 1] = 1u << (TASKS - 1);
     static const struct { uint32_t c, d, t; } times[] = { { 1, 1, 1 }, { 1, 1, 2 }, { 2, 7, 8 }, { 3, 3, 3 }, { 2, 3, 5 }, { 300, 700, 1000 }, { 900, 901, 1000 }, { 5000, 9000, 10000 } };
     void *place;
     int wrong = posix_memalign(&place, 4096, STACK);

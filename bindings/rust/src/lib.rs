@@ -29,7 +29,7 @@ pub use refusal::Refusal;
 use std::fmt;
 
 /// The version that these bindings are for: major * 10000 + minor * 100 + patch. `version` is that of the library that is linked.
-pub const VERSION: u32 = 1400;
+pub const VERSION: u32 = 1500;
 
 /// The most tasks on a chain, and the most records of a table.
 pub const MOST_TASKS: usize = 32;
@@ -166,6 +166,12 @@ impl fmt::Display for Verdict {
 /// let table = [1, 3, 1, 0, 0, 2, 0, 2, 2, 5, 5, 2, 3, 0, 2, 3, 5, 5, 2, 0, 0, 1, 4, 5, 5, 1];
 /// let list = [Entry::Advance { reports: 0, empties: 1 }, Entry::Advance { reports: 2, empties: 0 }];
 /// assert_eq!(replay(&table, &list)?.row?[..3], [3, 0, 0]);
+///
+/// // under rule 2 two of four tasks that take turns on one core are taken out, and then one that there is not
+/// let turns = [1, 1, 2, 0, 0, 2, 0, 1, 1, 4, 4, 1, 3, 0, 1, 1, 4, 4, 1, 4, 0, 1, 1, 4, 4, 1, 0, 0, 1, 1, 4, 4, 1];
+/// let out = replay(&turns, &[Entry::WithdrawAll { set: 0b101 }, Entry::WithdrawAll { set: 0b10010 }])?;
+/// assert_eq!(out.answers, [Ok(()), Err(sivorandra::Refusal::NoPosition)]);
+/// assert_eq!(out.row?[..1], [2]);
 /// # Ok::<(), sivorandra::Refusal>(())
 /// ```
 #[derive(Clone, Copy, Debug, PartialEq, Eq, Hash)]
@@ -183,6 +189,11 @@ pub enum Entry {
         /// The position, from 1.
         position: u32,
     },
+    /// Several tasks taken out together, or none, as by `Run::withdraw_all`; no tick passes.
+    WithdrawAll {
+        /// Bit p: position p + 1.
+        set: u32,
+    },
 }
 
 impl Entry {
@@ -190,6 +201,7 @@ impl Entry {
         match self {
             Entry::Advance { reports, empties } => [0, reports, empties],
             Entry::Withdraw { position } => [1, position, 0],
+            Entry::WithdrawAll { set } => [2, set, 0],
         }
     }
 }
@@ -311,6 +323,7 @@ extern "C" {
     fn sivorandra_start(words: *const u32, words_len: usize, run: *mut u32, run_len: usize, answer: *mut u32, answer_len: usize) -> u32;
     fn sivorandra_row(run: *const u32, run_len: usize, empties: u32, row: *mut u8, row_len: usize, answer: *mut u32, answer_len: usize) -> u32;
     fn sivorandra_withdraw(run: *mut u32, run_len: usize, position: u32, answer: *mut u32, answer_len: usize) -> u32;
+    fn sivorandra_withdraw_all(run: *mut u32, run_len: usize, set: u32, answer: *mut u32, answer_len: usize) -> u32;
     fn sivorandra_sentence(words: *const u32, words_len: usize, buffer: *mut u8, buffer_len: usize, answer: *mut u32, answer_len: usize) -> u32;
     fn sivorandra_facts(bytes: *const u8, bytes_len: usize, facts: *mut u64, facts_len: usize, answer: *mut u32, answer_len: usize) -> u32;
     fn sivorandra_advance(run: *mut u32, run_len: usize, reports: u32, empties: u32, answer: *mut u32, answer_len: usize) -> u32;
@@ -554,7 +567,7 @@ impl Run {
         Ok(Run { words: run })
     }
 
-    /// A run from its words, which may be any: what is no run is refused with 14 by `row`, `advance` and `withdraw`.
+    /// A run from its words, which may be any: what is no run is refused with 14 by `row`, `advance` and the withdrawals.
     ///
     /// ```
     /// use sivorandra::{Refusal, Run, RUN_WORDS};
@@ -673,6 +686,32 @@ impl Run {
     /// ```
     pub fn withdraw(&mut self, position: u32) -> Result<(), Refusal> {
         done(ask(|answer, len| unsafe { sivorandra_withdraw(self.words.as_mut_ptr(), self.words.len(), position, answer, len) }))
+    }
+
+    /// Takes the tasks of a set of positions out of the run together, as `withdraw` takes one, where bit p of `set` says position p + 1: all of them, or in a refusal none. It leaves
+    /// the run that single withdrawals leave, in any order. 14, 21 and 22 in this order, for the empty set too; 22 where a bit is past the count.
+    ///
+    /// ```
+    /// use sivorandra::{Refusal, Run, LIMITED};
+    ///
+    /// // three tasks that take turns on one core
+    /// let mut run = Run::start(&[1, 1, LIMITED, 0, 0, 2, 0, 1, 1, 3, 3, 1, 3, 0, 1, 1, 3, 3, 1, 0, 0, 1, 1, 3, 3, 1])?;
+    /// assert_eq!(run.withdraw_all(0b1001), Err(Refusal::NoPosition)); // there is no position 4, so nobody is taken out
+    /// assert_eq!(run.withdrawn(), 0);
+    /// let mut single = run.clone();
+    /// single.withdraw(3)?;
+    /// single.withdraw(1)?;
+    /// run.withdraw_all(0b101)?;
+    /// assert_eq!(run, single);
+    /// assert_eq!(run.row(0)?[..run.cores()], [2]);
+    ///
+    /// // greedy, and the wider task first: the empty set is refused too
+    /// let mut full = Run::start(&[1, 3, 1, 0, 0, 2, 0, 2, 2, 5, 5, 2, 0, 0, 1, 4, 5, 5, 1])?;
+    /// assert_eq!(full.withdraw_all(0), Err(Refusal::NotFirm));
+    /// # Ok::<(), Refusal>(())
+    /// ```
+    pub fn withdraw_all(&mut self, set: u32) -> Result<(), Refusal> {
+        done(ask(|answer, len| unsafe { sivorandra_withdraw_all(self.words.as_mut_ptr(), self.words.len(), set, answer, len) }))
     }
 }
 

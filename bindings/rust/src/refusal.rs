@@ -67,7 +67,7 @@ pub enum Refusal {
     BadEmpty,
     /// 21, of a withdrawal: the rule is greedy and a width of some task is above one of the next, so that others could be late without a task.
     NotFirm,
-    /// 22, of a withdrawal: the position is 0 or past the count.
+    /// 22, of a withdrawal: a position is 0 or past the count.
     NoPosition,
     /// 23, of the spare ticks: the table is not accepted under rule 2, nor under rule 1 with no width of a task above one of the next.
     SpareNotGiven,
@@ -231,7 +231,7 @@ impl fmt::Display for Refusal {
             Refusal::BadFence => write!(out, "the fence names a core past the count, or all cores"),
             Refusal::BadEmpty => write!(out, "an empty job for a position past the count, or for a task whose job is not released in this tick"),
             Refusal::NotFirm => write!(out, "the rule is greedy and a width of some task is above one of the next, so that others could be late without a task"),
-            Refusal::NoPosition => write!(out, "the position is 0 or past the count"),
+            Refusal::NoPosition => write!(out, "a position is 0 or past the count"),
             Refusal::SpareNotGiven => write!(out, "the table is not accepted under rule 2, nor under rule 1 with no width of a task above one of the next"),
             Refusal::BadRow { tick } => write!(out, "the row of tick {tick} has a byte that it may not have, a task with another width than its job's, or one with no work owed"),
             Refusal::DeadlineMissed { tick } => write!(out, "some job is not done at its deadline at tick {tick}"),

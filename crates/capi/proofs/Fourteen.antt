@@ -14,15 +14,15 @@ use borrow.Author.Tests.{leb-true, leb-false, lt-leb, eqb-false, ne-eqb}
 use Rattle.run.specs.declared.Answer.{Answer}
 use Rattle.run.specs.declared.Answer.the-variants.{Taken, Refused}
 use Rattle.run.specs.declared.Run.{Run}
-use Rattle.run.specs.Numbers.{RunOut, runOut, strangerIn, firstLateIn, misemptiedIn, misreportedIn}
+use Rattle.run.specs.Numbers.{RunOut, runOut, strangerIn, pastCount, firstLateIn, misemptiedIn, misreportedIn}
 use Rattle.run.specs.Run.{firmIn}
 use Rattle.run.specs.Row.{rowAnswer, rowOf}
 use Rattle.run.specs.Advance.{advanceAnswer, advanceOf}
-use Rattle.run.specs.Withdraw.{withdrawAnswer, withdrawOf}
+use Rattle.run.specs.Withdraw.{withdrawAnswer, withdrawOf, withdrawAllOf}
 use Rattle.run.proofs.Limits.{run-decides}
 use Rattle.capi.specs.Encoding.{headWords, eachWords, parityAt, kindAt, secondAt, thirdAt, places, wordsTo, runWords, isPhase, isStand, isPlace}
 use Rattle.capi.specs.Encoding.{arePlaces, countIn, holds, runIn, Held, run, none, decode}
-use Rattle.capi.specs.Runs.{rowFrom, advanceFrom, withdrawFrom}
+use Rattle.capi.specs.Runs.{rowFrom, advanceFrom, withdrawFrom, withdrawAllFrom}
 use Rattle.capi.specs.Fourteen.{NoPhase, NoStand, NoRun, short, many, no-place, BufferOut}
 use Rattle.capi.proofs.Places.{place-at, by-held, held-short, held-many, held-by}
 
@@ -239,3 +239,10 @@ module _ (ws : List ℕ) where
   unfolding withdrawOf
   withdraw-fourteen p =
       by-buffer (λ h. withdrawFrom h p ws .answer) refl (withdraw-out (runIn ws) (strangerIn (runIn ws) p)) (withdraw-out-back (runIn ws) (strangerIn (runIn ws) p))
+
+  -- of several positions together too
+  pub withdraw-all-fourteen : (x : ℕ) → (withdrawAllFrom (decode ws) x ws .answer ≡ Refused 14 0) ↔ BufferOut ws
+  unfolding withdrawAllOf
+  withdraw-all-fourteen x =
+      let past = pastCount (runIn ws .count) x in
+      by-buffer (λ h. withdrawAllFrom h x ws .answer) refl (withdraw-out (runIn ws) past) (withdraw-out-back (runIn ws) past)

@@ -13,21 +13,21 @@ use Rattle.run.specs.declared.Row.{Row}
 use Rattle.run.specs.declared.Run.{Run}
 use Rattle.run.specs.declared.Started.{Started}
 use Rattle.run.specs.declared.Advanced.{Advanced}
-use Rattle.model.specs.Book.{Entry, advance, withdraw, only}
+use Rattle.model.specs.Book.{Entry, advance, withdraw, withdrawAll, only}
 use Rattle.model.specs.Search.{bit}
 use Rattle.model.specs.Sizes.{mostCores}
 use Rattle.run.specs.Run.{moved, withdrawnIn}
 use Rattle.run.specs.Answer.{byAnswer}
 use Rattle.run.specs.Start.{startOf}
 use Rattle.run.specs.Row.{noBytes, rowOf}
-use Rattle.run.specs.Numbers.{strangerIn}
+use Rattle.run.specs.Numbers.{strangerIn, pastCount}
 use Rattle.run.specs.Advance.{advanceAnswer, advanceOf}
-use Rattle.run.specs.Withdraw.{withdrawAnswer, withdrawOf}
+use Rattle.run.specs.Withdraw.{withdrawAnswer, withdrawOf, withdrawAllOf}
 use Rattle.demand.specs.Entries.{entryOf}
 use Rattle.capi.specs.Told.{ofAnswer, written}
 use Rattle.capi.specs.Calls.{left, byRoom, room}
 use Rattle.capi.specs.Encoding.{places, runWords, overwritten, countIn, holds, runIn, Held, run, decode}
-use Rattle.capi.specs.Runs.{startCall, rowFrom, rowCall, Entered, kept, entryFrom, advanceFrom, advanceCall, withdrawFrom, withdrawCall}
+use Rattle.capi.specs.Runs.{startCall, rowFrom, rowCall, Entered, kept, entryFrom, advanceFrom, advanceCall, withdrawFrom, withdrawCall, withdrawAllFrom, withdrawAllCall}
 use Rattle.capi.proofs.Calls.{both}
 use Rattle.capi.proofs.Places.{by-held, held-few}
 
@@ -86,7 +86,7 @@ module _ (buffer : List ℕ) (e : ℕ) (row answer : List ℕ) where
       (q ∙ ap (λ (v : Row). written (ofAnswer (v .answer)) answer) d)
       ∙ sym (roomy mostCores row answer _ _ h l)
 
--- ADVANCE AND WITHDRAW
+-- ADVANCE AND THE WITHDRAWALS
 
 module _ (buffer answer : List ℕ) (x e : ℕ) where
   pub advance-narrow : length answer < 3 → advanceCall buffer x e answer ≡ left 1 (buffer ∷ (answer ∷ []))
@@ -118,21 +118,38 @@ module _ (buffer answer : List ℕ) (p : ℕ) where
       (q ∙ ap (λ (v : Entered). written (ofAnswer (v .answer)) answer) d)
       ∙ sym (simp (le-leb 3 (length answer) h))
 
+module _ (buffer answer : List ℕ) (x : ℕ) where
+  pub withdraw-all-narrow : length answer < 3 → withdrawAllCall buffer x answer ≡ left 1 (buffer ∷ (answer ∷ []))
+  unfolding withdrawAllCall
+  withdraw-all-narrow h = simp (lt-leb 3 (length answer) h)
+
+  pub withdraw-all-room :
+      (a : Answer) {k m : List ℕ} → 3 ≤ length answer → _≡_ {A = Entered} (record { answer = a; buffer = k }) (withdrawAllFrom (decode buffer) x buffer)
+      → m ≡ written (ofAnswer a) answer → left 0 (k ∷ (m ∷ [])) ≡ withdrawAllCall buffer x answer
+  unfolding withdrawAllCall
+  withdraw-all-room a h d q =
+      both
+      (ap (λ (v : Entered). v .buffer) d)
+      (q ∙ ap (λ (v : Entered). written (ofAnswer (v .answer)) answer) d)
+      ∙ sym (simp (le-leb 3 (length answer) h))
+
 -- WHAT A BUFFER HOLDS
+
+-- a withdrawal, by its answer, keeps the count
+count-withdrawn : (r : Run) (x : ℕ) (a : Answer) → byAnswer a (withdrawnIn x r) r .count ≡ r .count
+count-withdrawn r x Taken = unfold withdrawnIn in refl
+count-withdrawn r x (Refused n p) = refl
 
 -- an entry keeps the count
 pub count-kept : (r : Run) (x : Entry) → entryOf r x .run .count ≡ r .count
-unfolding advanceOf withdrawOf
+unfolding advanceOf withdrawOf withdrawAllOf
 count-kept r (advance x e) = go (advanceAnswer r x e)
   where
     go : (a : Answer) → byAnswer a (moved (bit x) e r) r .count ≡ r .count
     go Taken = unfold moved in refl
     go (Refused n p) = refl
-count-kept r (withdraw q) = go (withdrawAnswer r (strangerIn r q))
-  where
-    go : (a : Answer) → byAnswer a (withdrawnIn (only q) r) r .count ≡ r .count
-    go Taken = unfold withdrawnIn in refl
-    go (Refused n p) = refl
+count-kept r (withdraw q) = count-withdrawn r (only q) (withdrawAnswer r (strangerIn r q))
+count-kept r (withdrawAll x) = count-withdrawn r x (withdrawAnswer r (pastCount (r .count) x))
 
 -- what is kept of an entry, by its answer
 module _ (ws : List ℕ) (a : Advanced) where

@@ -7,7 +7,7 @@ use Prim.Native.Nat.{ℕ, _-_, _≤_}
 use native.Mathlib.Omega.{arith}
 use lib.ListN.{length, take, drop, replicate, length-append, length-drop, length-map, length-replicate, take-append-drop}
 use lib.Seq.{take-at, drop-at}
-use Rattle.model.specs.Book.{Entry, advance, withdraw, only}
+use Rattle.model.specs.Book.{Entry, advance, withdraw, withdrawAll, only}
 use Rattle.model.specs.Search.{bit}
 use Rattle.model.specs.Task as model
 use Rattle.table.specs.Words.{rule, tableOf}
@@ -20,9 +20,9 @@ use Rattle.phase.specs.Task.{unused, startTask}
 use Rattle.run.specs.Run.{moved, withdrawnIn}
 use Rattle.run.specs.Answer.{told, byAnswer}
 use Rattle.run.specs.Start.{startedRun, startAnswer, startOf}
-use Rattle.run.specs.Numbers.{strangerIn}
+use Rattle.run.specs.Numbers.{strangerIn, pastCount}
 use Rattle.run.specs.Advance.{advanceAnswer, advanceOf}
-use Rattle.run.specs.Withdraw.{withdrawAnswer, withdrawOf}
+use Rattle.run.specs.Withdraw.{withdrawAnswer, withdrawOf, withdrawAllOf}
 use Rattle.demand.specs.Entries.{entryOf}
 use Rattle.run.proofs.Places.{length-mapFirst, drop-mapFirst}
 use Rattle.run.proofs.StartExact.{start-of}
@@ -109,29 +109,29 @@ fits-moved f e r h = record {
   past = drop-mapFirst _ (r .count) (r .tasks) ∙ h .past;
 }
 
-fits-withdrawn : (x : ℕ) (r : Run) → Fits r → Fits (withdrawnIn x r)
+-- a withdrawal, by its answer
+fits-withdrawn : (x : ℕ) (r : Run) → Fits r → (a : Answer) → Fits (byAnswer a (withdrawnIn x r) r)
 unfolding withdrawnIn
-fits-withdrawn x r h = record { all = h .all; few = h .few; past = h .past }
+fits-withdrawn x r h Taken = record { all = h .all; few = h .few; past = h .past }
+fits-withdrawn x r h (Refused n p) = h
 
 -- what an entry returns fits, taken or refused
 pub fits-entered : (r : Run) (x : Entry) → Fits r → Fits (entryOf r x .run)
-unfolding advanceOf withdrawOf
+unfolding advanceOf withdrawOf withdrawAllOf
 fits-entered r (advance x e) f = go (advanceAnswer r x e)
   where
     go : (a : Answer) → Fits (byAnswer a (moved (bit x) e r) r)
     go Taken = fits-moved (bit x) e r f
     go (Refused n p) = f
-fits-entered r (withdraw q) f = go (withdrawAnswer r (strangerIn r q))
-  where
-    go : (a : Answer) → Fits (byAnswer a (withdrawnIn (only q) r) r)
-    go Taken = fits-withdrawn (only q) r f
-    go (Refused n p) = f
+fits-entered r (withdraw q) f = fits-withdrawn (only q) r f (withdrawAnswer r (strangerIn r q))
+fits-entered r (withdrawAll x) f = fits-withdrawn x r f (withdrawAnswer r (pastCount (r .count) x))
 
 -- an entry that is refused returns the run as given
 as-given : (r : Run) (x : Entry) (n p : ℕ) → entryOf r x .answer ≡ Refused n p → entryOf r x .run ≡ r
-unfolding advanceOf withdrawOf
+unfolding advanceOf withdrawOf withdrawAllOf
 as-given r (advance x e) n p t = ap (λ (a : Answer). byAnswer a (moved (bit x) e r) r) t
 as-given r (withdraw q) n p t = ap (λ (a : Answer). byAnswer a (withdrawnIn (only q) r) r) t
+as-given r (withdrawAll x) n p t = ap (λ (a : Answer). byAnswer a (withdrawnIn x r) r) t
 
 -- a run that fits, written into a long buffer up to its count, is held there
 pub fits-written : (r : Run) (ws : List ℕ) → Fits r → runWords ≤ length ws → decode (overwritten (r .count) r ws) ≡ run r

@@ -1,4 +1,4 @@
--- What start, row, advance and withdraw leave, where the run is held in a lent buffer of words.
+-- What start, row, advance and the withdrawals leave, where the run is held in a lent buffer of words.
 use mathlib.Core.Bool.{_&&_}
 use mathlib.Core.List.{List, [], _∷_, _++_}
 use Prim.Native.Nat.{ℕ}
@@ -11,7 +11,7 @@ use Rattle.run.specs.declared.Run.{Run}
 use Rattle.run.specs.Answer.{byAnswer}
 use Rattle.run.specs.Start.{startOf}
 use Rattle.run.specs.Row.{noBytes, rowOf}
-use Rattle.model.specs.Book.{Entry, advance, withdraw}
+use Rattle.model.specs.Book.{Entry, advance, withdraw, withdrawAll}
 use Rattle.demand.specs.Entries.{entryOf}
 use Rattle.capi.specs.Told.{ofAnswer, written}
 use Rattle.capi.specs.Calls.{Left, byRoom, room}
@@ -72,4 +72,13 @@ withdrawFrom h p ws = entryFrom h (withdraw p) ws
 unfoldable pub withdrawCall : List ℕ → ℕ → List ℕ → Left
 withdrawCall buffer p answer =
     let a = withdrawFrom (decode buffer) p buffer in
+    byRoom (room answer) (a .buffer ∷ (written (ofAnswer (a .answer)) answer ∷ [])) (buffer ∷ (answer ∷ []))
+
+-- the withdrawal of all positions of set x
+abbrev pub withdrawAllFrom : Held → ℕ → List ℕ → Entered
+withdrawAllFrom h x ws = entryFrom h (withdrawAll x) ws
+
+unfoldable pub withdrawAllCall : List ℕ → ℕ → List ℕ → Left
+withdrawAllCall buffer x answer =
+    let a = withdrawAllFrom (decode buffer) x buffer in
     byRoom (room answer) (a .buffer ∷ (written (ofAnswer (a .answer)) answer ∷ [])) (buffer ∷ (answer ∷ []))

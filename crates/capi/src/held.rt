@@ -1,11 +1,11 @@
-// A run in a lent buffer of words: its head, and then its places, of which those past the count are neither read nor changed by row, advance and withdraw.
+// A run in a lent buffer of words: its head, and then its places, of which those past the count are neither read nor changed by row, advance and the withdrawals.
 ghost use mathlib.Core.Path.{_≡_};
 ghost use mathlib.Core.List.{_++_};
 ghost use Prim.Native.Nat.{_+_, _≤_};
 ghost use lib.ListN.{length, drop};
 ghost use Rattle.capi.specs.Encoding.{headWords, eachWords, places, runWords, ofPhase, parityWord, placeWith, countWord, lowWord, highWord};
 ghost use Rattle.capi.specs.Encoding.{overwritten, phaseOf, isStand, placeIn, countIn, holds, runIn, decode};
-ghost use Rattle.capi.specs.Runs.{rowFrom, kept, advanceFrom, withdrawFrom};
+ghost use Rattle.capi.specs.Runs.{rowFrom, kept, advanceFrom, withdrawFrom, withdrawAllFrom};
 ghost use Rattle.model.specs.Sizes.{mostCores};
 use model::ROW;
 use phase::Phase;
@@ -313,6 +313,18 @@ pub(crate) fn withdraw(words: &mut [u32], position: u32) -> Answer
     if holds(words) {
         let held = run_in(words);
         let withdrawn = held.withdraw(position);
+        return keep(withdrawn, words);
+    }
+    Answer::Refused(14, 0)
+}
+
+// Withdraws all positions of a set from the run that the buffer holds, or none, and leaves the words past its count; 14 where it holds none.
+pub(crate) fn withdraw_all(words: &mut [u32], set: u32) -> Answer
+    ensures { λ r. ⌜ record { answer = r; buffer = now (words .exit) } ≡ withdrawAllFrom (decode (now (words .entry))) set (now (words .entry)) ⌝ }
+{
+    if holds(words) {
+        let held = run_in(words);
+        let withdrawn = held.withdraw_all(set);
         return keep(withdrawn, words);
     }
     Answer::Refused(14, 0)

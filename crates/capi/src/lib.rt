@@ -1,12 +1,12 @@
 // The library to link: the judge, the plan, the replay, the run in the cab and plans by others for C and Rust, on numbers and lent slices.
 // Each function but sivorandra_version returns 0 where the call is answered, and 1 where a lent slice is too short or a list of entries is none: then everything is as found.
-// Short rows of a plan are 11 instead, and a buffer lent to row, advance, withdraw or take that is too short for a run or a plan holds none: 14.
+// Short rows of a plan are 11 instead, and a buffer lent to row, advance, a withdrawal or take that is too short for a run or a plan holds none: 14.
 // The answer stands in the three first words of `answer`: a case and two numbers.
 ghost use mathlib.Core.Path.{_≡_};
 ghost use mathlib.Core.List.{[], _∷_};
 ghost use Rattle.capi.specs.Calls.{judgeCall, planCall, clashCall};
 ghost use Rattle.capi.specs.Replays.{replayCall};
-ghost use Rattle.capi.specs.Runs.{startCall, rowCall, advanceCall, withdrawCall};
+ghost use Rattle.capi.specs.Runs.{startCall, rowCall, advanceCall, withdrawCall, withdrawAllCall};
 ghost use Rattle.capi.specs.Sentences.{sentenceCall, factsCall};
 ghost use Rattle.capi.specs.Figures.{longestCall, spareCall};
 ghost use Rattle.capi.specs.Taking.{beginCall, takeCall};
@@ -22,7 +22,7 @@ mod supplied; // supplied.rt: a supplied plan in a lent buffer of words
 mod told; // told.rt: an answer in three words
 
 // The version of the library as one number: major * 10000 + minor * 100 + patch.
-const VERSION: u32 = 1400;
+const VERSION: u32 = 1500;
 
 // The version of the library that is linked; the header has that of the header.
 #[no_mangle]
@@ -80,8 +80,8 @@ pub extern "C" fn sivorandra_plan(
     0
 }
 
-// The run of a table's words, taken through all of `entries`, three words each, 0, reports and empties or 1, position and 0: its answers go into
-// `numbers`, its last row, asked with no empty job, into the first 64 bytes of `row`.
+// The run of a table's words, taken through all of `entries`, three words each, 0, reports and empties, or 1, position and 0, or 2, set and 0: its
+// answers go into `numbers`, its last row, asked with no empty job, into the first 64 bytes of `row`.
 // Case 0: the last row is shown; 4: the last row is refused, number position; 3: the start is Refused number position, and both as found.
 #[no_mangle]
 pub extern "C" fn sivorandra_replay(
@@ -181,6 +181,21 @@ pub extern "C" fn sivorandra_withdraw(run: &mut [u32], position: u32, answer: &m
         return 1;
     }
     let given = held::withdraw(run, position);
+    let told = told::of_answer(given);
+    told::put(told, answer);
+    0
+}
+
+// The run with all positions of a set withdrawn, or none, where bit p of `set` says position p + 1. Case 0, or 3 Refused number position and `run` as
+// found; 14 where `run` holds no run.
+#[no_mangle]
+pub extern "C" fn sivorandra_withdraw_all(run: &mut [u32], set: u32, answer: &mut [u32]) -> u32
+    ensures { λ r. ⌜ record { value = r; lent = now (run .exit) ∷ (now (answer .exit) ∷ []) } ≡ withdrawAllCall (now (run .entry)) set (now (answer .entry)) ⌝ }
+{
+    if answer.len() < 3 {
+        return 1;
+    }
+    let given = held::withdraw_all(run, set);
     let told = told::of_answer(given);
     told::put(told, answer);
     0

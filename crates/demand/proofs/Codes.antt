@@ -13,9 +13,9 @@ use Rattle.run.specs.declared.Answer.{Answer}
 use Rattle.run.specs.declared.Answer.the-variants.{Taken, Refused}
 use Rattle.run.specs.Answer.{told}
 use Rattle.run.specs.Run.{firmIn}
-use Rattle.run.specs.Numbers.{runOut, strangerIn, firstLateIn, misemptiedIn, misreportedIn}
+use Rattle.run.specs.Numbers.{runOut, pastCount, strangerIn, firstLateIn, misemptiedIn, misreportedIn}
 use Rattle.run.specs.Advance.{advanceAnswer, advanceOf}
-use Rattle.run.specs.Withdraw.{withdrawAnswer, withdrawOf}
+use Rattle.run.specs.Withdraw.{withdrawAnswer, withdrawOf, withdrawAllOf}
 use Rattle.run.proofs.RunOut.{few}
 use Rattle.demand.specs.Entries.{entryOf, answers}
 use Rattle.demand.specs.Replay.{code, Small, codes}
@@ -43,9 +43,9 @@ small-advance r x e = by-out (runOut r) refl
     by-out false q = by-late q (ltb (firstLateIn r) (r .count)) refl
 
 -- .. and those of a withdrawal
-small-withdraw : (r : Run) (p : ℕ) → Small (told (withdrawOf r p .answer))
-unfolding withdrawOf withdrawAnswer
-small-withdraw r p = go (runOut r) (firmIn r) (strangerIn r p)
+small-withdraw : (r : Run) (stranger : Bool) → Small (told (withdrawAnswer r stranger))
+unfolding withdrawAnswer
+small-withdraw r stranger = go (runOut r) (firmIn r) stranger
   where
     go : (t u v : Bool) → Small (told (cond t (Refused 14 0) (cond u (cond v (Refused 22 0) Taken) (Refused 21 0))))
     go true u v = ((omega arith, omega arith), omega arith)
@@ -55,7 +55,8 @@ small-withdraw r p = go (runOut r) (firmIn r) (strangerIn r p)
 
 pub small-answer : (r : Run) (x : model.Entry) → Small (told (entryOf r x .answer))
 small-answer r (model.advance x e) = small-advance r x e
-small-answer r (model.withdraw p) = small-withdraw r p
+small-answer r (model.withdraw p) = unfold withdrawOf in small-withdraw r (strangerIn r p)
+small-answer r (model.withdrawAll x) = unfold withdrawAllOf in small-withdraw r (pastCount (r .count) x)
 
 -- LAW: no two small answers have the same number ..
 pub code-tells : (a b : model.Answer) → Small a → Small b → code a ≡ code b → a ≡ b

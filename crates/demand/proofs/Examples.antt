@@ -1,5 +1,5 @@
--- The marked lines of the table of examples, and those with empty jobs, with withdrawals, with two widths and with lending, through `replay`: what its
--- contract says of the words of a line's table and of the line's list is what the line says.
+-- The marked lines of the table of examples, and those with empty jobs, with withdrawals of one position and of several together, with two widths and
+-- with lending, through `replay`: what its contract says of the words of a line's table and of the line's list is what the line says.
 -- So B with its report shows the right side of figure 2 of Goossens and Berten row by row, up to the miss; and B3 with the same report shows the rows that it shows without.
 use mathlib.Core.Path.{_≡_, refl, sym, ap, _∙_, subst}
 use mathlib.Core.List.{List, [], _∷_, map, _++_}
@@ -15,6 +15,7 @@ use Rattle.model.proofs.LineByLine.{LineByLine, by-line}
 use Rattle.model.proofs.Examples.{Line, worked, lines, examples}
 use Rattle.model.proofs.EmptyExamples.{empty-lines, empty-examples}
 use Rattle.model.proofs.WithdrawExamples.{withdraw-lines, withdraw-examples}
+use Rattle.model.proofs.TogetherExamples.{together-lines, together-examples}
 use Rattle.model.proofs.WidthExamples.{width-lines, width-examples}
 use Rattle.model.proofs.LendExamples.{lend-lines, lend-examples}
 use Rattle.table.specs.Words.{met, count, chain, tableOf}
@@ -178,6 +179,10 @@ begun-withdraw : LineByLine begins withdraw-lines (map expected withdraw-lines)
 unfolding starting
 begun-withdraw = (refl, (refl, (refl, (refl, (refl, (refl, (refl, (refl, (refl, (refl, (refl, (refl, (refl, (refl, tt))))))))))))))
 
+begun-together : LineByLine begins together-lines (map expected together-lines)
+unfolding starting
+begun-together = (refl, (refl, (refl, (refl, (refl, (refl, (refl, (refl, (refl, (refl, (refl, (refl, tt))))))))))))
+
 begun-width : LineByLine begins width-lines (map expected width-lines)
 unfolding starting
 begun-width = (refl, (refl, (refl, (refl, (refl, (refl, (refl, (refl, (refl, (refl, (refl, (refl, (refl, tt)))))))))))))
@@ -211,6 +216,10 @@ empty-through-replay = through empty-lines empty-examples begun-empty
 -- and every line with withdrawals
 pub withdraw-through-replay : Each (λ l. ByVerdict (l .says) l) withdraw-lines
 withdraw-through-replay = through withdraw-lines withdraw-examples begun-withdraw
+
+-- and every line with several withdrawn together
+pub together-through-replay : Each (λ l. ByVerdict (l .says) l) together-lines
+together-through-replay = through together-lines together-examples begun-together
 
 -- and every line with two widths
 pub width-through-replay : Each (λ l. ByVerdict (l .says) l) width-lines

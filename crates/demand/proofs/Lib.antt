@@ -18,5 +18,6 @@ pub mod Running
 pub mod HandBuilt
 pub mod EmptyBuilt
 pub mod WithdrawBuilt
+pub mod TogetherBuilt
 pub mod WidthBuilt
 pub mod LendBuilt

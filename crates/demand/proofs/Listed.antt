@@ -10,7 +10,7 @@ use native.Mathlib.Numerals.{add-one}
 use lib.ListN.{length, getD, length-map}
 use lib.Seq.{ext-getD}
 use borrow.Author.Tests.{not-false, not-true}
-use Rattle.model.specs.Book.{Entry, advance, withdraw, quiet}
+use Rattle.model.specs.Book.{Entry, advance, withdraw, withdrawAll, quiet}
 use Rattle.model.proofs.Lists.{map-at, map-more, up-at, up-length, up-more}
 use Rattle.model.proofs.Bools.{not-true-false}
 use Rattle.model.proofs.Search.{none-any, none-at}
@@ -65,7 +65,9 @@ length-entries es i = length-map (upFrom 0 i) (entryAt es) ∙ up-length 0 i
 
 -- the test decides whether words are an entry's
 pub is-entry-decides : (kind b : ℕ) → Decides (isEntry kind b) (IsEntry kind b)
-is-entry-decides kind b = decides-or _ _ _ _ (decides-eq kind 0) (decides-and _ _ _ _ (decides-eq kind 1) (decides-eq b 0))
+is-entry-decides kind b =
+    decides-or _ _ _ _ (decides-eq kind 0)
+    (decides-and _ _ _ _ (decides-or _ _ _ _ (decides-eq kind 1) (decides-eq kind 2)) (decides-eq b 0))
 
 -- the test decides whether the words are a list of entries
 pub listed-decides : (es : List ℕ) → Decides (listed es) (Listed es)
@@ -96,12 +98,14 @@ unfoldable pub listing : List Entry → List ℕ
 listing [] = []
 listing (advance x e ∷ xs) = 0 ∷ x ∷ e ∷ listing xs
 listing (withdraw p ∷ xs) = 1 ∷ p ∷ 0 ∷ listing xs
+listing (withdrawAll x ∷ xs) = 2 ∷ x ∷ 0 ∷ listing xs
 
 length-listing : (xs : List Entry) → length (listing xs) ≡ 3 * length xs
 unfolding listing
 length-listing [] = refl
 length-listing (advance x e ∷ xs) = omega (arith, length-listing xs)
 length-listing (withdraw p ∷ xs) = omega (arith, length-listing xs)
+length-listing (withdrawAll x ∷ xs) = omega (arith, length-listing xs)
 
 -- what stands behind three words stands three words on
 further :
@@ -131,9 +135,11 @@ listing-at :
 unfolding listing
 listing-at [] i l = absurd (not-suc-le-zero l)
 listing-at (advance x e ∷ xs) zero l = (inl refl, refl)
-listing-at (withdraw p ∷ xs) zero l = (inr (refl, refl), refl)
+listing-at (withdraw p ∷ xs) zero l = (inr (inl refl, refl), refl)
+listing-at (withdrawAll x ∷ xs) zero l = (inr (inr refl, refl), refl)
 listing-at (advance x e ∷ xs) (suc i) l = further 0 x e (listing xs) i (getD xs i quiet) (listing-at xs i (le-of-suc-le-suc l))
 listing-at (withdraw p ∷ xs) (suc i) l = further 1 p 0 (listing xs) i (getD xs i quiet) (listing-at xs i (le-of-suc-le-suc l))
+listing-at (withdrawAll x ∷ xs) (suc i) l = further 2 x 0 (listing xs) i (getD xs i quiet) (listing-at xs i (le-of-suc-le-suc l))
 
 -- LAW: every list of entries stands in words, and comes back from them
 pub listing-listed : (xs : List Entry) → Listed (listing xs)

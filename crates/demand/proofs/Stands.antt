@@ -1,30 +1,31 @@
 -- A run that stands for a book: it gives the book's answers and rows, and an entry, taken or refused, keeps it standing.
 use mathlib.Core.Path.{_≡_, refl, sym, ap, ap₂, subst, _∙_}
-use mathlib.Core.Bool.{Bool, true, false, cond}
+use mathlib.Core.Bool.{Bool, true, false, not, _&&_, _||_, cond}
 use mathlib.Core.List.{List, [], _∷_, map}
 use Prim.Native.Nat.{ℕ, suc, _<_}
 use native.Mathlib.Omega.{arith}
 use lib.ListN.{length}
-use lib.Dec.{ltb}
-use Rattle.model.specs.Search.{bit}
+use lib.Dec.{eqb, ltb}
+use Rattle.model.specs.Search.{any, bit}
 use Rattle.model.specs.Firm.{firm}
 use Rattle.model.specs.Task.{AllSound, Table}
-use Rattle.model.specs.Book.{Book, Entry, advance, withdraw, rowOf, emptied, emptyIn, advanced, without, only, afterTaken, Answer, taken, refused, firstLate}
-use Rattle.model.specs.Book.{misemptied, misreported, stranger, answer, shown, rowRefused, asked, entered, enter, bookFrom, answersFrom}
+use Rattle.model.specs.Book.{Book, Entry, advance, withdraw, withdrawAll, rowOf, emptied, emptyIn, advanced, without, only, afterTaken, Answer, taken, refused}
+use Rattle.model.specs.Book.{firstLate, misemptied, misreported, strangers, withdrawing, answer, shown, rowRefused, asked, entered, enter, bookFrom, answersFrom}
 use Rattle.run.specs.declared.Run.{Run}
 use Rattle.run.specs.declared.Answer as declared
 use Rattle.run.specs.declared.Answer.the-variants.{Taken, Refused}
 use Rattle.run.specs.declared.Row.{Row}
 use Rattle.run.specs.Run.{moved, withdrawnIn}
 use Rattle.run.specs.Answer.{told, byAnswer, rowTold, askedIn64, in64}
-use Rattle.run.specs.Numbers.{misemptiedIn, misreportedIn, strangerIn}
+use Rattle.run.specs.Numbers.{misemptiedIn, misreportedIn, pastCount, strangerIn}
 use Rattle.run.specs.Advance.{advanceAnswer, advanceOf}
-use Rattle.run.specs.Withdraw.{withdrawAnswer, withdrawOf}
+use Rattle.run.specs.Withdraw.{withdrawAnswer, withdrawOf, withdrawAllOf}
 use Rattle.run.specs.Row.{rowAnswer, bytesIn, noBytes}
 use Rattle.run.specs.Row as run
 use Rattle.demand.specs.Entries.{entryOf, answers, after}
 use Rattle.run.proofs.Limits.{Passes, passes-runs, moved-passes, withdrawn-passes}
-use Rattle.run.proofs.WithdrawExact.{taken-within}
+use Rattle.run.proofs.SetTests.{past-search}
+use Rattle.run.proofs.WithdrawExact.{taken-parts, taken-within}
 use Rattle.demand.proofs.Looks.{same-row, same-misreported}
 use Rattle.demand.proofs.Related.{Related, same-first, same-any, in-time, same-misemptied, looks, related-on, related-out}
 
@@ -64,20 +65,33 @@ module _ (s : Table) (ok : AllSound s) where
           (same-misreported s ok c r e (looks s ok b r (h .related) it e) x)
 
   -- .. and to a withdrawal ..
-  same-withdraw : (b : Book) (r : Run) → Stands s b r → (p : ℕ) → told (withdrawAnswer r (strangerIn r p)) ≡ answer s b (withdraw p)
-  unfolding withdrawAnswer answer
-  same-withdraw b r h p =
-      rw (passes-runs r (h .passes), h .related .table .same-rule, h .related .table .same-tasks, h .related .table .same-count)
-      (told-alike (firm (s .rule) (s .tasks)) (stranger s p))
+  same-withdraw : (b : Book) (r : Run) → Stands s b r → (t : Bool) → told (withdrawAnswer r t) ≡ withdrawing s t
+  unfolding withdrawAnswer
+  same-withdraw b r h t =
+      rw (passes-runs r (h .passes), h .related .table .same-rule, h .related .table .same-tasks)
+      (told-alike (firm (s .rule) (s .tasks)) t)
     where
       told-alike : (u v : Bool) → told (cond u (cond v (Refused 22 0) Taken) (Refused 21 0)) ≡ cond u (cond v (refused 22 0) taken) (refused 21 0)
       told-alike false v = refl
       told-alike true true = refl
       told-alike true false = refl
 
+  same-single : (b : Book) (r : Run) → Stands s b r → (p : ℕ) → told (withdrawAnswer r (strangerIn r p)) ≡ answer s b (withdraw p)
+  unfolding answer
+  same-single b r h p =
+      same-withdraw b r h (strangerIn r p) ∙ ap (λ (n : ℕ). withdrawing s (eqb p 0 || ltb n p)) (h .related .table .same-count)
+
+  same-several : (b : Book) (r : Run) → Stands s b r → (x : ℕ) → told (withdrawAnswer r (pastCount (r .count) x)) ≡ answer s b (withdrawAll x)
+  unfolding answer strangers
+  same-several b r h x =
+      same-withdraw b r h (pastCount (r .count) x)
+      ∙ (ap (withdrawing s) (past-search (r .count) x)
+      ∙ ap (λ (n : ℕ). withdrawing s (any x (λ p. bit x p && not (ltb p n)))) (h .related .table .same-count))
+
   same-answer : (b : Book) (r : Run) → Stands s b r → (x : Entry) → told (entryOf r x .answer) ≡ answer s b x
   same-answer b r h (advance x e) = unfold advanceOf in same-advance b r h x e
-  same-answer b r h (withdraw p) = unfold withdrawOf in same-withdraw b r h p
+  same-answer b r h (withdraw p) = unfold withdrawOf in same-single b r h p
+  same-answer b r h (withdrawAll x) = unfold withdrawAllOf in same-several b r h x
 
   -- .. and one row, whatever jobs are empty
   pub same-asked : (b : Book) (r : Run) → Stands s b r → (e : ℕ) → rowTold (run.rowOf r e) ≡ askedIn64 (asked s b e)
@@ -118,9 +132,23 @@ module _ (s : Table) (ok : AllSound s) where
       go true q = absurd (omega arith)
       go false q = refl
 
+  -- a withdrawal of the set x, by a test t of 22 under which x is within the count
+  stands-out :
+      (b : Book) (r : Run) → Stands s b r → (t : Bool) (x : ℕ) (v : Answer) → (withdrawAnswer r t ≡ Taken → pastCount (r .count) x ≡ false)
+      → told (withdrawAnswer r t) ≡ v → Stands s (entered v (without x b) b) (byAnswer (withdrawAnswer r t) (withdrawnIn x r) r)
+  stands-out b r h t x v within q = go (withdrawAnswer r t) refl q
+    where
+      go : (w : declared.Answer) → withdrawAnswer r t ≡ w → told w ≡ v → Stands s (entered v (without x b) b) (byAnswer w (withdrawnIn x r) r)
+      go Taken e q =
+          rw (sym q) (record {
+            passes = withdrawn-passes x r (h .passes) (within e);
+            related = related-out s b r (h .related) x;
+          })
+      go (Refused n i) e q = rw (sym q) h
+
   -- an entry, taken or refused, keeps a run standing for its book
   stands-entry : (b : Book) (r : Run) → Stands s b r → (x : Entry) → Stands s (enter s x b) (entryOf r x .run)
-  unfolding enter afterTaken advanceOf withdrawOf
+  unfolding enter afterTaken advanceOf withdrawOf withdrawAllOf
   stands-entry b r h (advance x e) = go (advanceAnswer r x e) (same-advance b r h x e)
     where
       go : (w : declared.Answer) → told w ≡ answer s b (advance x e)
@@ -133,16 +161,10 @@ module _ (s : Table) (ok : AllSound s) where
             related = related-on s ok b r (h .related) it (bit x) e;
           })
       go (Refused n p) q = rw (sym q) h
-  stands-entry b r h (withdraw p) = go (withdrawAnswer r (strangerIn r p)) refl (same-withdraw b r h p)
-    where
-      go : (w : declared.Answer) → withdrawAnswer r (strangerIn r p) ≡ w → told w ≡ answer s b (withdraw p)
-          → Stands s (entered (answer s b (withdraw p)) (without (only p) b) b) (byAnswer w (withdrawnIn (only p) r) r)
-      go Taken v q =
-          rw (sym q) (record {
-            passes = withdrawn-passes (only p) r (h .passes) (taken-within r p v);
-            related = related-out s b r (h .related) (only p);
-          })
-      go (Refused n i) v q = rw (sym q) h
+  stands-entry b r h (withdraw p) = stands-out b r h (strangerIn r p) (only p) (answer s b (withdraw p)) (taken-within r p) (same-single b r h p)
+  stands-entry b r h (withdrawAll x) =
+      stands-out b r h (pastCount (r .count) x) x (answer s b (withdrawAll x)) (λ e. taken-parts r (pastCount (r .count) x) (ap told e) .2)
+      (same-several b r h x)
 
   pub stands-after : (xs : List Entry) (b : Book) (r : Run) → Stands s b r → Stands s (bookFrom s b xs) (after r xs)
   unfolding bookFrom after

@@ -20,7 +20,7 @@ abbrev pub out : ℕ → Run → Run
 out x r = record { rule = r .rule; cores = r .cores; fence = r .fence; withdrawn = x; count = r .count; tasks = r .tasks }
 
 -- so many tasks in one phase on one core, under greedy
-abbrev many : ℕ → Phase → Run
+abbrev pub many : ℕ → Phase → Run
 many n ph = record { rule = 1; cores = 1; fence = 0; withdrawn = 0; count = n; tasks = replicate 32 (t 2 1 3 4 6 ph) }
 
 abbrev pub withdraw-lines : List Named

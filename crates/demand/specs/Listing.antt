@@ -1,5 +1,5 @@
 -- A list of entries in words, three words an entry: (0, reports, empties) is an advance with its two sets (request 105), (1, position, 0) is a
--- withdrawal (request 106).
+-- withdrawal (request 106), (2, set, 0) is one of several positions together (request 113).
 use mathlib.Core.Path.{_≡_}
 use mathlib.Core.Bool.{Bool, not, _&&_, _||_, cond}
 use mathlib.Core.List.{List, map}
@@ -7,7 +7,7 @@ use mathlib.Core.Logic.{_⊎_}
 use Prim.Native.Nat.{ℕ, _+_, _*_, _/_, _%_, _<_}
 use lib.ListN.{length, getD}
 use lib.Dec.{eqb}
-use Rattle.model.specs.Book.{Entry, advance, withdraw}
+use Rattle.model.specs.Book.{Entry, advance, withdraw, withdrawAll}
 use Rattle.model.specs.Search.{any, upFrom}
 
 -- how many entries there are
@@ -26,7 +26,7 @@ secondAt es i = getD es (3 * i + 2) 0
 
 -- the entry that three words are
 abbrev pub entryBy : ℕ → ℕ → ℕ → Entry
-entryBy kind a b = cond (eqb kind 0) (advance a b) (withdraw a)
+entryBy kind a b = cond (eqb kind 0) (advance a b) (cond (eqb kind 1) (withdraw a) (withdrawAll a))
 
 abbrev pub entryAt : List ℕ → ℕ → Entry
 entryAt es i = entryBy (kindAt es i) (firstAt es i) (secondAt es i)
@@ -37,10 +37,10 @@ entriesIn es = map (entryAt es) (upFrom 0 (entryCount es))
 
 -- words of this kind with this last word are an entry's: an advance's, or a withdrawal's, whose last word is 0; and the test (`is-entry-decides`)
 abbrev pub IsEntry : ℕ → ℕ → Type 0
-IsEntry kind b = (kind ≡ 0) ⊎ ((kind ≡ 1) × (b ≡ 0))
+IsEntry kind b = (kind ≡ 0) ⊎ (((kind ≡ 1) ⊎ (kind ≡ 2)) × (b ≡ 0))
 
 abbrev pub isEntry : ℕ → ℕ → Bool
-isEntry kind b = eqb kind 0 || (eqb kind 1 && eqb b 0)
+isEntry kind b = eqb kind 0 || ((eqb kind 1 || eqb kind 2) && eqb b 0)
 
 -- the words are a list of entries: three words each, none over, each an entry's
 abbrev pub Listed : List ℕ → Type 0

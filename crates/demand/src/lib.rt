@@ -15,8 +15,8 @@ pub enum Replayed {
 }
 
 // A replay: the run of a table's words, started and taken through all of `entries`, three words each: 0, the reports and the empties of an advance;
-// 1, the position and 0 of a withdrawal. Each answer goes into `numbers`, the last row, asked with no empty job, into `bytes`; a refused start, and
-// slices that do not fit, leave both as found.
+// 1, the position and 0 of a withdrawal; 2, the set and 0 of one of several positions together. Each answer goes into `numbers`, the last row, asked
+// with no empty job, into `bytes`; a refused start, and slices that do not fit, leave both as found.
 pub fn replay(words: &[u32], entries: &[u32], numbers: &mut [u32], bytes: &mut [u8]) -> Replayed
     ensures { λ r. ⌜ ReplayOf (now (words .entry)) (now (entries .entry)) (now (numbers .entry))
         (now (bytes .entry)) (record { answer = r; numbers = now (numbers .exit); bytes = now (bytes .exit) }) ⌝ }

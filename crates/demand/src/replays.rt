@@ -29,7 +29,7 @@ fn code(answer: Answer) -> u32
 fn is_entry(kind: u32, second: u32) -> bool
     ensures { λ r. ⌜ r ≡ isEntry kind second ⌝ }
 {
-    (kind == 0) | ((kind == 1) & (second == 0))
+    (kind == 0) | (((kind == 1) | (kind == 2)) & (second == 0))
 }
 
 // Whether the words are a list of entries: three words each, none over, each an entry's.
@@ -67,7 +67,10 @@ fn enter(run: Run, kind: u32, first: u32, second: u32) -> Advanced
     if kind == 0 {
         return run.advance(first, second);
     }
-    run.withdraw(first)
+    if kind == 1 {
+        return run.withdraw(first);
+    }
+    run.withdraw_all(first)
 }
 
 // The run after the list; its answers are written as numbers.

@@ -1,6 +1,6 @@
 -- What a computed example opens: where an `unfolding` line names `computing`, a table's verdict, and the answers, rows and book of a list, compute.
 use Rattle.model.specs.Book.{afterTaken, answer, answersFrom, asked, bookFrom, borrowed, borrowing, claims, emptiable, emptied, enter, full}
-use Rattle.model.specs.Book.{late, misemptied, misreported, offer, reportable, rowsFrom, seeks, served, step, takenFrom, work, workLent}
+use Rattle.model.specs.Book.{late, misemptied, misreported, offer, reportable, rowsFrom, seeks, served, step, strangers, takenFrom, work, workLent}
 use Rattle.model.specs.Firm.{firm, rising}
 use Rattle.model.specs.Grants.{claimants, given, grants, left}
 use Rattle.model.specs.Horizon.{S, horizon, hyperperiod, lcm}
@@ -12,5 +12,5 @@ use Rattle.model.specs.Verdict.{firstMiss, missedAt, missedIn, verdict}
 unfoldable pub computing : Unit {0}
 unfolding verdict firstMiss missedIn missedAt firm rising horizon S hyperperiod lcm least any memb upFrom kept owner row given left grants claimants
     claims served lent beside among borrowed borrowing offer seeks work workLent step full late reportable misreported emptied emptiable misemptied
-    answer asked afterTaken enter bookFrom answersFrom takenFrom rowsFrom
+    strangers answer asked afterTaken enter bookFrom answersFrom takenFrom rowsFrom
 computing = tt

@@ -8,7 +8,7 @@ use native.Mathlib.Nat.{add-zero, le-antisymm, le-of-eq, le-trans, mul-le-mul-le
 use native.Mathlib.Omega.{arith}
 use lib.Dec.{eqb, leb, ltb}
 use lib.ListN.{length, replicate}
-use borrow.Author.Tests.{eq-eqb, eqb-true, le-leb, leb-false, leb-true, lt-ltb, ltb-true, not-true}
+use borrow.Author.Tests.{eq-eqb, eqb-true, le-leb, le-ltb, leb-false, leb-true, lt-ltb, ltb-false, ltb-true, not-true}
 use Rattle.model.proofs.Bools.{and-both, and-left, and-right, not-true-false}
 use Rattle.model.proofs.Digits.{bit-high}
 use Rattle.model.proofs.FullLength.{late-job}
@@ -18,7 +18,7 @@ use Rattle.model.proofs.Search.{any-of, any-some}
 use Rattle.model.proofs.Starts.{Periods, S-release, hyperperiod-cycles, hyperperiod-least, hyperperiod-pos, release-first, release-from}
 use Rattle.model.specs.Book.{AllTaken, Answer, Book, Entry, Job, Missed, advance, advanced, afterTaken, answer, answersFrom, book, bookFrom, claims}
 use Rattle.model.specs.Book.{emptiable, emptied, emptyBook, emptyIn, endedWith, enter, entered, full, jobClaims, keep, late, misemptied, misreported, only, refused}
-use Rattle.model.specs.Book.{reportable, step, taken, takenFrom, takenIn, takenOf, taskClaims, ticksOf, withdraw, without}
+use Rattle.model.specs.Book.{reportable, step, strangers, taken, takenFrom, takenIn, takenOf, taskClaims, ticksOf, withdraw, withdrawAll, without}
 use Rattle.model.specs.Horizon.{Later, LeastCommonMultiple, S, hyperperiod, releaseFrom}
 use Rattle.model.specs.Search.{any, bit}
 use Rattle.model.specs.Task.{AllSound, Rule, Sound, Table, Task, due, newest, release, task}
@@ -98,6 +98,14 @@ pub misemptied-exact :
     → (misemptied s b e ≡ true) ↔ ((p : ℕ) × (bit e p ≡ true) × (emptiable s b p ≡ false))
 unfolding misemptied
 misemptied-exact s b e = set-exact e (emptiable s b)
+
+-- and a set to be withdrawn by 22, where some bit is set for a position that is none of the table's
+pub strangers-exact : (s : Table) (x : ℕ) → (strangers s x ≡ true) ↔ ((p : ℕ) × (bit x p ≡ true) × (length (s .tasks) ≤ p))
+unfolding strangers
+strangers-exact s x = (
+  λ e. let y = set-exact x (λ p. ltb p (length (s .tasks))) .0 e in (y .0, y .1, ltb-false (y .0) (length (s .tasks)) (y .2)),
+  λ y. set-exact x (λ p. ltb p (length (s .tasks))) .1 (y .0, y .1, le-ltb (y .0) (length (s .tasks)) (y .2)),
+)
 
 -- a position may be empty exactly if it is one of the table and some job of it, of any number, is released in this tick and has not ended
 pub emptiable-exact :
@@ -179,6 +187,8 @@ tick-from s (x ∷ xs) b = go x (answer s b x) (tick-from s xs)
     go (advance x e) (refused n p) ih = ih b ∙ omega arith
     go (withdraw p) taken ih = ih (without (only p) b) ∙ omega arith
     go (withdraw p) (refused n q) ih = ih b ∙ omega arith
+    go (withdrawAll x) taken ih = ih (without x b) ∙ omega arith
+    go (withdrawAll x) (refused n q) ih = ih b ∙ omega arith
 
 pub tick-taken : (s : Table) (xs : List Entry) → book s xs .tick ≡ takenIn xs (answersFrom s emptyBook xs)
 tick-taken s xs = tick-from s xs emptyBook ∙ zero-add (takenIn xs (answersFrom s emptyBook xs))

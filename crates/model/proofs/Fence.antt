@@ -15,7 +15,7 @@ use Rattle.model.proofs.Renumbered.{at-map, grants-map, lent-map, owner
 use Rattle.model.proofs.Search.{any-same}
 use Rattle.model.specs.Book.{Answer, Book, Entry, advance, afterTaken, answer, answersFrom, book, bookFrom, borrowed, borrowing, borrows}
 use Rattle.model.specs.Book.{emptiable, emptied, emptyBook, emptyIn, enter, full, grantsOf, inRow, late, lentOf, misemptied, misreported, newestEnded}
-use Rattle.model.specs.Book.{none, offer, reportable, rowOf, seeks, served, shownOf, step, taskClaims, widths, withdraw, work, workLent}
+use Rattle.model.specs.Book.{none, offer, reportable, rowOf, seeks, served, shownOf, step, strangers, taskClaims, widths, withdraw, withdrawAll, work, workLent}
 use Rattle.model.specs.Fence.{justOpen, openCores, outside, spread, unfenced}
 use Rattle.model.specs.Grants.{claimants, grants, some}
 use Rattle.model.specs.Horizon.{horizon}
@@ -255,18 +255,20 @@ module _ (s : Table) where
 
   -- and in every list: the answers are the same, and so is the book
   same-answer : (b : Book) (x : Entry) → answer s b x ≡ answer (justOpen s) b x
-  unfolding answer late misreported reportable misemptied emptiable emptied
+  unfolding answer late misreported reportable misemptied emptiable emptied strangers
   same-answer b (advance x e) =
       let c : Book = emptied s (emptyIn b e) b in
       rw (any-same x (λ p. bit x p && not ((inRow s c p || borrows s c p) && not (newestEnded s c p)))
       (λ p. bit x p && not ((inRow (justOpen s) c p || borrows (justOpen s) c p) && not (newestEnded s c p)))
       (λ p l. rw (same-in-row c p, same-borrows c p)))
   same-answer b (withdraw p) = refl
+  same-answer b (withdrawAll x) = refl
 
   same-after : (x : Entry) (b : Book) → afterTaken s x b ≡ afterTaken (justOpen s) x b
   unfolding afterTaken emptied
   same-after (advance x e) b = same-step (bit x) (emptied s (emptyIn b e) b)
   same-after (withdraw p) b = refl
+  same-after (withdrawAll x) b = refl
 
   same-enter : (x : Entry) (b : Book) → enter s x b ≡ enter (justOpen s) x b
   unfolding enter

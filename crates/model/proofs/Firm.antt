@@ -16,7 +16,7 @@ use Rattle.model.proofs.Search.{least-found}
 use Rattle.model.proofs.Sustain.{abreast-lists, finished, none-behind}
 use Rattle.model.proofs.Verdict.{verdict-exact}
 use Rattle.model.specs.Book.{Answer, Asked, Book, Entry, NeverMissed, advance, answer, asked, book, emptied, emptyIn, firstLate, full, late, misemptied}
-use Rattle.model.specs.Book.{misreported, quiet, refused, rowOf, rowRefused, shown, taken, stranger, withdraw}
+use Rattle.model.specs.Book.{misreported, quiet, refused, rowOf, rowRefused, shown, taken, stranger, strangers, withdraw, withdrawAll}
 use Rattle.model.specs.Compare.{NoneBehind}
 use Rattle.model.specs.Kept.{Kept}
 use Rattle.model.specs.Task.{AllSound, Table, due, task}
@@ -49,6 +49,12 @@ module _ (s : Table) (ok : AllSound s) (firmly : FirmRule s) (accepted : NeverMi
   denial (shown r) = 0
   denial (rowRefused n p) = n
 
+  no-15-out : (u v : Bool) → number (cond u (cond v (refused 22 0) taken) (refused 21 0)) ≡ 15 → ⊥
+  unfolding number
+  no-15-out false v q = omega arith
+  no-15-out true true q = omega arith
+  no-15-out true false q = omega arith
+
   no-15 : (xs : List Entry) (x : Entry) (p : ℕ) → ¬ (answer s (book s xs) x ≡ refused 15 p)
   unfolding answer number
   no-15 xs (advance x g) p e =
@@ -59,12 +65,8 @@ module _ (s : Table) (ok : AllSound s) (firmly : FirmRule s) (accepted : NeverMi
       go true v q = omega arith
       go false true q = omega arith
       go false false q = omega arith
-  no-15 xs (withdraw q) p e = go (firm (s .rule) (s .tasks)) (stranger s q) (ap number e)
-    where
-      go : (u v : Bool) → number (cond u (cond v (refused 22 0) taken) (refused 21 0)) ≡ 15 → ⊥
-      go false v q = omega arith
-      go true true q = omega arith
-      go true false q = omega arith
+  no-15 xs (withdraw q) p e = no-15-out (firm (s .rule) (s .tasks)) (stranger s q) (ap number e)
+  no-15 xs (withdrawAll x) p e = no-15-out (firm (s .rule) (s .tasks)) (strangers s x) (ap number e)
 
   no-15-row : (xs : List Entry) (e p : ℕ) → ¬ (asked s (book s xs) e ≡ rowRefused 15 p)
   unfolding asked denial

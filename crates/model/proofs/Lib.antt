@@ -4,6 +4,7 @@ pub mod Computing
 pub mod Examples
 pub mod EmptyExamples
 pub mod WithdrawExamples
+pub mod TogetherExamples
 pub mod WidthExamples
 pub mod LendExamples
 pub mod Bools
@@ -31,5 +32,6 @@ pub mod Verdict
 pub mod Renumbered
 pub mod Fence
 pub mod Withdraw
+pub mod Together
 pub mod Counts
 pub mod Crowd

@@ -17,15 +17,16 @@ use Rattle.model.proofs.Grants.{claimants-cut, grants-take}
 use Rattle.model.proofs.Lending.{borrowed-above, lent-local, shown-given}
 use Rattle.model.proofs.Lists.{take-map}
 use Rattle.model.proofs.Runs.{full-offer}
+use Rattle.model.proofs.Search.{none-at}
 use Rattle.model.specs.Book.{Answer, Book, Entry, Job, advance, afterTaken, answer, book, bookFrom, borrowed, borrowing, emptied, emptyBook}
 use Rattle.model.specs.Book.{emptyIn, enter, entered, full, grantsOf, jobClaims, keep, newestEnded, none, offer, only, quiet, refused, rowOf, seeks}
-use Rattle.model.specs.Book.{served, step, taken, takenFrom, takenOf, taskClaims, widths, withdraw, without}
+use Rattle.model.specs.Book.{served, step, taken, takenFrom, takenOf, taskClaims, widths, withdraw, withdrawAll, without}
 use Rattle.model.specs.Fence.{openCores}
 use Rattle.model.specs.Grants.{claimants}
 use Rattle.model.specs.Lending.{lent}
 use Rattle.model.specs.Local.{Alike, SameBits, SameCores, SameEntries, SameEntry, SameReports, noticed, noticedIf, upTo}
 use Rattle.model.specs.Row.{byteOf, owner, row}
-use Rattle.model.specs.Search.{bit, memb, upFrom}
+use Rattle.model.specs.Search.{any, bit, memb, upFrom}
 use Rattle.model.specs.Task.{Table, Task, newest, nobody, task, widthOf}
 
 -- two books with the same tick, and the same jobs and withdrawals of the first n places
@@ -240,8 +241,13 @@ module _ (n : ℕ) (s s′ : Table) (al : Alike n s s′) where
   same-after (advance x e) (advance y g) h b b′ ag =
       same-step (bit x) (bit y) (h .0) (emptied s (emptyIn b e) b) (emptied s′ (emptyIn b′ g) b′) (same-empty b b′ ag e g (h .1))
   same-after (advance x e) (withdraw q) h b b′ ag = absurd h
+  same-after (advance x e) (withdrawAll y) h b b′ ag = absurd h
   same-after (withdraw p) (advance y g) h b b′ ag = absurd h
   same-after (withdraw p) (withdraw q) h b b′ ag = same-without b b′ ag (only p) (only q) (λ i l. ap (λ (k : ℕ). bit (only k) i) h)
+  same-after (withdraw p) (withdrawAll y) h b b′ ag = same-without b b′ ag (only p) y h
+  same-after (withdrawAll x) (advance y g) h b b′ ag = absurd h
+  same-after (withdrawAll x) (withdraw q) h b b′ ag = same-without b b′ ag x (only q) h
+  same-after (withdrawAll x) (withdrawAll y) h b b′ ag = same-without b b′ ag x y h
 
   took-agree : (xs ys : List Entry) → SameEntries n xs ys → (b b′ : Book) → Agree n b b′ → Agree n (took s b xs) (took s′ b′ ys)
   unfolding SameEntries took
@@ -266,6 +272,14 @@ agree-trans n b c d h g = record {
 only-below : (n p q : ℕ) → leb p n ≡ false → q < n → bit (only p) q ≡ false
 only-below n p q h l = bit-power (p - 1) q ∙ ne-eqb q (p - 1) (λ e. omega (arith, leb-false p n h))
 
+-- a withdrawal of places from n on alone
+unnoticed : (n : ℕ) (b c : Book) → Agree n b c → (x : ℕ) → ((q : ℕ) → q < n → bit x q ≡ false) → Agree n (without x b) c
+unnoticed n b c ag x off = record {
+  ticks = ag .ticks;
+  jobs = ag .jobs;
+  gone = λ q l. or-bit (b .withdrawn) x q ∙ (rw (off q l) (or-false (bit (b .withdrawn) q)) ∙ ag .gone q l);
+}
+
 -- an entry goes on with what stands behind it, or is left out
 noticed-step :
     (n : ℕ) (s : Table) (x : Entry) (xs : List Entry) (b c : Book) → Agree n b c
@@ -278,11 +292,14 @@ noticed-step n s (withdraw p) xs b c ag more = go (leb p n) refl
     go : (t : Bool) → leb p n ≡ t
         → Agree n (took s (afterTaken s (withdraw p) b) xs) (took s c (cond t (withdraw p ∷ noticed n xs) (noticed n xs)))
     go true h = unfold took in more (afterTaken s (withdraw p) c) (same-after n s s (alike-self n s) (withdraw p) (withdraw p) refl b c ag)
-    go false h = more c (unfold afterTaken in record {
-      ticks = ag .ticks;
-      jobs = ag .jobs;
-      gone = λ q l. or-bit (b .withdrawn) (only p) q ∙ (rw (only-below n p q h l) (or-false (bit (b .withdrawn) q)) ∙ ag .gone q l);
-    })
+    go false h = more c (unfold afterTaken in unnoticed n b c ag (only p) (λ q l. only-below n p q h l))
+noticed-step n s (withdrawAll x) xs b c ag more = go (any n (bit x)) refl
+  where
+    go : (t : Bool) → any n (bit x) ≡ t
+        → Agree n (took s (afterTaken s (withdrawAll x) b) xs) (took s c (cond t (withdrawAll x ∷ noticed n xs) (noticed n xs)))
+    go true h =
+        unfold took in more (afterTaken s (withdrawAll x) c) (same-after n s s (alike-self n s) (withdrawAll x) (withdrawAll x) (λ q l. refl) b c ag)
+    go false h = more c (unfold afterTaken in unnoticed n b c ag x (λ q l. none-at n (bit x) q h l))
 
 noticed-took : (n : ℕ) (s : Table) (xs : List Entry) (b c : Book) → Agree n b c → Agree n (took s b xs) (took s c (noticed n xs))
 unfolding noticed took

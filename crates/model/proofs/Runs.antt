@@ -14,7 +14,7 @@ use Rattle.model.proofs.Jobs.{Good, after-release, good-fresh, mk, next
 use Rattle.model.proofs.Lending.{not-borrowing, offer-whole, shown-given}
 use Rattle.model.specs.Book.{Answer, Book, Entry, Job, Missed, advance, advanced, afterTaken, answer, book, bookFrom, borrowed, borrowing, emptied}
 use Rattle.model.specs.Book.{emptyBook, emptyIn, enter, entered, fresh, full, grantsOf, jobClaims, keep, none, offer, only, quiet, refused}
-use Rattle.model.specs.Book.{releasedNow, rowOf, seeks, served, shownOf, step, taken, takenFrom, takenOf, withdraw, without, work}
+use Rattle.model.specs.Book.{releasedNow, rowOf, seeks, served, shownOf, step, taken, takenFrom, takenOf, withdraw, withdrawAll, without, work}
 use Rattle.model.specs.Row.{row}
 use Rattle.model.specs.Search.{bit}
 use Rattle.model.specs.Task.{AllSound, Table, due, release, task}
@@ -42,6 +42,7 @@ unfoldable pub movesWith : ℕ → List Entry → List Move
 movesWith w [] = []
 movesWith w (advance x e ∷ xs) = moveWith w x e ∷ movesWith w xs
 movesWith w (withdraw p ∷ xs) = movesWith (bitOr w (only p)) xs
+movesWith w (withdrawAll x ∷ xs) = movesWith (bitOr w x) xs
 
 -- those of a list's taken entries
 abbrev pub movesOf : Table → List Entry → List Move
@@ -258,6 +259,8 @@ book-from s (x ∷ xs) b = go x (answer s b x) (book-from s xs)
     go (advance x e) (refused n p) ih = ih b
     go (withdraw p) taken ih = ih (without (only p) b)
     go (withdraw p) (refused n q) ih = ih b
+    go (withdrawAll x) taken ih = ih (without x b)
+    go (withdrawAll x) (refused n q) ih = ih b
 
 pub book-run : (s : Table) (xs : List Entry) → lines (book s xs) ≡ run s emptyBook (movesOf s xs)
 book-run s xs = book-from s xs emptyBook

@@ -1,4 +1,4 @@
--- Withdrawals (request 106): when one is taken, that only the set moves, that withdrawing again changes nothing, and whose jobs are empty from then on.
+-- Withdrawals (requests 106 and 113): when one is taken, that only the set moves, that withdrawing again changes nothing, and whose jobs are empty from then on.
 use mathlib.Core.Bool.{Bool, cond, false, not, true, true≢false, _||_}
 use mathlib.Core.List.{List, [], _∷_}
 use mathlib.Core.Logic.{_↔_, inl, inr, _⊎_}
@@ -8,15 +8,17 @@ use native.Mathlib.Omega.{arith}
 use lib.Bits.{bitOr}
 use lib.Dec.{eqb, ltb}
 use lib.ListN.{length}
-use borrow.Author.Tests.{eq-eqb, eqb-true, le-ltb, lt-ltb, ltb-true, ne-eqb}
+use borrow.Author.Tests.{eq-eqb, eqb-true, le-ltb, lt-ltb, ltb-false, ltb-true, ne-eqb}
 use Rattle.model.proofs.Bools.{not-true-false, or-cases, or-left, or-right}
 use Rattle.model.proofs.Digits.{bit-power, or-bit, same-set}
+use Rattle.model.proofs.Faithful.{strangers-exact}
 use Rattle.model.proofs.Verdict.{firm-exact}
 use Rattle.model.specs.Book.{Answer, Book, Entry, advance, afterTaken, answer, bookFrom, emptied, enter, entered, only, refused}
-use Rattle.model.specs.Book.{step, taken, stranger, withdraw, withdrawing, without}
+use Rattle.model.specs.Book.{step, taken, stranger, strangers, withdraw, withdrawAll, withdrawing, without}
 use Rattle.model.specs.Firm.{FirmRule, firm}
 use Rattle.model.specs.Search.{bit}
 use Rattle.model.specs.Task.{Table}
+use Rattle.model.specs.Together.{Within}
 
 -- WHAT IT IS ANSWERED, whatever stands in the book: 15 is not looked at
 
@@ -87,6 +89,42 @@ withdraw-taken s b p = (
   λ x. rw (firm-exact s .1 (x .0), ne-eqb p 0 (λ e. omega (arith, x .1)), le-ltb (length (s .tasks)) p (x .2)),
 )
 
+-- a set of them: 21 in the same way, for the empty set too ..
+pub withdraw-all-not-firm : (s : Table) (b : Book) (x : ℕ) → (answer s b (withdrawAll x) ≡ refused 21 0) ↔ (¬ FirmRule s)
+unfolding answer chosen
+withdraw-all-not-firm s b x = (
+  λ e f. true≢false (sym (firm-exact s .1 f) ∙ by-21 (firm (s .rule) (s .tasks)) (strangers s x) e),
+  λ n. rw (not-true-false (firm (s .rule) (s .tasks)) (λ e. n (firm-exact s .0 e))),
+)
+
+-- .. 22 exactly where it names a position past the count ..
+pub withdraw-all-strangers :
+    (s : Table) (b : Book) (x : ℕ)
+    → (answer s b (withdrawAll x) ≡ refused 22 0) ↔ (FirmRule s × ((p : ℕ) × (bit x p ≡ true) × (length (s .tasks) ≤ p)))
+unfolding answer chosen
+withdraw-all-strangers s b x = (
+  λ e. let y = by-22 (firm (s .rule) (s .tasks)) (strangers s x) e in (firm-exact s .0 (y .0), strangers-exact s x .0 (y .1)),
+  λ y. rw (firm-exact s .1 (y .0), strangers-exact s x .1 (y .1)),
+)
+
+-- .. and else it is taken
+pub within-strangers : (s : Table) (x : ℕ) → (strangers s x ≡ false) ↔ Within (length (s .tasks)) x
+within-strangers s x = (
+  λ e q h. go e q h (ltb q (length (s .tasks))) refl,
+  λ h. not-true-false (strangers s x) (λ e. let y = strangers-exact s x .0 e in omega (arith, h (y .0) (y .1), y .2)),
+)
+  where
+    go : strangers s x ≡ false → (q : ℕ) → bit x q ≡ true → (t : Bool) → ltb q (length (s .tasks)) ≡ t → q < length (s .tasks)
+    go e q h true i = ltb-true q (length (s .tasks)) i
+    go e q h false i = absurd (true≢false (sym (strangers-exact s x .1 (q, h, ltb-false q (length (s .tasks)) i)) ∙ e))
+
+pub withdraw-all-taken : (s : Table) (b : Book) (x : ℕ) → (answer s b (withdrawAll x) ≡ taken) ↔ (FirmRule s × Within (length (s .tasks)) x)
+unfolding answer chosen
+withdraw-all-taken s b x = (
+  λ e. let y = by-none (firm (s .rule) (s .tasks)) (strangers s x) e in (firm-exact s .0 (y .0), within-strangers s x .0 (y .1)),
+  λ y. rw (firm-exact s .1 (y .0), within-strangers s x .1 (y .1)),
+)
+
 -- ONLY THE SET MOVES
 
 -- the position is in it, and nothing else comes in ..
@@ -115,6 +153,8 @@ stays-one s x b q h = go x (answer s b x)
     go (advance x e) (refused n p) = h
     go (withdraw p) taken = or-bit (b .withdrawn) (only p) q ∙ rw h refl
     go (withdraw p) (refused n r) = h
+    go (withdrawAll x) taken = or-bit (b .withdrawn) x q ∙ rw h refl
+    go (withdrawAll x) (refused n r) = h
 
 pub withdrawn-stays : (s : Table) (xs : List Entry) (b : Book) (q : ℕ) → bit (b .withdrawn) q ≡ true → bit (bookFrom s b xs .withdrawn) q ≡ true
 unfolding bookFrom

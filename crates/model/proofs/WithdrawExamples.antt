@@ -11,10 +11,10 @@ use Rattle.model.specs.Task.{Table, greedy, idling, limited}
 use Rattle.model.specs.Verdict.{Firm, Full, Miss}
 
 -- E, whose position 1 comes at tick 1, and C2, whose widths never fall
-abbrev E : Table
+abbrev pub E : Table
 E = on 1 limited (t 1 1 1 1 2 ∷ t 0 1 1 2 3 ∷ [])
 
-abbrev C2 : Table
+abbrev pub C2 : Table
 C2 = on 2 greedy (t 0 1 2 4 4 ∷ t 0 1 1 4 4 ∷ t 0 2 2 4 4 ∷ [])
 
 abbrev pub withdraw-lines : List Line

@@ -1,5 +1,5 @@
 -- The book of a run (scope, section 'The book of a run'): kept from a table and a list of advances, each with its two sets, the reports and the
--- empty jobs (request 105), and of withdrawals (request 106).
+-- empty jobs (request 105), and of withdrawals, of one position (request 106) or of several together (request 113).
 use mathlib.Core.Bool.{Bool, true, false, not, _&&_, _||_, cond}
 use mathlib.Core.List.{List, [], _∷_, map}
 use mathlib.Core.Path.{_≡_}
@@ -164,15 +164,17 @@ advanced s f e b = step s f (emptied s e b)
 
 -- THE ENTRIES OF A LIST
 
--- an advance with its set of reports and its set of empty jobs, bit 0 for position 1; or the withdrawal of a position
+-- an advance with its set of reports and its set of empty jobs, bit 0 for position 1; or the withdrawal of a position, or of a set of them together
 pub data Entry : Type 0 where
   advance : ℕ → ℕ → Entry
   withdraw : ℕ → Entry
+  withdrawAll : ℕ → Entry
 
 -- the empty jobs that an entry names
 abbrev pub emptiesOf : Entry → ℕ
 emptiesOf (advance x e) = e
 emptiesOf (withdraw p) = 0
+emptiesOf (withdrawAll x) = 0
 
 -- the set of one position
 abbrev pub only : ℕ → ℕ
@@ -186,6 +188,7 @@ without x b = record { tick = b .tick; job = b .job; withdrawn = bitOr (b .withd
 unfoldable pub afterTaken : Table → Entry → Book → Book
 afterTaken s (advance x e) b = advanced s (bit x) (emptyIn b e) b
 afterTaken s (withdraw p) b = without (only p) b
+afterTaken s (withdrawAll x) b = without x b
 
 -- REFUSALS
 
@@ -218,13 +221,17 @@ misemptied s b e = any e (λ p. bit e p && not (emptiable s b p))
 abbrev pub stranger : Table → ℕ → Bool
 stranger s p = eqb p 0 || ltb (length (s .tasks)) p
 
+-- some bit of a set is set past the last position (`strangers-exact`)
+unfoldable pub strangers : Table → ℕ → Bool
+strangers s x = any x (λ p. bit x p && not (ltb p (length (s .tasks))))
+
 -- what a call is answered: taken, or refused with number and position
 pub data Answer : Type 0 where
   taken : Answer
   refused : ℕ → ℕ → Answer
 
 -- a withdrawal: 21 where the table's rule and widths are not firm; else 22 where a position that it names is none of the table's; else taken.
--- 15 is not looked at, nor anything else in the book (`withdraw-taken`)
+-- 15 is not looked at, nor anything else in the book (`withdraw-taken`, `withdraw-all-taken`)
 abbrev pub withdrawing : Table → Bool → Answer
 withdrawing s strange = cond (firm (s .rule) (s .tasks)) (cond strange (refused 22 0) taken) (refused 21 0)
 
@@ -237,6 +244,7 @@ answer s b (advance x e) =
     (refused 20 0)
     (cond (misreported s (emptied s (emptyIn b e) b) x) (refused 16 0) taken))
 answer s b (withdraw p) = withdrawing s (stranger s p)
+answer s b (withdrawAll x) = withdrawing s (strangers s x)
 
 -- what a row asked is answered: the row, or refused with number and position
 pub data Asked : Type 0 where
@@ -281,6 +289,7 @@ abbrev pub ticksOf : Entry → Answer → ℕ
 ticksOf (advance x e) taken = 1
 ticksOf (advance x e) (refused n p) = 0
 ticksOf (withdraw q) w = 0
+ticksOf (withdrawAll x) w = 0
 
 -- how many advances of a list were not refused, by its answers: the list's tick (`tick-taken`)
 unfoldable pub takenIn : List Entry → List Answer → ℕ

@@ -9,6 +9,7 @@ pub mod Lending
 pub mod Row
 pub mod Firm
 pub mod Book
+pub mod Together
 pub mod Compare
 pub mod Horizon
 pub mod Verdict

@@ -5,8 +5,8 @@ use mathlib.Core.Path.{_≡_}
 use Prim.Native.Nat.{_<_, ℕ}
 use lib.Dec.{leb}
 use lib.ListN.{getD, take}
-use Rattle.model.specs.Book.{Book, Entry, advance, borrowed, grantsOf, offer, rowOf, withdraw}
-use Rattle.model.specs.Search.{bit}
+use Rattle.model.specs.Book.{Book, Entry, advance, borrowed, grantsOf, offer, only, rowOf, withdraw, withdrawAll}
+use Rattle.model.specs.Search.{any, bit}
 use Rattle.model.specs.Task.{Table}
 
 -- two tables that differ only below position n: the same rule, cores and fence, and the same first n tasks
@@ -20,22 +20,29 @@ pub record Alike (n : ℕ) (s s′ : Table) : Type 0 where
 abbrev pub SameBits : ℕ → ℕ → ℕ → Type 0
 SameBits n x y = (q : ℕ) → q < n → bit x q ≡ bit y q
 
--- an entry before others, unless it withdraws a position below position n
+-- an entry before others, unless it withdraws only positions below position n
 abbrev pub noticedIf : ℕ → Entry → List Entry → List Entry
 noticedIf n (advance x e) xs = advance x e ∷ xs
 noticedIf n (withdraw p) xs = cond (leb p n) (withdraw p ∷ xs) xs
+noticedIf n (withdrawAll x) xs = cond (any n (bit x)) (withdrawAll x ∷ xs) xs
 
 -- the entries of a list that say anything of positions 1 to n: withdrawals of positions below them are left out
 unfoldable pub noticed : ℕ → List Entry → List Entry
 noticed n [] = []
 noticed n (x ∷ xs) = noticedIf n x (noticed n xs)
 
--- two entries that say the same of positions 1 to n: advances whose sets, of reports and of empty jobs, agree on them, or withdrawals of one position
+-- two entries that say the same of positions 1 to n: advances whose sets, of reports and of empty jobs, agree on them, or withdrawals of one position,
+-- or of sets that agree on them
 abbrev pub SameEntry : ℕ → Entry → Entry → Type 0
 SameEntry n (advance x e) (advance y g) = SameBits n x y × SameBits n e g
 SameEntry n (advance x e) (withdraw q) = ⊥
+SameEntry n (advance x e) (withdrawAll y) = ⊥
 SameEntry n (withdraw p) (advance y g) = ⊥
 SameEntry n (withdraw p) (withdraw q) = p ≡ q
+SameEntry n (withdraw p) (withdrawAll y) = SameBits n (only p) y
+SameEntry n (withdrawAll x) (advance y g) = ⊥
+SameEntry n (withdrawAll x) (withdraw q) = SameBits n x (only q)
+SameEntry n (withdrawAll x) (withdrawAll y) = SameBits n x y
 
 -- two lists of equal length whose entries say the same of positions 1 to n
 unfoldable pub SameEntries : ℕ → List Entry → List Entry → Type 0

@@ -11,10 +11,10 @@ use Rattle.run.specs.declared.Run.{Run}
 use Rattle.run.specs.declared.Answer.{Answer}
 use Rattle.run.specs.declared.Answer.the-variants.{Taken, Refused}
 use Rattle.run.specs.Run.{firmIn, moved, withdrawnIn}
-use Rattle.run.specs.Numbers.{runOut, strangerIn, firstLateIn, misemptiedIn, misreportedIn}
+use Rattle.run.specs.Numbers.{runOut, pastCount, strangerIn, firstLateIn, misemptiedIn, misreportedIn}
 use Rattle.run.specs.Row.{rowAnswer, bytesIn, noBytes, rowOf}
 use Rattle.run.specs.Advance.{advanceAnswer, advanceOf}
-use Rattle.run.specs.Withdraw.{withdrawAnswer, withdrawOf}
+use Rattle.run.specs.Withdraw.{withdrawAnswer, withdrawOf, withdrawAllOf}
 
 module _ (r : Run) (e : ℕ) where
   -- a row: 14, 15, 20, shown
@@ -82,3 +82,22 @@ module _ (r : Run) (p : ℕ) where
       runOut r ≡ false → firmIn r ≡ true → strangerIn r p ≡ false → withdrawOf r p ≡ record { answer = Taken; run = withdrawnIn (only p) r }
   unfolding withdrawOf withdrawAnswer
   withdraw-taken q f u = rw (q, f, u) refl
+
+-- of several together: the same
+module _ (r : Run) (x : ℕ) where
+  pub withdraw-all-out : runOut r ≡ true → withdrawAllOf r x ≡ record { answer = Refused 14 0; run = r }
+  unfolding withdrawAllOf withdrawAnswer
+  withdraw-all-out q = rw q refl
+
+  pub withdraw-all-not-firm : runOut r ≡ false → firmIn r ≡ false → withdrawAllOf r x ≡ record { answer = Refused 21 0; run = r }
+  unfolding withdrawAllOf withdrawAnswer
+  withdraw-all-not-firm q f = rw (q, f) refl
+
+  pub withdraw-all-past : runOut r ≡ false → firmIn r ≡ true → pastCount (r .count) x ≡ true → withdrawAllOf r x ≡ record { answer = Refused 22 0; run = r }
+  unfolding withdrawAllOf withdrawAnswer
+  withdraw-all-past q f u = rw (q, f, u) refl
+
+  pub withdraw-all-taken :
+      runOut r ≡ false → firmIn r ≡ true → pastCount (r .count) x ≡ false → withdrawAllOf r x ≡ record { answer = Taken; run = withdrawnIn x r }
+  unfolding withdrawAllOf withdrawAnswer
+  withdraw-all-taken q f u = rw (q, f, u) refl

@@ -1,4 +1,4 @@
--- Laws of the run in the cab: its places and limits, what is lent in a tick, when start, row, advance and withdraw are refused, and what is never read.
+-- Laws of the run in the cab: its places and limits, what is lent in a tick, when start, row, advance and withdrawals are refused, and what is never read.
 pub mod Loans
 pub mod Lent
 pub mod Places
@@ -9,6 +9,7 @@ pub mod Past
 pub mod Again
 pub mod Exact
 pub mod WithdrawExact
+pub mod Together
 pub mod StartPasses
 pub mod StartExact
 pub mod ByVerdict

@@ -27,8 +27,8 @@ use Rattle.phase.specs.Phase.{claiming, holder, working, phaseIn, lateIn, relea
 use Rattle.phase.specs.Task.{taskOf, pastEnd, widthNow}
 use Rattle.run.specs.Run.{phaseAt, seenAt, widthsNow, grantsIn, hasCores, offerIn, seeksIn, lentIn, hasLent, nextAt, moved, withdrawnIn}
 use Rattle.run.specs.Answer.{byAnswer}
-use Rattle.run.specs.Numbers.{placeOut, runOut, strangerIn, lateAt, firstLateIn, emptiableAt, misemptiedIn, reportableAt, misreportedIn}
-use Rattle.run.specs.Withdraw.{withdrawAnswer, withdrawOf}
+use Rattle.run.specs.Numbers.{placeOut, runOut, pastCount, strangerIn, lateAt, firstLateIn, emptiableAt, misemptiedIn, reportableAt, misreportedIn}
+use Rattle.run.specs.Withdraw.{withdrawAnswer, withdrawOf, withdrawAllOf}
 use Rattle.run.specs.Advance.{advanceAnswer, advanceOf}
 use Rattle.run.specs.Row.{rowAnswer, bytesIn, rowOf}
 use Rattle.run.specs.Past.{SameBelow, Unread}
@@ -77,9 +77,9 @@ module _ (rule cores fence withdrawn count : ℕ) (ts us : List Task) (same : ta
           same-and (ltb p count) (ltb p count) (released (phaseAt one p)) (released (phaseAt other p)) refl
           (λ l. ap (λ (t : Task). released (t .phase)) (same-at p (ltb-true p count l)))
 
-  same-withdraw : (p : ℕ) → withdrawAnswer one (strangerIn one p) ≡ withdrawAnswer other (strangerIn other p)
+  same-withdraw : (stranger : Bool) → withdrawAnswer one stranger ≡ withdrawAnswer other stranger
   unfolding withdrawAnswer
-  same-withdraw p = rw (same-out, same)
+  same-withdraw stranger = rw (same-out, same)
 
   -- with the empty jobs e
   module _ (e : ℕ) where
@@ -149,8 +149,10 @@ module _ (rule cores fence withdrawn count : ℕ) (ts us : List Task) (same : ta
       row = same-row;
       answer = unfold advanceOf in same-advance x;
       run = unfold advanceOf in rw (same-advance x) (go (advanceAnswer other x e));
-      withdraw-answer = λ p. unfold withdrawOf in same-withdraw p;
-      withdraw-run = λ p. unfold withdrawOf in rw (same-withdraw p) (out p (withdrawAnswer other (strangerIn other p)));
+      withdraw-answer = λ p. unfold withdrawOf in same-withdraw (strangerIn one p);
+      withdraw-run = λ p. unfold withdrawOf in rw (same-withdraw (strangerIn one p)) (out (only p) (withdrawAnswer other (strangerIn one p)));
+      withdraw-all-answer = λ y. unfold withdrawAllOf in same-withdraw (pastCount count y);
+      withdraw-all-run = λ y. unfold withdrawAllOf in rw (same-withdraw (pastCount count y)) (out y (withdrawAnswer other (pastCount count y)));
     }
       where
         as-given : SameBelow one other
@@ -160,9 +162,9 @@ module _ (rule cores fence withdrawn count : ℕ) (ts us : List Task) (same : ta
         go Taken = same-moved (bit x)
         go (Refused n p) = as-given
 
-        out : (p : ℕ) (a : Answer) → SameBelow (byAnswer a (withdrawnIn (only p) one) one) (byAnswer a (withdrawnIn (only p) other) other)
-        out p Taken = unfold withdrawnIn in record { rule = refl; cores = refl; fence = refl; withdrawn = refl; count = refl; tasks = same }
-        out p (Refused n q) = as-given
+        out : (y : ℕ) (a : Answer) → SameBelow (byAnswer a (withdrawnIn y one) one) (byAnswer a (withdrawnIn y other) other)
+        out y Taken = unfold withdrawnIn in record { rule = refl; cores = refl; fence = refl; withdrawn = refl; count = refl; tasks = same }
+        out y (Refused n q) = as-given
 
 pub past-unread : (r s : Run) → SameBelow r s → (x e : ℕ) → Unread r s x e
 past-unread r s h x e =

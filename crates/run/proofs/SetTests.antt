@@ -10,7 +10,7 @@ use lib.Dec.{ltb, leb}
 use borrow.Author.Tests.{ltb-false, le-ltb, lt-ltb, leb-true, leb-false, ne-eqb, not-true}
 use Rattle.model.specs.Search.{any, bit}
 use Rattle.model.specs.Book.{only}
-use Rattle.model.proofs.Bools.{and-left, and-right, and-both, not-false-true, not-true-false}
+use Rattle.model.proofs.Bools.{and-left, and-right, and-both, not-false-true, not-true-false, same-test}
 use Rattle.model.proofs.Digits.{bit-high, bit-none, bit-past, bit-power, or-bit, same-set}
 use Rattle.model.proofs.Search.{any-some, any-of}
 use Rattle.table.proofs.Decide.{Decides, fails}
@@ -59,20 +59,26 @@ none-below n x h l =
     let none : x / 2 ^ n ≡ 0 = same-set (x / 2 ^ n) 0 (λ i. bit-shift x n i ∙ (h (n + i) (omega arith) ∙ sym (bit-none i))) in
     omega (arith, some-left n x l)
 
+search-decides : (n x : ℕ) → Decides (any x (λ p. bit x p && not (ltb p n))) (PastCount n x)
+search-decides n x = set-decides x (λ p. ltb p n) (λ p. n ≤ p) (λ p. beyond-decides p n)
+
 pub past-decides : (n x : ℕ) → Decides (pastCount n x) (PastCount n x)
 unfolding pastCount
 past-decides n x = (there, back)
   where
-    search-decides : Decides (any x (λ p. bit x p && not (ltb p n))) (PastCount n x)
-    search-decides = set-decides x (λ p. ltb p n) (λ p. n ≤ p) (λ p. beyond-decides p n)
-
     there : leb (2 ^ n) x ≡ true → PastCount n x
-    there e = search-decides .0 (not-false-true (any x (λ p. bit x p && not (ltb p n))) (λ f.
-        let none : ¬ PastCount n x = fails (any x (λ p. bit x p && not (ltb p n))) (PastCount n x) search-decides f in
+    there e = search-decides n x .0 (not-false-true (any x (λ p. bit x p && not (ltb p n))) (λ f.
+        let none : ¬ PastCount n x = fails (any x (λ p. bit x p && not (ltb p n))) (PastCount n x) (search-decides n x) f in
         none-below n x (λ p l. not-true-false (bit x p) (λ b. none (p, (b, l)))) (leb-true (2 ^ n) x e)))
 
     back : PastCount n x → leb (2 ^ n) x ≡ true
     back y = not-false-true (leb (2 ^ n) x) (λ f. true≢false (sym (y .1 .0) ∙ below-none n x (leb-false (2 ^ n) x f) (y .0) (y .1 .1)))
+
+-- so a search finds the same
+pub past-search : (n x : ℕ) → pastCount n x ≡ any x (λ p. bit x p && not (ltb p n))
+past-search n x =
+    same-test (pastCount n x) (any x (λ p. bit x p && not (ltb p n)))
+    (λ e. search-decides n x .1 (past-decides n x .0 e)) (λ e. past-decides n x .1 (search-decides n x .0 e))
 
 -- no bit is set at the count or past it
 pub within-if : (n x : ℕ) → pastCount n x ≡ false → (p : ℕ) → n ≤ p → bit x p ≡ false

@@ -80,7 +80,7 @@ module _ (r : Run) (t : Bool) (stranger : Type 0) (d : Decides t stranger) where
       go false q true f false g = withdraw-none q f g
 
 -- a taken withdrawal passed 14, was firm and named no stranger
-taken-parts : (r : Run) (t : Bool) → told (withdrawAnswer r t) ≡ model.taken → (runOut r ≡ false) × (firmIn r ≡ true) × (t ≡ false)
+pub taken-parts : (r : Run) (t : Bool) → told (withdrawAnswer r t) ≡ model.taken → (runOut r ≡ false) × (firmIn r ≡ true) × (t ≡ false)
 unfolding withdrawAnswer
 taken-parts r t e = go (runOut r) (firmIn r) t e
   where
@@ -152,17 +152,17 @@ or-again w x = same-set (bitOr (bitOr w x) x) (bitOr w x) (λ i. or-bit (bitOr w
     go false false = refl
 
 -- a run with another withdrawn set
-abbrev with-set : Run → ℕ → Run
+abbrev pub with-set : Run → ℕ → Run
 with-set r w = record { rule = r .rule; cores = r .cores; fence = r .fence; withdrawn = w; count = r .count; tasks = r .tasks }
 
 -- the next run is answered as the run was, and only its set has moved
-same-answer : (r : Run) (p : ℕ) → withdrawAnswer r (strangerIn r p) ≡ Taken → withdrawAnswer (withdrawnIn (model.only p) r) (strangerIn r p) ≡ Taken
+pub same-answer :
+    (r : Run) (t : Bool) (x : ℕ) → withdrawAnswer r t ≡ Taken → pastCount (r .count) x ≡ false → withdrawAnswer (withdrawnIn x r) t ≡ Taken
 unfolding withdrawAnswer withdrawnIn
-same-answer r p e =
-    let parts = taken-parts r (strangerIn r p) (ap told e) in
-    let next : Run = withdrawnIn (model.only p) r in
-    let in-limits : runOut next ≡ false =
-    passes-runs next (withdrawn-passes (model.only p) r (passes-if r (parts .0)) (known-within r p (parts .2))) in
+same-answer r t x e within =
+    let parts = taken-parts r t (ap told e) in
+    let next : Run = withdrawnIn x r in
+    let in-limits : runOut next ≡ false = passes-runs next (withdrawn-passes x r (passes-if r (parts .0)) within) in
     rw (in-limits, parts .1, parts .2)
 
 twice : (x : ℕ) (r : Run) → withdrawnIn x (withdrawnIn x r) ≡ withdrawnIn x r
@@ -178,5 +178,5 @@ withdraw-twice r p = go (withdrawAnswer r (strangerIn r p)) refl
     next = withdrawnIn (model.only p) r
 
     go : (a : Answer) → withdrawAnswer r (strangerIn r p) ≡ a → withdrawOf (byAnswer a next r) p ≡ record { answer = a; run = byAnswer a next r }
-    go Taken e = rw (same-answer r p e, twice (model.only p) r)
+    go Taken e = rw (same-answer r (strangerIn r p) (model.only p) e (taken-within r p e), twice (model.only p) r)
     go (Refused n q) e = rw e

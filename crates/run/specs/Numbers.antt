@@ -1,5 +1,5 @@
--- Numbers 14, 15, 20 and 16 for what row and advance turn down, and 14, 21 and 22 for what a withdrawal does
--- (scope, 'Numbers for what is turned down', and requests 105, 106 and 109): when each applies, and which is the first.
+-- Numbers 14, 15, 20 and 16 for what row and advance turn down, and 14, 21 and 22 for what a withdrawal does, of one position or of several together
+-- (scope, 'Numbers for what is turned down', and requests 105, 106, 109 and 113): when each applies, and which is the first.
 use mathlib.Core.Path.{_≡_}
 use mathlib.Core.Bool.{Bool, true, not, _&&_, _||_}
 use mathlib.Core.List.{[]}
@@ -86,7 +86,7 @@ pub data WithdrawApplies (r : Run) (stranger : Type 0) : ℕ → ℕ → Type 0 
   -- 22. Withdraw: no such position.
   twenty-two : stranger → WithdrawApplies r stranger 22 0
 
--- no such position: 0, or past the count
+-- no such position: 0, or past the count (of a set: `PastCount`)
 abbrev pub Stranger : Run → ℕ → Type 0
 Stranger r p = (p ≡ 0) ⊎ (r .count < p)
 

@@ -5,7 +5,7 @@ use lib.ListN.{take}
 use Rattle.run.specs.declared.Run.{Run}
 use Rattle.run.specs.Advance.{advanceOf}
 use Rattle.run.specs.Row.{rowOf}
-use Rattle.run.specs.Withdraw.{withdrawOf}
+use Rattle.run.specs.Withdraw.{withdrawOf, withdrawAllOf}
 
 -- two runs that are equal up to the count
 pub record SameBelow (r s : Run) : Type 0 where
@@ -16,10 +16,13 @@ pub record SameBelow (r s : Run) : Type 0 where
   pub count : r .count ≡ s .count
   pub tasks : take (r .count) (r .tasks) ≡ take (s .count) (s .tasks)
 
--- they get equal rows and answers, and advance to runs that are equal up to the count, whatever is reported or empty; and so it is with a withdrawal
+-- they get equal rows and answers, and advance to runs that are equal up to the count, whatever is reported or empty; and so it is with a
+-- withdrawal, of one position or of several together
 pub record Unread (r s : Run) (x e : ℕ) : Type 0 where
   pub row : rowOf r e ≡ rowOf s e
   pub answer : advanceOf r x e .answer ≡ advanceOf s x e .answer
   pub run : SameBelow (advanceOf r x e .run) (advanceOf s x e .run)
   pub withdraw-answer : (p : ℕ) → withdrawOf r p .answer ≡ withdrawOf s p .answer
   pub withdraw-run : (p : ℕ) → SameBelow (withdrawOf r p .run) (withdrawOf s p .run)
+  pub withdraw-all-answer : (x : ℕ) → withdrawAllOf r x .answer ≡ withdrawAllOf s x .answer
+  pub withdraw-all-run : (x : ℕ) → SameBelow (withdrawAllOf r x .run) (withdrawAllOf s x .run)

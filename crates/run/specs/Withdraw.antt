@@ -1,11 +1,13 @@
--- A withdrawal (request 106): a position is taken out of the run, at any time. A job released before the present tick goes on; one released in this
--- very tick, and all later ones, are empty (`emptyAt`).
+-- A withdrawal, of a position (request 106) or of several together (request 113): they are taken out of the run, at any time. A job released before the
+-- present tick goes on; one released in this very tick, and all later ones, are empty (`emptyAt`).
 use mathlib.Core.Path.{_≡_}
 use mathlib.Core.Logic.{_↔_}
 use mathlib.Core.Bool.{Bool, cond}
-use Prim.Native.Nat.{ℕ}
-use lib.ListN.{drop}
+use mathlib.Core.List.{List, [], _∷_}
+use Prim.Native.Nat.{ℕ, suc}
+use lib.ListN.{drop, length, replicate}
 use Rattle.model.specs.Book as model
+use Rattle.model.specs.Together.{JustThese, Within}
 use Rattle.table.specs.Numbers.{FirstOf, NoneOf}
 use Rattle.run.specs.declared.Run.{Run}
 use Rattle.run.specs.declared.Answer.{Answer}
@@ -13,7 +15,7 @@ use Rattle.run.specs.declared.Answer.the-variants.{Taken, Refused}
 use Rattle.run.specs.declared.Advanced.{Advanced}
 use Rattle.run.specs.Run.{firmIn, withdrawnIn}
 use Rattle.run.specs.Answer.{told, byAnswer}
-use Rattle.run.specs.Numbers.{RunOut, WithdrawApplies, Stranger, runOut, strangerIn}
+use Rattle.run.specs.Numbers.{RunOut, WithdrawApplies, Stranger, PastCount, runOut, strangerIn, pastCount}
 
 -- 14, then 21, then 22 where it names a position that is none of the run's; else taken. 15 is not looked at
 unfoldable pub withdrawAnswer : Run → Bool → Answer
@@ -24,6 +26,13 @@ unfoldable pub withdrawOf : Run → ℕ → Advanced
 withdrawOf r p = record {
   answer = withdrawAnswer r (strangerIn r p);
   run = byAnswer (withdrawAnswer r (strangerIn r p)) (withdrawnIn (model.only p) r) r;
+}
+
+-- the run with all positions of a set withdrawn; where refused, the run as given
+unfoldable pub withdrawAllOf : Run → ℕ → Advanced
+withdrawAllOf r x = record {
+  answer = withdrawAnswer r (pastCount (r .count) x);
+  run = byAnswer (withdrawAnswer r (pastCount (r .count) x)) (withdrawnIn x r) r;
 }
 
 -- what a withdrawal of the positions of set x from run r promises, where `stranger` says that x names one that is none of the run's
@@ -46,3 +55,28 @@ pub record WithdrawOf (r : Run) (p : ℕ) (a : Advanced) : Type 0 where
   pub value : a ≡ withdrawOf r p
   -- and what that says
   pub exact : WithdrawnOf r (Stranger r p) (model.only p) a
+
+-- SEVERAL TOGETHER
+
+-- the positions of a list of places withdrawn one after another: the run after them ..
+unfoldable pub withdrawEach : Run → List ℕ → Run
+withdrawEach r [] = r
+withdrawEach r (q ∷ qs) = withdrawEach (withdrawOf r (suc q) .run) qs
+
+-- .. and the answer to each
+unfoldable pub eachAnswer : Run → List ℕ → List Answer
+eachAnswer r [] = []
+eachAnswer r (q ∷ qs) = withdrawOf r (suc q) .answer ∷ eachAnswer (withdrawOf r (suc q) .run) qs
+
+-- what the withdrawal of the positions of set x together promises
+pub record WithdrawAllOf (r : Run) (x : ℕ) (a : Advanced) : Type 0 where
+  -- its value
+  pub value : a ≡ withdrawAllOf r x
+  -- what that says: 22 where a position of it is past the count
+  pub exact : WithdrawnOf r (PastCount (r .count) x) x a
+  -- where all positions are within the count it leaves the run that single withdrawals leave, for every list that holds just these, in any order ..
+  pub singles : Within (r .count) x → (qs : List ℕ) → JustThese x qs → a .run ≡ withdrawEach r qs
+  -- .. and each of these is answered as the set is: all are taken where it is
+  pub each : Within (r .count) x → (qs : List ℕ) → JustThese x qs → eachAnswer r qs ≡ replicate (length qs) (a .answer)
+  -- where one is past the count none is withdrawn
+  pub none : PastCount (r .count) x → a .run ≡ r

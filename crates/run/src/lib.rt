@@ -1,11 +1,12 @@
-// The run in the cab: rule, core count, fence, the withdrawn set and the tasks with their phases; start, row, advance and withdraw.
+// The run in the cab: rule, core count, fence, the withdrawn set and the tasks with their phases; start, row, advance, and withdrawals of one
+// position or of several together.
 ghost use mathlib.Core.Path.{_≡_};
 ghost use mathlib.Core.Bool.{cond};
 ghost use Rattle.run.specs.declared.Answer.the-variants.{Taken, Refused};
 ghost use Rattle.run.specs.Row.{RowOf, noBytes};
 ghost use Rattle.run.specs.Advance.{AdvanceOf};
 ghost use Rattle.run.specs.Start.{StartOf};
-ghost use Rattle.run.specs.Withdraw.{WithdrawOf};
+ghost use Rattle.run.specs.Withdraw.{WithdrawOf, WithdrawAllOf};
 
 mod bounds; // bounds.rt: numbers 14 and 15
 mod choosing; // choosing.rt: who claims in the present tick
@@ -196,6 +197,27 @@ impl Run {
                 return self.refused(22, 0);
             }
             let next = self.without(1u32 << (position - 1));
+            return Advanced {
+                answer: Answer::Taken,
+                run: next,
+            };
+        }
+        self.refused(21, 0)
+    }
+
+    // The run with all positions of a set taken out together, bit 0 for position 1; or 14, 21, for the empty set too, 22 where a position is past the
+    // count, and the run as given. 15 is not looked at.
+    pub fn withdraw_all(self, set: u32) -> Advanced
+        ensures { λ r. ⌜ WithdrawAllOf self set r ⌝ }
+    {
+        if self.out() {
+            return self.refused(14, 0);
+        }
+        if self.is_firm() {
+            if sets::past(set, self.count) {
+                return self.refused(22, 0);
+            }
+            let next = self.without(set);
             return Advanced {
                 answer: Answer::Taken,
                 run: next,

@@ -21,7 +21,8 @@ use Rattle.session.specs.declared.operations.Numbers.{Numbers}
 use Rattle.session.specs.declared.operations.Numbers.the-variants.{Bare, One, Two, Other}
 use Rattle.session.specs.declared.operations.Operation.{Operation}
 use Rattle.session.specs.declared.operations.Operation.the-variants.{Nothing}
-use Rattle.session.specs.Operation.{noneLong, wordsIn, oneOf, twoOf, numbersOf, numbersBehind, advanceBy, rowBy, withdrawBy, operationBy, operationOf}
+use Rattle.session.specs.Operation.{noneLong, wordsIn, oneOf, twoOf, numbersOf, numbersBehind, advanceBy, rowBy, withdrawBy, withdrawAllBy, operationBy}
+use Rattle.session.specs.Operation.{operationOf}
 
 -- WORDS
 
@@ -156,9 +157,13 @@ pub by-withdraw : (b : ℕ) (ns : Numbers) → b ≡ 119 → withdrawBy ns ≡ o
 unfolding operationBy
 by-withdraw b ns e = rw e
 
-pub by-none : (b : ℕ) (ns : Numbers) → (b ≡ 97 → ⊥) → (b ≡ 114 → ⊥) → (b ≡ 119 → ⊥) → Nothing ≡ operationBy b ns
+pub by-withdraw-all : (b : ℕ) (ns : Numbers) → b ≡ 87 → withdrawAllBy ns ≡ operationBy b ns
 unfolding operationBy
-by-none b ns a r w = rw (ne-eqb b 97 a, ne-eqb b 114 r, ne-eqb b 119 w)
+by-withdraw-all b ns e = rw e
+
+pub by-none : (b : ℕ) (ns : Numbers) → (b ≡ 97 → ⊥) → (b ≡ 114 → ⊥) → (b ≡ 119 → ⊥) → (b ≡ 87 → ⊥) → Nothing ≡ operationBy b ns
+unfolding operationBy
+by-none b ns a r w v = rw (ne-eqb b 97 a, ne-eqb b 114 r, ne-eqb b 119 w, ne-eqb b 87 v)
 
 pub asked-empty : (l : List ℕ) → length l ≡ 0 → Nothing ≡ operationOf l
 unfolding operationOf
@@ -201,13 +206,14 @@ numbers-long l h = ⊎-elim whole part (eq-or-lt-of-le (mark-within space l))
 
 by-other : (b : ℕ) → operationBy b Other ≡ Nothing
 unfolding operationBy
-by-other b = go (eqb b 97) (eqb b 114) (eqb b 119)
+by-other b = go (eqb b 97) (eqb b 114) (eqb b 119) (eqb b 87)
   where
-    go : (t u v : Bool) → cond t Nothing (cond u Nothing (cond v Nothing Nothing)) ≡ Nothing
-    go true u v = refl
-    go false true v = refl
-    go false false true = refl
-    go false false false = refl
+    go : (t u v w : Bool) → cond t Nothing (cond u Nothing (cond v Nothing (cond w Nothing Nothing))) ≡ Nothing
+    go true u v w = refl
+    go false true v w = refl
+    go false false true w = refl
+    go false false false true = refl
+    go false false false false = refl
 
 -- an operation has at most 23 bytes: a letter, and twice a space and ten digits
 pub long-none : (l : List ℕ) → noneLong ≤ length l → operationOf l ≡ Nothing

@@ -14,13 +14,13 @@ use Rattle.run.specs.declared.Run.{Run}
 use Rattle.run.specs.Run.{grantsIn, lentIn, mapFirst, moved, offerIn, seeksIn, withdrawnIn}
 use Rattle.run.specs.Numbers.{pastCount, runOut, firstLateIn, misemptiedIn, misreportedIn}
 use Rattle.run.specs.Advance.{advanceAnswer, advanceOf}
-use Rattle.run.specs.Withdraw.{withdrawAnswer, withdrawOf}
+use Rattle.run.specs.Withdraw.{withdrawAnswer, withdrawOf, withdrawAllOf}
 use Rattle.run.specs.Row.{rowAnswer, bytesIn, rowOf}
 use Rattle.text.specs.Decimal.{all, value, decimal, lastDigits, digitCount, digitsWithin}
 use Rattle.text.specs.Format.{isNumber}
 use Rattle.text.specs.Output.{letters, fields, lineOf}
 use Rattle.session.specs.declared.operations.Operation.{Operation}
-use Rattle.session.specs.declared.operations.Operation.the-variants.{Advance, Withdraw, Row, Nothing}
+use Rattle.session.specs.declared.operations.Operation.the-variants.{Advance, Withdraw, WithdrawAll, Row, Nothing}
 use Rattle.session.specs.Operation.{wordsIn, numbersOf, numbersBehind, operationBy, operationOf, plain, answerLine, shownLine, said, runAfter}
 use Rattle.session.specs.Talk.{nothing, lastLine, linesFrom, replies}
 
@@ -41,6 +41,7 @@ lines =
     ∷ asks "r" (Row 0)
     ∷ asks "r 1" (Row 1)
     ∷ asks "w 1" (Withdraw 1)
+    ∷ asks "W 1" (WithdrawAll 1)
     -- a letter is needed, and it is the first byte
     ∷ asks "" Nothing
     ∷ asks " " Nothing
@@ -49,14 +50,17 @@ lines =
     ∷ asks "1" Nothing
     ∷ asks "A 1" Nothing
     ∷ asks "R" Nothing
-    ∷ asks "W 1" Nothing
+    ∷ asks "V 1" Nothing
+    ∷ asks "wW 1" Nothing
     ∷ asks "--" Nothing
-    -- an advance has one number or two, a row none or one, a withdrawal one
+    -- an advance has one number or two, a row none or one, a withdrawal, of a position or of a set, one
     ∷ asks "a" Nothing
     ∷ asks "a 1 2 3" Nothing
     ∷ asks "r 1 2" Nothing
     ∷ asks "w" Nothing
     ∷ asks "w 1 2" Nothing
+    ∷ asks "W" Nothing
+    ∷ asks "W 1 2" Nothing
     -- one space before each number, and nothing behind the last
     ∷ asks "a " Nothing
     ∷ asks "a  1" Nothing
@@ -69,10 +73,14 @@ lines =
     ∷ asks "w " Nothing
     ∷ asks "w  1" Nothing
     ∷ asks "w 1 " Nothing
+    ∷ asks "W " Nothing
+    ∷ asks "W  1" Nothing
+    ∷ asks "W 1 " Nothing
     ∷ asks "a1" Nothing
     ∷ asks "a1 2" Nothing
     ∷ asks "r1" Nothing
     ∷ asks "w1" Nothing
+    ∷ asks "W1" Nothing
     ∷ asks "ar 1" Nothing
     ∷ asks "a\t1" Nothing
     ∷ asks "a 1,2" Nothing
@@ -82,6 +90,7 @@ lines =
     ∷ asks "a r" Nothing
     ∷ asks "r\r" Nothing
     ∷ asks "w 1\r" Nothing
+    ∷ asks "W 1\r" Nothing
     ∷ asks "a 1\r" Nothing
     ∷ asks "a 1 2\r" Nothing
     -- one to ten digits, zeros in front among them
@@ -93,6 +102,8 @@ lines =
     ∷ asks "r 00000000003" Nothing
     ∷ asks "w 0000000004" (Withdraw 4)
     ∷ asks "w 00000000004" Nothing
+    ∷ asks "W 0000000005" (WithdrawAll 5)
+    ∷ asks "W 00000000005" Nothing
     -- up to 4,294,967,295
     ∷ asks "a 4294967295" (Advance 4294967295 0)
     ∷ asks "a 4294967296" Nothing
@@ -104,6 +115,9 @@ lines =
     ∷ asks "w 0" (Withdraw 0)
     ∷ asks "w 4294967295" (Withdraw 4294967295)
     ∷ asks "w 4294967296" Nothing
+    ∷ asks "W 0" (WithdrawAll 0)
+    ∷ asks "W 4294967295" (WithdrawAll 4294967295)
+    ∷ asks "W 4294967296" Nothing
     -- the longest operation has 23 bytes; one byte more is none
     ∷ asks "a 4294967295 4294967295" (Advance 4294967295 4294967295)
     ∷ asks "a 4294967295 42949672950" Nothing
@@ -119,7 +133,7 @@ each-line : LineByLine worked lines lines
 unfolding operationOf operationBy numbersBehind numbersOf wordsIn isNumber all value
 each-line =
     let past-60 : LineByLine worked (drop 60 lines) (drop 60 lines) =
-    (refl, (refl, (refl, (refl, (refl, (refl, tt)))))) in
+    (refl, (refl, (refl, (refl, (refl, (refl, (refl, (refl, (refl, (refl, (refl, (refl, (refl, (refl, (refl, (refl, (refl, (refl, (refl, (refl, tt)))))))))))))))))))) in
     let past-40 : LineByLine worked (drop 40 lines) (drop 40 lines) =
     (refl, (refl, (refl, (refl, (refl, (refl, (refl, (refl, (refl, (refl, (refl, (refl, (refl, (refl, (refl, (refl, (refl, (refl, (refl, (refl, past-60)))))))))))))))))))) in
     let past-20 : LineByLine worked (drop 20 lines) (drop 20 lines) =
@@ -178,7 +192,12 @@ talks =
     -- no position 0 and none past the count; what is refused changes nothing
     ∷ talk pair "w 0\nw 3\nw 4294967295\nr" "refused 22 0\nrefused 22 0\nrefused 22 0\nrow 1\n"
     ∷ talk falling "w 1\nw 0\nr" "refused 21 0\nrefused 21 0\nrow 1 1\n"
-    ∷ talk none "a 0\nw 1\nr\na 1 2" "refused 14 0\nrefused 14 0\nrefused 14 0\nrefused 14 0\n"
+    -- both together, in the release tick and a tick later; the empty set changes nothing, and a set with a position past the count withdraws nobody
+    ∷ talk pair "W 3\nr\nW 1\nW 0\nr\na 0\na 0\nr" "taken\nrow 0\ntaken\ntaken\nrow 0\ntaken\ntaken\nrow 0\n"
+    ∷ talk pair "a 0\nW 3\nr\na 0\na 0\nr" "taken\ntaken\nrow 2\ntaken\ntaken\nrow 0\n"
+    ∷ talk pair "W 0\nr\nW 5\nW 4294967295\nr\nw 1\nW 2\nr" "taken\nrow 1\nrefused 22 0\nrefused 22 0\nrow 1\ntaken\ntaken\nrow 0\n"
+    ∷ talk falling "W 0\nW 1\nW 4\nr" "refused 21 0\nrefused 21 0\nrefused 21 0\nrow 1 1\n"
+    ∷ talk none "a 0\nw 1\nW 0\nr\na 1 2" "refused 14 0\nrefused 14 0\nrefused 14 0\nrefused 14 0\nrefused 14 0\n"
     -- each release turns to the other width, that of an empty job too
     ∷ talk turning "r\na 0\nr\na 0\nr\na 0 1\na 0\nr\na 0\na 0\nr" "row 1 0\ntaken\nrow 0 0\ntaken\nrow 1 1\ntaken\ntaken\nrow 1 0\ntaken\ntaken\nrow 1 1\n"
     -- under rule 4 an empty job lends its cores: the row shows the borrower, who may be reported; the lender may not
@@ -195,9 +214,9 @@ expected t = letters (t .output)
 
 each-talk : LineByLine saying talks (map expected talks)
 unfolding replies linesFrom lastLine said runAfter plain answerLine shownLine operationOf operationBy numbersBehind numbersOf wordsIn isNumber all value lineOf fields decimal
-    lastDigits digitCount digitsWithin computing advanceOf advanceAnswer withdrawOf withdrawAnswer rowOf rowAnswer bytesIn pastCount runOut firstLateIn misemptiedIn
+    lastDigits digitCount digitsWithin computing advanceOf advanceAnswer withdrawOf withdrawAllOf withdrawAnswer rowOf rowAnswer bytesIn pastCount runOut firstLateIn misemptiedIn
     misreportedIn grantsIn lentIn offerIn seeksIn mapFirst moved withdrawnIn
-each-talk = (refl, (refl, (refl, (refl, (refl, (refl, (refl, (refl, (refl, (refl, (refl, (refl, tt))))))))))))
+each-talk = (refl, (refl, (refl, (refl, (refl, (refl, (refl, (refl, (refl, (refl, (refl, (refl, (refl, (refl, (refl, (refl, tt))))))))))))))))
 
 pub talks-said : map (λ t. replies (t .from) (linesFrom nothing [] (letters (t .input)))) talks ≡ map (λ t. letters (t .output)) talks
 talks-said = by-line saying talks (map expected talks) each-talk

@@ -14,14 +14,14 @@ use Rattle.run.specs.declared.Answer.{Answer}
 use Rattle.run.specs.declared.Answer.the-variants.{Taken, Refused}
 use Rattle.run.specs.declared.Started.{Started}
 use Rattle.run.specs.Advance.{advanceOf}
-use Rattle.run.specs.Withdraw.{withdrawOf}
+use Rattle.run.specs.Withdraw.{withdrawOf, withdrawAllOf}
 use Rattle.run.specs.Row.{rowOf}
 use Rattle.run.specs.Start.{startOf}
 use Rattle.session.specs.declared.Stage.{Stage}
 use Rattle.session.specs.declared.Stage.the-variants.{Table, Operations, Over}
 use Rattle.session.specs.declared.Session.{Session}
 use Rattle.session.specs.declared.operations.Operation.{Operation}
-use Rattle.session.specs.declared.operations.Operation.the-variants.{Advance, Withdraw, Row, Nothing}
+use Rattle.session.specs.declared.operations.Operation.the-variants.{Advance, Withdraw, WithdrawAll, Row, Nothing}
 use Rattle.session.specs.Operation.{plain, answerLine, shownLine, said, runAfter, isLast}
 use Rattle.session.specs.Talk.{tooMany, isDashes, startLine, opened, replies}
 use Rattle.session.specs.Session.{stageOf, Said, OpenedOf}
@@ -68,6 +68,17 @@ run-withdraw o r p q = rw q
 
 pub last-withdraw : (o : Operation) (p : ℕ) → o ≡ Withdraw p → false ≡ isLast o
 last-withdraw o p q = rw q
+
+pub said-withdraw-all : (o : Operation) (r : Run) (x : ℕ) → o ≡ WithdrawAll x → answerLine (letters "taken") (withdrawAllOf r x .answer) ≡ said o r
+unfolding said
+said-withdraw-all o r x q = rw q
+
+pub run-withdraw-all : (o : Operation) (r : Run) (x : ℕ) → o ≡ WithdrawAll x → withdrawAllOf r x .run ≡ runAfter o r
+unfolding runAfter
+run-withdraw-all o r x q = rw q
+
+pub last-withdraw-all : (o : Operation) (x : ℕ) → o ≡ WithdrawAll x → false ≡ isLast o
+last-withdraw-all o x q = rw q
 
 pub said-row : (o : Operation) (r : Run) (e : ℕ) → o ≡ Row e → shownLine (r .cores) (rowOf r e .answer) (rowOf r e .bytes) ≡ said o r
 unfolding said

@@ -13,12 +13,12 @@ use Rattle.run.specs.declared.Run.{Run}
 use Rattle.run.specs.declared.Answer.{Answer}
 use Rattle.run.specs.declared.Answer.the-variants.{Taken, Refused}
 use Rattle.run.specs.Advance.{advanceOf}
-use Rattle.run.specs.Withdraw.{withdrawOf}
+use Rattle.run.specs.Withdraw.{withdrawOf, withdrawAllOf}
 use Rattle.run.specs.Row.{rowOf}
 use Rattle.session.specs.declared.operations.Numbers.{Numbers}
 use Rattle.session.specs.declared.operations.Numbers.the-variants.{Bare, One, Two, Other}
 use Rattle.session.specs.declared.operations.Operation.{Operation}
-use Rattle.session.specs.declared.operations.Operation.the-variants.{Advance, Withdraw, Row, Nothing}
+use Rattle.session.specs.declared.operations.Operation.the-variants.{Advance, Withdraw, WithdrawAll, Row, Nothing}
 
 -- a line of so many bytes is no operation: one more than a letter and two numbers, each with a space before it
 abbrev pub noneLong : ℕ
@@ -73,9 +73,20 @@ withdrawBy (One p) = Withdraw p
 withdrawBy (Two p n) = Nothing
 withdrawBy Other = Nothing
 
--- the operation of a letter, `a`, `r` or `w`, and what stands behind it; with any other letter it is none
+-- `W SET` withdraws the positions of that set together
+abbrev pub withdrawAllBy : Numbers → Operation
+withdrawAllBy Bare = Nothing
+withdrawAllBy (One x) = WithdrawAll x
+withdrawAllBy (Two x n) = Nothing
+withdrawAllBy Other = Nothing
+
+-- the operation of a letter, `a`, `r`, `w` or `W`, and what stands behind it; with any other letter it is none
 unfoldable pub operationBy : ℕ → Numbers → Operation
-operationBy letter ns = cond (eqb letter 97) (advanceBy ns) (cond (eqb letter 114) (rowBy ns) (cond (eqb letter 119) (withdrawBy ns) Nothing))
+operationBy letter ns =
+    cond (eqb letter 97) (advanceBy ns)
+    (cond (eqb letter 114) (rowBy ns)
+    (cond (eqb letter 119) (withdrawBy ns)
+    (cond (eqb letter 87) (withdrawAllBy ns) Nothing)))
 
 -- the operation of a line; an empty line is none
 unfoldable pub operationOf : List ℕ → Operation
@@ -100,6 +111,7 @@ shownLine cores (Refused n p) bytes = lineOf (letters "refused") (n ∷ p ∷ []
 unfoldable pub said : Operation → Run → List ℕ
 said (Advance x e) r = answerLine (letters "taken") (advanceOf r x e .answer)
 said (Withdraw p) r = answerLine (letters "taken") (withdrawOf r p .answer)
+said (WithdrawAll x) r = answerLine (letters "taken") (withdrawAllOf r x .answer)
 said (Row e) r = shownLine (r .cores) (rowOf r e .answer) (rowOf r e .bytes)
 said Nothing r = plain (letters "not an operation")
 
@@ -107,6 +119,7 @@ said Nothing r = plain (letters "not an operation")
 unfoldable pub runAfter : Operation → Run → Run
 runAfter (Advance x e) r = advanceOf r x e .run
 runAfter (Withdraw p) r = withdrawOf r p .run
+runAfter (WithdrawAll x) r = withdrawAllOf r x .run
 runAfter (Row e) r = r
 runAfter Nothing r = r
 
@@ -114,5 +127,6 @@ runAfter Nothing r = r
 abbrev pub isLast : Operation → Bool
 isLast (Advance x e) = false
 isLast (Withdraw p) = false
+isLast (WithdrawAll x) = false
 isLast (Row e) = false
 isLast Nothing = true

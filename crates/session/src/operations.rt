@@ -1,12 +1,14 @@
 // What a line asks of the run.
 ghost use mathlib.Core.Path.{_≡_};
-ghost use Rattle.session.specs.Operation.{operationOf, numbersBehind, oneOf, twoOf, advanceBy, rowBy, withdrawBy};
+ghost use Rattle.session.specs.Operation.{operationOf, numbersBehind, oneOf, twoOf, advanceBy, rowBy, withdrawBy, withdrawAllBy};
 use text::line::Found;
 
-// An advance with its reports and its empties, a position withdrawn, a row asked with empties, or nothing that a run can do.
+// An advance with its reports and its empties, a position withdrawn, the positions of a set withdrawn together, a row asked with empties, or nothing that
+// a run can do.
 pub enum Operation {
     Advance(u32, u32),
     Withdraw(u32),
+    WithdrawAll(u32),
     Row(u32),
     Nothing,
 }
@@ -97,7 +99,19 @@ fn withdraw_by(numbers: Numbers) -> Operation
     }
 }
 
-// The operation of a line: `a REPORTS EMPTIES`, `r EMPTIES`, `w POSITION`, or none.
+// A withdrawal of the positions of the set behind its letter together.
+fn withdraw_all_by(numbers: Numbers) -> Operation
+    ensures { λ r. ⌜ r ≡ withdrawAllBy numbers ⌝ }
+{
+    match numbers {
+        Numbers::Bare => Operation::Nothing,
+        Numbers::One(set) => Operation::WithdrawAll(set),
+        Numbers::Two(_, _) => Operation::Nothing,
+        Numbers::Other => Operation::Nothing,
+    }
+}
+
+// The operation of a line: `a REPORTS EMPTIES`, `r EMPTIES`, `w POSITION`, `W SET`, or none.
 pub fn asked(line: &[u8]) -> Operation
     ensures { λ r. ⌜ r ≡ operationOf (now (line .entry)) ⌝ }
 {
@@ -114,6 +128,9 @@ pub fn asked(line: &[u8]) -> Operation
     }
     if line[0] == b'w' {
         return withdraw_by(numbers);
+    }
+    if line[0] == b'W' {
+        return withdraw_all_by(numbers);
     }
     Operation::Nothing
 }

@@ -97,6 +97,7 @@ pub(crate) fn answer(run: Run, operation: Operation, out: &mut [u8; LINE]) -> Re
     match operation {
         Operation::Advance(reports, empties) => say_moved(run.advance(reports, empties), out),
         Operation::Withdraw(position) => say_moved(run.withdraw(position), out),
+        Operation::WithdrawAll(set) => say_moved(run.withdraw_all(set), out),
         Operation::Row(empties) => {
             let row = run.row(empties);
             let length = say_row(run.cores, row, out);

@@ -4,7 +4,7 @@ use borrow.Author.Needs.{needs}
 use mathlib.Core.Path.{_≡_, _∙_, ap}
 use lib.ListN.{getD}
 use Rattle.session.specs.Operation.{operationBy, operationOf}
-use Rattle.session.proofs.Asking.{by-advance, by-row, by-withdraw, by-none, asked-empty, asked-by}
+use Rattle.session.proofs.Asking.{by-advance, by-row, by-withdraw, by-withdraw-all, by-none, asked-empty, asked-by}
 use Rattle.session.proofs.operations.asked.Statement.{statement}
 use Rattle.session.proofs.operations.asked.Tie as tie
 
@@ -21,6 +21,13 @@ else2-from-else4 c = c .before .before .before .before
 
 abbrev else2-from-withdraw-by : tie.After-withdraw-by → tie.Else2
 else2-from-withdraw-by c = c .before .before .before .before .before
+
+-- the state where the test `if4` fails
+abbrev else4-from-else5 : tie.Else5 → tie.Else4
+else4-from-else5 c = c .before .before
+
+abbrev else4-from-withdraw-all-by : tie.After-withdraw-all-by → tie.Else4
+else4-from-withdraw-all-by c = c .before .before .before
 
 -- the state after `behind`
 abbrev behind-from-advance-by : tie.After-advance-by → tie.After-behind
@@ -86,8 +93,20 @@ withdraw-by-requires c κs = search needs
 returns-4 : tie.Need-returns-4
 returns-4 c = c .withdraw-by .ensures ∙ by-withdraw _ _ (c .before .if4 .taken) ∙ by-first (behind-from-withdraw-by c)
 
+shared-slice-read-if5 : tie.Need-shared-slice-read-if5
+shared-slice-read-if5 c = search needs
+
+withdraw-all-by-requires : tie.Need-withdraw-all-by-requires
+withdraw-all-by-requires c κs = search needs
+
 returns-5 : tie.Need-returns-5
-returns-5 c = by-none _ _ (else2-from-else4 c .if2 .left) (c .before .before .if3 .left) (c .if4 .left) ∙ by-first (behind-from-else4 c)
+returns-5 c =
+    c .withdraw-all-by .ensures ∙ by-withdraw-all _ _ (c .before .if5 .taken) ∙ by-first (behind-from-else4 (else4-from-withdraw-all-by c))
+
+returns-6 : tie.Need-returns-6
+returns-6 c =
+    let e = else4-from-else5 c in
+    by-none _ _ (else2-from-else4 e .if2 .left) (e .before .before .if3 .left) (e .if4 .left) (c .if5 .left) ∙ by-first (behind-from-else4 e)
 
 pub asked-spec : {M : Type 1} → statement M
 asked-spec =
@@ -107,4 +126,7 @@ asked-spec =
     shared-slice-read-if4
     withdraw-by-requires
     returns-4
-    returns-5)
+    shared-slice-read-if5
+    withdraw-all-by-requires
+    returns-5
+    returns-6)

@@ -8,6 +8,7 @@ use Rattle.text.specs.Output.{letters}
 use Rattle.session.specs.Operation.{answerLine, shownLine}
 use Rattle.session.proofs.Saying.{said-of}
 use Rattle.session.proofs.Replying.{said-advance, run-advance, last-advance, said-withdraw, run-withdraw, last-withdraw}
+use Rattle.session.proofs.Replying.{said-withdraw-all, run-withdraw-all, last-withdraw-all}
 use Rattle.session.proofs.Replying.{said-row, run-row, last-row, said-none, run-none, last-none}
 use Rattle.session.proofs.replies.answer.Statement.{statement}
 use Rattle.session.proofs.replies.answer.Tie as tie
@@ -21,8 +22,12 @@ abbrev operation2 : tie.After-say-moved2 → tie.After-operation2
 operation2 c = c .before .before .before .before
 
 -- the state after `operation3`
-abbrev operation3 : tie.After-say-row → tie.After-operation3
+abbrev operation3 : tie.After-say-moved3 → tie.After-operation3
 operation3 c = c .before .before .before .before
+
+-- the state after `operation4`
+abbrev operation4 : tie.After-say-row → tie.After-operation4
+operation4 c = c .before .before .before .before
 
 -- the state after `enum-told`
 abbrev enum-told-from-say-word : tie.After-say-word → tie.After-enum-told
@@ -48,6 +53,15 @@ say-moved-requires-2 c κs = search needs
 
 enum-known-operation-3 : tie.Need-enum-known-operation-3
 enum-known-operation-3 c = search needs
+
+withdraw-all-requires : tie.Need-withdraw-all-requires
+withdraw-all-requires c κs = search needs
+
+say-moved-requires-3 : tie.Need-say-moved-requires-3
+say-moved-requires-3 c κs = search needs
+
+enum-known-operation-4 : tie.Need-enum-known-operation-4
+enum-known-operation-4 c = search needs
 
 row-requires : tie.Need-row-requires
 row-requires c κs = search needs
@@ -89,15 +103,26 @@ returns-2 c =
 returns-3 : tie.Need-returns-3
 returns-3 c =
     let a = operation3 c .before .before .args in
-    let o = operation3 c .operation3 .given .1 in (
+    let o = operation3 c .operation3 .given .1 in
+    let v = c .before .before .withdraw-all .ensures .value in
+    let m = c .say-moved3 .ensures in (
+      said-of (ap (λ (x : Advanced). answerLine (letters "taken") (x .answer)) v ∙ said-withdraw-all (a .operation) (a .run) _ o) (m .0),
+      m .1 ∙ ap (λ (x : Advanced). x .run) v ∙ run-withdraw-all (a .operation) (a .run) _ o,
+      m .2 ∙ last-withdraw-all (a .operation) _ o,
+    )
+
+returns-4 : tie.Need-returns-4
+returns-4 c =
+    let a = operation4 c .before .before .args in
+    let o = operation4 c .operation4 .given .1 in (
       said-of (ap (λ (x : rows.Row). shownLine (a .run .cores) (x .answer) (x .bytes)) (c .before .before .row .ensures .value) ∙ said-row (a .operation) (a .run) _ o)
           (c .say-row .ensures),
       run-row (a .operation) (a .run) _ o,
       last-row (a .operation) _ o,
     )
 
-returns-4 : tie.Need-returns-4
-returns-4 c =
+returns-5 : tie.Need-returns-5
+returns-5 c =
     let a = enum-told-from-say-word c .before .before .args in
     let o = enum-told-from-say-word c .enum-told .given .1 in (
       said-of (said-none (a .operation) (a .run) o) (c .say-word .ensures),
@@ -116,6 +141,9 @@ answer-spec =
     withdraw-requires
     say-moved-requires-2
     enum-known-operation-3
+    withdraw-all-requires
+    say-moved-requires-3
+    enum-known-operation-4
     row-requires
     say-row-requires
     enum-told
@@ -124,4 +152,5 @@ answer-spec =
     returns
     returns-2
     returns-3
-    returns-4)
+    returns-4
+    returns-5)
