@@ -6,6 +6,7 @@ pub mod EmptyExamples
 pub mod WithdrawExamples
 pub mod WidthExamples
 pub mod LendExamples
+pub mod SetsExamples
 pub mod Bools
 pub mod Search
 pub mod Lists
