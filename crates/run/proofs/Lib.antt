@@ -14,6 +14,8 @@ pub mod StartExact
 pub mod ByVerdict
 pub mod Cases
 pub mod Chosen
+pub mod Found
+pub mod RunSets
 pub mod PlaceSets
 pub mod RunOut
 pub mod Shown

@@ -1,12 +1,12 @@
--- `run::sets::past` meets its contract: what is left of a set that is shifted by the count are its places from the count on (`past-shift`); a set of 32
+-- `run::bits::past` meets its contract: what is left of a set that is shifted by the count are its places from the count on (`past-shift`); a set of 32
 -- digits has none from 32 on.
 -- Assumes nothing.
 use mathlib.Core.Path.{sym, _∙_}
 use borrow.Author.Needs.{needs}
 use Rattle.model.specs.Sizes.{mostTasks}
 use Rattle.run.proofs.SetTests.{past-shift, past-all}
-use Rattle.run.proofs.sets.past.Statement.{statement}
-use Rattle.run.proofs.sets.past.Tie as tie
+use Rattle.run.proofs.bits.past.Statement.{statement}
+use Rattle.run.proofs.bits.past.Tie as tie
 
 cast-result : tie.Need-cast-result
 cast-result c = search needs

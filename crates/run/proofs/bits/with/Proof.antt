@@ -1,4 +1,4 @@
--- `run::sets::with` meets its contract: the place is one digit of the set (`with-place`).
+-- `run::bits::with` meets its contract: the place is one digit of the set (`with-place`).
 -- Assumes nothing.
 use mathlib.Core.Path.{sym, ap, _∙_}
 use mathlib.Core.Bool.{Bool, _||_, _&&_, or-false}
@@ -6,8 +6,8 @@ use lib.Dec.{eqb}
 use borrow.Author.Needs.{needs}
 use Rattle.model.specs.Search.{bit}
 use Rattle.rule.proofs.Gathered.{with-place}
-use Rattle.run.proofs.sets.with.Statement.{statement}
-use Rattle.run.proofs.sets.with.Tie as tie
+use Rattle.run.proofs.bits.with.Statement.{statement}
+use Rattle.run.proofs.bits.with.Tie as tie
 
 shl-result : tie.Need-shl-result
 shl-result c = search needs

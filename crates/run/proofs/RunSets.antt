@@ -1,0 +1,2 @@
+-- x
+use Rattle.run.specs.declared.Run.{Run}
