@@ -36,7 +36,11 @@ module _ (r : Run) (e : ℕ) where
   unfolding setsOf rowAnswer
   sets-shown q l m = rw (q, le-ltb (firstLateIn r) (r .count) l, m) refl
 
-  -- a row, and sets, by row's answer
+  -- sets and a row, by row's answer
+  pub sets-answer : setsOf r e .answer ≡ rowAnswer r e
+  unfolding setsOf
+  sets-answer = refl
+
   pub row-shown : rowAnswer r e ≡ Taken → rowOf r e ≡ record { answer = Taken; bytes = bytesIn r e }
   unfolding rowOf
   row-shown q = rw q refl

@@ -9,13 +9,7 @@ use crate::bits;
 use model::MOST_TASKS;
 
 // Whether a run's count, core count, rule, fence or withdrawn set is out of range.
-pub(crate) fn head_out(
-    count: usize,
-    cores: u32,
-    rule: u32,
-    fence: u64,
-    withdrawn: u32,
-) -> bool
+pub(crate) fn head_out(count: usize, cores: u32, rule: u32, fence: u64, withdrawn: u32) -> bool
     ensures { λ r. ⌜ r ≡ not (from 1 mostTasks count) || (coresOut cores || (ruleOut rule || (fenceOut cores fence || pastCount count withdrawn))) ⌝ }
 {
     !((1 <= count) & (count <= MOST_TASKS))
