@@ -21,3 +21,4 @@ pub mod EmptyBuilt
 pub mod WithdrawBuilt
 pub mod WidthBuilt
 pub mod LendBuilt
+pub mod SetsBuilt

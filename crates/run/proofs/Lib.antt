@@ -16,6 +16,7 @@ pub mod Cases
 pub mod Chosen
 pub mod Found
 pub mod RunSets
+pub mod SetsExamples
 pub mod PlaceSets
 pub mod RunOut
 pub mod Shown

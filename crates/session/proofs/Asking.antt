@@ -21,7 +21,7 @@ use Rattle.session.specs.declared.operations.Numbers.{Numbers}
 use Rattle.session.specs.declared.operations.Numbers.the-variants.{Bare, One, Two, Other}
 use Rattle.session.specs.declared.operations.Operation.{Operation}
 use Rattle.session.specs.declared.operations.Operation.the-variants.{Nothing}
-use Rattle.session.specs.Operation.{noneLong, wordsIn, oneOf, twoOf, numbersOf, numbersBehind, advanceBy, rowBy, withdrawBy, operationBy, operationOf}
+use Rattle.session.specs.Operation.{noneLong, wordsIn, oneOf, twoOf, numbersOf, numbersBehind, advanceBy, rowBy, setsBy, withdrawBy, operationBy, operationOf}
 
 -- WORDS
 
@@ -156,9 +156,13 @@ pub by-withdraw : (b : ℕ) (ns : Numbers) → b ≡ 119 → withdrawBy ns ≡ o
 unfolding operationBy
 by-withdraw b ns e = rw e
 
-pub by-none : (b : ℕ) (ns : Numbers) → (b ≡ 97 → ⊥) → (b ≡ 114 → ⊥) → (b ≡ 119 → ⊥) → Nothing ≡ operationBy b ns
+pub by-sets : (b : ℕ) (ns : Numbers) → b ≡ 115 → setsBy ns ≡ operationBy b ns
 unfolding operationBy
-by-none b ns a r w = rw (ne-eqb b 97 a, ne-eqb b 114 r, ne-eqb b 119 w)
+by-sets b ns e = rw e
+
+pub by-none : (b : ℕ) (ns : Numbers) → (b ≡ 97 → ⊥) → (b ≡ 114 → ⊥) → (b ≡ 119 → ⊥) → (b ≡ 115 → ⊥) → Nothing ≡ operationBy b ns
+unfolding operationBy
+by-none b ns a r w s = rw (ne-eqb b 97 a, ne-eqb b 114 r, ne-eqb b 119 w, ne-eqb b 115 s)
 
 pub asked-empty : (l : List ℕ) → length l ≡ 0 → Nothing ≡ operationOf l
 unfolding operationOf

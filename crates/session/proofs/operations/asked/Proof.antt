@@ -4,7 +4,7 @@ use borrow.Author.Needs.{needs}
 use mathlib.Core.Path.{_≡_, _∙_, ap}
 use lib.ListN.{getD}
 use Rattle.session.specs.Operation.{operationBy, operationOf}
-use Rattle.session.proofs.Asking.{by-advance, by-row, by-withdraw, by-none, asked-empty, asked-by}
+use Rattle.session.proofs.Asking.{by-advance, by-row, by-sets, by-withdraw, by-none, asked-empty, asked-by}
 use Rattle.session.proofs.operations.asked.Statement.{statement}
 use Rattle.session.proofs.operations.asked.Tie as tie
 
@@ -16,8 +16,11 @@ entry c = c .before .before .before .before
 abbrev else2-from-row-by : tie.After-row-by → tie.Else2
 else2-from-row-by c = c .before .before .before
 
-abbrev else2-from-else4 : tie.Else4 → tie.Else2
-else2-from-else4 c = c .before .before .before .before
+abbrev else2-from-else5 : tie.Else5 → tie.Else2
+else2-from-else5 c = c .before .before .before .before .before .before
+
+abbrev else2-from-sets-by : tie.After-sets-by → tie.Else2
+else2-from-sets-by c = c .before .before .before .before .before .before .before
 
 abbrev else2-from-withdraw-by : tie.After-withdraw-by → tie.Else2
 else2-from-withdraw-by c = c .before .before .before .before .before
@@ -35,8 +38,11 @@ behind-from-row-by c = behind-from-else2 (else2-from-row-by c)
 abbrev behind-from-withdraw-by : tie.After-withdraw-by → tie.After-behind
 behind-from-withdraw-by c = behind-from-else2 (else2-from-withdraw-by c)
 
-abbrev behind-from-else4 : tie.Else4 → tie.After-behind
-behind-from-else4 c = behind-from-else2 (else2-from-else4 c)
+abbrev behind-from-sets-by : tie.After-sets-by → tie.After-behind
+behind-from-sets-by c = behind-from-else2 (else2-from-sets-by c)
+
+abbrev behind-from-else5 : tie.Else5 → tie.After-behind
+behind-from-else5 c = behind-from-else2 (else2-from-else5 c)
 
 -- the line's operation is that of its first byte and of the numbers that were found
 by-first : (c : tie.After-behind) → operationBy (getD (entry c .args .line .now) 0 0) (c .behind .result) ≡ operationOf (entry c .args .line .now)
@@ -86,8 +92,19 @@ withdraw-by-requires c κs = search needs
 returns-4 : tie.Need-returns-4
 returns-4 c = c .withdraw-by .ensures ∙ by-withdraw _ _ (c .before .if4 .taken) ∙ by-first (behind-from-withdraw-by c)
 
+shared-slice-read-if5 : tie.Need-shared-slice-read-if5
+shared-slice-read-if5 c = search needs
+
+sets-by-requires : tie.Need-sets-by-requires
+sets-by-requires c κs = search needs
+
 returns-5 : tie.Need-returns-5
-returns-5 c = by-none _ _ (else2-from-else4 c .if2 .left) (c .before .before .if3 .left) (c .if4 .left) ∙ by-first (behind-from-else4 c)
+returns-5 c = c .sets-by .ensures ∙ by-sets _ _ (c .before .if5 .taken) ∙ by-first (behind-from-sets-by c)
+
+returns-6 : tie.Need-returns-6
+returns-6 c =
+    by-none _ _ (else2-from-else5 c .if2 .left) (c .before .before .before .before .if3 .left) (c .before .before .if4 .left) (c .if5 .left)
+    ∙ by-first (behind-from-else5 c)
 
 pub asked-spec : {M : Type 1} → statement M
 asked-spec =
@@ -107,4 +124,7 @@ asked-spec =
     shared-slice-read-if4
     withdraw-by-requires
     returns-4
-    returns-5)
+    shared-slice-read-if5
+    sets-by-requires
+    returns-5
+    returns-6)

@@ -4,11 +4,12 @@ use borrow.Author.Needs.{needs}
 use mathlib.Core.Path.{ap, _∙_}
 use Rattle.run.specs.declared.Advanced.{Advanced}
 use Rattle.run.specs.declared.Row as rows
+use Rattle.run.specs.declared.Sets as sets
 use Rattle.text.specs.Output.{letters}
-use Rattle.session.specs.Operation.{answerLine, shownLine}
+use Rattle.session.specs.Operation.{answerLine, setsLine, shownLine}
 use Rattle.session.proofs.Saying.{said-of}
 use Rattle.session.proofs.Replying.{said-advance, run-advance, last-advance, said-withdraw, run-withdraw, last-withdraw}
-use Rattle.session.proofs.Replying.{said-row, run-row, last-row, said-none, run-none, last-none}
+use Rattle.session.proofs.Replying.{said-row, run-row, last-row, said-sets, run-sets, last-sets, said-none, run-none, last-none}
 use Rattle.session.proofs.replies.answer.Statement.{statement}
 use Rattle.session.proofs.replies.answer.Tie as tie
 
@@ -23,6 +24,10 @@ operation2 c = c .before .before .before .before
 -- the state after `operation3`
 abbrev operation3 : tie.After-say-row → tie.After-operation3
 operation3 c = c .before .before .before .before
+
+-- the state after `operation4`
+abbrev operation4 : tie.After-say-sets → tie.After-operation4
+operation4 c = c .before .before .before .before
 
 -- the state after `enum-told`
 abbrev enum-told-from-say-word : tie.After-say-word → tie.After-enum-told
@@ -54,6 +59,15 @@ row-requires c κs = search needs
 
 say-row-requires : tie.Need-say-row-requires
 say-row-requires c κs = search needs
+
+enum-known-operation-4 : tie.Need-enum-known-operation-4
+enum-known-operation-4 c = search needs
+
+sets-requires : tie.Need-sets-requires
+sets-requires c κs = search needs
+
+say-sets-requires : tie.Need-say-sets-requires
+say-sets-requires c κs = search needs
 
 enum-told : tie.Need-enum-told
 enum-told c = search needs
@@ -98,6 +112,16 @@ returns-3 c =
 
 returns-4 : tie.Need-returns-4
 returns-4 c =
+    let a = operation4 c .before .before .args in
+    let o = operation4 c .operation4 .given .1 in (
+      said-of (ap (λ (x : sets.Sets). setsLine (x .answer) (x .sets)) (c .before .before .sets .ensures .value) ∙ said-sets (a .operation) (a .run) _ o)
+          (c .say-sets .ensures),
+      run-sets (a .operation) (a .run) _ o,
+      last-sets (a .operation) _ o,
+    )
+
+returns-5 : tie.Need-returns-5
+returns-5 c =
     let a = enum-told-from-say-word c .before .before .args in
     let o = enum-told-from-say-word c .enum-told .given .1 in (
       said-of (said-none (a .operation) (a .run) o) (c .say-word .ensures),
@@ -118,10 +142,14 @@ answer-spec =
     enum-known-operation-3
     row-requires
     say-row-requires
+    enum-known-operation-4
+    sets-requires
+    say-sets-requires
     enum-told
     slice-aggregate-say-word
     say-word-requires
     returns
     returns-2
     returns-3
-    returns-4)
+    returns-4
+    returns-5)
