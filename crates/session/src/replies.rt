@@ -2,9 +2,11 @@
 ghost use mathlib.Core.Path.{_≡_};
 ghost use mathlib.Core.Bool.{false};
 ghost use mathlib.Core.List.{[], _∷_};
-ghost use Prim.Native.Nat.{_≤_};
+ghost use Prim.Native.Nat.{_+_, _≤_};
 ghost use lib.ListN.{length, take};
-ghost use Rattle.text.specs.Output.{letters, lineOf};
+ghost use Rattle.text.specs.Decimal.{decimal};
+ghost use Rattle.text.specs.Output.{fields, letters, lineOf, space};
+ghost use Rattle.text.specs.Written.{Put};
 ghost use Rattle.session.specs.Operation.{plain, answerLine, shownLine, setsLine, said, runAfter, isLast};
 ghost use Rattle.session.specs.Session.{Said};
 use crate::REPLY;
@@ -93,19 +95,37 @@ fn say_row(cores: u32, row: Row, out: &mut [u8; REPLY]) -> usize
     }
 }
 
-// Writes 32 sets, a space before each.
+// Writes a space and a set; the answer is where they end.
+fn put_set(line: &mut [u8], at: usize, set: u64) -> usize
+    requires { ⌜ at + 21 ≤ length (now line) ⌝ }
+    ensures { λ r. ⌜ (Put (now (line .entry)) at (space ∷ decimal set) (now (line .exit)) r) × (r ≤ at + 21) ⌝ }
+{
+    line[at] = b' ';
+    decimal::put(line, at + 1, set)
+}
+
+// Writes 32 sets, a space before each; the answer is where they end.
+fn put_sets(line: &mut [u8], from: usize, sets: [u64; MOST_TASKS]) -> usize
+    requires { ⌜ from + 672 ≤ length (now line) ⌝ }
+    ensures { λ r. ⌜ (Put (now (line .entry)) from (fields sets) (now (line .exit)) r) × (r ≤ from + 672) ⌝ }
+{
+    let mut at = from;
+    let mut i: usize = 0;
+    while i < MOST_TASKS {
+        at = put_set(line, at, sets[i]);
+        i += 1;
+    }
+    at
+}
+
+// Writes the sets of all positions.
 fn say_each(sets: [u64; MOST_TASKS], out: &mut [u8; REPLY]) -> usize
     ensures { λ r. ⌜ Said (lineOf (letters "sets") sets) (now (out .entry)) (now (out .exit)) r ⌝ }
 {
-    let mut at = row::copy(b"sets", 0, 4, out, 0);
-    let mut i: usize = 0;
-    while i < MOST_TASKS {
-        out[at] = b' ';
-        at = decimal::put(out, at + 1, sets[i]);
-        i += 1;
-    }
-    out[at] = b'\n';
-    at + 1
+    let start = row::copy(b"sets", 0, 4, out, 0);
+    let end = put_sets(out, start, sets);
+    out[end] = b'\n';
+    end + 1
 }
 
 // Writes a row as sets, or its refusal.
