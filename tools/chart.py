@@ -1,4 +1,4 @@
-"""How a picture looks: a sheet of SVG 1.1, and on it cores over ticks with a strip for each task. It is given what to draw, and decides nothing."""
+"""How a picture looks: a sheet of SVG 1.1, and on it cores over ticks with a strip for each task; alone, or in a page. It is given what to draw, and decides nothing."""
 import collections
 import colorsys
 import contextlib
@@ -22,26 +22,31 @@ LOOKS = {
 }
 
 
-# 32 colours: neighbours differ in hue and in lightness, so that a grey print tells them apart too.
+# How light a colour is, from red, green and blue, as WCAG 2 has it; the contrast of two is (lighter + 0.05) / (darker + 0.05).
+def luminance(*colours):
+    return sum(part * (level / 12.92 if level <= 0.03928 else ((level + 0.055) / 1.055) ** 2.4) for part, level in zip((0.2126, 0.7152, 0.0722), colours))
+
+
+# 32 colours: neighbours differ in hue and in lightness, so that a grey print tells them apart too; and the ink that is read best on each.
 def colour(position):
     turn = (position - 1) * 0.618034 % 1
     light = (0.74, 0.46, 0.84, 0.58)[(position - 1) % 4]
     red, green, blue = colorsys.hls_to_rgb(turn, light, 0.62)
-    ink = "#000" if 0.30 * red + 0.59 * green + 0.11 * blue > 0.5 else "#fff"
+    ink = "#000" if (luminance(red, green, blue) + 0.05) ** 2 > 1.05 * 0.05 else "#fff"
     return "#%02x%02x%02x" % (round(red * 255), round(green * 255), round(blue * 255)), ink
 
 
-def attributes(words):
-    return "".join(f" {key.replace('_', '-')}={quoteattr(str(value))}" for key, value in words.items())
-
-
-# The elements of a picture, and how large it must be to show them.
+# The elements of a picture, and how large it must be to show them. Where it is one of several in a page, all its names begin with its own.
 class Sheet:
-    def __init__(self):
-        self.parts, self.right, self.bottom = [], 0, 0
+    def __init__(self, own=""):
+        self.parts, self.right, self.bottom, self.own = [], 0, 0, own
+
+    def attributes(self, words):
+        named = {key: self.own + value if key == "id" else str(value).replace("url(#", f"url(#{self.own}") for key, value in words.items()}
+        return "".join(f" {key.replace('_', '-')}={quoteattr(value)}" for key, value in named.items())
 
     def add(self, name, inner=None, **words):
-        self.parts.append(f"<{name}{attributes(words)}/>" if inner is None else f"<{name}{attributes(words)}>{escape(inner)}</{name}>")
+        self.parts.append(f"<{name}{self.attributes(words)}/>" if inner is None else f"<{name}{self.attributes(words)}>{escape(inner)}</{name}>")
 
     def reach(self, x, y):
         self.right, self.bottom = max(self.right, x), max(self.bottom, y)
@@ -53,12 +58,12 @@ class Sheet:
 
     @contextlib.contextmanager
     def group(self, **words):
-        self.parts.append(f"<g{attributes(words)}>")
+        self.parts.append(f"<g{self.attributes(words)}>")
         yield
         self.parts.append("</g>")
 
     def hatching(self, name):
-        self.parts.append(f'<defs><pattern id="{name}" width="8" height="8" patternUnits="userSpaceOnUse">{HATCHES[name]}</pattern></defs>')
+        self.parts.append(f'<defs><pattern id="{self.own}{name}" width="8" height="8" patternUnits="userSpaceOnUse">{HATCHES[name]}</pattern></defs>')
 
     # The whole, with a title and a description for those who do not see it.
     def out(self, title, about):
@@ -94,34 +99,28 @@ def fields_of(task):
     return str(task.O), f"{task.v}/{task.w}" if task.v != task.w else str(task.v), str(task.C), str(task.D), str(task.T)
 
 
-# The chart of the rows from a tick on: cores over ticks, below it a strip for each task. `head` is what stands over it, the title first.
-class Chart(Sheet):
-    def __init__(self, table, start, rows, head, red=()):
-        super().__init__()
-        self.table, self.start, self.end, self.rows = table, start, start + len(rows), rows
+# The chart of the rows from a tick on: cores over ticks, below it a strip for each of these positions.
+class Cells(Sheet):
+    def __init__(self, table, start, rows, positions, own=""):
+        super().__init__(own)
+        self.table, self.start, self.end, self.rows, self.positions = table, start, start + len(rows), rows, positions
         self.cores, self.tasks, self.fenced = table.cores, table.tasks, sorted(table.fenced)
-        self.wide = min(80, max(12, 960 / len(rows)))
         self.high = next(size for most, size in ((8, 28), (16, 20), (32, 15), (64, 12)) if self.cores <= most)
-        self.strip = 24 if len(self.tasks) <= 12 else 18
-        self.names = [f"{place + 1} (record {record})" for place, record in enumerate(table.records)]
-        self.box = 12 + 6 * max(map(len, self.names))
+        self.strip = 24 if len(positions) <= 12 else 18
         self.pairs = any(task.v != task.w for task in self.tasks)
-        self.fields = [("O", "v/w" if self.pairs else "v", "C", "D", "T"), *map(fields_of, self.tasks)]  # of the line over the strips and of each strip
-        self.columns = [max(len(field) for field in column) + 2 for column in zip(*self.fields)]
-        self.left = 16 + max(40, self.box + 14 + 6.1 * sum(self.columns))
-        self.top = 69 + 19 * (len(head) - 3 + len(red)) + 57
+
+    # How wide a tick is, and the room on the left and on top.
+    def lay_out(self, wide, left, top):
+        self.wide, self.left, self.top = wide, left, top
         self.under = self.top + self.cores * self.high
-        self.foot = self.under + 46 + len(self.tasks) * self.strip
+        self.foot = self.under + 46 + len(self.positions) * self.strip
         self.reach(self.x(self.end) + 12, self.foot)
-        self.text(16, 28, head[0], 17, font_weight="bold")
-        for k, line in enumerate([*head[1:], *red]):
-            self.text(16, 50 + 19 * k, line, 13, **({"fill": RED} if k >= len(head) - 1 else {}))
 
     def x(self, tick):
         return round(self.left + (tick - self.start) * self.wide, 2)
 
-    def base(self, place):
-        return self.under + 46 + (place + 1) * self.strip - 4
+    def base(self, position):
+        return self.under + 46 + (self.positions.index(position) + 1) * self.strip - 4
 
     def bar(self, since, until, base, **words):
         self.add("rect", x=self.x(since), y=base - 8, width=round((until - since) * self.wide, 2), height=8, **words)
@@ -183,40 +182,47 @@ class Chart(Sheet):
                         for fill in ({"fill": "#fff", "fill_opacity": 0.55}, {"fill": "url(#light)"}):
                             self.add("rect", x=self.x(tick), y=self.top + core * self.high, width=round(self.wide, 2), height=self.high, **fill)
 
-    # The strips: for each task its numbers, the time from release to deadline, the ticks in which it runs, its releases and deadlines.
+    # The strips: for each task its name, the time from release to deadline, the ticks in which it runs, its releases and deadlines.
     # `late` is the tick and the position of a miss; `unused` has position, first tick and last of what a job that ended early does not take.
     def strips(self, late, held=(), unused=()):
-        label = lambda fields: "".join(field.rjust(width) for field, width in zip(fields, self.columns))
-        self.parts.append('<defs><path id="up" d="M0 0V-14M-3 -9L0 -15L3 -9Z" stroke="#000" fill="#000"/>'
-                          '<path id="down" d="M0 -14V0M-3.5 -6L0 0L3.5 -6" stroke="#000" fill="none"/></defs>')
-        self.add("text", "position", x=22, y=self.under + 38, font_size=11, fill="#333")
-        self.add("text", label(self.fields[0]), x=16 + self.box, y=self.under + 38, **MONO)
-        for place, task in enumerate(self.tasks):
-            base, (fill, ink) = self.base(place), colour(place + 1)
-            with self.group(id=f"task{place + 1}"):
-                self.add("rect", x=16, y=base - 12, width=self.box, height=14, fill=fill)
-                self.add("text", self.names[place], x=22, y=base - 1, font_size=11, fill=ink)
-                self.add("text", label(self.fields[place + 1]), x=16 + self.box, y=base - 1, **MONO)
+        self.arrows()
+        self.heading()
+        for position in self.positions:
+            task, base, (fill, ink) = self.tasks[position - 1], self.base(position), colour(position)
+            with self.group(id=f"task{position}"):
+                self.label(position, base, fill, ink)
                 for due in moments(task, task.D, self.start + 1, self.end + task.D - 1):
                     self.bar(max(self.start, due - task.D), min(self.end, due), base, fill="#d8d8d8")
-                for _, at, length in runs([place + 1 if place + 1 in row else 0 for row in self.rows], self.start, self.tasks):
+                for _, at, length in runs([position if position in row else 0 for row in self.rows], self.start, self.tasks):
                     self.bar(self.start + at, self.start + at + length, base, fill=fill)
-                for tick in sorted(tick for tick, position in held if position == place + 1):
+                for tick in sorted(tick for tick, holder in held if holder == position):
                     self.bar(tick, tick + 1, base, fill="#fff", fill_opacity=0.55)
                     self.bar(tick, tick + 1, base, fill="url(#light)")
-                for since, until in [(max(self.start, since), min(self.end, until)) for position, since, until in unused if position == place + 1]:
+                for since, until in [(max(self.start, since), min(self.end, until)) for whose, since, until in unused if whose == position]:
                     if since < until:
-                        self.bar(since, until, base, id=f"unused{place + 1}-{since}", **LOOKS["unused"])
-                if late and late[1] == place + 1:
+                        self.bar(since, until, base, id=f"unused{position}-{since}", **LOOKS["unused"])
+                if late and late[1] == position:
                     self.bar(max(self.start, late[0] - task.D), late[0], base, fill="none", stroke=RED, stroke_width=1.5)
                 self.add("line", x1=self.x(self.start), x2=self.x(self.end), y1=base, y2=base, stroke="#888")
                 for name, arrow, after in (("releases", "up", 0), ("deadlines", "down", task.D)):
-                    with self.group(id=f"{name}{place + 1}"):
+                    with self.group(id=f"{name}{position}"):
                         for tick in moments(task, after, self.start, self.end):
                             self.arrow(arrow, self.x(tick), base)
 
+    # What stands over the strips' names, and a name.
+    def heading(self):
+        self.add("text", "position", x=22, y=self.under + 38, font_size=11, fill="#333")
+
+    def label(self, position, base, fill, ink):
+        self.add("rect", x=16, y=base - 12, width=self.box, height=14, fill=fill)
+        self.add("text", self.names[position], x=22, y=base - 1, font_size=11, fill=ink)
+
+    def arrows(self):
+        self.parts.append(f'<defs><path id="{self.own}up" d="M0 0V-14M-3 -9L0 -15L3 -9Z" stroke="#000" fill="#000"/>'
+                          f'<path id="{self.own}down" d="M0 -14V0M-3.5 -6L0 0L3.5 -6" stroke="#000" fill="none"/></defs>')
+
     def arrow(self, name, x, y):
-        self.parts.append(f'<use xlink:href="#{name}" x="{x}" y="{y}"/>')
+        self.parts.append(f'<use xlink:href="#{self.own}{name}" x="{x}" y="{y}"/>')
 
     # Where a job ends by a report: a bar at the right end of its cells and in its strip.
     def ends(self, tick, position):
@@ -226,19 +232,19 @@ class Chart(Sheet):
             for core, having in enumerate(self.rows[tick - self.start]):
                 if having == position:
                     self.stop(at, self.top + core * self.high + 1, self.high - 2, thick)
-            self.stop(at, self.base(position - 1) - 11, 12, thick)
+            self.stop(at, self.base(position) - 11, 12, thick)
 
     # Where an empty job is released: a ring in its strip.
     def empty(self, tick, position):
         with self.group(id=f"empty{position}-{tick}"):
             self.add("title", f"the job that position {position} releases in tick {tick} is empty")
-            self.ring(self.x(tick) + min(8, self.wide / 2), self.base(position - 1) - 4)
+            self.ring(self.x(tick) + min(8, self.wide / 2), self.base(position) - 4)
 
     # Where a position is withdrawn: a bar with a foot over the beginning of the tick, in its strip.
     def withdrawn(self, tick, position):
         with self.group(id=f"out{position}-{tick}"):
             self.add("title", f"position {position} is withdrawn in tick {tick}")
-            self.gate(self.x(tick) + 1.5, self.base(position - 1))
+            self.gate(self.x(tick) + 1.5, self.base(position))
 
     def gate(self, x, y):
         self.add("path", d=f"M{round(x, 2)} {round(y - 14, 2)}v14m0 -14h7m-7 14h7", stroke="#000", stroke_width=2, fill="none")
@@ -248,14 +254,18 @@ class Chart(Sheet):
 
     # The longest answer of a task beside its strip, against its D; and over a job that takes so long a bracket from release to end.
     def longest(self, position, figure, release):
-        base = self.base(position - 1)
-        self.text(self.x(self.end) + 11, base - 1, f"longest {figure} of {self.tasks[position - 1].D}", 11, fill="#333", id=f"figure{position}")
+        base = self.base(position)
+        self.beside(base, f"longest {figure} of {self.tasks[position - 1].D}", 11, fill="#333", id=f"figure{position}")
         if release is not None:
             since, until = self.x(release), self.x(release + figure)
             with self.group(id=f"longest{position}"):
                 self.add("title", f"the job that position {position} releases in tick {release} ends {figure} ticks later")
                 self.bracket(since, until, base - 11)
                 self.add("text", str(figure), x=round((since + until) / 2, 2), y=base - 12, font_size=8, text_anchor="middle", fill="#000")
+
+    # What stands at the end of a strip.
+    def beside(self, base, words, size, **more):
+        self.text(self.x(self.end) + 11, base - 1, words, size, **more)
 
     def bracket(self, since, until, y):
         self.add("path", d=f"M{since} {y + 3}V{y}H{until}V{y + 3}", stroke="#000", fill="none")
@@ -276,10 +286,10 @@ class Chart(Sheet):
 
     # A miss: the line across, a cross in the strip, and what the late job had.
     def late(self, tick, position, had, words, y):
-        base = self.base(position - 1)
+        base = self.base(position)
         self.mark("miss", tick, words, y, RED, "none")
         self.add("path", id="late", d=f"M{self.x(tick) - 6} {base - 14}l12 12m0 -12l-12 12", stroke=RED, stroke_width=3, fill="none")
-        self.text(self.x(self.end) + 11, base - 1, f"had {had} of {self.tasks[position - 1].C}", 12, fill=RED, id="had")
+        self.beside(base, f"had {had} of {self.tasks[position - 1].C}", 12, fill=RED, id="had")
 
     # A tick at which something is refused: its number over the column.
     def refused(self, tick, number):
@@ -299,6 +309,48 @@ class Chart(Sheet):
                 self.add("rect", x=round(self.x(tick) - room / 2, 2), y=self.under + 5, width=round(room, 2), height=14, fill="#fff")
                 self.add("text", str(tick), x=self.x(tick), y=self.under + 16)
 
+    # A sample of what a name of the legend says, 28 wide and 12 high.
+    def sample(self, name, x, y):
+        self.add("rect", x=x, y=y, width=28, height=12, **LOOKS[name])
+        if name == "ends":
+            self.stop(x + 28, y, 12, 3)
+        if name == "empty":
+            self.ring(x + 14, y + 6)
+        if name == "out":
+            self.gate(x + 10, y + 13)
+        if name == "longest":
+            self.bracket(x, x + 28, y + 1)
+
+    # The names of the legend with their words: the fence first, where there is one.
+    def named(self, more):
+        return [("fenced", "a fenced core: it belongs to the hydraulics, and no task has it"), *more] if self.fenced else list(more)
+
+
+# A chart that is a picture of its own. `head` is what stands over it, the title first, and `red` what follows it in red.
+class Chart(Cells):
+    def __init__(self, table, start, rows, head, red=()):
+        super().__init__(table, start, rows, list(range(1, len(table.tasks) + 1)))
+        self.names = {position: f"{position} (record {record})" for position, record in enumerate(table.records, 1)}
+        self.box = 12 + 6 * max(map(len, self.names.values()))
+        self.fields = [("O", "v/w" if self.pairs else "v", "C", "D", "T"), *map(fields_of, self.tasks)]  # of the line over the strips and of each strip
+        self.columns = [max(len(field) for field in column) + 2 for column in zip(*self.fields)]
+        self.lay_out(min(80, max(12, 960 / len(rows))), 16 + max(40, self.box + 14 + 6.1 * sum(self.columns)), 69 + 19 * (len(head) - 3 + len(red)) + 57)
+        self.text(16, 28, head[0], 17, font_weight="bold")
+        for k, line in enumerate([*head[1:], *red]):
+            self.text(16, 50 + 19 * k, line, 13, **({"fill": RED} if k >= len(head) - 1 else {}))
+
+    # The numbers of a task beside its name.
+    def numbered(self, fields, base):
+        self.add("text", "".join(field.rjust(width) for field, width in zip(fields, self.columns)), x=16 + self.box, y=base, **MONO)
+
+    def heading(self):
+        super().heading()
+        self.numbered(self.fields[0], self.under + 38)
+
+    def label(self, position, base, fill, ink):
+        super().label(position, base, fill, ink)
+        self.numbered(self.fields[position], base - 1)
+
     # How to read it: what is in every picture, and a line for each of these names.
     def legend(self, *more):
         y = self.foot + 24
@@ -312,17 +364,7 @@ class Chart(Sheet):
         if self.pairs:
             y += 18
             self.text(16, y + 18, "v/w: the first, third and each odd job of the task takes v cores, each even job w.")
-        if self.fenced:
-            more = ("fenced", "a fenced core: it belongs to the hydraulics, and no task has it"), *more
-        for k, (name, words) in enumerate(more):
+        for k, (name, words) in enumerate(self.named(more)):
             at = y + 27 + 18 * k
-            self.add("rect", x=16, y=at, width=28, height=12, **LOOKS[name])
-            if name == "ends":
-                self.stop(44, at, 12, 3)
-            if name == "empty":
-                self.ring(30, at + 6)
-            if name == "out":
-                self.gate(26, at + 13)
-            if name == "longest":
-                self.bracket(16, 44, at + 1)
+            self.sample(name, 16, at)
             self.text(50, at + 10, words)
