@@ -19,6 +19,7 @@ LOOKS = {
     "held": {"fill": "url(#light)", "stroke": "#888"},
     "blank": {"fill": "#f6c8c8"},
     "longest": {"fill": "#d8d8d8"},
+    "differs": {"fill": RED},
 }
 
 
@@ -101,6 +102,8 @@ def fields_of(task):
 
 # The chart of the rows from a tick on: cores over ticks, below it a strip for each of these positions.
 class Cells(Sheet):
+    HREF = "xlink:href"
+
     def __init__(self, table, start, rows, positions, own=""):
         super().__init__(own)
         self.table, self.start, self.end, self.rows, self.positions = table, start, start + len(rows), rows, positions
@@ -155,9 +158,12 @@ class Cells(Sheet):
             self.add("rect", x=self.x(self.start), y=self.top + core * self.high, width=round(ticks * self.wide, 2), height=self.high, fill="url(#hatch)")
         self.numbers(found, held)
         self.add("rect", x=self.x(self.start), y=self.top, width=round(ticks * self.wide, 2), height=self.cores * self.high, stroke="#888", fill="none")
+        self.core_names(self.left - 6)
+
+    def core_names(self, right):
         with self.group(fill="#333", text_anchor="end"):
             for core in range(0, self.cores, 1 if self.high >= 15 else 4):
-                self.text(self.left - 6, self.top + core * self.high + self.high / 2 + 4, f"core {core}", 11, text_anchor="end")
+                self.text(right, self.top + core * self.high + self.high / 2 + 4, f"core {core}", 11, text_anchor="end")
 
     # The number in each cell, or where cells are small in one of a run and in every tenth of a long one.
     def numbers(self, found, held):
@@ -222,7 +228,7 @@ class Cells(Sheet):
                           f'<path id="{self.own}down" d="M0 -14V0M-3.5 -6L0 0L3.5 -6" stroke="#000" fill="none"/></defs>')
 
     def arrow(self, name, x, y):
-        self.parts.append(f'<use xlink:href="#{self.own}{name}" x="{x}" y="{y}"/>')
+        self.parts.append(f'<use {self.HREF}="#{self.own}{name}" x="{x}" y="{y}"/>')
 
     # Where a job ends by a report: a bar at the right end of its cells and in its strip.
     def ends(self, tick, position):
@@ -261,9 +267,12 @@ class Cells(Sheet):
             with self.group(id=f"longest{position}"):
                 self.add("title", f"the job that position {position} releases in tick {release} ends {figure} ticks later")
                 self.bracket(since, until, base - 11)
-                self.add("text", str(figure), x=round((since + until) / 2, 2), y=base - 12, font_size=8, text_anchor="middle", fill="#000")
+                self.over(figure, (since + until) / 2, base - 12)
 
-    # What stands at the end of a strip.
+    # What stands over a bracket, and at the end of a strip.
+    def over(self, figure, x, y):
+        self.add("text", str(figure), x=round(x, 2), y=y, font_size=8, text_anchor="middle", fill="#000")
+
     def beside(self, base, words, size, **more):
         self.text(self.x(self.end) + 11, base - 1, words, size, **more)
 
@@ -294,6 +303,12 @@ class Cells(Sheet):
     # A tick at which something is refused: its number over the column.
     def refused(self, tick, number):
         self.text(self.x(tick) + self.wide / 2, self.top - 8, str(number), 11 if self.wide >= 24 else 9, fill=RED, font_weight="bold", text_anchor="middle", id=f"refused-{tick}")
+
+    # Ticks whose row is another than that of the full-length run: a band over them.
+    def differ(self, ticks):
+        with self.group(id="differs"):
+            for tick in ticks:
+                self.add("rect", x=self.x(tick), y=self.top - 5, width=round(self.wide, 2), height=4, **LOOKS["differs"])
 
     # A tick without a row.
     def blank(self, tick):
@@ -368,3 +383,47 @@ class Chart(Cells):
             at = y + 27 + 18 * k
             self.sample(name, 16, at)
             self.text(50, at + 10, words)
+
+
+# A chart in a page, which says the rest in its own words. The names of cores and strips are a drawing of their own, `side`, that stays where the ticks are scrolled.
+class Inset(Cells):
+    HREF = "href"
+    WIDE, ROOM, NAMES = 26, 900, 58  # of a tick at least, of all ticks where they are few, of the names
+
+    def __init__(self, own, table, start, rows, positions=None):
+        super().__init__(table, start, rows, positions or list(range(1, len(table.tasks) + 1)), own)
+        self.pad = max(10, 4 * len(str(self.end)))  # for a number under the first tick and the last
+        self.side = []
+        self.lay_out(round(min(64, max(self.WIDE, self.ROOM / len(rows))), 2), self.NAMES + self.pad, 42)
+
+    @contextlib.contextmanager
+    def aside(self):
+        ticks, self.parts = self.parts, self.side
+        yield
+        self.parts = ticks
+
+    # What a drawing adds, apart from the chart.
+    def apart(self, draw):
+        chart, self.parts = self.parts, []
+        draw()
+        added, self.parts = self.parts, chart
+        return "".join(added)
+
+    def core_names(self, right):
+        with self.aside():
+            super().core_names(self.NAMES - 8)
+
+    def heading(self):
+        with self.aside():
+            self.add("text", "position", x=self.NAMES - 8, y=self.under + 38, font_size=11, fill="#333", text_anchor="end")
+
+    def label(self, position, base, fill, ink):
+        with self.aside():
+            self.add("rect", x=self.NAMES - 36, y=base - 12, width=28, height=14, fill=fill)
+            self.add("text", str(position), x=self.NAMES - 22, y=base - 1, font_size=11, fill=ink, text_anchor="middle")
+
+    def over(self, figure, x, y):  # the page says it
+        pass
+
+    def beside(self, base, words, size, **more):  # and this
+        pass

@@ -11,10 +11,12 @@ The status is 0 where nothing is refused or missed, 1 for a miss, 2 for a refusa
 import collections
 import contextlib
 import functools
+import math
 import os
 import re
 import subprocess
 import sys
+import time
 
 from chart import BLUE, Chart, Sheet, moments
 
@@ -62,6 +64,11 @@ FINE, MISSED, REFUSED, TROUBLE, USAGE = 0, 1, 2, 3, 64
 
 # Not the words of the program: nothing is drawn.
 class Trouble(Exception):
+    pass
+
+
+# What is waited for has not come in time.
+class TooLong(Exception):
     pass
 
 
@@ -147,10 +154,12 @@ def refusal(number, position):
     return sheet.out(title, lines), REFUSED
 
 
-# The program's lines after so many, which are passed over by whole blocks.
-def lines_after(source, count):
+# The program's lines after so many, which are passed over by whole blocks, up to a moment.
+def lines_after(source, count, until=math.inf):
     rest = b""
     while count:
+        if time.monotonic() > until:
+            raise TooLong
         block = source.read1(BLOCK)
         found = block.count(b"\n")
         if not block or found >= count:
@@ -174,10 +183,10 @@ def row_in(fields, tick, table):
 
 
 # The rows of a stretch of ticks, from the program's lines; and how many rows from tick `since` on have a position, those before the stretch too.
-def rows_of(source, start, end, table, since, position):
+def rows_of(source, start, end, table, since, position, until=math.inf):
     rows, had, begin = [], 0, min(start, since)
     inside, last = b" %d " % position, b" %d" % position
-    for tick, line in zip(range(begin, end), lines_after(source, begin)):
+    for tick, line in zip(range(begin, end), lines_after(source, begin, until)):
         if tick < start:
             had += inside in line or line.rstrip().endswith(last)
             continue
@@ -534,36 +543,52 @@ def answering(program, question, text):
             process.kill()
 
 
+# The word and the two numbers of a verdict's line.
+def verdict_in(line):
+    fields = line.split()
+    if len(fields) != 3 or not (fields[1] + fields[2]).isdigit():
+        raise Trouble("the program printed no verdict")
+    word = fields[0].decode("ascii", "replace")
+    if word not in VERDICTS and word != "refused":
+        raise Trouble(f"the program's verdict is {word!r}")
+    return word, int(fields[1]), int(fields[2])
+
+
 # The picture of a table, and the status.
 def draw(program, text, asked=Asked()):
     with running(program) as process, answering(program, b"longest\n", text) as answers:
         process.stdin.write(text)
         process.stdin.close()
-        fields = process.stdout.readline(64).split()
-        if len(fields) != 3 or not (fields[1] + fields[2]).isdigit():
-            raise Trouble("the program printed no verdict")
-        word, first, second = fields[0].decode("ascii", "replace"), int(fields[1]), int(fields[2])
+        word, first, second = verdict_in(process.stdout.readline(64))
         if word == "refused":
             return refusal(first, second)
-        if word not in VERDICTS:
-            raise Trouble(f"the program's verdict is {word!r}")
         return chart(word, first, second, table_of(text), process.stdout, asked, answers)
+
+
+# What a list is called, and where it is read.
+def opened(path):
+    handed = re.fullmatch("/dev/fd/([0-9]+)", path)  # a descriptor that was handed down is read from where it stands
+    name = "the list" if handed else path
+    try:
+        return name, os.fdopen(int(handed[1]), "rb") if handed else open(path, "rb")
+    except OSError as error:
+        raise Declined(f"{name} could not be read: {error.strerror}", TROUBLE)
+
+
+# What start answers to a table, of which the row of tick 0 is asked too.
+def begun(process, text):
+    # a line `--` in a table is none of ours, so it is made another that is no number; the last line has its newline
+    text = re.sub(rb"(?m)^--$", b"---", text)
+    process.stdin.write(text + (b"" if text.endswith(b"\n") or not text else b"\n") + b"--\nr\n")
+    process.stdin.flush()
+    return next_line(process.stdout)
 
 
 # The picture of a list of operations of a table, and the status.
 def draw_list(program, text, path, asked=Asked()):
-    handed = re.fullmatch("/dev/fd/([0-9]+)", path)  # a descriptor that was handed down is read from where it stands
-    name = "the list" if handed else path
-    try:
-        source = os.fdopen(int(handed[1]), "rb") if handed else open(path, "rb")
-    except OSError as error:
-        raise Declined(f"{name} could not be read: {error.strerror}", TROUBLE)
+    name, source = opened(path)
     with source, running(program) as process:
-        # a line `--` in a table is none of ours, so it is made another that is no number; the last line has its newline
-        text = re.sub(rb"(?m)^--$", b"---", text)
-        process.stdin.write(text + (b"" if text.endswith(b"\n") or not text else b"\n") + b"--\nr\n")
-        process.stdin.flush()
-        started = next_line(process.stdout)
+        started = begun(process, text)
         if started != b"ok":
             return refusal(*numbers_in(started))
         listed = Listed(table_of(text), asked)
