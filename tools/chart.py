@@ -100,30 +100,30 @@ def fields_of(task):
     return str(task.O), f"{task.v}/{task.w}" if task.v != task.w else str(task.v), str(task.C), str(task.D), str(task.T)
 
 
-# The chart of the rows from a tick on: cores over ticks, below it a strip for each of these positions.
+# The chart of the rows from a tick on: cores over ticks, below it a strip for each position that is drawn.
 class Cells(Sheet):
     HREF = "xlink:href"
 
-    def __init__(self, table, start, rows, positions, own=""):
+    def __init__(self, table, start, rows, own=""):
         super().__init__(own)
-        self.table, self.start, self.end, self.rows, self.positions = table, start, start + len(rows), rows, positions
+        self.table, self.start, self.end, self.rows, self.drawn = table, start, start + len(rows), rows, table.drawn
         self.cores, self.tasks, self.fenced = table.cores, table.tasks, sorted(table.fenced)
         self.high = next(size for most, size in ((8, 28), (16, 20), (32, 15), (64, 12)) if self.cores <= most)
-        self.strip = 24 if len(positions) <= 12 else 18
-        self.pairs = any(task.v != task.w for task in self.tasks)
+        self.strip = 24 if len(self.drawn) <= 12 else 18
+        self.pairs = any(self.tasks[position - 1].v != self.tasks[position - 1].w for position in self.drawn)
 
     # How wide a tick is, and the room on the left and on top.
     def lay_out(self, wide, left, top):
         self.wide, self.left, self.top = wide, left, top
         self.under = self.top + self.cores * self.high
-        self.foot = self.under + 46 + len(self.positions) * self.strip
+        self.foot = self.under + 46 + len(self.drawn) * self.strip
         self.reach(self.x(self.end) + 12, self.foot)
 
     def x(self, tick):
         return round(self.left + (tick - self.start) * self.wide, 2)
 
     def base(self, position):
-        return self.under + 46 + (self.positions.index(position) + 1) * self.strip - 4
+        return self.under + 46 + (self.drawn.index(position) + 1) * self.strip - 4
 
     def bar(self, since, until, base, **words):
         self.add("rect", x=self.x(since), y=base - 8, width=round((until - since) * self.wide, 2), height=8, **words)
@@ -193,7 +193,7 @@ class Cells(Sheet):
     def strips(self, late, held=(), unused=()):
         self.arrows()
         self.heading()
-        for position in self.positions:
+        for position in self.drawn:
             task, base, (fill, ink) = self.tasks[position - 1], self.base(position), colour(position)
             with self.group(id=f"task{position}"):
                 self.label(position, base, fill, ink)
@@ -344,11 +344,12 @@ class Cells(Sheet):
 # A chart that is a picture of its own. `head` is what stands over it, the title first, and `red` what follows it in red.
 class Chart(Cells):
     def __init__(self, table, start, rows, head, red=()):
-        super().__init__(table, start, rows, list(range(1, len(table.tasks) + 1)))
-        self.names = {position: f"{position} (record {record})" for position, record in enumerate(table.records, 1)}
+        super().__init__(table, start, rows)
+        self.names = {position: f"{position} (record {table.records[position - 1]})" for position in self.drawn}
         self.box = 12 + 6 * max(map(len, self.names.values()))
-        self.fields = [("O", "v/w" if self.pairs else "v", "C", "D", "T"), *map(fields_of, self.tasks)]  # of the line over the strips and of each strip
-        self.columns = [max(len(field) for field in column) + 2 for column in zip(*self.fields)]
+        self.over_fields = "O", "v/w" if self.pairs else "v", "C", "D", "T"
+        self.fields = {position: fields_of(self.tasks[position - 1]) for position in self.drawn}
+        self.columns = [max(len(field) for field in column) + 2 for column in zip(self.over_fields, *self.fields.values())]
         self.lay_out(min(80, max(12, 960 / len(rows))), 16 + max(40, self.box + 14 + 6.1 * sum(self.columns)), 69 + 19 * (len(head) - 3 + len(red)) + 57)
         self.text(16, 28, head[0], 17, font_weight="bold")
         for k, line in enumerate([*head[1:], *red]):
@@ -360,7 +361,7 @@ class Chart(Cells):
 
     def heading(self):
         super().heading()
-        self.numbered(self.fields[0], self.under + 38)
+        self.numbered(self.over_fields, self.under + 38)
 
     def label(self, position, base, fill, ink):
         super().label(position, base, fill, ink)
@@ -390,8 +391,8 @@ class Inset(Cells):
     HREF = "href"
     WIDE, ROOM, NAMES = 26, 900, 58  # of a tick at least, of all ticks where they are few, of the names
 
-    def __init__(self, own, table, start, rows, positions=None):
-        super().__init__(table, start, rows, positions or list(range(1, len(table.tasks) + 1)), own)
+    def __init__(self, own, table, start, rows):
+        super().__init__(table, start, rows, own)
         self.pad = max(10, 4 * len(str(self.end)))  # for a number under the first tick and the last
         self.side = []
         self.lay_out(round(min(64, max(self.WIDE, self.ROOM / len(rows))), 2), self.NAMES + self.pad, 42)

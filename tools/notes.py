@@ -165,6 +165,8 @@ def notes(text, answer):
         fault = table.horizon_fault()
     elif number == 13:
         fault = "a table that misses a deadline is not started, and has no longest answers; --why says more"
+    elif number == 17:
+        fault = "a table that misses no deadline has no clash; --verdict says more"
     else:
         fault = table.header_fault(number) or table.chain_fault(number)
     return [fault] if fault else []

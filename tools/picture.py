@@ -1,13 +1,14 @@
 #!/usr/bin/env python3
-"""Draws what the program prints for a table as an SVG 1.1: picture.py [--from TICK] [--to TICK] [--replay LIST] PROGRAM... < table > out.svg
+"""Draws what the program prints for a table as an SVG 1.1: picture.py [--from TICK] [--to TICK] [--clash ANSWER | --replay LIST] PROGRAM... < table > out.svg
 
 It decides nothing. The cells are the program's rows and the words are the program's verdict; releases, deadlines, the fence and the
 numbers beside each task are the table's; the longest answers are what the program `ask` says, which stands beside it, and the job
 that is marked is found by its cells. The program's output is read as a stream: only the rows that are drawn are kept, and
 after the last of them the program is stopped. With --replay the program is `replay`: it is fed the table and the operations of LIST,
 with a row asked at each tick, and the rows of the list are drawn. A list is read on after the last of these, to say how many there
-are and whether something is refused, but no more than a million lines.
-The status is 0 where nothing is refused or missed, 1 for a miss, 2 for a refusal, 3 where something could not be read or written, 64 for wrong arguments."""
+are and whether something is refused, but no more than a million lines. With --clash, what `ask` said to `clash` on the table, the
+tasks in the clash alone are drawn: the program is handed the table with its chain linked over the others.
+The status is 0 where nothing is refused or missed, or the clash is drawn, 1 for a miss, 2 for a refusal, 3 where something could not be read or written, 64 for wrong arguments."""
 import collections
 import contextlib
 import functools
@@ -39,7 +40,16 @@ MISTAKES = {
 }
 
 Task = collections.namedtuple("Task", "O v C D T w")
-Table = collections.namedtuple("Table", "cores rule fenced tasks records")
+
+
+# The core count, the rule, the fenced cores, and the tasks with their records' numbers; the positions in the clash, where these alone are drawn.
+class Table(collections.namedtuple("Table", "cores rule fenced tasks records clash", defaults=[None])):
+    # the positions that are drawn, in the order in which the program counts them
+    @property
+    def drawn(self):
+        return self.clash or range(1, len(self.tasks) + 1)
+
+
 RULES = {1: "greedy", 2: "limited", 3: "idling", 4: "lending"}
 VERDICTS = {
     "firm": "Firm: no deadline is ever missed, also when jobs end early",
@@ -57,6 +67,7 @@ REFUSALS = {
     8: ["The O, C, D or T of the task at position {} is outside its limits."],
     9: ["The horizon, the last S plus P, is above 1,000,000,000 ticks."],
     13: ["The table misses a deadline at full length, so no run of it is started.", "A picture without a list shows the miss."],
+    17: ["The table misses no deadline at full length, so no task is in a clash.", "A picture without --clash shows its rows."],
     19: ["The fence (words 3 and 4) names a core past the count, or all cores."],
 }
 FINE, MISSED, REFUSED, TROUBLE, USAGE = 0, 1, 2, 3, 64
@@ -79,7 +90,7 @@ class Declined(Exception):
         self.status = status
 
 
-# The core count, the rule, the fenced cores and the tasks of a table that the program took, in the order of its chain, with their records' numbers.
+# The table that the program took, its tasks in the order of its chain.
 def table_of(text):
     words = [int(line) for line in text.split()]
     tasks, records, at = [], [], words[0]
@@ -139,8 +150,18 @@ def number_of(count, thing):
 
 
 def about(table):
+    tasks = (f"{len(table.clash)} of " if table.clash else "") + number_of(len(table.tasks), "task")
     kept = f", {len(table.fenced)} of them fenced" if table.fenced else ""
-    return f"{number_of(len(table.tasks), 'task')} on {number_of(table.cores, 'core')}{kept}, rule {table.rule} ({RULES[table.rule]})"
+    return f"{tasks} on {number_of(table.cores, 'core')}{kept}, rule {table.rule} ({RULES[table.rule]})"
+
+
+# A verdict in words; of the clash alone it is a miss.
+def verdict_words(word, first, second, table):
+    if not table.clash:
+        return VERDICTS[word].format(first, second)
+    *others, last = map(str, table.clash)
+    positions = f"positions {', '.join(others)} and {last}" if others else f"position {last}"
+    return f"The clash of {positions} alone: position {second} misses its deadline at tick {first}"
 
 
 # A refusal, in words.
@@ -176,16 +197,17 @@ def lines_after(source, count, until=math.inf):
 # The positions of a row, core by core, from the fields of a line.
 def row_in(fields, tick, table):
     row = [int(field) for field in fields]
-    strange = lambda core, number: number != FENCED if core in table.fenced else number > len(table.tasks)
+    strange = lambda core, number: number != FENCED if core in table.fenced else number > len(table.drawn)
     if len(row) != table.cores or any(strange(core, number) for core, number in enumerate(row)):
         raise Trouble(f"the program's row of tick {tick} is {row}")
-    return row
+    return [table.drawn[number - 1] if number not in (0, FENCED) else number for number in row] if table.clash else row
 
 
 # The rows of a stretch of ticks, from the program's lines; and how many rows from tick `since` on have a position, those before the stretch too.
 def rows_of(source, start, end, table, since, position, until=math.inf):
     rows, had, begin = [], 0, min(start, since)
-    inside, last = b" %d " % position, b" %d" % position
+    printed = table.drawn.index(position) + 1
+    inside, last = b" %d " % printed, b" %d" % printed
     for tick, line in zip(range(begin, end), lines_after(source, begin, until)):
         if tick < start:
             had += inside in line or line.rstrip().endswith(last)
@@ -240,10 +262,11 @@ def draw_rows(sheet, word, first, second, figures, had):
 # The picture of a verdict that is no refusal, and of the rows that it needs from the program's output; `answers` is what `ask` says to `longest`.
 def chart(word, first, second, table, source, asked, answers):
     count = first + (0 if word == "miss" else second)
+    second = table.drawn[second - 1] if word == "miss" else second
     start, end, what = asked.within(count, "there are those of") if asked else stretch(word, first, second)
     seen = word == "miss" and end == first
-    rows, had = rows_of(source, start, end, table, first - table.tasks[second - 1].D if seen else end, second)
-    head = [VERDICTS[word].format(first, second), about(table) + ("" if word == "miss" else f"; S is {first}, P is {second}"), f"{shown(start, end, count)}: {what}."]
+    rows, had = rows_of(source, start, end, table, first - table.tasks[second - 1].D if seen else end, second if seen else table.drawn[0])
+    head = [verdict_words(word, first, second, table), about(table) + ("" if word == "miss" else f"; S is {first}, P is {second}"), f"{shown(start, end, count)}: {what}."]
     figures = figures_of(answers, table) if word != "miss" else []
     sheet = Chart(table, start, rows, head)
     sheet.legend(*draw_rows(sheet, word, first, second, figures, had))
@@ -554,15 +577,43 @@ def verdict_in(line):
     return word, int(fields[1]), int(fields[2])
 
 
-# The picture of a table, and the status.
-def draw(program, text, asked=Asked()):
+# The words of a table whose chain has the records of these positions alone, in this order.
+def relinked(text, records, kept):
+    words, link = text.split(), 0
+    for record in [records[position - 1] for position in kept]:
+        words[link] = b"%d" % record
+        link = HEAD + (record - 1) * RECORD
+    words[link] = b"0"
+    return b"".join(word + b"\n" for word in words)
+
+
+# The picture of a table, and the status; of the clash in it, where the table says so.
+def draw(program, text, asked=Asked(), table=None):
     with running(program) as process, answering(program, b"longest\n", text) as answers:
         process.stdin.write(text)
         process.stdin.close()
         word, first, second = verdict_in(process.stdout.readline(64))
         if word == "refused":
             return refusal(first, second)
-        return chart(word, first, second, table_of(text), process.stdout, asked, answers)
+        if table and word != "miss":
+            raise Trouble(f"the program's verdict is {word!r}")
+        return chart(word, first, second, table or table_of(text), process.stdout, asked, answers)
+
+
+# The table with the positions in its clash, by what `ask` answered.
+def clash_in(answer, table):
+    kept = [int(field) for field in answer.split()]
+    if not kept or kept != sorted({*kept} & {*range(1, len(table.tasks) + 1)}):
+        raise Trouble(f"the clash is {answer!r}")
+    return table._replace(clash=kept)
+
+
+# The picture of the clash in a table by what `ask` answered, and the status.
+def draw_clash(program, text, answer, asked=Asked()):
+    if answer.startswith("refused"):
+        return refusal(*numbers_in(answer.encode()))
+    table = clash_in(answer, table_of(text))
+    return draw(program, relinked(text, table.records, table.clash), asked, table)[0], FINE
 
 
 # What a list is called, and where it is read.
@@ -606,18 +657,18 @@ def fail(words, status=TROUBLE, who="picture"):
 # The options before the program, and the program.
 def arguments(words):
     given = {}
-    while words[:1] and words[0] in ("--from", "--to", "--replay") and len(words) > 1:
+    while words[:1] and words[0] in ("--from", "--to", "--clash", "--replay") and len(words) > 1:
         given[words[0]] = words[1]
         words = words[2:]
     ticks = [given.get(name) for name in ("--from", "--to")]
     if not words or words[0].startswith("--") or not all(tick is None or re.fullmatch("[0-9]{1,10}", tick) for tick in ticks):
-        fail("picture.py [--from TICK] [--to TICK] [--replay LIST] PROGRAM... < table > out.svg", USAGE, "usage")
-    return Asked(*(tick and int(tick) for tick in ticks)), given.get("--replay"), words
+        fail("picture.py [--from TICK] [--to TICK] [--clash ANSWER | --replay LIST] PROGRAM... < table > out.svg", USAGE, "usage")
+    return Asked(*(tick and int(tick) for tick in ticks)), given.get("--clash"), given.get("--replay"), words
 
 
 def main():
     try:
-        asked, name, program = arguments(sys.argv[1:])
+        asked, clash, name, program = arguments(sys.argv[1:])
     except Declined as declined:
         fail(declined, declined.status, "sivorandra")
     try:
@@ -625,7 +676,10 @@ def main():
     except (OSError, AttributeError):  # it is None where it is closed
         fail("standard input could not be read")
     try:
-        drawn, status = draw(program, text, asked) if name is None else draw_list(program, text, name, asked)
+        if clash is not None:
+            drawn, status = draw_clash(program, text, clash, asked)
+        else:
+            drawn, status = draw(program, text, asked) if name is None else draw_list(program, text, name, asked)
     except Declined as declined:
         fail(declined, declined.status, "sivorandra")
     except (Trouble, OSError, ValueError, IndexError, KeyError, TypeError) as trouble:

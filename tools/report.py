@@ -108,9 +108,9 @@ class Programs:
     def asking(self, question, text=None):
         return self.start([self.path("ask")], question + b"\n" + (self.text if text is None else text))
 
-    # The verdict on other words, or None.
-    def verdict(self, words):
-        said = self.heard(self.start([self.path("verdict")], b"".join(b"%d\n" % word for word in words)))
+    # The verdict on another text, or None.
+    def verdict(self, text):
+        said = self.heard(self.start([self.path("verdict")], text))
         return said and picture.verdict_in(said)
 
 
@@ -125,15 +125,6 @@ def figures_in(said, table):
     if said.startswith(b"refused "):
         return picture.numbers_in(said)[0]
     return picture.figures_of(io.BytesIO(said), table)
-
-
-# The part of a table that has these positions alone, as words: head and next change, no record moves.
-def only(words, records):
-    words = list(words)
-    words[0] = records[0]
-    for record, following in zip(records, [*records[1:], 0]):
-        words[HEAD + RECORD * (record - 1)] = following
-    return words
 
 
 # The heads of the columns of cores, and a row's cells under them.
@@ -214,7 +205,7 @@ def picture_section(word, first, second, table, source, until, asked, figures, h
     size = most(table, pictures)
     start, end, what = picture.Asked(asked.since, asked.until, size).within(count, "there are those of") if asked else picture.stretch(word, first, second, size)
     try:
-        rows, _ = picture.rows_of(source, start, end, table, end, second, until)
+        rows, _ = picture.rows_of(source, start, end, table, end, table.drawn[0], until)
     except TooLong:
         return section("The picture", paragraph(f"The program's rows of ticks {number(start)} to {number(end - 1)} had not come after {PATIENCE} s. ", element("code", "./sivorandra --picture"), " waits for them."), id="picture"), None, []
     sheet = Inset("t-", table, start, rows)
@@ -250,72 +241,71 @@ def rows_section(first, second, table, start, rows):
     return section("The rows before the miss", paragraph(what, class_="soft"), page.wide_table([head, *lines], "the rows before the miss", class_="rows"), id="rows")
 
 
-# The smallest part of the table that still misses, with its own picture. Its positions are called as in the table.
-def clash_section(programs, said, words, table, pictures):
+# The tasks in the clash, with their own picture. Its positions are called as in the table.
+def clash_section(programs, said, table, pictures):
     title = "The clash"
     if said is None:
         return [], section(title, waited("The question for the clash", "--clash"), id="clash")
-    kept = [int(field) for field in said.split()] if re.fullmatch(rb"[0-9]+( [0-9]+)*\n", said) else []
-    if not kept or kept != sorted(set(kept)) or kept[-1] > len(table.tasks) or kept[0] < 1:
-        raise Trouble(f"the clash is {said!r}")
-    inner = [paragraph("Positions ", *(part for position in kept for part in (chip(position), " ")), "clash: without all other tasks they still miss a deadline, and without any one of them the rest misses none." if len(kept) > 1 else
-                       "alone misses a deadline, without any other task.", id="kept")]
+    part = picture.clash_in(said.decode("ascii", "replace"), table)
+    kept = part.clash
+    inner = [paragraph("Positions " if len(kept) > 1 else "Position ", *(mark for position in kept for mark in (chip(position), " ")),
+                       "clash: by themselves they miss a deadline, and without any one of them the rest does not." if len(kept) > 1 else "misses a deadline by itself, without any other task.", id="kept")]
     if len(kept) == len(table.tasks):
         return kept, section(title, *inner, paragraph("These are all tasks of the table, so their picture is the one above.", class_="soft"), id="clash")
-    part = only(words, [table.records[position - 1] for position in kept])
-    process = programs.start([programs.path("sivorandra")], b"".join(b"%d\n" % word for word in part))
+    process = programs.start([programs.path("sivorandra")], picture.relinked(programs.text, table.records, kept))
     word, first, late = picture.verdict_in(process.stdout.readline(64))
     if word != "miss" or late > len(kept):
         raise Trouble(f"the clash is {word}")
+    late = kept[late - 1]
     start, end, what = picture.stretch(word, first, late, most(table, pictures))
-    smaller = table._replace(tasks=[table.tasks[position - 1] for position in kept])
     try:
-        rows, _ = picture.rows_of(process.stdout, start, end, smaller, end, late, programs.until)
+        rows, _ = picture.rows_of(process.stdout, start, end, part, end, late, programs.until)
     except TooLong:
-        return kept, section(title, *inner, waited("The rows of the clash", "--picture"), id="clash")
-    rows = [[kept[position - 1] if 0 < position < FENCED else position for position in row] for row in rows]
-    sheet = Inset("c-", table, start, rows, kept)
-    keys = picture.draw_rows(sheet, word, first, kept[late - 1], [], 0)
-    name = f"The clash: position {kept[late - 1]} misses its deadline at tick {first}. {picture.shown(start, end, first)}."
-    inner.append(paragraph(f"With these alone position {kept[late - 1]} misses its deadline at tick {number(first)}. {picture.shown(start, end, first)}: {what}.", class_="soft"))
-    return kept, section(title, *inner, *page.charts([sheet], [name], None, end=True), *page.legend(sheet, keys)[:1], id="clash")
+        return kept, section(title, *inner, waited("The picture of the clash", "--clash --picture"), id="clash")
+    sheet = Inset("c-", part, start, rows)
+    keys = picture.draw_rows(sheet, word, first, late, [], 0)
+    shown = picture.shown(start, end, first)
+    inner.append(paragraph(f"With these alone position {late} misses its deadline at tick {number(first)}. {shown}: {what}.", class_="soft"))
+    return kept, section(title, *inner, *page.charts([sheet], [f"{picture.verdict_words(word, first, late, part)}. {shown}."], None, end=True), *page.legend(sheet, keys)[:1], id="clash")
 
 
 # ---- What could be changed: the table with one change, and the verdict on it
 
-def changes(word, words, table, late, kept):
-    records = table.records
+# Each change in words, the text of the changed table, and its positions as they are called in this one.
+def changes(word, text, table, late, kept):
+    words, tasks, positions = text.split(), table.tasks, list(range(1, len(table.tasks) + 1))
+    other = lambda at, *these: b"".join(one + b"\n" for one in [*words[:at], *(b"%d" % this for this in these), *words[at + len(these):]])
     for rule, name in picture.RULES.items():
         if rule != table.rule:
-            yield f"rule {rule} ({name})", [*words[:2], rule, *words[3:]], records
-    orders = [("narrow tasks first", sorted(records, key=lambda record: sorted(table.tasks[records.index(record)][1::4], reverse=True)))]
+            yield f"rule {rule} ({name})", other(2, rule), positions
+    orders = [("narrow tasks first", sorted(positions, key=lambda position: sorted((tasks[position - 1].v, tasks[position - 1].w), reverse=True)))]
     if word == "miss":
-        orders.append((f"position {late} first", [records[late - 1], *(record for record in records if record != records[late - 1])]))
-        orders.append(("short deadlines first", sorted(records, key=lambda record: table.tasks[records.index(record)].D)))
-    tried = [records]
+        orders.append((f"position {late} first", sorted(positions, key=lambda position: position != late)))
+        orders.append(("short deadlines first", sorted(positions, key=lambda position: tasks[position - 1].D)))
+    tried = [positions]
     for what, order in orders:
         if order not in tried:
             tried.append(order)
-            yield f"the same tasks, {what}", only(words, order), order
+            yield f"the same tasks, {what}", picture.relinked(text, table.records, order), order
     if word == "miss":
         if table.fenced:
-            yield "no fence", [*words[:3], 0, 0, *words[5:]], records
+            yield "no fence", other(3, 0, 0), positions
         if table.cores < 64:
-            yield f"{table.cores + 1} cores", [words[0], table.cores + 1, *words[2:]], records
-        for position in kept if len(records) > 1 else []:
-            rest = [record for record in records if record != records[position - 1]]
-            yield f"without position {position}", only(words, rest), rest
+            yield f"{table.cores + 1} cores", other(1, table.cores + 1), positions
+        for position in kept if len(positions) > 1 else []:
+            rest = [one for one in positions if one != position]
+            yield f"without position {position}", picture.relinked(text, table.records, rest), rest
 
 
-def change_section(programs, word, words, table, late=None, kept=()):
+def change_section(programs, word, table, late=None, kept=()):
     rows = []
     programs.wait()
-    for what, changed, records in changes(word, words, table, late, kept):
+    for what, changed, positions in changes(word, programs.text, table, late, kept):
         said = programs.verdict(changed)
         if said is None:
             look, answer = "soft", f"not judged after {PATIENCE} s"
         elif said[0] == "miss":
-            look, answer = "bad", f"\u2717 misses: position {table.records.index(records[said[2] - 1]) + 1} at tick {number(said[1])}"
+            look, answer = "bad", f"\u2717 misses: position {positions[said[2] - 1]} at tick {number(said[1])}"
         elif said[0] == "refused":
             look, answer = "bad", f"\u2717 refused by number {said[1]}: {refusal_words(said[1], said[2])}"
         else:
@@ -333,7 +323,7 @@ def answers_section(word, table, longest, spare):
     items = []
     for position, task in enumerate(table.tasks, 1):
         fill, figures = colour(position)[0], []
-        line = lambda what, drawn, said: [element("span", what, class_="what"), drawn, element("span", said, class_="number")]
+        line = lambda what, drawn, said: [element("div", element("span", what, class_="what"), drawn, element("span", said, class_="number"))]
         if longest:
             figures += line("longest answer", page.bar(task.D, [(longest[position - 1], fill)]), f"{number(longest[position - 1])} of {ticks(task.D)}")
         if isinstance(spare, list):
@@ -546,17 +536,16 @@ def list_section(programs, word, first, second, table, name, lines, more, asked)
 # ---- The page
 
 def miss_page(programs, text, name, first, second, table, source, asked, listed):
-    words = [int(line) for line in text.split()]
     why, clash = programs.asking(b"why"), programs.asking(b"clash")
     said = programs.heard(why)
     had, sentence = sentence_section(said.decode("ascii", "replace").removesuffix("\n"), first, second, table) if said else (0, section("Why it misses", waited("The question why", "--why"), id="why"))
     drawn, start, rows = picture_section("miss", first, second, table, source, programs.until, asked, [], had, 2)
     seen = rows and start + len(rows) == first
-    kept, clashing = clash_section(programs, programs.heard(clash), words, table, 2)
+    kept, clashing = clash_section(programs, programs.heard(clash), table, 2)
     lead = ["The task at ", element("b", f"position {second}"), " misses its deadline at ", element("b", f"tick {number(first)}"), "."]
     no_list = section("What the list does", paragraph(element("b", "Refused, number 13: "), refusal_words(13, 0).split(". ")[0] + "."), paragraph(REMEDIES[13]), id="list") if listed else None
     return page.document(f"{FITS['miss']} \u2013 {name}", range(1, len(table.tasks) + 1), verdict_header("miss", name, lead), sentence, no_list, facts("miss", first, second, table), drawn,
-                         rows_section(first, second, table, start, rows) if seen else None, clashing, change_section(programs, "miss", words, table, second, kept),
+                         rows_section(first, second, table, start, rows) if seen else None, clashing, change_section(programs, "miss", table, second, kept),
                          answers_section("miss", table, None, None), table_section(text, table, f"miss {first} {second}"), footer())
 
 
@@ -576,7 +565,7 @@ def accepted_page(programs, text, name, word, first, second, table, source, aske
     room = said if said is None else figures_in(said, table)
     if isinstance(room, int) and room != 23:
         raise Trouble(f"the spare ticks are refused by {room}")
-    changed = change_section(programs, word, [int(line) for line in text.split()], table) if word == "full" else None
+    changed = change_section(programs, word, table) if word == "full" else None
     return page.document(f"{FITS[word]} \u2013 {name}", range(1, len(table.tasks) + 1), verdict_header(word, name, LEADS[word], lead), facts(word, first, second, table), drawn,
                          answers_section(word, table, answers, room), fullness, changed, table_section(text, table, f"{word} {first} {second}"), footer()), status
 

@@ -2,13 +2,13 @@
 -- Assumes nothing.
 use mathlib.Core.Bool.{Bool, true, false, _&&_, cond, false≢true}
 use mathlib.Core.List.{List, [], _∷_, _++_}
-use mathlib.Core.Path.{_≡_, refl, sym, ap, ap₂, _∙_}
+use mathlib.Core.Path.{_≡_, refl, sym, ap, _∙_}
 use Prim.Native.Nat.{ℕ, zero, suc, _+_, _≤_, _<_}
 use native.Mathlib.Numerals.{add-one}
 use native.Mathlib.Omega.{arith}
-use lib.ListN.{length, take, drop, set}
+use lib.ListN.{length, take, drop, getD, set}
 use lib.Dec.{eqb}
-use lib.Seq.{take-suc-set, take-nil}
+use lib.Seq.{drop-cons, take-suc-set, take-nil}
 use Rattle.judge.specs.declared.Verdict.{Verdict}
 use Rattle.judge.specs.Said.{saidBy}
 use Rattle.judge.specs.Judged.{verdictOf}
@@ -23,8 +23,8 @@ use Rattle.sentence.specs.declared.Spoken.the-variants.{Length, Refused}
 use Rattle.sentence.specs.Reading.{begins}
 use Rattle.sentence.specs.Spoken.{spokenTold, spokenOf, SentenceOf}
 use Rattle.ask.specs.declared.Question.{Question}
-use Rattle.ask.specs.declared.Question.the-variants.{Why, Longest}
-use Rattle.ask.specs.Asked.{room, whyBy, whyOf, saidTo, wordOf, saidBehind, noQuestion, askedBy, asked, enoughAsked}
+use Rattle.ask.specs.declared.Question.the-variants.{Why, Longest, Clash}
+use Rattle.ask.specs.Asked.{room, whyBy, whyOf, saidTo, wordOf, saidBehind, noQuestion, askedOf, questions, asked, enoughAsked}
 
 -- THE ANSWER TO `why`
 
@@ -70,20 +70,52 @@ begins-long (c ∷ cs) (b ∷ bs) e = go (eqb c b) (begins-long cs bs) e
     go true more q = let l = more q in omega arith
     go false more q = absurd (false≢true q)
 
--- what is printed where the first line is `why`, ..
-pub asked-why : (bs : List ℕ) → begins (wordOf Why) bs ≡ true → asked bs ≡ saidBehind Why bs
-unfolding asked
-asked-why bs e = ap (λ (t : Bool). askedBy t (begins (wordOf Longest) bs) bs) e
+-- no word is empty
+word-some : (q : Question) → 0 < length (wordOf q)
+word-some Why = omega arith
+word-some Longest = omega arith
+word-some Clash = omega arith
 
--- .. where it is `longest`, ..
-pub asked-longest : (bs : List ℕ) → begins (wordOf Why) bs ≡ false → begins (wordOf Longest) bs ≡ true → asked bs ≡ saidBehind Longest bs
-unfolding asked
-asked-longest bs e f = ap₂ (λ (t u : Bool). askedBy t u bs) e f
+-- WHICH IS TOLD by where the table behind its word begins, 0 where its word does not stand in front
+module _ (q : Question) (bs : List ℕ) (r : ℕ) (e : r ≡ cond (begins (wordOf q) bs) (length (wordOf q)) 0) where
+  pub is-asked : 0 < r → (begins (wordOf q) bs ≡ true) × (r ≡ length (wordOf q)) × (r ≤ length bs)
+  is-asked h = go (begins (wordOf q) bs) refl e
+    where
+      go : (t : Bool) → begins (wordOf q) bs ≡ t → r ≡ cond t (length (wordOf q)) 0 → (begins (wordOf q) bs ≡ true) × (r ≡ length (wordOf q)) × (r ≤ length bs)
+      go true b z = let l = begins-long (wordOf q) bs b in (b, z, omega arith)
+      go false b z = absurd (let n : 0 < 0 = omega arith in omega arith)
 
--- .. and where it is no question
-pub asked-unknown : (bs : List ℕ) → begins (wordOf Why) bs ≡ false → begins (wordOf Longest) bs ≡ false → asked bs ≡ noQuestion
-unfolding asked
-asked-unknown bs e f = ap₂ (λ (t u : Bool). askedBy t u bs) e f
+  pub not-asked : r ≤ 0 → begins (wordOf q) bs ≡ false
+  not-asked h = go (begins (wordOf q) bs) refl e
+    where
+      go : (t : Bool) → begins (wordOf q) bs ≡ t → r ≡ cond t (length (wordOf q)) 0 → begins (wordOf q) bs ≡ false
+      go true b z = let l = word-some q in absurd (let n : 0 < 0 = omega arith in omega arith)
+      go false b z = b
+
+-- the question at a place of the list is answered where its word stands in front, ..
+pub asked-here :
+    (i : ℕ) (bs : List ℕ) → i < length questions → begins (wordOf (getD questions i Why)) bs ≡ true → askedOf (drop i questions) bs ≡ saidBehind (getD questions i Why) bs
+unfolding askedOf
+asked-here i bs h e =
+    let q = getD questions i Why in
+    ap (λ (qs : List Question). askedOf qs bs) (drop-cons questions i Why h)
+    ∙ ap (λ (t : Bool). cond t (saidBehind q bs) (askedOf (drop (suc i) questions) bs)) e
+
+-- .. and else passed over
+pub asked-on :
+    (i : ℕ) (bs : List ℕ) → i < length questions → begins (wordOf (getD questions i Why)) bs ≡ false
+    → askedOf (drop i questions) bs ≡ askedOf (drop (i + 1) questions) bs
+unfolding askedOf
+asked-on i bs h e =
+    let q = getD questions i Why in
+    ap (λ (qs : List Question). askedOf qs bs) (drop-cons questions i Why h)
+    ∙ (ap (λ (t : Bool). cond t (saidBehind q bs) (askedOf (drop (suc i) questions) bs)) e
+    ∙ ap (λ (k : ℕ). askedOf (drop k questions) bs) (sym (add-one i)))
+
+-- no question is left
+pub asked-none : (i : ℕ) (bs : List ℕ) → i ≡ length questions → askedOf (drop i questions) bs ≡ noQuestion
+unfolding askedOf
+asked-none i bs e = ap (λ (k : ℕ). askedOf (drop k questions) bs) e
 
 -- so many bytes as the word has tell whether a text begins with it
 begins-enough : (word : List ℕ) (n : ℕ) (bs : List ℕ) → begins word (take (length word + n) bs) ≡ begins word bs
@@ -100,15 +132,29 @@ behind zero n bs = let e : 0 + n ≡ n = omega arith in ap (λ (m : ℕ). take m
 behind (suc k) n [] = ap (drop (suc k)) (take-nil (suc k + n)) ∙ sym (take-nil n)
 behind (suc k) n (b ∷ bs) = let e : suc k + n ≡ suc (k + n) = omega arith in ap (λ (m : ℕ). drop (suc k) (take m (b ∷ bs))) e ∙ behind k n bs
 
--- so are those of the longest question and a table for each question
+-- so are those of a word and a table for each question
 said-enough : (q : Question) (n : ℕ) (bs : List ℕ) → enoughBytes ≤ n → saidBehind q (take (length (wordOf q) + n) bs) ≡ saidBehind q bs
 said-enough q n bs h =
     ap (λ (w : Words). saidTo q (numbersIn w))
     (ap wordsOf (behind (length (wordOf q)) n bs) ∙ first-enough (drop (length (wordOf q)) bs) n h)
 
+-- no word is longer than `longest`
+word-most : (q : Question) → (n : ℕ) × (enoughAsked ≡ length (wordOf q) + n) × (enoughBytes ≤ n)
+word-most Why = (4 + enoughBytes, refl, omega arith)
+word-most Longest = (enoughBytes, refl, omega arith)
+word-most Clash = (2 + enoughBytes, refl, omega arith)
+
+of-enough : (qs : List Question) (bs : List ℕ) → askedOf qs (take enoughAsked bs) ≡ askedOf qs bs
+unfolding askedOf
+of-enough [] bs = refl
+of-enough (q ∷ qs) bs =
+    let m = word-most q in
+    let k = length (wordOf q) + m .0 in
+    let rest : askedOf qs (take k bs) ≡ askedOf qs bs = ap (λ (j : ℕ). askedOf qs (take j bs)) (sym (m .1)) ∙ of-enough qs bs in
+    ap (λ (j : ℕ). askedOf (q ∷ qs) (take j bs)) (m .1)
+    ∙ (λ i. cond (begins-enough (wordOf q) (m .0) bs i) (said-enough q (m .0) bs (m .2) i) (rest i))
+
 -- THEOREM (asked-enough): the first 2,528 bytes of an input decide all that is printed for it
 pub asked-enough : (bs : List ℕ) → asked (take enoughAsked bs) ≡ asked bs
 unfolding asked
-asked-enough bs =
-    λ i. cond (begins-enough (wordOf Why) (4 + enoughBytes) bs i) (said-enough Why (4 + enoughBytes) bs (omega arith) i)
-    (cond (begins-enough (wordOf Longest) enoughBytes bs i) (said-enough Longest enoughBytes bs (omega arith) i) noQuestion)
+asked-enough bs = of-enough questions bs

@@ -1,4 +1,4 @@
--- The lines of figures: one line more, as it is written; and what `longest` answers decides them. Assumes nothing.
+-- The lines of figures: one line more, as it is written; and what an answer says. Assumes nothing.
 use mathlib.Core.List.{List, [], _∷_, _++_, append-assoc, append-nil}
 use mathlib.Core.Path.{_≡_, refl, ap, sym, _∙_, subst}
 use Prim.Native.Nat.{ℕ, suc, _+_, _≤_, _<_}
@@ -15,9 +15,10 @@ use Rattle.table.specs.declared.Answer.{Answer}
 use Rattle.table.specs.declared.Answer.the-variants.{Passed, Refused}
 use Rattle.table.specs.declared.Loaded.{Loaded}
 use Rattle.table.specs.Load.{loadTold, Holds, LoadOf}
+use Rattle.table.specs.Numbers.{NoneApplies}
 use Rattle.table.specs.Words.{tableOf}
 use Rattle.longest.specs.declared.Figures.{Figures}
-use Rattle.longest.specs.Longest.{longestOf, LongestOf}
+use Rattle.longest.specs.Longest.{LongestOf}
 use Rattle.longest.specs.Numbers.{words}
 use Rattle.ask.specs.Figures.{figureLines, figuresBy}
 use Rattle.ask.specs.Asked.{longestSaid}
@@ -67,25 +68,32 @@ put-line l m n o at middle end k xs p h q r b f =
     let all = put-then three (put-one o end newline (omega arith)) (omega arith) in
     subst (λ (t : List ℕ). Put l 0 t (set o end newline) (end + 1)) (line-text s (k + 1) (getD xs k 0) ∙ lines-next xs k h) all
 
+-- A LINE FOR EACH TASK
+
+module _ (ws : List ℕ) (none : NoneApplies ws) (t : Loaded) (l : LoadOf ws t) where
+  -- a table that no number turns down is loaded
+  pub loads : Holds ws t
+  loads = l .holds (l .passed .1 none)
+
+  -- one for each of its tasks
+  pub lines-said : (a : Answer) (xs : List ℕ) → a ≡ Passed → figureLines 0 (take (t .count) xs) ≡ figuresBy a (take (length (tableOf ws .tasks)) xs)
+  lines-said a xs e =
+      ap (λ (n : ℕ). figureLines 0 (take n xs)) (loads .count)
+      ∙ ap (λ (b : Answer). figuresBy b (take (length (tableOf ws .tasks)) xs)) (sym e)
+
+-- the refusal
+pub refusal-said : (a : Answer) (xs : List ℕ) (n p : ℕ) → a ≡ Refused n p → lineOf (letters "refused") (n ∷ p ∷ []) ≡ figuresBy a xs
+unfolding firstLine
+refusal-said a xs n p e = ap (λ (b : Answer). figuresBy b xs) (sym e)
+
 -- WHAT `longest` ANSWERS
 
 module _ (ws : List ℕ) (r : Figures) (h : LongestOf ws r) where
   -- what is said goes by it
-  by-figures : figuresBy (r .answer) (take (length (tableOf ws .tasks)) (r .longest)) ≡ longestSaid ws
+  pub longest-by : figuresBy (r .answer) (take (length (tableOf ws .tasks)) (r .longest)) ≡ longestSaid ws
   unfolding longestSaid
-  by-figures = ap (λ (w : Figures). figuresBy (w .answer) (take (length (tableOf ws .tasks)) (w .longest))) (h .value)
+  longest-by = ap (λ (w : Figures). figuresBy (w .answer) (take (length (tableOf ws .tasks)) (w .longest))) (h .value)
 
-  -- a table whose figures are given is loaded
-  pub loads : r .answer ≡ Passed → (t : Loaded) → LoadOf ws t → Holds ws t
-  loads e t l = l .holds (l .passed .1 (λ n p a. h .passed .0 (ap loadTold e) n p (words n p a)))
-
-  -- a line for each task
-  pub lines-said : r .answer ≡ Passed → (t : Loaded) → LoadOf ws t → figureLines 0 (take (t .count) (r .longest)) ≡ longestSaid ws
-  lines-said e t l =
-      ap (λ (n : ℕ). figureLines 0 (take n (r .longest))) (loads e t l .count)
-      ∙ (ap (λ (a : Answer). figuresBy a (take (length (tableOf ws .tasks)) (r .longest))) (sym e) ∙ by-figures)
-
-  -- the refusal
-  pub refusal-said : (n p : ℕ) → r .answer ≡ Refused n p → lineOf (letters "refused") (n ∷ p ∷ []) ≡ longestSaid ws
-  unfolding firstLine
-  refusal-said n p e = ap (λ (a : Answer). figuresBy a (take (length (tableOf ws .tasks)) (r .longest))) (sym e) ∙ by-figures
+  -- no number turns down a table whose figures are given
+  pub longest-none : r .answer ≡ Passed → NoneApplies ws
+  longest-none e n p a = h .passed .0 (ap loadTold e) n p (words n p a)

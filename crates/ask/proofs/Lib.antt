@@ -1,3 +1,4 @@
--- The laws behind `ask`: the lines of figures, and what decides all that is printed for a question.
+-- The laws behind `ask`: the lines of figures and of positions, and what decides all that is printed for a question.
 pub mod Figures
+pub mod Positions
 pub mod Asking

@@ -1,16 +1,23 @@
 // Answers a question on a table: the first line of standard input is the question's word, and the table follows, one decimal number a line.
 // The question `why` is answered by the miss in a sentence, and by the verdict's line where the table has no miss or is refused;
-// `longest` by a line for each task, its position and the longest answer of its jobs, and by the refusal.
+// `longest` by a line for each task, its position and the longest answer of its jobs, or by the refusal;
+// `clash` by one line, the positions of the tasks in the clash, or by the refusal.
 ghost use mathlib.Core.Path.{_≡_};
-ghost use Prim.Native.Nat.{_≤_};
+ghost use mathlib.Core.Bool.{cond};
+ghost use Prim.Native.Nat.{_+_, _≤_};
 ghost use lib.ListN.{length, take};
 ghost use Rattle.model.specs.Sizes.{mostTasks};
+ghost use Rattle.table.specs.Numbers.{NoneApplies};
+ghost use Rattle.table.specs.Words.{tableOf};
+ghost use Rattle.table.specs.declared.Answer.the-variants.{Passed};
 ghost use Rattle.text.specs.Written.{Put};
 ghost use Rattle.text.specs.Format.{wordsOf, numbersIn};
 ghost use Rattle.stream.specs.Sent.{SentOf};
 ghost use Rattle.stream.specs.Answered.{Answered};
-ghost use Rattle.ask.specs.Figures.{figureLines};
-ghost use Rattle.ask.specs.Asked.{room, whyOf, longestSaid, saidTo, asked};
+ghost use Rattle.sentence.specs.Reading.{begins};
+ghost use Rattle.ask.specs.Figures.{figureLines, figuresBy};
+ghost use Rattle.ask.specs.Positions.{spacedAt, positionLine};
+ghost use Rattle.ask.specs.Asked.{room, whyOf, longestSaid, clashSaid, saidTo, wordOf, asked};
 use model::MOST_TASKS;
 use sentence::LONGEST;
 use sentence::Spoken;
@@ -24,15 +31,14 @@ use text::ENOUGH;
 enum Question {
     Why,
     Longest,
+    Clash,
 }
 
-// The bytes of each question's word and its newline.
-const WHY: usize = 4;
-
-const FIGURES: usize = 8;
+// The most bytes of a question's word and its newline.
+const WORD: usize = 8;
 
 // How many bytes of an input are enough to tell all that is printed for it: the longest question, and as many as a table takes.
-const INPUT: usize = FIGURES + ENOUGH;
+const INPUT: usize = WORD + ENOUGH;
 
 // The room for an answer: a sentence and a newline.
 const ROOM: usize = LONGEST + 1;
@@ -79,6 +85,22 @@ fn put_figures(figures: [u32; MOST_TASKS], count: usize, lines: &mut [u8]) -> us
     at
 }
 
+// Writes a line for each task, its position and its figure, at the front of the lines, or the refusal; the answer is where they end.
+fn put_answer(words: &[u32], answer: Answer, figures: [u32; MOST_TASKS], lines: &mut [u8]) -> usize
+    requires { ⌜ (answer ≡ Passed → NoneApplies (now words)) × (length (now lines) ≡ room) ⌝ }
+    ensures { λ r. ⌜ (r ≤ room) × (take r (now (lines .exit)) ≡ figuresBy answer (take (length (tableOf (now (words .entry)) .tasks)) figures)) ⌝ }
+{
+    match answer {
+        Answer::Passed => {
+            let table = table::load(words);
+            put_figures(figures, table.count, lines)
+        }
+        Answer::Refused(number, position) => {
+            text::first::put_pair(lines, b"refused", number, position)
+        }
+    }
+}
+
 // Writes the longest answer of each task at the front of the lines, or the refusal; the answer is where they end.
 fn longest(words: &[u32], lines: &mut [u8]) -> usize
     requires { ⌜ length (now lines) ≡ room ⌝ }
@@ -86,14 +108,49 @@ fn longest(words: &[u32], lines: &mut [u8]) -> usize
 {
     let found = longest::longest(words);
     let answer = found.answer;
-    match answer {
-        Answer::Passed => {
-            let table = table::load(words);
-            let figures = found.longest;
-            put_figures(figures, table.count, lines)
+    let figures = found.longest;
+    put_answer(words, answer, figures, lines)
+}
+
+// Writes a number, behind a space where it is not the first of its line; the answer is where it ends.
+fn put_spaced(line: &mut [u8], at: usize, number: u32) -> usize
+    requires { ⌜ at + 11 ≤ length (now line) ⌝ }
+    ensures { λ r. ⌜ (Put (now (line .entry)) at (spacedAt at number) (now (line .exit)) r) × (r ≤ at + 11) ⌝ }
+{
+    if at == 0 {
+        return text::decimal::put(line, 0, number as u64);
+    }
+    text::first::put_field(line, at, number)
+}
+
+// Writes the positions of a set on one line, a space between two; the answer is where the line ends.
+fn put_positions(set: u32, line: &mut [u8]) -> usize
+    requires { ⌜ length (now line) ≡ room ⌝ }
+    ensures { λ r. ⌜ (Put (now (line .entry)) 0 (positionLine set) (now (line .exit)) r) × (r ≤ room) ⌝ }
+{
+    let mut at: usize = 0;
+    let mut place: u32 = 0;
+    while place < 32 {
+        if (set >> place) % 2 == 1 {
+            at = put_spaced(line, at, place + 1);
         }
+        place += 1;
+    }
+    line[at] = b'\n';
+    at + 1
+}
+
+// Writes the positions of the tasks in the clash on one line, or the refusal; the answer is where it ends.
+fn clash(words: &[u32], line: &mut [u8]) -> usize
+    requires { ⌜ length (now line) ≡ room ⌝ }
+    ensures { λ r. ⌜ (r ≤ room) × (take r (now (line .exit)) ≡ clashSaid (now (words .entry))) ⌝ }
+{
+    let found = clash::clash(words);
+    let answer = found.answer;
+    match answer {
+        Answer::Passed => put_positions(found.kept, line),
         Answer::Refused(number, position) => {
-            text::first::put_pair(lines, b"refused", number, position)
+            text::first::put_pair(line, b"refused", number, position)
         }
     }
 }
@@ -106,6 +163,7 @@ fn put(question: Question, words: &[u32], lines: &mut [u8]) -> usize
     match question {
         Question::Why => why(words, lines),
         Question::Longest => longest(words, lines),
+        Question::Clash => clash(words, lines),
     }
 }
 
@@ -121,17 +179,41 @@ fn say(question: Question, bytes: &[u8]) -> Sent
     stream::send(0, &lines[..length])
 }
 
+// Where the bytes behind a word begin; 0 where they do not begin with it.
+fn behind_word(bytes: &[u8], word: &[u8]) -> usize
+    ensures { λ r. ⌜ r ≡ cond (begins (now (word .entry)) (now (bytes .entry))) (length (now (word .entry))) 0 ⌝ }
+{
+    let found = reader::begins_with(bytes, 0, word);
+    if found {
+        return word.len();
+    }
+    0
+}
+
+// Where the table behind a question's word begins; 0 where the bytes do not begin with it.
+fn table_behind(question: Question, bytes: &[u8]) -> usize
+    ensures { λ r. ⌜ r ≡ cond (begins (wordOf question) (now (bytes .entry))) (length (wordOf question)) 0 ⌝ }
+{
+    match question {
+        Question::Why => behind_word(bytes, b"why\n"),
+        Question::Longest => behind_word(bytes, b"longest\n"),
+        Question::Clash => behind_word(bytes, b"clash\n"),
+    }
+}
+
 // Prints the answer to the question on a table.
 fn print(bytes: &[u8]) -> Sent
     ensures { λ r. ⌜ SentOf 0 (asked (now (bytes .entry))) r ⌝ }
 {
-    let is_why = reader::begins_with(bytes, 0, b"why\n");
-    if is_why {
-        return say(Question::Why, &bytes[WHY..]);
-    }
-    let is_longest = reader::begins_with(bytes, 0, b"longest\n");
-    if is_longest {
-        return say(Question::Longest, &bytes[FIGURES..]);
+    let questions = [Question::Why, Question::Longest, Question::Clash];
+    let mut i: usize = 0;
+    while i < questions.len() {
+        let question = questions[i];
+        let start = table_behind(question, bytes);
+        if 0 < start {
+            return say(question, &bytes[start..]);
+        }
+        i += 1;
     }
     stream::send(0, b"no such question\n")
 }

@@ -1,121 +1,130 @@
--- `ask::print` meets its contract: the question is told by its word, and the table is the text behind it. Assumes nothing.
+-- `ask::print` meets its contract: the questions are looked for in their order, and the table is the text behind a question's word. Assumes nothing.
+use mathlib.Core.Bool.{true}
 use mathlib.Core.List.{List}
-use mathlib.Core.Path.{_≡_, sym, ap, subst, _∙_}
-use Prim.Native.Nat.{ℕ, _≤_}
-use lib.ListN.{length}
+use mathlib.Core.Path.{_≡_, refl, sym, ap, subst, _∙_}
+use Prim.Native.Nat.{ℕ, _-_, _≤_}
+use native.Mathlib.Omega.{arith}
+use lib.ListN.{length, drop, getD}
+use borrow.Author.Needs.{needs}
 use borrow.Rule.Slice.PartAt.{part-to-end}
 use Rattle.text.specs.Format.{wordsOf, numbersIn}
+use Rattle.sentence.specs.Reading.{begins}
 use Rattle.stream.specs.Sent.{SentOf}
-use Rattle.ask.specs.declared.Question.the-variants.{Why, Longest}
-use Rattle.ask.specs.Asked.{wordOf, saidTo}
-use Rattle.ask.proofs.Asking.{begins-long, asked-why, asked-longest, asked-unknown}
-use borrow.Author.Needs.{needs}
+use Rattle.ask.specs.declared.Question.{Question}
+use Rattle.ask.specs.declared.Question.the-variants.{Why}
+use Rattle.ask.specs.Asked as spec
+use Rattle.ask.specs.Asked.{askedOf, asked, saidTo, wordOf}
+use Rattle.ask.proofs.Asking.{is-asked, not-asked, asked-here, asked-on, asked-none}
 use Rattle.ask.proofs.print.Statement.{statement}
 use Rattle.ask.proofs.print.Tie as tie
 
+-- what is printed is what the questions from here on say
+abbrev Inv-loop : tie.InvT-loop
+Inv-loop bytes questions i₀ t6 i = (i ≤ length spec.questions) × (asked bytes ≡ askedOf (drop i spec.questions) bytes)
+
+abbrev μ-loop : tie.MeasureT-loop
+μ-loop bytes questions i₀ t6 i = length spec.questions - i
+
+-- the state in the loop
+abbrev in-loop : tie.After-table-behind Inv-loop μ-loop → tie.In-loop Inv-loop μ-loop
+in-loop c = c .before .before
+
 -- the state at the call
-abbrev entry : tie.After-begins-with → tie.Start
+abbrev entry : tie.In-loop Inv-loop μ-loop → tie.Start Inv-loop μ-loop
 entry c = c .before .before .before
 
--- the state after the first `begins-with`
-abbrev first : tie.After-begins-with2 → tie.After-begins-with
-first c = c .before .before .before
+-- the question that is looked for
+abbrev question : tie.In-loop Inv-loop μ-loop → Question
+question c = getD spec.questions (c .before .loop .i) Why
 
-slice-aggregate-begins-with : tie.Need-slice-aggregate-begins-with
-slice-aggregate-begins-with c = search needs
+-- it is asked
+here :
+    (c : tie.Then1 Inv-loop μ-loop)
+    → (begins (wordOf (question (in-loop (c .before)))) (entry (in-loop (c .before)) .args .bytes .now) ≡ true)
+    × (c .before .table-behind .result ≡ length (wordOf (question (in-loop (c .before)))))
+    × (c .before .table-behind .result ≤ length (entry (in-loop (c .before)) .args .bytes .now))
+here c =
+    let b = c .before in
+    is-asked (question (in-loop b)) (entry (in-loop b) .args .bytes .now) (b .table-behind .result) (b .table-behind .ensures) (c .if1 .taken)
 
-begins-with-requires : tie.Need-begins-with-requires
-begins-with-requires c κs = search needs
+loop-holds : tie.Need-loop-holds Inv-loop μ-loop
+unfolding asked
+loop-holds c = (omega arith, refl)
 
--- the question `why` stands in front
-why-in-reach : (c : tie.Then1) → length (wordOf Why) ≤ length (entry (c .before) .args .bytes .now)
-why-in-reach c = begins-long (wordOf Why) (entry (c .before) .args .bytes .now) (sym (c .before .begins-with .ensures) ∙ c .if1 .taken)
+array-copy-out-question : tie.Need-array-copy-out-question Inv-loop μ-loop
+array-copy-out-question c = search needs
 
-sub-say : tie.Need-sub-say
-sub-say c = why-in-reach c
+table-behind-requires : tie.Need-table-behind-requires Inv-loop μ-loop
+table-behind-requires c κs = search needs
 
-part-say-start : tie.Need-part-say-start
-part-say-start c = why-in-reach c
+sub-say : tie.Need-sub-say Inv-loop μ-loop
+sub-say c = here c .2
 
-part-say-end : tie.Need-part-say-end
+part-say-start : tie.Need-part-say-start Inv-loop μ-loop
+part-say-start c = here c .2
+
+part-say-end : tie.Need-part-say-end Inv-loop μ-loop
 part-say-end c = search needs
 
-say-requires : tie.Need-say-requires
+say-requires : tie.Need-say-requires Inv-loop μ-loop
 say-requires c κs = search needs
 
-returns : tie.Need-returns
+returns : tie.Need-returns Inv-loop μ-loop
 returns c =
-    let b = c .before .before .before in
-    let bs = entry b .args .bytes .now in
-    subst (λ (l : List ℕ). SentOf 0 l (c .say .result))
-    (ap (λ (l : List ℕ). saidTo Why (numbersIn (wordsOf l))) (part-to-end bs (length (wordOf Why)))
-    ∙ sym (asked-why bs (sym (b .begins-with .ensures) ∙ c .before .before .if1 .taken)))
+    let t = c .before .before in
+    let l = in-loop (t .before) in
+    let bs = entry l .args .bytes .now in
+    let h = here t in
+    let q = question l in
+    subst (λ (s : List ℕ). SentOf 0 s (c .say .result))
+    (ap (λ (s : List ℕ). saidTo q (numbersIn (wordsOf s))) (part-to-end bs (t .before .table-behind .result) ∙ ap (λ (k : ℕ). drop k bs) (h .1))
+    ∙ sym (l .before .loop .inv .1 ∙ asked-here (l .before .loop .i) bs (l .loop-test .taken) (h .0)))
     (c .say .ensures)
 
-slice-aggregate-begins-with-2 : tie.Need-slice-aggregate-begins-with-2
-slice-aggregate-begins-with-2 c = search needs
+add-i : tie.Need-add-i Inv-loop μ-loop
+add-i c = search needs
 
-begins-with-requires-2 : tie.Need-begins-with-requires-2
-begins-with-requires-2 c κs = search needs
+loop-less : tie.Need-loop-less Inv-loop μ-loop
+loop-less c = search needs
 
--- the question `longest` stands in front
-longest-in-reach : (c : tie.Then2) → length (wordOf Longest) ≤ length (entry (first (c .before)) .args .bytes .now)
-longest-in-reach c = begins-long (wordOf Longest) (entry (first (c .before)) .args .bytes .now) (sym (c .before .begins-with2 .ensures) ∙ c .if2 .taken)
+loop-again : tie.Need-loop-again Inv-loop μ-loop
+loop-again c =
+    let b = c .before in
+    let l = in-loop b in
+    let bs = entry l .args .bytes .now in
+    let n = not-asked (question l) bs (b .table-behind .result) (b .table-behind .ensures) (omega (arith, c .if1 .left)) in
+    (omega (arith, l .loop-test .taken), l .before .loop .inv .1 ∙ asked-on (l .before .loop .i) bs (l .loop-test .taken) n)
 
-sub-say-2 : tie.Need-sub-say-2
-sub-say-2 c = longest-in-reach c
-
-part-say-start-2 : tie.Need-part-say-start-2
-part-say-start-2 c = longest-in-reach c
-
-part-say-end-2 : tie.Need-part-say-end-2
-part-say-end-2 c = search needs
-
-say-requires-2 : tie.Need-say-requires-2
-say-requires-2 c κs = search needs
-
-returns-2 : tie.Need-returns-2
-returns-2 c =
-    let b = c .before .before .before in
-    let bs = entry (first b) .args .bytes .now in
-    let not-why = sym (first b .begins-with .ensures) ∙ b .before .before .if1 .left in
-    subst (λ (l : List ℕ). SentOf 0 l (c .say2 .result))
-    (ap (λ (l : List ℕ). saidTo Longest (numbersIn (wordsOf l))) (part-to-end bs (length (wordOf Longest)))
-    ∙ sym (asked-longest bs not-why (sym (b .begins-with2 .ensures) ∙ c .before .before .if2 .taken)))
-    (c .say2 .ensures)
-
-slice-aggregate-send : tie.Need-slice-aggregate-send
+slice-aggregate-send : tie.Need-slice-aggregate-send Inv-loop μ-loop
 slice-aggregate-send c = search needs
 
-send-requires : tie.Need-send-requires
+send-requires : tie.Need-send-requires Inv-loop μ-loop
 send-requires c κs = search needs
 
-returns-3 : tie.Need-returns-3
-returns-3 c =
-    let b = c .before .before .before in
-    let bs = entry (first b) .args .bytes .now in
-    let not-why = sym (first b .begins-with .ensures) ∙ b .before .before .if1 .left in
-    let not-longest = sym (b .begins-with2 .ensures) ∙ c .before .before .if2 .left in
-    subst (λ (l : List ℕ). SentOf 0 l (c .send .result)) (sym (asked-unknown bs not-why not-longest)) (c .send .ensures)
+returns-2 : tie.Need-returns-2 Inv-loop μ-loop
+returns-2 c =
+    let o = c .before .before in
+    let l = o .before .loop in
+    let over : l .i ≡ length spec.questions = omega (arith, o .loop-test .left, l .inv .0) in
+    subst (λ (s : List ℕ). SentOf 0 s (c .send .result)) (sym (l .inv .1 ∙ asked-none (l .i) _ over)) (c .send .ensures)
 
 pub print-spec : {M : Type 1} → statement M
 print-spec =
     tie.close
     (tie.spec
-    slice-aggregate-begins-with
-    begins-with-requires
+    Inv-loop
+    μ-loop
+    loop-holds
+    array-copy-out-question
+    table-behind-requires
     sub-say
     part-say-start
     part-say-end
     say-requires
     returns
-    slice-aggregate-begins-with-2
-    begins-with-requires-2
-    sub-say-2
-    part-say-start-2
-    part-say-end-2
-    say-requires-2
-    returns-2
+    add-i
+    loop-less
+    loop-again
     slice-aggregate-send
     send-requires
-    returns-3)
+    returns-2)

@@ -14,12 +14,18 @@ told c = c .before .before
 abbrev told-2 : tie.After-longest → tie.After-enum-told2
 told-2 c = c .before .before
 
+abbrev told-3 : tie.After-clash → tie.After-enum-told3
+told-3 c = c .before .before
+
 -- the state at the call
 abbrev entry : tie.After-enum-told → tie.Start
 entry c = c .before .before .before .before
 
 abbrev entry-2 : tie.After-enum-told2 → tie.Start
 entry-2 c = c .before .before .before .before
+
+abbrev entry-3 : tie.After-enum-told3 → tie.Start
+entry-3 c = c .before .before .before .before
 
 enum-told : tie.Need-enum-told
 enum-told c = search needs
@@ -32,6 +38,12 @@ enum-told-2 c = search needs
 
 longest-requires : tie.Need-longest-requires
 longest-requires c κs = search needs
+
+enum-told-3 : tie.Need-enum-told-3
+enum-told-3 c = search needs
+
+clash-requires : tie.Need-clash-requires
+clash-requires c κs = search needs
 
 same-length : tie.Need-same-length
 same-length c = search needs
@@ -53,6 +65,16 @@ returns-2 c =
     let ws = now (entry-2 t .args .words) in
     (y .longest .ensures .0, y .longest .ensures .1 ∙ ap (λ (q : Question). saidTo q ws) (sym (t .enum-told2 .given .1)))
 
+same-length-3 : tie.Need-same-length-3
+same-length-3 c = search needs
+
+returns-3 : tie.Need-returns-3
+returns-3 c =
+    let y = c .before .before in
+    let t = told-3 y in
+    let ws = now (entry-3 t .args .words) in
+    (y .clash .ensures .0, y .clash .ensures .1 ∙ ap (λ (q : Question). saidTo q ws) (sym (t .enum-told3 .given .1)))
+
 pub put-spec : {M : Type 1} → statement M
 put-spec =
     tie.close
@@ -61,7 +83,11 @@ put-spec =
     why-requires
     enum-told-2
     longest-requires
+    enum-told-3
+    clash-requires
     same-length
     returns
     same-length-2
-    returns-2)
+    returns-2
+    same-length-3
+    returns-3)

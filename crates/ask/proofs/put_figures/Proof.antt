@@ -4,7 +4,7 @@ use mathlib.Core.Path.{_≡_, _∙_, refl, subst}
 use Prim.Native.Nat.{ℕ, _+_, _-_, _*_, _≤_, _<_}
 use native.Mathlib.Omega.{arith}
 use borrow.Author.Needs.{needs}
-use lib.ListN.{length, set, take, length-set}
+use lib.ListN.{length, set, take}
 use Rattle.text.specs.Decimal.{decimal}
 use Rattle.text.specs.Written.{Put}
 use Rattle.text.proofs.Decimals.{count-most, decimal-length}
