@@ -16,6 +16,7 @@ import time
 
 import notes
 import page
+import progress
 import picture
 from chart import Inset, colour
 from page import chip, element, listing, number, paragraph, section
@@ -72,7 +73,8 @@ def ticks(count):
 # The programs on one table. What has not answered at `until` has not; leaving this stops all of them.
 class Programs:
     def __init__(self, program, text):
-        self.program, self.text, self.stack = program, text, contextlib.ExitStack()
+        self.program, self.text, self.stack, self.line = program, text, contextlib.ExitStack(), progress.Line()
+        self.notes = []  # what standard error is told
         self.wait()
 
     # From now on what is asked has all its time.
@@ -83,6 +85,8 @@ class Programs:
         return self
 
     def __exit__(self, *_):
+        self.line.clear()
+        sys.stderr.writelines(f"sivorandra: {note}\n" for note in self.notes)
         self.stack.close()
 
     def path(self, name):
@@ -96,14 +100,18 @@ class Programs:
         process.stdin.close()
         return process
 
-    # What a program says in time, or None.
+    # What a program says in time, or None. A terminal shows that it is waited for.
     def heard(self, process):
-        try:
-            process.stdin = None
-            return process.communicate(timeout=max(0.1, self.until - time.monotonic()))[0]
-        except subprocess.TimeoutExpired:
-            process.kill()
-            return None
+        process.stdin = None
+        while True:
+            try:
+                return process.communicate(timeout=max(0.1, min(progress.EVERY, self.until - time.monotonic())))[0]
+            except subprocess.TimeoutExpired:
+                if time.monotonic() > self.until:
+                    process.kill()
+                    return None
+                if os.isatty(2):
+                    self.line.say("still asking")
 
     def asking(self, question, text=None):
         return self.start([self.path("ask")], question + b"\n" + (self.text if text is None else text))
@@ -526,6 +534,7 @@ def list_section(programs, word, first, second, table, name, lines, more, asked)
     numbers = sorted({*run.marks.values(), *([picture.LATE] if run.late else [])} & set(REMEDIES))
     inner = [paragraph(element("b", f"{head[0]}."), f" Only the first {number(len(lines))} lines of it were read." if more else None), named]
     inner += [paragraph(line, class_="bad") for line in [*red, *([wrong[0].upper() + wrong[1:] + "."] if wrong else [])]]
+    programs.notes += [wrong] if wrong else []
     inner += [paragraph(f"Number {refused}: {REMEDIES[refused]}") for refused in numbers]
     inner += [paragraph(f"{picture.shown(start, end, count)}: {what}. Above the full-length run, below the list's.", class_="soft", id="ticks"), *page.charts(sheets, titles, ["At full length", "With the list"]), *page.legend(sheets[1], keys)]
     inner += both_rows(table, run, full, differs[0]) if differs else []
