@@ -14,7 +14,8 @@
      1,000,000,000, milliseconds where the periods are long, and two minutes where all 32 tasks move in every tick. No call can be stopped
      from outside: where that is too long, judge in a process of its own. judge_ticks takes every tick; start takes as long as judge, sentence
      about three times as long; plan judges up to b, and takes every tick up to b; replay takes a start, and an advance or a withdrawal for each entry;
-     facts goes once over its bytes; clash judges the table and parts of it, 529 times at most.
+     facts goes once over its bytes; clash judges the table and parts of it, 529 times at most;
+     spare judges the table and about 20 times for each task one in which it is longer, 641 times at most.
 
    A run in words belongs to the version that wrote it: the words may change with the version. Keep SIVORANDRA_VERSION beside a run that is
    stored, and start again where it differs; 14 finds what is no run, not a run of another version. */
@@ -31,10 +32,10 @@ extern "C" {
 /* The version of this header; sivorandra_version says that of the library that is linked. One number, which grows with the version:
    major * 10000 + minor * 100 + patch. */
 #define SIVORANDRA_VERSION_MAJOR 0
-#define SIVORANDRA_VERSION_MINOR 12
+#define SIVORANDRA_VERSION_MINOR 13
 #define SIVORANDRA_VERSION_PATCH 0
 #define SIVORANDRA_VERSION (SIVORANDRA_VERSION_MAJOR * 10000 + SIVORANDRA_VERSION_MINOR * 100 + SIVORANDRA_VERSION_PATCH)
-#define SIVORANDRA_VERSION_TEXT "0.12.0"
+#define SIVORANDRA_VERSION_TEXT "0.13.0"
 
 /* No call takes more bytes of the stack. */
 #define SIVORANDRA_STACK_BYTES 20480
@@ -81,7 +82,8 @@ enum sivorandra_number {
     SIVORANDRA_BAD_FENCE = 19,    /* the fence names a core past the count, or all cores */
     SIVORANDRA_BAD_EMPTY = 20,    /* row, advance: for a position past the count, or a task whose job is not released in this very tick */
     SIVORANDRA_NOT_FIRM = 21,     /* withdraw: the rule is greedy and a width of some task is above one of the next: without a task others could be late */
-    SIVORANDRA_NO_POSITION = 22   /* withdraw: the position is 0 or past the count */
+    SIVORANDRA_NO_POSITION = 22,  /* withdraw: the position is 0 or past the count */
+    SIVORANDRA_SPARE_NOT_GIVEN = 23 /* spare: not accepted under limited, nor under greedy with no width of a task above one of the next */
 };
 
 /* The limits of a table. D is at least 1 and at most T. */
@@ -230,6 +232,17 @@ uint32_t sivorandra_longest(const uint32_t *words, size_t words_len,
    without a miss. Every pass but the last drops a task: with the whole table it judges 529 times at most. It takes 13,400 bytes of the
    stack. */
 uint32_t sivorandra_clash(const uint32_t *words, size_t words_len,
+                          uint32_t *answer, size_t answer_len);
+
+/* The spare ticks of each task of the table in `words`, the largest number of ticks by which its C alone can grow with the table still accepted, into
+   the first SIVORANDRA_MOST_TASKS words of `figures`, position 1 first: done, or refused by the table's numbers or with 23. Every smaller growth is
+   accepted too, and one tick more misses a deadline, or takes C past SIVORANDRA_MOST_LENGTH. Words past the last task are 0, and so are all 32 where
+   it is refused; words behind them stay. They are given for tables that are accepted under limited, or under greedy with no width of a task above
+   one of the next: under idling and lending, and under greedy out of this order, a longer job can save a table in which a shorter one misses.
+   It judges the table, and then for each task, by halving between a growth that is accepted and one that misses, about 20 times the table with
+   this task longer; each up to the table's horizon or its first miss, and 641 times at most. It takes STACK bytes of the stack. */
+uint32_t sivorandra_spare(const uint32_t *words, size_t words_len,
+                          uint32_t *figures, size_t figures_len,
                           uint32_t *answer, size_t answer_len);
 
 #ifdef __cplusplus

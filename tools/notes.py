@@ -142,6 +142,19 @@ class Table:
         start, period = self.horizon()
         return f"S is {start:,}, P is {period:,} and S + P is {start + period:,}; {HORIZON:,} is the most"
 
+    def no_spare(self):
+        """Why no spare ticks are given for a table that passes."""
+        order = "1 (greedy) where no width is above one of the next"
+        if self.rule in (3, 4):
+            return f"line 3: the rule is {self.rule}; spare ticks are given under 2 (limited), and under {order}"
+        for position, (record, below) in enumerate(zip(self.chain, self.chain[1:]), 1):
+            wide = max("v", "w", key=lambda field: self.word(record, field))
+            narrow = min("v", "w", key=lambda field: self.word(below, field))
+            if self.rule == 1 and self.word(record, wide) > self.word(below, narrow):
+                this, other = (f"{field} of record {one} (position {at}) is {self.word(one, field)}" for field, one, at in ((wide, record, position), (narrow, below, position + 1)))
+                return f"line {self.line(record, wide)}: {this} and {other}; spare ticks are given under {order}"
+        return "a table that misses a deadline has no spare ticks; --why says more"
+
     def off_chain(self):
         for record in sorted(set(range(1, self.records + 1)) - set(self.chain)):
             yield f"lines {self.line(record, 'next')} to {self.line(record, FIELDS[-1])}: record {record} is on no chain, so it is no task"
@@ -167,6 +180,8 @@ def notes(text, answer):
         fault = "a table that misses a deadline is not started, and has no longest answers; --why says more"
     elif number == 17:
         fault = "a table that misses no deadline has no clash; --verdict says more"
+    elif number == 23:
+        fault = table.no_spare()
     else:
         fault = table.header_fault(number) or table.chain_fault(number)
     return [fault] if fault else []

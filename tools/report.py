@@ -327,6 +327,7 @@ def change_section(programs, word, table, late=None, kept=()):
 
 # ---- An accepted table
 
+# Of a judged table each task, and where there are figures how close it comes; `spare` has the figures, or the words why there are none.
 def answers_section(word, table, longest, spare):
     items = []
     for position, task in enumerate(table.tasks, 1):
@@ -353,8 +354,7 @@ def answers_section(word, table, longest, spare):
     elif isinstance(spare, list):
         inner.insert(1, paragraph("The spare ticks are the most by which the length of this task alone may grow with the table still accepted.", class_="soft"))
     else:
-        why = "and here widths fall along the chain: the larger width of a task is above the smaller one of the next" if table.rule == 1 else f"and this table has rule {table.rule} ({picture.RULES[table.rule]})"
-        inner.append(paragraph(element("b", f"No spare ticks, number {spare}: "), f"they are given for accepted tables under rule 2, and under rule 1 where widths never fall along the chain, {why}.", class_="note", id="no-spare"))
+        inner.append(paragraph(element("b", "No spare ticks, number 23. "), f"{spare[0].upper()}{spare[1:]}.", class_="note", id="no-spare"))
     return section("The tasks, and how close they come", *inner, id="tasks")
 
 
@@ -572,8 +572,10 @@ def accepted_page(programs, text, name, word, first, second, table, source, aske
     fullness = fullness_section(programs, first, second, table)
     said = programs.heard(spare)
     room = said if said is None else figures_in(said, table)
-    if isinstance(room, int) and room != 23:
-        raise Trouble(f"the spare ticks are refused by {room}")
+    if isinstance(room, int):
+        if room != 23:
+            raise Trouble(f"the spare ticks are refused by {room}")
+        room, = notes.notes(text, "refused 23 0")
     changed = change_section(programs, word, table) if word == "full" else None
     return page.document(f"{FITS[word]} \u2013 {name}", range(1, len(table.tasks) + 1), verdict_header(word, name, LEADS[word], lead), facts(word, first, second, table), drawn,
                          answers_section(word, table, answers, room), fullness, changed, table_section(text, table, f"{word} {first} {second}"), footer()), status

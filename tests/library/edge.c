@@ -120,6 +120,7 @@ static uint32_t advance(uint32_t reports) { return advance_with(reports, 0); }
 static uint32_t withdraw(uint32_t position) { return sivorandra_withdraw(words_at(&run), run.len, position, ANSWER); }
 static uint32_t clash(const uint32_t *table, size_t len) { return sivorandra_clash(table, len, ANSWER); }
 static uint32_t longest(const uint32_t *table, size_t len) { return sivorandra_longest(table, len, words_at(&numbers), numbers.len, ANSWER); }
+static uint32_t spare(const uint32_t *table, size_t len) { return sivorandra_spare(table, len, words_at(&numbers), numbers.len, ANSWER); }
 
 /* A slice of length 0 whose pointer is NULL. */
 #define NONE(slice) ((slice).len = 0, (slice).null = 1)
@@ -207,7 +208,8 @@ static void sentences(void)
     fresh(), NONE(answer), expect("facts: no answer", 1, sivorandra_facts(NULL, 0, none, FACTS, ANSWER));
 }
 
-/* The longest answers: 32 words in front and no more, all zeros in a refusal, lengths around 32, and NULL for each slice. `numbers` has the figures. */
+/* The longest answers and the spare ticks: 32 words in front and no more, all zeros in a refusal, lengths around 32, and NULL for each slice. `numbers`
+   has the figures. */
 static void figures_given(uint32_t a, uint32_t b, uint32_t c)
 {
     uint32_t three[3] = { a, b, c };
@@ -215,25 +217,34 @@ static void figures_given(uint32_t a, uint32_t b, uint32_t c)
     memcpy(numbers.want + GUARD, three, sizeof three);
 }
 
-static void longest_answers(void)
+static void figures_by(uint32_t (*call)(const uint32_t *, size_t), const uint32_t *given, const uint32_t *three, const uint32_t *turned, uint32_t number)
 {
     enum { FIGURES = SIVORANDRA_MOST_TASKS };
     static const size_t lens[] = { 1, FIGURES - 1, FIGURES, FIGURES + 1, 100 };
     for (size_t i = 0; i < sizeof lens / sizeof lens[0]; i++) {
         fresh(), numbers.len = lens[i];
         if (lens[i] >= FIGURES)
-            answered(SIVORANDRA_DONE, 0, 0), figures_given(2, 5, 4);
-        expect("longest: figures of every length", lens[i] < FIGURES, longest(full, TABLE));
+            answered(SIVORANDRA_DONE, 0, 0), figures_given(three[0], three[1], three[2]);
+        expect("figures: every length", lens[i] < FIGURES, call(given, TABLE));
         fresh(), numbers.len = lens[i];
         if (lens[i] >= FIGURES)
-            refused(13), figures_given(0, 0, 0);
-        expect("longest: a miss", lens[i] < FIGURES, longest(miss, TABLE));
+            refused(number), figures_given(0, 0, 0);
+        expect("figures: a refusal", lens[i] < FIGURES, call(turned, TABLE));
     }
-    fresh(), numbers.len = FIGURES, refused(1), figures_given(0, 0, 0), expect("longest: no words", 0, longest(NULL, 0));
-    fresh(), NONE(numbers), expect("longest: no figures", 1, longest(full, TABLE));
-    fresh(), numbers.len = FIGURES, NONE(answer), expect("longest: no answer", 1, longest(full, TABLE));
-    fresh(), numbers.len = FIGURES, answer.len = 2, expect("longest: a short answer", 1, longest(full, TABLE));
-    fresh(), NONE(numbers), NONE(answer), expect("longest: nothing", 1, longest(NULL, 0));
+    fresh(), numbers.len = FIGURES, refused(1), figures_given(0, 0, 0), expect("figures: no words", 0, call(NULL, 0));
+    fresh(), NONE(numbers), expect("figures: none lent", 1, call(given, TABLE));
+    fresh(), numbers.len = FIGURES, NONE(answer), expect("figures: no answer", 1, call(given, TABLE));
+    fresh(), numbers.len = FIGURES, answer.len = 2, expect("figures: a short answer", 1, call(given, TABLE));
+    fresh(), NONE(numbers), NONE(answer), expect("figures: nothing", 1, call(NULL, 0));
+}
+
+static void figures(void)
+{
+    static const uint32_t hurt[TABLE] = { 1, 1, 2, 0, 0, 2, 0, 1, 1, 6, 6, 1, 3, 0, 1, 1, 2, 6, 1, 0, 0, 1, 1, 6, 6, 1 };
+    static const uint32_t longest_of_full[3] = { 2, 5, 4 }, spare_of_hurt[3] = { 0, 0, 3 };
+    figures_by(longest, full, longest_of_full, miss, 13);
+    figures_by(spare, hurt, spare_of_hurt, miss, 23);
+    figures_by(spare, hurt, spare_of_hurt, full, 23); /* rule 1 out of the width order */
 }
 
 /* A table of too few, too many or senseless words. */
@@ -629,7 +640,7 @@ static void lists(void)
 
 int main(void)
 {
-    nulls(), sentences(), tables(), horizons(), bounds(), lengths(), built(), fences(), parities(), empty_jobs(), lending(), withdrawals(), lists(), longest_answers();
+    nulls(), sentences(), tables(), horizons(), bounds(), lengths(), built(), fences(), parities(), empty_jobs(), lending(), withdrawals(), lists(), figures();
     printf("%u calls, %u wrong\n", calls, wrong);
     return wrong != 0;
 }

@@ -47,6 +47,7 @@ static uint32_t advance(uint32_t reports, uint32_t empties) { return sivorandra_
 static uint32_t withdraw(uint32_t position) { return sivorandra_withdraw(run, RUN, position, answer, SIVORANDRA_ANSWER_WORDS); }
 static uint32_t sentence(size_t len) { return sivorandra_sentence(table, words, rows, len, answer, SIVORANDRA_ANSWER_WORDS); }
 static uint32_t longest(void) { return sivorandra_longest(table, words, run, SIVORANDRA_MOST_TASKS, answer, SIVORANDRA_ANSWER_WORDS); }
+static uint32_t spare(void) { return sivorandra_spare(table, words, run, SIVORANDRA_MOST_TASKS, answer, SIVORANDRA_ANSWER_WORDS); }
 static uint32_t clash(void) { return sivorandra_clash(table, words, answer, SIVORANDRA_ANSWER_WORDS); }
 
 static void numbers(void)
@@ -101,6 +102,13 @@ static void numbers(void)
     fresh(1), expect("no miss, no clash", clash(), SIVORANDRA_NO_MISS, 0);
     with(C, 6), expect("a clash", clash(), PASSES, 0);
     with(C, 6), table[V] = 3, expect("too wide, asked for the clash", clash(), SIVORANDRA_BAD_WIDTH, 1);
+    fresh(2), expect("spare ticks, greedy and no width above the next", spare(), PASSES, 0);
+    fresh(2), table[V] = 2, expect("greedy and a width above the next", spare(), SIVORANDRA_SPARE_NOT_GIVEN, 0);
+    table[RULE] = SIVORANDRA_LIMITED, expect("the same under limited", spare(), PASSES, 0);
+    table[RULE] = SIVORANDRA_IDLING, expect("the same under idling", spare(), SIVORANDRA_SPARE_NOT_GIVEN, 0);
+    table[RULE] = SIVORANDRA_LENDING, expect("the same under lending", spare(), SIVORANDRA_SPARE_NOT_GIVEN, 0);
+    with(C, 6), table[RULE] = SIVORANDRA_LIMITED, expect("a miss under limited", spare(), SIVORANDRA_SPARE_NOT_GIVEN, 0);
+    with(V, 3), table[RULE] = SIVORANDRA_IDLING, expect("too wide, asked for the spare ticks", spare(), SIVORANDRA_BAD_WIDTH, 1);
 
     /* position 1 ends early, the wide task at position 2 goes first, and position 3 is late */
     static const uint32_t b[] = { 1, 2, 1, 0, 0, 2, 0, 1, 3, 3, 4, 1, 3, 0, 2, 1, 4, 4, 2, 0, 0, 1, 2, 2, 4, 1 };
@@ -137,6 +145,10 @@ static void limits(void)
     expect("its P", answer[2] != 999999000u, PASSES, 0);
     fresh(SIVORANDRA_MOST_TASKS), table[CORES] = SIVORANDRA_MOST_CORES, table[words - RECORD + C - HEAD] = 6, expect("a clash of the last position", clash(), PASSES, 0);
     expect("its set", answer[0] != SIVORANDRA_KEPT || answer[1] != 0x80000000u || answer[2] != 0, PASSES, 0);
+    fresh(1), table[C] = SIVORANDRA_MOST_LENGTH - 1, table[D] = table[T] = SIVORANDRA_MOST_PERIOD, expect("a tick below the largest C", spare(), PASSES, 0);
+    expect("its spare tick", run[0] != 1, PASSES, 0);
+    table[C]++, expect("the largest C", spare(), PASSES, 0);
+    expect("no spare tick", run[0] != 0, PASSES, 0);
     with(FENCE, 1), start(), expect("a fenced core", row(0), PASSES, 0);
     expect("its byte", rows[0] != SIVORANDRA_FENCED, PASSES, 0);
 }

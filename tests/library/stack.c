@@ -28,12 +28,13 @@ static void withdraw(void) { sivorandra_withdraw(run, RUN, TASKS, answer, 3); }
 static void say(void) { sivorandra_sentence(table, words, sentence, sizeof sentence, answer, 3); }
 static void read_back(void) { sivorandra_facts(sentence, length, facts, FACTS, answer, 3); }
 static void longest(void) { sivorandra_longest(table, words, numbers, TASKS, answer, 3); }
+static void spare(void) { sivorandra_spare(table, words, numbers, TASKS, answer, 3); }
 static void clash(void) { sivorandra_clash(table, words, answer, 3); }
 
 static struct { const char *name; void (*call)(void); size_t most; } calls[] = {
     { "version", version, 0 }, { "judge", judge, 0 }, { "judge_ticks", judge_ticks, 0 }, { "plan", plan, 0 }, { "replay", replay, 0 },
     { "start", start, 0 }, { "row", row, 0 }, { "advance", advance, 0 }, { "withdraw", withdraw, 0 }, { "sentence", say, 0 }, { "facts", read_back, 0 },
-    { "longest", longest, 0 }, { "clash", clash, 0 },
+    { "longest", longest, 0 }, { "clash", clash, 0 }, { "spare", spare, 0 },
 };
 enum { CALLS = sizeof calls / sizeof calls[0] };
 

@@ -29,7 +29,7 @@ pub use refusal::Refusal;
 use std::fmt;
 
 /// The version that these bindings are for: major * 10000 + minor * 100 + patch. `version` is that of the library that is linked.
-pub const VERSION: u32 = 1200;
+pub const VERSION: u32 = 1300;
 
 /// The most tasks on a chain, and the most records of a table.
 pub const MOST_TASKS: usize = 32;
@@ -273,6 +273,7 @@ extern "C" {
     fn sivorandra_advance(run: *mut u32, run_len: usize, reports: u32, empties: u32, answer: *mut u32, answer_len: usize) -> u32;
     fn sivorandra_longest(words: *const u32, words_len: usize, figures: *mut u32, figures_len: usize, answer: *mut u32, answer_len: usize) -> u32;
     fn sivorandra_clash(words: *const u32, words_len: usize, answer: *mut u32, answer_len: usize) -> u32;
+    fn sivorandra_spare(words: *const u32, words_len: usize, figures: *mut u32, figures_len: usize, answer: *mut u32, answer_len: usize) -> u32;
 }
 
 /// The three words of an answer: every slice that these functions lend is long enough.
@@ -293,6 +294,13 @@ fn given([case, first, second]: [u32; 3]) -> Result<u32, Refusal> {
 
 fn done(answer: [u32; 3]) -> Result<(), Refusal> {
     given(answer).map(|_| ())
+}
+
+/// A figure for each task.
+fn figures(call: impl FnOnce(*mut u32, usize, *mut u32, usize) -> u32) -> Result<[u32; MOST_TASKS], Refusal> {
+    let mut figures = [0; MOST_TASKS];
+    done(ask(|answer, len| call(figures.as_mut_ptr(), figures.len(), answer, len)))?;
+    Ok(figures)
 }
 
 fn verdict([case, first, second]: [u32; 3]) -> Result<Verdict, Refusal> {
@@ -420,9 +428,7 @@ pub fn facts_of(bytes: &[u8]) -> Option<Facts> {
 /// # Ok::<(), Refusal>(())
 /// ```
 pub fn longest(words: &[u32]) -> Result<[u32; MOST_TASKS], Refusal> {
-    let mut figures = [0; MOST_TASKS];
-    done(ask(|answer, len| unsafe { sivorandra_longest(words.as_ptr(), words.len(), figures.as_mut_ptr(), figures.len(), answer, len) }))?;
-    Ok(figures)
+    figures(|figures, most, answer, len| unsafe { sivorandra_longest(words.as_ptr(), words.len(), figures, most, answer, len) })
 }
 
 /// The tasks in the clash of a table's words, which misses: the set of the positions kept, bit p for position p + 1. From the lowest priority upward a task is dropped if what
@@ -440,6 +446,25 @@ pub fn longest(words: &[u32]) -> Result<[u32; MOST_TASKS], Refusal> {
 /// ```
 pub fn clash(words: &[u32]) -> Result<u32, Refusal> {
     given(ask(|answer, len| unsafe { sivorandra_clash(words.as_ptr(), words.len(), answer, len) }))
+}
+
+/// The spare ticks of each task of a table's words: the largest number of ticks by which its C alone can grow with the table still accepted, that of position 1 first, and 0 past the
+/// last task. Every smaller growth is accepted too, and one tick more misses, or takes C past `MOST_LENGTH`. 23 where the table is not accepted under rule 2, nor under rule 1 with no
+/// width of a task above one of the next.
+///
+/// ```
+/// use sivorandra::{judge, spare, Refusal, Verdict, IDLING};
+///
+/// let mut table = [1, 1, 2, 0, 0, 2, 0, 1, 1, 4, 4, 1, 0, 0, 1, 1, 3, 4, 1];
+/// assert_eq!(spare(&table)?[..3], [1, 1, 0]);
+/// table[8] = 3; // two ticks more
+/// assert_eq!(judge(&table)?, Verdict::Miss { tick: 3, position: 2 });
+/// table[2] = IDLING;
+/// assert_eq!(spare(&table), Err(Refusal::SpareNotGiven));
+/// # Ok::<(), Refusal>(())
+/// ```
+pub fn spare(words: &[u32]) -> Result<[u32; MOST_TASKS], Refusal> {
+    figures(|figures, most, answer, len| unsafe { sivorandra_spare(words.as_ptr(), words.len(), figures, most, answer, len) })
 }
 
 /// Starts a run, takes it through the entries of a list, and asks its row with no empty job.

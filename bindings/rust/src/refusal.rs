@@ -69,6 +69,8 @@ pub enum Refusal {
     NotFirm,
     /// 22, of a withdrawal: the position is 0 or past the count.
     NoPosition,
+    /// 23, of the spare ticks: the table is not accepted under rule 2, nor under rule 1 with no width of a task above one of the next.
+    SpareNotGiven,
     /// A number that these bindings do not know, from a library that is newer.
     Other {
         /// The number.
@@ -112,6 +114,7 @@ impl Refusal {
             (20, 0) => Refusal::BadEmpty,
             (21, 0) => Refusal::NotFirm,
             (22, 0) => Refusal::NoPosition,
+            (23, 0) => Refusal::SpareNotGiven,
             (number, position) => Refusal::Other { number, position },
         }
     }
@@ -145,6 +148,7 @@ impl Refusal {
             Refusal::BadEmpty => 20,
             Refusal::NotFirm => 21,
             Refusal::NoPosition => 22,
+            Refusal::SpareNotGiven => 23,
             Refusal::Other { number, .. } => number,
         }
     }
@@ -191,6 +195,7 @@ impl fmt::Display for Refusal {
             Refusal::BadEmpty => write!(out, "an empty job for a position past the count, or for a task whose job is not released in this tick"),
             Refusal::NotFirm => write!(out, "the rule is greedy and a width of some task is above one of the next, so that others could be late without a task"),
             Refusal::NoPosition => write!(out, "the position is 0 or past the count"),
+            Refusal::SpareNotGiven => write!(out, "the table is not accepted under rule 2, nor under rule 1 with no width of a task above one of the next"),
             Refusal::Other { position: 0, .. } => write!(out, "turned down"),
             Refusal::Other { position, .. } => write!(out, "turned down at position {position}"),
         }?;

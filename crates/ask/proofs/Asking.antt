@@ -23,7 +23,7 @@ use Rattle.sentence.specs.declared.Spoken.the-variants.{Length, Refused}
 use Rattle.sentence.specs.Reading.{begins}
 use Rattle.sentence.specs.Spoken.{spokenTold, spokenOf, SentenceOf}
 use Rattle.ask.specs.declared.Question.{Question}
-use Rattle.ask.specs.declared.Question.the-variants.{Why, Longest, Clash}
+use Rattle.ask.specs.declared.Question.the-variants.{Why, Longest, Clash, Spare}
 use Rattle.ask.specs.Asked.{room, whyBy, whyOf, saidTo, wordOf, saidBehind, noQuestion, askedOf, questions, asked, enoughAsked}
 
 -- THE ANSWER TO `why`
@@ -75,6 +75,7 @@ word-some : (q : Question) → 0 < length (wordOf q)
 word-some Why = omega arith
 word-some Longest = omega arith
 word-some Clash = omega arith
+word-some Spare = omega arith
 
 -- WHICH IS TOLD by where the table behind its word begins, 0 where its word does not stand in front
 module _ (q : Question) (bs : List ℕ) (r : ℕ) (e : r ≡ cond (begins (wordOf q) bs) (length (wordOf q)) 0) where
@@ -143,6 +144,7 @@ word-most : (q : Question) → (n : ℕ) × (enoughAsked ≡ length (wordOf q) +
 word-most Why = (4 + enoughBytes, refl, omega arith)
 word-most Longest = (enoughBytes, refl, omega arith)
 word-most Clash = (2 + enoughBytes, refl, omega arith)
+word-most Spare = (2 + enoughBytes, refl, omega arith)
 
 of-enough : (qs : List Question) (bs : List ℕ) → askedOf qs (take enoughAsked bs) ≡ askedOf qs bs
 unfolding askedOf

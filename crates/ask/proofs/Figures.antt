@@ -20,8 +20,11 @@ use Rattle.table.specs.Words.{tableOf}
 use Rattle.longest.specs.declared.Figures.{Figures}
 use Rattle.longest.specs.Longest.{LongestOf}
 use Rattle.longest.specs.Numbers.{words}
+use Rattle.spare.specs.declared.Sparing.{Sparing}
+use Rattle.spare.specs.Answer.{SpareOf}
+use Rattle.spare.specs.Numbers as sparing
 use Rattle.ask.specs.Figures.{figureLines, figuresBy}
-use Rattle.ask.specs.Asked.{longestSaid}
+use Rattle.ask.specs.Asked.{longestSaid, spareSaid}
 
 -- a line for each figure, from position 1 on, as it is printed
 pub figures-printed : figureLines 0 (2 ∷ 50 ∷ []) ≡ letters "1 2" ++ (newline ∷ (letters "2 50" ++ (newline ∷ [])))
@@ -97,3 +100,15 @@ module _ (ws : List ℕ) (r : Figures) (h : LongestOf ws r) where
   -- no number turns down a table whose figures are given
   pub longest-none : r .answer ≡ Passed → NoneApplies ws
   longest-none e n p a = h .passed .0 (ap loadTold e) n p (words n p a)
+
+-- WHAT `spare` ANSWERS
+
+module _ (ws : List ℕ) (r : Sparing) (h : SpareOf ws r) where
+  -- what is said goes by it
+  pub spare-by : figuresBy (r .answer) (take (length (tableOf ws .tasks)) (r .spare)) ≡ spareSaid ws
+  unfolding spareSaid
+  spare-by = ap (λ (w : Sparing). figuresBy (w .answer) (take (length (tableOf ws .tasks)) (w .spare))) (h .value)
+
+  -- no number turns down a table whose figures are given
+  pub spare-none : r .answer ≡ Passed → NoneApplies ws
+  spare-none e n p a = h .passed .0 (ap loadTold e) n p (sparing.words n p a)

@@ -14,8 +14,9 @@ use Rattle.sentence.specs.Reading.{begins}
 use Rattle.sentence.specs.Spoken.{Told, ofLength, refusedBy, spokenTold, spokenOf}
 use Rattle.longest.specs.Longest.{longestOf}
 use Rattle.clash.specs.Answer.{clashOf}
+use Rattle.spare.specs.Answer.{spareOf}
 use Rattle.ask.specs.declared.Question.{Question}
-use Rattle.ask.specs.declared.Question.the-variants.{Why, Longest, Clash}
+use Rattle.ask.specs.declared.Question.the-variants.{Why, Longest, Clash, Spare}
 use Rattle.ask.specs.Figures.{figuresBy}
 use Rattle.ask.specs.Positions.{positionsBy}
 
@@ -40,17 +41,23 @@ longestSaid ws = figuresBy (longestOf ws .answer) (take (length (tableOf ws .tas
 unfoldable pub clashSaid : List ℕ → List ℕ
 clashSaid ws = positionsBy (clashOf ws .answer) (clashOf ws .kept)
 
+-- the spare ticks of each task, or the refusal
+unfoldable pub spareSaid : List ℕ → List ℕ
+spareSaid ws = figuresBy (spareOf ws .answer) (take (length (tableOf ws .tasks)) (spareOf ws .spare))
+
 -- what is said to a question on the words of a table
 abbrev pub saidTo : Question → List ℕ → List ℕ
 saidTo Why ws = whyOf ws
 saidTo Longest ws = longestSaid ws
 saidTo Clash ws = clashSaid ws
+saidTo Spare ws = spareSaid ws
 
 -- the word of a question and a newline
 abbrev pub wordOf : Question → List ℕ
 wordOf Why = letters "why" ++ (newline ∷ [])
 wordOf Longest = letters "longest" ++ (newline ∷ [])
 wordOf Clash = letters "clash" ++ (newline ∷ [])
+wordOf Spare = letters "spare" ++ (newline ∷ [])
 
 -- .. on the table that stands behind the word
 abbrev pub saidBehind : Question → List ℕ → List ℕ
@@ -67,7 +74,7 @@ askedOf (q ∷ qs) bs = cond (begins (wordOf q) bs) (saidBehind q bs) (askedOf q
 
 -- all questions; no word is the beginning of another's
 abbrev pub questions : List Question
-questions = Why ∷ Longest ∷ Clash ∷ []
+questions = Why ∷ Longest ∷ Clash ∷ Spare ∷ []
 
 -- everything that is printed for the bytes of an input
 unfoldable pub asked : List ℕ → List ℕ

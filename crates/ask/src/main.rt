@@ -1,7 +1,8 @@
 // Answers a question on a table: the first line of standard input is the question's word, and the table follows, one decimal number a line.
 // The question `why` is answered by the miss in a sentence, and by the verdict's line where the table has no miss or is refused;
 // `longest` by a line for each task, its position and the longest answer of its jobs, or by the refusal;
-// `clash` by one line, the positions of the tasks in the clash, or by the refusal.
+// `clash` by one line, the positions of the tasks in the clash, or by the refusal;
+// `spare` by a line for each task, its position and its spare ticks, or by the refusal.
 ghost use mathlib.Core.Path.{_≡_};
 ghost use mathlib.Core.Bool.{cond};
 ghost use Prim.Native.Nat.{_+_, _≤_};
@@ -17,7 +18,7 @@ ghost use Rattle.stream.specs.Answered.{Answered};
 ghost use Rattle.sentence.specs.Reading.{begins};
 ghost use Rattle.ask.specs.Figures.{figureLines, figuresBy};
 ghost use Rattle.ask.specs.Positions.{spacedAt, positionLine};
-ghost use Rattle.ask.specs.Asked.{room, whyOf, longestSaid, clashSaid, saidTo, wordOf, asked};
+ghost use Rattle.ask.specs.Asked.{room, whyOf, longestSaid, clashSaid, spareSaid, saidTo, wordOf, asked};
 use model::MOST_TASKS;
 use sentence::LONGEST;
 use sentence::Spoken;
@@ -32,6 +33,7 @@ enum Question {
     Why,
     Longest,
     Clash,
+    Spare,
 }
 
 // The most bytes of a question's word and its newline.
@@ -155,6 +157,17 @@ fn clash(words: &[u32], line: &mut [u8]) -> usize
     }
 }
 
+// Writes the spare ticks of each task at the front of the lines, or the refusal; the answer is where they end.
+fn spare(words: &[u32], lines: &mut [u8]) -> usize
+    requires { ⌜ length (now lines) ≡ room ⌝ }
+    ensures { λ r. ⌜ (r ≤ room) × (take r (now (lines .exit)) ≡ spareSaid (now (words .entry))) ⌝ }
+{
+    let found = spare::spare(words);
+    let answer = found.answer;
+    let figures = found.spare;
+    put_answer(words, answer, figures, lines)
+}
+
 // Writes what is said to a question on a table at the front of the lines; the answer is where it ends.
 fn put(question: Question, words: &[u32], lines: &mut [u8]) -> usize
     requires { ⌜ length (now lines) ≡ room ⌝ }
@@ -164,6 +177,7 @@ fn put(question: Question, words: &[u32], lines: &mut [u8]) -> usize
         Question::Why => why(words, lines),
         Question::Longest => longest(words, lines),
         Question::Clash => clash(words, lines),
+        Question::Spare => spare(words, lines),
     }
 }
 
@@ -198,6 +212,7 @@ fn table_behind(question: Question, bytes: &[u8]) -> usize
         Question::Why => behind_word(bytes, b"why\n"),
         Question::Longest => behind_word(bytes, b"longest\n"),
         Question::Clash => behind_word(bytes, b"clash\n"),
+        Question::Spare => behind_word(bytes, b"spare\n"),
     }
 }
 
@@ -205,7 +220,12 @@ fn table_behind(question: Question, bytes: &[u8]) -> usize
 fn print(bytes: &[u8]) -> Sent
     ensures { λ r. ⌜ SentOf 0 (asked (now (bytes .entry))) r ⌝ }
 {
-    let questions = [Question::Why, Question::Longest, Question::Clash];
+    let questions = [
+        Question::Why,
+        Question::Longest,
+        Question::Clash,
+        Question::Spare,
+    ];
     let mut i: usize = 0;
     while i < questions.len() {
         let question = questions[i];

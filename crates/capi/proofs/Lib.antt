@@ -18,3 +18,4 @@ pub mod LendExamples
 pub mod SentenceExamples
 pub mod FigureExamples
 pub mod ClashExamples
+pub mod SpareExamples

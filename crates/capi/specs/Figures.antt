@@ -7,6 +7,7 @@ use lib.Dec.{leb}
 use Rattle.model.specs.Sizes.{mostTasks}
 use Rattle.table.specs.declared.Answer.{Answer}
 use Rattle.longest.specs.Longest.{longestOf}
+use Rattle.spare.specs.Answer.{spareOf}
 use Rattle.capi.specs.Told.{ofGiven, written}
 use Rattle.capi.specs.Calls.{Left, byRoom, room}
 
@@ -20,3 +21,7 @@ figuresCall given found figures answer =
 -- the longest answer of each task; those past the count and all of a refusal are 0
 abbrev pub longestCall : List ℕ → List ℕ → List ℕ → Left
 longestCall ws figures answer = figuresCall (longestOf ws .answer) (longestOf ws .longest) figures answer
+
+-- the spare ticks of each task; those past the count and all of a refusal are 0
+abbrev pub spareCall : List ℕ → List ℕ → List ℕ → Left
+spareCall ws figures answer = figuresCall (spareOf ws .answer) (spareOf ws .spare) figures answer

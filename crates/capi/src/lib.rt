@@ -8,7 +8,7 @@ ghost use Rattle.capi.specs.Calls.{judgeCall, planCall, clashCall};
 ghost use Rattle.capi.specs.Replays.{replayCall};
 ghost use Rattle.capi.specs.Runs.{startCall, rowCall, advanceCall, withdrawCall};
 ghost use Rattle.capi.specs.Sentences.{sentenceCall, factsCall};
-ghost use Rattle.capi.specs.Figures.{longestCall};
+ghost use Rattle.capi.specs.Figures.{longestCall, spareCall};
 ghost use Rattle.capi.specs.Version.{version};
 use model::MOST_TASKS;
 use model::ROW;
@@ -20,7 +20,7 @@ mod replays; // replays.rt: what a replay says
 mod told; // told.rt: an answer in three words
 
 // The version of the library as one number: major * 10000 + minor * 100 + patch.
-const VERSION: u32 = 1200;
+const VERSION: u32 = 1300;
 
 // The version of the library that is linked; the header has that of the header.
 #[no_mangle]
@@ -251,6 +251,27 @@ pub extern "C" fn sivorandra_clash(words: &[u32], answer: &mut [u32]) -> u32
     let clashing = clash::clash(words);
     let given = clashing.answer;
     let told = told::of_given(given, clashing.kept);
+    told::put(told, answer);
+    0
+}
+
+// The spare ticks of each task of a table's words into the first 32 words of `figures`, 0 past the last task: case 0, or 3 Refused number position and
+// 32 zeros.
+#[no_mangle]
+pub extern "C" fn sivorandra_spare(words: &[u32], figures: &mut [u32], answer: &mut [u32]) -> u32
+    ensures { λ r. ⌜ record { value = r; lent = now (figures .exit) ∷ (now (answer .exit) ∷ []) } ≡ spareCall (now (words .entry)) (now (figures .entry)) (now (answer .entry)) ⌝ }
+{
+    if answer.len() < 3 {
+        return 1;
+    }
+    if figures.len() < MOST_TASKS {
+        return 1;
+    }
+    let found = spare::spare(words);
+    let spare = found.spare;
+    figures::put_figures(spare, figures);
+    let given = found.answer;
+    let told = told::of_given(given, 0);
     told::put(told, answer);
     0
 }

@@ -98,7 +98,7 @@ pub(crate) fn of_spoken(spoken: Spoken) -> Told
     }
 }
 
-// What longest and clash answer: given, with a number beside it, or a refusal.
+// What longest, clash and spare answer: given, with a number beside it, or a refusal.
 pub(crate) fn of_given(answer: table::Answer, beside: u32) -> Told
     ensures { λ r. ⌜ r ≡ ofGiven answer beside ⌝ }
 {

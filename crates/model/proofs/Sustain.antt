@@ -36,10 +36,10 @@ GrantsMono r ws =
     → (p : ℕ) → c p ≡ true
     → some (getD (grants r (claimants ws d) F) p []) ≡ true → some (getD (grants r (claimants ws c) F) p []) ≡ true
 
-mono-limited : (ws : List ℕ) → GrantsMono limited ws
+pub mono-limited : (ws : List ℕ) → GrantsMono limited ws
 mono-limited ws c d F cd p cp e = limited-mono ws c d F F cd (omega arith) p cp e
 
-mono-greedy : (ws : List ℕ) → RisingList ws → GrantsMono greedy ws
+pub mono-greedy : (ws : List ℕ) → RisingList ws → GrantsMono greedy ws
 mono-greedy ws h c d F cd p cp e =
     rw (greedy-limited ws c F h) (mono-limited ws c d F cd p cp (rw (greedy-limited ws d F h) at e))
 
@@ -52,7 +52,7 @@ between τ k = go (eqb (k % 2) 0)
     go false = (omega arith, omega arith)
 
 -- widths that never fall along the tasks never fall in the list of any tick's widths
-rising-widths : (s : Table) → Rising (s .tasks) → (t : ℕ) → RisingList (widths s t)
+pub rising-widths : (s : Table) → Rising (s .tasks) → (t : ℕ) → RisingList (widths s t)
 rising-widths s h t p l =
     let l′ : suc p < length (s .tasks) = rw length-map at l in
     let w : Task → ℕ = λ τ. widthOf τ (newest τ t) in

@@ -1,5 +1,5 @@
 -- What a table has that passes all numbers.
-use mathlib.Core.Path.{_≡_, refl, subst}
+use mathlib.Core.Path.{_≡_, refl, subst, sym}
 use mathlib.Core.Bool.{Bool, true, false, cond}
 use mathlib.Core.List.{List}
 use mathlib.Core.Logic.{⊎-elim}
@@ -14,7 +14,7 @@ use Rattle.model.specs.Sizes.{mostCores, mostTasks}
 use Rattle.table.specs.declared.chain.Ending.the-variants.{Past, Again, Whole}
 use Rattle.table.specs.Words.{head, cores, rule, fence, met, count, taskAt, tableOf}
 use Rattle.table.specs.Limits.{From, from, FenceOut, mostHorizon}
-use Rattle.table.specs.Numbers.{WordsOut, EndAt, one, two, three, nineteen, four, seven, eight, nine, NoneApplies}
+use Rattle.table.specs.Numbers.{WordsOut, EndAt, Reaches, one, two, three, nineteen, four, seven, eight, nine, NoneApplies}
 use Rattle.table.specs.Answer.{headerNumber, pastAt, againAt, lastStep, endingOf}
 use Rattle.table.proofs.Decide.{stable}
 use Rattle.table.proofs.Tests.{from-decides}
@@ -54,6 +54,17 @@ module _ (ws : List ℕ) (none : NoneApplies ws) where
       rw n (count-from ws (λ h. none 1 0 (one h)) (λ h. none 4 0 (four h))
       (not-true-false (pastAt ws (lastStep ws)) (λ e. none 5 0 (five-decides ws .0 e)))
       (not-true-false (againAt ws (lastStep ws)) (λ e. none 6 0 (six-decides ws .0 e))))
+
+  -- the walk comes to the end of the chain, and meets another record at each of its places
+  pub passed-reached : Reaches ws (count ws)
+  passed-reached =
+      subst (Reaches ws)
+      (sym
+      (ends-there ws (lastStep ws) (last-reached ws)
+      (last-ends ws
+      (not-true-false (pastAt ws (lastStep ws)) (λ e. none 5 0 (five-decides ws .0 e)))
+      (not-true-false (againAt ws (lastStep ws)) (λ e. none 6 0 (six-decides ws .0 e))))))
+      (last-reached ws)
 
   -- 1 to 64 cores
   pub passed-cores : From 1 mostCores (cores ws)

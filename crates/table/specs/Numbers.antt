@@ -59,7 +59,7 @@ pub data Applies (ws : List ℕ) : ℕ → ℕ → Type 0 where
 
 -- checked in this order; 8 stands where 7 does
 abbrev pub order : List ℕ
-order = 1 ∷ 2 ∷ 3 ∷ 19 ∷ 4 ∷ 5 ∷ 6 ∷ 7 ∷ 9 ∷ 10 ∷ 11 ∷ 12 ∷ 13 ∷ 14 ∷ 21 ∷ 22 ∷ 15 ∷ 20 ∷ 16 ∷ 17 ∷ 18 ∷ []
+order = 1 ∷ 2 ∷ 3 ∷ 19 ∷ 4 ∷ 5 ∷ 6 ∷ 7 ∷ 9 ∷ 10 ∷ 11 ∷ 12 ∷ 13 ∷ 14 ∷ 21 ∷ 22 ∷ 15 ∷ 20 ∷ 16 ∷ 17 ∷ 18 ∷ 23 ∷ []
 
 -- where n stands in a list whose first place is i
 abbrev pub placeFrom : ℕ → List ℕ → ℕ → ℕ

@@ -17,6 +17,9 @@ told-2 c = c .before .before
 abbrev told-3 : tie.After-clash → tie.After-enum-told3
 told-3 c = c .before .before
 
+abbrev told-4 : tie.After-spare → tie.After-enum-told4
+told-4 c = c .before .before
+
 -- the state at the call
 abbrev entry : tie.After-enum-told → tie.Start
 entry c = c .before .before .before .before
@@ -26,6 +29,9 @@ entry-2 c = c .before .before .before .before
 
 abbrev entry-3 : tie.After-enum-told3 → tie.Start
 entry-3 c = c .before .before .before .before
+
+abbrev entry-4 : tie.After-enum-told4 → tie.Start
+entry-4 c = c .before .before .before .before
 
 enum-told : tie.Need-enum-told
 enum-told c = search needs
@@ -44,6 +50,12 @@ enum-told-3 c = search needs
 
 clash-requires : tie.Need-clash-requires
 clash-requires c κs = search needs
+
+enum-told-4 : tie.Need-enum-told-4
+enum-told-4 c = search needs
+
+spare-requires : tie.Need-spare-requires
+spare-requires c κs = search needs
 
 same-length : tie.Need-same-length
 same-length c = search needs
@@ -75,6 +87,16 @@ returns-3 c =
     let ws = now (entry-3 t .args .words) in
     (y .clash .ensures .0, y .clash .ensures .1 ∙ ap (λ (q : Question). saidTo q ws) (sym (t .enum-told3 .given .1)))
 
+same-length-4 : tie.Need-same-length-4
+same-length-4 c = search needs
+
+returns-4 : tie.Need-returns-4
+returns-4 c =
+    let y = c .before .before in
+    let t = told-4 y in
+    let ws = now (entry-4 t .args .words) in
+    (y .spare .ensures .0, y .spare .ensures .1 ∙ ap (λ (q : Question). saidTo q ws) (sym (t .enum-told4 .given .1)))
+
 pub put-spec : {M : Type 1} → statement M
 put-spec =
     tie.close
@@ -85,9 +107,13 @@ put-spec =
     longest-requires
     enum-told-3
     clash-requires
+    enum-told-4
+    spare-requires
     same-length
     returns
     same-length-2
     returns-2
     same-length-3
-    returns-3)
+    returns-3
+    same-length-4
+    returns-4)

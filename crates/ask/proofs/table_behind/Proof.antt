@@ -37,6 +37,15 @@ slice-aggregate-behind-word-3 c = search needs
 behind-word-requires-3 : tie.Need-behind-word-requires-3
 behind-word-requires-3 c κs = search needs
 
+enum-told-4 : tie.Need-enum-told-4
+enum-told-4 c = search needs
+
+slice-aggregate-behind-word-4 : tie.Need-slice-aggregate-behind-word-4
+slice-aggregate-behind-word-4 c = search needs
+
+behind-word-requires-4 : tie.Need-behind-word-requires-4
+behind-word-requires-4 c κs = search needs
+
 returns : tie.Need-returns
 returns c =
     let t = c .before .before in
@@ -55,6 +64,12 @@ returns-3 c =
     let bs = now (t .before .before .before .args .bytes) in
     c .behind-word3 .ensures ∙ ap (λ (q : Question). cond (begins (wordOf q) bs) (length (wordOf q)) 0) (sym (t .enum-told3 .given .1))
 
+returns-4 : tie.Need-returns-4
+returns-4 c =
+    let t = c .before .before in
+    let bs = now (t .before .before .before .args .bytes) in
+    c .behind-word4 .ensures ∙ ap (λ (q : Question). cond (begins (wordOf q) bs) (length (wordOf q)) 0) (sym (t .enum-told4 .given .1))
+
 pub table-behind-spec : {M : Type 1} → statement M
 table-behind-spec =
     tie.close
@@ -68,6 +83,10 @@ table-behind-spec =
     enum-told-3
     slice-aggregate-behind-word-3
     behind-word-requires-3
+    enum-told-4
+    slice-aggregate-behind-word-4
+    behind-word-requires-4
     returns
     returns-2
-    returns-3)
+    returns-3
+    returns-4)
