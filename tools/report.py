@@ -390,7 +390,8 @@ def fullness_section(programs, first, second, table):
         over = f"in one P, tick {number(first)}"
     bars = [element("li", f"core {core}", page.bar(length, [(length - cells[core][0], "busy")]), element("span", f"{number(length - cells[core][0])} of {number(length)}")) if core in open_cores else
             element("li", f"core {core}", element("span", "fenced", class_="soft")) for core in range(table.cores)]
-    return section(title, paragraph(element("b", f"{100 * (whole - idle) // whole} %: "), f"tasks have {number(whole - idle)} of {number(whole)} core ticks {over}. Counted in the printed rows; fenced cores are left out.", id="full-of"),
+    share = f"{100 * (whole - idle) // whole} %" if 100 * (whole - idle) >= whole else "Less than 1 %"  # rounded down
+    return section(title, paragraph(element("b", f"{share}: "), f"tasks have {number(whole - idle)} of {number(whole)} core ticks {over}. Counted in the printed rows; fenced cores are left out.", id="full-of"),
                    page.bar(whole, [(count, colour(position)[0]) for position, count in shares], thick=True),
                    listing([*((chip(position), f" {number(count)}") for position, count in shares), f"idle {number(idle)}"], class_="shares"),
                    element("h3", "Core by core"), element("ul", *bars, class_="cores"), id="fullness")
