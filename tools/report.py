@@ -411,9 +411,9 @@ def line_words(line):
     return f"{notes.FIELDS[field]} of record {record + 1}"
 
 
-# A line of an input of any bytes.
-def shown_line(line):
-    return (repr(line[:80])[2:-1] + ("\u2026" if len(line) > 80 else "")) if line else "(an empty line)"
+# A line of an input of any bytes, and no more than so many of them.
+def shown_line(line, most=80):
+    return (repr(line[:most])[2:-1] + ("\u2026" if len(line) > most else "")) if line else "(an empty line)"
 
 
 def excerpt(text, said):
@@ -421,7 +421,7 @@ def excerpt(text, said):
     if not found or not text:
         return None
     marked = [int(line) for line in found.groups() if line]
-    rows = [element("tr", element("td", f"line {line}"), element("td", element("code", shown_line(lines[line - 1]))), element("td", line_words(line)), class_="here" if line in marked else None)
+    rows = [element("tr", element("td", f"line {line}"), element("td", element("code", shown_line(lines[line - 1], 24))), element("td", line_words(line)), class_="here" if line in marked else None)
             for line in range(max(1, marked[0] - 3), min(len(lines), marked[-1] + 3) + 1)]
     return element("div", element("table", *rows, class_="excerpt"), class_="scroll")
 
