@@ -205,13 +205,14 @@ numbers-long l h = ⊎-elim whole part (eq-or-lt-of-le (mark-within space l))
 
 by-other : (b : ℕ) → operationBy b Other ≡ Nothing
 unfolding operationBy
-by-other b = go (eqb b 97) (eqb b 114) (eqb b 119)
+by-other b = go (eqb b 97) (eqb b 114) (eqb b 119) (eqb b 115)
   where
-    go : (t u v : Bool) → cond t Nothing (cond u Nothing (cond v Nothing Nothing)) ≡ Nothing
-    go true u v = refl
-    go false true v = refl
-    go false false true = refl
-    go false false false = refl
+    go : (t u v w : Bool) → cond t Nothing (cond u Nothing (cond v Nothing (cond w Nothing Nothing))) ≡ Nothing
+    go true u v w = refl
+    go false true v w = refl
+    go false false true w = refl
+    go false false false true = refl
+    go false false false false = refl
 
 -- an operation has at most 23 bytes: a letter, and twice a space and ten digits
 pub long-none : (l : List ℕ) → noneLong ≤ length l → operationOf l ≡ Nothing

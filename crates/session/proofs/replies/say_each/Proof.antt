@@ -29,6 +29,17 @@ each-said sets before middle after start end w p q m =
     (subst (λ (x : List ℕ). Put before 0 x (set after end 10) (end + 1)) (append-assoc (letters "sets") (fields sets) (newline ∷ [])) t)
     (omega arith)
 
+-- the state at the call
+abbrev entry : tie.After-copy → tie.Start
+entry c = c .before .before .before
+
+-- the word takes four bytes
+four : (c : tie.After-copy) → c .copy .result ≡ 4
+four c = c .copy .ensures .ends
+
+full : (c : tie.After-copy) → length (entry c .args .out .now) ≡ longestReply
+full c = search needs
+
 slice-aggregate-copy : tie.Need-slice-aggregate-copy
 slice-aggregate-copy c = search needs
 
@@ -36,16 +47,22 @@ copy-requires : tie.Need-copy-requires
 copy-requires c κs = search needs
 
 put-sets-requires : tie.Need-put-sets-requires
-put-sets-requires c κs = ?
+put-sets-requires c κs =
+    let o = c .before in
+    let m = put-length (o .copy .ensures) (omega (arith, four o, full o)) in
+    omega (arith, four o, full o, m)
 
 element-write-out : tie.Need-element-write-out
-element-write-out c = ?
+element-write-out c = omega (arith, four (c .before .before), c .put-sets .ensures .1)
 
 add-result : tie.Need-add-result
-add-result c = ?
+add-result c = omega (arith, four (c .before .before), c .put-sets .ensures .1)
 
 returns : tie.Need-returns
-returns c = ?
+returns c =
+    let o = c .before .before in
+    let a = entry o .args in
+    each-said (a .sets) (a .out .now) _ _ (o .copy .result) (c .put-sets .result) (full o) (o .copy .ensures) (c .put-sets .ensures .0) (c .put-sets .ensures .1)
 
 pub say-each-spec : {M : Type 1} → statement M
 say-each-spec = tie.close (tie.spec slice-aggregate-copy copy-requires put-sets-requires element-write-out add-result returns)
