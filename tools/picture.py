@@ -26,6 +26,7 @@ BLOCK = 1 << 18  # bytes of rows that are passed over at once
 MOST = 100  # ticks in one picture
 HEAD, RECORD = 5, 7  # words of a table and of a record
 FENCED = 255  # on a fenced core in every row
+ANSWER = 1024  # bytes that are read of an answer to a line of a list, and more than one has
 LINE = 60  # bytes that are read of a line of a list, and more than an operation has
 PART = 200  # lines of a list that are sent at once: with a row asked after each they are fewer bytes than any pipe holds
 FURTHER = 1_000_000  # lines of a list that are read after those that are drawn
@@ -276,7 +277,7 @@ def chart(word, first, second, table, source, asked, answers):
 
 
 def next_line(source):
-    line = source.readline(4 * 64 + 8)
+    line = source.readline(ANSWER)
     if not line.endswith(b"\n"):
         raise Trouble("the program ended before its last answer")
     return line[:-1]
@@ -292,7 +293,7 @@ def numbers_in(line):
 
 # The letter and the numbers of an operation; an advance has both its sets. None where a line is no operation.
 def operation_in(line):
-    if not re.fullmatch(rb"(r|a [0-9]{1,10})( [0-9]{1,10})?|[wW] [0-9]{1,10}", line):
+    if not re.fullmatch(rb"([rs]|a [0-9]{1,10})( [0-9]{1,10})?|[wW] [0-9]{1,10}", line):
         return None
     letter, *numbers = line.decode().split(" ")
     numbers = [int(number) for number in numbers] + [0] * (letter == "a" and len(numbers) == 1)
@@ -442,6 +443,10 @@ class Listed:
                 answer = next_line(process.stdout)
                 if answer == b"not an operation":
                     raise Declined(f"{name}: line {read}: {stands(line)} stands there; {EXPECTED}", REFUSED)
+                if operation[0] == "s":
+                    if not answer.startswith((b"sets ", b"refused ")):
+                        raise Trouble(f"the program answered {answer!r}")
+                    continue
                 asked = next_line(process.stdout)
                 letter, *numbers = operation
                 self.advances += letter == "a"
@@ -465,10 +470,10 @@ def has_empties(operation):
     return operation is not None and operation[0] == "a" and operation[2] > 0
 
 
-# What is sent for a line of a list: of a row asked nothing, before an advance with empty jobs the row that they leave, after a move the next row.
+# What is sent for a line of a list: of a row asked nothing, of its sets the line, whose answer is not drawn; before an advance with empty jobs the row that they leave, after a move the next row.
 def asking(line, operation):
-    if operation and operation[0] == "r":
-        return b""
+    if operation and operation[0] in "rs":
+        return line + b"\n" if operation[0] == "s" else b""
     return (b"r %d\n" % operation[2] if has_empties(operation) else b"") + line + b"\nr\n"
 
 

@@ -2,7 +2,8 @@
 """Writes a page on a table: report.py [--name NAME] [--from TICK] [--to TICK] [--replay LIST] PROGRAM... < table > report.html
 
 It decides nothing. The verdict, the rows, the sentence on a miss, the clash, the longest answers and the spare ticks are what the proved programs print, which stand beside
-PROGRAM; the tasks are the table's. What could be changed is the same table with one change, and the verdict on it the program's. It counts cells of printed rows, and no more.
+PROGRAM; the tasks are the table's. What could be changed is the same table with one change, and the verdict on it the program's. It counts cells of printed rows, or where they are
+too many the jobs of one P by the table, and no more.
 What takes long is waited for so many seconds; then the page says that it is not there.
 The status is 0 where nothing is refused or missed, 1 for a miss, 2 for a refusal, 3 where something could not be read or written, 64 for wrong arguments."""
 import collections
@@ -197,7 +198,7 @@ def footer():
     for place in (page.HERE, os.path.dirname(page.HERE)):
         with contextlib.suppress(OSError), open(os.path.join(place, "VERSION"), encoding="utf-8") as file:
             version = file.read().strip()
-            return element("footer", f"Made by sivorandra {version}. Every figure on this page is what its proved programs print for this table, or the table's own; the page draws them, counts cells of printed rows, and decides nothing.")
+            return element("footer", f"Made by sivorandra {version}. Every figure on this page is what its proved programs print for this table, or the table's own; the page draws them, counts, and decides nothing.")
     raise Trouble("VERSION is missing")
 
 
@@ -239,14 +240,29 @@ def sentence_section(said, first, second, table):
     return had, section("Why it misses", element("blockquote", said, id="sentence"), *inner, id="why")
 
 
-def rows_section(first, second, table, start, rows):
+# The rows of the late job up to the miss. Where the picture shows other ticks, the program is asked again.
+def rows_section(programs, first, second, table, start, rows):
     release = first - table.tasks[second - 1].D
-    since = max(start, first - ROWS, release)
+    since = max(release, first - ROWS)
+    if rows and start <= since and start + len(rows) == first:
+        rows = rows[since - start:]
+    else:
+        try:
+            rows, _ = picture.rows_of(rows_again(programs), since, first, table, first, table.drawn[0], programs.until)
+        except TooLong:
+            return section("The rows before the miss", waited("The question for the rows", "FILE"), id="rows")
     head = element("tr", element("th", "tick"), *core_heads(table), element("th", "position ", chip(second)))
-    lines = [element("tr", element("td", number(tick)), *row_cells(row), element("td", "runs" if second in row else "waits", class_="word")) for tick, row in enumerate(rows[since - start:], since)]
+    lines = [element("tr", element("td", number(tick)), *row_cells(row), element("td", "runs" if second in row else "waits", class_="word")) for tick, row in enumerate(rows, since)]
     lines.append(element("tr", element("td", number(first)), element("td", f"position {second} is due here and has not had its {ticks(table.tasks[second - 1].C)}", colspan=table.cores + 1, class_="words"), class_="due"))
     what = "Its late job was released at tick " + number(release) + ("." if since == release else f"; shown are the last {ticks(first - since)}.")
     return section("The rows before the miss", paragraph(what, class_="soft"), page.wide_table([head, *lines], "the rows before the miss", class_="rows"), id="rows")
+
+
+# The rows that the program prints for this table, from tick 0 on.
+def rows_again(programs):
+    source = programs.start([programs.path("sivorandra")], programs.text).stdout
+    picture.verdict_in(source.readline(64))
+    return source
 
 
 # The tasks in the clash, with their own picture. Its positions are called as in the table.
@@ -297,7 +313,7 @@ def changes(word, text, table, late, kept):
             yield f"the same tasks, {what}", picture.relinked(text, table.records, order), order
     if word == "miss":
         if table.fenced:
-            yield "no fence", other(3, 0, 0), positions
+            yield "no fence (the hydraulics give up their cores)", other(3, 0, 0), positions
         if table.cores < 64:
             yield f"{table.cores + 1} cores", other(1, table.cores + 1), positions
         for position in kept if len(positions) > 1 else []:
@@ -354,7 +370,7 @@ def answers_section(word, table, longest, spare):
     elif isinstance(spare, list):
         inner.insert(1, paragraph("The spare ticks are the most by which the length of this task alone may grow with the table still accepted.", class_="soft"))
     else:
-        inner.append(paragraph(element("b", "No spare ticks, number 23. "), f"{spare[0].upper()}{spare[1:]}.", class_="note", id="no-spare"))
+        inner.append(paragraph(element("b", "No spare ticks, number 23. "), f"{spare[0].upper()}{spare[1:]}. Elsewhere a longer job can save a table, so that no one figure would hold.", class_="note", id="no-spare"))
     return section("The tasks, and how close they come", *inner, id="tasks")
 
 
@@ -371,30 +387,38 @@ def counted(source, first, second, table, until):
     return end, cells
 
 
+# The core ticks of each position in one P by the table: of an accepted table every job has its C ticks, with v cores or w in turn, and P has P / T jobs, as many odd as even ones where the two differ.
+def claimed(second, table):
+    return [task.C * (task.v + task.w) * (second // task.T) // 2 for task in table.tasks]
+
+
 def fullness_section(programs, first, second, table):
     title = "How full the cores are"
     process = programs.start([programs.path("sivorandra")], programs.text)
     try:
         end, cells = counted(process.stdout, first, second, table, programs.until)
     except TooLong:
-        return section(title, paragraph(f"The rows from tick {number(first)} on had not come after {PATIENCE} s, so nothing was counted.", class_="note"), id="fullness")
+        end, cells = first, None
     finally:
         process.kill()
     open_cores = [core for core in range(table.cores) if core not in table.fenced]
-    length, all_cells = end - first, sum(cells, collections.Counter())
-    whole = length * len(open_cores)
-    idle = all_cells[0]
-    shares = [(position, all_cells[position]) for position in range(1, len(table.tasks) + 1)]
-    over = f"in one P, ticks {number(first)} to {number(end - 1)}" if length == second else f"in ticks {number(first)} to {number(end - 1)}, the first {number(length)} of the {number(second)} ticks of P; the rest was not counted"
-    if length == 1:
-        over = f"in one P, tick {number(first)}"
-    bars = [element("li", f"core {core}", page.bar(length, [(length - cells[core][0], "busy")]), element("span", f"{number(length - cells[core][0])} of {number(length)}")) if core in open_cores else
-            element("li", f"core {core}", element("span", "fenced", class_="soft")) for core in range(table.cores)]
-    share = f"{100 * (whole - idle) // whole} %" if 100 * (whole - idle) >= whole else "Less than 1 %"  # rounded down
-    return section(title, paragraph(element("b", f"{share}: "), f"tasks have {number(whole - idle)} of {number(whole)} core ticks {over}. Counted in the printed rows; fenced cores are left out.", id="full-of"),
-                   page.bar(whole, [(count, colour(position)[0]) for position, count in shares], thick=True),
-                   listing([*((chip(position), f" {number(count)}") for position, count in shares), f"idle {number(idle)}"], class_="shares"),
-                   element("h3", "Core by core"), element("ul", *bars, class_="cores"), id="fullness")
+    length, whole = end - first, second * len(open_cores)
+    where = f"tick {number(first)}" if length == 1 else f"ticks {number(first)} to {number(end - 1)}"
+    if length == second:
+        had, source = [sum(core[position] for core in cells) for position in range(1, len(table.tasks) + 1)], f"{where}, counted in the printed rows"
+    else:
+        had, source = claimed(second, table), "by the table: P / T jobs of each task, each for its C ticks at its width"
+    busy = sum(had)
+    share = f"{100 * busy // whole} %" if 100 * busy >= whole else "Less than 1 %"  # rounded down
+    by_core = [paragraph(f"The rows from tick {number(first)} on had not come after {PATIENCE} s, so no cells were counted.", class_="note")]
+    if cells:
+        bars = [element("li", f"core {core}", page.bar(length, [(length - cells[core][0], "busy")]), element("span", f"{number(length - cells[core][0])} of {number(length)}")) if core in open_cores else
+                element("li", f"core {core}", element("span", "fenced", class_="soft")) for core in range(table.cores)]
+        by_core = [paragraph(f"Counted in the first {number(length)} printed rows from S on, {where}.", class_="soft") if length < second else None, element("ul", *bars, class_="cores")]
+    return section(title, paragraph(element("b", f"{share}: "), f"tasks have {number(busy)} of {number(whole)} core ticks in one P, {source}.", " Fenced cores are left out." if table.fenced else None, id="full-of"),
+                   page.bar(whole, [(count, colour(position)[0]) for position, count in enumerate(had, 1)], thick=True),
+                   listing([*((chip(position), f" {number(count)}") for position, count in enumerate(had, 1)), f"idle {number(whole - busy)}"], class_="shares"),
+                   element("h3", "Core by core"), *by_core, id="fullness")
 
 
 # ---- A refusal
@@ -550,12 +574,11 @@ def miss_page(programs, text, name, first, second, table, source, asked, listed)
     said = programs.heard(why)
     had, sentence = sentence_section(said.decode("ascii", "replace").removesuffix("\n"), first, second, table) if said else (0, section("Why it misses", waited("The question why", "--why"), id="why"))
     drawn, start, rows = picture_section("miss", first, second, table, source, programs.until, asked, [], had, 2)
-    seen = rows and start + len(rows) == first
     kept, clashing = clash_section(programs, programs.heard(clash), table, 2)
     lead = ["The task at ", element("b", f"position {second}"), " misses its deadline at ", element("b", f"tick {number(first)}"), "."]
     no_list = section("What the list does", paragraph(element("b", "Refused, number 13: "), refusal_words(13, 0).split(". ")[0] + "."), paragraph(REMEDIES[13]), id="list") if listed else None
     return page.document(f"{FITS['miss']} \u2013 {name}", range(1, len(table.tasks) + 1), verdict_header("miss", name, lead), sentence, no_list, facts("miss", first, second, table), drawn,
-                         rows_section(first, second, table, start, rows) if seen else None, clashing, change_section(programs, "miss", table, second, kept),
+                         rows_section(programs, first, second, table, start, rows), clashing, change_section(programs, "miss", table, second, kept),
                          answers_section("miss", table, None, None), table_section(text, table, f"miss {first} {second}"), footer())
 
 
