@@ -7,6 +7,7 @@ from chart import RED, colour
 
 HERE = os.path.dirname(os.path.abspath(__file__))
 POLICY = "default-src 'none'; style-src 'unsafe-inline'"  # whatever opens it fetches nothing
+PHONE = 330  # pixels that a phone shows of a chart
 PANE = 48  # of the narrowest ticks, in a printed line
 ICONS = {
     "firm": "M8 26l12 12L42 12",
@@ -118,7 +119,8 @@ def charts(sheets, titles, called, end=False):
     anchors = [element("span", "", id=f"{first.own}tick{tick}", class_="at", style=f"left:{first.x(tick):.0f}px") for tick in stops]
     links = element("nav", "Go to tick ", *(element("a", tick, href=f"#{first.own}tick{tick}") for tick in stops), aria_label="ticks of the picture") if stops else None
     scroller = element("div", element("div", *anchors, *inner, class_="wide"), class_="scroll chart end" if end else "scroll chart", tabindex=0, role="region", aria_label=titles[0])
-    return [links, scroller, element("div", *(line for lines in zip(*printed) for line in lines), class_="panes")]
+    hint = paragraph("Swipe it sideways for more ticks.", class_="hint") if any(sheet.x(sheet.end) > PHONE for sheet in sheets) else None
+    return [links, hint, scroller, element("div", *(line for lines in zip(*printed) for line in lines), class_="panes")]
 
 
 # How to read charts: what is in each of them, and these names. Samples are drawn by the chart.

@@ -45,6 +45,7 @@ LEADS = {
     "firm": ["The verdict is ", element("b", "firm"), ": every job of every task meets its deadline, however early jobs end."],
     "full": ["The verdict is ", element("b", "full"), ": every job of every task meets its deadline, as long as no job ends early."],
 }
+WORDS = "A tick is the table's step of time. Each task releases a job again and again; a job must have its cores, all of them together, in so many ticks before its deadline. Positions are the order of priority."
 FITS = {"firm": "It fits, for ever", "full": "It fits at full length", "miss": "It does not fit", "refused": "It was not judged"}
 REMEDIES = {
     1: "Write one decimal number a line: five words, then seven for each of at most 32 records; no spaces, signs, comments or empty lines. A table made for an older version lacks words: the two of the fence, or w at the end of each record.",
@@ -151,18 +152,21 @@ def waited(what, option):
 
 
 # A task in words.
-def task_words(task):
+def width_words(task):
     cores = lambda count: f"{count} core{'' if count == 1 else 's'}"
-    width = cores(task.v) if task.v == task.w else f"{cores(task.v)} in odd jobs and {task.w} in even ones"
+    return cores(task.v) if task.v == task.w else f"{cores(task.v)} in odd jobs and {task.w} in even ones"
+
+
+def task_words(task):
     every = "every tick" if task.T == 1 else f"every {ticks(task.T)}"
-    return f"{width} for {ticks(task.C)}, {every} from tick {number(task.O)}, due {ticks(task.D)} after release"
+    return f"{width_words(task)} for {ticks(task.C)}, {every} from tick {number(task.O)}, due {ticks(task.D)} after release"
 
 
 # ---- What is said of every table that is judged
 
-def verdict_header(word, name, lead, more=None):
+def verdict_header(word, name, lead, more=None, look="lead"):
     return element("header", paragraph("Timing report on ", element("b", name), class_="over"),
-                   element("div", page.icon(word), element("h1", FITS[word]), class_="top"), paragraph(*lead, class_="lead"), paragraph(more, class_="lead") if more else None, class_=word, id="verdict")
+                   element("div", page.icon(word), element("h1", FITS[word]), class_="top"), paragraph(*lead, class_="lead"), paragraph(more, class_=look) if more else None, class_=word, id="verdict")
 
 
 def facts(word, first, second, table):
@@ -172,8 +176,8 @@ def facts(word, first, second, table):
              ("First miss", f"tick {number(first)}", "the earliest; at one tick the highest in priority"), ("Late task", f"position {second}", f"record {table.records[second - 1]}")]
     found += [("Tasks", len(table.tasks), "position 1 has the highest priority"), ("Cores", table.cores, fenced),
               ("Rule", f"{table.rule}, {picture.RULES[table.rule]}", RULES[table.rule])]
-    promises = [(element("b", f"{known.capitalize()}: ", class_="good" if known == "firm" else "fair"), words, element("b", " This table is so.") if known == word else None) for known, words in PROMISES.items()]
-    return section("In short", element("dl", *(element("div", element("dt", what), element("dd", figure, element("small", words))) for what, figure, words in found), class_="facts"),
+    promises = [(element("b", f"{known.capitalize()}: ", class_="good" if known == "firm" else "fair"), words, element("b", " This table is so.") if known == word else None) for known, words in PROMISES.items()] + ([element("b", "This table is neither.")] if word == "miss" else [])
+    return section("In short", paragraph(WORDS, class_="soft"), element("dl", *(element("div", element("dt", what), element("dd", figure, element("small", words))) for what, figure, words in found), class_="facts"),
                    listing(promises, class_="promises"), id="short")
 
 
@@ -198,15 +202,15 @@ def footer():
     for place in (page.HERE, os.path.dirname(page.HERE)):
         with contextlib.suppress(OSError), open(os.path.join(place, "VERSION"), encoding="utf-8") as file:
             version = file.read().strip()
-            return element("footer", f"Made by sivorandra {version}. Every figure on this page is what its proved programs print for this table, or the table's own; the page draws them, counts, and decides nothing.")
+            return element("footer", f"Made by sivorandra {version}. Every figure on this page is what its proved programs print for this table, or the table's own; the page draws and counts, and decides nothing.")
     raise Trouble("VERSION is missing")
 
 
 # ---- The picture
 
 # What the ticks of a picture are, in words.
-def caption(start, end, count, what):
-    return paragraph(f"{picture.shown(start, end, count)}: {what}.", class_="soft", id="ticks")
+def caption(start, end, count, what, before="", after="", **words):
+    return paragraph(before, re.sub(r"\d{4,}", lambda found: number(int(found[0])), f"{picture.shown(start, end, count)}: {what}."), after, class_="soft", **words)
 
 
 def picture_section(word, first, second, table, source, until, asked, figures, had, pictures):
@@ -221,7 +225,7 @@ def picture_section(word, first, second, table, source, until, asked, figures, h
     keys = picture.draw_rows(sheet, word, first, second, figures, had)
     title = f"{picture.VERDICTS[word].format(first, second)}. {picture.shown(start, end, count)}, core by core; below a strip for each task."
     shown = page.charts([sheet], [title], None, end=word == "miss")
-    return section("The picture", caption(start, end, count, what), *shown, *page.legend(sheet, keys), id="picture"), start, rows
+    return section("The picture", caption(start, end, count, what, id="ticks"), *shown, *page.legend(sheet, keys), id="picture"), start, rows
 
 
 # ---- A miss
@@ -232,9 +236,9 @@ def sentence_section(said, first, second, table):
         raise Trouble(f"the sentence is {said!r}")
     late, due, had, length = (int(field) for field in found.groups()[:4])
     others = [tuple(map(int, pair)) for pair in re.findall(r"task (\d+) ran (\d+)", found[5])]
-    inner = [paragraph(chip(late), f" The job of position {late} that is due at tick {number(due)} had {number(had)} of its {ticks(length)}.")]
+    inner = [paragraph(chip(late), f" The job of position {late} that is due at tick {number(due)} had {number(had)} of its {ticks(length)}. It takes {width_words(table.tasks[late - 1])}, together or not at all.")]
     if others:
-        inner += [paragraph("Tasks above it ran in so many of the ticks in which it waited:"), listing([(chip(position), f" {number(count)}") for position, count in others], class_="shares", id="ran")]
+        inner += [paragraph("Tasks above it ran in so many of the ticks in which it waited:"), listing([(chip(position), f" {ticks(count)}") for position, count in others], class_="shares", id="ran")]
     else:
         inner.append(paragraph("No task above it ran in a tick in which it waited."))
     return had, section("Why it misses", element("blockquote", said, id="sentence"), *inner, id="why")
@@ -289,7 +293,7 @@ def clash_section(programs, said, table, pictures):
     sheet = Inset("c-", part, start, rows)
     keys = picture.draw_rows(sheet, word, first, late, [], 0)
     shown = picture.shown(start, end, first)
-    inner.append(paragraph(f"With these alone position {late} misses its deadline at tick {number(first)}. {shown}: {what}.", class_="soft"))
+    inner.append(caption(start, end, first, what, f"With these alone position {late} misses its deadline at tick {number(first)}. "))
     return kept, section(title, *inner, *page.charts([sheet], [f"{picture.verdict_words(word, first, late, part)}. {shown}."], None, end=True), *page.legend(sheet, keys)[:1], id="clash")
 
 
@@ -457,7 +461,7 @@ def refused_page(text, name, refused, position):
     read = text[:notes.MOST_BYTES + 1]
     return page.document(f"{FITS['refused']} \u2013 {name}", [], verdict_header("refused", name, [lead]),
                          section("What is wrong", paragraph(refusal_words(refused, position), id="meaning"), *where, id="fault"),
-                         section("What to do", paragraph(REMEDIES.get(refused, "Look the number up in docs/NUMBERS.md."), id="remedy"), id="todo"),
+                         section("What to do", paragraph(REMEDIES.get(refused, "Look the number up in docs/NUMBERS.md."), id="remedy"), paragraph("Whoever wrote the table can mend it; this page can be sent back with it.", class_="soft"), id="todo"),
                          section("The input", element("pre", "\n".join(f"{at:>4}  {shown_line(line)}" for at, line in enumerate(notes.lines_of(read), 1)) if read else "(empty)"), id="input"), footer())
 
 
@@ -561,7 +565,7 @@ def list_section(programs, word, first, second, table, name, lines, more, asked)
     inner += [paragraph(line, class_="bad") for line in [*red, *([wrong[0].upper() + wrong[1:] + "."] if wrong else [])]]
     programs.notes += [wrong] if wrong else []
     inner += [paragraph(f"Number {refused}: {REMEDIES[refused]}") for refused in numbers]
-    inner += [paragraph(f"{picture.shown(start, end, count)}: {what}. Above the full-length run, below the list's.", class_="soft", id="ticks"), *page.charts(sheets, titles, ["At full length", "With the list"]), *page.legend(sheets[1], keys)]
+    inner += [caption(start, end, count, what, after=" Above the full-length run, below the list's.", id="ticks"), *page.charts(sheets, titles, ["At full length", "With the list"]), *page.legend(sheets[1], keys)]
     inner += both_rows(table, run, full, differs[0]) if differs else []
     inner += [element("h3", "What the list does in these ticks"), listing(events[:SAID] + ([f"And {number(len(events) - SAID)} more."] if len(events) > SAID else []))] if events else []
     return section("What the list does", *inner, id="list"), f"{head[0]}.", REFUSED if run.late or run.refusals or wrong else FINE
@@ -601,7 +605,7 @@ def accepted_page(programs, text, name, word, first, second, table, source, aske
             raise Trouble(f"the spare ticks are refused by {room}")
         room, = notes.notes(text, "refused 23 0")
     changed = change_section(programs, word, table) if word == "full" else None
-    return page.document(f"{FITS[word]} \u2013 {name}", range(1, len(table.tasks) + 1), verdict_header(word, name, LEADS[word], lead), facts(word, first, second, table), drawn,
+    return page.document(f"{FITS[word]} \u2013 {name}", range(1, len(table.tasks) + 1), verdict_header(word, name, LEADS[word], lead, "lead" if status == FINE else "lead bad"), facts(word, first, second, table), drawn,
                          answers_section(word, table, answers, room), fullness, changed, table_section(text, table, f"{word} {first} {second}"), footer()), status
 
 
