@@ -236,7 +236,7 @@ def sentence_section(said, first, second, table):
         raise Trouble(f"the sentence is {said!r}")
     late, due, had, length = (int(field) for field in found.groups()[:4])
     others = [tuple(map(int, pair)) for pair in re.findall(r"task (\d+) ran (\d+)", found[5])]
-    inner = [paragraph(chip(late), f" The job of position {late} that is due at tick {number(due)} had {number(had)} of its {ticks(length)}. It takes {width_words(table.tasks[late - 1])}, together or not at all.")]
+    inner = [paragraph(chip(late), f" The job of position {late} that is due at tick {number(due)} had {number(had)} of its {ticks(length)}. It takes {width_words(table.tasks[late - 1])}{', together or not at all' if max(table.tasks[late - 1].v, table.tasks[late - 1].w) > 1 else ''}.")]
     if others:
         inner += [paragraph("Tasks above it ran in so many of the ticks in which it waited:"), listing([(chip(position), f" {ticks(count)}") for position, count in others], class_="shares", id="ran")]
     else:
@@ -462,7 +462,7 @@ def refused_page(text, name, refused, position):
     return page.document(f"{FITS['refused']} \u2013 {name}", [], verdict_header("refused", name, [lead]),
                          section("What is wrong", paragraph(refusal_words(refused, position), id="meaning"), *where, id="fault"),
                          section("What to do", paragraph(REMEDIES.get(refused, "Look the number up in docs/NUMBERS.md."), id="remedy"), paragraph("Whoever wrote the table can mend it; this page can be sent back with it.", class_="soft"), id="todo"),
-                         section("The input", element("pre", "\n".join(f"{at:>4}  {shown_line(line)}" for at, line in enumerate(notes.lines_of(read), 1)) if read else "(empty)"), id="input"), footer())
+                         section("The input", paragraph(f"More than the {number(notes.MOST_BYTES)} bytes that a table can have; this is its beginning.", class_="soft") if len(read) > notes.MOST_BYTES else None, element("pre", "\n".join(f"{at:>4}  {shown_line(line)}" for at, line in enumerate(notes.lines_of(read), 1)) if read else "(empty)"), id="input"), footer())
 
 
 # ---- A list
