@@ -23,7 +23,7 @@ from chart import Inset, colour
 from page import chip, element, listing, number, paragraph, section
 from picture import Declined, FENCED, FINE, HEAD, MISSED, RECORD, REFUSED, TROUBLE, TooLong, Trouble, USAGE
 
-PATIENCE = 20  # seconds that an answer is waited for, once the verdict is there
+PATIENCE = 20  # seconds that an answer is waited for, once the verdict is there; where that took long, twice as long
 SHOWN = 200  # ticks in one picture of a page, where they are not too many bytes
 CELL, STRIP, JOB, BYTES = 85, 40, 190, 1_400_000  # what a tick of a core, one of a strip and a job may take, and all pictures together
 COUNTED = 100_000  # rows in which the cells are counted
@@ -77,11 +77,16 @@ class Programs:
     def __init__(self, program, text):
         self.program, self.text, self.stack, self.line = program, text, contextlib.ExitStack(), progress.Line()
         self.notes = []  # what standard error is told
+        self.begun, self.patience = time.monotonic(), PATIENCE
+
+    # The verdict is there: so many seconds is waited for what is asked on.
+    def judged(self):
+        self.patience = max(PATIENCE, round(2 * (time.monotonic() - self.begun)))
         self.wait()
 
     # From now on what is asked has all its time.
     def wait(self):
-        self.until = time.monotonic() + PATIENCE
+        self.until = time.monotonic() + self.patience
 
     def __enter__(self):
         return self
@@ -147,8 +152,8 @@ def row_cells(row):
     return [element("td", looks.get(position, ("", position))[1], class_=looks.get(position, (f"p{position}",))[0]) for position in row]
 
 
-def waited(what, option):
-    return paragraph(f"{what} had not been answered after {PATIENCE} s. ", element("code", f"./sivorandra {option}"), " waits for it.", class_="note")
+def waited(programs, what, option):
+    return paragraph(f"{what} had not been answered after {programs.patience} s. ", element("code", f"./sivorandra {option}"), " waits for it.", class_="note")
 
 
 # A task in words.
@@ -213,19 +218,25 @@ def caption(start, end, count, what, before="", after="", **words):
     return paragraph(before, re.sub(r"\d{4,}", lambda found: number(int(found[0])), f"{picture.shown(start, end, count)}: {what}."), after, class_="soft", **words)
 
 
-def picture_section(word, first, second, table, source, until, asked, figures, had, pictures):
-    count = first + (0 if word == "miss" else second)
+# The rows of the ticks that the picture shows, which are taken before anything is waited for: the first tick, the one after the last, what they are in words, and the rows or None.
+def picture_rows(programs, word, first, second, table, source, asked, pictures):
     size = most(table, pictures)
-    start, end, what = picture.Asked(asked.since, asked.until, size).within(count, "there are those of") if asked else picture.stretch(word, first, second, size)
+    start, end, what = picture.Asked(asked.since, asked.until, size).within(first + (0 if word == "miss" else second), "there are those of") if asked else picture.stretch(word, first, second, size)
     try:
-        rows, _ = picture.rows_of(source, start, end, table, end, table.drawn[0], until)
+        return start, end, what, picture.rows_of(source, start, end, table, end, table.drawn[0], programs.until)[0]
     except TooLong:
-        return section("The picture", paragraph(f"The program's rows of ticks {number(start)} to {number(end - 1)} had not come after {PATIENCE} s. ", element("code", "./sivorandra --picture"), " waits for them."), id="picture"), None, []
+        return start, end, what, None
+
+
+def picture_section(programs, word, first, second, table, start, end, what, rows, figures, had):
+    count = first + (0 if word == "miss" else second)
+    if rows is None:
+        return section("The picture", paragraph(f"The program's rows of ticks {number(start)} to {number(end - 1)} had not come after {programs.patience} s. ", element("code", "./sivorandra --picture"), " waits for them."), id="picture")
     sheet = Inset("t-", table, start, rows)
     keys = picture.draw_rows(sheet, word, first, second, figures, had)
     title = f"{picture.VERDICTS[word].format(first, second)}. {picture.shown(start, end, count)}, core by core; below a strip for each task."
     shown = page.charts([sheet], [title], None, end=word == "miss")
-    return section("The picture", caption(start, end, count, what, id="ticks"), *shown, *page.legend(sheet, keys), id="picture"), start, rows
+    return section("The picture", caption(start, end, count, what, id="ticks"), *shown, *page.legend(sheet, keys), id="picture")
 
 
 # ---- A miss
@@ -254,7 +265,7 @@ def rows_section(programs, first, second, table, start, rows):
         try:
             rows, _ = picture.rows_of(rows_again(programs), since, first, table, first, table.drawn[0], programs.until)
         except TooLong:
-            return section("The rows before the miss", waited("The question for the rows", "FILE"), id="rows")
+            return section("The rows before the miss", waited(programs, "The question for the rows", "FILE"), id="rows")
     head = element("tr", element("th", "tick"), *core_heads(table), element("th", "position ", chip(second)))
     lines = [element("tr", element("td", number(tick)), *row_cells(row), element("td", "runs" if second in row else "waits", class_="word")) for tick, row in enumerate(rows, since)]
     lines.append(element("tr", element("td", number(first)), element("td", f"position {second} is due here and has not had its {ticks(table.tasks[second - 1].C)}", colspan=table.cores + 1, class_="words"), class_="due"))
@@ -273,13 +284,14 @@ def rows_again(programs):
 def clash_section(programs, said, table, pictures):
     title = "The clash"
     if said is None:
-        return [], section(title, waited("The question for the clash", "--clash"), id="clash")
+        return [], section(title, waited(programs, "The question for the clash", "--clash"), id="clash")
     part = picture.clash_in(said.decode("ascii", "replace"), table)
     kept = part.clash
     inner = [paragraph("Positions " if len(kept) > 1 else "Position ", *(mark for position in kept for mark in (chip(position), " ")),
                        "clash: by themselves they miss a deadline, and without any one of them the rest does not." if len(kept) > 1 else "misses a deadline by itself, without any other task.", id="kept")]
     if len(kept) == len(table.tasks):
         return kept, section(title, *inner, paragraph("These are all tasks of the table, so their picture is the one above.", class_="soft"), id="clash")
+    programs.wait()
     process = programs.start([programs.path("sivorandra")], picture.relinked(programs.text, table.records, kept))
     word, first, late = picture.verdict_in(process.stdout.readline(64))
     if word != "miss" or late > len(kept):
@@ -289,7 +301,7 @@ def clash_section(programs, said, table, pictures):
     try:
         rows, _ = picture.rows_of(process.stdout, start, end, part, end, late, programs.until)
     except TooLong:
-        return kept, section(title, *inner, waited("The picture of the clash", "--clash --picture"), id="clash")
+        return kept, section(title, *inner, waited(programs, "The picture of the clash", "--clash --picture"), id="clash")
     sheet = Inset("c-", part, start, rows)
     keys = picture.draw_rows(sheet, word, first, late, [], 0)
     shown = picture.shown(start, end, first)
@@ -331,7 +343,7 @@ def change_section(programs, word, table, late=None, kept=()):
     for what, changed, positions in changes(word, programs.text, table, late, kept):
         said = programs.verdict(changed)
         if said is None:
-            look, answer = "soft", f"not judged after {PATIENCE} s"
+            look, answer = "soft", f"not judged after {programs.patience} s"
         elif said[0] == "miss":
             look, answer = "bad", f"\u2717 misses: position {positions[said[2] - 1]} at tick {number(said[1])}"
         elif said[0] == "refused":
@@ -348,7 +360,7 @@ def change_section(programs, word, table, late=None, kept=()):
 # ---- An accepted table
 
 # Of a judged table each task, and where there are figures how close it comes; `spare` has the figures, or the words why there are none.
-def answers_section(word, table, longest, spare):
+def answers_section(programs, word, table, longest, spare):
     items = []
     for position, task in enumerate(table.tasks, 1):
         fill, figures = colour(position)[0], []
@@ -368,9 +380,9 @@ def answers_section(word, table, longest, spare):
         "No job takes longer, however early jobs end." if word == "firm" else "At full length some job takes just that; where another ends early, a job of a full table can take longer.")
     inner.insert(0, paragraph(words, class_="soft"))
     if longest is None:
-        inner.append(waited("The question for the longest answers", "--longest"))
+        inner.append(waited(programs, "The question for the longest answers", "--longest"))
     if spare is None:
-        inner.append(waited("The question for the spare ticks", "--spare"))
+        inner.append(waited(programs, "The question for the spare ticks", "--spare"))
     elif isinstance(spare, list):
         inner.insert(1, paragraph("The spare ticks are the most by which the length of this task alone may grow with the table still accepted.", class_="soft"))
     else:
@@ -414,7 +426,7 @@ def fullness_section(programs, first, second, table):
         had, source = claimed(second, table), "by the table: P / T jobs of each task, each for its C ticks at its width"
     busy = sum(had)
     share = f"{100 * busy // whole} %" if 100 * busy >= whole else "Less than 1 %"  # rounded down
-    by_core = [paragraph(f"The rows from tick {number(first)} on had not come after {PATIENCE} s, so no cells were counted.", class_="note")]
+    by_core = [paragraph(f"The rows from tick {number(first)} on had not come after {programs.patience} s, so no cells were counted.", class_="note")]
     if cells:
         bars = [element("li", f"core {core}", page.bar(length, [(length - cells[core][0], "busy")]), element("span", f"{number(length - cells[core][0])} of {number(length)}")) if core in open_cores else
                 element("li", f"core {core}", element("span", "fenced", class_="soft")) for core in range(table.cores)]
@@ -575,19 +587,22 @@ def list_section(programs, word, first, second, table, name, lines, more, asked)
 
 def miss_page(programs, text, name, first, second, table, source, asked, listed):
     why, clash = programs.asking(b"why"), programs.asking(b"clash")
+    start, end, what, rows = picture_rows(programs, "miss", first, second, table, source, asked, 2)
     said = programs.heard(why)
-    had, sentence = sentence_section(said.decode("ascii", "replace").removesuffix("\n"), first, second, table) if said else (0, section("Why it misses", waited("The question why", "--why"), id="why"))
-    drawn, start, rows = picture_section("miss", first, second, table, source, programs.until, asked, [], had, 2)
+    had, sentence = sentence_section(said.decode("ascii", "replace").removesuffix("\n"), first, second, table) if said else (0, section("Why it misses", waited(programs, "The question why", "--why"), id="why"))
+    drawn = picture_section(programs, "miss", first, second, table, start, end, what, rows, [], had)
     kept, clashing = clash_section(programs, programs.heard(clash), table, 2)
     lead = ["The task at ", element("b", f"position {second}"), " misses its deadline at ", element("b", f"tick {number(first)}"), "."]
     no_list = section("What the list does", paragraph(element("b", "Refused, number 13: "), refusal_words(13, 0).split(". ")[0] + "."), paragraph(REMEDIES[13]), id="list") if listed else None
     return page.document(f"{FITS['miss']} \u2013 {name}", range(1, len(table.tasks) + 1), verdict_header("miss", name, lead), sentence, no_list, facts("miss", first, second, table), drawn,
                          rows_section(programs, first, second, table, start, rows), clashing, change_section(programs, "miss", table, second, kept),
-                         answers_section("miss", table, None, None), table_section(text, table, f"miss {first} {second}"), footer())
+                         answers_section(programs, "miss", table, None, None), table_section(text, table, f"miss {first} {second}"), footer())
 
 
 def accepted_page(programs, text, name, word, first, second, table, source, asked, listed):
     longest, spare = programs.asking(b"longest"), programs.asking(b"spare")
+    shown = None if listed else picture_rows(programs, word, first, second, table, source, asked, 1)
+    fullness = fullness_section(programs, first, second, table)
     said = programs.heard(longest)
     answers = said if said is None else figures_in(said, table)
     if isinstance(answers, int):
@@ -596,8 +611,7 @@ def accepted_page(programs, text, name, word, first, second, table, source, aske
     if listed:
         drawn, lead, status = list_section(programs, word, first, second, table, *listed, asked)
     else:
-        drawn = picture_section(word, first, second, table, source, programs.until, asked, answers or [], 0, 1)[0]
-    fullness = fullness_section(programs, first, second, table)
+        drawn = picture_section(programs, word, first, second, table, *shown, answers or [], 0)
     said = programs.heard(spare)
     room = said if said is None else figures_in(said, table)
     if isinstance(room, int):
@@ -606,7 +620,7 @@ def accepted_page(programs, text, name, word, first, second, table, source, aske
         room, = notes.notes(text, "refused 23 0")
     changed = change_section(programs, word, table) if word == "full" else None
     return page.document(f"{FITS[word]} \u2013 {name}", range(1, len(table.tasks) + 1), verdict_header(word, name, LEADS[word], lead, "lead" if status == FINE else "lead bad"), facts(word, first, second, table), drawn,
-                         answers_section(word, table, answers, room), fullness, changed, table_section(text, table, f"{word} {first} {second}"), footer()), status
+                         answers_section(programs, word, table, answers, room), fullness, changed, table_section(text, table, f"{word} {first} {second}"), footer()), status
 
 
 # The page on a table, and the status; `listed` is the list's name, its lines and whether there are more.
@@ -614,7 +628,7 @@ def report(program, text, name, asked=picture.Asked(), listed=None):
     with Programs(program, text) as programs:
         process = programs.start(program, text)
         word, first, second = picture.verdict_in(process.stdout.readline(64))
-        programs.wait()
+        programs.judged()
         if word == "refused":
             return refused_page(text, name, first, second), REFUSED
         table = picture.table_of(text)
