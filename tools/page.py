@@ -80,9 +80,14 @@ def view(inner, left, wide, high, **words):
     return element("svg", Html(inner), viewBox=f"{round(left, 2)} 0 {round(wide, 2)} {round(high, 2)}", **words)
 
 
+# How far to the right a chart goes.
+def reach(sheet):
+    return max(sheet.right, sheet.x(sheet.end)) + sheet.pad
+
+
 # A chart: its names stay, its ticks are scrolled; on paper it is cut into lines of so many ticks. `title` says it to those who do not see it.
 def drawing(sheet, title):
-    high, right = sheet.bottom + 10, max(sheet.right, sheet.x(sheet.end)) + sheet.pad
+    high, right = sheet.bottom + 10, reach(sheet)
     names = view("".join(sheet.side), 0, sheet.NAMES, high, width=sheet.NAMES, height=high, class_="names", aria_hidden="true")
     all_ticks = element("g", Html("".join(sheet.parts)), id=f"{sheet.own}all")
     wide = right - sheet.NAMES
@@ -119,7 +124,7 @@ def charts(sheets, titles, called, end=False):
     anchors = [element("span", "", id=f"{first.own}tick{tick}", class_="at", style=f"left:{first.x(tick):.0f}px") for tick in stops]
     links = element("nav", "Go to tick ", *(element("a", tick, href=f"#{first.own}tick{tick}") for tick in stops), aria_label="ticks of the picture") if stops else None
     scroller = element("div", element("div", *anchors, *inner, class_="wide"), class_="scroll chart end" if end else "scroll chart", tabindex=0, role="region", aria_label=titles[0])
-    hint = paragraph("Swipe it sideways for more ticks.", class_="hint") if any(sheet.x(sheet.end) > PHONE for sheet in sheets) else None
+    hint = paragraph("Swipe it sideways for the rest.", class_="hint") if any(reach(sheet) > PHONE for sheet in sheets) else None
     return [links, hint, scroller, element("div", *(line for lines in zip(*printed) for line in lines), class_="panes")]
 
 
