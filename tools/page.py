@@ -123,7 +123,7 @@ def charts(sheets, titles, called, end=False):
     stops = list(range(-(-first.start // step) * step, first.end, step)) if far else []
     anchors = [element("span", "", id=f"{first.own}tick{tick}", class_="at", style=f"left:{first.x(tick):.0f}px") for tick in stops]
     links = element("nav", "Go to tick ", *(element("a", tick, href=f"#{first.own}tick{tick}") for tick in stops), aria_label="ticks of the picture") if stops else None
-    scroller = element("div", element("div", *anchors, *inner, class_="wide"), class_="scroll chart end" if end else "scroll chart", tabindex=0, role="region", aria_label=titles[0])
+    scroller = element("div", element("div", *anchors, *inner, class_="wide"), class_="scroll chart end" if end and first.x(first.end) > PHONE else "scroll chart", tabindex=0, role="region", aria_label=titles[0])
     hint = paragraph("Swipe it sideways for the rest.", class_="hint") if any(reach(sheet) > PHONE for sheet in sheets) else None
     return [links, hint, scroller, element("div", *(line for lines in zip(*printed) for line in lines), class_="panes")]
 
