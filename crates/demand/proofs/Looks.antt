@@ -18,7 +18,7 @@ use Rattle.model.specs.Grants.{Claimant, claimants, grants, some}
 use Rattle.model.specs.Lending.{lends, lent, shownCores}
 use Rattle.model.specs.Row.{row}
 use Rattle.model.specs.Book.{Book, Job, claims, widths, taskClaims, grantsOf, rowOf, inRow, served, newestEnded, offer, seeks, lentOf, borrowed, borrows}
-use Rattle.model.specs.Book.{borrowing, step, reportable, misreported}
+use Rattle.model.specs.Book.{borrowing, step, reportable, misreported, shownOf}
 use Rattle.model.proofs.Bools.{not-true-false}
 use Rattle.model.proofs.Search.{any-same}
 use Rattle.model.proofs.Grants.{claimants-same, grants-none}
@@ -202,8 +202,11 @@ module _ (s : Table) (ok : AllSound s) (c : Book) (r : Run) (e : ℕ) (h : Looks
 
   -- THE ROW, AND REPORTS
 
+  pub same-shown : shownIn r e ≡ shownOf s c
+  same-shown = ap₂ shownCores same-grants same-lent
+
   pub same-row : row (r .fence) (r .cores) (shownIn r e) ≡ rowOf s c
-  same-row = λ i. row (h .same .same-fence i) (h .same .same-cores i) (shownCores (same-grants i) (same-lent i))
+  same-row = λ i. row (h .same .same-fence i) (h .same .same-cores i) (same-shown i)
 
   -- who does not claim is given nothing, and borrows nothing
   no-cores : (p : ℕ) → taskClaims s c p ≡ false → inRow s c p ≡ false
