@@ -28,7 +28,6 @@ impl Run {
         requires { ⌜ (self .count ≤ mostTasks) × (self .cores ≤ mostCores) ⌝ }
         ensures { λ r. ⌜ ClaimsOf self empties r ⌝ }
     {
-        let run = self;
         let rule = self.rule;
         let count = self.count;
         let wide = cores::open_count(self.cores, self.fence);
@@ -42,7 +41,7 @@ impl Run {
         let mut widths = [0u32; rule::PAIR];
         let mut i: usize = 0;
         while i < count {
-            let task = run.tasks[i];
+            let task = self.tasks[i];
             let phase = task.phase;
             let place = i as u32;
             broken = bits::with(broken, place, task.out(rule, wide));

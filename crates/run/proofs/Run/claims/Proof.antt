@@ -69,21 +69,21 @@ loop c = first c .before .before .before .before
 
 -- the state after the unfenced cores are counted, and the state at the call
 abbrev counted : tie.At-loop Inv-loop μ-loop → tie.After-open-count Inv-loop μ-loop
-counted s = s .before .before
+counted s = s .before
 
 abbrev entry : tie.At-loop Inv-loop μ-loop → tie.Start Inv-loop μ-loop
 entry s = counted s .before
 
 -- the place is one of the run's
-below : (c : tie.After-with5 Inv-loop μ-loop) → (let s = loop c in (s .loop .i < entry s .args .self .count) × (s .loop .i < mostTasks))
+below : (c : tie.After-with5 Inv-loop μ-loop) → (let s = loop c in (s .loop .i < entry s .args .t1 .count) × (s .loop .i < mostTasks))
 below c =
     let l = first c .before .before .before .loop-test .taken in
     (l, omega (arith, l, entry (loop c) .pre .0))
 
 -- the unfenced cores, of 64 at most, are those of the core count
-wide : (s : tie.At-loop Inv-loop μ-loop) → counted s .open-count .result ≡ wideIn (entry s .args .self)
+wide : (s : tie.At-loop Inv-loop μ-loop) → counted s .open-count .result ≡ wideIn (entry s .args .t1)
 wide s =
-    let r = entry s .args .self in
+    let r = entry s .args .t1 in
     let all : min (r .cores) mostCores ≡ r .cores = omega (arith, entry s .pre .1) in
     counted s .open-count .ensures ∙ ap (openCount (r .fence)) all
 
@@ -92,8 +92,8 @@ open-count-requires c κs = search needs
 
 loop-holds : tie.Need-loop-holds Inv-loop μ-loop
 loop-holds c =
-    let r = c .before .before .args .self in
-    let e = c .before .before .args .empties in (
+    let r = c .before .args .t1 in
+    let e = c .before .args .empties in (
       search needs,
       (
         refl,
@@ -182,7 +182,7 @@ loop-again : tie.Need-loop-again Inv-loop μ-loop
 loop-again c =
     let h = fifth c in
     let s = loop h in
-    let r = entry s .args .self in
+    let r = entry s .args .t1 in
     let e = entry s .args .empties in
     let i = s .loop .i in
     let v = s .loop .inv .1 .1 in
@@ -216,7 +216,7 @@ loop-again c =
 returns : tie.Need-returns Inv-loop μ-loop
 returns c =
     let s = c .before in
-    let r = entry s .args .self in
+    let r = entry s .args .t1 in
     let v = s .loop .inv .1 .1 in
     let e : s .loop .i ≡ r .count = omega arith in
     let len : length (r .tasks) ≡ mostTasks = simp length-map at (entry s .good .0 .1 .1 .1 .1 .1 .1 .1 .0 .1 .0 .1) in
