@@ -23,7 +23,6 @@ impl Run {
     pub fn out(self) -> bool
         ensures { λ r. ⌜ r ≡ runOut self ⌝ }
     {
-        let run = self;
         let rule = self.rule;
         let cores = self.cores;
         let count = self.count;
@@ -33,7 +32,7 @@ impl Run {
         let wide = cores::open_count(cores, self.fence);
         let mut i: usize = 0;
         while i < count {
-            let task = run.tasks[i];
+            let task = self.tasks[i];
             if task.out(rule, wide) {
                 return true;
             }
