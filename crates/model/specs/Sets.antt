@@ -8,7 +8,7 @@ use lib.Count.{ones}
 use lib.ListN.{getD, length}
 use lib.Dec.{ltb}
 use Rattle.model.specs.Book.{Asked, Book, emptied, emptyIn, firstLate, misemptied, rowRefused, shown, shownOf}
-use Rattle.model.specs.Lending.{unlent}
+use Rattle.model.specs.Lending.{lentAway, unlent}
 use Rattle.model.specs.Search.{bit}
 use Rattle.model.specs.Task.{Table}
 
@@ -38,9 +38,11 @@ SetsApart sets = (p q c : ℕ) → bit (getD sets p 0) c ≡ true → bit (getD 
 abbrev pub SetsOpen : ℕ → ℕ → List ℕ → Type 0
 SetsOpen fence m sets = (p c : ℕ) → bit (getD sets p 0) c ≡ true → (c < m) × (bit fence c ≡ false)
 
--- how many cores they have, where ws are the widths, lends says what each place lends and bs is what each borrows
-pub record SetsCount (ws : List ℕ) (lends : ℕ → List ℕ) (bs : List (List ℕ)) (sets : List ℕ) : Type 0 where
-  -- as many as the job is wide, or none
-  pub width : (p : ℕ) → lends p ≡ [] → (ones (getD sets p 0) ≡ getD ws p 0) ⊎ (getD sets p 0 ≡ 0)
-  -- but a place that lends keeps what it has not lent
-  pub lender : (p : ℕ) → ¬ (lends p ≡ []) → getD sets p 0 ≡ setOf (unlent bs (lends p))
+-- how many cores they have, where ws are the widths, offers says which cores each place may lend and bs is what each borrows
+pub record SetsCount (ws : List ℕ) (offers : ℕ → List ℕ) (bs : List (List ℕ)) (sets : List ℕ) : Type 0 where
+  -- a place that has nothing to lend has as many as its job is wide, or none
+  pub width : (p : ℕ) → offers p ≡ [] → (ones (getD sets p 0) ≡ getD ws p 0) ⊎ (getD sets p 0 ≡ 0)
+  -- one that may lend keeps what nobody borrows ..
+  pub lender : (p : ℕ) → ¬ (offers p ≡ []) → getD sets p 0 ≡ setOf (unlent bs (offers p))
+  -- .. and that and what is borrowed of it are together as many as its job is wide: all of them where nobody borrows
+  pub parts : (p : ℕ) → ¬ (offers p ≡ []) → ones (getD sets p 0) + length (lentAway bs (offers p)) ≡ getD ws p 0
