@@ -1,13 +1,12 @@
 -- Rows as sets of cores (request 114): of each place the cores that the row of a tick shows, as one number, core 0 its lowest digit.
-use mathlib.Core.Bool.{cond, false, true}
+use mathlib.Core.Bool.{false, true}
 use mathlib.Core.List.{List, [], _∷_, map}
 use mathlib.Core.Logic.{_⊎_}
 use mathlib.Core.Path.{_≡_}
-use Prim.Native.Nat.{ℕ, suc, _+_, _^_, _<_}
+use Prim.Native.Nat.{ℕ, _+_, _^_, _<_}
 use lib.Count.{ones}
 use lib.ListN.{getD, length}
-use lib.Dec.{ltb}
-use Rattle.model.specs.Book.{Asked, Book, emptied, emptyIn, firstLate, misemptied, rowRefused, shown, shownOf}
+use Rattle.model.specs.Book.{Asked, Book, askedBy, shownOf}
 use Rattle.model.specs.Lending.{lentAway, unlent}
 use Rattle.model.specs.Search.{bit}
 use Rattle.model.specs.Task.{Table}
@@ -21,12 +20,9 @@ setOf (c ∷ l) = 2 ^ c + setOf l
 abbrev pub setsOf : Table → Book → List ℕ
 setsOf s b = map setOf (shownOf s b)
 
--- a row asked as sets, with the empty jobs e: 15 and 20 as of a row asked (`asked`), else the sets with these jobs ended
+-- a row asked as sets: 15 and 20 as of a row asked (`askedBy`)
 unfoldable pub setsAsked : Table → Book → ℕ → Asked
-setsAsked s b e =
-    cond (ltb (firstLate s b) (length (s .tasks)))
-    (rowRefused 15 (suc (firstLate s b)))
-    (cond (misemptied s b e) (rowRefused 20 0) (shown (setsOf s (emptied s (emptyIn b e) b))))
+setsAsked s b e = askedBy (setsOf s) s b e
 
 -- WHAT HOLDS OF THE SETS OF A TICK
 
