@@ -93,14 +93,21 @@ pub any-order : JustThese 5 (2 ∷ 0 ∷ 2 ∷ [])
 unfolding members
 any-order q = sym (members-bit (2 ∷ 0 ∷ 2 ∷ []) q)
 
--- what withdrawals say of position 1: those of positions below it nothing, one by one or as a set, and a set that has it what a single one says
+-- what entries say of position 1: withdrawals below it nothing, single or of a set; a set that has it says what a single one says, and what positions
+-- below it stand in a set says nothing
 pub same-reports :
     SameReports 1 (withdraw 2 ∷ []) []
     × SameReports 1 (withdrawAll 2 ∷ none ∷ []) (none ∷ [])
     × SameReports 1 (withdrawAll 3 ∷ []) (withdraw 1 ∷ [])
+    × SameReports 1 (withdraw 1 ∷ []) (withdrawAll 3 ∷ [])
+    × SameReports 1 (withdrawAll 3 ∷ []) (withdrawAll 1 ∷ [])
+    × SameReports 1 (advance 3 1 ∷ []) (advance 1 3 ∷ [])
 unfolding computing noticed SameEntries
-same-reports = (tt, ((λ q l. refl, λ q l. refl), tt), (first, tt))
+same-reports = (tt, ((λ q l. refl, λ q l. refl), tt), (more, tt), (fewer, tt), (more, tt), ((more, fewer), tt))
   where
-    first : SameBits 1 3 1
-    first zero l = refl
-    first (suc q) l = absurd (omega arith)
+    more : SameBits 1 3 1
+    more zero l = refl
+    more (suc q) l = absurd (omega arith)
+
+    fewer : SameBits 1 1 3
+    fewer q l = sym (more q l)
