@@ -1,5 +1,6 @@
 -- Of every table and book: the sets of cores that a row shows never overlap, have no fenced core and none past the count, and count their job's width or
--- nothing, but that a place that lends keeps what it has not lent; and no task changes the set of a task above it that lends nothing.
+-- nothing, but that one that may lend keeps what nobody borrows, and counts its width with what is borrowed of it; and no task changes the set of a task
+-- above it that has nothing to lend.
 use mathlib.Core.Path.{_≡_, refl, sym, ap, ap₂, _∙_}
 use mathlib.Core.Logic.{_⊎_, inl, inr}
 use mathlib.Core.Bool.{Bool, true, false, not, _&&_, cond}
@@ -46,15 +47,15 @@ module _ (s : Table) (b : Book) where
     sets-count =
         tick-sets-count (s .rule) (widths s (b .tick)) (taskClaims s b) (s .fence) (s .cores) (seeks s b) (offer s b) (length (s .tasks)) seekers offers few
 
-  -- a place that lends nothing shows what it borrows, or what it is given
+  -- a place that has nothing to lend shows what it borrows, or what it is given
   keeps : (p : ℕ) → offer s b p ≡ [] → getD (setsOf s b) p 0 ≡ setOf (borrowed s b p ++ getD (grantsOf s b) p [])
   unfolding borrowed setOf
   keeps p e =
       List·getD-map setOf (shownOf s b) p []
       ∙ ap setOf (tick-shows (s .rule) (widths s (b .tick)) (taskClaims s b) (s .fence) (s .cores) (seeks s b) (offer s b) (length (s .tasks)) seekers offers p e)
 
--- THE THEOREM: where positions 1 to n have the same cores in two books (`local-full`, `local-empty`, `local-lists`), one that lends nothing shows the
--- same set in both
+-- THE THEOREM: where positions 1 to n have the same cores in two books (`local-full`, `local-empty`, `local-lists`), one that has nothing to lend (no
+-- cores are reserved for it as a holder: `offer` is empty) shows the same set in both. One that has may not, lent or not: `lending-sets`
 pub local-sets :
     (n : ℕ) (s s′ : Table) (b b′ : Book) → SameCores n s b s′ b′ → (p : ℕ) → p < n → offer s b p ≡ []
     → getD (setsOf s b) p 0 ≡ getD (setsOf s′ b′) p 0

@@ -1,10 +1,10 @@
--- What a row shows of one tick, in the model's words: no core stands under two places, and each is open; a place that lends nothing has its width or
--- nothing, and keeps what it is given; one that lends keeps what nobody borrows.
+-- What a row shows of one tick, in the model's words: no core stands under two places, and each is open; a place that has nothing to lend has its width
+-- or nothing, and keeps what it is given; one that may lend keeps what nobody borrows, and that and what is borrowed of it are its width.
 use mathlib.Core.Path.{_≡_, refl, sym, ap, subst, _∙_}
 use mathlib.Core.Logic.{_⊎_, inl, inr, ⊎-elim}
 use mathlib.Core.Bool.{Bool, true, false, not, cond, false≢true}
 use mathlib.Core.List.{List, [], _∷_, _++_, append-nil, map}
-use Prim.Native.Nat.{ℕ, zero, suc, _≤_, _<_}
+use Prim.Native.Nat.{ℕ, zero, suc, _+_, _≤_, _<_}
 use native.Mathlib.Omega.{arith}
 use lib.Count.{ones}
 use lib.Dec.{eqb, ltb}
@@ -12,14 +12,14 @@ use lib.ListN.{length, getD, take, List·getD-map}
 use borrow.Author.Tests.{eq-eqb, eqb-false, eqb-true, ltb-false, ltb-true}
 use Rattle.model.specs.Fence.{unfenced}
 use Rattle.model.specs.Grants.{Claimant, claimants, fits, given, grants, left, some}
-use Rattle.model.specs.Lending.{among, lent, shownCores, unlent}
+use Rattle.model.specs.Lending.{among, lent, lentAway, shownCores, unlent}
 use Rattle.model.specs.Search.{bit, kept, keptIf, memb, upFrom}
 use Rattle.model.specs.Sets.{SetsApart, SetsCount, SetsOpen, setOf}
 use Rattle.model.specs.Task.{Rule, greedy}
 use Rattle.model.proofs.Bools.{not-false-true, not-true-false, or-cases, or-right}
 use Rattle.model.proofs.Grants.{grants-length}
 use Rattle.model.proofs.Lending.{lent-length}
-use Rattle.cores.proofs.Ascending.{In, Range, not-in-none, range-kept, range-take, range-up, range-weaken}
+use Rattle.cores.proofs.Ascending.{In, Range, length-halves, not-in-none, range-kept, range-take, range-up, range-weaken}
 use Rattle.cores.proofs.Cores.{set-bit, set-ones}
 use Rattle.rule.specs.Lent.{Showable}
 use Rattle.rule.proofs.Borrowed.{had, lent-apart, lent-from, lent-more, lent-none, lent-once, lent-seekers, lent-width, lentBy, none-some}
@@ -139,7 +139,7 @@ module _ (r : Rule) (ws : List ℕ) (c : ℕ → Bool) (f m : ℕ) (sk : ℕ →
         go true e = inl (seekers p e)
         go false e = inr (lent-seekers ws sk o n p e)
 
-    -- a place that lends nothing keeps what it is given
+    -- a place that has nothing to lend keeps what it is given
     pub tick-keeps : (p : ℕ) → o p ≡ [] → unlent bs (getD gs p []) ≡ getD gs p []
     tick-keeps p none =
         kept-all (λ x. not (among x bs)) (getD gs p [])
@@ -179,7 +179,7 @@ module _ (r : Rule) (ws : List ℕ) (c : ℕ → Bool) (f m : ℕ) (sk : ℕ →
         ⊎-elim (λ w. inl (ap length z ∙ (w ∙ width-of ws c p))) (λ w. inr (z ∙ w)) (width-or-none r (claimants ws c) (unfenced f m) p))
         (tick-either p)
 
-    -- a place that lends keeps what nobody borrows
+    -- a place that may lend keeps what nobody borrows
     pub tick-lender : (p : ℕ) → some (o p) ≡ true → shownAt p ≡ unlent bs (o p)
     tick-lender p e =
         ⊎-elim
@@ -191,6 +191,20 @@ module _ (r : Rule) (ws : List ℕ) (c : ℕ → Bool) (f m : ℕ) (sk : ℕ →
         tick-place p ∙ (ap (λ (l : List ℕ). l ++ unlent bs (getD gs p [])) w ∙ ap (unlent bs) (sym z)))
         (tick-either p))
         (offers p)
+
+    -- .. and that and what is borrowed of it are together its width
+    pub tick-parts : (p : ℕ) → some (o p) ≡ true → length (shownAt p) + length (lentAway bs (o p)) ≡ getD ws p 0
+    tick-parts p e =
+        rw (tick-lender p e)
+        (length-halves (λ x. among x bs) (o p)
+        ∙ ⊎-elim
+        (λ (z : o p ≡ []). absurd (false≢true (sym (ap some z) ∙ e)))
+        (λ (z : o p ≡ getD gs p []).
+        ⊎-elim
+        (λ w. ap length z ∙ (w ∙ width-of ws c p))
+        (λ (w : getD gs p [] ≡ []). absurd (false≢true (sym (ap some (z ∙ w)) ∙ e)))
+        (width-or-none r (claimants ws c) (unfenced f m) p))
+        (offers p))
 
     -- in ascending order
     pub tick-range : (p : ℕ) → Range 0 m (shownAt p)
@@ -247,6 +261,9 @@ module _ (r : Rule) (ws : List ℕ) (c : ℕ → Bool) (f m : ℕ) (sk : ℕ →
       pub tick-sets-open : SetsOpen f m sets
       tick-sets-open p x h = tick-showable .open-only x p (sym (has p x) ∙ h)
 
+      may : (p : ℕ) → ¬ (o p ≡ []) → some (o p) ≡ true
+      may p e = not-false-true (some (o p)) (λ z. e (none-some (o p) z))
+
       pub tick-sets-count : SetsCount ws o bs sets
       unfolding setOf
       tick-sets-count = record {
@@ -255,5 +272,7 @@ module _ (r : Rule) (ws : List ℕ) (c : ℕ → Bool) (f m : ℕ) (sk : ℕ →
             (λ (w : length (shownAt p) ≡ getD ws p 0). inl (ap ones (at p) ∙ (set-ones (shownAt p) (ascending p) ∙ w)))
             (λ (w : shownAt p ≡ []). inr (at p ∙ ap setOf w))
             (tick-count p e);
-        lender = λ p e. at p ∙ ap setOf (tick-lender p (not-false-true (some (o p)) (λ z. e (none-some (o p) z))));
+        lender = λ p e. at p ∙ ap setOf (tick-lender p (may p e));
+        parts = λ p e.
+            ap (λ (n : ℕ). n + length (lentAway bs (o p))) (ap ones (at p) ∙ set-ones (shownAt p) (ascending p)) ∙ tick-parts p (may p e);
       }

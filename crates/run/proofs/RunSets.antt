@@ -136,6 +136,7 @@ module _ (r : Run) (e : ℕ) where
     count-in = record {
       width = λ p q. rw (at p) (lists-count .width p q);
       lender = λ p q. at p ∙ lists-count .lender p q;
+      parts = λ p q. rw (at p) (lists-count .parts p q);
     }
 
     ascending : (p : ℕ) → Range 0 64 (getD (shownIn r e) p [])
