@@ -1,4 +1,4 @@
--- The proofs of the promises on a list of entries: from the tie of one task to `follows`, `sets-book`, `demand-3` and `fenced`, and examples through `replay`.
+-- The proofs of the promises on a list of entries: from the tie of one task to `follows`, `sets-book`, `sets-kept`, `demand-3` and `fenced`, and examples through `replay`.
 pub mod Tied
 pub mod Seen
 pub mod Ticks

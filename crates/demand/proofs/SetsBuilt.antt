@@ -1,19 +1,22 @@
 -- Runs built by hand, asked as sets of cores (request 114), computed from the definitions: lenders and borrowers, holders with and without cores, the fence,
--- 64 cores, an even job, withdrawn and empty jobs; and each refusal, whose sets are all empty. The row's bytes stand beside the sets.
+-- 64 cores, an even job, withdrawn and empty jobs; and each refusal, whose sets are all empty. The row's bytes stand beside the sets; and how the sets that
+-- are told of a run, and those of the book, are made 32.
 use mathlib.Core.List.{List, [], _∷_, _++_, map}
 use mathlib.Core.Path.{_≡_, refl}
 use Prim.Native.Nat.{ℕ, _-_, _^_}
 use Prim.Native.String.{String}
-use lib.ListN.{replicate}
+use lib.ListN.{length, replicate}
+use Rattle.model.specs.Book.{rowRefused, shown}
 use Rattle.model.proofs.LineByLine.{LineByLine, by-line}
 use Rattle.model.specs.Sets.{setOf}
 use Rattle.phase.specs.declared.Phase.{Phase}
 use Rattle.phase.specs.declared.Phase.the-variants.{Coming, Working, Holding, Resting}
+use Rattle.phase.specs.Task.{unused}
 use Rattle.run.specs.declared.Run.{Run}
 use Rattle.run.specs.declared.Sets.{Sets}
 use Rattle.run.specs.declared.Answer.the-variants.{Taken, Refused}
 use Rattle.run.specs.Row.{rowOf}
-use Rattle.run.specs.Sets.{in32, noSets, setsIn, setsOf}
+use Rattle.run.specs.Sets.{askedIn32, setsIn, setsOf, setsTold}
 use Rattle.demand.proofs.HandBuilt.{at-even, one, t, three, two, walled}
 use Rattle.demand.proofs.Running.{running}
 use Rattle.demand.proofs.WidthBuilt.{t₂}
@@ -43,7 +46,17 @@ shows n r e sets bytes = record {
   name = n;
   from = r;
   empties = e;
-  gets = record { answer = Taken; sets = in32 sets };
+  gets = record { answer = Taken; sets = sets ++ replicate (32 - length sets) 0 };
+  row = bytes;
+}
+
+-- one whose 32 sets are written out
+abbrev all-shown : String → Run → ℕ → List ℕ → List ℕ → Line
+all-shown n r e sets bytes = record {
+  name = n;
+  from = r;
+  empties = e;
+  gets = record { answer = Taken; sets = sets };
   row = bytes;
 }
 
@@ -55,14 +68,35 @@ first k bytes = bytes ++ replicate (64 - k) 0
 abbrev pair : ℕ → Phase → Phase → Run
 pair r a b = two r 2 (t 0 2 3 6 6 a) (t 0 1 2 6 6 b)
 
+-- two holders of two cores each, and below them tasks of widths 3, 1 and 2 that work, under rule 4 on four cores
+abbrev lenders : Run
+lenders = record {
+  rule = 4;
+  cores = 4;
+  fence = 0;
+  withdrawn = 0;
+  count = 5;
+  tasks =
+      t 0 2 3 6 6 (Holding 1 1)
+      ∷ t 0 2 3 6 6 (Holding 1 1)
+      ∷ t 0 3 2 6 6 (Working 1 0 0)
+      ∷ t 0 1 2 6 6 (Working 1 0 0)
+      ∷ t 0 2 2 6 6 (Working 1 0 0)
+      ∷ replicate 27 unused;
+}
+
 abbrev pub sets-lines : List Line
 sets-lines =
-    shows "a lender keeps what it has not lent" (pair 4 (Holding 1 1) (Working 1 0 0)) 0 (2 ∷ 1 ∷ []) (first 2 (2 ∷ 1 ∷ []))
+    all-shown "all 32 sets" (pair 4 (Holding 1 1) (Working 1 0 0)) 0
+    (2 ∷ 1 ∷ 0 ∷ 0 ∷ 0 ∷ 0 ∷ 0 ∷ 0 ∷ 0 ∷ 0 ∷ 0 ∷ 0 ∷ 0 ∷ 0 ∷ 0 ∷ 0 ∷ 0 ∷ 0 ∷ 0 ∷ 0 ∷ 0 ∷ 0 ∷ 0 ∷ 0 ∷ 0 ∷ 0 ∷ 0 ∷ 0 ∷ 0 ∷ 0 ∷ 0 ∷ 0 ∷ []) (first 2 (2 ∷ 1 ∷ []))
+    ∷ shows "a lender keeps what it has not lent" (pair 4 (Holding 1 1) (Working 1 0 0)) 0 (2 ∷ 1 ∷ []) (first 2 (2 ∷ 1 ∷ []))
     ∷ shows "one that has lent all has none"
     (three 4 2 0 (t 0 2 3 6 6 (Holding 1 1)) (t 0 1 2 6 6 (Working 1 0 0)) (t 0 1 2 6 6 (Working 1 0 0))) 0 (0 ∷ 1 ∷ 2 ∷ []) (first 2 (2 ∷ 3 ∷ []))
     ∷ shows "a holder under rule 3 keeps all" (pair 3 (Holding 1 1) (Working 1 0 0)) 0 (3 ∷ 0 ∷ []) (first 2 (1 ∷ 1 ∷ []))
     ∷ shows "a holder without cores has none, and lends none"
     (three 4 2 0 (t 0 2 3 6 6 (Working 0 0 0)) (t 0 1 2 6 6 (Holding 1 0)) (t 0 1 2 6 6 (Working 1 0 0))) 0 (3 ∷ 0 ∷ 0 ∷ []) (first 2 (1 ∷ 1 ∷ []))
+    ∷ shows "under rule 3 too a holder without cores has none" (pair 3 (Working 0 0 0) (Holding 1 0)) 0 (3 ∷ 0 ∷ []) (first 2 (1 ∷ 1 ∷ []))
+    ∷ shows "two lenders: each serves who fits in what it has left" lenders 0 (2 ∷ 0 ∷ 0 ∷ 1 ∷ 12 ∷ []) (first 4 (4 ∷ 1 ∷ 5 ∷ 5 ∷ []))
     ∷ shows "a fenced core is in no set, lent or not"
     (three 4 4 2 (t 0 2 3 4 5 (Holding 1 1)) (t 0 1 2 3 5 (Working 1 1 1)) (t 0 2 2 4 5 (Working 1 0 0))) 0 (0 ∷ 8 ∷ 5 ∷ []) (first 4 (3 ∷ 255 ∷ 3 ∷ 2 ∷ []))
     ∷ shows "who rests or has not come has none"
@@ -79,7 +113,7 @@ refuses n r e number position = record {
   name = n;
   from = r;
   empties = e;
-  gets = record { answer = Refused number position; sets = noSets };
+  gets = record { answer = Refused number position; sets = replicate 32 0 };
   row = replicate 64 0;
 }
 
@@ -96,7 +130,7 @@ refused-lines =
 
 computed : LineByLine asked sets-lines sets-lines
 unfolding running setsOf setsIn setOf
-computed = (refl, (refl, (refl, (refl, (refl, (refl, (refl, (refl, (refl, (refl, tt))))))))))
+computed = (refl, (refl, (refl, (refl, (refl, (refl, (refl, (refl, (refl, (refl, (refl, (refl, (refl, tt)))))))))))))
 
 refused : LineByLine asked refused-lines refused-lines
 unfolding running setsOf setsIn setOf
@@ -107,3 +141,11 @@ sets-examples = by-line asked sets-lines sets-lines computed
 
 pub refused-examples : map asked refused-lines ≡ refused-lines
 refused-examples = by-line asked refused-lines refused-lines refused
+
+-- what is told: the 32 sets, or the refusal; and of the book's sets, as 32
+pub told-as : (setsTold (setsOf (pair 4 (Holding 1 1) (Working 1 0 0)) 0) ≡ shown (2 ∷ 1 ∷ replicate 30 0))
+    × (setsTold (setsOf (pair 1 (Working 1 0 0) (Working 6 0 0)) 0) ≡ rowRefused 15 2)
+    × (askedIn32 (shown (2 ∷ 1 ∷ [])) ≡ shown (2 ∷ 1 ∷ replicate 30 0))
+    × (askedIn32 (rowRefused 15 2) ≡ rowRefused 15 2)
+unfolding running setsOf setsIn setOf
+told-as = (refl, refl, refl, refl)

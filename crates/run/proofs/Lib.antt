@@ -16,6 +16,7 @@ pub mod ByVerdict
 pub mod Cases
 pub mod Chosen
 pub mod Found
+pub mod Owned
 pub mod RunSets
 pub mod SetsExamples
 pub mod PlaceSets

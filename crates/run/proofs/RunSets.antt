@@ -1,70 +1,53 @@
--- The sets of cores of a run's present tick: no two overlap, none has a fenced core or one past the count, each counts its job's width or nothing, but a
--- place that lends keeps what it has not lent; and the row's bytes are those of the sets.
+-- The sets of cores of a run's present tick: 32, empty past the count; no two overlap, none has a fenced core or one past the count, each counts its job's
+-- width or nothing, but of what a place offers it keeps what nobody borrows; who works has the tick exactly if its set is not empty; and the row's bytes
+-- are those of the sets, core by core.
 use mathlib.Core.Path.{_≡_, refl, sym, ap, ap₂, _∙_}
 use mathlib.Core.Logic.{_⊎_, inl, inr}
-use mathlib.Core.Bool.{Bool, true, false, not, _&&_, cond, false≢true}
-use mathlib.Core.List.{List, [], _∷_, _++_, map}
-use Prim.Native.Nat.{ℕ, zero, suc, _-_, _≤_}
+use mathlib.Core.Bool.{Bool, true, false, not, _&&_, _||_, cond, false≢true}
+use mathlib.Core.List.{List, [], _∷_, map}
+use Prim.Native.Nat.{ℕ, suc, _+_, _-_, _≤_, _<_, min}
 use native.Mathlib.Omega.{arith}
-use lib.Dec.{ltb}
-use lib.ListN.{length, getD, replicate, take, length-map, length-take}
+use lib.Dec.{eqb, ltb}
+use lib.ListN.{length, getD, replicate, take, length-append, length-map, length-replicate, length-take, List·getD-eq-default, List·getD-map}
 use lib.Seq.{take-at}
-use borrow.Author.Tests.{not-true}
+use borrow.Author.Tests.{ne-eqb, not-true}
 use Rattle.model.specs.Fence.{unfenced}
+use Rattle.model.specs.Grants.{some}
 use Rattle.model.specs.Lending.{lends}
-use Rattle.model.specs.Row.{owner, row}
-use Rattle.model.specs.Search.{bit, memb, upFrom}
+use Rattle.model.specs.Row.{row}
+use Rattle.model.specs.Search.{bit}
 use Rattle.model.specs.Sets.{SetsApart, SetsCount, SetsOpen, setOf}
-use Rattle.model.specs.Sizes.{fencedByte, mostTasks}
+use Rattle.model.specs.Sizes.{mostCores, mostTasks}
 use Rattle.model.specs.Book as model
-use Rattle.model.proofs.Bools.{and-right}
+use Rattle.model.proofs.Bools.{and-right, or-comm}
 use Rattle.model.proofs.Digits.{bit-none}
 use Rattle.model.proofs.Grants.{grants-length}
 use Rattle.model.proofs.Lending.{lent-length}
 use Rattle.model.proofs.Lists.{getD-zeros}
 use Rattle.cores.specs.Cores.{cores}
 use Rattle.cores.proofs.Ascending.{Range, range-weaken}
-use Rattle.cores.proofs.Cores.{cores-none, cores-set}
+use Rattle.cores.proofs.Cores.{cores-set, set-bit}
+use Rattle.phase.specs.declared.Phase.{Phase}
+use Rattle.phase.specs.declared.Phase.the-variants.{Coming, Working, Holding, Resting}
 use Rattle.phase.specs.Phase.{claiming, holder, working}
 use Rattle.phase.specs.Task.{widthNow}
 use Rattle.rule.specs.Lent.{Showable}
 use Rattle.rule.proofs.Borrowed.{none-some, shown-length}
-use Rattle.rule.proofs.Tick.{tick-range, tick-sets-apart, tick-sets-count, tick-sets-open, tick-showable}
+use Rattle.rule.proofs.Tick.{tick-range, tick-sets-apart, tick-sets-count, tick-sets-open, tick-showable, tick-shows}
 use Rattle.run.specs.declared.Run.{Run}
 use Rattle.run.specs.declared.Sets.{Sets}
 use Rattle.run.specs.declared.Answer.{Answer}
 use Rattle.run.specs.declared.Answer.the-variants.{Taken, Refused}
 use Rattle.run.specs.Answer.{byAnswer, in64, told}
 use Rattle.run.specs.Row.{bytesIn, noBytes, rowAnswer, rowOf}
-use Rattle.run.specs.Run.{grantsIn, hasCores, lentIn, offerIn, ruleIn, seeksIn, seenAt, shownIn, widthsNow}
+use Rattle.run.specs.Run.{borrowedIn, grantsIn, hasCores, hasLent, lentIn, offerIn, ruleIn, seeksIn, seenAt, shownIn, widthsNow}
 use Rattle.run.specs.Sets.{SetsOf, bytesOf, in32, noSets, setsIn, setsOf}
 use Rattle.run.proofs.Cases.{row-passes}
 use Rattle.run.proofs.Exact.{sets-exact, sets-taken}
 use Rattle.run.proofs.First.{by-refused, by-taken}
+use Rattle.run.proofs.Owned.{padded, same-row, set-some, shown-owned, some-append}
 use Rattle.run.proofs.RunOut.{few-cores}
-
--- ---- sets past the last
-
--- they are none
-pub padded : (sets : List ℕ) (k p : ℕ) → getD (sets ++ replicate k 0) p 0 ≡ getD sets p 0
-padded [] k p = getD-zeros k p
-padded (x ∷ sets) k zero = refl
-padded (x ∷ sets) k (suc p) = padded sets k p
-
--- and show nothing
-nobody : (c p k : ℕ) → owner c p (map cores (replicate k 0)) ≡ 0
-unfolding owner memb
-nobody c p zero = refl
-nobody c p (suc k) = rw cores-none (nobody c (suc p) k)
-
-same-owner : (c p : ℕ) (sets : List ℕ) (k : ℕ) → owner c p (map cores (sets ++ replicate k 0)) ≡ owner c p (map cores sets)
-unfolding owner
-same-owner c p [] k = nobody c p k
-same-owner c p (x ∷ sets) k = ap (cond (memb c (cores x)) p) (same-owner c (suc p) sets k)
-
-same-row : (f m : ℕ) (sets : List ℕ) (k : ℕ) → row f m (map cores (sets ++ replicate k 0)) ≡ row f m (map cores sets)
-unfolding row
-same-row f m sets k = λ i. map (λ c. cond (bit f c) fencedByte (same-owner c 1 sets k i)) (upFrom 0 m)
+use Rattle.run.proofs.RunOut as out
 
 -- ---- lists and their sets
 
@@ -98,20 +81,40 @@ module _ (r : Run) (e : ℕ) where
       tick-showable (ruleIn r) (widthsNow r) (λ p. claiming (seenAt r e p)) (r .fence) (r .cores) (seeksIn r e) (offerIn r e) (r .count) seekers offers
 
   -- a place below the count has its list
-  shown-count : length (r .tasks) ≡ 32 → r .count ≤ 32 → length (shownIn r e) ≡ r .count
+  shown-min : length (shownIn r e) ≡ min (r .count) (length (r .tasks))
   unfolding grantsIn lentIn
-  shown-count len most =
+  shown-min =
       let g = grants-length (ruleIn r) (widthsNow r) (λ p. claiming (seenAt r e p)) (unfenced (r .fence) (r .cores)) in
       let l = lent-length (widthsNow r) (seeksIn r e) (offerIn r e) (r .count) in
       shown-length (grantsIn r e) (lentIn r e) (g ∙ sym l)
-      ∙ (g ∙ (length-map (take (r .count) (r .tasks)) widthNow ∙ (length-take (r .count) (r .tasks) ∙ omega arith)))
+      ∙ (g ∙ (length-map (take (r .count) (r .tasks)) widthNow ∙ length-take (r .count) (r .tasks)))
+
+  shown-count : length (r .tasks) ≡ 32 → r .count ≤ 32 → length (shownIn r e) ≡ r .count
+  shown-count len most = shown-min ∙ omega arith
+
+  at : (p : ℕ) → getD (setsIn r e) p 0 ≡ getD (map setOf (shownIn r e)) p 0
+  unfolding setsIn
+  at p = padded (map setOf (shownIn r e)) (mostTasks - length (map setOf (shownIn r e))) p
+
+  -- the set of a place is that of its list
+  set-at : (p : ℕ) → getD (setsIn r e) p 0 ≡ setOf (getD (shownIn r e) p [])
+  unfolding setOf
+  set-at p = at p ∙ List·getD-map setOf (shownIn r e) p []
+
+  -- there are 32, and none past the count
+  size-in : r .count ≤ 32 → length (setsIn r e) ≡ mostTasks
+  unfolding setsIn
+  size-in most =
+      let sets = map setOf (shownIn r e) in
+      length-append sets (replicate (mostTasks - length sets) 0)
+      ∙ (ap (λ (n : ℕ). length sets + n) (length-replicate {A = ℕ} (mostTasks - length sets) 0)
+      ∙ omega (arith, length-map (shownIn r e) setOf, shown-min))
+
+  past-in : (p : ℕ) → r .count ≤ p → getD (setsIn r e) p 0 ≡ 0
+  past-in p l = at p ∙ List·getD-eq-default (map setOf (shownIn r e)) 0 (omega (arith, length-map (shownIn r e) setOf, shown-min))
 
   -- of at most 64 cores
   module _ (few : r .cores ≤ 64) where
-    at : (p : ℕ) → getD (setsIn r e) p 0 ≡ getD (map setOf (shownIn r e)) p 0
-    unfolding setsIn
-    at p = padded (map setOf (shownIn r e)) (mostTasks - length (map setOf (shownIn r e))) p
-
     has : (p c : ℕ) → bit (getD (setsIn r e) p 0) c ≡ true → bit (getD (map setOf (shownIn r e)) p 0) c ≡ true
     has p c h = sym (ap (λ (n : ℕ). bit n c) (at p)) ∙ h
 
@@ -166,6 +169,36 @@ module _ (r : Run) (e : ℕ) where
         ∙ sym (same-row (r .fence) (r .cores) (map setOf (shownIn r e)) (mostTasks - length (map setOf (shownIn r e)))) in
         ap in64 rows
 
+    -- core by core
+    each-in : (p c : ℕ) → p < mostTasks → bit (getD (setsIn r e) p 0) c ≡ eqb (getD (bytesIn r e) c 0) (suc p)
+    unfolding bytesIn
+    each-in p c l =
+        ap (λ (n : ℕ). bit n c) (set-at p)
+        ∙ (set-bit (getD (shownIn r e) p []) (ascending p) c ∙ shown-owned (r .fence) (r .cores) (shownIn r e) run-showable p c l)
+
+  -- who works offers nothing, so its set has what it borrows and what it is given
+  works-none : (p : ℕ) → working (seenAt r e p) ≡ true → offerIn r e p ≡ []
+  unfolding offerIn
+  works-none p h = go (seenAt r e p) h (lends (ruleIn r)) (getD (grantsIn r e) p [])
+    where
+      go : (ph : Phase) → working ph ≡ true → (t : Bool) (l : List ℕ) → cond (t && holder ph) l [] ≡ []
+      go (Coming left) w t l = absurd (false≢true w)
+      go (Working z had reserved) w true l = refl
+      go (Working z had reserved) w false l = refl
+      go (Holding z reserved) w t l = absurd (false≢true w)
+      go (Resting z) w t l = absurd (false≢true w)
+
+  works-in : (p : ℕ) → working (seenAt r e p) ≡ true → (hasCores r e p || hasLent r e p) ≡ ltb 0 (getD (setsIn r e) p 0)
+  unfolding grantsIn lentIn
+  works-in p h =
+      or-comm (hasCores r e p) (hasLent r e p)
+      ∙ sym (ap (ltb 0) (set-at p)
+      ∙ (set-some (getD (shownIn r e) p [])
+      ∙ (ap some
+      (tick-shows (ruleIn r) (widthsNow r) (λ p. claiming (seenAt r e p)) (r .fence) (r .cores) (seeksIn r e) (offerIn r e) (r .count) seekers offers p
+      (works-none p h))
+      ∙ some-append (borrowedIn r e p) (getD (grantsIn r e) p []))))
+
   -- ---- as they are answered
 
   none-in : (p c : ℕ) → bit (getD noSets p 0) c ≡ true → ⊥
@@ -175,6 +208,22 @@ module _ (r : Run) (e : ℕ) where
   few q = few-cores r (row-passes r e q)
 
   -- THE THEOREMS
+  pub sets-size : length (setsOf r e .sets) ≡ mostTasks
+  unfolding setsOf
+  sets-size = go (rowAnswer r e) refl
+    where
+      go : (a : Answer) → rowAnswer r e ≡ a → length (byAnswer a (setsIn r e) noSets) ≡ mostTasks
+      go Taken q = size-in (out.few r (row-passes r e q))
+      go (Refused n i) q = refl
+
+  pub sets-past : (p : ℕ) → r .count ≤ p → getD (setsOf r e .sets) p 0 ≡ 0
+  unfolding setsOf
+  sets-past p l = go (rowAnswer r e)
+    where
+      go : (a : Answer) → getD (byAnswer a (setsIn r e) noSets) p 0 ≡ 0
+      go Taken = past-in p l
+      go (Refused n i) = getD-zeros mostTasks p
+
   pub sets-apart : SetsApart (setsOf r e .sets)
   unfolding setsOf
   sets-apart = go (rowAnswer r e) refl
@@ -199,6 +248,24 @@ module _ (r : Run) (e : ℕ) where
       go Taken q t = count-in (few q)
       go (Refused n p) q t = absurd (let z : _≡_ {A = ℕ} 0 1 = cc in omega arith)
 
+  pub sets-works :
+      told (setsOf r e .answer) ≡ model.taken
+      → (p : ℕ) → working (seenAt r e p) ≡ true → (hasCores r e p || hasLent r e p) ≡ ltb 0 (getD (setsOf r e .sets) p 0)
+  unfolding setsOf
+  sets-works t p h = works-in p h ∙ ap (λ (sets : List ℕ). ltb 0 (getD sets p 0)) (sym (by-taken (rowAnswer r e) (setsIn r e) noSets t))
+
+  -- core by core, the row's bytes say the sets
+  pub sets-each : (p c : ℕ) → p < mostTasks → bit (getD (setsOf r e .sets) p 0) c ≡ eqb (getD (rowOf r e .bytes) c 0) (suc p)
+  unfolding rowOf setsOf
+  sets-each p c l = go (rowAnswer r e) refl
+    where
+      go : (a : Answer) → rowAnswer r e ≡ a
+          → bit (getD (byAnswer a (setsIn r e) noSets) p 0) c ≡ eqb (getD (byAnswer a (bytesIn r e) noBytes) c 0) (suc p)
+      go Taken q = each-in (few q) p c l
+      go (Refused n i) q =
+          (ap (λ (n : ℕ). bit n c) (getD-zeros mostTasks p) ∙ bit-none c)
+          ∙ sym (ap (λ (n : ℕ). eqb n (suc p)) (getD-zeros mostCores c) ∙ ne-eqb 0 (suc p) (λ z. omega arith))
+
   -- the row's bytes are those of the sets
   pub sets-bytes : rowOf r e .bytes ≡ byAnswer (setsOf r e .answer) (bytesOf (r .fence) (r .cores) (setsOf r e .sets)) noBytes
   unfolding rowOf setsOf
@@ -217,8 +284,12 @@ module _ (r : Run) (e : ℕ) where
     taken = sets-taken r e;
     sets = unfold setsOf in by-taken (rowAnswer r e) (setsIn r e) noSets;
     zeros = unfold setsOf in by-refused (rowAnswer r e) (setsIn r e) noSets;
+    size = sets-size;
+    past = sets-past;
     apart = sets-apart;
     open-only = sets-open;
     count = sets-count;
+    works = sets-works;
+    each = sets-each;
     bytes = sets-bytes;
   }

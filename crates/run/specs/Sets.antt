@@ -1,19 +1,23 @@
 -- The row of a run as sets of cores (request 114): of each place the cores that it shows, as one number, core 0 its lowest digit. Held cores are in the
 -- holder's set, lent ones in the borrower's, fenced ones in none.
 use mathlib.Core.Path.{_≡_}
+use mathlib.Core.Bool.{true, _||_}
 use mathlib.Core.Logic.{_↔_}
 use mathlib.Core.List.{List, _++_, map}
-use Prim.Native.Nat.{ℕ, _-_}
-use lib.ListN.{length, replicate}
+use Prim.Native.Nat.{ℕ, suc, _-_, _≤_, _<_}
+use lib.Dec.{eqb, ltb}
+use lib.ListN.{length, getD, replicate}
 use Rattle.model.specs.Book as model
 use Rattle.model.specs.Row.{row}
+use Rattle.model.specs.Search.{bit}
 use Rattle.model.specs.Sets.{SetsApart, SetsCount, SetsOpen, setOf}
 use Rattle.model.specs.Sizes.{mostTasks}
 use Rattle.table.specs.Numbers.{FirstOf, NoneOf}
 use Rattle.cores.specs.Cores.{cores}
+use Rattle.phase.specs.Phase.{working}
 use Rattle.run.specs.declared.Run.{Run}
 use Rattle.run.specs.declared.Sets.{Sets}
-use Rattle.run.specs.Run.{lentIn, offerIn, shownIn, widthsNow}
+use Rattle.run.specs.Run.{hasCores, hasLent, lentIn, offerIn, seenAt, shownIn, widthsNow}
 use Rattle.run.specs.Answer.{told, byAnswer, in64, shownBy}
 use Rattle.run.specs.Numbers.{RowApplies}
 use Rattle.run.specs.Row.{noBytes, rowAnswer, rowOf}
@@ -43,7 +47,8 @@ abbrev pub askedIn32 : model.Asked → model.Asked
 askedIn32 (model.shown sets) = model.shown (in32 sets)
 askedIn32 (model.rowRefused n p) = model.rowRefused n p
 
--- the bytes of a row, from its sets, the fence and the core count alone: the position on each of its cores, 255 on a fenced one
+-- the bytes of a row, from its sets, the fence and the core count alone: the position on each of its cores, 255 on a fenced one, 0
+-- on the others and past the core count
 unfoldable pub bytesOf : ℕ → ℕ → List ℕ → List ℕ
 bytesOf fence m sets = in64 (row fence m (map cores sets))
 
@@ -58,10 +63,17 @@ pub record SetsOf (r : Run) (e : ℕ) (w : Sets) : Type 0 where
   pub sets : told (w .answer) ≡ model.taken → w .sets ≡ setsIn r e
   -- refused: all empty
   pub zeros : (n p : ℕ) → told (w .answer) ≡ model.refused n p → w .sets ≡ noSets
+  -- there are 32, empty past the count
+  pub size : length (w .sets) ≡ mostTasks
+  pub past : (p : ℕ) → r .count ≤ p → getD (w .sets) p 0 ≡ 0
   -- no two overlap, and none has a fenced core or one past the count
   pub apart : SetsApart (w .sets)
   pub open-only : SetsOpen (r .fence) (r .cores) (w .sets)
-  -- taken: each counts its job's width or nothing, but a place that lends keeps what it has not lent
+  -- taken: each counts its job's width or nothing, but of what a place offers it keeps what nobody borrows
   pub count : told (w .answer) ≡ model.taken → SetsCount (widthsNow r) (offerIn r e) (lentIn r e) (w .sets)
+  -- taken: a task that is Working has the tick, by cores of its own or lent ones, exactly if its set is not empty
+  pub works : told (w .answer) ≡ model.taken → (p : ℕ) → working (seenAt r e p) ≡ true → (hasCores r e p || hasLent r e p) ≡ ltb 0 (getD (w .sets) p 0)
+  -- core c is in the set of a position exactly if the row shows that position on it
+  pub each : (p c : ℕ) → p < mostTasks → bit (getD (w .sets) p 0) c ≡ eqb (getD (rowOf r e .bytes) c 0) (suc p)
   -- the row's bytes are those of the sets
   pub bytes : rowOf r e .bytes ≡ byAnswer (w .answer) (bytesOf (r .fence) (r .cores) (w .sets)) noBytes

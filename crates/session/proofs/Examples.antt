@@ -213,9 +213,9 @@ talks =
     ∷ talk turning "r\na 0\nr\na 0\nr\na 0 1\na 0\nr\na 0\na 0\nr" "row 1 0\ntaken\nrow 0 0\ntaken\nrow 1 1\ntaken\ntaken\nrow 1 0\ntaken\ntaken\nrow 1 1\n"
     -- under rule 4 an empty job lends its cores: the row shows the borrower, who may be reported; the lender may not
     ∷ talk lending "r\nr 1\na 2\na 1 1\na 2 1\nr" "row 1 1\nrow 2 1\nrefused 16 0\nrefused 16 0\ntaken\nrow 2 0\n"
-    -- the same as sets: the lender keeps what it has not lent; a refusal has no sets
-    ∷ talk lending "s\ns 1\ns 4"
-    "sets 3 0 0 0 0 0 0 0 0 0 0 0 0 0 0 0 0 0 0 0 0 0 0 0 0 0 0 0 0 0 0 0\nsets 2 1 0 0 0 0 0 0 0 0 0 0 0 0 0 0 0 0 0 0 0 0 0 0 0 0 0 0 0 0 0 0\nrefused 20 0\n"
+    -- the same as sets: the lender keeps what it has not lent; a refusal has no sets; and nothing changes
+    ∷ talk lending "s\ns 1\ns 4\nr"
+    "sets 3 0 0 0 0 0 0 0 0 0 0 0 0 0 0 0 0 0 0 0 0 0 0 0 0 0 0 0 0 0 0 0\nsets 2 1 0 0 0 0 0 0 0 0 0 0 0 0 0 0 0 0 0 0 0 0 0 0 0 0 0 0 0 0 0 0\nrefused 20 0\nrow 1 1\n"
     ∷ talk none "s" "refused 14 0\n"
     -- after a line that is no operation nothing is said
     ∷ talk pair "r 1 2\nr\n" "not an operation\n"

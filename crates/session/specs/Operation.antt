@@ -26,7 +26,7 @@ use Rattle.session.specs.declared.operations.Operation.the-variants.{Adv
 abbrev pub noneLong : ℕ
 noneLong = 1 + 2 * (1 + mostDigits) + 1
 
--- the most bytes that are said at once: `sets`, for each of 32 positions a space and up to 20 digits, and a newline
+-- no more bytes than these are said at once: `sets`, for each of 32 positions a space and up to 20 digits, and a newline
 abbrev pub longestReply : ℕ
 longestReply = 4 + mostTasks * (1 + 20) + 1
 

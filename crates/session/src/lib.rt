@@ -19,7 +19,7 @@ pub const TOO_MANY: usize = text::BYTES + 3;
 // A line of so many bytes is no operation: one more than a letter and two numbers, each with a space before it.
 const NONE_LONG: usize = 1 + 2 * (1 + text::DIGITS) + 1;
 
-// The most bytes that are said at once: `sets`, for each of 32 positions a space and up to 20 digits, and a newline.
+// No more bytes than these are said at once: `sets`, for each of 32 positions a space and up to 20 digits, and a newline.
 pub const REPLY: usize = 4 + MOST_TASKS * (1 + 20) + 1;
 
 // What the bytes that come are read as: the table, the operations, or nothing any more.
