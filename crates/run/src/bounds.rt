@@ -41,22 +41,4 @@ impl Run {
         }
         false
     }
-
-    // The first place whose task is Working at its deadline (number 15), or the count.
-    pub fn first_late(self) -> usize
-        requires { ⌜ self .count ≤ mostTasks ⌝ }
-        ensures { λ r. ⌜ r ≡ firstLateIn self ⌝ }
-    {
-        let run = self;
-        let count = self.count;
-        let mut place: usize = 0;
-        while place < count {
-            let task = run.tasks[place];
-            if task.late() {
-                return place;
-            }
-            place += 1;
-        }
-        count
-    }
 }

@@ -30,13 +30,7 @@ pub fn empty() -> Run
 }
 
 // The run of a table's first `count` tasks as it starts.
-pub fn started(
-    rule: u32,
-    cores: u32,
-    fence: u64,
-    tasks: [table::Task; MOST_TASKS],
-    count: usize,
-) -> Run
+fn started(rule: u32, cores: u32, fence: u64, tasks: [table::Task; MOST_TASKS], count: usize) -> Run
     requires { ⌜ count ≤ mostTasks ⌝ }
     ensures { λ r. ⌜ r ≡ startedRun rule (tableWith cores fence rule (table.tasksOf tasks count)) ⌝ }
 {
@@ -71,7 +65,7 @@ pub(crate) fn refused(number: u32, position: u32) -> Started
 }
 
 // The run of the words of a table that passes 1 to 9 and 19, as it starts.
-pub(crate) fn begun(words: &[u32]) -> Started
+pub fn begun(words: &[u32]) -> Started
     requires { ⌜ NoneApplies (now words) ⌝ }
     ensures { λ r. ⌜ r ≡ record { answer = Taken; run = startedRun (rule (now (words .entry))) (tableOf (now (words .entry))) } ⌝ }
 {

@@ -14,6 +14,7 @@ use Rattle.table.specs.declared.Answer.the-variants.{Passed, Refused}
 use Rattle.table.specs.declared.Loaded.{Loaded}
 use Rattle.run.specs.Start.{startedRun}
 use Rattle.run.specs.declared.Run.{Run}
+use Rattle.run.specs.declared.Started.{Started}
 use Rattle.foreign.specs.Begin.{firstState}
 use Rattle.foreign.specs.State.{arrived, startIn}
 use Rattle.foreign.specs.declared.Begun.{Begun}
@@ -39,10 +40,8 @@ abbrev turned : ℕ → ℕ → Supplied → Begun
 turned n p w = record { answer = Refused n p; plan = w }
 
 -- its run is that of the table as it starts
-begun : (c : tie.After-started) → (let ws = c .before .before .before .before .before .before .args .words .now in c .started .result ≡ startedRun (rule ws) (tableOf ws))
-begun c =
-    let l = c .before .before .before .before in
-    c .started .ensures ∙ loaded-run (l .before .before .args .words .now) (l .load .result) (held l (c .before .before .enum-told .given .1))
+begun : (c : tie.After-begun) → (let ws = c .before .before .before .before .before .before .args .words .now in c .begun .result .run ≡ startedRun (rule ws) (tableOf ws))
+begun c = ap (λ (s : Started). s .run) (c .begun .ensures)
 
 load-requires : tie.Need-load-requires
 load-requires c κs = search needs
@@ -50,8 +49,11 @@ load-requires c κs = search needs
 enum-told : tie.Need-enum-told
 enum-told c = search needs
 
-started-requires : tie.Need-started-requires
-started-requires c κs = held (c .before .before .before) (c .before .enum-told .given .1) .count-from .1
+begun-requires : tie.Need-begun-requires
+begun-requires c κs =
+    let t = c .before in
+    let l = t .before .before in
+    l .load .ensures .passed .0 (ap loadTold (t .enum-told .given .1))
 
 blank-requires : tie.Need-blank-requires
 blank-requires c κs = search needs
@@ -97,7 +99,7 @@ begin-spec =
     (tie.spec
     load-requires
     enum-told
-    started-requires
+    begun-requires
     blank-requires
     arrived-requires
     enum-known-answer
