@@ -40,7 +40,7 @@ abbrev turned : ℕ → ℕ → Supplied → Begun
 turned n p w = record { answer = Refused n p; plan = w }
 
 -- its run is that of the table as it starts
-begun : (c : tie.After-begun) → (let ws = c .before .before .before .before .before .before .args .words .now in c .begun .result .run ≡ startedRun (rule ws) (tableOf ws))
+begun : (c : tie.After-begun) → (let ws = c .before .before .before .before .before .args .words .now in c .begun .result .run ≡ startedRun (rule ws) (tableOf ws))
 begun c = ap (λ (s : Started). s .run) (c .begun .ensures)
 
 load-requires : tie.Need-load-requires
@@ -51,19 +51,17 @@ enum-told c = search needs
 
 begun-requires : tie.Need-begun-requires
 begun-requires c κs =
-    let t = c .before in
-    let l = t .before .before in
-    l .load .ensures .passed .0 (ap loadTold (t .enum-told .given .1))
+    c .before .before .load .ensures .passed .0 (ap loadTold (c .enum-told .given .1))
 
 blank-requires : tie.Need-blank-requires
 blank-requires c κs = search needs
 
 arrived-requires : tie.Need-arrived-requires
 arrived-requires c κs =
-    let t = c .before in
-    let l = t .before .before .before .before in
+    let t = c .before .before in
+    let l = t .before .before .before in
     let ws = l .before .before .args .words .now in
-    let h = held l (t .before .before .enum-told .given .1) in (
+    let h = held l (t .before .enum-told .given .1) in (
       subst⁻¹ (λ (r : Run). r .count ≤ mostTasks) (begun t) (loaded-few ws (l .load .result) h),
       loaded-start ws (l .load .result) h ∙ sym (ap startIn (begun t)),
     )
@@ -77,14 +75,14 @@ empty-requires c κs = search needs
 returns : tie.Need-returns
 returns c =
     let b = c .before in
-    let t = b .before in
-    let l = t .before .before .before .before in
+    let t = b .before .before in
+    let l = t .before .before .before in
     let ws = l .before .before .args .words .now in
     let first : c .arrived .result ≡ firstState ws =
     c .arrived .ensures
     ∙ (ap (λ (r : Run). arrived r 0 (b .blank .result)) (begun t)
     ∙ ap (λ (ns : List Note). arrived (startedRun (rule ws) (tableOf ws)) 0 ns) (b .blank .ensures)) in
-    begin-of ws (passed (c .arrived .result)) (ap passed first ∙ sym (begin-passed ws (answered l Passed (t .before .before .enum-told .given .1))))
+    begin-of ws (passed (c .arrived .result)) (ap passed first ∙ sym (begin-passed ws (answered l Passed (t .before .enum-told .given .1))))
 
 returns-2 : tie.Need-returns-2
 returns-2 c =
