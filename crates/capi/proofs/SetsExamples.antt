@@ -6,6 +6,7 @@ use mathlib.Core.Path.{_≡_, refl}
 use mathlib.Core.Bool.{false}
 use Prim.Native.Nat.{ℕ}
 use lib.ListN.{replicate}
+use Rattle.model.proofs.LineByLine.{LineByLine, by-line}
 use Rattle.phase.specs.declared.Phase.{Phase}
 use Rattle.phase.specs.declared.Phase.the-variants.{Working, Holding, Resting}
 use Rattle.phase.specs.declared.Task.{Task}
@@ -110,7 +111,7 @@ lines =
     -- 15 with the lowest late position, also before 20
     ∷ refuses (late 1 (Working 4 1 1) (Working 4 1 1)) 0 15 1 ∷ refuses (late 2 (Resting 2) (Working 4 1 1)) 0 15 2 ∷ refuses (late 4 (Working 4 1 0) (Resting 2)) 4 15 1
     -- 20: a job that was released before, or a position past the count
-    ∷ refuses (held 4) 1 20 0 ∷ refuses (held 4) 2 20 0 ∷ refuses (fresh (plain 1 3)) 4 20 0 ∷ refuses (fresh (plain 1 3)) 2147483648 20 0
+    ∷ refuses (held 4) 1 20 0 ∷ refuses (held 4) 2 20 0 ∷ refuses (fresh (plain 1 3)) 4 20 0 ∷ refuses (fresh (plain 1 3)) 5 20 0
     -- 14: no rule, a fence of all cores, also before 15 and 20, words that are no run
     ∷ refuses (fresh (plain 5 3)) 0 14 0 ∷ refuses (fresh (fenced 3 7 0)) 0 14 0 ∷ refuses (late 5 (Working 4 1 1) (Resting 2)) 4 14 0 ∷ refuses (lent 400) 0 14 0 ∷ refuses [] 0 14 0
     -- the room
@@ -118,6 +119,9 @@ lines =
     ∷ []
 
 -- every line is what the definitions say
-pub examples : map worked lines ≡ lines
+computed : LineByLine worked lines lines
 unfolding calling
-examples = refl
+computed = (refl, (refl, (refl, (refl, (refl, (refl, (refl, (refl, (refl, (refl, (refl, (refl, (refl, (refl, (refl, (refl, (refl, (refl, (refl, (refl, (refl, (refl, (refl, (refl, (refl, (refl, (refl, (refl, (refl, (refl, (refl, (refl, tt))))))))))))))))))))))))))))))))
+
+pub examples : map worked lines ≡ lines
+examples = by-line worked lines lines computed
