@@ -25,27 +25,28 @@ fn same(run: &Run, fence: u64, empties: u32) -> Result<[u64; SETS], Refusal> {
     sets
 }
 
-/// A table of four tasks under a rule, on seven cores or on these spread over the word.
+/// A table of four tasks under a rule, on six cores or on six that are spread over the word. The third does not fit beside the first two, and may borrow some of the first's cores.
 fn table(rule: u32, fence: u64) -> Vec<u32> {
-    let cores = if fence == 0 { 7 } else { 64 };
-    let tasks = [[2, 0, 3, 3, 8, 8, 1], [3, 1, 2, 2, 8, 8, 2], [4, 0, 4, 1, 8, 8, 4], [0, 2, 1, 3, 8, 8, 2]];
+    let cores = if fence == 0 { 6 } else { 64 };
+    let tasks = [[2, 0, 3, 3, 8, 8, 4], [3, 0, 2, 3, 8, 8, 2], [4, 0, 2, 2, 8, 8, 2], [0, 2, 1, 2, 8, 8, 2]];
     [&[1, cores, rule, fence as u32, (fence >> 32) as u32][..], tasks.as_flattened()].concat()
 }
 
 #[test]
 fn bytes_are_those_of_the_sets() {
-    let seven = !(1 | 1 << 5 | 3 << 31 | 1 << 40 | 3 << 62);
+    let spread = !(1 | 1 << 5 | 3 << 31 | 3 << 62);
     let mut lent = 0;
     for rule in [GREEDY, LIMITED, IDLING, LENDING] {
-        for fence in [0, seven] {
+        for fence in [0, spread] {
             for list in 0..64 {
                 let mut run = Run::start(&table(rule, fence)).expect("an accepted table");
                 for tick in 0..16 {
                     let all: Vec<_> = (0..16).map(|empties| same(&run, fence, empties)).collect();
                     let Ok(sets) = all[0] else { break };
-                    lent += usize::from(sets[0].count_ones() == 2);
+                    // of three, or of four
+                    lent += usize::from(matches!(sets[0].count_ones(), 1 | 2));
                     // one of those that have cores ends its job, where it may
-                    let ends = 1 << (list + tick) % 5;
+                    let ends = 1 << ((list + tick) % 5);
                     if list >> (tick % 6) & 1 == 0 || run.advance(ends, 0).is_err() {
                         run.advance(0, 0).expect("an advance that reports nobody");
                     }
@@ -53,17 +54,13 @@ fn bytes_are_those_of_the_sets() {
             }
         }
     }
-    assert!(lent > 100, "a holder of three cores lent one only {lent} times");
+    assert!(lent > 20, "the first task lent some of its cores only {lent} times");
 }
 
 #[test]
 fn a_refused_row_has_no_sets() {
     let run = Run::start(&table(LENDING, 0)).expect("an accepted table");
     assert_eq!(run.sets(16), Err(Refusal::BadEmpty));
-    let mut late = run.clone();
-    for _ in 0..8 {
-        late.advance(0, 0).expect("no deadline is missed");
-    }
     let mut words = *run.words();
     words[0] = 5;
     assert_eq!(Run::from_words(words).sets(16), Err(Refusal::NotARun));
