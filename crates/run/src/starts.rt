@@ -14,7 +14,7 @@ use crate::Started;
 use model::MOST_TASKS;
 
 // The run of all zeros with every phase Resting(0).
-pub fn empty() -> Run
+fn empty() -> Run
     ensures { λ r. ⌜ r ≡ emptyRun ⌝ }
 {
     let place = phase::starts::unused();
@@ -54,7 +54,7 @@ fn started(rule: u32, cores: u32, fence: u64, tasks: [table::Task; MOST_TASKS], 
 }
 
 // A start that is turned down: the run of all zeros.
-pub(crate) fn refused(number: u32, position: u32) -> Started
+pub fn refused(number: u32, position: u32) -> Started
     ensures { λ r. ⌜ r ≡ record { answer = Refused number position; run = emptyRun } ⌝ }
 {
     let run = empty();
