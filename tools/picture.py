@@ -26,13 +26,12 @@ BLOCK = 1 << 18  # bytes of rows that are passed over at once
 MOST = 100  # ticks in one picture
 HEAD, RECORD = 5, 7  # words of a table and of a record
 FENCED = 255  # on a fenced core in every row
-ANSWER = 1024  # bytes that are read of an answer to a line of a list, and more than one has
 LINE = 60  # bytes that are read of a line of a list, and more than an operation has
 PART = 200  # lines of a list that are sent at once: with a row asked after each they are fewer bytes than any pipe holds
 FURTHER = 1_000_000  # lines of a list that are read after those that are drawn
 SENTENCES = 3  # on refused advances, in one picture
 LATE = 15  # the number of a row that is refused as a task is late
-EXPECTED = "'a REPORTS', 'a REPORTS EMPTIES', 'w POSITION', 'W SET', 'r' or 'r EMPTIES' (numbers up to 4294967295) was expected"
+EXPECTED = "'a REPORTS', 'a REPORTS EMPTIES', 'w POSITION', 'W SET', 'r', 'r EMPTIES', 's' or 's EMPTIES' (numbers up to 4294967295) was expected"
 MISTAKES = {
     16: "it reports a position that is not there, not working or without cores in this tick",
     20: "it calls a job empty that is not there, or was not released in this tick",
@@ -277,7 +276,7 @@ def chart(word, first, second, table, source, asked, answers):
 
 
 def next_line(source):
-    line = source.readline(ANSWER)
+    line = source.readline(4 * 64 + 8)
     if not line.endswith(b"\n"):
         raise Trouble("the program ended before its last answer")
     return line[:-1]
@@ -437,16 +436,12 @@ class Listed:
             process.stdin.flush()
             for line, operation in sent:
                 read, since = read + 1, since + 1
-                if operation and operation[0] == "r":
+                if operation and operation[0] in "rs":
                     continue
                 left = next_line(process.stdout) if has_empties(operation) else None
                 answer = next_line(process.stdout)
                 if answer == b"not an operation":
                     raise Declined(f"{name}: line {read}: {stands(line)} stands there; {EXPECTED}", REFUSED)
-                if operation[0] == "s":
-                    if not answer.startswith((b"sets ", b"refused ")):
-                        raise Trouble(f"the program answered {answer!r}")
-                    continue
                 asked = next_line(process.stdout)
                 letter, *numbers = operation
                 self.advances += letter == "a"
@@ -470,10 +465,10 @@ def has_empties(operation):
     return operation is not None and operation[0] == "a" and operation[2] > 0
 
 
-# What is sent for a line of a list: of a row asked nothing, of its sets the line, whose answer is not drawn; before an advance with empty jobs the row that they leave, after a move the next row.
+# What is sent for a line of a list: of a row asked, as sets too, nothing; before an advance with empty jobs the row that they leave, after a move the next row.
 def asking(line, operation):
     if operation and operation[0] in "rs":
-        return line + b"\n" if operation[0] == "s" else b""
+        return b""
     return (b"r %d\n" % operation[2] if has_empties(operation) else b"") + line + b"\nr\n"
 
 
