@@ -4,9 +4,9 @@
    No call keeps a pointer, or writes anywhere but into the slices lent for writing.
 
    What a call costs:
-   - Memory: none from the heap. Of the stack less than SIVORANDRA_STACK_BYTES (measured: replay 20,200 bytes, start 17,100, sentence 16,200,
-     take 15,600, begin 14,600, plan 13,500, clash 13,400, advance 12,300, withdraw and withdraw_all 11,100, spare 10,800, judge 9,800, longest 6,600,
-     judge_ticks 5,800, row 5,400, sets 5,300, facts 700).
+   - Memory: none from the heap. Of the stack less than SIVORANDRA_STACK_BYTES (measured: sentence 16,200 bytes, replay 15,800,
+     take 15,600, begin 14,600, plan 13,500, clash 13,400, start 12,700, advance 12,300, withdraw and withdraw_all 11,100, spare 10,800, judge 9,800,
+     longest 6,600, judge_ticks 5,800, row 5,400, sets 5,300, facts 700).
    - Threads: the library has no state and no data that is written to, so any number of threads may call at once, each with slices of its own
      to be written to; slices that are only read may be shared. Of the C library it calls memcpy and memset alone.
    - Time: row, sets, advance, the withdrawals and take take some microseconds at most, a bound by the 32 tasks and 64 cores alone. judge goes from one release,
