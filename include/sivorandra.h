@@ -4,12 +4,12 @@
    No call keeps a pointer, or writes anywhere but into the slices lent for writing.
 
    What a call costs:
-   - Memory: none from the heap. Of the stack less than SIVORANDRA_STACK_BYTES (measured: replay 19,600 bytes, start 16,500, sentence 16,200,
-     take 14,200, clash 13,400, plan 13,100, advance 12,200, withdraw and withdraw_all 11,100, spare 10,800, judge 9,800, begin 9,600, row 7,400,
-     longest 6,600, judge_ticks 5,800, facts 700).
+   - Memory: none from the heap. Of the stack less than SIVORANDRA_STACK_BYTES (measured: sentence 16,200 bytes, replay 15,800,
+     take 15,600, begin 14,600, plan 13,500, clash 13,400, start 12,700, advance 12,300, withdraw and withdraw_all 11,100, spare 10,800, judge 9,800,
+     longest 6,600, judge_ticks 5,800, row 5,400, sets 5,300, facts 700).
    - Threads: the library has no state and no data that is written to, so any number of threads may call at once, each with slices of its own
      to be written to; slices that are only read may be shared. Of the C library it calls memcpy and memset alone.
-   - Time: row, advance, the withdrawals and take take some microseconds at most, a bound by the 32 tasks and 64 cores alone. judge goes from one release,
+   - Time: row, sets, advance, the withdrawals and take take some microseconds at most, a bound by the 32 tasks and 64 cores alone. judge goes from one release,
      end or deadline to the next, or tick by tick where the periods are short: 10 to 100 ns each on x86-64, by how many tasks move. There are at most
      as many of these moments as ticks up to the horizon or the first miss. A horizon of 10,000,000 takes a second at most; the largest,
      1,000,000,000, milliseconds where the periods are long, and two minutes where all 32 tasks move in every tick. No call can be stopped
@@ -33,17 +33,17 @@ extern "C" {
 /* The version of this header; sivorandra_version says that of the library that is linked. One number, which grows with the version:
    major * 10000 + minor * 100 + patch. */
 #define SIVORANDRA_VERSION_MAJOR 0
-#define SIVORANDRA_VERSION_MINOR 15
+#define SIVORANDRA_VERSION_MINOR 16
 #define SIVORANDRA_VERSION_PATCH 0
 #define SIVORANDRA_VERSION (SIVORANDRA_VERSION_MAJOR * 10000 + SIVORANDRA_VERSION_MINOR * 100 + SIVORANDRA_VERSION_PATCH)
-#define SIVORANDRA_VERSION_TEXT "0.15.0"
+#define SIVORANDRA_VERSION_TEXT "0.16.0"
 
 /* No call takes more bytes of the stack. */
 #define SIVORANDRA_STACK_BYTES 20480
 
 /* What every call but sivorandra_version returns: the call is answered, or a lent slice is too short and everything is as found; so it is
    where the words of a replay's `entries` are no entries. Short `rows` of a plan are 11 instead, and too few words for a run lent to row,
-   advance or a withdrawal, or for a plan lent to take, are no run: 14. */
+   sets, advance or a withdrawal, or for a plan lent to take, are no run: 14. */
 #define SIVORANDRA_ANSWERED 0u
 #define SIVORANDRA_SHORT 1u
 
@@ -77,13 +77,13 @@ enum sivorandra_number {
     SIVORANDRA_SHORT_ROWS = 11,   /* plan: `rows` has fewer than (b - a) * cores bytes; take: the row's length is not the core count */
     SIVORANDRA_PAST_MISS = 12,    /* plan: b is above the tick of the first miss */
     SIVORANDRA_TABLE_MISSES = 13, /* start, replay, longest: the verdict is a miss */
-    SIVORANDRA_NOT_A_RUN = 14,    /* row, advance, withdraw, withdraw_all: the words are no run; take: they are no plan's */
-    SIVORANDRA_LATE = 15,         /* row, advance: the position, the lowest that is late, has not ended its job at its deadline */
+    SIVORANDRA_NOT_A_RUN = 14,    /* row, sets, advance, withdraw, withdraw_all: the words are no run; take: they are no plan's */
+    SIVORANDRA_LATE = 15,         /* row, sets, advance: the position, the lowest that is late, has not ended its job at its deadline */
     SIVORANDRA_BAD_REPORT = 16,   /* advance: for a position past the count, or a task that is not working or has no cores, its own or lent, in this tick */
     SIVORANDRA_NO_MISS = 17,      /* sentence, clash: the table has no miss */
     SIVORANDRA_SHORT_BUFFER = 18, /* sentence: `buffer` is shorter than the sentence */
     SIVORANDRA_BAD_FENCE = 19,    /* the fence names a core past the count, or all cores */
-    SIVORANDRA_BAD_EMPTY = 20,    /* row, advance: for a position past the count, or a task whose job is not released in this very tick */
+    SIVORANDRA_BAD_EMPTY = 20,    /* row, sets, advance: for a position past the count, or a task whose job is not released in this very tick */
     SIVORANDRA_NOT_FIRM = 21,     /* withdraw, withdraw_all: the rule is greedy and a width of some task is above one of the next: without a task others could be late */
     SIVORANDRA_NO_POSITION = 22,  /* withdraw: the position is 0 or past the count; withdraw_all: one is past the count */
     SIVORANDRA_SPARE_NOT_GIVEN = 23, /* spare: not accepted under limited, nor under greedy with no width of a task above one of the next */
@@ -136,6 +136,9 @@ enum sivorandra_number {
 /* The bytes of a row: core 0 first, the position, which is the borrower's on a lent core, 0 for idle, or 255 for a fenced core. */
 #define SIVORANDRA_ROW_BYTES SIVORANDRA_MOST_CORES
 #define SIVORANDRA_FENCED 255u
+
+/* The sets of a row, one of each position, position 1 first, with core 0 the lowest bit. */
+#define SIVORANDRA_SETS SIVORANDRA_MOST_TASKS
 
 /* The words of an entry of a replay's list: 0, the reports and the empties of an advance; or 1, the position of a withdrawal, and 0;
    or 2, the set of a withdrawal of several together, and 0. */
@@ -198,6 +201,15 @@ uint32_t sivorandra_start(const uint32_t *words, size_t words_len,
 uint32_t sivorandra_row(const uint32_t *run, size_t run_len, uint32_t empties,
                         uint8_t *row, size_t row_len,
                         uint32_t *answer, size_t answer_len);
+
+/* The row of the present tick as sets of cores: done or refused, by row's numbers and with `empties` as for row. Taken or refused, it writes all
+   SIVORANDRA_SETS sets: the cores that the row shows with the position, of which core c is bit c. Held cores are in the holder's set, lent ones in
+   the borrower's, fenced ones in none. No two sets overlap, and each has as many cores as its job is wide, or none; but a holder that lends has
+   what it has not lent. Sets past the count are 0, and a refused row has 32 zeros; words behind them stay. The row's bytes are those of the sets and
+   the fence. */
+uint32_t sivorandra_sets(const uint32_t *run, size_t run_len, uint32_t empties,
+                         uint64_t *sets, size_t sets_len,
+                         uint32_t *answer, size_t answer_len);
 
 /* Takes the run one tick on: done, or refused and `run` as found. Words that are no run are refused with 14, as by row. A taken advance
    writes the head and the places below the count; places past it are neither read nor changed.

@@ -29,7 +29,7 @@ PART = 200  # lines of a list that are sent at once: with a row asked after each
 FURTHER = 1_000_000  # lines of a list that are read after those that are drawn
 SENTENCES = 3  # on refused advances, in one picture
 LATE = 15  # the number of a row that is refused as a task is late
-EXPECTED = "'a REPORTS', 'a REPORTS EMPTIES', 'w POSITION', 'W SET', 'r' or 'r EMPTIES' (numbers up to 4294967295) was expected"
+EXPECTED = "'a REPORTS', 'a REPORTS EMPTIES', 'w POSITION', 'W SET', 'r', 'r EMPTIES', 's' or 's EMPTIES' (numbers up to 4294967295) was expected"
 MISTAKES = {
     16: "it reports a position that is not there, not working or without cores in this tick",
     20: "it calls a job empty that is not there, or was not released in this tick",
@@ -277,7 +277,7 @@ def numbers_in(line):
 
 # The letter and the numbers of an operation; an advance has both its sets. None where a line is no operation.
 def operation_in(line):
-    if not re.fullmatch(rb"(r|a [0-9]{1,10})( [0-9]{1,10})?|[wW] [0-9]{1,10}", line):
+    if not re.fullmatch(rb"([rs]|a [0-9]{1,10})( [0-9]{1,10})?|[wW] [0-9]{1,10}", line):
         return None
     letter, *numbers = line.decode().split(" ")
     numbers = [int(number) for number in numbers] + [0] * (letter == "a" and len(numbers) == 1)
@@ -421,7 +421,7 @@ class Listed:
             process.stdin.flush()
             for line, operation in sent:
                 read, since = read + 1, since + 1
-                if operation and operation[0] == "r":
+                if operation and operation[0] in "rs":
                     continue
                 left = next_line(process.stdout) if has_empties(operation) else None
                 answer = next_line(process.stdout)
@@ -450,9 +450,9 @@ def has_empties(operation):
     return operation is not None and operation[0] == "a" and operation[2] > 0
 
 
-# What is sent for a line of a list: of a row asked nothing, before an advance with empty jobs the row that they leave, after a move the next row.
+# What is sent for a line of a list: of a row asked, as sets too, nothing; before an advance with empty jobs the row that they leave, after a move the next row.
 def asking(line, operation):
-    if operation and operation[0] == "r":
+    if operation and operation[0] in "rs":
         return b""
     return (b"r %d\n" % operation[2] if has_empties(operation) else b"") + line + b"\nr\n"
 

@@ -3,7 +3,8 @@
 
 First start's answer and the row of tick 0; then for each line `a REPORTS EMPTIES` what is said to it, and where it is taken the row of the next tick. Where its empty
 jobs leave another row than was shown, that row comes before the answer. A withdrawal, `w POSITION`, or `W SET` of several together, stays in its tick; where it leaves
-another row, that comes after the answer. A line `r` asks what is shown already, `r EMPTIES` the row that these leave. It counts the ticks and nothing else, and reads a line when the one before is answered:
+another row, that comes after the answer. A line `r` asks what is shown already, `r EMPTIES` the row that these leave; `s` and `s EMPTIES`
+ask the same as sets of cores, which come as the program says them. It counts the ticks and nothing else, and reads a line when the one before is answered:
 LIST may be a pipe. Status 2: something is refused, or a line is no operation."""
 import os
 import re
@@ -12,7 +13,7 @@ import sys
 
 LONGEST = 2520  # bytes: no table is longer, and the program reads no more
 MOST = 60  # bytes that are read of a line, and more than an operation has
-EXPECTED = "'a REPORTS', 'a REPORTS EMPTIES', 'w POSITION', 'W SET', 'r' or 'r EMPTIES' (numbers up to 4294967295) was expected"
+EXPECTED = "'a REPORTS', 'a REPORTS EMPTIES', 'w POSITION', 'W SET', 'r', 'r EMPTIES', 's' or 's EMPTIES' (numbers up to 4294967295) was expected"
 NONE = b"not an operation"
 
 

@@ -4,10 +4,10 @@
 
 include!("../gangsim.rs");
 
-use sivorandra::{Entry as Asked, Refusal as Refused, Verdict as Judged, ROW_BYTES, RUN_HEAD_WORDS, RUN_PLACE_WORDS, RUN_WORDS};
+use sivorandra::{Entry as Asked, Refusal as Refused, Verdict as Judged, ROW_BYTES, RUN_HEAD_WORDS, RUN_PLACE_WORDS, RUN_WORDS, SETS};
 
 /// The last request that the project has.
-const REQUEST: u32 = 113;
+const REQUEST: u32 = 114;
 
 /// Lets the simulator read tables as the last request does.
 pub fn begin() {
@@ -144,6 +144,17 @@ impl Cab {
         row
     }
 
+    /// The row as sets, by the cores that the book gives and lends and by those of the run; turned back into bytes they are the row.
+    pub fn sets(&self, empties: u32) -> Said<[u64; SETS]> {
+        let sets = self.run.sets(empties.into()).map_err(said);
+        if let Some(book) = &self.book {
+            assert_eq!(book.sets(empties.into()).map_err(said), sets, "the simulator's book and its run have different sets");
+        }
+        let bytes = sets.map(|sets| bytes_of(&sets, self.run.fence, self.run.cores as usize));
+        assert_eq!(self.row(empties), bytes, "the simulator's row is not that of its sets");
+        sets
+    }
+
     pub fn enter(&mut self, entry: Asked) -> Said<()> {
         let (next, by_book) = match entry {
             Asked::Advance { reports, empties } => {
@@ -196,6 +207,21 @@ impl Cab {
     pub fn words(&self, before: &[u32; RUN_WORDS]) -> [u32; RUN_WORDS] {
         encoded(&self.run, before)
     }
+}
+
+/// The bytes of sets of cores: the position that has the core, 255 on a fenced one, 0 past the core count.
+pub fn bytes_of(sets: &[u64; SETS], fence: u64, cores: usize) -> [u8; ROW_BYTES] {
+    let mut row = [0; ROW_BYTES];
+    for (core, byte) in row.iter_mut().enumerate().take(cores) {
+        let owners: Vec<usize> = (0..SETS).filter(|&place| bit(sets[place], core)).collect();
+        *byte = match (bit(fence, core), &owners[..]) {
+            (false, []) => 0,
+            (false, [place]) => *place as u8 + 1,
+            (true, []) => FENCED,
+            other => panic!("core {core} is fenced and in a set, or in two: {other:?}"),
+        };
+    }
+    row
 }
 
 /// The words of a run; its places past the count stay as they are in `before`.

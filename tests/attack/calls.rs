@@ -1,7 +1,7 @@
 //! The C functions, each with its lent slices inside larger ones: what stands around them must stay.
 use crate::book::{phase_at, Said, RESTING};
 use crate::rng::Rng;
-use sivorandra::{Entry, Refusal, Run, Verdict, ROW_BYTES, RUN_WORDS};
+use sivorandra::{Entry, Refusal, Run, Verdict, ROW_BYTES, RUN_WORDS, SETS};
 use std::fmt::Debug;
 
 extern "C" {
@@ -11,6 +11,7 @@ extern "C" {
     fn sivorandra_replay(words: *const u32, words_len: usize, entries: *const u32, entries_len: usize, numbers: *mut u32, numbers_len: usize, row: *mut u8, row_len: usize, answer: *mut u32, answer_len: usize) -> u32;
     fn sivorandra_start(words: *const u32, words_len: usize, run: *mut u32, run_len: usize, answer: *mut u32, answer_len: usize) -> u32;
     fn sivorandra_row(run: *const u32, run_len: usize, empties: u32, row: *mut u8, row_len: usize, answer: *mut u32, answer_len: usize) -> u32;
+    fn sivorandra_sets(run: *const u32, run_len: usize, empties: u32, sets: *mut u64, sets_len: usize, answer: *mut u32, answer_len: usize) -> u32;
     fn sivorandra_withdraw(run: *mut u32, run_len: usize, position: u32, answer: *mut u32, answer_len: usize) -> u32;
     fn sivorandra_withdraw_all(run: *mut u32, run_len: usize, set: u32, answer: *mut u32, answer_len: usize) -> u32;
     fn sivorandra_advance(run: *mut u32, run_len: usize, reports: u32, empties: u32, answer: *mut u32, answer_len: usize) -> u32;
@@ -104,6 +105,12 @@ impl Lent<u32> {
     }
 }
 
+impl Lent<u64> {
+    pub fn longs(rng: &mut Rng, len: usize) -> Lent<u64> {
+        Lent::new(len, || rng.next())
+    }
+}
+
 /// The answer's three words; at times first with no room for them, where the call itself sees to it that all else stays. Fails unless the words behind them stay.
 fn ask(rng: &mut Rng, mut call: impl FnMut(&mut [u32]) -> Tried<u32>) -> Tried<[u32; 3]> {
     if rng.once_in(16) {
@@ -120,7 +127,7 @@ fn ask(rng: &mut Rng, mut call: impl FnMut(&mut [u32]) -> Tried<u32>) -> Tried<[
     Ok(three)
 }
 
-/// Done or refused, as start, row, advance and plan say it.
+/// Done or refused, as start, row, sets, advance and plan say it.
 fn done(three: [u32; 3]) -> Tried<Said<()>> {
     match three {
         [0, 0, 0] => Ok(Ok(())),
@@ -232,10 +239,11 @@ pub fn replay(rng: &mut Rng, words: &[u32], list: &[Entry], expected: &Said<(Vec
     row.holds("the last row", bytes)
 }
 
-/// A run kept in words, with a row's bytes to ask it into.
+/// A run kept in words, with a row's bytes and its sets to ask it into.
 pub struct Kept {
     run: Lent<u32>,
     row: Lent<u8>,
+    sets: Lent<u64>,
 }
 
 impl Kept {
@@ -256,7 +264,7 @@ impl Kept {
         let got = done(ask(rng, |answer| call(len, answer))?)?;
         same("start", expected.map(|_| ()), got)?;
         run.holds("the started run", &expected.unwrap_or(NO_RUN))?;
-        Ok((Kept { run, row: Lent::bytes(rng, ROW_BYTES + 2) }, got))
+        Ok((Kept { run, row: Lent::bytes(rng, ROW_BYTES + 2), sets: Lent::longs(rng, SETS + 2) }, got))
     }
 
     /// A run built by hand.
@@ -264,11 +272,11 @@ impl Kept {
         let mut run = Lent::words(rng, RUN_WORDS + 1);
         run.lent()[..RUN_WORDS].copy_from_slice(words);
         run.found = run.now.clone();
-        Kept { run, row: Lent::bytes(rng, ROW_BYTES + 2) }
+        Kept { run, row: Lent::bytes(rng, ROW_BYTES + 2), sets: Lent::longs(rng, SETS + 2) }
     }
 
     pub fn row(&mut self, rng: &mut Rng, empties: u32, expected: Said<[u8; ROW_BYTES]>) -> Tried<Said<()>> {
-        let Kept { run, row } = self;
+        let Kept { run, row, .. } = self;
         let three = ask(rng, |answer| {
             let value = unsafe { sivorandra_row(run.lent().as_ptr(), run.len(), empties, row.lent().as_mut_ptr(), row.len(), answer.as_mut_ptr(), answer.len()) };
             row.as_found_if(value == 1, "the row")?;
@@ -278,6 +286,23 @@ impl Kept {
         same("row", expected.map(|_| ()), got)?;
         row.holds("the row", &expected.unwrap_or([0; ROW_BYTES]))?;
         run.as_found("the run whose row is asked")?;
+        Ok(got)
+    }
+
+    /// The row as sets, from C and from Rust.
+    pub fn sets(&mut self, rng: &mut Rng, empties: u32, expected: Said<[u64; SETS]>) -> Tried<Said<()>> {
+        let Kept { run, sets, .. } = self;
+        let three = ask(rng, |answer| {
+            let value = unsafe { sivorandra_sets(run.lent().as_ptr(), run.len(), empties, sets.lent().as_mut_ptr(), sets.len(), answer.as_mut_ptr(), answer.len()) };
+            sets.as_found_if(value == 1, "the sets")?;
+            Ok(value)
+        })?;
+        let got = done(three)?;
+        same("sets", expected.map(|_| ()), got)?;
+        sets.holds("the sets", &expected.unwrap_or([0; SETS]))?;
+        run.as_found("the run whose sets are asked")?;
+        let words = run.lent()[..RUN_WORDS].try_into().map_err(|_| "too few words")?;
+        same("sets in Rust", expected, Run::from_words(words).sets(empties))?;
         Ok(got)
     }
 
@@ -301,14 +326,18 @@ impl Kept {
         Ok(got)
     }
 
-    /// Row, advance and withdrawals of too few words for a run, which 14 turns down, and a row asked into too few bytes.
+    /// Row, sets, advance and withdrawals of too few words for a run, which 14 turns down, a row asked into too few bytes, and as too few sets.
     pub fn cut(&mut self, rng: &mut Rng) -> Tried<()> {
-        let Kept { run, row } = self;
-        let (words, bytes) = (rng.below(RUN_WORDS), rng.below(ROW_BYTES));
+        let Kept { run, row, sets } = self;
+        let (words, bytes, few) = (rng.below(RUN_WORDS), rng.below(ROW_BYTES), rng.below(SETS));
         let mut answer = [0; 3];
         same("the value of a row of too few words", 0, unsafe { sivorandra_row(run.lent().as_ptr(), words, 0, row.lent().as_mut_ptr(), row.len(), answer.as_mut_ptr(), 3) })?;
         same("a row of too few words", [3, 14, 0], answer)?;
         row.holds("the row of too few words", &[0; ROW_BYTES])?;
+        answer = [0; 3];
+        same("the value of the sets of too few words", 0, unsafe { sivorandra_sets(run.lent().as_ptr(), words, 0, sets.lent().as_mut_ptr(), sets.len(), answer.as_mut_ptr(), 3) })?;
+        same("the sets of too few words", [3, 14, 0], answer)?;
+        sets.holds("the sets of too few words", &[0; SETS])?;
         answer = [0; 3];
         same("the value of an advance of too few words", 0, unsafe { sivorandra_advance(run.lent().as_mut_ptr(), words, 0, 0, answer.as_mut_ptr(), 3) })?;
         same("an advance of too few words", [3, 14, 0], answer)?;
@@ -322,6 +351,9 @@ impl Kept {
         answer = [7; 3];
         same("the value of a row in too few bytes", 1, unsafe { sivorandra_row(run.lent().as_ptr(), run.len(), 0, row.lent().as_mut_ptr(), bytes, answer.as_mut_ptr(), 3) })?;
         same("the answer to too few bytes", [7; 3], answer)?;
-        row.as_found("too few bytes")
+        row.as_found("too few bytes")?;
+        same("the value of too few sets", 1, unsafe { sivorandra_sets(run.lent().as_ptr(), run.len(), 0, sets.lent().as_mut_ptr(), few, answer.as_mut_ptr(), 3) })?;
+        same("the answer to too few sets", [7; 3], answer)?;
+        sets.as_found("too few sets")
     }
 }

@@ -48,7 +48,7 @@ pub fn limits() -> Vec<(String, Words, Words)> {
     limits
 }
 
-/// The row of a fenced run: 255 on fenced cores, 0 past the count, all zeros where it is refused; and an advance keeps the fence.
+/// The row of a fenced run: 255 on fenced cores, 0 past the count, all zeros where it is refused; its sets have no fenced core; and an advance keeps the fence.
 pub fn rows() -> Tried<()> {
     let two = odd([0, 2, 4, 6, 8, WORKING, 1, 1]);
     let late = odd([5, 1, 4, 6, 8, WORKING, 6, 1]);
@@ -68,6 +68,8 @@ pub fn rows() -> Tried<()> {
         row[..cores.len()].copy_from_slice(cores);
         let mut held = Run::from_words(words);
         same(name, Ok(row), held.row(0))?;
+        let set_of = |place: usize| (0..cores.len()).filter(|&core| usize::from(cores[core]) == place + 1).fold(0, |set, core| set | 1 << core);
+        same(name, Ok(std::array::from_fn(set_of)), held.sets(0))?;
         same(name, Ok(()), held.advance(0, 0))?;
         same("the head of the run one tick on", &words[..RUN_HEAD_WORDS], &held.words()[..RUN_HEAD_WORDS])?;
     }

@@ -85,13 +85,14 @@ fn turned_down(words: &Words) -> bool {
 
 pub const OUT: Refusal = Refusal::NotARun;
 
-/// Row and advance of a run, for some ticks, beside 14 and the book.
+/// Row, sets and entries of a run, for some ticks, beside 14 and the book.
 fn compare(rng: &mut Rng, counts: &mut Counts, words: &Words, ticks: usize) -> Tried<()> {
     let mut kept = Kept::from(rng, words);
     if turned_down(words) {
         let sets = [0, 1, u32::MAX];
         let asked = rng.pick(&sets);
         counts.answer(&kept.row(rng, asked, Err(OUT))?);
+        counts.asked(0, &kept.sets(rng, asked, Err(OUT))?);
         for entry in [Entry::Advance { reports: rng.pick(&sets), empties: rng.pick(&sets) }, Entry::Withdraw { position: rng.pick(&sets) }, Entry::WithdrawAll { set: rng.pick(&sets) }] {
             counts.entered(entry, 0, &kept.enter(rng, entry, Err(OUT))?);
         }
@@ -112,6 +113,8 @@ fn compare(rng: &mut Rng, counts: &mut Counts, words: &Words, ticks: usize) -> T
         let reports = any_of(cab.may_report(given));
         let empties = if rng.once_in(2) { 0 } else { given };
         counts.answer(&kept.row(rng, asked, cab.row(asked)).map_err(|why| format!("with the empty jobs {asked}: {why}"))?);
+        let shown = kept.sets(rng, asked, cab.sets(asked)).map_err(|why| format!("as sets with the empty jobs {asked}: {why}"))?;
+        counts.asked(cab.borrowers(Entry::Advance { reports: 0, empties: asked }), &shown);
         let entry = if rng.once_in(6) { withdrawal(rng, cab.count()) } else { Entry::Advance { reports, empties } };
         let borrowers = cab.borrowers(entry);
         let answer = cab.enter(entry);
@@ -320,6 +323,7 @@ fn limit(counts: &mut Counts, inside: &Words, outside: &Words) -> Tried<()> {
     let mut rng = Rng::new(1);
     for (words, out) in [(inside, false), (outside, true)] {
         same("row with 14", out, Run::from_words(*words).row(0) == Err(OUT))?;
+        same("sets with 14", out, Run::from_words(*words).sets(0) == Err(OUT))?;
         let mut run = Run::from_words(*words);
         same("advance with 14", out, run.advance(0, 0) == Err(OUT))?;
         same("withdraw with 14", out, run.withdraw(0) == Err(OUT))?;
@@ -330,7 +334,7 @@ fn limit(counts: &mut Counts, inside: &Words, outside: &Words) -> Tried<()> {
     Ok(())
 }
 
-/// Late positions: 15 with the lowest, after 14 and before 20 and 16, in row and advance.
+/// Late positions: 15 with the lowest, after 14 and before 20 and 16, in row, sets and advance.
 fn lateness(counts: &mut Counts) -> Tried<()> {
     let late = odd([5, 1, 4, 6, 8, WORKING, 6, 1]);
     for set in 1u32..1 << 6 {
@@ -342,6 +346,7 @@ fn lateness(counts: &mut Counts) -> Tried<()> {
             let mut held = Run::from_words(words);
             for empties in [0, 1, 63, u32::MAX] {
                 same("row", expected, held.row(empties).map(|_| ()))?;
+                same("sets", expected, held.sets(empties).map(|_| ()))?;
                 for reports in [0, 1, 63, u32::MAX] {
                     let answer = held.advance(reports, empties);
                     counts.answer(&answer);
@@ -580,6 +585,7 @@ fn not_emptied(counts: &mut Counts) -> Tried<()> {
         let mut held = Run::from_words(words);
         for empties in [2, 3, 4, 5, 1 << 31, u32::MAX] {
             same("row", Err(Refusal::BadEmpty), held.row(empties).map(|_| ()))?;
+            same("sets", Err(Refusal::BadEmpty), held.sets(empties).map(|_| ()))?;
             for reports in [0, 1, 4, u32::MAX] {
                 let answer = held.advance(reports, empties);
                 counts.answer(&answer);
@@ -592,7 +598,7 @@ fn not_emptied(counts: &mut Counts) -> Tried<()> {
     Ok(())
 }
 
-/// Random words past the count, for every count that leaves places there: row and advance answer as with zeros, and these words come back unchanged.
+/// Random words past the count, for every count that leaves places there: row, sets and advance answer as with zeros, and these words come back unchanged.
 fn past_the_count(counts: &mut Counts, count: u32) -> Tried<()> {
     let mut rng = Rng::new(count.into());
     for rule in 1..=LENDING {
@@ -605,6 +611,7 @@ fn past_the_count(counts: &mut Counts, count: u32) -> Tried<()> {
             let (any, other) = (rng.word(), rng.word());
             let (reports, empties) = (rng.pick(&[0, 1, any]), rng.pick(&[0, 0, 1, other]));
             same("row", plain.row(empties), held.row(empties))?;
+            same("sets", plain.sets(empties), held.sets(empties))?;
             let answer = plain.advance(reports, empties);
             counts.answer(&answer);
             same("advance", answer, held.advance(reports, empties))?;

@@ -51,6 +51,8 @@ const FEWEST_TOGETHER: u64 = 10_000;
 /// At least so many tables under lending are not refused; so many advances in which somebody borrows are taken, and so many with a borrower reported.
 const FEWEST_LENDING: u64 = 10_000;
 const FEWEST_BORROWED: u64 = 5_000;
+/// At least so many rows are shown as sets, and so many in which somebody borrows.
+const FEWEST_SETS: u64 = 100_000;
 
 /// What was seen, of the library's answers.
 #[derive(Default)]
@@ -81,6 +83,9 @@ pub struct Counts {
     lending: u64,
     borrowed: u64,
     borrower_reported: u64,
+    /// Rows that are shown as sets, and those in which somebody borrows.
+    sets: u64,
+    lent_sets: u64,
     runs: u64,
     nodes: u64,
     /// Nodes at which a deadline is missed.
@@ -114,6 +119,13 @@ impl Counts {
             }
             other => panic!("no such entry: {other:?}"),
         }
+    }
+
+    /// A row asked as sets, and who borrows in its tick.
+    pub fn asked(&mut self, borrowers: u32, answer: &Said<()>) {
+        self.answer(answer);
+        self.sets += u64::from(answer.is_ok());
+        self.lent_sets += u64::from(borrowers != 0);
     }
 
     /// An advance that is taken: who borrows, and who is reported.
@@ -177,6 +189,8 @@ impl Counts {
         self.lending += other.lending;
         self.borrowed += other.borrowed;
         self.borrower_reported += other.borrower_reported;
+        self.sets += other.sets;
+        self.lent_sets += other.lent_sets;
         self.runs += other.runs;
         self.nodes += other.nodes;
         self.ends += other.ends;
@@ -259,11 +273,12 @@ fn main() {
         }
     });
     let Counts { tables, firm, full, miss, fenced, second, alone, plans, replays, late, advances, empty, withdrawn, together, runs, nodes, ends, abreast, overtaken, crowded, .. } = counts;
-    let Counts { lending, borrowed, borrower_reported, .. } = counts;
+    let Counts { lending, borrowed, borrower_reported, sets, lent_sets, .. } = counts;
     println!("attack: {tables} tables (firm {firm}, full {full}, miss {miss}), {plans} plans, {replays} replays ({late} to a missed deadline), {advances} advances ({empty} taken with an empty job), {withdrawn} withdrawals and {together} of several positions together taken, {runs} runs built by hand");
     println!("attack: {} small tables searched, {nodes} nodes ({ends} at a missed deadline)", counts.searched.len());
     println!("attack: {abreast} pairs of lists of firm tables with no longer job in the first, which is abreast; {overtaken} of full tables, where it is behind, and {crowded} under lending");
     println!("attack: {lending} of the tables that are not refused are under lending; {borrowed} advances are taken in which somebody borrows, {borrower_reported} with a borrower reported");
+    println!("attack: {sets} rows are shown as sets, in {lent_sets} of them somebody borrows");
     println!("attack: {fenced} of the tables that are not refused have a fence, {second} of them in the second word, {alone} that leaves one core");
     let [pairs_firm, pairs_full, pairs_miss, late_even] = counts.pairs;
     println!("attack: tables with a task of two widths: firm {pairs_firm}, full {pairs_full}, miss {pairs_miss}, {late_even} of them with an even job of such a task");
@@ -282,6 +297,9 @@ fn main() {
         }
         counts.count(if empty >= FEWEST_EMPTY { Ok(()) } else { Err(format!("only {empty} advances taken with an empty job")) });
         for (what, seen, fewest) in [("tables under lending", lending, FEWEST_LENDING), ("advances with a borrower", borrowed, FEWEST_BORROWED), ("advances with a borrower reported", borrower_reported, FEWEST_BORROWED)] {
+            counts.count(if seen >= fewest { Ok(()) } else { Err(format!("only {seen} {what}")) });
+        }
+        for (what, seen, fewest) in [("rows shown as sets", sets, FEWEST_SETS), ("rows shown as sets in which somebody borrows", lent_sets, FEWEST_BORROWED)] {
             counts.count(if seen >= fewest { Ok(()) } else { Err(format!("only {seen} {what}")) });
         }
         counts.count(if withdrawn >= FEWEST_WITHDRAWN { Ok(()) } else { Err(format!("only {withdrawn} withdrawals taken")) });

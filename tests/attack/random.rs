@@ -134,6 +134,9 @@ fn compare_runs(rng: &mut Rng, counts: &mut Counts, words: &[u32], known: &Said<
             row = begun.as_ref().map_or(Err(unmade), |cab| cab.row(set));
             let shown = kept.row(rng, set, row).map_err(|why| format!("after {at} entries, with the empty jobs {set}: {why}"))?;
             counts.answer(&shown);
+            let sets = begun.as_ref().map_or(Err(unmade), |cab| cab.sets(set));
+            let shown = kept.sets(rng, set, sets).map_err(|why| format!("after {at} entries, as sets with the empty jobs {set}: {why}"))?;
+            counts.asked(begun.as_ref().map_or(0, |cab| cab.borrowers(Entry::Advance { reports: 0, empties: set })), &shown);
         }
         if at == length || (begun.is_err() && at == 2) {
             break;

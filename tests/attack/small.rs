@@ -98,6 +98,7 @@ impl Search {
             let sets = 0..2 << run.words()[2];
             for empties in sets.clone() {
                 same(&format!("row with {empties} empty"), cab.row(empties), run.row(empties))?;
+                same(&format!("sets with {empties} empty"), cab.sets(empties), run.sets(empties))?;
                 let fits = empties & !cab.may_be_empty() == 0;
                 let may = cab.may_report(empties);
                 for reports in sets.clone().take(if fits { sets.len() } else { 2 }) {

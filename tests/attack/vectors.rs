@@ -1,4 +1,4 @@
-//! The examples through replay, the plan vectors, and those of runs built by hand and started: INDEX has lines 'NAME plan A B LEN', 'NAME run' and 'NAME phases';
+//! The examples through replay, the plan vectors, and those of runs built by hand and started: INDEX has lines 'NAME plan A B LEN', 'NAME run', 'NAME phases' and 'NAME book';
 //! NAME.in is the table's text, or the run's or the table's and then operations, NAME.out what is to be printed.
 use crate::book;
 use crate::calls::{self, reported, same, Lent, Tried};
@@ -35,7 +35,7 @@ fn one(number: &str, a: &str, b: &str, len: &str) -> Tried<()> {
     same(&format!("for {:?}", String::from_utf8_lossy(&text)), String::from_utf8_lossy(&expected), got.into())
 }
 
-/// What the library says to the operations on a run: `r [EMPTIES]` a row, `a REPORTS [EMPTIES]` an advance, `w POSITION` a withdrawal,
+/// What the library says to the operations on a run: `r [EMPTIES]` a row, `s [EMPTIES]` its sets, `a REPORTS [EMPTIES]` an advance, `w POSITION` a withdrawal,
 /// `W SET` several together, `p` the run as text.
 fn operated(mut run: Run, operations: Vec<String>) -> Tried<String> {
     let mut out = String::new();
@@ -50,6 +50,7 @@ fn operated(mut run: Run, operations: Vec<String>) -> Tried<String> {
                 let cores = run.words()[1] as usize;
                 format!("row {}\n", row[..cores].iter().map(u8::to_string).collect::<Vec<_>>().join(" "))
             }),
+            Some("s") => run.sets(empties(0)).map_or_else(refused, |sets| format!("sets {}\n", sets.map(|set| set.to_string()).join(" "))),
             Some("a") if !sets.is_empty() => run.advance(sets[0], empties(1)).map_or_else(refused, |()| "taken\n".into()),
             Some("w") if sets.len() == 1 => run.withdraw(sets[0]).map_or_else(refused, |()| "taken\n".into()),
             Some("W") if sets.len() == 1 => run.withdraw_all(sets[0]).map_or_else(refused, |()| "taken\n".into()),
@@ -65,12 +66,12 @@ fn built(text: &[u8]) -> Tried<String> {
     operated(Run::from_words(words), operations)
 }
 
-/// .. on one that is started, with start's answer before them.
+/// .. on one that is started, with start's answer before them; where it is refused, on the run of all zeros.
 fn started(text: &[u8]) -> Tried<String> {
     let (before, operations) = book::split(text);
     match book::numbers(&before).and_then(|words| Run::start(&words)) {
         Ok(run) => Ok("ok\n".to_string() + &operated(run, operations)?),
-        Err(refusal) => Ok(refused(refusal)),
+        Err(refusal) => Ok(refused(refusal) + &operated(Run::from_words(calls::NO_RUN), operations)?),
     }
 }
 
@@ -125,7 +126,7 @@ pub fn all() -> Vec<(String, Tried<()>)> {
     let plans = index.lines().filter_map(|line| match line.split(' ').collect::<Vec<_>>()[..] {
         [number, "plan", a, b, len] => Some((format!("vector {number}"), one(number, a, b, len))),
         [name, "run"] => Some((format!("vector {name}, a run"), one_run(name, built))),
-        [name, "phases"] => Some((format!("vector {name}, a run that is started"), one_run(name, started))),
+        [name, "phases" | "book"] => Some((format!("vector {name}, a run that is started"), one_run(name, started))),
         _ => None,
     });
     plans.chain(examples()).collect()

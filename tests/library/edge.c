@@ -1,5 +1,5 @@
 /* Hostile calls of the library from C, each beside what the header says of it: NULL with length 0, lengths around every limit,
-   counts and words of all ones, fences, odd and even jobs, empty jobs, lent cores, positions withdrawn one by one and together, lists that are none, anything past the count. Every slice lies between guards, which must stay.
+   counts and words of all ones, fences, odd and even jobs, empty jobs, lent cores, rows as sets of cores, positions withdrawn one by one and together, lists that are none, anything past the count. Every slice lies between guards, which must stay.
    Prints each call that differs; the last line is 'N calls, M wrong'. */
 #include <stdio.h>
 #include <string.h>
@@ -17,11 +17,13 @@ static const uint8_t rows[] = { 1, 1, 3, 1, 1, 3, 2, 2, 3, 2, 2, 3, 2, 2, 0 };
 /* A slice to lend, and what must stand there after the call; NULL where it has no length and says so. */
 typedef struct { uint32_t now[MOST], want[MOST]; size_t len; int null; } Words;
 typedef struct { uint8_t now[MOST], want[MOST]; size_t len; int null; } Bytes;
+typedef struct { uint64_t now[MOST], want[MOST]; size_t len; int null; } Longs;
 
 static unsigned calls, wrong;
 
 static uint32_t *words_at(Words *w) { return w->null ? NULL : w->now + GUARD; }
 static uint8_t *bytes_at(Bytes *b) { return b->null ? NULL : b->now + GUARD; }
+static uint64_t *longs_at(Longs *l) { return l->null ? NULL : l->now + GUARD; }
 
 static void words(Words *w, size_t len, const uint32_t *first, size_t n)
 {
@@ -42,8 +44,17 @@ static void bytes(Bytes *b, size_t len)
     b->null = 0;
 }
 
+static void longs(Longs *l, size_t len)
+{
+    for (size_t i = 0; i < MOST; i++)
+        l->now[i] = l->want[i] = 0xa5a5a5a5a5a50000u + i;
+    l->len = len;
+    l->null = 0;
+}
+
 static Words run, answer, numbers;
 static Bytes row;
+static Longs sets;
 
 /* Every lent slice afresh: room for what a call writes, and a run of the table in `run`. */
 static void fresh(void)
@@ -55,6 +66,7 @@ static void fresh(void)
     words(&answer, 3, NULL, 0);
     words(&numbers, 2, NULL, 0);
     bytes(&row, ROW);
+    longs(&sets, SIVORANDRA_SETS);
 }
 
 /* What must stand in the answer's first words. */
@@ -73,6 +85,14 @@ static void row_bytes(const uint8_t *first, size_t n)
     memset(row.want + GUARD, 0, ROW);
     if (n)
         memcpy(row.want + GUARD, first, n);
+}
+
+/* What must stand in the sets: these, and zeros past them. */
+static void sets_given(const uint64_t *first, size_t n)
+{
+    memset(sets.want + GUARD, 0, SIVORANDRA_SETS * sizeof sets.want[0]);
+    if (n)
+        memcpy(sets.want + GUARD, first, n * sizeof *first);
 }
 
 /* So many words of the run lent. */
@@ -95,7 +115,7 @@ static void no_run(void)
 static void expect(const char *what, uint32_t value, uint32_t got)
 {
     int same = value == got && !memcmp(run.now, run.want, sizeof run.now) && !memcmp(answer.now, answer.want, sizeof answer.now)
-        && !memcmp(numbers.now, numbers.want, sizeof numbers.now) && !memcmp(row.now, row.want, sizeof row.now);
+        && !memcmp(numbers.now, numbers.want, sizeof numbers.now) && !memcmp(row.now, row.want, sizeof row.now) && !memcmp(sets.now, sets.want, sizeof sets.now);
     calls++;
     if (same)
         return;
@@ -114,6 +134,7 @@ static uint32_t replay(const uint32_t *table, size_t len, const uint32_t *entrie
 static uint32_t start(const uint32_t *table, size_t len) { return sivorandra_start(table, len, words_at(&run), run.len, ANSWER); }
 static uint32_t shown_with(uint32_t empties) { return sivorandra_row(words_at(&run), run.len, empties, bytes_at(&row), row.len, ANSWER); }
 static uint32_t shown(void) { return shown_with(0); }
+static uint32_t sets_with(uint32_t empties) { return sivorandra_sets(words_at(&run), run.len, empties, longs_at(&sets), sets.len, ANSWER); }
 static uint32_t sentence(const uint32_t *table, size_t len) { return sivorandra_sentence(table, len, bytes_at(&row), row.len, ANSWER); }
 static uint32_t advance_with(uint32_t reports, uint32_t empties) { return sivorandra_advance(words_at(&run), run.len, reports, empties, ANSWER); }
 static uint32_t advance(uint32_t reports) { return advance_with(reports, 0); }
@@ -159,6 +180,10 @@ static void nulls(void)
     fresh(), NONE(run), refused(14), row_bytes(NULL, 0), expect("row: no run", 0, shown());
     fresh(), NONE(row), expect("row: no row", 1, shown());
     fresh(), NONE(answer), expect("row: no answer", 1, shown());
+    fresh(), NONE(run), refused(14), sets_given(NULL, 0), expect("sets: no run", 0, sets_with(0));
+    fresh(), NONE(sets), expect("sets: no sets", 1, sets_with(0));
+    fresh(), NONE(answer), expect("sets: no answer", 1, sets_with(0));
+    fresh(), NONE(run), NONE(sets), NONE(answer), expect("sets: nothing", 1, sets_with(ONES));
     fresh(), NONE(run), refused(14), expect("advance: no run", 0, advance(0));
     fresh(), NONE(answer), expect("advance: no answer", 1, advance(0));
     fresh(), NONE(run), NONE(answer), expect("advance: nothing", 1, advance(ONES));
@@ -472,6 +497,7 @@ static void built(void)
     };
     for (size_t i = 0; i < sizeof faults / sizeof faults[0]; i++) {
         fresh(), set(faults[i][0], 1, faults[i][1]), refused(14), row_bytes(NULL, 0), expect("row: a fault", 0, shown());
+        fresh(), set(faults[i][0], 1, faults[i][1]), refused(14), sets_given(NULL, 0), expect("sets: a fault", 0, sets_with(0));
         fresh(), set(faults[i][0], 1, faults[i][1]), refused(14), expect("advance: a fault", 0, advance(ONES));
         fresh(), set(faults[i][0], 1, faults[i][1]), refused(14), expect("withdraw: a fault", 0, withdraw(0));
         fresh(), set(faults[i][0], 1, faults[i][1]), refused(14), expect("withdraw_all: a fault", 0, withdraw_all(0));
@@ -660,6 +686,67 @@ static void lending(void)
     fresh(), answered(0, 0, 0), row_bytes(stands[2].row, 2), numbers.want[GUARD] = numbers.want[GUARD + 1] = 0, expect("replay: lending", 0, replay(table, TWO, entries, 6));
 }
 
+/* The row as sets of cores: 32 words in front and no more, lengths around 32 and around every other limit; every set of empty jobs, every fence of five cores, one that lends; all zeros
+   in a refusal; and beside the row, whose bytes are those of the sets. */
+static void as_sets(void)
+{
+    static const uint64_t of[8][3] = { { 3, 0, 4 }, { 0, 3, 4 }, { 3, 0, 4 }, { 0, 0, 1 }, { 3, 0, 0 }, { 0, 3, 0 }, { 3, 0, 0 }, { 0, 0, 0 } };
+    static const size_t lens[] = { 0, 1, 2, 3, 31, 32, 33, 34, 64, 356, 357, 358, 359 };
+    static const uint32_t past[] = { 8, 9, 16, 0x80000000u, 0xffffffffu };
+    for (size_t i = 0; i < sizeof lens / sizeof lens[0]; i++) {
+        size_t len = lens[i];
+        fresh(), sets.len = len;
+        if (len >= SIVORANDRA_SETS)
+            answered(0, 0, 0), sets_given(of[0], 3);
+        expect("sets: every length", len < SIVORANDRA_SETS, sets_with(0));
+        fresh(), sets.len = len;
+        if (len >= SIVORANDRA_SETS)
+            refused(20), sets_given(NULL, 0);
+        expect("sets: every length, refused", len < SIVORANDRA_SETS, sets_with(8));
+        fresh(), run.len = len, len >= RUN ? answered(0, 0, 0) : refused(14), sets_given(of[0], len >= RUN ? 3 : 0), expect("sets: words of the run", 0, sets_with(0));
+        fresh(), answer.len = len;
+        if (len >= 3)
+            answered(0, 0, 0), sets_given(of[0], 3);
+        expect("sets: words of the answer", len < 3, sets_with(0));
+    }
+    for (uint32_t empties = 0; empties < 8; empties++)
+        fresh(), answered(0, 0, 0), sets_given(of[empties], 3), expect("sets: every set of empty jobs", 0, sets_with(empties));
+    for (size_t i = 0; i < sizeof past / sizeof past[0]; i++) {
+        fresh(), refused(20), sets_given(NULL, 0), expect("sets: empty past the count", 0, sets_with(past[i]));
+        fresh(), set(KIND + 1, 1, 5), answered(SIVORANDRA_REFUSED, 15, 1), sets_given(NULL, 0), expect("sets: 15 before 20", 0, sets_with(past[i]));
+        fresh(), set(KIND + 1, 1, 5), set(0, 1, 5), refused(14), sets_given(NULL, 0), expect("sets: 14 before 15 and 20", 0, sets_with(past[i]));
+    }
+    fresh(), set(KIND + 1 + PLACE, 1, 5), set(KIND + 1 + 2 * PLACE, 1, 5), answered(SIVORANDRA_REFUSED, 15, 2), sets_given(NULL, 0), expect("sets: the lowest late position", 0, sets_with(0));
+    fresh(), set(KIND + 1, 1, 1), refused(20), sets_given(NULL, 0), expect("sets: released a tick ago", 0, sets_with(1));
+    fresh(), set(USED, RUN - USED, ONES), answered(0, 0, 0), sets_given(of[0], 3), expect("sets: ones past the count", 0, sets_with(0));
+    fresh(), set(0, RUN, ONES), refused(14), sets_given(NULL, 0), expect("sets: all ones", 0, sets_with(0));
+    fresh(), set(0, RUN, 0), refused(14), sets_given(NULL, 0), expect("sets: all zeros", 0, sets_with(0));
+
+    /* position 1 holds two cores and lends the lower one to position 2, as in `lending` */
+    enum { TWO = 19 };
+    static const uint32_t table[TWO] = { 1, 2, SIVORANDRA_LENDING, 0, 0, 2, 0, 2, 2, 4, 4, 2, 0, 0, 1, 2, 4, 4, 1 };
+    static const uint64_t ticks[3][2] = { { 3, 0 }, { 2, 1 }, { 0, 1 } };
+    uint32_t at[RUN], three[3];
+    sivorandra_start(table, TWO, at, RUN, three, 3);
+    for (uint32_t tick = 0; tick < 3; tick++) {
+        fresh(), words(&run, RUN, at, RUN), answered(0, 0, 0), sets_given(ticks[tick], 2), expect("sets: one that lends", 0, sets_with(0));
+        sivorandra_advance(at, RUN, tick == 0, 0, three, 3);
+    }
+
+    /* fences of five cores, in the low word and in both */
+    for (uint32_t high = 0; high < 2; high++)
+        for (uint32_t low = 0; low < 32; low++) {
+            uint64_t fence = high ? (uint64_t)low << 59 | 0x07ffffffffffffffu : low, want[3] = { 0 }, seen = 0;
+            uint32_t cores = high ? 64 : 5;
+            fresh(), set(1, 1, cores), set(3, 1, (uint32_t)fence), set(4, 1, (uint32_t)(fence >> 32));
+            sivorandra_row(run.now + GUARD, RUN, 0, row.now + GUARD, ROW, three, 3), memcpy(row.want, row.now, sizeof row.now);
+            for (uint32_t core = 0; core < cores; core++)
+                if (row.now[GUARD + core] && row.now[GUARD + core] <= 3)
+                    want[row.now[GUARD + core] - 1] |= (uint64_t)1 << core, seen |= (uint64_t)1 << core;
+            three[0] ? refused(14) : answered(0, 0, 0), sets_given(want, 3), expect("sets: every fence of five cores", 0, seen & fence ? 2 : sets_with(0));
+        }
+}
+
 /* Positions withdrawn from the run of `full` under idling, in its first tick and in its second; what is refused; and the set built by hand. */
 static void withdrawals(void)
 {
@@ -775,7 +862,7 @@ static void lists(void)
 
 int main(void)
 {
-    nulls(), sentences(), tables(), horizons(), bounds(), lengths(), built(), fences(), parities(), empty_jobs(), lending(), withdrawals(), together(), lists(), figures(), supplied();
+    nulls(), sentences(), tables(), horizons(), bounds(), lengths(), built(), fences(), parities(), empty_jobs(), lending(), as_sets(), withdrawals(), together(), lists(), figures(), supplied();
     printf("%u calls, %u wrong\n", calls, wrong);
     return wrong != 0;
 }

@@ -10,6 +10,7 @@ enum { PASSES = 0 };
 
 static uint32_t table[HEAD + RECORD * MOST], run[PLAN], answer[SIVORANDRA_ANSWER_WORDS];
 static uint8_t rows[SIVORANDRA_SENTENCE_BYTES];
+static uint64_t shown[SIVORANDRA_SETS];
 static size_t words;
 static unsigned asked, wrong;
 
@@ -43,6 +44,7 @@ static uint32_t judge(void) { return sivorandra_judge(table, words, answer, SIVO
 static uint32_t plan(uint32_t a, uint32_t b, size_t len) { return sivorandra_plan(table, words, a, b, rows, len, answer, SIVORANDRA_ANSWER_WORDS); }
 static uint32_t start(void) { return sivorandra_start(table, words, run, RUN, answer, SIVORANDRA_ANSWER_WORDS); }
 static uint32_t row(uint32_t empties) { return sivorandra_row(run, RUN, empties, rows, SIVORANDRA_ROW_BYTES, answer, SIVORANDRA_ANSWER_WORDS); }
+static uint32_t sets(uint32_t empties) { return sivorandra_sets(run, RUN, empties, shown, SIVORANDRA_SETS, answer, SIVORANDRA_ANSWER_WORDS); }
 static uint32_t advance(uint32_t reports, uint32_t empties) { return sivorandra_advance(run, RUN, reports, empties, answer, SIVORANDRA_ANSWER_WORDS); }
 static uint32_t withdraw(uint32_t position) { return sivorandra_withdraw(run, RUN, position, answer, SIVORANDRA_ANSWER_WORDS); }
 static uint32_t withdraw_all(uint32_t set) { return sivorandra_withdraw_all(run, RUN, set, answer, SIVORANDRA_ANSWER_WORDS); }
@@ -83,11 +85,14 @@ static void numbers(void)
     with(C, 3), table[D] = 2, expect("past the miss", plan(0, 3, sizeof rows), SIVORANDRA_PAST_MISS, 0);
     with(C, 6), expect("a miss is not started", start(), SIVORANDRA_TABLE_MISSES, 0);
     expect("the run of a refused start", row(0), SIVORANDRA_NOT_A_RUN, 0);
+    expect("its sets", sets(0), SIVORANDRA_NOT_A_RUN, 0);
     fresh(1), start(), expect("a report past the count", advance(2, 0), SIVORANDRA_BAD_REPORT, 0);
     fresh(1), start(), expect("an empty job past the count", row(2), SIVORANDRA_BAD_EMPTY, 0);
+    expect("the same to the sets", sets(2), SIVORANDRA_BAD_EMPTY, 0);
     expect("an empty job past the count, before a report past it", advance(2, 2), SIVORANDRA_BAD_EMPTY, 0);
     expect("a report on an empty job", advance(1, 1), SIVORANDRA_BAD_REPORT, 0);
     expect("an empty job in its release tick", row(1), PASSES, 0);
+    expect("the same to the sets", sets(1), PASSES, 0);
     expect("the same to the advance", advance(0, 1), PASSES, 0);
     fresh(1), start(), advance(0, 0), expect("an empty job a tick after its release", row(1), SIVORANDRA_BAD_EMPTY, 0);
     expect("the same to the advance", advance(0, 1), SIVORANDRA_BAD_EMPTY, 0);
@@ -159,8 +164,10 @@ static void numbers(void)
     start(), expect("an early end", advance(1, 0), PASSES, 0);
     expect("one more tick", advance(0, 0), PASSES, 0);
     expect("late", row(0), SIVORANDRA_LATE, 3);
+    expect("late", sets(0), SIVORANDRA_LATE, 3);
     expect("late", advance(0, 0), SIVORANDRA_LATE, 3);
     expect("late before an empty job", row(7), SIVORANDRA_LATE, 3);
+    expect("late before an empty job", sets(7), SIVORANDRA_LATE, 3);
     expect("late before an empty job", advance(8, 7), SIVORANDRA_LATE, 3);
 }
 
@@ -197,6 +204,12 @@ static void limits(void)
     fresh(SIVORANDRA_MOST_TASKS - 1), table[CORES] = SIVORANDRA_MOST_CORES, start(), expect("a task more", withdraw_all(0x80000000u), SIVORANDRA_NO_POSITION, 0);
     with(FENCE, 1), start(), expect("a fenced core", row(0), PASSES, 0);
     expect("its byte", rows[0] != SIVORANDRA_FENCED, PASSES, 0);
+    expect("the sets beside it", sets(0), PASSES, 0);
+    expect("core 1 for the one task", shown[0] != 2 || shown[1] != 0, PASSES, 0);
+    with(CORES, SIVORANDRA_MOST_CORES), table[V] = table[W] = SIVORANDRA_MOST_CORES, start(), expect("a task on the most cores", sets(0), PASSES, 0);
+    expect("its set", shown[0] != UINT64_MAX, PASSES, 0);
+    fresh(SIVORANDRA_SETS), table[CORES] = SIVORANDRA_MOST_CORES, start(), expect("a set for the most tasks", sets(0), PASSES, 0);
+    expect("the last", shown[SIVORANDRA_SETS - 1] != 1u << (SIVORANDRA_SETS - 1), PASSES, 0);
 }
 
 int main(void)

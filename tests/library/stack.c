@@ -12,7 +12,7 @@ enum { STACK = 1 << 18, PAINT = 0xa5, TICKS = 200 };
 
 static uint32_t table[TABLE], run[RUN], supplied[SIVORANDRA_PLAN_WORDS], answer[3], entries[TICKS * SIVORANDRA_ENTRY_WORDS], numbers[TICKS];
 static uint8_t rows[TICKS * SIVORANDRA_MOST_CORES], sentence[SIVORANDRA_SENTENCE_BYTES], idle[SIVORANDRA_MOST_CORES];
-static uint64_t facts[FACTS];
+static uint64_t facts[FACTS], sets[SIVORANDRA_SETS];
 static size_t words, length;
 static uint32_t end, last;
 
@@ -23,6 +23,7 @@ static void plan(void) { sivorandra_plan(table, words, 0, end, rows, sizeof rows
 static void replay(void) { sivorandra_replay(table, words, entries, TICKS * SIVORANDRA_ENTRY_WORDS, numbers, TICKS, rows, sizeof rows, answer, 3); }
 static void start(void) { sivorandra_start(table, words, run, RUN, answer, 3); }
 static void row(void) { sivorandra_row(run, RUN, 0, rows, sizeof rows, answer, 3); }
+static void row_as_sets(void) { sivorandra_sets(run, RUN, 0, sets, SIVORANDRA_SETS, answer, 3); }
 static void advance(void) { sivorandra_advance(run, RUN, 0, 0, answer, 3); }
 static void withdraw(void) { sivorandra_withdraw(run, RUN, TASKS, answer, 3); }
 static void withdraw_all(void) { sivorandra_withdraw_all(run, RUN, 0xffffffffu, answer, 3); }
@@ -41,7 +42,7 @@ static void take(void)
 
 static struct { const char *name; void (*call)(void); size_t most; } calls[] = {
     { "version", version, 0 }, { "judge", judge, 0 }, { "judge_ticks", judge_ticks, 0 }, { "plan", plan, 0 }, { "replay", replay, 0 },
-    { "start", start, 0 }, { "row", row, 0 }, { "advance", advance, 0 }, { "withdraw", withdraw, 0 },
+    { "start", start, 0 }, { "row", row, 0 }, { "sets", row_as_sets, 0 }, { "advance", advance, 0 }, { "withdraw", withdraw, 0 },
     { "withdraw_all", withdraw_all, 0 }, { "sentence", say, 0 }, { "facts", read_back, 0 }, { "longest", longest, 0 }, { "clash", clash, 0 }, { "spare", spare, 0 },
     { "begin", begin, 0 }, { "take", take, 0 },
 };

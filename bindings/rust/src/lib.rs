@@ -29,7 +29,7 @@ pub use refusal::Refusal;
 use std::fmt;
 
 /// The version that these bindings are for: major * 10000 + minor * 100 + patch. `version` is that of the library that is linked.
-pub const VERSION: u32 = 1500;
+pub const VERSION: u32 = 1600;
 
 /// The most tasks on a chain, and the most records of a table.
 pub const MOST_TASKS: usize = 32;
@@ -105,6 +105,8 @@ pub const PLAN_WORDS: usize = RUN_WORDS + 1 + NOTE_WORDS * MOST_TASKS;
 pub const ROW_BYTES: usize = MOST_CORES;
 /// What a row has on a fenced core.
 pub const FENCED: u8 = 255;
+/// The sets of a row: one of each position.
+pub const SETS: usize = MOST_TASKS;
 
 /// The words of an entry of a list.
 const ENTRY_WORDS: usize = 3;
@@ -322,6 +324,7 @@ extern "C" {
     ) -> u32;
     fn sivorandra_start(words: *const u32, words_len: usize, run: *mut u32, run_len: usize, answer: *mut u32, answer_len: usize) -> u32;
     fn sivorandra_row(run: *const u32, run_len: usize, empties: u32, row: *mut u8, row_len: usize, answer: *mut u32, answer_len: usize) -> u32;
+    fn sivorandra_sets(run: *const u32, run_len: usize, empties: u32, sets: *mut u64, sets_len: usize, answer: *mut u32, answer_len: usize) -> u32;
     fn sivorandra_withdraw(run: *mut u32, run_len: usize, position: u32, answer: *mut u32, answer_len: usize) -> u32;
     fn sivorandra_withdraw_all(run: *mut u32, run_len: usize, set: u32, answer: *mut u32, answer_len: usize) -> u32;
     fn sivorandra_sentence(words: *const u32, words_len: usize, buffer: *mut u8, buffer_len: usize, answer: *mut u32, answer_len: usize) -> u32;
@@ -567,7 +570,7 @@ impl Run {
         Ok(Run { words: run })
     }
 
-    /// A run from its words, which may be any: what is no run is refused with 14 by `row`, `advance` and the withdrawals.
+    /// A run from its words, which may be any: what is no run is refused with 14 by `row`, `sets`, `advance` and the withdrawals.
     ///
     /// ```
     /// use sivorandra::{Refusal, Run, RUN_WORDS};
@@ -643,6 +646,29 @@ impl Run {
         let mut row = [0; ROW_BYTES];
         done(ask(|answer, len| unsafe { sivorandra_row(self.words.as_ptr(), self.words.len(), empties, row.as_mut_ptr(), row.len(), answer, len) }))?;
         Ok(row)
+    }
+
+    /// The row of the present tick as sets of cores, that of position 1 first: core c is bit c. Held cores are in the holder's set, lent ones in the borrower's, fenced ones in none.
+    /// No two overlap, and each has as many cores as its job is wide, or none; but a holder that lends has what it has not lent. Sets past the count are 0. It has `row`'s numbers.
+    ///
+    /// ```
+    /// use sivorandra::{Refusal, Run, LENDING};
+    ///
+    /// // two cores wanted at position 1, one at position 2; of five cores 1 and 3 are fenced
+    /// let mut run = Run::start(&[1, 5, LENDING, 0b01010, 0, 2, 0, 2, 2, 4, 4, 2, 0, 0, 1, 2, 4, 4, 1])?;
+    /// assert_eq!(run.sets(0)?[..3], [0b00101, 0b10000, 0]);
+    /// assert_eq!(run.sets(4), Err(Refusal::BadEmpty)); // there is no position 3
+    ///
+    /// // position 1 has ended, and lends one core of two
+    /// let mut run = Run::start(&[1, 2, LENDING, 0, 0, 2, 0, 2, 2, 4, 4, 2, 0, 0, 1, 2, 4, 4, 1])?;
+    /// run.advance(1, 0)?;
+    /// assert_eq!(run.sets(0)?[..2], [0b10, 0b01]);
+    /// # Ok::<(), Refusal>(())
+    /// ```
+    pub fn sets(&self, empties: u32) -> Result<[u64; SETS], Refusal> {
+        let mut sets = [0; SETS];
+        done(ask(|answer, len| unsafe { sivorandra_sets(self.words.as_ptr(), self.words.len(), empties, sets.as_mut_ptr(), sets.len(), answer, len) }))?;
+        Ok(sets)
     }
 
     /// One tick on, where bit p of `reports` says that the job of position p + 1 ends after this tick, and bit p of `empties` that it is released in this very tick and empty. A

@@ -1,5 +1,5 @@
 -- Number 14 of a buffer has the causes listed and no other: the places below the count decide whether it holds a run, and the run's own 14 the rest.
--- (`no-run-exact`: what holds no run; `row-fourteen`, `advance-fourteen` and `withdraw-fourteen`: what is answered.)
+-- (`no-run-exact`: what holds no run; `row-fourteen` and its like: what is answered.)
 use mathlib.Core.Path.{_≡_, refl, sym, ap, _∙_}
 use mathlib.Core.Bool.{Bool, true, false, _&&_, cond, true≢false}
 use mathlib.Core.List.{List}
@@ -17,12 +17,13 @@ use Rattle.run.specs.declared.Run.{Run}
 use Rattle.run.specs.Numbers.{RunOut, runOut, strangerIn, pastCount, firstLateIn, misemptiedIn, misreportedIn}
 use Rattle.run.specs.Run.{firmIn}
 use Rattle.run.specs.Row.{rowAnswer, rowOf}
+use Rattle.run.specs.Sets.{setsOf}
 use Rattle.run.specs.Advance.{advanceAnswer, advanceOf}
 use Rattle.run.specs.Withdraw.{withdrawAnswer, withdrawOf, withdrawAllOf}
 use Rattle.run.proofs.Limits.{run-decides}
 use Rattle.capi.specs.Encoding.{headWords, eachWords, parityAt, kindAt, secondAt, thirdAt, places, wordsTo, runWords, isPhase, isStand, isPlace}
 use Rattle.capi.specs.Encoding.{arePlaces, countIn, holds, runIn, Held, run, none, decode}
-use Rattle.capi.specs.Runs.{rowFrom, advanceFrom, withdrawFrom, withdrawAllFrom}
+use Rattle.capi.specs.Runs.{rowFrom, setsFrom, advanceFrom, withdrawFrom, withdrawAllFrom}
 use Rattle.capi.specs.Fourteen.{NoPhase, NoStand, NoRun, short, many, no-place, BufferOut}
 use Rattle.capi.proofs.Places.{place-at, by-held, held-short, held-many, held-by}
 
@@ -229,7 +230,12 @@ module _ (ws : List ℕ) where
   unfolding rowOf
   row-fourteen e = by-buffer (λ h. rowFrom h e .answer) refl (row-out (runIn ws) e) (row-out-back (runIn ws) e)
 
-  -- and so is an advance
+  -- and so are its sets
+  pub sets-fourteen : (e : ℕ) → (setsFrom (decode ws) e .answer ≡ Refused 14 0) ↔ BufferOut ws
+  unfolding setsOf
+  sets-fourteen e = by-buffer (λ h. setsFrom h e .answer) refl (row-out (runIn ws) e) (row-out-back (runIn ws) e)
+
+  -- and an advance
   pub advance-fourteen : (x e : ℕ) → (advanceFrom (decode ws) x e ws .answer ≡ Refused 14 0) ↔ BufferOut ws
   unfolding advanceOf
   advance-fourteen x e = by-buffer (λ h. advanceFrom h x e ws .answer) refl (advance-out (runIn ws) e x) (advance-out-back (runIn ws) e x)

@@ -11,15 +11,17 @@ use Rattle.run.specs.declared.Answer.{Answer}
 use Rattle.run.specs.declared.Answer.the-variants.{Taken, Refused}
 use Rattle.run.specs.declared.Row.{Row}
 use Rattle.run.specs.declared.Run.{Run}
+use Rattle.run.specs.declared.Sets.{Sets}
 use Rattle.run.specs.declared.Started.{Started}
 use Rattle.run.specs.declared.Advanced.{Advanced}
 use Rattle.model.specs.Book.{Entry, advance, withdraw, withdrawAll, only}
 use Rattle.model.specs.Search.{bit}
-use Rattle.model.specs.Sizes.{mostCores}
+use Rattle.model.specs.Sizes.{mostCores, mostTasks}
 use Rattle.run.specs.Run.{moved, withdrawnIn}
 use Rattle.run.specs.Answer.{byAnswer}
 use Rattle.run.specs.Start.{startOf}
 use Rattle.run.specs.Row.{noBytes, rowOf}
+use Rattle.run.specs.Sets.{noSets, setsOf}
 use Rattle.run.specs.Numbers.{strangerIn, pastCount}
 use Rattle.run.specs.Advance.{advanceAnswer, advanceOf}
 use Rattle.run.specs.Withdraw.{withdrawAnswer, withdrawOf, withdrawAllOf}
@@ -27,7 +29,7 @@ use Rattle.demand.specs.Entries.{entryOf}
 use Rattle.capi.specs.Told.{ofAnswer, written}
 use Rattle.capi.specs.Calls.{left, byRoom, room}
 use Rattle.capi.specs.Encoding.{places, runWords, overwritten, countIn, holds, runIn, Held, run, decode}
-use Rattle.capi.specs.Runs.{startCall, rowFrom, rowCall, Entered, kept, entryFrom, advanceFrom, advanceCall, withdrawFrom, withdrawCall, withdrawAllFrom, withdrawAllCall}
+use Rattle.capi.specs.Runs.{startCall, rowFrom, rowCall, setsFrom, setsCall, Entered, kept, entryFrom, advanceFrom, advanceCall, withdrawFrom, withdrawCall, withdrawAllFrom, withdrawAllCall}
 use Rattle.capi.proofs.Calls.{both}
 use Rattle.capi.proofs.Places.{by-held, held-few}
 
@@ -85,6 +87,27 @@ module _ (buffer : List ℕ) (e : ℕ) (row answer : List ℕ) where
       (p ∙ ap (λ (v : Row). v .bytes ++ drop mostCores row) d)
       (q ∙ ap (λ (v : Row). written (ofAnswer (v .answer)) answer) d)
       ∙ sym (roomy mostCores row answer _ _ h l)
+
+-- SETS
+
+module _ (buffer : List ℕ) (e : ℕ) (sets answer : List ℕ) where
+  pub sets-narrow : length answer < 3 → setsCall buffer e sets answer ≡ left 1 (sets ∷ (answer ∷ []))
+  unfolding setsCall
+  sets-narrow h = narrow mostTasks sets answer _ _ h
+
+  pub sets-short : 3 ≤ length answer → length sets < mostTasks → setsCall buffer e sets answer ≡ left 1 (sets ∷ (answer ∷ []))
+  unfolding setsCall
+  sets-short h l = short mostTasks sets answer _ _ h l
+
+  pub sets-room :
+      (w : Sets) {k m : List ℕ} → 3 ≤ length answer → mostTasks ≤ length sets → w ≡ setsFrom (decode buffer) e → k ≡ w .sets ++ drop mostTasks sets
+      → m ≡ written (ofAnswer (w .answer)) answer → left 0 (k ∷ (m ∷ [])) ≡ setsCall buffer e sets answer
+  unfolding setsCall
+  sets-room w h l d p q =
+      both
+      (p ∙ ap (λ (v : Sets). v .sets ++ drop mostTasks sets) d)
+      (q ∙ ap (λ (v : Sets). written (ofAnswer (v .answer)) answer) d)
+      ∙ sym (roomy mostTasks sets answer _ _ h l)
 
 -- ADVANCE AND THE WITHDRAWALS
 
@@ -168,6 +191,12 @@ module _ (ws : List ℕ) where
 
   pub row-none : (e : ℕ) → holds ws ≡ false → _≡_ {A = Row} (record { answer = Refused 14 0; bytes = noBytes }) (rowFrom (decode ws) e)
   row-none e h = ap (λ (v : Held). rowFrom v e) (sym (by-held ws h))
+
+  pub sets-held : (e : ℕ) {w : Sets} {r : Run} → holds ws ≡ true → r ≡ runIn ws → w ≡ setsOf r e → w ≡ setsFrom (decode ws) e
+  sets-held e h q p = p ∙ (ap (λ (r : Run). setsOf r e) q ∙ ap (λ (v : Held). setsFrom v e) (sym (by-held ws h)))
+
+  pub sets-none : (e : ℕ) → holds ws ≡ false → _≡_ {A = Sets} (record { answer = Refused 14 0; sets = noSets }) (setsFrom (decode ws) e)
+  sets-none e h = ap (λ (v : Held). setsFrom v e) (sym (by-held ws h))
 
   module _ (x : Entry) where
     -- the run that an entry returns has as few places as the buffer says

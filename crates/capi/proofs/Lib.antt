@@ -17,6 +17,7 @@ pub mod SuppliedKept
 pub mod Examples
 pub mod Calling
 pub mod RunExamples
+pub mod SetsExamples
 pub mod TogetherExamples
 pub mod LendExamples
 pub mod SentenceExamples

@@ -16,7 +16,7 @@ use Rattle.run.specs.Past.{Unread}
 use Rattle.run.proofs.Past.{past-unread}
 use Rattle.phase.specs.Task.{unused}
 use Rattle.capi.specs.Encoding.{headWords, eachWords, places, wordsTo, placesWords, encodeTo, overwritten, placesIn, arePlaces, countIn, holds, padded, runIn, Held, run, none, decode, cleared}
-use Rattle.capi.specs.Runs.{rowFrom, entryFrom}
+use Rattle.capi.specs.Runs.{rowFrom, setsFrom, entryFrom}
 use Rattle.capi.specs.Past.{usedIn, SameUsed, WordsUnread}
 use Rattle.table.specs.Words.{fenceOf}
 use Rattle.capi.proofs.Places.{length-words, length-read, held-by, by-held, held-few, held-places}
@@ -48,7 +48,7 @@ same-places n ws vs h e u =
       read = ap (placesIn n) (sym other) ∙ (places-back n read (drop (eachWords * n) vs) (omega arith) ∙ take-all n read (omega arith));
     }
 
--- a run that is cleared, as it is when it comes back from its encoding, is the run up to its count: it gets equal rows and answers
+-- a run that is cleared, as it is when it comes back from its encoding, is the run up to its count: it gets equal rows, sets and answers
 pub cleared-unread : (r : Run) → length (r .tasks) ≡ places → r .count ≤ places → (x e : ℕ) → Unread r (cleared r) x e
 cleared-unread r all few x e =
     let n = r .count in
@@ -175,11 +175,12 @@ words-unchanged ws x = go (decode ws) refl
         ∙ (ap (λ (k : ℕ). drop k (entryFrom (run r) x ws .buffer)) at ∙ (behind r (held-fits ws r e .0) x ws ∙ ap (λ (k : ℕ). drop k ws) (sym at)))
     go none e = ap (λ (h : Held). drop (usedIn ws) (entryFrom h x ws .buffer)) e
 
--- two buffers that are equal up to the count get equal rows and answers, and are equal up to the count again after an entry
+-- two buffers that are equal up to the count get equal rows, sets and answers, and are equal up to the count again after an entry
 pub words-unread : (ws vs : List ℕ) → SameUsed ws vs → (x : Entry) → WordsUnread ws vs x
 words-unread ws vs s x = record {
   held = same-held ws vs s;
   row = λ e. ap (λ (h : Held). rowFrom h e) (same-held ws vs s);
+  sets = λ e. ap (λ (h : Held). setsFrom h e) (same-held ws vs s);
   answer = answered (decode ws) ∙ ap (λ (h : Held). entryFrom h x vs .answer) (same-held ws vs s);
   used = go (decode ws) refl ∙ ap (λ (h : Held). take (usedIn ws) (entryFrom h x vs .buffer)) (same-held ws vs s);
 }

@@ -1,5 +1,5 @@
--- Number 14 for a run in a buffer: when row, advance and the withdrawals answer it. `row-fourteen`, `advance-fourteen`, `withdraw-fourteen` and
--- `withdraw-all-fourteen` show that these are all its causes.
+-- Number 14 for a run in a buffer: when row, sets, advance and the withdrawals answer it. `row-fourteen`, `sets-fourteen`, `advance-fourteen`,
+-- `withdraw-fourteen` and `withdraw-all-fourteen` show that these are all its causes.
 use mathlib.Core.Path.{_≡_}
 use mathlib.Core.List.{List}
 use mathlib.Core.Logic.{_⊎_}

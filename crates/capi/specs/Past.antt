@@ -6,7 +6,7 @@ use Prim.Native.Nat.{ℕ, _≤_}
 use lib.ListN.{length, take}
 use Rattle.model.specs.Book.{Entry}
 use Rattle.capi.specs.Encoding.{wordsTo, runWords, countIn, decode}
-use Rattle.capi.specs.Runs.{rowFrom, entryFrom}
+use Rattle.capi.specs.Runs.{rowFrom, setsFrom, entryFrom}
 
 -- the words of a buffer that a call on it reads and may change: the head, and the places below its count
 abbrev pub usedIn : List ℕ → ℕ
@@ -18,9 +18,10 @@ pub record SameUsed (ws vs : List ℕ) : Type 0 where
   pub other-long : runWords ≤ length vs
   pub used : take (usedIn ws) ws ≡ take (usedIn ws) vs
 
--- they hold the same, so that a row with any empty jobs and an entry are answered the same; and after it they are equal up to the count again
+-- they hold the same, so that a row or its sets with any empty jobs and an entry are answered the same; and after it they are equal up to the count again
 pub record WordsUnread (ws vs : List ℕ) (x : Entry) : Type 0 where
   pub held : decode ws ≡ decode vs
   pub row : (e : ℕ) → rowFrom (decode ws) e ≡ rowFrom (decode vs) e
+  pub sets : (e : ℕ) → setsFrom (decode ws) e ≡ setsFrom (decode vs) e
   pub answer : entryFrom (decode ws) x ws .answer ≡ entryFrom (decode vs) x vs .answer
   pub used : take (usedIn ws) (entryFrom (decode ws) x ws .buffer) ≡ take (usedIn ws) (entryFrom (decode vs) x vs .buffer)

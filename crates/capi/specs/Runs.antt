@@ -1,4 +1,4 @@
--- What start, row, advance and the withdrawals leave, where the run is held in a lent buffer of words.
+-- What start, row, sets, advance and the withdrawals leave, where the run is held in a lent buffer of words.
 use mathlib.Core.Bool.{_&&_}
 use mathlib.Core.List.{List, [], _∷_, _++_}
 use Prim.Native.Nat.{ℕ}
@@ -8,15 +8,17 @@ use Rattle.run.specs.declared.Answer.{Answer}
 use Rattle.run.specs.declared.Answer.the-variants.{Refused}
 use Rattle.run.specs.declared.Row.{Row}
 use Rattle.run.specs.declared.Run.{Run}
+use Rattle.run.specs.declared.Sets.{Sets}
 use Rattle.run.specs.Answer.{byAnswer}
 use Rattle.run.specs.Start.{startOf}
 use Rattle.run.specs.Row.{noBytes, rowOf}
+use Rattle.run.specs.Sets.{noSets, setsOf}
 use Rattle.model.specs.Book.{Entry, advance, withdraw, withdrawAll}
 use Rattle.demand.specs.Entries.{entryOf}
 use Rattle.capi.specs.Told.{ofAnswer, written}
 use Rattle.capi.specs.Calls.{Left, byRoom, room}
 use Rattle.capi.specs.Encoding.{places, runWords, overwritten, Held, run, none, decode}
-use Rattle.model.specs.Sizes.{mostCores}
+use Rattle.model.specs.Sizes.{mostCores, mostTasks}
 
 -- the buffer after a start: the run that it returns, taken or refused, with all its places
 abbrev pub startedIn : List ℕ → List ℕ → List ℕ
@@ -41,6 +43,19 @@ rowCall buffer e row answer =
     byRoom (room answer && leb mostCores (length row))
     ((w .bytes ++ drop mostCores row) ∷ (written (ofAnswer (w .answer)) answer ∷ []))
     (row ∷ (answer ∷ []))
+
+-- the sets of cores of the run that a buffer holds with the empty jobs e; 14 where it holds none
+abbrev pub setsFrom : Held → ℕ → Sets
+setsFrom (run r) e = setsOf r e
+setsFrom none e = record { answer = Refused 14 0; sets = noSets }
+
+-- sets: 32 of them in front, all zeros in a refusal
+unfoldable pub setsCall : List ℕ → ℕ → List ℕ → List ℕ → Left
+setsCall buffer e sets answer =
+    let w = setsFrom (decode buffer) e in
+    byRoom (room answer && leb mostTasks (length sets))
+    ((w .sets ++ drop mostTasks sets) ∷ (written (ofAnswer (w .answer)) answer ∷ []))
+    (sets ∷ (answer ∷ []))
 
 -- an entry's answer, and the buffer afterwards
 pub record Entered : Type 0 where

@@ -33,7 +33,7 @@ abbrev pub ofPlanned : Planned → Told
 ofPlanned plan.Written = says 0 0 0
 ofPlanned (plan.Refused n p) = says 3 n p
 
--- start, row, advance and the withdrawals: 0 taken, 3 Refused number position
+-- start, row, sets, advance and the withdrawals: 0 taken, 3 Refused number position
 abbrev pub ofAnswer : Answer → Told
 ofAnswer run.Taken = says 0 0 0
 ofAnswer (run.Refused n p) = says 3 n p

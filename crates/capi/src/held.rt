@@ -1,12 +1,13 @@
-// A run in a lent buffer of words: its head, and then its places, of which those past the count are neither read nor changed by row, advance and the withdrawals.
+// A run in a lent buffer of words: its head, and then its places, of which those past the count are neither read nor changed by row, sets, advance and the withdrawals.
 ghost use mathlib.Core.Path.{_≡_};
 ghost use mathlib.Core.List.{_++_};
 ghost use Prim.Native.Nat.{_+_, _≤_};
 ghost use lib.ListN.{length, drop};
 ghost use Rattle.capi.specs.Encoding.{headWords, eachWords, places, runWords, ofPhase, parityWord, placeWith, countWord, lowWord, highWord};
 ghost use Rattle.capi.specs.Encoding.{overwritten, phaseOf, isStand, placeIn, countIn, holds, runIn, decode};
-ghost use Rattle.capi.specs.Runs.{rowFrom, kept, advanceFrom, withdrawFrom, withdrawAllFrom};
-ghost use Rattle.model.specs.Sizes.{mostCores};
+ghost use Rattle.capi.specs.Runs.{rowFrom, setsFrom, kept, advanceFrom, withdrawFrom, withdrawAllFrom};
+ghost use Rattle.model.specs.Sizes.{mostCores, mostTasks};
+use model::MOST_TASKS;
 use model::ROW;
 use phase::Phase;
 use phase::Task;
@@ -14,6 +15,7 @@ use run::Advanced;
 use run::Answer;
 use run::Row;
 use run::Run;
+use run::Sets;
 use table::limits::HIGH;
 
 // The words in front of the places: rule, cores, count, the fence in two, and the withdrawn set.
@@ -274,6 +276,33 @@ pub(crate) fn put_row(bytes: [u8; ROW], row: &mut [u8])
     let mut i: usize = 0;
     while i < ROW {
         row[i] = bytes[i];
+        i += 1;
+    }
+}
+
+// The sets of cores of the run that the buffer holds with these empty jobs; 14 where it holds none.
+pub(crate) fn sets_of(words: &[u32], empties: u32) -> Sets
+    ensures { λ r. ⌜ r ≡ setsFrom (decode (now (words .entry))) empties ⌝ }
+{
+    if holds(words) {
+        let held = run_in(words);
+        return held.sets(empties);
+    }
+    let sets = [0u64; MOST_TASKS];
+    Sets {
+        answer: Answer::Refused(14, 0),
+        sets: sets,
+    }
+}
+
+// Writes the 32 sets; what stands behind them stays.
+pub(crate) fn put_sets(sets: [u64; MOST_TASKS], words: &mut [u64])
+    requires { ⌜ mostTasks ≤ length (now words) ⌝ }
+    ensures { λ r. ⌜ now (words .exit) ≡ sets ++ drop mostTasks (now (words .entry)) ⌝ }
+{
+    let mut i: usize = 0;
+    while i < MOST_TASKS {
+        words[i] = sets[i];
         i += 1;
     }
 }

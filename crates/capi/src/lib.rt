@@ -1,12 +1,12 @@
 // The library to link: the judge, the plan, the replay, the run in the cab and plans by others for C and Rust, on numbers and lent slices.
 // Each function but sivorandra_version returns 0 where the call is answered, and 1 where a lent slice is too short or a list of entries is none: then everything is as found.
-// Short rows of a plan are 11 instead, and a buffer lent to row, advance, a withdrawal or take that is too short for a run or a plan holds none: 14.
+// Short rows of a plan are 11 instead, and a buffer lent to row, sets, advance, a withdrawal or take that is too short for a run or a plan holds none: 14.
 // The answer stands in the three first words of `answer`: a case and two numbers.
 ghost use mathlib.Core.Path.{_≡_};
 ghost use mathlib.Core.List.{[], _∷_};
 ghost use Rattle.capi.specs.Calls.{judgeCall, planCall, clashCall};
 ghost use Rattle.capi.specs.Replays.{replayCall};
-ghost use Rattle.capi.specs.Runs.{startCall, rowCall, advanceCall, withdrawCall, withdrawAllCall};
+ghost use Rattle.capi.specs.Runs.{startCall, rowCall, setsCall, advanceCall, withdrawCall, withdrawAllCall};
 ghost use Rattle.capi.specs.Sentences.{sentenceCall, factsCall};
 ghost use Rattle.capi.specs.Figures.{longestCall, spareCall};
 ghost use Rattle.capi.specs.Taking.{beginCall, takeCall};
@@ -22,7 +22,7 @@ mod supplied; // supplied.rt: a supplied plan in a lent buffer of words
 mod told; // told.rt: an answer in three words
 
 // The version of the library as one number: major * 10000 + minor * 100 + patch.
-const VERSION: u32 = 1500;
+const VERSION: u32 = 1600;
 
 // The version of the library that is linked; the header has that of the header.
 #[no_mangle]
@@ -145,6 +145,33 @@ pub extern "C" fn sivorandra_row(
     let shown = held::row_of(run, empties);
     let bytes = shown.bytes;
     held::put_row(bytes, row);
+    let given = shown.answer;
+    let told = told::of_answer(given);
+    told::put(told, answer);
+    0
+}
+
+// The sets of cores of the present tick into the first 32 words of `sets`, one of each position, core 0 the lowest bit, with `empties` as for row: held
+// cores are in the holder's, lent ones in the borrower's and fenced ones in none. Case 0, or 3 Refused number position and 32 zeros; 14 where `run`
+// holds no run.
+#[no_mangle]
+pub extern "C" fn sivorandra_sets(
+    run: &[u32],
+    empties: u32,
+    sets: &mut [u64],
+    answer: &mut [u32],
+) -> u32
+    ensures { λ r. ⌜ record { value = r; lent = now (sets .exit) ∷ (now (answer .exit) ∷ []) } ≡ setsCall (now (run .entry)) empties (now (sets .entry)) (now (answer .entry)) ⌝ }
+{
+    if answer.len() < 3 {
+        return 1;
+    }
+    if sets.len() < MOST_TASKS {
+        return 1;
+    }
+    let shown = held::sets_of(run, empties);
+    let found = shown.sets;
+    held::put_sets(found, sets);
     let given = shown.answer;
     let told = told::of_answer(given);
     told::put(told, answer);

@@ -61,7 +61,7 @@ pub(crate) fn of_planned(planned: Planned) -> Told
     }
 }
 
-// What start, row, advance and the withdrawals answer.
+// What start, row, sets, advance and the withdrawals answer.
 pub(crate) fn of_answer(answer: Answer) -> Told
     ensures { λ r. ⌜ r ≡ ofAnswer answer ⌝ }
 {

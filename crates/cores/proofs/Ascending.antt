@@ -1,7 +1,7 @@
 -- Ascending lists of numbers: take, drop and membership in them, the numbers from i up, and those of a list that pass a test.
 use mathlib.Core.Path.{_≡_, refl, sym, ap, ap₂, _∙_}
 use mathlib.Core.Logic.{_⊎_, inl, inr, ⊎-elim}
-use mathlib.Core.Bool.{Bool, true, false, _&&_, _||_, or-true, false≢true}
+use mathlib.Core.Bool.{Bool, true, false, _&&_, _||_, not, or-true, false≢true}
 use mathlib.Core.List.{List, [], _∷_, map}
 use Prim.Native.Nat.{ℕ, zero, suc, _+_, _≤_, _<_}
 use native.Mathlib.Nat.{eq-or-lt-of-le}
@@ -145,6 +145,17 @@ length-kept f (x ∷ l) = go (f x) (length-kept f l)
     go : (t : Bool) → length (kept f l) ≤ length l → length (keptIf t x (kept f l)) ≤ suc (length l)
     go true h = omega arith
     go false h = omega arith
+
+-- those that fail a test and those that pass it are together the whole list
+pub length-halves : (f : ℕ → Bool) (l : List ℕ) → length (kept (λ c. not (f c)) l) + length (kept f l) ≡ length l
+unfolding kept
+length-halves f [] = refl
+length-halves f (x ∷ l) = go (f x) (length-halves f l)
+  where
+    go : (t : Bool) → length (kept (λ c. not (f c)) l) + length (kept f l) ≡ length l
+        → length (keptIf (not t) x (kept (λ c. not (f c)) l)) + length (keptIf t x (kept f l)) ≡ suc (length l)
+    go true ih = omega arith
+    go false ih = omega arith
 
 pub range-kept : (f : ℕ → Bool) (lo hi : ℕ) (l : List ℕ) → Range lo hi l → Range lo hi (kept f l)
 unfolding kept

@@ -1,6 +1,6 @@
 -- A set and its list of cores: the two directions undo each other, and what ones, trailing zeros, take and drop say of them.
 use mathlib.Core.Path.{_≡_, refl, sym, ap, ap₂, _∙_, subst}
-use mathlib.Core.Bool.{Bool, _&&_, true-and}
+use mathlib.Core.Bool.{Bool, true, false, _&&_, true-and}
 use mathlib.Core.Logic.{⊎-elim}
 use mathlib.Core.List.{List, [], _∷_, _++_}
 use Prim.Native.Nat.{ℕ, zero, suc, _+_, _-_, _*_, _/_, _%_, _^_, _≤_, _<_}
@@ -9,12 +9,14 @@ use native.Mathlib.Omega.{arith}
 use lib.Arith.{lt-one}
 use lib.ListN.{length, take, drop, take-append-drop}
 use lib.Count.{ones, ones-step, trailingZeros}
-use lib.Dec.{eqb}
-use lib.Pow.{pow-pos, ones-lt}
+use lib.Dec.{eqb, ltb}
+use lib.Pow.{pow-mono, pow-pos, ones-lt}
+use borrow.Author.Tests.{ltb-false, ltb-true}
 use Rattle.model.specs.Search.{bit, kept, keptIf, memb, upFrom}
-use Rattle.model.proofs.Digits.{bit-zero, bit-suc, even-half, odd-half, half, tz-out, tz-into}
+use Rattle.model.specs.Sets.{setOf}
+use Rattle.model.proofs.Digits.{bit-past, bit-zero, bit-suc, even-half, odd-half, half, tz-out, tz-into}
 use Rattle.cores.specs.Cores.{cores}
-use Rattle.cores.proofs.Ascending.{Range, range-weaken, range-take, range-drop, memb-up, memb-kept}
+use Rattle.cores.proofs.Ascending.{Range, range-weaken, range-take, range-drop, memb-past, memb-up, memb-kept}
 
 -- ---- the cores, digit by digit
 
@@ -77,13 +79,7 @@ length-from (suc d) at n h =
 pub cores-length : (n : ℕ) → n < 2 ^ 64 → length (cores n) ≡ ones n
 cores-length n h = ap length (cores-digits n) ∙ length-from 64 0 n h
 
--- ---- the set that has the cores of a list
-
-unfoldable pub setOf : List ℕ → ℕ
-setOf [] = 0
-setOf (c ∷ l) = 2 ^ c + setOf l
-
--- its entries counted from at
+-- ---- the set that has the cores of a list, its entries counted from at
 
 unfoldable setFrom : ℕ → List ℕ → ℕ
 setFrom at [] = 0
@@ -234,6 +230,28 @@ popped n p h = popped-as n p h (cores n) refl
 pub cores-memb : (n c : ℕ) → c < 64 → memb c (cores n) ≡ bit n c
 unfolding cores
 cores-memb n c h = memb-kept (bit n) c (upFrom 0 64) ∙ ap (λ (t : Bool). t && bit n c) (memb-up c 0 64 (omega arith) h) ∙ true-and (bit n c)
+
+-- ---- the set of an ascending list: a number of 64 digits, whose digits are membership and whose ones are counted
+
+set-room : (lo hi : ℕ) (l : List ℕ) → lo ≤ hi → Range lo hi l → setOf l + 2 ^ lo ≤ 2 ^ hi
+unfolding setOf
+set-room lo hi [] h r = omega (arith, pow-mono h)
+set-room lo hi (c ∷ l) h r =
+    let i : setOf l + 2 ^ suc c ≤ 2 ^ hi = set-room (suc c) hi l (omega arith) (r .2) in
+    omega (arith, i, pow-suc 2 c, pow-mono (r .0))
+
+pub set-lt : (l : List ℕ) → Range 0 64 l → setOf l < 2 ^ 64
+set-lt l r = omega (arith, set-room 0 64 l (omega arith) r)
+
+pub set-bit : (l : List ℕ) → Range 0 64 l → (c : ℕ) → bit (setOf l) c ≡ memb c l
+set-bit l r c = go (ltb c 64) refl
+  where
+    go : (t : Bool) → ltb c 64 ≡ t → bit (setOf l) c ≡ memb c l
+    go true e = sym (cores-memb (setOf l) c (ltb-true c 64 e)) ∙ ap (memb c) (cores-set l r)
+    go false e = bit-past 64 (setOf l) c (set-lt l r) (ltb-false c 64 e) ∙ sym (memb-past c 0 64 l r (ltb-false c 64 e))
+
+pub set-ones : (l : List ℕ) → Range 0 64 l → ones (setOf l) ≡ length l
+set-ones l r = sym (cores-length (setOf l) (set-lt l r)) ∙ ap length (cores-set l r)
 
 -- ---- all of the first m cores
 

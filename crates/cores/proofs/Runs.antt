@@ -12,10 +12,11 @@ use lib.ListN.{drop}
 use lib.Seq.{drop-append-seam}
 use lib.Pow.{pow-pos, pow-mono, shr-le, shr-lt}
 use Rattle.model.specs.Search.{upFrom}
+use Rattle.model.specs.Sets.{setOf}
 use Rattle.model.proofs.Digits.{half, tz-out, tz-into, lowest-of}
 use Rattle.model.proofs.Lists.{up-length}
 use Rattle.cores.specs.Cores.{cores}
-use Rattle.cores.proofs.Cores.{named, coresFrom, cores-digits, none-from, out, into, setOf, set-cores, cores-up}
+use Rattle.cores.proofs.Cores.{named, coresFrom, cores-digits, none-from, out, into, set-cores, cores-up}
 
 -- ---- the ones that a set begins with
 

@@ -20,29 +20,32 @@ use Rattle.run.proofs.StartExact.{taken-passes, start-of}
 use Rattle.demand.proofs.Stands.{Stands, same-answers, same-asked, stands-after}
 use Rattle.demand.proofs.Words.{stands-start}
 
--- THEOREM (follows): for every table that start takes, Firm and Full alike, and every list of entries
-pub follows : (ws : List ℕ) → told (startOf ws .answer) ≡ taken → (xs : List Entry) → Follows ws xs
-follows ws e xs = record {
-  each-answer = same;
-  list-tick = ap (takenIn xs) same ∙ sym (tick-taken (tableOf ws) xs);
-  row-after = same-asked (tableOf ws) ok (book (tableOf ws) xs) (after (begun ws) xs) stands;
-  passes = fails (runOut last) (RunOut last) (run-decides last) (passes-runs last (stands .passes));
-}
-  where
-    last : Run
-    last = after (begun ws) xs
+module _ (ws : List ℕ) (e : told (startOf ws .answer) ≡ taken) where
+  none : NoneApplies ws
+  none = taken-passes ws e
 
-    none : NoneApplies ws
-    none = taken-passes ws e
+  -- the tasks are sound
+  pub sound : AllSound (tableOf ws)
+  sound = passed-sound ws none
 
-    ok : AllSound (tableOf ws)
-    ok = passed-sound ws none
+  started : Stands (tableOf ws) emptyBook (begun ws)
+  started = subst (λ (r : Run). Stands (tableOf ws) emptyBook r) (sym (start-of ws (startOf ws) refl .started e)) (stands-start ws none)
 
-    st : Stands (tableOf ws) emptyBook (begun ws)
-    st = subst (λ (r : Run). Stands (tableOf ws) emptyBook r) (sym (start-of ws (startOf ws) refl .started e)) (stands-start ws none)
+  -- the run stands for the book after the list
+  pub stands : (xs : List Entry) → Stands (tableOf ws) (book (tableOf ws) xs) (after (begun ws) xs)
+  stands xs = stands-after (tableOf ws) sound xs emptyBook (begun ws) started
 
-    stands : Stands (tableOf ws) (book (tableOf ws) xs) (after (begun ws) xs)
-    stands = stands-after (tableOf ws) ok xs emptyBook (begun ws) st
+  -- THEOREM (follows): for every table that start takes, Firm and Full alike, and every list of entries
+  pub follows : (xs : List Entry) → Follows ws xs
+  follows xs = record {
+    each-answer = same;
+    list-tick = ap (takenIn xs) same ∙ sym (tick-taken (tableOf ws) xs);
+    row-after = same-asked (tableOf ws) sound (book (tableOf ws) xs) (after (begun ws) xs) (stands xs);
+    passes = fails (runOut last) (RunOut last) (run-decides last) (passes-runs last (stands xs .passes));
+  }
+    where
+      last : Run
+      last = after (begun ws) xs
 
-    same : map told (answers (begun ws) xs) ≡ answersFrom (tableOf ws) emptyBook xs
-    same = same-answers (tableOf ws) ok xs emptyBook (begun ws) st
+      same : map told (answers (begun ws) xs) ≡ answersFrom (tableOf ws) emptyBook xs
+      same = same-answers (tableOf ws) sound xs emptyBook (begun ws) started

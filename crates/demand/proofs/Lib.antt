@@ -1,4 +1,4 @@
--- The proofs of the promises on a list of entries: from the tie of one task to `follows`, `demand-3` and `fenced`, and examples through `replay`.
+-- The proofs of the promises on a list of entries: from the tie of one task to `follows`, `sets-book`, `sets-kept`, `demand-3` and `fenced`, and examples through `replay`.
 pub mod Tied
 pub mod Seen
 pub mod Ticks
@@ -8,6 +8,7 @@ pub mod Related
 pub mod Stands
 pub mod Words
 pub mod Follows
+pub mod BookSets
 pub mod Demand
 pub mod Fenced
 pub mod Listed
@@ -21,3 +22,4 @@ pub mod WithdrawBuilt
 pub mod TogetherBuilt
 pub mod WidthBuilt
 pub mod LendBuilt
+pub mod SetsBuilt

@@ -18,7 +18,7 @@ use Rattle.model.specs.Grants.{Claimant, claimants, grants, some}
 use Rattle.model.specs.Lending.{lends, lent, shownCores}
 use Rattle.model.specs.Row.{row}
 use Rattle.model.specs.Book.{Book, Job, claims, widths, taskClaims, grantsOf, rowOf, inRow, served, newestEnded, offer, seeks, lentOf, borrowed, borrows}
-use Rattle.model.specs.Book.{borrowing, step, reportable, misreported}
+use Rattle.model.specs.Book.{borrowing, step, reportable, misreported, shownOf}
 use Rattle.model.proofs.Bools.{not-true-false}
 use Rattle.model.proofs.Search.{any-same}
 use Rattle.model.proofs.Grants.{claimants-same, grants-none}
@@ -88,7 +88,7 @@ module _ (s : Table) (ok : AllSound s) (c : Book) (r : Run) (e : ℕ) (h : Looks
   same-claims p l = does p l .claimed
 
   -- who claims is a place of the table
-  claims-below : (p : ℕ) → taskClaims s c p ≡ true → p < length (s .tasks)
+  pub claims-below : (p : ℕ) → taskClaims s c p ≡ true → p < length (s .tasks)
   claims-below p q = go (ltb p (length (s .tasks))) refl
     where
       new : ℕ
@@ -111,7 +111,7 @@ module _ (s : Table) (ok : AllSound s) (c : Book) (r : Run) (e : ℕ) (h : Looks
       turned true a b = refl
       turned false a b = refl
 
-  same-widths : widthsNow r ≡ widths s (c .tick)
+  pub same-widths : widthsNow r ≡ widths s (c .tick)
   same-widths =
       ext-getD 0 (widthsNow r) (widths s (c .tick)) (lengths ∙ sym (length-map (s .tasks) wide))
       (λ p q.
@@ -137,13 +137,13 @@ module _ (s : Table) (ok : AllSound s) (c : Book) (r : Run) (e : ℕ) (h : Looks
       (sym (claimants-same (widths s (c .tick)) (taskClaims s c) (λ p. claiming (seenAt r e p))
       (λ p l. same-claims p (subst (λ (n : ℕ). p < n) (length-map (s .tasks) (λ τ. widthOf τ (newest τ (c .tick)))) l)))))
 
-  same-cores-at : (p : ℕ) → hasCores r e p ≡ inRow s c p
+  pub same-cores-at : (p : ℕ) → hasCores r e p ≡ inRow s c p
   same-cores-at p = ap (λ (x : List (List ℕ)). some (getD x p [])) same-grants
 
   -- WHAT IS LENT
 
   -- who claims works exactly if its job is open, and holds exactly if that has ended
-  open-works : (p : ℕ) → p < length (s .tasks) → taskClaims s c p && not (newestEnded s c p) ≡ working (seenAt r e p)
+  pub open-works : (p : ℕ) → p < length (s .tasks) → taskClaims s c p && not (newestEnded s c p) ≡ working (seenAt r e p)
   open-works p l = ap (λ (x : Bool). x && not (newestEnded s c p)) (same-claims p l) ∙ does p l .open-job
 
   holds-ended : (ph : Phase) (x : Bool) → claiming ph ≡ true → claiming ph && not x ≡ working ph → holder ph ≡ x
@@ -167,7 +167,7 @@ module _ (s : Table) (ok : AllSound s) (c : Book) (r : Run) (e : ℕ) (h : Looks
           ∙ sym (ap (λ (x : Bool). x && not (newestEnded s c p) && not (inRow s c p))
           (not-true-false (taskClaims s c p) (λ q. true≢false (sym (lt-ltb p (length (s .tasks)) (claims-below p q)) ∙ i))))
 
-  same-offer : (p : ℕ) → offerIn r e p ≡ offer s c p
+  pub same-offer : (p : ℕ) → offerIn r e p ≡ offer s c p
   unfolding offerIn offer
   same-offer p =
       ap (λ (u : Rule). cond (lends u && holder (seenAt r e p)) (getD (grantsIn r e) p []) []) (h .same .same-rule)
@@ -192,18 +192,21 @@ module _ (s : Table) (ok : AllSound s) (c : Book) (r : Run) (e : ℕ) (h : Looks
           none false = refl
 
   -- so the same is borrowed
-  same-lent : lentIn r e ≡ lentOf s c
+  pub same-lent : lentIn r e ≡ lentOf s c
   unfolding lentIn
   same-lent = λ i. lent (same-widths i) (λ q. same-seeks q i) (λ q. same-offer q i) (h .same .same-count i)
 
-  same-lent-at : (p : ℕ) → hasLent r e p ≡ borrows s c p
+  pub same-lent-at : (p : ℕ) → hasLent r e p ≡ borrows s c p
   unfolding borrowed
   same-lent-at p = ap (λ (x : List (List ℕ)). some (getD x p [])) same-lent
 
   -- THE ROW, AND REPORTS
 
+  pub same-shown : shownIn r e ≡ shownOf s c
+  same-shown = ap₂ shownCores same-grants same-lent
+
   pub same-row : row (r .fence) (r .cores) (shownIn r e) ≡ rowOf s c
-  same-row = λ i. row (h .same .same-fence i) (h .same .same-cores i) (shownCores (same-grants i) (same-lent i))
+  same-row = λ i. row (h .same .same-fence i) (h .same .same-cores i) (same-shown i)
 
   -- who does not claim is given nothing, and borrows nothing
   no-cores : (p : ℕ) → taskClaims s c p ≡ false → inRow s c p ≡ false

@@ -1,6 +1,7 @@
--- What is promised of a list of entries: that the run follows the book, demand 3, the replay of a whole list, and what a fence changes.
+-- What is promised of a list of entries: that the run follows the book, in rows and in sets, demand 3, the replay of a whole list, and what a fence changes.
 pub mod Entries
 pub mod Follows
+pub mod Sets
 pub mod Demand
 pub mod Listing
 pub mod Replay

@@ -16,7 +16,6 @@ pub mod Stands
 pub mod Passing
 pub mod SamePhase
 pub mod StateTests
-pub mod Missed
 pub mod Deciding
 pub mod Counting
 pub mod Working

@@ -17,11 +17,12 @@ pub(crate) fn blank() -> [Note; MOST_TASKS]
     [note; MOST_TASKS]
 }
 
-// A state of all zeros, which 14 turns down.
+// A state of all zeros, which 14 turns down: its run is what a refused start leaves.
 pub(crate) fn empty() -> Supplied
     ensures { λ r. ⌜ r ≡ emptyState ⌝ }
 {
-    let run = run::starts::empty();
+    let refused = run::starts::refused(0, 0);
+    let run = refused.run;
     let noted = blank();
     Supplied {
         run: run,

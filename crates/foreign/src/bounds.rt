@@ -62,7 +62,16 @@ pub(crate) fn missed(run: Run) -> bool
     requires { ⌜ run .count ≤ mostTasks ⌝ }
     ensures { λ r. ⌜ r ≡ missed run ⌝ }
 {
-    run.first_late() < run.count
+    let count = run.count;
+    let mut i: usize = 0;
+    while i < count {
+        let task = run.tasks[i];
+        if task.late() {
+            return true;
+        }
+        i += 1;
+    }
+    false
 }
 
 // Whether two phases are the same.

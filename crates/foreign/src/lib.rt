@@ -57,14 +57,8 @@ pub fn begin(words: &[u32]) -> Begun
     let answer = loaded.answer;
     match answer {
         table::Answer::Passed => {
-            let tasks = loaded.tasks;
-            let run = run::starts::started(
-                loaded.rule,
-                loaded.cores,
-                loaded.fence,
-                tasks,
-                loaded.count,
-            );
+            let begun = run::starts::begun(words);
+            let run = begun.run;
             let noted = begins::blank();
             let plan = moves::arrived(run, 0, loaded.start, noted);
             Begun {

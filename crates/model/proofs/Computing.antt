@@ -7,10 +7,11 @@ use Rattle.model.specs.Horizon.{S, horizon, hyperperiod, lcm}
 use Rattle.model.specs.Lending.{among, beside, lent}
 use Rattle.model.specs.Row.{owner, row}
 use Rattle.model.specs.Search.{any, kept, least, memb, upFrom}
+use Rattle.model.specs.Sets.{setOf, setsAsked}
 use Rattle.model.specs.Verdict.{firstMiss, missedAt, missedIn, verdict}
 
 unfoldable pub computing : Unit {0}
 unfolding verdict firstMiss missedIn missedAt firm rising horizon S hyperperiod lcm least any memb upFrom kept owner row given left grants claimants
     claims served lent beside among borrowed borrowing offer seeks work workLent step full late reportable misreported emptied emptiable misemptied
-    strangers answer asked afterTaken enter bookFrom answersFrom takenFrom rowsFrom
+    strangers answer asked afterTaken enter bookFrom answersFrom takenFrom rowsFrom setOf setsAsked
 computing = tt

@@ -13,6 +13,7 @@ use Rattle.model.proofs.Runs.{early-book}
 use Rattle.model.specs.Book.{Entry, Job, asked, book, borrowed, grantsOf, quiet, shown}
 use Rattle.model.specs.Compare.{Behind, KeepsAbreast, Longer, NoneLonger}
 use Rattle.model.specs.Local.{Alike}
+use Rattle.model.specs.Sets.{setsAsked}
 use Rattle.model.specs.Task.{Table, lending, release, task}
 use Rattle.model.specs.Verdict.{Firm, verdict}
 
@@ -103,3 +104,10 @@ pub lending-shows :
     × (asked served-below (book served-below (reports 1 ∷ [])) 0 ≡ shown (2 ∷ 2 ∷ 1 ∷ []))
 unfolding computing
 lending-shows = (refl, refl, refl, refl, refl)
+
+-- .. and as sets: that of a holder, which has cores to lend, is another where somebody borrows of them
+pub lending-sets :
+    (setsAsked alone (book alone (reports 1 ∷ [])) 0 ≡ shown (7 ∷ []))
+    × (setsAsked served-below (book served-below (reports 1 ∷ [])) 0 ≡ shown (4 ∷ 3 ∷ []))
+unfolding computing
+lending-sets = (refl, refl)

@@ -15,10 +15,11 @@ use Rattle.model.proofs.Runs.{full-stays, missed-at}
 use Rattle.model.proofs.Search.{least-found}
 use Rattle.model.proofs.Sustain.{abreast-lists, finished, none-behind}
 use Rattle.model.proofs.Verdict.{verdict-exact}
-use Rattle.model.specs.Book.{Answer, Asked, Book, Entry, NeverMissed, advance, answer, asked, book, emptied, emptyIn, firstLate, full, late, misemptied}
-use Rattle.model.specs.Book.{misreported, quiet, refused, rowOf, rowRefused, shown, taken, stranger, strangers, withdraw, withdrawAll}
+use Rattle.model.specs.Book.{Answer, Asked, Book, Entry, NeverMissed, advance, answer, asked, askedBy, book, emptied, emptyIn, firstLate, full, late}
+use Rattle.model.specs.Book.{misemptied, misreported, quiet, refused, rowOf, rowRefused, shown, taken, stranger, strangers, withdraw, withdrawAll}
 use Rattle.model.specs.Compare.{NoneBehind}
 use Rattle.model.specs.Kept.{Kept}
+use Rattle.model.specs.Sets.{setsAsked, setsOf}
 use Rattle.model.specs.Task.{AllSound, Table, due, task}
 use Rattle.model.specs.Firm.{FirmRule, firm}
 use Rattle.model.specs.Verdict.{Firm, verdict}
@@ -68,9 +69,9 @@ module _ (s : Table) (ok : AllSound s) (firmly : FirmRule s) (accepted : NeverMi
   no-15 xs (withdraw q) p e = no-15-out (firm (s .rule) (s .tasks)) (stranger s q) (ap number e)
   no-15 xs (withdrawAll x) p e = no-15-out (firm (s .rule) (s .tasks)) (strangers s x) (ap number e)
 
-  no-15-row : (xs : List Entry) (e p : ℕ) → ¬ (asked s (book s xs) e ≡ rowRefused 15 p)
-  unfolding asked denial
-  no-15-row xs e p q = go (misemptied s (book s xs) e) (rowOf s (emptied s (emptyIn (book s xs) e) (book s xs))) (rw (none-late xs) at (ap denial q))
+  no-15-shown : (show : Book → List ℕ) (xs : List Entry) (e p : ℕ) → ¬ (askedBy show s (book s xs) e ≡ rowRefused 15 p)
+  unfolding denial
+  no-15-shown show xs e p q = go (misemptied s (book s xs) e) (show (emptied s (emptyIn (book s xs) e) (book s xs))) (rw (none-late xs) at (ap denial q))
     where
       go : (u : Bool) (r : List ℕ) → denial (cond u (rowRefused 20 0) (shown r)) ≡ 15 → ⊥
       go true r q = omega arith
@@ -88,7 +89,8 @@ module _ (s : Table) (ok : AllSound s) (firmly : FirmRule s) (accepted : NeverMi
     finished = λ p k l e. finished s ok firmly xs p k l (subst (λ (b : Book). b .job p k .ended ≡ true) (scope-full (book s xs .tick)) e);
     met = λ ys zs e p m. true≢false (sym (met-due ys p (m .1 .0) (m .0) (le-of-eq (m .1 .1))) ∙ m .1 .2);
     never-15 = no-15 xs;
-    never-15-row = no-15-row xs;
+    never-15-row = unfold asked in no-15-shown (rowOf s) xs;
+    never-15-sets = unfold setsAsked in no-15-shown (setsOf s) xs;
   }
 
 -- the same from the verdict

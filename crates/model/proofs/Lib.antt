@@ -7,6 +7,7 @@ pub mod WithdrawExamples
 pub mod TogetherExamples
 pub mod WidthExamples
 pub mod LendExamples
+pub mod SetsExamples
 pub mod Bools
 pub mod Search
 pub mod Lists

@@ -193,6 +193,7 @@ module _ (n : ℕ) (s s′ : Table) (al : Alike n s s′) where
   shown-alike : (b b′ : Book) → Agree n b b′ → SameCores n s b s′ b′
   shown-alike b b′ ag = record {
     lists = same-cores b b′ ag;
+    offers = same-offer b b′ ag;
     borrows = same-borrowed b b′ ag;
     bytes = λ keeps keeps′.
         ap (λ (gs : List (List ℕ)). map (upTo n) (row (s .fence) (s .cores) gs)) (shown-given s b keeps)

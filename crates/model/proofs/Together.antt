@@ -24,7 +24,7 @@ unfoldable pub members : List ℕ → ℕ
 members [] = 0
 members (q ∷ qs) = bitOr (2 ^ q) (members qs)
 
-members-bit : (qs : List ℕ) (i : ℕ) → bit (members qs) i ≡ memb i qs
+pub members-bit : (qs : List ℕ) (i : ℕ) → bit (members qs) i ≡ memb i qs
 unfolding members memb
 members-bit [] i = bit-none i
 members-bit (q ∷ qs) i = or-bit (2 ^ q) (members qs) i ∙ rw (bit-power q i, members-bit qs i)

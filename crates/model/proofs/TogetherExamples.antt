@@ -2,14 +2,19 @@
 -- tick and after it, positions that are withdrawn already, and by which number a set is refused. The row before each entry is asked with no empty job
 -- but those that it names.
 use mathlib.Core.List.{List, [], map, _∷_}
-use mathlib.Core.Path.{refl, _≡_}
+use mathlib.Core.Path.{refl, sym, _≡_}
+use Prim.Native.Nat.{suc, zero, ℕ}
+use native.Mathlib.Omega.{arith}
 use Rattle.model.proofs.Computing.{computing}
 use Rattle.model.proofs.EmptyExamples.{line, none, one, pair}
 use Rattle.model.proofs.Examples.{B, Line, on, t, three, two, worked}
 use Rattle.model.proofs.LineByLine.{LineByLine, by-line}
+use Rattle.model.proofs.Together.{members, members-bit}
 use Rattle.model.proofs.WithdrawExamples.{C2, E}
 use Rattle.model.specs.Book.{advance, book, refused, rowRefused, taken, withdraw, withdrawAll}
+use Rattle.model.specs.Local.{SameBits, SameEntries, SameReports, noticed}
 use Rattle.model.specs.Task.{Table, greedy, idling, lending, limited}
+use Rattle.model.specs.Together.{JustThese}
 use Rattle.model.specs.Verdict.{Firm, Full, Miss}
 
 -- four tasks that take turns on one core
@@ -82,3 +87,27 @@ pub tick-and-set :
     × (book C2 (withdraw 1 ∷ withdrawAll 6 ∷ []) .withdrawn ≡ 7)
 unfolding computing
 tick-and-set = (refl, refl, refl)
+
+-- a list of the places of a set in another order, one of them twice
+pub any-order : JustThese 5 (2 ∷ 0 ∷ 2 ∷ [])
+unfolding members
+any-order q = sym (members-bit (2 ∷ 0 ∷ 2 ∷ []) q)
+
+-- what entries say of position 1: withdrawals below it nothing, single or of a set; a set that has it says what a single one says, and what positions
+-- below it stand in a set says nothing
+pub same-reports :
+    SameReports 1 (withdraw 2 ∷ []) []
+    × SameReports 1 (withdrawAll 2 ∷ none ∷ []) (none ∷ [])
+    × SameReports 1 (withdrawAll 3 ∷ []) (withdraw 1 ∷ [])
+    × SameReports 1 (withdraw 1 ∷ []) (withdrawAll 3 ∷ [])
+    × SameReports 1 (withdrawAll 3 ∷ []) (withdrawAll 1 ∷ [])
+    × SameReports 1 (advance 3 1 ∷ []) (advance 1 3 ∷ [])
+unfolding computing noticed SameEntries
+same-reports = (tt, ((λ q l. refl, λ q l. refl), tt), (more, tt), (fewer, tt), (more, tt), ((more, fewer), tt))
+  where
+    more : SameBits 1 3 1
+    more zero l = refl
+    more (suc q) l = absurd (omega arith)
+
+    fewer : SameBits 1 1 3
+    fewer q l = sym (more q l)

@@ -251,13 +251,17 @@ pub data Asked : Type 0 where
   shown : List ℕ → Asked
   rowRefused : ℕ → ℕ → Asked
 
--- a row asked with the empty jobs e: 15 with the lowest late position; else 20 with position 0; else the row with these ended.
+-- what a book shows, asked with the empty jobs e: 15 with the lowest late position; else 20 with position 0; else it is shown with these ended.
 -- Nothing changes in the book
-unfoldable pub asked : Table → Book → ℕ → Asked
-asked s b e =
+abbrev pub askedBy : (Book → List ℕ) → Table → Book → ℕ → Asked
+askedBy show s b e =
     cond (ltb (firstLate s b) (length (s .tasks)))
     (rowRefused 15 (suc (firstLate s b)))
-    (cond (misemptied s b e) (rowRefused 20 0) (shown (rowOf s (emptied s (emptyIn b e) b))))
+    (cond (misemptied s b e) (rowRefused 20 0) (shown (show (emptied s (emptyIn b e) b))))
+
+-- a row asked
+unfoldable pub asked : Table → Book → ℕ → Asked
+asked s b e = askedBy (rowOf s) s b e
 
 -- THE BOOK OF A LIST
 

@@ -6,6 +6,7 @@ use Prim.Native.Nat.{_<_, ℕ}
 use lib.ListN.{length, replicate}
 use Rattle.model.specs.Book.{Entry, Misses, answer, asked, book, quiet, refused, rowRefused}
 use Rattle.model.specs.Compare.{KeepsAbreast, NoneBehind}
+use Rattle.model.specs.Sets.{setsAsked}
 use Rattle.model.specs.Task.{Table, lending}
 
 -- what is claimed of a list xs, whose jobs have lengths from zero up, and of whose tasks some may be withdrawn
@@ -20,6 +21,7 @@ pub record Kept (s : Table) (xs : List Entry) : Type 0 where
       → book s (replicate (book s xs .tick) quiet) .job p k .ended ≡ true → book s xs .job p k .ended ≡ true
   -- no deadline is missed, in any prefix of the list: of a withdrawn position neither, whose job that goes on is met
   pub met : (ys zs : List Entry) → xs ≡ ys ++ zs → (p : ℕ) → ¬ Misses s (book s ys) p
-  -- 15 is never answered, to an advance or to a row asked
+  -- 15 is never answered, to an advance or to a row asked, as bytes or as sets
   pub never-15 : (x : Entry) (p : ℕ) → ¬ (answer s (book s xs) x ≡ refused 15 p)
   pub never-15-row : (e p : ℕ) → ¬ (asked s (book s xs) e ≡ rowRefused 15 p)
+  pub never-15-sets : (e p : ℕ) → ¬ (setsAsked s (book s xs) e ≡ rowRefused 15 p)

@@ -45,6 +45,10 @@ among c (l ∷ ls) = memb c l || among c ls
 abbrev pub unlent : List (List ℕ) → List ℕ → List ℕ
 unlent bs cs = kept (λ c. not (among c bs)) cs
 
+-- .. and those that somebody borrows
+abbrev pub lentAway : List (List ℕ) → List ℕ → List ℕ
+lentAway bs cs = kept (λ c. among c bs) cs
+
 -- the cores of each place as the row shows them, from those that it is given and those that it borrows: a holder keeps what it has not lent
 abbrev pub shownCores : List (List ℕ) → List (List ℕ) → List (List ℕ)
 shownCores gs bs = beside bs (map (unlent bs) gs)

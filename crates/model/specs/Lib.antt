@@ -1,5 +1,5 @@
 -- What the whole project is judged by, in reading order: sizes, the table, the fence, who runs in a tick, what is lent, rows,
--- which rules and widths are firm, the book, the horizon and the verdict.
+-- which rules and widths are firm, the book, its rows as sets, the horizon and the verdict.
 pub mod Sizes
 pub mod Search
 pub mod Task
@@ -10,6 +10,7 @@ pub mod Row
 pub mod Firm
 pub mod Book
 pub mod Together
+pub mod Sets
 pub mod Compare
 pub mod Horizon
 pub mod Verdict

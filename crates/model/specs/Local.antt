@@ -64,8 +64,11 @@ abbrev pub NobodyLends : Table → Book → Type 0
 NobodyLends s b = (q : ℕ) → offer s b q ≡ []
 
 -- positions 1 to n have the same cores in two books: as lists of the cores that they are given, or that are reserved for them, as lists of those
--- that they borrow, and, where nobody lends, as bytes of the rows (where one does, a row shows a borrower on cores of a place above it: `lending-shows`)
+-- that they may lend, as lists of those that they borrow, and, where nobody lends, as bytes of the rows (where one does, a row shows a borrower on cores
+-- of a place above it: `lending-shows`; one that has nothing to lend, for no cores are reserved for it as a holder, shows the same cores in both:
+-- `local-sets`)
 pub record SameCores (n : ℕ) (s : Table) (b : Book) (s′ : Table) (b′ : Book) : Type 0 where
   pub lists : (p : ℕ) → p < n → getD (grantsOf s b) p [] ≡ getD (grantsOf s′ b′) p []
+  pub offers : (p : ℕ) → p < n → offer s b p ≡ offer s′ b′ p
   pub borrows : (p : ℕ) → p < n → borrowed s b p ≡ borrowed s′ b′ p
   pub bytes : NobodyLends s b → NobodyLends s′ b′ → map (upTo n) (rowOf s b) ≡ map (upTo n) (rowOf s′ b′)

@@ -4,10 +4,10 @@ ghost use Rattle.session.specs.Talk.{nothing};
 ghost use Rattle.session.specs.Session.{spoken};
 ghost use Rattle.stream.specs.Sent.{SentOf};
 ghost use Rattle.replay.specs.Turns.{TurnOf, HeardOf};
+use session::REPLY;
 use session::Session;
 use stream::Reading;
 use stream::Sent;
-use text::row::LINE;
 
 // What came of a part of the input: the session after it, what was written, and whether it reads again.
 struct Turn {
@@ -31,7 +31,7 @@ fn talk(start: Session, chunk: &[u8]) -> Turn
         count: 0,
         whole: true,
     };
-    let mut out = [0u8; LINE];
+    let mut out = [0u8; REPLY];
     let mut at: usize = 0;
     while at < chunk.len() {
         let fed = session.feed(&chunk[at..], &mut out);
@@ -59,7 +59,7 @@ fn talk(start: Session, chunk: &[u8]) -> Turn
 fn finish(session: Session) -> Sent
     ensures { λ r. ⌜ SentOf 0 (spoken session nothing []) r ⌝ }
 {
-    let mut out = [0u8; LINE];
+    let mut out = [0u8; REPLY];
     let length = session.end(&mut out);
     stream::send(0, &out[..length])
 }

@@ -45,7 +45,7 @@ pub none-some : (l : List ℕ) → some l ≡ false → l ≡ []
 none-some [] e = refl
 none-some (x ∷ l) e = absurd (false≢true (sym e))
 
-width-of : (ws : List ℕ) (c : ℕ → Bool) (q : ℕ) → getD (claimants ws c) q idle .width ≡ getD ws q 0
+pub width-of : (ws : List ℕ) (c : ℕ → Bool) (q : ℕ) → getD (claimants ws c) q idle .width ≡ getD ws q 0
 unfolding claimants
 width-of [] c q = refl
 width-of (w ∷ ws) c zero = refl

@@ -1,8 +1,8 @@
 -- What a caller learns of the sets that are borrowed in a tick, and of those that a row shows: place by place in the model's words, that nobody borrows who
--- does not seek, that each that borrows counts its width, and that a row can show them.
-use mathlib.Core.Path.{_≡_, refl, sym, ap, ap₂, _∙_, subst}
+-- does not seek, and that each that borrows counts its width.
+use mathlib.Core.Path.{_≡_, refl, sym, ap, ap₂, _∙_}
 use mathlib.Core.Logic.{_⊎_, inl, inr, ⊎-elim}
-use mathlib.Core.Bool.{Bool, true, false, _&&_, cond}
+use mathlib.Core.Bool.{Bool, true, false, _&&_}
 use mathlib.Core.List.{List, [], _++_, map}
 use Prim.Native.Nat.{ℕ, _+_, _-_, _^_, _≤_, _<_}
 use native.Mathlib.Omega.{arith}
@@ -11,21 +11,19 @@ use lib.Dec.{ltb}
 use lib.ListN.{length, getD, take, length-map, length-take, List·getD-map, List·getD-eq-default}
 use lib.Seq.{ext-getD, getD-drop, getD-take, take-all}
 use borrow.Author.Tests.{ltb-false, ltb-true}
-use Rattle.model.specs.Fence.{unfenced}
 use Rattle.model.specs.Grants.{claimants, grants, some}
 use Rattle.model.specs.Lending.{lent, shownCores, unlent}
-use Rattle.model.specs.Search.{bit, memb}
+use Rattle.model.specs.Search.{bit}
 use Rattle.model.specs.Task.{Rule}
 use Rattle.model.proofs.Grants.{grants-length}
 use Rattle.model.proofs.Lending.{lent-length, lent-local}
 use Rattle.model.proofs.Lists.{getD-zeros}
 use Rattle.cores.specs.Cores.{cores}
-use Rattle.cores.proofs.Ascending.{In, Range, not-in-none}
-use Rattle.cores.proofs.Cores.{cores-length, cores-none, cores-range}
-use Rattle.rule.specs.Lent.{LentAs, NotBoth, Showable, ShownAs, offered}
+use Rattle.cores.proofs.Cores.{cores-length, cores-none}
+use Rattle.rule.specs.Lent.{LentAs, NotBoth, ShownAs, offered}
 use Rattle.rule.specs.Shares.{GrantedAs, granted}
-use Rattle.rule.proofs.Borrowed.{lent-apart, lent-from, lent-seekers, lent-width, shown-apart, shown-in, shown-length, shown-place}
-use Rattle.rule.proofs.Sets.{grants-showable, no-cores, sets-at}
+use Rattle.rule.proofs.Borrowed.{lent-seekers, lent-width, shown-length, shown-place}
+use Rattle.rule.proofs.Sets.{no-cores, sets-at}
 
 -- ---- the places of which a list of sets has a core, as `owners` finds them
 
@@ -159,40 +157,3 @@ module _ (r : Rule) (ws : List ℕ) (c : ℕ → Bool) (count free : ℕ) (size 
       (λ p h. s .gives p h
       ∙ (ap₂ (λ (x y : List ℕ). x ++ unlent bs y) (sym (front-at count borrowed p h)) (sets-at r (claimants ws c) count free reserved g p)
       ∙ sym (shown-place gs bs same p)))
-
-  -- what a place lends is reserved for it
-  lent-own : (x q : ℕ) → In x (offered reserved holders q) → In x (getD gs q [])
-  lent-own x q = go (bit holders q)
-    where
-      go : (t : Bool) → In x (cond t (cores (getD reserved q 0)) []) → In x (getD gs q [])
-      go true h = sym (ap (memb x) (sets-at r (claimants ws c) count free reserved g q)) ∙ h
-      go false h = absurd (not-in-none x h)
-
-  ascending : (q : ℕ) → Range 0 64 (offered reserved holders q)
-  ascending q = go (bit holders q)
-    where
-      go : (t : Bool) → Range 0 64 (cond t (cores (getD reserved q 0)) [])
-      go true = cores-range (getD reserved q 0)
-      go false = tt
-
-  -- and a row can show it, where the cores are given of the open ones
-  pub shown-showable : (f m : ℕ) → cores free ≡ unfenced f m → Showable f m (map cores (take count sets))
-  shown-showable f m o = subst (Showable f m) (sym shown-sets) (record { apart = shown-apart gs bs same (given .apart) lent-twice; open-only = open-only })
-    where
-      given : Showable f m gs
-      given = subst (λ (l : List ℕ). Showable f m (grants r (claimants ws c) l)) (sym o) (grants-showable r (claimants ws c) f m)
-
-      lent-twice : (x i j : ℕ) → i < j → In x (getD bs i []) → In x (getD bs j []) → ⊥
-      lent-twice x i j l h k =
-          lent-apart ws (bit seekers) (offered reserved holders) 64 ascending
-          (λ y p q z u v. given .apart y p q z (lent-own y p u) (lent-own y q v)) count x i j l
-          (subst (λ (gs : List (List ℕ)). In x (getD gs i [])) (b .gives) h) (subst (λ (gs : List (List ℕ)). In x (getD gs j [])) (b .gives) k)
-
-      open-only : (x j : ℕ) → In x (getD (shownCores gs bs) j []) → (x < m) × (bit f x ≡ false)
-      open-only x j h =
-          ⊎-elim
-          (λ k.
-          let u = lent-from ws (bit seekers) (offered reserved holders) x count j (subst (λ (gs : List (List ℕ)). In x (getD gs j [])) (b .gives) k) in
-          given .open-only x (u .0) (lent-own x (u .0) (u .2)))
-          (given .open-only x j)
-          (shown-in gs bs same x j h)

@@ -10,5 +10,7 @@ pub mod Sets
 pub mod Gathered
 pub mod Unions
 pub mod Borrowed
+pub mod Tick
+pub mod BookSets
 pub mod Lending
 pub mod LentSets

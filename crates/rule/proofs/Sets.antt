@@ -15,6 +15,7 @@ use Rattle.model.specs.Task.{Rule}
 use Rattle.model.specs.Grants.{Claimant, grants}
 use Rattle.model.specs.Fence.{unfenced}
 use Rattle.model.specs.Search.{bit, upFrom}
+use Rattle.model.specs.Sets.{setOf}
 use Rattle.model.proofs.Bools.{and-left, and-right, not-true-false}
 use Rattle.model.proofs.Lists.{getD-zeros}
 use Rattle.model.proofs.Digits.{and-bit}
@@ -22,7 +23,7 @@ use Rattle.cores.specs.Cores.{cores}
 use Rattle.rule.specs.Shares.{GrantedAs, granted}
 use Rattle.rule.specs.Lent.{Showable}
 use Rattle.cores.proofs.Ascending.{range-kept, range-up, In, kept-same, kept-none}
-use Rattle.cores.proofs.Cores.{setOf, cores-none, cores-range, cores-length, set-cores, cores-memb}
+use Rattle.cores.proofs.Cores.{cores-none, cores-range, cores-length, set-cores, cores-memb}
 use Rattle.cores.proofs.Open.{in-open, open-of}
 use Rattle.rule.proofs.Granting.{idle, apart, in-grants, width-or-none}
 

@@ -1,8 +1,7 @@
--- What a row, an advance and a withdrawal give, case by case, in the order in which code looks.
-use mathlib.Core.Path.{_≡_, refl, ap}
-use mathlib.Core.Bool.{Bool, true, false, not, cond}
-use Prim.Native.Nat.{ℕ, suc, _+_, _≤_, _<_}
-use native.Mathlib.Numerals.{add-one}
+-- What sets, a row, an advance and a withdrawal give, case by case, in the order in which code looks.
+use mathlib.Core.Path.{_≡_, refl, sym, _∙_}
+use mathlib.Core.Bool.{Bool, true, false, cond}
+use Prim.Native.Nat.{ℕ, suc, _≤_, _<_}
 use lib.Dec.{ltb}
 use borrow.Author.Tests.{lt-ltb, le-ltb}
 use Rattle.model.specs.Search.{bit}
@@ -10,59 +9,92 @@ use Rattle.model.specs.Book.{only}
 use Rattle.run.specs.declared.Run.{Run}
 use Rattle.run.specs.declared.Answer.{Answer}
 use Rattle.run.specs.declared.Answer.the-variants.{Taken, Refused}
+use Rattle.run.specs.Answer.{byAnswer}
 use Rattle.run.specs.Run.{firmIn, moved, withdrawnIn}
 use Rattle.run.specs.Numbers.{runOut, pastCount, strangerIn, firstLateIn, misemptiedIn, misreportedIn}
 use Rattle.run.specs.Row.{rowAnswer, bytesIn, noBytes, rowOf}
+use Rattle.run.specs.Sets.{noSets, setsIn, setsOf}
 use Rattle.run.specs.Advance.{advanceAnswer, advanceOf}
 use Rattle.run.specs.Withdraw.{withdrawAnswer, withdrawOf, withdrawAllOf}
+use Rattle.run.proofs.First.{not-taken}
 
 module _ (r : Run) (e : ℕ) where
-  -- a row: 14, 15, 20, shown
-  pub row-out : runOut r ≡ true → rowOf r e ≡ record { answer = Refused 14 0; bytes = noBytes }
-  unfolding rowOf rowAnswer
-  row-out q = rw q refl
+  -- sets: 14, 15, 20, shown
+  pub sets-out : runOut r ≡ true → setsOf r e ≡ record { answer = Refused 14 0; sets = noSets }
+  unfolding setsOf rowAnswer
+  sets-out q = rw q refl
 
-  pub row-late : runOut r ≡ false → firstLateIn r < r .count → rowOf r e ≡ record { answer = Refused 15 (suc (firstLateIn r)); bytes = noBytes }
-  unfolding rowOf rowAnswer
-  row-late q l = rw (q, lt-ltb (firstLateIn r) (r .count) l) refl
+  pub sets-late : runOut r ≡ false → firstLateIn r < r .count → setsOf r e ≡ record { answer = Refused 15 (suc (firstLateIn r)); sets = noSets }
+  unfolding setsOf rowAnswer
+  sets-late q l = rw (q, lt-ltb (firstLateIn r) (r .count) l) refl
 
-  pub row-empty : runOut r ≡ false → r .count ≤ firstLateIn r → misemptiedIn r e ≡ true → rowOf r e ≡ record { answer = Refused 20 0; bytes = noBytes }
-  unfolding rowOf rowAnswer
-  row-empty q l m = rw (q, le-ltb (firstLateIn r) (r .count) l, m) refl
+  pub sets-empty : runOut r ≡ false → r .count ≤ firstLateIn r → misemptiedIn r e ≡ true → setsOf r e ≡ record { answer = Refused 20 0; sets = noSets }
+  unfolding setsOf rowAnswer
+  sets-empty q l m = rw (q, le-ltb (firstLateIn r) (r .count) l, m) refl
 
-  pub row-shown : runOut r ≡ false → r .count ≤ firstLateIn r → misemptiedIn r e ≡ false → rowOf r e ≡ record { answer = Taken; bytes = bytesIn r e }
-  unfolding rowOf rowAnswer
-  row-shown q l m = rw (q, le-ltb (firstLateIn r) (r .count) l, m) refl
+  pub sets-shown : runOut r ≡ false → r .count ≤ firstLateIn r → misemptiedIn r e ≡ false → setsOf r e ≡ record { answer = Taken; sets = setsIn r e }
+  unfolding setsOf rowAnswer
+  sets-shown q l m = rw (q, le-ltb (firstLateIn r) (r .count) l, m) refl
 
-  -- an advance: 14 ..
+  -- sets and a row, by row's answer
+  pub sets-answer : setsOf r e .answer ≡ rowAnswer r e
+  unfolding setsOf
+  sets-answer = refl
+
+  pub row-shown : rowAnswer r e ≡ Taken → rowOf r e ≡ record { answer = Taken; bytes = bytesIn r e }
+  unfolding rowOf
+  row-shown q = rw q refl
+
+  pub row-refused : (n p : ℕ) → rowAnswer r e ≡ Refused n p → rowOf r e ≡ record { answer = Refused n p; bytes = noBytes }
+  unfolding rowOf
+  row-refused n p q = rw q refl
+
+  pub sets-by : rowAnswer r e ≡ Taken → setsOf r e .sets ≡ setsIn r e
+  unfolding setsOf
+  sets-by q = rw q refl
+
+  -- a run whose row is shown passes 14
+  pub row-passes : rowAnswer r e ≡ Taken → runOut r ≡ false
+  unfolding rowAnswer
+  row-passes q = go (runOut r) refl
+    where
+      go : (t : Bool) → runOut r ≡ t → t ≡ false
+      go false i = refl
+      go true i = let z : Refused 14 0 ≡ Taken = sym (rw i) ∙ q in absurd (not-taken 14 0 z)
+
+  -- an advance: as the row, then 16, taken ..
   module _ (x : ℕ) where
-    pub advance-out : runOut r ≡ true → advanceOf r x e ≡ record { answer = Refused 14 0; run = r }
-    unfolding advanceOf advanceAnswer
-    advance-out q = rw q refl
-
-    -- .. 15, 20, 16, taken, where `begun` and `within` say that every bit that is set may be ..
-    pub advance-answer :
-        runOut r ≡ false → (begun within : Bool) → misemptiedIn r e ≡ not begun → misreportedIn r e x ≡ not within
-        → advanceAnswer r x e
-        ≡ cond (ltb (firstLateIn r) (r .count)) (Refused 15 (firstLateIn r + 1)) (cond begun (cond within Taken (Refused 16 0)) (Refused 20 0))
-    unfolding advanceAnswer
-    advance-answer q begun within b m =
-        rw (q, b, m, add-one)
-        (ap (λ (a : Answer). cond (ltb (firstLateIn r) (r .count)) (Refused 15 (suc (firstLateIn r))) a) (turned begun within))
+    by-row : advanceAnswer r x e ≡ byAnswer (rowAnswer r e) (cond (misreportedIn r e x) (Refused 16 0) Taken) (rowAnswer r e)
+    unfolding advanceAnswer rowAnswer
+    by-row = go (runOut r) (ltb (firstLateIn r) (r .count)) (misemptiedIn r e)
       where
-        turned : (t u : Bool) → cond (not t) (Refused 20 0) (cond (not u) (Refused 16 0) Taken) ≡ cond t (cond u Taken (Refused 16 0)) (Refused 20 0)
-        turned true true = refl
-        turned true false = refl
-        turned false u = refl
+        late : Answer
+        late = Refused 15 (suc (firstLateIn r))
+
+        last : Answer
+        last = cond (misreportedIn r e x) (Refused 16 0) Taken
+
+        go : (a b c : Bool)
+            → cond a (Refused 14 0) (cond b late (cond c (Refused 20 0) last))
+            ≡ byAnswer (cond a (Refused 14 0) (cond b late (cond c (Refused 20 0) Taken))) last
+            (cond a (Refused 14 0) (cond b late (cond c (Refused 20 0) Taken)))
+        go true b c = refl
+        go false true c = refl
+        go false false true = refl
+        go false false false = refl
 
     -- .. and the run that goes with the answer
-    pub advance-taken : advanceAnswer r x e ≡ Taken → advanceOf r x e ≡ record { answer = Taken; run = moved (bit x) e r }
+    pub advance-taken : rowAnswer r e ≡ Taken → misreportedIn r e x ≡ false → advanceOf r x e ≡ record { answer = Taken; run = moved (bit x) e r }
     unfolding advanceOf
-    advance-taken q = rw q refl
+    advance-taken q m = rw (by-row, q, m) refl
 
-    pub advance-refused : (n p : ℕ) → advanceAnswer r x e ≡ Refused n p → advanceOf r x e ≡ record { answer = Refused n p; run = r }
+    pub advance-misreported : rowAnswer r e ≡ Taken → misreportedIn r e x ≡ true → advanceOf r x e ≡ record { answer = Refused 16 0; run = r }
     unfolding advanceOf
-    advance-refused n p q = rw q refl
+    advance-misreported q m = rw (by-row, q, m) refl
+
+    pub advance-refused : (n p : ℕ) → rowAnswer r e ≡ Refused n p → advanceOf r x e ≡ record { answer = Refused n p; run = r }
+    unfolding advanceOf
+    advance-refused n p q = rw (by-row, q) refl
 
 -- a withdrawal: 14, 21, 22, taken
 module _ (r : Run) (p : ℕ) where

@@ -1,7 +1,7 @@
 -- Who has cores in a run's present tick and who borrows some, from the sets that code gathers; and 20 and 16 by one test of sets each.
 use mathlib.Core.Path.{_≡_, refl, sym, ap, ap₂, _∙_}
 use mathlib.Core.Bool.{Bool, true, false, not, _&&_, _||_, cond, and-assoc, true≢false}
-use mathlib.Core.List.{List, []}
+use mathlib.Core.List.{List, [], map}
 use Prim.Native.Nat.{ℕ, zero, suc, _/_, _%_, _^_, _≤_, _<_}
 use native.Mathlib.Nat.{lt-of-le-of-lt}
 use native.Mathlib.Omega.{arith}
@@ -12,8 +12,9 @@ use borrow.Author.Tests.{lt-ltb, le-ltb, eqb-true, eqb-false, ltb-true, ltb-fals
 use Rattle.model.proofs.Digits.{bit-high, bit-zero, bit-suc, half, and-bit, or-bit}
 use Rattle.model.specs.Grants.{Claimant, claimants, grants, some}
 use Rattle.model.specs.Fence.{unfenced}
-use Rattle.model.specs.Lending.{lends, lent}
+use Rattle.model.specs.Lending.{lends, lent, shownCores}
 use Rattle.model.specs.Search.{any, bit}
+use Rattle.model.specs.Sets.{setOf}
 use Rattle.model.proofs.Bools.{not-false-true}
 use Rattle.model.proofs.Grants.{claimants-same}
 use Rattle.model.proofs.Search.{none-any, none-at}
@@ -25,11 +26,13 @@ use Rattle.run.specs.declared.shares.Shares.{Shares}
 use Rattle.phase.specs.declared.Phase.{Phase}
 use Rattle.phase.specs.declared.Phase.the-variants.{Coming, Working, Holding, Resting}
 use Rattle.phase.specs.Phase.{claiming, holder, working}
+use Rattle.phase.specs.Phase as phase
 use Rattle.phase.specs.Task.{widthNow}
 use Rattle.run.specs.Run.{ruleIn, seenAt, widthsNow, grantsIn, hasCores, offerIn, seeksIn, lentIn, hasLent}
 use Rattle.run.specs.Numbers.{emptiableAt, misemptiedIn, reportableAt, misreportedIn}
 use Rattle.run.specs.Claims.{ClaimsOf}
-use Rattle.run.specs.Loans.{SharesOf, givenTo, isGiven, lentTo}
+use Rattle.run.specs.Sets.{in32, setsIn}
+use Rattle.run.specs.Shares.{SharesOf, givenTo, isGiven, lentTo}
 use Rattle.run.proofs.Lent.{past-grants, past-offer}
 
 -- ---- who has cores, and who borrows some
@@ -102,20 +105,10 @@ module _ (r : Run) (e : ℕ) (c : Claims) (h : ClaimsOf r e c) where
     pub has-lent : (p : ℕ) → bit (s .lent) p ≡ hasLent r e p
     has-lent p = q .lent p ∙ ap (λ (gs : List (List ℕ)). some (getD gs p [])) same-lent
 
-    -- and the set of the places that may be reported
-    may-end : (p : ℕ) → bit (bitAnd (bitOr (s .given) (s .lent)) (c .working)) p ≡ reportableAt r e p
-    may-end p =
-        and-bit (bitOr (s .given) (s .lent)) (c .working) p
-        ∙ (ap₂ (λ (a b : Bool). a && b) (or-bit (s .given) (s .lent) p ∙ ap₂ (λ (a b : Bool). a || b) (has-cores p) (has-lent p)) (h .worked p)
-        ∙ turned (hasCores r e p || hasLent r e p) (ltb p (r .count)) (working (seenAt r e p)))
-      where
-        turned : (a b d : Bool) → a && (b && d) ≡ b && (d && a)
-        turned true true true = refl
-        turned true true false = refl
-        turned true false d = refl
-        turned false true true = refl
-        turned false true false = refl
-        turned false false d = refl
+    -- and the sets of cores are the run's
+    pub same-sets : s .sets ≡ setsIn r e
+    unfolding setsIn
+    same-sets = q .shows ∙ ap (λ (gs : List (List ℕ)). in32 (map setOf gs)) (ap₂ shownCores same-given same-lent)
 
 -- ---- sets with the same bits
 
@@ -179,9 +172,22 @@ unfolding misemptiedIn
 may-begin r e c h k l = outside e (c .released) (emptiableAt r) (h .begun) k l
 
 -- and 16: the reports are within the places that work and are given or borrow cores
-pub may-report :
-    (r : Run) (e : ℕ) (c : Claims) → (h : ClaimsOf r e c) (s : Shares)
-    → SharesOf (ruleIn r) (ws r e c h) (c .claiming) (c .working) (F r e c h) (r .count) s → (x k : ℕ) → x < 2 ^ k
-    → misreportedIn r e x ≡ not (eqb (bitAnd x (bitAnd (bitOr (s .given) (s .lent)) (c .working))) x)
-unfolding misreportedIn
-may-report r e c h s q x k l = outside x (bitAnd (bitOr (s .given) (s .lent)) (c .working)) (reportableAt r e) (may-end r e c h s q) k l
+module _ (r : Run) (e given lent working : ℕ) (gives : (p : ℕ) → bit given p ≡ hasCores r e p) (lends : (p : ℕ) → bit lent p ≡ hasLent r e p)
+    (works : (p : ℕ) → bit working p ≡ ltb p (r .count) && phase.working (seenAt r e p)) where
+  may-end : (p : ℕ) → bit (bitAnd (bitOr given lent) working) p ≡ reportableAt r e p
+  may-end p =
+      and-bit (bitOr given lent) working p
+      ∙ (ap₂ (λ (a b : Bool). a && b) (or-bit given lent p ∙ ap₂ (λ (a b : Bool). a || b) (gives p) (lends p)) (works p)
+      ∙ turned (hasCores r e p || hasLent r e p) (ltb p (r .count)) (phase.working (seenAt r e p)))
+    where
+      turned : (a b d : Bool) → a && (b && d) ≡ b && (d && a)
+      turned true true true = refl
+      turned true true false = refl
+      turned true false d = refl
+      turned false true true = refl
+      turned false true false = refl
+      turned false false d = refl
+
+  pub may-report : (x k : ℕ) → x < 2 ^ k → misreportedIn r e x ≡ not (eqb (bitAnd x (bitAnd (bitOr given lent) working)) x)
+  unfolding misreportedIn
+  may-report x k l = outside x (bitAnd (bitOr given lent) working) (reportableAt r e) may-end k l

@@ -1,4 +1,4 @@
--- Row and advance are refused with n and p exactly if n is the first of 14, 15, 20 and 16 that applies, with position p; and taken exactly if none applies.
+-- Row, sets and advance are refused with n and p exactly if n is the first of 14, 15, 20 and 16 that applies, with position p; and taken exactly if none applies.
 use mathlib.Core.Path.{_≡_, refl, sym, ap, ap₂, _∙_}
 use mathlib.Core.Bool.{Bool, true, false, not, _&&_, _||_, cond, true≢false, false≢true}
 use mathlib.Core.List.{List, [], _∷_}
@@ -32,6 +32,7 @@ use Rattle.run.specs.Numbers.{RunOut, Late, Misempties, Works, Misreport
 use Rattle.run.specs.Numbers.{runOut, lateAt, firstLateIn, emptiableAt, misemptiedIn, reportableAt, misreportedIn}
 use Rattle.run.specs.Advance.{advanceAnswer, advanceOf, AdvanceOf}
 use Rattle.run.specs.Row.{rowAnswer, bytesIn, noBytes, rowOf, RowOf}
+use Rattle.run.specs.Sets.{setsOf}
 use Rattle.run.proofs.First.{by-taken, by-refused, Right, refused-exact, taken-exact}
 use Rattle.run.proofs.SetTests.{beyond-decides, set-decides}
 use Rattle.run.proofs.Limits.{run-decides}
@@ -183,6 +184,15 @@ module _ (r : Run) where
     pub row-taken : (told (rowOf r e .answer) ≡ model.taken) ↔ NoneOf (RowApplies r e)
     unfolding rowOf
     row-taken = taken-exact (RowApplies r e) (rowAnswer r e) row-right
+
+    -- sets have the row's answer
+    pub sets-exact : (n p : ℕ) → (told (setsOf r e .answer) ≡ model.refused n p) ↔ FirstOf (RowApplies r e) n p
+    unfolding setsOf
+    sets-exact = refused-exact (RowApplies r e) (rowAnswer r e) row-right
+
+    pub sets-taken : (told (setsOf r e .answer) ≡ model.taken) ↔ NoneOf (RowApplies r e)
+    unfolding setsOf
+    sets-taken = taken-exact (RowApplies r e) (rowAnswer r e) row-right
 
     -- a value that is the row's by definition keeps what a row promises
     pub row-of : (w : Row) → w ≡ rowOf r e → RowOf r e w

@@ -15,6 +15,10 @@ pub mod StartExact
 pub mod ByVerdict
 pub mod Cases
 pub mod Chosen
+pub mod Found
+pub mod Owned
+pub mod RunSets
+pub mod SetsExamples
 pub mod PlaceSets
 pub mod RunOut
 pub mod Shown

@@ -31,6 +31,7 @@ use Rattle.run.specs.Numbers.{placeOut, runOut, pastCount, strangerIn, l
 use Rattle.run.specs.Withdraw.{withdrawAnswer, withdrawOf, withdrawAllOf}
 use Rattle.run.specs.Advance.{advanceAnswer, advanceOf}
 use Rattle.run.specs.Row.{rowAnswer, bytesIn, rowOf}
+use Rattle.run.specs.Sets.{setsIn, setsOf}
 use Rattle.run.specs.Past.{SameBelow, Unread}
 use Rattle.run.proofs.Lent.{past-offer}
 use Rattle.run.proofs.Places.{drop-mapFirst, take-mapFirst}
@@ -133,6 +134,10 @@ module _ (rule cores fence withdrawn count : ℕ) (ts us : List Task) (same : ta
     unfolding rowOf rowAnswer bytesIn
     same-row = rw (same-out, same-late, same-misemptied e, same-grants, same-lent)
 
+    same-sets : setsOf one e ≡ setsOf other e
+    unfolding setsOf rowAnswer setsIn
+    same-sets = rw (same-out, same-late, same-misemptied e, same-grants, same-lent)
+
     same-moved : (f : ℕ → Bool) → SameBelow (moved f e one) (moved f e other)
     unfolding moved
     same-moved f = record {
@@ -147,6 +152,7 @@ module _ (rule cores fence withdrawn count : ℕ) (ts us : List Task) (same : ta
     unread : (x : ℕ) → Unread one other x e
     unread x = record {
       row = same-row;
+      sets = same-sets;
       answer = unfold advanceOf in same-advance x;
       run = unfold advanceOf in rw (same-advance x) (go (advanceAnswer other x e));
       withdraw-answer = λ p. unfold withdrawOf in same-withdraw (strangerIn one p);

@@ -5,9 +5,8 @@ use Prim.Native.Nat.{ℕ, _≤_, _<_, min}
 use native.Mathlib.Omega.{arith}
 use borrow.Author.Tests.{not-false}
 use Rattle.model.specs.Fence.{openCount}
-use Rattle.model.specs.Search.{any, least}
+use Rattle.model.specs.Search.{any}
 use Rattle.model.proofs.Bools.{or-right-false}
-use Rattle.model.proofs.Search.{least-below, least-none}
 use Rattle.model.specs.Task as model
 use Rattle.model.specs.Sizes.{mostCores, mostTasks}
 use Rattle.table.specs.Limits.{from, coresOut, ruleOut, fenceOut, mostTime}
@@ -19,7 +18,7 @@ use Rattle.run.specs.declared.Run.{Run}
 use Rattle.phase.specs.Phase.{PhaseIn}
 use Rattle.phase.specs.Headroom.{Roomy}
 use Rattle.run.specs.Run.{ruleIn, taskAt, evenAt, phaseAt}
-use Rattle.run.specs.Numbers.{wideIn, pastCount, placeOut, runOut, lateAt, firstLateIn}
+use Rattle.run.specs.Numbers.{wideIn, pastCount, placeOut, runOut}
 use Rattle.run.proofs.Limits.{or-left-false, passes-if}
 
 -- ---- the head, then the places
@@ -61,11 +60,15 @@ module _ (r : Run) where
         from-decides 1 mostTasks (r .count) .0
         (not-false (from 1 mostTasks (r .count)) (or-left-false (not (from 1 mostTasks (r .count))) (coresOut (r .cores) || rest) e)) .1
 
+    pub head-few-cores : r .cores ≤ mostCores
+    head-few-cores =
+        from-decides 1 mostCores (r .cores) .0
+        (not-false (from 1 mostCores (r .cores)) (or-left-false (coresOut (r .cores)) rest rest-in)) .1
+
     -- so the unfenced cores, of 64 at most, are those of the core count
     pub head-wide : openCount (r .fence) (min (r .cores) mostCores) ≡ wideIn r
     head-wide =
-        let few = from-decides 1 mostCores (r .cores) .0
-        (not-false (from 1 mostCores (r .cores)) (or-left-false (coresOut (r .cores)) rest rest-in)) in
+        let few = head-few-cores in
         let all : min (r .cores) mostCores ≡ r .cores = omega arith in
         ap (openCount (r .fence)) all
 
@@ -93,12 +96,3 @@ module _ (r : Run) (e : runOut r ≡ false) where
       let i = inside-test (wideIn r) (taskAt r p) (passes-if r e .tasks p l) in
       room (ruleIn r) (taskAt r p) (evenAt r p) (phaseAt r p) (i .offset-most) (omega (arith, i .deadline-from, i .period-from)) (i .period-from .1)
       (passes-if r e .phases p l)
-
--- the first late place is at most the count
-pub late-most : (r : Run) → firstLateIn r ≤ r .count
-unfolding firstLateIn
-late-most r = go (any (r .count) (lateAt r)) refl
-  where
-    go : (t : Bool) → any (r .count) (lateAt r) ≡ t → least (r .count) (lateAt r) ≤ r .count
-    go true e = omega (arith, least-below (r .count) (lateAt r) e)
-    go false e = omega (arith, least-none (r .count) (lateAt r) e)

@@ -1,38 +1,23 @@
--- The bytes of a run's row, from the cores that the places of its tick are given and borrow.
-use mathlib.Core.Path.{_≡_, refl, sym, ap, ap₂, _∙_}
-use mathlib.Core.List.{List, _++_}
+-- A row has 64 bytes, shown or not.
+use mathlib.Core.Path.{_≡_, refl, ap, _∙_}
+use mathlib.Core.List.{List}
 use mathlib.Core.Bool.{Bool, true, false, cond}
 use Prim.Native.Nat.{ℕ, suc, _+_, _-_}
 use native.Mathlib.Omega.{arith}
 use lib.ListN.{length, replicate, length-append, length-replicate}
 use lib.Dec.{ltb}
 use Rattle.model.proofs.Rows.{row-length}
-use Rattle.model.specs.Lending.{shownCores}
 use Rattle.model.specs.Row.{row}
 use Rattle.model.specs.Sizes.{mostCores}
 use Rattle.run.specs.declared.Run.{Run}
-use Rattle.run.specs.declared.choosing.Claims.{Claims}
-use Rattle.run.specs.Run.{ruleIn, shownIn}
+use Rattle.run.specs.Run.{shownIn}
 use Rattle.run.specs.declared.Answer.{Answer}
 use Rattle.run.specs.declared.Answer.the-variants.{Taken, Refused}
 use Rattle.run.specs.Answer.{byAnswer}
 use Rattle.run.specs.Numbers.{runOut, firstLateIn, misemptiedIn}
 use Rattle.run.specs.Row.{rowAnswer, bytesIn, noBytes, rowOf}
-use Rattle.run.specs.Claims.{ClaimsOf}
-use Rattle.run.specs.Loans.{rowAmong}
 use Rattle.run.proofs.RunOut.{few-cores}
-use Rattle.run.proofs.Chosen.{same-given, same-lent, ws}
 
--- what is shown for the places that claim and work is the run's row
-pub bytes-shown :
-    (r : Run) (e : ℕ) (c : Claims) (h : ClaimsOf r e c)
-    → rowAmong (ruleIn r) (ws r e c h) (r .fence) (r .cores) (c .claiming) (c .working) (r .count) ≡ bytesIn r e
-unfolding bytesIn
-bytes-shown r e c h =
-    ap (λ (gs : List (List ℕ)). row (r .fence) (r .cores) gs ++ replicate (mostCores - r .cores) 0) (ap₂ shownCores (same-given r e c h) (same-lent r e c h))
-    ∙ ap (λ (n : ℕ). row (r .fence) (r .cores) (shownIn r e) ++ replicate (mostCores - n) 0) (sym (row-length (r .fence) (r .cores) (shownIn r e)))
-
--- a row has 64 bytes, shown or not
 pub shown-length : (r : Run) (e : ℕ) → length (rowOf r e .bytes) ≡ mostCores
 unfolding rowOf rowAnswer bytesIn
 shown-length r e = by-out (runOut r) refl

@@ -5,7 +5,9 @@ pub mod Numbers
 pub mod Advance
 pub mod Withdraw
 pub mod Row
+pub mod Sets
+pub mod Tick
 pub mod Start
 pub mod Past
 pub mod Claims
-pub mod Loans
+pub mod Shares

@@ -1,5 +1,5 @@
--- Numbers 14, 15, 20 and 16 for what row and advance turn down, and 14, 21 and 22 for what a withdrawal does, of one position or of several together
--- (scope, 'Numbers for what is turned down', and requests 105, 106, 109 and 113): when each applies, and which is the first.
+-- Numbers 14, 15, 20 and 16 for what row, sets and advance turn down, and 14, 21 and 22 for what a withdrawal does, of one position or of several
+-- together (scope, 'Numbers for what is turned down', and requests 105, 106, 109, 113 and 114): when each applies, and which is the first.
 use mathlib.Core.Path.{_≡_}
 use mathlib.Core.Bool.{Bool, true, not, _&&_, _||_}
 use mathlib.Core.List.{[]}
@@ -60,14 +60,14 @@ abbrev pub Misreports : Run → ℕ → ℕ → ℕ → Type 0
 Misreports r e x p =
     (bit x p ≡ true) × ((r .count ≤ p) ⊎ ((¬ Works r e p) ⊎ ((getD (grantsIn r e) p [] ≡ []) × (borrowedIn r e p ≡ []))))
 
--- number n applies to a row asked of the run with empties e, with position p
+-- number n applies to a row, or sets, asked of the run with empties e, with position p
 pub data RowApplies (r : Run) (e : ℕ) : ℕ → ℕ → Type 0 where
-  -- 14. Row or advance: the run's count is not 1 to 32, its core count or rule is out of range, its fence breaks 19, a position past its count is
-  -- withdrawn, a task breaks 7 or 8, or a phase or a parity is outside the limits.
+  -- 14. Row, sets or advance: the run's count is not 1 to 32, its core count or rule is out of range, its fence breaks 19, a position past its count
+  -- is withdrawn, a task breaks 7 or 8, or a phase or a parity is outside the limits.
   fourteen : RunOut r → RowApplies r e 14 0
-  -- 15. Row or advance: some task is Working at z = D.
+  -- 15. Row, sets or advance: some task is Working at z = D.
   fifteen : (p : ℕ) → p < r .count → Late r p → RowApplies r e 15 (suc p)
-  -- 20. Row or advance: an empty bit past the count or for a task not Working at (0,0).
+  -- 20. Row, sets or advance: an empty bit past the count or for a task not Working at (0,0).
   twenty : (p : ℕ) → Misempties r e p → RowApplies r e 20 0
 
 -- number n applies to an advance of the run with reports x and empties e, with position p
@@ -79,7 +79,7 @@ pub data AdvanceApplies (r : Run) (x e : ℕ) : ℕ → ℕ → Type 0 where
 
 -- number n applies to a withdrawal from the run, with position p; `stranger` says that it names a position that is none of the run's
 pub data WithdrawApplies (r : Run) (stranger : Type 0) : ℕ → ℕ → Type 0 where
-  -- 14, as of row and advance
+  -- 14, as of row, sets and advance
   not-a-run : RunOut r → WithdrawApplies r stranger 14 0
   -- 21. Withdraw: the run's rule and widths are not firm.
   twenty-one : ¬ FirmRule (tableIn r) → WithdrawApplies r stranger 21 0

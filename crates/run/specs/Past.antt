@@ -5,6 +5,7 @@ use lib.ListN.{take}
 use Rattle.run.specs.declared.Run.{Run}
 use Rattle.run.specs.Advance.{advanceOf}
 use Rattle.run.specs.Row.{rowOf}
+use Rattle.run.specs.Sets.{setsOf}
 use Rattle.run.specs.Withdraw.{withdrawOf, withdrawAllOf}
 
 -- two runs that are equal up to the count
@@ -16,10 +17,11 @@ pub record SameBelow (r s : Run) : Type 0 where
   pub count : r .count ≡ s .count
   pub tasks : take (r .count) (r .tasks) ≡ take (s .count) (s .tasks)
 
--- they get equal rows and answers, and advance to runs that are equal up to the count, whatever is reported or empty; and so it is with a
+-- they get equal rows, sets and answers, and advance to runs that are equal up to the count, whatever is reported or empty; and so it is with a
 -- withdrawal, of one position or of several together
 pub record Unread (r s : Run) (x e : ℕ) : Type 0 where
   pub row : rowOf r e ≡ rowOf s e
+  pub sets : setsOf r e ≡ setsOf s e
   pub answer : advanceOf r x e .answer ≡ advanceOf s x e .answer
   pub run : SameBelow (advanceOf r x e .run) (advanceOf s x e .run)
   pub withdraw-answer : (p : ℕ) → withdrawOf r p .answer ≡ withdrawOf s p .answer

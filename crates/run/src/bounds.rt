@@ -1,22 +1,21 @@
-// Numbers 14 and 15: whether a run is outside its limits, and which of its tasks is late first.
+// Number 14: whether a run is outside its limits.
 ghost use mathlib.Core.Path.{_≡_};
 ghost use mathlib.Core.Bool.{_||_, not};
-ghost use Prim.Native.Nat.{_≤_};
 ghost use Rattle.table.specs.Limits.{from, coresOut, ruleOut, fenceOut};
-ghost use Rattle.run.specs.Numbers.{runOut, firstLateIn, pastCount};
+ghost use Rattle.run.specs.Numbers.{runOut, pastCount};
 ghost use Rattle.model.specs.Sizes.{mostTasks};
 use crate::Run;
-use crate::sets;
+use crate::bits;
 use model::MOST_TASKS;
 
 // Whether a run's count, core count, rule, fence or withdrawn set is out of range.
-fn head_out(count: usize, cores: u32, rule: u32, fence: u64, withdrawn: u32) -> bool
+pub(crate) fn head_out(count: usize, cores: u32, rule: u32, fence: u64, withdrawn: u32) -> bool
     ensures { λ r. ⌜ r ≡ not (from 1 mostTasks count) || (coresOut cores || (ruleOut rule || (fenceOut cores fence || pastCount count withdrawn))) ⌝ }
 {
     !((1 <= count) & (count <= MOST_TASKS))
         | (table::limits::cores_out(cores)
             | (table::limits::rule_out(rule)
-                | (table::limits::fence_out(cores, fence) | sets::past(withdrawn, count))))
+                | (table::limits::fence_out(cores, fence) | bits::past(withdrawn, count))))
 }
 
 impl Run {
@@ -24,7 +23,6 @@ impl Run {
     pub fn out(self) -> bool
         ensures { λ r. ⌜ r ≡ runOut self ⌝ }
     {
-        let run = self;
         let rule = self.rule;
         let cores = self.cores;
         let count = self.count;
@@ -34,30 +32,12 @@ impl Run {
         let wide = cores::open_count(cores, self.fence);
         let mut i: usize = 0;
         while i < count {
-            let task = run.tasks[i];
+            let task = self.tasks[i];
             if task.out(rule, wide) {
                 return true;
             }
             i += 1;
         }
         false
-    }
-
-    // The first place whose task is Working at its deadline (number 15), or the count.
-    pub fn first_late(self) -> usize
-        requires { ⌜ self .count ≤ mostTasks ⌝ }
-        ensures { λ r. ⌜ r ≡ firstLateIn self ⌝ }
-    {
-        let run = self;
-        let count = self.count;
-        let mut place: usize = 0;
-        while place < count {
-            let task = run.tasks[place];
-            if task.late() {
-                return place;
-            }
-            place += 1;
-        }
-        count
     }
 }

@@ -1,16 +1,19 @@
-// Who claims in the present tick, with which of its widths, and whose job is released in it.
+// One look at the tasks of a run in the present tick: who is outside its limits or late, who claims, with which of its widths, and whose job is released.
 ghost use mathlib.Core.Path.{_≡_};
 ghost use Prim.Native.Nat.{_≤_};
 ghost use Rattle.run.specs.Claims.{ClaimsOf};
-ghost use Rattle.model.specs.Sizes.{mostTasks};
+ghost use Rattle.model.specs.Sizes.{mostCores, mostTasks};
 use crate::Run;
-use crate::sets;
+use crate::bits;
 use model::MOST_TASKS;
 
-// What the tasks bring to a tick: the set of those that claim, the set of those that are Working, the set of those whose job is released in this
-// very tick, the set of those whose job is an even one, and both widths: the first of each place, then the second of each. The first two sets are
-// of the tasks as they are seen with their empty jobs.
+// What the tasks bring to a tick: the set of those that are outside their limits, the set of those that are Working at their deadline, the set of those
+// that claim, the set of those that are Working, the set of those whose job is released in this very tick, the set of those whose job is an even one,
+// and both widths: the first of each place, then the second of each. Who claims and who is Working is said of the tasks as they are seen with their
+// empty jobs.
 pub struct Claims {
+    pub broken: u32,
+    pub late: u32,
     pub claiming: u32,
     pub working: u32,
     pub released: u32,
@@ -22,13 +25,15 @@ impl Run {
     // What the tasks below the count bring to the present tick, where bit p of `empties` says that the job of position p + 1 is empty; a withdrawn
     // position's is.
     pub(crate) fn claims(self, empties: u32) -> Claims
-        requires { ⌜ self .count ≤ mostTasks ⌝ }
+        requires { ⌜ (self .count ≤ mostTasks) × (self .cores ≤ mostCores) ⌝ }
         ensures { λ r. ⌜ ClaimsOf self empties r ⌝ }
     {
-        let run = self;
         let rule = self.rule;
         let count = self.count;
+        let wide = cores::open_count(self.cores, self.fence);
         let emptied = empties | self.withdrawn;
+        let mut broken: u32 = 0;
+        let mut late: u32 = 0;
         let mut claiming: u32 = 0;
         let mut working: u32 = 0;
         let mut released: u32 = 0;
@@ -36,19 +41,23 @@ impl Run {
         let mut widths = [0u32; rule::PAIR];
         let mut i: usize = 0;
         while i < count {
-            let task = run.tasks[i];
+            let task = self.tasks[i];
             let phase = task.phase;
             let place = i as u32;
-            let seen = phase.seen(rule, sets::has(emptied, place));
-            claiming = sets::with(claiming, place, seen.claims());
-            working = sets::with(working, place, seen.works());
-            released = sets::with(released, place, phase.released());
-            even = sets::with(even, place, task.even);
+            broken = bits::with(broken, place, task.out(rule, wide));
+            late = bits::with(late, place, task.late());
+            let seen = phase.seen(rule, bits::has(emptied, place));
+            claiming = bits::with(claiming, place, seen.claims());
+            working = bits::with(working, place, seen.works());
+            released = bits::with(released, place, phase.released());
+            even = bits::with(even, place, task.even);
             widths[i] = task.width;
             widths[MOST_TASKS + i] = task.second;
             i += 1;
         }
         Claims {
+            broken: broken,
+            late: late,
             claiming: claiming,
             working: working,
             released: released,

@@ -1,20 +1,21 @@
-// The run in the cab: rule, core count, fence, the withdrawn set and the tasks with their phases; start, row, advance, and withdrawals of one
+// The run in the cab: rule, core count, fence, the withdrawn set and the tasks with their phases; start, row, sets, advance, and withdrawals of one
 // position or of several together.
 ghost use mathlib.Core.Path.{_≡_};
-ghost use mathlib.Core.Bool.{cond};
-ghost use Rattle.run.specs.declared.Answer.the-variants.{Taken, Refused};
+ghost use Rattle.run.specs.declared.Answer.the-variants.{Refused};
 ghost use Rattle.run.specs.Row.{RowOf, noBytes};
+ghost use Rattle.run.specs.Sets.{SetsOf};
 ghost use Rattle.run.specs.Advance.{AdvanceOf};
 ghost use Rattle.run.specs.Start.{StartOf};
 ghost use Rattle.run.specs.Withdraw.{WithdrawOf, WithdrawAllOf};
 
-mod bounds; // bounds.rt: numbers 14 and 15
-mod choosing; // choosing.rt: who claims in the present tick
+mod bits; // bits.rt: sets of places
+mod bounds; // bounds.rt: number 14
+mod choosing; // choosing.rt: one look at the tasks in the present tick
 mod moves; // moves.rt: one tick
 mod plain; // plain.rt: the tasks as a table has them
-mod sets; // sets.rt: sets of places
-mod shares; // shares.rt: who is given cores in a tick, who borrows some, and the row
+mod shares; // shares.rt: who is given cores in a tick, who borrows some, and which are shown
 pub mod starts; // starts.rt: the run of a table as it starts
+mod tick; // tick.rt: the present tick, of which row, sets and advance speak
 mod withdrawals; // withdrawals.rt: whether a run is firm, and positions taken out
 
 use judge::Verdict;
@@ -51,6 +52,12 @@ pub struct Advanced {
     pub run: Run,
 }
 
+// What a row asked as sets gives: the answer, and of each position the set of its cores, core 0 the lowest bit; a position past the count has none.
+pub struct Sets {
+    pub answer: Answer,
+    pub sets: [u64; MOST_TASKS],
+}
+
 // What a row asked gives: the answer, and one byte a core, the position or 0 for idle, 255 on a fenced core; bytes past the core count are 0.
 pub struct Row {
     pub answer: Answer,
@@ -70,23 +77,6 @@ pub fn start(words: &[u32]) -> Started
     }
 }
 
-// The answer to an advance of a run that passes 14: 15 with the late position, then 20 unless the empties are `begun`, jobs released in this very
-// tick, then 16 unless the reports are `within` what may be reported, else taken.
-fn in_order(late: bool, position: u32, begun: bool, within: bool) -> Answer
-    ensures { λ r. ⌜ r ≡ cond late (Refused 15 position) (cond begun (cond within Taken (Refused 16 0)) (Refused 20 0)) ⌝ }
-{
-    if late {
-        return Answer::Refused(15, position);
-    }
-    if begun {
-        if within {
-            return Answer::Taken;
-        }
-        return Answer::Refused(16, 0);
-    }
-    Answer::Refused(20, 0)
-}
-
 // A row that is turned down: all zeros.
 fn row_refused(number: u32, position: u32) -> Row
     ensures { λ r. ⌜ r ≡ record { answer = Refused number position; bytes = noBytes } ⌝ }
@@ -99,38 +89,37 @@ fn row_refused(number: u32, position: u32) -> Row
 }
 
 impl Run {
+    // The sets of cores of the present tick, one of each position, core 0 the lowest bit: held cores are in the holder's, lent ones in the borrower's and
+    // fenced ones in none. Bit p of `empties` says that the job of position p + 1, released in this very tick, is empty; or 14, 15 with the lowest late
+    // position, or 20.
+    pub fn sets(self, empties: u32) -> Sets
+        ensures { λ r. ⌜ SetsOf self empties r ⌝ }
+    {
+        let tick = self.tick(empties);
+        let answer = tick.answer;
+        let sets = tick.sets;
+        Sets {
+            answer: answer,
+            sets: sets,
+        }
+    }
+
     // The row of the present tick, held cores with the holder's position and lent ones with the borrower's, where bit p of `empties` says that the job
-    // of position p + 1, released in this very tick, is empty; or 14, 15 with the lowest late position, or 20.
+    // of position p + 1, released in this very tick, is empty; or 14, 15 with the lowest late position, or 20. Its bytes come from the sets and the fence.
     pub fn row(self, empties: u32) -> Row
         ensures { λ r. ⌜ RowOf self empties r ⌝ }
     {
-        if self.out() {
-            return row_refused(14, 0);
+        let tick = self.tick(empties);
+        let answer = tick.answer;
+        if let Answer::Refused(number, position) = answer {
+            return row_refused(number, position);
         }
-        let late = self.first_late();
-        if late < self.count {
-            return row_refused(15, late as u32 + 1);
+        let sets = tick.sets;
+        let bytes = rule::row_in(self.cores, self.fence, &sets, self.count);
+        Row {
+            answer: Answer::Taken,
+            bytes: bytes,
         }
-        let claims = self.claims(empties);
-        let begun = empties & claims.released;
-        if begun == empties {
-            let widths = claims.widths;
-            let bytes = shares::bytes(
-                self.rule,
-                self.cores,
-                self.fence,
-                claims.claiming,
-                claims.working,
-                claims.even,
-                &widths,
-                self.count,
-            );
-            return Row {
-                answer: Answer::Taken,
-                bytes: bytes,
-            };
-        }
-        row_refused(20, 0)
     }
 
     // An advance or a withdrawal that is turned down: the run as given.
@@ -148,40 +137,16 @@ impl Run {
     pub fn advance(self, reports: u32, empties: u32) -> Advanced
         ensures { λ r. ⌜ AdvanceOf self reports empties r ⌝ }
     {
-        if self.out() {
-            return self.refused(14, 0);
+        let tick = self.tick(empties);
+        let answer = tick.answer;
+        if let Answer::Refused(number, position) = answer {
+            return self.refused(number, position);
         }
-        let late = self.first_late();
-        let claims = self.claims(empties);
-        let widths = claims.widths;
-        let free = cores::open_cores(self.cores, self.fence);
-        let shares = shares::chosen(
-            self.rule,
-            free,
-            claims.claiming,
-            claims.working,
-            claims.even,
-            &widths,
-            self.count,
-        );
-        let begun = empties & claims.released;
-        let ending = reports & ((shares.given | shares.lent) & claims.working);
-        let answer = in_order(
-            late < self.count,
-            late as u32 + 1,
-            begun == empties,
-            ending == reports,
-        );
-        match answer {
-            Answer::Taken => {
-                let next = self.moved(shares.given, shares.lent, reports, empties);
-                Advanced {
-                    answer: Answer::Taken,
-                    run: next,
-                }
-            }
-            Answer::Refused(number, position) => self.refused(number, position),
+        let ending = reports & ((tick.given | tick.lent) & tick.working);
+        if ending == reports {
+            return self.moved(tick.given, tick.lent, reports, empties);
         }
+        self.refused(16, 0)
     }
 
     // The run with a position taken out: a job of it released before the present tick goes on, one released in this very tick and all later ones
@@ -214,7 +179,7 @@ impl Run {
             return self.refused(14, 0);
         }
         if self.is_firm() {
-            if sets::past(set, self.count) {
+            if bits::past(set, self.count) {
                 return self.refused(22, 0);
             }
             let next = self.without(set);

@@ -13,14 +13,13 @@ impl Run {
         requires { ⌜ self .count ≤ mostTasks ⌝ }
         ensures { λ r. ⌜ tasksOf r (self .count) ≡ tasksIn self ⌝ }
     {
-        let run = self;
         let count = self.count;
         let unused = phase::starts::unused();
         let none = unused.plain();
         let mut tasks = [none; MOST_TASKS];
         let mut i: usize = 0;
         while i < count {
-            let task = run.tasks[i];
+            let task = self.tasks[i];
             let plain = task.plain();
             tasks[i] = plain;
             i += 1;

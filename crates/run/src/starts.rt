@@ -14,7 +14,7 @@ use crate::Started;
 use model::MOST_TASKS;
 
 // The run of all zeros with every phase Resting(0).
-pub fn empty() -> Run
+fn empty() -> Run
     ensures { λ r. ⌜ r ≡ emptyRun ⌝ }
 {
     let place = phase::starts::unused();
@@ -30,13 +30,7 @@ pub fn empty() -> Run
 }
 
 // The run of a table's first `count` tasks as it starts.
-pub fn started(
-    rule: u32,
-    cores: u32,
-    fence: u64,
-    tasks: [table::Task; MOST_TASKS],
-    count: usize,
-) -> Run
+fn started(rule: u32, cores: u32, fence: u64, tasks: [table::Task; MOST_TASKS], count: usize) -> Run
     requires { ⌜ count ≤ mostTasks ⌝ }
     ensures { λ r. ⌜ r ≡ startedRun rule (tableWith cores fence rule (table.tasksOf tasks count)) ⌝ }
 {
@@ -60,7 +54,7 @@ pub fn started(
 }
 
 // A start that is turned down: the run of all zeros.
-pub(crate) fn refused(number: u32, position: u32) -> Started
+pub fn refused(number: u32, position: u32) -> Started
     ensures { λ r. ⌜ r ≡ record { answer = Refused number position; run = emptyRun } ⌝ }
 {
     let run = empty();
@@ -71,7 +65,7 @@ pub(crate) fn refused(number: u32, position: u32) -> Started
 }
 
 // The run of the words of a table that passes 1 to 9 and 19, as it starts.
-pub(crate) fn begun(words: &[u32]) -> Started
+pub fn begun(words: &[u32]) -> Started
     requires { ⌜ NoneApplies (now words) ⌝ }
     ensures { λ r. ⌜ r ≡ record { answer = Taken; run = startedRun (rule (now (words .entry))) (tableOf (now (words .entry))) } ⌝ }
 {

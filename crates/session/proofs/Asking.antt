@@ -21,8 +21,8 @@ use Rattle.session.specs.declared.operations.Numbers.{Numbers}
 use Rattle.session.specs.declared.operations.Numbers.the-variants.{Bare, One, Two, Other}
 use Rattle.session.specs.declared.operations.Operation.{Operation}
 use Rattle.session.specs.declared.operations.Operation.the-variants.{Nothing}
-use Rattle.session.specs.Operation.{noneLong, wordsIn, oneOf, twoOf, numbersOf, numbersBehind, advanceBy, rowBy, withdrawBy, withdrawAllBy, operationBy}
-use Rattle.session.specs.Operation.{operationOf}
+use Rattle.session.specs.Operation.{noneLong, wordsIn, oneOf, twoOf, numbersOf, numbersBehind, advanceBy, rowBy, setsBy, withdrawBy, withdrawAllBy}
+use Rattle.session.specs.Operation.{operationBy, operationOf}
 
 -- WORDS
 
@@ -161,9 +161,13 @@ pub by-withdraw-all : (b : ℕ) (ns : Numbers) → b ≡ 87 → withdrawAllBy ns
 unfolding operationBy
 by-withdraw-all b ns e = rw e
 
-pub by-none : (b : ℕ) (ns : Numbers) → (b ≡ 97 → ⊥) → (b ≡ 114 → ⊥) → (b ≡ 119 → ⊥) → (b ≡ 87 → ⊥) → Nothing ≡ operationBy b ns
+pub by-sets : (b : ℕ) (ns : Numbers) → b ≡ 115 → setsBy ns ≡ operationBy b ns
 unfolding operationBy
-by-none b ns a r w v = rw (ne-eqb b 97 a, ne-eqb b 114 r, ne-eqb b 119 w, ne-eqb b 87 v)
+by-sets b ns e = rw e
+
+pub by-none : (b : ℕ) (ns : Numbers) → (b ≡ 97 → ⊥) → (b ≡ 114 → ⊥) → (b ≡ 119 → ⊥) → (b ≡ 87 → ⊥) → (b ≡ 115 → ⊥) → Nothing ≡ operationBy b ns
+unfolding operationBy
+by-none b ns a r w v s = rw (ne-eqb b 97 a, ne-eqb b 114 r, ne-eqb b 119 w, ne-eqb b 87 v, ne-eqb b 115 s)
 
 pub asked-empty : (l : List ℕ) → length l ≡ 0 → Nothing ≡ operationOf l
 unfolding operationOf
@@ -206,14 +210,15 @@ numbers-long l h = ⊎-elim whole part (eq-or-lt-of-le (mark-within space l))
 
 by-other : (b : ℕ) → operationBy b Other ≡ Nothing
 unfolding operationBy
-by-other b = go (eqb b 97) (eqb b 114) (eqb b 119) (eqb b 87)
+by-other b = go (eqb b 97) (eqb b 114) (eqb b 119) (eqb b 87) (eqb b 115)
   where
-    go : (t u v w : Bool) → cond t Nothing (cond u Nothing (cond v Nothing (cond w Nothing Nothing))) ≡ Nothing
-    go true u v w = refl
-    go false true v w = refl
-    go false false true w = refl
-    go false false false true = refl
-    go false false false false = refl
+    go : (t u v w x : Bool) → cond t Nothing (cond u Nothing (cond v Nothing (cond w Nothing (cond x Nothing Nothing)))) ≡ Nothing
+    go true u v w x = refl
+    go false true v w x = refl
+    go false false true w x = refl
+    go false false false true x = refl
+    go false false false false true = refl
+    go false false false false false = refl
 
 -- an operation has at most 23 bytes: a letter, and twice a space and ten digits
 pub long-none : (l : List ℕ) → noneLong ≤ length l → operationOf l ≡ Nothing

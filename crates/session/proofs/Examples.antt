@@ -16,12 +16,13 @@ use Rattle.run.specs.Numbers.{pastCount, runOut, firstLateIn, misemptiedIn, mis
 use Rattle.run.specs.Advance.{advanceAnswer, advanceOf}
 use Rattle.run.specs.Withdraw.{withdrawAnswer, withdrawOf, withdrawAllOf}
 use Rattle.run.specs.Row.{rowAnswer, bytesIn, rowOf}
+use Rattle.run.specs.Sets.{setsIn, setsOf}
 use Rattle.text.specs.Decimal.{all, value, decimal, lastDigits, digitCount, digitsWithin}
 use Rattle.text.specs.Format.{isNumber}
 use Rattle.text.specs.Output.{letters, fields, lineOf}
 use Rattle.session.specs.declared.operations.Operation.{Operation}
-use Rattle.session.specs.declared.operations.Operation.the-variants.{Advance, Withdraw, WithdrawAll, Row, Nothing}
-use Rattle.session.specs.Operation.{wordsIn, numbersOf, numbersBehind, operationBy, operationOf, plain, answerLine, shownLine, said, runAfter}
+use Rattle.session.specs.declared.operations.Operation.the-variants.{Advance, Withdraw, WithdrawAll, Row, Sets, Nothing}
+use Rattle.session.specs.Operation.{wordsIn, numbersOf, numbersBehind, operationBy, operationOf, plain, answerLine, shownLine, setsLine, said, runAfter}
 use Rattle.session.specs.Talk.{nothing, lastLine, linesFrom, replies}
 
 -- WHAT A LINE ASKS
@@ -42,6 +43,8 @@ lines =
     ∷ asks "r 1" (Row 1)
     ∷ asks "w 1" (Withdraw 1)
     ∷ asks "W 1" (WithdrawAll 1)
+    ∷ asks "s" (Sets 0)
+    ∷ asks "s 1" (Sets 1)
     -- a letter is needed, and it is the first byte
     ∷ asks "" Nothing
     ∷ asks " " Nothing
@@ -52,11 +55,13 @@ lines =
     ∷ asks "R" Nothing
     ∷ asks "V 1" Nothing
     ∷ asks "wW 1" Nothing
+    ∷ asks "S" Nothing
     ∷ asks "--" Nothing
-    -- an advance has one number or two, a row none or one, a withdrawal, of a position or of a set, one
+    -- an advance has one number or two, a row none or one, as sets too, a withdrawal, of a position or of a set, one
     ∷ asks "a" Nothing
     ∷ asks "a 1 2 3" Nothing
     ∷ asks "r 1 2" Nothing
+    ∷ asks "s 1 2" Nothing
     ∷ asks "w" Nothing
     ∷ asks "w 1 2" Nothing
     ∷ asks "W" Nothing
@@ -70,6 +75,8 @@ lines =
     ∷ asks "r " Nothing
     ∷ asks "r  1" Nothing
     ∷ asks "r 1 " Nothing
+    ∷ asks "s " Nothing
+    ∷ asks "s1" Nothing
     ∷ asks "w " Nothing
     ∷ asks "w  1" Nothing
     ∷ asks "w 1 " Nothing
@@ -112,6 +119,8 @@ lines =
     ∷ asks "a 4294967296 0" Nothing
     ∷ asks "r 4294967295" (Row 4294967295)
     ∷ asks "r 4294967296" Nothing
+    ∷ asks "s 4294967295" (Sets 4294967295)
+    ∷ asks "s 4294967296" Nothing
     ∷ asks "w 0" (Withdraw 0)
     ∷ asks "w 4294967295" (Withdraw 4294967295)
     ∷ asks "w 4294967296" Nothing
@@ -132,8 +141,10 @@ worked l = asks (l .text) (operationOf (letters (l .text)))
 each-line : LineByLine worked lines lines
 unfolding operationOf operationBy numbersBehind numbersOf wordsIn isNumber all value
 each-line =
+    let past-80 : LineByLine worked (drop 80 lines) (drop 80 lines) =
+    (refl, (refl, (refl, (refl, (refl, (refl, (refl, (refl, tt)))))))) in
     let past-60 : LineByLine worked (drop 60 lines) (drop 60 lines) =
-    (refl, (refl, (refl, (refl, (refl, (refl, (refl, (refl, (refl, (refl, (refl, (refl, (refl, (refl, (refl, (refl, (refl, (refl, (refl, (refl, tt)))))))))))))))))))) in
+    (refl, (refl, (refl, (refl, (refl, (refl, (refl, (refl, (refl, (refl, (refl, (refl, (refl, (refl, (refl, (refl, (refl, (refl, (refl, (refl, past-80)))))))))))))))))))) in
     let past-40 : LineByLine worked (drop 40 lines) (drop 40 lines) =
     (refl, (refl, (refl, (refl, (refl, (refl, (refl, (refl, (refl, (refl, (refl, (refl, (refl, (refl, (refl, (refl, (refl, (refl, (refl, (refl, past-60)))))))))))))))))))) in
     let past-20 : LineByLine worked (drop 20 lines) (drop 20 lines) =
@@ -202,6 +213,10 @@ talks =
     ∷ talk turning "r\na 0\nr\na 0\nr\na 0 1\na 0\nr\na 0\na 0\nr" "row 1 0\ntaken\nrow 0 0\ntaken\nrow 1 1\ntaken\ntaken\nrow 1 0\ntaken\ntaken\nrow 1 1\n"
     -- under rule 4 an empty job lends its cores: the row shows the borrower, who may be reported; the lender may not
     ∷ talk lending "r\nr 1\na 2\na 1 1\na 2 1\nr" "row 1 1\nrow 2 1\nrefused 16 0\nrefused 16 0\ntaken\nrow 2 0\n"
+    -- the same as sets: the lender keeps what it has not lent; a refusal has no sets; and nothing changes
+    ∷ talk lending "s\ns 1\ns 4\nr"
+    "sets 3 0 0 0 0 0 0 0 0 0 0 0 0 0 0 0 0 0 0 0 0 0 0 0 0 0 0 0 0 0 0 0\nsets 2 1 0 0 0 0 0 0 0 0 0 0 0 0 0 0 0 0 0 0 0 0 0 0 0 0 0 0 0 0 0 0\nrefused 20 0\nrow 1 1\n"
+    ∷ talk none "s" "refused 14 0\n"
     -- after a line that is no operation nothing is said
     ∷ talk pair "r 1 2\nr\n" "not an operation\n"
     ∷ []
@@ -213,10 +228,10 @@ abbrev expected : Talk → List ℕ
 expected t = letters (t .output)
 
 each-talk : LineByLine saying talks (map expected talks)
-unfolding replies linesFrom lastLine said runAfter plain answerLine shownLine operationOf operationBy numbersBehind numbersOf wordsIn isNumber all value lineOf fields decimal
-    lastDigits digitCount digitsWithin computing advanceOf advanceAnswer withdrawOf withdrawAllOf withdrawAnswer rowOf rowAnswer bytesIn pastCount runOut firstLateIn misemptiedIn
-    misreportedIn grantsIn lentIn offerIn seeksIn mapFirst moved withdrawnIn
-each-talk = (refl, (refl, (refl, (refl, (refl, (refl, (refl, (refl, (refl, (refl, (refl, (refl, (refl, (refl, (refl, (refl, tt))))))))))))))))
+unfolding replies linesFrom lastLine said runAfter plain answerLine shownLine setsLine operationOf operationBy numbersBehind numbersOf wordsIn isNumber all value lineOf fields
+    decimal lastDigits digitCount digitsWithin computing advanceOf advanceAnswer withdrawOf withdrawAllOf withdrawAnswer rowOf rowAnswer bytesIn setsOf setsIn pastCount runOut
+    firstLateIn misemptiedIn misreportedIn grantsIn lentIn offerIn seeksIn mapFirst moved withdrawnIn
+each-talk = (refl, (refl, (refl, (refl, (refl, (refl, (refl, (refl, (refl, (refl, (refl, (refl, (refl, (refl, (refl, (refl, (refl, (refl, tt))))))))))))))))))
 
 pub talks-said : map (λ t. replies (t .from) (linesFrom nothing [] (letters (t .input)))) talks ≡ map (λ t. letters (t .output)) talks
 talks-said = by-line saying talks (map expected talks) each-talk

@@ -16,13 +16,14 @@ use Rattle.run.specs.declared.Started.{Started}
 use Rattle.run.specs.Advance.{advanceOf}
 use Rattle.run.specs.Withdraw.{withdrawOf, withdrawAllOf}
 use Rattle.run.specs.Row.{rowOf}
+use Rattle.run.specs.Sets.{setsOf}
 use Rattle.run.specs.Start.{startOf}
 use Rattle.session.specs.declared.Stage.{Stage}
 use Rattle.session.specs.declared.Stage.the-variants.{Table, Operations, Over}
 use Rattle.session.specs.declared.Session.{Session}
 use Rattle.session.specs.declared.operations.Operation.{Operation}
-use Rattle.session.specs.declared.operations.Operation.the-variants.{Advance, Withdraw, WithdrawAll, Row, Nothing}
-use Rattle.session.specs.Operation.{plain, answerLine, shownLine, said, runAfter, isLast}
+use Rattle.session.specs.declared.operations.Operation.the-variants.{Advance, Withdraw, WithdrawAll, Row, Sets, Nothing}
+use Rattle.session.specs.Operation.{plain, answerLine, shownLine, setsLine, said, runAfter, isLast}
 use Rattle.session.specs.Talk.{tooMany, isDashes, startLine, opened, replies}
 use Rattle.session.specs.Session.{stageOf, Said, OpenedOf}
 use Rattle.session.proofs.Talking.{nil-right, tooLong, opened-long}
@@ -44,6 +45,14 @@ shown-taken k a bytes e = rw e
 pub shown-refused : (k : ℕ) (a : Answer) (bytes : List ℕ) (n p : ℕ) → a ≡ Refused n p → lineOf (letters "refused") (n ∷ p ∷ []) ≡ shownLine k a bytes
 unfolding shownLine
 shown-refused k a bytes n p e = rw e
+
+pub sets-taken : (a : Answer) (sets : List ℕ) → a ≡ Taken → lineOf (letters "sets") sets ≡ setsLine a sets
+unfolding setsLine
+sets-taken a sets e = rw e
+
+pub sets-refused : (a : Answer) (sets : List ℕ) (n p : ℕ) → a ≡ Refused n p → lineOf (letters "refused") (n ∷ p ∷ []) ≡ setsLine a sets
+unfolding setsLine
+sets-refused a sets n p e = rw e
 
 -- OPERATIONS
 
@@ -90,6 +99,17 @@ run-row o r e q = rw q
 
 pub last-row : (o : Operation) (e : ℕ) → o ≡ Row e → false ≡ isLast o
 last-row o e q = rw q
+
+pub said-sets : (o : Operation) (r : Run) (e : ℕ) → o ≡ Sets e → setsLine (setsOf r e .answer) (setsOf r e .sets) ≡ said o r
+unfolding said
+said-sets o r e q = rw q
+
+pub run-sets : (o : Operation) (r : Run) (e : ℕ) → o ≡ Sets e → r ≡ runAfter o r
+unfolding runAfter
+run-sets o r e q = rw q
+
+pub last-sets : (o : Operation) (e : ℕ) → o ≡ Sets e → false ≡ isLast o
+last-sets o e q = rw q
 
 pub said-none : (o : Operation) (r : Run) → o ≡ Nothing → plain (letters "not an operation") ≡ said o r
 unfolding said

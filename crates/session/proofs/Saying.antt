@@ -1,11 +1,14 @@
--- What was put at the front of a buffer is said.
-use mathlib.Core.List.{List, []}
+-- What was put at the front of a buffer is said; numbers put one after the other.
+use mathlib.Core.List.{List, [], _∷_, _++_, append-assoc}
 use mathlib.Core.Path.{_≡_, refl, sym, ap, _∙_, subst}
-use Prim.Native.Nat.{ℕ, _+_, _≤_}
+use Prim.Native.Nat.{ℕ, _+_, _≤_, _<_}
 use native.Mathlib.Omega.{arith}
-use lib.ListN.{length, drop}
+use lib.ListN.{length, drop, getD, take}
 use lib.Seq.{drop-at}
+use Rattle.text.specs.Decimal.{decimal}
+use Rattle.text.specs.Output.{fields, space}
 use Rattle.text.specs.Written.{Put}
+use Rattle.text.proofs.Spelling.{fields-next}
 use Rattle.text.proofs.Writing.{put-front, put-length}
 use Rattle.session.specs.Session.{Said}
 
@@ -25,3 +28,7 @@ said-nothing before = record { room = omega arith; same = refl; behind = refl; f
 
 pub said-of : {text text′ before after : List ℕ} {n : ℕ} → text ≡ text′ → Said text before after n → Said text′ before after n
 said-of {text} {text′} {before} {after} {n} e s = subst (λ (x : List ℕ). Said x before after n) e s
+
+-- one number more, with its space
+pub fields-more : (ns : List ℕ) (i : ℕ) → i < length ns → fields (take i ns) ++ (space ∷ decimal (getD ns i 0)) ≡ fields (take (i + 1) ns)
+fields-more ns i h = sym (append-assoc (fields (take i ns)) (space ∷ []) (decimal (getD ns i 0))) ∙ fields-next ns i h

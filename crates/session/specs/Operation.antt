@@ -4,6 +4,7 @@ use mathlib.Core.List.{List, [], _∷_, _++_}
 use Prim.Native.Nat.{ℕ, _+_, _*_}
 use lib.ListN.{take}
 use lib.Dec.{eqb}
+use Rattle.model.specs.Sizes.{mostTasks}
 use Rattle.text.specs.Format.{newline, mostDigits, joined}
 use Rattle.text.specs.Input.{foundIn}
 use Rattle.text.specs.Output.{letters, lineOf, space}
@@ -15,14 +16,19 @@ use Rattle.run.specs.declared.Answer.the-variants.{Taken, Refused}
 use Rattle.run.specs.Advance.{advanceOf}
 use Rattle.run.specs.Withdraw.{withdrawOf, withdrawAllOf}
 use Rattle.run.specs.Row.{rowOf}
+use Rattle.run.specs.Sets.{setsOf}
 use Rattle.session.specs.declared.operations.Numbers.{Numbers}
 use Rattle.session.specs.declared.operations.Numbers.the-variants.{Bare, One, Two, Other}
 use Rattle.session.specs.declared.operations.Operation.{Operation}
-use Rattle.session.specs.declared.operations.Operation.the-variants.{Advance, Withdraw, WithdrawAll, Row, Nothing}
+use Rattle.session.specs.declared.operations.Operation.the-variants.{Advance, Withdraw, WithdrawAll, Row, Sets, Nothing}
 
 -- a line of so many bytes is no operation: one more than a letter and two numbers, each with a space before it
 abbrev pub noneLong : ℕ
 noneLong = 1 + 2 * (1 + mostDigits) + 1
+
+-- no more bytes than these are said at once: `sets`, for each of 32 positions a space and up to 20 digits, and a newline
+abbrev pub longestReply : ℕ
+longestReply = 4 + mostTasks * (1 + 20) + 1
 
 -- the words of a text: what stands before, between and behind its spaces
 unfoldable pub wordsIn : List ℕ → List (List ℕ)
@@ -66,6 +72,13 @@ rowBy (One e) = Row e
 rowBy (Two e n) = Nothing
 rowBy Other = Nothing
 
+-- `s EMPTIES` asks the row as sets with that set; empties that are left out are 0
+abbrev pub setsBy : Numbers → Operation
+setsBy Bare = Sets 0
+setsBy (One e) = Sets e
+setsBy (Two e n) = Nothing
+setsBy Other = Nothing
+
 -- `w POSITION` withdraws that position
 abbrev pub withdrawBy : Numbers → Operation
 withdrawBy Bare = Nothing
@@ -80,13 +93,14 @@ withdrawAllBy (One x) = WithdrawAll x
 withdrawAllBy (Two x n) = Nothing
 withdrawAllBy Other = Nothing
 
--- the operation of a letter, `a`, `r`, `w` or `W`, and what stands behind it; with any other letter it is none
+-- the operation of a letter, `a`, `r`, `w`, `W` or `s`, and what stands behind it; with any other letter it is none
 unfoldable pub operationBy : ℕ → Numbers → Operation
 operationBy letter ns =
     cond (eqb letter 97) (advanceBy ns)
     (cond (eqb letter 114) (rowBy ns)
     (cond (eqb letter 119) (withdrawBy ns)
-    (cond (eqb letter 87) (withdrawAllBy ns) Nothing)))
+    (cond (eqb letter 87) (withdrawAllBy ns)
+    (cond (eqb letter 115) (setsBy ns) Nothing))))
 
 -- the operation of a line; an empty line is none
 unfoldable pub operationOf : List ℕ → Operation
@@ -107,12 +121,18 @@ unfoldable pub shownLine : ℕ → Answer → List ℕ → List ℕ
 shownLine cores Taken bytes = lineOf (letters "row") (take cores bytes)
 shownLine cores (Refused n p) bytes = lineOf (letters "refused") (n ∷ p ∷ [])
 
+-- a row as sets is `sets` and the 32 sets, core 0 the lowest digit of each; or its refusal
+unfoldable pub setsLine : Answer → List ℕ → List ℕ
+setsLine Taken sets = lineOf (letters "sets") sets
+setsLine (Refused n p) sets = lineOf (letters "refused") (n ∷ p ∷ [])
+
 -- what is said to an operation of run r
 unfoldable pub said : Operation → Run → List ℕ
 said (Advance x e) r = answerLine (letters "taken") (advanceOf r x e .answer)
 said (Withdraw p) r = answerLine (letters "taken") (withdrawOf r p .answer)
 said (WithdrawAll x) r = answerLine (letters "taken") (withdrawAllOf r x .answer)
 said (Row e) r = shownLine (r .cores) (rowOf r e .answer) (rowOf r e .bytes)
+said (Sets e) r = setsLine (setsOf r e .answer) (setsOf r e .sets)
 said Nothing r = plain (letters "not an operation")
 
 -- the run after it
@@ -121,6 +141,7 @@ runAfter (Advance x e) r = advanceOf r x e .run
 runAfter (Withdraw p) r = withdrawOf r p .run
 runAfter (WithdrawAll x) r = withdrawAllOf r x .run
 runAfter (Row e) r = r
+runAfter (Sets e) r = r
 runAfter Nothing r = r
 
 -- a line that is no operation ends the session
@@ -129,4 +150,5 @@ isLast (Advance x e) = false
 isLast (Withdraw p) = false
 isLast (WithdrawAll x) = false
 isLast (Row e) = false
+isLast (Sets e) = false
 isLast Nothing = true

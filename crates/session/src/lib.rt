@@ -10,14 +10,17 @@ pub mod open; // open.rt: the table, and the run that it starts
 pub mod operations; // operations.rt: what a line asks
 mod replies; // replies.rt: what is said to an operation
 
+use model::MOST_TASKS;
 use run::Run;
-use text::row::LINE;
 
 // So many bytes with no line `--` in them are too many for a table: the longest text, the two dashes, and one more.
 pub const TOO_MANY: usize = text::BYTES + 3;
 
 // A line of so many bytes is no operation: one more than a letter and two numbers, each with a space before it.
 const NONE_LONG: usize = 1 + 2 * (1 + text::DIGITS) + 1;
+
+// No more bytes than these are said at once: `sets`, for each of 32 positions a space and up to 20 digits, and a newline.
+pub const REPLY: usize = 4 + MOST_TASKS * (1 + 20) + 1;
 
 // What the bytes that come are read as: the table, the operations, or nothing any more.
 pub enum Stage {
@@ -69,7 +72,7 @@ fn stage_after(over: bool) -> Stage
 }
 
 // A chunk of the table: up to the end of its first line, or as much as there is room for.
-fn feed_table(session: Session, chunk: &[u8], out: &mut [u8; LINE]) -> Fed
+fn feed_table(session: Session, chunk: &[u8], out: &mut [u8; REPLY]) -> Fed
     requires { ⌜ (session .from ≤ session .held) × (session .held ≤ tooMany) ⌝ }
     ensures { λ r. ⌜ FedBy (spokenIn Table session) (now (chunk .entry)) (now (out .entry)) (now (out .exit)) r ⌝ }
 {
@@ -128,7 +131,7 @@ fn feed_table(session: Session, chunk: &[u8], out: &mut [u8; LINE]) -> Fed
 }
 
 // A chunk of the operations: up to the end of its first line; a line longer than any operation is none.
-fn feed_operations(session: Session, chunk: &[u8], out: &mut [u8; LINE]) -> Fed
+fn feed_operations(session: Session, chunk: &[u8], out: &mut [u8; REPLY]) -> Fed
     requires { ⌜ session .held ≤ tooMany ⌝ }
     ensures { λ r. ⌜ FedBy (spokenIn Operations session) (now (chunk .entry)) (now (out .entry)) (now (out .exit)) r ⌝ }
 {
@@ -177,7 +180,7 @@ fn feed_operations(session: Session, chunk: &[u8], out: &mut [u8; LINE]) -> Fed
 }
 
 // The end of the input in the table: what is said to it.
-fn end_table(session: Session, out: &mut [u8; LINE]) -> usize
+fn end_table(session: Session, out: &mut [u8; REPLY]) -> usize
     requires { ⌜ (session .from ≤ session .held) × (session .held ≤ tooMany) ⌝ }
     ensures { λ r. ⌜ Said (spokenIn Table session nothing []) (now (out .entry)) (now (out .exit)) r ⌝ }
 {
@@ -190,7 +193,7 @@ fn end_table(session: Session, out: &mut [u8; LINE]) -> usize
 }
 
 // The end of the input in the operations: what is said to a last line that lacks its newline.
-fn end_operations(session: Session, out: &mut [u8; LINE]) -> usize
+fn end_operations(session: Session, out: &mut [u8; REPLY]) -> usize
     requires { ⌜ session .held ≤ tooMany ⌝ }
     ensures { λ r. ⌜ Said (spokenIn Operations session nothing []) (now (out .entry)) (now (out .exit)) r ⌝ }
 {
@@ -237,7 +240,7 @@ impl Session {
     }
 
     // Takes bytes of a chunk, at least one where there is one, and writes what is said to them.
-    pub fn feed(self, chunk: &[u8], out: &mut [u8; LINE]) -> Fed
+    pub fn feed(self, chunk: &[u8], out: &mut [u8; REPLY]) -> Fed
         ensures { λ r. ⌜ FedOf self (now (chunk .entry)) (now (out .entry)) (now (out .exit)) r ⌝ }
     {
         let stage = stage_of(self);
@@ -261,7 +264,7 @@ impl Session {
     }
 
     // Writes what is said where no more bytes come.
-    pub fn end(self, out: &mut [u8; LINE]) -> usize
+    pub fn end(self, out: &mut [u8; REPLY]) -> usize
         ensures { λ r. ⌜ LastOf self (now (out .entry)) (now (out .exit)) r ⌝ }
     {
         let stage = stage_of(self);

@@ -7,10 +7,10 @@ ghost use Rattle.session.specs.Session.{OpenedOf};
 ghost use mathlib.Core.Bool.{cond};
 ghost use Prim.Native.Nat.{_≤_, _-_};
 ghost use lib.ListN.{length, take, drop};
+use crate::REPLY;
 use crate::replies;
 use run::Run;
 use run::Started;
-use text::row::LINE;
 
 // What was said to the table, its run, and whether the session is over.
 pub struct Opened {
@@ -51,7 +51,7 @@ fn start(table: &[u8]) -> Started
 }
 
 // Starts the run of a table's text, and writes start's answer; a text longer than any table can be is turned down, and ends the session.
-pub(crate) fn begin(table: &[u8], out: &mut [u8; LINE]) -> Opened
+pub(crate) fn begin(table: &[u8], out: &mut [u8; REPLY]) -> Opened
     ensures { λ r. ⌜ OpenedOf (now (table .entry)) (now (out .entry)) (now (out .exit)) r ⌝ }
 {
     let started = start(table);

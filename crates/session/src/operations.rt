@@ -1,15 +1,16 @@
 // What a line asks of the run.
 ghost use mathlib.Core.Path.{_≡_};
-ghost use Rattle.session.specs.Operation.{operationOf, numbersBehind, oneOf, twoOf, advanceBy, rowBy, withdrawBy, withdrawAllBy};
+ghost use Rattle.session.specs.Operation.{operationOf, numbersBehind, oneOf, twoOf, advanceBy, rowBy, setsBy, withdrawBy, withdrawAllBy};
 use text::line::Found;
 
-// An advance with its reports and its empties, a position withdrawn, the positions of a set withdrawn together, a row asked with empties, or nothing that
-// a run can do.
+// An advance with its reports and its empties, a position withdrawn, the positions of a set withdrawn together, a row asked with empties, one asked as
+// sets, or nothing that a run can do.
 pub enum Operation {
     Advance(u32, u32),
     Withdraw(u32),
     WithdrawAll(u32),
     Row(u32),
+    Sets(u32),
     Nothing,
 }
 
@@ -87,6 +88,18 @@ fn row_by(numbers: Numbers) -> Operation
     }
 }
 
+// A row asked as sets with the number behind its letter.
+fn sets_by(numbers: Numbers) -> Operation
+    ensures { λ r. ⌜ r ≡ setsBy numbers ⌝ }
+{
+    match numbers {
+        Numbers::Bare => Operation::Sets(0),
+        Numbers::One(empties) => Operation::Sets(empties),
+        Numbers::Two(_, _) => Operation::Nothing,
+        Numbers::Other => Operation::Nothing,
+    }
+}
+
 // A withdrawal of the position behind its letter.
 fn withdraw_by(numbers: Numbers) -> Operation
     ensures { λ r. ⌜ r ≡ withdrawBy numbers ⌝ }
@@ -111,7 +124,7 @@ fn withdraw_all_by(numbers: Numbers) -> Operation
     }
 }
 
-// The operation of a line: `a REPORTS EMPTIES`, `r EMPTIES`, `w POSITION`, `W SET`, or none.
+// The operation of a line: `a REPORTS EMPTIES`, `r EMPTIES`, `s EMPTIES`, `w POSITION`, `W SET`, or none.
 pub fn asked(line: &[u8]) -> Operation
     ensures { λ r. ⌜ r ≡ operationOf (now (line .entry)) ⌝ }
 {
@@ -131,6 +144,9 @@ pub fn asked(line: &[u8]) -> Operation
     }
     if line[0] == b'W' {
         return withdraw_all_by(numbers);
+    }
+    if line[0] == b's' {
+        return sets_by(numbers);
     }
     Operation::Nothing
 }

@@ -2,21 +2,26 @@
 ghost use mathlib.Core.Path.{_≡_};
 ghost use mathlib.Core.Bool.{false};
 ghost use mathlib.Core.List.{[], _∷_};
-ghost use Prim.Native.Nat.{_≤_};
+ghost use Prim.Native.Nat.{_+_, _≤_};
 ghost use lib.ListN.{length, take};
-ghost use Rattle.text.specs.Output.{letters, lineOf};
-ghost use Rattle.session.specs.Operation.{plain, answerLine, shownLine, said, runAfter, isLast};
+ghost use Rattle.text.specs.Decimal.{decimal};
+ghost use Rattle.text.specs.Output.{fields, letters, lineOf, space};
+ghost use Rattle.text.specs.Written.{Put};
+ghost use Rattle.session.specs.Operation.{plain, answerLine, shownLine, setsLine, said, runAfter, isLast};
 ghost use Rattle.session.specs.Session.{Said};
+use crate::REPLY;
 use crate::operations::Operation;
+use model::MOST_TASKS;
 use model::ROW;
 use run::Advanced;
 use run::Answer;
 use run::Row;
 use run::Run;
+use run::Sets;
+use text::decimal;
 use text::first;
 use text::row;
 use text::row::CELLS;
-use text::row::LINE;
 
 // What was said, and the run after it; whether that was the last.
 pub struct Reply {
@@ -26,14 +31,14 @@ pub struct Reply {
 }
 
 // Writes a refusal with number and position; the answer is where it ends.
-pub(crate) fn say_refused(number: u32, position: u32, out: &mut [u8; LINE]) -> usize
+pub(crate) fn say_refused(number: u32, position: u32, out: &mut [u8; REPLY]) -> usize
     ensures { λ r. ⌜ Said (lineOf (letters "refused") (number ∷ position ∷ [])) (now (out .entry)) (now (out .exit)) r ⌝ }
 {
     first::put_pair(out, b"refused", number, position)
 }
 
 // Writes a word and a newline; the answer is where they end.
-pub(crate) fn say_word(word: &[u8], out: &mut [u8; LINE]) -> usize
+pub(crate) fn say_word(word: &[u8], out: &mut [u8; REPLY]) -> usize
     requires { ⌜ length (now word) ≤ 16 ⌝ }
     ensures { λ r. ⌜ Said (plain (now (word .entry))) (now (out .entry)) (now (out .exit)) r ⌝ }
 {
@@ -43,7 +48,7 @@ pub(crate) fn say_word(word: &[u8], out: &mut [u8; LINE]) -> usize
 }
 
 // Writes an answer: the word where it is taken.
-pub(crate) fn say_answer(word: &[u8], answer: Answer, out: &mut [u8; LINE]) -> usize
+pub(crate) fn say_answer(word: &[u8], answer: Answer, out: &mut [u8; REPLY]) -> usize
     requires { ⌜ length (now word) ≤ 16 ⌝ }
     ensures { λ r. ⌜ Said (answerLine (now (word .entry)) answer) (now (out .entry)) (now (out .exit)) r ⌝ }
 {
@@ -54,7 +59,7 @@ pub(crate) fn say_answer(word: &[u8], answer: Answer, out: &mut [u8; LINE]) -> u
 }
 
 // Writes the answer to a move of the run, and hands on the run that it leaves.
-fn say_moved(advanced: Advanced, out: &mut [u8; LINE]) -> Reply
+fn say_moved(advanced: Advanced, out: &mut [u8; REPLY]) -> Reply
     ensures { λ r. ⌜ Said (answerLine (letters "taken") (advanced .answer)) (now (out .entry)) (now (out .exit)) (r .length) × (r .run ≡ advanced .run) × (r .last ≡ false) ⌝ }
 {
     let answer = advanced.answer;
@@ -68,7 +73,7 @@ fn say_moved(advanced: Advanced, out: &mut [u8; LINE]) -> Reply
 }
 
 // Writes the bytes of the first cores of a row.
-fn say_cores(cores: u32, bytes: [u8; ROW], out: &mut [u8; LINE]) -> usize
+fn say_cores(cores: u32, bytes: [u8; ROW], out: &mut [u8; REPLY]) -> usize
     ensures { λ r. ⌜ Said (lineOf (letters "row") (take cores bytes)) (now (out .entry)) (now (out .exit)) r ⌝ }
 {
     let mut text = [0u8; CELLS];
@@ -79,7 +84,7 @@ fn say_cores(cores: u32, bytes: [u8; ROW], out: &mut [u8; LINE]) -> usize
 }
 
 // Writes a row, or its refusal.
-fn say_row(cores: u32, row: Row, out: &mut [u8; LINE]) -> usize
+fn say_row(cores: u32, row: Row, out: &mut [u8; REPLY]) -> usize
     ensures { λ r. ⌜ Said (shownLine cores (row .answer) (row .bytes)) (now (out .entry)) (now (out .exit)) r ⌝ }
 {
     let answer = row.answer;
@@ -90,8 +95,53 @@ fn say_row(cores: u32, row: Row, out: &mut [u8; LINE]) -> usize
     }
 }
 
+// Writes a space and a set; the answer is where they end.
+fn put_set(line: &mut [u8], at: usize, set: u64) -> usize
+    requires { ⌜ at + 21 ≤ length (now line) ⌝ }
+    ensures { λ r. ⌜ (Put (now (line .entry)) at (space ∷ decimal set) (now (line .exit)) r) × (r ≤ at + 21) ⌝ }
+{
+    line[at] = b' ';
+    decimal::put(line, at + 1, set)
+}
+
+// Writes 32 sets, a space before each; the answer is where they end.
+fn put_sets(line: &mut [u8], from: usize, sets: [u64; MOST_TASKS]) -> usize
+    requires { ⌜ from + 672 ≤ length (now line) ⌝ }
+    ensures { λ r. ⌜ (Put (now (line .entry)) from (fields sets) (now (line .exit)) r) × (r ≤ from + 672) ⌝ }
+{
+    let mut at = from;
+    let mut i: usize = 0;
+    while i < MOST_TASKS {
+        at = put_set(line, at, sets[i]);
+        i += 1;
+    }
+    at
+}
+
+// Writes the sets of all positions.
+fn say_each(sets: [u64; MOST_TASKS], out: &mut [u8; REPLY]) -> usize
+    ensures { λ r. ⌜ Said (lineOf (letters "sets") sets) (now (out .entry)) (now (out .exit)) r ⌝ }
+{
+    let start = row::copy(b"sets", 0, 4, out, 0);
+    let end = put_sets(out, start, sets);
+    out[end] = b'\n';
+    end + 1
+}
+
+// Writes a row as sets, or its refusal.
+fn say_sets(shown: Sets, out: &mut [u8; REPLY]) -> usize
+    ensures { λ r. ⌜ Said (setsLine (shown .answer) (shown .sets)) (now (out .entry)) (now (out .exit)) r ⌝ }
+{
+    let answer = shown.answer;
+    let sets = shown.sets;
+    match answer {
+        Answer::Taken => say_each(sets, out),
+        Answer::Refused(number, position) => say_refused(number, position, out),
+    }
+}
+
 // Does an operation, and writes what is said to it.
-pub(crate) fn answer(run: Run, operation: Operation, out: &mut [u8; LINE]) -> Reply
+pub(crate) fn answer(run: Run, operation: Operation, out: &mut [u8; REPLY]) -> Reply
     ensures { λ r. ⌜ Said (said operation run) (now (out .entry)) (now (out .exit)) (r .length) × (r .run ≡ runAfter operation run) × (r .last ≡ isLast operation) ⌝ }
 {
     match operation {
@@ -101,6 +151,15 @@ pub(crate) fn answer(run: Run, operation: Operation, out: &mut [u8; LINE]) -> Re
         Operation::Row(empties) => {
             let row = run.row(empties);
             let length = say_row(run.cores, row, out);
+            Reply {
+                run: run,
+                length: length,
+                last: false,
+            }
+        }
+        Operation::Sets(empties) => {
+            let shown = run.sets(empties);
+            let length = say_sets(shown, out);
             Reply {
                 run: run,
                 length: length,

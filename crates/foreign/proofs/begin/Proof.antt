@@ -14,6 +14,7 @@ use Rattle.table.specs.declared.Answer.the-variants.{Passed, Refused}
 use Rattle.table.specs.declared.Loaded.{Loaded}
 use Rattle.run.specs.Start.{startedRun}
 use Rattle.run.specs.declared.Run.{Run}
+use Rattle.run.specs.declared.Started.{Started}
 use Rattle.foreign.specs.Begin.{firstState}
 use Rattle.foreign.specs.State.{arrived, startIn}
 use Rattle.foreign.specs.declared.Begun.{Begun}
@@ -39,10 +40,8 @@ abbrev turned : ℕ → ℕ → Supplied → Begun
 turned n p w = record { answer = Refused n p; plan = w }
 
 -- its run is that of the table as it starts
-begun : (c : tie.After-started) → (let ws = c .before .before .before .before .before .before .args .words .now in c .started .result ≡ startedRun (rule ws) (tableOf ws))
-begun c =
-    let l = c .before .before .before .before in
-    c .started .ensures ∙ loaded-run (l .before .before .args .words .now) (l .load .result) (held l (c .before .before .enum-told .given .1))
+begun : (c : tie.After-begun) → (let ws = c .before .before .before .before .before .args .words .now in c .begun .result .run ≡ startedRun (rule ws) (tableOf ws))
+begun c = ap (λ (s : Started). s .run) (c .begun .ensures)
 
 load-requires : tie.Need-load-requires
 load-requires c κs = search needs
@@ -50,18 +49,19 @@ load-requires c κs = search needs
 enum-told : tie.Need-enum-told
 enum-told c = search needs
 
-started-requires : tie.Need-started-requires
-started-requires c κs = held (c .before .before .before) (c .before .enum-told .given .1) .count-from .1
+begun-requires : tie.Need-begun-requires
+begun-requires c κs =
+    c .before .before .load .ensures .passed .0 (ap loadTold (c .enum-told .given .1))
 
 blank-requires : tie.Need-blank-requires
 blank-requires c κs = search needs
 
 arrived-requires : tie.Need-arrived-requires
 arrived-requires c κs =
-    let t = c .before in
-    let l = t .before .before .before .before in
+    let t = c .before .before in
+    let l = t .before .before .before in
     let ws = l .before .before .args .words .now in
-    let h = held l (t .before .before .enum-told .given .1) in (
+    let h = held l (t .before .enum-told .given .1) in (
       subst⁻¹ (λ (r : Run). r .count ≤ mostTasks) (begun t) (loaded-few ws (l .load .result) h),
       loaded-start ws (l .load .result) h ∙ sym (ap startIn (begun t)),
     )
@@ -75,14 +75,14 @@ empty-requires c κs = search needs
 returns : tie.Need-returns
 returns c =
     let b = c .before in
-    let t = b .before in
-    let l = t .before .before .before .before in
+    let t = b .before .before in
+    let l = t .before .before .before in
     let ws = l .before .before .args .words .now in
     let first : c .arrived .result ≡ firstState ws =
     c .arrived .ensures
     ∙ (ap (λ (r : Run). arrived r 0 (b .blank .result)) (begun t)
     ∙ ap (λ (ns : List Note). arrived (startedRun (rule ws) (tableOf ws)) 0 ns) (b .blank .ensures)) in
-    begin-of ws (passed (c .arrived .result)) (ap passed first ∙ sym (begin-passed ws (answered l Passed (t .before .before .enum-told .given .1))))
+    begin-of ws (passed (c .arrived .result)) (ap passed first ∙ sym (begin-passed ws (answered l Passed (t .before .enum-told .given .1))))
 
 returns-2 : tie.Need-returns-2
 returns-2 c =
@@ -97,7 +97,7 @@ begin-spec =
     (tie.spec
     load-requires
     enum-told
-    started-requires
+    begun-requires
     blank-requires
     arrived-requires
     enum-known-answer

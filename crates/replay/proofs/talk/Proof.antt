@@ -6,13 +6,13 @@ use mathlib.Core.Path.{_≡_, refl, sym, ap}
 use Prim.Native.Nat.{_+_, _-_, _≤_, _<_}
 use lib.ListN.{length, take, drop, length-drop, length-take}
 use lib.Seq.{length-take-le}
-use Rattle.text.specs.Output.{longestLine}
+use Rattle.session.specs.Operation.{longestReply}
 use Rattle.replay.proofs.Turning.{SoFar, so-far-none, talk-on, talk-stopped, talk-moves, turn-whole}
 use Rattle.replay.proofs.talk.Statement.{statement}
 use Rattle.replay.proofs.talk.Tie as tie
 
 abbrev Inv-loop : tie.InvT-loop
-Inv-loop chunk session₀ sent₀ out₀ at₀ session sent out at = SoFar session₀ chunk (drop at chunk) session sent × (at ≤ length chunk) × (length out ≡ longestLine)
+Inv-loop chunk session₀ sent₀ out₀ at₀ session sent out at = SoFar session₀ chunk (drop at chunk) session sent × (at ≤ length chunk) × (length out ≡ longestReply)
 
 abbrev μ-loop : tie.MeasureT-loop
 μ-loop chunk session₀ sent₀ out₀ at₀ session sent out at = length chunk - at

@@ -12,6 +12,8 @@ use Rattle.model.specs.Search.{bit}
 use Rattle.model.proofs.Digits.{or-bit}
 use Rattle.model.specs.Sizes.{mostTasks}
 use Rattle.run.specs.declared.Run.{Run}
+use Rattle.run.specs.declared.Advanced.{Advanced}
+use Rattle.run.specs.declared.Answer.the-variants.{Taken}
 use Rattle.phase.specs.Task.{pastEnd}
 use Rattle.run.specs.Run.{mapFirst, nextAt, moved}
 use Rattle.run.proofs.Places.{mapFirst-past, mapFirst-step}
@@ -29,6 +31,10 @@ movedTo reported e r n = record {
   count = r .count;
   tasks = mapFirst (nextAt r reported e) n (r .tasks);
 }
+
+-- an advance that gives a run
+abbrev taken : Run → Advanced
+taken r = record { answer = Taken; run = r }
 
 abbrev Inv-loop : tie.InvT-loop
 Inv-loop given lent reports empties run₀ rule count emptied i₀ run i = (i ≤ count) × ((count ≤ mostTasks) × (run ≡ movedTo (bit reports) empties run₀ i))
@@ -113,7 +119,7 @@ returns c =
     let s = c .before in
     let a = entry s .args in
     let e : s .loop .i ≡ a .self .count = omega arith in
-    s .loop .inv .1 .1 ∙ ap (movedTo (bit (a .reports)) (a .empties) (a .self)) e
+    ap taken (s .loop .inv .1 .1 ∙ ap (movedTo (bit (a .reports)) (a .empties) (a .self)) e)
 
 pub moved-spec : {M : Type 1} → statement M
 moved-spec =

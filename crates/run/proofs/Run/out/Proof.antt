@@ -42,14 +42,14 @@ head-out-requires : tie.Need-head-out-requires Inv-loop μ-loop
 head-out-requires c κs = search needs
 
 returns : tie.Need-returns Inv-loop μ-loop
-returns c = sym (out-by-head (c .before .before .args .self) (sym (c .before .head-out .ensures) ∙ c .if1 .taken))
+returns c = sym (out-by-head (c .before .before .args .t1) (sym (c .before .head-out .ensures) ∙ c .if1 .taken))
 
 open-count-requires : tie.Need-open-count-requires Inv-loop μ-loop
 open-count-requires c κs = search needs
 
 loop-holds : tie.Need-loop-holds Inv-loop μ-loop
 loop-holds c =
-    let r = entry c .args .self in
+    let r = entry c .args .t1 in
     let e = sym (c .before .before .head-out .ensures) ∙ c .before .if1 .left in
     (search needs, (head-few r e, (c .open-count .ensures ∙ head-wide r e, λ (k : ℕ) h. absurd (omega arith))))
 
@@ -65,7 +65,7 @@ out-requires c κs = search needs
 returns-2 : tie.Need-returns-2 Inv-loop μ-loop
 returns-2 c =
     let s = loop (c .before) in
-    let r = head-out s .before .args .self in
+    let r = head-out s .before .args .t1 in
     let place : placeOut r (s .loop .i) ≡ true = by-wide r (s .loop .i) _ (s .loop .inv .1 .1 .0) ∙ (sym (c .before .out .ensures) ∙ c .if2 .taken) in
     sym (out-by-place r (sym (head-out s .head-out .ensures) ∙ s .before .before .if1 .left) ∙ any-of (r .count) (placeOut r) (s .loop .i) (omega arith) place)
 
@@ -78,13 +78,13 @@ loop-less c = omega arith
 loop-again : tie.Need-loop-again Inv-loop μ-loop
 loop-again c =
     let s = loop (c .before) in
-    let r = head-out s .before .args .self in
+    let r = head-out s .before .args .t1 in
     (omega arith, (omega arith, (s .loop .inv .1 .1 .0, below-more _ _ (s .loop .inv .1 .1 .1) (by-wide r (s .loop .i) _ (s .loop .inv .1 .1 .0) ∙ (sym (c .before .out .ensures) ∙ c .if2 .left)))))
 
 returns-3 : tie.Need-returns-3 Inv-loop μ-loop
 returns-3 c =
     let s = c .before in
-    let r = head-out s .before .args .self in
+    let r = head-out s .before .args .t1 in
     let e : s .loop .i ≡ r .count = omega arith in
     sym (out-by-place r (sym (head-out s .head-out .ensures) ∙ s .before .before .if1 .left) ∙ none-any (r .count) (placeOut r) (rw e at (s .loop .inv .1 .1 .1)))
 

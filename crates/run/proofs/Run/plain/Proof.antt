@@ -62,14 +62,14 @@ loop-again c =
       omega arith,
       (
         simp length-set (v .1 .0),
-        told-more (s .loop .tasks) (taskAt (entry s .args .self)) (s .loop .i) (c .plain2 .result) (omega arith) (c .plain2 .ensures) (v .1 .1),
+        told-more (s .loop .tasks) (taskAt (entry s .args .t1)) (s .loop .i) (c .plain2 .result) (omega arith) (c .plain2 .ensures) (v .1 .1),
       ),
     )
 
 returns : tie.Need-returns Inv-loop μ-loop
 returns c =
     let s = c .before in
-    let r = entry s .args .self in
+    let r = entry s .args .t1 in
     let v = s .loop .inv in
     let e : s .loop .i ≡ r .count = omega arith in
     let len : length (r .tasks) ≡ mostTasks = simp length-map at (entry s .good .0 .1 .1 .1 .1 .1 .1 .1 .0 .1 .0 .1) in

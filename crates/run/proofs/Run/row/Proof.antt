@@ -1,158 +1,94 @@
--- `run::Run::row` meets its contract: each way out is a case of the row's definition, in its order (`Cases`); 20 is one test of sets (`may-begin`).
+-- `run::Run::row` meets its contract: the answer is the tick's, a row can show its sets (`run-showable`), and their bytes are the row's.
 -- Assumes nothing.
-use mathlib.Core.Path.{_≡_, sym, ap, _∙_}
-use mathlib.Core.Bool.{false, not}
-use mathlib.Core.List.{List}
-use Prim.Native.Nat.{ℕ, _+_, _≤_}
-use native.Mathlib.Numerals.{add-one}
-use native.Mathlib.Omega.{arith}
-use lib.Bits.{bitAnd}
-use lib.Dec.{eqb}
+use mathlib.Core.Path.{_≡_, sym, ap, subst, _∙_}
+use mathlib.Core.List.{List, _++_, map}
+use Prim.Native.Nat.{ℕ, _-_}
+use lib.ListN.{length, replicate, take, length-map}
 use borrow.Author.Needs.{needs}
-use borrow.Author.Tests.{eq-eqb, ne-eqb}
-use Rattle.model.specs.Sizes.{mostTasks}
-use Rattle.run.specs.declared.Answer.the-variants.{Taken, Refused}
+use Rattle.model.specs.Row.{row}
+use Rattle.model.specs.Sizes.{mostCores, mostTasks}
+use Rattle.model.proofs.Rows.{row-length}
+use Rattle.cores.specs.Cores.{cores}
+use Rattle.rule.specs.Lent.{Showable}
+use Rattle.run.specs.declared.Answer.the-variants.{Taken}
 use Rattle.run.specs.declared.Row.{Row}
-use Rattle.run.specs.Numbers.{runOut, firstLateIn, misemptiedIn}
-use Rattle.run.specs.Row.{noBytes}
+use Rattle.run.specs.Row.{bytesIn, rowAnswer}
+use Rattle.run.specs.Run.{shownIn}
+use Rattle.run.proofs.Cases.{row-passes, row-refused, row-shown, sets-answer, sets-by}
 use Rattle.run.proofs.Exact.{row-of}
 use Rattle.run.proofs.RunOut.{few, few-cores}
-use Rattle.run.proofs.Cases.{row-out, row-late, row-empty, row-shown}
-use Rattle.run.proofs.Chosen.{may-begin}
-use Rattle.run.proofs.Shown.{bytes-shown}
+use Rattle.run.proofs.RunSets.{front-in, run-showable}
 use Rattle.run.proofs.Run.row.Statement.{statement}
 use Rattle.run.proofs.Run.row.Tie as tie
 
--- the state at the call
-abbrev entry : tie.After-first-late → tie.Start
-entry c = c .before .before .before
-
--- the state after the late place is found, where one is and where none is
-abbrev found : tie.Then2 → tie.After-first-late
-found c = c .before .before
-
-abbrev none-found : tie.Else2 → tie.After-first-late
-none-found c = c .before .before
-
--- the state after the claims are gathered, where the empties may be and where they may not
-abbrev gathered : tie.Then3 → tie.After-claims
-gathered c = c .before .before
-
-abbrev gathered-else : tie.Else3 → tie.After-claims
-gathered-else c = c .before .before
-
--- the state in which the row is shown
-abbrev showing : tie.After-widths2 → tie.Then3
-showing c = c .before .before
-
--- past the first test the run passes 14
-passes : (c : tie.Else1) → runOut (c .before .before .args .self) ≡ false
-passes c = sym (c .before .out .ensures) ∙ c .if1 .left
-
--- past the second nobody is late
-in-time : (c : tie.Else2) → (let r = entry (none-found c) .args .self in r .count ≤ firstLateIn r)
-in-time c = rw (none-found c .first-late .ensures) at (c .if2 .left)
-
--- 20 is looked at by one test of sets
-abbrev Begun : tie.After-claims → Type 0
-Begun c =
-    let s = entry (none-found (c .before)) in
-    misemptiedIn (s .args .self) (s .args .empties) ≡ not (eqb (bitAnd (s .args .empties) (c .claims .result .released)) (s .args .empties))
-
-begun : (c : tie.After-claims) → Begun c
-begun c =
-    let s = entry (none-found (c .before)) in
-    may-begin (s .args .self) (s .args .empties) (c .claims .result) (c .claims .ensures) mostTasks (s .fits .empties .fits)
-
--- a late place as a position
-abbrev late : ℕ → Row
-late n = record { answer = Refused 15 n; bytes = noBytes }
+-- the state after the tick is looked at, where its answer is taken
+abbrev looked : tie.After-enum-told → tie.After-tick
+looked c = c .before .before
 
 -- a row that is shown
 abbrev shown : List ℕ → Row
 shown bytes = record { answer = Taken; bytes = bytes }
 
-out-requires : tie.Need-out-requires
-out-requires c κs = search needs
+-- the answer is the row's
+answered : (c : tie.After-tick) → (let a = c .before .args in c .tick .result .answer ≡ rowAnswer (a .self) (a .empties))
+answered c = let a = c .before .args in c .tick .ensures .answered ∙ sets-answer (a .self) (a .empties)
+
+taken : (c : tie.After-enum-told) → (let a = looked c .before .args in rowAnswer (a .self) (a .empties) ≡ Taken)
+taken c = sym (answered (looked c)) ∙ c .enum-told .given .1
+
+-- the cores of the first sets are those that the tick shows
+listed : (c : tie.After-enum-told)
+    → (let t = looked c in let a = t .before .args in map cores (take (a .self .count) (t .tick .result .sets)) ≡ shownIn (a .self) (a .empties))
+listed c =
+    let t = looked c in
+    let a = t .before .args in
+    let r = a .self in
+    let q = taken c in
+    let len : length (r .tasks) ≡ mostTasks = simp length-map at (t .before .good .0 .1 .1 .1 .1 .1 .1 .1 .0 .1 .0 .1) in
+    ap (λ (sets : List ℕ). map cores (take (r .count) sets)) (t .tick .ensures .shows ∙ sets-by r (a .empties) q)
+    ∙ front-in r (a .empties) (few-cores r (row-passes r (a .empties) q)) len (few r (row-passes r (a .empties) q))
+
+tick-requires : tie.Need-tick-requires
+tick-requires c κs = search needs
+
+enum-known-answer : tie.Need-enum-known-answer
+enum-known-answer c = search needs
 
 row-refused-requires : tie.Need-row-refused-requires
 row-refused-requires c κs = search needs
 
 returns : tie.Need-returns
 returns c =
-    let s = c .before .before in
-    let a = s .before .args in
+    let o = c .before .before in
+    let t = o .before .before in
+    let a = t .before .args in
     row-of (a .self) (a .empties) (c .row-refused .result)
-    (c .row-refused .ensures ∙ sym (row-out (a .self) (a .empties) (sym (s .out .ensures) ∙ c .before .if1 .taken)))
+    (c .row-refused .ensures ∙ sym (row-refused (a .self) (a .empties) _ _ (sym (answered t) ∙ o .answer .given .1)))
 
-first-late-requires : tie.Need-first-late-requires
-first-late-requires c κs = few (c .before .before .args .self) (passes c)
+enum-told : tie.Need-enum-told
+enum-told c = search needs
 
-cast-row-refused : tie.Need-cast-row-refused
-cast-row-refused c = omega (arith, few (entry (found c) .args .self) (passes (found c .before)))
-
-add-row-refused : tie.Need-add-row-refused
-add-row-refused c = omega (arith, few (entry (found c) .args .self) (passes (found c .before)))
-
-row-refused-requires-2 : tie.Need-row-refused-requires-2
-row-refused-requires-2 c κs = search needs
+row-in-requires : tie.Need-row-in-requires
+row-in-requires c κs =
+    let e = c .before .before in
+    let a = looked e .before .args in
+    let r = a .self in
+    let q = row-passes r (a .empties) (taken e) in
+    ((few-cores r q, few r q), subst (Showable (r .fence) (r .cores)) (sym (listed e)) (run-showable r (a .empties)))
 
 returns-2 : tie.Need-returns-2
+unfolding bytesIn
 returns-2 c =
-    let f = found (c .before) in
-    let a = entry f .args in
+    let e = c .before .before .before in
+    let a = looked e .before .args in
     let r = a .self in
-    let e : f .first-late .result ≡ firstLateIn r = f .first-late .ensures in
-    row-of r (a .empties) (c .row-refused2 .result)
-    (c .row-refused2 .ensures ∙ ap late (ap (λ (n : ℕ). n + 1) e ∙ add-one (firstLateIn r))
-    ∙ sym (row-late r (a .empties) (passes (f .before)) (rw e at (c .before .if2 .taken))))
-
-claims-requires : tie.Need-claims-requires
-claims-requires c κs = few (entry (none-found c) .args .self) (passes (none-found c .before))
-
-bytes-requires : tie.Need-bytes-requires
-bytes-requires c κs =
-    let f = none-found (gathered (showing c) .before) in
-    let r = entry f .args .self in
-    (few-cores r (passes (f .before)), few r (passes (f .before)))
-
-returns-3 : tie.Need-returns-3
-returns-3 c =
-    let t = showing (c .before) in
-    let g = gathered t in
-    let f = none-found (g .before) in
-    let a = entry f .args in
-    let m : misemptiedIn (a .self) (a .empties) ≡ false = begun g ∙ ap not (eq-eqb _ _ (t .if3 .taken)) in
-    row-of (a .self) (a .empties) (shown (c .bytes .result))
-    (ap shown (c .bytes .ensures ∙ bytes-shown (a .self) (a .empties) (g .claims .result) (g .claims .ensures))
-    ∙ sym (row-shown (a .self) (a .empties) (passes (f .before)) (in-time (g .before)) m))
-
-row-refused-requires-3 : tie.Need-row-refused-requires-3
-row-refused-requires-3 c κs = search needs
-
-returns-4 : tie.Need-returns-4
-returns-4 c =
-    let g = gathered-else (c .before) in
-    let f = none-found (g .before) in
-    let a = entry f .args in
-    let m = begun g ∙ ap not (ne-eqb _ _ (c .before .if3 .left)) in
-    row-of (a .self) (a .empties) (c .row-refused3 .result)
-    (c .row-refused3 .ensures ∙ sym (row-empty (a .self) (a .empties) (passes (f .before)) (in-time (g .before)) m))
+    let bytes = row (r .fence) (r .cores) (shownIn r (a .empties)) in
+    row-of r (a .empties) (shown (c .row-in .result))
+    (ap shown
+    (c .row-in .ensures
+    ∙ (ap (λ (gs : List (List ℕ)). row (r .fence) (r .cores) gs ++ replicate (mostCores - r .cores) 0) (listed e)
+    ∙ ap (λ (n : ℕ). bytes ++ replicate (mostCores - n) 0) (sym (row-length (r .fence) (r .cores) (shownIn r (a .empties))))))
+    ∙ sym (row-shown r (a .empties) (taken e)))
 
 pub row-spec : {M : Type 1} → statement M
-row-spec =
-    tie.close
-    (tie.spec
-    out-requires
-    row-refused-requires
-    returns
-    first-late-requires
-    cast-row-refused
-    add-row-refused
-    row-refused-requires-2
-    returns-2
-    claims-requires
-    bytes-requires
-    returns-3
-    row-refused-requires-3
-    returns-4)
+row-spec = tie.close (tie.spec tick-requires enum-known-answer row-refused-requires returns enum-told row-in-requires returns-2)

@@ -1,65 +1,93 @@
--- `run::shares::chosen` meets its contract: under rule 4 who has a core in its set, reserved or borrowed; else the choosing over the places that claim,
--- and nothing is lent.
+-- `run::shares::chosen` meets its contract: who has a core in its set is given some; under rule 4 what is lent of that is borrowed and shown
+-- (`shared-lent`), else nothing is lent (`shared-own`).
 -- Assumes nothing.
-use mathlib.Core.Path.{_≡_, sym, ap, subst, _∙_}
-use mathlib.Core.Bool.{false}
+use mathlib.Core.Path.{_≡_, ap, _∙_}
+use mathlib.Core.Bool.{true, false}
 use mathlib.Core.List.{List}
 use Prim.Native.Nat.{ℕ, _≤_}
-use lib.ListN.{take}
-use borrow.Author.Needs.{needs}
+use lib.ListN.{length, take}
+use mir.Syntax.{w64}
+use mir.Val.{Val}
+use denote.Array.{Array}
+use denote.Laws.{Is}
+use denote.Plain.{UInt}
+use borrow.Author.Needs.{elem-fits, needs}
 use borrow.Author.Tests.{ne-eqb}
-use Rattle.model.specs.Grants.{some}
 use Rattle.model.specs.Lending.{lends}
-use Rattle.model.specs.Search.{bit}
 use Rattle.model.specs.Task.{ruleOf}
-use Rattle.model.proofs.Digits.{bit-none}
-use Rattle.cores.specs.Cores.{cores}
 use Rattle.phase.proofs.Rules.{lends-rule}
 use Rattle.rule.specs.Widths.{widthsIn}
 use Rattle.rule.proofs.Widths.{front-length}
-use Rattle.run.specs.declared.shares.Shares.{Shares}
-use Rattle.run.specs.Loans.{SharesOf}
-use Rattle.run.proofs.Loans.{granted-front, nothing-lent, who-borrows}
+use Rattle.run.proofs.Loans.{Machine, one-or-other, shared-lent, shared-own}
 use Rattle.run.proofs.shares.chosen.Statement.{statement}
 use Rattle.run.proofs.shares.chosen.Tie as tie
 
-lent-out-requires : tie.Need-lent-out-requires
-lent-out-requires c κs = c .before .pre .0
+-- the state at the call
+abbrev entry : tie.After-owners → tie.Start
+entry c = c .before .before .before
+
+-- the sets that are given
+abbrev granted : tie.After-owners → tie.After-grants
+granted c = c .before .before
+
+-- the widths of the places below the count, and that they are so many
+abbrev ws : tie.After-owners → List ℕ
+ws c = let a = entry c .args in take (a .count) (widthsIn (a .even) (a .widths .now))
+
+size : (c : tie.After-owners) → length (ws c) ≡ entry c .args .count
+size c = let a = entry c .args in front-length (a .even) (a .widths .now) (a .count) (entry c .pre)
+
+-- the rule lends
+lending : (c : tie.Then1) → lends (ruleOf (entry (c .before) .args .rule)) ≡ true
+lending c = ap (λ (n : ℕ). lends (ruleOf n)) (c .if1 .taken)
+
+-- the state after the cores are lent
+abbrev lent-in : tie.After-borrowed2 → tie.After-lend
+lent-in c = c .before .before .before .before
+
+-- an array of 32 sets is one of machine numbers
+machine : (sets : List ℕ) (vs : List Val) → Is (Array (UInt w64) 32) sets vs → Machine sets
+machine sets vs p = (p .1 .0 .1, λ q. elem-fits w64 w64 sets (p .0) q (p .1 .1) tt .fits)
+
+grants-requires : tie.Need-grants-requires
+grants-requires c κs = search needs
 
 owners-requires : tie.Need-owners-requires
 owners-requires c κs = search needs
 
+lend-requires : tie.Need-lend-requires
+lend-requires c κs = entry (c .before .before) .pre
+
+owners-requires-2 : tie.Need-owners-requires-2
+owners-requires-2 c κs = search needs
+
+shown-requires : tie.Need-shown-requires
+shown-requires c κs =
+    let l = lent-in c in
+    let o = l .before .before .before in
+    let a = entry o .args in (
+      entry o .pre,
+      one-or-other (ruleOf (a .rule)) (ws o) (a .claiming) (a .working) (a .free) (a .count) (size o) (entry o .pre) (granted o .grants .result)
+          (granted o .grants .ensures) (o .owners .result) (o .owners .ensures) (lending (l .before .before)) (l .lend .result) (l .lend .ensures),
+    )
+
 returns : tie.Need-returns
 returns c =
-    let o = c .before .before .before in
-    let s = o .before .before in
-    let a = s .args in
-    let few : a .count ≤ 32 = s .pre .0 in
-    let ws : List ℕ = take (a .count) (widthsIn (a .even) (a .widths .now)) in
-    let both : Shares = record { given = o .lent-out .result .given; lent = c .owners .result } in
-    subst (λ (n : ℕ). SharesOf (ruleOf n) ws (a .claiming) (a .working) (cores (a .free)) (a .count) both) (sym (o .before .if1 .taken))
-    (record {
-      given = o .lent-out .ensures .owners;
-      lent = who-borrows ws (a .claiming) (a .working) (a .free) (a .count) (front-length (a .even) (a .widths .now) (a .count) few) few
-          (o .lent-out .result) (o .lent-out .ensures) (c .owners .result) (c .owners .ensures);
-    })
-
-choose-requires : tie.Need-choose-requires
-choose-requires c κs = search needs
+    let l = lent-in (c .before) in
+    let o = l .before .before .before in
+    let a = entry o .args in
+    let w = c .before .before .before in
+    shared-lent (ruleOf (a .rule)) (ws o) (a .claiming) (a .working) (a .free) (a .count) (size o) (entry o .pre) (granted o .grants .result)
+    (granted o .grants .ensures) (o .owners .result) (o .owners .ensures) (lending (l .before .before)) (l .lend .result) (l .lend .ensures)
+    (w .owners2 .result) (w .owners2 .ensures) (c .shown .result) (c .shown .ensures) (machine (c .shown .result) _ (c .shown .ok))
 
 returns-2 : tie.Need-returns-2
 returns-2 c =
-    let s = c .before .before in
-    let a = s .args in
-    let ws : List ℕ = take (a .count) (widthsIn (a .even) (a .widths .now)) in
-    let none : lends (ruleOf (a .rule)) ≡ false = lends-rule (a .rule) ∙ ne-eqb (a .rule) 4 (c .before .if1 .left) in
-    record {
-      given = λ p.
-          c .choose .ensures p
-          ∙ granted-front (ruleOf (a .rule)) (a .count) (widthsIn (a .even) (a .widths .now)) (bit (a .claiming)) (cores (a .free)) p (s .pre .1);
-      lent = λ p.
-          bit-none p ∙ sym (ap some (nothing-lent (ruleOf (a .rule)) none ws (a .claiming) (a .working) (cores (a .free)) (a .count) p));
-    }
+    let o = c .before in
+    let a = entry o .args in
+    let none : lends (ruleOf (a .rule)) ≡ false = lends-rule (a .rule) ∙ ne-eqb (a .rule) 4 (c .if1 .left) in
+    shared-own (ruleOf (a .rule)) (ws o) (a .claiming) (a .working) (a .free) (a .count) (size o) (entry o .pre) (granted o .grants .result)
+    (granted o .grants .ensures) (o .owners .result) (o .owners .ensures) (machine (granted o .grants .result) _ (granted o .grants .ok)) none
 
 pub chosen-spec : {M : Type 1} → statement M
-chosen-spec = tie.close (tie.spec lent-out-requires owners-requires returns choose-requires returns-2)
+chosen-spec = tie.close (tie.spec grants-requires owners-requires lend-requires owners-requires-2 shown-requires returns returns-2)

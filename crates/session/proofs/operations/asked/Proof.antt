@@ -4,7 +4,7 @@ use borrow.Author.Needs.{needs}
 use mathlib.Core.Path.{_≡_, _∙_, ap}
 use lib.ListN.{getD}
 use Rattle.session.specs.Operation.{operationBy, operationOf}
-use Rattle.session.proofs.Asking.{by-advance, by-row, by-withdraw, by-withdraw-all, by-none, asked-empty, asked-by}
+use Rattle.session.proofs.Asking.{by-advance, by-row, by-sets, by-withdraw, by-withdraw-all, by-none, asked-empty, asked-by}
 use Rattle.session.proofs.operations.asked.Statement.{statement}
 use Rattle.session.proofs.operations.asked.Tie as tie
 
@@ -28,6 +28,13 @@ else4-from-else5 c = c .before .before
 
 abbrev else4-from-withdraw-all-by : tie.After-withdraw-all-by → tie.Else4
 else4-from-withdraw-all-by c = c .before .before .before
+
+-- the state where the test `if5` fails
+abbrev else5-from-else6 : tie.Else6 → tie.Else5
+else5-from-else6 c = c .before .before
+
+abbrev else5-from-sets-by : tie.After-sets-by → tie.Else5
+else5-from-sets-by c = c .before .before .before
 
 -- the state after `behind`
 abbrev behind-from-advance-by : tie.After-advance-by → tie.After-behind
@@ -103,10 +110,22 @@ returns-5 : tie.Need-returns-5
 returns-5 c =
     c .withdraw-all-by .ensures ∙ by-withdraw-all _ _ (c .before .if5 .taken) ∙ by-first (behind-from-else4 (else4-from-withdraw-all-by c))
 
+shared-slice-read-if6 : tie.Need-shared-slice-read-if6
+shared-slice-read-if6 c = search needs
+
+sets-by-requires : tie.Need-sets-by-requires
+sets-by-requires c κs = search needs
+
 returns-6 : tie.Need-returns-6
 returns-6 c =
-    let e = else4-from-else5 c in
-    by-none _ _ (else2-from-else4 e .if2 .left) (e .before .before .if3 .left) (e .if4 .left) (c .if5 .left) ∙ by-first (behind-from-else4 e)
+    c .sets-by .ensures ∙ by-sets _ _ (c .before .if6 .taken) ∙ by-first (behind-from-else4 (else4-from-else5 (else5-from-sets-by c)))
+
+returns-7 : tie.Need-returns-7
+returns-7 c =
+    let f = else5-from-else6 c in
+    let e = else4-from-else5 f in
+    by-none _ _ (else2-from-else4 e .if2 .left) (e .before .before .if3 .left) (e .if4 .left) (f .if5 .left) (c .if6 .left)
+    ∙ by-first (behind-from-else4 e)
 
 pub asked-spec : {M : Type 1} → statement M
 asked-spec =
@@ -129,4 +148,7 @@ asked-spec =
     shared-slice-read-if5
     withdraw-all-by-requires
     returns-5
-    returns-6)
+    shared-slice-read-if6
+    sets-by-requires
+    returns-6
+    returns-7)

@@ -4,12 +4,13 @@ use borrow.Author.Needs.{needs}
 use mathlib.Core.Path.{ap, _∙_}
 use Rattle.run.specs.declared.Advanced.{Advanced}
 use Rattle.run.specs.declared.Row as rows
+use Rattle.run.specs.declared.Sets as sets
 use Rattle.text.specs.Output.{letters}
-use Rattle.session.specs.Operation.{answerLine, shownLine}
+use Rattle.session.specs.Operation.{answerLine, setsLine, shownLine}
 use Rattle.session.proofs.Saying.{said-of}
 use Rattle.session.proofs.Replying.{said-advance, run-advance, last-advance, said-withdraw, run-withdraw, last-withdraw}
 use Rattle.session.proofs.Replying.{said-withdraw-all, run-withdraw-all, last-withdraw-all}
-use Rattle.session.proofs.Replying.{said-row, run-row, last-row, said-none, run-none, last-none}
+use Rattle.session.proofs.Replying.{said-row, run-row, last-row, said-sets, run-sets, last-sets, said-none, run-none, last-none}
 use Rattle.session.proofs.replies.answer.Statement.{statement}
 use Rattle.session.proofs.replies.answer.Tie as tie
 
@@ -28,6 +29,10 @@ operation3 c = c .before .before .before .before
 -- the state after `operation4`
 abbrev operation4 : tie.After-say-row → tie.After-operation4
 operation4 c = c .before .before .before .before
+
+-- the state after `operation5`
+abbrev operation5 : tie.After-say-sets → tie.After-operation5
+operation5 c = c .before .before .before .before
 
 -- the state after `enum-told`
 abbrev enum-told-from-say-word : tie.After-say-word → tie.After-enum-told
@@ -68,6 +73,15 @@ row-requires c κs = search needs
 
 say-row-requires : tie.Need-say-row-requires
 say-row-requires c κs = search needs
+
+enum-known-operation-5 : tie.Need-enum-known-operation-5
+enum-known-operation-5 c = search needs
+
+sets-requires : tie.Need-sets-requires
+sets-requires c κs = search needs
+
+say-sets-requires : tie.Need-say-sets-requires
+say-sets-requires c κs = search needs
 
 enum-told : tie.Need-enum-told
 enum-told c = search needs
@@ -123,6 +137,16 @@ returns-4 c =
 
 returns-5 : tie.Need-returns-5
 returns-5 c =
+    let a = operation5 c .before .before .args in
+    let o = operation5 c .operation5 .given .1 in (
+      said-of (ap (λ (x : sets.Sets). setsLine (x .answer) (x .sets)) (c .before .before .sets .ensures .value) ∙ said-sets (a .operation) (a .run) _ o)
+          (c .say-sets .ensures),
+      run-sets (a .operation) (a .run) _ o,
+      last-sets (a .operation) _ o,
+    )
+
+returns-6 : tie.Need-returns-6
+returns-6 c =
     let a = enum-told-from-say-word c .before .before .args in
     let o = enum-told-from-say-word c .enum-told .given .1 in (
       said-of (said-none (a .operation) (a .run) o) (c .say-word .ensures),
@@ -146,6 +170,9 @@ answer-spec =
     enum-known-operation-4
     row-requires
     say-row-requires
+    enum-known-operation-5
+    sets-requires
+    say-sets-requires
     enum-told
     slice-aggregate-say-word
     say-word-requires
@@ -153,4 +180,5 @@ answer-spec =
     returns-2
     returns-3
     returns-4
-    returns-5)
+    returns-5
+    returns-6)

@@ -14,7 +14,8 @@ use lib.Dec.{leb}
 use lib.Seq.{take-all}
 use borrow.Author.Tests.{leb-true, leb-false}
 use Rattle.text.specs.Format.{newline}
-use Rattle.text.specs.Output.{longestCells, longestLine, letters, fields, lineOf}
+use Rattle.text.specs.Output.{longestCells, letters, fields, lineOf}
+use Rattle.session.specs.Operation.{longestReply}
 use Rattle.text.proofs.Writing.{put-then, put-front}
 use Rattle.session.proofs.replies.say_cores.Statement.{statement}
 use Rattle.session.proofs.replies.say_cores.Tie as tie
@@ -43,7 +44,7 @@ take-most cores count bytes w e = go (leb cores mostCores) refl
         take-all count bytes (omega (arith, e, l, w)) ∙ sym (take-all cores bytes (omega (arith, l, w)))
 
 cores-said :
-    (cores : ℕ) (bytes before blank text middle after : List ℕ) (count size start end : ℕ) → length before ≡ longestLine → length bytes ≡ mostCores → count ≡ min cores mostCores
+    (cores : ℕ) (bytes before blank text middle after : List ℕ) (count size start end : ℕ) → length before ≡ longestReply → length bytes ≡ mostCores → count ≡ min cores mostCores
     → Put blank 0 (fields (take count bytes) ++ (newline ∷ [])) text size → size ≤ longestCells → Put before 0 (letters "row") middle start
     → Put middle start (take size (drop 0 text)) after end → Said (lineOf (letters "row") (take cores bytes)) before after end
 unfolding lineOf
@@ -51,7 +52,7 @@ cores-said cores bytes before blank text middle after count size start end w v e
     let k : take size text ≡ fields (take cores bytes) ++ (newline ∷ []) =
     put-front p ∙ ap (λ (l : List ℕ). fields l ++ (newline ∷ [])) (take-most cores count bytes v e) in
     let n : length (take size text) ≤ longestCells = omega (arith, s, length-take size text) in
-    let m : end ≤ longestLine = omega (arith, q .ends, r .ends, n) in
+    let m : end ≤ longestReply = omega (arith, q .ends, r .ends, n) in
     subst (λ (l : List ℕ). Said (letters "row" ++ l) before after end) k (said-put (put-then q r (omega (arith, m, w))) (omega (arith, m, w)))
 
 smaller-requires : tie.Need-smaller-requires
@@ -78,7 +79,7 @@ copy-requires-2 c κs = search needs
 returns : tie.Need-returns
 returns c =
     let a = smaller c .before .args in
-    let w : length (a .out .now) ≡ longestLine = search needs in
+    let w : length (a .out .now) ≡ longestReply = search needs in
     let v : length (a .bytes) ≡ mostCores = search needs in
     cores-said (a .cores) (a .bytes) (a .out .now) _ _ _ _ _ _ _ _ w v (smaller c .smaller .ensures)
     (spell c .spell .ensures .0) (spell c .spell .ensures .1) (copy c .copy .ensures) (c .copy2 .ensures)

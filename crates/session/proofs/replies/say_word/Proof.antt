@@ -9,12 +9,11 @@ use lib.ListN.{length, take, drop, set}
 use lib.Seq.{take-length}
 use Rattle.text.specs.Written.{Put}
 use Rattle.text.proofs.Writing.{put-one, put-then, put-length}
-use Rattle.session.specs.Operation.{plain}
+use Rattle.session.specs.Operation.{longestReply, plain}
 use Rattle.session.specs.Session.{Said}
 use Rattle.session.proofs.Saying.{said-put}
 use Rattle.session.proofs.replies.say_word.Statement.{statement}
 use Rattle.session.proofs.replies.say_word.Tie as tie
-use Rattle.text.specs.Output.{longestLine}
 
 -- the state at the call
 abbrev entry : tie.After-copy → tie.Start
@@ -24,7 +23,7 @@ ends : (word before after : List ℕ) (n : ℕ) → Put before 0 (take (length w
 ends word before after n p = let q = subst (λ (x : List ℕ). Put before 0 x after n) (take-length word) p in omega (arith, q .ends)
 
 word-said :
-    (word before after : List ℕ) (n : ℕ) → length before ≡ longestLine → length word ≤ 16 → Put before 0 (take (length word) (drop 0 word)) after n
+    (word before after : List ℕ) (n : ℕ) → length before ≡ longestReply → length word ≤ 16 → Put before 0 (take (length word) (drop 0 word)) after n
     → Said (plain word) before (set after n 10) (n + 1)
 unfolding plain
 word-said word before after n w h p =
@@ -44,7 +43,7 @@ add-result c = omega (arith, ends (entry c .args .word .now) _ _ _ (c .copy .ens
 returns : tie.Need-returns
 returns c =
     let s = entry c in
-    let w : length (s .args .out .now) ≡ longestLine = search needs in word-said (s .args .word .now) (s .args .out .now) _ _ w (s .pre) (c .copy .ensures)
+    let w : length (s .args .out .now) ≡ longestReply = search needs in word-said (s .args .word .now) (s .args .out .now) _ _ w (s .pre) (c .copy .ensures)
 
 pub say-word-spec : {M : Type 1} → statement M
 say-word-spec = tie.close (tie.spec copy-requires element-write-out add-result returns)
