@@ -2,6 +2,7 @@
 import collections
 import colorsys
 import contextlib
+import re
 from xml.sax.saxutils import escape, quoteattr
 
 RED, BLUE = "#c00000", "#00459c"
@@ -20,6 +21,7 @@ LOOKS = {
     "blank": {"fill": "#f6c8c8"},
     "longest": {"fill": "#d8d8d8"},
     "differs": {"fill": RED},
+    "refusal": {"fill": "#fff"},
 }
 
 
@@ -135,7 +137,7 @@ class Cells(Sheet):
             for position, at, length in runs([row[core] for row in self.rows], self.start, self.tasks):
                 found[position].append((at, core, length))
         with self.group(id="rows", transform=f"translate({self.left} {self.top}) scale({self.wide} {self.high})"):
-            self.add("title", f"from tick {self.start}, {ticks} ticks, {self.cores} cores")
+            self.add("title", f"from tick {self.start}, {self.amount(ticks, 'tick')}, {self.amount(self.cores, 'core')}")
             self.add("rect", width=ticks, height=self.cores, fill="#f4f4f4")
             for position in sorted(found):
                 with self.group(id=f"p{position}", fill=colour(position)[0]):
@@ -199,8 +201,7 @@ class Cells(Sheet):
                 self.label(position, base, fill, ink)
                 for due in moments(task, task.D, self.start + 1, self.end + task.D - 1):
                     self.bar(max(self.start, due - task.D), min(self.end, due), base, fill="#d8d8d8")
-                for _, at, length in runs([position if position in row else 0 for row in self.rows], self.start, self.tasks):
-                    self.bar(self.start + at, self.start + at + length, base, fill=fill)
+                self.worked([(at, length) for _, at, length in runs([position if position in row else 0 for row in self.rows], self.start, self.tasks)], base, fill)
                 for tick in sorted(tick for tick, holder in held if holder == position):
                     self.bar(tick, tick + 1, base, fill="#fff", fill_opacity=0.55)
                     self.bar(tick, tick + 1, base, fill="url(#light)")
@@ -214,6 +215,11 @@ class Cells(Sheet):
                     with self.group(id=f"{name}{position}"):
                         for tick in moments(task, after, self.start, self.end):
                             self.arrow(arrow, self.x(tick), base)
+
+    # The ticks in which a task runs, in its strip.
+    def worked(self, found, base, fill):
+        for at, length in found:
+            self.bar(self.start + at, self.start + at + length, base, fill=fill)
 
     # What stands over the strips' names, and a name.
     def heading(self):
@@ -265,7 +271,7 @@ class Cells(Sheet):
         if release is not None:
             since, until = self.x(release), self.x(release + figure)
             with self.group(id=f"longest{position}"):
-                self.add("title", f"the job that position {position} releases in tick {release} ends {figure} ticks later")
+                self.add("title", f"the job that position {position} releases in tick {release} ends {self.amount(figure, 'tick')} later")
                 self.bracket(since, until, base - 11)
                 self.over(figure, (since + until) / 2, base - 12)
 
@@ -288,10 +294,14 @@ class Cells(Sheet):
         if self.start <= tick <= self.end:
             at = self.x(tick)
             self.add("line", id=name, x1=at, x2=at, y1=y - 8, y2=self.foot + 2, stroke=ink, stroke_width=2, stroke_dasharray=dashes)
-            if at + len(words) * 12 * 0.6 > max(self.x(self.end), 560):
+            if self.leftward(at, len(words) * 12 * 0.6):
                 self.text(at - 5, y, words, 12, fill=ink, text_anchor="end")
             else:
                 self.text(at + 5, y, words, 12, fill=ink)
+
+    # Whether words of this room stand left of a mark.
+    def leftward(self, at, room):
+        return at + room > max(self.x(self.end), 560)
 
     # A miss: the line across, a cross in the strip, and what the late job had.
     def late(self, tick, position, had, words, y):
@@ -302,6 +312,7 @@ class Cells(Sheet):
 
     # A tick at which something is refused: its number over the column.
     def refused(self, tick, number):
+        self.number = number
         self.text(self.x(tick) + self.wide / 2, self.top - 8, str(number), 11 if self.wide >= 24 else 9, fill=RED, font_weight="bold", text_anchor="middle", id=f"refused-{tick}")
 
     # Ticks whose row is another than that of the full-length run: a band over them.
@@ -316,13 +327,20 @@ class Cells(Sheet):
 
     # The ticks' numbers, over the marks.
     def ticks(self):
-        step = next(step for step in (k * 10 ** n for n in range(8) for k in (1, 2, 5)) if step * self.wide >= 7 * len(str(self.end)) + 8)
+        step = next(step for step in (k * 10 ** n for n in range(8) for k in (1, 2, 5)) if step * self.wide >= 7 * len(self.figure(self.end)) + 8)
         with self.group(fill="#333", text_anchor="middle", font_size=11):
             for tick in range(-(-self.start // step) * step, self.end + 1, step):
-                room = 6.5 * len(str(tick)) + 4
+                room = 6.5 * len(self.figure(tick)) + 4
                 self.add("line", x1=self.x(tick), x2=self.x(tick), y1=self.under, y2=self.under + 4, stroke="#888")
                 self.add("rect", x=round(self.x(tick) - room / 2, 2), y=self.under + 5, width=round(room, 2), height=14, fill="#fff")
-                self.add("text", str(tick), x=self.x(tick), y=self.under + 16)
+                self.add("text", self.figure(tick), x=self.x(tick), y=self.under + 16)
+
+    # A number as it is written, and so many things.
+    def figure(self, number):
+        return str(number)
+
+    def amount(self, number, thing):
+        return f"{number} {thing}s"
 
     # A sample of what a name of the legend says, 28 wide and 12 high.
     def sample(self, name, x, y):
@@ -335,6 +353,8 @@ class Cells(Sheet):
             self.gate(x + 10, y + 13)
         if name == "longest":
             self.bracket(x, x + 28, y + 1)
+        if name == "refusal":
+            self.add("text", str(self.number), x=x + 14, y=y + 10, font_size=11, fill=RED, font_weight="bold", text_anchor="middle")
 
     # The names of the legend with their words: the fence first, where there is one.
     def named(self, more):
@@ -389,13 +409,13 @@ class Chart(Cells):
 # A chart in a page, which says the rest in its own words. The names of cores and strips are a drawing of their own, `side`, that stays where the ticks are scrolled.
 class Inset(Cells):
     HREF = "href"
-    WIDE, ROOM, NAMES = 26, 900, 58  # of a tick at least, of all ticks where they are few, of the names
+    WIDE, MOST, ROOM, NAMES = 26, 48, 900, 58  # of a tick at least and at most, of all ticks where they are few, of the names
 
     def __init__(self, own, table, start, rows):
         super().__init__(table, start, rows, own)
         self.pad = max(10, 4 * len(str(self.end)))  # for a number under the first tick and the last
         self.side = []
-        self.lay_out(round(min(64, max(self.WIDE, self.ROOM / len(rows))), 2), self.NAMES + self.pad, 42)
+        self.lay_out(round(min(self.MOST, max(self.WIDE, self.ROOM / len(rows))), 2), self.NAMES + self.pad, 42)
 
     @contextlib.contextmanager
     def aside(self):
@@ -422,6 +442,24 @@ class Inset(Cells):
         with self.aside():
             self.add("rect", x=self.NAMES - 36, y=base - 12, width=28, height=14, fill=fill)
             self.add("text", str(position), x=self.NAMES - 22, y=base - 1, font_size=11, fill=ink, text_anchor="middle")
+
+    # With an edge: some colours are as light as what is behind them.
+    def worked(self, found, base, fill):
+        with self.group(stroke="#555"):
+            super().worked(found, base, fill)
+
+    # Thousands apart, as in the page's words.
+    def figure(self, number):
+        return f"{number:,}"
+
+    def mark(self, name, tick, words, y, ink, dashes):
+        super().mark(name, tick, re.sub(r"\d{4,}", lambda found: self.figure(int(found[0])), words), y, ink, dashes)
+
+    def leftward(self, at, room):
+        return at + room > self.x(self.end) and at - 5 - room >= self.NAMES
+
+    def amount(self, number, thing):
+        return f"{number} {thing}{'' if number == 1 else 's'}"
 
     def over(self, figure, x, y):  # the page says it
         pass

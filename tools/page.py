@@ -8,7 +8,7 @@ from chart import RED, colour
 HERE = os.path.dirname(os.path.abspath(__file__))
 POLICY = "default-src 'none'; style-src 'unsafe-inline'"  # whatever opens it fetches nothing
 PHONE = 330  # pixels that a phone shows of a chart
-PANE = 48  # of the narrowest ticks, in a printed line
+PAPER = 700, 900  # pixels across and down that a printed sheet has for a line of a chart, A4 and Letter
 ICONS = {
     "firm": "M8 26l12 12L42 12",
     "full": "M8 26l12 12L42 12M8 46h34",
@@ -95,9 +95,10 @@ def drawing(sheet, title):
     return element("div", names, ticks, class_="drawing"), panes(sheet, right, high)
 
 
-# The same drawing in lines for paper. The last line is as long as the others, so that nothing that ends there is cut.
+# The same drawing in lines for paper, as long as the sheet is wide; where it is higher than the sheet it is made smaller, and a line is longer. The last line is as long as the others, so that nothing that ends there is cut.
 def panes(sheet, right, high):
-    length = min(right - sheet.NAMES, PANE * sheet.WIDE + 2 * sheet.pad)
+    across, down = PAPER
+    length = min(right - sheet.NAMES, across * max(1, high / down) - sheet.NAMES)
     step, lines, at = length - 2 * sheet.pad, [], sheet.NAMES
     while True:
         last = at + length >= right - 1
@@ -122,8 +123,8 @@ def charts(sheets, titles, called, end=False):
     step = next(step for step in (k * 10 ** n for n in range(8) for k in (1, 2, 5)) if (first.end - first.start) / step <= 12)
     stops = list(range(-(-first.start // step) * step, first.end, step)) if far else []
     anchors = [element("span", "", id=f"{first.own}tick{tick}", class_="at", style=f"left:{first.x(tick):.0f}px") for tick in stops]
-    links = element("nav", "Go to tick ", *(element("a", tick, href=f"#{first.own}tick{tick}") for tick in stops), aria_label="ticks of the picture") if stops else None
-    scroller = element("div", element("div", *anchors, *inner, class_="wide"), class_="scroll chart end" if end and first.x(first.end) > PHONE else "scroll chart", tabindex=0, role="region", aria_label=titles[0])
+    links = element("nav", "Go to tick ", *(element("a", number(tick), href=f"#{first.own}tick{tick}") for tick in stops), aria_label="ticks of the picture") if stops else None
+    scroller = element("div", element("div", *anchors, *inner, class_="wide"), class_="scroll chart end" if end and first.x(first.end) > PHONE else "scroll chart", tabindex=0, role="region", aria_label=" ".join(titles))
     hint = paragraph("Swipe it sideways for the rest.", class_="hint") if any(reach(sheet) > PHONE for sheet in sheets) else None
     return [links, hint, scroller, element("div", *(line for lines in zip(*printed) for line in lines), class_="panes")]
 

@@ -21,7 +21,7 @@ import progress
 import picture
 from chart import Inset, colour
 from page import chip, element, listing, number, paragraph, section
-from picture import Declined, FENCED, FINE, HEAD, MISSED, RECORD, REFUSED, TROUBLE, TooLong, Trouble, USAGE
+from picture import Declined, FENCED, FINE, HEAD, MISSED, RECORD, REFUSED, TROUBLE, TooLong, Trouble, USAGE, number_of
 
 PATIENCE = 20  # seconds that an answer is waited for, once the verdict is there; where that took long, twice as long
 SHOWN = 200  # ticks in one picture of a page, where they are not too many bytes
@@ -30,6 +30,8 @@ COUNTED = 100_000  # rows in which the cells are counted
 LINES = 100_000  # lines of a list that are read
 BEFORE, AFTER = 3, 8  # rows that are shown around a difference
 ROWS = 16  # rows that are shown before a miss
+WIDE = 8  # cores whose columns are called in full
+GREEDY, LIMITED = 1, 2  # rules
 SAID = 40  # sentences on what a list does
 RULES = {
     1: "in priority order, who fits in the free cores takes them, who does not is passed over",
@@ -45,8 +47,10 @@ LEADS = {
     "firm": ["The verdict is ", element("b", "firm"), ": every job of every task meets its deadline, however early jobs end."],
     "full": ["The verdict is ", element("b", "full"), ": every job of every task meets its deadline, as long as no job ends early."],
 }
-WORDS = "A tick is the table's step of time. Each task releases a job again and again; a job must have its cores, all of them together, in so many ticks before its deadline. Positions are the order of priority."
-FITS = {"firm": "It fits, for ever", "full": "It fits at full length", "miss": "It does not fit", "refused": "It was not judged"}
+WORDS = "A tick is the table's step of time; cores are the processor's. Each task releases a job again and again; a job must have its cores, all of them together, in so many ticks before its deadline. Positions are the order of priority."
+FITS = {"firm": "It fits, for ever", "full": "It fits as long as no job ends early", "miss": "It does not fit", "refused": "It was not judged"}
+LISTS = "The list says what happened in the cab: which jobs ended early, which had nothing to do, which tasks were taken out."
+NOT_OF_THE_LIST = " These are figures of the table, not of the list."
 REMEDIES = {
     1: "Write one decimal number a line: five words, then seven for each of at most 32 records; no spaces, signs, comments or empty lines. A table made for an older version lacks words: the two of the fence, or w at the end of each record.",
     2: "Mend line 2: the number of cores is 1 to 64.",
@@ -62,7 +66,7 @@ REMEDIES = {
     16: "Report only jobs that are in the row and have not ended.",
     19: "Mend lines 4 and 5, the low word first: bit c of line 4 is core c, bit c of line 5 core 32 + c. No fence is 0 and 0.",
     20: "Call a job empty in the tick of its release, not later.",
-    21: "Only a firm table lets go of tasks: put the wide tasks below, or take rule 2, 3 or 4.",
+    21: "Only a firm table lets go of tasks: see the changes marked firm under 'What could be changed'.",
     22: "Positions are 1 up to the number of tasks on the chain.",
 }
 SENTENCE = re.compile(r"task (\d+) misses at tick (\d+) with (\d+) of (\d+) ticks((?:; task \d+ ran \d+)*)\.")
@@ -142,9 +146,13 @@ def figures_in(said, table):
     return picture.figures_of(io.BytesIO(said), table)
 
 
-# The heads of the columns of cores, and a row's cells under them.
+# The head of a column, and those of the columns of cores; a row's cells under them.
+def head_cell(*inner, **words):
+    return element("th", *inner, **{"scope": "col", **words})
+
+
 def core_heads(table):
-    return [element("th", "core 0" if core == 0 else core) for core in range(table.cores)]
+    return [head_cell(f"core {core}" if table.cores <= WIDE else f"c{core}") for core in range(table.cores)]
 
 
 def row_cells(row):
@@ -176,13 +184,13 @@ def verdict_header(word, name, lead, more=None, look="lead"):
 
 def facts(word, first, second, table):
     fenced = f"{len(table.fenced)} of them fenced: they belong to the hydraulics" if table.fenced else "none of them fenced"
-    found = [("S", number(first), "from this tick on everything repeats"), ("P", number(second), "every so many ticks"),
+    found = [("Start of the repeat, S", number(first), "from this tick on everything repeats"), ("Period, P", number(second), f"it repeats every {'tick' if second == 1 else ticks(second)}"),
              ("Horizon, S + P", number(first + second), "no deadline missed up to this tick means that none ever is")] if word != "miss" else [
-             ("First miss", f"tick {number(first)}", "the earliest; at one tick the highest in priority"), ("Late task", f"position {second}", f"record {table.records[second - 1]}")]
+             ("First miss", f"tick {number(first)}", "the earliest; at one tick the highest in priority"), ("Late task", f"position {second}", f"record {table.records[second - 1]} of the table")]
     found += [("Tasks", len(table.tasks), "position 1 has the highest priority"), ("Cores", table.cores, fenced),
               ("Rule", f"{table.rule}, {picture.RULES[table.rule]}", RULES[table.rule])]
-    promises = [(element("b", f"{known.capitalize()}: ", class_="good" if known == "firm" else "fair"), words, element("b", " This table is so.") if known == word else None) for known, words in PROMISES.items()] + ([element("b", "This table is neither.")] if word == "miss" else [])
-    return section("In short", paragraph(WORDS, class_="soft"), element("dl", *(element("div", element("dt", what), element("dd", figure, element("small", words))) for what, figure, words in found), class_="facts"),
+    promises = [(element("b", f"{known.capitalize()}: ", class_="good" if known == "firm" else "fair"), words, element("b", f" This table is {word}.") if known == word else None) for known, words in PROMISES.items()] + ([element("b", "This table is neither.")] if word == "miss" else [])
+    return section("In short", paragraph(WORDS, class_="soft") if word != "miss" else None, element("dl", *(element("div", element("dt", what), element("dd", figure, element("small", words))) for what, figure, words in found), class_="facts"),
                    listing(promises, class_="promises"), id="short")
 
 
@@ -195,7 +203,7 @@ def off_chain(text, answer):
 def table_section(text, table, answer):
     words = [int(line) for line in text.split()]
     fields = lambda *cells: element("tr", *(element("td", cell) for cell in cells))
-    head = element("tr", *(element("th", field) for field in ("record", "position", "next", "O", "v", "C", "D", "T", "w")))
+    head = element("tr", *(head_cell(field) for field in ("record", "position", "next", "O", "v", "C", "D", "T", "w")))
     rows = [fields(record, table.records.index(record) + 1 if record in table.records else "\u2013", *words[HEAD + RECORD * (record - 1):HEAD + RECORD * record])
             for record in range(1, (len(words) - HEAD) // RECORD + 1)]
     return section("The table", paragraph(f"As it was read: head {words[0]}, cores {words[1]}, rule {words[2]}, fence {words[3]} and {words[4]}; then each record. O is the first release, v the cores of odd jobs and w of even ones, "
@@ -207,15 +215,15 @@ def footer():
     for place in (page.HERE, os.path.dirname(page.HERE)):
         with contextlib.suppress(OSError), open(os.path.join(place, "VERSION"), encoding="utf-8") as file:
             version = file.read().strip()
-            return element("footer", f"Made by sivorandra {version}. Every figure on this page is what its proved programs print for this table, or the table's own; the page draws and counts, and decides nothing.")
+            return element("footer", f"Made by sivorandra {version}. Every figure is what its proved programs print for this table or for the changed tables it names, the table's own, or a sum, a count or a share of these; the page decides nothing.")
     raise Trouble("VERSION is missing")
 
 
 # ---- The picture
 
 # What the ticks of a picture are, in words.
-def caption(start, end, count, what, before="", after="", **words):
-    return paragraph(before, re.sub(r"\d{4,}", lambda found: number(int(found[0])), f"{picture.shown(start, end, count)}: {what}."), after, class_="soft", **words)
+def caption(start, end, count, what, before="", after=(), **words):
+    return paragraph(before, re.sub(r"\d{4,}", lambda found: number(int(found[0])), f"{picture.shown(start, end, count)}: {what}."), *after, class_="soft", **words)
 
 
 # The rows of the ticks that the picture shows, which are taken before anything is waited for: the first tick, the one after the last, what they are in words, and the rows or None.
@@ -236,7 +244,8 @@ def picture_section(programs, word, first, second, table, start, end, what, rows
     keys = picture.draw_rows(sheet, word, first, second, figures, had)
     title = f"{picture.VERDICTS[word].format(first, second)}. {picture.shown(start, end, count)}, core by core; below a strip for each task."
     shown = page.charts([sheet], [title], None, end=word == "miss")
-    return section("The picture", caption(start, end, count, what, id="ticks"), *shown, *page.legend(sheet, keys), id="picture")
+    others = (" ", element("code", "./sivorandra --report --from TICK --to TICK FILE"), " shows others.") if end - start < count else ()
+    return section("The picture", caption(start, end, count, what, after=others, id="ticks"), *shown, *page.legend(sheet, keys), id="picture")
 
 
 # ---- A miss
@@ -252,12 +261,20 @@ def sentence_section(said, first, second, table):
         inner += [paragraph("Tasks above it ran in so many of the ticks in which it waited:"), listing([(chip(position), f" {ticks(count)}") for position, count in others], class_="shares", id="ran")]
     else:
         inner.append(paragraph("No task above it ran in a tick in which it waited."))
-    return had, section("Why it misses", element("blockquote", said, id="sentence"), *inner, id="why")
+    if table.rule == LIMITED and late > 1:
+        inner.append(paragraph("Under rule 2 the first task that does not fit in the free cores ends the choosing, so in that tick every task below it waits, even where enough cores are idle for it.", id="limited"))
+    return had, why_section(second, element("blockquote", said, id="sentence"), *inner)
+
+
+# Why it misses, after what the words in it mean.
+def why_section(late, *inner):
+    return section("Why it misses", paragraph(f"{WORDS} Task {late} is the task at position {late}.", class_="soft"), *inner, id="why")
 
 
 # The rows of the late job up to the miss. Where the picture shows other ticks, the program is asked again.
 def rows_section(programs, first, second, table, start, rows):
-    release = first - table.tasks[second - 1].D
+    task = table.tasks[second - 1]
+    release = first - task.D
     since = max(release, first - ROWS)
     if rows and start <= since and start + len(rows) == first:
         rows = rows[since - start:]
@@ -266,11 +283,15 @@ def rows_section(programs, first, second, table, start, rows):
             rows, _ = picture.rows_of(rows_again(programs), since, first, table, first, table.drawn[0], programs.until)
         except TooLong:
             return section("The rows before the miss", waited(programs, "The question for the rows", "FILE"), id="rows")
-    head = element("tr", element("th", "tick"), *core_heads(table), element("th", "position ", chip(second)))
-    lines = [element("tr", element("td", number(tick)), *row_cells(row), element("td", "runs" if second in row else "waits", class_="word")) for tick, row in enumerate(rows, since)]
-    lines.append(element("tr", element("td", number(first)), element("td", f"position {second} is due here and has not had its {ticks(table.tasks[second - 1].C)}", colspan=table.cores + 1, class_="words"), class_="due"))
-    what = "Its late job was released at tick " + number(release) + ("." if since == release else f"; shown are the last {ticks(first - since)}.")
-    return section("The rows before the miss", paragraph(what, class_="soft"), page.wide_table([head, *lines], "the rows before the miss", class_="rows"), id="rows")
+    head = element("tr", head_cell("tick"), *core_heads(table), head_cell("position ", chip(second)))
+    width = task.w if (release - task.O) // task.T % 2 else task.v
+    beside = "waits, though it would fit"
+    said = ["runs" if second in row else beside if table.rule == LIMITED and row.count(0) >= width else "waits" for row in rows]
+    lines = [element("tr", element("td", number(tick)), *row_cells(row), element("td", word, class_="word")) for tick, row, word in zip(range(since, first), rows, said)]
+    lines.append(element("tr", element("td", number(first)), element("td", f"position {second} is due here and has not had its {ticks(task.C)}", colspan=table.cores + 1, class_="words"), class_="due"))
+    what = f"The late job of position {second} was released at tick {number(release)}" + ("." if since == release else f"; shown are the last {ticks(first - since)}.")
+    ended = paragraph(f"Where position {second} waits though it would fit in the idle cores, a task above it that does not fit in them has ended the choosing: that is rule {LIMITED}.", id="ended") if beside in said else None
+    return section("The rows before the miss", paragraph(what, class_="soft"), page.wide_table([head, *lines], "the rows before the miss", class_=rows_look(table.cores)), ended, id="rows")
 
 
 # The rows that the program prints for this table, from tick 0 on.
@@ -311,6 +332,17 @@ def clash_section(programs, said, table, pictures):
 
 # ---- What could be changed: the table with one change, and the verdict on it
 
+# Positions one after the other; three or more that follow each other as a stretch.
+def order_words(order):
+    found = []
+    for position in order:
+        if found and found[-1][-1] + 1 == position:
+            found[-1].append(position)
+        else:
+            found.append([position])
+    return ", ".join(f"{part[0]} to {part[-1]}" if len(part) > 2 else ", ".join(map(str, part)) for part in found)
+
+
 # Each change in words, the text of the changed table, and its positions as they are called in this one.
 def changes(word, text, table, late, kept):
     words, tasks, positions = text.split(), table.tasks, list(range(1, len(table.tasks) + 1))
@@ -318,7 +350,7 @@ def changes(word, text, table, late, kept):
     for rule, name in picture.RULES.items():
         if rule != table.rule:
             yield f"rule {rule} ({name})", other(2, rule), positions
-    orders = [("narrow tasks first", sorted(positions, key=lambda position: sorted((tasks[position - 1].v, tasks[position - 1].w), reverse=True)))]
+    orders = [("those with fewer cores first", sorted(positions, key=lambda position: sorted((tasks[position - 1].v, tasks[position - 1].w), reverse=True)))]
     if word == "miss":
         orders.append((f"position {late} first", sorted(positions, key=lambda position: position != late)))
         orders.append(("short deadlines first", sorted(positions, key=lambda position: tasks[position - 1].D)))
@@ -326,7 +358,7 @@ def changes(word, text, table, late, kept):
     for what, order in orders:
         if order not in tried:
             tried.append(order)
-            yield f"the same tasks, {what}", picture.relinked(text, table.records, order), order
+            yield f"the same tasks, {what}: order {order_words(order)}", picture.relinked(text, table.records, order), order
     if word == "miss":
         if table.fenced:
             yield "no fence (the hydraulics give up their cores)", other(3, 0, 0), positions
@@ -338,7 +370,7 @@ def changes(word, text, table, late, kept):
 
 
 def change_section(programs, word, table, late=None, kept=()):
-    rows = []
+    rows = [element("tr", head_cell("change"), head_cell("verdict"))]
     programs.wait()
     for what, changed, positions in changes(word, programs.text, table, late, kept):
         said = programs.verdict(changed)
@@ -352,7 +384,7 @@ def change_section(programs, word, table, late=None, kept=()):
             look, answer = ("good" if said[0] == "firm" else "fair"), f"\u2713 fits: {said[0]}, S {number(said[1])}, P {number(said[2])}"
         rows.append(element("tr", element("td", what), element("td", answer, class_=look)))
     advice = "A table that misses may also fit with a shorter length C, a later deadline D, a longer period T or another offset O of a task in the clash." if word == "miss" else \
-        "A full table fits as it is. Where jobs end early, one that is firm is safe too."
+        "This table is promised to fit only while every job takes its full length. If jobs can end early, take a change marked firm."
     return section("What could be changed", paragraph("Each line is the same table with this one change, judged by the same proved program. Positions are those of this table.", class_="soft"),
                    page.wide_table(rows, "changes and their verdicts", class_="tried"), paragraph(advice), id="changes")
 
@@ -360,7 +392,7 @@ def change_section(programs, word, table, late=None, kept=()):
 # ---- An accepted table
 
 # Of a judged table each task, and where there are figures how close it comes; `spare` has the figures, or the words why there are none.
-def answers_section(programs, word, table, longest, spare):
+def answers_section(programs, word, table, longest, spare, listed=None):
     items = []
     for position, task in enumerate(table.tasks, 1):
         fill, figures = colour(position)[0], []
@@ -378,7 +410,7 @@ def answers_section(programs, word, table, longest, spare):
         return section("The tasks", *inner, id="tasks")
     words = "The longest answer is the most ticks that a job of the task ever takes from its release to its end, beside its deadline. " + (
         "No job takes longer, however early jobs end." if word == "firm" else "At full length some job takes just that; where another ends early, a job of a full table can take longer.")
-    inner.insert(0, paragraph(words, class_="soft"))
+    inner.insert(0, paragraph(words, NOT_OF_THE_LIST if listed else None, class_="soft"))
     if longest is None:
         inner.append(waited(programs, "The question for the longest answers", "--longest"))
     if spare is None:
@@ -386,8 +418,19 @@ def answers_section(programs, word, table, longest, spare):
     elif isinstance(spare, list):
         inner.insert(1, paragraph("The spare ticks are the most by which the length of this task alone may grow with the table still accepted.", class_="soft"))
     else:
-        inner.append(paragraph(element("b", "No spare ticks, number 23. "), f"{spare[0].upper()}{spare[1:]}. Elsewhere a longer job can save a table, so that no one figure would hold.", class_="note", id="no-spare"))
+        inner.append(paragraph(element("b", "Spare ticks cannot be given for this table (number 23). "), f"{spare} Spare ticks are given under rule 2, and under rule 1 where every job of a task takes at most as many cores as every job of the task next below it. "
+                               "Elsewhere a longer job can save a table, so that no one figure would hold.", class_="note", id="no-spare"))
     return section("The tasks, and how close they come", *inner, id="tasks")
+
+
+# What of an accepted table number 23 is about: its rule, or under rule 1 the first job that takes more cores than one of the task next below.
+def no_spare(table):
+    if table.rule != GREEDY:
+        return f"Its rule is {table.rule} ({picture.RULES[table.rule]})."
+    for position, (task, below) in enumerate(zip(table.tasks, table.tasks[1:]), 1):
+        if max(task.v, task.w) > min(below.v, below.w):
+            return f"Position {position} takes {width_words(task)}, and position {position + 1}, next below it, {width_words(below)}."
+    raise Trouble("the spare ticks are refused by 23")
 
 
 # How many cells each position has in one period, core by core, from the program's rows; and from which ticks.
@@ -408,7 +451,7 @@ def claimed(second, table):
     return [task.C * (task.v + task.w) * (second // task.T) // 2 for task in table.tasks]
 
 
-def fullness_section(programs, first, second, table):
+def fullness_section(programs, first, second, table, listed):
     title = "How full the cores are"
     process = programs.start([programs.path("sivorandra")], programs.text)
     try:
@@ -425,13 +468,13 @@ def fullness_section(programs, first, second, table):
     else:
         had, source = claimed(second, table), "by the table: P / T jobs of each task, each for its C ticks at its width"
     busy = sum(had)
-    share = f"{100 * busy // whole} %" if 100 * busy >= whole else "Less than 1 %"  # rounded down
+    share = f"{100 * busy // whole} %{' (rounded down)' if 100 * busy % whole else ''}" if 100 * busy >= whole else "Less than 1 %"
     by_core = [paragraph(f"The rows from tick {number(first)} on had not come after {programs.patience} s, so no cells were counted.", class_="note")]
     if cells:
         bars = [element("li", f"core {core}", page.bar(length, [(length - cells[core][0], "busy")]), element("span", f"{number(length - cells[core][0])} of {number(length)}")) if core in open_cores else
                 element("li", f"core {core}", element("span", "fenced", class_="soft")) for core in range(table.cores)]
         by_core = [paragraph(f"Counted in the first {number(length)} printed rows from S on, {where}.", class_="soft") if length < second else None, element("ul", *bars, class_="cores")]
-    return section(title, paragraph(element("b", f"{share}: "), f"tasks have {number(busy)} of {number(whole)} core ticks in one P, {source}.", " Fenced cores are left out." if table.fenced else None, id="full-of"),
+    return section(title, paragraph(element("b", f"{share}: "), f"tasks have {number(busy)} of {number(whole)} core ticks in one P, {source}.", " Fenced cores are left out." if table.fenced else None, NOT_OF_THE_LIST if listed else None, id="full-of"),
                    page.bar(whole, [(count, colour(position)[0]) for position, count in enumerate(had, 1)], thick=True),
                    listing([*((chip(position), f" {number(count)}") for position, count in enumerate(had, 1)), f"idle {number(whole - busy)}"], class_="shares"),
                    element("h3", "Core by core"), *by_core, id="fullness")
@@ -463,7 +506,7 @@ def excerpt(text, said):
     marked = [int(line) for line in found.groups() if line]
     rows = [element("tr", element("td", f"line {line}"), element("td", element("code", shown_line(lines[line - 1], 24))), element("td", line_words(line)), class_="here" if line in marked else None)
             for line in range(max(1, marked[0] - 3), min(len(lines), marked[-1] + 3) + 1)]
-    return element("div", element("table", *rows, class_="excerpt"), class_="scroll")
+    return page.wide_table([element("tr", head_cell("line"), head_cell("what stands there"), head_cell("what belongs there")), *rows], "the lines around the fault", class_="excerpt")
 
 
 def refused_page(text, name, refused, position):
@@ -539,15 +582,33 @@ def difference(table, run, full):
     return differs, paragraph(element("b", f"The first difference is in tick {number(tick)}: "), "at full length the cores have ", element("code", spelled(full.lines[tick])), ", ", *words, id="difference")
 
 
+# The class of a table of rows: of many cores its cells are narrow on paper.
+def rows_look(cores):
+    return "rows" if cores <= WIDE else "rows many"
+
+
 # The rows of both around a tick.
 def both_rows(table, run, full, tick):
-    head = element("tr", element("th", "tick"), element("th", "at full length", colspan=table.cores), element("td", "", class_="gap"), element("th", "with the list", colspan=table.cores))
-    rows = [head, element("tr", element("th", ""), *core_heads(table), element("td", "", class_="gap"), *core_heads(table))]
+    head = element("tr", head_cell("tick", rowspan=2), head_cell("at full length", colspan=table.cores, scope="colgroup"), element("td", "", class_="gap"), head_cell("with the list", colspan=table.cores, scope="colgroup"))
+    rows = [head, element("tr", *core_heads(table), element("td", "", class_="gap"), *core_heads(table))]
     for at in range(max(0, tick - BEFORE), min(run.tick, tick + AFTER) + 1):
         said = run.lines[at]
         listed = row_cells(run.parsed(said)) if said.startswith(b"row ") else [element("td", spelled(said), colspan=table.cores, class_="words bad")]
         rows.append(element("tr", element("td", number(at)), *row_cells(full.parsed(full.lines[at])), element("td", "", class_="gap"), *listed, class_="differs" if said != full.lines[at] else None))
-    return [element("h3", "Rows around it"), page.wide_table(rows, "the rows of both around the first difference", class_="rows")]
+    return [element("h3", "Rows around it"), page.wide_table(rows, "the rows of both around the first difference", class_=rows_look(2 * table.cores))]
+
+
+# A list in words: what is in it, and what became of that.
+def list_title(run):
+    count = run.advances + run.withdrawals
+    parts = number_of(run.advances, "advance") + (f" and {number_of(run.withdrawals, 'withdrawal')}" if run.withdrawals else "")
+    title = f"A list of {parts}" if count else "A list without an advance"
+    if run.late:
+        tick, position, _ = run.late
+        return f"{title}: position {position} misses its deadline at tick {number(tick)}."
+    if run.refusals:
+        return f"{title}; {number(run.refusals)} of these {number_of(count, 'line')} {'is' if run.refusals == 1 else 'are'} refused." if count > 1 else f"{title}; it is refused."
+    return f"{title}, {'all taken' if count > 1 else 'taken'}." if count else f"{title}."
 
 
 def list_section(programs, word, first, second, table, name, lines, more, asked):
@@ -563,24 +624,26 @@ def list_section(programs, word, first, second, table, name, lines, more, asked)
         run, full = play(programs, table, name, lines, window)[0], play(programs, table, name, zeros, window)[0]
     count = run.tick + 1
     start, end, what = window.within(count, "the list reaches") if asked else (window.start, min(window.end, count), "what the list reaches" if count <= size else "around the first difference" if window else f"the first {size} ticks that the list reaches")
-    head, red = picture.list_words(run, "")
+    title, red = list_title(run), picture.list_words(run, "")[1]
     sheets = [Inset("f-", table, start, full.rows), Inset("l-", table, start, run.rows)]
     keys = picture.draw_rows(sheets[0], word, first, second, [], 0) + picture.draw_listed(sheets[1], run)
     seen = [tick for tick in differs if start <= tick < end]
     if seen:
         sheets[1].differ(seen)
         keys.append(("differs", "over a tick: its row is not that of the full-length run"))
-    titles = [f"The full-length run. {picture.shown(start, end, count)}.", f"{head[0]}. {picture.shown(start, end, count)}."]
-    events = [words for _, words in sorted(picture.told(run), key=lambda one: one[0])]
+    if run.marks:
+        keys.append(("refusal", "a red number over a tick: the number of a refusal there"))
+    titles = [f"The full-length run. {picture.shown(start, end, count)}.", f"{title} {picture.shown(start, end, count)}."]
+    events = [re.sub(r" with (\d+) of (\d+)\.$", lambda found: f" with {found[1]} of its {ticks(int(found[2]))}.", words) for _, words in sorted(picture.told(run), key=lambda one: one[0])]
     numbers = sorted({*run.marks.values(), *([picture.LATE] if run.late else [])} & set(REMEDIES))
-    inner = [paragraph(element("b", f"{head[0]}."), f" Only the first {number(len(lines))} lines of it were read." if more else None), named]
+    inner = [paragraph(LISTS, class_="soft"), paragraph(element("b", title), f" Only the first {number(len(lines))} lines of it were read." if more else None), named]
     inner += [paragraph(line, class_="bad") for line in [*red, *([wrong[0].upper() + wrong[1:] + "."] if wrong else [])]]
     programs.notes += [wrong] if wrong else []
     inner += [paragraph(f"Number {refused}: {REMEDIES[refused]}") for refused in numbers]
-    inner += [caption(start, end, count, what, after=" Above the full-length run, below the list's.", id="ticks"), *page.charts(sheets, titles, ["At full length", "With the list"]), *page.legend(sheets[1], keys)]
+    inner += [caption(start, end, count, what, after=[" Above the full-length run, below the list's."], id="ticks"), *page.charts(sheets, titles, ["At full length", "With the list"]), *page.legend(sheets[1], keys)]
     inner += both_rows(table, run, full, differs[0]) if differs else []
-    inner += [element("h3", "What the list does in these ticks"), listing(events[:SAID] + ([f"And {number(len(events) - SAID)} more."] if len(events) > SAID else []))] if events else []
-    return section("What the list does", *inner, id="list"), f"{head[0]}.", REFUSED if run.late or run.refusals or wrong else FINE
+    inner += [element("h3", "What it says of these ticks"), listing(events[:SAID] + ([f"And {number(len(events) - SAID)} more."] if len(events) > SAID else []))] if events else []
+    return section("What the list does", *inner, id="list"), title, REFUSED if run.late or run.refusals or wrong else FINE
 
 
 # ---- The page
@@ -589,7 +652,7 @@ def miss_page(programs, text, name, first, second, table, source, asked, listed)
     why, clash = programs.asking(b"why"), programs.asking(b"clash")
     start, end, what, rows = picture_rows(programs, "miss", first, second, table, source, asked, 2)
     said = programs.heard(why)
-    had, sentence = sentence_section(said.decode("ascii", "replace").removesuffix("\n"), first, second, table) if said else (0, section("Why it misses", waited(programs, "The question why", "--why"), id="why"))
+    had, sentence = sentence_section(said.decode("ascii", "replace").removesuffix("\n"), first, second, table) if said else (0, why_section(second, waited(programs, "The question why", "--why")))
     drawn = picture_section(programs, "miss", first, second, table, start, end, what, rows, [], had)
     kept, clashing = clash_section(programs, programs.heard(clash), table, 2)
     lead = ["The task at ", element("b", f"position {second}"), " misses its deadline at ", element("b", f"tick {number(first)}"), "."]
@@ -602,7 +665,7 @@ def miss_page(programs, text, name, first, second, table, source, asked, listed)
 def accepted_page(programs, text, name, word, first, second, table, source, asked, listed):
     longest, spare = programs.asking(b"longest"), programs.asking(b"spare")
     shown = None if listed else picture_rows(programs, word, first, second, table, source, asked, 1)
-    fullness = fullness_section(programs, first, second, table)
+    fullness = fullness_section(programs, first, second, table, listed)
     said = programs.heard(longest)
     answers = said if said is None else figures_in(said, table)
     if isinstance(answers, int):
@@ -617,10 +680,10 @@ def accepted_page(programs, text, name, word, first, second, table, source, aske
     if isinstance(room, int):
         if room != 23:
             raise Trouble(f"the spare ticks are refused by {room}")
-        room, = notes.notes(text, "refused 23 0")
+        room = no_spare(table)
     changed = change_section(programs, word, table) if word == "full" else None
     return page.document(f"{FITS[word]} \u2013 {name}", range(1, len(table.tasks) + 1), verdict_header(word, name, LEADS[word], lead, "lead" if status == FINE else "lead bad"), facts(word, first, second, table), drawn,
-                         answers_section(programs, word, table, answers, room), fullness, changed, table_section(text, table, f"{word} {first} {second}"), footer()), status
+                         answers_section(programs, word, table, answers, room, listed), fullness, changed, table_section(text, table, f"{word} {first} {second}"), footer()), status
 
 
 # The page on a table, and the status; `listed` is the list's name, its lines and whether there are more.
