@@ -327,7 +327,7 @@ class Cells(Sheet):
 
     # The ticks' numbers, over the marks.
     def ticks(self):
-        step = next(step for step in (k * 10 ** n for n in range(8) for k in (1, 2, 5)) if step * self.wide >= 7 * len(self.figure(self.end)) + 8)
+        self.step = step = next(step for step in (k * 10 ** n for n in range(8) for k in (1, 2, 5)) if step * self.wide >= 7 * len(self.figure(self.end)) + 8)
         with self.group(fill="#333", text_anchor="middle", font_size=11):
             for tick in range(-(-self.start // step) * step, self.end + 1, step):
                 room = 6.5 * len(self.figure(tick)) + 4
@@ -413,7 +413,7 @@ class Inset(Cells):
 
     def __init__(self, own, table, start, rows):
         super().__init__(table, start, rows, own)
-        self.pad = max(10, 4 * len(str(self.end)))  # for a number under the first tick and the last
+        self.pad = max(10, 4 * len(self.figure(self.end)))  # for a number under the first tick and the last
         self.side = []
         self.lay_out(round(min(self.MOST, max(self.WIDE, self.ROOM / len(rows))), 2), self.NAMES + self.pad, 42)
 

@@ -86,37 +86,43 @@ def reach(sheet):
 
 
 # A chart: its names stay, its ticks are scrolled; on paper it is cut into lines of so many ticks. `title` says it to those who do not see it.
-def drawing(sheet, title):
+def drawing(sheet, title, farthest):
     high, right = sheet.bottom + 10, reach(sheet)
     names = view("".join(sheet.side), 0, sheet.NAMES, high, width=sheet.NAMES, height=high, class_="names", aria_hidden="true")
     all_ticks = element("g", Html("".join(sheet.parts)), id=f"{sheet.own}all")
     wide = right - sheet.NAMES
     ticks = view(all_ticks, sheet.NAMES, wide, high, width=round(wide, 2), height=high, class_="ticks", role="img", aria_label=title)
-    return element("div", names, ticks, class_="drawing"), panes(sheet, right, high)
+    return element("div", names, ticks, class_="drawing"), panes(sheet, farthest, high)
 
 
-# The same drawing in lines for paper, as long as the sheet is wide; where it is higher than the sheet it is made smaller, and a line is longer. The last line is as long as the others, so that nothing that ends there is cut.
+# The same drawing in lines for paper, each as long as the sheet is wide; where it is higher than the sheet it is made smaller, and lines are longer.
+# A line goes from a numbered tick to a numbered tick, so that no number is cut; the last is as long as the others, so that nothing that ends there is.
 def panes(sheet, right, high):
     across, down = PAPER
-    length = min(right - sheet.NAMES, across * max(1, high / down) - sheet.NAMES)
-    step, lines, at = length - 2 * sheet.pad, [], sheet.NAMES
-    while True:
-        last = at + length >= right - 1
-        lines.append(min(at, right - length))
-        if last:
-            break
-        at += step // sheet.wide * sheet.wide
-    side = Html("".join(sheet.side))
-    use = element("use", href=f"#{sheet.own}all")
-    return [element("svg", side, element("svg", use, x=sheet.NAMES, y=0, width=round(length, 2), height=high, viewBox=f"{round(left, 2)} 0 {round(length, 2)} {high}"),
-                    class_="ticks", width=round(sheet.NAMES + length, 2), height=high, viewBox=f"0 0 {round(sheet.NAMES + length, 2)} {high}", aria_hidden="true") for left in lines]
+    room, step = across * max(1, high / down) - sheet.NAMES, sheet.step
+    length = max(1, int((room - 2 * sheet.pad) / sheet.wide / step)) * step
+    lines, tick = [], sheet.start
+    while right - sheet.x(tick) + sheet.pad > room and tick < sheet.end:
+        stop = (tick + length) // step * step
+        lines.append((tick, sheet.x(stop) + sheet.pad))
+        tick = stop
+    if lines:
+        tick = next((back for back in range(-(-sheet.start // step) * step, tick, step) if right - sheet.x(back) + sheet.pad <= room), tick)
+    lines.append((tick, right))
+    side, use, drawn = Html("".join(sheet.side)), element("use", href=f"#{sheet.own}all"), []
+    for since, until in lines:
+        left = sheet.x(since) - sheet.pad
+        wide = round(until - left, 2)
+        inside = element("svg", use, x=sheet.NAMES, y=0, width=wide, height=high, viewBox=f"{round(left, 2)} 0 {wide} {high}")
+        drawn.append(element("svg", side, inside, class_="ticks", width=round(sheet.NAMES + wide, 2), height=high, viewBox=f"0 0 {round(sheet.NAMES + wide, 2)} {high}", aria_hidden="true"))
+    return drawn
 
 
 # Charts over each other whose ticks stand under each other, each with its title, what they are called where they are several, and links to some ticks.
 def charts(sheets, titles, called, end=False):
     first, inner, printed = sheets[0], [], []
     for sheet, title, name in zip(sheets, titles, called or [None] * len(sheets)):
-        shown, lines = drawing(sheet, title)
+        shown, lines = drawing(sheet, title, max(map(reach, sheets)))
         inner += [element("div", name, class_="called") if name else None, shown]
         printed.append([element("figure", element("figcaption", name) if name else None, line) for line in lines])
     far = first.x(first.end) - first.left > first.ROOM + 1

@@ -283,7 +283,7 @@ def rows_section(programs, first, second, table, start, rows):
             rows, _ = picture.rows_of(rows_again(programs), since, first, table, first, table.drawn[0], programs.until)
         except TooLong:
             return section("The rows before the miss", waited(programs, "The question for the rows", "FILE"), id="rows")
-    head = element("tr", head_cell("tick"), *core_heads(table), head_cell("position ", chip(second)))
+    head = element("tr", head_cell("tick"), *core_heads(table), head_cell("position ", chip(second), class_="word"))
     width = task.w if (release - task.O) // task.T % 2 else task.v
     beside = "waits, though it would fit"
     said = ["runs" if second in row else beside if table.rule == LIMITED and row.count(0) >= width else "waits" for row in rows]
