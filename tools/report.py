@@ -30,7 +30,7 @@ COUNTED = 100_000  # rows in which the cells are counted
 LINES = 100_000  # lines of a list that are read
 BEFORE, AFTER = 3, 8  # rows that are shown around a difference
 ROWS = 16  # rows that are shown before a miss
-WIDE = 8  # cores whose columns are called in full
+WIDE, NARROW = 8, 40  # cores whose columns are called in full, and columns that are not very narrow on paper
 GREEDY, LIMITED = 1, 2  # rules
 SAID = 40  # sentences on what a list does
 RULES = {
@@ -582,20 +582,27 @@ def difference(table, run, full):
     return differs, paragraph(element("b", f"The first difference is in tick {number(tick)}: "), "at full length the cores have ", element("code", spelled(full.lines[tick])), ", ", *words, id="difference")
 
 
-# The class of a table of rows: of many cores its cells are narrow on paper.
-def rows_look(cores):
-    return "rows" if cores <= WIDE else "rows many"
+# The class of a table of rows with so many columns of cores: where they are many they are narrow on paper.
+def rows_look(columns):
+    return "rows" if columns <= 2 * WIDE else "rows many" if columns <= NARROW else "rows many most"
 
 
-# The rows of both around a tick.
+# The rows of both around a tick: beside each other, or where that is too wide for paper under each other.
 def both_rows(table, run, full, tick):
-    head = element("tr", head_cell("tick", rowspan=2), head_cell("at full length", colspan=table.cores, scope="colgroup"), element("td", "", class_="gap"), head_cell("with the list", colspan=table.cores, scope="colgroup"))
-    rows = [head, element("tr", *core_heads(table), element("td", "", class_="gap"), *core_heads(table))]
-    for at in range(max(0, tick - BEFORE), min(run.tick, tick + AFTER) + 1):
+    def listed(at):
         said = run.lines[at]
-        listed = row_cells(run.parsed(said)) if said.startswith(b"row ") else [element("td", spelled(said), colspan=table.cores, class_="words bad")]
-        rows.append(element("tr", element("td", number(at)), *row_cells(full.parsed(full.lines[at])), element("td", "", class_="gap"), *listed, class_="differs" if said != full.lines[at] else None))
-    return [element("h3", "Rows around it"), page.wide_table(rows, "the rows of both around the first difference", class_=rows_look(2 * table.cores))]
+        return row_cells(run.parsed(said)) if said.startswith(b"row ") else [element("td", spelled(said), colspan=table.cores, class_="words bad")]
+
+    at_full, gap = lambda at: row_cells(full.parsed(full.lines[at])), element("td", "", class_="gap")
+    shown = range(max(0, tick - BEFORE), min(run.tick, tick + AFTER) + 1)
+    line = lambda at, *cells: element("tr", element("td", number(at)), *cells, class_="differs" if run.lines[at] != full.lines[at] else None)
+    name = "the rows around the first difference, "
+    if 2 * table.cores > NARROW:
+        tables = [(called, [element("tr", head_cell("tick"), *core_heads(table)), *(line(at, *cells(at)) for at in shown)]) for called, cells in (("at full length", at_full), ("with the list", listed))]
+        return [element("h3", "Rows around it"), *(part for called, rows in tables for part in (paragraph(called.capitalize(), class_="soft"), page.wide_table(rows, name + called, class_=rows_look(table.cores))))]
+    head = element("tr", head_cell("tick", rowspan=2), head_cell("at full length", colspan=table.cores, scope="colgroup"), gap, head_cell("with the list", colspan=table.cores, scope="colgroup"))
+    rows = [head, element("tr", *core_heads(table), gap, *core_heads(table)), *(line(at, *at_full(at), gap, *listed(at)) for at in shown)]
+    return [element("h3", "Rows around it"), page.wide_table(rows, name + "at full length and with the list", class_=rows_look(2 * table.cores))]
 
 
 # A list in words: what is in it, and what became of that.
