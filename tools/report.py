@@ -370,7 +370,7 @@ def changes(word, text, table, late, kept):
 
 
 def change_section(programs, word, table, late=None, kept=()):
-    rows = [element("tr", head_cell("change"), head_cell("verdict"))]
+    rows, firm = [element("tr", head_cell("change"), head_cell("verdict"))], False
     programs.wait()
     for what, changed, positions in changes(word, programs.text, table, late, kept):
         said = programs.verdict(changed)
@@ -382,9 +382,10 @@ def change_section(programs, word, table, late=None, kept=()):
             look, answer = "bad", f"\u2717 refused by number {said[1]}: {refusal_words(said[1], said[2])}"
         else:
             look, answer = ("good" if said[0] == "firm" else "fair"), f"\u2713 fits: {said[0]}, S {number(said[1])}, P {number(said[2])}"
+        firm |= look == "good"
         rows.append(element("tr", element("td", what), element("td", answer, class_=look)))
     advice = "A table that misses may also fit with a shorter length C, a later deadline D, a longer period T or another offset O of a task in the clash." if word == "miss" else \
-        "This table is promised to fit only while every job takes its full length. If jobs can end early, take a change marked firm."
+        "This table is promised to fit only while every job takes its full length. " + ("If jobs can end early, take a change marked firm." if firm else "None of these changes is firm, so none is promised to fit if jobs end early.")
     return section("What could be changed", paragraph("Each line is the same table with this one change, judged by the same proved program. Positions are those of this table.", class_="soft"),
                    page.wide_table(rows, "changes and their verdicts", class_="tried"), paragraph(advice), id="changes")
 
