@@ -409,7 +409,7 @@ class Chart(Cells):
 # A chart in a page, which says the rest in its own words. The names of cores and strips are a drawing of their own, `side`, that stays where the ticks are scrolled.
 class Inset(Cells):
     HREF = "href"
-    WIDE, MOST, ROOM, NAMES = 26, 48, 900, 58  # of a tick at least and at most, of all ticks where they are few, of the names
+    WIDE, MOST, ROOM, NAMES, PHONE = 26, 48, 900, 58, 318  # of a tick at least and at most, of all ticks where they are few, of the names, of what a phone shows
 
     def __init__(self, own, table, start, rows):
         super().__init__(table, start, rows, own)
@@ -452,8 +452,15 @@ class Inset(Cells):
     def figure(self, number):
         return f"{number:,}"
 
+    # Of a miss in a narrow picture the words stand over the line, so that a phone shows them whole.
     def mark(self, name, tick, words, y, ink, dashes):
-        super().mark(name, tick, re.sub(r"\d{4,}", lambda found: self.figure(int(found[0])), words), y, ink, dashes)
+        words = re.sub(r"\d{4,}", lambda found: self.figure(int(found[0])), words)
+        at, room = self.x(tick), len(words) * 12 * 0.6
+        if name == "miss" and self.start <= tick <= self.end and not self.leftward(at, room) and at + 5 + room > self.PHONE:
+            self.add("line", id=name, x1=at, x2=at, y1=y + 4, y2=self.foot + 2, stroke=ink, stroke_width=2, stroke_dasharray=dashes)
+            self.text(max(self.left, self.PHONE - room), y, words, 12, fill=ink)
+        else:
+            super().mark(name, tick, words, y, ink, dashes)
 
     def leftward(self, at, room):
         return at + room > self.x(self.end) and at - 5 - room >= self.NAMES
