@@ -1,7 +1,8 @@
-"""How a picture looks: a sheet of SVG 1.1, and on it cores over ticks with a strip for each task. It is given what to draw, and decides nothing."""
+"""How a picture looks: a sheet of SVG 1.1, and on it cores over ticks with a strip for each task; alone, or in a page. It is given what to draw, and decides nothing."""
 import collections
 import colorsys
 import contextlib
+import re
 from xml.sax.saxutils import escape, quoteattr
 
 RED, BLUE = "#c00000", "#00459c"
@@ -19,29 +20,36 @@ LOOKS = {
     "held": {"fill": "url(#light)", "stroke": "#888"},
     "blank": {"fill": "#f6c8c8"},
     "longest": {"fill": "#d8d8d8"},
+    "differs": {"fill": RED},
+    "refusal": {"fill": "#fff"},
 }
 
 
-# 32 colours: neighbours differ in hue and in lightness, so that a grey print tells them apart too.
+# How light a colour is, from red, green and blue, as WCAG 2 has it; the contrast of two is (lighter + 0.05) / (darker + 0.05).
+def luminance(*colours):
+    return sum(part * (level / 12.92 if level <= 0.03928 else ((level + 0.055) / 1.055) ** 2.4) for part, level in zip((0.2126, 0.7152, 0.0722), colours))
+
+
+# 32 colours: neighbours differ in hue and in lightness, so that a grey print tells them apart too; and the ink that is read best on each.
 def colour(position):
     turn = (position - 1) * 0.618034 % 1
     light = (0.74, 0.46, 0.84, 0.58)[(position - 1) % 4]
     red, green, blue = colorsys.hls_to_rgb(turn, light, 0.62)
-    ink = "#000" if 0.30 * red + 0.59 * green + 0.11 * blue > 0.5 else "#fff"
+    ink = "#000" if (luminance(red, green, blue) + 0.05) ** 2 > 1.05 * 0.05 else "#fff"
     return "#%02x%02x%02x" % (round(red * 255), round(green * 255), round(blue * 255)), ink
 
 
-def attributes(words):
-    return "".join(f" {key.replace('_', '-')}={quoteattr(str(value))}" for key, value in words.items())
-
-
-# The elements of a picture, and how large it must be to show them.
+# The elements of a picture, and how large it must be to show them. Where it is one of several in a page, all its names begin with its own.
 class Sheet:
-    def __init__(self):
-        self.parts, self.right, self.bottom = [], 0, 0
+    def __init__(self, own=""):
+        self.parts, self.right, self.bottom, self.own = [], 0, 0, own
+
+    def attributes(self, words):
+        named = {key: self.own + value if key == "id" else str(value).replace("url(#", f"url(#{self.own}") for key, value in words.items()}
+        return "".join(f" {key.replace('_', '-')}={quoteattr(value)}" for key, value in named.items())
 
     def add(self, name, inner=None, **words):
-        self.parts.append(f"<{name}{attributes(words)}/>" if inner is None else f"<{name}{attributes(words)}>{escape(inner)}</{name}>")
+        self.parts.append(f"<{name}{self.attributes(words)}/>" if inner is None else f"<{name}{self.attributes(words)}>{escape(inner)}</{name}>")
 
     def reach(self, x, y):
         self.right, self.bottom = max(self.right, x), max(self.bottom, y)
@@ -53,12 +61,12 @@ class Sheet:
 
     @contextlib.contextmanager
     def group(self, **words):
-        self.parts.append(f"<g{attributes(words)}>")
+        self.parts.append(f"<g{self.attributes(words)}>")
         yield
         self.parts.append("</g>")
 
     def hatching(self, name):
-        self.parts.append(f'<defs><pattern id="{name}" width="8" height="8" patternUnits="userSpaceOnUse">{HATCHES[name]}</pattern></defs>')
+        self.parts.append(f'<defs><pattern id="{self.own}{name}" width="8" height="8" patternUnits="userSpaceOnUse">{HATCHES[name]}</pattern></defs>')
 
     # The whole, with a title and a description for those who do not see it.
     def out(self, title, about):
@@ -94,30 +102,24 @@ def fields_of(task):
     return str(task.O), f"{task.v}/{task.w}" if task.v != task.w else str(task.v), str(task.C), str(task.D), str(task.T)
 
 
-# The chart of the rows from a tick on: cores over ticks, below it a strip for each task. `head` is what stands over it, the title first.
-class Chart(Sheet):
-    def __init__(self, table, start, rows, head, red=()):
-        super().__init__()
-        self.table, self.start, self.end, self.rows = table, start, start + len(rows), rows
+# The chart of the rows from a tick on: cores over ticks, below it a strip for each position that is drawn.
+class Cells(Sheet):
+    HREF = "xlink:href"
+
+    def __init__(self, table, start, rows, own=""):
+        super().__init__(own)
+        self.table, self.start, self.end, self.rows, self.drawn = table, start, start + len(rows), rows, table.drawn
         self.cores, self.tasks, self.fenced = table.cores, table.tasks, sorted(table.fenced)
-        self.wide = min(80, max(12, 960 / len(rows)))
         self.high = next(size for most, size in ((8, 28), (16, 20), (32, 15), (64, 12)) if self.cores <= most)
-        self.drawn = table.drawn  # the positions that have a strip
         self.strip = 24 if len(self.drawn) <= 12 else 18
-        self.names = [f"{position} (record {table.records[position - 1]})" for position in self.drawn]
-        self.box = 12 + 6 * max(map(len, self.names))
-        shown = [self.tasks[position - 1] for position in self.drawn]
-        self.pairs = any(task.v != task.w for task in shown)
-        self.fields = [("O", "v/w" if self.pairs else "v", "C", "D", "T"), *map(fields_of, shown)]  # of the line over the strips and of each strip
-        self.columns = [max(len(field) for field in column) + 2 for column in zip(*self.fields)]
-        self.left = 16 + max(40, self.box + 14 + 6.1 * sum(self.columns))
-        self.top = 69 + 19 * (len(head) - 3 + len(red)) + 57
+        self.pairs = any(self.tasks[position - 1].v != self.tasks[position - 1].w for position in self.drawn)
+
+    # How wide a tick is, and the room on the left and on top.
+    def lay_out(self, wide, left, top):
+        self.wide, self.left, self.top = wide, left, top
         self.under = self.top + self.cores * self.high
         self.foot = self.under + 46 + len(self.drawn) * self.strip
         self.reach(self.x(self.end) + 12, self.foot)
-        self.text(16, 28, head[0], 17, font_weight="bold")
-        for k, line in enumerate([*head[1:], *red]):
-            self.text(16, 50 + 19 * k, line, 13, **({"fill": RED} if k >= len(head) - 1 else {}))
 
     def x(self, tick):
         return round(self.left + (tick - self.start) * self.wide, 2)
@@ -135,7 +137,7 @@ class Chart(Sheet):
             for position, at, length in runs([row[core] for row in self.rows], self.start, self.tasks):
                 found[position].append((at, core, length))
         with self.group(id="rows", transform=f"translate({self.left} {self.top}) scale({self.wide} {self.high})"):
-            self.add("title", f"from tick {self.start}, {ticks} ticks, {self.cores} cores")
+            self.add("title", f"from tick {self.start}, {self.amount(ticks, 'tick')}, {self.amount(self.cores, 'core')}")
             self.add("rect", width=ticks, height=self.cores, fill="#f4f4f4")
             for position in sorted(found):
                 with self.group(id=f"p{position}", fill=colour(position)[0]):
@@ -158,9 +160,12 @@ class Chart(Sheet):
             self.add("rect", x=self.x(self.start), y=self.top + core * self.high, width=round(ticks * self.wide, 2), height=self.high, fill="url(#hatch)")
         self.numbers(found, held)
         self.add("rect", x=self.x(self.start), y=self.top, width=round(ticks * self.wide, 2), height=self.cores * self.high, stroke="#888", fill="none")
+        self.core_names(self.left - 6)
+
+    def core_names(self, right):
         with self.group(fill="#333", text_anchor="end"):
             for core in range(0, self.cores, 1 if self.high >= 15 else 4):
-                self.text(self.left - 6, self.top + core * self.high + self.high / 2 + 4, f"core {core}", 11, text_anchor="end")
+                self.text(right, self.top + core * self.high + self.high / 2 + 4, f"core {core}", 11, text_anchor="end")
 
     # The number in each cell, or where cells are small in one of a run and in every tenth of a long one.
     def numbers(self, found, held):
@@ -185,28 +190,22 @@ class Chart(Sheet):
                         for fill in ({"fill": "#fff", "fill_opacity": 0.55}, {"fill": "url(#light)"}):
                             self.add("rect", x=self.x(tick), y=self.top + core * self.high, width=round(self.wide, 2), height=self.high, **fill)
 
-    # The strips: for each task its numbers, the time from release to deadline, the ticks in which it runs, its releases and deadlines.
+    # The strips: for each task its name, the time from release to deadline, the ticks in which it runs, its releases and deadlines.
     # `late` is the tick and the position of a miss; `unused` has position, first tick and last of what a job that ended early does not take.
     def strips(self, late, held=(), unused=()):
-        label = lambda fields: "".join(field.rjust(width) for field, width in zip(fields, self.columns))
-        self.parts.append('<defs><path id="up" d="M0 0V-14M-3 -9L0 -15L3 -9Z" stroke="#000" fill="#000"/>'
-                          '<path id="down" d="M0 -14V0M-3.5 -6L0 0L3.5 -6" stroke="#000" fill="none"/></defs>')
-        self.add("text", "position", x=22, y=self.under + 38, font_size=11, fill="#333")
-        self.add("text", label(self.fields[0]), x=16 + self.box, y=self.under + 38, **MONO)
-        for place, position in enumerate(self.drawn):
+        self.arrows()
+        self.heading()
+        for position in self.drawn:
             task, base, (fill, ink) = self.tasks[position - 1], self.base(position), colour(position)
             with self.group(id=f"task{position}"):
-                self.add("rect", x=16, y=base - 12, width=self.box, height=14, fill=fill)
-                self.add("text", self.names[place], x=22, y=base - 1, font_size=11, fill=ink)
-                self.add("text", label(self.fields[place + 1]), x=16 + self.box, y=base - 1, **MONO)
+                self.label(position, base, fill, ink)
                 for due in moments(task, task.D, self.start + 1, self.end + task.D - 1):
                     self.bar(max(self.start, due - task.D), min(self.end, due), base, fill="#d8d8d8")
-                for _, at, length in runs([position if position in row else 0 for row in self.rows], self.start, self.tasks):
-                    self.bar(self.start + at, self.start + at + length, base, fill=fill)
+                self.worked([(at, length) for _, at, length in runs([position if position in row else 0 for row in self.rows], self.start, self.tasks)], base, fill)
                 for tick in sorted(tick for tick, holder in held if holder == position):
                     self.bar(tick, tick + 1, base, fill="#fff", fill_opacity=0.55)
                     self.bar(tick, tick + 1, base, fill="url(#light)")
-                for since, until in [(max(self.start, since), min(self.end, until)) for early, since, until in unused if early == position]:
+                for since, until in [(max(self.start, since), min(self.end, until)) for whose, since, until in unused if whose == position]:
                     if since < until:
                         self.bar(since, until, base, id=f"unused{position}-{since}", **LOOKS["unused"])
                 if late and late[1] == position:
@@ -217,8 +216,25 @@ class Chart(Sheet):
                         for tick in moments(task, after, self.start, self.end):
                             self.arrow(arrow, self.x(tick), base)
 
+    # The ticks in which a task runs, in its strip.
+    def worked(self, found, base, fill):
+        for at, length in found:
+            self.bar(self.start + at, self.start + at + length, base, fill=fill)
+
+    # What stands over the strips' names, and a name.
+    def heading(self):
+        self.add("text", "position", x=22, y=self.under + 38, font_size=11, fill="#333")
+
+    def label(self, position, base, fill, ink):
+        self.add("rect", x=16, y=base - 12, width=self.box, height=14, fill=fill)
+        self.add("text", self.names[position], x=22, y=base - 1, font_size=11, fill=ink)
+
+    def arrows(self):
+        self.parts.append(f'<defs><path id="{self.own}up" d="M0 0V-14M-3 -9L0 -15L3 -9Z" stroke="#000" fill="#000"/>'
+                          f'<path id="{self.own}down" d="M0 -14V0M-3.5 -6L0 0L3.5 -6" stroke="#000" fill="none"/></defs>')
+
     def arrow(self, name, x, y):
-        self.parts.append(f'<use xlink:href="#{name}" x="{x}" y="{y}"/>')
+        self.parts.append(f'<use {self.HREF}="#{self.own}{name}" x="{x}" y="{y}"/>')
 
     # Where a job ends by a report: a bar at the right end of its cells and in its strip.
     def ends(self, tick, position):
@@ -251,13 +267,20 @@ class Chart(Sheet):
     # The longest answer of a task beside its strip, against its D; and over a job that takes so long a bracket from release to end.
     def longest(self, position, figure, release):
         base = self.base(position)
-        self.text(self.x(self.end) + 11, base - 1, f"longest {figure} of {self.tasks[position - 1].D}", 11, fill="#333", id=f"figure{position}")
+        self.beside(base, f"longest {figure} of {self.tasks[position - 1].D}", 11, fill="#333", id=f"figure{position}")
         if release is not None:
             since, until = self.x(release), self.x(release + figure)
             with self.group(id=f"longest{position}"):
-                self.add("title", f"the job that position {position} releases in tick {release} ends {figure} ticks later")
+                self.add("title", f"the job that position {position} releases in tick {release} ends {self.amount(figure, 'tick')} later")
                 self.bracket(since, until, base - 11)
-                self.add("text", str(figure), x=round((since + until) / 2, 2), y=base - 12, font_size=8, text_anchor="middle", fill="#000")
+                self.over(figure, (since + until) / 2, base - 12)
+
+    # What stands over a bracket, and at the end of a strip.
+    def over(self, figure, x, y):
+        self.add("text", str(figure), x=round(x, 2), y=y, font_size=8, text_anchor="middle", fill="#000")
+
+    def beside(self, base, words, size, **more):
+        self.text(self.x(self.end) + 11, base - 1, words, size, **more)
 
     def bracket(self, since, until, y):
         self.add("path", d=f"M{since} {y + 3}V{y}H{until}V{y + 3}", stroke="#000", fill="none")
@@ -271,21 +294,32 @@ class Chart(Sheet):
         if self.start <= tick <= self.end:
             at = self.x(tick)
             self.add("line", id=name, x1=at, x2=at, y1=y - 8, y2=self.foot + 2, stroke=ink, stroke_width=2, stroke_dasharray=dashes)
-            if at + len(words) * 12 * 0.6 > max(self.x(self.end), 560):
+            if self.leftward(at, len(words) * 12 * 0.6):
                 self.text(at - 5, y, words, 12, fill=ink, text_anchor="end")
             else:
                 self.text(at + 5, y, words, 12, fill=ink)
+
+    # Whether words of this room stand left of a mark.
+    def leftward(self, at, room):
+        return at + room > max(self.x(self.end), 560)
 
     # A miss: the line across, a cross in the strip, and what the late job had.
     def late(self, tick, position, had, words, y):
         base = self.base(position)
         self.mark("miss", tick, words, y, RED, "none")
         self.add("path", id="late", d=f"M{self.x(tick) - 6} {base - 14}l12 12m0 -12l-12 12", stroke=RED, stroke_width=3, fill="none")
-        self.text(self.x(self.end) + 11, base - 1, f"had {had} of {self.tasks[position - 1].C}", 12, fill=RED, id="had")
+        self.beside(base, f"had {had} of {self.tasks[position - 1].C}", 12, fill=RED, id="had")
 
     # A tick at which something is refused: its number over the column.
     def refused(self, tick, number):
+        self.number = number
         self.text(self.x(tick) + self.wide / 2, self.top - 8, str(number), 11 if self.wide >= 24 else 9, fill=RED, font_weight="bold", text_anchor="middle", id=f"refused-{tick}")
+
+    # Ticks whose row is another than that of the full-length run: a band over them.
+    def differ(self, ticks):
+        with self.group(id="differs"):
+            for tick in ticks:
+                self.add("rect", x=self.x(tick), y=self.top - 5, width=round(self.wide, 2), height=4, **LOOKS["differs"])
 
     # A tick without a row.
     def blank(self, tick):
@@ -293,13 +327,65 @@ class Chart(Sheet):
 
     # The ticks' numbers, over the marks.
     def ticks(self):
-        step = next(step for step in (k * 10 ** n for n in range(8) for k in (1, 2, 5)) if step * self.wide >= 7 * len(str(self.end)) + 8)
+        self.step = step = next(step for step in (k * 10 ** n for n in range(8) for k in (1, 2, 5)) if step * self.wide >= 7 * len(self.figure(self.end)) + 8)
         with self.group(fill="#333", text_anchor="middle", font_size=11):
             for tick in range(-(-self.start // step) * step, self.end + 1, step):
-                room = 6.5 * len(str(tick)) + 4
+                room = 6.5 * len(self.figure(tick)) + 4
                 self.add("line", x1=self.x(tick), x2=self.x(tick), y1=self.under, y2=self.under + 4, stroke="#888")
                 self.add("rect", x=round(self.x(tick) - room / 2, 2), y=self.under + 5, width=round(room, 2), height=14, fill="#fff")
-                self.add("text", str(tick), x=self.x(tick), y=self.under + 16)
+                self.add("text", self.figure(tick), x=self.x(tick), y=self.under + 16)
+
+    # A number as it is written, and so many things.
+    def figure(self, number):
+        return str(number)
+
+    def amount(self, number, thing):
+        return f"{number} {thing}s"
+
+    # A sample of what a name of the legend says, 28 wide and 12 high.
+    def sample(self, name, x, y):
+        self.add("rect", x=x, y=y, width=28, height=12, **LOOKS[name])
+        if name == "ends":
+            self.stop(x + 28, y, 12, 3)
+        if name == "empty":
+            self.ring(x + 14, y + 6)
+        if name == "out":
+            self.gate(x + 10, y + 13)
+        if name == "longest":
+            self.bracket(x, x + 28, y + 1)
+        if name == "refusal":
+            self.add("text", str(self.number), x=x + 14, y=y + 10, font_size=11, fill=RED, font_weight="bold", text_anchor="middle")
+
+    # The names of the legend with their words: the fence first, where there is one.
+    def named(self, more):
+        return [("fenced", "a fenced core: it belongs to the hydraulics, and no task has it"), *more] if self.fenced else list(more)
+
+
+# A chart that is a picture of its own. `head` is what stands over it, the title first, and `red` what follows it in red.
+class Chart(Cells):
+    def __init__(self, table, start, rows, head, red=()):
+        super().__init__(table, start, rows)
+        self.names = {position: f"{position} (record {table.records[position - 1]})" for position in self.drawn}
+        self.box = 12 + 6 * max(map(len, self.names.values()))
+        self.over_fields = "O", "v/w" if self.pairs else "v", "C", "D", "T"
+        self.fields = {position: fields_of(self.tasks[position - 1]) for position in self.drawn}
+        self.columns = [max(len(field) for field in column) + 2 for column in zip(self.over_fields, *self.fields.values())]
+        self.lay_out(min(80, max(12, 960 / len(rows))), 16 + max(40, self.box + 14 + 6.1 * sum(self.columns)), 69 + 19 * (len(head) - 3 + len(red)) + 57)
+        self.text(16, 28, head[0], 17, font_weight="bold")
+        for k, line in enumerate([*head[1:], *red]):
+            self.text(16, 50 + 19 * k, line, 13, **({"fill": RED} if k >= len(head) - 1 else {}))
+
+    # The numbers of a task beside its name.
+    def numbered(self, fields, base):
+        self.add("text", "".join(field.rjust(width) for field, width in zip(fields, self.columns)), x=16 + self.box, y=base, **MONO)
+
+    def heading(self):
+        super().heading()
+        self.numbered(self.over_fields, self.under + 38)
+
+    def label(self, position, base, fill, ink):
+        super().label(position, base, fill, ink)
+        self.numbered(self.fields[position], base - 1)
 
     # How to read it: what is in every picture, and a line for each of these names.
     def legend(self, *more):
@@ -314,17 +400,76 @@ class Chart(Sheet):
         if self.pairs:
             y += 18
             self.text(16, y + 18, "v/w: the first, third and each odd job of the task takes v cores, each even job w.")
-        if self.fenced:
-            more = ("fenced", "a fenced core: it belongs to the hydraulics, and no task has it"), *more
-        for k, (name, words) in enumerate(more):
+        for k, (name, words) in enumerate(self.named(more)):
             at = y + 27 + 18 * k
-            self.add("rect", x=16, y=at, width=28, height=12, **LOOKS[name])
-            if name == "ends":
-                self.stop(44, at, 12, 3)
-            if name == "empty":
-                self.ring(30, at + 6)
-            if name == "out":
-                self.gate(26, at + 13)
-            if name == "longest":
-                self.bracket(16, 44, at + 1)
+            self.sample(name, 16, at)
             self.text(50, at + 10, words)
+
+
+# A chart in a page, which says the rest in its own words. The names of cores and strips are a drawing of their own, `side`, that stays where the ticks are scrolled.
+class Inset(Cells):
+    HREF = "href"
+    WIDE, MOST, ROOM, NAMES, PHONE = 26, 48, 900, 58, 318  # of a tick at least and at most, of all ticks where they are few, of the names, of what a phone shows
+
+    def __init__(self, own, table, start, rows):
+        super().__init__(table, start, rows, own)
+        self.pad = max(10, 4 * len(self.figure(self.end)))  # for a number under the first tick and the last
+        self.side = []
+        self.lay_out(round(min(self.MOST, max(self.WIDE, self.ROOM / len(rows))), 2), self.NAMES + self.pad, 42)
+
+    @contextlib.contextmanager
+    def aside(self):
+        ticks, self.parts = self.parts, self.side
+        yield
+        self.parts = ticks
+
+    # What a drawing adds, apart from the chart.
+    def apart(self, draw):
+        chart, self.parts = self.parts, []
+        draw()
+        added, self.parts = self.parts, chart
+        return "".join(added)
+
+    def core_names(self, right):
+        with self.aside():
+            super().core_names(self.NAMES - 8)
+
+    def heading(self):
+        with self.aside():
+            self.add("text", "position", x=self.NAMES - 8, y=self.under + 38, font_size=11, fill="#333", text_anchor="end")
+
+    def label(self, position, base, fill, ink):
+        with self.aside():
+            self.add("rect", x=self.NAMES - 36, y=base - 12, width=28, height=14, fill=fill)
+            self.add("text", str(position), x=self.NAMES - 22, y=base - 1, font_size=11, fill=ink, text_anchor="middle")
+
+    # With an edge: some colours are as light as what is behind them.
+    def worked(self, found, base, fill):
+        with self.group(stroke="#555"):
+            super().worked(found, base, fill)
+
+    # Thousands apart, as in the page's words.
+    def figure(self, number):
+        return f"{number:,}"
+
+    # Of a miss in a narrow picture the words stand over the line, so that a phone shows them whole.
+    def mark(self, name, tick, words, y, ink, dashes):
+        words = re.sub(r"\d{4,}", lambda found: self.figure(int(found[0])), words)
+        at, room = self.x(tick), len(words) * 12 * 0.6
+        if name == "miss" and self.start <= tick <= self.end and not self.leftward(at, room) and at + 5 + room > self.PHONE:
+            self.add("line", id=name, x1=at, x2=at, y1=y + 4, y2=self.foot + 2, stroke=ink, stroke_width=2, stroke_dasharray=dashes)
+            self.text(max(self.left, self.PHONE - room), y, words, 12, fill=ink)
+        else:
+            super().mark(name, tick, words, y, ink, dashes)
+
+    def leftward(self, at, room):
+        return at + room > self.x(self.end) and at - 5 - room >= self.NAMES
+
+    def amount(self, number, thing):
+        return f"{number} {thing}{'' if number == 1 else 's'}"
+
+    def over(self, figure, x, y):  # the page says it
+        pass
+
+    def beside(self, base, words, size, **more):  # and this
+        pass

@@ -12,10 +12,12 @@ The status is 0 where nothing is refused or missed, or the clash is drawn, 1 for
 import collections
 import contextlib
 import functools
+import math
 import os
 import re
 import subprocess
 import sys
+import time
 
 from chart import BLUE, Chart, Sheet, moments
 
@@ -76,6 +78,11 @@ class Trouble(Exception):
     pass
 
 
+# What is waited for has not come in time.
+class TooLong(Exception):
+    pass
+
+
 # What was asked for cannot be drawn: what is said of it, and the status.
 class Declined(Exception):
     def __init__(self, words, status):
@@ -96,27 +103,27 @@ def table_of(text):
 
 
 # The first tick to draw and the one after the last where none are asked for, and what they are in words.
-def stretch(word, first, second):
+def stretch(word, first, second, most=MOST):
     if word == "miss":
-        if first <= MOST:
+        if first <= most:
             return 0, first, "all ticks up to the miss"
-        return first - MOST, first, f"the last {MOST} ticks before the miss"
+        return first - most, first, f"the last {most} ticks before the miss"
     end = first + second
-    if end <= MOST:
+    if end <= most:
         return 0, end, "the whole look-ahead, up to the first repeat"
-    if second <= MOST:
+    if second <= most:
         return first, end, "the first period, from S"
-    return first, first + MOST, f"the first {MOST} ticks of the period that starts at S; the first repeat, at tick {end}, is further on"
+    return first, first + most, f"the first {most} ticks of the period that starts at S; the first repeat, at tick {end}, is further on"
 
 
-# The ticks that are asked for: from `since` up to and including `until`, either of which may be None.
+# The ticks that are asked for, and no more than `most`: from `since` up to and including `until`, either of which may be None.
 class Asked:
-    def __init__(self, since=None, until=None):
-        self.since, self.until = since, until
+    def __init__(self, since=None, until=None, most=MOST):
+        self.since, self.until, self.most = since, until, most
         if None not in (since, until) and until < since:
             raise Declined(f"--from {since} lies after --to {until}", USAGE)
-        self.start = since if since is not None else max(0, (until or 0) - MOST + 1)
-        self.end = min(self.start + MOST, until + 1 if until is not None else self.start + MOST)
+        self.start = since if since is not None else max(0, (until or 0) - most + 1)
+        self.end = min(self.start + most, until + 1 if until is not None else self.start + most)
 
     def __bool__(self):
         return (self.since, self.until) != (None, None)
@@ -127,7 +134,7 @@ class Asked:
             if tick is not None and tick >= count:
                 raise Declined(f"{name} {tick} is past the rows: {whose} ticks 0 to {count - 1}" if count > 1 else f"{name} {tick} is past the rows: {whose} tick 0 alone", USAGE)
         cut = self.until is not None and self.end <= self.until
-        return self.start, min(self.end, count), f"the first {MOST} of the {self.until + 1 - self.start:,} ticks asked for" if cut else "as asked for"
+        return self.start, min(self.end, count), f"the first {self.most} of the {self.until + 1 - self.start:,} ticks asked for" if cut else "as asked for"
 
 
 # How many ticks are shown of how many.
@@ -168,10 +175,12 @@ def refusal(number, position):
     return sheet.out(title, lines), REFUSED
 
 
-# The program's lines after so many, which are passed over by whole blocks.
-def lines_after(source, count):
+# The program's lines after so many, which are passed over by whole blocks, up to a moment.
+def lines_after(source, count, until=math.inf):
     rest = b""
     while count:
+        if time.monotonic() > until:
+            raise TooLong
         block = source.read1(BLOCK)
         found = block.count(b"\n")
         if not block or found >= count:
@@ -195,11 +204,11 @@ def row_in(fields, tick, table):
 
 
 # The rows of a stretch of ticks, from the program's lines; and how many rows from tick `since` on have a position, those before the stretch too.
-def rows_of(source, start, end, table, since, position):
+def rows_of(source, start, end, table, since, position, until=math.inf):
     rows, had, begin = [], 0, min(start, since)
     printed = table.drawn.index(position) + 1
     inside, last = b" %d " % printed, b" %d" % printed
-    for tick, line in zip(range(begin, end), lines_after(source, begin)):
+    for tick, line in zip(range(begin, end), lines_after(source, begin, until)):
         if tick < start:
             had += inside in line or line.rstrip().endswith(last)
             continue
@@ -233,6 +242,23 @@ def longest_jobs(figures, table, start, rows):
     return found
 
 
+# Draws the rows of a verdict that is no refusal: the cells, the strips, the longest answers, the miss with what the late job had, S and the first repeat. What the legend has more.
+def draw_rows(sheet, word, first, second, figures, had):
+    seen = word == "miss" and sheet.end == first
+    sheet.cells()
+    sheet.strips((first, second) if seen else None)
+    marked = longest_jobs(figures, sheet.table, sheet.start, sheet.rows)
+    for position, figure in enumerate(figures, 1):
+        sheet.longest(position, figure, marked.get(position))
+    if seen:
+        sheet.late(first, second, had, f"miss at tick {first}, position {second}", sheet.top - 10)
+    elif word != "miss":
+        sheet.mark("S", first, f"S, tick {first}", sheet.top - 26, BLUE, "6 3")
+        sheet.mark("repeat", first + second, f"first repeat, S + P, tick {first + second}", sheet.top - 10, BLUE, "2 3")
+    sheet.ticks()
+    return [("longest", "longest: the most ticks that a job takes from its release to its end, of its D; marked is the first job drawn that takes so many")] if figures else []
+
+
 # The picture of a verdict that is no refusal, and of the rows that it needs from the program's output; `answers` is what `ask` says to `longest`.
 def chart(word, first, second, table, source, asked, answers):
     count = first + (0 if word == "miss" else second)
@@ -241,22 +267,11 @@ def chart(word, first, second, table, source, asked, answers):
     seen = word == "miss" and end == first
     rows, had = rows_of(source, start, end, table, first - table.tasks[second - 1].D if seen else end, second if seen else table.drawn[0])
     head = [verdict_words(word, first, second, table), about(table) + ("" if word == "miss" else f"; S is {first}, P is {second}"), f"{shown(start, end, count)}: {what}."]
-    sheet = Chart(table, start, rows, head)
-    sheet.cells()
-    sheet.strips((first, second) if seen else None)
     figures = figures_of(answers, table) if word != "miss" else []
-    marked = longest_jobs(figures, table, start, rows)
-    for position, figure in enumerate(figures, 1):
-        sheet.longest(position, figure, marked.get(position))
-    if seen:
-        sheet.late(first, second, had, f"miss at tick {first}, position {second}", sheet.top - 10)
-        head.append(f"The late job had {had} of {table.tasks[second - 1].C}.")
-    elif word != "miss":
-        sheet.mark("S", first, f"S, tick {first}", sheet.top - 26, BLUE, "6 3")
-        sheet.mark("repeat", first + second, f"first repeat, S + P, tick {first + second}", sheet.top - 10, BLUE, "2 3")
-    sheet.ticks()
-    sheet.legend(*([("longest", "longest: the most ticks that a job takes from its release to its end, of its D; marked is the first job drawn that takes so many")] if figures else []))
-    tell = [f"Longest answers: {', '.join(f'position {position} {figure} of {task.D}' for position, (figure, task) in enumerate(zip(figures, table.tasks), 1))}."] if figures else []
+    sheet = Chart(table, start, rows, head)
+    sheet.legend(*draw_rows(sheet, word, first, second, figures, had))
+    tell = [f"The late job had {had} of {table.tasks[second - 1].C}."] if seen else []
+    tell += [f"Longest answers: {', '.join(f'position {position} {figure} of {task.D}' for position, (figure, task) in enumerate(zip(figures, table.tasks), 1))}."] if figures else []
     return sheet.out(head[0], head[1:] + tell), MISSED if word == "miss" else FINE
 
 
@@ -486,17 +501,10 @@ def list_words(listed, ticks):
     return [title, about(listed.table), ticks, "These are the rows of the list, not of the full-length run."], red
 
 
-# The picture of the rows of a list.
-def list_chart(listed):
-    table, count = listed.table, listed.tick + 1
-    if listed.asked:
-        start, end, what = listed.asked.within(count, "the list reaches")
-    else:
-        start, end, what = 0, min(MOST, count), "what the list reaches" if count <= MOST else f"the first {MOST} ticks that the list reaches"
-    head, red = list_words(listed, f"{shown(start, end, count, listed.more)}: {what}.")
-    sheet = Chart(table, start, listed.rows, head, red)
-    late = listed.late if listed.late and start <= listed.late[0] <= end else None
-    blank = late and late[0] < end
+# Draws the rows of a list and what is marked in them. What the legend has more.
+def draw_listed(sheet, listed):
+    late = listed.late if listed.late and sheet.start <= listed.late[0] <= sheet.end else None
+    blank = late and late[0] < sheet.end
     sheet.cells(listed.held)
     if blank:
         sheet.blank(late[0])
@@ -512,16 +520,33 @@ def list_chart(listed):
     for tick, number in sorted(listed.marks.items()):
         sheet.refused(tick, number)
     sheet.ticks()
-    sheet.legend(*([("ends", "ends here: the list reports that the job ends in this tick")] if listed.ended else []),
-                 *([("empty", "empty: the job is released in this tick and has nothing to do")] if listed.empty else []),
-                 *([("out", "withdrawn: a job under way goes on, those released from then on are empty")] if listed.out else []),
-                 *([("unused", "the rest of the job's length, which it does not take")] if listed.unused else []),
-                 *([("held", "the job has ended: its cores are held and not used")] if listed.held else []),
-                 *([("blank", "a tick whose row is refused")] if blank else []))
-    ends = [f"Position {position} ends in tick {tick} with {had} of {table.tasks[position - 1].C}." for tick, position, had in listed.ended]
-    ends += [f"The job that position {position} releases in tick {tick} is empty." for tick, position in listed.empty]
-    ends += [f"Position {position} is withdrawn in tick {tick}." for tick, position in listed.out]
-    return sheet.out(head[0], head[1:] + red + ends), REFUSED if listed.late or listed.refusals else FINE
+    return [(name, words) for name, words, there in (
+        ("ends", "ends here: the list reports that the job ends in this tick", listed.ended),
+        ("empty", "empty: the job is released in this tick and has nothing to do", listed.empty),
+        ("out", "withdrawn: a job under way goes on, those released from then on are empty", listed.out),
+        ("unused", "the rest of the job's length, which it does not take", listed.unused),
+        ("held", "the job has ended: its cores are held and not used", listed.held),
+        ("blank", "a tick whose row is refused", blank)) if there]
+
+
+# What is marked in the rows of a list, a sentence each, with its tick.
+def told(listed):
+    ends = [(tick, f"Position {position} ends in tick {tick} with {had} of {listed.table.tasks[position - 1].C}.") for tick, position, had in listed.ended]
+    ends += [(tick, f"The job that position {position} releases in tick {tick} is empty.") for tick, position in listed.empty]
+    return ends + [(tick, f"Position {position} is withdrawn in tick {tick}.") for tick, position in listed.out]
+
+
+# The picture of the rows of a list.
+def list_chart(listed):
+    count = listed.tick + 1
+    if listed.asked:
+        start, end, what = listed.asked.within(count, "the list reaches")
+    else:
+        start, end, what = 0, min(MOST, count), "what the list reaches" if count <= MOST else f"the first {MOST} ticks that the list reaches"
+    head, red = list_words(listed, f"{shown(start, end, count, listed.more)}: {what}.")
+    sheet = Chart(listed.table, start, listed.rows, head, red)
+    sheet.legend(*draw_listed(sheet, listed))
+    return sheet.out(head[0], head[1:] + red + [words for _, words in told(listed)]), REFUSED if listed.late or listed.refusals else FINE
 
 
 # A program that reads what it is sent. Leaving this closes its pipes: it stops at its next read or write, however many rows are left.
@@ -541,7 +566,18 @@ def answering(program, question, text):
             process.kill()
 
 
-# The words of a table, its chain linked over the records of the positions that are not kept.
+# The word and the two numbers of a verdict's line.
+def verdict_in(line):
+    fields = line.split()
+    if len(fields) != 3 or not (fields[1] + fields[2]).isdigit():
+        raise Trouble("the program printed no verdict")
+    word = fields[0].decode("ascii", "replace")
+    if word not in VERDICTS and word != "refused":
+        raise Trouble(f"the program's verdict is {word!r}")
+    return word, int(fields[1]), int(fields[2])
+
+
+# The words of a table whose chain has the records of these positions alone, in this order.
 def relinked(text, records, kept):
     words, link = text.split(), 0
     for record in [records[position - 1] for position in kept]:
@@ -556,42 +592,54 @@ def draw(program, text, asked=Asked(), table=None):
     with running(program) as process, answering(program, b"longest\n", text) as answers:
         process.stdin.write(text)
         process.stdin.close()
-        fields = process.stdout.readline(64).split()
-        if len(fields) != 3 or not (fields[1] + fields[2]).isdigit():
-            raise Trouble("the program printed no verdict")
-        word, first, second = fields[0].decode("ascii", "replace"), int(fields[1]), int(fields[2])
+        word, first, second = verdict_in(process.stdout.readline(64))
         if word == "refused":
             return refusal(first, second)
-        if word not in VERDICTS or table and word != "miss":
+        if table and word != "miss":
             raise Trouble(f"the program's verdict is {word!r}")
         return chart(word, first, second, table or table_of(text), process.stdout, asked, answers)
+
+
+# The table with the positions in its clash, by what `ask` answered.
+def clash_in(answer, table):
+    kept = [int(field) for field in answer.split()]
+    if not kept or kept != sorted({*kept} & {*range(1, len(table.tasks) + 1)}):
+        raise Trouble(f"the clash is {answer!r}")
+    return table._replace(clash=kept)
 
 
 # The picture of the clash in a table by what `ask` answered, and the status.
 def draw_clash(program, text, answer, asked=Asked()):
     if answer.startswith("refused"):
         return refusal(*numbers_in(answer.encode()))
-    table = table_of(text)
-    table = table._replace(clash=[int(field) for field in answer.split()])
-    if not table.clash or table.clash != sorted({*table.clash} & {*range(1, len(table.tasks) + 1)}):
-        raise Trouble(f"the clash is {answer!r}")
+    table = clash_in(answer, table_of(text))
     return draw(program, relinked(text, table.records, table.clash), asked, table)[0], FINE
+
+
+# What a list is called, and where it is read.
+def opened(path):
+    handed = re.fullmatch("/dev/fd/([0-9]+)", path)  # a descriptor that was handed down is read from where it stands
+    name = "the list" if handed else path
+    try:
+        return name, os.fdopen(int(handed[1]), "rb") if handed else open(path, "rb")
+    except OSError as error:
+        raise Declined(f"{name} could not be read: {error.strerror}", TROUBLE)
+
+
+# What start answers to a table, of which the row of tick 0 is asked too.
+def begun(process, text):
+    # a line `--` in a table is none of ours, so it is made another that is no number; the last line has its newline
+    text = re.sub(rb"(?m)^--$", b"---", text)
+    process.stdin.write(text + (b"" if text.endswith(b"\n") or not text else b"\n") + b"--\nr\n")
+    process.stdin.flush()
+    return next_line(process.stdout)
 
 
 # The picture of a list of operations of a table, and the status.
 def draw_list(program, text, path, asked=Asked()):
-    handed = re.fullmatch("/dev/fd/([0-9]+)", path)  # a descriptor that was handed down is read from where it stands
-    name = "the list" if handed else path
-    try:
-        source = os.fdopen(int(handed[1]), "rb") if handed else open(path, "rb")
-    except OSError as error:
-        raise Declined(f"{name} could not be read: {error.strerror}", TROUBLE)
+    name, source = opened(path)
     with source, running(program) as process:
-        # a line `--` in a table is none of ours, so it is made another that is no number; the last line has its newline
-        text = re.sub(rb"(?m)^--$", b"---", text)
-        process.stdin.write(text + (b"" if text.endswith(b"\n") or not text else b"\n") + b"--\nr\n")
-        process.stdin.flush()
-        started = next_line(process.stdout)
+        started = begun(process, text)
         if started != b"ok":
             return refusal(*numbers_in(started))
         listed = Listed(table_of(text), asked)

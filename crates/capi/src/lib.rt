@@ -22,7 +22,7 @@ mod supplied; // supplied.rt: a supplied plan in a lent buffer of words
 mod told; // told.rt: an answer in three words
 
 // The version of the library as one number: major * 10000 + minor * 100 + patch.
-const VERSION: u32 = 1600;
+const VERSION: u32 = 1700;
 
 // The version of the library that is linked; the header has that of the header.
 #[no_mangle]
