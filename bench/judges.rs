@@ -14,7 +14,7 @@ const THREAD_TIME: i32 = 3;
 extern "C" {
     fn sivorandra_judge(words: *const u32, words_len: usize, answer: *mut u32, answer_len: usize) -> u32;
     fn sivorandra_judge_ticks(words: *const u32, words_len: usize, answer: *mut u32, answer_len: usize) -> u32;
-    fn sivorandra_longest(words: *const u32, words_len: usize, figures: *mut u32, figures_len: usize, answer: *mut u32, answer_len: usize) -> u32;
+    fn sivorandra_response_times(words: *const u32, words_len: usize, figures: *mut u32, figures_len: usize, answer: *mut u32, answer_len: usize) -> u32;
     fn clock_gettime(clock: i32, time: *mut [i64; 2]) -> i32;
 }
 
@@ -35,7 +35,7 @@ fn library(judge: Judge, words: &[u32]) -> String {
 /// The longest answers, and the verdict that they go with: 13 for a miss.
 fn longest(words: &[u32], verdict: &str) -> String {
     let (mut figures, mut answer) = ([0; 32], [0; 3]);
-    let value = unsafe { sivorandra_longest(words.as_ptr(), words.len(), figures.as_mut_ptr(), figures.len(), answer.as_mut_ptr(), answer.len()) };
+    let value = unsafe { sivorandra_response_times(words.as_ptr(), words.len(), figures.as_mut_ptr(), figures.len(), answer.as_mut_ptr(), answer.len()) };
     assert_eq!((value, answer), (0, if verdict.starts_with("miss") { [3, 13, 0] } else { [0; 3] }), "the call is answered as the verdict says");
     verdict.into()
 }

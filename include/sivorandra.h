@@ -5,8 +5,8 @@
 
    What a call costs:
    - Memory: none from the heap. Of the stack less than SIVORANDRA_STACK_BYTES (measured: sentence 16,200 bytes, replay 15,800,
-     take 15,600, begin 14,600, plan 13,500, clash 13,400, start 12,700, advance 12,300, withdraw and withdraw_all 11,100, spare 10,800, judge 9,800,
-     longest 6,600, judge_ticks 5,800, row 5,400, sets 5,300, facts 700).
+     take 15,600, begin 14,600, plan 13,500, conflict 13,400, start 12,700, advance 12,300, withdraw and withdraw_all 11,100, slack 10,800, judge 9,800,
+     response_times 6,600, judge_ticks 5,800, row 5,400, sets 5,300, facts 700).
    - Threads: the library has no state and no data that is written to, so any number of threads may call at once, each with slices of its own
      to be written to; slices that are only read may be shared. Of the C library it calls memcpy and memset alone.
    - Time: row, sets, advance, the withdrawals and take take some microseconds at most, a bound by the 32 tasks and 64 cores alone. judge goes from one release,
@@ -15,8 +15,8 @@
      1,000,000,000, milliseconds where the periods are long, and two minutes where all 32 tasks move in every tick. No call can be stopped
      from outside: where that is too long, judge in a process of its own. judge_ticks takes every tick; start takes as long as judge, sentence
      about three times as long; plan judges up to b, and takes every tick up to b; replay takes a start, and an advance or a withdrawal for each entry;
-     facts goes once over its bytes; clash judges the table and parts of it, 529 times at most;
-     spare judges the table, and at most 20 times for each task the table with it longer; begin judges nothing.
+     facts goes once over its bytes; conflict judges the table and parts of it, 529 times at most;
+     slack judges the table, and at most 20 times for each task the table with it longer; begin judges nothing.
 
    A run in words, and a plan in words, belong to the version that wrote them: the words may change with the version. Keep SIVORANDRA_VERSION beside
    what is stored, and start or begin again where it differs; 14 finds what is no run, not a run of another version. */
@@ -54,7 +54,7 @@ extern "C" {
 #define SIVORANDRA_FULL 1u        /* S and P */
 #define SIVORANDRA_MISS 2u        /* tick and position */
 #define SIVORANDRA_LENGTH 0u      /* from sivorandra_sentence: the sentence's length, and 0 */
-#define SIVORANDRA_KEPT 0u        /* from sivorandra_clash: the set of the positions kept, bit 0 for position 1, and 0 */
+#define SIVORANDRA_KEPT 0u        /* from sivorandra_conflict: the set of the positions kept, bit 0 for position 1, and 0 */
 #define SIVORANDRA_REFUSED 3u     /* number, one of enum sivorandra_number, and position; from sivorandra_take the tick instead */
 #define SIVORANDRA_ROW_REFUSED 4u /* the last row of a replay: number and position */
 #define SIVORANDRA_NO_SENTENCE 5u /* from sivorandra_facts: 0 and 0 */
@@ -76,17 +76,17 @@ enum sivorandra_number {
     SIVORANDRA_BAD_RANGE = 10,    /* plan: a is above b, or b is above the horizon; take: the row is past the horizon */
     SIVORANDRA_SHORT_ROWS = 11,   /* plan: `rows` has fewer than (b - a) * cores bytes; take: the row's length is not the core count */
     SIVORANDRA_PAST_MISS = 12,    /* plan: b is above the tick of the first miss */
-    SIVORANDRA_TABLE_MISSES = 13, /* start, replay, longest: the verdict is a miss */
+    SIVORANDRA_TABLE_MISSES = 13, /* start, replay, response_times: the verdict is a miss */
     SIVORANDRA_NOT_A_RUN = 14,    /* row, sets, advance, withdraw, withdraw_all: the words are no run; take: they are no plan's */
     SIVORANDRA_LATE = 15,         /* row, sets, advance: the position, the lowest that is late, has not ended its job at its deadline */
     SIVORANDRA_BAD_REPORT = 16,   /* advance: for a position past the count, or a task that is not working or has no cores, its own or lent, in this tick */
-    SIVORANDRA_NO_MISS = 17,      /* sentence, clash: the table has no miss */
+    SIVORANDRA_NO_MISS = 17,      /* sentence, conflict: the table has no miss */
     SIVORANDRA_SHORT_BUFFER = 18, /* sentence: `buffer` is shorter than the sentence */
     SIVORANDRA_BAD_FENCE = 19,    /* the fence names a core past the count, or all cores */
     SIVORANDRA_BAD_EMPTY = 20,    /* row, sets, advance: for a position past the count, or a task whose job is not released in this very tick */
     SIVORANDRA_NOT_FIRM = 21,     /* withdraw, withdraw_all: the rule is greedy and a width of some task is above one of the next: without a task others could be late */
     SIVORANDRA_NO_POSITION = 22,  /* withdraw: the position is 0 or past the count; withdraw_all: one is past the count */
-    SIVORANDRA_SPARE_NOT_GIVEN = 23, /* spare: not accepted under limited, nor under greedy with no width of a task above one of the next */
+    SIVORANDRA_SLACK_NOT_GIVEN = 23, /* slack: not accepted under limited, nor under greedy with no width of a task above one of the next */
     SIVORANDRA_BAD_ROW = 24,      /* take: a byte of the row that is neither 0 nor a position, a fenced core without 255, a task with another width than
                                      its job's, or one with no work owed: not released, done, or past its deadline; with the row's tick */
     SIVORANDRA_DEADLINE_MISSED = 25, /* take: some job is not done at its deadline; with that tick */
@@ -252,7 +252,7 @@ uint32_t sivorandra_facts(const uint8_t *bytes, size_t bytes_len,
    refused; words behind them stay.
    It takes at most twice the time of sivorandra_judge (measured: as long where that goes from one release, end or deadline to the next, as
    this call always does, and half as long again where the periods are short), and 6,600 bytes of the stack. */
-uint32_t sivorandra_longest(const uint32_t *words, size_t words_len,
+uint32_t sivorandra_response_times(const uint32_t *words, size_t words_len,
                             uint32_t *figures, size_t figures_len,
                             uint32_t *answer, size_t answer_len);
 
@@ -264,7 +264,7 @@ uint32_t sivorandra_longest(const uint32_t *words, size_t words_len,
    table's. So it can take much longer than sivorandra_judge, which ends at the first miss: where all 32 tasks are kept, as long as 32 judgings
    without a miss. Every pass but the last drops a task: with the whole table it judges 529 times at most. It takes 13,400 bytes of the
    stack. */
-uint32_t sivorandra_clash(const uint32_t *words, size_t words_len,
+uint32_t sivorandra_conflict(const uint32_t *words, size_t words_len,
                           uint32_t *answer, size_t answer_len);
 
 /* The spare ticks of each task of the table in `words`, the largest number of ticks by which its C alone can grow with the table still accepted, into
@@ -274,7 +274,7 @@ uint32_t sivorandra_clash(const uint32_t *words, size_t words_len,
    one of the next: under idling and lending, and under greedy out of this order, a longer job can save a table in which a shorter one misses.
    It judges the table, and then for each task, by halving between a growth that is accepted and one that misses, at most 20 times the table with
    this task longer, each up to the horizon or the first miss: 641 judgings at most. It takes 10,800 bytes of the stack. */
-uint32_t sivorandra_spare(const uint32_t *words, size_t words_len,
+uint32_t sivorandra_slack(const uint32_t *words, size_t words_len,
                           uint32_t *figures, size_t figures_len,
                           uint32_t *answer, size_t answer_len);
 

@@ -6,7 +6,7 @@ fn main() -> io::Result<()> {
     let mut out = io::stdout().lock();
     for line in io::stdin().lock().lines() {
         let words: Vec<u32> = line?.split_whitespace().map(|word| word.parse().expect("a number")).collect();
-        match sivorandra::clash(&words) {
+        match sivorandra::conflict(&words) {
             Ok(kept) => writeln!(out, "kept {kept}")?,
             Err(refusal) => writeln!(out, "refused {} {}", refusal.number(), refusal.position())?,
         }

@@ -140,11 +140,11 @@ static uint32_t advance_with(uint32_t reports, uint32_t empties) { return sivora
 static uint32_t advance(uint32_t reports) { return advance_with(reports, 0); }
 static uint32_t withdraw(uint32_t position) { return sivorandra_withdraw(words_at(&run), run.len, position, ANSWER); }
 static uint32_t withdraw_all(uint32_t set) { return sivorandra_withdraw_all(words_at(&run), run.len, set, ANSWER); }
-static uint32_t clash(const uint32_t *table, size_t len) { return sivorandra_clash(table, len, ANSWER); }
+static uint32_t clash(const uint32_t *table, size_t len) { return sivorandra_conflict(table, len, ANSWER); }
 static uint32_t begin(const uint32_t *table, size_t len) { return sivorandra_begin(table, len, words_at(&run), run.len, ANSWER); }
 static uint32_t take(const uint8_t *row_lent, size_t len) { return sivorandra_take(words_at(&run), run.len, row_lent, len, ANSWER); }
-static uint32_t longest(const uint32_t *table, size_t len) { return sivorandra_longest(table, len, words_at(&numbers), numbers.len, ANSWER); }
-static uint32_t spare(const uint32_t *table, size_t len) { return sivorandra_spare(table, len, words_at(&numbers), numbers.len, ANSWER); }
+static uint32_t longest(const uint32_t *table, size_t len) { return sivorandra_response_times(table, len, words_at(&numbers), numbers.len, ANSWER); }
+static uint32_t spare(const uint32_t *table, size_t len) { return sivorandra_slack(table, len, words_at(&numbers), numbers.len, ANSWER); }
 
 /* A slice of length 0 whose pointer is NULL. */
 #define NONE(slice) ((slice).len = 0, (slice).null = 1)
@@ -410,7 +410,7 @@ static void horizons(void)
             memcpy(table, two, sizeof table), table[8] += late, table[13] += more;
             for (uint32_t i = 0; i < 2; i++) {
                 if (i && !late && !more)
-                    continue; /* so many ticks, one by one: tests/outside/leap */
+                    continue; /* so many ticks, one by one: tests/outside/judges */
                 fresh();
                 if (more)
                     refused(9);

@@ -6,7 +6,7 @@ fn main() -> io::Result<()> {
     let mut out = io::stdout().lock();
     for line in io::stdin().lock().lines() {
         let words: Vec<u32> = line?.split_whitespace().map(|word| word.parse().expect("a number")).collect();
-        match sivorandra::longest(&words) {
+        match sivorandra::response_times(&words) {
             Ok(figures) => writeln!(out, "ok {}", figures.map(|figure| figure.to_string()).join(" "))?,
             Err(refusal) => writeln!(out, "refused {} {}", refusal.number(), refusal.position())?,
         }

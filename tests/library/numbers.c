@@ -49,8 +49,8 @@ static uint32_t advance(uint32_t reports, uint32_t empties) { return sivorandra_
 static uint32_t withdraw(uint32_t position) { return sivorandra_withdraw(run, RUN, position, answer, SIVORANDRA_ANSWER_WORDS); }
 static uint32_t withdraw_all(uint32_t set) { return sivorandra_withdraw_all(run, RUN, set, answer, SIVORANDRA_ANSWER_WORDS); }
 static uint32_t sentence(size_t len) { return sivorandra_sentence(table, words, rows, len, answer, SIVORANDRA_ANSWER_WORDS); }
-static uint32_t longest(void) { return sivorandra_longest(table, words, run, SIVORANDRA_MOST_TASKS, answer, SIVORANDRA_ANSWER_WORDS); }
-static uint32_t spare(void) { return sivorandra_spare(table, words, run, SIVORANDRA_MOST_TASKS, answer, SIVORANDRA_ANSWER_WORDS); }
+static uint32_t longest(void) { return sivorandra_response_times(table, words, run, SIVORANDRA_MOST_TASKS, answer, SIVORANDRA_ANSWER_WORDS); }
+static uint32_t spare(void) { return sivorandra_slack(table, words, run, SIVORANDRA_MOST_TASKS, answer, SIVORANDRA_ANSWER_WORDS); }
 static uint32_t begin(void) { return sivorandra_begin(table, words, run, PLAN, answer, SIVORANDRA_ANSWER_WORDS); }
 static uint32_t take(uint8_t a, uint8_t b)
 {
@@ -63,7 +63,7 @@ static uint32_t idle(uint32_t ticks)
         take(0, 0);
     return take(0, 0);
 }
-static uint32_t clash(void) { return sivorandra_clash(table, words, answer, SIVORANDRA_ANSWER_WORDS); }
+static uint32_t clash(void) { return sivorandra_conflict(table, words, answer, SIVORANDRA_ANSWER_WORDS); }
 
 static void numbers(void)
 {
@@ -131,11 +131,11 @@ static void numbers(void)
     with(C, 6), expect("a clash", clash(), PASSES, 0);
     with(C, 6), table[V] = 3, expect("too wide, asked for the clash", clash(), SIVORANDRA_BAD_WIDTH, 1);
     fresh(2), expect("spare ticks, greedy and no width above the next", spare(), PASSES, 0);
-    fresh(2), table[V] = 2, expect("greedy and a width above the next", spare(), SIVORANDRA_SPARE_NOT_GIVEN, 0);
+    fresh(2), table[V] = 2, expect("greedy and a width above the next", spare(), SIVORANDRA_SLACK_NOT_GIVEN, 0);
     table[RULE] = SIVORANDRA_LIMITED, expect("the same under limited", spare(), PASSES, 0);
-    table[RULE] = SIVORANDRA_IDLING, expect("the same under idling", spare(), SIVORANDRA_SPARE_NOT_GIVEN, 0);
-    table[RULE] = SIVORANDRA_LENDING, expect("the same under lending", spare(), SIVORANDRA_SPARE_NOT_GIVEN, 0);
-    with(C, 6), table[RULE] = SIVORANDRA_LIMITED, expect("a miss under limited", spare(), SIVORANDRA_SPARE_NOT_GIVEN, 0);
+    table[RULE] = SIVORANDRA_IDLING, expect("the same under idling", spare(), SIVORANDRA_SLACK_NOT_GIVEN, 0);
+    table[RULE] = SIVORANDRA_LENDING, expect("the same under lending", spare(), SIVORANDRA_SLACK_NOT_GIVEN, 0);
+    with(C, 6), table[RULE] = SIVORANDRA_LIMITED, expect("a miss under limited", spare(), SIVORANDRA_SLACK_NOT_GIVEN, 0);
     with(V, 3), table[RULE] = SIVORANDRA_IDLING, expect("too wide, asked for the spare ticks", spare(), SIVORANDRA_BAD_WIDTH, 1);
 
     /* plans by others: a row without a task is idle */

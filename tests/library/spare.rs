@@ -1,6 +1,6 @@
 //! Calls of the library for tests/outside/spare: each line of standard input is a call, and one line answers it.
 //! `spare WORD..` asks for the spare ticks, and the answer is `ok` and 32 figures or `refused NUMBER POSITION`; `judge WORD..` for the verdict, and the answer is the program's verdict line.
-use sivorandra::{judge, spare, Refusal};
+use sivorandra::{judge, slack, Refusal};
 use std::io::{self, BufRead, Write};
 
 fn turned_down(refusal: Refusal) -> String {
@@ -15,7 +15,7 @@ fn main() -> io::Result<()> {
         let asks_spare = given.next() == Some("spare");
         let words: Vec<u32> = given.map(|word| word.parse().expect("a number")).collect();
         let answer = if asks_spare {
-            spare(&words).map(|figures| format!("ok {}", figures.map(|figure| figure.to_string()).join(" ")))
+            slack(&words).map(|figures| format!("ok {}", figures.map(|figure| figure.to_string()).join(" ")))
         } else {
             judge(&words).map(|verdict| verdict.to_string())
         };

@@ -29,9 +29,9 @@ static void withdraw(void) { sivorandra_withdraw(run, RUN, TASKS, answer, 3); }
 static void withdraw_all(void) { sivorandra_withdraw_all(run, RUN, 0xffffffffu, answer, 3); }
 static void say(void) { sivorandra_sentence(table, words, sentence, sizeof sentence, answer, 3); }
 static void read_back(void) { sivorandra_facts(sentence, length, facts, FACTS, answer, 3); }
-static void longest(void) { sivorandra_longest(table, words, numbers, TASKS, answer, 3); }
-static void spare(void) { sivorandra_spare(table, words, numbers, TASKS, answer, 3); }
-static void clash(void) { sivorandra_clash(table, words, answer, 3); }
+static void longest(void) { sivorandra_response_times(table, words, numbers, TASKS, answer, 3); }
+static void spare(void) { sivorandra_slack(table, words, numbers, TASKS, answer, 3); }
+static void clash(void) { sivorandra_conflict(table, words, answer, 3); }
 static void begin(void) { sivorandra_begin(table, words, supplied, SIVORANDRA_PLAN_WORDS, answer, 3); }
 /* an idle row, at the beginning and as the last */
 static void take(void)

@@ -330,9 +330,9 @@ extern "C" {
     fn sivorandra_sentence(words: *const u32, words_len: usize, buffer: *mut u8, buffer_len: usize, answer: *mut u32, answer_len: usize) -> u32;
     fn sivorandra_facts(bytes: *const u8, bytes_len: usize, facts: *mut u64, facts_len: usize, answer: *mut u32, answer_len: usize) -> u32;
     fn sivorandra_advance(run: *mut u32, run_len: usize, reports: u32, empties: u32, answer: *mut u32, answer_len: usize) -> u32;
-    fn sivorandra_longest(words: *const u32, words_len: usize, figures: *mut u32, figures_len: usize, answer: *mut u32, answer_len: usize) -> u32;
-    fn sivorandra_clash(words: *const u32, words_len: usize, answer: *mut u32, answer_len: usize) -> u32;
-    fn sivorandra_spare(words: *const u32, words_len: usize, figures: *mut u32, figures_len: usize, answer: *mut u32, answer_len: usize) -> u32;
+    fn sivorandra_response_times(words: *const u32, words_len: usize, figures: *mut u32, figures_len: usize, answer: *mut u32, answer_len: usize) -> u32;
+    fn sivorandra_conflict(words: *const u32, words_len: usize, answer: *mut u32, answer_len: usize) -> u32;
+    fn sivorandra_slack(words: *const u32, words_len: usize, figures: *mut u32, figures_len: usize, answer: *mut u32, answer_len: usize) -> u32;
     fn sivorandra_begin(words: *const u32, words_len: usize, plan: *mut u32, plan_len: usize, answer: *mut u32, answer_len: usize) -> u32;
     fn sivorandra_take(plan: *mut u32, plan_len: usize, row: *const u8, row_len: usize, answer: *mut u32, answer_len: usize) -> u32;
 }
@@ -480,16 +480,16 @@ pub fn facts_of(bytes: &[u8]) -> Option<Facts> {
 /// ever takes longer and some full-length job takes just that; in a run of a firm table no job takes longer, however early jobs end. 13 where the table misses.
 ///
 /// ```
-/// use sivorandra::{longest, Refusal, LIMITED};
+/// use sivorandra::{response_times, Refusal, LIMITED};
 ///
 /// let mut table = [1, 3, 1, 0, 0, 2, 0, 2, 2, 5, 5, 2, 3, 0, 2, 3, 5, 5, 2, 0, 0, 1, 4, 5, 5, 1];
-/// assert_eq!(longest(&table)?[..4], [2, 5, 4, 0]);
+/// assert_eq!(response_times(&table)?[..4], [2, 5, 4, 0]);
 /// table[2] = LIMITED;
-/// assert_eq!(longest(&table), Err(Refusal::TableMisses));
+/// assert_eq!(response_times(&table), Err(Refusal::TableMisses));
 /// # Ok::<(), Refusal>(())
 /// ```
-pub fn longest(words: &[u32]) -> Result<[u32; MOST_TASKS], Refusal> {
-    figures(|figures, most, answer, len| unsafe { sivorandra_longest(words.as_ptr(), words.len(), figures, most, answer, len) })
+pub fn response_times(words: &[u32]) -> Result<[u32; MOST_TASKS], Refusal> {
+    figures(|figures, most, answer, len| unsafe { sivorandra_response_times(words.as_ptr(), words.len(), figures, most, answer, len) })
 }
 
 /// The tasks in the clash of a table's words, which misses: the set of the positions kept, bit p for position p + 1. From the lowest priority upward a task is dropped if what
@@ -497,16 +497,16 @@ pub fn longest(words: &[u32]) -> Result<[u32; MOST_TASKS], Refusal> {
 /// the table has no miss.
 ///
 /// ```
-/// use sivorandra::{clash, Refusal, GREEDY};
+/// use sivorandra::{conflict, Refusal, GREEDY};
 ///
 /// let mut table = [1, 2, 2, 0, 0, 2, 0, 1, 3, 3, 4, 1, 3, 0, 2, 1, 4, 4, 2, 0, 0, 1, 2, 2, 4, 1];
-/// assert_eq!(clash(&table)?, 0b110); // positions 2 and 3
+/// assert_eq!(conflict(&table)?, 0b110); // positions 2 and 3
 /// table[2] = GREEDY;
-/// assert_eq!(clash(&table), Err(Refusal::NoMiss));
+/// assert_eq!(conflict(&table), Err(Refusal::NoMiss));
 /// # Ok::<(), Refusal>(())
 /// ```
-pub fn clash(words: &[u32]) -> Result<u32, Refusal> {
-    given(ask(|answer, len| unsafe { sivorandra_clash(words.as_ptr(), words.len(), answer, len) }))
+pub fn conflict(words: &[u32]) -> Result<u32, Refusal> {
+    given(ask(|answer, len| unsafe { sivorandra_conflict(words.as_ptr(), words.len(), answer, len) }))
 }
 
 /// The spare ticks of each task of a table's words: the largest number of ticks by which its C alone can grow with the table still accepted, that of position 1 first, and 0 past the
@@ -514,18 +514,18 @@ pub fn clash(words: &[u32]) -> Result<u32, Refusal> {
 /// width of a task above one of the next.
 ///
 /// ```
-/// use sivorandra::{judge, spare, Refusal, Verdict, IDLING};
+/// use sivorandra::{judge, slack, Refusal, Verdict, IDLING};
 ///
 /// let mut table = [1, 1, 2, 0, 0, 2, 0, 1, 1, 4, 4, 1, 0, 0, 1, 1, 3, 4, 1];
-/// assert_eq!(spare(&table)?[..3], [1, 1, 0]);
+/// assert_eq!(slack(&table)?[..3], [1, 1, 0]);
 /// table[8] = 3; // two ticks more
 /// assert_eq!(judge(&table)?, Verdict::Miss { tick: 3, position: 2 });
 /// table[2] = IDLING;
-/// assert_eq!(spare(&table), Err(Refusal::SpareNotGiven));
+/// assert_eq!(slack(&table), Err(Refusal::SlackNotGiven));
 /// # Ok::<(), Refusal>(())
 /// ```
-pub fn spare(words: &[u32]) -> Result<[u32; MOST_TASKS], Refusal> {
-    figures(|figures, most, answer, len| unsafe { sivorandra_spare(words.as_ptr(), words.len(), figures, most, answer, len) })
+pub fn slack(words: &[u32]) -> Result<[u32; MOST_TASKS], Refusal> {
+    figures(|figures, most, answer, len| unsafe { sivorandra_slack(words.as_ptr(), words.len(), figures, most, answer, len) })
 }
 
 /// Starts a run, takes it through the entries of a list, and asks its row with no empty job.

@@ -70,7 +70,7 @@ pub enum Refusal {
     /// 22, of a withdrawal: a position is 0 or past the count.
     NoPosition,
     /// 23, of the spare ticks: the table is not accepted under rule 2, nor under rule 1 with no width of a task above one of the next.
-    SpareNotGiven,
+    SlackNotGiven,
     /// 24, of a row taken: a byte that is neither 0 nor a position, a fenced core without 255, a task with another width than its job's, or one with no work owed.
     BadRow {
         /// The tick of the row.
@@ -130,7 +130,7 @@ impl Refusal {
             (20, 0) => Refusal::BadEmpty,
             (21, 0) => Refusal::NotFirm,
             (22, 0) => Refusal::NoPosition,
-            (23, 0) => Refusal::SpareNotGiven,
+            (23, 0) => Refusal::SlackNotGiven,
             (24, tick) => Refusal::BadRow { tick },
             (25, tick) => Refusal::DeadlineMissed { tick },
             (26, tick) => Refusal::PhasesDiffer { tick },
@@ -167,7 +167,7 @@ impl Refusal {
             Refusal::BadEmpty => 20,
             Refusal::NotFirm => 21,
             Refusal::NoPosition => 22,
-            Refusal::SpareNotGiven => 23,
+            Refusal::SlackNotGiven => 23,
             Refusal::BadRow { .. } => 24,
             Refusal::DeadlineMissed { .. } => 25,
             Refusal::PhasesDiffer { .. } => 26,
@@ -232,7 +232,7 @@ impl fmt::Display for Refusal {
             Refusal::BadEmpty => write!(out, "an empty job for a position past the count, or for a task whose job is not released in this tick"),
             Refusal::NotFirm => write!(out, "the rule is greedy and a width of some task is above one of the next, so that others could be late without a task"),
             Refusal::NoPosition => write!(out, "a position is 0 or past the count"),
-            Refusal::SpareNotGiven => write!(out, "the table is not accepted under rule 2, nor under rule 1 with no width of a task above one of the next"),
+            Refusal::SlackNotGiven => write!(out, "the table is not accepted under rule 2, nor under rule 1 with no width of a task above one of the next"),
             Refusal::BadRow { tick } => write!(out, "the row of tick {tick} has a byte that it may not have, a task with another width than its job's, or one with no work owed"),
             Refusal::DeadlineMissed { tick } => write!(out, "some job is not done at its deadline at tick {tick}"),
             Refusal::PhasesDiffer { tick } => write!(out, "at tick {tick}, the horizon, some task is not in the phase that it had at the last S"),

@@ -9,21 +9,21 @@ use Rattle.table.proofs.Examples.{wordsA}
 use Rattle.table.specs.Answer.{answerOf, byHorizon, byTasks, byWalk, endingOf, firstOut, headerNumber, lastStep}
 use Rattle.table.specs.Words.{chain, count, met, tableOf}
 use Rattle.judge.specs.Judged.{verdictOf}
-use Rattle.clash.specs.Answer.{clashOf}
-use Rattle.clash.specs.Clash.{clashSet, clashes, dropped, pass, passes}
-use Rattle.clash.specs.Part.{chosen}
-use Rattle.capi.specs.Calls.{Left, left, clashCall}
+use Rattle.conflict.specs.Answer.{conflictOf}
+use Rattle.conflict.specs.Conflict.{conflictSet, conflicts, dropped, pass, passes}
+use Rattle.conflict.specs.SubTable.{chosen}
+use Rattle.capi.specs.Calls.{CallResult, callResult, conflictCall}
 
 -- A LINE: the words of a table, the slice lent for the answer, and what is left
 
 pub record Line : Type 0 where
   pub words : List ℕ
   pub answer : List ℕ
-  pub leaves : Left
+  pub leaves : CallResult
 
 -- what the definitions say of a line's words and slice
 abbrev pub worked : Line → Line
-worked l = record { words = l .words; answer = l .answer; leaves = clashCall (l .words) (l .answer) }
+worked l = record { words = l .words; answer = l .answer; leaves = conflictCall (l .words) (l .answer) }
 
 -- so many words as they are lent
 abbrev lent : ℕ → List ℕ
@@ -31,10 +31,10 @@ lent n = replicate n 77
 
 -- the three words of an answer, and a fourth that stays; a slice that is too short stays
 abbrev answers : List ℕ → ℕ → ℕ → ℕ → Line
-answers ws k a b = record { words = ws; answer = lent 4; leaves = left 0 ((k ∷ a ∷ b ∷ lent 1) ∷ []) }
+answers ws k a b = record { words = ws; answer = lent 4; leaves = callResult 0 ((k ∷ a ∷ b ∷ lent 1) ∷ []) }
 
 abbrev stays : List ℕ → ℕ → Line
-stays ws n = record { words = ws; answer = lent n; leaves = left 1 (lent n ∷ []) }
+stays ws n = record { words = ws; answer = lent n; leaves = callResult 1 (lent n ∷ []) }
 
 -- B under a rule: rule 2 needs its second and third tasks
 abbrev ruledB : ℕ → List ℕ
@@ -56,6 +56,6 @@ lines =
 
 -- every line is what the definitions say
 pub examples : map worked lines ≡ lines
-unfolding clashCall clashOf clashSet passes pass dropped clashes chosen verdictOf answerOf byWalk byTasks byHorizon firstOut endingOf lastStep headerNumber
+unfolding conflictCall conflictOf conflictSet passes pass dropped conflicts chosen verdictOf answerOf byWalk byTasks byHorizon firstOut endingOf lastStep headerNumber
     tableOf chain count met computing
 examples = refl

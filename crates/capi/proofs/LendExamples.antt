@@ -8,7 +8,7 @@ use lib.ListN.{replicate}
 use Rattle.phase.specs.declared.Phase.{Phase}
 use Rattle.phase.specs.declared.Phase.the-variants.{Working, Holding, Resting}
 use Rattle.phase.specs.declared.Task.{Task}
-use Rattle.capi.specs.Calls.{Left}
+use Rattle.capi.specs.Calls.{CallResult}
 use Rattle.capi.specs.Encoding.{placeWords}
 use Rattle.capi.specs.Runs.{rowCall, advanceCall}
 use Rattle.capi.proofs.Calling.{calling}
@@ -29,7 +29,7 @@ abbrev pub held : ℕ → List ℕ
 held n = words n (Holding 1 1) (Working 1 0 0)
 
 -- the call is answered
-abbrev answered : List (List ℕ) → Left
+abbrev answered : List (List ℕ) → CallResult
 answered ls = record { value = 0; lent = ls }
 
 -- taken, and refused with number n

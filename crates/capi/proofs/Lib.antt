@@ -12,7 +12,7 @@ mod Supplying
 pub mod Kept
 pub mod Listed
 pub mod Past
-pub mod Fourteen
+pub mod RunRefused
 pub mod SuppliedKept
 pub mod Examples
 pub mod Calling

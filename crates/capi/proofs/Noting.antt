@@ -11,12 +11,12 @@ use Rattle.model.proofs.Bools.{and-left, and-right}
 use Rattle.phase.specs.declared.Phase.{Phase}
 use Rattle.phase.specs.declared.Phase.the-variants.{Coming, Working, Holding, Resting}
 use Rattle.run.proofs.Written.{take-more}
-use Rattle.foreign.specs.declared.Note.{Note}
-use Rattle.foreign.specs.State.{note, pastNote}
-use Rattle.capi.specs.declared.held.PhaseWords.{PhaseWords}
+use Rattle.plan_check.specs.declared.Note.{Note}
+use Rattle.plan_check.specs.State.{note, pastNote}
+use Rattle.capi.specs.declared.run_buffer.PhaseWords.{PhaseWords}
 use Rattle.capi.specs.Encoding.{phaseWords, ofPhase, phaseOf, isPhase}
 use Rattle.capi.specs.Supplied.{notesAt, noteSize, noteAt, fourWords, noteWords, notesWords, putAt, phaseNoted, noteIn, notesIn, isNote, areNotes}
-use Rattle.capi.proofs.Inverse.{phase-forth}
+use Rattle.capi.proofs.Inverse.{phase-encode}
 
 -- WORDS PUT INTO A BUFFER
 
@@ -210,25 +210,25 @@ note-front ws h =
     ∙ ap (λ (l : List ℕ). getD ws 1 0 ∷ l) (drop-cons ws 2 0 (omega arith)
     ∙ ap (λ (l : List ℕ). getD ws 2 0 ∷ l) (drop-cons ws 3 0 (omega arith)))))
 
-note-forth : (ws : List ℕ) → noteSize ≤ length ws → isNote ws ≡ true → noteWords (noteIn ws) ++ drop noteSize ws ≡ ws
-note-forth ws h e =
+note-encode : (ws : List ℕ) → noteSize ≤ length ws → isNote ws ≡ true → noteWords (noteIn ws) ++ drop noteSize ws ≡ ws
+note-encode ws h e =
     let k = getD ws 0 0 in
     let a = getD ws 1 0 in
     let b = getD ws 2 0 in
     let c = getD ws 3 0 in
     let same : phaseNoted k a b c ≡ phaseOf k a b c = rw e refl in
-    (λ i. fourWords ((ap ofPhase same ∙ phase-forth k a b c e) i) ++ drop noteSize ws)
+    (λ i. fourWords ((ap ofPhase same ∙ phase-encode k a b c e) i) ++ drop noteSize ws)
     ∙ note-front ws h
 
 -- notes that are phases are the encoding of what is read of them
-pub notes-forth : (n : ℕ) (ws : List ℕ) → noteSize * n ≤ length ws → areNotes n ws ≡ true → notesWords (notesIn n ws) ++ drop (noteSize * n) ws ≡ ws
+pub notes-encode : (n : ℕ) (ws : List ℕ) → noteSize * n ≤ length ws → areNotes n ws ≡ true → notesWords (notesIn n ws) ++ drop (noteSize * n) ws ≡ ws
 unfolding areNotes notesIn notesWords
-notes-forth zero ws h e = refl
-notes-forth (suc n) ws h e =
+notes-encode zero ws h e = refl
+notes-encode (suc n) ws h e =
     let d = length-drop noteSize ws in
     let k : noteSize * suc n ≡ noteSize + noteSize * n = omega arith in
-    let rest = notes-forth n (drop noteSize ws) (omega arith) (and-right (isNote ws) (areNotes n (drop noteSize ws)) e) in
+    let rest = notes-encode n (drop noteSize ws) (omega arith) (and-right (isNote ws) (areNotes n (drop noteSize ws)) e) in
     ap (λ (m : ℕ). notesWords (notesIn (suc n) ws) ++ drop m ws) k
     ∙ (ap (λ (l : List ℕ). notesWords (notesIn (suc n) ws) ++ l) (sym (drop-drop (noteSize * n) noteSize ws))
     ∙ (ap (λ (l : List ℕ). noteWords (noteIn ws) ++ l) rest
-    ∙ note-forth ws (omega arith) (and-left (isNote ws) (areNotes n (drop noteSize ws)) e)))
+    ∙ note-encode ws (omega arith) (and-left (isNote ws) (areNotes n (drop noteSize ws)) e)))

@@ -11,18 +11,18 @@ use Rattle.run.specs.declared.Answer.the-variants.{Taken, Refused}
 use Rattle.run.specs.declared.Run.{Run}
 use Rattle.run.specs.Answer.{byAnswer}
 use Rattle.model.specs.Book.{Entry}
-use Rattle.demand.specs.Entries.{entryOf}
-use Rattle.run.specs.Past.{Unread}
+use Rattle.refinement.specs.Entries.{entryOf}
+use Rattle.run.specs.Past.{TailUnread}
 use Rattle.run.proofs.Past.{past-unread}
 use Rattle.phase.specs.Task.{unused}
-use Rattle.capi.specs.Encoding.{headWords, eachWords, places, wordsTo, placesWords, encodeTo, overwritten, placesIn, arePlaces, countIn, holds, padded, runIn, Held, run, none, decode, cleared}
+use Rattle.capi.specs.Encoding.{headWords, eachWords, places, wordsTo, placesWords, encodeTo, overwritten, placesIn, arePlaces, countIn, holdsRun, padded, runIn, BufferRun, run, none, decode, cleared}
 use Rattle.capi.specs.Runs.{rowFrom, setsFrom, entryFrom}
 use Rattle.capi.specs.Past.{usedIn, SameUsed, WordsUnread}
 use Rattle.table.specs.Words.{fenceOf}
 use Rattle.capi.proofs.Places.{length-words, length-read, held-by, by-held, held-few, held-places}
-use Rattle.capi.proofs.Inverse.{length-to, held-run, places-are, places-back, places-forth}
+use Rattle.capi.proofs.Inverse.{length-to, held-run, places-are, places-back, places-encode}
 use Rattle.capi.proofs.Keeping.{count-kept}
-use Rattle.capi.proofs.Kept.{Fits, held-fits, fits-entered}
+use Rattle.capi.proofs.Kept.{FitsWord, held-fits, fits-entered}
 
 -- the buffer's count is that of the run that it holds
 held-count : (ws : List ℕ) (r : Run) → decode ws ≡ run r → r .count ≡ countIn ws
@@ -39,7 +39,7 @@ same-places n ws vs h e u =
     let read = placesIn n ws in
     let many = length-read n ws in
     let front : take (eachWords * n) ws ≡ placesWords read =
-    ap (take (eachWords * n)) (sym (places-forth n ws h e))
+    ap (take (eachWords * n)) (sym (places-encode n ws h e))
     ∙ take-at (placesWords read) (drop (eachWords * n) ws) (eachWords * n) (length-words read ∙ ap (λ (k : ℕ). eachWords * k) many) in
     let other : placesWords read ++ drop (eachWords * n) vs ≡ vs =
     ap (λ (l : List ℕ). l ++ drop (eachWords * n) vs) (sym front ∙ u) ∙ take-append-drop (eachWords * n) vs in
@@ -49,7 +49,7 @@ same-places n ws vs h e u =
     }
 
 -- a run that is cleared, as it is when it comes back from its encoding, is the run up to its count: it gets equal rows, sets and answers
-pub cleared-unread : (r : Run) → length (r .tasks) ≡ places → r .count ≤ places → (x e : ℕ) → Unread r (cleared r) x e
+pub cleared-unread : (r : Run) → length (r .tasks) ≡ places → r .count ≤ places → (x e : ℕ) → TailUnread r (cleared r) x e
 cleared-unread r all few x e =
     let n = r .count in
     past-unread r (cleared r)
@@ -89,7 +89,7 @@ module _ (ws vs : List ℕ) (s : SameUsed ws vs) where
       ap (drop headWords) (take-add headWords (eachWords * countIn ws) l)
       ∙ drop-at (take headWords l) (take (eachWords * countIn ws) (drop headWords l)) headWords (length-take-le headWords l h)
 
-  module _ (e : holds ws ≡ true) where
+  module _ (e : holdsRun ws ≡ true) where
     same-read : SamePlaces (countIn ws) (drop headWords ws) (drop headWords vs)
     same-read =
         let few = held-few ws e in
@@ -99,7 +99,7 @@ module _ (ws vs : List ℕ) (s : SameUsed ws vs) where
         same-places (countIn ws) (drop headWords ws) (drop headWords vs) (omega arith) (held-places ws e)
         (sym (behind-head ws (omega arith)) ∙ (ap (drop headWords) (s .used) ∙ behind-head vs (omega arith)))
 
-    also-holds : holds vs ≡ true
+    also-holds : holdsRun vs ≡ true
     also-holds =
         held-by vs (s .other-long) (omega (arith, same-count, held-few ws e))
         ∙ (ap (λ (n : ℕ). arePlaces n (drop headWords vs)) (sym same-count) ∙ same-read .are)
@@ -124,7 +124,7 @@ module _ (ws vs : List ℕ) (s : SameUsed ws vs) where
 pub same-held : (ws vs : List ℕ) → SameUsed ws vs → decode ws ≡ decode vs
 same-held ws vs s = go (decode ws) (decode vs) refl refl
   where
-    go : (h g : Held) → decode ws ≡ h → decode vs ≡ g → decode ws ≡ decode vs
+    go : (h g : BufferRun) → decode ws ≡ h → decode vs ≡ g → decode ws ≡ decode vs
     go (run r) g e f = e ∙ sym (also-held ws vs s r e)
     go none (run r) e f = also-held vs ws (turned ws vs s) r f ∙ sym f
     go none none e f = e ∙ sym f
@@ -132,7 +132,7 @@ same-held ws vs s = go (decode ws) (decode vs) refl refl
 -- NOT CHANGED
 
 -- what an entry on run r leaves in a buffer, in two parts: up to the count, and behind it
-module _ (r : Run) (f : Fits r) (x : Entry) where
+module _ (r : Run) (f : FitsWord r) (x : Entry) where
   abbrev next : Run
   next = entryOf r x .run
 
@@ -147,12 +147,12 @@ module _ (r : Run) (f : Fits r) (x : Entry) where
       → take (wordsTo (r .count)) (entryFrom (run r) x ws .buffer) ≡ take (wordsTo (r .count)) (entryFrom (run r) x vs .buffer)
   front ws vs e = go (entryOf r x .answer)
     where
-      left : (l : List ℕ) → take (wordsTo (r .count)) (overwritten (next .count) next l) ≡ encodeTo (next .count) next
-      left l = take-at (encodeTo (next .count) next) (drop (wordsTo (next .count)) l) (wordsTo (r .count)) length-next
+      callResult : (l : List ℕ) → take (wordsTo (r .count)) (overwritten (next .count) next l) ≡ encodeTo (next .count) next
+      callResult l = take-at (encodeTo (next .count) next) (drop (wordsTo (next .count)) l) (wordsTo (r .count)) length-next
 
       go : (a : Answer)
           → take (wordsTo (r .count)) (byAnswer a (overwritten (next .count) next ws) ws) ≡ take (wordsTo (r .count)) (byAnswer a (overwritten (next .count) next vs) vs)
-      go Taken = left ws ∙ sym (left vs)
+      go Taken = callResult ws ∙ sym (callResult vs)
       go (Refused n p) = e
 
   behind : (ws : List ℕ) → drop (wordsTo (r .count)) (entryFrom (run r) x ws .buffer) ≡ drop (wordsTo (r .count)) ws
@@ -168,32 +168,32 @@ module _ (r : Run) (f : Fits r) (x : Entry) where
 pub words-unchanged : (ws : List ℕ) (x : Entry) → drop (usedIn ws) (entryFrom (decode ws) x ws .buffer) ≡ drop (usedIn ws) ws
 words-unchanged ws x = go (decode ws) refl
   where
-    go : (h : Held) → decode ws ≡ h → drop (usedIn ws) (entryFrom (decode ws) x ws .buffer) ≡ drop (usedIn ws) ws
+    go : (h : BufferRun) → decode ws ≡ h → drop (usedIn ws) (entryFrom (decode ws) x ws .buffer) ≡ drop (usedIn ws) ws
     go (run r) e =
         let at : usedIn ws ≡ wordsTo (r .count) = ap wordsTo (sym (held-count ws r e)) in
-        ap (λ (h : Held). drop (usedIn ws) (entryFrom h x ws .buffer)) e
+        ap (λ (h : BufferRun). drop (usedIn ws) (entryFrom h x ws .buffer)) e
         ∙ (ap (λ (k : ℕ). drop k (entryFrom (run r) x ws .buffer)) at ∙ (behind r (held-fits ws r e .0) x ws ∙ ap (λ (k : ℕ). drop k ws) (sym at)))
-    go none e = ap (λ (h : Held). drop (usedIn ws) (entryFrom h x ws .buffer)) e
+    go none e = ap (λ (h : BufferRun). drop (usedIn ws) (entryFrom h x ws .buffer)) e
 
 -- two buffers that are equal up to the count get equal rows, sets and answers, and are equal up to the count again after an entry
 pub words-unread : (ws vs : List ℕ) → SameUsed ws vs → (x : Entry) → WordsUnread ws vs x
 words-unread ws vs s x = record {
   held = same-held ws vs s;
-  row = λ e. ap (λ (h : Held). rowFrom h e) (same-held ws vs s);
-  sets = λ e. ap (λ (h : Held). setsFrom h e) (same-held ws vs s);
-  answer = answered (decode ws) ∙ ap (λ (h : Held). entryFrom h x vs .answer) (same-held ws vs s);
-  used = go (decode ws) refl ∙ ap (λ (h : Held). take (usedIn ws) (entryFrom h x vs .buffer)) (same-held ws vs s);
+  row = λ e. ap (λ (h : BufferRun). rowFrom h e) (same-held ws vs s);
+  sets = λ e. ap (λ (h : BufferRun). setsFrom h e) (same-held ws vs s);
+  answer = answered (decode ws) ∙ ap (λ (h : BufferRun). entryFrom h x vs .answer) (same-held ws vs s);
+  used = go (decode ws) refl ∙ ap (λ (h : BufferRun). take (usedIn ws) (entryFrom h x vs .buffer)) (same-held ws vs s);
 }
   where
-    answered : (h : Held) → entryFrom h x ws .answer ≡ entryFrom h x vs .answer
+    answered : (h : BufferRun) → entryFrom h x ws .answer ≡ entryFrom h x vs .answer
     answered (run r) = refl
     answered none = refl
 
-    go : (h : Held) → decode ws ≡ h → take (usedIn ws) (entryFrom (decode ws) x ws .buffer) ≡ take (usedIn ws) (entryFrom (decode ws) x vs .buffer)
+    go : (h : BufferRun) → decode ws ≡ h → take (usedIn ws) (entryFrom (decode ws) x ws .buffer) ≡ take (usedIn ws) (entryFrom (decode ws) x vs .buffer)
     go (run r) e =
         let at : usedIn ws ≡ wordsTo (r .count) = ap wordsTo (sym (held-count ws r e)) in
         let same : take (wordsTo (r .count)) ws ≡ take (wordsTo (r .count)) vs = ap (λ (k : ℕ). take k ws) (sym at) ∙ (s .used ∙ ap (λ (k : ℕ). take k vs) at) in
         (λ i. take (at i) (entryFrom (e i) x ws .buffer)) ∙ (front r (held-fits ws r e .0) x ws vs same ∙ sym (λ i. take (at i) (entryFrom (e i) x vs .buffer)))
     go none e =
-        ap (λ (h : Held). take (usedIn ws) (entryFrom h x ws .buffer)) e
-        ∙ (s .used ∙ sym (ap (λ (h : Held). take (usedIn ws) (entryFrom h x vs .buffer)) e))
+        ap (λ (h : BufferRun). take (usedIn ws) (entryFrom h x ws .buffer)) e
+        ∙ (s .used ∙ sym (ap (λ (h : BufferRun). take (usedIn ws) (entryFrom h x vs .buffer)) e))

@@ -7,7 +7,7 @@ use Prim.Native.Nat.{ℕ}
 use lib.ListN.{replicate}
 use Rattle.phase.specs.declared.Phase.{Phase}
 use Rattle.phase.specs.declared.Phase.the-variants.{Coming, Working, Resting}
-use Rattle.capi.specs.Calls.{Left}
+use Rattle.capi.specs.Calls.{CallResult}
 use Rattle.capi.specs.Encoding.{placeWords}
 use Rattle.capi.specs.Runs.{rowCall, advanceCall, withdrawCall}
 use Rattle.capi.proofs.Calling.{calling}
@@ -34,7 +34,7 @@ abbrev second : Phase → List ℕ
 second ph = words 0 true ph
 
 -- the call is answered
-abbrev answered : List (List ℕ) → Left
+abbrev answered : List (List ℕ) → CallResult
 answered ls = record { value = 0; lent = ls }
 
 -- taken, and refused with number n

@@ -10,7 +10,7 @@ use Rattle.model.proofs.LineByLine.{LineByLine, by-line}
 use Rattle.phase.specs.declared.Phase.{Phase}
 use Rattle.phase.specs.declared.Phase.the-variants.{Working, Holding, Resting}
 use Rattle.phase.specs.declared.Task.{Task}
-use Rattle.capi.specs.Calls.{Left, left}
+use Rattle.capi.specs.Calls.{CallResult, callResult}
 use Rattle.capi.specs.Encoding.{placeWords}
 use Rattle.capi.specs.Runs.{setsCall}
 use Rattle.capi.proofs.Calling.{calling}
@@ -22,7 +22,7 @@ pub record Line : Type 0 where
   pub empties : ℕ
   pub sets : List ℕ
   pub answer : List ℕ
-  pub leaves : Left
+  pub leaves : CallResult
 
 -- what the definitions say of a line
 abbrev pub worked : Line → Line
@@ -71,7 +71,7 @@ shows r e a b = record {
   empties = e;
   sets = lent 34;
   answer = lent 4;
-  leaves = left 0 ((a ∷ b ∷ (replicate 30 0 ++ lent 2)) ∷ (0 ∷ 0 ∷ 0 ∷ lent 1) ∷ []);
+  leaves = callResult 0 ((a ∷ b ∷ (replicate 30 0 ++ lent 2)) ∷ (0 ∷ 0 ∷ 0 ∷ lent 1) ∷ []);
 }
 
 -- refused with number m and position p, and 32 zeros
@@ -81,12 +81,12 @@ refuses r e m p = record {
   empties = e;
   sets = lent 34;
   answer = lent 4;
-  leaves = left 0 ((replicate 32 0 ++ lent 2) ∷ (3 ∷ m ∷ p ∷ lent 1) ∷ []);
+  leaves = callResult 0 ((replicate 32 0 ++ lent 2) ∷ (3 ∷ m ∷ p ∷ lent 1) ∷ []);
 }
 
 -- so many words for the sets and for the answer are too few
 abbrev stays : List ℕ → ℕ → ℕ → Line
-stays r s a = record { run = r; empties = 0; sets = lent s; answer = lent a; leaves = left 1 (lent s ∷ lent a ∷ []) }
+stays r s a = record { run = r; empties = 0; sets = lent s; answer = lent a; leaves = callResult 1 (lent s ∷ lent a ∷ []) }
 
 -- just room
 abbrev fits : Line
@@ -95,7 +95,7 @@ fits = record {
   empties = 0;
   sets = lent 32;
   answer = lent 3;
-  leaves = left 0 ((3 ∷ 4 ∷ replicate 30 0) ∷ (0 ∷ 0 ∷ 0 ∷ []) ∷ []);
+  leaves = callResult 0 ((3 ∷ 4 ∷ replicate 30 0) ∷ (0 ∷ 0 ∷ 0 ∷ []) ∷ []);
 }
 
 abbrev pub lines : List Line

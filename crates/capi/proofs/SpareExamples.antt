@@ -8,11 +8,11 @@ use Rattle.model.proofs.Computing.{computing}
 use Rattle.table.proofs.Examples.{wordsA}
 use Rattle.table.specs.Answer.{answerOf, byHorizon, byTasks, byWalk, endingOf, firstOut, headerNumber, lastStep}
 use Rattle.table.specs.Words.{chain, count, met, tableOf}
-use Rattle.spare.specs.Answer.{figuresIn, gives, spareOf}
-use Rattle.spare.specs.Ordered.{ordered}
-use Rattle.spare.specs.Spare.{misses, spare}
-use Rattle.capi.specs.Calls.{Left, left}
-use Rattle.capi.specs.Figures.{figuresCall, spareCall}
+use Rattle.slack.specs.Answer.{slackIn, hasSlack, slackOf}
+use Rattle.slack.specs.Ordered.{ordered}
+use Rattle.slack.specs.Slack.{misses, slack}
+use Rattle.capi.specs.Calls.{CallResult, callResult}
+use Rattle.capi.specs.Figures.{figuresCall, slackCall}
 
 -- A LINE: the words of a table, the two slices lent, and what is left
 
@@ -20,11 +20,11 @@ pub record Line : Type 0 where
   pub words : List ℕ
   pub figures : List ℕ
   pub answer : List ℕ
-  pub leaves : Left
+  pub leaves : CallResult
 
 -- what the definitions say of a line's words and slices
 abbrev pub worked : Line → Line
-worked l = record { words = l .words; figures = l .figures; answer = l .answer; leaves = spareCall (l .words) (l .figures) (l .answer) }
+worked l = record { words = l .words; figures = l .figures; answer = l .answer; leaves = slackCall (l .words) (l .figures) (l .answer) }
 
 -- so many words as they are lent
 abbrev lent : ℕ → List ℕ
@@ -36,7 +36,7 @@ answers ws xs k a b = record {
   words = ws;
   figures = lent 33;
   answer = lent 4;
-  leaves = left 0 ((xs ++ (replicate (32 - length xs) 0 ++ lent 1)) ∷ (k ∷ a ∷ b ∷ lent 1) ∷ []);
+  leaves = callResult 0 ((xs ++ (replicate (32 - length xs) 0 ++ lent 1)) ∷ (k ∷ a ∷ b ∷ lent 1) ∷ []);
 }
 
 -- figures are given; or they are turned down, with 32 zeros
@@ -48,7 +48,7 @@ refuses ws n p = answers ws [] 3 n p
 
 -- slices of so many words, of which one is too short, stay
 abbrev stays : List ℕ → ℕ → ℕ → Line
-stays ws f n = record { words = ws; figures = lent f; answer = lent n; leaves = left 1 (lent f ∷ lent n ∷ []) }
+stays ws f n = record { words = ws; figures = lent f; answer = lent n; leaves = callResult 1 (lent f ∷ lent n ∷ []) }
 
 -- one core under a rule, with two tasks: each alone may have one of the two ticks that are left; v is the width of the first's odd jobs
 abbrev two : ℕ → ℕ → List ℕ
@@ -71,6 +71,6 @@ lines =
 
 -- every line is what the definitions say
 pub examples : map worked lines ≡ lines
-unfolding figuresCall spareOf figuresIn gives ordered spare misses answerOf byWalk byTasks byHorizon firstOut endingOf lastStep headerNumber tableOf chain
+unfolding figuresCall slackOf slackIn hasSlack ordered slack misses answerOf byWalk byTasks byHorizon firstOut endingOf lastStep headerNumber tableOf chain
     count met computing
 examples = refl

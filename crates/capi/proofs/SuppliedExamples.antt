@@ -12,12 +12,12 @@ use Rattle.phase.specs.declared.Phase.the-variants.{Coming, Working, Resting}
 use Rattle.run.specs.Start.{startedRun}
 use Rattle.table.specs.Answer.{answerOf, byHorizon, byTasks, byWalk, endingOf, firstOut, headerNumber, lastStep}
 use Rattle.table.specs.Words.{chain, count, met, tableOf}
-use Rattle.foreign.specs.Begin.{beginOf}
-use Rattle.foreign.specs.Numbers.{differs, missed, stateOut}
-use Rattle.foreign.specs.Plan.{cells}
-use Rattle.foreign.specs.Row.{faulty, strangers, worked}
-use Rattle.foreign.specs.Take.{arrives, closed, takeAnswer, takeOf}
-use Rattle.capi.specs.Calls.{Left, left}
+use Rattle.plan_check.specs.Begin.{beginOf}
+use Rattle.plan_check.specs.Numbers.{differs, missed, stateOut}
+use Rattle.plan_check.specs.Plan.{cellCount}
+use Rattle.plan_check.specs.Row.{faulty, anyStranger, workedRow}
+use Rattle.plan_check.specs.Take.{answerAt, finalAnswer, takeAnswer, takeOf}
+use Rattle.capi.specs.Calls.{CallResult, callResult}
 use Rattle.capi.specs.Encoding.{placeWords}
 use Rattle.capi.specs.Supplied.{notesWords, planOver, notesIn, holdsPlan, planIn}
 use Rattle.capi.specs.Taking.{beginCall, takeCall}
@@ -34,9 +34,9 @@ pub record Line : Type 0 where
   pub call : Call
   pub buffer : List ℕ
   pub answer : List ℕ
-  pub leaves : Left
+  pub leaves : CallResult
 
-abbrev pub leftBy : Call → List ℕ → List ℕ → Left
+abbrev pub leftBy : Call → List ℕ → List ℕ → CallResult
 leftBy (begins ws) buffer answer = beginCall ws buffer answer
 leftBy (takes row) buffer answer = takeCall buffer row answer
 
@@ -61,7 +61,7 @@ times (suc n) ws = ws ++ times n ws
 
 -- the call is answered: the plan's words, three of an answer, and a fourth that stays
 abbrev leaves : String → Call → List ℕ → List ℕ → ℕ → ℕ → ℕ → Line
-leaves s c before after k a b = record { name = s; call = c; buffer = before; answer = lent 4; leaves = left 0 (after ∷ (k ∷ a ∷ b ∷ lent 1) ∷ []) }
+leaves s c before after k a b = record { name = s; call = c; buffer = before; answer = lent 4; leaves = callResult 0 (after ∷ (k ∷ a ∷ b ∷ lent 1) ∷ []) }
 
 -- refused with a number and a tick: the plan's words as found
 abbrev refuses : String → List ℕ → List ℕ → ℕ → ℕ → Line
@@ -69,7 +69,7 @@ refuses s row before n t = leaves s (takes row) before before 3 n t
 
 -- everything as found
 abbrev stays : String → Call → List ℕ → ℕ → Line
-stays s c before n = record { name = s; call = c; buffer = before; answer = lent n; leaves = left 1 (before ∷ lent n ∷ []) }
+stays s c before n = record { name = s; call = c; buffer = before; answer = lent n; leaves = callResult 1 (before ∷ lent n ∷ []) }
 
 -- PLANS IN WORDS
 
@@ -141,8 +141,8 @@ lines =
 
 -- every line is what the definitions say, line by line
 computed : LineByLine computes lines lines
-unfolding times beginCall takeCall planOver notesWords notesIn holdsPlan planIn beginOf takeOf takeAnswer arrives closed differs missed stateOut faulty strangers
-    worked cells startedRun answerOf byWalk byTasks byHorizon firstOut endingOf lastStep headerNumber tableOf chain count met calling
+unfolding times beginCall takeCall planOver notesWords notesIn holdsPlan planIn beginOf takeOf takeAnswer answerAt finalAnswer differs missed stateOut faulty anyStranger
+    workedRow cellCount startedRun answerOf byWalk byTasks byHorizon firstOut endingOf lastStep headerNumber tableOf chain count met calling
 computed =
     (refl, (refl, (refl, (refl, (refl, (refl, (refl, (refl, (refl, (refl, (refl, (refl, (refl, (refl, (refl, (refl, (refl, (refl, (refl, (refl, (refl, (refl, tt))))))))))))))))))))))
 

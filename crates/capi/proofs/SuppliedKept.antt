@@ -17,29 +17,29 @@ use Rattle.table.specs.declared.Answer as table
 use Rattle.table.specs.declared.Answer.the-variants.{Passed}
 use Rattle.table.specs.declared.Answer.the-variants as loaded
 use Rattle.table.specs.Answer.{answerOf}
-use Rattle.table.specs.Load.{loadTold}
+use Rattle.table.specs.Load.{loadMeaning}
 use Rattle.table.specs.Words.{rule, tableOf}
-use Rattle.foreign.specs.declared.Answer.{Answer}
-use Rattle.foreign.specs.declared.Answer.the-variants.{Taken, Accepted, Refused}
-use Rattle.foreign.specs.declared.Begun.{Begun}
-use Rattle.foreign.specs.declared.Note.{Note}
-use Rattle.foreign.specs.declared.Supplied.{Supplied}
-use Rattle.foreign.specs.Begin.{beginOf, firstState}
-use Rattle.foreign.specs.Numbers.{afterRow}
-use Rattle.foreign.specs.Row.{worked, workedAt}
-use Rattle.foreign.specs.Said.{byAnswer}
-use Rattle.foreign.specs.State.{blank, noteOf, noting, startIn}
-use Rattle.foreign.specs.Take.{takeAnswer, takeOf}
-use Rattle.foreign.proofs.Starting.{begin-passed, begin-refused, begin-of}
-use Rattle.capi.specs.Encoding.{headWords, eachWords, places, wordsTo, runWords, encodeTo, encode, overwritten, countIn, holds, runIn, run, decode, cleared}
+use Rattle.plan_check.specs.declared.Answer.{Answer}
+use Rattle.plan_check.specs.declared.Answer.the-variants.{Taken, Accepted, Refused}
+use Rattle.plan_check.specs.declared.Begun.{Begun}
+use Rattle.plan_check.specs.declared.Note.{Note}
+use Rattle.plan_check.specs.declared.Supplied.{Supplied}
+use Rattle.plan_check.specs.Begin.{beginOf, firstState}
+use Rattle.plan_check.specs.Numbers.{afterRow}
+use Rattle.plan_check.specs.Row.{workedRow, workedAt}
+use Rattle.plan_check.specs.RowAnswer.{stateByAnswer}
+use Rattle.plan_check.specs.State.{blank, noteOf, noting, startIn}
+use Rattle.plan_check.specs.Take.{takeAnswer, takeOf}
+use Rattle.plan_check.proofs.Starting.{begin-passed, begin-refused, begin-of}
+use Rattle.capi.specs.Encoding.{headWords, eachWords, places, wordsTo, runWords, encodeTo, encode, overwritten, countIn, holdsRun, runIn, run, decode, cleared}
 use Rattle.capi.specs.Past.{SameUsed}
-use Rattle.capi.specs.Supplied.{tickAt, notesAt, noteSize, noteAt, planWords, notesWords, encodePlan, putAt, movedIn, planOver, notesIn, areNotes, holdsPlan, planIn, HeldPlan, plan, none, decodePlan, clearedPlan}
+use Rattle.capi.specs.Supplied.{tickAt, notesAt, noteSize, noteAt, planWords, notesWords, encodePlan, putAt, movedIn, planOver, notesIn, areNotes, holdsPlan, planIn, BufferPlan, plan, none, decodePlan, clearedPlan}
 use Rattle.capi.specs.Taking.{begunIn, byTaken, takeFrom}
 use Rattle.capi.proofs.Places.{by-held, held-few, held-long}
 use Rattle.capi.proofs.Inverse.{length-to, decode-encode, few-accepted, encode-decode, held-run}
-use Rattle.capi.proofs.Kept.{Fits, clear-fits, fits-started, held-fits, fits-written}
+use Rattle.capi.proofs.Kept.{FitsWord, clear-fits, fits-started, held-fits, fits-written}
 use Rattle.capi.proofs.Past.{same-held}
-use Rattle.capi.proofs.Noting.{length-put, take-put, drop-put, from-put, put-next, put-same, word-read, length-notes, length-noted, take-noted, notes-back, notes-over, notes-forth}
+use Rattle.capi.proofs.Noting.{length-put, take-put, drop-put, from-put, put-next, put-same, word-read, length-notes, length-noted, take-noted, notes-back, notes-over, notes-encode}
 use Rattle.capi.proofs.Supplying.{plan-by-run, by-held-plan, plan-long, plan-run}
 
 -- A PLAN FROM ITS PARTS
@@ -104,7 +104,7 @@ behind-run n k r ws all few far =
 abbrev notesOf : List ℕ → List Note
 notesOf ws = notesIn places (drop notesAt ws)
 
-module _ (w : Supplied) (ws : List ℕ) (f : Fits (w .run)) (long : planWords ≤ length ws) where
+module _ (w : Supplied) (ws : List ℕ) (f : FitsWord (w .run)) (long : planWords ≤ length ws) where
   abbrev n : ℕ
   n = w .run .count
 
@@ -186,8 +186,8 @@ module _ (w : Supplied) (ws : List ℕ) (f : Fits (w .run)) (long : planWords �
 
 -- A ROW
 
-fits-worked : (r : Run) (row : List ℕ) → Fits r → Fits (worked r row)
-unfolding worked
+fits-worked : (r : Run) (row : List ℕ) → FitsWord r → FitsWord (workedRow r row)
+unfolding workedRow
 fits-worked r row f = record {
   all = length-mapFirst (workedAt r row) (r .count) (r .tasks) ∙ f .all;
   few = f .few;
@@ -195,14 +195,14 @@ fits-worked r row f = record {
 }
 
 -- the notes of a run that fits, below its count
-noted-front : (r : Run) (ns : List Note) → Fits r → take (r .count) (noting r ns) ≡ map noteOf (take (r .count) (r .tasks))
+noted-front : (r : Run) (ns : List Note) → FitsWord r → take (r .count) (noting r ns) ≡ map noteOf (take (r .count) (r .tasks))
 noted-front r ns f =
     let all = f .all in
     let few = f .few in
     take-at (map noteOf (take (r .count) (r .tasks))) (drop (r .count) ns) (r .count)
     (length-map (take (r .count) (r .tasks)) noteOf ∙ length-take-le (r .count) (r .tasks) (omega arith))
 
-length-noting : (r : Run) (ns : List Note) → Fits r → length ns ≡ places → length (noting r ns) ≡ places
+length-noting : (r : Run) (ns : List Note) → FitsWord r → length ns ≡ places → length (noting r ns) ≡ places
 length-noting r ns f e =
     let all = f .all in
     let few = f .few in
@@ -216,7 +216,7 @@ module _ (ws : List ℕ) (w : Supplied) (row : List ℕ) (e : decodePlan ws ≡ 
   long : planWords ≤ length ws
   long = plan-long ws (held-plan ws w e .0)
 
-  fits : Fits (worked (w .run) row)
+  fits : FitsWord (workedRow (w .run) row)
   fits = fits-worked (w .run) row (held-fits ws (w .run) (run-held ws w e) .0)
 
   notes : w .noted ≡ notesOf ws
@@ -226,14 +226,14 @@ module _ (ws : List ℕ) (w : Supplied) (row : List ℕ) (e : decodePlan ws ≡ 
   -- the plan one tick on, which is or is not at the last S
   abbrev arriving : Bool → Supplied
   arriving t = record {
-    run = worked (w .run) row;
+    run = workedRow (w .run) row;
     tick = afterRow w row .tick;
-    noted = cond t (noting (worked (w .run) row) (w .noted)) (w .noted);
+    noted = cond t (noting (workedRow (w .run) row) (w .noted)) (w .noted);
   }
 
-  arriving-held : (t : Bool) → decodePlan (planOver t (worked (w .run) row .count) (arriving t) ws) ≡ plan (arriving t)
+  arriving-held : (t : Bool) → decodePlan (planOver t (workedRow (w .run) row .count) (arriving t) ws) ≡ plan (arriving t)
   arriving-held true =
-      let r = worked (w .run) row in
+      let r = workedRow (w .run) row in
       let same = length-noting r (w .noted) fits (ap length notes ∙ length-noted places (drop notesAt ws)) in
       let few = fits .few in
       noted-held (arriving true) ws fits long (omega (arith, same, few))
@@ -242,7 +242,7 @@ module _ (ws : List ℕ) (w : Supplied) (row : List ℕ) (e : decodePlan ws ≡ 
   arriving-held false = plain-held (arriving false) ws fits long notes
 
   after-held : decodePlan (planOver (eqb (afterRow w row .tick) (startIn (afterRow w row .run))) (afterRow w row .run .count) (afterRow w row) ws) ≡ plan (afterRow w row)
-  after-held = arriving-held (eqb (afterRow w row .tick) (startIn (worked (w .run) row)))
+  after-held = arriving-held (eqb (afterRow w row .tick) (startIn (workedRow (w .run) row)))
 
 -- the answer to a row on the buffer is that of the plan that it holds, and the buffer afterwards holds the plan that the row returns
 pub take-held :
@@ -250,12 +250,12 @@ pub take-held :
     → (takeFrom (decodePlan ws) row ws .answer ≡ takeOf w row .answer) × (decodePlan (takeFrom (decodePlan ws) row ws .buffer) ≡ plan (takeOf w row .plan))
 unfolding takeOf
 take-held ws w row e = (
-  ap (λ (h : HeldPlan). takeFrom h row ws .answer) e,
-  ap (λ (h : HeldPlan). decodePlan (takeFrom h row ws .buffer)) e ∙ go (takeAnswer w row),
+  ap (λ (h : BufferPlan). takeFrom h row ws .answer) e,
+  ap (λ (h : BufferPlan). decodePlan (takeFrom h row ws .buffer)) e ∙ go (takeAnswer w row),
 )
   where
     next : Answer → Supplied
-    next a = byAnswer a (afterRow w row) w
+    next a = stateByAnswer a (afterRow w row) w
 
     go : (a : Answer) → decodePlan (byTaken a (planOver (eqb (next a .tick) (startIn (next a .run))) (next a .run .count) (next a) ws) ws) ≡ plan (next a)
     go Taken = after-held ws w row e
@@ -315,7 +315,7 @@ module _ (w : Supplied) (all : length (w .run .tasks) ≡ places) (many : length
 
 -- the plan that begin returns, begun or refused, is one that a buffer can hold
 pub record FitsPlan (w : Supplied) : Type 0 where
-  pub fits : Fits (w .run)
+  pub fits : FitsWord (w .run)
   pub many : length (w .noted) ≡ places
 
 fits-first : (ws : List ℕ) → startedRun (rule ws) (tableOf ws) .count ≤ places → FitsPlan (firstState ws)
@@ -334,7 +334,7 @@ fits-begun ws = go (answerOf ws) refl
     go : (a : table.Answer) → answerOf ws ≡ a → FitsPlan (beginOf ws .plan)
     go Passed e =
         let v = begin-passed ws e in
-        let fine = begin-of ws (beginOf ws) refl .passes (ap (λ (b : Begun). loadTold (b .answer)) v) in
+        let fine = begin-of ws (beginOf ws) refl .passes (ap (λ (b : Begun). loadMeaning (b .answer)) v) in
         let few = few-accepted (beginOf ws .plan .run) (λ out. fine (inl out)) in
         subst (λ (b : Begun). FitsPlan (b .plan)) (sym v) (fits-first ws (subst (λ (b : Begun). b .plan .run .count ≤ places) v few))
     go (loaded.Refused n p) e =
@@ -390,6 +390,6 @@ module _ (ws : List ℕ) (narrow : getD ws 3 0 ≤ mostWord) (w : Supplied) (e :
       let back : notesWords (notesIn n (drop notesAt ws)) ++ drop (notesAt + length (notesWords (notesIn n (drop notesAt ws)))) ws ≡ drop notesAt ws =
       ap (λ (l : List ℕ). notesWords (notesIn n (drop notesAt ws)) ++ l)
       (ap (λ (k : ℕ). drop (notesAt + k) ws) len ∙ sym (drop-drop (noteSize * n) notesAt ws))
-      ∙ notes-forth n (drop notesAt ws) (omega (arith, long, few, d)) are in
+      ∙ notes-encode n (drop notesAt ws) (omega (arith, long, few, d)) are in
       (λ i. putAt notesAt (notesWords (read i)) (moved-same i))
       ∙ put-same ws (notesWords (notesIn n (drop notesAt ws))) notesAt back (omega (arith, long))

@@ -9,7 +9,7 @@ use lib.ListN.{replicate}
 use Rattle.phase.specs.declared.Phase.{Phase}
 use Rattle.phase.specs.declared.Phase.the-variants.{Working}
 use Rattle.phase.specs.declared.Task.{Task}
-use Rattle.capi.specs.Calls.{Left, left}
+use Rattle.capi.specs.Calls.{CallResult, callResult}
 use Rattle.capi.specs.Encoding.{placeWords}
 use Rattle.capi.specs.Runs.{withdrawAllCall}
 use Rattle.capi.proofs.Calling.{calling}
@@ -20,7 +20,7 @@ pub record Line : Type 0 where
   pub run : List ℕ
   pub set : ℕ
   pub answer : List ℕ
-  pub leaves : Left
+  pub leaves : CallResult
 
 -- what the definitions say of a line
 abbrev pub worked : Line → Line
@@ -39,15 +39,15 @@ words n x = n ∷ 2 ∷ 2 ∷ 0 ∷ 0 ∷ x ∷ (placeWords (task 2 (Working 0 0
 
 -- set x is taken, from a run with w withdrawn: then z is; of an answer of 4 words the last stays
 abbrev takes : ℕ → ℕ → ℕ → ℕ → Line
-takes n w x z = record { run = words n w; set = x; answer = lent 4; leaves = left 0 (words n z ∷ (0 ∷ 0 ∷ 0 ∷ lent 1) ∷ []) }
+takes n w x z = record { run = words n w; set = x; answer = lent 4; leaves = callResult 0 (words n z ∷ (0 ∷ 0 ∷ 0 ∷ lent 1) ∷ []) }
 
 -- set x is refused with number m, and the run as found
 abbrev refuses : List ℕ → ℕ → ℕ → Line
-refuses r x m = record { run = r; set = x; answer = lent 4; leaves = left 0 (r ∷ (3 ∷ m ∷ 0 ∷ lent 1) ∷ []) }
+refuses r x m = record { run = r; set = x; answer = lent 4; leaves = callResult 0 (r ∷ (3 ∷ m ∷ 0 ∷ lent 1) ∷ []) }
 
 -- no room for the answer
 abbrev stays : List ℕ → ℕ → Line
-stays r x = record { run = r; set = x; answer = lent 2; leaves = left 1 (r ∷ lent 2 ∷ []) }
+stays r x = record { run = r; set = x; answer = lent 2; leaves = callResult 1 (r ∷ lent 2 ∷ []) }
 
 -- the bit of position 32, and all bits
 abbrev last : ℕ

@@ -11,7 +11,7 @@ use Rattle.phase.specs.declared.Task.{Task}
 use Rattle.phase.specs.Task.{unused}
 use Rattle.run.specs.declared.Run.{Run}
 use Rattle.table.specs.Words.{fenceOf}
-use Rattle.capi.specs.declared.held.PhaseWords.{PhaseWords}
+use Rattle.capi.specs.declared.run_buffer.PhaseWords.{PhaseWords}
 use Rattle.model.specs.Sizes.{mostTasks}
 
 -- THE SIZES
@@ -131,8 +131,8 @@ abbrev pub isParity : ℕ → Bool
 isParity n = leb n 1
 
 -- a parity, and a phase
-abbrev pub isStand : ℕ → ℕ → ℕ → ℕ → Bool
-isStand n k b c = isParity n && isPhase k b c
+abbrev pub isTaskState : ℕ → ℕ → ℕ → ℕ → Bool
+isTaskState n k b c = isParity n && isPhase k b c
 
 -- the place whose words stand in front
 abbrev pub placeIn : List ℕ → Task
@@ -149,7 +149,7 @@ placeIn ws = record {
 
 -- they are a place: they have a parity and a phase
 abbrev pub isPlace : List ℕ → Bool
-isPlace ws = isStand (getD ws parityAt 0) (getD ws kindAt 0) (getD ws secondAt 0) (getD ws thirdAt 0)
+isPlace ws = isTaskState (getD ws parityAt 0) (getD ws kindAt 0) (getD ws secondAt 0) (getD ws thirdAt 0)
 
 -- the first n places
 unfoldable pub placesIn : ℕ → List ℕ → List Task
@@ -166,8 +166,8 @@ abbrev pub countIn : List ℕ → ℕ
 countIn ws = getD ws 2 0
 
 -- a buffer holds a run: it has the words of one, the count is at most 32, and every parity and phase below the count is one
-unfoldable pub holds : List ℕ → Bool
-holds ws = leb runWords (length ws) && (leb (countIn ws) places && arePlaces (countIn ws) (drop headWords ws))
+unfoldable pub holdsRun : List ℕ → Bool
+holdsRun ws = leb runWords (length ws) && (leb (countIn ws) places && arePlaces (countIn ws) (drop headWords ws))
 
 -- these tasks in front, and zeros and Resting(0) in the places past them
 abbrev pub padded : ℕ → List Task → List Task
@@ -189,13 +189,13 @@ runIn ws = record {
 }
 
 -- what a buffer holds
-pub data Held : Type 0 where
-  run : Run → Held
-  none : Held
+pub data BufferRun : Type 0 where
+  run : Run → BufferRun
+  none : BufferRun
 
 -- the run where it holds one
-abbrev pub decode : List ℕ → Held
-decode ws = cond (holds ws) (run (runIn ws)) none
+abbrev pub decode : List ℕ → BufferRun
+decode ws = cond (holdsRun ws) (run (runIn ws)) none
 
 -- a run with its places past the count cleared: zeros and Resting(0), as start leaves them
 abbrev pub cleared : Run → Run

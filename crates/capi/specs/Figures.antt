@@ -6,22 +6,22 @@ use lib.ListN.{length, drop}
 use lib.Dec.{leb}
 use Rattle.model.specs.Sizes.{mostTasks}
 use Rattle.table.specs.declared.Answer.{Answer}
-use Rattle.longest.specs.Longest.{longestOf}
-use Rattle.spare.specs.Answer.{spareOf}
-use Rattle.capi.specs.Told.{ofGiven, written}
-use Rattle.capi.specs.Calls.{Left, byRoom, room}
+use Rattle.response_time.specs.ResponseTimes.{responseTimesOf}
+use Rattle.slack.specs.Answer.{slackOf}
+use Rattle.capi.specs.AnswerWords.{ofGiven, answerWritten}
+use Rattle.capi.specs.Calls.{CallResult, byRoom, answerFits}
 
 -- 32 figures in front, and the answer
-unfoldable pub figuresCall : Answer → List ℕ → List ℕ → List ℕ → Left
+unfoldable pub figuresCall : Answer → List ℕ → List ℕ → List ℕ → CallResult
 figuresCall given found figures answer =
-    byRoom (room answer && leb mostTasks (length figures))
-    ((found ++ drop mostTasks figures) ∷ (written (ofGiven given 0) answer ∷ []))
+    byRoom (answerFits answer && leb mostTasks (length figures))
+    ((found ++ drop mostTasks figures) ∷ (answerWritten (ofGiven given 0) answer ∷ []))
     (figures ∷ (answer ∷ []))
 
 -- the longest answer of each task; those past the count and all of a refusal are 0
-abbrev pub longestCall : List ℕ → List ℕ → List ℕ → Left
-longestCall ws figures answer = figuresCall (longestOf ws .answer) (longestOf ws .longest) figures answer
+abbrev pub responseTimesCall : List ℕ → List ℕ → List ℕ → CallResult
+responseTimesCall ws figures answer = figuresCall (responseTimesOf ws .answer) (responseTimesOf ws .responses) figures answer
 
 -- the spare ticks of each task; those past the count and all of a refusal are 0
-abbrev pub spareCall : List ℕ → List ℕ → List ℕ → Left
-spareCall ws figures answer = figuresCall (spareOf ws .answer) (spareOf ws .spare) figures answer
+abbrev pub slackCall : List ℕ → List ℕ → List ℕ → CallResult
+slackCall ws figures answer = figuresCall (slackOf ws .answer) (slackOf ws .slack) figures answer

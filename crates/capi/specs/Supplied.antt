@@ -6,11 +6,11 @@ use lib.ListN.{length, getD, take, drop}
 use lib.Dec.{leb}
 use Rattle.phase.specs.declared.Phase.{Phase}
 use Rattle.phase.specs.declared.Phase.the-variants.{Resting}
-use Rattle.foreign.specs.declared.Note.{Note}
-use Rattle.foreign.specs.declared.Supplied.{Supplied}
-use Rattle.foreign.specs.State.{note}
-use Rattle.capi.specs.declared.held.PhaseWords.{PhaseWords}
-use Rattle.capi.specs.Encoding.{places, runWords, ofPhase, encode, overwritten, phaseOf, isPhase, holds, runIn, cleared}
+use Rattle.plan_check.specs.declared.Note.{Note}
+use Rattle.plan_check.specs.declared.Supplied.{Supplied}
+use Rattle.plan_check.specs.State.{note}
+use Rattle.capi.specs.declared.run_buffer.PhaseWords.{PhaseWords}
+use Rattle.capi.specs.Encoding.{places, runWords, ofPhase, encode, overwritten, phaseOf, isPhase, holdsRun, runIn, cleared}
 
 -- THE SIZES
 
@@ -91,19 +91,19 @@ areNotes (suc n) ws = isNote ws && areNotes n (drop noteSize ws)
 
 -- a buffer holds a plan: it has the words of one, and those in front are a run; any words are a tick, and any are notes
 unfoldable pub holdsPlan : List ℕ → Bool
-holdsPlan ws = leb planWords (length ws) && holds ws
+holdsPlan ws = leb planWords (length ws) && holdsRun ws
 
 -- the plan that stands in front of the buffer
 unfoldable pub planIn : List ℕ → Supplied
 planIn ws = record { run = runIn ws; tick = getD ws tickAt 0; noted = notesIn places (drop notesAt ws) }
 
 -- what a buffer holds
-pub data HeldPlan : Type 0 where
-  plan : Supplied → HeldPlan
-  none : HeldPlan
+pub data BufferPlan : Type 0 where
+  plan : Supplied → BufferPlan
+  none : BufferPlan
 
 -- the plan where it holds one
-abbrev pub decodePlan : List ℕ → HeldPlan
+abbrev pub decodePlan : List ℕ → BufferPlan
 decodePlan ws = cond (holdsPlan ws) (plan (planIn ws)) none
 
 -- a plan with the places of its run past the count cleared

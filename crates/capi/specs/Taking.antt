@@ -4,34 +4,34 @@ use mathlib.Core.List.{List, [], _∷_}
 use Prim.Native.Nat.{ℕ}
 use lib.Dec.{leb, eqb}
 use lib.ListN.{length}
-use Rattle.foreign.specs.declared.Answer.{Answer}
-use Rattle.foreign.specs.declared.Answer.the-variants.{Taken, Accepted, Refused}
-use Rattle.foreign.specs.declared.Supplied.{Supplied}
-use Rattle.foreign.specs.Begin.{beginOf}
-use Rattle.foreign.specs.State.{startIn}
-use Rattle.foreign.specs.Take.{takeOf}
-use Rattle.capi.specs.declared.told.Told.{Told}
-use Rattle.capi.specs.Told.{says, ofGiven, written}
-use Rattle.capi.specs.Calls.{Left, byRoom, room}
+use Rattle.plan_check.specs.declared.Answer.{Answer}
+use Rattle.plan_check.specs.declared.Answer.the-variants.{Taken, Accepted, Refused}
+use Rattle.plan_check.specs.declared.Supplied.{Supplied}
+use Rattle.plan_check.specs.Begin.{beginOf}
+use Rattle.plan_check.specs.State.{startIn}
+use Rattle.plan_check.specs.Take.{takeOf}
+use Rattle.capi.specs.declared.answer_words.AnswerWords.{AnswerWords}
+use Rattle.capi.specs.AnswerWords.{answerWords, ofGiven, answerWritten}
+use Rattle.capi.specs.Calls.{CallResult, byRoom, answerFits}
 use Rattle.capi.specs.Encoding.{places}
-use Rattle.capi.specs.Supplied.{planWords, planOver, HeldPlan, plan, none, decodePlan}
+use Rattle.capi.specs.Supplied.{planWords, planOver, BufferPlan, plan, none, decodePlan}
 
 -- the buffer after a beginning: the plan that it returns, begun or refused, with all its places and notes
 abbrev pub begunIn : List ℕ → List ℕ → List ℕ
 begunIn ws buffer = planOver true places (beginOf ws .plan) buffer
 
 -- begin: the plan, and the answer, 0 begun, 3 Refused number position
-unfoldable pub beginCall : List ℕ → List ℕ → List ℕ → Left
+unfoldable pub beginCall : List ℕ → List ℕ → List ℕ → CallResult
 beginCall ws buffer answer =
-    byRoom (room answer && leb planWords (length buffer))
-    (begunIn ws buffer ∷ (written (ofGiven (beginOf ws .answer) 0) answer ∷ []))
+    byRoom (answerFits answer && leb planWords (length buffer))
+    (begunIn ws buffer ∷ (answerWritten (ofGiven (beginOf ws .answer) 0) answer ∷ []))
     (buffer ∷ (answer ∷ []))
 
 -- take's three cases: 0 taken, 6 accepted, 3 Refused number tick
-abbrev pub ofTaken : Answer → Told
-ofTaken Taken = says 0 0 0
-ofTaken Accepted = says 6 0 0
-ofTaken (Refused n t) = says 3 n t
+abbrev pub ofTaken : Answer → AnswerWords
+ofTaken Taken = answerWords 0 0 0
+ofTaken Accepted = answerWords 6 0 0
+ofTaken (Refused n t) = answerWords 3 n t
 
 -- a row's answer, and the buffer afterwards
 pub record RowTaken : Type 0 where
@@ -49,11 +49,11 @@ abbrev pub keptPlan : Answer → Supplied → List ℕ → RowTaken
 keptPlan a w ws = record { answer = a; buffer = byTaken a (planOver (eqb (w .tick) (startIn (w .run))) (w .run .count) w ws) ws }
 
 -- a row taken by the plan that a buffer holds; 14 where it holds none
-abbrev pub takeFrom : HeldPlan → List ℕ → List ℕ → RowTaken
+abbrev pub takeFrom : BufferPlan → List ℕ → List ℕ → RowTaken
 takeFrom (plan w) row ws = keptPlan (takeOf w row .answer) (takeOf w row .plan) ws
 takeFrom none row ws = record { answer = Refused 14 0; buffer = ws }
 
-unfoldable pub takeCall : List ℕ → List ℕ → List ℕ → Left
+unfoldable pub takeCall : List ℕ → List ℕ → List ℕ → CallResult
 takeCall buffer row answer =
     let a = takeFrom (decodePlan buffer) row buffer in
-    byRoom (room answer) (a .buffer ∷ (written (ofTaken (a .answer)) answer ∷ [])) (buffer ∷ (answer ∷ []))
+    byRoom (answerFits answer) (a .buffer ∷ (answerWritten (ofTaken (a .answer)) answer ∷ [])) (buffer ∷ (answer ∷ []))

@@ -4,8 +4,8 @@ ghost use mathlib.Core.Path.{_≡_};
 ghost use Prim.Native.Nat.{_≤_};
 ghost use lib.ListN.{length, drop};
 ghost use Rattle.model.specs.Sizes.{mostTasks};
-ghost use Rattle.capi.specs.Sentences.{factWords, inWords, ofFound};
-use crate::told::Told;
+ghost use Rattle.capi.specs.Sentences.{factWords, inWords, ofReadBack};
+use crate::answer_words::AnswerWords;
 use sentence::Facts;
 
 // The words in front of the counts: position, tick, ticks had, and C.
@@ -16,17 +16,17 @@ const COUNTS: usize = model::MOST_TASKS;
 pub(crate) const WORDS: usize = HEAD + COUNTS;
 
 // Read back, or no sentence.
-pub(crate) fn of_found(found: bool) -> Told
-    ensures { λ r. ⌜ r ≡ ofFound found ⌝ }
+pub(crate) fn of_parsed(found: bool) -> AnswerWords
+    ensures { λ r. ⌜ r ≡ ofReadBack found ⌝ }
 {
     if found {
-        return Told {
+        return AnswerWords {
             kind: 0,
             first: 0,
             second: 0,
         };
     }
-    Told {
+    AnswerWords {
         kind: 5,
         first: 0,
         second: 0,

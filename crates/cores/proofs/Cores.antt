@@ -12,7 +12,7 @@ use lib.Count.{ones, ones-step, trailingZeros}
 use lib.Dec.{eqb, ltb}
 use lib.Pow.{pow-mono, pow-pos, ones-lt}
 use borrow.Author.Tests.{ltb-false, ltb-true}
-use Rattle.model.specs.Search.{bit, kept, keptIf, memb, upFrom}
+use Rattle.model.specs.Search.{bit, filtered, consIf, memb, upFrom}
 use Rattle.model.specs.Sets.{setOf}
 use Rattle.model.proofs.Digits.{bit-past, bit-zero, bit-suc, even-half, odd-half, half, tz-out, tz-into}
 use Rattle.cores.specs.Cores.{cores}
@@ -30,18 +30,18 @@ unfoldable pub coresFrom : ℕ → ℕ → ℕ → List ℕ
 coresFrom zero c n = []
 coresFrom (suc d) c n = named (n % 2) c (coresFrom d (suc c) (n / 2))
 
-named-kept : (b c : ℕ) (l : List ℕ) → b < 2 → keptIf (eqb b 1) c l ≡ named b c l
+named-kept : (b c : ℕ) (l : List ℕ) → b < 2 → consIf (eqb b 1) c l ≡ named b c l
 named-kept zero c l h = refl
 named-kept (suc zero) c l h = refl
 named-kept (suc (suc b)) c l h = absurd (omega arith)
 
-kept-digits : (f : ℕ → Bool) (d c n : ℕ) → ((i : ℕ) → f (c + i) ≡ bit n i) → kept f (upFrom c d) ≡ coresFrom d c n
-unfolding kept upFrom coresFrom
+kept-digits : (f : ℕ → Bool) (d c n : ℕ) → ((i : ℕ) → f (c + i) ≡ bit n i) → filtered f (upFrom c d) ≡ coresFrom d c n
+unfolding filtered upFrom coresFrom
 kept-digits f zero c n h = refl
 kept-digits f (suc d) c n h =
     let first : f c ≡ eqb (n % 2) 1 = ap f (sym (add-zero c)) ∙ h 0 ∙ bit-zero n in
-    let rest : kept f (upFrom (suc c) d) ≡ coresFrom d (suc c) (n / 2) = kept-digits f d (suc c) (n / 2) (λ i. ap f (next i) ∙ h (suc i) ∙ bit-suc n i) in
-    ap₂ (λ (q : Bool) (l : List ℕ). keptIf q c l) first rest ∙ named-kept (n % 2) c (coresFrom d (suc c) (n / 2)) (omega arith)
+    let rest : filtered f (upFrom (suc c) d) ≡ coresFrom d (suc c) (n / 2) = kept-digits f d (suc c) (n / 2) (λ i. ap f (next i) ∙ h (suc i) ∙ bit-suc n i) in
+    ap₂ (λ (q : Bool) (l : List ℕ). consIf q c l) first rest ∙ named-kept (n % 2) c (coresFrom d (suc c) (n / 2)) (omega arith)
   where
     next : (i : ℕ) → suc c + i ≡ c + suc i
     next i = omega arith
@@ -191,7 +191,7 @@ module _ (n w r : ℕ) (h : n < 2 ^ 64) (k : r < 2 ^ 64) where
       ap cores d ∙ cores-set (take w (cores n)) (range-take w 0 64 (cores n) (cores-range n))
 
 pub cores-none : cores 0 ≡ []
-unfolding cores kept upFrom
+unfolding cores filtered upFrom
 cores-none = refl
 
 -- ---- a set that is not empty: its first core by trailing zeros, and the set without it, in the machine's words

@@ -2,5 +2,5 @@
 pub mod Examples
 pub mod Ascending
 pub mod Cores
-pub mod Open
+pub mod Unfenced
 pub mod Runs

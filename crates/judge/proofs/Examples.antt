@@ -3,7 +3,7 @@ use mathlib.Core.List.{List, [], _∷_}
 use mathlib.Core.Path.{_≡_, refl}
 use Prim.Native.Nat.{ℕ}
 use lib.ListN.{replicate}
-use Rattle.model.specs.Firm.{firm, rising}
+use Rattle.model.specs.Firm.{firm, parallelismMonotonic}
 use Rattle.model.proofs.Computing.{computing}
 use Rattle.table.specs.declared.Answer.the-variants.{Passed}
 use Rattle.table.specs.declared.Loaded.{Loaded}
@@ -31,12 +31,12 @@ pair rule v w v′ w′ = record {
 
 -- greedy, 1 and 3 before 3 and 4, whichever job has which: the larger of the first is the smaller of the second
 pub touching : (acceptedOf (pair 1 1 3 3 4) ≡ Firm 0 8) × (acceptedOf (pair 1 3 1 4 3) ≡ Firm 0 8)
-unfolding firm rising
+unfolding firm parallelismMonotonic
 touching = (refl, refl)
 
 -- 1 and 3 before 2 and 4: each width is at most the next one of its kind, and the larger of the first is above the smaller of the second
 pub crossing : (acceptedOf (pair 1 1 3 2 4) ≡ Full 0 8) × (acceptedOf (pair 1 1 3 4 2) ≡ Full 0 8)
-unfolding firm rising
+unfolding firm parallelismMonotonic
 crossing = (refl, refl)
 
 -- under rules 2, 3 and 4 widths are not asked for

@@ -2,7 +2,7 @@
 pub mod Examples
 pub mod Widths
 pub mod Ticks
-pub mod Follows
+pub mod Refines
 pub mod Late
 pub mod FirstMiss
 pub mod Promise

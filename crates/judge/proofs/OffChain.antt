@@ -9,7 +9,7 @@ use Rattle.table.specs.declared.Answer.the-variants.{Passed, Refused}
 use Rattle.table.specs.Answer.{answerOf}
 use Rattle.table.specs.OffChain.{SameOnChain}
 use Rattle.table.proofs.OffChain.{off-chain-answer, off-chain-table}
-use Rattle.judge.specs.Said.{judged, caseOf}
+use Rattle.judge.specs.JudgeAnswer.{judged, verdictCase}
 use Rattle.judge.specs.Judged.{verdictOf}
 use Rattle.judge.proofs.Promise.{passed-is, refused-is}
 
@@ -20,6 +20,6 @@ off-chain-verdict ws us same = go (answerOf ws) refl
     go : (a : Answer) → answerOf ws ≡ a → verdictOf ws ≡ verdictOf us
     go Passed e =
         passed-is ws e
-        ∙ (ap (λ (s : Table). caseOf (judged (verdict s))) (off-chain-table ws us same e)
+        ∙ (ap (λ (s : Table). verdictCase (judged (verdict s))) (off-chain-table ws us same e)
         ∙ sym (passed-is us (sym (off-chain-answer ws us same) ∙ e)))
     go (Refused n p) e = refused-is ws n p e ∙ sym (refused-is us n p (sym (off-chain-answer ws us same) ∙ e))

@@ -5,7 +5,7 @@ use mathlib.Core.List.{List, _++_}
 use mathlib.Core.Logic.{_⊎_, _↔_, inl, inr, ⊎-elim}
 use Prim.Native.Nat.{ℕ, zero, suc, _-_, _≤_, _<_}
 use lib.ListN.{length, take, drop, length-append, length-replicate, length-map, take-append-drop}
-use Rattle.model.specs.Task.{Table, Rule, greedy, limited, idling, lending, ruleOf, AllSound, task}
+use Rattle.model.specs.Task.{Table, Rule, greedy, limited, idling, lending, ruleOf, AllValid, task}
 use Rattle.model.specs.Book.{NeverMissed}
 use Rattle.model.specs.Horizon.{lastS, hyperperiod, horizon}
 use Rattle.model.specs.Firm.{FirmRule}
@@ -21,32 +21,32 @@ use Rattle.table.specs.Task.{taskOf, tasksOf, noTask}
 use Rattle.table.specs.Words.{rule, tableOf}
 use Rattle.table.specs.Numbers.{NoneApplies}
 use Rattle.table.specs.Answer.{answerOf}
-use Rattle.table.specs.Load.{LoadOf, Holds, loadTold}
+use Rattle.table.specs.Load.{LoadOf, Holds, loadMeaning}
 use Rattle.table.proofs.Exact.{refusal-exact, passed-exact}
-use Rattle.table.proofs.Passed.{passed-cores, passed-rule, passed-sound, passed-inside}
+use Rattle.table.proofs.Passed.{passed-cores, passed-rule, passed-valid, passed-inside}
 use Rattle.table.specs.Limits.{mostTime}
 use Rattle.judge.specs.declared.Verdict.{Verdict}
 use Rattle.judge.specs.declared.Verdict.the-variants.{Firm, Full, Miss, Refused}
-use Rattle.judge.specs.Said.{Said, judged, saidBy, caseOf}
-use Rattle.judge.specs.Said as said
-use Rattle.judge.specs.Judged.{judgedBy, verdictOf, FirmWords, Judged, tableIn, Fit, acceptedOf}
+use Rattle.judge.specs.JudgeAnswer.{JudgeAnswer, judged, verdictMeaning, verdictCase}
+use Rattle.judge.specs.JudgeAnswer as said
+use Rattle.judge.specs.Judged.{judgedBy, verdictOf, FirmWords, Judged, loadedTable, Fit, acceptedOf}
 use Rattle.judge.specs.FirstMiss.{missedBefore, byMiss}
 use Rattle.judge.proofs.FirstMiss.{verdict-by}
 
 -- THE CASES OF THE ANSWER
 
 -- the case that says a thing says it, and a case is that of what it says
-pub said-case : (x : Said) → saidBy (caseOf x) ≡ x
-said-case (judged (model.Firm a b)) = refl
-said-case (judged (model.Full a b)) = refl
-said-case (judged (model.Miss a b)) = refl
-said-case (said.refused n p) = refl
+pub meaning-case : (x : JudgeAnswer) → verdictMeaning (verdictCase x) ≡ x
+meaning-case (judged (model.Firm a b)) = refl
+meaning-case (judged (model.Full a b)) = refl
+meaning-case (judged (model.Miss a b)) = refl
+meaning-case (said.refused n p) = refl
 
-pub case-said : (v : Verdict) → caseOf (saidBy v) ≡ v
-case-said (Firm a b) = refl
-case-said (Full a b) = refl
-case-said (Miss a b) = refl
-case-said (Refused n p) = refl
+pub case-meaning : (v : Verdict) → verdictCase (verdictMeaning v) ≡ v
+case-meaning (Firm a b) = refl
+case-meaning (Full a b) = refl
+case-meaning (Miss a b) = refl
+case-meaning (Refused n p) = refl
 
 -- one verdict is said at most, and none where it is refused
 same-verdict : {v w : model.Verdict} → judged v ≡ judged w → v ≡ w
@@ -93,13 +93,13 @@ firm-words ws none = (says, found)
 
 -- THE PROMISE
 
-pub passed-is : (ws : List ℕ) → answerOf ws ≡ Passed → verdictOf ws ≡ caseOf (judged (verdict (tableOf ws)))
+pub passed-is : (ws : List ℕ) → answerOf ws ≡ Passed → verdictOf ws ≡ verdictCase (judged (verdict (tableOf ws)))
 unfolding verdictOf
-passed-is ws e = ap (λ (a : Answer). caseOf (judgedBy a (tableOf ws))) e
+passed-is ws e = ap (λ (a : Answer). verdictCase (judgedBy a (tableOf ws))) e
 
 pub refused-is : (ws : List ℕ) (n p : ℕ) → answerOf ws ≡ table.Refused n p → verdictOf ws ≡ Refused n p
 unfolding verdictOf
-refused-is ws n p e = ap (λ (a : Answer). caseOf (judgedBy a (tableOf ws))) e
+refused-is ws n p e = ap (λ (a : Answer). verdictCase (judgedBy a (tableOf ws))) e
 
 -- words that pass
 by-passed : (ws : List ℕ) → answerOf ws ≡ Passed → Judged ws (verdictOf ws)
@@ -131,13 +131,13 @@ by-passed ws e = record {
     none : NoneApplies ws
     none = passed-exact ws .0 e
 
-    is : saidBy (verdictOf ws) ≡ judged (verdict s)
-    is = ap saidBy (passed-is ws e) ∙ said-case (judged (verdict s))
+    is : verdictMeaning (verdictOf ws) ≡ judged (verdict s)
+    is = ap verdictMeaning (passed-is ws e) ∙ meaning-case (judged (verdict s))
 
     exact : Exact s (verdict s)
-    exact = verdict-exact s (passed-sound ws none)
+    exact = verdict-exact s (passed-valid ws none)
 
-    x-never : (a b : ℕ) → (saidBy (verdictOf ws) ≡ judged (model.Firm a b)) ⊎ (saidBy (verdictOf ws) ≡ judged (model.Full a b)) → NeverMissed s
+    x-never : (a b : ℕ) → (verdictMeaning (verdictOf ws) ≡ judged (model.Firm a b)) ⊎ (verdictMeaning (verdictOf ws) ≡ judged (model.Full a b)) → NeverMissed s
     x-never a b (inl q) = exact .accepted .0 (a, b, inl (same-verdict (sym is ∙ q)))
     x-never a b (inr q) = exact .accepted .0 (a, b, inr (same-verdict (sym is ∙ q)))
 
@@ -147,7 +147,7 @@ by-refused ws m q e = record {
   value = refl;
   refused = λ n p. (
     λ x. refusal-exact ws n p .0 (e ∙ same n p (sym is ∙ x)),
-    λ f. ap saidBy (refused-is ws n p (refusal-exact ws n p .1 f)),
+    λ f. ap verdictMeaning (refused-is ws n p (refusal-exact ws n p .1 f)),
   );
   accepted = (λ x. absurd (neither (x .0) (x .1) (x .2)), λ y. absurd (some (y .0)));
   miss = λ t p. (λ x. absurd (not-refused (sym x ∙ is)), λ y. absurd (some (y .0)));
@@ -155,8 +155,8 @@ by-refused ws m q e = record {
   full = λ a b. (λ x. absurd (not-refused (sym x ∙ is)), λ y. absurd (some (y .0)));
 }
   where
-    is : saidBy (verdictOf ws) ≡ said.refused m q
-    is = ap saidBy (refused-is ws m q e)
+    is : verdictMeaning (verdictOf ws) ≡ said.refused m q
+    is = ap verdictMeaning (refused-is ws m q e)
 
     some : ¬ NoneApplies ws
     some none = none m q (refusal-exact ws m q .0 e .0)
@@ -164,7 +164,7 @@ by-refused ws m q e = record {
     same : (n p : ℕ) → said.refused m q ≡ said.refused n p → table.Refused m q ≡ table.Refused n p
     same n p x = cc
 
-    neither : (a b : ℕ) → ¬ ((saidBy (verdictOf ws) ≡ judged (model.Firm a b)) ⊎ (saidBy (verdictOf ws) ≡ judged (model.Full a b)))
+    neither : (a b : ℕ) → ¬ ((verdictMeaning (verdictOf ws) ≡ judged (model.Firm a b)) ⊎ (verdictMeaning (verdictOf ws) ≡ judged (model.Full a b)))
     neither a b (inl x) = not-refused (sym x ∙ is)
     neither a b (inr x) = not-refused (sym x ∙ is)
 
@@ -180,13 +180,13 @@ judged-exact ws = go (answerOf ws) refl
 
 module _ (ws : List ℕ) (r : Loaded) (l : LoadOf ws r) (e : r .answer ≡ Passed) where
   h : Holds ws r
-  h = l .holds (ap loadTold e)
+  h = l .holds (ap loadMeaning e)
 
   none : NoneApplies ws
-  none = l .passed .0 (ap loadTold e)
+  none = l .passed .0 (ap loadMeaning e)
 
   -- it is the table of the words
-  pub same-table : tableIn r ≡ tableOf ws
+  pub same-table : loadedTable r ≡ tableOf ws
   unfolding tableOf
   same-table = λ i. record { tasks = tasks′ i; cores = h .cores i; fence = h .fence i; rule = ruleOf (h .rule i) }
     where
@@ -208,7 +208,7 @@ module _ (ws : List ℕ) (r : Loaded) (l : LoadOf ws r) (e : r .answer ≡ Passe
     some = h .count-from .0;
     few = h .count-from .1;
     narrow = omega (arith, h .cores, passed-cores ws none .1);
-    sound = subst AllSound (sym same-table) (passed-sound ws none);
+    valid = subst AllValid (sym same-table) (passed-valid ws none);
     short = λ p q. subst (λ (s : Table). p < length (s .tasks) → task s p .period ≤ mostTime) (sym same-table)
         (λ i. passed-inside ws none p i .period-from .1) (omega (arith, h .count, ap (λ (s : Table). length (s .tasks)) same-table));
     start = h .start ∙ ap (λ (s : Table). lastS (s .tasks)) (sym same-table);
@@ -218,11 +218,11 @@ module _ (ws : List ℕ) (r : Loaded) (l : LoadOf ws r) (e : r .answer ≡ Passe
   }
 
   -- so the verdict on it is that of the words
-  pub run-value : (v : Verdict) → v ≡ byMiss (missedBefore (tableIn r) (suc (r .horizon))) (acceptedOf r) → Judged ws v
+  pub run-value : (v : Verdict) → v ≡ byMiss (missedBefore (loadedTable r) (suc (r .horizon))) (acceptedOf r) → Judged ws v
   run-value v q =
-      subst (Judged ws) (passed-is ws (passed-exact ws .1 none) ∙ (ap (λ (s : Table). caseOf (judged (verdict s))) (sym same-table) ∙ sym (q ∙ verdict-by r fit)))
+      subst (Judged ws) (passed-is ws (passed-exact ws .1 none) ∙ (ap (λ (s : Table). verdictCase (judged (verdict s))) (sym same-table) ∙ sym (q ∙ verdict-by r fit)))
       (judged-exact ws)
 
 -- a refusal is the verdict of the words
 pub refused-value : (ws : List ℕ) (r : Loaded) → LoadOf ws r → (n p : ℕ) → r .answer ≡ table.Refused n p → Judged ws (Refused n p)
-refused-value ws r l n p e = subst (Judged ws) (refused-is ws n p (refusal-exact ws n p .1 (l .refused n p .0 (ap loadTold e)))) (judged-exact ws)
+refused-value ws r l n p e = subst (Judged ws) (refused-is ws n p (refusal-exact ws n p .1 (l .refused n p .0 (ap loadMeaning e)))) (judged-exact ws)

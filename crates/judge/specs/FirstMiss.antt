@@ -22,23 +22,23 @@ missedBefore s b =
     Never
 
 -- what is found, in the scope's words: no deadline is missed, or the first at a tick, of a position
-pub data Found : Type 0 where
-  noMiss : Found
-  firstAt : ℕ → ℕ → Found
+pub data MissOutcome : Type 0 where
+  noMiss : MissOutcome
+  firstAt : ℕ → ℕ → MissOutcome
 
 -- what each case says: Never no miss, At tick and position
-abbrev pub missTold : Missed → Found
-missTold Never = noMiss
-missTold (At t p) = firstAt t p
+abbrev pub missMeaning : Missed → MissOutcome
+missMeaning Never = noMiss
+missMeaning (At t p) = firstAt t p
 
 -- what is promised of the search before tick b of the full-length run of table s
 pub record MissedOf (s : Table) (b : ℕ) (m : Missed) : Type 0 where
   -- its value
   pub value : m ≡ missedBefore s b
   -- at t, of p, exactly if (t, p) is the first miss and t is before b
-  pub first : (t p : ℕ) → (missTold m ≡ firstAt t p) ↔ (FirstMiss s t p × (t < b))
+  pub first : (t p : ℕ) → (missMeaning m ≡ firstAt t p) ↔ (FirstMiss s t p × (t < b))
   -- none exactly if no deadline is missed before b
-  pub none : (missTold m ≡ noMiss) ↔ ((p t : ℕ) → t < b → ¬ book.Missed s p t)
+  pub none : (missMeaning m ≡ noMiss) ↔ ((p t : ℕ) → t < b → ¬ book.Missed s p t)
 
 -- the verdict by it: a miss, and where there is none the verdict v
 abbrev pub byMiss : Missed → Verdict → Verdict

@@ -8,8 +8,8 @@ use Prim.Native.String.{String}
 use Rattle.model.proofs.Computing.{computing}
 use Rattle.model.proofs.LineByLine.{LineByLine, by-line}
 use Rattle.model.specs.Book.{Answer, Asked, Entry, advance, answersFrom, claims, emptyBook, fresh, refused, rowRefused, rowsFrom, shown, taken, takenOf}
-use Rattle.model.specs.Fence.{justOpen, spread}
-use Rattle.model.specs.Search.{kept, upFrom}
+use Rattle.model.specs.Fence.{unfencedTable, spread}
+use Rattle.model.specs.Search.{filtered, upFrom}
 use Rattle.model.specs.Task.{Rule, Table, Task, greedy, idling, limited}
 use Rattle.model.specs.Verdict.{Firm, Full, Miss, Verdict, verdict}
 
@@ -128,20 +128,20 @@ pub examples : map worked lines ≡ lines
 examples = by-line worked lines lines computed
 
 -- A on five cores with that fence is A with just its unfenced cores, and its rows are A's spread over them; with no fence a table is itself
-pub just-open : justOpen (fencedOn 5 9 greedy (A greedy .tasks)) ≡ A greedy
-unfolding kept upFrom
+pub just-open : unfencedTable (fencedOn 5 9 greedy (A greedy .tasks)) ≡ A greedy
+unfolding filtered upFrom
 just-open = refl
 
-pub just-all : justOpen (A limited) ≡ A limited
-unfolding kept upFrom
+pub just-all : unfencedTable (A limited) ≡ A limited
+unfolding filtered upFrom
 just-all = refl
 
 pub spread-row : spread 9 5 (1 ∷ 1 ∷ 3 ∷ []) ≡ 255 ∷ 1 ∷ 1 ∷ 255 ∷ 3 ∷ []
-unfolding spread kept upFrom
+unfolding spread filtered upFrom
 spread-row = refl
 
 pub spread-none : spread 0 3 (1 ∷ 1 ∷ 3 ∷ []) ≡ 1 ∷ 1 ∷ 3 ∷ []
-unfolding spread kept upFrom
+unfolding spread filtered upFrom
 spread-none = refl
 
 -- a job released at 1 with D 3 claims in ticks 1, 2 and 3, and not when it is due at 4 or later

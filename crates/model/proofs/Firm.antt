@@ -13,18 +13,18 @@ use Rattle.model.proofs.FullLength.{full-length, late-job}
 use Rattle.model.proofs.Lending.{not-lending}
 use Rattle.model.proofs.Runs.{full-stays, missed-at}
 use Rattle.model.proofs.Search.{least-found}
-use Rattle.model.proofs.Sustain.{abreast-lists, finished, none-behind}
+use Rattle.model.proofs.Sustain.{sustained-lists, finished, none-behind}
 use Rattle.model.proofs.Verdict.{verdict-exact}
 use Rattle.model.specs.Book.{Answer, Asked, Book, Entry, NeverMissed, advance, answer, asked, askedBy, book, emptied, emptyIn, firstLate, full, late}
-use Rattle.model.specs.Book.{misemptied, misreported, quiet, refused, rowOf, rowRefused, shown, taken, stranger, strangers, withdraw, withdrawAll}
+use Rattle.model.specs.Book.{misemptied, misreported, noReports, refused, bookRow, rowRefused, shown, taken, stranger, strangers, withdraw, withdrawAll}
 use Rattle.model.specs.Compare.{NoneBehind}
-use Rattle.model.specs.Kept.{Kept}
-use Rattle.model.specs.Sets.{setsAsked, setsOf}
-use Rattle.model.specs.Task.{AllSound, Table, due, task}
+use Rattle.model.specs.FirmKept.{FirmKept}
+use Rattle.model.specs.Sets.{setsAsked, bookSets}
+use Rattle.model.specs.Task.{AllValid, Table, due, task}
 use Rattle.model.specs.Firm.{FirmRule, firm}
 use Rattle.model.specs.Verdict.{Firm, verdict}
 
-module _ (s : Table) (ok : AllSound s) (firmly : FirmRule s) (accepted : NeverMissed s) where
+module _ (s : Table) (ok : AllValid s) (firmly : FirmRule s) (accepted : NeverMissed s) where
   -- a job that is due has ended
   met-due : (xs : List Entry) (p k : ℕ) → p < length (s .tasks) → due (task s p) k ≤ book s xs .tick → book s xs .job p k .ended ≡ true
   met-due xs p k l h =
@@ -78,21 +78,21 @@ module _ (s : Table) (ok : AllSound s) (firmly : FirmRule s) (accepted : NeverMi
       go false r q = omega arith
 
   -- the full-length run is the book of empty sets, at every tick
-  scope-full : (n : ℕ) → book s (replicate n quiet) ≡ full s n
+  scope-full : (n : ℕ) → book s (replicate n noReports) ≡ full s n
   scope-full n = full-length s n (λ q t g. accepted q t)
 
   -- THE THEOREM
-  pub firm-kept : (xs : List Entry) → Kept s xs
+  pub firm-kept : (xs : List Entry) → FirmKept s xs
   firm-kept xs = record {
-    abreast = λ other ys e nl. abreast-lists s ok (not-lending (s .rule) other) firmly xs ys e nl .near;
-    level = subst (NoneBehind s (book s xs)) (sym (scope-full (book s xs .tick))) (none-behind s ok firmly xs);
+    sustainable = λ other ys e nl. sustained-lists s ok (not-lending (s .rule) other) firmly xs ys e nl .near;
+    not-behind = subst (NoneBehind s (book s xs)) (sym (scope-full (book s xs .tick))) (none-behind s ok firmly xs);
     finished = λ p k l e. finished s ok firmly xs p k l (subst (λ (b : Book). b .job p k .ended ≡ true) (scope-full (book s xs .tick)) e);
     met = λ ys zs e p m. true≢false (sym (met-due ys p (m .1 .0) (m .0) (le-of-eq (m .1 .1))) ∙ m .1 .2);
     never-15 = no-15 xs;
-    never-15-row = unfold asked in no-15-shown (rowOf s) xs;
-    never-15-sets = unfold setsAsked in no-15-shown (setsOf s) xs;
+    never-15-row = unfold asked in no-15-shown (bookRow s) xs;
+    never-15-sets = unfold setsAsked in no-15-shown (bookSets s) xs;
   }
 
 -- the same from the verdict
-pub firm-verdict : (s : Table) → AllSound s → (a b : ℕ) → verdict s ≡ Firm a b → (xs : List Entry) → Kept s xs
+pub firm-verdict : (s : Table) → AllValid s → (a b : ℕ) → verdict s ≡ Firm a b → (xs : List Entry) → FirmKept s xs
 firm-verdict s ok a b e = let x = verdict-exact s ok .firm a b .0 e in firm-kept s ok (x .1) (x .0)

@@ -22,7 +22,7 @@ pub mod FullLength
 pub mod Multiples
 pub mod Starts
 pub mod Horizon
-pub mod Level
+pub mod SameClaims
 pub mod Sustain
 pub mod Firm
 pub mod EqualPairs
@@ -33,6 +33,6 @@ pub mod Verdict
 pub mod Renumbered
 pub mod Fence
 pub mod Withdraw
-pub mod Together
+pub mod WithdrawSet
 pub mod Counts
-pub mod Crowd
+pub mod LendingExample

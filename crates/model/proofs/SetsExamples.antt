@@ -16,8 +16,8 @@ use Rattle.model.proofs.LendExamples.{figure-3}
 use Rattle.model.proofs.LineByLine.{LineByLine, by-line}
 use Rattle.model.specs.Book.{Asked, Entry, advance, book, rowRefused, shown, withdrawAll}
 use Rattle.model.specs.Lending.{among}
-use Rattle.model.specs.Search.{kept, memb}
-use Rattle.model.specs.Sets.{SetsApart, SetsCount, SetsOpen, setOf, setsAsked}
+use Rattle.model.specs.Search.{filtered, memb}
+use Rattle.model.specs.Sets.{SetsApart, SetsCount, SetsUnfenced, setOf, setsAsked}
 use Rattle.model.specs.Task.{Rule, Table, greedy, idling, lending, limited}
 
 -- a line: its name, a table and a list, the empty jobs of the row asked after it; and the answer
@@ -89,7 +89,7 @@ pub not-apart : ¬ SetsApart (3 ∷ 1 ∷ [])
 not-apart h = let e : _≡_ {A = ℕ} 0 1 = h 0 1 0 refl refl in omega arith
 
 -- a fenced core, and one at the count
-pub not-open : (¬ SetsOpen 1 2 (1 ∷ [])) × (¬ SetsOpen 0 2 (4 ∷ []))
+pub not-open : (¬ SetsUnfenced 1 2 (1 ∷ [])) × (¬ SetsUnfenced 0 2 (4 ∷ []))
 not-open = (λ h. true≢false (h 0 0 refl .1), λ h. let l : 2 < 2 = h 0 2 refl .0 in omega arith)
 
 -- one core of a job of width 2, and nothing to lend
@@ -99,10 +99,10 @@ not-counted h = ⊎-elim (λ (e : 1 ≡ 2). omega arith) (λ (e : 1 ≡ 0). omeg
 
 -- the borrower's core left in the holder's set
 pub not-kept : ¬ SetsCount (2 ∷ 1 ∷ []) (λ p. cond (eqb p 0) (0 ∷ 1 ∷ []) []) ([] ∷ (0 ∷ []) ∷ []) (3 ∷ 1 ∷ [])
-unfolding setOf kept among memb
+unfolding setOf filtered among memb
 not-kept h = let e : _≡_ {A = ℕ} 3 2 = h .lender 0 cons≢nil in omega arith
 
 -- a holder of width 2 that has one core to lend, of which nobody borrows
 pub not-whole : ¬ SetsCount (2 ∷ []) (λ p. 0 ∷ []) ([] ∷ []) (1 ∷ [])
-unfolding ones kept among memb
+unfolding ones filtered among memb
 not-whole h = let e : _≡_ {A = ℕ} 1 2 = h .parts 0 cons≢nil in omega arith

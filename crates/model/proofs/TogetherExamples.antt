@@ -9,12 +9,12 @@ use Rattle.model.proofs.Computing.{computing}
 use Rattle.model.proofs.EmptyExamples.{line, none, one, pair}
 use Rattle.model.proofs.Examples.{B, Line, on, t, three, two, worked}
 use Rattle.model.proofs.LineByLine.{LineByLine, by-line}
-use Rattle.model.proofs.Together.{members, members-bit}
+use Rattle.model.proofs.WithdrawSet.{members, members-bit}
 use Rattle.model.proofs.WithdrawExamples.{C2, E}
 use Rattle.model.specs.Book.{advance, book, refused, rowRefused, taken, withdraw, withdrawAll}
-use Rattle.model.specs.Local.{SameBits, SameEntries, SameReports, noticed}
+use Rattle.model.specs.Local.{SameBits, SameEntries, SameReports, relevant}
 use Rattle.model.specs.Task.{Table, greedy, idling, lending, limited}
-use Rattle.model.specs.Together.{JustThese}
+use Rattle.model.specs.WithdrawSet.{Enumerates}
 use Rattle.model.specs.Verdict.{Firm, Full, Miss}
 
 -- four tasks that take turns on one core
@@ -89,7 +89,7 @@ unfolding computing
 tick-and-set = (refl, refl, refl)
 
 -- a list of the places of a set in another order, one of them twice
-pub any-order : JustThese 5 (2 ∷ 0 ∷ 2 ∷ [])
+pub any-order : Enumerates 5 (2 ∷ 0 ∷ 2 ∷ [])
 unfolding members
 any-order q = sym (members-bit (2 ∷ 0 ∷ 2 ∷ []) q)
 
@@ -102,7 +102,7 @@ pub same-reports :
     × SameReports 1 (withdraw 1 ∷ []) (withdrawAll 3 ∷ [])
     × SameReports 1 (withdrawAll 3 ∷ []) (withdrawAll 1 ∷ [])
     × SameReports 1 (advance 3 1 ∷ []) (advance 1 3 ∷ [])
-unfolding computing noticed SameEntries
+unfolding computing relevant SameEntries
 same-reports = (tt, ((λ q l. refl, λ q l. refl), tt), (more, tt), (fewer, tt), (more, tt), ((more, fewer), tt))
   where
     more : SameBits 1 3 1

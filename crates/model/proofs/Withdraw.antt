@@ -13,12 +13,12 @@ use Rattle.model.proofs.Bools.{not-true-false, or-cases, or-left, or-ri
 use Rattle.model.proofs.Digits.{bit-power, or-bit, same-set}
 use Rattle.model.proofs.Faithful.{strangers-exact}
 use Rattle.model.proofs.Verdict.{firm-exact}
-use Rattle.model.specs.Book.{Answer, Book, Entry, advance, afterTaken, answer, bookFrom, emptied, enter, entered, only, refused}
-use Rattle.model.specs.Book.{step, taken, stranger, strangers, withdraw, withdrawAll, withdrawing, without}
+use Rattle.model.specs.Book.{Answer, Book, Entry, advance, afterTaken, answer, bookFrom, emptied, enter, entered, singleton, refused}
+use Rattle.model.specs.Book.{step, taken, stranger, strangers, withdraw, withdrawAll, withdrawing, withWithdrawn}
 use Rattle.model.specs.Firm.{FirmRule, firm}
 use Rattle.model.specs.Search.{bit}
 use Rattle.model.specs.Task.{Table}
-use Rattle.model.specs.Together.{Within}
+use Rattle.model.specs.WithdrawSet.{SetBelow}
 
 -- WHAT IT IS ANSWERED, whatever stands in the book: 15 is not looked at
 
@@ -108,7 +108,7 @@ withdraw-all-strangers s b x = (
 )
 
 -- .. and else it is taken
-pub within-strangers : (s : Table) (x : ℕ) → (strangers s x ≡ false) ↔ Within (length (s .tasks)) x
+pub within-strangers : (s : Table) (x : ℕ) → (strangers s x ≡ false) ↔ SetBelow (length (s .tasks)) x
 within-strangers s x = (
   λ e q h. go e q h (ltb q (length (s .tasks))) refl,
   λ h. not-true-false (strangers s x) (λ e. let y = strangers-exact s x .0 e in omega (arith, h (y .0) (y .1), y .2)),
@@ -118,7 +118,7 @@ within-strangers s x = (
     go e q h true i = ltb-true q (length (s .tasks)) i
     go e q h false i = absurd (true≢false (sym (strangers-exact s x .1 (q, h, ltb-false q (length (s .tasks)) i)) ∙ e))
 
-pub withdraw-all-taken : (s : Table) (b : Book) (x : ℕ) → (answer s b (withdrawAll x) ≡ taken) ↔ (FirmRule s × Within (length (s .tasks)) x)
+pub withdraw-all-taken : (s : Table) (b : Book) (x : ℕ) → (answer s b (withdrawAll x) ≡ taken) ↔ (FirmRule s × SetBelow (length (s .tasks)) x)
 unfolding answer chosen
 withdraw-all-taken s b x = (
   λ e. let y = by-none (firm (s .rule) (s .tasks)) (strangers s x) e in (firm-exact s .0 (y .0), within-strangers s x .0 (y .1)),
@@ -130,14 +130,14 @@ withdraw-all-taken s b x = (
 -- the position is in it, and nothing else comes in ..
 pub withdrawn-now : (s : Table) (b : Book) (p q : ℕ) → bit (afterTaken s (withdraw p) b .withdrawn) q ≡ bit (b .withdrawn) q || eqb q (p - 1)
 unfolding afterTaken
-withdrawn-now s b p q = or-bit (b .withdrawn) (only p) q ∙ ap (λ (t : Bool). bit (b .withdrawn) q || t) (bit-power (p - 1) q)
+withdrawn-now s b p q = or-bit (b .withdrawn) (singleton p) q ∙ ap (λ (t : Bool). bit (b .withdrawn) q || t) (bit-power (p - 1) q)
 
 -- .. the tick and every line stay, so that a job that was released before goes on
 pub withdraw-lines : (s : Table) (b : Book) (p : ℕ) → (enter s (withdraw p) b .tick ≡ b .tick) × (enter s (withdraw p) b .job ≡ b .job)
 unfolding enter afterTaken
 withdraw-lines s b p = go (answer s b (withdraw p))
   where
-    go : (w : Answer) → (entered w (without (only p) b) b .tick ≡ b .tick) × (entered w (without (only p) b) b .job ≡ b .job)
+    go : (w : Answer) → (entered w (withWithdrawn (singleton p) b) b .tick ≡ b .tick) × (entered w (withWithdrawn (singleton p) b) b .job ≡ b .job)
     go taken = (refl, refl)
     go (refused n q) = (refl, refl)
 
@@ -151,7 +151,7 @@ stays-one s x b q h = go x (answer s b x)
     go : (x : Entry) (w : Answer) → bit (entered w (afterTaken s x b) b .withdrawn) q ≡ true
     go (advance x e) taken = h
     go (advance x e) (refused n p) = h
-    go (withdraw p) taken = or-bit (b .withdrawn) (only p) q ∙ rw h refl
+    go (withdraw p) taken = or-bit (b .withdrawn) (singleton p) q ∙ rw h refl
     go (withdraw p) (refused n r) = h
     go (withdrawAll x) taken = or-bit (b .withdrawn) x q ∙ rw h refl
     go (withdrawAll x) (refused n r) = h
@@ -162,8 +162,8 @@ withdrawn-stays s [] b q h = h
 withdrawn-stays s (x ∷ xs) b q h = withdrawn-stays s xs (enter s x b) q (stays-one s x b q h)
 
 -- a position that is in the set is not added again
-or-again : (w p : ℕ) → bit w (p - 1) ≡ true → bitOr w (only p) ≡ w
-or-again w p h = same-set (bitOr w (only p)) w (λ i. or-bit w (only p) i ∙ (rw (bit-power (p - 1) i) (go i (eqb i (p - 1)) refl)))
+or-again : (w p : ℕ) → bit w (p - 1) ≡ true → bitOr w (singleton p) ≡ w
+or-again w p h = same-set (bitOr w (singleton p)) w (λ i. or-bit w (singleton p) i ∙ (rw (bit-power (p - 1) i) (go i (eqb i (p - 1)) refl)))
   where
     go : (i : ℕ) (t : Bool) → eqb i (p - 1) ≡ t → bit w i || t ≡ bit w i
     go i true e = let here : i ≡ p - 1 = eqb-true i (p - 1) e in rw (here, h) refl
@@ -178,7 +178,7 @@ pub withdraw-again : (s : Table) (b : Book) (p : ℕ) → bit (b .withdrawn) (p 
 unfolding enter afterTaken
 withdraw-again s b p h = go (answer s b (withdraw p))
   where
-    go : (w : Answer) → entered w (without (only p) b) b ≡ b
+    go : (w : Answer) → entered w (withWithdrawn (singleton p) b) b ≡ b
     go taken = ap (λ (n : ℕ). record { tick = b .tick; job = b .job; withdrawn = n }) (or-again (b .withdrawn) p h)
     go (refused n q) = refl
 

@@ -9,7 +9,7 @@ use lib.Bits.{bitOr}
 use lib.Dec.{eqb, leb, ltb}
 use Rattle.model.specs.Search.{any, least, bit}
 use Rattle.model.specs.Task.{Task, Rule, greedy, limited, idling, lending, Table, task, release, due, newest, widthOf}
-use Rattle.model.specs.Fence.{openCores}
+use Rattle.model.specs.Fence.{unfencedCores}
 use Rattle.model.specs.Grants.{claimants, grants, some}
 use Rattle.model.specs.Lending.{lends, lent, shownCores}
 use Rattle.model.specs.Row.{row}
@@ -25,7 +25,7 @@ pub record Job : Type 0 where
 abbrev pub fresh : Job
 fresh = record { had = 0; claimed = 0; ended = false }
 
--- the book: the tick, the line of job k of place p, and the set of withdrawn positions, bit 0 for position 1
+-- the book, the trace of an execution: the tick, the line of job k of place p, and the set of withdrawn positions, bit 0 for position 1
 pub record Book : Type 0 where
   pub tick : ℕ
   pub job : ℕ → ℕ → Job
@@ -84,7 +84,7 @@ widths s t = map (λ τ. widthOf τ (newest τ t)) (s .tasks)
 
 -- from the claims the table's rule gives the cores of each place, of those outside the fence ..
 abbrev pub grantsOf : Table → Book → List (List ℕ)
-grantsOf s b = grants (s .rule) (claimants (widths s (b .tick)) (taskClaims s b)) (openCores s)
+grantsOf s b = grants (s .rule) (claimants (widths s (b .tick)) (taskClaims s b)) (unfencedCores s)
 
 -- .. and place p is given some: under rules 1 to 3 it is then in the row, under rule 4 they are reserved for it
 abbrev pub inRow : Table → Book → ℕ → Bool
@@ -129,8 +129,8 @@ abbrev pub shownOf : Table → Book → List (List ℕ)
 shownOf s b = shownCores (grantsOf s b) (lentOf s b)
 
 -- .. and so the row
-abbrev pub rowOf : Table → Book → List ℕ
-rowOf s b = row (s .fence) (s .cores) (shownOf s b)
+abbrev pub bookRow : Table → Book → List ℕ
+bookRow s b = row (s .fence) (s .cores) (shownOf s b)
 
 -- AN ADVANCE THAT IS TAKEN
 
@@ -177,18 +177,18 @@ emptiesOf (withdraw p) = 0
 emptiesOf (withdrawAll x) = 0
 
 -- the set of one position
-abbrev pub only : ℕ → ℕ
-only p = 2 ^ (p - 1)
+abbrev pub singleton : ℕ → ℕ
+singleton p = 2 ^ (p - 1)
 
 -- a withdrawal of the positions of a set only adds them to the withdrawn ones: a job released before this tick goes on
-abbrev pub without : ℕ → Book → Book
-without x b = record { tick = b .tick; job = b .job; withdrawn = bitOr (b .withdrawn) x }
+abbrev pub withWithdrawn : ℕ → Book → Book
+withWithdrawn x b = record { tick = b .tick; job = b .job; withdrawn = bitOr (b .withdrawn) x }
 
 -- the book after an entry that is taken
 unfoldable pub afterTaken : Table → Entry → Book → Book
 afterTaken s (advance x e) b = advanced s (bit x) (emptyIn b e) b
-afterTaken s (withdraw p) b = without (only p) b
-afterTaken s (withdrawAll x) b = without x b
+afterTaken s (withdraw p) b = withWithdrawn (singleton p) b
+afterTaken s (withdrawAll x) b = withWithdrawn x b
 
 -- REFUSALS
 
@@ -261,7 +261,7 @@ askedBy show s b e =
 
 -- a row asked
 unfoldable pub asked : Table → Book → ℕ → Asked
-asked s b e = askedBy (rowOf s) s b e
+asked s b e = askedBy (bookRow s) s b e
 
 -- THE BOOK OF A LIST
 
@@ -331,8 +331,8 @@ abbrev pub none : ℕ → Bool
 none p = false
 
 -- an advance whose sets are both empty
-abbrev pub quiet : Entry
-quiet = advance 0 0
+abbrev pub noReports : Entry
+noReports = advance 0 0
 
 -- the full-length run at tick n: every advance is entered with no report and no empty job, past a miss too; nobody is withdrawn.
 -- It is the scope's, the book of n advances whose sets are both empty, up to the first miss (`full-length`)

@@ -5,7 +5,7 @@ use Prim.Native.Nat.{_%_, _*_, _+_, _-_, _/_, _<_, suc, zero, ℕ, _≤_}
 use lib.Dec.{eqb}
 use lib.ListN.{getD, length}
 use Rattle.model.specs.Search.{least}
-use Rattle.model.specs.Task.{Table, Task, cycle, nobody, release}
+use Rattle.model.specs.Task.{Table, Task, cycle, absentTask, release}
 
 -- O, or if larger, the first release of a task not before t (`release-from`, `release-first`)
 abbrev pub releaseFrom : Task → ℕ → ℕ
@@ -13,8 +13,8 @@ releaseFrom τ t = τ .offset + (t - τ .offset + (τ .period - 1)) / τ .period
 
 -- S of position 1 is its O; S of a later position is its O, or if larger, its first release not before the previous S
 unfoldable pub S : List Task → ℕ → ℕ
-S τs zero = getD τs 0 nobody .offset
-S τs (suc p) = releaseFrom (getD τs (suc p) nobody) (S τs p)
+S τs zero = getD τs 0 absentTask .offset
+S τs (suc p) = releaseFrom (getD τs (suc p) absentTask) (S τs p)
 
 -- the last S
 abbrev pub lastS : List Task → ℕ
@@ -29,7 +29,7 @@ unfoldable pub hyperperiod : List Task → ℕ
 hyperperiod [] = 1
 hyperperiod (τ ∷ τs) = lcm (cycle τ) (hyperperiod τs)
 
--- the last S plus P
+-- the last S plus P: the end of the interval that an exact schedulability test looks at
 unfoldable pub horizon : Table → ℕ
 horizon s = lastS (s .tasks) + hyperperiod (s .tasks)
 
@@ -42,7 +42,7 @@ pub record Later (τ : Task) (before here : ℕ) : Type 0 where
 
 -- n is a multiple of every task's period, of 2T where its widths differ
 abbrev pub CommonMultiple : List Task → ℕ → Type 0
-CommonMultiple τs n = (p : ℕ) → p < length τs → (m : ℕ) × (n ≡ m * cycle (getD τs p nobody))
+CommonMultiple τs n = (p : ℕ) → p < length τs → (m : ℕ) × (n ≡ m * cycle (getD τs p absentTask))
 
 -- n is the least number that all of these divide: of their positive common multiples the least (`P-exact` shows it of P)
 pub record LeastCommonMultiple (τs : List Task) (n : ℕ) : Type 0 where

@@ -9,10 +9,10 @@ pub mod Lending
 pub mod Row
 pub mod Firm
 pub mod Book
-pub mod Together
+pub mod WithdrawSet
 pub mod Sets
 pub mod Compare
 pub mod Horizon
 pub mod Verdict
-pub mod Kept
+pub mod FirmKept
 pub mod Local

@@ -31,15 +31,15 @@ pub record Table : Type 0 where
   pub rule : Rule
 
 -- no task: what stands past the last place
-abbrev pub nobody : Task
-nobody = record { offset = 0; oddWidth = 0; length = 0; deadline = 0; period = 0; evenWidth = 0 }
+abbrev pub absentTask : Task
+absentTask = record { offset = 0; oddWidth = 0; length = 0; deadline = 0; period = 0; evenWidth = 0 }
 
 -- the task at place p
 abbrev pub task : Table → ℕ → Task
-task s p = getD (s .tasks) p nobody
+task s p = getD (s .tasks) p absentTask
 
 -- the limits on one task that the theorems use: v, w, C and D are at least 1, and D is at most T
-pub record Sound (τ : Task) : Type 0 where
+pub record ValidTask (τ : Task) : Type 0 where
   pub odd-pos : 1 ≤ τ .oddWidth
   pub even-pos : 1 ≤ τ .evenWidth
   pub length-pos : 1 ≤ τ .length
@@ -47,8 +47,8 @@ pub record Sound (τ : Task) : Type 0 where
   pub constrained : τ .deadline ≤ τ .period
 
 -- every task of the table is within them
-abbrev pub AllSound : Table → Type 0
-AllSound s = (p : ℕ) → p < length (s .tasks) → Sound (task s p)
+abbrev pub AllValid : Table → Type 0
+AllValid s = (p : ℕ) → p < length (s .tasks) → ValidTask (task s p)
 
 -- scope: job k is released at O + (k−1)T, k from 1
 abbrev pub release : Task → ℕ → ℕ

@@ -8,7 +8,7 @@ use Rattle.model.specs.Lending.{lends}
 use Rattle.model.specs.Task.{Rule, greedy, limited, idling, lending, ruleOf}
 use Rattle.phase.specs.declared.Phase.{Phase}
 use Rattle.phase.specs.declared.Phase.the-variants.{Holding, Resting}
-use Rattle.phase.specs.Headroom.{Roomy}
+use Rattle.phase.specs.Headroom.{HasRoom}
 use Rattle.phase.specs.Phase.{idles, released, emptyPhase, seen}
 use Rattle.phase.proofs.Phases.{by-eq}
 
@@ -36,13 +36,13 @@ lends-rule n =
     go true = refl
     go false = refl
 
-pub seen-roomy : (r : Rule) (empty : Bool) (ph : Phase) → Roomy ph → Roomy (seen r empty ph)
-seen-roomy r empty ph h = go (empty && released ph)
+pub seen-has-room : (r : Rule) (empty : Bool) (ph : Phase) → HasRoom ph → HasRoom (seen r empty ph)
+seen-has-room r empty ph h = go (empty && released ph)
   where
-    none : (x : Bool) → Roomy (cond x (Holding 0 0) (Resting 0))
+    none : (x : Bool) → HasRoom (cond x (Holding 0 0) (Resting 0))
     none true = (omega arith, omega arith)
     none false = omega arith
 
-    go : (x : Bool) → Roomy (cond x (emptyPhase r) ph)
+    go : (x : Bool) → HasRoom (cond x (emptyPhase r) ph)
     go true = none (idles r)
     go false = h

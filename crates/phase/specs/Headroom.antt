@@ -5,8 +5,8 @@ use Rattle.phase.specs.declared.Phase.the-variants.{Coming, Working, Hol
 use Rattle.model.specs.Sizes.{mostWord}
 
 -- one tick can be taken from what is left, or added to what is counted
-abbrev pub Roomy : Phase → Type 0
-Roomy (Coming left) = 1 ≤ left
-Roomy (Working z had reserved) = (z < mostWord) × (had < mostWord) × (reserved < mostWord)
-Roomy (Holding z reserved) = (z < mostWord) × (reserved < mostWord)
-Roomy (Resting z) = z < mostWord
+abbrev pub HasRoom : Phase → Type 0
+HasRoom (Coming left) = 1 ≤ left
+HasRoom (Working z had reserved) = (z < mostWord) × (had < mostWord) × (reserved < mostWord)
+HasRoom (Holding z reserved) = (z < mostWord) × (reserved < mostWord)
+HasRoom (Resting z) = z < mostWord

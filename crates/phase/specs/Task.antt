@@ -5,9 +5,9 @@ use Rattle.model.specs.Task as model
 use Rattle.table.specs.Limits.{taskOut}
 use Rattle.phase.specs.declared.Phase.{Phase}
 use Rattle.phase.specs.declared.Phase.the-variants.{Coming, Resting}
-use Rattle.phase.specs.declared.Stand.{Stand}
+use Rattle.phase.specs.declared.TaskState.{TaskState}
 use Rattle.phase.specs.declared.Task.{Task}
-use Rattle.phase.specs.Phase.{phaseIn, stand, startStand, seen, nextStand}
+use Rattle.phase.specs.Phase.{phaseIn, taskState, startState, seen, nextState}
 
 -- the task of the table that a task with its phase is
 abbrev pub taskOf : Task → model.Task
@@ -21,8 +21,8 @@ taskOf t = record {
 }
 
 -- a task of the table where it stands
-abbrev pub standing : Stand → model.Task → Task
-standing w τ = record {
+abbrev pub withState : TaskState → model.Task → Task
+withState w τ = record {
   offset = τ .offset;
   width = τ .oddWidth;
   length = τ .length;
@@ -35,11 +35,11 @@ standing w τ = record {
 
 -- zeros, odd and Resting(0): a place past the count
 abbrev pub unused : Task
-unused = standing (stand false (Resting 0)) model.nobody
+unused = withState (taskState false (Resting 0)) model.absentTask
 
 -- what an array's read past its last place gives
 abbrev pub pastEnd : Task
-pastEnd = standing (stand false (Coming 0)) model.nobody
+pastEnd = withState (taskState false (Coming 0)) model.absentTask
 
 -- the width of the task's job
 abbrev pub widthNow : Task → ℕ
@@ -51,10 +51,10 @@ outIn wide r t = taskOut wide (taskOf t) || not (phaseIn r (taskOf t) (t .even) 
 
 -- a task as it starts
 abbrev pub startTask : model.Task → Task
-startTask τ = standing (startStand (τ .offset)) τ
+startTask τ = withState (startState (τ .offset)) τ
 
 -- the task one tick on, by whether its job is empty if it is released in this tick, whether it is given cores, whether it borrows some and whether it
 -- is reported
 abbrev pub nextTask : model.Rule → Bool → Bool → Bool → Bool → Task → Task
 nextTask r empty given lent reported t =
-    standing (nextStand r (taskOf t) given lent reported (t .even) (seen r empty (t .phase))) (taskOf t)
+    withState (nextState r (taskOf t) given lent reported (t .even) (seen r empty (t .phase))) (taskOf t)

@@ -18,7 +18,7 @@ pub enum Phase {
 }
 
 // Where a task stands: whether its job is an even one, and its phase.
-pub struct Stand {
+pub struct TaskState {
     pub even: bool,
     pub phase: Phase,
 }

@@ -12,8 +12,8 @@ use Rattle.table.specs.Answer.{headerNumber, lastStep, endingOf, firstOut, byHo
 use Rattle.table.proofs.Examples.{wordsA}
 use Rattle.plan.specs.declared.Planned.{Planned}
 use Rattle.plan.specs.declared.Planned.the-variants.{Written, Refused}
-use Rattle.plan.specs.Rows.{rowsFrom}
-use Rattle.plan.specs.Plan.{byPlan, plannedOf, planTold, bufferOf}
+use Rattle.plan.specs.Rows.{fullRowsFrom}
+use Rattle.plan.specs.Plan.{byPlan, plannedOf, planMeaning, bufferOf}
 
 -- a line: its name, the words of a table, a, b and a lent buffer; the answer, and the buffer afterwards
 pub record Line : Type 0 where
@@ -36,7 +36,7 @@ worked l =
       b = l .b;
       lent = l .lent;
       says = v;
-      leaves = bufferOf (planTold v) (tableOf (l .words)) (l .a) (l .b) (l .lent);
+      leaves = bufferOf (planMeaning v) (tableOf (l .words)) (l .a) (l .b) (l .lent);
     }
 
 -- so many bytes, none of which is a position
@@ -108,7 +108,7 @@ lines =
 
 -- every line is what the definitions say, line by line
 computed : LineByLine worked lines lines
-unfolding plannedOf byPlan rowsFrom answerOf byWalk byTasks byHorizon firstOut endingOf lastStep headerNumber tableOf chain count met computing
+unfolding plannedOf byPlan fullRowsFrom answerOf byWalk byTasks byHorizon firstOut endingOf lastStep headerNumber tableOf chain count met computing
 computed =
     let past-14 : LineByLine worked (drop 14 lines) (drop 14 lines) =
     (refl, (refl, (refl, (refl, (refl, (refl, (refl, (refl, (refl, (refl, (refl, (refl, (refl, (refl, (refl, (refl, tt)))))))))))))))) in

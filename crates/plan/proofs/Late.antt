@@ -6,7 +6,7 @@ use Prim.Native.Nat.{ℕ, suc, _<_}
 use native.Mathlib.Nat.{le-trans}
 use lib.ListN.{length}
 use Rattle.model.specs.Search.{any, least}
-use Rattle.model.specs.Task.{Table, AllSound}
+use Rattle.model.specs.Task.{Table, AllValid}
 use Rattle.model.specs.Book.{Missed}
 use Rattle.model.specs.Verdict.{FirstMiss, missedAt, missedIn}
 use Rattle.model.proofs.Search.{least-any, least-below, least-lowest}
@@ -15,7 +15,7 @@ use Rattle.table.proofs.Decide.{Decides}
 use Rattle.judge.proofs.FirstMiss.{found}
 use Rattle.plan.specs.Numbers.{MissOut}
 
-module _ (s : Table) (ok : AllSound s) (b : ℕ) where
+module _ (s : Table) (ok : AllValid s) (b : ℕ) where
   -- one with a miss before b has a first
   first : any b (missedIn s) ≡ true → MissOut s b
   first e =

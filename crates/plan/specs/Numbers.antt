@@ -14,8 +14,8 @@ abbrev pub RangeOut : Table → ℕ → ℕ → Type 0
 RangeOut s a b = (b < a) ⊎ (horizon s < b)
 
 -- a lent buffer of so many bytes has fewer than (b − a) × cores
-abbrev pub BufferOut : Table → ℕ → ℕ → ℕ → Type 0
-BufferOut s a b bytes = bytes < (b - a) * s .cores
+abbrev pub BufferShort : Table → ℕ → ℕ → ℕ → Type 0
+BufferShort s a b bytes = bytes < (b - a) * s .cores
 
 -- b is above the tick of the first miss
 abbrev pub MissOut : Table → ℕ → Type 0
@@ -28,7 +28,7 @@ pub data Applies (ws : List ℕ) (a b bytes : ℕ) : ℕ → ℕ → Type 0 wher
   -- 10. Plan: a is above b, or b is above the horizon.
   ten : RangeOut (tableOf ws) a b → Applies ws a b bytes 10 0
   -- 11. Plan: the lent buffer has fewer bytes than (b−a) × cores.
-  eleven : BufferOut (tableOf ws) a b bytes → Applies ws a b bytes 11 0
+  eleven : BufferShort (tableOf ws) a b bytes → Applies ws a b bytes 11 0
   -- 12. Plan: b is above the tick of the first miss.
   twelve : MissOut (tableOf ws) b → Applies ws a b bytes 12 0
 

@@ -8,7 +8,7 @@ use lib.ListN.{length, getD, drop, replicate}
 use lib.Dec.{ltb}
 use Rattle.model.specs.Search.{any}
 use Rattle.model.specs.Task.{Table}
-use Rattle.model.specs.Book.{book, quiet, rowOf}
+use Rattle.model.specs.Book.{book, noReports, bookRow}
 use Rattle.model.specs.Book as model
 use Rattle.model.specs.Horizon.{horizon}
 use Rattle.model.specs.Verdict.{missedIn}
@@ -42,9 +42,9 @@ abbrev pub over : Table → ℕ → ℕ → List ℕ → List ℕ
 over s a b old = rowsOf s a b ++ drop ((b - a) * s .cores) old
 
 -- the answer that each case is: taken where the rows are written, or refused with number and position
-abbrev pub planTold : Planned → model.Answer
-planTold Written = model.taken
-planTold (Refused n p) = model.refused n p
+abbrev pub planMeaning : Planned → model.Answer
+planMeaning Written = model.taken
+planMeaning (Refused n p) = model.refused n p
 
 -- the buffer afterwards: the rows where the plan is taken, and as found in a refusal
 abbrev pub bufferOf : model.Answer → Table → ℕ → ℕ → List ℕ → List ℕ
@@ -56,16 +56,16 @@ pub record PlanOf (ws : List ℕ) (a b : ℕ) (old new : List ℕ) (v : Planned)
   -- its value
   pub value : v ≡ plannedOf ws a b (length old)
   -- refused with n and p exactly if n is the first number that applies, at p; taken, so that the rows are written, exactly if none applies
-  pub refused : (n p : ℕ) → (planTold v ≡ model.refused n p) ↔ First ws a b (length old) n p
-  pub written : (planTold v ≡ model.taken) ↔ NoneApplies ws a b (length old)
+  pub refused : (n p : ℕ) → (planMeaning v ≡ model.refused n p) ↔ First ws a b (length old) n p
+  pub written : (planMeaning v ≡ model.taken) ↔ NoneApplies ws a b (length old)
   -- the buffer afterwards
-  pub buffer : new ≡ bufferOf (planTold v) (tableOf ws) a b old
+  pub buffer : new ≡ bufferOf (planMeaning v) (tableOf ws) a b old
   -- byte by byte: the byte of core c in row t is that of the row of the book of t advances with empty sets ..
   pub byte :
-      planTold v ≡ model.taken → (t c : ℕ) → a ≤ t → t < b → c < tableOf ws .cores
-      → getD new ((t - a) * tableOf ws .cores + c) 0 ≡ getD (rowOf (tableOf ws) (book (tableOf ws) (replicate t quiet))) c 0
+      planMeaning v ≡ model.taken → (t c : ℕ) → a ≤ t → t < b → c < tableOf ws .cores
+      → getD new ((t - a) * tableOf ws .cores + c) 0 ≡ getD (bookRow (tableOf ws) (book (tableOf ws) (replicate t noReports))) c 0
   -- .. and nothing after the last row is touched
-  pub past : planTold v ≡ model.taken → (i : ℕ) → (b - a) * tableOf ws .cores ≤ i → getD new i 0 ≡ getD old i 0
+  pub past : planMeaning v ≡ model.taken → (i : ℕ) → (b - a) * tableOf ws .cores ≤ i → getD new i 0 ≡ getD old i 0
   pub size : length new ≡ length old
   -- a refusal leaves the buffer as found
-  pub found : (n p : ℕ) → planTold v ≡ model.refused n p → new ≡ old
+  pub found : (n p : ℕ) → planMeaning v ≡ model.refused n p → new ≡ old

@@ -13,7 +13,7 @@ use Rattle.printer.proofs.Pieces.{pieces}
 
 -- a printer of the front has all of the output of the whole input still to hand out
 pub front-made : (bs : List ℕ) {p : Printer} → MadeFrom (take enoughBytes bs) p → MadeFrom bs p
-front-made bs m = record { sound = m .sound; whole = m .whole ∙ output-enough bs }
+front-made bs m = record { valid = m .valid; whole = m .whole ∙ output-enough bs }
 
 -- THEOREM (front-pieces)
 pub front-pieces :

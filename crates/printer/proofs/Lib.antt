@@ -3,8 +3,8 @@ pub mod Safe
 pub mod Limits
 pub mod Owed
 pub mod Step
-pub mod Follows
-pub mod Hand
+pub mod Refines
+pub mod Emitting
 pub mod Made
 pub mod Pieces
 pub mod Front

@@ -9,21 +9,21 @@ use Rattle.table.specs.declared.Loaded.{Loaded}
 use Rattle.table.specs.Words.{tableOf}
 use Rattle.table.specs.Answer.{answerOf}
 use Rattle.table.specs.Limits.{mostHorizon}
-use Rattle.full.specs.Stand.{Numbers, numbersIn, Stand, standAt, next}
+use Rattle.simulation.specs.TickState.{Numbers, loadedNumbers, TickState, tickStateOf, nextTickState}
 use Rattle.judge.specs.declared.Verdict.{Verdict}
-use Rattle.judge.specs.Judged.{tableIn, Fit}
+use Rattle.judge.specs.Judged.{loadedTable, Fit}
 use Rattle.text.specs.Output.{firstLine, rowLines, printedBy, output, longestCells, longestLine}
-use Rattle.judge.specs.Said.{saidBy}
+use Rattle.judge.specs.JudgeAnswer.{verdictMeaning}
 use Rattle.text.specs.Written.{Put}
 use Rattle.printer.specs.Rows.{textIn, lineIn, linesIn}
-use Rattle.printer.specs.Sound.{tableSound, sound, Safe}
+use Rattle.printer.specs.Valid.{tableValid, valid, Safe}
 use Rattle.printer.specs.declared.Stage.{Stage}
 use Rattle.printer.specs.declared.Printer.{Printer}
 use Rattle.printer.specs.declared.Piece.{Piece}
 
 -- a printer's run, and the text of the row that it keeps
-abbrev pub standOf : Printer → Stand
-standOf p = standAt (p .stage .pace) (p .places)
+abbrev pub runStateOf : Printer → TickState
+runStateOf p = tickStateOf (p .stage .registers) (p .places)
 
 abbrev pub textKept : Printer → List ℕ
 textKept p = take (p .stage .text) (p .row)
@@ -31,25 +31,25 @@ textKept p = take (p .stage .text) (p .row)
 -- the rest of its line, and the lines of the rows to come
 unfoldable pub toCome : Printer → List ℕ
 toCome p =
-    take (p .stage .ready - p .given) (drop (p .given) (p .line)) ++ linesIn (numbersIn (p .table)) (p .end - p .stage .pace .tick) (standOf p) (textKept p)
+    take (p .stage .ready - p .given) (drop (p .given) (p .line)) ++ linesIn (loadedNumbers (p .table)) (p .end - p .stage .registers .tick) (runStateOf p) (textKept p)
 
 -- what a printer still has to hand out: where it is sound, all that; else nothing
 unfoldable pub rest : Printer → List ℕ
-rest p = cond (sound p) (toCome p) []
+rest p = cond (valid p) (toCome p) []
 
 -- ONE ROW
 
 -- a run that can be stepped, with arrays for its texts, before the last tick of all
 pub record Stepping (n : Numbers) (x : Stage) (places row old : List ℕ) : Type 0 where
-  pub safe : Safe n (standAt (x .pace) places)
-  pub tick : x .pace .tick < mostHorizon
+  pub safe : Safe n (tickStateOf (x .registers) places)
+  pub tick : x .registers .tick < mostHorizon
   pub text : x .text ≤ longestCells
   pub wide : length row ≡ longestCells
   pub long : length old ≡ longestLine
 
 -- one tick on: the line of the tick is written, and the run stands before the next; `kept` is the text that was kept
-pub record Stepped (n : Numbers) (s : Stand) (kept old : List ℕ) (x′ : Stage) (places′ row′ new : List ℕ) : Type 0 where
-  pub stand : standAt (x′ .pace) places′ ≡ next n s
+pub record Stepped (n : Numbers) (s : TickState) (kept old : List ℕ) (x′ : Stage) (places′ row′ new : List ℕ) : Type 0 where
+  pub state : tickStateOf (x′ .registers) places′ ≡ nextTickState n s
   pub keeps : take (x′ .text) row′ ≡ textIn n s kept
   pub line : Put old 0 (lineIn n s kept) new (x′ .ready)
   pub ready : x′ .ready ≤ longestLine
@@ -60,20 +60,20 @@ pub record Stepped (n : Numbers) (s : Stand) (kept old : List ℕ) (x′ : Stage
 -- A NEW PRINTER
 
 -- of a table's rows up to e, with the verdict's line before them
-pub record StartOf (t : Loaded) (e : ℕ) (v : Verdict) (p : Printer) : Type 0 where
-  pub sound : tableSound t ≡ true → e ≤ mostHorizon → sound p ≡ true
+pub record PrinterStartOf (t : Loaded) (e : ℕ) (v : Verdict) (p : Printer) : Type 0 where
+  pub valid : tableValid t ≡ true → e ≤ mostHorizon → valid p ≡ true
   pub whole :
-      (0 < e → Fit t × (e ≤ t .horizon) × ((q u : ℕ) → u < e → ¬ Missed (tableIn t) q u))
-      → toCome p ≡ firstLine (saidBy v) ++ rowLines (tableIn t) 0 e
+      (0 < e → Fit t × (e ≤ t .horizon) × ((q u : ℕ) → u < e → ¬ Missed (loadedTable t) q u))
+      → toCome p ≡ firstLine (verdictMeaning v) ++ rowLines (loadedTable t) 0 e
 
 -- of a table's words
 pub record WordsPrinter (ws : List ℕ) (p : Printer) : Type 0 where
-  pub sound : sound p ≡ true
+  pub valid : valid p ≡ true
   pub whole : rest p ≡ printedBy (answerOf ws) (tableOf ws)
 
 -- of the bytes of an input: it is sound, and has all of the output still to hand out
 pub record MadeFrom (bs : List ℕ) (p : Printer) : Type 0 where
-  pub sound : sound p ≡ true
+  pub valid : valid p ≡ true
   pub whole : rest p ≡ output bs
 
 -- A PIECE
@@ -84,6 +84,6 @@ pub record PieceOf (p : Printer) (before after : List ℕ) (r : Piece) : Type 0 
   pub bytes : Put before 0 (take (r .length) (rest p)) after (r .length)
   pub rest : rest (r .printer) ≡ drop (r .length) (rest p)
   -- a printer that is not sound is refused: nothing is handed out, the buffer is as found, the printer as given
-  pub refused : sound p ≡ false → (r .length ≡ 0) × (after ≡ before) × (r .printer ≡ p)
+  pub refused : valid p ≡ false → (r .length ≡ 0) × (after ≡ before) × (r .printer ≡ p)
   -- and a sound one stays sound
-  pub sound : sound (r .printer) ≡ sound p
+  pub valid : valid (r .printer) ≡ valid p

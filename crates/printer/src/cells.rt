@@ -26,5 +26,5 @@ pub(crate) fn put_cells(
         × (r ≤ longestCells) ⌝ }
 {
     let row = rule::show(rule, cores, fence, claims, even, widths, count);
-    row::spell(row, cores as usize, text)
+    row::put_cells(row, cores as usize, text)
 }

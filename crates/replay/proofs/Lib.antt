@@ -1,2 +1,2 @@
 -- The law behind `replay`: turn by turn it says what the session says.
-pub mod Turning
+pub mod Rounds

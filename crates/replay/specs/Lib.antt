@@ -1,2 +1,2 @@
 -- What the program `replay` promises of one turn of reading and answering.
-pub mod Turns
+pub mod Rounds

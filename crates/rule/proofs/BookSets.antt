@@ -10,8 +10,8 @@ use lib.ListN.{length, getD, List·getD-map}
 use borrow.Author.Tests.{not-true}
 use Rattle.model.specs.Book.{Book, borrowed, grantsOf, inRow, lentOf, newestEnded, offer, seeks, shownOf, taskClaims, widths}
 use Rattle.model.specs.Lending.{lends}
-use Rattle.model.specs.Local.{SameCores}
-use Rattle.model.specs.Sets.{SetsApart, SetsCount, SetsOpen, setOf, setsOf}
+use Rattle.model.specs.Local.{SameCoresAbove}
+use Rattle.model.specs.Sets.{SetsApart, SetsCount, SetsUnfenced, setOf, bookSets}
 use Rattle.model.specs.Task.{Table}
 use Rattle.model.proofs.Bools.{and-right}
 use Rattle.rule.proofs.Borrowed.{none-some}
@@ -35,20 +35,20 @@ module _ (s : Table) (b : Book) where
 
   -- THE THEOREMS
   module _ (few : s .cores ≤ 64) where
-    pub sets-apart : SetsApart (setsOf s b)
+    pub sets-apart : SetsApart (bookSets s b)
     sets-apart =
         tick-sets-apart (s .rule) (widths s (b .tick)) (taskClaims s b) (s .fence) (s .cores) (seeks s b) (offer s b) (length (s .tasks)) seekers offers few
 
-    pub sets-open : SetsOpen (s .fence) (s .cores) (setsOf s b)
+    pub sets-open : SetsUnfenced (s .fence) (s .cores) (bookSets s b)
     sets-open =
         tick-sets-open (s .rule) (widths s (b .tick)) (taskClaims s b) (s .fence) (s .cores) (seeks s b) (offer s b) (length (s .tasks)) seekers offers few
 
-    pub sets-count : SetsCount (widths s (b .tick)) (offer s b) (lentOf s b) (setsOf s b)
+    pub sets-count : SetsCount (widths s (b .tick)) (offer s b) (lentOf s b) (bookSets s b)
     sets-count =
         tick-sets-count (s .rule) (widths s (b .tick)) (taskClaims s b) (s .fence) (s .cores) (seeks s b) (offer s b) (length (s .tasks)) seekers offers few
 
   -- a place that has nothing to lend shows what it borrows, or what it is given
-  keeps : (p : ℕ) → offer s b p ≡ [] → getD (setsOf s b) p 0 ≡ setOf (borrowed s b p ++ getD (grantsOf s b) p [])
+  keeps : (p : ℕ) → offer s b p ≡ [] → getD (bookSets s b) p 0 ≡ setOf (borrowed s b p ++ getD (grantsOf s b) p [])
   unfolding borrowed setOf
   keeps p e =
       List·getD-map setOf (shownOf s b) p []
@@ -57,8 +57,8 @@ module _ (s : Table) (b : Book) where
 -- THE THEOREM: where positions 1 to n have the same cores in two books (`local-full`, `local-empty`, `local-lists`), one that has nothing to lend (no
 -- cores are reserved for it as a holder: `offer` is empty) shows the same set in both. One that has may not, lent or not: `lending-sets`
 pub local-sets :
-    (n : ℕ) (s s′ : Table) (b b′ : Book) → SameCores n s b s′ b′ → (p : ℕ) → p < n → offer s b p ≡ []
-    → getD (setsOf s b) p 0 ≡ getD (setsOf s′ b′) p 0
+    (n : ℕ) (s s′ : Table) (b b′ : Book) → SameCoresAbove n s b s′ b′ → (p : ℕ) → p < n → offer s b p ≡ []
+    → getD (bookSets s b) p 0 ≡ getD (bookSets s′ b′) p 0
 local-sets n s s′ b b′ h p l e =
     keeps s b p e
     ∙ (ap₂ (λ (x y : List ℕ). setOf (x ++ y)) (h .borrows p l) (h .lists p l) ∙ sym (keeps s′ b′ p (sym (h .offers p l) ∙ e)))

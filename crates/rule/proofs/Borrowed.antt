@@ -9,8 +9,8 @@ use native.Mathlib.Omega.{arith}
 use lib.Dec.{eqb, ltb}
 use lib.ListN.{length, getD, length-map}
 use Rattle.model.specs.Grants.{claimants, grants, some}
-use Rattle.model.specs.Lending.{among, beside, lent, shownCores, tries, unlent}
-use Rattle.model.specs.Search.{kept, memb}
+use Rattle.model.specs.Lending.{among, merged, lent, shownCores, tries, unlent}
+use Rattle.model.specs.Search.{filtered, memb}
 use Rattle.model.specs.Task.{greedy}
 use Rattle.model.proofs.Bools.{and-left, and-right, not-true-false, or-cases, or-left, or-right}
 use Rattle.model.proofs.Grants.{grants-length, grants-none}
@@ -20,14 +20,14 @@ use Rattle.rule.proofs.Granting.{Apart, apart, idle, in-grants, width-o
 
 -- ---- lists beside one another, place by place
 
-pub beside-length : (gs hs : List (List ℕ)) → length (beside gs hs) ≡ length gs
-unfolding beside
+pub beside-length : (gs hs : List (List ℕ)) → length (merged gs hs) ≡ length gs
+unfolding merged
 beside-length [] hs = refl
 beside-length (g ∷ gs) [] = refl
 beside-length (g ∷ gs) (h ∷ hs) = ap suc (beside-length gs hs)
 
-pub beside-place : (gs hs : List (List ℕ)) → length hs ≤ length gs → (q : ℕ) → getD (beside gs hs) q [] ≡ getD gs q [] ++ getD hs q []
-unfolding beside
+pub beside-place : (gs hs : List (List ℕ)) → length hs ≤ length gs → (q : ℕ) → getD (merged gs hs) q [] ≡ getD gs q [] ++ getD hs q []
+unfolding merged
 beside-place [] [] l q = refl
 beside-place [] (h ∷ hs) l q = absurd (omega arith)
 beside-place (g ∷ gs) [] l q = sym (append-nil (getD (g ∷ gs) q []))
@@ -155,7 +155,7 @@ module _ (gs bs : List (List ℕ)) (same : length gs ≡ length bs) where
 
   -- of each place: what it borrows, and what nobody borrows of its own
   pub shown-place : (q : ℕ) → getD (shownCores gs bs) q [] ≡ getD bs q [] ++ unlent bs (getD gs q [])
-  unfolding kept
+  unfolding filtered
   shown-place q =
       beside-place bs (map (unlent bs) gs) (omega (arith, length-map gs (unlent bs))) q
       ∙ ap (λ (l : List ℕ). getD bs q [] ++ l) (map-place (unlent bs) refl gs q)

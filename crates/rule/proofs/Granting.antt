@@ -14,9 +14,9 @@ use Rattle.model.specs.Task.{Rule}
 use Rattle.model.specs.Grants.{Claimant, fits, endsChoosing, given, left, grants, some}
 use Rattle.model.proofs.Bools.{and-right}
 use Rattle.model.proofs.Grants.{given-nothing, left-nothing}
-use Rattle.rule.specs.Shares.{served, givenBy, leftBy, granted}
-use Rattle.rule.specs.declared.Served.{Served}
-use Rattle.rule.specs.declared.Served.the-variants.{Takes, Passed, Ends}
+use Rattle.rule.specs.Granted.{selection, givenBy, leftBy, granted}
+use Rattle.rule.specs.declared.Selection.{Selection}
+use Rattle.rule.specs.declared.Selection.the-variants.{Takes, Passed, Ends}
 use Rattle.cores.proofs.Ascending.{Range, range-drop, In, not-in-none, in-take, in-drop, split-apart}
 
 -- ---- the four cases of a claimant
@@ -45,7 +45,7 @@ module _ (r : Rule) (b : Claimant) (free : List ℕ) where
 -- ---- what the rule's answers to a claimant say
 
 module _ (r : Rule) (free width : ℕ) where
-  pub takes : served r free width ≡ Takes → width ≤ free
+  pub takes : selection r free width ≡ Takes → width ≤ free
   takes = go (leb width free) refl (endsChoosing r)
     where
       go : (t : Bool) → leb width free ≡ t → (u : Bool) → cond t Takes (cond u Ends Passed) ≡ Takes → width ≤ free
@@ -53,7 +53,7 @@ module _ (r : Rule) (free width : ℕ) where
       go false h true e = let z : _≡_ {A = ℕ} 0 1 = cc in absurd (omega arith)
       go false h false e = let z : _≡_ {A = ℕ} 0 1 = cc in absurd (omega arith)
 
-  pub passes : served r free width ≡ Passed → (free < width) × (endsChoosing r ≡ false)
+  pub passes : selection r free width ≡ Passed → (free < width) × (endsChoosing r ≡ false)
   passes = go (leb width free) refl (endsChoosing r) refl
     where
       go : (t : Bool) → leb width free ≡ t → (u : Bool) → endsChoosing r ≡ u → cond t Takes (cond u Ends Passed) ≡ Passed → (free < width) × (endsChoosing r ≡ false)
@@ -61,7 +61,7 @@ module _ (r : Rule) (free width : ℕ) where
       go false h true k e = let z : _≡_ {A = ℕ} 0 1 = cc in absurd (omega arith)
       go false h false k e = (leb-false width free h, k)
 
-  pub ends : served r free width ≡ Ends → (free < width) × (endsChoosing r ≡ true)
+  pub ends : selection r free width ≡ Ends → (free < width) × (endsChoosing r ≡ true)
   ends = go (leb width free) refl (endsChoosing r) refl
     where
       go : (t : Bool) → leb width free ≡ t → (u : Bool) → endsChoosing r ≡ u → cond t Takes (cond u Ends Passed) ≡ Ends → (free < width) × (endsChoosing r ≡ true)
@@ -70,7 +70,7 @@ module _ (r : Rule) (free width : ℕ) where
       go false h false k e = let z : _≡_ {A = ℕ} 0 1 = cc in absurd (omega arith)
 
 -- each answer means what its definition says: what the claimant is given of any list of free cores, and what it leaves
-pub answer-means : (r : Rule) (width : ℕ) (free : List ℕ) (s : Served) → served r (length free) width ≡ s
+pub answer-means : (r : Rule) (width : ℕ) (free : List ℕ) (s : Selection) → selection r (length free) width ≡ s
     → Case r (record { claims = true; width = width }) free (givenBy s width free) (leftBy s width free)
 answer-means r width free Takes e = fitting r (record { claims = true; width = width }) free refl (le-leb width (length free) (takes r (length free) width e))
 answer-means r width free Passed e =

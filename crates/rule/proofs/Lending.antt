@@ -22,7 +22,7 @@ use Rattle.model.proofs.Lists.{getD-zeros}
 use Rattle.cores.specs.Cores.{cores}
 use Rattle.cores.proofs.Cores.{cores-none}
 use Rattle.rule.specs.Lent.{LentAs, offered}
-use Rattle.rule.specs.Shares.{GrantedAs}
+use Rattle.rule.specs.Granted.{GrantedAs}
 use Rattle.rule.proofs.Borrowed.{had, lent-more, lent-none, lent-once, lentBy, none-some, tried}
 use Rattle.rule.proofs.Choosing.{some-append}
 use Rattle.rule.proofs.Granting.{none-given}

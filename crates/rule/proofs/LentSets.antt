@@ -21,7 +21,7 @@ use Rattle.model.proofs.Lists.{getD-zeros}
 use Rattle.cores.specs.Cores.{cores}
 use Rattle.cores.proofs.Cores.{cores-length, cores-none}
 use Rattle.rule.specs.Lent.{LentAs, NotBoth, ShownAs, offered}
-use Rattle.rule.specs.Shares.{GrantedAs, granted}
+use Rattle.rule.specs.Granted.{GrantedAs, granted}
 use Rattle.rule.proofs.Borrowed.{lent-seekers, lent-width, shown-length, shown-place}
 use Rattle.rule.proofs.Sets.{no-cores, sets-at}
 

@@ -20,11 +20,11 @@ use Rattle.model.proofs.Bools.{and-left, and-right, not-true-false}
 use Rattle.model.proofs.Lists.{getD-zeros}
 use Rattle.model.proofs.Digits.{and-bit}
 use Rattle.cores.specs.Cores.{cores}
-use Rattle.rule.specs.Shares.{GrantedAs, granted}
+use Rattle.rule.specs.Granted.{GrantedAs, granted}
 use Rattle.rule.specs.Lent.{Showable}
 use Rattle.cores.proofs.Ascending.{range-kept, range-up, In, kept-same, kept-none}
 use Rattle.cores.proofs.Cores.{cores-none, cores-range, cores-length, set-cores, cores-memb}
-use Rattle.cores.proofs.Open.{in-open, open-of}
+use Rattle.cores.proofs.Unfenced.{in-open, open-of}
 use Rattle.rule.proofs.Granting.{idle, apart, in-grants, width-or-none}
 
 -- who is given cores of the set of the open ones

@@ -13,8 +13,8 @@ use borrow.Author.Tests.{eq-eqb, eqb-false, eqb-true, ltb-false, ltb-true}
 use Rattle.model.specs.Fence.{unfenced}
 use Rattle.model.specs.Grants.{Claimant, claimants, fits, given, grants, left, some}
 use Rattle.model.specs.Lending.{among, lent, lentAway, shownCores, unlent}
-use Rattle.model.specs.Search.{bit, kept, keptIf, memb, upFrom}
-use Rattle.model.specs.Sets.{SetsApart, SetsCount, SetsOpen, setOf}
+use Rattle.model.specs.Search.{bit, filtered, consIf, memb, upFrom}
+use Rattle.model.specs.Sets.{SetsApart, SetsCount, SetsUnfenced, setOf}
 use Rattle.model.specs.Task.{Rule, greedy}
 use Rattle.model.proofs.Bools.{not-false-true, not-true-false, or-cases, or-right}
 use Rattle.model.proofs.Grants.{grants-length}
@@ -69,11 +69,11 @@ among-some c (b ∷ bs) e =
     (λ (h : among c bs ≡ true). let x = among-some c bs h in (suc (x .0), x .1))
     (or-cases (memb c b) (among c bs) e)
 
-kept-all : (f : ℕ → Bool) (l : List ℕ) → ((c : ℕ) → In c l → f c ≡ true) → kept f l ≡ l
-unfolding kept memb
+kept-all : (f : ℕ → Bool) (l : List ℕ) → ((c : ℕ) → In c l → f c ≡ true) → filtered f l ≡ l
+unfolding filtered memb
 kept-all f [] h = refl
 kept-all f (x ∷ l) h =
-    ap (λ (t : Bool). keptIf t x (kept f l)) (h x (rw (eq-eqb x x refl)))
+    ap (λ (t : Bool). consIf t x (filtered f l)) (h x (rw (eq-eqb x x refl)))
     ∙ ap (λ (k : List ℕ). x ∷ k) (kept-all f l (λ c e. h c (or-right (eqb c x) (memb c l) e)))
 
 -- ---- the cores of a tick: ws are the widths and c the claims, of which the rule gives the open cores; who seeks has none of them, and what a place offers
@@ -208,7 +208,7 @@ module _ (r : Rule) (ws : List ℕ) (c : ℕ → Bool) (f m : ℕ) (sk : ℕ →
 
     -- in ascending order
     pub tick-range : (p : ℕ) → Range 0 m (shownAt p)
-    unfolding kept
+    unfolding filtered
     tick-range p =
         ⊎-elim
         (λ (e : getD gs p [] ≡ []).
@@ -258,7 +258,7 @@ module _ (r : Rule) (ws : List ℕ) (c : ℕ → Bool) (f m : ℕ) (sk : ℕ →
                   let b = ltb-false p q l in
                   tick-showable .apart x q p (omega arith) j i
 
-      pub tick-sets-open : SetsOpen f m sets
+      pub tick-sets-open : SetsUnfenced f m sets
       tick-sets-open p x h = tick-showable .open-only x p (sym (has p x) ∙ h)
 
       may : (p : ℕ) → ¬ (o p ≡ []) → some (o p) ≡ true

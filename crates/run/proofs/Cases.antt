@@ -5,7 +5,7 @@ use Prim.Native.Nat.{ℕ, suc, _≤_, _<_}
 use lib.Dec.{ltb}
 use borrow.Author.Tests.{lt-ltb, le-ltb}
 use Rattle.model.specs.Search.{bit}
-use Rattle.model.specs.Book.{only}
+use Rattle.model.specs.Book.{singleton}
 use Rattle.run.specs.declared.Run.{Run}
 use Rattle.run.specs.declared.Answer.{Answer}
 use Rattle.run.specs.declared.Answer.the-variants.{Taken, Refused}
@@ -111,7 +111,7 @@ module _ (r : Run) (p : ℕ) where
   withdraw-stranger q f u = rw (q, f, u) refl
 
   pub withdraw-taken :
-      runOut r ≡ false → firmIn r ≡ true → strangerIn r p ≡ false → withdrawOf r p ≡ record { answer = Taken; run = withdrawnIn (only p) r }
+      runOut r ≡ false → firmIn r ≡ true → strangerIn r p ≡ false → withdrawOf r p ≡ record { answer = Taken; run = withdrawnIn (singleton p) r }
   unfolding withdrawOf withdrawAnswer
   withdraw-taken q f u = rw (q, f, u) refl
 

@@ -22,7 +22,7 @@ use Rattle.rule.specs.Widths.{widthsIn}
 use Rattle.rule.proofs.Granting.{same-either}
 use Rattle.run.specs.declared.Run.{Run}
 use Rattle.run.specs.declared.choosing.Claims.{Claims}
-use Rattle.run.specs.declared.shares.Shares.{Shares}
+use Rattle.run.specs.declared.allocation.Allocation.{Allocation}
 use Rattle.phase.specs.declared.Phase.{Phase}
 use Rattle.phase.specs.declared.Phase.the-variants.{Coming, Working, Holding, Resting}
 use Rattle.phase.specs.Phase.{claiming, holder, working}
@@ -32,7 +32,7 @@ use Rattle.run.specs.Run.{ruleIn, seenAt, widthsNow, grantsIn, hasCores,
 use Rattle.run.specs.Numbers.{emptiableAt, misemptiedIn, reportableAt, misreportedIn}
 use Rattle.run.specs.Claims.{ClaimsOf}
 use Rattle.run.specs.Sets.{in32, setsIn}
-use Rattle.run.specs.Shares.{SharesOf, givenTo, isGiven, lentTo}
+use Rattle.run.specs.Allocation.{AllocationOf, givenTo, isGiven, lentTo}
 use Rattle.run.proofs.Lent.{past-grants, past-offer}
 
 -- ---- who has cores, and who borrows some
@@ -98,7 +98,7 @@ module _ (r : Run) (e : ℕ) (c : Claims) (h : ClaimsOf r e c) where
   same-lent = λ i. lent (h .width i) (λ p. same-seeks p i) (λ p. same-offer p i) (r .count)
 
   -- so the sets that the choosing gives are those of the places with cores
-  module _ (s : Shares) (q : SharesOf (ruleIn r) ws (c .claiming) (c .working) F (r .count) s) where
+  module _ (s : Allocation) (q : AllocationOf (ruleIn r) ws (c .claiming) (c .working) F (r .count) s) where
     pub has-cores : (p : ℕ) → bit (s .given) p ≡ hasCores r e p
     has-cores p = q .given p ∙ ap (λ (gs : List (List ℕ)). some (getD gs p [])) same-given
 

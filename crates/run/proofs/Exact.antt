@@ -26,9 +26,9 @@ use Rattle.run.specs.declared.Answer.the-variants.{Taken, Refused}
 use Rattle.run.specs.declared.Advanced.{Advanced}
 use Rattle.run.specs.declared.Row.{Row}
 use Rattle.phase.specs.Phase.{working, lateIn, released}
-use Rattle.run.specs.Run.{taskAt, phaseAt, seenAt, grantsIn, hasCores, borrowedIn, hasLent, moved}
-use Rattle.run.specs.Answer.{told}
-use Rattle.run.specs.Numbers.{RunOut, Late, Misempties, Works, Misreports, RowApplies, fourteen, fifteen, twenty, AdvanceApplies, as-row, sixteen}
+use Rattle.run.specs.Run.{runTaskAt, phaseAt, seenAt, grantsIn, hasCores, borrowedIn, hasLent, moved}
+use Rattle.run.specs.Answer.{answerMeaning}
+use Rattle.run.specs.Numbers.{RunOut, PlaceLate, Misempties, PlaceWorking, Misreports, RowApplies, fourteen, fifteen, twenty, AdvanceApplies, as-row, sixteen}
 use Rattle.run.specs.Numbers.{runOut, lateAt, firstLateIn, emptiableAt, misemptiedIn, reportableAt, misreportedIn}
 use Rattle.run.specs.Advance.{advanceAnswer, advanceOf, AdvanceOf}
 use Rattle.run.specs.Row.{rowAnswer, bytesIn, noBytes, rowOf, RowOf}
@@ -50,8 +50,8 @@ late-in-decides D ph = (there ph, λ x. ap (lateIn D) (x .2) ∙ eq-eqb D D refl
     there (Holding z u) e = absurd (false≢true e)
     there (Resting z) e = absurd (false≢true e)
 
-pub late-decides : (r : Run) (p : ℕ) → Decides (lateAt r p) (Late r p)
-late-decides r p = late-in-decides (taskAt r p .deadline) (phaseAt r p)
+pub late-decides : (r : Run) (p : ℕ) → Decides (lateAt r p) (PlaceLate r p)
+late-decides r p = late-in-decides (runTaskAt r p .deadline) (phaseAt r p)
 
 works-decides : (ph : Phase) → Decides (working ph) ((z had u : ℕ) × (ph ≡ Working z had u))
 works-decides ph = (there ph, λ x. ap working (x .3))
@@ -94,11 +94,11 @@ misemptied-decides r e =
 pub misreported-decides : (r : Run) (e x : ℕ) → Decides (misreportedIn r e x) ((p : ℕ) × Misreports r e x p)
 unfolding misreportedIn
 misreported-decides r e x =
-    set-decides x (reportableAt r e) (λ p. (r .count ≤ p) ⊎ ((¬ Works r e p) ⊎ None p))
+    set-decides x (reportableAt r e) (λ p. (r .count ≤ p) ⊎ ((¬ PlaceWorking r e p) ⊎ None p))
     (λ p.
-    nand-decides (ltb p (r .count)) (working (seenAt r e p) && (hasCores r e p || hasLent r e p)) (r .count ≤ p) ((¬ Works r e p) ⊎ None p)
+    nand-decides (ltb p (r .count)) (working (seenAt r e p) && (hasCores r e p || hasLent r e p)) (r .count ≤ p) ((¬ PlaceWorking r e p) ⊎ None p)
     (beyond-decides p (r .count))
-    (nand-decides (working (seenAt r e p)) (hasCores r e p || hasLent r e p) (¬ Works r e p) (None p)
+    (nand-decides (working (seenAt r e p)) (hasCores r e p || hasLent r e p) (¬ PlaceWorking r e p) (None p)
     (decides-not _ _ (works-decides (seenAt r e p))) (none-decides (getD (grantsIn r e) p []) (borrowedIn r e p))))
   where
     -- no cores of its own, and none that are lent
@@ -108,17 +108,17 @@ misreported-decides r e x =
 -- THE FIRST NUMBER
 
 module _ (r : Run) where
-  no-fourteen : runOut r ≡ false → ¬ RunOut r
-  no-fourteen e = fails (runOut r) (RunOut r) (run-decides r) e
+  no-14 : runOut r ≡ false → ¬ RunOut r
+  no-14 e = fails (runOut r) (RunOut r) (run-decides r) e
 
-  late-at : (p : ℕ) → Late r p → lateAt r p ≡ true
+  late-at : (p : ℕ) → PlaceLate r p → lateAt r p ≡ true
   late-at p h = late-decides r p .1 h
 
-  first-late : (p : ℕ) → p < firstLateIn r → ¬ Late r p
+  first-late : (p : ℕ) → p < firstLateIn r → ¬ PlaceLate r p
   unfolding firstLateIn
   first-late p l h = true≢false (sym (late-at p h) ∙ least-lowest (r .count) (lateAt r) p l)
 
-  not-late : ltb (firstLateIn r) (r .count) ≡ false → (p : ℕ) → p < r .count → ¬ Late r p
+  not-late : ltb (firstLateIn r) (r .count) ≡ false → (p : ℕ) → p < r .count → ¬ PlaceLate r p
   not-late f p l h = first-late p (le-trans l (ltb-false (firstLateIn r) (r .count) f)) h
 
   -- A ROW with the empties e
@@ -143,7 +143,7 @@ module _ (r : Run) where
         found = unfold firstLateIn in least-found (r .count) (lateAt r) below
 
         earlier : (m i : ℕ) → Earlier m i 15 (suc (firstLateIn r)) → ¬ RowApplies r e m i
-        earlier m i x (fourteen h) = no-fourteen q h
+        earlier m i x (fourteen h) = no-14 q h
         earlier m i x (fifteen p l h) =
             ⊎-elim (λ y. omega arith)
             (λ y. ⊎-elim (λ z. first-late p (omega arith) h) (λ z. let w = z .1 in omega arith) (y .1)) x
@@ -156,12 +156,12 @@ module _ (r : Run) where
         bad = misemptied-decides r e .0 g
 
         earlier : (m i : ℕ) → Earlier m i 20 0 → ¬ RowApplies r e m i
-        earlier m i x (fourteen h) = no-fourteen q h
+        earlier m i x (fourteen h) = no-14 q h
         earlier m i x (fifteen p l h) = not-late f p l h
         earlier m i x (twenty p h) = not-before-itself 20 0 x
 
     row-none : runOut r ≡ false → ltb (firstLateIn r) (r .count) ≡ false → misemptiedIn r e ≡ false → NoneOf (RowApplies r e)
-    row-none q f g m i (fourteen h) = no-fourteen q h
+    row-none q f g m i (fourteen h) = no-14 q h
     row-none q f g m i (fifteen p l h) = not-late f p l h
     row-none q f g m i (twenty p h) = fails (misemptiedIn r e) ((p : ℕ) × Misempties r e p) (misemptied-decides r e) g (p, h)
 
@@ -177,20 +177,20 @@ module _ (r : Run) where
         go false q false f true g = row-20 q f g
         go false q false f false g = row-none q f g
 
-    pub row-exact : (n p : ℕ) → (told (rowOf r e .answer) ≡ model.refused n p) ↔ FirstOf (RowApplies r e) n p
+    pub row-exact : (n p : ℕ) → (answerMeaning (rowOf r e .answer) ≡ model.refused n p) ↔ FirstOf (RowApplies r e) n p
     unfolding rowOf
     row-exact = refused-exact (RowApplies r e) (rowAnswer r e) row-right
 
-    pub row-taken : (told (rowOf r e .answer) ≡ model.taken) ↔ NoneOf (RowApplies r e)
+    pub row-taken : (answerMeaning (rowOf r e .answer) ≡ model.taken) ↔ NoneOf (RowApplies r e)
     unfolding rowOf
     row-taken = taken-exact (RowApplies r e) (rowAnswer r e) row-right
 
     -- sets have the row's answer
-    pub sets-exact : (n p : ℕ) → (told (setsOf r e .answer) ≡ model.refused n p) ↔ FirstOf (RowApplies r e) n p
+    pub sets-exact : (n p : ℕ) → (answerMeaning (setsOf r e .answer) ≡ model.refused n p) ↔ FirstOf (RowApplies r e) n p
     unfolding setsOf
     sets-exact = refused-exact (RowApplies r e) (rowAnswer r e) row-right
 
-    pub sets-taken : (told (setsOf r e .answer) ≡ model.taken) ↔ NoneOf (RowApplies r e)
+    pub sets-taken : (answerMeaning (setsOf r e .answer) ≡ model.taken) ↔ NoneOf (RowApplies r e)
     unfolding setsOf
     sets-taken = taken-exact (RowApplies r e) (rowAnswer r e) row-right
 
@@ -245,11 +245,11 @@ module _ (r : Run) where
           go false q false f false g true h = advance-16 (row-none q f g) h
           go false q false f false g false h = advance-none (row-none q f g) h
 
-      pub advance-exact : (n p : ℕ) → (told (advanceOf r x e .answer) ≡ model.refused n p) ↔ FirstOf (AdvanceApplies r x e) n p
+      pub advance-exact : (n p : ℕ) → (answerMeaning (advanceOf r x e .answer) ≡ model.refused n p) ↔ FirstOf (AdvanceApplies r x e) n p
       unfolding advanceOf
       advance-exact = refused-exact (AdvanceApplies r x e) (advanceAnswer r x e) advance-right
 
-      pub advance-taken : (told (advanceOf r x e .answer) ≡ model.taken) ↔ NoneOf (AdvanceApplies r x e)
+      pub advance-taken : (answerMeaning (advanceOf r x e .answer) ≡ model.taken) ↔ NoneOf (AdvanceApplies r x e)
       unfolding advanceOf
       advance-taken = taken-exact (AdvanceApplies r x e) (advanceAnswer r x e) advance-right
 

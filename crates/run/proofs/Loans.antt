@@ -24,13 +24,13 @@ use Rattle.cores.specs.Cores.{cores}
 use Rattle.cores.proofs.Ascending.{In, not-in-none}
 use Rattle.cores.proofs.Cores.{set-cores}
 use Rattle.rule.specs.Lent.{LentAs, NotBoth, ShownAs, offered}
-use Rattle.rule.specs.Shares.{GrantedAs}
+use Rattle.rule.specs.Granted.{GrantedAs}
 use Rattle.rule.proofs.Borrowed.{lent-from, none-some}
 use Rattle.rule.proofs.LentSets.{borrowers, not-both, reserved-owners, shown-sets}
 use Rattle.rule.proofs.Sets.{sets-at}
-use Rattle.run.specs.declared.shares.Shares.{Shares}
+use Rattle.run.specs.declared.allocation.Allocation.{Allocation}
 use Rattle.run.specs.Sets.{in32}
-use Rattle.run.specs.Shares.{SharesOf, givenTo, isGiven, lentTo}
+use Rattle.run.specs.Allocation.{AllocationOf, givenTo, isGiven, lentTo}
 
 -- ---- where nothing is offered nothing is borrowed
 
@@ -102,7 +102,7 @@ module _ (r : Rule) (ws : List ℕ) (claiming working free count : ℕ) (size : 
 
   -- under rules 1 to 3
   pub shared-own :
-      Machine reserved → lends r ≡ false → SharesOf r ws claiming working (cores free) count (record { given = given; lent = 0; sets = reserved })
+      Machine reserved → lends r ≡ false → AllocationOf r ws claiming working (cores free) count (record { given = given; lent = 0; sets = reserved })
   shared-own machine none = record {
     given = owners;
     lent = λ p. bit-none p ∙ sym (ap some (nothing-lent r none ws claiming working (cores free) count p));
@@ -148,7 +148,7 @@ module _ (r : Rule) (ws : List ℕ) (claiming working free count : ℕ) (size : 
       pub shared-lent :
           (lent : ℕ) → ((p : ℕ) → bit lent p ≡ ltb p 32 && some (cores (getD borrowed p 0)))
           → (sets : List ℕ) → ShownAs reserved borrowed count sets → Machine sets
-          → SharesOf r ws claiming working (cores free) count (record { given = given; lent = lent; sets = sets })
+          → AllocationOf r ws claiming working (cores free) count (record { given = given; lent = lent; sets = sets })
       shared-lent lent w sets s machine = record {
         given = owners;
         lent =

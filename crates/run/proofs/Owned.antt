@@ -32,14 +32,14 @@ padded (x ∷ xs) k zero = refl
 padded (x ∷ xs) k (suc p) = padded xs k p
 
 -- and shows nothing
-nobody : (c p k : ℕ) → owner c p (map cores (replicate k 0)) ≡ 0
+no-owner : (c p k : ℕ) → owner c p (map cores (replicate k 0)) ≡ 0
 unfolding owner memb
-nobody c p zero = refl
-nobody c p (suc k) = rw cores-none (nobody c (suc p) k)
+no-owner c p zero = refl
+no-owner c p (suc k) = rw cores-none (no-owner c (suc p) k)
 
 same-owner : (c p : ℕ) (sets : List ℕ) (k : ℕ) → owner c p (map cores (sets ++ replicate k 0)) ≡ owner c p (map cores sets)
 unfolding owner
-same-owner c p [] k = nobody c p k
+same-owner c p [] k = no-owner c p k
 same-owner c p (x ∷ sets) k = ap (cond (memb c (cores x)) p) (same-owner c (suc p) sets k)
 
 pub same-row : (f m : ℕ) (sets : List ℕ) (k : ℕ) → row f m (map cores (sets ++ replicate k 0)) ≡ row f m (map cores sets)

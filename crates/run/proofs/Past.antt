@@ -10,8 +10,8 @@ use lib.Dec.{ltb}
 use borrow.Author.Tests.{ltb-false, ltb-true}
 use Rattle.model.proofs.Search.{any-same, least-same}
 use Rattle.model.specs.Search.{bit}
-use Rattle.model.specs.Book.{only}
-use Rattle.model.specs.Fence.{openCount, unfenced}
+use Rattle.model.specs.Book.{singleton}
+use Rattle.model.specs.Fence.{unfencedCount, unfenced}
 use Rattle.model.specs.Task.{ruleOf}
 use Rattle.model.specs.Grants.{Claimant, claimants, grants}
 use Rattle.model.specs.Lending.{lends, lent}
@@ -32,7 +32,7 @@ use Rattle.run.specs.Withdraw.{withdrawAnswer, withdrawOf, withdrawAllOf
 use Rattle.run.specs.Advance.{advanceAnswer, advanceOf}
 use Rattle.run.specs.Row.{rowAnswer, bytesIn, rowOf}
 use Rattle.run.specs.Sets.{setsIn, setsOf}
-use Rattle.run.specs.Past.{SameBelow, Unread}
+use Rattle.run.specs.Past.{SameBelow, TailUnread}
 use Rattle.run.proofs.Lent.{past-offer}
 use Rattle.run.proofs.Places.{drop-mapFirst, take-mapFirst}
 
@@ -61,7 +61,7 @@ module _ (rule cores fence withdrawn count : ℕ) (ts us : List Task) (same : ta
   unfolding runOut
   same-out =
       rw (any-same count (placeOut one) (placeOut other)
-      (λ p l. ap (λ (t : Task). taskOut (openCount fence cores) (taskOf t) || not (phaseIn (ruleOf rule) (taskOf t) (t .even) (t .phase))) (same-at p l)))
+      (λ p l. ap (λ (t : Task). taskOut (unfencedCount fence cores) (taskOf t) || not (phaseIn (ruleOf rule) (taskOf t) (t .even) (t .phase))) (same-at p l)))
 
   same-late : firstLateIn one ≡ firstLateIn other
   unfolding firstLateIn
@@ -149,14 +149,14 @@ module _ (rule cores fence withdrawn count : ℕ) (ts us : List Task) (same : ta
       tasks = take-mapFirst (nextAt one f e) (nextAt other f e) count ts us (λ p t l. rw (same-grants, same-lent)) same;
     }
 
-    unread : (x : ℕ) → Unread one other x e
+    unread : (x : ℕ) → TailUnread one other x e
     unread x = record {
       row = same-row;
       sets = same-sets;
       answer = unfold advanceOf in same-advance x;
       run = unfold advanceOf in rw (same-advance x) (go (advanceAnswer other x e));
       withdraw-answer = λ p. unfold withdrawOf in same-withdraw (strangerIn one p);
-      withdraw-run = λ p. unfold withdrawOf in rw (same-withdraw (strangerIn one p)) (out (only p) (withdrawAnswer other (strangerIn one p)));
+      withdraw-run = λ p. unfold withdrawOf in rw (same-withdraw (strangerIn one p)) (out (singleton p) (withdrawAnswer other (strangerIn one p)));
       withdraw-all-answer = λ y. unfold withdrawAllOf in same-withdraw (pastCount count y);
       withdraw-all-run = λ y. unfold withdrawAllOf in rw (same-withdraw (pastCount count y)) (out y (withdrawAnswer other (pastCount count y)));
     }
@@ -172,8 +172,8 @@ module _ (rule cores fence withdrawn count : ℕ) (ts us : List Task) (same : ta
         out y Taken = unfold withdrawnIn in record { rule = refl; cores = refl; fence = refl; withdrawn = refl; count = refl; tasks = same }
         out y (Refused n q) = as-given
 
-pub past-unread : (r s : Run) → SameBelow r s → (x e : ℕ) → Unread r s x e
+pub past-unread : (r s : Run) → SameBelow r s → (x e : ℕ) → TailUnread r s x e
 past-unread r s h x e =
-    subst (λ (v : Run). Unread r v x e)
+    subst (λ (v : Run). TailUnread r v x e)
     (λ i. record { rule = h .rule i; cores = h .cores i; fence = h .fence i; withdrawn = h .withdrawn i; count = h .count i; tasks = s .tasks })
     (unread (r .rule) (r .cores) (r .fence) (r .withdrawn) (r .count) (r .tasks) (s .tasks) (h .tasks ∙ ap (λ (n : ℕ). take n (s .tasks)) (sym (h .count))) e x)

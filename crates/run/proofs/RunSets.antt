@@ -16,7 +16,7 @@ use Rattle.model.specs.Grants.{some}
 use Rattle.model.specs.Lending.{lends}
 use Rattle.model.specs.Row.{row}
 use Rattle.model.specs.Search.{bit}
-use Rattle.model.specs.Sets.{SetsApart, SetsCount, SetsOpen, setOf}
+use Rattle.model.specs.Sets.{SetsApart, SetsCount, SetsUnfenced, setOf}
 use Rattle.model.specs.Sizes.{mostCores, mostTasks}
 use Rattle.model.specs.Book as model
 use Rattle.model.proofs.Bools.{and-right, or-comm}
@@ -38,7 +38,7 @@ use Rattle.run.specs.declared.Run.{Run}
 use Rattle.run.specs.declared.Sets.{Sets}
 use Rattle.run.specs.declared.Answer.{Answer}
 use Rattle.run.specs.declared.Answer.the-variants.{Taken, Refused}
-use Rattle.run.specs.Answer.{byAnswer, in64, told}
+use Rattle.run.specs.Answer.{byAnswer, in64, answerMeaning}
 use Rattle.run.specs.Row.{bytesIn, noBytes, rowAnswer, rowOf}
 use Rattle.run.specs.Run.{borrowedIn, grantsIn, hasCores, hasLent, lentIn, offerIn, ruleIn, seeksIn, seenAt, shownIn, widthsNow}
 use Rattle.run.specs.Sets.{SetsOf, bytesOf, in32, noSets, setsIn, setsOf}
@@ -124,7 +124,7 @@ module _ (r : Run) (e : ℕ) where
         tick-sets-apart (ruleIn r) (widthsNow r) (λ p. claiming (seenAt r e p)) (r .fence) (r .cores) (seeksIn r e) (offerIn r e) (r .count) seekers offers few
         p q c (has p c h) (has q c k)
 
-    open-in : SetsOpen (r .fence) (r .cores) (setsIn r e)
+    open-in : SetsUnfenced (r .fence) (r .cores) (setsIn r e)
     unfolding grantsIn lentIn
     open-in p c h =
         tick-sets-open (ruleIn r) (widthsNow r) (λ p. claiming (seenAt r e p)) (r .fence) (r .cores) (seeksIn r e) (offerIn r e) (r .count) seekers offers few
@@ -232,24 +232,24 @@ module _ (r : Run) (e : ℕ) where
       go Taken q = apart-in (few q)
       go (Refused n i) q = λ p j c h k. absurd (none-in p c h)
 
-  pub sets-open : SetsOpen (r .fence) (r .cores) (setsOf r e .sets)
+  pub sets-open : SetsUnfenced (r .fence) (r .cores) (setsOf r e .sets)
   unfolding setsOf
   sets-open = go (rowAnswer r e) refl
     where
-      go : (a : Answer) → rowAnswer r e ≡ a → SetsOpen (r .fence) (r .cores) (byAnswer a (setsIn r e) noSets)
+      go : (a : Answer) → rowAnswer r e ≡ a → SetsUnfenced (r .fence) (r .cores) (byAnswer a (setsIn r e) noSets)
       go Taken q = open-in (few q)
       go (Refused n i) q = λ p c h. absurd (none-in p c h)
 
-  pub sets-count : told (setsOf r e .answer) ≡ model.taken → SetsCount (widthsNow r) (offerIn r e) (lentIn r e) (setsOf r e .sets)
+  pub sets-count : answerMeaning (setsOf r e .answer) ≡ model.taken → SetsCount (widthsNow r) (offerIn r e) (lentIn r e) (setsOf r e .sets)
   unfolding setsOf
   sets-count = go (rowAnswer r e) refl
     where
-      go : (a : Answer) → rowAnswer r e ≡ a → told a ≡ model.taken → SetsCount (widthsNow r) (offerIn r e) (lentIn r e) (byAnswer a (setsIn r e) noSets)
+      go : (a : Answer) → rowAnswer r e ≡ a → answerMeaning a ≡ model.taken → SetsCount (widthsNow r) (offerIn r e) (lentIn r e) (byAnswer a (setsIn r e) noSets)
       go Taken q t = count-in (few q)
       go (Refused n p) q t = absurd (let z : _≡_ {A = ℕ} 0 1 = cc in omega arith)
 
   pub sets-works :
-      told (setsOf r e .answer) ≡ model.taken
+      answerMeaning (setsOf r e .answer) ≡ model.taken
       → (p : ℕ) → working (seenAt r e p) ≡ true → (hasCores r e p || hasLent r e p) ≡ ltb 0 (getD (setsOf r e .sets) p 0)
   unfolding setsOf
   sets-works t p h = works-in p h ∙ ap (λ (sets : List ℕ). ltb 0 (getD sets p 0)) (sym (by-taken (rowAnswer r e) (setsIn r e) noSets t))

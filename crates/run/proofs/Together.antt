@@ -11,20 +11,20 @@ use lib.ListN.{length, replicate}
 use borrow.Author.Tests.{le-ltb, ne-eqb}
 use Rattle.model.specs.Search.{memb}
 use Rattle.model.specs.Book as model
-use Rattle.model.specs.Book.{only}
+use Rattle.model.specs.Book.{singleton}
 use Rattle.model.specs.Firm.{FirmRule}
-use Rattle.model.specs.Together.{JustThese, Within}
+use Rattle.model.specs.WithdrawSet.{Enumerates, SetBelow}
 use Rattle.model.proofs.Bools.{not-true-false}
 use Rattle.model.proofs.Digits.{bit-none}
-use Rattle.model.proofs.Together.{members, members-just, or-chain, Below, below-just, below-first, below-rest}
+use Rattle.model.proofs.WithdrawSet.{members, members-just, or-chain, Below, below-just, below-first, below-rest}
 use Rattle.model.proofs.Verdict.{firm-exact}
 use Rattle.table.proofs.Decide.{fails}
 use Rattle.run.specs.declared.Run.{Run}
 use Rattle.run.specs.declared.Answer.{Answer}
 use Rattle.run.specs.declared.Answer.the-variants.{Taken, Refused}
 use Rattle.run.specs.declared.Advanced.{Advanced}
-use Rattle.run.specs.Run.{tableIn, firmIn, withdrawnIn}
-use Rattle.run.specs.Answer.{told, byAnswer}
+use Rattle.run.specs.Run.{runTable, firmIn, withdrawnIn}
+use Rattle.run.specs.Answer.{answerMeaning, byAnswer}
 use Rattle.run.specs.Numbers.{RunOut, PastCount, pastCount, runOut, strangerIn}
 use Rattle.run.specs.Withdraw.{withdrawAnswer, withdrawOf, withdrawAllOf, withdrawEach, eachAnswer, WithdrawAllOf}
 use Rattle.run.proofs.Limits.{run-decides}
@@ -32,7 +32,7 @@ use Rattle.run.proofs.SetTests.{past-decides, within-only}
 use Rattle.run.proofs.WithdrawExact.{taken-parts, withdrawn-of, with-set, same-answer}
 
 -- within the count: the test of 22 fails
-within-past : (n x : ℕ) → Within n x → pastCount n x ≡ false
+within-past : (n x : ℕ) → SetBelow n x → pastCount n x ≡ false
 within-past n x h = not-true-false (pastCount n x) (λ e. let y = past-decides n x .0 e in omega (arith, h (y .0) (y .1 .0), y .1 .1))
 
 -- ONE BY ONE
@@ -44,7 +44,7 @@ known r q l = rw (ne-eqb (suc q) 0 (λ e. omega arith), le-ltb (r .count) (suc q
 -- its withdrawal, by how every withdrawal of positions of the run is answered
 single :
     (r : Run) (q : ℕ) → q < r .count → (a : Answer) → withdrawAnswer r false ≡ a
-    → withdrawOf r (suc q) ≡ record { answer = a; run = byAnswer a (withdrawnIn (only (suc q)) r) r }
+    → withdrawOf r (suc q) ≡ record { answer = a; run = byAnswer a (withdrawnIn (singleton (suc q)) r) r }
 unfolding withdrawOf
 single r q l a e = rw (known r q l, e)
 
@@ -69,21 +69,21 @@ goes (q ∷ qs) r e h =
     let l = below-first (r .count) q qs h in
     let same : suc q - 1 ≡ q = omega arith in
     let one = single r q l Taken e in
-    let next = same-answer r false (only (suc q)) e (within-only (r .count) (suc q) (omega arith) l) in
-    let more = goes qs (withdrawnIn (only (suc q)) r) next (below-rest (r .count) q qs h) in
+    let next = same-answer r false (singleton (suc q)) e (within-only (r .count) (suc q) (omega arith) l) in
+    let more = goes qs (withdrawnIn (singleton (suc q)) r) next (below-rest (r .count) q qs h) in
     rw one (
-      more .0 ∙ ap (with-set r) (or-chain (r .withdrawn) (only (suc q)) (members qs) ∙ ap (λ (k : ℕ). bitOr (r .withdrawn) (bitOr (2 ^ k) (members qs))) same),
+      more .0 ∙ ap (with-set r) (or-chain (r .withdrawn) (singleton (suc q)) (members qs) ∙ ap (λ (k : ℕ). bitOr (r .withdrawn) (bitOr (2 ^ k) (members qs))) same),
       ap (λ (l : List Answer). Taken ∷ l) (more .1),
     )
 
 -- TOGETHER
 
-all : (r : Run) (x : ℕ) → Within (r .count) x → (a : Answer) → withdrawAnswer r false ≡ a → withdrawAllOf r x ≡ record { answer = a; run = byAnswer a (withdrawnIn x r) r }
+all : (r : Run) (x : ℕ) → SetBelow (r .count) x → (a : Answer) → withdrawAnswer r false ≡ a → withdrawAllOf r x ≡ record { answer = a; run = byAnswer a (withdrawnIn x r) r }
 unfolding withdrawAllOf
 all r x h a e = rw (within-past (r .count) x h, e)
 
 as-singles :
-    (r : Run) (x : ℕ) → Within (r .count) x → (qs : List ℕ) → JustThese x qs
+    (r : Run) (x : ℕ) → SetBelow (r .count) x → (qs : List ℕ) → Enumerates x qs
     → (withdrawAllOf r x .run ≡ withdrawEach r qs) × (eachAnswer r qs ≡ replicate (length qs) (withdrawAllOf r x .answer))
 as-singles r x h qs just = go (withdrawAnswer r false) refl
   where
@@ -121,17 +121,17 @@ withdraw-set r x a q = rw q record {
 
 -- so, where all positions are within the count, it is taken exactly if 14 and 21 do not apply
 pub withdraw-set-taken :
-    (r : Run) (x : ℕ) → Within (r .count) x → (told (withdrawAllOf r x .answer) ≡ model.taken) ↔ ((¬ RunOut r) × FirmRule (tableIn r))
+    (r : Run) (x : ℕ) → SetBelow (r .count) x → (answerMeaning (withdrawAllOf r x .answer) ≡ model.taken) ↔ ((¬ RunOut r) × FirmRule (runTable r))
 unfolding withdrawAllOf withdrawAnswer
 withdraw-set-taken r x h = (
   λ e. let parts = taken-parts r (pastCount (r .count) x) e in
-      (fails (runOut r) (RunOut r) (run-decides r) (parts .0), firm-exact (tableIn r) .0 (parts .1)),
+      (fails (runOut r) (RunOut r) (run-decides r) (parts .0), firm-exact (runTable r) .0 (parts .1)),
   λ y.
       let in-limits : runOut r ≡ false = not-true-false (runOut r) (λ e. y .0 (run-decides r .0 e)) in
-      rw (in-limits, firm-exact (tableIn r) .1 (y .1), within-past (r .count) x h) refl,
+      rw (in-limits, firm-exact (runTable r) .1 (y .1), within-past (r .count) x h) refl,
 )
 
 -- the empty set: 14, 21, or taken; and the run as given
-pub withdraw-nobody : (r : Run) → withdrawAllOf r 0 .run ≡ r
+pub withdraw-none : (r : Run) → withdrawAllOf r 0 .run ≡ r
 unfolding withdrawEach memb
-withdraw-nobody r = as-singles r 0 (λ q e. absurd (true≢false (sym e ∙ bit-none q))) [] (λ q. sym (bit-none q)) .0
+withdraw-none r = as-singles r 0 (λ q e. absurd (true≢false (sym e ∙ bit-none q))) [] (λ q. sym (bit-none q)) .0

@@ -22,16 +22,16 @@ use Rattle.run.specs.declared.Run.{Run}
 use Rattle.run.specs.declared.Answer.{Answer}
 use Rattle.run.specs.declared.Answer.the-variants.{Taken, Refused}
 use Rattle.run.specs.declared.Advanced.{Advanced}
-use Rattle.run.specs.Run.{tableIn, firmIn, withdrawnIn}
-use Rattle.run.specs.Answer.{told, byAnswer}
-use Rattle.run.specs.Numbers.{RunOut, WithdrawApplies, not-a-run, twenty-one, twenty-two, Stranger, pastCount, runOut, strangerIn}
+use Rattle.run.specs.Run.{runTable, firmIn, withdrawnIn}
+use Rattle.run.specs.Answer.{answerMeaning, byAnswer}
+use Rattle.run.specs.Numbers.{RunOut, WithdrawApplies, not-a-run, twenty-one, twenty-two, NoSuchPosition, pastCount, runOut, strangerIn}
 use Rattle.run.specs.Withdraw.{withdrawAnswer, withdrawOf, WithdrawnOf, WithdrawOf}
 use Rattle.run.proofs.First.{by-taken, by-refused, Right, refused-exact, taken-exact}
 use Rattle.run.proofs.SetTests.{within-only}
 use Rattle.run.proofs.Limits.{run-decides, passes-if, passes-runs, withdrawn-passes}
 
 -- the test of 22
-pub stranger-decides : (r : Run) (p : ℕ) → Decides (strangerIn r p) (Stranger r p)
+pub stranger-decides : (r : Run) (p : ℕ) → Decides (strangerIn r p) (NoSuchPosition r p)
 stranger-decides r p = decides-or _ _ _ _ (decides-eq p 0) (decides-lt (r .count) p)
 
 -- THE FIRST NUMBER, where the test t decides whether a stranger is named
@@ -47,7 +47,7 @@ module _ (r : Run) (t : Bool) (stranger : Type 0) (d : Decides t stranger) where
 
   withdraw-21 : runOut r ≡ false → firmIn r ≡ false → FirstOf (WithdrawApplies r stranger) 21 0
   unfolding place
-  withdraw-21 q f = (twenty-one (fails (firmIn r) (FirmRule (tableIn r)) (firm-exact (tableIn r)) f), earlier)
+  withdraw-21 q f = (twenty-one (fails (firmIn r) (FirmRule (runTable r)) (firm-exact (runTable r)) f), earlier)
     where
       earlier : (m i : ℕ) → Earlier m i 21 0 → ¬ WithdrawApplies r stranger m i
       earlier m i x (not-a-run h) = fails (runOut r) (RunOut r) (run-decides r) q h
@@ -59,12 +59,12 @@ module _ (r : Run) (t : Bool) (stranger : Type 0) (d : Decides t stranger) where
     where
       earlier : (m i : ℕ) → Earlier m i 22 0 → ¬ WithdrawApplies r stranger m i
       earlier m i x (not-a-run h) = fails (runOut r) (RunOut r) (run-decides r) q h
-      earlier m i x (twenty-one h) = h (firm-exact (tableIn r) .0 f)
+      earlier m i x (twenty-one h) = h (firm-exact (runTable r) .0 f)
       earlier m i x (twenty-two h) = not-before-itself 22 0 x
 
   withdraw-none : runOut r ≡ false → firmIn r ≡ true → t ≡ false → NoneOf (WithdrawApplies r stranger)
   withdraw-none q f g m i (not-a-run h) = fails (runOut r) (RunOut r) (run-decides r) q h
-  withdraw-none q f g m i (twenty-one h) = h (firm-exact (tableIn r) .0 f)
+  withdraw-none q f g m i (twenty-one h) = h (firm-exact (runTable r) .0 f)
   withdraw-none q f g m i (twenty-two h) = fails t stranger d g h
 
   -- THE LAW OF A WITHDRAWAL
@@ -80,11 +80,11 @@ module _ (r : Run) (t : Bool) (stranger : Type 0) (d : Decides t stranger) where
       go false q true f false g = withdraw-none q f g
 
 -- a taken withdrawal passed 14, was firm and named no stranger
-pub taken-parts : (r : Run) (t : Bool) → told (withdrawAnswer r t) ≡ model.taken → (runOut r ≡ false) × (firmIn r ≡ true) × (t ≡ false)
+pub taken-parts : (r : Run) (t : Bool) → answerMeaning (withdrawAnswer r t) ≡ model.taken → (runOut r ≡ false) × (firmIn r ≡ true) × (t ≡ false)
 unfolding withdrawAnswer
 taken-parts r t e = go (runOut r) (firmIn r) t e
   where
-    go : (a b c : Bool) → told (cond a (Refused 14 0) (cond b (cond c (Refused 22 0) Taken) (Refused 21 0))) ≡ model.taken
+    go : (a b c : Bool) → answerMeaning (cond a (Refused 14 0) (cond b (cond c (Refused 22 0) Taken) (Refused 21 0))) ≡ model.taken
         → (a ≡ false) × (b ≡ true) × (c ≡ false)
     go true b c q = absurd (let z : _≡_ {A = ℕ} 0 1 = cc in omega arith)
     go false false c q = absurd (let z : _≡_ {A = ℕ} 0 1 = cc in omega arith)
@@ -93,7 +93,7 @@ taken-parts r t e = go (runOut r) (firmIn r) t e
 
 -- what a withdrawal of the set x gives, where no stranger is named only if x is within the count
 module _ (r : Run) (t : Bool) (stranger : Type 0) (d : Decides t stranger) (x : ℕ) (known : runOut r ≡ false → t ≡ false → pastCount (r .count) x ≡ false) where
-  again-passes : told (withdrawAnswer r t) ≡ model.taken → ¬ RunOut (byAnswer (withdrawAnswer r t) (withdrawnIn x r) r)
+  again-passes : answerMeaning (withdrawAnswer r t) ≡ model.taken → ¬ RunOut (byAnswer (withdrawAnswer r t) (withdrawnIn x r) r)
   again-passes e =
       let parts = taken-parts r t e in
       let next : Run = withdrawnIn x r in
@@ -123,23 +123,23 @@ module _ (r : Run) (t : Bool) (stranger : Type 0) (d : Decides t stranger) (x : 
 -- a position that is known is within the count
 pub known-from : (r : Run) (p : ℕ) → strangerIn r p ≡ false → (1 ≤ p) × (p ≤ r .count)
 known-from r p e =
-    let no : ¬ Stranger r p = fails (strangerIn r p) (Stranger r p) (stranger-decides r p) e in
+    let no : ¬ NoSuchPosition r p = fails (strangerIn r p) (NoSuchPosition r p) (stranger-decides r p) e in
     let first : ¬ (p ≡ 0) = λ z. no (inl z) in
     let last : ¬ (r .count < p) = λ z. no (inr z) in
     (omega arith, omega arith)
 
-known-within : (r : Run) (p : ℕ) → strangerIn r p ≡ false → pastCount (r .count) (model.only p) ≡ false
+known-within : (r : Run) (p : ℕ) → strangerIn r p ≡ false → pastCount (r .count) (model.singleton p) ≡ false
 known-within r p e = let k = known-from r p e in within-only (r .count) p (k .0) (k .1)
 
 -- so a taken one's is
-pub taken-within : (r : Run) (p : ℕ) → withdrawAnswer r (strangerIn r p) ≡ Taken → pastCount (r .count) (model.only p) ≡ false
-taken-within r p e = known-within r p (taken-parts r (strangerIn r p) (ap told e) .2)
+pub taken-within : (r : Run) (p : ℕ) → withdrawAnswer r (strangerIn r p) ≡ Taken → pastCount (r .count) (model.singleton p) ≡ false
+taken-within r p e = known-within r p (taken-parts r (strangerIn r p) (ap answerMeaning e) .2)
 
 -- a value that is the withdrawal's by definition keeps what a withdrawal promises
 pub withdraw-of : (r : Run) (p : ℕ) (a : Advanced) → a ≡ withdrawOf r p → WithdrawOf r p a
 withdraw-of r p a q = rw q record {
   value = refl;
-  exact = unfold withdrawOf in withdrawn-of r (strangerIn r p) (Stranger r p) (stranger-decides r p) (model.only p) (λ o e. known-within r p e);
+  exact = unfold withdrawOf in withdrawn-of r (strangerIn r p) (NoSuchPosition r p) (stranger-decides r p) (model.singleton p) (λ o e. known-within r p e);
 }
 
 -- what is taken is in the set, so that it is not added again
@@ -160,7 +160,7 @@ pub same-answer :
     (r : Run) (t : Bool) (x : ℕ) → withdrawAnswer r t ≡ Taken → pastCount (r .count) x ≡ false → withdrawAnswer (withdrawnIn x r) t ≡ Taken
 unfolding withdrawAnswer withdrawnIn
 same-answer r t x e within =
-    let parts = taken-parts r t (ap told e) in
+    let parts = taken-parts r t (ap answerMeaning e) in
     let next : Run = withdrawnIn x r in
     let in-limits : runOut next ≡ false = passes-runs next (withdrawn-passes x r (passes-if r (parts .0)) within) in
     rw (in-limits, parts .1, parts .2)
@@ -175,8 +175,8 @@ unfolding withdrawOf withdrawnIn
 withdraw-twice r p = go (withdrawAnswer r (strangerIn r p)) refl
   where
     next : Run
-    next = withdrawnIn (model.only p) r
+    next = withdrawnIn (model.singleton p) r
 
     go : (a : Answer) → withdrawAnswer r (strangerIn r p) ≡ a → withdrawOf (byAnswer a next r) p ≡ record { answer = a; run = byAnswer a next r }
-    go Taken e = rw (same-answer r (strangerIn r p) (model.only p) e (taken-within r p e), twice (model.only p) r)
+    go Taken e = rw (same-answer r (strangerIn r p) (model.singleton p) e (taken-within r p e), twice (model.singleton p) r)
     go (Refused n q) e = rw e

@@ -13,7 +13,7 @@ use Rattle.run.specs.declared.Answer.{Answer}
 use Rattle.run.specs.declared.Answer.the-variants.{Taken, Refused}
 use Rattle.run.specs.declared.Advanced.{Advanced}
 use Rattle.run.specs.Run.{moved}
-use Rattle.run.specs.Answer.{told, byAnswer}
+use Rattle.run.specs.Answer.{answerMeaning, byAnswer}
 use Rattle.run.specs.Numbers.{RunOut, AdvanceApplies, runOut, firstLateIn, misemptiedIn, misreportedIn}
 
 -- 14, then 15 with the lowest late position, then 20, then 16; else taken
@@ -33,13 +33,13 @@ pub record AdvanceOf (r : Run) (x e : ℕ) (a : Advanced) : Type 0 where
   -- its value
   pub value : a ≡ advanceOf r x e
   -- refused with n and p exactly if number n applies with position p and no earlier one does; taken exactly if none applies
-  pub refused : (n p : ℕ) → (told (a .answer) ≡ model.refused n p) ↔ FirstOf (AdvanceApplies r x e) n p
-  pub taken : (told (a .answer) ≡ model.taken) ↔ NoneOf (AdvanceApplies r x e)
+  pub refused : (n p : ℕ) → (answerMeaning (a .answer) ≡ model.refused n p) ↔ FirstOf (AdvanceApplies r x e) n p
+  pub taken : (answerMeaning (a .answer) ≡ model.taken) ↔ NoneOf (AdvanceApplies r x e)
   -- taken: the run one tick on
-  pub on : told (a .answer) ≡ model.taken → a .run ≡ moved (bit x) e r
+  pub on : answerMeaning (a .answer) ≡ model.taken → a .run ≡ moved (bit x) e r
   -- refused: the run as given
-  pub as-given : (n p : ℕ) → told (a .answer) ≡ model.refused n p → a .run ≡ r
+  pub as-given : (n p : ℕ) → answerMeaning (a .answer) ≡ model.refused n p → a .run ≡ r
   -- what a taken advance hands back passes 14 again
-  pub passes : told (a .answer) ≡ model.taken → ¬ RunOut (a .run)
+  pub passes : answerMeaning (a .answer) ≡ model.taken → ¬ RunOut (a .run)
   -- places past the count come back as given
   pub past : drop (r .count) (a .run .tasks) ≡ drop (r .count) (r .tasks)

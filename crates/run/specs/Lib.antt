@@ -10,4 +10,4 @@ pub mod Tick
 pub mod Start
 pub mod Past
 pub mod Claims
-pub mod Shares
+pub mod Allocation

@@ -19,7 +19,7 @@ pub record SameBelow (r s : Run) : Type 0 where
 
 -- they get equal rows, sets and answers, and advance to runs that are equal up to the count, whatever is reported or empty; and so it is with a
 -- withdrawal, of one position or of several together
-pub record Unread (r s : Run) (x e : ℕ) : Type 0 where
+pub record TailUnread (r s : Run) (x e : ℕ) : Type 0 where
   pub row : rowOf r e ≡ rowOf s e
   pub sets : setsOf r e ≡ setsOf s e
   pub answer : advanceOf r x e .answer ≡ advanceOf s x e .answer

@@ -16,7 +16,7 @@ use Rattle.run.specs.declared.Answer.{Answer}
 use Rattle.run.specs.declared.Answer.the-variants.{Taken, Refused}
 use Rattle.run.specs.declared.Row.{Row}
 use Rattle.run.specs.Run.{shownIn}
-use Rattle.run.specs.Answer.{told, byAnswer, in64}
+use Rattle.run.specs.Answer.{answerMeaning, byAnswer, in64}
 use Rattle.run.specs.Numbers.{RowApplies, runOut, firstLateIn, misemptiedIn}
 
 -- 14, then 15 with the lowest late position, then 20; else taken
@@ -43,9 +43,9 @@ pub record RowOf (r : Run) (e : ℕ) (w : Row) : Type 0 where
   -- its value
   pub value : w ≡ rowOf r e
   -- refused with n and p exactly if number n applies with position p and no earlier one does; taken exactly if none applies
-  pub refused : (n p : ℕ) → (told (w .answer) ≡ model.refused n p) ↔ FirstOf (RowApplies r e) n p
-  pub taken : (told (w .answer) ≡ model.taken) ↔ NoneOf (RowApplies r e)
+  pub refused : (n p : ℕ) → (answerMeaning (w .answer) ≡ model.refused n p) ↔ FirstOf (RowApplies r e) n p
+  pub taken : (answerMeaning (w .answer) ≡ model.taken) ↔ NoneOf (RowApplies r e)
   -- taken: the row
-  pub bytes : told (w .answer) ≡ model.taken → w .bytes ≡ bytesIn r e
+  pub bytes : answerMeaning (w .answer) ≡ model.taken → w .bytes ≡ bytesIn r e
   -- refused: all zeros
-  pub zeros : (n p : ℕ) → told (w .answer) ≡ model.refused n p → w .bytes ≡ noBytes
+  pub zeros : (n p : ℕ) → answerMeaning (w .answer) ≡ model.refused n p → w .bytes ≡ noBytes

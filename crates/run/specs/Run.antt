@@ -25,8 +25,8 @@ ruleIn r = model.ruleOf (r .rule)
 abbrev pub placeAt : Run → ℕ → Task
 placeAt r p = getD (r .tasks) p pastEnd
 
-abbrev pub taskAt : Run → ℕ → model.Task
-taskAt r p = taskOf (placeAt r p)
+abbrev pub runTaskAt : Run → ℕ → model.Task
+runTaskAt r p = taskOf (placeAt r p)
 
 abbrev pub evenAt : Run → ℕ → Bool
 evenAt r p = placeAt r p .even
@@ -42,8 +42,8 @@ widthsNow r = map widthNow (take (r .count) (r .tasks))
 abbrev pub tasksIn : Run → List model.Task
 tasksIn r = map taskOf (take (r .count) (r .tasks))
 
-abbrev pub tableIn : Run → model.Table
-tableIn r = record { tasks = tasksIn r; cores = r .cores; fence = r .fence; rule = ruleIn r }
+abbrev pub runTable : Run → model.Table
+runTable r = record { tasks = tasksIn r; cores = r .cores; fence = r .fence; rule = ruleIn r }
 
 -- EMPTY JOBS: sets have bit 0 for position 1
 

@@ -7,15 +7,15 @@ use mathlib.Core.List.{List, [], _∷_}
 use Prim.Native.Nat.{ℕ, suc}
 use lib.ListN.{drop, length, replicate}
 use Rattle.model.specs.Book as model
-use Rattle.model.specs.Together.{JustThese, Within}
+use Rattle.model.specs.WithdrawSet.{Enumerates, SetBelow}
 use Rattle.table.specs.Numbers.{FirstOf, NoneOf}
 use Rattle.run.specs.declared.Run.{Run}
 use Rattle.run.specs.declared.Answer.{Answer}
 use Rattle.run.specs.declared.Answer.the-variants.{Taken, Refused}
 use Rattle.run.specs.declared.Advanced.{Advanced}
 use Rattle.run.specs.Run.{firmIn, withdrawnIn}
-use Rattle.run.specs.Answer.{told, byAnswer}
-use Rattle.run.specs.Numbers.{RunOut, WithdrawApplies, Stranger, PastCount, runOut, strangerIn, pastCount}
+use Rattle.run.specs.Answer.{answerMeaning, byAnswer}
+use Rattle.run.specs.Numbers.{RunOut, WithdrawApplies, NoSuchPosition, PastCount, runOut, strangerIn, pastCount}
 
 -- 14, then 21, then 22 where it names a position that is none of the run's; else taken. 15 is not looked at
 unfoldable pub withdrawAnswer : Run → Bool → Answer
@@ -25,7 +25,7 @@ withdrawAnswer r stranger = cond (runOut r) (Refused 14 0) (cond (firmIn r) (con
 unfoldable pub withdrawOf : Run → ℕ → Advanced
 withdrawOf r p = record {
   answer = withdrawAnswer r (strangerIn r p);
-  run = byAnswer (withdrawAnswer r (strangerIn r p)) (withdrawnIn (model.only p) r) r;
+  run = byAnswer (withdrawAnswer r (strangerIn r p)) (withdrawnIn (model.singleton p) r) r;
 }
 
 -- the run with all positions of a set withdrawn; where refused, the run as given
@@ -38,14 +38,14 @@ withdrawAllOf r x = record {
 -- what a withdrawal of the positions of set x from run r promises, where `stranger` says that x names one that is none of the run's
 pub record WithdrawnOf (r : Run) (stranger : Type 0) (x : ℕ) (a : Advanced) : Type 0 where
   -- refused with n and p exactly if number n applies with position p and no earlier one does; taken exactly if none applies
-  pub refused : (n p : ℕ) → (told (a .answer) ≡ model.refused n p) ↔ FirstOf (WithdrawApplies r stranger) n p
-  pub taken : (told (a .answer) ≡ model.taken) ↔ NoneOf (WithdrawApplies r stranger)
+  pub refused : (n p : ℕ) → (answerMeaning (a .answer) ≡ model.refused n p) ↔ FirstOf (WithdrawApplies r stranger) n p
+  pub taken : (answerMeaning (a .answer) ≡ model.taken) ↔ NoneOf (WithdrawApplies r stranger)
   -- taken: only the withdrawn set moves
-  pub on : told (a .answer) ≡ model.taken → a .run ≡ withdrawnIn x r
+  pub on : answerMeaning (a .answer) ≡ model.taken → a .run ≡ withdrawnIn x r
   -- refused: the run as given
-  pub as-given : (n p : ℕ) → told (a .answer) ≡ model.refused n p → a .run ≡ r
+  pub as-given : (n p : ℕ) → answerMeaning (a .answer) ≡ model.refused n p → a .run ≡ r
   -- what a taken withdrawal hands back passes 14 again
-  pub passes : told (a .answer) ≡ model.taken → ¬ RunOut (a .run)
+  pub passes : answerMeaning (a .answer) ≡ model.taken → ¬ RunOut (a .run)
   -- places past the count come back as given
   pub past : drop (r .count) (a .run .tasks) ≡ drop (r .count) (r .tasks)
 
@@ -54,7 +54,7 @@ pub record WithdrawOf (r : Run) (p : ℕ) (a : Advanced) : Type 0 where
   -- its value
   pub value : a ≡ withdrawOf r p
   -- and what that says
-  pub exact : WithdrawnOf r (Stranger r p) (model.only p) a
+  pub exact : WithdrawnOf r (NoSuchPosition r p) (model.singleton p) a
 
 -- SEVERAL TOGETHER
 
@@ -75,8 +75,8 @@ pub record WithdrawAllOf (r : Run) (x : ℕ) (a : Advanced) : Type 0 where
   -- what that says: 22 where a position of it is past the count
   pub exact : WithdrawnOf r (PastCount (r .count) x) x a
   -- where all positions are within the count it leaves the run that single withdrawals leave, for every list that holds just these, in any order ..
-  pub singles : Within (r .count) x → (qs : List ℕ) → JustThese x qs → a .run ≡ withdrawEach r qs
+  pub singles : SetBelow (r .count) x → (qs : List ℕ) → Enumerates x qs → a .run ≡ withdrawEach r qs
   -- .. and each of these is answered as the set is: all are taken where it is
-  pub each : Within (r .count) x → (qs : List ℕ) → JustThese x qs → eachAnswer r qs ≡ replicate (length qs) (a .answer)
+  pub each : SetBelow (r .count) x → (qs : List ℕ) → Enumerates x qs → eachAnswer r qs ≡ replicate (length qs) (a .answer)
   -- where one is past the count none is withdrawn
   pub none : PastCount (r .count) x → a .run ≡ r

@@ -30,7 +30,7 @@ impl Run {
     {
         let rule = self.rule;
         let count = self.count;
-        let wide = cores::open_count(self.cores, self.fence);
+        let wide = cores::unfenced_count(self.cores, self.fence);
         let emptied = empties | self.withdrawn;
         let mut broken: u32 = 0;
         let mut late: u32 = 0;

@@ -13,7 +13,7 @@ mod bounds; // bounds.rt: number 14
 mod choosing; // choosing.rt: one look at the tasks in the present tick
 mod moves; // moves.rt: one tick
 mod plain; // plain.rt: the tasks as a table has them
-mod shares; // shares.rt: who is given cores in a tick, who borrows some, and which are shown
+mod allocation; // allocation.rt: who is given cores in a tick, who borrows some, and which are shown
 pub mod starts; // starts.rt: the run of a table as it starts
 mod tick; // tick.rt: the present tick, of which row, sets and advance speak
 mod withdrawals; // withdrawals.rt: whether a run is firm, and positions taken out
@@ -68,7 +68,7 @@ pub struct Row {
 pub fn start(words: &[u32]) -> Started
     ensures { λ r. ⌜ StartOf (now (words .entry)) r ⌝ }
 {
-    let verdict = quick::judge(words);
+    let verdict = fast_judge::judge(words);
     match verdict {
         Verdict::Firm(_, _) => starts::begun(words),
         Verdict::Full(_, _) => starts::begun(words),
@@ -161,7 +161,7 @@ impl Run {
             if (position == 0) | ((self.count as u32) < position) {
                 return self.refused(22, 0);
             }
-            let next = self.without(1u32 << (position - 1));
+            let next = self.with_withdrawn(1u32 << (position - 1));
             return Advanced {
                 answer: Answer::Taken,
                 run: next,
@@ -182,7 +182,7 @@ impl Run {
             if bits::past(set, self.count) {
                 return self.refused(22, 0);
             }
-            let next = self.without(set);
+            let next = self.with_withdrawn(set);
             return Advanced {
                 answer: Answer::Taken,
                 run: next,

@@ -5,8 +5,8 @@ ghost use Rattle.run.specs.Sets.{noSets};
 ghost use Rattle.run.specs.Tick.{TickOf};
 use crate::Answer;
 use crate::Run;
+use crate::allocation;
 use crate::bounds;
-use crate::shares;
 use model::MOST_TASKS;
 
 // What a row asked is answered; where it is taken, the sets of the positions that are given cores, that borrow some, and that are Working, bit 0 for
@@ -20,7 +20,7 @@ pub struct Tick {
 }
 
 // A tick that is not looked at: no sets.
-fn unseen(number: u32, position: u32) -> Tick
+fn tick_refused(number: u32, position: u32) -> Tick
     ensures { λ r. ⌜ r ≡ record { answer = Refused number position; given = 0; lent = 0; working = 0; sets = noSets } ⌝ }
 {
     let sets = [0u64; MOST_TASKS];
@@ -41,20 +41,20 @@ impl Run {
     {
         let count = self.count;
         if bounds::head_out(count, self.cores, self.rule, self.fence, self.withdrawn) {
-            return unseen(14, 0);
+            return tick_refused(14, 0);
         }
         let claims = self.claims(empties);
         if 0 < claims.broken {
-            return unseen(14, 0);
+            return tick_refused(14, 0);
         }
         if 0 < claims.late {
-            return unseen(15, u32::trailing_zeros(claims.late) + 1);
+            return tick_refused(15, u32::trailing_zeros(claims.late) + 1);
         }
         let begun = empties & claims.released;
         if begun == empties {
             let widths = claims.widths;
-            let free = cores::open_cores(self.cores, self.fence);
-            let shares = shares::chosen(
+            let free = cores::unfenced_cores(self.cores, self.fence);
+            let shares = allocation::allocate(
                 self.rule,
                 free,
                 claims.claiming,
@@ -72,6 +72,6 @@ impl Run {
                 sets: sets,
             };
         }
-        unseen(20, 0)
+        tick_refused(20, 0)
     }
 }

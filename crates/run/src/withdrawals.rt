@@ -16,7 +16,7 @@ impl Run {
     }
 
     // The run with the positions of a set withdrawn: only the withdrawn set moves.
-    pub(crate) fn without(self, set: u32) -> Run
+    pub(crate) fn with_withdrawn(self, set: u32) -> Run
         ensures { λ r. ⌜ r ≡ withdrawnIn set self ⌝ }
     {
         let mut run = self;

@@ -8,14 +8,14 @@ use lib.ListN.{length, getD, set, take, replicate, length-append, length-replica
 use lib.Seq.{set-at, take-suc, append-snoc, length-take-le}
 use Rattle.model.specs.Search.{bit}
 use Rattle.model.proofs.Digits.{bit-none}
-use Rattle.full.specs.Places.{each}
-use Rattle.full.proofs.Places.{each-none, each-still, each-more, each-same, each-length, each-at}
-use Rattle.full.proofs.Turn.{taken, first, digit, Off}
+use Rattle.simulation.specs.Places.{mapPlaces}
+use Rattle.simulation.proofs.Places.{each-none, each-still, each-more, each-same, each-length, each-at}
+use Rattle.simulation.proofs.GrantStep.{taken, first, digit, Off}
 use Rattle.sentence.specs.Counting.{added, above}
 
 -- one more for each place that passes the test
 abbrev pub counted : (ℕ → Bool) → List ℕ → List ℕ
-counted f ran = each (λ q n. cond (f q) (n + 1) n) ran
+counted f ran = mapPlaces (λ q n. cond (f q) (n + 1) n) ran
 
 -- nothing is taken off the set yet
 pub counted-none : (granted : ℕ) (ran : List ℕ) → counted (taken granted granted) ran ≡ ran

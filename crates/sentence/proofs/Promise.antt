@@ -7,7 +7,7 @@ use Prim.Native.Nat.{ℕ, suc, _+_, _-_, _≤_, _<_}
 use lib.ListN.{length, getD, take, drop, length-append, length-drop}
 use lib.Seq.{take-at, getD-append-add, getD-drop}
 use Rattle.model.specs.Search.{any}
-use Rattle.model.specs.Task.{Table, AllSound, task}
+use Rattle.model.specs.Task.{Table, AllValid, task}
 use Rattle.model.specs.Horizon.{horizon}
 use Rattle.model.specs.Verdict.{missedIn, firstMiss, FirstMiss}
 use Rattle.model.proofs.Bools.{not-false-true}
@@ -17,34 +17,34 @@ use Rattle.table.specs.declared.Loaded.{Loaded}
 use Rattle.table.specs.Limits.{mostTime}
 use Rattle.table.specs.Words.{tableOf}
 use Rattle.table.specs.Numbers as table
-use Rattle.table.specs.Load.{LoadOf, loadTold}
+use Rattle.table.specs.Load.{LoadOf, loadMeaning}
 use Rattle.table.proofs.Exact.{refusal-exact, passed-exact}
-use Rattle.table.proofs.Passed.{passed-count, passed-inside, passed-sound, passed-horizon}
-use Rattle.judge.specs.Judged.{tableIn}
+use Rattle.table.proofs.Passed.{passed-count, passed-inside, passed-valid, passed-horizon}
+use Rattle.judge.specs.Judged.{loadedTable}
 use Rattle.judge.proofs.Promise.{same-table}
 use Rattle.sentence.specs.Counting.{Short}
-use Rattle.sentence.specs.Facts.{Facts, limit, Sayable}
-use Rattle.sentence.specs.Sentence.{said}
-use Rattle.sentence.specs.Unsaid.{facts, unsaid}
+use Rattle.sentence.specs.Facts.{Facts, limit, Expressible}
+use Rattle.sentence.specs.Sentence.{sentenceText}
+use Rattle.sentence.specs.Parsed.{facts, parsed}
 use Rattle.sentence.specs.Waiting.{missPlace, factsIn, factsOf}
 use Rattle.sentence.specs.Numbers.{NoneApplies, words, seventeen, eighteen}
-use Rattle.sentence.specs.Spoken.{byTable, spokenBy, spokenOf, Told, ofLength, refusedBy, spokenTold, front, leftIn, SentenceOf}
-use Rattle.sentence.specs.declared.Spoken.{Spoken}
-use Rattle.sentence.specs.declared.Spoken.the-variants.{Length, Refused}
-use Rattle.sentence.proofs.Exact.{said-back}
+use Rattle.sentence.specs.SentenceAnswer.{byTable, sentenceAnswerBy, sentenceAnswerOf, SentenceOutcome, ofLength, refusedBy, sentenceMeaning, front, leftIn, SentenceOf}
+use Rattle.sentence.specs.declared.SentenceAnswer.{SentenceAnswer}
+use Rattle.sentence.specs.declared.SentenceAnswer.the-variants.{Length, Refused}
+use Rattle.sentence.proofs.Exact.{sentence-back}
 use Rattle.sentence.proofs.Waiting.{missed-here}
-use Rattle.sentence.proofs.Misses.{miss-sayable}
+use Rattle.sentence.proofs.Misses.{miss-expressible}
 use Rattle.sentence.proofs.Short.{sentence-longest}
 use Rattle.sentence.proofs.Answers.{never, first-found, first-within, refused-exact, length-exact}
 
 -- what is told of an answer determines it
-told-length : (v : Spoken) (n : ℕ) → spokenTold v ≡ ofLength n → v ≡ Length n
-told-length (Length m) n e = cc
-told-length (Refused m q) n e = absurd (let z : _≡_ {A = ℕ} 0 1 = cc in omega arith)
+meaning-length : (v : SentenceAnswer) (n : ℕ) → sentenceMeaning v ≡ ofLength n → v ≡ Length n
+meaning-length (Length m) n e = cc
+meaning-length (Refused m q) n e = absurd (let z : _≡_ {A = ℕ} 0 1 = cc in omega arith)
 
-told-refused : (v : Spoken) (n p : ℕ) → spokenTold v ≡ refusedBy n p → v ≡ Refused n p
-told-refused (Length m) n p e = absurd (let z : _≡_ {A = ℕ} 0 1 = cc in omega arith)
-told-refused (Refused m q) n p e = cc
+meaning-refused : (v : SentenceAnswer) (n p : ℕ) → sentenceMeaning v ≡ refusedBy n p → v ≡ Refused n p
+meaning-refused (Length m) n p e = absurd (let z : _≡_ {A = ℕ} 0 1 = cc in omega arith)
+meaning-refused (Refused m q) n p e = cc
 
 -- a text at the front of a buffer: behind it the bytes as found
 front-behind : (w old : List ℕ) (i : ℕ) → length w ≤ i → getD (front w old) i 0 ≡ getD old i 0
@@ -58,24 +58,24 @@ front-size w old l = omega (arith, length-append w (drop (length w) old), length
 
 module _ (ws : List ℕ) where
   -- the facts of a table that misses may be said
-  facts-sayable : table.NoneApplies ws → any (suc (horizon (tableOf ws))) (missedIn (tableOf ws)) ≡ true → Sayable (factsOf ws)
+  facts-expressible : table.NoneApplies ws → any (suc (horizon (tableOf ws))) (missedIn (tableOf ws)) ≡ true → Expressible (factsOf ws)
   unfolding factsIn
-  facts-sayable none e =
+  facts-expressible none e =
       let s = tableOf ws in
-      let ok = passed-sound ws none in
+      let ok = passed-valid ws none in
       let f = first-found s ok e in
       let l = missed-here s ok (firstMiss s) (missPlace s) f .0 in
-      miss-sayable s ok (firstMiss s) (missPlace s) f (passed-count ws none .1)
+      miss-expressible s ok (firstMiss s) (missPlace s) f (passed-count ws none .1)
       (omega (arith, first-within s ok e, passed-horizon ws none)) (omega (arith, passed-inside ws none (missPlace s) l .length-from .1))
 
 module _ (ws old new : List ℕ) where
   abbrev text : List ℕ
-  text = said (factsOf ws)
+  text = sentenceText (factsOf ws)
 
   -- where no number applies the sentence may be said, and has room
-  sayable-here : NoneApplies ws (length old) → Sayable (factsOf ws)
-  sayable-here none =
-      facts-sayable ws passed (not-false-true (any (suc (horizon (tableOf ws))) (missedIn (tableOf ws))) (λ e. none 17 0 (seventeen (never (tableOf ws) (passed-sound ws passed) e))))
+  expressible-here : NoneApplies ws (length old) → Expressible (factsOf ws)
+  expressible-here none =
+      facts-expressible ws passed (not-false-true (any (suc (horizon (tableOf ws))) (missedIn (tableOf ws))) (λ e. none 17 0 (seventeen (never (tableOf ws) (passed-valid ws passed) e))))
     where
       passed : table.NoneApplies ws
       passed n p x = none n p (words n p x)
@@ -86,62 +86,62 @@ module _ (ws old new : List ℕ) where
       not-less : {m n : ℕ} → ¬ (m < n) → n ≤ m
       not-less h = omega arith
 
-  by-value : (v : Spoken) → v ≡ spokenOf ws (length old) → new ≡ leftIn (spokenTold v) (factsOf ws) old → SentenceOf ws old new v
+  by-value : (v : SentenceAnswer) → v ≡ sentenceAnswerOf ws (length old) → new ≡ leftIn (sentenceMeaning v) (factsOf ws) old → SentenceOf ws old new v
   by-value v e f = record {
     value = e;
-    refused = λ n p. (λ x. refused-exact ws (length old) n p .0 (sym e ∙ told-refused v n p x), λ x. ap spokenTold (e ∙ refused-exact ws (length old) n p .1 x));
-    written = λ n. (none n, λ x. ap spokenTold (e ∙ length-exact ws (length old) n .1 x));
+    refused = λ n p. (λ x. refused-exact ws (length old) n p .0 (sym e ∙ meaning-refused v n p x), λ x. ap sentenceMeaning (e ∙ refused-exact ws (length old) n p .1 x));
+    written = λ n. (none n, λ x. ap sentenceMeaning (e ∙ length-exact ws (length old) n .1 x));
     buffer = f;
     sentence = sentence;
-    back = λ n x. ap unsaid (sentence n x) ∙ said-back (factsOf ws) (sayable-here (none n x .0));
+    back = λ n x. ap parsed (sentence n x) ∙ sentence-back (factsOf ws) (expressible-here (none n x .0));
     behind = λ n i x l. ap (λ (z : List ℕ). getD z i 0) (text-there n x) ∙ front-behind text old i (omega (arith, none n x .1));
     size = go v refl;
     short = λ n x. omega (arith, none n x .1, sentence-longest ws (length old) (none n x .0));
     found = found;
   }
     where
-      none : (n : ℕ) → spokenTold v ≡ ofLength n → NoneApplies ws (length old) × (n ≡ length text)
-      none n x = length-exact ws (length old) n .0 (sym e ∙ told-length v n x)
+      none : (n : ℕ) → sentenceMeaning v ≡ ofLength n → NoneApplies ws (length old) × (n ≡ length text)
+      none n x = length-exact ws (length old) n .0 (sym e ∙ meaning-length v n x)
 
-      text-there : (n : ℕ) → spokenTold v ≡ ofLength n → new ≡ front text old
-      text-there n x = f ∙ ap (λ (z : Told). leftIn z (factsOf ws) old) x
+      text-there : (n : ℕ) → sentenceMeaning v ≡ ofLength n → new ≡ front text old
+      text-there n x = f ∙ ap (λ (z : SentenceOutcome). leftIn z (factsOf ws) old) x
 
-      sentence : (n : ℕ) → spokenTold v ≡ ofLength n → take n new ≡ text
+      sentence : (n : ℕ) → sentenceMeaning v ≡ ofLength n → take n new ≡ text
       sentence n x = ap (take n) (text-there n x) ∙ take-at text (drop (length text) old) n (sym (none n x .1))
 
-      found : (n p : ℕ) → spokenTold v ≡ refusedBy n p → new ≡ old
-      found n p x = f ∙ ap (λ (z : Told). leftIn z (factsOf ws) old) x
+      found : (n p : ℕ) → sentenceMeaning v ≡ refusedBy n p → new ≡ old
+      found n p x = f ∙ ap (λ (z : SentenceOutcome). leftIn z (factsOf ws) old) x
 
-      go : (w : Spoken) → v ≡ w → length new ≡ length old
-      go (Length n) x = ap length (text-there n (ap spokenTold x)) ∙ front-size text old (room (none n (ap spokenTold x) .0))
-      go (Refused n p) x = ap length (found n p (ap spokenTold x))
+      go : (w : SentenceAnswer) → v ≡ w → length new ≡ length old
+      go (Length n) x = ap length (text-there n (ap sentenceMeaning x)) ∙ front-size text old (room (none n (ap sentenceMeaning x) .0))
+      go (Refused n p) x = ap length (found n p (ap sentenceMeaning x))
 
 module _ (ws : List ℕ) (r : Loaded) (l : LoadOf ws r) where
   -- the lengths of a table that passed are within their limit
   pub short-table : r .answer ≡ answer.Passed → Short r
   short-table e p b =
       subst (λ (s : Table). p < length (s .tasks) → task s p .length ≤ mostTime) (sym (same-table ws r l e))
-      (λ i. passed-inside ws (l .passed .0 (ap loadTold e)) p i .length-from .1)
-      (omega (arith, l .holds (ap loadTold e) .count, ap (λ (s : Table). length (s .tasks)) (same-table ws r l e)))
+      (λ i. passed-inside ws (l .passed .0 (ap loadMeaning e)) p i .length-from .1)
+      (omega (arith, l .holds (ap loadMeaning e) .count, ap (λ (s : Table). length (s .tasks)) (same-table ws r l e)))
 
   module _ (old new : List ℕ) where
     -- what is answered of it is answered of the words
     pub passed-sentence :
-        (v : Spoken) → r .answer ≡ answer.Passed
-        → (v ≡ byTable (tableIn r) (length old)) × (new ≡ leftIn (spokenTold v) (factsIn (tableIn r)) old) → SentenceOf ws old new v
+        (v : SentenceAnswer) → r .answer ≡ answer.Passed
+        → (v ≡ byTable (loadedTable r) (length old)) × (new ≡ leftIn (sentenceMeaning v) (factsIn (loadedTable r)) old) → SentenceOf ws old new v
     passed-sentence v e x =
         by-value ws old new v (x .0 ∙ (ap (λ (s : Table). byTable s (length old)) same ∙ sym is))
-        (x .1 ∙ ap (λ (s : Table). leftIn (spokenTold v) (factsIn s) old) same)
+        (x .1 ∙ ap (λ (s : Table). leftIn (sentenceMeaning v) (factsIn s) old) same)
       where
-        same : tableIn r ≡ tableOf ws
+        same : loadedTable r ≡ tableOf ws
         same = same-table ws r l e
 
-        is : spokenOf ws (length old) ≡ byTable (tableOf ws) (length old)
-        is = unfold spokenOf in ap (λ (y : Answer). spokenBy y (byTable (tableOf ws) (length old))) (passed-exact ws .1 (l .passed .0 (ap loadTold e)))
+        is : sentenceAnswerOf ws (length old) ≡ byTable (tableOf ws) (length old)
+        is = unfold sentenceAnswerOf in ap (λ (y : Answer). sentenceAnswerBy y (byTable (tableOf ws) (length old))) (passed-exact ws .1 (l .passed .0 (ap loadMeaning e)))
 
     -- a refusal of the table is that of the sentence, and the buffer is as found
     pub refused-sentence : (n p : ℕ) → r .answer ≡ answer.Refused n p → new ≡ old → SentenceOf ws old new (Refused n p)
     refused-sentence n p e same = by-value ws old new (Refused n p) (sym is) same
       where
-        is : spokenOf ws (length old) ≡ Refused n p
-        is = unfold spokenOf in ap (λ (y : Answer). spokenBy y (byTable (tableOf ws) (length old))) (refusal-exact ws n p .1 (l .refused n p .0 (ap loadTold e)))
+        is : sentenceAnswerOf ws (length old) ≡ Refused n p
+        is = unfold sentenceAnswerOf in ap (λ (y : Answer). sentenceAnswerBy y (byTable (tableOf ws) (length old))) (refusal-exact ws n p .1 (l .refused n p .0 (ap loadMeaning e)))

@@ -15,7 +15,7 @@ use Rattle.text.specs.Output.{letters}
 use Rattle.text.specs.Written.{Put}
 use Rattle.text.proofs.Writing.{put-then, put-length}
 use Rattle.sentence.specs.Facts.{Facts, Part, named, namedFrom}
-use Rattle.sentence.specs.Sentence.{field, parts, head, said}
+use Rattle.sentence.specs.Sentence.{wordField, parts, sentenceHead, sentenceText}
 use Rattle.sentence.proofs.Naming.{parts-append}
 
 -- there is room for what comes next
@@ -38,7 +38,7 @@ pub parts-rest : (ps : List Part) (rest : List ℕ) → parts ps rest ≡ parts 
 unfolding parts
 parts-rest [] rest = refl
 parts-rest (p ∷ ps) rest =
-    ap (λ (x : List ℕ). field (letters "; task ") (p .position) (field (letters " ran ") (p .count) x)) (parts-rest ps rest) ∙ simp append-assoc
+    ap (λ (x : List ℕ). wordField (letters "; task ") (p .position) (wordField (letters " ran ") (p .count) x)) (parts-rest ps rest) ∙ simp append-assoc
 
 -- counts and more counts
 named-append : (i : ℕ) (xs ys : List ℕ) → namedFrom i (xs ++ ys) ≡ namedFrom i xs ++ namedFrom (i + length xs) ys
@@ -117,14 +117,14 @@ module _ (f : Facts) where
   abbrev pub upTo6 : List ℕ
   upTo6 = (upTo4 ++ letters " ticks") ++ parts (f .others) []
 
-  pub pieces : upTo6 ++ letters "." ≡ said f
-  unfolding said head
+  pub pieces : upTo6 ++ letters "." ≡ sentenceText f
+  unfolding sentenceText sentenceHead
   pieces =
       in-a-row first second third fourth (letters " ticks") (parts (f .others) []) (letters ".")
       ∙ ap (λ (x : List ℕ). first ++ (second ++ (third ++ (fourth ++ (letters " ticks" ++ x))))) (sym (parts-rest (f .others) (letters ".")))
 
   -- the room that a buffer has which the sentence fits in
-  module _ (n : ℕ) (fits : length (said f) ≤ n) where
+  module _ (n : ℕ) (fits : length (sentenceText f) ≤ n) where
     pub room-7 : 0 + length (upTo6 ++ letters ".") ≤ n
     room-7 = subst (λ (x : List ℕ). 0 + length x ≤ n) (sym pieces) (omega arith)
 

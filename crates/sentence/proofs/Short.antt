@@ -7,27 +7,27 @@ use Prim.Native.Nat.{ℕ, suc, _≤_}
 use native.Mathlib.Omega.{arith}
 use lib.ListN.{length}
 use Rattle.model.specs.Search.{any}
-use Rattle.model.specs.Task.{AllSound}
+use Rattle.model.specs.Task.{AllValid}
 use Rattle.model.specs.Horizon.{horizon}
 use Rattle.model.specs.Verdict.{missedIn, firstMiss}
 use Rattle.table.specs.Limits.{mostHorizon}
 use Rattle.table.specs.Words.{tableOf}
 use Rattle.table.specs.Numbers as table
-use Rattle.table.proofs.Passed.{passed-count, passed-inside, passed-sound, passed-horizon}
-use Rattle.sentence.specs.Limits.{longest}
-use Rattle.sentence.specs.Sentence.{said}
+use Rattle.table.proofs.Passed.{passed-count, passed-inside, passed-valid, passed-horizon}
+use Rattle.sentence.specs.Limits.{longestSentence}
+use Rattle.sentence.specs.Sentence.{sentenceText}
 use Rattle.sentence.specs.Waiting.{missPlace, factsIn, factsOf}
 use Rattle.sentence.specs.Numbers.{words, seventeen, NoneApplies}
 use Rattle.sentence.proofs.Answers.{never, first-found, first-within}
-use Rattle.sentence.proofs.Misses.{miss-longest}
+use Rattle.sentence.proofs.Misses.{miss-at-most}
 use Rattle.sentence.proofs.Waiting.{missed-here}
 
 module _ (ws : List ℕ) (bytes : ℕ) (none : NoneApplies ws bytes) where
   passed : table.NoneApplies ws
   passed n p x = none n p (words n p x)
 
-  sound : AllSound (tableOf ws)
-  sound = passed-sound ws passed
+  sound : AllValid (tableOf ws)
+  sound = passed-valid ws passed
 
   found : any (suc (horizon (tableOf ws))) (missedIn (tableOf ws)) ≡ true
   found = go (any (suc (horizon (tableOf ws))) (missedIn (tableOf ws))) refl
@@ -37,7 +37,7 @@ module _ (ws : List ℕ) (bytes : ℕ) (none : NoneApplies ws bytes) where
       go false e = absurd (none 17 0 (seventeen (never (tableOf ws) sound e)))
 
   -- THEOREM (sentence-longest): the sentence has at most 700 bytes
-  pub sentence-longest : length (said (factsOf ws)) ≤ longest mostHorizon
+  pub sentence-longest : length (sentenceText (factsOf ws)) ≤ longestSentence mostHorizon
   unfolding factsIn
   sentence-longest =
       let s = tableOf ws in
@@ -47,4 +47,4 @@ module _ (ws : List ℕ) (bytes : ℕ) (none : NoneApplies ws bytes) where
       let count = passed-count ws passed in
       let within = first-within s sound found in
       let last = passed-horizon ws passed in
-      miss-longest s sound (firstMiss s) (missPlace s) f (omega arith) (omega arith) (omega arith) (omega arith)
+      miss-at-most s sound (firstMiss s) (missPlace s) f (omega arith) (omega arith) (omega arith) (omega arith)

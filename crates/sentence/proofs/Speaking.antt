@@ -17,20 +17,20 @@ use Rattle.judge.specs.declared.misses.Missed.the-variants.{Never, At}
 use Rattle.judge.specs.FirstMiss.{missedBefore}
 use Rattle.text.specs.Written.{Put}
 use Rattle.sentence.specs.Facts.{Facts}
-use Rattle.sentence.specs.Sentence.{said}
+use Rattle.sentence.specs.Sentence.{sentenceText}
 use Rattle.sentence.specs.Waiting.{factsAt, missPlace, factsIn}
-use Rattle.sentence.specs.Spoken.{byBuffer, byTable, front}
-use Rattle.sentence.specs.declared.Spoken.{Spoken}
-use Rattle.sentence.specs.declared.Spoken.the-variants.{Length, Refused}
+use Rattle.sentence.specs.SentenceAnswer.{byBuffer, byTable, front}
+use Rattle.sentence.specs.declared.SentenceAnswer.{SentenceAnswer}
+use Rattle.sentence.specs.declared.SentenceAnswer.the-variants.{Length, Refused}
 
 -- by the buffer's length
-pub too-short : (f : Facts) (bytes : ℕ) → bytes < length (said f) → Refused 18 0 ≡ byBuffer f bytes
+pub too-short : (f : Facts) (bytes : ℕ) → bytes < length (sentenceText f) → Refused 18 0 ≡ byBuffer f bytes
 unfolding byBuffer
-too-short f bytes l = rw (lt-ltb bytes (length (said f)) l)
+too-short f bytes l = rw (lt-ltb bytes (length (sentenceText f)) l)
 
-pub long-enough : (f : Facts) (bytes : ℕ) → length (said f) ≤ bytes → Length (length (said f)) ≡ byBuffer f bytes
+pub long-enough : (f : Facts) (bytes : ℕ) → length (sentenceText f) ≤ bytes → Length (length (sentenceText f)) ≡ byBuffer f bytes
 unfolding byBuffer
-long-enough f bytes l = rw (le-ltb bytes (length (said f)) l)
+long-enough f bytes l = rw (le-ltb bytes (length (sentenceText f)) l)
 
 -- by the search
 pub by-never : (s : Table) (bytes : ℕ) → any (suc (horizon s)) (missedIn s) ≡ false → Refused 17 0 ≡ byTable s bytes

@@ -8,27 +8,27 @@ use native.Mathlib.Numerals.{add-one}
 use native.Mathlib.Omega.{arith}
 use lib.ListN.{length, getD, replicate}
 use Rattle.model.specs.Search.{bit, upFrom}
-use Rattle.model.specs.Task.{Table, AllSound, Task, task, release, due}
+use Rattle.model.specs.Task.{Table, AllValid, Task, task, release, due}
 use Rattle.model.specs.Book.{Book, Job, full, inRow, Missed}
 use Rattle.model.specs.Verdict.{FirstMiss}
 use Rattle.model.proofs.Jobs.{newest-is}
 use Rattle.table.specs.declared.Loaded.{Loaded}
-use Rattle.full.specs.Machine.{Machine}
-use Rattle.full.specs.Stand.{numbersIn, Stand, begun, after, bellAfter, evenAfter, next}
-use Rattle.full.proofs.Late.{missed-late}
-use Rattle.full.specs.Standing.{TiedAt}
-use Rattle.full.proofs.Steps.{tick-on, chosen-on, even-on}
-use Rattle.full.proofs.Tied.{Tied}
-use Rattle.judge.specs.Judged.{tableIn, Fit}
+use Rattle.simulation.specs.Machine.{Machine}
+use Rattle.simulation.specs.TickState.{loadedNumbers, TickState, initialTickState, afterEvents, nextEventAfter, evenAtTick, nextTickState}
+use Rattle.simulation.proofs.Late.{missed-late}
+use Rattle.simulation.specs.PlaceRelation.{PlaceTiedAt}
+use Rattle.simulation.proofs.Steps.{tick-on, chosen-on, even-on}
+use Rattle.simulation.proofs.Tied.{Tied}
+use Rattle.judge.specs.Judged.{loadedTable, Fit}
 use Rattle.judge.proofs.Ticks.{Chosen, chosen-row}
-use Rattle.judge.proofs.Follows.{Follows, follows-start, looked, follows-on}
+use Rattle.judge.proofs.Refines.{RefinesTick, refines-start, looked, refines-on}
 use Rattle.sentence.specs.Counting.{added}
 use Rattle.sentence.specs.Waiting.{bookAt, releaseOf, lateJob, hadBy}
 use Rattle.sentence.proofs.Waiting.{missed-here, same-book, Counted, counted-start, counted-pass, counted-add, waits-before, waits-after}
 
 -- WHAT IS LEFT OF THE LATE JOB
 
-module _ (s : Table) (ok : AllSound s) (t p : ℕ) (f : FirstMiss s t (suc p)) (m : Machine) (h : Tied s t m) where
+module _ (s : Table) (ok : AllValid s) (t p : ℕ) (f : FirstMiss s t (suc p)) (m : Machine) (h : Tied s t m) where
   abbrev left : ℕ
   left = getD (m .left) p 0
 
@@ -39,10 +39,10 @@ module _ (s : Table) (ok : AllSound s) (t p : ℕ) (f : FirstMiss s t (suc p)) (
       below : p < length (s .tasks)
       below = missed-here s ok t p f .0
 
-      late : (getD (m .moment) p 0 ≡ t) × (0 < left)
+      late : (getD (m .event) p 0 ≡ t) × (0 < left)
       late = missed-late s ok t 0 m h p below (omega arith) (missed-here s ok t p f)
 
-      go : (c : Bool) → TiedAt (task s p) t (full s t .job p) left (getD (m .moment) p 0) (getD (m .next) p 0) c
+      go : (c : Bool) → PlaceTiedAt (task s p) t (full s t .job p) left (getD (m .event) p 0) (getD (m .next) p 0) c
           → (left ≤ task s p .length) × (task s p .length - left ≡ hadBy s t p)
       go true w =
           let own : lateJob s t p ≡ w .number =
@@ -56,36 +56,36 @@ module _ (s : Table) (ok : AllSound s) (t p : ℕ) (f : FirstMiss s t (suc p)) (
 -- TICK BY TICK
 
 -- before a tick, up to that of the miss
-pub record Counting (t : Loaded) (tick place : ℕ) (x : Stand) (ran : List ℕ) : Type 0 where
-  pub follows : Follows t x
+pub record Counting (t : Loaded) (tick place : ℕ) (x : TickState) (ran : List ℕ) : Type 0 where
+  pub follows : RefinesTick t x
   pub within : x .tick ≤ tick
-  pub counted : Counted (tableIn t) tick place (x .tick) ran
+  pub counted : Counted (loadedTable t) tick place (x .tick) ran
 
-module _ (t : Loaded) (fit : Fit t) (tick place : ℕ) (f : FirstMiss (tableIn t) tick (suc place)) where
+module _ (t : Loaded) (fit : Fit t) (tick place : ℕ) (f : FirstMiss (loadedTable t) tick (suc place)) where
   abbrev s : Table
-  s = tableIn t
+  s = loadedTable t
 
-  pub counting-start : Counting t tick place (begun t) (replicate 32 0)
-  counting-start = record { follows = follows-start t fit; within = omega arith; counted = counted-start s tick place }
+  pub counting-start : Counting t tick place (initialTickState t) (replicate 32 0)
+  counting-start = record { follows = refines-start t fit; within = omega arith; counted = counted-start s tick place }
 
-  module _ (x : Stand) (ran : List ℕ) (c : Counting t tick place x ran) (before : x .tick < tick) where
+  module _ (x : TickState) (ran : List ℕ) (c : Counting t tick place x ran) (before : x .tick < tick) where
     -- no deadline of the tick is missed
     pub met-here : (q : ℕ) → ¬ Missed s q (x .tick)
     met-here q = f .no-earlier q (x .tick) before
 
-    module _ (y : Stand) (e : y ≡ next (numbersIn t) x) where
-      on : Follows t y
-      on = follows-on t fit x (c .follows) met-here y e
+    module _ (y : TickState) (e : y ≡ nextTickState (loadedNumbers t) x) where
+      on : RefinesTick t y
+      on = refines-on t fit x (c .follows) met-here y e
 
       tick-next : y .tick ≡ suc (x .tick)
-      tick-next = tick-on (numbersIn t) x y e ∙ omega arith
+      tick-next = tick-on (loadedNumbers t) x y e ∙ omega arith
 
       -- who is granted cores is in the row of the book
       pub granted-row : (q : ℕ) → bit (y .granted) q ≡ inRow s (bookAt s (x .tick)) q
       granted-row q =
-          chosen-row t fit (after (numbersIn t) x) (evenAfter (numbersIn t) x) (bellAfter (numbersIn t) x) (x .tick) (looked t fit x (c .follows) met-here)
-          (y .granted) (subst₂ (λ (n m : ℕ). Chosen t n m (y .granted)) (chosen-on (numbersIn t) x y e) (even-on (numbersIn t) x y e) (on .chosen)) q
-          ∙ ap (λ (b : Book). inRow s b q) (sym (same-book s (fit .sound) tick place f (x .tick) (omega arith)))
+          chosen-row t fit (afterEvents (loadedNumbers t) x) (evenAtTick (loadedNumbers t) x) (nextEventAfter (loadedNumbers t) x) (x .tick) (looked t fit x (c .follows) met-here)
+          (y .granted) (subst₂ (λ (n m : ℕ). Chosen t n m (y .granted)) (chosen-on (loadedNumbers t) x y e) (even-on (loadedNumbers t) x y e) (on .chosen)) q
+          ∙ ap (λ (b : Book). inRow s b q) (sym (same-book s (fit .valid) tick place f (x .tick) (omega arith)))
 
       counting-next : (new : List ℕ) → Counted s tick place (suc (x .tick)) new → Counting t tick place y new
       counting-next new d = record {

@@ -10,7 +10,7 @@ use lib.ListN.{length, getD, take, replicate, length-map, List·getD-eq-default}
 use lib.Seq.{getD-take, length-take-le, ext-getD}
 use borrow.Author.Tests.{leb-true, leb-false, le-leb, lt-leb}
 use Rattle.model.specs.Search.{bit, upFrom}
-use Rattle.model.specs.Task.{Table, AllSound, task, release, due}
+use Rattle.model.specs.Task.{Table, AllValid, task, release, due}
 use Rattle.model.specs.Book.{Book, full, inRow, Missed, shownOf}
 use Rattle.model.specs.Grants.{some}
 use Rattle.model.specs.Verdict.{FirstMiss}
@@ -27,7 +27,7 @@ use Rattle.sentence.proofs.Tallies.{tally-none, tally-more, tally-most}
 
 -- THE LATE JOB
 
-module _ (s : Table) (ok : AllSound s) (t p : ℕ) (f : FirstMiss s t (suc p)) where
+module _ (s : Table) (ok : AllValid s) (t p : ℕ) (f : FirstMiss s t (suc p)) where
   same-place : f .place .0 ≡ p
   same-place = omega (arith, f .place .1)
 

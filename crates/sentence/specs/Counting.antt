@@ -8,12 +8,12 @@ use Rattle.model.specs.Task.{task}
 use Rattle.model.specs.Sizes.{mostTasks}
 use Rattle.table.specs.declared.Loaded.{Loaded}
 use Rattle.table.specs.Limits.{mostTime}
-use Rattle.full.specs.Places.{each}
-use Rattle.judge.specs.Judged.{tableIn}
+use Rattle.simulation.specs.Places.{mapPlaces}
+use Rattle.judge.specs.Judged.{loadedTable}
 
 -- one more for each place of a set
 abbrev pub added : ℕ → List ℕ → List ℕ
-added granted ran = each (λ q n. cond (bit granted q) (n + 1) n) ran
+added granted ran = mapPlaces (λ q n. cond (bit granted q) (n + 1) n) ran
 
 -- the counts of the places before p, and zeros from p on
 abbrev pub above : ℕ → List ℕ → List ℕ
@@ -21,4 +21,4 @@ above p ran = take p ran ++ replicate (mostTasks - p) 0
 
 -- each length C of the table that was loaded is within its limit
 abbrev pub Short : Loaded → Type 0
-Short t = (p : ℕ) → p < t .count → task (tableIn t) p .length ≤ mostTime
+Short t = (p : ℕ) → p < t .count → task (loadedTable t) p .length ≤ mostTime

@@ -24,40 +24,40 @@ abbrev pub limit : ℕ
 limit = 2 ^ 64
 
 -- a part may follow one that names `last`: it names a later task, above the late one at `position`, with a count above 0
-pub record Follows (last position : ℕ) (p : Part) : Type 0 where
+pub record MayFollow (last position : ℕ) (p : Part) : Type 0 where
   pub later : last < p .position
   pub above : p .position < position
   pub some : 0 < p .count
   pub fits : p .count < limit
 
--- .. the test (`follows-exact`)
-abbrev pub follows : ℕ → ℕ → Part → Bool
-follows last position p = ltb last (p .position) && (ltb (p .position) position && (ltb 0 (p .count) && ltb (p .count) limit))
+-- .. the test (`may-follow-exact`)
+abbrev pub mayFollow : ℕ → ℕ → Part → Bool
+mayFollow last position p = ltb last (p .position) && (ltb (p .position) position && (ltb 0 (p .count) && ltb (p .count) limit))
 
 -- the parts rise: each may follow the one before it, the first one that names `last`
-unfoldable pub Rising : ℕ → ℕ → List Part → Type 0
-Rising last position [] = Unit {0}
-Rising last position (p ∷ ps) = Follows last position p × Rising (p .position) position ps
+unfoldable pub Ascending : ℕ → ℕ → List Part → Type 0
+Ascending last position [] = Unit {0}
+Ascending last position (p ∷ ps) = MayFollow last position p × Ascending (p .position) position ps
 
--- .. the test (`rising-exact`)
-unfoldable pub rising : ℕ → ℕ → List Part → Bool
-rising last position [] = true
-rising last position (p ∷ ps) = follows last position p && rising (p .position) position ps
+-- .. the test (`ascending-exact`)
+unfoldable pub ascending : ℕ → ℕ → List Part → Bool
+ascending last position [] = true
+ascending last position (p ∷ ps) = mayFollow last position p && ascending (p .position) position ps
 
 -- facts that a sentence is read back to: position 1 to 32, fewer ticks had than C, the parts rise from 1 and stay above the late task, every number is below 2^64
-pub record Sayable (f : Facts) : Type 0 where
+pub record Expressible (f : Facts) : Type 0 where
   pub first : 1 ≤ f .position
   pub last : f .position ≤ mostTasks
   pub tick : f .tick < limit
   pub short : f .had < f .length
   pub length : f .length < limit
-  pub others : Rising 0 (f .position) (f .others)
+  pub others : Ascending 0 (f .position) (f .others)
 
--- .. the test (`sayable-exact`)
-unfoldable pub sayable : Facts → Bool
-sayable f =
+-- .. the test (`expressible-exact`)
+unfoldable pub expressible : Facts → Bool
+expressible f =
     leb 1 (f .position)
-    && (leb (f .position) mostTasks && (ltb (f .tick) limit && (ltb (f .had) (f .length) && (ltb (f .length) limit && rising 0 (f .position) (f .others)))))
+    && (leb (f .position) mostTasks && (ltb (f .tick) limit && (ltb (f .had) (f .length) && (ltb (f .length) limit && ascending 0 (f .position) (f .others)))))
 
 -- the parts of counts that stand in order of position, the first that of position q + 1; where a count is 0 the task is not named
 unfoldable pub namedFrom : ℕ → List ℕ → List Part

@@ -7,17 +7,17 @@ use lib.Dec.{eqb}
 use lib.ListN.{length, getD, drop}
 use Rattle.text.specs.Decimal.{isDigit, decimal}
 use Rattle.text.specs.Output.{letters}
-use Rattle.sentence.specs.Facts.{Facts, limit, Part, Rising, Sayable, named}
-use Rattle.sentence.specs.Sentence.{field, parts, head, said}
+use Rattle.sentence.specs.Facts.{Facts, limit, Part, Ascending, Expressible, named}
+use Rattle.sentence.specs.Sentence.{wordField, parts, sentenceHead, sentenceText}
 use Rattle.sentence.specs.declared.reader.Field.{Field}
 use Rattle.sentence.specs.declared.reader.Parts.{Parts}
 use Rattle.sentence.specs.declared.reader.Head.{Head}
 
 -- a text begins with a word
-unfoldable pub begins : List ℕ → List ℕ → Bool
-begins [] bs = true
-begins (c ∷ cs) [] = false
-begins (c ∷ cs) (b ∷ bs) = eqb c b && begins cs bs
+unfoldable pub startsWith : List ℕ → List ℕ → Bool
+startsWith [] bs = true
+startsWith (c ∷ cs) [] = false
+startsWith (c ∷ cs) (b ∷ bs) = eqb c b && startsWith cs bs
 
 -- how many digits stand at the front of a text
 unfoldable pub digitsOf : List ℕ → ℕ
@@ -40,13 +40,13 @@ pub record NumberOf (bs : List ℕ) (i : ℕ) (r : Field) : Type 0 where
 pub record FieldOf (bs word : List ℕ) (before r : Field) : Type 0 where
   pub within : r .next ≤ length bs
   pub there : r .found ≡ true →
-      (before .found ≡ true) × (drop (before .next) bs ≡ field word (r .value) (drop (r .next) bs)) × Stops (drop (r .next) bs) × (r .value < limit) × (before .next < r .next)
-  pub none : r .found ≡ false → before .found ≡ true → (n : ℕ) (rest : List ℕ) → n < limit → Stops rest → ¬ (drop (before .next) bs ≡ field word n rest)
+      (before .found ≡ true) × (drop (before .next) bs ≡ wordField word (r .value) (drop (r .next) bs)) × Stops (drop (r .next) bs) × (r .value < limit) × (before .next < r .next)
+  pub none : r .found ≡ false → before .found ≡ true → (n : ℕ) (rest : List ℕ) → n < limit → Stops rest → ¬ (drop (before .next) bs ≡ wordField word n rest)
 
 -- what is found of the parts from place i on, up to the full stop at the end, of a late task at a position
 pub record PartsOf (bs : List ℕ) (i position : ℕ) (r : Parts) : Type 0 where
-  pub there : r .found ≡ true → Rising 0 position (named (r .ran)) × (drop i bs ≡ parts (named (r .ran)) (letters "."))
-  pub none : r .found ≡ false → (ps : List Part) → Rising 0 position ps → ¬ (drop i bs ≡ parts ps (letters "."))
+  pub there : r .found ≡ true → Ascending 0 position (named (r .ran)) × (drop i bs ≡ parts (named (r .ran)) (letters "."))
+  pub none : r .found ≡ false → (ps : List Part) → Ascending 0 position ps → ¬ (drop i bs ≡ parts ps (letters "."))
 
 -- the facts before the parts
 abbrev pub heading : Head → Facts
@@ -56,6 +56,6 @@ heading h = record { position = h .position; tick = h .tick; had = h .had; lengt
 pub record HeadOf (bs : List ℕ) (r : Head) : Type 0 where
   pub within : r .next ≤ length bs
   -- found: it stands there, and its facts may be said
-  pub there : r .found ≡ true → Sayable (heading r) × (bs ≡ head (heading r) (drop (r .next) bs))
+  pub there : r .found ≡ true → Expressible (heading r) × (bs ≡ sentenceHead (heading r) (drop (r .next) bs))
   -- of a sentence of Sayable facts it is found, with the position, and the parts stand after it
-  pub only : (f : Facts) → Sayable f → bs ≡ said f → (r .found ≡ true) × (r .position ≡ f .position) × (drop (r .next) bs ≡ parts (f .others) (letters "."))
+  pub only : (f : Facts) → Expressible f → bs ≡ sentenceText f → (r .found ≡ true) × (r .position ≡ f .position) × (drop (r .next) bs ≡ parts (f .others) (letters "."))

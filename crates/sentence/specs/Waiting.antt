@@ -7,7 +7,7 @@ use lib.Dec.{leb}
 use lib.ListN.{length, replicate}
 use Rattle.model.specs.Search.{least, upFrom}
 use Rattle.model.specs.Task.{Table, task, newest}
-use Rattle.model.specs.Book.{Book, book, quiet, inRow}
+use Rattle.model.specs.Book.{Book, book, noReports, inRow}
 use Rattle.model.specs.Verdict.{missedAt, firstMiss}
 use Rattle.table.specs.Words.{tableOf}
 use Rattle.sentence.specs.Facts.{Facts, named}
@@ -19,7 +19,7 @@ tally (suc n) f = cond (f n) (suc (tally n f)) (tally n f)
 
 -- the full-length run before tick u
 abbrev pub bookAt : Table → ℕ → Book
-bookAt s u = book s (replicate u quiet)
+bookAt s u = book s (replicate u noReports)
 
 -- the release of the job of place p that is due at t (`late-job`)
 abbrev pub releaseOf : Table → ℕ → ℕ → ℕ

@@ -3,11 +3,11 @@ ghost use mathlib.Core.Path.{_≡_};
 ghost use Prim.Native.Nat.{suc, _≤_};
 ghost use lib.ListN.{length};
 ghost use Rattle.model.specs.Verdict.{FirstMiss};
-ghost use Rattle.judge.specs.Judged.{tableIn, Fit};
-ghost use Rattle.sentence.specs.Unsaid.{nothing, FactsOf};
+ghost use Rattle.judge.specs.Judged.{loadedTable, Fit};
+ghost use Rattle.sentence.specs.Parsed.{nothing, FactsOf};
 ghost use Rattle.sentence.specs.Waiting.{factsAt, factsIn};
 ghost use Rattle.sentence.specs.Counting.{Short};
-ghost use Rattle.sentence.specs.Spoken.{byBuffer, byTable, spokenTold, leftIn, SentenceOf};
+ghost use Rattle.sentence.specs.SentenceAnswer.{byBuffer, byTable, sentenceMeaning, leftIn, SentenceOf};
 use judge::misses::Missed;
 use model::MOST_TASKS;
 use table::Answer;
@@ -21,7 +21,7 @@ pub mod writer; // writer.rt: a sentence written
 pub const LONGEST: usize = 700;
 
 // The answer of `sentence`: the sentence's length, or Refused with number and position.
-pub enum Spoken {
+pub enum SentenceAnswer {
     Length(usize),
     Refused(u32, u32),
 }
@@ -36,17 +36,17 @@ pub struct Facts {
 }
 
 // What a text is read back to: facts, or none, with zeros for all of them.
-pub struct Found {
+pub struct ParsedFacts {
     pub found: bool,
     pub facts: Facts,
 }
 
 // Nothing is read back.
-fn no_facts() -> Found
+fn no_facts() -> ParsedFacts
     ensures { λ r. ⌜ r ≡ nothing ⌝ }
 {
     let ran = [0u64; MOST_TASKS];
-    Found {
+    ParsedFacts {
         found: false,
         facts: Facts {
             position: 0,
@@ -59,7 +59,7 @@ fn no_facts() -> Found
 }
 
 // The facts that a sentence says; none where the bytes are no sentence of facts that may be said.
-pub fn facts_of(bytes: &[u8]) -> Found
+pub fn facts_of(bytes: &[u8]) -> ParsedFacts
     ensures { λ r. ⌜ FactsOf (now (bytes .entry)) r ⌝ }
 {
     let head = reader::read_head(bytes);
@@ -71,7 +71,7 @@ pub fn facts_of(bytes: &[u8]) -> Found
         return no_facts();
     }
     let ran = parts.ran;
-    Found {
+    ParsedFacts {
         found: true,
         facts: Facts {
             position: head.position as u32,
@@ -84,41 +84,41 @@ pub fn facts_of(bytes: &[u8]) -> Found
 }
 
 // Says the miss of a place at a tick at the front of the buffer, or answers 18 where it is too short.
-fn say(table: Loaded, tick: u32, place: usize, buffer: &mut [u8]) -> Spoken
-    requires { ⌜ Fit table × FirstMiss (tableIn table) tick (suc place) × (tick ≤ table .horizon) × Short table ⌝ }
-    ensures { λ r. ⌜ (r ≡ byBuffer (factsAt (tableIn table) tick place) (length (now (buffer .entry))))
-        × (now (buffer .exit) ≡ leftIn (spokenTold r) (factsAt (tableIn table) tick place) (now (buffer .entry))) ⌝ }
+fn write_miss(table: Loaded, tick: u32, place: usize, buffer: &mut [u8]) -> SentenceAnswer
+    requires { ⌜ Fit table × FirstMiss (loadedTable table) tick (suc place) × (tick ≤ table .horizon) × Short table ⌝ }
+    ensures { λ r. ⌜ (r ≡ byBuffer (factsAt (loadedTable table) tick place) (length (now (buffer .entry))))
+        × (now (buffer .exit) ≡ leftIn (sentenceMeaning r) (factsAt (loadedTable table) tick place) (now (buffer .entry))) ⌝ }
 {
     let facts = counting::count(table, tick, place);
     let mut text = [0u8; LONGEST];
     let length = writer::put(facts, &mut text);
     if buffer.len() < length {
-        return Spoken::Refused(18, 0);
+        return SentenceAnswer::Refused(18, 0);
     }
     let end = text::row::copy(&text, 0, length, buffer, 0);
-    Spoken::Length(end)
+    SentenceAnswer::Length(end)
 }
 
 // The sentence of a table that passed: number 17 or 18, or its first miss.
-fn by_table(table: Loaded, buffer: &mut [u8]) -> Spoken
+fn by_table(table: Loaded, buffer: &mut [u8]) -> SentenceAnswer
     requires { ⌜ Fit table × Short table ⌝ }
-    ensures { λ r. ⌜ (r ≡ byTable (tableIn table) (length (now (buffer .entry)))) × (now (buffer .exit) ≡ leftIn (spokenTold r) (factsIn (tableIn table)) (now (buffer .entry))) ⌝ }
+    ensures { λ r. ⌜ (r ≡ byTable (loadedTable table) (length (now (buffer .entry)))) × (now (buffer .exit) ≡ leftIn (sentenceMeaning r) (factsIn (loadedTable table)) (now (buffer .entry))) ⌝ }
 {
-    let missed = quick::first_miss(table, table.horizon + 1);
+    let missed = fast_judge::first_miss(table, table.horizon + 1);
     match missed {
-        Missed::Never => Spoken::Refused(17, 0),
-        Missed::At(tick, position) => say(table, tick, position as usize - 1, buffer),
+        Missed::Never => SentenceAnswer::Refused(17, 0),
+        Missed::At(tick, position) => write_miss(table, tick, position as usize - 1, buffer),
     }
 }
 
 // The first miss of the table in these words, said at the front of the buffer.
-pub fn sentence(words: &[u32], buffer: &mut [u8]) -> Spoken
+pub fn sentence(words: &[u32], buffer: &mut [u8]) -> SentenceAnswer
     ensures { λ r. ⌜ SentenceOf (now (words .entry)) (now (buffer .entry)) (now (buffer .exit)) r ⌝ }
 {
     let table = table::load(words);
     let answer = table.answer;
     match answer {
         Answer::Passed => by_table(table, buffer),
-        Answer::Refused(number, position) => Spoken::Refused(number, position),
+        Answer::Refused(number, position) => SentenceAnswer::Refused(number, position),
     }
 }

@@ -5,8 +5,8 @@ ghost use Prim.Native.Nat.{_+_, _≤_};
 ghost use lib.Dec.{eqb, leb, ltb};
 ghost use lib.ListN.{length, drop};
 ghost use Rattle.text.specs.Output.{letters};
-ghost use Rattle.sentence.specs.Unsaid.{same};
-ghost use Rattle.sentence.specs.Reading.{begins, digitsOf, NumberOf, FieldOf, PartsOf, HeadOf};
+ghost use Rattle.sentence.specs.Parsed.{same};
+ghost use Rattle.sentence.specs.Reading.{startsWith, digitsOf, NumberOf, FieldOf, PartsOf, HeadOf};
 ghost use Rattle.model.specs.Sizes.{mostTasks};
 use model::MOST_TASKS;
 
@@ -36,7 +36,7 @@ pub struct Head {
 // Whether the bytes from `at` on begin with a word.
 pub fn begins_with(bytes: &[u8], at: usize, word: &[u8]) -> bool
     requires { ⌜ at ≤ length (now bytes) ⌝ }
-    ensures { λ r. ⌜ r ≡ begins (now (word .entry)) (drop at (now (bytes .entry))) ⌝ }
+    ensures { λ r. ⌜ r ≡ startsWith (now (word .entry)) (drop at (now (bytes .entry))) ⌝ }
 {
     let mut k: usize = 0;
     while k < word.len() {

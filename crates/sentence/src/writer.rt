@@ -5,7 +5,7 @@ ghost use lib.ListN.{length};
 ghost use Rattle.text.specs.Decimal.{decimal};
 ghost use Rattle.text.specs.Written.{Put};
 ghost use Rattle.sentence.specs.Facts.{named, namedFrom, factsBy};
-ghost use Rattle.sentence.specs.Sentence.{parts, said};
+ghost use Rattle.sentence.specs.Sentence.{parts, sentenceText};
 use crate::Facts;
 use model::MOST_TASKS;
 use text::decimal;
@@ -48,8 +48,8 @@ fn put_parts(line: &mut [u8], from: usize, ran: [u64; MOST_TASKS]) -> usize
 
 // Writes the sentence at the front of a buffer that it fits in; the answer is its length.
 pub fn put(facts: Facts, line: &mut [u8]) -> usize
-    requires { ⌜ length (said (factsBy facts)) ≤ length (now line) ⌝ }
-    ensures { λ r. ⌜ Put (now (line .entry)) 0 (said (factsBy facts)) (now (line .exit)) r ⌝ }
+    requires { ⌜ length (sentenceText (factsBy facts)) ≤ length (now line) ⌝ }
+    ensures { λ r. ⌜ Put (now (line .entry)) 0 (sentenceText (factsBy facts)) (now (line .exit)) r ⌝ }
 {
     let ran = facts.ran;
     let a = put_field(line, 0, b"task ", facts.position as u64);

@@ -11,10 +11,10 @@ use lib.Seq.{take-all}
 use lib.Dec.{eqb, leb}
 use borrow.Author.Tests.{ne-eqb, leb-true, leb-false}
 use Rattle.text.specs.Format.{mostDigits, joined}
-use Rattle.text.specs.Input.{lengthTo, foundIn}
+use Rattle.text.specs.Input.{lengthTo, parseNumber}
 use Rattle.text.specs.Output.{space}
-use Rattle.text.specs.declared.line.Found.{Found}
-use Rattle.text.specs.declared.line.Found.the-variants as found
+use Rattle.text.specs.declared.line.ParsedNumber.{ParsedNumber}
+use Rattle.text.specs.declared.line.ParsedNumber.the-variants as found
 use Rattle.text.proofs.Lines.{mark-within, mark-stop}
 use Rattle.text.proofs.Numbers.{found-nothing}
 use Rattle.session.specs.declared.operations.Numbers.{Numbers}
@@ -59,10 +59,10 @@ words-some l = ⊎-elim (λ e. (l, [], words-one l e)) (λ h. (take (lengthTo sp
 -- NUMBERS
 
 -- a text with a space says no number
-spaced : (l : List ℕ) → lengthTo space l < length l → found.Nothing ≡ foundIn l
+spaced : (l : List ℕ) → lengthTo space l < length l → found.Nothing ≡ parseNumber l
 spaced l h = found-nothing l (λ n. omega (arith, mark-stop space l h, n .digits (lengthTo space l) h))
 
-two-none : (f : Found) → twoOf f found.Nothing ≡ Other
+two-none : (f : ParsedNumber) → twoOf f found.Nothing ≡ Other
 two-none (found.Value n) = refl
 two-none found.Nothing = refl
 
@@ -71,27 +71,27 @@ numbers-many : (w v l : List ℕ) → numbersOf (w ∷ v ∷ wordsIn l) ≡ Othe
 unfolding numbersOf
 numbers-many w v l = let s = words-some l in ap (λ (ls : List (List ℕ)). numbersOf (w ∷ v ∷ ls)) (s .2)
 
-numbers-last : (w l : List ℕ) → numbersOf (w ∷ wordsIn l) ≡ twoOf (foundIn w) (foundIn l)
+numbers-last : (w l : List ℕ) → numbersOf (w ∷ wordsIn l) ≡ twoOf (parseNumber w) (parseNumber l)
 unfolding numbersOf
 numbers-last w l = ⊎-elim whole part (eq-or-lt-of-le (mark-within space l))
   where
-    whole : lengthTo space l ≡ length l → numbersOf (w ∷ wordsIn l) ≡ twoOf (foundIn w) (foundIn l)
+    whole : lengthTo space l ≡ length l → numbersOf (w ∷ wordsIn l) ≡ twoOf (parseNumber w) (parseNumber l)
     whole e = ap (λ (ls : List (List ℕ)). numbersOf (w ∷ ls)) (words-one l e)
 
-    part : lengthTo space l < length l → numbersOf (w ∷ wordsIn l) ≡ twoOf (foundIn w) (foundIn l)
+    part : lengthTo space l < length l → numbersOf (w ∷ wordsIn l) ≡ twoOf (parseNumber w) (parseNumber l)
     part h =
         ap (λ (ls : List (List ℕ)). numbersOf (w ∷ ls)) (words-more l h) ∙ numbers-many w (take (lengthTo space l) l) (drop (suc (lengthTo space l)) l)
-        ∙ sym (two-none (foundIn w)) ∙ ap (twoOf (foundIn w)) (spaced l h)
+        ∙ sym (two-none (parseNumber w)) ∙ ap (twoOf (parseNumber w)) (spaced l h)
 
 -- with no space there is one number or none
-numbers-one : (l : List ℕ) → lengthTo space l ≡ length l → numbersOf (wordsIn l) ≡ oneOf (foundIn l)
+numbers-one : (l : List ℕ) → lengthTo space l ≡ length l → numbersOf (wordsIn l) ≡ oneOf (parseNumber l)
 unfolding numbersOf
 numbers-one l e = ap numbersOf (words-one l e)
 
 -- else what stands before the first space and what stands behind it are the two numbers
 numbers-two :
     (l : List ℕ) → lengthTo space l < length l
-    → numbersOf (wordsIn l) ≡ twoOf (foundIn (take (lengthTo space l) l)) (foundIn (drop (suc (lengthTo space l)) l))
+    → numbersOf (wordsIn l) ≡ twoOf (parseNumber (take (lengthTo space l) l)) (parseNumber (drop (suc (lengthTo space l)) l))
 numbers-two l h = ap numbersOf (words-more l h) ∙ numbers-last (take (lengthTo space l) l) (drop (suc (lengthTo space l)) l)
 
 -- BEHIND THE LETTER
@@ -112,18 +112,18 @@ behind-space b l e = rw e
 
 pub behind-one :
     (l : List ℕ) (end : ℕ) → (length l ≡ 0 → ⊥) → getD l 0 0 ≡ space → end ≡ 1 + lengthTo space (drop 1 l) → end ≡ length l
-    → oneOf (foundIn (take (end - 1) (drop 1 l))) ≡ numbersBehind l
+    → oneOf (parseNumber (take (end - 1) (drop 1 l))) ≡ numbersBehind l
 behind-one [] end n q e h = absurd (n refl)
 behind-one (b ∷ l) end n q e h =
     let whole : lengthTo space l ≡ length l = omega arith in
-    ap (λ (x : List ℕ). oneOf (foundIn x)) (take-all (end - 1) l (omega arith)) ∙ sym (numbers-one l whole) ∙ behind-space b l q
+    ap (λ (x : List ℕ). oneOf (parseNumber x)) (take-all (end - 1) l (omega arith)) ∙ sym (numbers-one l whole) ∙ behind-space b l q
 
 pub behind-two :
     (l : List ℕ) (end : ℕ) → (length l ≡ 0 → ⊥) → getD l 0 0 ≡ space → end ≡ 1 + lengthTo space (drop 1 l) → (end ≡ length l → ⊥)
-    → twoOf (foundIn (take (end - 1) (drop 1 l))) (foundIn (take (length l - (end + 1)) (drop (end + 1) l))) ≡ numbersBehind l
+    → twoOf (parseNumber (take (end - 1) (drop 1 l))) (parseNumber (take (length l - (end + 1)) (drop (end + 1) l))) ≡ numbersBehind l
 behind-two [] end n q e h = absurd (n refl)
 behind-two (b ∷ l) end n q e h =
-    ap₂ (λ (x y : List ℕ). twoOf (foundIn x) (foundIn y)) (ap (λ (i : ℕ). take i l) first) (ap (λ (i : ℕ). take (length (b ∷ l) - i) (drop i (b ∷ l))) second ∙ rest)
+    ap₂ (λ (x y : List ℕ). twoOf (parseNumber x) (parseNumber y)) (ap (λ (i : ℕ). take i l) first) (ap (λ (i : ℕ). take (length (b ∷ l) - i) (drop i (b ∷ l))) second ∙ rest)
     ∙ sym (numbers-two l part) ∙ behind-space b l q
   where
     part : lengthTo space l < length l
@@ -185,7 +185,7 @@ asked-by (b ∷ l) n = ap (λ (x : List ℕ). operationBy b (numbersBehind x)) (
 numbers-long : (l : List ℕ) → 2 * mostDigits + 1 < length l → numbersOf (wordsIn l) ≡ Other
 numbers-long l h = ⊎-elim whole part (eq-or-lt-of-le (mark-within space l))
   where
-    none : (w : List ℕ) → mostDigits < length w → found.Nothing ≡ foundIn w
+    none : (w : List ℕ) → mostDigits < length w → found.Nothing ≡ parseNumber w
     none w q = found-nothing w (λ n. omega (arith, q, n .short))
 
     whole : lengthTo space l ≡ length l → numbersOf (wordsIn l) ≡ Other
@@ -200,13 +200,13 @@ numbers-long l h = ⊎-elim whole part (eq-or-lt-of-le (mark-within space l))
         second : List ℕ
         second = drop (suc (lengthTo space l)) l
 
-        go : (t : Bool) → leb (lengthTo space l) mostDigits ≡ t → twoOf (foundIn first) (foundIn second) ≡ Other
+        go : (t : Bool) → leb (lengthTo space l) mostDigits ≡ t → twoOf (parseNumber first) (parseNumber second) ≡ Other
         go true e =
             let s = leb-true (lengthTo space l) mostDigits e in
-            ap (twoOf (foundIn first)) (sym (none second (omega (arith, h, s, length-drop (suc (lengthTo space l)) l)))) ∙ two-none (foundIn first)
+            ap (twoOf (parseNumber first)) (sym (none second (omega (arith, h, s, length-drop (suc (lengthTo space l)) l)))) ∙ two-none (parseNumber first)
         go false e =
             let s = leb-false (lengthTo space l) mostDigits e in
-            ap (λ (f : Found). twoOf f (foundIn second)) (sym (none first (omega (arith, q, s, length-take (lengthTo space l) l))))
+            ap (λ (f : ParsedNumber). twoOf f (parseNumber second)) (sym (none first (omega (arith, q, s, length-take (lengthTo space l) l))))
 
 by-other : (b : ℕ) → operationBy b Other ≡ Nothing
 unfolding operationBy

@@ -22,8 +22,8 @@ use Rattle.text.specs.Format.{isNumber}
 use Rattle.text.specs.Output.{letters, fields, lineOf}
 use Rattle.session.specs.declared.operations.Operation.{Operation}
 use Rattle.session.specs.declared.operations.Operation.the-variants.{Advance, Withdraw, WithdrawAll, Row, Sets, Nothing}
-use Rattle.session.specs.Operation.{wordsIn, numbersOf, numbersBehind, operationBy, operationOf, plain, answerLine, shownLine, setsLine, said, runAfter}
-use Rattle.session.specs.Talk.{nothing, lastLine, linesFrom, replies}
+use Rattle.session.specs.Operation.{wordsIn, numbersOf, numbersBehind, operationBy, operationOf, plain, answerLine, shownLine, setsLine, reply, runAfter}
+use Rattle.session.specs.Transcript.{nothing, lastLine, linesFrom, replies}
 
 -- WHAT A LINE ASKS
 
@@ -168,8 +168,8 @@ abbrev pub falling : Run
 falling = record { rule = 1; cores = 2; fence = 0; withdrawn = 0; count = 2; tasks = task 2 2 ∷ task 1 1 ∷ replicate 30 unused }
 
 -- one of them, whose even jobs are wider than its odd ones
-abbrev pub turning : Run
-turning = record { rule = 1; cores = 2; fence = 0; withdrawn = 0; count = 1; tasks = task 1 2 ∷ replicate 31 unused }
+abbrev pub alternating : Run
+alternating = record { rule = 1; cores = 2; fence = 0; withdrawn = 0; count = 1; tasks = task 1 2 ∷ replicate 31 unused }
 
 -- two of widths 2 and 1 on two cores, under rule 4
 abbrev pub lending : Run
@@ -180,58 +180,58 @@ abbrev pub none : Run
 none = record { rule = 0; cores = 0; fence = 0; withdrawn = 0; count = 0; tasks = replicate 32 unused }
 
 -- operations of a run, and what is said to them
-pub record Talk : Type 0 where
+pub record TranscriptExample : Type 0 where
   pub from : Run
   pub input : String
   pub output : String
 
-abbrev talk : Run → String → String → Talk
-talk r i o = record { from = r; input = i; output = o }
+abbrev transcript : Run → String → String → TranscriptExample
+transcript r i o = record { from = r; input = i; output = o }
 
-abbrev pub talks : List Talk
-talks =
+abbrev pub transcripts : List TranscriptExample
+transcripts =
     -- a row asked with empties shows who has the core then, and changes nothing
-    talk pair "r\nr 1\nr 2\nr 3\nr 4\nr" "row 1\nrow 2\nrow 1\nrow 0\nrefused 20 0\nrow 1\n"
+    transcript pair "r\nr 1\nr 2\nr 3\nr 4\nr" "row 1\nrow 2\nrow 1\nrow 0\nrefused 20 0\nrow 1\n"
     -- reports are the first number and empties the second
-    ∷ talk pair "a 2\na 1 1\na 2 1\nr\na 0 1\na 0\nr" "refused 16 0\nrefused 16 0\ntaken\nrow 0\nrefused 20 0\ntaken\nrow 1\n"
-    ∷ talk pair "a 1 2\nr" "taken\nrow 0\n"
-    ∷ talk pair "a 1\nr" "taken\nrow 2\n"
+    ∷ transcript pair "a 2\na 1 1\na 2 1\nr\na 0 1\na 0\nr" "refused 16 0\nrefused 16 0\ntaken\nrow 0\nrefused 20 0\ntaken\nrow 1\n"
+    ∷ transcript pair "a 1 2\nr" "taken\nrow 0\n"
+    ∷ transcript pair "a 1\nr" "taken\nrow 2\n"
     -- withdrawn in the release tick: the job is empty at once, and so is the next; an empty bit on it, and withdrawing it again, change nothing
-    ∷ talk pair "w 1\nr\nw 1\nr 1\na 1\na 2 1\nr\na 0\nr\nw 2\nr" "taken\nrow 2\ntaken\nrow 2\nrefused 16 0\ntaken\nrow 0\ntaken\nrow 2\ntaken\nrow 0\n"
+    ∷ transcript pair "w 1\nr\nw 1\nr 1\na 1\na 2 1\nr\na 0\nr\nw 2\nr" "taken\nrow 2\ntaken\nrow 2\nrefused 16 0\ntaken\nrow 0\ntaken\nrow 2\ntaken\nrow 0\n"
     -- withdrawn a tick later: the job goes on, and the next is empty
-    ∷ talk pair "a 0\nw 2\nr\na 0\na 0\nr" "taken\ntaken\nrow 2\ntaken\ntaken\nrow 0\n"
+    ∷ transcript pair "a 0\nw 2\nr\na 0\na 0\nr" "taken\ntaken\nrow 2\ntaken\ntaken\nrow 0\n"
     -- no position 0 and none past the count; what is refused changes nothing
-    ∷ talk pair "w 0\nw 3\nw 4294967295\nr" "refused 22 0\nrefused 22 0\nrefused 22 0\nrow 1\n"
-    ∷ talk falling "w 1\nw 0\nr" "refused 21 0\nrefused 21 0\nrow 1 1\n"
+    ∷ transcript pair "w 0\nw 3\nw 4294967295\nr" "refused 22 0\nrefused 22 0\nrefused 22 0\nrow 1\n"
+    ∷ transcript falling "w 1\nw 0\nr" "refused 21 0\nrefused 21 0\nrow 1 1\n"
     -- both together, in the release tick and a tick later; the empty set changes nothing, and a set with a position past the count withdraws nobody
-    ∷ talk pair "W 3\nr\nW 1\nW 0\nr\na 0\na 0\nr" "taken\nrow 0\ntaken\ntaken\nrow 0\ntaken\ntaken\nrow 0\n"
-    ∷ talk pair "a 0\nW 3\nr\na 0\na 0\nr" "taken\ntaken\nrow 2\ntaken\ntaken\nrow 0\n"
-    ∷ talk pair "W 0\nr\nW 5\nW 4294967295\nr\nw 1\nW 2\nr" "taken\nrow 1\nrefused 22 0\nrefused 22 0\nrow 1\ntaken\ntaken\nrow 0\n"
-    ∷ talk falling "W 0\nW 1\nW 4\nr" "refused 21 0\nrefused 21 0\nrefused 21 0\nrow 1 1\n"
-    ∷ talk none "a 0\nw 1\nW 0\nr\na 1 2" "refused 14 0\nrefused 14 0\nrefused 14 0\nrefused 14 0\nrefused 14 0\n"
+    ∷ transcript pair "W 3\nr\nW 1\nW 0\nr\na 0\na 0\nr" "taken\nrow 0\ntaken\ntaken\nrow 0\ntaken\ntaken\nrow 0\n"
+    ∷ transcript pair "a 0\nW 3\nr\na 0\na 0\nr" "taken\ntaken\nrow 2\ntaken\ntaken\nrow 0\n"
+    ∷ transcript pair "W 0\nr\nW 5\nW 4294967295\nr\nw 1\nW 2\nr" "taken\nrow 1\nrefused 22 0\nrefused 22 0\nrow 1\ntaken\ntaken\nrow 0\n"
+    ∷ transcript falling "W 0\nW 1\nW 4\nr" "refused 21 0\nrefused 21 0\nrefused 21 0\nrow 1 1\n"
+    ∷ transcript none "a 0\nw 1\nW 0\nr\na 1 2" "refused 14 0\nrefused 14 0\nrefused 14 0\nrefused 14 0\nrefused 14 0\n"
     -- each release turns to the other width, that of an empty job too
-    ∷ talk turning "r\na 0\nr\na 0\nr\na 0 1\na 0\nr\na 0\na 0\nr" "row 1 0\ntaken\nrow 0 0\ntaken\nrow 1 1\ntaken\ntaken\nrow 1 0\ntaken\ntaken\nrow 1 1\n"
+    ∷ transcript alternating "r\na 0\nr\na 0\nr\na 0 1\na 0\nr\na 0\na 0\nr" "row 1 0\ntaken\nrow 0 0\ntaken\nrow 1 1\ntaken\ntaken\nrow 1 0\ntaken\ntaken\nrow 1 1\n"
     -- under rule 4 an empty job lends its cores: the row shows the borrower, who may be reported; the lender may not
-    ∷ talk lending "r\nr 1\na 2\na 1 1\na 2 1\nr" "row 1 1\nrow 2 1\nrefused 16 0\nrefused 16 0\ntaken\nrow 2 0\n"
+    ∷ transcript lending "r\nr 1\na 2\na 1 1\na 2 1\nr" "row 1 1\nrow 2 1\nrefused 16 0\nrefused 16 0\ntaken\nrow 2 0\n"
     -- the same as sets: the lender keeps what it has not lent; a refusal has no sets; and nothing changes
-    ∷ talk lending "s\ns 1\ns 4\nr"
+    ∷ transcript lending "s\ns 1\ns 4\nr"
     "sets 3 0 0 0 0 0 0 0 0 0 0 0 0 0 0 0 0 0 0 0 0 0 0 0 0 0 0 0 0 0 0 0\nsets 2 1 0 0 0 0 0 0 0 0 0 0 0 0 0 0 0 0 0 0 0 0 0 0 0 0 0 0 0 0 0 0\nrefused 20 0\nrow 1 1\n"
-    ∷ talk none "s" "refused 14 0\n"
+    ∷ transcript none "s" "refused 14 0\n"
     -- after a line that is no operation nothing is said
-    ∷ talk pair "r 1 2\nr\n" "not an operation\n"
+    ∷ transcript pair "r 1 2\nr\n" "not an operation\n"
     ∷ []
 
-abbrev saying : Talk → List ℕ
-saying t = replies (t .from) (linesFrom nothing [] (letters (t .input)))
+abbrev transcriptText : TranscriptExample → List ℕ
+transcriptText t = replies (t .from) (linesFrom nothing [] (letters (t .input)))
 
-abbrev expected : Talk → List ℕ
+abbrev expected : TranscriptExample → List ℕ
 expected t = letters (t .output)
 
-each-talk : LineByLine saying talks (map expected talks)
-unfolding replies linesFrom lastLine said runAfter plain answerLine shownLine setsLine operationOf operationBy numbersBehind numbersOf wordsIn isNumber all value lineOf fields
+each-transcript : LineByLine transcriptText transcripts (map expected transcripts)
+unfolding replies linesFrom lastLine reply runAfter plain answerLine shownLine setsLine operationOf operationBy numbersBehind numbersOf wordsIn isNumber all value lineOf fields
     decimal lastDigits digitCount digitsWithin computing advanceOf advanceAnswer withdrawOf withdrawAllOf withdrawAnswer rowOf rowAnswer bytesIn setsOf setsIn pastCount runOut
     firstLateIn misemptiedIn misreportedIn grantsIn lentIn offerIn seeksIn mapFirst moved withdrawnIn
-each-talk = (refl, (refl, (refl, (refl, (refl, (refl, (refl, (refl, (refl, (refl, (refl, (refl, (refl, (refl, (refl, (refl, (refl, (refl, tt))))))))))))))))))
+each-transcript = (refl, (refl, (refl, (refl, (refl, (refl, (refl, (refl, (refl, (refl, (refl, (refl, (refl, (refl, (refl, (refl, (refl, (refl, tt))))))))))))))))))
 
-pub talks-said : map (λ t. replies (t .from) (linesFrom nothing [] (letters (t .input)))) talks ≡ map (λ t. letters (t .output)) talks
-talks-said = by-line saying talks (map expected talks) each-talk
+pub transcripts-exact : map (λ t. replies (t .from) (linesFrom nothing [] (letters (t .input)))) transcripts ≡ map (λ t. letters (t .output)) transcripts
+transcripts-exact = by-line transcriptText transcripts (map expected transcripts) each-transcript

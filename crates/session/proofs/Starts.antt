@@ -13,9 +13,9 @@ use Rattle.text.specs.Format.{mostBytes, Words, wordsOf, numbersIn}
 use Rattle.text.specs.Output.{letters}
 use Rattle.text.proofs.Exact.{long-refused}
 use Rattle.session.specs.Operation.{answerLine}
-use Rattle.session.specs.Talk.{startLine, replies, opened}
-use Rattle.session.specs.Session.{Begins}
-use Rattle.session.proofs.Talking.{tooLong, opened-long, begins-with}
+use Rattle.session.specs.Transcript.{startLine, replies, opened}
+use Rattle.session.specs.Session.{IsPrefix}
+use Rattle.session.proofs.Transcripts.{tooLong, opened-long, begins-with}
 
 -- no numbers are turned down with 1
 no-numbers : startLine [] ≡ tooLong
@@ -27,11 +27,11 @@ pub too-long-start : (table : List ℕ) → mostBytes < length table → startLi
 too-long-start table h = ap (λ (w : Words). startLine (numbersIn w)) (long-refused table h) ∙ no-numbers
 
 -- THEOREM: by either route, what is said begins with start's answer to the text
-pub opened-starts : (table : List ℕ) (ls : List (List ℕ)) → Begins (startLine (numbersIn (wordsOf table))) (opened table ls)
+pub opened-starts : (table : List ℕ) (ls : List (List ℕ)) → IsPrefix (startLine (numbersIn (wordsOf table))) (opened table ls)
 unfolding opened
 opened-starts table ls = go (leb (length table) mostBytes) refl
   where
-    go : (t : Bool) → leb (length table) mostBytes ≡ t → Begins (startLine (numbersIn (wordsOf table))) (opened table ls)
+    go : (t : Bool) → leb (length table) mostBytes ≡ t → IsPrefix (startLine (numbersIn (wordsOf table))) (opened table ls)
     go true e = rw e (replies (startOf (numbersIn (wordsOf table)) .run) ls, refl)
     go false e =
         let h = leb-false (length table) mostBytes e in

@@ -1,4 +1,4 @@
--- What is said to a table and its operations as they come: a line's operation, the whole talk, and where a session stands.
+-- What is said to a table and its operations as they come: a line's operation, the whole transcript, and where a session stands.
 pub mod Operation
-pub mod Talk
+pub mod Transcript
 pub mod Session

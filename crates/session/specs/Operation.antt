@@ -6,10 +6,10 @@ use lib.ListN.{take}
 use lib.Dec.{eqb}
 use Rattle.model.specs.Sizes.{mostTasks}
 use Rattle.text.specs.Format.{newline, mostDigits, joined}
-use Rattle.text.specs.Input.{foundIn}
+use Rattle.text.specs.Input.{parseNumber}
 use Rattle.text.specs.Output.{letters, lineOf, space}
-use Rattle.text.specs.declared.line.Found.{Found}
-use Rattle.text.specs.declared.line.Found.the-variants as found
+use Rattle.text.specs.declared.line.ParsedNumber.{ParsedNumber}
+use Rattle.text.specs.declared.line.ParsedNumber.the-variants as found
 use Rattle.run.specs.declared.Run.{Run}
 use Rattle.run.specs.declared.Answer.{Answer}
 use Rattle.run.specs.declared.Answer.the-variants.{Taken, Refused}
@@ -36,12 +36,12 @@ wordsIn [] = [] ∷ []
 wordsIn (b ∷ bs) = cond (eqb b space) ([] ∷ wordsIn bs) (joined b (wordsIn bs))
 
 -- one number, of one to ten digits, up to 4,294,967,295
-abbrev pub oneOf : Found → Numbers
+abbrev pub oneOf : ParsedNumber → Numbers
 oneOf (found.Value n) = One n
 oneOf found.Nothing = Other
 
 -- two of them
-abbrev pub twoOf : Found → Found → Numbers
+abbrev pub twoOf : ParsedNumber → ParsedNumber → Numbers
 twoOf (found.Value n) (found.Value m) = Two n m
 twoOf (found.Value n) found.Nothing = Other
 twoOf found.Nothing f = Other
@@ -49,8 +49,8 @@ twoOf found.Nothing f = Other
 -- the numbers that words say: one or two
 unfoldable pub numbersOf : List (List ℕ) → Numbers
 numbersOf [] = Other
-numbersOf (l ∷ []) = oneOf (foundIn l)
-numbersOf (l ∷ m ∷ []) = twoOf (foundIn l) (foundIn m)
+numbersOf (l ∷ []) = oneOf (parseNumber l)
+numbersOf (l ∷ m ∷ []) = twoOf (parseNumber l) (parseNumber m)
 numbersOf (l ∷ m ∷ k ∷ ls) = Other
 
 -- what stands behind the letter of a line: nothing, or numbers with one space before each; or something else
@@ -127,13 +127,13 @@ setsLine Taken sets = lineOf (letters "sets") sets
 setsLine (Refused n p) sets = lineOf (letters "refused") (n ∷ p ∷ [])
 
 -- what is said to an operation of run r
-unfoldable pub said : Operation → Run → List ℕ
-said (Advance x e) r = answerLine (letters "taken") (advanceOf r x e .answer)
-said (Withdraw p) r = answerLine (letters "taken") (withdrawOf r p .answer)
-said (WithdrawAll x) r = answerLine (letters "taken") (withdrawAllOf r x .answer)
-said (Row e) r = shownLine (r .cores) (rowOf r e .answer) (rowOf r e .bytes)
-said (Sets e) r = setsLine (setsOf r e .answer) (setsOf r e .sets)
-said Nothing r = plain (letters "not an operation")
+unfoldable pub reply : Operation → Run → List ℕ
+reply (Advance x e) r = answerLine (letters "taken") (advanceOf r x e .answer)
+reply (Withdraw p) r = answerLine (letters "taken") (withdrawOf r p .answer)
+reply (WithdrawAll x) r = answerLine (letters "taken") (withdrawAllOf r x .answer)
+reply (Row e) r = shownLine (r .cores) (rowOf r e .answer) (rowOf r e .bytes)
+reply (Sets e) r = setsLine (setsOf r e .answer) (setsOf r e .sets)
+reply Nothing r = plain (letters "not an operation")
 
 -- the run after it
 unfoldable pub runAfter : Operation → Run → Run

@@ -3,8 +3,8 @@ ghost use mathlib.Core.Path.{_≡_};
 ghost use mathlib.Core.List.{[]};
 ghost use Prim.Native.Nat.{_≤_, min};
 ghost use Rattle.session.specs.declared.Stage.the-variants.{Table, Operations};
-ghost use Rattle.session.specs.Talk.{tooMany, nothing};
-ghost use Rattle.session.specs.Session.{Said, spokenIn, stageOf, isOver, stageAfter, FedBy, FedOf, LastOf, NewOf, overWith};
+ghost use Rattle.session.specs.Transcript.{tooMany, nothing};
+ghost use Rattle.session.specs.Session.{TextWritten, transcriptIn, stageOf, isOver, stageAfter, FedBy, FedOf, LastOf, NewOf, overWith};
 
 pub mod open; // open.rt: the table, and the run that it starts
 pub mod operations; // operations.rt: what a line asks
@@ -74,7 +74,7 @@ fn stage_after(over: bool) -> Stage
 // A chunk of the table: up to the end of its first line, or as much as there is room for.
 fn feed_table(session: Session, chunk: &[u8], out: &mut [u8; REPLY]) -> Fed
     requires { ⌜ (session .from ≤ session .held) × (session .held ≤ tooMany) ⌝ }
-    ensures { λ r. ⌜ FedBy (spokenIn Table session) (now (chunk .entry)) (now (out .entry)) (now (out .exit)) r ⌝ }
+    ensures { λ r. ⌜ FedBy (transcriptIn Table session) (now (chunk .entry)) (now (out .entry)) (now (out .exit)) r ⌝ }
 {
     let mut bytes = session.bytes;
     let from = session.from;
@@ -82,7 +82,7 @@ fn feed_table(session: Session, chunk: &[u8], out: &mut [u8; REPLY]) -> Fed
     let count = text::smaller(end, TOO_MANY - session.held);
     let held = text::row::copy(chunk, 0, count, &mut bytes, session.held);
     if held == TOO_MANY {
-        let length = replies::say_refused(1, 0, out);
+        let length = replies::write_refused(1, 0, out);
         return over(session, chunk.len(), length);
     }
     let run = session.run;
@@ -133,10 +133,10 @@ fn feed_table(session: Session, chunk: &[u8], out: &mut [u8; REPLY]) -> Fed
 // A chunk of the operations: up to the end of its first line; a line longer than any operation is none.
 fn feed_operations(session: Session, chunk: &[u8], out: &mut [u8; REPLY]) -> Fed
     requires { ⌜ session .held ≤ tooMany ⌝ }
-    ensures { λ r. ⌜ FedBy (spokenIn Operations session) (now (chunk .entry)) (now (out .entry)) (now (out .exit)) r ⌝ }
+    ensures { λ r. ⌜ FedBy (transcriptIn Operations session) (now (chunk .entry)) (now (out .entry)) (now (out .exit)) r ⌝ }
 {
     if NONE_LONG <= session.held {
-        let length = replies::say_word(b"not an operation", out);
+        let length = replies::write_word(b"not an operation", out);
         return over(session, chunk.len(), length);
     }
     let mut bytes = session.bytes;
@@ -144,7 +144,7 @@ fn feed_operations(session: Session, chunk: &[u8], out: &mut [u8; REPLY]) -> Fed
     let count = text::smaller(end, NONE_LONG - session.held);
     let held = text::row::copy(chunk, 0, count, &mut bytes, session.held);
     if held == NONE_LONG {
-        let length = replies::say_word(b"not an operation", out);
+        let length = replies::write_word(b"not an operation", out);
         return over(session, chunk.len(), length);
     }
     let run = session.run;
@@ -161,7 +161,7 @@ fn feed_operations(session: Session, chunk: &[u8], out: &mut [u8; REPLY]) -> Fed
             length: 0,
         };
     }
-    let reply = replies::answer(run, operations::asked(&bytes[..held]), out);
+    let reply = replies::answer(run, operations::operation_of(&bytes[..held]), out);
     if reply.last {
         return over(session, chunk.len(), reply.length);
     }
@@ -182,7 +182,7 @@ fn feed_operations(session: Session, chunk: &[u8], out: &mut [u8; REPLY]) -> Fed
 // The end of the input in the table: what is said to it.
 fn end_table(session: Session, out: &mut [u8; REPLY]) -> usize
     requires { ⌜ (session .from ≤ session .held) × (session .held ≤ tooMany) ⌝ }
-    ensures { λ r. ⌜ Said (spokenIn Table session nothing []) (now (out .entry)) (now (out .exit)) r ⌝ }
+    ensures { λ r. ⌜ TextWritten (transcriptIn Table session nothing []) (now (out .entry)) (now (out .exit)) r ⌝ }
 {
     let bytes = session.bytes;
     let from = session.from;
@@ -195,7 +195,7 @@ fn end_table(session: Session, out: &mut [u8; REPLY]) -> usize
 // The end of the input in the operations: what is said to a last line that lacks its newline.
 fn end_operations(session: Session, out: &mut [u8; REPLY]) -> usize
     requires { ⌜ session .held ≤ tooMany ⌝ }
-    ensures { λ r. ⌜ Said (spokenIn Operations session nothing []) (now (out .entry)) (now (out .exit)) r ⌝ }
+    ensures { λ r. ⌜ TextWritten (transcriptIn Operations session nothing []) (now (out .entry)) (now (out .exit)) r ⌝ }
 {
     let bytes = session.bytes;
     let held = session.held;
@@ -203,7 +203,7 @@ fn end_operations(session: Session, out: &mut [u8; REPLY]) -> usize
         return 0;
     }
     let run = session.run;
-    let reply = replies::answer(run, operations::asked(&bytes[..held]), out);
+    let reply = replies::answer(run, operations::operation_of(&bytes[..held]), out);
     reply.length
 }
 

@@ -1,7 +1,7 @@
 // What a line asks of the run.
 ghost use mathlib.Core.Path.{_≡_};
 ghost use Rattle.session.specs.Operation.{operationOf, numbersBehind, oneOf, twoOf, advanceBy, rowBy, setsBy, withdrawBy, withdrawAllBy};
-use text::line::Found;
+use text::line::ParsedNumber;
 
 // An advance with its reports and its empties, a position withdrawn, the positions of a set withdrawn together, a row asked with empties, one asked as
 // sets, or nothing that a run can do.
@@ -23,25 +23,25 @@ pub enum Numbers {
 }
 
 // The number that is found.
-fn one(found: Found) -> Numbers
+fn one(found: ParsedNumber) -> Numbers
     ensures { λ r. ⌜ r ≡ oneOf found ⌝ }
 {
     match found {
-        Found::Value(number) => Numbers::One(number),
-        Found::Nothing => Numbers::Other,
+        ParsedNumber::Value(number) => Numbers::One(number),
+        ParsedNumber::Nothing => Numbers::Other,
     }
 }
 
 // The two numbers that are found.
-fn two(first: Found, second: Found) -> Numbers
+fn two(first: ParsedNumber, second: ParsedNumber) -> Numbers
     ensures { λ r. ⌜ r ≡ twoOf first second ⌝ }
 {
     match first {
-        Found::Value(number) => match second {
-            Found::Value(other) => Numbers::Two(number, other),
-            Found::Nothing => Numbers::Other,
+        ParsedNumber::Value(number) => match second {
+            ParsedNumber::Value(other) => Numbers::Two(number, other),
+            ParsedNumber::Nothing => Numbers::Other,
         },
-        Found::Nothing => Numbers::Other,
+        ParsedNumber::Nothing => Numbers::Other,
     }
 }
 
@@ -125,7 +125,7 @@ fn withdraw_all_by(numbers: Numbers) -> Operation
 }
 
 // The operation of a line: `a REPORTS EMPTIES`, `r EMPTIES`, `s EMPTIES`, `w POSITION`, `W SET`, or none.
-pub fn asked(line: &[u8]) -> Operation
+pub fn operation_of(line: &[u8]) -> Operation
     ensures { λ r. ⌜ r ≡ operationOf (now (line .entry)) ⌝ }
 {
     let count = line.len();

@@ -50,7 +50,7 @@ fn answer() -> Outcome
     let mut bytes = [0u8; ENOUGH];
     let reading = stream::fill(&mut bytes, 0);
     if reading.failed {
-        stream::say_unread(b"sivorandra");
+        stream::report_unread(b"sivorandra");
         let sent = Sent {
             count: 0,
             whole: true,

@@ -10,7 +10,7 @@ use lib.Seq.{take-take}
 use borrow.Rule.Slice.PartMut.{putMid, take-put}
 use Rattle.stream.specs.declared.Reading.{Reading}
 use Rattle.stream.specs.declared.Sent.{Sent}
-use Rattle.stream.specs.Reading.{Behind}
+use Rattle.stream.specs.Reading.{ReadAfter}
 use Rattle.stream.specs.Sent.{counted, SentOf}
 
 -- READING
@@ -18,13 +18,13 @@ use Rattle.stream.specs.Sent.{counted, SentOf}
 -- what stands before the part that is lent to a read is as it was
 pub part-behind :
     (held : ℕ) (before part : List ℕ) (r : Reading) → held ≤ length before → length (putMid held (length before - held) before part) ≡ length before
-    → held ≤ r .held → r .held ≤ length before → Behind held before (putMid held (length before - held) before part) r
+    → held ≤ r .held → r .held ≤ length before → ReadAfter held before (putMid held (length before - held) before part) r
 part-behind held before part r h same least most =
     record { kept = take-put held (length before - held) before part h; same = same; least = least; most = most }
 
 -- a read behind what others brought
 pub behind-on :
-    {held : ℕ} {before middle after : List ℕ} {r s : Reading} → Behind held before middle r → Behind (r .held) middle after s → Behind held before after s
+    {held : ℕ} {before middle after : List ℕ} {r s : Reading} → ReadAfter held before middle r → ReadAfter (r .held) middle after s → ReadAfter held before after s
 behind-on {held} {before} {middle} {after} {r} {s} p q = record {
   kept =
       sym (take-take held (r .held) after (p .least)) ∙ ap (take held) (q .kept) ∙ take-take held (r .held) middle (p .least) ∙ p .kept;

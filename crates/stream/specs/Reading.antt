@@ -8,18 +8,18 @@ use lib.ListN.{length, take}
 use Rattle.stream.specs.declared.Reading.{Reading}
 
 -- behind the first `held` bytes of a buffer more was read: those are as they were, and the buffer holds at most what it has room for
-pub record Behind (held : ℕ) (before after : List ℕ) (r : Reading) : Type 0 where
+pub record ReadAfter (held : ℕ) (before after : List ℕ) (r : Reading) : Type 0 where
   pub kept : take held after ≡ take held before
   pub same : length after ≡ length before
   pub least : held ≤ r .held
   pub most : r .held ≤ length before
 
 -- one read: it brought bytes, or it said that the input has ended, or it failed
-pub record ReadOf (held : ℕ) (before after : List ℕ) (r : Reading) : Type 0 where
-  pub behind : Behind held before after r
+pub record ReadOnceOf (held : ℕ) (before after : List ℕ) (r : Reading) : Type 0 where
+  pub behind : ReadAfter held before after r
   pub more : r .ended ≡ false → r .failed ≡ false → held < r .held
 
 -- reading on: until the buffer is full, or a read said that the input has ended, or one failed
 pub record FilledOf (held : ℕ) (before after : List ℕ) (r : Reading) : Type 0 where
-  pub behind : Behind held before after r
+  pub behind : ReadAfter held before after r
   pub full : r .ended ≡ false → r .failed ≡ false → r .held ≡ length before

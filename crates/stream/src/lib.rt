@@ -2,7 +2,7 @@
 ghost use mathlib.Core.Path.{_≡_};
 ghost use Prim.Native.Nat.{_+_, _≤_};
 ghost use lib.ListN.{length};
-ghost use Rattle.stream.specs.Reading.{ReadOf, FilledOf};
+ghost use Rattle.stream.specs.Reading.{ReadOnceOf, FilledOf};
 ghost use Rattle.stream.specs.Sent.{counted, unreadBy, SentOf};
 use libc::STDERR_FILENO;
 use libc::STDIN_FILENO;
@@ -24,7 +24,7 @@ pub struct Sent {
 // Reads once, behind the bytes that the buffer holds.
 pub fn read(buffer: &mut [u8], held: usize) -> Reading
     requires { ⌜ held ≤ length (now buffer) ⌝ }
-    ensures { λ r. ⌜ ReadOf held (now (buffer .entry)) (now (buffer .exit)) r ⌝ }
+    ensures { λ r. ⌜ ReadOnceOf held (now (buffer .entry)) (now (buffer .exit)) r ⌝ }
 {
     let got = libc::read(STDIN_FILENO, &mut buffer[held..]);
     if got < 0 {
@@ -75,7 +75,7 @@ fn add(count: usize, more: usize) -> usize
 }
 
 // Hands bytes to writes on `out` until all are taken or a write takes none, after `count` bytes that were taken before.
-fn hand(out: i32, count: usize, bytes: &[u8]) -> Sent
+fn write_all(out: i32, count: usize, bytes: &[u8]) -> Sent
     ensures { λ r. ⌜ SentOf count (now (bytes .entry)) r ⌝ }
 {
     let mut at: usize = 0;
@@ -100,16 +100,16 @@ fn hand(out: i32, count: usize, bytes: &[u8]) -> Sent
 pub fn send(count: usize, bytes: &[u8]) -> Sent
     ensures { λ r. ⌜ SentOf count (now (bytes .entry)) r ⌝ }
 {
-    hand(STDOUT_FILENO, count, bytes)
+    write_all(STDOUT_FILENO, count, bytes)
 }
 
 // Says on standard error that a program could not read its input; the answer is how much of it writes took.
-pub fn say_unread(name: &[u8]) -> Sent
+pub fn report_unread(name: &[u8]) -> Sent
     ensures { λ r. ⌜ SentOf 0 (unreadBy (now (name .entry))) r ⌝ }
 {
-    let sent = hand(STDERR_FILENO, 0, name);
+    let sent = write_all(STDERR_FILENO, 0, name);
     if sent.whole {
-        return hand(
+        return write_all(
             STDERR_FILENO,
             sent.count,
             b": standard input could not be read\n",

@@ -4,7 +4,7 @@ use mathlib.Core.List.{List, [], _∷_, map, _++_}
 use Prim.Native.Nat.{ℕ, zero, suc, _+_, _-_, _*_, _/_, _^_}
 use Prim.Native.String.{String}
 use lib.ListN.{length, drop, replicate}
-use Rattle.model.specs.Search.{any, kept, least, upFrom}
+use Rattle.model.specs.Search.{any, filtered, least, upFrom}
 use Rattle.model.specs.Task.{Task, Table, cycle, greedy}
 use Rattle.model.specs.Horizon.{S, lastS, lcm, hyperperiod, horizon, releaseFrom}
 use Rattle.model.proofs.LineByLine.{LineByLine, by-line}
@@ -14,8 +14,8 @@ use Rattle.table.specs.declared.Answer.the-variants.{Passed}
 use Rattle.table.specs.declared.Loaded.{Loaded}
 use Rattle.table.specs.Words.{met, count, chain, tableOf}
 use Rattle.table.specs.Answer.{headerNumber, lastStep, endingOf, firstOut, byHorizon, byTasks, byWalk, answerOf}
-use Rattle.table.specs.Load.{places, refusal, loadOf}
-use Rattle.table.specs.Bare.{bared}
+use Rattle.table.specs.Load.{codeTasks, refusal, loadOf}
+use Rattle.table.specs.UnfencedWords.{unfencedWords}
 
 -- a line: its name, the words of a table, and what `load` gives of them
 pub record Line : Type 0 where
@@ -39,7 +39,7 @@ passes s start period horizon =
       cores = s .cores;
       fence = s .fence;
       rule = 1;
-      tasks = places (s .tasks);
+      tasks = codeTasks (s .tasks);
       start = start;
       period = period;
       horizon = horizon;
@@ -242,17 +242,17 @@ unfolding S
 largest-S = refl
 
 -- the words with just the unfenced cores: three of five, and core 32 of 33
-pub bare-words : bared (fenced 1 5 1 9 0 ++ entry 0 0 3 1 1 1) ≡ header 1 3 1 ++ entry 0 0 3 1 1 1
-unfolding bared kept upFrom
-bare-words = refl
+pub unfenced-words : unfencedWords (fenced 1 5 1 9 0 ++ entry 0 0 3 1 1 1) ≡ header 1 3 1 ++ entry 0 0 3 1 1 1
+unfolding unfencedWords filtered upFrom
+unfenced-words = refl
 
-pub bare-last : bared (fenced 1 33 2 4294967295 0 ++ entry 0 0 1 1 1 1) ≡ header 1 1 2 ++ entry 0 0 1 1 1 1
-unfolding bared kept upFrom
-bare-last = refl
+pub unfenced-last : unfencedWords (fenced 1 33 2 4294967295 0 ++ entry 0 0 1 1 1 1) ≡ header 1 1 2 ++ entry 0 0 1 1 1 1
+unfolding unfencedWords filtered upFrom
+unfenced-last = refl
 
 -- every line is what the definitions say, line by line
 computed : LineByLine worked lines lines
-unfolding chained kept loadOf answerOf byWalk byTasks byHorizon firstOut endingOf lastStep headerNumber tableOf chain count met horizon S hyperperiod lcm least any upFrom
+unfolding chained filtered loadOf answerOf byWalk byTasks byHorizon firstOut endingOf lastStep headerNumber tableOf chain count met horizon S hyperperiod lcm least any upFrom
 computed =
     let past-47 : LineByLine worked (drop 47 lines) (drop 47 lines) =
     (refl, (refl, (refl, (refl, (refl, (refl, (refl, (refl, (refl, (refl, (refl, (refl, (refl, (refl, (refl, (refl, (refl, (refl, (refl, tt))))))))))))))))))) in

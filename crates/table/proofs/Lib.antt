@@ -12,11 +12,11 @@ pub mod Exact
 pub mod Starts
 pub mod Gcd
 pub mod Hyperperiods
-pub mod HeaderFine
+pub mod HeaderPasses
 pub mod Inside
 pub mod Walking
 pub mod Loads
 pub mod Passed
 pub mod Promise
 pub mod OffChain
-pub mod Bare
+pub mod UnfencedWords

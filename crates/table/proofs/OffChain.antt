@@ -8,14 +8,14 @@ use lib.Dec.{eqb, ltb}
 use lib.ListN.{length}
 use lib.Seq.{ext-getD}
 use borrow.Author.Tests.{eqb-true, eqb-false}
-use Rattle.model.specs.Task.{Table, nobody, ruleOf}
+use Rattle.model.specs.Task.{Table, absentTask, ruleOf}
 use Rattle.model.proofs.Bools.{not-true-false}
 use Rattle.model.proofs.Search.{any-same}
 use Rattle.table.specs.declared.Answer.the-variants.{Passed}
 use Rattle.table.specs.declared.Loaded.{Loaded}
 use Rattle.table.specs.declared.chain.Ending.the-variants.{Past, Again, Whole}
-use Rattle.table.specs.Words.{headerWords, recordWords, cores, rule, fenceOf, records, field, next, met, count, taskOfRecord, tableOf}
-use Rattle.table.specs.Limits.{From}
+use Rattle.table.specs.Words.{headerWords, recordWords, coreCount, rule, fenceOf, records, field, next, met, count, taskOfRecord, tableOf}
+use Rattle.table.specs.Limits.{InRange}
 use Rattle.table.specs.Numbers.{EndAt, Reaches}
 use Rattle.table.specs.Answer.{headerNumber, pastAt, againAt, stopsAt, lastStep, endingOf, byTasks, answerOf}
 use Rattle.table.specs.Load.{passing, refusal, loadedBy, loadOf}
@@ -52,7 +52,7 @@ module _ (ws us : List ℕ) (s : SameOnChain ws us) where
   reaches-down : (j k : ℕ) → j ≤ k → Reaches ws k → Reaches ws j
   reaches-down j k l c i h = c i (omega arith)
 
-  record-met : (k : ℕ) → Reaches ws (suc k) → From 1 (records ws) (met ws k)
+  record-met : (k : ℕ) → Reaches ws (suc k) → InRange 1 (records ws) (met ws k)
   record-met k c =
       let a = c k (omega arith) .0 in
       let b = c k (omega arith) .1 in
@@ -127,7 +127,7 @@ module _ (ws us : List ℕ) (s : SameOnChain ws us) where
         let m = table-length ws in
         let n = table-length us in
         let e = same-count in
-        ext-getD nobody (tableOf ws .tasks) (tableOf us .tasks) (omega arith)
+        ext-getD absentTask (tableOf ws .tasks) (tableOf us .tasks) (omega arith)
         (λ k l. table-at ws k (omega arith) ∙ same-record k (omega arith) ∙ sym (table-at us k (omega arith)))
 
     same-table : tableOf ws ≡ tableOf us

@@ -10,19 +10,19 @@ use Rattle.table.specs.declared.Loaded.{Loaded}
 use Rattle.table.specs.Words.{word, tableOf}
 use Rattle.table.specs.Numbers.{NoneApplies}
 use Rattle.table.specs.Answer.{answerOf}
-use Rattle.table.specs.Load.{passing, refusal, loadedBy, loadOf, Holds, loadTold, LoadOf}
+use Rattle.table.specs.Load.{passing, refusal, loadedBy, loadOf, Holds, loadMeaning, LoadOf}
 use Rattle.table.proofs.Exact.{refusal-exact, passed-exact}
 use Rattle.table.proofs.Passed.{passed-count, passed-horizon}
 use Rattle.table.proofs.Loads.{places-tasks, places-past}
 
 -- what is told of an answer determines it
-pub told-passed : (a : Answer) → loadTold a ≡ book.taken → a ≡ Passed
-told-passed Passed e = refl
-told-passed (Refused n p) e = absurd (let z : _≡_ {A = ℕ} 0 1 = cc in omega arith)
+pub meaning-passed : (a : Answer) → loadMeaning a ≡ book.taken → a ≡ Passed
+meaning-passed Passed e = refl
+meaning-passed (Refused n p) e = absurd (let z : _≡_ {A = ℕ} 0 1 = cc in omega arith)
 
-pub told-refused : (a : Answer) (n p : ℕ) → loadTold a ≡ book.refused n p → a ≡ Refused n p
-told-refused Passed n p e = absurd (let z : _≡_ {A = ℕ} 0 1 = cc in omega arith)
-told-refused (Refused m q) n p e = cc
+pub meaning-refused : (a : Answer) (n p : ℕ) → loadMeaning a ≡ book.refused n p → a ≡ Refused n p
+meaning-refused Passed n p e = absurd (let z : _≡_ {A = ℕ} 0 1 = cc in omega arith)
+meaning-refused (Refused m q) n p e = cc
 
 loaded-answer : (a : Answer) (l : Loaded) → l .answer ≡ Passed → loadedBy a l .answer ≡ a
 loaded-answer Passed l e = e
@@ -61,12 +61,12 @@ load-passing ws e = rw e
 pub promise : (ws : List ℕ) (r : Loaded) → r ≡ loadOf ws → LoadOf ws r
 promise ws r e =
     let says : r .answer ≡ answerOf ws = ap (λ (l : Loaded). l .answer) e ∙ load-answer ws in
-    let passes : loadTold (r .answer) ≡ book.taken → answerOf ws ≡ Passed = λ q. sym says ∙ told-passed (r .answer) q in
-    let refuses : (n p : ℕ) → loadTold (r .answer) ≡ book.refused n p → answerOf ws ≡ Refused n p = λ n p q. sym says ∙ told-refused (r .answer) n p q in
+    let passes : loadMeaning (r .answer) ≡ book.taken → answerOf ws ≡ Passed = λ q. sym says ∙ meaning-passed (r .answer) q in
+    let refuses : (n p : ℕ) → loadMeaning (r .answer) ≡ book.refused n p → answerOf ws ≡ Refused n p = λ n p q. sym says ∙ meaning-refused (r .answer) n p q in
     record {
       value = e;
-      refused = λ n p. (λ q. refusal-exact ws n p .0 (refuses n p q), λ f. ap loadTold (says ∙ refusal-exact ws n p .1 f));
-      passed = (λ q. passed-exact ws .0 (passes q), λ none. ap loadTold (says ∙ passed-exact ws .1 none));
+      refused = λ n p. (λ q. refusal-exact ws n p .0 (refuses n p q), λ f. ap loadMeaning (says ∙ refusal-exact ws n p .1 f));
+      passed = (λ q. passed-exact ws .0 (passes q), λ none. ap loadMeaning (says ∙ passed-exact ws .1 none));
       zeros = λ n p q. e ∙ load-zeros ws n p (refuses n p q);
       holds = λ q. subst (Holds ws) (sym (e ∙ load-passing ws (passes q))) (passing-holds ws (passed-exact ws .0 (passes q)));
     }

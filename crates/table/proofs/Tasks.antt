@@ -6,7 +6,7 @@ use native.Mathlib.Omega.{arith}
 use native.Mathlib.Nat.{zero-add}
 use lib.ListN.{length, getD, length-map}
 use Rattle.model.specs.Search.{upFrom}
-use Rattle.model.specs.Task.{nobody}
+use Rattle.model.specs.Task.{absentTask}
 use Rattle.model.proofs.Lists.{up-length, up-at, map-at}
 use Rattle.table.specs.Words.{met, count, chain, taskOfRecord, tableOf}
 
@@ -26,8 +26,8 @@ unfolding tableOf
 table-length ws = length-map (chain ws) (taskOfRecord ws) ∙ chain-length ws
 
 -- and at each place the task of the record met there
-pub table-at : (ws : List ℕ) (k : ℕ) → k < count ws → getD (tableOf ws .tasks) k nobody ≡ taskOfRecord ws (met ws k)
+pub table-at : (ws : List ℕ) (k : ℕ) → k < count ws → getD (tableOf ws .tasks) k absentTask ≡ taskOfRecord ws (met ws k)
 unfolding tableOf
 table-at ws k l =
     let n : length (chain ws) ≡ count ws = chain-length ws in
-    map-at (taskOfRecord ws) (chain ws) k nobody 0 (omega arith) ∙ ap (taskOfRecord ws) (chain-at ws k 0 l)
+    map-at (taskOfRecord ws) (chain ws) k absentTask 0 (omega arith) ∙ ap (taskOfRecord ws) (chain-at ws k 0 l)

@@ -15,17 +15,17 @@ use Rattle.model.specs.Search.{bit}
 use Rattle.model.specs.Task.{Task}
 use Rattle.model.specs.Sizes.{mostCores, mostTasks}
 use Rattle.table.specs.Words.{headerWords, recordWords, records, met}
-use Rattle.table.specs.Limits.{From, from, CoresOut, coresOut, RuleOut, ruleOut, FenceOut, fenceOut, OneOut, oneOut, WidthOut, widthOut, TimesOut, timesOut, taskOut, mostTime}
+use Rattle.table.specs.Limits.{InRange, inRange, CoresOut, coresOut, RuleOut, ruleOut, FenceOut, fenceOut, OneOut, oneOut, WidthOut, widthOut, TimesOut, timesOut, taskOut, mostTime}
 use Rattle.table.specs.Numbers.{WordsOut, EndAt, PastAt, AgainAt}
 use Rattle.table.specs.Answer.{wordsOut, pastAt, againAt, stopsAt}
 use Rattle.model.proofs.Digits.{bit-zero, bit-suc, bit-past, odd-half, below-pow, lowest-of}
 use Rattle.table.proofs.Decide.{Decides, decides-le, decides-lt, decides-eq, decides-not, decides-and, decides-or, decides-any}
 
-pub from-decides : (a b x : ℕ) → Decides (from a b x) (From a b x)
+pub from-decides : (a b x : ℕ) → Decides (inRange a b x) (InRange a b x)
 from-decides a b x = decides-and (leb a x) (leb x b) (a ≤ x) (x ≤ b) (decides-le a x) (decides-le x b)
 
-out-decides : (a b x : ℕ) → Decides (not (from a b x)) (¬ From a b x)
-out-decides a b x = decides-not (from a b x) (From a b x) (from-decides a b x)
+out-decides : (a b x : ℕ) → Decides (not (inRange a b x)) (¬ InRange a b x)
+out-decides a b x = decides-not (inRange a b x) (InRange a b x) (from-decides a b x)
 
 pub words-decides : (ws : List ℕ) → Decides (wordsOut ws) (WordsOut ws)
 words-decides ws =
@@ -65,7 +65,7 @@ some-past (suc m) f h =
     (suc (x .0), omega (arith, x .1), bit-suc f (x .0) ∙ x .2)
 
 pub fence-decides : (m f : ℕ) → Decides (fenceOut m f) (FenceOut m f)
-fence-decides m f = (λ e. to (leb-true (2 ^ m - 1) f e), λ x. le-leb (2 ^ m - 1) f (from x))
+fence-decides m f = (λ e. to (leb-true (2 ^ m - 1) f e), λ x. le-leb (2 ^ m - 1) f (inRange x))
   where
     to : 2 ^ m - 1 ≤ f → FenceOut m f
     to l = ⊎-elim
@@ -73,13 +73,13 @@ fence-decides m f = (λ e. to (leb-true (2 ^ m - 1) f e), λ x. le-leb (2 ^ m - 
         (λ (g : 2 ^ m - 1 < f). inl (some-past m f (omega arith)))
         (eq-or-lt-of-le l)
 
-    from : FenceOut m f → 2 ^ m - 1 ≤ f
-    from (inl (c, l, e)) = go (ltb f (2 ^ m)) refl
+    inRange : FenceOut m f → 2 ^ m - 1 ≤ f
+    inRange (inl (c, l, e)) = go (ltb f (2 ^ m)) refl
       where
         go : (t : Bool) → ltb f (2 ^ m) ≡ t → 2 ^ m - 1 ≤ f
         go true b = absurd (true≢false (sym e ∙ bit-past m f c (ltb-true f (2 ^ m) b) l))
         go false b = omega (arith, ltb-false f (2 ^ m) b)
-    from (inr h) = all-there m f h
+    inRange (inr h) = all-there m f h
 
 one-decides : (m v : ℕ) → Decides (oneOut m v) (OneOut m v)
 one-decides m v = decides-or _ _ _ _ (decides-eq v 0) (decides-lt m v)

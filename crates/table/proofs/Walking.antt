@@ -20,7 +20,7 @@ use Rattle.table.specs.Task.{noTask}
 use Rattle.table.specs.Words.{head, records, next, met, count, chain, taskOfRecord, tableOf}
 use Rattle.table.specs.Numbers.{EndAt, AgainAt, Reaches}
 use Rattle.table.specs.Answer.{pastAt, againAt, stopsAt, endingOf}
-use Rattle.table.specs.Load.{placed, places, WalkOf}
+use Rattle.table.specs.Load.{codeTask, codeTasks, WalkOf}
 use Rattle.table.proofs.Decide.{fails}
 use Rattle.table.proofs.Tests.{past-decides, again-decides, stops-decides}
 use Rattle.table.proofs.Tasks.{table-length}
@@ -28,7 +28,7 @@ use Rattle.table.proofs.Walk.{reaches-more, reaches-short, stops-there,
 
 -- the task that the walk meets at step j, as code keeps it
 abbrev metTask : List ℕ → ℕ → Task
-metTask ws j = placed (taskOfRecord ws (met ws j))
+metTask ws j = codeTask (taskOfRecord ws (met ws j))
 
 -- 32 places, of which the first k hold the tasks met
 abbrev pub placesTo : List ℕ → ℕ → List Task
@@ -53,11 +53,11 @@ walking-none ws = record {
 }
 
 -- where the chain ends, these are all its tasks
-places-all : (ws : List ℕ) → placesTo ws (count ws) ≡ places (tableOf ws .tasks)
+places-all : (ws : List ℕ) → placesTo ws (count ws) ≡ codeTasks (tableOf ws .tasks)
 unfolding tableOf chain
 places-all ws =
     let n = table-length ws in
-    rw (n, map-map placed (taskOfRecord ws) (map (met ws) (upFrom 0 (count ws))), map-map (λ n. placed (taskOfRecord ws n)) (met ws) (upFrom 0 (count ws)))
+    rw (n, map-map codeTask (taskOfRecord ws) (map (met ws) (upFrom 0 (count ws))), map-map (λ n. codeTask (taskOfRecord ws n)) (met ws) (upFrom 0 (count ws)))
 
 past-not-whole : Past ≡ Whole → ⊥
 past-not-whole e = let z : _≡_ {A = ℕ} 0 1 = cc in omega arith
@@ -86,7 +86,7 @@ module _ (ws : List ℕ) (tasks : List Task) (seen : List Bool) (k at : ℕ) (w 
       pub walking-room : k < records ws
       walking-room = reaches-short ws (suc k) goes
 
-      tasked-more : set tasks k (placed (taskOfRecord ws at)) ≡ placesTo ws (suc k)
+      tasked-more : set tasks k (codeTask (taskOfRecord ws at)) ≡ placesTo ws (suc k)
       tasked-more =
           let room = walking-room in
           let left : mostTasks - k ≡ suc (mostTasks - suc k) = omega arith in
@@ -94,9 +94,9 @@ module _ (ws : List ℕ) (tasks : List Task) (seen : List Bool) (k at : ℕ) (w 
           let before : tasks ≡ map (metTask ws) (upFrom 0 k) ++ replicate (suc (mostTasks - suc k)) noTask = w .tasked ∙ ap (λ (m : ℕ). map (metTask ws) (upFrom 0 k) ++ replicate m noTask) left in
           let more : map (metTask ws) (upFrom 0 (suc k)) ≡ map (metTask ws) (upFrom 0 k) ++ (metTask ws k ∷ []) =
           ap (map (metTask ws)) (up-more 0 k) ∙ map-more (metTask ws) (upFrom 0 k) (0 + k) ∙ ap (λ (m : ℕ). map (metTask ws) (upFrom 0 k) ++ (metTask ws m ∷ [])) (zero-add k) in
-          ap (λ (ts : List Task). set ts k (placed (taskOfRecord ws at))) before
-          ∙ set-at (map (metTask ws) (upFrom 0 k)) noTask (replicate (mostTasks - suc k) noTask) (placed (taskOfRecord ws at)) k long
-          ∙ ap (λ (n : ℕ). map (metTask ws) (upFrom 0 k) ++ (placed (taskOfRecord ws n) ∷ replicate (mostTasks - suc k) noTask)) (w .here)
+          ap (λ (ts : List Task). set ts k (codeTask (taskOfRecord ws at))) before
+          ∙ set-at (map (metTask ws) (upFrom 0 k)) noTask (replicate (mostTasks - suc k) noTask) (codeTask (taskOfRecord ws at)) k long
+          ∙ ap (λ (n : ℕ). map (metTask ws) (upFrom 0 k) ++ (codeTask (taskOfRecord ws n) ∷ replicate (mostTasks - suc k) noTask)) (w .here)
           ∙ sym (append-assoc (map (metTask ws) (upFrom 0 k)) (metTask ws k ∷ []) (replicate (mostTasks - suc k) noTask))
           ∙ ap (λ (ts : List Task). ts ++ replicate (mostTasks - suc k) noTask) (sym more)
 
@@ -123,7 +123,7 @@ module _ (ws : List ℕ) (tasks : List Task) (seen : List Bool) (k at : ℕ) (w 
               ∙ sym (ap (λ (b : Bool). any k (λ j. eqb (met ws j) (suc n)) || b) (ne-eqb (met ws k) (suc n) s) ∙ or-false (any k (λ j. eqb (met ws j) (suc n))))
 
       -- one step on
-      pub walking-more : Walking ws (set tasks k (placed (taskOfRecord ws at))) (set seen (at - 1) true) (suc k) (next ws at)
+      pub walking-more : Walking ws (set tasks k (codeTask (taskOfRecord ws at))) (set seen (at - 1) true) (suc k) (next ws at)
       unfolding met
       walking-more = record {
         reached = goes;

@@ -6,11 +6,11 @@ use Prim.Native.Nat.{ℕ, suc, _-_, _%_}
 use lib.ListN.{length, getD}
 use lib.Dec.{eqb, ltb}
 use Rattle.model.specs.Search.{any, least}
-use Rattle.model.specs.Task.{Task, Table, task, nobody}
-use Rattle.model.specs.Fence.{openCount}
+use Rattle.model.specs.Task.{Task, Table, task, absentTask}
+use Rattle.model.specs.Fence.{unfencedCount}
 use Rattle.model.specs.Horizon.{horizon}
 use Rattle.model.specs.Sizes.{mostTasks}
-use Rattle.table.specs.Words.{headerWords, recordWords, head, cores, rule, fence, records, met, tableOf}
+use Rattle.table.specs.Words.{headerWords, recordWords, head, coreCount, rule, fence, records, met, tableOf}
 use Rattle.table.specs.Limits.{coresOut, ruleOut, fenceOut, taskNumber, taskOut, horizonOut}
 use Rattle.table.specs.declared.chain.Ending.{Ending}
 use Rattle.table.specs.declared.chain.Ending.the-variants.{Past, Again, Whole}
@@ -25,9 +25,9 @@ wordsOut ws = ltb (length ws) headerWords || (not (eqb ((length ws - headerWords
 unfoldable pub headerNumber : List ℕ → ℕ
 headerNumber ws =
     cond (wordsOut ws) 1
-    (cond (coresOut (cores ws)) 2
+    (cond (coresOut (coreCount ws)) 2
     (cond (ruleOut (rule ws)) 3
-    (cond (fenceOut (cores ws) (fence ws)) 19
+    (cond (fenceOut (coreCount ws) (fence ws)) 19
     (cond (eqb (head ws) 0) 4 0))))
 
 -- what the walk meets at step k, as tests: a number past the last record, a record again, or one of these or the zero
@@ -46,7 +46,7 @@ lastStep ws = least (suc (records ws)) (stopsAt ws)
 
 -- the first place with a task that 7 or 8 turns down, or the number of places
 unfoldable pub firstOut : ℕ → List Task → ℕ
-firstOut m τs = least (length τs) (λ p. taskOut m (getD τs p nobody))
+firstOut m τs = least (length τs) (λ p. taskOut m (getD τs p absentTask))
 
 -- 9, or passed
 unfoldable pub byHorizon : Table → Answer
@@ -54,7 +54,7 @@ byHorizon s = cond (horizonOut (horizon s)) (Refused 9 0) Passed
 
 -- what a width is measured against: the number of unfenced cores
 abbrev pub wide : Table → ℕ
-wide s = openCount (s .fence) (s .cores)
+wide s = unfencedCount (s .fence) (s .cores)
 
 -- 7 or 8 with the first such position, else by the horizon
 unfoldable pub byTasks : Table → Answer

@@ -7,4 +7,4 @@ pub mod Answer
 pub mod Gcd
 pub mod Load
 pub mod OffChain
-pub mod Bare
+pub mod UnfencedWords

@@ -6,11 +6,11 @@ use mathlib.Core.Logic.{_⊎_}
 use Prim.Native.Nat.{ℕ, suc, _-_, _%_, _<_}
 use lib.ListN.{length}
 use lib.Dec.{eqb}
-use Rattle.model.specs.Fence.{openCount}
+use Rattle.model.specs.Fence.{unfencedCount}
 use Rattle.model.specs.Horizon.{horizon}
 use Rattle.model.specs.Sizes.{mostTasks}
-use Rattle.table.specs.Words.{headerWords, recordWords, head, cores, rule, fence, records, met, count, taskAt, tableOf}
-use Rattle.table.specs.Limits.{From, CoresOut, RuleOut, FenceOut, WidthOut, TimesOut, HorizonOut}
+use Rattle.table.specs.Words.{headerWords, recordWords, head, coreCount, rule, fence, records, met, count, taskAt, tableOf}
+use Rattle.table.specs.Limits.{InRange, CoresOut, RuleOut, FenceOut, WidthOut, TimesOut, HorizonOut}
 
 -- the slice has fewer than 5 words, or the rest is no whole number of records, or there are more than 32
 abbrev pub WordsOut : List ℕ → Type 0
@@ -32,18 +32,18 @@ Reaches ws k = (j : ℕ) → j < k → (¬ EndAt ws j) × (¬ PastAt ws j) × (�
 
 -- p is a position on the chain
 abbrev pub Position : List ℕ → ℕ → Type 0
-Position ws p = From 1 (count ws) p
+Position ws p = InRange 1 (count ws) p
 
 -- number n applies, with position p
 pub data Applies (ws : List ℕ) : ℕ → ℕ → Type 0 where
   -- 1. The slice has fewer than 5 words, or the rest is no whole number of records, or there are more than 32.
   one : WordsOut ws → Applies ws 1 0
   -- 2. The core count is not 1 to 64.
-  two : CoresOut (cores ws) → Applies ws 2 0
+  two : CoresOut (coreCount ws) → Applies ws 2 0
   -- 3. The rule is not 1 to 4.
   three : RuleOut (rule ws) → Applies ws 3 0
   -- 19. The fence names a core past the count, or all cores.
-  nineteen : FenceOut (cores ws) (fence ws) → Applies ws 19 0
+  nineteen : FenceOut (coreCount ws) (fence ws) → Applies ws 19 0
   -- 4. The head is zero.
   four : head ws ≡ 0 → Applies ws 4 0
   -- 5. Walking the chain, a number past the last record is met.
@@ -51,7 +51,7 @@ pub data Applies (ws : List ℕ) : ℕ → ℕ → Type 0 where
   -- 6. Walking the chain, a record is met again (5 and 6: whichever the walk meets first).
   six : (k : ℕ) → Reaches ws k → AgainAt ws k → Applies ws 6 0
   -- 7. A width of a task, that of its odd jobs or that of its even ones, is 0 or above the number of unfenced cores.
-  seven : (p : ℕ) → Position ws p → WidthOut (openCount (fence ws) (cores ws)) (taskAt ws p) → Applies ws 7 p
+  seven : (p : ℕ) → Position ws p → WidthOut (unfencedCount (fence ws) (coreCount ws)) (taskAt ws p) → Applies ws 7 p
   -- 8. A task's O, C, T or D is outside its limits.
   eight : (p : ℕ) → Position ws p → TimesOut (taskAt ws p) → Applies ws 8 p
   -- 9. The horizon exceeds 1,000,000,000.

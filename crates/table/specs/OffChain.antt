@@ -4,11 +4,11 @@ use mathlib.Core.List.{List}
 use Prim.Native.Nat.{ℕ, _<_}
 use lib.ListN.{length}
 use Rattle.table.specs.Words.{headerWords, recordWords, word, records, field, met}
-use Rattle.table.specs.Limits.{From}
+use Rattle.table.specs.Limits.{InRange}
 use Rattle.table.specs.Numbers.{Reaches}
 
 -- two tables of equal length agree on the header and on every record that the walk meets (`off-chain`: load gives the same of both)
 pub record SameOnChain (ws us : List ℕ) : Type 0 where
   pub size : length ws ≡ length us
   pub header : (i : ℕ) → i < headerWords → word ws i ≡ word us i
-  pub on-chain : (k j : ℕ) → Reaches ws k → From 1 (records ws) (met ws k) → j < recordWords → field ws (met ws k) j ≡ field us (met ws k) j
+  pub on-chain : (k j : ℕ) → Reaches ws k → InRange 1 (records ws) (met ws k) → j < recordWords → field ws (met ws k) j ≡ field us (met ws k) j

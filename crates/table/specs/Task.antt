@@ -26,11 +26,11 @@ abbrev pub noTask : Task
 noTask = record { offset = 0; width = 0; length = 0; deadline = 0; period = 0; second = 0 }
 
 -- the limits on one task that finding S and P asks for: O at most 1,000,000, T from 1 to 1,000,000
-pub record Within (t : Task) : Type 0 where
+pub record TimesWithin (t : Task) : Type 0 where
   pub offset-most : t .offset ≤ mostTime
   pub period-least : 1 ≤ t .period
   pub period-most : t .period ≤ mostTime
 
 -- each of the first count tasks is within them
 abbrev pub InLimits : List Task → ℕ → Type 0
-InLimits tasks count = (p : ℕ) → p < count → Within (getD tasks p noTask)
+InLimits tasks count = (p : ℕ) → p < count → TimesWithin (getD tasks p noTask)

@@ -23,8 +23,8 @@ abbrev pub head : List ℕ → ℕ
 head ws = word ws 0
 
 -- word 1 the core count
-abbrev pub cores : List ℕ → ℕ
-cores ws = word ws 1
+abbrev pub coreCount : List ℕ → ℕ
+coreCount ws = word ws 1
 
 -- word 2 the rule
 abbrev pub rule : List ℕ → ℕ
@@ -80,4 +80,4 @@ taskAt ws p = taskOfRecord ws (met ws (p - 1))
 
 -- the table that the words say
 unfoldable pub tableOf : List ℕ → Table
-tableOf ws = record { tasks = map (taskOfRecord ws) (chain ws); cores = cores ws; fence = fence ws; rule = ruleOf (rule ws) }
+tableOf ws = record { tasks = map (taskOfRecord ws) (chain ws); cores = coreCount ws; fence = fence ws; rule = ruleOf (rule ws) }

@@ -2,7 +2,7 @@
 ghost use mathlib.Core.Path.{_≡_};
 ghost use Prim.Native.Nat.{_≤_};
 ghost use Rattle.model.specs.Horizon.{releaseFrom};
-ghost use Rattle.table.specs.Task.{taskOf, Within};
+ghost use Rattle.table.specs.Task.{taskOf, TimesWithin};
 use crate::Task;
 
 // Above every offset, and above every tick that is asked for.
@@ -10,7 +10,7 @@ const FAR: u32 = 67_108_864;
 
 // The first release of the task that is not before t: its offset where t is earlier.
 pub(crate) fn release_from(task: Task, t: u32) -> u32
-    requires { ⌜ Within task ⌝ ∗ ⌜ t ≤ 32000000 ⌝ }
+    requires { ⌜ TimesWithin task ⌝ ∗ ⌜ t ≤ 32000000 ⌝ }
     ensures { λ r. ⌜ r ≡ releaseFrom (taskOf task) t ⌝ }
 {
     let offset = task.offset;

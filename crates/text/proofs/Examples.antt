@@ -10,7 +10,7 @@ use Rattle.model.proofs.LineByLine.{LineByLine, by-line}
 use Rattle.model.proofs.Examples.{A, fencedOn, on, t, t₂}
 use Rattle.text.specs.Decimal.{all, value, decimal, lastDigits, digitCount, digitsWithin}
 use Rattle.text.specs.Format.{Words, words, noText, wordsOf, lines, isNumber, textOf}
-use Rattle.judge.specs.Said.{refused}
+use Rattle.judge.specs.JudgeAnswer.{refused}
 use Rattle.text.specs.Output.{letters, fields, lineOf, firstLine, rowLine, rowLines, printed}
 
 -- a text and what it is read as

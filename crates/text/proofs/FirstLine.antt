@@ -11,7 +11,7 @@ use Rattle.model.proofs.Bools.{and-left, and-right}
 use Rattle.model.specs.Verdict.{Firm, Full, Miss}
 use Rattle.text.specs.Decimal.{Digits, Digit, decimal}
 use Rattle.text.specs.Format.{newline}
-use Rattle.judge.specs.Said.{Said, judged, refused}
+use Rattle.judge.specs.JudgeAnswer.{JudgeAnswer, judged, refused}
 use Rattle.text.specs.Output.{letters, space, fields, lineOf, firstLine}
 use Rattle.text.proofs.Decimals.{decimal-digits, decimal-injective}
 
@@ -65,11 +65,11 @@ agree : (w : List ℕ) (a b a′ b′ : ℕ) (r r′ : List ℕ) → lineOf w (a
 agree w a b a′ b′ r r′ e =
     pair-end a b a′ b′ r r′ (append-cancel-left w (tail a b r) (tail a′ b′ r′) (sym (pair-line w a b r) ∙ e ∙ pair-line w a′ b′ r′))
 
-made : (f : ℕ → ℕ → Said) {a b a′ b′ : ℕ} {r r′ : List ℕ} → (a ≡ a′) × (b ≡ b′) × (r ≡ r′) → (f a b ≡ f a′ b′) × (r ≡ r′)
+made : (f : ℕ → ℕ → JudgeAnswer) {a b a′ b′ : ℕ} {r r′ : List ℕ} → (a ≡ a′) × (b ≡ b′) × (r ≡ r′) → (f a b ≡ f a′ b′) × (r ≡ r′)
 made f t = (ap₂ f (t .0) (t .1), t .2)
 
 -- what is printed determines the verdict or the refusal, and what is printed after its line
-pub first-determined : (x y : Said) (r s : List ℕ) → firstLine x ++ r ≡ firstLine y ++ s → (x ≡ y) × (r ≡ s)
+pub first-determined : (x y : JudgeAnswer) (r s : List ℕ) → firstLine x ++ r ≡ firstLine y ++ s → (x ≡ y) × (r ≡ s)
 unfolding firstLine
 first-determined (judged (Firm a b)) (judged (Firm a′ b′)) r s e = made (λ m n. judged (Firm m n)) (agree (letters "firm") a b a′ b′ r s e)
 first-determined (judged (Firm a b)) (judged (Full a′ b′)) r s e = absurd (differ 1 (letters "firm") (letters "full") refl a b a′ b′ r s e)

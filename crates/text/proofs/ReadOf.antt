@@ -7,7 +7,7 @@ use native.Mathlib.Omega.{arith}
 use lib.ListN.{length, take, replicate}
 use lib.Seq.{take-append-seam, drop-append-seam}
 use Rattle.text.specs.Format.{mostNumbers, Words, words, noText, wordsOf, numbersIn}
-use Rattle.text.specs.Input.{placed, inputOf, ReadOf}
+use Rattle.text.specs.Input.{padNumbers, inputOf, ReadOf}
 use Rattle.text.specs.declared.Input.{Input}
 use Rattle.text.proofs.Exact.{text-exact, no-text-exact}
 
@@ -22,7 +22,7 @@ accepted bs ws e =
       past = drop-append-seam ws (replicate (mostNumbers - length ws) 0);
     }
   where
-    numbers : take (length ws) (placed ws) ≡ ws
+    numbers : take (length ws) (padNumbers ws) ≡ ws
     numbers = take-append-seam ws (replicate (mostNumbers - length ws) 0)
 
     same : (vs : List ℕ) → words ws ≡ words vs → ws ≡ vs

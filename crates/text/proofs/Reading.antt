@@ -10,7 +10,7 @@ use lib.Dec.{leb}
 use borrow.Author.Tests.{le-leb, lt-leb}
 use Rattle.text.specs.Decimal.{all, value}
 use Rattle.text.specs.Format.{Words, words, noText, wordsOf, isNumber, lines, mostNumbers}
-use Rattle.text.specs.Input.{lineLength, placed, inputOf}
+use Rattle.text.specs.Input.{lineLength, padNumbers, inputOf}
 use Rattle.text.specs.declared.Input.{Input}
 use Rattle.text.proofs.Lines.{lines-first}
 
@@ -64,12 +64,12 @@ unfolding lines
 lines-past bs i l = rw (drop-of-length-le bs l)
 
 -- one more number in its place
-pub placed-more : (ws : List ℕ) (w : ℕ) → length ws < mostNumbers → set (placed ws) (length ws) w ≡ placed (ws ++ (w ∷ []))
+pub placed-more : (ws : List ℕ) (w : ℕ) → length ws < mostNumbers → set (padNumbers ws) (length ws) w ≡ padNumbers (ws ++ (w ∷ []))
 placed-more ws w l =
     let n : length (ws ++ (w ∷ [])) ≡ suc (length ws) = length-append ws (w ∷ []) ∙ omega arith in
     let k : mostNumbers - length ws ≡ suc (mostNumbers - suc (length ws)) = omega arith in
     rw (n, k) (set-append-seam ws 0 (replicate (mostNumbers - suc (length ws)) 0) w ∙ sym (append-snoc ws w (replicate (mostNumbers - suc (length ws)) 0)))
 
 -- the numbers in their places and their count are the whole answer
-pub input-of : (ws places : List ℕ) (count : ℕ) → places ≡ placed ws → count ≡ length ws → _≡_ {A = Input} (record { accepted = true; count = count; words = places }) (inputOf (words ws))
+pub input-of : (ws places : List ℕ) (count : ℕ) → places ≡ padNumbers ws → count ≡ length ws → _≡_ {A = Input} (record { accepted = true; count = count; words = places }) (inputOf (words ws))
 input-of ws places count p q = λ i. record { accepted = true; count = q i; words = p i }

@@ -9,8 +9,8 @@ use lib.Dec.{eqb}
 use Rattle.text.specs.Decimal.{value}
 use Rattle.text.specs.Format.{newline, mostNumbers, isNumber, Words, words, noText, wordsOf, IsText}
 use Rattle.text.specs.declared.Input.{Input}
-use Rattle.text.specs.declared.line.Found.{Found}
-use Rattle.text.specs.declared.line.Found.the-variants.{Value, Nothing}
+use Rattle.text.specs.declared.line.ParsedNumber.{ParsedNumber}
+use Rattle.text.specs.declared.line.ParsedNumber.the-variants.{Value, Nothing}
 
 -- how many bytes stand before the first byte `mark`, or in all where there is none
 unfoldable pub lengthTo : ℕ → List ℕ → ℕ
@@ -22,16 +22,16 @@ abbrev pub lineLength : List ℕ → ℕ
 lineLength bs = lengthTo newline bs
 
 -- the number that a line says, or nothing
-abbrev pub foundIn : List ℕ → Found
-foundIn l = cond (isNumber l) (Value (value l)) Nothing
+abbrev pub parseNumber : List ℕ → ParsedNumber
+parseNumber l = cond (isNumber l) (Value (value l)) Nothing
 
 -- the numbers in 229 places, zeros past the last
-abbrev pub placed : List ℕ → List ℕ
-placed ws = ws ++ replicate (mostNumbers - length ws) 0
+abbrev pub padNumbers : List ℕ → List ℕ
+padNumbers ws = ws ++ replicate (mostNumbers - length ws) 0
 
 -- a text is accepted, with its numbers and their count; of other bytes all is zero
 abbrev pub inputOf : Words → Input
-inputOf (words ws) = record { accepted = true; count = length ws; words = placed ws }
+inputOf (words ws) = record { accepted = true; count = length ws; words = padNumbers ws }
 inputOf noText = record { accepted = false; count = 0; words = replicate mostNumbers 0 }
 
 -- what `read` promises of the bytes

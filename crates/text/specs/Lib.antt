@@ -3,5 +3,5 @@ pub mod Decimal
 pub mod Format
 pub mod Input
 pub mod Output
-pub mod Said
+pub mod FirstLine
 pub mod Written

@@ -6,8 +6,8 @@ ghost use lib.ListN.{length};
 ghost use Rattle.text.specs.Decimal.{decimal};
 ghost use Rattle.text.specs.Output.{space, lineOf, longestLine, firstLine};
 ghost use Rattle.text.specs.Written.{Put};
-ghost use Rattle.judge.specs.Said.{saidBy};
-ghost use Rattle.text.specs.Said.{endOf};
+ghost use Rattle.judge.specs.JudgeAnswer.{verdictMeaning};
+ghost use Rattle.text.specs.FirstLine.{endOf};
 use crate::decimal;
 use crate::row;
 use judge::Verdict;
@@ -36,7 +36,7 @@ pub fn put_pair(line: &mut [u8], word: &[u8], first: u32, second: u32) -> usize
 // Writes the first line, which says the verdict; the answer is where it ends.
 pub fn put_first(line: &mut [u8], verdict: Verdict) -> usize
     requires { ⌜ longestLine ≤ length (now line) ⌝ }
-    ensures { λ r. ⌜ (Put (now (line .entry)) 0 (firstLine (saidBy verdict)) (now (line .exit)) r) × (r ≤ longestLine) ⌝ }
+    ensures { λ r. ⌜ (Put (now (line .entry)) 0 (firstLine (verdictMeaning verdict)) (now (line .exit)) r) × (r ≤ longestLine) ⌝ }
 {
     match verdict {
         Verdict::Firm(start, period) => put_pair(line, b"firm", start, period),

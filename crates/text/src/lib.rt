@@ -9,7 +9,7 @@ pub mod row; // row.rt: the text of a row
 pub mod first; // first.rt: the first line
 pub mod line; // line.rt: where a line ends and which number it says
 
-use line::Found;
+use line::ParsedNumber;
 
 // How many numbers a table's text may have: the words of a header and of 32 records.
 pub const NUMBERS: usize = table::HEADER + table::RECORD * model::MOST_TASKS;
@@ -52,8 +52,8 @@ pub fn read(bytes: &[u8]) -> Input
     while at < bytes.len() {
         let end = line::end_from(bytes, at, b'\n');
         match line::number(&bytes[at..end]) {
-            Found::Nothing => return no_text(),
-            Found::Value(number) => {
+            ParsedNumber::Nothing => return no_text(),
+            ParsedNumber::Value(number) => {
                 if count == NUMBERS {
                     return no_text();
                 }

@@ -47,7 +47,7 @@ fn put_byte(text: &mut [u8], at: usize, number: u8) -> usize
 }
 
 // Writes the positions of the first `cores` cores, a space before each, and a newline; the answer is where they end.
-pub fn spell(row: [u8; ROW], cores: usize, text: &mut [u8]) -> usize
+pub fn put_cells(row: [u8; ROW], cores: usize, text: &mut [u8]) -> usize
     requires { ⌜ (cores ≤ mostCores) × (longestCells ≤ length (now text)) ⌝ }
     ensures { λ r. ⌜ (Put (now (text .entry)) 0 (fields (take cores row) ++ (newline ∷ [])) (now (text .exit)) r) × (r ≤ longestCells) ⌝ }
 {

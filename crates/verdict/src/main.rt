@@ -1,7 +1,7 @@
 // Reads a table from standard input, one decimal number a line, and prints the verdict line alone.
 ghost use mathlib.Core.Path.{_≡_};
 ghost use Rattle.text.specs.Format.{wordsOf, numbersIn};
-ghost use Rattle.text.specs.Said.{firstFor};
+ghost use Rattle.text.specs.FirstLine.{firstFor};
 ghost use Rattle.judge.specs.Judged.{verdictOf};
 ghost use Rattle.stream.specs.Sent.{SentOf};
 ghost use Rattle.stream.specs.Answered.{Answered};
@@ -25,7 +25,7 @@ fn verdict_on(bytes: &[u8]) -> Verdict
     let input = text::read(bytes);
     let words = input.words;
     let count = input.count;
-    quick::judge(&words[..count])
+    fast_judge::judge(&words[..count])
 }
 
 // Writes the verdict's line.
@@ -44,7 +44,7 @@ fn answer() -> Outcome
     let mut bytes = [0u8; ENOUGH];
     let reading = stream::fill(&mut bytes, 0);
     if reading.failed {
-        stream::say_unread(b"verdict");
+        stream::report_unread(b"verdict");
         let sent = Sent {
             count: 0,
             whole: true,

@@ -1,8 +1,8 @@
 -- `capi::sivorandra_begin` meets its contract: the plan that begin returns and its answer are put where there is room.
 -- Assumes nothing.
 use mathlib.Core.Path.{sym, ap, _∙_}
-use Rattle.capi.specs.declared.told.Told.{Told}
-use Rattle.capi.specs.Told.{written}
+use Rattle.capi.specs.declared.answer_words.AnswerWords.{AnswerWords}
+use Rattle.capi.specs.AnswerWords.{answerWritten}
 use Rattle.capi.proofs.Supplying.{begin-narrow, begin-short, begin-room}
 use borrow.Author.Needs.{needs}
 use Rattle.capi.proofs.sivorandra_begin.Statement.{statement}
@@ -61,7 +61,7 @@ returns-3 c =
     (e .if2 .left)
     (s .begin .ensures .value)
     (r .put-plan .ensures)
-    (p .put .ensures ∙ ap (λ (t : Told). written t (a .answer .now)) (o .of-given .ensures))
+    (p .put .ensures ∙ ap (λ (t : AnswerWords). answerWritten t (a .answer .now)) (o .of-given .ensures))
 
 pub sivorandra-begin-spec : {M : Type 1} → statement M
 sivorandra-begin-spec =

@@ -1,8 +1,8 @@
 -- `capi::sivorandra_take` meets its contract: buffer and answer are those of the row, and its three words are put where there is room.
 -- Assumes nothing.
 use mathlib.Core.Path.{sym, ap, _∙_}
-use Rattle.capi.specs.declared.told.Told.{Told}
-use Rattle.capi.specs.Told.{written}
+use Rattle.capi.specs.declared.answer_words.AnswerWords.{AnswerWords}
+use Rattle.capi.specs.AnswerWords.{answerWritten}
 use Rattle.capi.proofs.Supplying.{take-narrow, take-room}
 use borrow.Author.Needs.{needs}
 use Rattle.capi.proofs.sivorandra_take.Statement.{statement}
@@ -49,7 +49,7 @@ returns-2 c =
     take-room (a .plan .now) (a .row .now) (a .answer .now) (v .take .result)
     (e .if1 .left)
     (v .take .ensures)
-    (p .put .ensures ∙ ap (λ (t : Told). written t (a .answer .now)) (o .of-taken .ensures))
+    (p .put .ensures ∙ ap (λ (t : AnswerWords). answerWritten t (a .answer .now)) (o .of-taken .ensures))
 
 pub sivorandra-take-spec : {M : Type 1} → statement M
 sivorandra-take-spec =

@@ -2,7 +2,7 @@
 -- Assumes nothing.
 use borrow.Author.Needs.{needs}
 use mathlib.Core.Path.{ap}
-use Rattle.full.specs.Stand.{Numbers}
+use Rattle.simulation.specs.TickState.{Numbers}
 use Rattle.printer.proofs.Made.{start-of}
 use Rattle.printer.proofs.start.Statement.{statement}
 use Rattle.printer.proofs.start.Tie as tie
@@ -44,7 +44,7 @@ returns c =
     let columns = columns-of c .columns-of in
     let text = put-cells c .put-cells in
     let line = c .before .put-first in
-    start-of (s .args .table) (s .args .end) (s .args .verdict) (machine .result .pace) (machine .result .places) (machine .ensures .0)
+    start-of (s .args .table) (s .args .end) (s .args .verdict) (machine .result .registers) (machine .result .places) (machine .ensures .0)
     (columns .result .widths) (ap (λ (n : Numbers). n .widths) (columns .ensures)) (text .last .1 .1 .1 .1 .1 .1 .1 .0) (line .last .0) (text .result)
     (line .result) (text .ensures) (line .ensures)
 

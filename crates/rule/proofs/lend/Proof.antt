@@ -50,8 +50,8 @@ grants-requires c κs = search needs
 owners-requires : tie.Need-owners-requires Inv-loop μ-loop
 owners-requires c κs = search needs
 
-beside-requires : tie.Need-beside-requires Inv-loop μ-loop
-beside-requires c κs = search needs
+merged-requires : tie.Need-merged-requires Inv-loop μ-loop
+merged-requires c κs = search needs
 
 add-i : tie.Need-add-i Inv-loop μ-loop
 add-i c = omega arith
@@ -115,7 +115,7 @@ lend-spec =
     element-copy-out-grants
     grants-requires
     owners-requires
-    beside-requires
+    merged-requires
     add-i
     loop-less
     loop-again

@@ -2,7 +2,7 @@
 -- Assumes nothing.
 use borrow.Author.Needs.{needs}
 use Rattle.model.specs.Task.{ruleOf}
-use Rattle.phase.proofs.Rules.{seen-roomy}
+use Rattle.phase.proofs.Rules.{seen-has-room}
 use Rattle.phase.proofs.Task.next.Statement.{statement}
 use Rattle.phase.proofs.Task.next.Tie as tie
 
@@ -10,7 +10,7 @@ seen-requires : tie.Need-seen-requires
 seen-requires c κs = search needs
 
 stepped-requires : tie.Need-stepped-requires
-stepped-requires c κs = rw (c .seen .ensures) (seen-roomy (ruleOf (c .before .args .rule)) (c .before .args .empty) (c .before .args .self .phase) (c .before .pre))
+stepped-requires c κs = rw (c .seen .ensures) (seen-has-room (ruleOf (c .before .args .rule)) (c .before .args .empty) (c .before .args .self .phase) (c .before .pre))
 
 returns : tie.Need-returns
 returns c = simp (c .stepped .ensures, c .before .seen .ensures)

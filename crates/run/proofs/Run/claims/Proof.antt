@@ -8,7 +8,7 @@ use Prim.Native.Nat.{ℕ, _+_, _≤_, _<_, _-_, min}
 use native.Mathlib.Omega.{arith}
 use lib.ListN.{length, length-set, length-map}
 use borrow.Author.Needs.{needs}
-use Rattle.model.specs.Fence.{openCount}
+use Rattle.model.specs.Fence.{unfencedCount}
 use Rattle.model.proofs.Digits.{or-bit}
 use Rattle.model.specs.Sizes.{mostCores, mostTasks}
 use Rattle.phase.specs.Phase.{claiming, working, released, seen}
@@ -68,7 +68,7 @@ abbrev loop : tie.After-with5 Inv-loop μ-loop → tie.At-loop Inv-loop μ-loop
 loop c = first c .before .before .before .before
 
 -- the state after the unfenced cores are counted, and the state at the call
-abbrev counted : tie.At-loop Inv-loop μ-loop → tie.After-open-count Inv-loop μ-loop
+abbrev counted : tie.At-loop Inv-loop μ-loop → tie.After-unfenced-count Inv-loop μ-loop
 counted s = s .before
 
 abbrev entry : tie.At-loop Inv-loop μ-loop → tie.Start Inv-loop μ-loop
@@ -81,14 +81,14 @@ below c =
     (l, omega (arith, l, entry (loop c) .pre .0))
 
 -- the unfenced cores, of 64 at most, are those of the core count
-wide : (s : tie.At-loop Inv-loop μ-loop) → counted s .open-count .result ≡ wideIn (entry s .args .t1)
+wide : (s : tie.At-loop Inv-loop μ-loop) → counted s .unfenced-count .result ≡ wideIn (entry s .args .t1)
 wide s =
     let r = entry s .args .t1 in
     let all : min (r .cores) mostCores ≡ r .cores = omega (arith, entry s .pre .1) in
-    counted s .open-count .ensures ∙ ap (openCount (r .fence)) all
+    counted s .unfenced-count .ensures ∙ ap (unfencedCount (r .fence)) all
 
-open-count-requires : tie.Need-open-count-requires Inv-loop μ-loop
-open-count-requires c κs = search needs
+unfenced-count-requires : tie.Need-unfenced-count-requires Inv-loop μ-loop
+unfenced-count-requires c κs = search needs
 
 loop-holds : tie.Need-loop-holds Inv-loop μ-loop
 loop-holds c =
@@ -235,7 +235,7 @@ claims-spec =
     (tie.spec
     Inv-loop
     μ-loop
-    open-count-requires
+    unfenced-count-requires
     loop-holds
     mul-task
     element-copy-out-task

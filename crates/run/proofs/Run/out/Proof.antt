@@ -31,7 +31,7 @@ abbrev loop : tie.After-out Inv-loop μ-loop → tie.At-loop Inv-loop μ-loop
 loop c = c .before .before .before
 
 -- the state at the call
-abbrev entry : tie.After-open-count Inv-loop μ-loop → tie.Start Inv-loop μ-loop
+abbrev entry : tie.After-unfenced-count Inv-loop μ-loop → tie.Start Inv-loop μ-loop
 entry c = c .before .before .before
 
 -- a place is looked at with the number of unfenced cores that was counted
@@ -44,14 +44,14 @@ head-out-requires c κs = search needs
 returns : tie.Need-returns Inv-loop μ-loop
 returns c = sym (out-by-head (c .before .before .args .t1) (sym (c .before .head-out .ensures) ∙ c .if1 .taken))
 
-open-count-requires : tie.Need-open-count-requires Inv-loop μ-loop
-open-count-requires c κs = search needs
+unfenced-count-requires : tie.Need-unfenced-count-requires Inv-loop μ-loop
+unfenced-count-requires c κs = search needs
 
 loop-holds : tie.Need-loop-holds Inv-loop μ-loop
 loop-holds c =
     let r = entry c .args .t1 in
     let e = sym (c .before .before .head-out .ensures) ∙ c .before .if1 .left in
-    (search needs, (head-few r e, (c .open-count .ensures ∙ head-wide r e, λ (k : ℕ) h. absurd (omega arith))))
+    (search needs, (head-few r e, (c .unfenced-count .ensures ∙ head-wide r e, λ (k : ℕ) h. absurd (omega arith))))
 
 mul-task : tie.Need-mul-task Inv-loop μ-loop
 mul-task c = omega arith
@@ -96,7 +96,7 @@ out-spec =
     μ-loop
     head-out-requires
     returns
-    open-count-requires
+    unfenced-count-requires
     loop-holds
     mul-task
     element-copy-out-task

@@ -1,4 +1,4 @@
--- `run::Run::plain` meets its contract. The loop's invariant: the places passed hold the tasks of the table that the run's tasks are (`tasks-told`).
+-- `run::Run::plain` meets its contract. The loop's invariant: the places passed hold the tasks of the table that the run's tasks are (`tasks-known`).
 -- Assumes nothing.
 use mathlib.Core.Path.{_≡_, refl}
 use Prim.Native.Nat.{ℕ, _≤_, _<_, _-_}
@@ -7,13 +7,13 @@ use lib.ListN.{length, getD, length-set, length-map}
 use borrow.Author.Needs.{needs}
 use Rattle.model.specs.Sizes.{mostTasks}
 use Rattle.table.specs.Task.{taskOf, noTask}
-use Rattle.run.specs.Run.{taskAt}
-use Rattle.run.proofs.PlaceSets.{told-more, tasks-told}
+use Rattle.run.specs.Run.{runTaskAt}
+use Rattle.run.proofs.PlaceSets.{tasks-known-more, tasks-known}
 use Rattle.run.proofs.Run.plain.Statement.{statement}
 use Rattle.run.proofs.Run.plain.Tie as tie
 
 abbrev Inv-loop : tie.InvT-loop
-Inv-loop run count tasks₀ i₀ tasks i = (i ≤ count) × ((length tasks ≡ mostTasks) × ((p : ℕ) → p < i → taskOf (getD tasks p noTask) ≡ taskAt run p))
+Inv-loop run count tasks₀ i₀ tasks i = (i ≤ count) × ((length tasks ≡ mostTasks) × ((p : ℕ) → p < i → taskOf (getD tasks p noTask) ≡ runTaskAt run p))
 
 abbrev μ-loop : tie.MeasureT-loop
 μ-loop run count tasks₀ i₀ tasks i = count - i
@@ -62,7 +62,7 @@ loop-again c =
       omega arith,
       (
         simp length-set (v .1 .0),
-        told-more (s .loop .tasks) (taskAt (entry s .args .t1)) (s .loop .i) (c .plain2 .result) (omega arith) (c .plain2 .ensures) (v .1 .1),
+        tasks-known-more (s .loop .tasks) (runTaskAt (entry s .args .t1)) (s .loop .i) (c .plain2 .result) (omega arith) (c .plain2 .ensures) (v .1 .1),
       ),
     )
 
@@ -73,7 +73,7 @@ returns c =
     let v = s .loop .inv in
     let e : s .loop .i ≡ r .count = omega arith in
     let len : length (r .tasks) ≡ mostTasks = simp length-map at (entry s .good .0 .1 .1 .1 .1 .1 .1 .1 .0 .1 .0 .1) in
-    tasks-told r (s .loop .tasks) (entry s .pre) (v .1 .0) len (rw e at (v .1 .1))
+    tasks-known r (s .loop .tasks) (entry s .pre) (v .1 .0) len (rw e at (v .1 .1))
 
 pub plain-spec : {M : Type 1} → statement M
 plain-spec =

@@ -81,22 +81,22 @@ returns-2 c =
     (c .refused2 .ensures
     ∙ sym (withdraw-stranger (a .self) (a .position) (passes (s .before)) (firm-then (c .before .before .before)) (c .before .if3 .taken)))
 
-sub-without : tie.Need-sub-without
-sub-without c = known c .0
+sub-with-withdrawn : tie.Need-sub-with-withdrawn
+sub-with-withdrawn c = known c .0
 
-shl-without : tie.Need-shl-without
-shl-without c = omega (arith, known c .0, known c .1)
+shl-with-withdrawn : tie.Need-shl-with-withdrawn
+shl-with-withdrawn c = omega (arith, known c .0, known c .1)
 
-without-requires : tie.Need-without-requires
-without-requires c κs = search needs
+with-withdrawn-requires : tie.Need-with-withdrawn-requires
+with-withdrawn-requires c κs = search needs
 
 returns-3 : tie.Need-returns-3
 returns-3 c =
     let s = asked-known (c .before) in
     let a = entry s .args in
     let one = shifted-one 32 (a .position - 1) (omega (arith, known (c .before) .0, known (c .before) .1)) in
-    withdraw-of (a .self) (a .position) (taken (c .without .result))
-    (ap taken (c .without .ensures ∙ ap (λ (x : ℕ). withdrawnIn x (a .self)) one)
+    withdraw-of (a .self) (a .position) (taken (c .with-withdrawn .result))
+    (ap taken (c .with-withdrawn .ensures ∙ ap (λ (x : ℕ). withdrawnIn x (a .self)) one)
     ∙ sym (withdraw-taken (a .self) (a .position) (passes (s .before)) (firm-then (c .before .before .before)) (c .before .if3 .left)))
 
 refused-requires-3 : tie.Need-refused-requires-3
@@ -121,9 +121,9 @@ withdraw-spec =
     cast-if3
     refused-requires-2
     returns-2
-    sub-without
-    shl-without
-    without-requires
+    sub-with-withdrawn
+    shl-with-withdrawn
+    with-withdrawn-requires
     returns-3
     refused-requires-3
     returns-4)

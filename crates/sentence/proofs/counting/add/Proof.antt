@@ -4,7 +4,7 @@ use mathlib.Core.Bool.{Bool, true}
 use Prim.Native.Nat.{ℕ, _≤_}
 use native.Mathlib.Omega.{arith}
 use Rattle.model.specs.Search.{bit}
-use Rattle.full.proofs.Turn.{taken, first, Off, taken-off}
+use Rattle.simulation.proofs.GrantStep.{taken, first, Off, taken-off}
 use Rattle.sentence.proofs.Adding.{counted, counted-none, count-still, counted-more, counted-all}
 use Rattle.sentence.proofs.counting.add.Statement.{statement}
 use Rattle.sentence.proofs.counting.add.Tie as tie

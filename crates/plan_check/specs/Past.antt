@@ -1,0 +1,24 @@
+-- Places past the count (scope, 'The run in the cab'): later calls neither read nor change them, nor what is noted of them (request 112). `past-unread`
+-- shows the one, `past` and `past-notes` of `TakeOf` say the other.
+use mathlib.Core.List.{List}
+use mathlib.Core.Path.{_≡_}
+use Prim.Native.Nat.{ℕ}
+use lib.ListN.{take}
+use Rattle.run.specs.Past.{SameBelow}
+use Rattle.plan_check.specs.declared.Supplied.{Supplied}
+use Rattle.plan_check.specs.Extent.{extentOf}
+use Rattle.plan_check.specs.Checked.{rowAnswersFrom}
+use Rattle.plan_check.specs.Take.{takeOf}
+
+-- two states that are equal up to the count: their runs, their ticks, and what is noted
+pub record SameSupplied (w v : Supplied) : Type 0 where
+  pub run : SameBelow (w .run) (v .run)
+  pub tick : w .tick ≡ v .tick
+  pub noted : take (w .run .count) (w .noted) ≡ take (v .run .count) (v .noted)
+
+-- they go equally far; to any row they get equal answers, and it leaves states that are equal up to the count; so all rows are answered equally
+pub record PlanTailUnread (w v : Supplied) : Type 0 where
+  pub extent : extentOf (w .run) ≡ extentOf (v .run)
+  pub answer : (row : List ℕ) → takeOf w row .answer ≡ takeOf v row .answer
+  pub plan : (row : List ℕ) → SameSupplied (takeOf w row .plan) (takeOf v row .plan)
+  pub answers : (rows : List (List ℕ)) → rowAnswersFrom w rows ≡ rowAnswersFrom v rows

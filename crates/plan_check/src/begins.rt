@@ -1,0 +1,32 @@
+// A state of all zeros: what a refused beginning leaves, and nothing noted.
+ghost use mathlib.Core.Path.{_≡_};
+ghost use Rattle.plan_check.specs.Begin.{emptyState};
+ghost use Rattle.plan_check.specs.State.{blank};
+use crate::Note;
+use crate::Supplied;
+use model::MOST_TASKS;
+use phase::Phase;
+
+// Nothing noted.
+pub(crate) fn blank() -> [Note; MOST_TASKS]
+    ensures { λ r. ⌜ r ≡ blank ⌝ }
+{
+    let note = Note {
+        phase: Phase::Resting(0),
+    };
+    [note; MOST_TASKS]
+}
+
+// A state of all zeros, which 14 turns down: its run is what a refused start leaves.
+pub(crate) fn empty() -> Supplied
+    ensures { λ r. ⌜ r ≡ emptyState ⌝ }
+{
+    let refused = run::starts::refused(0, 0);
+    let run = refused.run;
+    let noted = blank();
+    Supplied {
+        run: run,
+        tick: 0,
+        noted: noted,
+    }
+}

@@ -1,0 +1,2 @@
+-- What the program `inspect` promises of one turn of reading and answering.
+pub mod Rounds

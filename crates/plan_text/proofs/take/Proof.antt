@@ -1,0 +1,22 @@
+-- `plan_text::take` meets its contract: where it is known how far the plan goes, `enter` gives what `take` does.
+-- Assumes nothing.
+use borrow.Author.Needs.{needs}
+use mathlib.Core.Bool.{false≢true}
+use mathlib.Core.Path.{_∙_, sym}
+use Rattle.plan_text.proofs.take.Statement.{statement}
+use Rattle.plan_text.proofs.take.Tie as tie
+
+enter-requires : tie.Need-enter-requires
+enter-requires c κs = c .before .before .pre (c .if1 .taken)
+
+returns : tie.Need-returns
+returns c = search needs
+
+take-requires : tie.Need-take-requires
+take-requires c κs = search needs
+
+returns-2 : tie.Need-returns-2
+returns-2 c = (c .take .ensures .value, λ e. absurd (false≢true (sym (c .before .if1 .left) ∙ e)))
+
+pub take-spec : {M : Type 1} → statement M
+take-spec = tie.close (tie.spec enter-requires returns take-requires returns-2)

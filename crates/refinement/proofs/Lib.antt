@@ -1,0 +1,25 @@
+-- The proofs of the promises on a list of entries: from the tie of one task to `refines`, `sets-book`, `sets-kept`, `demand-3` and `fenced`, and examples through `replay`.
+pub mod Tied
+pub mod Seen
+pub mod Ticks
+pub mod TiedTask
+pub mod Looks
+pub mod Related
+pub mod Represents
+pub mod Words
+pub mod Refines
+pub mod BookSets
+pub mod RunRefinesBook
+pub mod Fenced
+pub mod Listed
+pub mod Codes
+pub mod Outcomes
+pub mod Examples
+pub mod Running
+pub mod HandBuilt
+pub mod EmptyBuilt
+pub mod WithdrawBuilt
+pub mod TogetherBuilt
+pub mod WidthBuilt
+pub mod LendBuilt
+pub mod SetsBuilt

@@ -1,0 +1,17 @@
+-- What a computed run opens: where an `unfolding` line names `running`, the answers to a list of entries, its rows and the run after it compute.
+use Rattle.model.specs.Firm.{firm, parallelismMonotonic}
+use Rattle.model.specs.Grants.{claimants, given, grants, left}
+use Rattle.model.specs.Lending.{among, merged, lent}
+use Rattle.model.specs.Row.{owner, row}
+use Rattle.model.specs.Search.{any, filtered, least, memb, upFrom}
+use Rattle.run.specs.Run.{grantsIn, lentIn, mapFirst, moved, offerIn, seeksIn, withdrawnIn}
+use Rattle.run.specs.Numbers.{pastCount, runOut, firstLateIn, misemptiedIn, misreportedIn}
+use Rattle.run.specs.Advance.{advanceAnswer, advanceOf}
+use Rattle.run.specs.Withdraw.{withdrawAnswer, withdrawOf, withdrawAllOf}
+use Rattle.run.specs.Row.{rowAnswer, bytesIn, rowOf}
+use Rattle.refinement.specs.Entries.{answers, runAfterList}
+
+unfoldable pub running : Unit {0}
+unfolding any least memb upFrom filtered owner row given left grants claimants firm parallelismMonotonic lent merged among answers runAfterList advanceOf advanceAnswer withdrawOf
+    withdrawAllOf withdrawAnswer rowOf rowAnswer bytesIn pastCount runOut firstLateIn misemptiedIn misreportedIn grantsIn offerIn seeksIn lentIn mapFirst moved withdrawnIn
+running = tt

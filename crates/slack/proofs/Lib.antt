@@ -1,0 +1,17 @@
+-- The laws behind `slack`: longer jobs miss no less, tables that have grown and their words, the figure and the halving that finds it, the promise, and
+-- computed examples.
+pub mod Longer
+pub mod Misses
+pub mod Grown
+pub mod Ordered
+pub mod Figure
+pub mod GrownWords
+pub mod GrowthJudged
+pub mod Alone
+pub mod Judging
+pub mod LongerIn
+pub mod Halving
+pub mod Listed
+pub mod Promise
+pub mod OffChain
+pub mod Examples
