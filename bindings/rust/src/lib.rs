@@ -20,7 +20,7 @@
 //! ```
 //!
 //! No function takes memory but `replay` and `sentence`, which return some, and none has a state of its own: any number of threads may call at once.
-//! What a call costs in time and stack stands in `include/sivorandra.h`.
+//! `include/sivorandra.h` has what a call costs in time and stack.
 #![warn(missing_docs)]
 
 mod refusal;
@@ -41,12 +41,12 @@ pub const MOST_OFFSET: u32 = 1_000_000;
 pub const MOST_LENGTH: u32 = 1_000_000;
 /// The most that T may be; D is at most T.
 pub const MOST_PERIOD: u32 = 1_000_000;
-/// The largest horizon, S + P, that a table may have: 9 turns down one that is larger.
+/// The largest horizon, S + P, that a table may have: 9 refuses a larger one.
 pub const MOST_HORIZON: u32 = 1_000_000_000;
 
-/// The rule by which who fits takes cores, and who does not is passed over.
+/// The rule by which a task that fits takes cores, and a task that does not fit is skipped.
 pub const GREEDY: u32 = 1;
-/// The rule by which the first who does not fit ends the choosing.
+/// The rule by which the first task that does not fit ends the choosing.
 pub const LIMITED: u32 = 2;
 /// The rule that is greedy, but a job that ended early still claims its cores until it has claimed C ticks or is due.
 pub const IDLING: u32 = 3;
@@ -60,13 +60,13 @@ pub const IDLING: u32 = 3;
 /// let mut run = Run::start(&[1, 2, LENDING, 0, 0, 2, 0, 2, 2, 4, 4, 2, 0, 0, 1, 2, 4, 4, 1])?;
 /// run.advance(1, 0)?; // position 1 has ended, and a tick more is reserved for it
 /// assert_eq!(run.row(0)?[..run.cores()], [2, 1]); // position 2 borrows one core of two
-/// assert_eq!(run.advance(1, 0), Err(Refusal::BadReport)); // who lends does not work
-/// run.advance(2, 0)?; // who borrows does
+/// assert_eq!(run.advance(1, 0), Err(Refusal::BadReport)); // a lender does not work
+/// run.advance(2, 0)?; // a borrower does
 /// # Ok::<(), Refusal>(())
 /// ```
 pub const LENDING: u32 = 4;
 
-/// The words of a table in front of its records: head, cores, rule, and the fence, the set of cores that no task has, its low word first:
+/// The words of a table in front of its records: head, cores, rule, and the fence, the set of cores that no task may use, its low word first:
 /// bit c of the low word is core c, bit c of the high word core 32 + c.
 pub const TABLE_HEAD_WORDS: usize = 5;
 /// The words of a record: next, O, v, C, D, T, w. Odd jobs take v cores, even ones w; where the two differ the task counts with 2T in P.
@@ -111,7 +111,7 @@ pub const SETS: usize = MOST_TASKS;
 /// The words of an entry of a list.
 const ENTRY_WORDS: usize = 3;
 
-/// No sentence is longer: a buffer of so many bytes is never refused with 18.
+/// No sentence is longer: a buffer of this size is never refused with 18.
 pub const SENTENCE_BYTES: usize = 700;
 /// The words of facts in front of the counts: position, tick, ticks had, and C.
 const FACT_HEAD_WORDS: usize = 4;
@@ -140,7 +140,7 @@ pub enum Verdict {
         /// How many ticks it takes to repeat: P.
         period: u32,
     },
-    /// The first deadline that is missed, and whose.
+    /// The first deadline that is missed, and the position of its task.
     Miss {
         /// The tick of the deadline.
         tick: u32,
@@ -159,7 +159,7 @@ impl fmt::Display for Verdict {
     }
 }
 
-/// An entry of a list, which `replay` takes a run through.
+/// An entry of a list, which `replay` applies to a run.
 ///
 /// ```
 /// use sivorandra::{replay, Entry};
@@ -169,7 +169,7 @@ impl fmt::Display for Verdict {
 /// let list = [Entry::Advance { reports: 0, empties: 1 }, Entry::Advance { reports: 2, empties: 0 }];
 /// assert_eq!(replay(&table, &list)?.row?[..3], [3, 0, 0]);
 ///
-/// // under rule 2 two of four tasks that take turns on one core are taken out, and then one that there is not
+/// // under rule 2 two of four tasks that share one core are withdrawn, and then one that does not exist
 /// let turns = [1, 1, 2, 0, 0, 2, 0, 1, 1, 4, 4, 1, 3, 0, 1, 1, 4, 4, 1, 4, 0, 1, 1, 4, 4, 1, 0, 0, 1, 1, 4, 4, 1];
 /// let out = replay(&turns, &[Entry::WithdrawAll { set: 0b101 }, Entry::WithdrawAll { set: 0b10010 }])?;
 /// assert_eq!(out.answers, [Ok(()), Err(sivorandra::Refusal::NoPosition)]);
@@ -179,19 +179,19 @@ impl fmt::Display for Verdict {
 #[derive(Clone, Copy, Debug, PartialEq, Eq, Hash)]
 #[non_exhaustive]
 pub enum Entry {
-    /// One tick on, as `Run::advance` takes a run.
+    /// One tick, as `Run::advance` moves a run.
     Advance {
         /// Bit p: the job of position p + 1 ends after this tick.
         reports: u32,
-        /// Bit p: the job of position p + 1, released in this very tick, is empty.
+        /// Bit p: the job of position p + 1, released in this tick, is empty.
         empties: u32,
     },
-    /// A task taken out, as by `Run::withdraw`; no tick passes.
+    /// A task withdrawn, as by `Run::withdraw`; no tick passes.
     Withdraw {
         /// The position, from 1.
         position: u32,
     },
-    /// Several tasks taken out together, or none, as by `Run::withdraw_all`; no tick passes.
+    /// Several tasks withdrawn together, or none, as by `Run::withdraw_all`; no tick passes.
     WithdrawAll {
         /// Bit p: position p + 1.
         set: u32,
@@ -251,7 +251,7 @@ pub struct Run {
 /// ```
 /// use sivorandra::{Refusal, RowAnswer, Supplied, LIMITED};
 ///
-/// // our own planner misses a deadline by this rule; theirs does not
+/// // by this rule a deadline is missed; the supplied plan misses none
 /// let table = [1, 3, LIMITED, 0, 0, 2, 0, 2, 2, 5, 5, 2, 3, 0, 2, 3, 5, 5, 2, 0, 0, 1, 4, 5, 5, 1];
 /// let mut plan = Supplied::begin(&table)?;
 /// for row in [[1, 1, 3], [1, 1, 3], [2, 2, 3], [2, 2, 3]] {
@@ -266,7 +266,7 @@ pub struct Supplied {
     words: [u32; PLAN_WORDS],
 }
 
-/// What a row of a supplied plan is answered where it is not refused.
+/// The answer to a row of a supplied plan that is not refused.
 ///
 /// ```
 /// use sivorandra::{RowAnswer, Supplied};
@@ -283,7 +283,7 @@ pub enum RowAnswer {
     Accepted,
 }
 
-/// What a sentence says of a miss.
+/// The facts of a miss that a sentence contains.
 ///
 /// ```
 /// let facts = sivorandra::facts_of(b"task 3 misses at tick 5 with 3 of 4 ticks; task 1 ran 2.").expect("a sentence");
@@ -382,7 +382,7 @@ pub fn version() -> u32 {
     unsafe { sivorandra_version() }
 }
 
-/// The verdict on a table's words, from one release, end or deadline to the next or tick by tick, whichever is faster for the table's periods.
+/// The verdict on a table's words, event by event or tick by tick, whichever is faster for the table's periods.
 ///
 /// ```
 /// use sivorandra::{judge, Refusal, Verdict};
@@ -398,7 +398,7 @@ pub fn judge(words: &[u32]) -> Result<Verdict, Refusal> {
     verdict(ask(|answer, len| unsafe { sivorandra_judge(words.as_ptr(), words.len(), answer, len) }))
 }
 
-/// The same verdict, always tick by tick. It is there to be compared with the other.
+/// The same verdict, always tick by tick, for comparison with the other.
 ///
 /// ```
 /// use sivorandra::{judge, judge_ticks};
@@ -426,7 +426,7 @@ pub fn plan(words: &[u32], a: u32, b: u32, rows: &mut [u8]) -> Result<(), Refusa
     done(ask(|answer, len| unsafe { sivorandra_plan(words.as_ptr(), words.len(), a, b, rows.as_mut_ptr(), rows.len(), answer, len) }))
 }
 
-/// Writes the miss of a table's words as a sentence at the front of `buffer`, and gives its length. A refusal leaves the buffer as found: 17 where the table has no miss, 18 where
+/// Writes the miss of a table's words as a sentence at the front of `buffer`, and returns its length. A refusal leaves the buffer as found: 17 where the table has no miss, 18 where
 /// the buffer is shorter than the sentence.
 ///
 /// ```
@@ -460,7 +460,7 @@ pub fn sentence(words: &[u32]) -> Result<String, Refusal> {
     Ok(buffer[..length].iter().map(|&byte| byte as char).collect())
 }
 
-/// The facts that a sentence says; none where the bytes are no sentence.
+/// The facts of a sentence, parsed; none where the bytes are no sentence.
 ///
 /// ```
 /// use sivorandra::facts_of;
@@ -476,8 +476,8 @@ pub fn facts_of(bytes: &[u8]) -> Option<Facts> {
     (case == 0).then_some(Facts { position: words[0] as u32, tick: words[1], had: words[2], length: words[3], ran })
 }
 
-/// The longest answer of each task of a table's words: the most ticks from a job's release to its end, that of position 1 first, and 0 past the last task. No full-length job
-/// ever takes longer and some full-length job takes just that; in a run of a firm table no job takes longer, however early jobs end. 13 where the table misses.
+/// The worst-case response time of each task of a table's words: the most ticks from a job's release to its end, that of position 1 first, and 0 past the last task. No full-length job
+/// ever takes longer and some full-length job takes exactly that; in a run of a firm table no job takes longer, however early jobs end. 13 where the table misses.
 ///
 /// ```
 /// use sivorandra::{response_times, Refusal, LIMITED};
@@ -492,9 +492,9 @@ pub fn response_times(words: &[u32]) -> Result<[u32; MOST_TASKS], Refusal> {
     figures(|figures, most, answer, len| unsafe { sivorandra_response_times(words.as_ptr(), words.len(), figures, most, answer, len) })
 }
 
-/// The tasks in the clash of a table's words, which misses: the set of the positions kept, bit p for position p + 1. From the lowest priority upward a task is dropped if what
-/// remains still misses and is not empty, in whole passes until one drops nothing. The tasks kept still miss, and without any one of them the rest does not, or is empty. 17 where
-/// the table has no miss.
+/// A conflict of a table's words, which misses, a minimal set of tasks that misses: the set of the positions kept, bit p for position p + 1. From the lowest priority upward a task is
+/// dropped if some task remains and the remaining tasks still miss, in whole passes until one drops nothing. The tasks kept still miss, and without any one of them the rest does not,
+/// or is empty. 17 where the table has no miss.
 ///
 /// ```
 /// use sivorandra::{conflict, Refusal, GREEDY};
@@ -509,7 +509,7 @@ pub fn conflict(words: &[u32]) -> Result<u32, Refusal> {
     given(ask(|answer, len| unsafe { sivorandra_conflict(words.as_ptr(), words.len(), answer, len) }))
 }
 
-/// The spare ticks of each task of a table's words: the largest number of ticks by which its C alone can grow with the table still accepted, that of position 1 first, and 0 past the
+/// The slack of each task of a table's words: the largest number of ticks by which its C alone can grow with the table still accepted, that of position 1 first, and 0 past the
 /// last task. Every smaller growth is accepted too, and one tick more misses, or takes C past `MOST_LENGTH`. 23 where the table is not accepted under rule 2, nor under rule 1 with no
 /// width of a task above one of the next.
 ///
@@ -528,7 +528,7 @@ pub fn slack(words: &[u32]) -> Result<[u32; MOST_TASKS], Refusal> {
     figures(|figures, most, answer, len| unsafe { sivorandra_slack(words.as_ptr(), words.len(), figures, most, answer, len) })
 }
 
-/// Starts a run, takes it through the entries of a list, and asks its row with no empty job.
+/// Starts a run, applies the entries of a list to it, and asks for its row with no empty job.
 ///
 /// ```
 /// use sivorandra::{replay, Entry, Refusal};
@@ -570,7 +570,7 @@ impl Run {
         Ok(Run { words: run })
     }
 
-    /// A run from its words, which may be any: what is no run is refused with 14 by `row`, `sets`, `advance` and the withdrawals.
+    /// A run from any words: words that are no run are refused with 14 by `row`, `sets`, `advance` and the withdrawals.
     ///
     /// ```
     /// use sivorandra::{Refusal, Run, RUN_WORDS};
@@ -595,7 +595,7 @@ impl Run {
         &self.words
     }
 
-    /// The core count, fenced ones too: so many bytes of a row are cores. Of words that are no run it is what stands in its place.
+    /// The core count, fenced ones too: the number of bytes of a row that are cores. For words that are no run it is the word in its place.
     ///
     /// ```
     /// let run = sivorandra::Run::start(&[1, 3, 1, 0, 0, 0, 0, 2, 2, 5, 5, 2])?;
@@ -606,7 +606,7 @@ impl Run {
         self.words[1] as usize
     }
 
-    /// How many tasks the run has, at positions 1 to this. Of words that are no run it is what stands in its place.
+    /// How many tasks the run has, at positions 1 to this. For words that are no run it is the word in its place.
     ///
     /// ```
     /// let run = sivorandra::Run::start(&[1, 3, 1, 0, 0, 0, 0, 2, 2, 5, 5, 2])?;
@@ -617,7 +617,7 @@ impl Run {
         self.words[2] as usize
     }
 
-    /// The set of withdrawn positions, bit p for position p + 1. Of words that are no run it is what stands in its place.
+    /// The set of withdrawn positions, bit p for position p + 1. For words that are no run it is the word in its place.
     ///
     /// ```
     /// let mut run = sivorandra::Run::start(&[1, 3, 1, 0, 0, 0, 0, 2, 2, 5, 5, 2])?;
@@ -629,8 +629,8 @@ impl Run {
         self.words[5]
     }
 
-    /// The row of the present tick, where bit p of `empties` says that the job of position p + 1, released in this very tick, is empty. The run stays as it is: the same set is
-    /// to be said to `advance`.
+    /// The row of the present tick, where bit p of `empties` is set if the job of position p + 1, released in this tick, is empty. The run stays as it is: `advance` needs
+    /// the same set.
     ///
     /// ```
     /// use sivorandra::{Refusal, Run};
@@ -649,7 +649,7 @@ impl Run {
     }
 
     /// The row of the present tick as sets of cores, that of position 1 first: core c is bit c. Held cores are in the holder's set, lent ones in the borrower's, fenced ones in none.
-    /// No two overlap, and each has as many cores as its job is wide, or none; but a holder that lends has what it has not lent. Sets past the count are 0. It has `row`'s numbers.
+    /// No two overlap, and each has as many cores as its job's width, or none; but a holder that lends has the cores that it has not lent. Sets past the count are 0. It has `row`'s numbers.
     ///
     /// ```
     /// use sivorandra::{Refusal, Run, LENDING};
@@ -671,7 +671,7 @@ impl Run {
         Ok(sets)
     }
 
-    /// One tick on, where bit p of `reports` says that the job of position p + 1 ends after this tick, and bit p of `empties` that it is released in this very tick and empty. A
+    /// Moves the run by one tick. Bit p of `reports` is set if the job of position p + 1 ends after this tick, bit p of `empties` if it is released in this tick and empty. A
     /// refusal leaves the run as it is.
     ///
     /// ```
@@ -688,9 +688,9 @@ impl Run {
         done(ask(|answer, len| unsafe { sivorandra_advance(self.words.as_mut_ptr(), self.words.len(), reports, empties, answer, len) }))
     }
 
-    /// Takes the task of a position, from 1, out of the run for good, at any time. A job of it that was released before this tick goes on; one released in this very tick, and all
+    /// Withdraws the task of a position, from 1, from the run for good, at any time. A job of it that was released before this tick goes on; one released in this tick, and all
     /// later ones, are empty, with or without their bit. A refusal leaves the run as it is: 21 where the table is not firm by its rule and widths, 22 where there is no such
-    /// position; 15 is not looked at.
+    /// position; 15 is not checked.
     ///
     /// ```
     /// use sivorandra::{Refusal, Run};
@@ -714,15 +714,15 @@ impl Run {
         done(ask(|answer, len| unsafe { sivorandra_withdraw(self.words.as_mut_ptr(), self.words.len(), position, answer, len) }))
     }
 
-    /// Takes the tasks of a set of positions out of the run together, as `withdraw` takes one, where bit p of `set` says position p + 1: all of them, or in a refusal none. It leaves
+    /// Withdraws the tasks of a set of positions together, as `withdraw` does one; bit p of `set` is position p + 1. It withdraws all of them, or in a refusal none, and leaves
     /// the run that single withdrawals leave, in any order. 14, 21 and 22 in this order, for the empty set too; 22 where a bit is past the count.
     ///
     /// ```
     /// use sivorandra::{Refusal, Run, LIMITED};
     ///
-    /// // three tasks that take turns on one core
+    /// // three tasks that share one core
     /// let mut run = Run::start(&[1, 1, LIMITED, 0, 0, 2, 0, 1, 1, 3, 3, 1, 3, 0, 1, 1, 3, 3, 1, 0, 0, 1, 1, 3, 3, 1])?;
-    /// assert_eq!(run.withdraw_all(0b1001), Err(Refusal::NoPosition)); // there is no position 4, so nobody is taken out
+    /// assert_eq!(run.withdraw_all(0b1001), Err(Refusal::NoPosition)); // there is no position 4, so no task is withdrawn
     /// assert_eq!(run.withdrawn(), 0);
     /// let mut single = run.clone();
     /// single.withdraw(3)?;
@@ -756,7 +756,7 @@ impl Supplied {
         Ok(Supplied { words: plan })
     }
 
-    /// A plan from its words, which may be any: what is no plan is refused with 14 by `take`. Words of a note that are no phase are kept, and agree with no phase (26).
+    /// A plan from any words: words that are no plan are refused with 14 by `take`. Words of a note that are no phase are kept, and agree with no phase (26).
     ///
     /// ```
     /// use sivorandra::{Refusal, Supplied, PLAN_WORDS};
@@ -781,7 +781,7 @@ impl Supplied {
         &self.words
     }
 
-    /// The core count, fenced ones too: a row has so many bytes. Of words that are no plan it is what stands in its place.
+    /// The core count, fenced ones too: the number of bytes of a row. For words that are no plan it is the word in its place.
     ///
     /// ```
     /// let plan = sivorandra::Supplied::begin(&[1, 3, 1, 0, 0, 0, 0, 2, 2, 5, 5, 2])?;
@@ -792,7 +792,7 @@ impl Supplied {
         self.words[1] as usize
     }
 
-    /// The tick whose row is next: so many rows have been taken.
+    /// The tick whose row is next: the number of rows taken.
     ///
     /// ```
     /// let mut plan = sivorandra::Supplied::begin(&[1, 3, 1, 0, 0, 0, 0, 2, 2, 5, 5, 2])?;
