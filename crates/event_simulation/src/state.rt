@@ -1,5 +1,5 @@
 // The state of a run that jumps at a tick, and a jump. Its machine is that of crate simulation: three numbers for each of 32 places in one array, lent, and
-// registers by value; but the event of a place is its next release or deadline, whichever comes first, and the deadline counts whether the job has ended or not.
+// registers by value; but the event of a place is its next release or deadline, whichever is first, and the deadline counts whether the job has ended or not.
 ghost use mathlib.Core.Path.{_≡_};
 ghost use Rattle.table.specs.declared.Loaded.{Loaded};
 ghost use Rattle.simulation.specs.TickState.{numbersBy};
@@ -11,8 +11,8 @@ use simulation::TRIPLE;
 use simulation::columns::Setting;
 use table::Loaded;
 
-// The state of a run: the next event, its earliest event; the set of the places whose event this tick is; the set of claimants; the claimants for which the kept
-// choice was made, and those that are granted cores by it; of the places with two widths, those that are at their second.
+// The state of a run: the next event, its earliest event; the set of the places whose event this tick is; the set of claimants; the claimants for which
+// the kept choice was made, and those that are granted cores by it; of the places with two widths, those that are at their second.
 pub struct Registers {
     pub tick: u32,
     pub event: u32,

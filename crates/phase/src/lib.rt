@@ -9,7 +9,7 @@ mod moves; // moves.rt: one tick
 pub mod starts; // starts.rt: a task as it starts, and a place past the count
 
 // The phase of a task in the run, with its counts: Coming(ticks left to the first release; the field: not yet released), Working(ticks since release, ticks
-// had, ticks reserved; the field: pending), Holding(ticks since release, ticks reserved; the field: keeping its budget after early completion),
+// had, ticks reserved; the field: pending), Holding(ticks since release, ticks reserved; the field: completed early, processors reserved),
 // Resting(ticks since release; the field: completed).
 pub enum Phase {
     Coming(u32),

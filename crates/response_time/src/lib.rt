@@ -7,7 +7,8 @@ use table::Answer;
 mod recording; // recording.rt: what is late at a tick, and the response times of the jobs that end
 mod walk; // walk.rt: the full-length run, jump by jump, and its response times
 
-// The answer: passed, or Refused with number and position. And the worst-case response time of each task in priority order; zeros past the count and in a refusal.
+// The answer: passed, or Refused with number and position. And the worst-case response time of each task in priority order; zeros past the count, and in a
+// refusal.
 pub struct ResponseTimes {
     pub answer: Answer,
     pub responses: [u32; MOST_TASKS],

@@ -74,7 +74,7 @@ count ws = least (suc (records ws)) (λ k. eqb (met ws k) 0)
 unfoldable pub chain : List ℕ → List ℕ
 chain ws = map (met ws) (upFrom 0 (count ws))
 
--- a task's position is its place on the chain, from 1, the highest priority: the task at position p (scope: position; the field: rank in fixed task priority order)
+-- a task's position is its place on the chain, from 1, the highest priority (scope: position; the field: rank in fixed task priority order): the task at p
 abbrev pub taskAt : List ℕ → ℕ → Task
 taskAt ws p = taskOfRecord ws (met ws (p - 1))
 
