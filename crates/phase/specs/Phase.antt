@@ -16,7 +16,7 @@ use Rattle.phase.specs.declared.TaskState.{TaskState}
 
 -- Coming(left), 1 to O, before the first release; its first job is an odd one. Working(since release z, ticks had, ticks reserved): z 0 to D, had below C and
 -- at most z, reserved at most had, and equal to it under rules 1 to 3. Holding(z, reserved), rules 3 and 4 only: z 0 to D−1, reserved 0 to C−1 and at most z.
--- Resting(z), 1 to T−1. (scope: Coming, Working, Holding, Resting; the field: not yet released, pending, completed early, processors reserved, completed)
+-- Resting(z), 1 to T−1. (scope: Coming; the field: not yet released. Working: pending. Holding: completed early, processors reserved. Resting: completed)
 abbrev pub PhaseIn : Rule → Task → Bool → Phase → Type 0
 PhaseIn r τ even (Coming left) = InRange 1 (τ .offset) left × (even ≡ false)
 PhaseIn r τ even (Working z had reserved) =
