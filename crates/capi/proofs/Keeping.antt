@@ -1,4 +1,4 @@
--- What the calls on a run in a buffer leave, by whether there is room and by what the buffer holds.
+-- What the calls on a run in a buffer leave, by whether there is space and by what the buffer holds.
 use mathlib.Core.Path.{_≡_, refl, sym, ap, _∙_}
 use mathlib.Core.Bool.{true, false, _&&_}
 use mathlib.Core.List.{List, [], _∷_, _++_}
@@ -199,7 +199,7 @@ module _ (ws : List ℕ) where
   sets-none e h = ap (λ (v : BufferRun). setsFrom v e) (sym (by-held ws h))
 
   module _ (x : Entry) where
-    -- the run that an entry returns has as few places as the buffer says
+    -- the run that an entry returns has the buffer's count of places
     pub entry-few : (a : Advanced) (r : Run) → holdsRun ws ≡ true → r ≡ runIn ws → a ≡ entryOf r x → a .run .count ≤ places
     unfolding runIn
     entry-few a r h e p =

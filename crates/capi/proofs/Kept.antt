@@ -66,7 +66,7 @@ fits-start ws = go (startAnswer ws) refl
     go (Refused n p) e =
         subst (λ (s : Started). FitsWord (s .run)) (sym (start-refused ws n p e)) (record { all = refl; few = omega arith; past = refl })
 
--- start writes all words of the run that it returns, whatever stood there
+-- start writes all words of the run that it returns, whatever was there
 pub start-whole : (ws buffer : List ℕ) → take runWords (startedIn ws buffer) ≡ encode (startOf ws .run)
 start-whole ws buffer =
     let r = startOf ws .run in

@@ -13,7 +13,7 @@ use Rattle.capi.specs.Encoding.{placeWords}
 use Rattle.capi.specs.Runs.{rowCall, advanceCall}
 use Rattle.capi.proofs.Calling.{calling}
 
--- so many words as they are lent
+-- a number of words as they are lent
 abbrev found : ℕ → List ℕ
 found n = replicate n 77
 

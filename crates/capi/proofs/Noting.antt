@@ -34,14 +34,14 @@ module _ (n : ℕ) (vs ws : List ℕ) where
       let d = length-drop (n + length vs) ws in
       omega arith
 
-  -- what stands before them stays ..
+  -- what is before them stays ..
   pub take-put : (k : ℕ) → k ≤ n → n ≤ length ws → take k (putAt n vs ws) ≡ take k ws
   take-put k l h =
       sym (take-take k n (putAt n vs ws) l)
       ∙ (ap (take k) (ap (take n) (split h) ∙ take-at (take n ws) (vs ++ drop (n + length vs) ws) n (length-take-le n ws h))
       ∙ take-take k n ws l)
 
-  -- .. and what stands behind them
+  -- .. and what is after them
   pub drop-put : n ≤ length ws → drop (n + length vs) (putAt n vs ws) ≡ drop (n + length vs) ws
   drop-put h = drop-at (take n ws ++ vs) (drop (n + length vs) ws) (n + length vs) (length-front h)
 
@@ -71,7 +71,7 @@ pub word-read : (ws : List ℕ) (n x : ℕ) → n < length ws → getD (putAt n 
 word-read ws n x h =
     ap (λ (l : List ℕ). getD l n 0) (split n (x ∷ []) ws (omega arith)) ∙ getD-at (take n ws) x (drop (n + 1) ws) 0 n (length-take-le n ws (omega arith))
 
--- to put again what stands there changes nothing
+-- to put again what is there changes nothing
 pub put-same : (ws vs : List ℕ) (n : ℕ) → vs ++ drop (n + length vs) ws ≡ drop n ws → n ≤ length ws → putAt n vs ws ≡ ws
 put-same ws vs n e h = split n vs ws h ∙ (ap (λ (l : List ℕ). take n ws ++ l) e ∙ take-append-drop n ws)
 

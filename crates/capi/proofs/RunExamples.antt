@@ -12,7 +12,7 @@ use Rattle.capi.specs.Encoding.{placeWords}
 use Rattle.capi.specs.Runs.{rowCall, advanceCall, withdrawCall}
 use Rattle.capi.proofs.Calling.{calling}
 
--- so many words as they are lent
+-- a number of words as they are lent
 abbrev lent : ℕ → List ℕ
 lent n = replicate n 77
 
@@ -26,7 +26,7 @@ words x e ph =
 abbrev without : ℕ → Phase → List ℕ
 without x ph = words x false ph
 
--- .. with nobody withdrawn, and so at an even one
+-- .. with no position withdrawn, and so at an even one
 abbrev one : Phase → List ℕ
 one ph = words 0 false ph
 

@@ -12,7 +12,7 @@ use Rattle.sentence.specs.Parsed.{parsed, candidate, numbersFrom, paired, same}
 use Rattle.capi.specs.Calls.{callResult}
 use Rattle.capi.specs.Sentences.{countOf, countsFrom, factWordsOf, factsCall}
 
--- so many words as they are lent
+-- a number of words as they are lent
 abbrev lent : ℕ → List ℕ
 lent n = replicate n 77
 

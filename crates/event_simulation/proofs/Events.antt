@@ -59,7 +59,7 @@ module _ (t : Loaded) (fit : Fit t) where
     met = λ p w l. absurd (not-suc-le-zero l);
   }
 
-  -- after jumps at whose ticks nothing was missed the run stands as the full-length run does
+  -- after jumps at whose ticks nothing was missed the run represents the full-length run
   pub jumps-represent : (i : ℕ) → Unmissed t i → StateRepresents t (jumps t i)
   unfolding jumps
   jumps-represent zero met = initial-represents

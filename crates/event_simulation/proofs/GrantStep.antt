@@ -79,7 +79,7 @@ module _
             passed-out k before afterHandling m (lowest rest) (w .off) (w .on) (w .same) (w .below) (have .0)
             (eq-eqb (getD (m .left) (lowest rest) 0) k (omega (arith, still, have .1)))
 
--- A turn on a machine whose numbers stand in one list
+-- A turn on a machine whose numbers are in one list
 module _ (k granted rest : ℕ) (m₀ : Machine) (xs : List ℕ) (c : ℕ) (below : lowest rest < 32) (w : GrantStep k granted rest m₀ (machineOf xs c)) where
   has : getD (segment 0 xs) (lowest rest) 0 ≡ getD xs (lowest rest) 0
   has = front-at xs (lowest rest) below

@@ -44,7 +44,7 @@ pub record Line : Type 0 where
   pub answers : List Answer
   pub rows : List Asked
 
--- what the definitions say of a line's table and list
+-- the value by the definitions of a line's table and list
 abbrev pub worked : Line → Line
 worked l = record {
   name = l .name;
@@ -118,7 +118,7 @@ lines =
     (fencedOn 5 9 limited (A greedy .tasks)) (Miss 5 3) [] [] (shown (255 ∷ 1 ∷ 1 ∷ 255 ∷ 0 ∷ []) ∷ [])
     ∷ []
 
--- every line is what the definitions say, line by line
+-- every line is its value by the definitions, line by line
 computed : LineByLine worked lines lines
 unfolding computing
 computed = (refl, (refl, (refl, (refl, (refl, (refl, (refl, (refl, (refl, (refl, (refl, (refl, (refl, (refl, (refl, (refl, (refl, tt)))))))))))))))))

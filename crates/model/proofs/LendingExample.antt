@@ -105,7 +105,7 @@ pub lending-shows :
 unfolding computing
 lending-shows = (refl, refl, refl, refl, refl)
 
--- .. and as sets: that of a holder, which has cores to lend, is another where somebody borrows of them
+-- .. and as sets: that of a holder, which has cores to lend, is another where some place borrows of them
 pub lending-sets :
     (setsAsked alone (book alone (reports 1 ∷ [])) 0 ≡ shown (7 ∷ []))
     × (setsAsked served-below (book served-below (reports 1 ∷ [])) 0 ≡ shown (4 ∷ 3 ∷ []))

@@ -55,7 +55,7 @@ width-lines =
     (shown (1 ∷ 255 ∷ 0 ∷ []) ∷ shown (1 ∷ 255 ∷ 1 ∷ []) ∷ shown (1 ∷ 255 ∷ 0 ∷ []) ∷ [])
     ∷ []
 
--- every line is what the definitions say, line by line
+-- every line is its value by the definitions, line by line
 computed : LineByLine worked width-lines width-lines
 unfolding computing
 computed = (refl, (refl, (refl, (refl, (refl, (refl, (refl, (refl, (refl, (refl, (refl, (refl, (refl, tt)))))))))))))

@@ -20,7 +20,7 @@ use Rattle.model.specs.Search.{bit}
 use Rattle.model.specs.Task.{Table}
 use Rattle.model.specs.WithdrawSet.{SetBelow}
 
--- WHAT IT IS ANSWERED, whatever stands in the book: 15 is not looked at
+-- WHAT IT IS ANSWERED, whatever is in the book: 15 is not tested
 
 -- a position is none of the table exactly if it is 0 or past the count
 pub stranger-exact : (s : Table) (p : ℕ) → (stranger s p ≡ true) ↔ ((p ≡ 0) ⊎ (length (s .tasks) < p))
@@ -143,7 +143,7 @@ withdraw-lines s b p = go (answer s b (withdraw p))
 
 -- ONCE WITHDRAWN, FOR EVER
 
--- an entry takes nobody out of the set
+-- an entry takes no position out of the set
 stays-one : (s : Table) (x : Entry) (b : Book) (q : ℕ) → bit (b .withdrawn) q ≡ true → bit (enter s x b .withdrawn) q ≡ true
 unfolding enter afterTaken step emptied
 stays-one s x b q h = go x (answer s b x)

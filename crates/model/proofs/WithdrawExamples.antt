@@ -91,7 +91,7 @@ withdraw-lines =
     (one 1 ∷ rowRefused 15 1 ∷ rowRefused 15 1 ∷ rowRefused 15 1 ∷ rowRefused 15 1 ∷ rowRefused 15 1 ∷ [])
     ∷ []
 
--- every line is what the definitions say, line by line
+-- every line is its value by the definitions, line by line
 computed : LineByLine worked withdraw-lines withdraw-lines
 unfolding computing
 computed = (refl, (refl, (refl, (refl, (refl, (refl, (refl, (refl, (refl, (refl, (refl, (refl, (refl, (refl, tt))))))))))))))

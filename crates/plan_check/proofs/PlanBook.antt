@@ -33,7 +33,7 @@ opened s t o p = cond (releasedAt (task s p) t) (task s p .length) (o p)
 unfoldable pub lateNow : Table → ℕ → (ℕ → ℕ) → Bool
 lateNow s t o = any (length (s .tasks)) (λ p. dueAt (task s p) t && ltb 0 (o p))
 
--- 24: a stranger; a place in the row with a wrong width or with nothing owed
+-- 24: an unknown position; a place in the row with a wrong width or with nothing owed
 unfoldable pub strangerAt : Table → List ℕ → ℕ → Bool
 strangerAt s row c = cond (bit (s .fence) c) (not (eqb (getD row c 0) fencedByte)) (ltb (length (s .tasks)) (getD row c 0))
 

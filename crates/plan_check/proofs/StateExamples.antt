@@ -1,5 +1,5 @@
 -- Single rows on states built by hand, and beginnings, computed from the definitions: each number from both sides, which comes first where two apply,
--- what is noted and when, and what stays.
+-- what is recorded and when, and what stays.
 use mathlib.Core.Bool.{Bool, false, true}
 use mathlib.Core.List.{List, [], map, _++_, _∷_}
 use mathlib.Core.Path.{refl, _≡_}
@@ -35,7 +35,7 @@ use Rattle.plan_check.specs.Take.{answerAt, finalAnswer, takeAnswer, tak
 
 -- STATES
 
--- a task where it stands: O, v, C, D, T, w, whether its job is an even one, and its phase
+-- a task in its state: O, v, C, D, T, w, whether its job is an even one, and its phase
 abbrev at₂ : ℕ → ℕ → ℕ → ℕ → ℕ → ℕ → Bool → Phase → Task
 at₂ o v c d p w e ph = record { offset = o; width = v; length = c; deadline = d; period = p; second = w; even = e; phase = ph }
 
@@ -50,7 +50,7 @@ places ts = ts ++ replicate (mostTasks - length ts) unused
 abbrev notes : List Phase → List Note
 notes phs = map note phs ++ drop (length phs) blank
 
--- so many cores under a rule, with nothing fenced or withdrawn
+-- a number of cores under a rule, with nothing fenced or withdrawn
 abbrev on : ℕ → ℕ → List Task → Run
 on rule m ts = record { rule = rule; cores = m; fence = 0; withdrawn = 0; count = length ts; tasks = places ts }
 
@@ -191,7 +191,7 @@ lines =
     ∷ goes "from the last S on what is noted stays" taken (late (Working 0 0 0) 2 (Resting 1)) (1 ∷ []) 3 (Resting 1 ∷ []) (false ∷ []) (Resting 1 ∷ [])
     ∷ []
 
--- every line is what the definitions say, line by line
+-- every line is its value by the definitions, line by line
 computed : LineByLine computes lines lines
 unfolding takeOf takeAnswer answerAt finalAnswer differs missed stateOut faulty anyStranger workedRow cellCount mapFirst runOut pastCount computing
 computed =
@@ -237,7 +237,7 @@ beyond t ns = record {
   noted = notes ns;
 }
 
--- any number hands back the whole state; a row that is taken, and notes, leaves what stands past the count
+-- any number returns the whole state; a row that is taken, and notes, leaves what is past the count
 pub rest-stays :
     (takeOf (one (Working 3 0 0) 3 (Working 0 0 0)) (1 ∷ []) .plan ≡ one (Working 3 0 0) 3 (Working 0 0 0))
     × (drop 1 (takeOf (beyond 1 (Resting 0 ∷ Holding 8 8 ∷ [])) (0 ∷ []) .plan .run .tasks) ≡ at 7 7 7 7 (Holding 7 7) ∷ replicate 30 unused)

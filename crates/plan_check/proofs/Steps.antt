@@ -31,7 +31,7 @@ pub record Ok (s : Table) (r : ℕ → List ℕ) (t : ℕ) : Type 0 where
   pub on-time : lateNow s t (owedAt s r t) ≡ false
   pub right : faulty s t (owedAt s r t) (r t) ≡ false
 
--- and what is looked at after the last
+-- and what is tested after the last
 pub record Closing (s : Table) (r : ℕ → List ℕ) (t : ℕ) : Type 0 where
   pub on-time : lateNow s t (owedAt s r t) ≡ false
   pub same : differs s (planBookAt s r t) ≡ false

@@ -1,4 +1,4 @@
--- What it says that a printer is sound: its numbers in their limits, and its run one that can be stepped.
+-- The meaning of a valid printer: its numbers in their limits, and its run one that can be stepped.
 use mathlib.Core.Path.{_≡_, refl}
 use mathlib.Core.Bool.{Bool, true, false, not, _&&_}
 use mathlib.Core.List.{map}

@@ -1,4 +1,4 @@
--- The lines of figures: one line more, as it is written; and what an answer says. Assumes nothing.
+-- The lines of numbers: one line more, as it is written; and the meaning of an answer. Assumes nothing.
 use mathlib.Core.List.{List, [], _∷_, _++_, append-assoc, append-nil}
 use mathlib.Core.Path.{_≡_, refl, ap, sym, _∙_, subst}
 use Prim.Native.Nat.{ℕ, suc, _+_, _≤_, _<_}
@@ -92,7 +92,7 @@ refusal-text a xs n p e = ap (λ (b : Answer). figureLinesBy b xs) (sym e)
 -- WHAT `response_times` ANSWERS
 
 module _ (ws : List ℕ) (r : ResponseTimes) (h : ResponseTimesOf ws r) where
-  -- what is said goes by it
+  -- the output follows from it
   pub response-times-by : figureLinesBy (r .answer) (take (length (tableOf ws .tasks)) (r .responses)) ≡ responseTimesText ws
   unfolding responseTimesText
   response-times-by = ap (λ (w : ResponseTimes). figureLinesBy (w .answer) (take (length (tableOf ws .tasks)) (w .responses))) (h .value)
@@ -104,7 +104,7 @@ module _ (ws : List ℕ) (r : ResponseTimes) (h : ResponseTimesOf ws r) where
 -- WHAT `slack` ANSWERS
 
 module _ (ws : List ℕ) (r : SlackAnswer) (h : SlackOf ws r) where
-  -- what is said goes by it
+  -- the output follows from it
   pub slack-by : figureLinesBy (r .answer) (take (length (tableOf ws .tasks)) (r .slack)) ≡ slackText ws
   unfolding slackText
   slack-by = ap (λ (w : SlackAnswer). figureLinesBy (w .answer) (take (length (tableOf ws .tasks)) (w .slack))) (h .value)

@@ -31,7 +31,7 @@ module _ (ws : List ℕ) (e : answerMeaning (startOf ws .answer) ≡ taken) wher
   started : Represents (tableOf ws) emptyBook (firstRun ws)
   started = subst (λ (r : Run). Represents (tableOf ws) emptyBook r) (sym (start-of ws (startOf ws) refl .started e)) (represents-start ws none)
 
-  -- the run stands for the book after the list
+  -- the run represents the book after the list
   pub stands : (xs : List Entry) → Represents (tableOf ws) (book (tableOf ws) xs) (runAfterList (firstRun ws) xs)
   stands xs = represents-after (tableOf ws) sound xs emptyBook (firstRun ws) started
 

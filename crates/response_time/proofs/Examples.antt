@@ -19,7 +19,7 @@ pub record Line : Type 0 where
   pub words : List ℕ
   pub says : ResponseTimes
 
--- what the definitions say of a line's words
+-- the value by the definitions of a line's words
 abbrev pub worked : Line → Line
 worked l = record { words = l .words; says = responseTimesOf (l .words) }
 
@@ -60,7 +60,7 @@ wordsF = header 1 1 1 ++ entry 0 0 1 2 1 2
 abbrev early : List ℕ
 early = header 1 4 3 ++ entry 2 6 2 1 2 3 ++ entry 3 0 4 1 4 6 ++ entry 0 0 2 1 2 4
 
--- six tasks that all want one core in tick 0, and so miss at tick 1, and a seventh; their horizon is 1,000,000,001
+-- six tasks that all claim one core in tick 0, and so miss at tick 1, and a seventh; their horizon is 1,000,000,001
 abbrev six-at-once : List ℕ
 six-at-once = header 1 1 1 ++ chained 7 1 (8 ∷ 27 ∷ 125 ∷ 7 ∷ 11 ∷ 13 ∷ []) ++ entry 0 1001 1 1 1 37
 
@@ -96,7 +96,7 @@ lines =
     ∷ refuses (header 1 1 1 ++ entry 2 0 1 2 1 2 ++ entry 0 0 2 1 1 1) 7 2 ∷ refuses six-at-once 9 0
     ∷ []
 
--- every line is what the definitions say
+-- every line is its value by the definitions
 pub examples : map worked lines ≡ lines
 unfolding responseTimesOf responseTimesIn worstResponseBy greatest responseTime verdictOf chained answerOf byWalk byTasks byHorizon firstOut endingOf lastStep headerNumber
     tableOf chain count met computing

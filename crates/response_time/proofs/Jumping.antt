@@ -30,7 +30,7 @@ use Rattle.response_time.proofs.Counted.{worst-response-same, worst-res
 use Rattle.response_time.proofs.Ends.{Ended, works-ended, rests-ended, ended-same, ended-more, release-one, open-until}
 use Rattle.response_time.proofs.Recorded.{noted-at, noted-length}
 
--- the set of the places whose job has ended where a run stands: they claimed when the cores were chosen, and claim no more
+-- the set of the places whose job has ended in a state: they claimed when the cores were chosen, and claim no more
 abbrev pub endedSet : EventState → ℕ
 endedSet s = bitAnd (s .chosen) (bitXor (s .chosen) (s .machine .claiming))
 
@@ -47,7 +47,7 @@ module _ (t : Loaded) (fit : Fit t) (s : EventState) (h : StateRepresents t s) (
   abbrev n : Numbers
   n = loadedNumbers t
 
-  -- once the due places have been looked at, and where the jump lands
+  -- once the due places have been handled, and where the jump lands
   abbrev m : Machine
   m = afterHandling n s
 
@@ -63,7 +63,7 @@ module _ (t : Loaded) (fit : Fit t) (s : EventState) (h : StateRepresents t s) (
   looked : MachineRepresents book (s .tick) (suc (s .tick)) m
   looked = seen t fit s h met
 
-  -- who claims at a place before the jump's ticks and after them, and its next release, which stays
+  -- a place that claims at a place before the jump's ticks and after them, and its next release, which stays
   abbrev c : ℕ → Bool
   c p = bit (m .claiming) p
 
@@ -85,7 +85,7 @@ module _ (t : Loaded) (fit : Fit t) (s : EventState) (h : StateRepresents t s) (
   pub ended-exact : (p : ℕ) → bit (endedSet there) p ≡ c p && not (c′ p)
   ended-exact p = without-bit (there .chosen) (there .machine .claiming) p ∙ ap (λ (b : Bool). b && not (c′ p)) (chosen-claims p)
 
-  -- nobody begins to claim in a jump's ticks
+  -- no place begins to claim in a jump's ticks
   claims-before : (p : ℕ) → p < 32 → c′ p ≡ true → c p ≡ true
   unfolding jumped
   claims-before p l e = and-left (c p) _ (sym (passed-claims (ticksInJump n s) (bit (grantedInJump n s)) m p l) ∙ e)
@@ -215,7 +215,7 @@ module _ (t : Loaded) (fit : Fit t) (s : EventState) (h : StateRepresents t s) (
           go false e true e′ = absurd (true≢false (sym (claims-before p (le-trans l (few t fit)) e′) ∙ e))
           go false e false e′ = still (same-rests e e′)
 
-  -- who is in the set is one of the tasks
+  -- a place that is in the set is one of the tasks
   ended-past : (p : ℕ) → length (book .tasks) ≤ p → bit (endedSet there) p ≡ false
   ended-past p l = ended-exact p ∙ ap (λ (b : Bool). b && not (c′ p)) (looked .beyond p l)
 

@@ -1,4 +1,4 @@
--- What is promised of `worstResponse`: its numbers are the first that apply, its figures hold over all ticks, and it is what is done with a table that was loaded.
+-- The contract of `worstResponse`: its numbers are the first that apply, its figures hold over all ticks, and it is what is done with a table that was loaded.
 use mathlib.Core.Path.{_≡_, refl, sym, ap, _∙_, subst}
 use mathlib.Core.List.{List}
 use Prim.Native.Nat.{ℕ, suc, _<_}
@@ -112,7 +112,7 @@ module _ (ws : List ℕ) where
       zeros = λ m q e. refl;
     }
 
-  -- THE PROMISE, by the verdict
+  -- THE CONTRACT, by the verdict
   pub response-times-promise : ResponseTimesOf ws (responseTimesOf ws)
   response-times-promise = subst (ResponseTimesOf ws) (is (verdictOf ws) refl) (go (verdictOf ws) refl)
     where

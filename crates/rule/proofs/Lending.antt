@@ -120,7 +120,7 @@ module _ (ws reserved : List ℕ) (holders seekers count : ℕ) where
             (ap (λ (t : Bool). cond t (cores (getD reserved i 0)) []) e)
             ∙ (ap (λ (l : List ℕ). borrowedBy i p ++ l) (none-given greedy (claimants ws (tried ws (bit seekers) o i)) p) ∙ append-nil (borrowedBy i p)))
 
-    -- a holder lends: `more` is what is borrowed of its set, `owned` who borrows it, and `next` all that is borrowed then
+    -- a holder lends: `more` is what is borrowed of its set, `owned` the places that borrow it, and `next` all that is borrowed then
     module _ (e : bit holders i ≡ true) (more : List ℕ) (g : GrantedAs greedy (claimants ws (bit y)) count (getD reserved i 0) more)
         (owned : ℕ) (w : (p : ℕ) → bit owned p ≡ ltb p 32 && some (cores (getD more p 0)))
         (next : List ℕ) (size : length next ≡ 32) (n : (p : ℕ) → p < 32 → getD next p 0 ≡ bitOr (getD sets p 0) (getD more p 0)) where

@@ -27,7 +27,7 @@ use Rattle.cores.proofs.Cores.{cores-none, cores-range, cores-length, set-cores
 use Rattle.cores.proofs.Unfenced.{in-open, open-of}
 use Rattle.rule.proofs.Granting.{idle, apart, in-grants, width-or-none}
 
--- who is given cores of the set of the open ones
+-- the places that are given cores of the set of the open ones
 pub granted-open :
     (r : Rule) (bs : List Claimant) (free f n : ℕ) → n ≤ 64 → cores free ≡ unfenced f (min n 64)
     → (p : ℕ) → granted r bs (cores free) p ≡ granted r bs (unfenced f n) p

@@ -194,7 +194,7 @@ module _ (r : Run) where
     unfolding setsOf
     sets-taken = taken-exact (RowApplies r e) (rowAnswer r e) row-right
 
-    -- a value that is the row's by definition keeps what a row promises
+    -- a value that is the row's by definition meets the contract of a row
     pub row-of : (w : Row) → w ≡ rowOf r e → RowOf r e w
     row-of w q = rw q record {
       value = refl;
@@ -253,7 +253,7 @@ module _ (r : Run) where
       unfolding advanceOf
       advance-taken = taken-exact (AdvanceApplies r x e) (advanceAnswer r x e) advance-right
 
-      -- a value that is the advance's by definition keeps what an advance promises
+      -- a value that is the advance's by definition meets the contract of an advance
       pub advance-of : (a : Advanced) → a ≡ advanceOf r x e → AdvanceOf r x e a
       advance-of a q = rw q record {
         value = refl;

@@ -1,4 +1,4 @@
--- Number 14: its test decides what it says, what passes it has sound tasks, and a move and a withdrawal pass it again.
+-- Number 14: its test decides its condition, what passes it has valid tasks, and an advance and a withdrawal pass it again.
 use mathlib.Core.Path.{_≡_, refl, sym, subst}
 use mathlib.Core.Bool.{Bool, true, false, not, _||_, true≢false}
 use Prim.Native.Nat.{ℕ, _<_}
@@ -114,7 +114,7 @@ in-array r p e = go (leb (length (r .tasks)) p) refl
     go true q =
         absurd (true≢false (subst (λ (t : Task). taskOut (wideIn r) (taskOf t) ≡ false) (List·getD-eq-default (r .tasks) pastEnd (leb-true (length (r .tasks)) p q)) e))
 
--- the run one tick on passes 14, where nobody is late
+-- the run one tick on passes 14, where no task is late
 pub moved-passes : (f : ℕ → Bool) (e : ℕ) (r : Run) → Passes r → ((p : ℕ) → p < r .count → lateAt r p ≡ false) → Passes (moved f e r)
 unfolding moved
 moved-passes f e r h n = record {

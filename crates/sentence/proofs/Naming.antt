@@ -32,7 +32,7 @@ unfolding namedFrom
 named-behind i [] zs h = named-zeros i zs h
 named-behind i (n ∷ ns) zs h = rw (named-behind (suc i) ns zs h)
 
--- where each count and what was had are together at most so many, so they are in each part
+-- where each count and what was had are together at most `most`, so they are in each part
 pub named-together : (i had most : ℕ) (ns : List ℕ) → ((k : ℕ) → had + getD ns k 0 ≤ most) → CountsWithin had most (namedFrom i ns)
 unfolding namedFrom CountsWithin
 named-together i had most [] h = tt
@@ -136,7 +136,7 @@ named-injective i (x ∷ xs) (y ∷ ys) l e = go (eqb x 0) refl (eqb y 0) refl (
     go false p true q ih h = let z = first-later (suc i) ys (record { position = suc i; count = x }) (namedFrom (suc i) xs) (sym h) in absurd (omega arith)
     go false p false q ih h = ap₂ (λ (z : ℕ) (zs : List ℕ). z ∷ zs) (ap firstCount h) (ih (ap laterParts h))
 
--- two structs of 32 counts that tell the same facts are the same
+-- two structs of 32 counts with the same facts are the same
 pub meaning-injective : (f g : code.Facts) → length (f .ran) ≡ length (g .ran) → factsBy f ≡ factsBy g → f ≡ g
 meaning-injective f g l e =
     let p : f .position ≡ g .position = ap (λ (x : Facts). x .position) e in

@@ -1,4 +1,4 @@
--- What a line asks, as the code finds it: the numbers behind the letter by the first space among them, and the operation by its letter.
+-- The operation of a line, as the code finds it: the numbers after the letter by the first space among them, and the operation by its letter.
 use mathlib.Core.Bool.{Bool, true, false, cond}
 use mathlib.Core.List.{List, [], _∷_}
 use mathlib.Core.Logic.{⊎-elim}
@@ -58,7 +58,7 @@ words-some l = ⊎-elim (λ e. (l, [], words-one l e)) (λ h. (take (lengthTo sp
 
 -- NUMBERS
 
--- a text with a space says no number
+-- a text with a space represents no number
 spaced : (l : List ℕ) → lengthTo space l < length l → found.Nothing ≡ parseNumber l
 spaced l h = found-nothing l (λ n. omega (arith, mark-stop space l h, n .digits (lengthTo space l) h))
 
@@ -88,7 +88,7 @@ numbers-one : (l : List ℕ) → lengthTo space l ≡ length l → numbersOf (wo
 unfolding numbersOf
 numbers-one l e = ap numbersOf (words-one l e)
 
--- else what stands before the first space and what stands behind it are the two numbers
+-- else what is before the first space and what is after it are the two numbers
 numbers-two :
     (l : List ℕ) → lengthTo space l < length l
     → numbersOf (wordsIn l) ≡ twoOf (parseNumber (take (lengthTo space l) l)) (parseNumber (drop (suc (lengthTo space l)) l))

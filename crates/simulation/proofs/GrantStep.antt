@@ -154,7 +154,7 @@ module _
             served-out before afterEvents m (first rest) (w .off) (w .on) (w .same) (w .below) (have .0)
             (eq-eqb (getD (m .left) (first rest) 0) 1 (omega (arith, still, have .1)))
 
--- A turn on a machine whose numbers stand in one list
+-- A turn on a machine whose numbers are in one list
 module _ (granted rest : ℕ) (m₀ : Machine) (xs : List ℕ) (c : ℕ) (w : GrantStep granted rest m₀ (machineOf xs c)) where
   has : getD (segment 0 xs) (first rest) 0 ≡ getD xs (first rest) 0
   has = front-at xs (first rest) (w .below)

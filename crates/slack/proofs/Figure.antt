@@ -1,4 +1,4 @@
--- THE SPARE TICKS: the figure has what is claimed of it (`slack-exact`), no other number has (`slack-only`), and a growth that is accepted where one tick more
+-- THE SLACK: the figure has what is claimed of it (`slack-exact`), no other number has (`slack-only`), and a growth that is accepted where one tick more
 -- misses is the figure (`slack-found`); no larger growth is accepted (`slack-largest`).
 use mathlib.Core.Bool.{Bool, false, true}
 use mathlib.Core.Logic.{inl, inr, _⊎_}

@@ -163,6 +163,6 @@ module _ (ws : List ℕ) (none : NoneApplies ws) where
       unfenced-horizon : horizon (unfencedTable (tableOf ws)) ≡ horizon (tableOf ws)
       unfenced-horizon = unfold horizon in refl
 
-  -- THE THEOREM: the words with just the unfenced cores pass too, and say the table with just its unfenced cores
+  -- THE THEOREM: the words with just the unfenced cores pass too, and represent the table with just its unfenced cores
   pub unfenced-table : tableOf (unfencedWords ws) ≡ unfencedTable (tableOf ws)
   unfenced-table = unfenced-is ws enough

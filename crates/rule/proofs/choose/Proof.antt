@@ -102,7 +102,7 @@ select-requires c κs = search needs
 enum-told : tie.Need-enum-told Inv-loop μ-loop
 enum-told c = search needs
 
--- the width that is read, and what the rule said to it
+-- the width that is read, and the rule's answer to it
 abbrev width : tie.After-select Inv-loop μ-loop → ℕ
 width c = c .before .width-at .result
 

@@ -40,7 +40,7 @@ off c =
     let l = c .before .loop in
     off-turn (c .before .before .args .ended) (l .rest) (c .loop-test .taken) (l .inv .0) (l .inv .1)
 
--- its period and its next release, as they stand in the lists
+-- its period and its next release, as they are in the lists
 period-at : (c : tie.In-loop Inv-loop μ-loop) (xs : List ℕ) → getD (segment 64 xs) (lowest (c .before .loop .rest)) 0 ≡ getD xs (64 + lowest (c .before .loop .rest)) 0
 period-at c xs = part-at 64 xs (lowest (c .before .loop .rest)) (off c .below)
 

@@ -1,4 +1,4 @@
--- `slack::growth::figures` meets its contract: after each turn the figures of the places so far stand, and zeros behind them. Assumes nothing.
+-- `slack::growth::figures` meets its contract: after each turn the array has the slack of the places so far, and zeros after them. Assumes nothing.
 use mathlib.Core.Path.{_≡_, subst, sym}
 use Prim.Native.Nat.{ℕ, _+_, _-_, _<_, _≤_}
 use native.Mathlib.Omega.{arith}
