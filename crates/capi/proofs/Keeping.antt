@@ -33,7 +33,7 @@ use Rattle.capi.specs.Runs.{startCall, rowFrom, rowCall, setsFrom, setsC
 use Rattle.capi.proofs.Calls.{both}
 use Rattle.capi.proofs.Places.{by-held, held-few}
 
--- THE ROOM FOR AN ANSWER AND FOR n MORE
+-- THE SPACE FOR AN ANSWER AND FOR n MORE
 
 module _ (n : ℕ) (buffer answer : List ℕ) (lent found : List (List ℕ)) where
   pub narrow : length answer < 3 → byRoom (answerFits answer && leb n (length buffer)) lent found ≡ callResult 1 found

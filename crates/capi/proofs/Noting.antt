@@ -48,7 +48,7 @@ module _ (n : ℕ) (vs ws : List ℕ) where
   pub from-put : n ≤ length ws → drop n (putAt n vs ws) ≡ vs ++ drop (n + length vs) ws
   from-put h = ap (drop n) (split h) ∙ drop-at (take n ws) (vs ++ drop (n + length vs) ws) n (length-take-le n ws h)
 
-  -- more words, put right behind them
+  -- more words, put right after them
   pub put-next : (ys : List ℕ) (m : ℕ) → m ≡ n + length vs → n + length vs ≤ length ws → putAt m ys (putAt n vs ws) ≡ putAt n (vs ++ ys) ws
   put-next ys m e h =
       let front = take n ws ++ vs in
@@ -185,7 +185,7 @@ notes-back zero ns ws h = refl
 notes-back (suc k) [] ws h = absurd (not-suc-le-zero h)
 notes-back (suc k) (n ∷ ns) ws h = λ i. note (phase-noted (n .phase) i) ∷ notes-back k ns ws (le-of-suc-le-suc h) i
 
--- notes written over the first ones: those behind them are read as before
+-- notes written over the first ones: those after them are read as before
 pub notes-over :
     (k : ℕ) (ns : List Note) (ws : List ℕ) → length ns ≤ k
     → notesIn k (notesWords ns ++ drop (noteSize * length ns) ws) ≡ ns ++ drop (length ns) (notesIn k ws)

@@ -88,7 +88,7 @@ refuses r e m p = record {
 abbrev stays : List ℕ → ℕ → ℕ → Line
 stays r s a = record { run = r; empties = 0; sets = lent s; answer = lent a; leaves = callResult 1 (lent s ∷ lent a ∷ []) }
 
--- just room
+-- just enough space
 abbrev fits : Line
 fits = record {
   run = fresh (plain 1 3);

@@ -1,4 +1,4 @@
--- What the call that gives the slack of each task leaves, computed from the definitions: the figures in front, 32 zeros and 23 where none are given, or
+-- What the call that gives the slack of each task leaves, computed from the definitions: the numbers in front, 32 zeros and 23 where none are given, or
 -- a table's number, and everything as found where there is a word too few.
 use mathlib.Core.List.{List, [], _∷_, _++_, map}
 use mathlib.Core.Path.{_≡_, refl}
@@ -39,7 +39,7 @@ answers ws xs k a b = record {
   leaves = callResult 0 ((xs ++ (replicate (32 - length xs) 0 ++ lent 1)) ∷ (k ∷ a ∷ b ∷ lent 1) ∷ []);
 }
 
--- figures are given; or they are turned down, with 32 zeros
+-- numbers are given; or they are turned down, with 32 zeros
 abbrev given : List ℕ → List ℕ → Line
 given ws xs = answers ws xs 0 0 0
 
@@ -65,7 +65,7 @@ lines =
     ∷ refuses (two 3 1) 23 0 ∷ refuses (two 4 1) 23 0 ∷ refuses wordsF 23 0 ∷ refuses wordsA 23 0
     -- 7 with its position, before 23; 1 for no words at all
     ∷ refuses (two 2 2) 7 1 ∷ refuses (two 3 2) 7 1 ∷ refuses [] 1 0
-    -- no space for the answer or for the figures, whatever the words
+    -- no space for the answer or for the numbers, whatever the words
     ∷ stays (two 2 1) 32 2 ∷ stays (two 2 1) 31 3 ∷ stays wordsF 31 3 ∷ stays [] 0 0
     ∷ []
 

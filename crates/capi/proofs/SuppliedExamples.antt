@@ -1,4 +1,4 @@
--- What begin and take leave, computed from the definitions: a plan begun, with its phases noted at once or not yet; rows taken, up to the last; each number
+-- What begin and take leave, computed from the definitions: a plan begun, with its phases recorded at once or not yet; rows taken, up to the last; each number
 -- once; the notes written at the last S and nowhere else; words of a note that are no phase; and everything as found where there is no space.
 use mathlib.Core.Path.{_≡_, refl}
 use mathlib.Core.Bool.{Bool, true, false}
@@ -81,7 +81,7 @@ one o = 1 ∷ 1 ∷ 1 ∷ 0 ∷ 0 ∷ 0 ∷ o ∷ 1 ∷ 1 ∷ 1 ∷ 2 ∷ 1 ∷ 
 abbrev placed : ℕ → Bool → Phase → List ℕ
 placed o e ph = placeWords (record { offset = o; width = 1; length = 1; deadline = 1; period = 2; second = 1; even = e; phase = ph })
 
--- a plan of the task with O 1, whose last S is 1 and horizon 3, at this tick, with these words of a note; anything past the count, and a word behind the plan
+-- a plan of the task with O 1, whose last S is 1 and horizon 3, at this tick, with these words of a note; anything past the count, and a word after the plan
 abbrev plan : Bool → Phase → ℕ → List ℕ → List ℕ
 plan e ph t note = 1 ∷ 1 ∷ 1 ∷ 0 ∷ 0 ∷ 0 ∷ (placed 1 e ph ++ (lent 341 ++ (t ∷ (note ++ lent 125))))
 

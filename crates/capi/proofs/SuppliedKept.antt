@@ -72,7 +72,7 @@ run-held ws w e =
     let h = held-plan ws w e in
     by-held ws (plan-run ws (h .0)) ∙ ap (λ (v : Supplied). run (v .run)) (h .1)
 
--- WORDS PUT BEHIND A RUN
+-- WORDS PUT AFTER A RUN
 
 -- words put past the words of a run leave it as it is
 put-held : (n : ℕ) (vs ws : List ℕ) (r : Run) → runWords ≤ n → n + length vs ≤ length ws → decode ws ≡ run r → decode (putAt n vs ws) ≡ run r

@@ -66,7 +66,7 @@ module _ (t : Loaded) (fit : Fit t) where
   jumps-represent (suc i) met =
       lands t fit (jumps t i) (jumps-represent i (λ j p l. met j p (omega arith))) (λ p. met i p (omega arith)) .represents
 
-  -- and the next jump lands on the least event after
+  -- and the next jump ends at the least event after
   pub jumps-land : (i : ℕ) → Unmissed t (suc i) → JumpLands t (jumps t i) (jumps t (suc i))
   unfolding jumps
   jumps-land i met = lands t fit (jumps t i) (jumps-represent i (λ j p l. met j p (omega arith))) (λ p. met i p (omega arith))

@@ -1,4 +1,4 @@
--- THEOREM (jump-lands): a jump from the state of the full-length run at a tick at which no deadline is missed lands on the state of the least event
+-- THEOREM (jump-lands): a jump from the state of the full-length run at a tick at which no deadline is missed ends at the state of the least event
 -- after it, and at every tick up to it the cores stay with the same tasks.
 use mathlib.Core.Path.{_≡_, refl, sym, ap, ap₂, _∙_, subst, subst₂}
 use mathlib.Core.Bool.{Bool, true, false, not, _&&_, cond, true≢false}
@@ -198,7 +198,7 @@ module _ (t : Loaded) (fit : Fit t) (s : EventState) (h : StateRepresents t s) w
         subst (Event book) over (ends book (fit .valid) (s .tick) m seen (bit g) row k (short .below) near (k - 1) last (z .0) (z .1) (z .2)))
         (short .reached)
 
-    -- WHERE IT LANDS
+    -- WHERE IT ENDS
 
     abbrev there : Machine
     there = elapsed k (bit g) m

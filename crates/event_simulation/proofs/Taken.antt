@@ -108,7 +108,7 @@ module _ (n : Numbers) (s : EventState) where
   unfolding ticksInJump
   ticks-are m nextEvent granted k em eb eg e = e ∙ (λ i. leastLeft 32 (bit (eg i)) (eb i - s .tick) (em i .left))
 
-  -- and where it lands
+  -- and where it ends
   pub jump-taken :
       (m₁ m₂ : Machine) (nextEvent chosen granted even k due : ℕ) → Seen m₁ nextEvent even → chosen ≡ afterHandling n s .claiming → granted ≡ grantedInJump n s
       → k ≡ ticksInJump n s → m₂ ≡ elapsed k (bit granted) m₁ → due ≡ cond (eqb (s .tick + k) nextEvent) (dueAt (s .tick + k) (n .count) (m₂ .event)) 0

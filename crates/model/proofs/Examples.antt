@@ -1,5 +1,6 @@
--- The lines of the scope's table of examples that are marked *, and lines of our own for what those leave open (16, two positions late at once, tables with a fence), computed from the definitions.
--- A line's list goes on where start would refuse the table by 13 (A2, F): the book of a list is defined for every table.
+-- The lines of the scope's table of examples that are marked *, and lines of our own for what those leave open (16, two positions late at once, tables with
+-- a fence), computed from the definitions. A line's list goes on where start would refuse the table by 13 (A2, F): the book of a list is defined for every
+-- table.
 use mathlib.Core.Bool.{false, true}
 use mathlib.Core.List.{List, [], map, _∷_}
 use mathlib.Core.Path.{refl, _≡_}

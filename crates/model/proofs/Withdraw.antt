@@ -1,4 +1,5 @@
--- Withdrawals (requests 106 and 113): when one is taken, that only the set moves, that withdrawing again changes nothing, and whose jobs are empty from then on.
+-- Withdrawals (requests 106 and 113): when one is taken, that only the set moves, that withdrawing again changes nothing, and whose jobs are empty from then
+-- on.
 use mathlib.Core.Bool.{Bool, cond, false, not, true, true≢false, _||_}
 use mathlib.Core.List.{List, [], _∷_}
 use mathlib.Core.Logic.{_↔_, inl, inr, _⊎_}

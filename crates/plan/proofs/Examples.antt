@@ -65,7 +65,7 @@ fencedA = 3 ∷ 5 ∷ 1 ∷ 9 ∷ 0 ∷ drop 5 wordsA
 abbrev fencedF : List ℕ
 fencedF = 1 ∷ 34 ∷ 1 ∷ 4294967295 ∷ 1 ∷ drop 5 wordsF
 
--- two cores, horizon 2: one task of widths 1 and 2, released in every tick; and behind one of width 1, where position 2 misses at tick 2
+-- two cores, horizon 2: one task of widths 1 and 2, released in every tick; and below one of width 1, where position 2 misses at tick 2
 abbrev pairs : List ℕ
 pairs = 1 ∷ 2 ∷ 1 ∷ 0 ∷ 0 ∷ 0 ∷ 0 ∷ 1 ∷ 1 ∷ 1 ∷ 1 ∷ 2 ∷ []
 

@@ -57,7 +57,7 @@ on rule m ts = record { rule = rule; cores = m; fence = 0; withdrawn = 0; count 
 abbrev state : Run → ℕ → List Phase → Supplied
 state r t phs = record { run = r; tick = t; noted = notes phs }
 
--- what a state shows below its count: the tick, the phases, whether each job is an even one, and what is noted
+-- what a state shows below its count: the tick, the phases, whether each job is an even one, and what is recorded
 pub record Shows : Type 0 where
   pub tick : ℕ
   pub phases : List Phase
@@ -98,7 +98,7 @@ abbrev goes : String → RowAnswer → Supplied → List ℕ → ℕ → List Ph
 goes name a w row t phs es ns =
     record { name = name; before = w; row = row; says = a; after = record { tick = t; phases = phs; evens = es; noted = ns } }
 
--- one core, a task (0,1,2,4,4): the last S is 0, the horizon 4. Its phase, the tick, what is noted
+-- one core, a task (0,1,2,4,4): the last S is 0, the horizon 4. Its phase, the tick, what is recorded
 abbrev one : Phase → ℕ → Phase → Supplied
 one ph t n = state (on 1 1 (at 0 2 4 4 ph ∷ [])) t (n ∷ [])
 

@@ -295,7 +295,7 @@ module _ (w : Supplied) (row : List ℕ) where
     there : r .count ≤ length (r .tasks)
     there = all-places r (passes-run r passed)
 
-  -- what is noted of places past the count stays
+  -- what is recorded of places past the count stays
   notes-past : (b : Bool) → r .count ≤ length (r .tasks) → drop (r .count) (cond b (noting (workedRow r row) (w .noted)) (w .noted)) ≡ drop (r .count) (w .noted)
   notes-past false h = refl
   notes-past true h =

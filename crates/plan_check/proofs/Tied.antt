@@ -1,4 +1,5 @@
--- A STATE OF `take` AND THE ROWS BEFORE IT: their relation, from the beginning on, and that the tests of such a state are the plan book's up to the first fault.
+-- A STATE OF `take` AND THE ROWS BEFORE IT: their relation, from the beginning on, and that the tests of such a state are the plan book's up to the first
+-- fault.
 use mathlib.Core.Bool.{_&&_, Bool, cond, false, false≢true, not, true, true≢false, _||_}
 use mathlib.Core.List.{List, map}
 use mathlib.Core.Path.{ap, ap₂, refl, subst, sym, _∙_, _≡_}
@@ -46,7 +47,7 @@ use Rattle.plan_check.proofs.SamePhase.{same-phase}
 use Rattle.plan_check.proofs.StateByRows.{Steady, late-by-phase, statesAnswer, state-by-phase, stateByRows, works-by-phase}
 use Rattle.plan_check.proofs.Steps.{Ok, planBookAt}
 
--- what is noted of a place below the count is its phase
+-- what is recorded of a place below the count is its phase
 noting-at : (r : Run) (ns : List Note) (p : ℕ) → p < length (take (r .count) (r .tasks)) → p < r .count → getD (noting r ns) p pastNote .phase ≡ phaseAt r p
 noting-at r ns p l h =
     ap (λ (n : Note). n .phase)
@@ -72,7 +73,7 @@ module _ (s : Table) (ok : AllValid s) (r : ℕ → List ℕ) where
 
   -- THE RELATION FROM TICK TO TICK
 
-  -- the phases noted by a run that arrives at tick t
+  -- the phases recorded by a run that arrives at tick t
   state-noted :
       (w : Run) (t : ℕ) (ns : List Note) → tasksIn w ≡ s .tasks → w .count ≡ length (s .tasks)
       → ((p : ℕ) → p < length (s .tasks) → placeAt w p ≡ withState (stateByRows s r p t) (task s p))

@@ -1,4 +1,4 @@
--- Laws of a turn: bytes moved to the front of the buffer, and what came of a read.
+-- Laws of a round: bytes moved to the front of the buffer, and what came of a read.
 use mathlib.Core.Bool.{Bool, false, false≢true, not, true, true≢false}
 use mathlib.Core.List.{List, _++_, _∷_, []}
 use mathlib.Core.Path.{_∙_, _≡_, ap, ap₂, refl, subst, subst⁻¹, sym}

@@ -58,7 +58,7 @@ some-lines =
     ∷ reads "0 -1" noRow
     ∷ reads "0 a" noRow
     ∷ reads "0 1\r" noRow
-    -- one space before each number, and nothing behind the last
+    -- one space before each number, and nothing after the last
     ∷ reads " 0 1" noRow
     ∷ reads "0  1" noRow
     ∷ reads "0 1 " noRow
@@ -108,7 +108,7 @@ abbrev pub checks : List Check
 checks =
     check "0 1\n1 0\n" Accepted
     ∷ check "firm 0 2\n0 0\n1 1" Accepted
-    -- empty lines behind the last row are no rows; a row there is one too many
+    -- empty lines after the last row are no rows; a row there is one too many
     ∷ check "0 1\n1 0\n\n\n" Accepted
     ∷ check "0 1\n1 0\n\n2 0\n" (Refused 10 0)
     ∷ check "0 1\n1 0\n0 1\n" (Unread 3)

@@ -24,7 +24,7 @@ use Rattle.plan_text.proofs.Taking.{begin-none}
 
 -- THE FIRST LINE OF A TEXT, FROM A PLACE ON
 
--- a text from a place on, where its line has ended: the line, its newline, and the text behind it
+-- a text from a place on, where its line has ended: the line, its newline, and the text after it
 pub line-here :
     (bs : List ℕ) (at end : ℕ) → end ≡ at + lineLength (drop at bs) → end < length bs
     → drop at bs ≡ take (end - at) (drop at bs) ++ (newline ∷ drop (end + 1) bs)

@@ -95,9 +95,9 @@ first-word l more h = ⊎-elim all-of (λ q. inl (ends q)) (eq-or-lt-of-le (mark
           long-number (word (l ++ more)) (omega (arith, h, on, whole)),
         )
 
--- THE NUMBERS BEHIND IT
+-- THE NUMBERS AFTER IT
 
--- the words behind a space: the first, and those behind it
+-- the words after a space: the first, and those after it
 behind-split : (b : ℕ) (l : List ℕ) → wordsBehind (b ∷ l) ≡ word l ∷ wordsBehind (rest l)
 unfolding wordsBehind
 behind-split b l = words-split l

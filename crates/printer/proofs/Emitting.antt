@@ -268,7 +268,7 @@ emit-done p₀ p before after at ok h over e =
         let y : p .end - p .stage .registers .tick ≡ 0 = omega arith in
         ap₂ (λ (i j : ℕ). take i (drop (p .given) (p .line)) ++ linesIn (loadedNumbers (p .table)) j (runStateOf p) (textKept p)) z y
 
--- a printer that is not sound is returned as it is
+-- a printer that is not valid is returned as it is
 pub piece-refused : (p : Printer) (buffer : List ℕ) → valid p ≡ false → PieceOf p buffer buffer (record { printer = p; length = 0 })
 piece-refused p buffer e = record {
   length = omega (arith, ap length (rest-none p e));

@@ -157,7 +157,7 @@ inside-in m τ i =
     (λ w. ⊎-elim (λ x. omega (arith, i .offset-most)) (λ w. ⊎-elim (λ x. x (i .length-from)) (λ w. ⊎-elim (λ x. x (i .period-from)) (λ x. x (i .deadline-from)) w) w) w)
     (task-decides m τ .0 e))
 
--- and what was loaded is sound
+-- and what was loaded is valid
 load-valid : (ws : List ℕ) (r : Loaded) → LoadOf ws r → tableValid r ≡ true
 load-valid ws r l = go (r .answer) refl
   where

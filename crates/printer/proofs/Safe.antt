@@ -1,4 +1,5 @@
--- A run that can be stepped can be stepped again: a place that claims is owed ticks after the due events and after the tick, and one that is granted cores claims.
+-- A run that can be stepped can be stepped again: a place that claims is owed ticks after the due events and after the tick, and one that is granted cores
+-- claims.
 use mathlib.Core.Path.{_≡_, refl, sym, ap, _∙_, subst}
 use mathlib.Core.Bool.{Bool, true, false, not, _&&_, cond, true≢false, false≢true}
 use mathlib.Core.List.{List}

@@ -31,7 +31,7 @@ positions-printed = (refl, refl, refl)
 
 -- ONE NUMBER MORE
 
--- behind other bytes it has a space before it
+-- after other bytes it has a space before it
 pub spaced-behind : (at n : ℕ) → 0 < at → spacedAt at n ≡ space ∷ decimal n
 unfolding spacedAt
 spaced-behind zero n h = absurd (not-suc-le-zero h)

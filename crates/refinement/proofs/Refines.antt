@@ -24,7 +24,7 @@ module _ (ws : List ℕ) (e : answerMeaning (startOf ws .answer) ≡ taken) wher
   none : NoneApplies ws
   none = taken-passes ws e
 
-  -- the tasks are sound
+  -- the tasks are valid
   pub sound : AllValid (tableOf ws)
   sound = passed-valid ws none
 
@@ -35,7 +35,7 @@ module _ (ws : List ℕ) (e : answerMeaning (startOf ws .answer) ≡ taken) wher
   pub stands : (xs : List Entry) → Represents (tableOf ws) (book (tableOf ws) xs) (runAfterList (firstRun ws) xs)
   stands xs = represents-after (tableOf ws) sound xs emptyBook (firstRun ws) started
 
-  -- THEOREM (follows): for every table that start takes, Firm and Full alike, and every list of entries
+  -- THEOREM (refines): for every table that start takes, Firm and Full alike, and every list of entries
   pub refines : (xs : List Entry) → Refines ws xs
   refines xs = record {
     each-answer = same;

@@ -1,2 +1,2 @@
--- The law behind `replay`: round by round it writes the replies of the session.
+-- The law of `replay`: round by round it writes the replies of the session.
 pub mod Rounds

@@ -1,4 +1,4 @@
--- The times noted at the places of a set: place after place as the set is walked, and the value at a place.
+-- The times recorded at the places of a set: place after place as the set is walked, and the value at a place.
 use mathlib.Core.Path.{_≡_, sym, ap, _∙_}
 use mathlib.Core.Bool.{Bool, cond}
 use mathlib.Core.List.{List}
@@ -23,7 +23,7 @@ module _ (tick : ℕ) (periods next figures : List ℕ) where
     abbrev p : ℕ
     p = lowest rest
 
-    -- the lowest place still has its figure
+    -- the lowest place still has its response time
     pub noted-still : getD now p 0 ≡ getD figures p 0
     unfolding recorded
     noted-still =

@@ -1,4 +1,4 @@
--- What a firm table guarantees of a worst-case response time in every list of entries (request 107); shown in proofs/Kept.antt.
+-- What a firm table guarantees of a worst-case response time in every list of entries (request 107); shown in proofs/EndedWithin.antt.
 use mathlib.Core.Bool.{true}
 use mathlib.Core.List.{List}
 use mathlib.Core.Path.{_≡_}

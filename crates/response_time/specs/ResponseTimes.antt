@@ -23,7 +23,7 @@ use Rattle.response_time.specs.Numbers.{First, NoneApplies}
 unfoldable pub responseTimesIn : Table → List ℕ
 responseTimesIn s = map (worstResponse s) (upFrom 0 (length (s .tasks))) ++ replicate (mostTasks - length (s .tasks)) 0
 
--- the numbers are given; or they are turned down with number and position, and all of them are 0
+-- the response times are given; or they are refused with number and position, and all of them are 0
 abbrev pub givenTimes : List ℕ → ResponseTimes
 givenTimes xs = record { answer = table.Passed; responses = xs }
 
@@ -48,9 +48,9 @@ pub record ResponseTimesOf (ws : List ℕ) (r : ResponseTimes) : Type 0 where
   -- refused with n and p exactly if n is the first number that applies, at p; given exactly if none applies
   pub refused : (n p : ℕ) → (loadMeaning (r .answer) ≡ book.refused n p) ↔ First ws n p
   pub passed : (loadMeaning (r .answer) ≡ book.taken) ↔ NoneApplies ws
-  -- given: of each task, no full-length job ever takes longer than its number, and some full-length job takes exactly that
+  -- given: of each task, no full-length job ever takes longer than its response time, and some full-length job takes exactly that
   pub figures : loadMeaning (r .answer) ≡ book.taken → (p : ℕ) → p < length (tableOf ws .tasks) → WorstResponse (tableOf ws) p (getD (r .responses) p 0)
-  -- Firm: in every list of advances each job has ended at its release plus that number, and at every tick after
+  -- Firm: in every list of advances each job has ended at its release plus that time, and at every tick after
   pub kept :
       (a b : ℕ) → verdictOf ws ≡ Firm a b → (p : ℕ) → p < length (tableOf ws .tasks) → AlwaysEndedWithin (tableOf ws) p (getD (r .responses) p 0)
   -- there are 32 numbers; those past the count are 0, and in a refusal all of them

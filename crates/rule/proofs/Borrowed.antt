@@ -1,5 +1,5 @@
--- Laws of the model's lending, place by place: a place that borrows seeks cores, and borrows as many as its width; each core is lent by a place, and none twice.
--- What a row shows then: no core is there twice, and each is one that is given or borrowed.
+-- Laws of the model's lending, place by place: a place that borrows seeks cores, and borrows as many as its width; each core is lent by a place, and none
+-- twice. What a row shows then: no core is there twice, and each is one that is given or borrowed.
 use mathlib.Core.Path.{_≡_, refl, sym, ap, _∙_}
 use mathlib.Core.Logic.{_⊎_, inl, inr, ⊎-elim}
 use mathlib.Core.Bool.{Bool, true, false, _&&_, _||_, and-false, false≢true, not, or-assoc}
@@ -56,7 +56,7 @@ unfolding memb
 memb-append c [] b = refl
 memb-append c (x ∷ a) b = ap (λ (t : Bool). eqb c x || t) (memb-append c a b) ∙ sym (or-assoc (eqb c x) (memb c a) (memb c b))
 
--- a number that is in two lists, one behind the other, is in one of them
+-- a number that is in two lists, one after the other, is in one of them
 in-append : (c : ℕ) (a b : List ℕ) → In c (a ++ b) → (In c a) ⊎ (In c b)
 in-append c a b h = or-cases (memb c a) (memb c b) (sym (memb-append c a b) ∙ h)
 

@@ -1,4 +1,4 @@
--- What holds while the claimants of a tick are served, one turn each: each place's set and what the rest will give it stay what all give it;
+-- What holds while the claimants of a tick are served, one iteration each: each place's set and what the rest will give it stay what all give it;
 -- when no one is left, the sets are the model's grants.
 use borrow.Author.Tests.{eqb-true, eqb-false}
 use native.Mathlib.Omega.{arith}
@@ -28,7 +28,7 @@ use Rattle.rule.proofs.Choosing.{first-of, first-given}
 abbrev pub share : Rule → List ℕ → ℕ → List ℕ → ℕ → List ℕ
 share r ws x free p = getD (grants r (claimants ws (bit x)) free) p []
 
--- what holds before each turn; ws are the widths that are read, set and left the free cores and how many they are
+-- what holds before each iteration; ws are the widths that are read, set and left the free cores and how many they are
 pub record Held (r : Rule) (ws : List ℕ) (claims free count : ℕ) (sets : List ℕ) (rest set left : ℕ) : Type 0 where
   pub fit : rest < 2 ^ 32
   pub whole : set < 2 ^ 64
@@ -51,7 +51,7 @@ begun r ws claims free count h k = record {
   gives = λ p. ap (λ (x : List ℕ). x ++ share r ws claims (cores free) p) (ap cores (getD-zeros 32 p) ∙ cores-none);
 }
 
--- ---- one turn, at the lowest digit q of the rest; y is the rest after it
+-- ---- one iteration, at the lowest digit q of the rest; y is the rest after it
 
 module _ (r : Rule) (ws : List ℕ) (claims free count : ℕ) (sets : List ℕ) (rest set left q y : ℕ) (h : Held r ws claims free count sets rest set left) (l : Lowest rest q) (e : y ≡ rest - 2 ^ q) where
   abbrev pub width : ℕ

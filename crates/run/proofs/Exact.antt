@@ -1,4 +1,5 @@
--- Row, sets and advance are refused with n and p exactly if n is the first of 14, 15, 20 and 16 that applies, with position p; and taken exactly if none applies.
+-- Row, sets and advance are refused with n and p exactly if n is the first of 14, 15, 20 and 16 that applies, with position p; and taken exactly if none
+-- applies.
 use mathlib.Core.Path.{_≡_, refl, sym, ap, ap₂, _∙_}
 use mathlib.Core.Bool.{Bool, true, false, not, _&&_, _||_, cond, true≢false, false≢true}
 use mathlib.Core.List.{List, [], _∷_}

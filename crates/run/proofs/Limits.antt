@@ -99,7 +99,7 @@ passes-runs r h = rw (h .count, h .cores, h .rule, h .fence, h .withdrawn) (none
     at : (p : ℕ) → p < r .count → placeOut r p ≡ false
     at p l = rw (h .tasks p l, phase-decides (ruleIn r) (runTaskAt r p) (evenAt r p) (phaseAt r p) .1 (h .phases p l))
 
--- a task that 7 and 8 pass is sound
+-- a task that 7 and 8 pass is valid
 pub valid-if : (m : ℕ) (τ : model.Task) → taskOut m τ ≡ false → model.ValidTask τ
 valid-if m τ e = inside-valid m τ (inside-test m τ e)
 

@@ -1,4 +1,5 @@
--- The places that are given cores and those that borrow some, from sets of places: under rule 4 what is reserved, borrowed and shown; the other rules lend nothing.
+-- The places that are given cores and those that borrow some, from sets of places: under rule 4 what is reserved, borrowed and shown; the other rules lend
+-- nothing.
 use mathlib.Core.Path.{_≡_, refl, sym, ap, ap₂, subst, _∙_}
 use mathlib.Core.Bool.{Bool, true, false, _&&_, not, cond}
 use mathlib.Core.List.{List, [], _∷_, _++_, map}

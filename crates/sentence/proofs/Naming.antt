@@ -26,7 +26,7 @@ unfolding namedFrom
 named-zeros i [] h = refl
 named-zeros i (n ∷ ns) h = let e : n ≡ 0 = h 0 in rw e (named-zeros (suc i) ns (λ k. h (suc k)))
 
--- .. also behind other counts
+-- .. also after other counts
 pub named-behind : (i : ℕ) (ns zs : List ℕ) → ((k : ℕ) → getD zs k 0 ≡ 0) → namedFrom i (ns ++ zs) ≡ namedFrom i ns
 unfolding namedFrom
 named-behind i [] zs h = named-zeros i zs h

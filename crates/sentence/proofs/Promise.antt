@@ -46,7 +46,7 @@ meaning-refused : (v : SentenceAnswer) (n p : ℕ) → sentenceMeaning v ≡ ref
 meaning-refused (Length m) n p e = absurd (let z : _≡_ {A = ℕ} 0 1 = cc in omega arith)
 meaning-refused (Refused m q) n p e = cc
 
--- a text at the front of a buffer: behind it the bytes as found
+-- a text at the front of a buffer: after it the bytes as found
 front-behind : (w old : List ℕ) (i : ℕ) → length w ≤ i → getD (front w old) i 0 ≡ getD old i 0
 front-behind w old i l =
     let e : i ≡ length w + (i - length w) = omega arith in

@@ -66,7 +66,7 @@ lines =
     ∷ asks "w 1 2" Nothing
     ∷ asks "W" Nothing
     ∷ asks "W 1 2" Nothing
-    -- one space before each number, and nothing behind the last
+    -- one space before each number, and nothing after the last
     ∷ asks "a " Nothing
     ∷ asks "a  1" Nothing
     ∷ asks "a 1 " Nothing

@@ -1,5 +1,5 @@
 -- The full-length run (scope, 'The book of a run') in plain numbers, as the judge, the plan and the printer step it.
--- Up to the first miss it refines the book: `machine-refines` in proofs/Follows.antt.
+-- Up to the first miss it refines the book: `machine-refines` in proofs/Refines.antt.
 use mathlib.Core.Path.{_≡_}
 use mathlib.Core.Bool.{Bool, true, not, _&&_, _||_, cond}
 use mathlib.Core.List.{List}

@@ -115,7 +115,7 @@ alone-slack m f r τ ok fits short = go (ltb g room) refl
     g : ℕ
     g = least room late
 
-    -- the task is as sound with any growth
+    -- the task is valid with any growth too
     longer : (h : ℕ) → ValidTask (lengthen h τ)
     longer h = record {
       odd-pos = ok .odd-pos;

@@ -1,4 +1,4 @@
--- Slack computed from the definitions: figures at their edges, and what each number turns down. And why the order of rules and widths is needed: under
+-- Slack computed from the definitions: numbers at their edges, and what each number turns down. And why the order of rules and widths is needed: under
 -- the other rules, and under rule 1 out of the width order, a longer job can save a table.
 use mathlib.Core.List.{List, [], _++_, map, _∷_}
 use mathlib.Core.Logic.{inl, inr, _⊎_}
@@ -86,7 +86,7 @@ pub record Line : Type 0 where
 abbrev pub worked : Line → Line
 worked l = record { words = l .words; says = slackOf (l .words) }
 
--- these figures are given, with zeros past them; the words are turned down by a number, with its position
+-- these numbers are given, with zeros past them; the words are turned down by a number, with its position
 abbrev givenSlack : List ℕ → List ℕ → Line
 givenSlack ws xs = record { words = ws; says = answers.givenSlack (xs ++ replicate (mostTasks - length xs) 0) }
 
@@ -164,7 +164,7 @@ lines =
     ∷ refuses (ruledA 2) 23 0 ∷ refuses (ruledB 2) 23 0 ∷ refuses (ruledC 2) 23 0 ∷ refuses (wordsF 1 2) 23 0 ∷ givenSlack (wordsF 1 1) (0 ∷ [])
     -- rules 3 and 4: A and B, which are Firm
     ∷ refuses (ruledA 3) 23 0 ∷ refuses (ruledA 4) 23 0 ∷ refuses (ruledB 3) 23 0 ∷ refuses (ruledB 4) 23 0
-    -- 32 places, which have 32 figures
+    -- 32 places, which have 32 numbers
     ∷ givenSlack (header 1 32 1 ++ chained 0 1 (replicate 32 1)) (replicate 32 0)
     -- C of 1,000,000 and one more: 23 and 8
     ∷ refuses (wordsF 2 1000000) 23 0 ∷ refuses (wordsF 2 1000001) 8 1

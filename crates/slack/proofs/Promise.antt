@@ -1,4 +1,4 @@
--- The contract of `slack`: its numbers are the first that apply, and its figures hold over all ticks.
+-- The contract of `slack`: its refusal is the first that applies, and the slack holds over all ticks.
 use mathlib.Core.Bool.{Bool, false, false≢true, true}
 use mathlib.Core.List.{List}
 use mathlib.Core.Path.{_≡_, ap, refl, subst, sym, _∙_}

@@ -28,7 +28,7 @@ use Rattle.slack.specs.Slack.{Slack, misses, slack}
 unfoldable pub slackIn : Table → List ℕ
 slackIn s = map (slack s) (upFrom 0 (length (s .tasks))) ++ replicate (mostTasks - length (s .tasks)) 0
 
--- the numbers are given; or they are turned down with number and position, and all of them are 0
+-- the slack of each task is given; or it is refused with number and position, and all of them are 0
 abbrev pub givenSlack : List ℕ → SlackAnswer
 givenSlack xs = record { answer = Passed; slack = xs }
 

@@ -1,5 +1,5 @@
--- `rule::grants` meets its contract: in each turn the lowest digit of the rest is the first claimant, and the rule's answer to it is one turn of `Serving`.
--- Assumes nothing.
+-- `rule::grants` meets its contract: in each iteration the lowest digit of the rest is the first claimant, and the rule's answer to it is one iteration of
+-- `Serving`. Assumes nothing.
 use borrow.Author.Needs.{needs}
 use native.Mathlib.Omega.{arith}
 use mathlib.Core.Path.{_≡_, sym, ap, _∙_}

@@ -1,5 +1,5 @@
--- `rule::shown` meets its contract: each turn puts together what one place borrows and what no place borrows of its own; one of them is nothing (`cores-or`).
--- Assumes nothing.
+-- `rule::shown` meets its contract: each iteration puts together what one place borrows and what no place borrows of its own; one of them is nothing
+-- (`cores-or`). Assumes nothing.
 use borrow.Author.Needs.{needs}
 use native.Mathlib.Omega.{arith}
 use mathlib.Core.Path.{_≡_, refl, sym, ap, _∙_, subst}

@@ -1,4 +1,4 @@
--- `simulation::release_due` meets its contract: after each turn the machine is the one in which the places so far have been handled, and the next event
+-- `simulation::release_due` meets its contract: after each iteration the machine is the one in which the places so far have been handled, and the next event
 -- is the earliest of their events. Assumes nothing.
 use borrow.Author.Needs.{needs}
 use mathlib.Core.Path.{_≡_, refl, sym, ap, ap₂, _∙_}

@@ -1,4 +1,4 @@
--- `capi::facts::put_facts` meets its contract. The loop's invariant: the first i counts are written behind four words as found (`one-more`);
+-- `capi::facts::put_facts` meets its contract. The loop's invariant: the first i counts are written after four words as found (`one-more`);
 -- then the four words are. Assumes nothing.
 use mathlib.Core.Path.{_≡_, refl, sym, ap, _∙_}
 use mathlib.Core.List.{List, [], _∷_, _++_, append-assoc}

@@ -1,5 +1,5 @@
--- `event_simulation::misses::first_miss` meets its contract. After each jump the run is that of the jumps from tick 0 on (`jumps`), at none of whose ticks a deadline
--- was missed, and so represents the table's full-length run; along the walk over the due claimants none so far has ticks left (`Looking`). A due
+-- `event_simulation::misses::first_miss` meets its contract. After each jump the run is that of the jumps from tick 0 on (`jumps`), at none of whose ticks a
+-- deadline was missed, and so represents the table's full-length run; along the walk over the due claimants none so far has ticks left (`Looking`). A due
 -- place with ticks left is the first miss; at the end nothing has been missed. Assumes nothing.
 use borrow.Author.Needs.{needs}
 use native.Mathlib.Nat.{not-suc-le-zero}

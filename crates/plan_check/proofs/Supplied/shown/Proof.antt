@@ -1,5 +1,5 @@
--- `plan_check::Supplied::shown` meets its contract: each return is a case of the definition, in its order (`Cases`); the counts represent the bytes (`Working`).
--- Assumes nothing.
+-- `plan_check::Supplied::shown` meets its contract: each return is a case of the definition, in its order (`Cases`); the counts represent the bytes
+-- (`Working`). Assumes nothing.
 use mathlib.Core.Bool.{Bool, false, _||_}
 use mathlib.Core.Path.{ap, sym, _∙_, _≡_}
 use Prim.Native.Nat.{_<_, suc, _≤_}

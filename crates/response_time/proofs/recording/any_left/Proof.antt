@@ -1,4 +1,5 @@
--- `response_time::recording::any_left` meets its contract: the places that have been handled have no tick left (`Looking` of crate event_simulation). Assumes nothing.
+-- `response_time::recording::any_left` meets its contract: the places that have been handled have no tick left (`Looking` of crate event_simulation).
+-- Assumes nothing.
 use mathlib.Core.Path.{_≡_, refl, sym, ap, _∙_}
 use mathlib.Core.Bool.{Bool, true, false, _&&_, true≢false}
 use mathlib.Core.List.{List}
