@@ -1,4 +1,4 @@
--- What the call that gives the tasks in conflict leaves, computed from the definitions: the set of the positions kept, 17 where there is no miss, a table's
+-- The result of the call that gives the tasks in conflict, computed from the definitions: the set of the positions kept, 17 where there is no miss, a table's
 -- number, and everything as found where the answer has no space.
 use mathlib.Core.List.{List, [], _∷_, _++_, map}
 use mathlib.Core.Path.{_≡_, refl}

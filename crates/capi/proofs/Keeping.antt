@@ -1,4 +1,4 @@
--- What the calls on a run in a buffer leave, by whether there is space and by what the buffer holds.
+-- The results of the calls on a run in a buffer, by whether there is space and by what the buffer holds.
 use mathlib.Core.Path.{_≡_, refl, sym, ap, _∙_}
 use mathlib.Core.Bool.{true, false, _&&_}
 use mathlib.Core.List.{List, [], _∷_, _++_}

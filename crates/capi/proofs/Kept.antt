@@ -1,5 +1,5 @@
--- The calls on a buffer are the calls on the run that it holds: what start writes and what an entry leaves is decoded to the run that they return.
--- (A row or its sets asked go by the run that is decoded, by its definition.)
+-- The calls on a buffer are the calls on the run that it holds: what start and an entry write is decoded to the run that they return.
+-- (The row or the sets asked are those of the run that is decoded, by definition.)
 use mathlib.Core.Path.{_≡_, refl, sym, ap, subst, _∙_}
 use mathlib.Core.Bool.{Bool, true}
 use mathlib.Core.List.{List, [], _++_, map, append-nil}

@@ -1,4 +1,4 @@
--- What the calls on a run in a buffer leave, computed from the definitions, for one task (O 0, v 1, C 3, D 3, T 4, w 2) on two cores under greedy:
+-- The results of the calls on a run in a buffer, computed from the definitions, for one task (O 0, v 1, C 3, D 3, T 4, w 2) on two cores under greedy:
 -- which of the two sets of an advance is which, the set of a row, the positions of a withdrawal, and the parity of a job.
 use mathlib.Core.Path.{_≡_, refl}
 use mathlib.Core.Bool.{Bool, true, false}

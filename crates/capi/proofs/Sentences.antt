@@ -1,4 +1,4 @@
--- What the calls on a sentence leave, by whether there is space and by what is read back.
+-- The results of the calls on a sentence, by whether there is space and by what is parsed.
 use mathlib.Core.Path.{_≡_, refl, sym, ap, _∙_}
 use mathlib.Core.Bool.{Bool, true, false, cond, _&&_}
 use mathlib.Core.List.{List, [], _∷_, _++_}

@@ -1,5 +1,5 @@
--- What the row of a run in a buffer leaves as sets of cores, computed from the definitions, for two tasks (O 0, C 2, D 4, T 4) of widths 2 and 1: a set of
--- each position, with a fence, with one that lends and with empty jobs; 14 before 15 before 20, with 32 zeros; what is after the sets and the answer
+-- The result of a row asked as sets of cores, of a run in a buffer, computed from the definitions, for two tasks (O 0, C 2, D 4, T 4) of widths 2 and 1: a
+-- set of each position, with a fence, with one that lends and with empty jobs; 14 before 15 before 20, with 32 zeros; what is after the sets and the answer
 -- stays, and everything as found where there is no space for either.
 use mathlib.Core.List.{List, [], _∷_, _++_, map}
 use mathlib.Core.Path.{_≡_, refl}

@@ -1,4 +1,4 @@
--- What the call that gives the slack of each task leaves, computed from the definitions: the numbers in front, 32 zeros and 23 where none are given, or
+-- The result of the call that gives the slack of each task, computed from the definitions: the numbers in front, 32 zeros and 23 where none are given, or
 -- a table's number, and everything as found where there is a word too few.
 use mathlib.Core.List.{List, [], _∷_, _++_, map}
 use mathlib.Core.Path.{_≡_, refl}

@@ -1,5 +1,5 @@
--- What begin and take leave, computed from the definitions: a plan begun, with its phases recorded at once or not yet; rows taken, up to the last; each number
--- once; the notes written at the last S and nowhere else; words of a note that are no phase; and everything as found where there is no space.
+-- The results of begin and take, computed from the definitions: a plan begun, with its phases recorded at once or not yet; rows taken, up to the last; each
+-- number once; the notes written at the last S and nowhere else; words of a note that are no phase; and everything as found where there is no space.
 use mathlib.Core.Path.{_≡_, refl}
 use mathlib.Core.Bool.{Bool, true, false}
 use mathlib.Core.List.{List, [], _∷_, _++_, map}

@@ -1,4 +1,4 @@
--- The calls on a buffer are the calls on the plan that it holds: what begin writes and what a row leaves is decoded to the plan that they return; and to
+-- The calls on a buffer are the calls on the plan that it holds: what begin and a row write is decoded to the plan that they return; and to
 -- encode again what a buffer holds changes none of its words.
 use mathlib.Core.Path.{_≡_, refl, sym, ap, subst, _∙_}
 use mathlib.Core.Bool.{Bool, true, false, cond}

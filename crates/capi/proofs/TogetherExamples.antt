@@ -1,4 +1,4 @@
--- What a withdrawal of several positions together leaves in a buffer, computed from the definitions, for two tasks (O 0, C 2, D 4, T 4) of widths 2 and 1
+-- The result of a withdrawal of several positions together in a buffer, computed from the definitions, for two tasks (O 0, C 2, D 4, T 4) of widths 2 and 1
 -- on two cores: sets that are taken, and joined with those that are withdrawn; the empty set; 14 before 21 before 22; and everything as found where there is
 -- no space for the answer.
 use mathlib.Core.List.{List, [], _∷_, _++_, map}

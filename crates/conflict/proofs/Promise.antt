@@ -1,4 +1,4 @@
--- The contract of `conflict`: its numbers are the first that apply, and what is kept is what the passes leave.
+-- The contract of `conflict`: its refusal is the first that applies, and the kept positions are what the passes leave.
 use mathlib.Core.List.{List}
 use mathlib.Core.Path.{_≡_, ap, refl, subst, sym, _∙_}
 use Prim.Native.Nat.{ℕ}

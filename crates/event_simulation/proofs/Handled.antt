@@ -154,7 +154,7 @@ late-is τ ok t js l m n false h k d o =
     let x = overdue-is τ ok t js l n n false (h .tied) t k (omega arith) d o in
     absurd (omega (arith, x .1, h .tied .none))
 
--- THE RUN AFTER THE SCAN
+-- THE RUN AFTER THE DUE PLACES ARE HANDLED
 
 module _
     (s : Table) (ok : AllValid s) (few : length (s .tasks) ≤ 32) (t : ℕ) (m : Machine) (h : MachineRepresents s t t m)

@@ -1,4 +1,4 @@
--- The verdict on a table that misses no deadline, computed where it turns on two widths; and the verdict of words under rules 3 and 4, which is the same.
+-- The verdict on a table that misses no deadline, computed where it depends on two widths; and the verdict of words under rules 3 and 4, which is the same.
 use mathlib.Core.List.{List, [], _∷_}
 use mathlib.Core.Path.{_≡_, refl}
 use Prim.Native.Nat.{ℕ}

@@ -257,7 +257,7 @@ module _ (n : ℕ) (s s′ : Table) (al : EqualAbove n s s′) where
   took-agree (x ∷ xs) [] r b b′ ag = absurd r
   took-agree (x ∷ xs) (y ∷ ys) r b b′ ag = took-agree xs ys (r .1) (afterTaken s x b) (afterTaken s′ y b′) (same-after x y (r .0) b b′ ag)
 
--- WHAT IS WITHDRAWN BELOW POSITION n IS NOT NOTICED
+-- WHAT IS WITHDRAWN BELOW POSITION n CHANGES NOTHING ABOVE
 
 agree-sym : (n : ℕ) (b c : Book) → Agree n b c → Agree n c b
 agree-sym n b c h = record { ticks = sym (h .ticks); jobs = λ p k l. sym (h .jobs p k l); gone = λ q l. sym (h .gone q l) }

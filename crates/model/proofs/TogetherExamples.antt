@@ -1,6 +1,6 @@
 -- Several positions withdrawn together (request 113), computed from the definitions: all, some and none of a table's, under each rule, in the release
--- tick and after it, positions that are withdrawn already, and by which number a set is refused. The row before each entry is asked with no empty job
--- but those that it names.
+-- tick and after it, positions that are withdrawn already, and by which number a set is refused. The row before each entry is asked with its empty jobs
+-- only.
 use mathlib.Core.List.{List, [], map, _∷_}
 use mathlib.Core.Path.{refl, sym, _≡_}
 use Prim.Native.Nat.{suc, zero, ℕ}

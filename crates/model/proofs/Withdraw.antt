@@ -1,4 +1,4 @@
--- Withdrawals (requests 106 and 113): when one is taken, that only the set moves, that withdrawing again changes nothing, and whose jobs are empty from then
+-- Withdrawals (requests 106 and 113): when one is taken, that only the set changes, that withdrawing again changes nothing, and which jobs are empty from then
 -- on.
 use mathlib.Core.Bool.{Bool, cond, false, not, true, true≢false, _||_}
 use mathlib.Core.List.{List, [], _∷_}
@@ -126,7 +126,7 @@ withdraw-all-taken s b x = (
   λ y. rw (firm-exact s .1 (y .0), within-strangers s x .1 (y .1)),
 )
 
--- ONLY THE SET MOVES
+-- ONLY THE SET CHANGES
 
 -- the position is in it, and nothing else comes in ..
 pub withdrawn-now : (s : Table) (b : Book) (p q : ℕ) → bit (afterTaken s (withdraw p) b .withdrawn) q ≡ bit (b .withdrawn) q || eqb q (p - 1)

@@ -1,4 +1,4 @@
--- Several positions withdrawn together (request 113): the book that single withdrawals of them leave, in any order, or the book as it is.
+-- Several positions withdrawn together (request 113): the book after single withdrawals of them, in any order, or the book as it is.
 use mathlib.Core.Bool.{Bool, cond, false, false≢true, true, _||_}
 use mathlib.Core.List.{List, [], _∷_}
 use mathlib.Core.Path.{ap, ap₂, refl, sym, _∙_, _≡_}

@@ -1,4 +1,4 @@
--- AN ACCEPTED PLAN REPEATS FOR EVER: from the last S on, what each task has had goes as it went P ticks before.
+-- AN ACCEPTED PLAN REPEATS FOR EVER: from the last S on, the ticks that each task has repeat with P.
 use mathlib.Core.Bool.{Bool, cond, false, true}
 use mathlib.Core.List.{List}
 use mathlib.Core.Path.{ap, refl, subst, sym, _∙_, _≡_}

@@ -207,7 +207,7 @@ computed =
 pub state-examples : map computes lines ≡ lines
 state-examples = by-line computes lines lines computed
 
--- HOW FAR PLANS GO: the number, the last S and the horizon
+-- EXTENTS OF PLANS: the number, the last S and the horizon
 
 abbrev ahead : ℕ → ℕ → ℕ → Extent
 ahead n s h = record { number = n; start = s; horizon = h }

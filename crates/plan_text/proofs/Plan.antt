@@ -1,4 +1,4 @@
--- WHAT THE PROGRAM PRINTS IS A PLAN: its rows are read back as they are, and its first line is skipped.
+-- WHAT THE PROGRAM PRINTS IS A PLAN: its rows are parsed to themselves, and its first line is skipped.
 use mathlib.Core.Bool.{Bool, _&&_, _||_, cond, false, false≢true, true}
 use mathlib.Core.List.{List, [], _++_, append-assoc, append-nil, map, _∷_}
 use mathlib.Core.Path.{_∙_, _≡_, ap, ap₂, refl, subst, sym}

@@ -1,5 +1,5 @@
--- SETS AND THE BOOK: the sets of cores of a started run, taken through a list of entries, are the book's, whatever jobs are empty; and the contract of a run
--- of its sets holds of them in the book's words.
+-- SETS AND THE BOOK: the sets of cores of a started run, taken through a list of entries, are the book's, whatever jobs are empty; and the contract of a run's
+-- sets holds of them in the book's words.
 use mathlib.Core.Path.{_≡_, refl, sym, ap, ap₂, subst₂, _∙_}
 use mathlib.Core.Bool.{Bool, true, false, not, _&&_, _||_, cond}
 use mathlib.Core.Logic.{_⊎_, inl, inr}

@@ -1,4 +1,4 @@
--- FOLLOWS: a started run, taken through a list of entries, gives the book's answers, and after the list the book's row, whatever jobs are empty.
+-- REFINES: a started run, taken through a list of entries, gives the book's answers, and after the list the book's row, whatever jobs are empty.
 use mathlib.Core.Path.{_≡_, refl, sym, ap, _∙_, subst}
 use mathlib.Core.List.{List, map}
 use Prim.Native.Nat.{ℕ}

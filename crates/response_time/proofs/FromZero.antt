@@ -1,4 +1,4 @@
--- THE SCAN HAS TO BEGIN AT TICK 0: a table whose third task has a job that takes 2 ticks, before the last S, and from then on never takes more than 1.
+-- THE SIMULATION HAS TO BEGIN AT TICK 0: a table whose third task has a job that takes 2 ticks, before the last S, and from then on never takes more than 1.
 use mathlib.Core.Bool.{true}
 use mathlib.Core.List.{[], _∷_}
 use mathlib.Core.Logic.{inl}

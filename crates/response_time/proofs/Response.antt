@@ -1,4 +1,4 @@
--- THE LONGEST TIME of each task: what the jobs show that have ended by the horizon, since a job due after the horizon goes as the one P before it.
+-- THE WORST-CASE RESPONSE TIME of each task: that of the jobs that have ended by the horizon, since a job due after the horizon runs as the one P before it.
 use mathlib.Core.Bool.{Bool, cond, false, false≢true, true, true≢false}
 use mathlib.Core.List.{List}
 use mathlib.Core.Path.{ap, fun-ext, refl, subst, sym, _∙_, _≡_}

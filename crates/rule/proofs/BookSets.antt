@@ -1,6 +1,6 @@
--- Of every table and book: the sets of cores that a row shows never overlap, have no fenced core and none past the count, and count their job's width or
--- nothing, but that one that may lend keeps what no place borrows, and counts its width with what is borrowed of it; and no task changes the set of a task
--- above it that has nothing to lend.
+-- Of every table and book: the sets of cores that a row shows never overlap, have no fenced core and none past the count, and have as many cores as their
+-- job's width or none, but a place that may lend keeps what no place borrows, and has its width together with what is borrowed of it; and no task changes the
+-- set of a task above it that has nothing to lend.
 use mathlib.Core.Path.{_≡_, refl, sym, ap, ap₂, _∙_}
 use mathlib.Core.Logic.{_⊎_, inl, inr}
 use mathlib.Core.Bool.{Bool, true, false, not, _&&_, cond}

@@ -1,5 +1,5 @@
 -- What holds while the claimants of a tick are served, one iteration each: each place's set and what the rest will give it stay what all give it;
--- when no one is left, the sets are the model's grants.
+-- when none is left, the sets are the model's grants.
 use borrow.Author.Tests.{eqb-true, eqb-false}
 use native.Mathlib.Omega.{arith}
 use mathlib.Core.Path.{_≡_, refl, sym, ap, _∙_}

@@ -1,4 +1,4 @@
--- What a row shows of one tick, in the model's words: no core is under two places, and each is open; a place that has nothing to lend has its width
+-- What a row shows of one tick, in the model's words: no core is under two places, and each is unfenced; a place that has nothing to lend has its width
 -- or nothing, and keeps what it is given; one that may lend keeps what no place borrows, and that and what is borrowed of it are its width.
 use mathlib.Core.Path.{_≡_, refl, sym, ap, subst, _∙_}
 use mathlib.Core.Logic.{_⊎_, inl, inr, ⊎-elim}
@@ -76,8 +76,8 @@ kept-all f (x ∷ l) h =
     ap (λ (t : Bool). consIf t x (filtered f l)) (h x (rw (eq-eqb x x refl)))
     ∙ ap (λ (k : List ℕ). x ∷ k) (kept-all f l (λ c e. h c (or-right (eqb c x) (memb c l) e)))
 
--- ---- the cores of a tick: ws are the widths and c the claims, of which the rule gives the open cores; a place that seeks has none of them, and what a place
--- offers is what it is given, or nothing
+-- ---- the cores of a tick: ws are the widths and c the claims, of which the rule gives the unfenced cores; a place that seeks has none of them, and what a
+-- place offers is what it is given, or nothing
 
 module _ (r : Rule) (ws : List ℕ) (c : ℕ → Bool) (f m : ℕ) (sk : ℕ → Bool) (o : ℕ → List ℕ) (n : ℕ) where
   abbrev pub gs : List (List ℕ)

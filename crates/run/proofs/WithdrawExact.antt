@@ -34,7 +34,7 @@ use Rattle.run.proofs.Limits.{run-decides, passes-if, passes-runs, with
 pub stranger-decides : (r : Run) (p : ℕ) → Decides (strangerIn r p) (NoSuchPosition r p)
 stranger-decides r p = decides-or _ _ _ _ (decides-eq p 0) (decides-lt (r .count) p)
 
--- THE FIRST NUMBER, where the test t decides whether an unknown position is named
+-- THE FIRST NUMBER, where the test t decides whether there is an unknown position
 module _ (r : Run) (t : Bool) (stranger : Type 0) (d : Decides t stranger) where
   withdraw-14 : runOut r ≡ true → FirstOf (WithdrawApplies r stranger) 14 0
   unfolding place

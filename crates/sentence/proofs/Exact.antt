@@ -1,4 +1,4 @@
--- Reading back is exact both ways: facts are found of a text exactly if they are expressible and it is their sentence,
+-- Parsing is exact both ways: facts are found of a text exactly if they are expressible and it is their sentence,
 -- since the numbers in a sentence are its facts.
 use mathlib.Core.Bool.{Bool, true, false, _&&_, cond, false≢true}
 use mathlib.Core.List.{List, [], _∷_}

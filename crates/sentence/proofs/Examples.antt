@@ -1,4 +1,4 @@
--- Sentences, and texts with what they are read back to, computed from the definitions.
+-- Sentences, and texts with what they are parsed to, computed from the definitions.
 use mathlib.Core.List.{List, [], _∷_, map}
 use mathlib.Core.Path.{_≡_, refl}
 use Prim.Native.Nat.{ℕ}

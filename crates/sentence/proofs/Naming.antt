@@ -1,4 +1,4 @@
--- The parts that an array of counts names: they rise by themselves, and a count set after the last one names a part at the end.
+-- The parts of an array of counts: they rise by themselves, and a count set after the last one adds a part at the end.
 use mathlib.Core.Bool.{Bool, true, false, cond}
 use mathlib.Core.List.{List, [], _∷_, _++_}
 use mathlib.Core.Path.{_≡_, refl, ap, ap₂, sym, _∙_}

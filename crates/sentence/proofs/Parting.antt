@@ -1,4 +1,4 @@
--- Reading the parts one by one: those read so far are what the counts so far name,
+-- Reading the parts one by one: those read so far are those of the counts so far,
 -- and parts that rise from the start are, from here on, parts that rise after the last task read.
 use mathlib.Core.Bool.{Bool, true, false, _&&_, false≢true}
 use mathlib.Core.List.{List, [], _∷_, _++_}

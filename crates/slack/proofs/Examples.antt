@@ -1,5 +1,5 @@
--- Slack computed from the definitions: numbers at their edges, and what each number turns down. And why the order of rules and widths is needed: under
--- the other rules, and under rule 1 out of the width order, a longer job can save a table.
+-- Slack computed from the definitions: at its limits, and what each number turns down. And why the order of rules and widths is needed: under
+-- the other rules, and under rule 1 out of the width order, a table can miss and with a longer job be accepted.
 use mathlib.Core.List.{List, [], _++_, map, _∷_}
 use mathlib.Core.Logic.{inl, inr, _⊎_}
 use mathlib.Core.Path.{refl, _≡_}

@@ -1,4 +1,4 @@
--- The list of numbers: 32 of them, that of each task at its place, and zeros past the count.
+-- The list of slacks: 32 numbers, that of each task at its place, and zeros past the count.
 use mathlib.Core.Bool.{Bool, false, true}
 use mathlib.Core.List.{List, map, _++_}
 use mathlib.Core.Logic.{⊎-elim}

@@ -1,4 +1,4 @@
--- What reading and writing leave, piece by piece: bytes in place stay there when more are read after them, and counts add up.
+-- The results of reading and writing, piece by piece: bytes in place stay there when more are read after them, and counts add up.
 -- Assumes nothing.
 use mathlib.Core.Bool.{true, false, false≢true}
 use mathlib.Core.List.{List, [], _++_}

@@ -1,4 +1,4 @@
--- Numbers written one to a line are read back as they were.
+-- Numbers written one to a line are parsed to themselves.
 use mathlib.Core.List.{List, [], _∷_}
 use mathlib.Core.Path.{_≡_, subst}
 use Prim.Native.Nat.{ℕ, suc, _≤_, _<_}

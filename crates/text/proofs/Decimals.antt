@@ -1,4 +1,4 @@
--- Decimal output: digits only, no zeros in front, and reading back gives the number.
+-- Decimal output: digits only, no zeros in front, and parsing gives the number.
 use mathlib.Core.Bool.{Bool, true, false, cond}
 use mathlib.Core.List.{List, [], _∷_, _++_}
 use mathlib.Core.Path.{_≡_, refl, ap, ap₂, sym, _∙_}

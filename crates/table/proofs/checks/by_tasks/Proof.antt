@@ -31,7 +31,7 @@ counted c =
     let there : length (c .before .args .t4) ≡ mostTasks = search needs in
     tasks-length (c .before .args .t4) (c .before .args .count) (omega arith)
 
--- a width is measured against the open cores
+-- a width is measured against the unfenced cores
 measured : (c : tie.After-unfenced-count) → c .unfenced-count .result ≡ wide (given c)
 measured c =
     let all : min (c .before .args .cores) 64 ≡ c .before .args .cores = omega (arith, c .before .pre .0) in
