@@ -262,7 +262,7 @@ pub extern "C" fn sivorandra_facts(bytes: &[u8], facts: &mut [u64], answer: &mut
     0
 }
 
-// The worst-case response time of each task of a table's words into the first 32 words of `times_of`, 0 past the last task: case 0, or 3 Refused number
+// The worst-case response time of each task of a table's words into the first 32 words of `figures`, 0 past the last task: case 0, or 3 Refused number
 // position and 32 zeros.
 #[no_mangle]
 pub extern "C" fn sivorandra_response_times(
@@ -303,7 +303,7 @@ pub extern "C" fn sivorandra_conflict(words: &[u32], answer: &mut [u32]) -> u32
     0
 }
 
-// The slack of each task of a table's words into the first 32 words of `times_of`, 0 past the last task: case 0, or 3 Refused number position and
+// The slack of each task of a table's words into the first 32 words of `figures`, 0 past the last task: case 0, or 3 Refused number position and
 // 32 zeros.
 #[no_mangle]
 pub extern "C" fn sivorandra_slack(words: &[u32], figures: &mut [u32], answer: &mut [u32]) -> u32

@@ -335,8 +335,8 @@ none p = false
 abbrev pub noReports : Entry
 noReports = advance 0 0
 
--- the full-length run at tick n: every advance is entered with no report and no empty job, past a miss too; no position is withdrawn.
--- Up to the first miss it is the scope's, the book of n advances whose sets are both empty (`full-length`)
+-- the full-length run at tick n (scope: full; the field: the run with exact execution times): every advance is entered with no report and no empty job, past
+-- a miss too; no position is withdrawn. Up to the first miss it is the scope's, the book of n advances whose sets are both empty (`full-length`)
 unfoldable pub full : Table → ℕ → Book
 full s zero = emptyBook
 full s (suc n) = step s none (full s n)

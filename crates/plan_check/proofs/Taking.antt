@@ -334,7 +334,7 @@ module _ (w : Supplied) (row : List ℕ) where
       same-notes Accepted h = notes-past (eqb (suc t) (startIn (workedRow r row))) (there (h .0))
       same-notes (Refused n s) h = refl
 
-  -- where the state was ready, what comes back is ready with the same numbers
+  -- where the state was ready, what is returned is ready with the same numbers
   pub ready-next : (start horizon : ℕ) → Ready r start horizon → Ready (takeOf w row .plan .run) start horizon
   unfolding takeOf
   ready-next start horizon h = go (takeAnswer w row) take-right

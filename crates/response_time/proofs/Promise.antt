@@ -1,4 +1,4 @@
--- The contract of `worstResponse`: its refusal is the first that applies, its response times hold over all ticks, and it is what is done with a table that was
+-- The contract of `response_times`: its refusal is the first that applies, its response times hold over all ticks, and it is what is done with a table that was
 -- loaded.
 use mathlib.Core.Path.{_≡_, refl, sym, ap, _∙_, subst}
 use mathlib.Core.List.{List}

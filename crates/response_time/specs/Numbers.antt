@@ -1,4 +1,4 @@
--- Numbers for what `worstResponse` turns down: the table's, then 13 (request 107); when each applies, and which is the first.
+-- Numbers for what `response_times` turns down: the table's, then 13 (request 107); when each applies, and which is the first.
 use mathlib.Core.List.{List}
 use mathlib.Core.Path.{_≡_}
 use Prim.Native.Nat.{ℕ}

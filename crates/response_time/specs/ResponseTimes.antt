@@ -1,4 +1,4 @@
--- The answer of `worstResponse`, and its contract (request 107).
+-- The answer of `response_times`, and its contract (request 107).
 use mathlib.Core.Path.{_≡_}
 use mathlib.Core.List.{List, map, _++_}
 use mathlib.Core.Logic.{_↔_}
@@ -37,7 +37,7 @@ responseTimesBy (Full a b) xs = givenTimes xs
 responseTimesBy (Miss t p) xs = noTimes 13 0
 responseTimesBy (Refused n p) xs = noTimes n p
 
--- the answer of `worstResponse` to the words
+-- the answer of `response_times` to the words
 unfoldable pub responseTimesOf : List ℕ → ResponseTimes
 responseTimesOf ws = responseTimesBy (verdictOf ws) (responseTimesIn (tableOf ws))
 

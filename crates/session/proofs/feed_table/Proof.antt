@@ -1,4 +1,4 @@
--- `session::feed_table` meets its contract: each way out is a law of Feeding, a text too long, a part held, the dashes that open the run, or one more line
+-- `session::feed_table` meets its contract: each return is a law of Feeding, a text too long, a part held, the dashes that open the run, or one more line
 -- held. Assumes nothing.
 use borrow.Author.Needs.{needs}
 use native.Mathlib.Omega.{arith}

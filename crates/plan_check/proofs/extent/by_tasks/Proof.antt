@@ -1,4 +1,4 @@
--- `plan_check::extent::by_tasks` meets its contract: S and P of the tasks that the run has, P up to one above the limit (`Looking`).
+-- `plan_check::extent::by_tasks` meets its contract: S and P of the tasks that the run has, P up to one above the limit (`PlanExtent`).
 -- Assumes nothing.
 use mathlib.Core.Bool.{false}
 use mathlib.Core.Path.{subst⁻¹, sym, _∙_, _≡_}

@@ -1,5 +1,5 @@
--- `run::Run::advance` meets its contract: as the tick answers; then 16 by one test of sets, since the reports are within the set of what they may name
--- exactly if no bit is set that may not be (`may-report`); and the run goes with the answer.
+-- `run::Run::advance` meets its contract: the tick's answer; then 16 by one test of sets, since the reports are within the set of the jobs that may be reported
+-- exactly if no bit is set that may not be (`may-report`); and the answer determines the run.
 -- Assumes nothing.
 use mathlib.Core.Path.{_≡_, sym, ap, _∙_}
 use mathlib.Core.Bool.{not}
