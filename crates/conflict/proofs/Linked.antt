@@ -27,7 +27,7 @@ use Rattle.conflict.proofs.Chosen.{chosen-all}
 abbrev pub All : (ℕ → Type 0) → List ℕ → Type 0
 All P ns = (i : ℕ) → i < length ns → P (getD ns i 0)
 
--- no number is twice in it
+-- no number is in it twice
 unfoldable pub Distinct : List ℕ → Type 0
 Distinct [] = Unit {0}
 Distinct (n ∷ ns) = All (λ m. ¬ (n ≡ m)) ns × Distinct ns

@@ -190,7 +190,7 @@ module _
               (x .1))),
         )
 
-    -- and the place is at the tick after them
+    -- and the place represents its jobs at the tick after them
     pub landed : (j : ℕ) → k ≡ suc j → (p : ℕ) → p < length (s .tasks)
         → PlaceRepresents (task s p) (suc (t + j)) (full s (suc (t + j)) .job p) (cond (granted p) (L p - suc j) (L p)) (M p) (N p)
         (c p && not (granted p && eqb (L p) (suc j)))

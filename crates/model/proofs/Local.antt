@@ -166,7 +166,7 @@ module _ (n : ℕ) (s s′ : Table) (al : EqualAbove n s s′) where
       ∙ (ap (λ (x : List (List ℕ)). getD x p []) (same-grants b b′ ag)
       ∙ getD-take n (grantsOf s′ b′) p [] l)
 
-  -- a place that has ended, seeks and offers, and so what is borrowed
+  -- the places that have ended, that seek and that offer, and so what is borrowed
   same-ended : (b b′ : Book) → Agree n b b′ → (p : ℕ) → p < n → newestEnded s b p ≡ newestEnded s′ b′ p
   same-ended b b′ ag p l =
       ap (λ (j : Job). j .ended) (ag .jobs p (newest (task s p) (b .tick)) l)

@@ -21,7 +21,7 @@ use Rattle.model.specs.Search.{bit}
 use Rattle.model.specs.Task.{Table}
 use Rattle.model.specs.WithdrawSet.{SetBelow}
 
--- WHAT IT IS ANSWERED, whatever is in the book: 15 is not tested
+-- THE ANSWER, whatever is in the book: 15 is not tested
 
 -- a position is none of the table exactly if it is 0 or past the count
 pub stranger-exact : (s : Table) (p : ℕ) → (stranger s p ≡ true) ↔ ((p ≡ 0) ⊎ (length (s .tasks) < p))

@@ -60,7 +60,7 @@ below-rest n q qs h i e = h i (or-right (eqb i q) (memb i qs) e)
 
 -- ONE BY ONE
 
--- a position of the table is no unknown position
+-- a position of the table is known
 known : (s : Table) (q : ℕ) → q < length (s .tasks) → stranger s (suc q) ≡ false
 known s q l = rw (ne-eqb (suc q) 0 (λ e. omega arith), le-ltb (length (s .tasks)) (suc q) l)
 

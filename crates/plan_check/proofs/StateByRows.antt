@@ -24,7 +24,7 @@ use Rattle.plan_check.proofs.OneTick.{next-of, next-parity, phase-of, p
 use Rattle.plan_check.proofs.PhaseBy.{phase-coming, phase-from}
 use Rattle.plan_check.proofs.Ticks.{ticks-grow, ticks-none, ticks-on}
 
--- where place p is at tick t, moved by the rows
+-- the state of place p at tick t, moved by the rows
 unfoldable pub stateByRows : Table → (ℕ → List ℕ) → ℕ → ℕ → TaskState
 stateByRows s r p zero = startState (task s p .offset)
 stateByRows s r p (suc t) = nextState (s .rule) (task s p) (runs r p t) false false (stateByRows s r p t .even) (stateByRows s r p t .phase)

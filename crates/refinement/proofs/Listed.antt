@@ -141,7 +141,7 @@ listing-at (advance x e ∷ xs) (suc i) l = further 0 x e (listing xs) i (getD x
 listing-at (withdraw p ∷ xs) (suc i) l = further 1 p 0 (listing xs) i (getD xs i noReports) (listing-at xs i (le-of-suc-le-suc l))
 listing-at (withdrawAll x ∷ xs) (suc i) l = further 2 x 0 (listing xs) i (getD xs i noReports) (listing-at xs i (le-of-suc-le-suc l))
 
--- LAW: every list of entries is in words, and comes back from them
+-- LAW: every list of entries is encoded in words, and decoded from them
 pub listing-listed : (xs : List Entry) → Listed (listing xs)
 listing-listed xs =
     let n = length-listing xs in

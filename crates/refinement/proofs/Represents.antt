@@ -35,7 +35,7 @@ pub record Represents (s : Table) (b : Book) (r : Run) : Type 0 where
   pub related : Related s b r
 
 module _ (s : Table) (ok : AllValid s) where
-  -- what an advance is answered where no task is late
+  -- the answer to an advance where no task is late
   abbrev inTime : Book → ℕ → ℕ → Answer
   inTime b x e = cond (misemptied s b e) (refused 20 0) (cond (misreported s (emptied s (emptyIn b e) b) x) (refused 16 0) taken)
 

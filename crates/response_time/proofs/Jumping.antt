@@ -63,7 +63,7 @@ module _ (t : Loaded) (fit : Fit t) (s : EventState) (h : StateRepresents t s) (
   looked : MachineRepresents book (s .tick) (suc (s .tick)) m
   looked = seen t fit s h met
 
-  -- a place that claims at a place before the jump's ticks and after them, and its next release, which stays
+  -- whether a place claims before the jump's ticks and after them, and its next release, which stays
   abbrev c : ℕ → Bool
   c p = bit (m .claiming) p
 

@@ -65,7 +65,7 @@ module _ (ws : List ℕ) (sk : ℕ → Bool) (o : ℕ → List ℕ) where
   abbrev pub had : ℕ → ℕ → List ℕ
   had n q = getD (lent ws sk o n) q []
 
-  -- a place that is tried as place n lends, and what they are given
+  -- the places that are tried as place n lends, and what they are given
   abbrev pub tried : ℕ → ℕ → Bool
   tried n = tries sk n (lent ws sk o n)
 
@@ -181,7 +181,7 @@ module _ (gs bs : List (List ℕ)) (same : length gs ≡ length bs) where
     borrowed-kept : (i j : ℕ) → In c (getD bs i []) → In c (unlent bs (getD gs j [])) → ⊥
     borrowed-kept i j h k = false≢true (sym (kept-own j k .1) ∙ among-of c bs i h)
 
-  -- and none is twice
+  -- and none is there twice
   pub shown-apart : Apart gs → Apart bs → Apart (shownCores gs bs)
   shown-apart ag ab c i j l h k =
       ⊎-elim

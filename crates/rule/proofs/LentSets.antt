@@ -112,13 +112,13 @@ module _ (ws reserved : List ℕ) (holders seekers count : ℕ) (size : length w
     pub borrowed-at : (p : ℕ) → cores (getD borrowed p 0) ≡ getD (lent ws sk o count) p []
     borrowed-at p = borrowed-in p ∙ ap (λ (l : List (List ℕ)). getD l p []) (sym (b .gives) ∙ borrowed-list)
 
-    -- and a place that does, as `owners` finds them
+    -- and the places that do, as `owners` finds them
     pub borrowers : count ≤ 32 → (owned : ℕ) → ((p : ℕ) → bit owned p ≡ ltb p 32 && some (cores (getD borrowed p 0)))
         → (p : ℕ) → bit owned p ≡ some (getD (lent ws sk o count) p [])
     borrowers few owned w p =
         owners-all borrowed owned w (λ q h. ap cores (borrowed-past q (omega arith)) ∙ cores-none) p ∙ ap some (borrowed-at p)
 
--- a place that is given cores, as `owners` finds them
+-- the places that are given cores, as `owners` finds them
 pub reserved-owners :
     (r : Rule) (ws : List ℕ) (c : ℕ → Bool) (count free : ℕ) (reserved : List ℕ) → GrantedAs r (claimants ws c) count free reserved → length ws ≤ 32
     → (owned : ℕ) → ((p : ℕ) → bit owned p ≡ ltb p 32 && some (cores (getD reserved p 0)))

@@ -148,7 +148,7 @@ module _ (r : Rule) (ws : List ℕ) (c : ℕ → Bool) (f m : ℕ) (sk : ℕ →
         let u = lent-from ws sk o x n (y .0) (y .1) in
         lender x h (u .0) (u .2) (eqb (u .0) p) refl)))
       where
-        -- a place that lends one of its cores is no other place
+        -- no other place lends one of its cores
         lender : (x : ℕ) → In x (getD gs p []) → (q : ℕ) → In x (o q) → (t : Bool) → eqb q p ≡ t → ⊥
         lender x h q k true e = not-in-none x (subst (In x) none (subst (λ (i : ℕ). In x (o i)) (eqb-true q p e) k))
         lender x h q k false e = go (ltb q p) refl

@@ -71,7 +71,7 @@ owner-in c p (g ∷ gs) x e h = go (memb c g) refl e (λ k. owner-in c (suc p) g
     go true m k ih = (0, omega arith, m)
     go false m k ih = let o = ih k in (suc (o .0), omega (arith, o .1), o .2)
 
--- where no core is in two lists, whose list has the core owns it
+-- where no core is in two lists, the position whose list has a core owns it
 owner-of :
     (c p : ℕ) (gs : List (List ℕ)) → ((i j : ℕ) → i < j → In c (getD gs i []) → In c (getD gs j []) → ⊥)
     → (q : ℕ) → In c (getD gs q []) → owner c p gs ≡ p + q

@@ -37,7 +37,7 @@ within-past n x h = not-true-false (pastCount n x) (λ e. let y = past-decides n
 
 -- ONE BY ONE
 
--- a position of the run is no unknown position
+-- a position of the run is known
 known : (r : Run) (q : ℕ) → q < r .count → strangerIn r (suc q) ≡ false
 known r q l = rw (ne-eqb (suc q) 0 (λ e. omega arith), le-ltb (r .count) (suc q) l)
 

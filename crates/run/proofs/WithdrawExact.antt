@@ -79,7 +79,7 @@ module _ (r : Run) (t : Bool) (stranger : Type 0) (d : Decides t stranger) where
       go false q true f true g = withdraw-22 q f g
       go false q true f false g = withdraw-none q f g
 
--- a taken withdrawal passed 14, was firm and named no unknown position
+-- a taken withdrawal passed 14, was firm and had no unknown position
 pub taken-parts : (r : Run) (t : Bool) → answerMeaning (withdrawAnswer r t) ≡ model.taken → (runOut r ≡ false) × (firmIn r ≡ true) × (t ≡ false)
 unfolding withdrawAnswer
 taken-parts r t e = go (runOut r) (firmIn r) t e
@@ -91,7 +91,7 @@ taken-parts r t e = go (runOut r) (firmIn r) t e
     go false true true q = absurd (let z : _≡_ {A = ℕ} 0 1 = cc in omega arith)
     go false true false q = (refl, refl, refl)
 
--- what a withdrawal of the set x gives, where no unknown position is named only if x is within the count
+-- the result of a withdrawal of the set x, where there is no unknown position only if x is within the count
 module _ (r : Run) (t : Bool) (stranger : Type 0) (d : Decides t stranger) (x : ℕ) (known : runOut r ≡ false → t ≡ false → pastCount (r .count) x ≡ false) where
   again-passes : answerMeaning (withdrawAnswer r t) ≡ model.taken → ¬ RunOut (byAnswer (withdrawAnswer r t) (withdrawnIn x r) r)
   again-passes e =
