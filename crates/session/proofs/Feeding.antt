@@ -87,7 +87,7 @@ pub over-empty : (s : Session) (taken length : ℕ) (e : InputEnd) (bs : List �
 unfolding transcriptOf transcriptIn
 over-empty s taken length e bs = refl
 
--- where it is open what comes, no reply is due before it
+-- where it is unknown what comes, no reply is due before it
 pub nothing-due : (s : Session) → transcriptOf s unknown [] ≡ []
 nothing-due s = by-stage (stageOf s) refl
   where

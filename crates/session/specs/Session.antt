@@ -28,7 +28,7 @@ isOver Table = false
 isOver Operations = false
 isOver Over = true
 
--- the transcript of a session for the bytes bs; where it is open whether more bytes come, what it must have printed
+-- the transcript of a session for the bytes bs; where it is unknown what comes, what it must have printed
 unfoldable pub transcriptOf : Session → InputEnd → List ℕ → List ℕ
 transcriptOf s e bs = transcriptIn (stageOf s) s e bs
 

@@ -15,7 +15,7 @@ use Rattle.session.specs.Operation.{operationOf, answerLine, reply, runA
 abbrev pub tooMany : ℕ
 tooMany = mostBytes + 3
 
--- what comes after the bytes so far: nothing, the input ends; or it is open
+-- what comes after the bytes so far: nothing, the input ends; or it is unknown
 pub data InputEnd : Type 0 where
   nothing : InputEnd
   unknown : InputEnd
