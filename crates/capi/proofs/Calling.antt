@@ -1,4 +1,5 @@
--- What a computed example of a call on a run opens: where an `unfolding` line names `calling`, what row, sets, advance and the withdrawals leave computes.
+-- Unfolding for the computed examples of calls on a run: where an `unfolding` line contains `calling`, the results of row, sets, advance and the withdrawals
+-- compute.
 use Rattle.model.proofs.Computing.{computing}
 use Rattle.run.specs.Advance.{advanceAnswer, advanceOf}
 use Rattle.run.specs.Numbers.{pastCount, runOut, firstLateIn, misemptiedIn, misreportedIn}

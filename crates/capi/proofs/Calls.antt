@@ -1,4 +1,4 @@
--- What the calls leave, by whether there is room.
+-- The results of the calls, by whether there is space.
 use mathlib.Core.Path.{_≡_, ap}
 use mathlib.Core.Bool.{Bool}
 use mathlib.Core.List.{List, [], _∷_}

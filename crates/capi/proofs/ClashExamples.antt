@@ -1,5 +1,5 @@
--- What the call that gives the tasks in the clash leaves, computed from the definitions: the set of the positions kept, 17 where there is no miss, a table's
--- number, and everything as found where the answer has no room.
+-- The result of the call that gives the tasks in conflict, computed from the definitions: the set of the positions kept, 17 where there is no miss, a table's
+-- number, and everything as found where the answer has no space.
 use mathlib.Core.List.{List, [], _∷_, _++_, map}
 use mathlib.Core.Path.{_≡_, refl}
 use Prim.Native.Nat.{ℕ}
@@ -21,11 +21,11 @@ pub record Line : Type 0 where
   pub answer : List ℕ
   pub leaves : CallResult
 
--- what the definitions say of a line's words and slice
+-- the value by the definitions of a line's words and slice
 abbrev pub worked : Line → Line
 worked l = record { words = l .words; answer = l .answer; leaves = conflictCall (l .words) (l .answer) }
 
--- so many words as they are lent
+-- a number of words as they are lent
 abbrev lent : ℕ → List ℕ
 lent n = replicate n 77
 
@@ -50,11 +50,11 @@ lines =
     answers (ruledB 2) 0 6 0 ∷ answers (wideF 1) 0 1 0
     -- 17 for A and B, which do not miss; 7 with its position; 1 for no words at all
     ∷ answers wordsA 3 17 0 ∷ answers (ruledB 1) 3 17 0 ∷ answers (wideF 2) 3 7 1 ∷ answers [] 3 1 0
-    -- no room, whatever the words
+    -- no space, whatever the words
     ∷ stays (wideF 1) 2 ∷ stays wordsA 2 ∷ stays [] 0
     ∷ []
 
--- every line is what the definitions say
+-- every line is its value by the definitions
 pub examples : map worked lines ≡ lines
 unfolding conflictCall conflictOf conflictSet passes pass dropped conflicts chosen verdictOf answerOf byWalk byTasks byHorizon firstOut endingOf lastStep headerNumber
     tableOf chain count met computing

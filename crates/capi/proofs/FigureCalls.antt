@@ -1,4 +1,4 @@
--- What the calls leave that give a figure for each task, by whether there is room. Assumes nothing.
+-- The results of the calls that give a number for each task, by whether there is space. Assumes nothing.
 use mathlib.Core.Path.{_≡_, sym, _∙_}
 use mathlib.Core.List.{List, [], _∷_, _++_}
 use Prim.Native.Nat.{ℕ, _≤_, _<_}

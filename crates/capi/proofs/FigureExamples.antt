@@ -1,5 +1,5 @@
--- What the call that gives the longest answer of each task leaves, computed from the definitions: the figures of A in front, 32 zeros and 13 for F, which
--- misses, and everything as found where there is one word too few.
+-- The result of the call that gives the worst-case response time of each task, computed from the definitions: those of A in front, 32 zeros and 13 for F,
+-- which misses, and everything as found where there is one word too few.
 use mathlib.Core.Path.{_≡_, refl}
 use mathlib.Core.List.{List, [], _∷_, _++_}
 use Prim.Native.Nat.{ℕ}
@@ -14,7 +14,7 @@ use Rattle.response_time.specs.Response.{greatest, worstResponseBy, responseTim
 use Rattle.capi.specs.Calls as calls
 use Rattle.capi.specs.Figures.{figuresCall, responseTimesCall}
 
--- so many words as they are lent
+-- a number of words as they are lent
 abbrev lent : ℕ → List ℕ
 lent n = replicate n 77
 

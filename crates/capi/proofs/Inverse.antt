@@ -80,12 +80,12 @@ places-back (suc n) (t ∷ ts) behind h =
 fence-back : (f : ℕ) → fenceOf (lowWord f) (highWord f) ≡ f
 fence-back f = omega arith
 
--- the head and n places are so many words
+-- the number of words of the head and n places
 pub length-to : (n : ℕ) (r : Run) → n ≤ length (r .tasks) → length (encodeTo n r) ≡ wordsTo n
 unfolding encodeTo
 length-to n r h = let a = length-words (take n (r .tasks)) in let b = length-take-le n (r .tasks) h in omega arith
 
--- a run whose places below the count are written comes back cleared, whatever stands behind them in a buffer that is long enough
+-- a run whose places below the count are written comes back cleared, whatever is after them in a buffer that is long enough
 module _ (n : ℕ) (r : Run) (behind : List ℕ) (all : length (r .tasks) ≡ places) (few : r .count ≤ n) (most : n ≤ places) (long : runWords ≤ length (encodeTo n r ++ behind)) where
   abbrev answerWritten : List ℕ
   answerWritten = placesWords (take n (r .tasks)) ++ behind
@@ -136,7 +136,7 @@ few-accepted r fine = go (leb (r .count) places) refl
     go true e = leb-true (r .count) places e
     go false e = absurd (fine (inl (λ f. let h = leb-false (r .count) places e in let l = f .1 in omega arith)))
 
--- .. so every run that 14 accepts comes back cleared; `cleared-unread` says that it gets equal rows and answers
+-- .. so every run that 14 accepts comes back cleared; it gets equal rows and answers (`cleared-unread`)
 pub decode-accepted : (r : Run) → length (r .tasks) ≡ places → (¬ RunOut r) → decode (encode r) ≡ run (cleared r)
 decode-accepted r all fine =
     ap decode (sym (append-nil (encode r))) ∙ decode-encode r all (few-accepted r fine) []
@@ -228,7 +228,7 @@ words-back ws narrow e =
     ∙ ap (λ (l : List ℕ). getD ws 3 0 ∷ l) (drop-cons ws 4 0 (omega arith)
     ∙ ap (λ (l : List ℕ). getD ws 4 0 ∷ l) (drop-cons ws 5 0 (omega arith)))))))))
   where
-    -- the words of the head, and what stands behind them
+    -- the words of the head, and what is after them
     head-of : List ℕ → List ℕ
     head-of l = getD ws 0 0 ∷ (getD ws 1 0 ∷ (countIn ws ∷ (getD ws 3 0 ∷ (getD ws 4 0 ∷ (getD ws 5 0 ∷ l)))))
 

@@ -1,4 +1,4 @@
--- What the calls on a run in a buffer leave, by whether there is room and by what the buffer holds.
+-- The results of the calls on a run in a buffer, by whether there is space and by what the buffer holds.
 use mathlib.Core.Path.{_≡_, refl, sym, ap, _∙_}
 use mathlib.Core.Bool.{true, false, _&&_}
 use mathlib.Core.List.{List, [], _∷_, _++_}
@@ -33,7 +33,7 @@ use Rattle.capi.specs.Runs.{startCall, rowFrom, rowCall, setsFrom, setsC
 use Rattle.capi.proofs.Calls.{both}
 use Rattle.capi.proofs.Places.{by-held, held-few}
 
--- THE ROOM FOR AN ANSWER AND FOR n MORE
+-- THE SPACE FOR AN ANSWER AND FOR n MORE
 
 module _ (n : ℕ) (buffer answer : List ℕ) (lent found : List (List ℕ)) where
   pub narrow : length answer < 3 → byRoom (answerFits answer && leb n (length buffer)) lent found ≡ callResult 1 found
@@ -199,7 +199,7 @@ module _ (ws : List ℕ) where
   sets-none e h = ap (λ (v : BufferRun). setsFrom v e) (sym (by-held ws h))
 
   module _ (x : Entry) where
-    -- the run that an entry returns has as few places as the buffer says
+    -- the run that an entry returns has the buffer's count of places
     pub entry-few : (a : Advanced) (r : Run) → holdsRun ws ≡ true → r ≡ runIn ws → a ≡ entryOf r x → a .run .count ≤ places
     unfolding runIn
     entry-few a r h e p =

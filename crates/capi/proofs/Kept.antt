@@ -1,5 +1,5 @@
--- The calls on a buffer are the calls on the run that it holds: what start writes and what an entry leaves is decoded to the run that they return.
--- (A row or its sets asked go by the run that is decoded, by its definition.)
+-- The calls on a buffer are the calls on the run that it holds: what start and an entry write is decoded to the run that they return.
+-- (The row or the sets asked are those of the run that is decoded, by definition.)
 use mathlib.Core.Path.{_≡_, refl, sym, ap, subst, _∙_}
 use mathlib.Core.Bool.{Bool, true}
 use mathlib.Core.List.{List, [], _++_, map, append-nil}
@@ -66,7 +66,7 @@ fits-start ws = go (startAnswer ws) refl
     go (Refused n p) e =
         subst (λ (s : Started). FitsWord (s .run)) (sym (start-refused ws n p e)) (record { all = refl; few = omega arith; past = refl })
 
--- start writes all words of the run that it returns, whatever stood there
+-- start writes all words of the run that it returns, whatever was there
 pub start-whole : (ws buffer : List ℕ) → take runWords (startedIn ws buffer) ≡ encode (startOf ws .run)
 start-whole ws buffer =
     let r = startOf ws .run in

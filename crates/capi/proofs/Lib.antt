@@ -1,4 +1,4 @@
--- Laws of the calls: by room and by what a buffer holds; encoding and decoding; lists, number 14 and what is never read; computed examples.
+-- Laws of the calls: by space and by what a buffer holds; encoding and decoding; lists, number 14 and what is never read; computed examples.
 mod Calls
 mod Replaying
 mod Places

@@ -1,4 +1,4 @@
--- A list of entries on the run in a buffer is the list of entries on the run: what `follows` and `demand-3` say of the run holds of the calls.
+-- A list of entries on the run in a buffer is the list of entries on the run: `refines` and `demand-3` hold of the calls.
 use mathlib.Core.Path.{_≡_, refl}
 use mathlib.Core.List.{List, [], _∷_}
 use Prim.Native.Nat.{ℕ}

@@ -34,21 +34,21 @@ module _ (n : ℕ) (vs ws : List ℕ) where
       let d = length-drop (n + length vs) ws in
       omega arith
 
-  -- what stands before them stays ..
+  -- what is before them stays ..
   pub take-put : (k : ℕ) → k ≤ n → n ≤ length ws → take k (putAt n vs ws) ≡ take k ws
   take-put k l h =
       sym (take-take k n (putAt n vs ws) l)
       ∙ (ap (take k) (ap (take n) (split h) ∙ take-at (take n ws) (vs ++ drop (n + length vs) ws) n (length-take-le n ws h))
       ∙ take-take k n ws l)
 
-  -- .. and what stands behind them
+  -- .. and what is after them
   pub drop-put : n ≤ length ws → drop (n + length vs) (putAt n vs ws) ≡ drop (n + length vs) ws
   drop-put h = drop-at (take n ws ++ vs) (drop (n + length vs) ws) (n + length vs) (length-front h)
 
   pub from-put : n ≤ length ws → drop n (putAt n vs ws) ≡ vs ++ drop (n + length vs) ws
   from-put h = ap (drop n) (split h) ∙ drop-at (take n ws) (vs ++ drop (n + length vs) ws) n (length-take-le n ws h)
 
-  -- more words, put right behind them
+  -- more words, put right after them
   pub put-next : (ys : List ℕ) (m : ℕ) → m ≡ n + length vs → n + length vs ≤ length ws → putAt m ys (putAt n vs ws) ≡ putAt n (vs ++ ys) ws
   put-next ys m e h =
       let front = take n ws ++ vs in
@@ -71,7 +71,7 @@ pub word-read : (ws : List ℕ) (n x : ℕ) → n < length ws → getD (putAt n 
 word-read ws n x h =
     ap (λ (l : List ℕ). getD l n 0) (split n (x ∷ []) ws (omega arith)) ∙ getD-at (take n ws) x (drop (n + 1) ws) 0 n (length-take-le n ws (omega arith))
 
--- to put again what stands there changes nothing
+-- to put again what is there changes nothing
 pub put-same : (ws vs : List ℕ) (n : ℕ) → vs ++ drop (n + length vs) ws ≡ drop n ws → n ≤ length ws → putAt n vs ws ≡ ws
 put-same ws vs n e h = split n vs ws h ∙ (ap (λ (l : List ℕ). take n ws ++ l) e ∙ take-append-drop n ws)
 
@@ -185,7 +185,7 @@ notes-back zero ns ws h = refl
 notes-back (suc k) [] ws h = absurd (not-suc-le-zero h)
 notes-back (suc k) (n ∷ ns) ws h = λ i. note (phase-noted (n .phase) i) ∷ notes-back k ns ws (le-of-suc-le-suc h) i
 
--- notes written over the first ones: those behind them are read as before
+-- notes written over the first ones: those after them are read as before
 pub notes-over :
     (k : ℕ) (ns : List Note) (ws : List ℕ) → length ns ≤ k
     → notesIn k (notesWords ns ++ drop (noteSize * length ns) ws) ≡ ns ++ drop (length ns) (notesIn k ws)

@@ -131,7 +131,7 @@ same-held ws vs s = go (decode ws) (decode vs) refl refl
 
 -- NOT CHANGED
 
--- what an entry on run r leaves in a buffer, in two parts: up to the count, and behind it
+-- what an entry on run r leaves in a buffer, in two parts: up to the count, and after it
 module _ (r : Run) (f : FitsWord r) (x : Entry) where
   abbrev next : Run
   next = entryOf r x .run

@@ -1,4 +1,4 @@
--- The words of places: one place more, written, read or looked at.
+-- The words of places: one place more, written, read or tested.
 use mathlib.Core.Path.{_≡_, refl, ap, _∙_}
 use mathlib.Core.Bool.{Bool, true, false, _&&_, cond}
 use mathlib.Core.List.{List, [], _∷_, _++_}
@@ -38,7 +38,7 @@ unfolding placesIn
 length-read zero ws = refl
 length-read (suc n) ws = ap suc (length-read n (drop eachWords ws))
 
--- looked at: it is one, and the others decide ..
+-- tested: it is one, and the others decide ..
 pub look-on : (m n at : ℕ) (ws : List ℕ) → m ≡ suc n → isPlace (drop at ws) ≡ true → arePlaces m (drop at ws) ≡ arePlaces n (drop (at + eachWords) ws)
 unfolding arePlaces
 look-on m n at ws e p =

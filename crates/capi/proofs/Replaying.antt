@@ -1,4 +1,4 @@
--- What a call of the replay leaves, by whether the lent slices fit.
+-- The result of a call of the replay, by whether the lent slices fit.
 use mathlib.Core.Path.{_≡_, refl, sym, ap, _∙_}
 use mathlib.Core.Bool.{Bool, true, false, _&&_}
 use mathlib.Core.List.{List, [], _∷_}

@@ -1,4 +1,4 @@
--- What the call that reads a sentence back leaves, computed from the definitions: the words of A2's facts in their order and the case 0;
+-- The result of the call that parses a sentence, computed from the definitions: the words of A2's facts in their order and the case 0;
 -- 36 zeros and the case 5 where the bytes are no sentence; everything as found where there is one word too few.
 use mathlib.Core.Path.{_≡_, refl}
 use mathlib.Core.List.{List, [], _∷_, _++_}
@@ -12,7 +12,7 @@ use Rattle.sentence.specs.Parsed.{parsed, candidate, numbersFrom, paired, same}
 use Rattle.capi.specs.Calls.{callResult}
 use Rattle.capi.specs.Sentences.{countOf, countsFrom, factWordsOf, factsCall}
 
--- so many words as they are lent
+-- a number of words as they are lent
 abbrev lent : ℕ → List ℕ
 lent n = replicate n 77
 

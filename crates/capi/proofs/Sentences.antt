@@ -1,4 +1,4 @@
--- What the calls on a sentence leave, by whether there is room and by what is read back.
+-- The results of the calls on a sentence, by whether there is space and by what is parsed.
 use mathlib.Core.Path.{_≡_, refl, sym, ap, _∙_}
 use mathlib.Core.Bool.{Bool, true, false, cond, _&&_}
 use mathlib.Core.List.{List, [], _∷_, _++_}
@@ -71,7 +71,7 @@ pass q k n ns l = go (eqb n 0)
     go true = refl
     go false = unfold countOf in ap (λ (b : Bool). cond b n (countOf k (namedFrom (suc q) ns))) other
 
--- the count that stands first
+-- the count that is first
 here : (q n : ℕ) (ns : List ℕ) → countOf (suc q) (namedFrom q (n ∷ ns)) ≡ n
 unfolding countOf namedFrom
 here q n ns = go (eqb n 0) refl
@@ -97,7 +97,7 @@ counts-named q (n ∷ ns) = λ j. here q n ns j ∷ (passed (length ns) (suc q) 
 
 -- THE FACTS IN WORDS
 
--- the words of a struct of 32 counts are those of the facts that it tells
+-- the words of a struct of 32 counts are those of its facts
 struct-words : (f : code.Facts) → length (f .ran) ≡ mostTasks → inWords (f .position) (f .tick) (f .had) (f .length) (f .ran) ≡ factWordsOf (facts (factsBy f))
 unfolding factWordsOf
 struct-words f e =

@@ -1,4 +1,4 @@
--- What the call that gives the spare ticks of each task leaves, computed from the definitions: the figures in front, 32 zeros and 23 where none are given, or
+-- The result of the call that gives the slack of each task, computed from the definitions: the numbers in front, 32 zeros and 23 where none are given, or
 -- a table's number, and everything as found where there is a word too few.
 use mathlib.Core.List.{List, [], _∷_, _++_, map}
 use mathlib.Core.Path.{_≡_, refl}
@@ -22,11 +22,11 @@ pub record Line : Type 0 where
   pub answer : List ℕ
   pub leaves : CallResult
 
--- what the definitions say of a line's words and slices
+-- the value by the definitions of a line's words and slices
 abbrev pub worked : Line → Line
 worked l = record { words = l .words; figures = l .figures; answer = l .answer; leaves = slackCall (l .words) (l .figures) (l .answer) }
 
--- so many words as they are lent
+-- a number of words as they are lent
 abbrev lent : ℕ → List ℕ
 lent n = replicate n 77
 
@@ -39,14 +39,14 @@ answers ws xs k a b = record {
   leaves = callResult 0 ((xs ++ (replicate (32 - length xs) 0 ++ lent 1)) ∷ (k ∷ a ∷ b ∷ lent 1) ∷ []);
 }
 
--- figures are given; or they are turned down, with 32 zeros
+-- numbers are given; or they are turned down, with 32 zeros
 abbrev given : List ℕ → List ℕ → Line
 given ws xs = answers ws xs 0 0 0
 
 abbrev refuses : List ℕ → ℕ → ℕ → Line
 refuses ws n p = answers ws [] 3 n p
 
--- slices of so many words, of which one is too short, stay
+-- slices of these numbers of words, of which one is too short, stay
 abbrev stays : List ℕ → ℕ → ℕ → Line
 stays ws f n = record { words = ws; figures = lent f; answer = lent n; leaves = callResult 1 (lent f ∷ lent n ∷ []) }
 
@@ -65,11 +65,11 @@ lines =
     ∷ refuses (two 3 1) 23 0 ∷ refuses (two 4 1) 23 0 ∷ refuses wordsF 23 0 ∷ refuses wordsA 23 0
     -- 7 with its position, before 23; 1 for no words at all
     ∷ refuses (two 2 2) 7 1 ∷ refuses (two 3 2) 7 1 ∷ refuses [] 1 0
-    -- no room for the answer or for the figures, whatever the words
+    -- no space for the answer or for the numbers, whatever the words
     ∷ stays (two 2 1) 32 2 ∷ stays (two 2 1) 31 3 ∷ stays wordsF 31 3 ∷ stays [] 0 0
     ∷ []
 
--- every line is what the definitions say
+-- every line is its value by the definitions
 pub examples : map worked lines ≡ lines
 unfolding figuresCall slackOf slackIn hasSlack ordered slack misses answerOf byWalk byTasks byHorizon firstOut endingOf lastStep headerNumber tableOf chain
     count met computing

@@ -1,5 +1,5 @@
--- What begin and take leave, computed from the definitions: a plan begun, with its phases noted at once or not yet; rows taken, up to the last; each number
--- once; the notes written at the last S and nowhere else; words of a note that are no phase; and everything as found where there is no room.
+-- The results of begin and take, computed from the definitions: a plan begun, with its phases recorded at once or not yet; rows taken, up to the last; each
+-- number once; the notes written at the last S and nowhere else; words of a note that are no phase; and everything as found where there is no space.
 use mathlib.Core.Path.{_≡_, refl}
 use mathlib.Core.Bool.{Bool, true, false}
 use mathlib.Core.List.{List, [], _∷_, _++_, map}
@@ -40,7 +40,7 @@ abbrev pub leftBy : Call → List ℕ → List ℕ → CallResult
 leftBy (begins ws) buffer answer = beginCall ws buffer answer
 leftBy (takes row) buffer answer = takeCall buffer row answer
 
--- what the definitions say of a line's call and slices
+-- the value by the definitions of a line's call and slices
 abbrev pub computes : Line → Line
 computes l = record {
   name = l .name;
@@ -50,11 +50,11 @@ computes l = record {
   leaves = leftBy (l .call) (l .buffer) (l .answer);
 }
 
--- so many words as they are lent
+-- a number of words as they are lent
 abbrev lent : ℕ → List ℕ
 lent n = replicate n 77
 
--- so many times these words
+-- these words, repeated a number of times
 unfoldable pub times : ℕ → List ℕ → List ℕ
 times zero ws = []
 times (suc n) ws = ws ++ times n ws
@@ -81,7 +81,7 @@ one o = 1 ∷ 1 ∷ 1 ∷ 0 ∷ 0 ∷ 0 ∷ o ∷ 1 ∷ 1 ∷ 1 ∷ 2 ∷ 1 ∷ 
 abbrev placed : ℕ → Bool → Phase → List ℕ
 placed o e ph = placeWords (record { offset = o; width = 1; length = 1; deadline = 1; period = 2; second = 1; even = e; phase = ph })
 
--- a plan of the task with O 1, whose last S is 1 and horizon 3, at this tick, with these words of a note; anything past the count, and a word behind the plan
+-- a plan of the task with O 1, whose last S is 1 and horizon 3, at this tick, with these words of a note; anything past the count, and a word after the plan
 abbrev plan : Bool → Phase → ℕ → List ℕ → List ℕ
 plan e ph t note = 1 ∷ 1 ∷ 1 ∷ 0 ∷ 0 ∷ 0 ∷ (placed 1 e ph ++ (lent 341 ++ (t ∷ (note ++ lent 125))))
 
@@ -139,7 +139,7 @@ lines =
     ∷ stays "take, no room for an answer" (takes (0 ∷ [])) (plan false (Coming 1) 0 nothing) 2
     ∷ []
 
--- every line is what the definitions say, line by line
+-- every line is its value by the definitions, line by line
 computed : LineByLine computes lines lines
 unfolding times beginCall takeCall planOver notesWords notesIn holdsPlan planIn beginOf takeOf takeAnswer answerAt finalAnswer differs missed stateOut faulty anyStranger
     workedRow cellCount startedRun answerOf byWalk byTasks byHorizon firstOut endingOf lastStep headerNumber tableOf chain count met calling

@@ -1,4 +1,4 @@
--- The calls on a buffer are the calls on the plan that it holds: what begin writes and what a row leaves is decoded to the plan that they return; and to
+-- The calls on a buffer are the calls on the plan that it holds: what begin and a row write is decoded to the plan that they return; and to
 -- encode again what a buffer holds changes none of its words.
 use mathlib.Core.Path.{_≡_, refl, sym, ap, subst, _∙_}
 use mathlib.Core.Bool.{Bool, true, false, cond}
@@ -72,7 +72,7 @@ run-held ws w e =
     let h = held-plan ws w e in
     by-held ws (plan-run ws (h .0)) ∙ ap (λ (v : Supplied). run (v .run)) (h .1)
 
--- WORDS PUT BEHIND A RUN
+-- WORDS PUT AFTER A RUN
 
 -- words put past the words of a run leave it as it is
 put-held : (n : ℕ) (vs ws : List ℕ) (r : Run) → runWords ≤ n → n + length vs ≤ length ws → decode ws ≡ run r → decode (putAt n vs ws) ≡ run r
@@ -88,7 +88,7 @@ put-held n vs ws r far h e =
     }))
     ∙ e
 
--- what stands past the words written of a run
+-- what is past the words written of a run
 behind-run : (n k : ℕ) (r : Run) (ws : List ℕ) → length (r .tasks) ≡ places → n ≤ places → wordsTo n ≤ k → drop k (overwritten n r ws) ≡ drop k ws
 behind-run n k r ws all few far =
     let j : wordsTo n + (k - wordsTo n) ≡ k = omega arith in
@@ -292,7 +292,7 @@ module _ (w : Supplied) (all : length (w .run .tasks) ≡ places) (many : length
       (sym (drop-drop 1 tickAt (xs ++ (w .tick ∷ (ns ++ behind)))) ∙ ap (drop 1) (drop-at xs (w .tick ∷ (ns ++ behind)) tickAt words-run))
       ∙ (notes-back places (w .noted) behind (omega (arith, many)) ∙ take-all places (w .noted) (omega (arith, many)))))
 
-  -- written with all its places and notes, whatever stood there
+  -- written with all its places and notes, whatever was there
   pub over-whole : (ws : List ℕ) → planWords ≤ length ws → planOver true places w ws ≡ encodePlan w ++ drop planWords ws
   unfolding planOver encodePlan
   over-whole ws long =
@@ -340,7 +340,7 @@ fits-begun ws = go (answerOf ws) refl
     go (loaded.Refused n p) e =
         subst (λ (b : Begun). FitsPlan (b .plan)) (sym (begin-refused ws n p e)) (record { fits = record { all = refl; few = omega arith; past = refl }; many = refl })
 
--- begin writes all words of the plan that it returns, whatever stood there
+-- begin writes all words of the plan that it returns, whatever was there
 pub begin-whole : (ws buffer : List ℕ) → planWords ≤ length buffer → take planWords (begunIn ws buffer) ≡ encodePlan (beginOf ws .plan)
 begin-whole ws buffer long =
     let w = beginOf ws .plan in

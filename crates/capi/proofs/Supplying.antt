@@ -1,4 +1,4 @@
--- What begin and take leave, by whether there is room and by what the buffer holds.
+-- The results of begin and take, by whether there is space and by what the buffer holds.
 use mathlib.Core.Path.{_≡_, refl, sym, ap, _∙_}
 use mathlib.Core.Bool.{Bool, true, false, _&&_, cond}
 use mathlib.Core.List.{List, [], _∷_, _++_}

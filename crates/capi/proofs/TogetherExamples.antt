@@ -1,6 +1,6 @@
--- What a withdrawal of several positions together leaves in a buffer, computed from the definitions, for two tasks (O 0, C 2, D 4, T 4) of widths 2 and 1
+-- The result of a withdrawal of several positions together in a buffer, computed from the definitions, for two tasks (O 0, C 2, D 4, T 4) of widths 2 and 1
 -- on two cores: sets that are taken, and joined with those that are withdrawn; the empty set; 14 before 21 before 22; and everything as found where there is
--- no room for the answer.
+-- no space for the answer.
 use mathlib.Core.List.{List, [], _∷_, _++_, map}
 use mathlib.Core.Path.{_≡_, refl}
 use mathlib.Core.Bool.{false}
@@ -22,11 +22,11 @@ pub record Line : Type 0 where
   pub answer : List ℕ
   pub leaves : CallResult
 
--- what the definitions say of a line
+-- the value by the definitions of a line
 abbrev pub worked : Line → Line
 worked l = record { run = l .run; set = l .set; answer = l .answer; leaves = withdrawAllCall (l .run) (l .set) (l .answer) }
 
--- so many words as they are lent
+-- a number of words as they are lent
 abbrev lent : ℕ → List ℕ
 lent n = replicate n 77
 
@@ -45,7 +45,7 @@ takes n w x z = record { run = words n w; set = x; answer = lent 4; leaves = cal
 abbrev refuses : List ℕ → ℕ → ℕ → Line
 refuses r x m = record { run = r; set = x; answer = lent 4; leaves = callResult 0 (r ∷ (3 ∷ m ∷ 0 ∷ lent 1) ∷ []) }
 
--- no room for the answer
+-- no space for the answer
 abbrev stays : List ℕ → ℕ → Line
 stays r x = record { run = r; set = x; answer = lent 2; leaves = callResult 1 (r ∷ lent 2 ∷ []) }
 
@@ -69,11 +69,11 @@ lines =
     ∷ refuses (words 1 0) 0 21 ∷ refuses (words 1 0) 1 21 ∷ refuses (words 1 0) last 21
     -- 14: no rule, a withdrawn position past the count, words that are no run
     ∷ refuses (words 5 0) 0 14 ∷ refuses (words 2 4) 1 14 ∷ refuses (words 1 4) last 14 ∷ refuses (lent 400) 3 14 ∷ refuses [] 0 14
-    -- no room
+    -- no space
     ∷ stays (words 2 0) 3 ∷ stays (words 1 0) last ∷ stays [] 0
     ∷ []
 
--- every line is what the definitions say
+-- every line is its value by the definitions
 pub examples : map worked lines ≡ lines
 unfolding calling
 examples = refl

@@ -43,7 +43,7 @@ abbrev pub ofSentence : SentenceAnswer → AnswerWords
 ofSentence (sentence.Length n) = answerWords 0 n 0
 ofSentence (sentence.Refused n p) = answerWords 3 n p
 
--- longest and clash: 0 given, with a number beside it, 3 Refused number position
+-- the response times and the conflict: 0 given, with a number beside it, 3 Refused number position
 abbrev pub ofGiven : loaded.Answer → ℕ → AnswerWords
 ofGiven table.Passed x = answerWords 0 x 0
 ofGiven (table.Refused n p) x = answerWords 3 n p
@@ -52,6 +52,6 @@ ofGiven (table.Refused n p) x = answerWords 3 n p
 abbrev pub FitsWord : SentenceAnswer → Type 0
 FitsWord v = (n : ℕ) → sentenceMeaning v ≡ ofLength n → n ≤ mostWord
 
--- the lent slice afterwards: the three words, and behind them what stood there
+-- the lent slice afterwards: the three words, and the words after them as found
 abbrev pub answerWritten : AnswerWords → List ℕ → List ℕ
 answerWritten t old = t .kind ∷ (t .first ∷ (t .second ∷ drop 3 old))

@@ -1,4 +1,4 @@
--- What each call leaves: its return value, and every lent slice that it may write to.
+-- The result of each call: its return value, and every lent slice that it may write to.
 use mathlib.Core.Bool.{Bool, cond}
 use mathlib.Core.List.{List, [], _∷_}
 use Prim.Native.Nat.{ℕ}
@@ -18,11 +18,11 @@ pub record CallResult : Type 0 where
 abbrev pub callResult : ℕ → List (List ℕ) → CallResult
 callResult v ls = record { value = v; lent = ls }
 
--- where there is room the call is answered, 0; a lent slice too short leaves everything as found, 1
+-- where there is space the call is answered, 0; a lent slice too short leaves everything as found, 1
 abbrev pub byRoom : Bool → List (List ℕ) → List (List ℕ) → CallResult
 byRoom answerFits lent found = cond answerFits (callResult 0 lent) (callResult 1 found)
 
--- the slice `answer` has room for three words
+-- the slice `answer` has space for three words
 abbrev pub answerFits : List ℕ → Bool
 answerFits answer = leb 3 (length answer)
 
@@ -36,6 +36,6 @@ planCall ws a b rows answer =
     let v = plannedOf ws a b (length rows) in
     byRoom (answerFits answer) (bufferOf (planMeaning v) (tableOf ws) a b rows ∷ (answerWritten (ofPlanned v) answer ∷ [])) (rows ∷ (answer ∷ []))
 
--- the tasks in the clash: the set of their positions, bit 0 for position 1
+-- the tasks in conflict: the set of their positions, bit 0 for position 1
 unfoldable pub conflictCall : List ℕ → List ℕ → CallResult
 conflictCall ws answer = byRoom (answerFits answer) (answerWritten (ofGiven (conflictOf ws .answer) (conflictOf ws .kept)) answer ∷ []) (answer ∷ [])

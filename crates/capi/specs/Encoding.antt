@@ -1,5 +1,5 @@
--- A run in a lent buffer: rule, cores, count, the fence in two words and the withdrawn set, then eleven words for each of the 32 places. What stands past
--- the count is not looked at.
+-- A run in a lent buffer: rule, cores, count, the fence in two words and the withdrawn set, then eleven words for each of the 32 places. The words past
+-- the count are not read.
 use mathlib.Core.Bool.{Bool, true, _&&_, _||_, cond}
 use mathlib.Core.List.{List, [], _∷_, _++_}
 use Prim.Native.Nat.{ℕ, zero, suc, _+_, _*_, _-_, _/_, _%_, _^_}
@@ -24,7 +24,7 @@ headWords = 6
 abbrev pub eachWords : ℕ
 eachWords = 11
 
--- where a place has the parity of its job ..
+-- the index of the parity of a place's job ..
 abbrev pub parityAt : ℕ
 parityAt = 6
 
@@ -108,7 +108,7 @@ encodeTo n r =
 abbrev pub encode : Run → List ℕ
 encode r = encodeTo places r
 
--- a buffer after the head and the first n places of a run are written into it: what stands behind them stays
+-- a buffer after the head and the first n places of a run are written into it: the words after them stay
 abbrev pub overwritten : ℕ → Run → List ℕ → List ℕ
 overwritten n r ws = encodeTo n r ++ drop (wordsTo n) ws
 
@@ -134,7 +134,7 @@ isParity n = leb n 1
 abbrev pub isTaskState : ℕ → ℕ → ℕ → ℕ → Bool
 isTaskState n k b c = isParity n && isPhase k b c
 
--- the place whose words stand in front
+-- the place whose words are in front
 abbrev pub placeIn : List ℕ → Task
 placeIn ws = record {
   offset = getD ws 0 0;
@@ -161,7 +161,7 @@ unfoldable pub arePlaces : ℕ → List ℕ → Bool
 arePlaces zero ws = true
 arePlaces (suc n) ws = isPlace ws && arePlaces n (drop eachWords ws)
 
--- the count that a buffer says
+-- the count in a buffer
 abbrev pub countIn : List ℕ → ℕ
 countIn ws = getD ws 2 0
 
@@ -173,11 +173,11 @@ holdsRun ws = leb runWords (length ws) && (leb (countIn ws) places && arePlaces 
 abbrev pub padded : ℕ → List Task → List Task
 padded n ts = ts ++ replicate (places - n) unused
 
--- the fence that a buffer says
+-- the fence in a buffer
 abbrev pub fenceIn : List ℕ → ℕ
 fenceIn ws = fenceOf (getD ws 3 0) (getD ws 4 0)
 
--- the run that stands in front of the buffer
+-- the run at the front of the buffer
 unfoldable pub runIn : List ℕ → Run
 runIn ws = record {
   rule = getD ws 0 0;
@@ -188,7 +188,7 @@ runIn ws = record {
   tasks = padded (countIn ws) (placesIn (countIn ws) (drop headWords ws));
 }
 
--- what a buffer holds
+-- the run that a buffer holds, or none
 pub data BufferRun : Type 0 where
   run : Run → BufferRun
   none : BufferRun

@@ -1,4 +1,4 @@
--- What the calls leave that give a figure for each task: 32 figures in a lent buffer of words, and the answer.
+-- The results of the calls that give a number for each task: 32 numbers in a lent buffer of words, and the answer.
 use mathlib.Core.Bool.{_&&_}
 use mathlib.Core.List.{List, [], _∷_, _++_}
 use Prim.Native.Nat.{ℕ}
@@ -11,17 +11,17 @@ use Rattle.slack.specs.Answer.{slackOf}
 use Rattle.capi.specs.AnswerWords.{ofGiven, answerWritten}
 use Rattle.capi.specs.Calls.{CallResult, byRoom, answerFits}
 
--- 32 figures in front, and the answer
+-- 32 numbers in front, and the answer
 unfoldable pub figuresCall : Answer → List ℕ → List ℕ → List ℕ → CallResult
 figuresCall given found figures answer =
     byRoom (answerFits answer && leb mostTasks (length figures))
     ((found ++ drop mostTasks figures) ∷ (answerWritten (ofGiven given 0) answer ∷ []))
     (figures ∷ (answer ∷ []))
 
--- the longest answer of each task; those past the count and all of a refusal are 0
+-- the worst-case response time of each task; those past the count and all of a refusal are 0
 abbrev pub responseTimesCall : List ℕ → List ℕ → List ℕ → CallResult
 responseTimesCall ws figures answer = figuresCall (responseTimesOf ws .answer) (responseTimesOf ws .responses) figures answer
 
--- the spare ticks of each task; those past the count and all of a refusal are 0
+-- the slack of each task; those past the count and all of a refusal are 0
 abbrev pub slackCall : List ℕ → List ℕ → List ℕ → CallResult
 slackCall ws figures answer = figuresCall (slackOf ws .answer) (slackOf ws .slack) figures answer

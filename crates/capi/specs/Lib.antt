@@ -1,4 +1,4 @@
--- What the calls for C and Rust leave behind: their answers in words, a run and a supplied plan in a lent buffer, lists of entries, and sentences.
+-- The results of the calls for C and Rust: their answers in words, a run and a supplied plan in a lent buffer, lists of entries, and sentences.
 pub mod AnswerWords
 pub mod Calls
 pub mod Replays

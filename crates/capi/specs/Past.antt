@@ -12,13 +12,13 @@ use Rattle.capi.specs.Runs.{rowFrom, setsFrom, entryFrom}
 abbrev pub usedIn : List ℕ → ℕ
 usedIn ws = wordsTo (countIn ws)
 
--- two buffers with room for a run that are equal up to the count
+-- two buffers with space for a run that are equal up to the count
 pub record SameUsed (ws vs : List ℕ) : Type 0 where
   pub long : runWords ≤ length ws
   pub other-long : runWords ≤ length vs
   pub used : take (usedIn ws) ws ≡ take (usedIn ws) vs
 
--- they hold the same, so that a row or its sets with any empty jobs and an entry are answered the same; and after it they are equal up to the count again
+-- they hold the same, so that a row or its sets with any empty jobs and an entry get the same answer; and after it they are equal up to the count again
 pub record WordsUnread (ws vs : List ℕ) (x : Entry) : Type 0 where
   pub held : decode ws ≡ decode vs
   pub row : (e : ℕ) → rowFrom (decode ws) e ≡ rowFrom (decode vs) e

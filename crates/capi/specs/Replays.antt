@@ -1,4 +1,4 @@
--- What a replay says, and what a call of it leaves.
+-- The answer of a replay, and the result of a call of it.
 use mathlib.Core.Bool.{Bool, true, false, _&&_}
 use mathlib.Core.List.{List, [], _∷_}
 use Prim.Native.Nat.{ℕ}
@@ -9,7 +9,7 @@ use Rattle.capi.specs.declared.answer_words.AnswerWords.{AnswerWords}
 use Rattle.capi.specs.AnswerWords.{answerWords, answerWritten}
 use Rattle.capi.specs.Calls.{CallResult, byRoom, answerFits}
 
--- the replay's own lent slices fit: there is room, and the words of the list are one
+-- the replay's own lent slices fit: there is space, and the words of the list are one
 abbrev pub fitted : Replayed → Bool
 fitted Shown = true
 fitted (RowRefused n p) = true

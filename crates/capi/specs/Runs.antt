@@ -1,4 +1,4 @@
--- What start, row, sets, advance and the withdrawals leave, where the run is held in a lent buffer of words.
+-- The results of start, row, sets, advance and the withdrawals, where the run is held in a lent buffer of words.
 use mathlib.Core.Bool.{_&&_}
 use mathlib.Core.List.{List, [], _∷_, _++_}
 use Prim.Native.Nat.{ℕ}

@@ -1,4 +1,4 @@
--- What the calls on a sentence leave: its bytes in a lent buffer, and the facts that bytes are read back to, in words.
+-- The results of the calls on a sentence: its bytes in a lent buffer, and the facts that bytes are parsed to, in words.
 use mathlib.Core.Bool.{Bool, true, false, _&&_, cond}
 use mathlib.Core.List.{List, [], _∷_, _++_}
 use Prim.Native.Nat.{ℕ, zero, suc, _+_}
@@ -23,7 +23,7 @@ sentenceCall ws buffer answer =
 
 -- THE FACTS IN WORDS
 
--- the count of the part that names position p; 0 where none does
+-- the count of the part of position p; 0 where there is none
 unfoldable pub countOf : ℕ → List Part → ℕ
 countOf p [] = 0
 countOf p (x ∷ xs) = cond (eqb (x .position) p) (x .count) (countOf p xs)
@@ -45,22 +45,22 @@ factWords = factHead + mostTasks
 abbrev pub inWords : ℕ → ℕ → ℕ → ℕ → List ℕ → List ℕ
 inWords p t h c counts = p ∷ (t ∷ (h ∷ (c ∷ counts)))
 
--- facts in words: position, tick, ticks had, C, and the count of each position from 1 on, 0 for one that is not named; all zeros where there are none
+-- facts in words: position, tick, ticks had, C, and the count of each position from 1 on, 0 for one that has no part; all zeros where there are no facts
 unfoldable pub factWordsOf : ParsedSentence → List ℕ
 factWordsOf (facts f) = inWords (f .position) (f .tick) (f .had) (f .length) (countsFrom 0 mostTasks (f .others))
 factWordsOf none = replicate factWords 0
 
--- whether bytes are read back: 0 if they are, 5 where they are no sentence
+-- whether bytes are parsed: 0 if they are, 5 where they are no sentence
 abbrev pub ofReadBack : Bool → AnswerWords
 ofReadBack true = answerWords 0 0 0
 ofReadBack false = answerWords 5 0 0
 
--- .. by what they are read back to
+-- .. by what they are parsed to
 abbrev pub ofParsed : ParsedSentence → AnswerWords
 ofParsed (facts f) = ofReadBack true
 ofParsed none = ofReadBack false
 
--- facts: those that the bytes are read back to, in front, and the answer
+-- facts: those that the bytes are parsed to, in front, and the answer
 unfoldable pub factsCall : List ℕ → List ℕ → List ℕ → CallResult
 factsCall bs words answer =
     byRoom (answerFits answer && leb factWords (length words))

@@ -14,11 +14,11 @@ use Rattle.capi.specs.Encoding.{places, runWords, ofPhase, encode, overw
 
 -- THE SIZES
 
--- where the tick stands: right behind the run
+-- the index of the tick: right after the run
 abbrev pub tickAt : ℕ
 tickAt = runWords
 
--- where the notes begin
+-- the index of the first note
 abbrev pub notesAt : ℕ
 notesAt = tickAt + 1
 
@@ -26,7 +26,7 @@ notesAt = tickAt + 1
 abbrev pub noteSize : ℕ
 noteSize = 4
 
--- where note n begins
+-- the index of note n
 abbrev pub noteAt : ℕ → ℕ
 noteAt n = notesAt + noteSize * n
 
@@ -53,7 +53,7 @@ notesWords (n ∷ ns) = noteWords n ++ notesWords ns
 unfoldable pub encodePlan : Supplied → List ℕ
 encodePlan w = encode (w .run) ++ (w .tick ∷ notesWords (w .noted))
 
--- a buffer after these words are put into it from word n on: what stands before and behind them stays
+-- a buffer after these words are written into it from word n on: the words before and after them stay
 abbrev pub putAt : ℕ → List ℕ → List ℕ → List ℕ
 putAt n vs ws = (take n ws ++ vs) ++ drop (n + length vs) ws
 
@@ -71,7 +71,7 @@ planOver noting n w ws = cond noting (putAt notesAt (notesWords (take n (w .note
 abbrev pub phaseNoted : ℕ → ℕ → ℕ → ℕ → Phase
 phaseNoted k a b c = cond (isPhase k b c) (phaseOf k a b c) (Resting 0)
 
--- the note whose words stand in front
+-- the note whose words are in front
 abbrev pub noteIn : List ℕ → Note
 noteIn ws = note (phaseNoted (getD ws 0 0) (getD ws 1 0) (getD ws 2 0) (getD ws 3 0))
 
@@ -93,11 +93,11 @@ areNotes (suc n) ws = isNote ws && areNotes n (drop noteSize ws)
 unfoldable pub holdsPlan : List ℕ → Bool
 holdsPlan ws = leb planWords (length ws) && holdsRun ws
 
--- the plan that stands in front of the buffer
+-- the plan at the front of the buffer
 unfoldable pub planIn : List ℕ → Supplied
 planIn ws = record { run = runIn ws; tick = getD ws tickAt 0; noted = notesIn places (drop notesAt ws) }
 
--- what a buffer holds
+-- the plan that a buffer holds, or none
 pub data BufferPlan : Type 0 where
   plan : Supplied → BufferPlan
   none : BufferPlan

@@ -1,4 +1,4 @@
--- What begin and take leave, where the supplied plan is held in a lent buffer of words (request 112).
+-- The results of begin and take, where the supplied plan is held in a lent buffer of words (request 112).
 use mathlib.Core.Bool.{true, _&&_}
 use mathlib.Core.List.{List, [], _∷_}
 use Prim.Native.Nat.{ℕ}

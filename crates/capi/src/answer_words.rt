@@ -61,7 +61,7 @@ pub(crate) fn of_planned(planned: Planned) -> AnswerWords
     }
 }
 
-// What start, row, sets, advance and the withdrawals answer.
+// The answers of start, row, sets, advance and the withdrawals.
 pub(crate) fn of_answer(answer: Answer) -> AnswerWords
     ensures { λ r. ⌜ r ≡ ofAnswer answer ⌝ }
 {
@@ -79,7 +79,7 @@ pub(crate) fn of_answer(answer: Answer) -> AnswerWords
     }
 }
 
-// What the sentence answers: its length, or a refusal.
+// The answer of the sentence: its length, or a refusal.
 pub(crate) fn of_sentence(outcome: SentenceAnswer) -> AnswerWords
     requires { ⌜ FitsWord outcome ⌝ }
     ensures { λ r. ⌜ r ≡ ofSentence outcome ⌝ }
@@ -98,7 +98,7 @@ pub(crate) fn of_sentence(outcome: SentenceAnswer) -> AnswerWords
     }
 }
 
-// What longest, clash and spare answer: given, with a number beside it, or a refusal.
+// The answers of the response times, the conflict and the slack: given, with a number beside it, or a refusal.
 pub(crate) fn of_given(answer: table::Answer, beside: u32) -> AnswerWords
     ensures { λ r. ⌜ r ≡ ofGiven answer beside ⌝ }
 {
@@ -116,7 +116,7 @@ pub(crate) fn of_given(answer: table::Answer, beside: u32) -> AnswerWords
     }
 }
 
-// Writes the three words; what stands behind them stays.
+// Writes the three words; the words after them stay.
 pub(crate) fn put(encoded: AnswerWords, answer: &mut [u32])
     requires { ⌜ 3 ≤ length (now answer) ⌝ }
     ensures { λ r. ⌜ now (answer .exit) ≡ answerWritten encoded (now (answer .entry)) ⌝ }

@@ -15,7 +15,7 @@ const COUNTS: usize = model::MOST_TASKS;
 // The words of facts.
 pub(crate) const WORDS: usize = HEAD + COUNTS;
 
-// Read back, or no sentence.
+// Parsed, or no sentence.
 pub(crate) fn of_parsed(found: bool) -> AnswerWords
     ensures { λ r. ⌜ r ≡ ofReadBack found ⌝ }
 {
@@ -33,7 +33,7 @@ pub(crate) fn of_parsed(found: bool) -> AnswerWords
     }
 }
 
-// Writes the words of facts; what stands behind them stays.
+// Writes the words of facts; the words after them stay.
 pub(crate) fn put_facts(facts: Facts, words: &mut [u64])
     requires { ⌜ factWords ≤ length (now words) ⌝ }
     ensures { λ r. ⌜ (now (words .exit) ≡ inWords (facts .position) (facts .tick) (facts .had) (facts .length) (facts .ran) ++ drop factWords (now (words .entry)))

@@ -1,7 +1,7 @@
 // The library to link: the judge, the plan, the replay, the run in the cab and plans by others for C and Rust, on numbers and lent slices.
-// Each function but sivorandra_version returns 0 where the call is answered, and 1 where a lent slice is too short or a list of entries is none: then everything is as found.
-// Short rows of a plan are 11 instead, and a buffer lent to row, sets, advance, a withdrawal or take that is too short for a run or a plan holds none: 14.
-// The answer stands in the three first words of `answer`: a case and two numbers.
+// Each function but sivorandra_version returns 0 where the call is answered, and 1 where a lent slice is too short or a list of entries is none: then
+// everything is as found. Short rows of a plan are 11 instead, and a buffer lent to row, sets, advance, a withdrawal or take that is too short for a run or
+// a plan holds none: 14. The answer is in the first three words of `answer`: a case and two numbers.
 ghost use mathlib.Core.Path.{_≡_};
 ghost use mathlib.Core.List.{[], _∷_};
 ghost use Rattle.capi.specs.Calls.{judgeCall, planCall, conflictCall};
@@ -15,16 +15,16 @@ use model::MOST_TASKS;
 use model::ROW;
 
 mod facts; // facts.rt: the facts of a miss in a lent buffer of words
-mod figures; // figures.rt: a figure for each task in a lent buffer of words
+mod figures; // figures.rt: a number for each task in a lent buffer of words
 mod run_buffer; // run_buffer.rt: a run in a lent buffer of words
-mod replays; // replays.rt: what a replay says
+mod replays; // replays.rt: the answer of a replay
 mod plan_buffer; // plan_buffer.rt: a supplied plan in a lent buffer of words
 mod answer_words; // answer_words.rt: an answer in three words
 
 // The version of the library as one number: major * 10000 + minor * 100 + patch.
 const VERSION: u32 = 1700;
 
-// The version of the library that is linked; the header has that of the header.
+// The version of the library that is linked; the header has its own.
 #[no_mangle]
 pub extern "C" fn sivorandra_version() -> u32
     ensures { λ r. ⌜ r ≡ version ⌝ }
@@ -46,7 +46,7 @@ pub extern "C" fn sivorandra_judge(words: &[u32], answer: &mut [u32]) -> u32
     0
 }
 
-// The same verdict, by the judge that takes every tick.
+// The same verdict, by the tick judge.
 #[no_mangle]
 pub extern "C" fn sivorandra_judge_ticks(words: &[u32], answer: &mut [u32]) -> u32
     ensures { λ r. ⌜ record { value = r; lent = now (answer .exit) ∷ [] } ≡ judgeCall (now (words .entry)) (now (answer .entry)) ⌝ }
@@ -125,8 +125,8 @@ pub extern "C" fn sivorandra_start(words: &[u32], run: &mut [u32], answer: &mut 
     0
 }
 
-// The row of the present tick into the first 64 bytes of `row`, where bit p of `empties` says that the job of position p + 1, released in this very
-// tick, is empty: case 0, or 3 Refused number position and 64 zeros; 14 where `run` holds no run.
+// The row of the present tick into the first 64 bytes of `row`. Bit p of `empties` is set if the job of position p + 1, released in this
+// tick, is empty. Case 0, or 3 Refused number position and 64 zeros; 14 where `run` holds no run.
 #[no_mangle]
 pub extern "C" fn sivorandra_row(
     run: &[u32],
@@ -178,8 +178,8 @@ pub extern "C" fn sivorandra_sets(
     0
 }
 
-// The run one tick on, where bit p of `reports` says that the job of position p + 1 ends after this tick, and bit p of `empties` that it is released
-// in this very tick and empty: case 0, or 3 Refused number position and `run` as found; 14 where `run` holds no run.
+// The run one tick on. Bit p of `reports` is set if the job of position p + 1 ends after this tick, and bit p of `empties` if it is released
+// in this tick and empty. Case 0, or 3 Refused number position and `run` as found; 14 where `run` holds no run.
 #[no_mangle]
 pub extern "C" fn sivorandra_advance(
     run: &mut [u32],
@@ -213,7 +213,7 @@ pub extern "C" fn sivorandra_withdraw(run: &mut [u32], position: u32, answer: &m
     0
 }
 
-// The run with all positions of a set withdrawn, or none, where bit p of `set` says position p + 1. Case 0, or 3 Refused number position and `run` as
+// The run with all positions of a set withdrawn, or none; bit p of `set` is for position p + 1. Case 0, or 3 Refused number position and `run` as
 // found; 14 where `run` holds no run.
 #[no_mangle]
 pub extern "C" fn sivorandra_withdraw_all(run: &mut [u32], set: u32, answer: &mut [u32]) -> u32
@@ -242,8 +242,8 @@ pub extern "C" fn sivorandra_sentence(words: &[u32], buffer: &mut [u8], answer: 
     0
 }
 
-// The facts that the bytes of a sentence say into the first 36 words of `facts`: position, tick, ticks had, C, and the counts of positions 1 to 32,
-// 0 for one that is not named. Case 0; 5 where the bytes are no sentence, and 36 zeros.
+// The facts in the bytes of a sentence into the first 36 words of `facts`: position, tick, ticks had, C, and the counts of positions 1 to 32,
+// 0 for one that has no part. Case 0; 5 where the bytes are no sentence, and 36 zeros.
 #[no_mangle]
 pub extern "C" fn sivorandra_facts(bytes: &[u8], facts: &mut [u64], answer: &mut [u32]) -> u32
     ensures { λ r. ⌜ record { value = r; lent = now (facts .exit) ∷ (now (answer .exit) ∷ []) } ≡ factsCall (now (bytes .entry)) (now (facts .entry)) (now (answer .entry)) ⌝ }
@@ -262,8 +262,8 @@ pub extern "C" fn sivorandra_facts(bytes: &[u8], facts: &mut [u64], answer: &mut
     0
 }
 
-// The longest answer of each task of a table's words into the first 32 words of `times_of`, 0 past the last task: case 0, or 3 Refused number position
-// and 32 zeros.
+// The worst-case response time of each task of a table's words into the first 32 words of `figures`, 0 past the last task: case 0, or 3 Refused number
+// position and 32 zeros.
 #[no_mangle]
 pub extern "C" fn sivorandra_response_times(
     words: &[u32],
@@ -287,7 +287,7 @@ pub extern "C" fn sivorandra_response_times(
     0
 }
 
-// The tasks in the clash of a table's words, of which none can be spared: case 0 and the set of their positions, bit p for position p + 1, or 3 Refused
+// The tasks in conflict of a table's words, of which none can be dropped: case 0 and the set of their positions, bit p for position p + 1, or 3 Refused
 // number position.
 #[no_mangle]
 pub extern "C" fn sivorandra_conflict(words: &[u32], answer: &mut [u32]) -> u32
@@ -303,7 +303,7 @@ pub extern "C" fn sivorandra_conflict(words: &[u32], answer: &mut [u32]) -> u32
     0
 }
 
-// The spare ticks of each task of a table's words into the first 32 words of `times_of`, 0 past the last task: case 0, or 3 Refused number position and
+// The slack of each task of a table's words into the first 32 words of `figures`, 0 past the last task: case 0, or 3 Refused number position and
 // 32 zeros.
 #[no_mangle]
 pub extern "C" fn sivorandra_slack(words: &[u32], figures: &mut [u32], answer: &mut [u32]) -> u32

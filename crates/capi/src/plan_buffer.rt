@@ -16,7 +16,7 @@ use plan_check::Entered;
 use plan_check::Note;
 use plan_check::Supplied;
 
-// Where the tick stands: right behind the run.
+// The index of the tick: right after the run.
 const TICK: usize = run_buffer::WORDS;
 // Where the notes begin.
 const NOTES: usize = TICK + 1;
@@ -25,7 +25,7 @@ const EACH: usize = 4;
 // The words of a plan.
 pub(crate) const WORDS: usize = NOTES + EACH * run_buffer::PLACES;
 
-// What a row is answered, in three words.
+// The answer to a row, in three words.
 pub(crate) fn of_taken(answer: Answer) -> AnswerWords
     ensures { λ r. ⌜ r ≡ ofTaken answer ⌝ }
 {
@@ -48,7 +48,7 @@ pub(crate) fn of_taken(answer: Answer) -> AnswerWords
     }
 }
 
-// Writes the four words of a note at `at`; what stands before and behind them stays.
+// Writes the four words of a note at `at`; the words before and after them stay.
 fn put_note(phase: PhaseWords, at: usize, words: &mut [u32])
     requires { ⌜ at + noteSize ≤ length (now words) ⌝ }
     ensures { λ r. ⌜ now (words .exit) ≡ putAt at (fourWords phase) (now (words .entry)) ⌝ }
@@ -59,7 +59,7 @@ fn put_note(phase: PhaseWords, at: usize, words: &mut [u32])
     words[at + 3] = phase.third;
 }
 
-// Writes the first `shown` notes; what stands before and behind them stays.
+// Writes the first `shown` notes; the words before and after them stay.
 fn put_notes(noted: [Note; run_buffer::PLACES], shown: usize, words: &mut [u32])
     requires { ⌜ (shown ≤ places) × (planWords ≤ length (now words)) ⌝ }
     ensures { λ r. ⌜ now (words .exit) ≡ putAt notesAt (notesWords (take shown noted)) (now (words .entry)) ⌝ }
@@ -74,7 +74,7 @@ fn put_notes(noted: [Note; run_buffer::PLACES], shown: usize, words: &mut [u32])
     }
 }
 
-// Writes the head and the first `shown` places of the run, the tick, and where they are noted the first `shown` notes; all else stays.
+// Writes the head and the first `shown` places of the run, the tick, and where they are recorded the first `shown` notes; all else stays.
 pub(crate) fn put_plan(plan: Supplied, shown: usize, noting: bool, words: &mut [u32])
     requires { ⌜ (shown ≤ places) × (planWords ≤ length (now words)) ⌝ }
     ensures { λ r. ⌜ now (words .exit) ≡ planOver noting shown plan (now (words .entry)) ⌝ }
@@ -106,7 +106,7 @@ fn note_in(words: &[u32], at: usize) -> Note
     }
 }
 
-// The notes of the plan that stands in front of the buffer.
+// The notes of the plan at the front of the buffer.
 fn notes_in(words: &[u32]) -> [Note; run_buffer::PLACES]
     requires { ⌜ planWords ≤ length (now words) ⌝ }
     ensures { λ r. ⌜ r ≡ notesIn places (drop notesAt (now (words .entry))) ⌝ }
@@ -124,7 +124,7 @@ fn notes_in(words: &[u32]) -> [Note; run_buffer::PLACES]
     noted
 }
 
-// The plan that stands in front of the buffer.
+// The plan at the front of the buffer.
 fn plan_in(words: &[u32]) -> Supplied
     requires { ⌜ (planWords ≤ length (now words)) × (countIn (now words) ≤ places) ⌝ }
     ensures { λ r. ⌜ r ≡ planIn (now (words .entry)) ⌝ }
@@ -148,7 +148,7 @@ fn holds(words: &[u32]) -> bool
     run_buffer::holds(words)
 }
 
-// Writes the plan that a row returned, up to its count, where the row is taken; a refusal leaves the words as found. Hands the answer on.
+// Writes the plan after a row, up to its count, where the row is taken; a refusal leaves the words as found. Returns the answer.
 fn keep(entered: Entered, start: u32, words: &mut [u32]) -> Answer
     requires { ⌜ (entered .plan .run .count ≤ places) × ((start ≡ startIn (entered .plan .run)) × (planWords ≤ length (now words))) ⌝ }
     ensures { λ r. ⌜ record { answer = r; buffer = now (words .exit) } ≡ keptPlan (entered .answer) (entered .plan) (now (words .entry)) ⌝ }

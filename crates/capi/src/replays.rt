@@ -1,4 +1,4 @@
-// What a replay says.
+// The answer of a replay.
 ghost use mathlib.Core.Path.{_≡_};
 ghost use Rattle.capi.specs.Replays.{fitted, ofReplayed};
 use crate::answer_words::AnswerWords;

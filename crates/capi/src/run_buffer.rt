@@ -1,4 +1,5 @@
-// A run in a lent buffer of words: its head, and then its places, of which those past the count are neither read nor changed by row, sets, advance and the withdrawals.
+// A run in a lent buffer of words: its head, and then its places, of which those past the count are neither read nor changed by row, sets, advance and the
+// withdrawals.
 ghost use mathlib.Core.Path.{_≡_};
 ghost use mathlib.Core.List.{_++_};
 ghost use Prim.Native.Nat.{_+_, _≤_};
@@ -22,7 +23,7 @@ use table::limits::HIGH;
 const HEAD: usize = 6;
 // The words of a place.
 const EACH: usize = 11;
-// Where a place has the parity of its job ..
+// The index of the parity of a place's job ..
 const PARITY: usize = 6;
 // .. the kind of its phase ..
 const KIND: usize = PARITY + 1;
@@ -123,7 +124,7 @@ fn high_word(fence: u64) -> u32
     (fence / HIGH) as u32
 }
 
-// Writes the head of the run; what stands behind it stays.
+// Writes the head of the run; the words after it stay.
 fn put_head(run: Run, words: &mut [u32])
     requires { ⌜ headWords ≤ length (now words) ⌝ }
     ensures { λ r. ⌜ now (words .exit) ≡ overwritten 0 run (now (words .entry)) ⌝ }
@@ -136,7 +137,7 @@ fn put_head(run: Run, words: &mut [u32])
     words[5] = run.withdrawn;
 }
 
-// Writes the head and the first `shown` places of the run; what stands behind them stays.
+// Writes the head and the first `shown` places of the run; the words after them stay.
 pub(crate) fn put_run(run: Run, shown: usize, words: &mut [u32])
     requires { ⌜ (shown ≤ places) × (runWords ≤ length (now words)) ⌝ }
     ensures { λ r. ⌜ now (words .exit) ≡ overwritten shown run (now (words .entry)) ⌝ }
@@ -200,7 +201,7 @@ fn place_in(words: &[u32], at: usize) -> Task
     }
 }
 
-// Whether the buffer holds a run: the places past its count are not looked at.
+// Whether the buffer holds a run: the places past its count are not read.
 pub(crate) fn holds(words: &[u32]) -> bool
     ensures { λ r. ⌜ r ≡ holdsRun (now (words .entry)) ⌝ }
 {
@@ -228,7 +229,7 @@ pub(crate) fn holds(words: &[u32]) -> bool
     true
 }
 
-// The run that stands in front of the buffer; past its count zeros and Resting(0).
+// The run at the front of the buffer; past its count zeros and Resting(0).
 pub(crate) fn run_in(words: &[u32]) -> Run
     requires { ⌜ (runWords ≤ length (now words)) × (countIn (now words) ≤ places) ⌝ }
     ensures { λ r. ⌜ r ≡ runIn (now (words .entry)) ⌝ }
@@ -268,7 +269,7 @@ pub(crate) fn row_of(words: &[u32], empties: u32) -> Row
     }
 }
 
-// Writes the row's 64 bytes; what stands behind them stays.
+// Writes the row's 64 bytes; the bytes after them stay.
 pub(crate) fn put_row(bytes: [u8; ROW], row: &mut [u8])
     requires { ⌜ mostCores ≤ length (now row) ⌝ }
     ensures { λ r. ⌜ now (row .exit) ≡ bytes ++ drop mostCores (now (row .entry)) ⌝ }
@@ -295,7 +296,7 @@ pub(crate) fn sets_of(words: &[u32], empties: u32) -> Sets
     }
 }
 
-// Writes the 32 sets; what stands behind them stays.
+// Writes the 32 sets; the words after them stay.
 pub(crate) fn put_sets(sets: [u64; MOST_TASKS], words: &mut [u64])
     requires { ⌜ mostTasks ≤ length (now words) ⌝ }
     ensures { λ r. ⌜ now (words .exit) ≡ sets ++ drop mostTasks (now (words .entry)) ⌝ }
@@ -307,7 +308,7 @@ pub(crate) fn put_sets(sets: [u64; MOST_TASKS], words: &mut [u64])
     }
 }
 
-// Writes the run that an entry returned, up to its count, where it is taken; a refusal leaves the words as found. Hands the answer on.
+// Writes the run that an entry returned, up to its count, where it is taken; a refusal leaves the words as found. Returns the answer.
 fn keep(entered: Advanced, words: &mut [u32]) -> Answer
     requires { ⌜ (entered .run .count ≤ places) × (runWords ≤ length (now words)) ⌝ }
     ensures { λ r. ⌜ record { answer = r; buffer = now (words .exit) } ≡ keptRun (entered .answer) (entered .run) (now (words .entry)) ⌝ }

@@ -1,4 +1,4 @@
--- What stands at the chosen places of a list.
+-- The elements at the chosen places of a list.
 use mathlib.Core.Bool.{Bool, and-true, cond, false, not, true, _&&_}
 use mathlib.Core.List.{List, [], map, _∷_}
 use mathlib.Core.Path.{ap, refl, _∙_, _≡_}

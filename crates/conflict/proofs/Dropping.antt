@@ -1,4 +1,4 @@
--- What a look at a place, a pass and all passes leave of a set. THEOREM (passes-settle): as many passes as tasks are enough.
+-- What one place, a pass and all passes leave of a set. THEOREM (passes-settle): as many passes as tasks are enough.
 use mathlib.Core.Bool.{Bool, cond, false, false≢true, true, _&&_}
 use mathlib.Core.Logic.{⊎-elim}
 use mathlib.Core.Path.{ap, refl, subst, sym, _∙_, _≡_}
@@ -24,7 +24,7 @@ module _ (s : Table) where
   abbrev pub size : ℕ → ℕ
   size x = length (subTable s x .tasks)
 
-  -- what a look at places, or a pass over them, leaves of a set: no more, the miss with it, and where as many are left, all of them
+  -- what is left of a set after some places, or a pass over them: no more, the miss with it, and where as many are left, all of them
   record Left (x y : ℕ) : Type 0 where
     falls : y ≤ x
     fewer : size y ≤ size x
@@ -53,7 +53,7 @@ module _ (s : Table) where
       rw (without-kept x p e)
       (chosen-less (bit x) (bit (x - 2 ^ p)) (s .tasks) p l e (digits.withWithdrawn x p e .others))
 
-  -- a look at one place by its cases: it drops the place, the place is needed, or it is not kept
+  -- one place by its cases: it is dropped, it is needed, or it is not kept
   pub dropped-drops : (p x : ℕ) → bit x p ≡ true → conflicts s (x - 2 ^ p) ≡ true → dropped s p x ≡ x - 2 ^ p
   unfolding dropped
   dropped-drops p x e c = rw (e, c)
@@ -76,7 +76,7 @@ module _ (s : Table) where
   unfolding pass
   pass-none p x e = rw e
 
-  -- a look at one place; where it drops nothing the place is needed
+  -- one place; where nothing is dropped it is needed
   record DropStep (p x y : ℕ) : Type 0 where
     left : Left x y
     needed : y ≡ x → bit x p ≡ true → conflicts s (withoutPlace x p) ≡ false

@@ -1,4 +1,4 @@
--- Clashes computed from the definitions: the table that needs a second pass, the examples, a task alone, two widths, rule 4, and what each number turns down.
+-- Conflicts computed from the definitions: the table that needs a second pass, the examples, a task alone, two widths, rule 4, and what each number turns down.
 use mathlib.Core.List.{List, [], _++_, map, _∷_}
 use mathlib.Core.Path.{refl, _≡_}
 use Prim.Native.Nat.{ℕ}
@@ -32,7 +32,7 @@ pub record Line : Type 0 where
   pub words : List ℕ
   pub says : ConflictAnswer
 
--- what the definitions say of a line's words
+-- the value by the definitions of a line's words
 abbrev pub worked : Line → Line
 worked l = record { words = l .words; says = conflictOf (l .words) }
 
@@ -107,7 +107,7 @@ lines =
     ∷ refuses (header 1 1 1 ++ entry 2 0 1 2 1 2 ++ entry 0 0 2 1 1 1) 7 2
     ∷ []
 
--- every line is what the definitions say
+-- every line is its value by the definitions
 pub examples : map worked lines ≡ lines
 unfolding conflictOf conflictSet passes pass dropped conflicts chosen verdictOf chained answerOf byWalk byTasks byHorizon firstOut endingOf lastStep headerNumber
     tableOf chain count met computing

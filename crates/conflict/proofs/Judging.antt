@@ -1,4 +1,4 @@
--- The judge's verdict on the words of a part says whether what is left still misses.
+-- The judge's verdict on the words of a part decides whether what is left still misses.
 use mathlib.Core.Bool.{Bool, false, true, _&&_}
 use mathlib.Core.List.{List, [], _∷_}
 use mathlib.Core.Path.{ap, refl, sym, _∙_, _≡_}
@@ -53,7 +53,7 @@ module _ (ws : List ℕ) (none : NoneApplies ws) (x : ℕ) where
       passed-is (relinked ws x) (passed-exact (relinked ws x) .1 (part-passes ws none x l))
       ∙ ap (λ (s : Table). verdictCase (judged (verdict s))) (part-table ws none x)
 
-  -- so the verdict on the words of a part says whether it clashes
+  -- so the verdict on the words of a part decides whether it misses
   pub conflicts-by : (v : Verdict) → Judged (relinked ws x) v → conflicts (tableOf ws) x ≡ verdictMiss v
   unfolding conflicts
   conflicts-by v j = go (subTable (tableOf ws) x .tasks) refl
@@ -64,7 +64,7 @@ module _ (ws : List ℕ) (none : NoneApplies ws) (x : ℕ) where
           let some : 0 < length (subTable (tableOf ws) x .tasks) = omega (arith, ap {B = ℕ} length e) in
           sym (ap verdictMiss (j .value ∙ part-judged some) ∙ verdict-case (verdict (subTable (tableOf ws) x)))
 
--- THEOREM: of a table that misses, the words of the clash are judged a miss, and those without any one of its tasks are not
+-- THEOREM: of a table that misses, the words of the conflict are judged a miss, and those without any one of its tasks are not
 pub conflict-judged :
     (ws : List ℕ) → NoneApplies ws → (p t : ℕ) → Missed (tableOf ws) p t
     → (verdictMiss (verdictOf (relinked ws (conflictSet (tableOf ws)))) ≡ true)

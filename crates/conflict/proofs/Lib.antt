@@ -1,4 +1,4 @@
--- The laws behind `conflict`: the chosen places of a list, what a part keeps of the table, the passes and what they leave, the words of a part and their verdict,
+-- The laws of `conflict`: the chosen places of a list, what a part keeps of the table, the passes and what they leave, the words of a part and their verdict,
 -- and computed examples.
 pub mod Chosen
 pub mod Parts

@@ -27,7 +27,7 @@ use Rattle.conflict.proofs.Chosen.{chosen-all}
 abbrev pub All : (ℕ → Type 0) → List ℕ → Type 0
 All P ns = (i : ℕ) → i < length ns → P (getD ns i 0)
 
--- no number stands twice in it
+-- no number is in it twice
 unfoldable pub Distinct : List ℕ → Type 0
 Distinct [] = Unit {0}
 Distinct (n ∷ ns) = All (λ m. ¬ (n ≡ m)) ns × Distinct ns
@@ -82,7 +82,7 @@ linked-first i [] ws l a = getD-set-same ws i 0 0 l
 linked-first i (n ∷ ns) ws l a =
     linked-other i (nextWordAt n) ns (set ws i n) (a 0 (omega arith)) (λ q m. a (suc q) (omega arith)) ∙ getD-set-same ws i n 0 l
 
--- the next of each names the one behind it
+-- the next of each names the one after it
 pub linked-next :
     (i : ℕ) (ns ws : List ℕ) (m : ℕ) → m ≤ length ws → All (λ n. (1 ≤ n) × (nextWordAt n < m)) ns → Distinct ns
     → (k : ℕ) → k < length ns → word (linked i ns ws) (nextWordAt (getD ns k 0)) ≡ getD ns (suc k) 0

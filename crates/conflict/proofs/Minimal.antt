@@ -1,4 +1,4 @@
--- THEOREM (conflict-minimal): where the table misses, what the passes leave misses, and no task of it can be spared.
+-- THEOREM (conflict-minimal): where the table misses, what the passes leave misses, and no task of it can be dropped.
 use mathlib.Core.Bool.{Bool, false, true, true≢false}
 use mathlib.Core.Path.{refl, subst, sym, _∙_, _≡_}
 use Prim.Native.Nat.{ℕ, _<_}

@@ -1,4 +1,4 @@
--- What the words of a record off the chain say changes no answer.
+-- The words of a record off the chain change no answer.
 use mathlib.Core.List.{List}
 use mathlib.Core.Path.{_≡_, ap, refl, _∙_}
 use Prim.Native.Nat.{ℕ}
@@ -16,7 +16,7 @@ use Rattle.judge.specs.Judged.{verdictOf}
 use Rattle.conflict.specs.Answer.{conflictBy, conflictOf}
 use Rattle.conflict.specs.Conflict.{conflictSet}
 
--- two tables that agree on the header and on every record that the walk meets have the same tasks in the clash
+-- two tables that agree on the header and on every record that the walk meets have the same tasks in conflict
 pub off-chain-conflict : (ws us : List ℕ) → SameOnChain ws us → conflictOf ws ≡ conflictOf us
 unfolding conflictOf
 off-chain-conflict ws us same =

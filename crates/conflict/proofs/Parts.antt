@@ -1,4 +1,4 @@
--- THEOREM (part-fewer): a part of a table looks no further. Its last S is no later, and its P divides the table's.
+-- THEOREM (part-fewer): a part of a table has no longer horizon. Its last S is no later, and its P divides the table's.
 use mathlib.Core.Bool.{Bool, cond, false, true}
 use mathlib.Core.List.{List, [], _++_, _∷_}
 use mathlib.Core.Path.{ap, refl, sym, _∙_, _≡_}

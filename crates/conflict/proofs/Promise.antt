@@ -1,4 +1,4 @@
--- What is promised of `conflict`: its numbers are the first that apply, and what is kept is what the passes leave.
+-- The contract of `conflict`: its refusal is the first that applies, and the kept positions are what the passes leave.
 use mathlib.Core.List.{List}
 use mathlib.Core.Path.{_≡_, ap, refl, subst, sym, _∙_}
 use Prim.Native.Nat.{ℕ}
@@ -92,7 +92,7 @@ module _ (ws : List ℕ) where
       zeros = λ m q e. refl;
     }
 
-  -- THE PROMISE, by the verdict
+  -- THE CONTRACT, by the verdict
   pub conflict-promise : ConflictOf ws (conflictOf ws)
   conflict-promise = subst (ConflictOf ws) (is (verdictOf ws) refl) (go (verdictOf ws) refl)
     where
@@ -107,7 +107,7 @@ module _ (ws : List ℕ) where
           given-promise (x .0) (x .1 .place .0) t (x .1 .missed) (is (Miss t p) e)
       go (Refused n p) e = refused-promise n p (table-first n p (promised .refused n p .0 (ap verdictMeaning e))) (is (Refused n p) e)
 
-  -- what is made of a verdict that is promised is the answer
+  -- what is made of a verdict that meets its contract is the answer
   pub by-verdict : (v u : Verdict) → Judged ws v → v ≡ u → (r : ConflictAnswer) → r ≡ conflictBy u (conflictSet s) → ConflictOf ws r
   by-verdict v u j q r e = subst (ConflictOf ws) (sym (e ∙ is)) conflict-promise
     where

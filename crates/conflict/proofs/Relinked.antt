@@ -1,4 +1,4 @@
--- THEOREM (every-part): the words of a part say that part, and where some task is left no number turns them down, if none turns down the whole.
+-- THEOREM (every-part): the words of a part represent that part, and where some task is left no number turns them down, if none turns down the whole.
 use mathlib.Core.Bool.{true}
 use mathlib.Core.List.{List, map}
 use mathlib.Core.Logic.{_⊎_, inl, inr}
@@ -131,7 +131,7 @@ module _ (ws : List ℕ) (none : NoneApplies ws) (x : ℕ) where
   unfolding tableOf
   tasks-kept = ap₂ (λ (f : ℕ → Task) (l : List ℕ). map f l) (fun-ext same-task) chain-kept ∙ chosen-map (taskOfRecord ws) (bit x) (chain ws)
 
-  -- THE WORDS SAY THE PART
+  -- THE WORDS REPRESENT THE PART
   pub part-table : tableOf us ≡ subTable (tableOf ws) x
   unfolding tableOf
   part-table =

@@ -1,4 +1,4 @@
--- The passes that leave the tasks in the clash, and what these are (request 110).
+-- The passes that leave a conflict, and its properties (request 110; the field: a minimal unschedulable set of tasks).
 use mathlib.Core.Bool.{Bool, true, false, _&&_, cond}
 use mathlib.Core.List.{List, [], _∷_}
 use mathlib.Core.Path.{_≡_}
@@ -30,7 +30,7 @@ conflicts s x = someLeft (subTable s x .tasks) && isMiss (verdict (subTable s x)
 unfoldable pub dropped : Table → ℕ → ℕ → ℕ
 dropped s p x = cond (bit x p && conflicts s (withoutPlace x p)) (withoutPlace x p) x
 
--- one pass over the first n places, from the lowest priority upward; what is dropped counts at once
+-- one pass over the first n places, from the lowest priority upward; a dropped place counts at once
 unfoldable pub pass : Table → ℕ → ℕ → ℕ
 pass s zero x = x
 pass s (suc p) x = pass s p (dropped s p x)
@@ -48,11 +48,11 @@ allPlaces s = 2 ^ length (s .tasks) - 1
 unfoldable pub conflictSet : Table → ℕ
 conflictSet s = passes s (length (s .tasks)) (allPlaces s)
 
--- no task in the clash can be spared: what is claimed of a set of places, over all ticks (`conflict-minimal` shows it of the answer)
+-- no task of the conflict can be dropped: the claims about a set of places, over all ticks (`conflict-minimal` shows them of the answer)
 pub record Minimal (s : Table) (x : ℕ) : Type 0 where
   -- it is not empty
   pub some : (p : ℕ) × (p < length (s .tasks)) × (bit x p ≡ true)
   -- its tasks, as a table of their own, miss a deadline at some tick
   pub misses : (p t : ℕ) × Missed (subTable s x) p t
-  -- and without any one of them no deadline is missed at any tick; so too where nothing is left
+  -- and without any one of them no deadline is missed at any tick; this holds too where nothing is left
   pub needed : (p : ℕ) → bit x p ≡ true → NeverMissed (subTable s (withoutPlace x p))

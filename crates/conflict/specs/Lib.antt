@@ -1,4 +1,4 @@
--- The tasks in the clash: a part of a table, the passes over it, the words of a part, and what is promised.
+-- The tasks in conflict: a part of a table, the passes over it, the words of a part, and the contract.
 pub mod SubTable
 pub mod Conflict
 pub mod Relinked

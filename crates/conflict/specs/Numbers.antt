@@ -6,7 +6,7 @@ use Rattle.table.specs.Numbers.{FirstOf, NoneOf}
 use Rattle.table.specs.Numbers as table
 use Rattle.table.specs.Words.{tableOf}
 
--- number n applies to the words, with position p
+-- number n applies to the words, with position p. As in table/specs/Numbers: `Applies`, `First`, `NoneApplies`
 pub data Applies (ws : List ℕ) : ℕ → ℕ → Type 0 where
   -- those of the table
   words : (n p : ℕ) → table.Applies ws n p → Applies ws n p

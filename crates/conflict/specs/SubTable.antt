@@ -7,7 +7,7 @@ use Rattle.model.specs.Horizon.{horizon, hyperperiod, lastS}
 use Rattle.model.specs.Search.{bit}
 use Rattle.model.specs.Task.{AllValid, Table}
 
--- what stands in a list at the places that pass a test, in its order
+-- the elements of a list at the places that pass a test, in its order
 unfoldable pub chosen : {A : Type 0} → (ℕ → Bool) → List A → List A
 chosen k [] = []
 chosen k (x ∷ xs) = cond (k 0) (x ∷ chosen (λ q. k (suc q)) xs) (chosen (λ q. k (suc q)) xs)
@@ -20,7 +20,7 @@ subTable s x = record { tasks = chosen (bit x) (s .tasks); cores = s .cores; fen
 abbrev pub withoutPlace : ℕ → ℕ → ℕ
 withoutPlace x p = cond (bit x p) (x - 2 ^ p) x
 
--- a part looks no further than the whole: its last S is no later, its P divides the whole's, and so the horizon is no later (`part-fewer`)
+-- a part has no longer horizon than the whole: its last S is no later, its P divides the whole's, and so the horizon is no later (`part-fewer`)
 pub record SubTableBounds (s : Table) (x : ℕ) : Type 0 where
   pub valid : AllValid (subTable s x)
   pub start : lastS (subTable s x .tasks) ≤ lastS (s .tasks)

@@ -1,11 +1,11 @@
-// The tasks in the clash: a table that misses, cut down to tasks of which none can be spared.
+// The tasks in conflict: a table that misses, cut down to tasks of which none can be dropped.
 ghost use mathlib.Core.Path.{_≡_};
 ghost use Rattle.conflict.specs.Answer.{noConflict, ConflictOf};
 use judge::Verdict;
 use table::Answer;
 
 mod links; // links.rt: the words of the kept tasks
-mod passes; // passes.rt: the passes that drop what can be spared
+mod passes; // passes.rt: the passes that drop the tasks that are not needed
 
 // The answer: passed, or Refused with number and position. And the set of the positions kept, bit 0 for position 1; empty in a refusal.
 pub struct ConflictAnswer {
@@ -23,7 +23,7 @@ fn refused(number: u32, position: u32) -> ConflictAnswer
     }
 }
 
-// The tasks in the clash of the table in these words; or the first of the table's numbers that applies, or 17 where it has no miss.
+// The tasks in conflict of the table in these words; or the first of the table's numbers that applies, or 17 where it has no miss.
 pub fn conflict(words: &[u32]) -> ConflictAnswer
     ensures { λ r. ⌜ ConflictOf (now (words .entry)) r ⌝ }
 {

@@ -11,7 +11,7 @@ use table::RECORD;
 // The most words that a table has.
 const WORDS: usize = HEADER + RECORD * MOST_TASKS;
 
-// A copy of the words, with zeros behind them.
+// A copy of the words, with zeros after them.
 fn copied(words: &[u32]) -> [u32; WORDS]
     requires { ⌜ length (now words) ≤ mostWords ⌝ }
     ensures { λ r. ⌜ take (length (now (words .entry))) r ≡ now (words .entry) ⌝ }
@@ -25,7 +25,7 @@ fn copied(words: &[u32]) -> [u32; WORDS]
     copy
 }
 
-// The words of the tasks in a set of places, with zeros behind them: each record kept names the one kept behind it, the last names zero.
+// The words of the tasks in a set of places, with zeros after them: the next of each record kept is the one kept after it, that of the last is zero.
 pub(crate) fn relinked(words: &[u32], kept: u32) -> [u32; WORDS]
     requires { ⌜ NoneApplies (now words) ⌝ }
     ensures { λ r. ⌜ take (length (now (words .entry))) r ≡ relinked (now (words .entry)) kept ⌝ }

@@ -7,7 +7,7 @@ ghost use Rattle.table.specs.Words.{tableOf};
 ghost use Rattle.conflict.specs.Conflict.{conflicts, dropped, pass, conflictSet};
 use judge::Verdict;
 
-// Whether the tasks of a set, as a table of their own, miss a deadline; the empty set does not, its words being refused by 4.
+// Whether the tasks of a set, as a table of their own, miss a deadline; the empty set does not: its words are refused by 4.
 fn still_misses(words: &[u32], kept: u32) -> bool
     requires { ⌜ NoneApplies (now words) ⌝ }
     ensures { λ r. ⌜ r ≡ conflicts (tableOf (now (words .entry))) kept ⌝ }
@@ -23,7 +23,7 @@ fn still_misses(words: &[u32], kept: u32) -> bool
     }
 }
 
-// The set without a place, where that is kept and what is left still misses; else the set.
+// The set without a place, where the place is in it and the rest still misses; else the set.
 fn dropped(words: &[u32], place: u32, kept: u32) -> u32
     requires { ⌜ NoneApplies (now words) × (place < mostTasks) ⌝ }
     ensures { λ r. ⌜ r ≡ dropped (tableOf (now (words .entry))) place kept ⌝ }

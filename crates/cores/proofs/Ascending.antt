@@ -74,7 +74,7 @@ in-take c zero l h = absurd (false≢true h)
 in-take c (suc w) [] h = h
 in-take c (suc w) (x ∷ l) h = ⊎-elim (λ e. rw e) (λ e. rw (in-take c w l e) (or-true (eqb c x))) (either (eqb c x) (memb c (take w l)) h)
 
--- no number stands both in the front and in the back
+-- no number is both in the front and in the back
 pub split-apart : (c w lo hi : ℕ) (l : List ℕ) → Range lo hi l → In c (take w l) → In c (drop w l) → ⊥
 unfolding memb
 split-apart c zero lo hi l r h k = false≢true h

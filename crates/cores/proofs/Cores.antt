@@ -1,4 +1,4 @@
--- A set and its list of cores: the two directions undo each other, and what ones, trailing zeros, take and drop say of them.
+-- A set and its list of cores: the two directions are inverse, and the laws of ones, trailing zeros, take and drop.
 use mathlib.Core.Path.{_≡_, refl, sym, ap, ap₂, _∙_, subst}
 use mathlib.Core.Bool.{Bool, true, false, _&&_, true-and}
 use mathlib.Core.Logic.{⊎-elim}
@@ -20,7 +20,7 @@ use Rattle.cores.proofs.Ascending.{Range, range-weaken, range-take, ran
 
 -- ---- the cores, digit by digit
 
--- the digit b says whether the core c stands in front of the rest
+-- core c before the rest if the digit b is 1
 abbrev pub named : ℕ → ℕ → List ℕ → List ℕ
 named zero c l = l
 named (suc b) c l = c ∷ l

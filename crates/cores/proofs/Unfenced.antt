@@ -1,4 +1,4 @@
--- The open cores, those below the count that are outside the fence: which numbers they are, and the set of the others.
+-- The unfenced cores, those below the count that are outside the fence: which numbers they are, and the set of the others.
 use mathlib.Core.Path.{_≡_, ap, ap₂, refl, sym, _∙_}
 use mathlib.Core.Bool.{Bool, true, false, not, _&&_}
 use mathlib.Core.List.{List}
@@ -30,7 +30,7 @@ in-open f m c i =
 pub open-of : (r f m : ℕ) → m ≤ 64 → cores r ≡ unfenced f (min m 64) → cores r ≡ unfenced f m
 open-of r f m h e = let all : min m 64 ≡ m = omega arith in e ∙ ap (unfenced f) all
 
--- the first cores without the open ones are those in the fence
+-- the first cores without the unfenced ones are those in the fence
 pub memb-fenced : (free f m c : ℕ) → c < 64 → cores free ≡ unfenced f m → memb c (outside free (upFrom 0 m)) ≡ ltb c m && bit f c
 memb-fenced free f m c h e =
     memb-kept (λ b. not (bit free b)) c (upFrom 0 m)

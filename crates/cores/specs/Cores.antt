@@ -1,4 +1,4 @@
--- A set of cores is one 64-bit number, core 0 its lowest digit (scope, 'Layers': the free set). Contracts speak of the list of its cores, lowest first.
+-- A set of cores is one 64-bit number, core 0 its lowest digit (scope, 'Layers': the free set). Contracts use the list of its cores, lowest first.
 use mathlib.Core.List.{List}
 use Prim.Native.Nat.{ℕ}
 use Rattle.model.specs.Search.{bit, filtered, upFrom}

@@ -26,7 +26,7 @@ fn fewer(a: u32, b: u32) -> u32
     if a < b { a } else { b }
 }
 
-// The set of the `width` lowest-numbered free cores; all of them where there are fewer. A whole run of free cores is taken at a stroke.
+// The set of the `width` lowest-numbered free cores; all of them where there are fewer. A whole run of adjacent free cores is taken in one step.
 pub fn lowest(free: u64, width: u32) -> u64
     ensures { λ r. ⌜ cores r ≡ take width (cores free) ⌝ }
 {

@@ -1,4 +1,4 @@
--- The two judges give the same answer to every list of words, and find the same first miss: each is promised by its value.
+-- The two judges give the same answer to every list of words, and find the same first miss: the contract of each gives its value.
 use mathlib.Core.Path.{_≡_, sym, _∙_}
 use mathlib.Core.List.{List}
 use Prim.Native.Nat.{ℕ}

@@ -110,7 +110,7 @@ module _ (s : Table) (ok : AllValid s) where
       claims-if (s .rule) (task s p) k (full s t .tick) (full s t .job p k) (omega (arith, full-tick s t)) (omega (arith, full-tick s t)) (rw o)
 
   module _ (t : ℕ) (quiet : ¬ Event s (suc t)) (p : ℕ) (l : p < length (s .tasks)) where
-    -- who claims in the tick after claimed before it
+    -- a place that claims in the tick after claimed before it
     claimed-before : (k : ℕ) → jobClaims s (full s (suc t)) p k ≡ true → jobClaims s (full s t) p k ≡ true
     claimed-before k c =
         let a = after-release (s .rule) (task s p) k (full s (suc t) .tick) (full s (suc t) .job p k) c in
@@ -125,7 +125,7 @@ module _ (s : Table) (ok : AllValid s) where
         stays : full s t .job p k .ended ≡ true → full s (suc t) .job p k .ended ≡ true
         stays e = subst (λ (n : ℕ). full s n .job p k .ended ≡ true) (add-suc t 0 ∙ ap suc (add-zero t)) (full-stays s t 1 p k e)
 
-    -- and who claimed before it claims
+    -- and a place that claimed before it claims
     claims-after : (k : ℕ) → jobClaims s (full s t) p k ≡ true → jobClaims s (full s (suc t)) p k ≡ true
     claims-after k c =
         let a = after-release (s .rule) (task s p) k (full s t .tick) (full s t .job p k) c in

@@ -33,7 +33,7 @@ line-next s u p =
     ap (λ (x : ℕ). lineOn (s .rule) (task s p) x (inRow s (full s u) p) (full s u .job p)) (sym (full-tick s u))
     ∙ fun-ext (λ i. sym (full-next s u p i))
 
--- who is in the row is a place of the table
+-- a place that is in the row is a place of the table
 pub row-inside : (s : Table) (b : Book) (p : ℕ) → inRow s b p ≡ true → p < length (s .tasks)
 row-inside s b p e = go (leb (length (s .tasks)) p) refl
   where
@@ -190,7 +190,7 @@ module _
               (x .1))),
         )
 
-    -- and the place stands at the tick after them
+    -- and the place represents its jobs at the tick after them
     pub landed : (j : ℕ) → k ≡ suc j → (p : ℕ) → p < length (s .tasks)
         → PlaceRepresents (task s p) (suc (t + j)) (full s (suc (t + j)) .job p) (cond (granted p) (L p - suc j) (L p)) (M p) (N p)
         (c p && not (granted p && eqb (L p) (suc j)))

@@ -49,7 +49,7 @@ due-none t ms = record {
   bits = λ p. bit-none p ∙ ap (λ (b : Bool). b && eqb (getD ms p 0) t) (sym (le-ltb p 0 (omega arith)));
 }
 
--- where no event is t nobody is due
+-- where no event is t no place is due
 pub due-empty : (t n : ℕ) (ms : List ℕ) → ((p : ℕ) → p < n → getD ms p 0 ≡ t → ⊥) → 0 ≡ dueAt t n ms
 due-empty t n ms away = due-one t n ms 0 (record { small = omega arith; bits = λ p. bit-none p ∙ sym (go p (ltb p n) refl) })
   where
@@ -98,7 +98,7 @@ module _ (t i : ℕ) (ms : List ℕ) (set : ℕ) (h : DueTo t i ms set) where
           and-off (ltb p i) (eqb (getD ms p 0) t) o ∙ sym (and-off (ltb p (i + 1)) (eqb (getD ms p 0) t) o)
       go p false q = ap (λ (b : Bool). b && eqb (getD ms p 0) t) (below-step p i (eqb-false p i q))
 
--- THE EARLIEST MOMENT
+-- THE EARLIEST EVENT
 
 pub earliest-more : (i b b′ : ℕ) (ms : List ℕ) → b ≡ earliestOf i ms → b′ ≡ min b (getD ms i 0) → b′ ≡ earliestOf (i + 1) ms
 unfolding earliestOf

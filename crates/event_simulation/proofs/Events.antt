@@ -59,14 +59,14 @@ module _ (t : Loaded) (fit : Fit t) where
     met = λ p w l. absurd (not-suc-le-zero l);
   }
 
-  -- after jumps at whose ticks nothing was missed the run stands as the full-length run does
+  -- after jumps at whose ticks nothing was missed the run represents the full-length run
   pub jumps-represent : (i : ℕ) → Unmissed t i → StateRepresents t (jumps t i)
   unfolding jumps
   jumps-represent zero met = initial-represents
   jumps-represent (suc i) met =
       lands t fit (jumps t i) (jumps-represent i (λ j p l. met j p (omega arith))) (λ p. met i p (omega arith)) .represents
 
-  -- and the next jump lands on the least event after
+  -- and the next jump ends at the least event after
   pub jumps-land : (i : ℕ) → Unmissed t (suc i) → JumpLands t (jumps t i) (jumps t (suc i))
   unfolding jumps
   jumps-land i met = lands t fit (jumps t i) (jumps-represent i (λ j p l. met j p (omega arith))) (λ p. met i p (omega arith))

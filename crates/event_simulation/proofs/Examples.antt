@@ -87,7 +87,7 @@ none-at-zero (suc p, k, l, x) = omega arith
 
 -- THE TICKS THAT JUMPS REACH
 
--- a task of the supplier's table, with widths v and w and with one width; and a table of them that was loaded: of so many cores, under a rule
+-- a task of the supplier's table, with widths v and w and with one width; and a table of them that was loaded: on a number of cores, under a rule
 abbrev task-of₂ : ℕ → ℕ → ℕ → ℕ → ℕ → ℕ → Task
 task-of₂ o v w c d p = record { offset = o; width = v; length = c; deadline = d; period = p; second = w }
 
@@ -120,7 +120,7 @@ unfolding jumps jumped ticksInJump grantedInJump evenInJump nextEventAhead after
     grants claimants given left filtered upFrom
 reached = (refl, refl, refl)
 
--- and of two tasks: the second ends at 4, after the first has ended at 2 and made room
+-- and of two tasks: the second ends at 4, after the first has ended at 2 and freed its cores
 pub reached-by-two : ticks 6 (loaded 2 1 (task-of 0 2 2 6 6 ∷ task-of 0 1 2 5 6 ∷ [])) ≡ 0 ∷ 2 ∷ 4 ∷ 5 ∷ 6 ∷ 8 ∷ []
 unfolding jumps jumped ticksInJump grantedInJump evenInJump nextEventAhead afterHandling elapsed leastLeft handledAll withRelease dueAt earliestOf pairedIn widthsIn mapPlaces setWhere
     grants claimants given left filtered upFrom
@@ -136,7 +136,7 @@ reached-lending = (refl, refl)
 
 -- TWO WIDTHS (request 108)
 
--- what the choice of the i-th jump was made for, who was granted cores by it, and who was at its second width
+-- what the choice of the i-th jump was made for, the places that were granted cores by it, and those at their second width
 abbrev choices : ℕ → Loaded → List (ℕ × ℕ × ℕ)
 choices n x = map (λ i. (jumps x i .chosen, jumps x i .granted, jumps x i .even)) (upFrom 1 n)
 

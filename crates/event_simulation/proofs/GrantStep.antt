@@ -1,4 +1,4 @@
--- A turn of the walk over the granted places: the lowest is taken off the set and has its k ticks.
+-- A step of the walk over the granted places: the lowest is taken off the set and has its k ticks.
 use mathlib.Core.Path.{_≡_, sym, ap, _∙_, subst}
 use mathlib.Core.Bool.{Bool, true}
 use mathlib.Core.List.{List}
@@ -79,7 +79,7 @@ module _
             passed-out k before afterHandling m (lowest rest) (w .off) (w .on) (w .same) (w .below) (have .0)
             (eq-eqb (getD (m .left) (lowest rest) 0) k (omega (arith, still, have .1)))
 
--- A turn on a machine whose numbers stand in one list
+-- A step on a machine whose numbers are in one list
 module _ (k granted rest : ℕ) (m₀ : Machine) (xs : List ℕ) (c : ℕ) (below : lowest rest < 32) (w : GrantStep k granted rest m₀ (machineOf xs c)) where
   has : getD (segment 0 xs) (lowest rest) 0 ≡ getD xs (lowest rest) 0
   has = front-at xs (lowest rest) below

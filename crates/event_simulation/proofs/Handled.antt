@@ -1,4 +1,4 @@
--- The look at the due places: one more of them, and that it leaves the run as it stands once the due events of the tick have been looked at.
+-- The due places handled: one more of them, and that the run then is that after the due events of the tick.
 use mathlib.Core.Path.{_≡_, refl, sym, ap, _∙_, fun-ext, subst}
 use mathlib.Core.Bool.{Bool, true, false, _&&_, _||_, cond}
 use mathlib.Core.List.{List}
@@ -154,12 +154,12 @@ late-is τ ok t js l m n false h k d o =
     let x = overdue-is τ ok t js l n n false (h .tied) t k (omega arith) d o in
     absurd (omega (arith, x .1, h .tied .none))
 
--- THE RUN AFTER THE LOOK
+-- THE RUN AFTER THE DUE PLACES ARE HANDLED
 
 module _
     (s : Table) (ok : AllValid s) (few : length (s .tasks) ≤ 32) (t : ℕ) (m : Machine) (h : MachineRepresents s t t m)
   where
-    -- where nobody is due
+    -- where no place is due
     pub none-due : ((p : ℕ) → p < length (s .tasks) → getD (m .event) p 0 ≡ t → ⊥) → MachineRepresents s t (suc t) m
     none-due away = record {
       sized = h .sized;
@@ -241,7 +241,7 @@ module _
               (set-has 32 (λ p. releasesAt t d m p || bit (m .claiming) p) p below)
               (here (d p) refl (eqb N t) refl)
 
-        -- the due places have been looked at
+        -- the due places have been handled
         pub handled-represents : MachineRepresents s t (suc t) afterHandling
         handled-represents = record { sized = sized; places = place; beyond = λ p q. go p q (leb 32 p) refl }
           where
@@ -250,7 +250,7 @@ module _
             go p q false x = unfold handledAll in
                 set-has 32 (λ p. releasesAt t d m p || bit (m .claiming) p) p (leb-false 32 p x) ∙ rw (past p q) (h .beyond p q)
 
--- who is released is turned to its other width. q is the set of the places with two, e that of those at their second
+-- a place that is released is turned to its other width. q is the set of the places with two, e that of those at their second
 pub handled-parity :
     (s : Table) → AllValid s → (t : ℕ) (m m′ : Machine) (q e : ℕ) → MachineRepresents s t t m → MachineRepresents s t (suc t) m′ → Paired s q → WidthToggled s m e
     → WidthToggled s m′ (toggledBy q e (m .claiming) (m′ .claiming))
@@ -266,7 +266,7 @@ handled-parity s ok t m m′ q e h h′ two turns p l =
 abbrev pub plain : Machine → Machine
 plain m = machine (m .left) (mapPlaces (λ p d. cond (bit (m .claiming) p) d (getD (m .next) p 0)) (m .event)) (m .next) (m .claiming)
 
--- the run is tied to the book as that machine is
+-- the run is related to the book as that machine is
 pub handled-ready : (s : Table) (t : ℕ) (m : Machine) → length (s .tasks) ≤ 32 → MachineRepresents s t (suc t) m → Ready s t (plain m)
 handled-ready s t m few h = record {
   sized = record {

@@ -1,4 +1,4 @@
--- THEOREM (jump-lands): a jump from the state of the full-length run at a tick at which no deadline is missed lands on the state of the least event
+-- THEOREM (jump-lands): a jump from the state of the full-length run at a tick at which no deadline is missed ends at the state of the least event
 -- after it, and at every tick up to it the cores stay with the same tasks.
 use mathlib.Core.Path.{_≡_, refl, sym, ap, ap₂, _∙_, subst, subst₂}
 use mathlib.Core.Bool.{Bool, true, false, not, _&&_, cond, true≢false}
@@ -46,7 +46,7 @@ module _ (t : Loaded) (fit : Fit t) (s : EventState) (h : StateRepresents t s) w
   abbrev n : Numbers
   n = loadedNumbers t
 
-  -- who is due is at its event
+  -- a place that is due is at its event
   pub due-exact : (p : ℕ) → p < length (book .tasks) → bit (s .due) p ≡ eqb (getD (s .machine .event) p 0) (s .tick)
   due-exact p l =
       ap (λ (x : ℕ). bit x p) (h .dues)
@@ -90,7 +90,7 @@ module _ (t : Loaded) (fit : Fit t) (s : EventState) (h : StateRepresents t s) w
     abbrev k : ℕ
     k = ticksInJump n s
 
-    -- once its due events have been looked at
+    -- once its due events have been handled
     pub seen : MachineRepresents book (s .tick) (suc (s .tick)) m
     unfolding afterHandling
     seen = go (eqb (s .due) 0) refl
@@ -105,7 +105,7 @@ module _ (t : Loaded) (fit : Fit t) (s : EventState) (h : StateRepresents t s) w
             handled-represents book (fit .valid) (few t fit) (s .tick) (s .machine) (h .machines) (bit (s .due)) due-exact due-past met
             (map (λ x. x .offset) (t .tasks)) (n .widths) (n .lengths) (n .deadlines) (n .periods) (columns t fit)
 
-    -- who is released has turned to its other width
+    -- a place that is released has turned to its other width
     handled : WidthToggled book m even
     unfolding evenInJump
     handled = handled-parity book (fit .valid) (s .tick) (s .machine) m (n .paired) (s .even) (h .machines) seen (paired t fit) (h .parity)
@@ -132,7 +132,7 @@ module _ (t : Loaded) (fit : Fit t) (s : EventState) (h : StateRepresents t s) w
     pub before : s .tick < nextEvent
     before = let r = rings in omega (arith, r .2, seen .places (r .0) (r .1) .ahead .from)
 
-    -- WHO IS GRANTED CORES
+    -- THE PLACES THAT ARE GRANTED CORES
 
     pub kept : g ≡ choice n (m .claiming) even
     unfolding grantedInJump
@@ -198,7 +198,7 @@ module _ (t : Loaded) (fit : Fit t) (s : EventState) (h : StateRepresents t s) w
         subst (Event book) over (ends book (fit .valid) (s .tick) m seen (bit g) row k (short .below) near (k - 1) last (z .0) (z .1) (z .2)))
         (short .reached)
 
-    -- WHERE IT LANDS
+    -- WHERE IT ENDS
 
     abbrev there : Machine
     there = elapsed k (bit g) m
@@ -231,7 +231,7 @@ module _ (t : Loaded) (fit : Fit t) (s : EventState) (h : StateRepresents t s) w
         go p q true x = passed-past k (bit g) m p (leb-true 32 p x)
         go p q false x = passed-claims k (bit g) m p (leb-false 32 p x) ∙ rw (seen .beyond p q)
 
-    -- before the next event nobody is due
+    -- before the next event no place is due
     dues : cond (eqb (s .tick + k) nextEvent) (dueAt (s .tick + k) (t .count) (m .event)) 0 ≡ dueAt (s .tick + k) (t .count) (m .event)
     dues = go (eqb (s .tick + k) nextEvent) refl
       where

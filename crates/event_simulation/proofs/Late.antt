@@ -26,7 +26,7 @@ use Rattle.event_simulation.proofs.Handled.{late-has}
 use Rattle.event_simulation.proofs.Sets.{lowest, others, Off, off-turn}
 use Rattle.event_simulation.proofs.Represents.{none-left}
 
--- what is left of the due places to be looked at: the others have no tick left
+-- what is left of the due places to be handled: the others have no tick left
 pub record Looking (m : Machine) (due rest : ℕ) : Type 0 where
   pub within : (q : ℕ) → bit rest q ≡ true → bit due q ≡ true
   pub seen : (q : ℕ) → bit due q ≡ true → bit rest q ≡ false → getD (m .left) q 0 ≡ 0

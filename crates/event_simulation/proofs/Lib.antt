@@ -1,4 +1,4 @@
--- The proofs of the jumps: between events nothing changes, a jump lands on the next event, the events are all, and the two judges agree.
+-- The proofs of the jumps: between events nothing changes, a jump ends at the next event, the events are all, and the two judges agree.
 pub mod Upcoming
 pub mod Represents
 pub mod Between

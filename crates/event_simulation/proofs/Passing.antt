@@ -1,4 +1,4 @@
--- k ticks of the granted places: what stands at each place after them, and one granted place more.
+-- k ticks of the granted places: the value at each place after them, and one granted place more.
 use mathlib.Core.Path.{_≡_, refl, sym, ap, _∙_, fun-ext, subst}
 use mathlib.Core.Bool.{Bool, true, false, not, _&&_, cond, and-true}
 use mathlib.Core.List.{List}
@@ -36,7 +36,7 @@ module _ (k : ℕ) (granted : ℕ → Bool) (m : Machine) where
 
 -- PLACE BY PLACE
 
--- nobody is granted cores
+-- no place is granted cores
 pub passed-none : (k : ℕ) (f : ℕ → Bool) (m : Machine) → m .claiming < 2 ^ 32 → ((p : ℕ) → f p ≡ false) → elapsed k f m ≡ m
 unfolding elapsed
 passed-none k f m h e = λ i. record { left = left i; event = m .event; next = m .next; claiming = claiming i }
@@ -60,7 +60,7 @@ by-place q p P here away = go (eqb q p) refl
     go true e = here (eqb-true q p e)
     go false e = away (eqb-false q p e)
 
--- g grants who f grants, and place p
+-- g grants the places that f grants, and place p
 module _ (k : ℕ) (f g : ℕ → Bool) (m : Machine) (p : ℕ) (off : f p ≡ false) (on : g p ≡ true) (other : (q : ℕ) → (q ≡ p → ⊥) → g q ≡ f q) where
   -- what place p still has
   pub still-left : getD (elapsed k f m .left) p 0 ≡ getD (m .left) p 0

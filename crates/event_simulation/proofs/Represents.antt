@@ -14,7 +14,7 @@ use Rattle.simulation.proofs.Place.{Claimed, start-tied, pass-tied, release-tie
 use Rattle.event_simulation.specs.EventState.{UpcomingEvent, PlaceRepresents}
 use Rattle.event_simulation.proofs.Upcoming.{upcoming-start, upcoming-later, upcoming-release, upcoming-event}
 
--- the same numbers stand the same
+-- equal numbers represent the same
 pub same-represents :
     (τ : Task) (seen : ℕ) (js : ℕ → Job) (l l′ m m′ n n′ : ℕ) (c c′ : Bool) → l ≡ l′ → m ≡ m′ → n ≡ n′ → c ≡ c′
     → PlaceRepresents τ seen js l′ m′ n′ c′ → PlaceRepresents τ seen js l m n c
@@ -96,7 +96,7 @@ event-kept false true m n = refl
 event-kept false false m n = refl
 
 module _ (r : Rule) (τ : Task) (ok : ValidTask τ) (t : ℕ) (js : ℕ → Job) (all : Claimed τ js) (l m n : ℕ) where
-  -- the tie after a tick, in which the place has cores or not
+  -- the relation after a tick, in which the place has cores or not
   pub tick-represents :
       (c w : Bool) → PlaceTiedAt τ (suc t) js l (cond c m n) n c
       → PlaceTiedAt τ (suc t) (lineOn r τ t w js) (cond w (l - 1) l) (cond (c && not (w && eqb l 1)) m n) n (c && not (w && eqb l 1))

@@ -28,7 +28,7 @@ shortest-same f g most left k e h = record {
   reached = ⊎-elim inl (λ (x : (p : ℕ) × (f p ≡ true) × (k ≡ getD left p 0)). inr (x .0, sym (e (x .0)) ∙ x .1, x .2)) (h .reached);
 }
 
--- g grants who f grants, and place p
+-- g grants the places that f grants, and place p
 pub shortest-more :
     (f g : ℕ → Bool) (most : ℕ) (left : List ℕ) (p k k′ : ℕ) → g p ≡ true → ((q : ℕ) → (q ≡ p → ⊥) → g q ≡ f q) → k′ ≡ min k (getD left p 0)
     → Shortest f most left k → Shortest g most left k′

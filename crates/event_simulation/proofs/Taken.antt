@@ -1,4 +1,4 @@
--- A jump as code takes it is the jump of the definitions: the due places looked at where there are any, the choice kept or made anew.
+-- A jump as code takes it is the jump of the definitions: the due places handled where there are any, the choice kept or made anew.
 use mathlib.Core.Path.{_≡_, refl, sym, ap, ap₂, _∙_}
 use mathlib.Core.Bool.{Bool, true, false, not, _&&_, _||_, cond}
 use mathlib.Core.List.{List}
@@ -31,13 +31,13 @@ module _ (n : Numbers) (s : EventState) where
   unfolding nextEventAhead
   next-event-by b e = ap (λ (x : Bool). cond x (s .event) (earliestOf (n .count) (afterHandling n s .event))) (sym e)
 
-  -- what the due places leave: the machine, the earliest event to come, and who is at its second width
+  -- what the due places leave: the machine, the earliest event to come, and the places at their second width
   pub record Seen (m′ : Machine) (bell′ even′ : ℕ) : Type 0 where
     pub machines : m′ ≡ afterHandling n s
     pub event : bell′ ≡ nextEventAhead n s
     pub even : even′ ≡ evenInJump n s
 
-  -- the due places are looked at
+  -- the due places are handled
   pub due-handled :
       (m′ : Machine) (bell′ : ℕ) → 0 < s .due → m′ ≡ seen → bell′ ≡ earliestOf (n .count) (m′ .event)
       → Seen m′ bell′ (toggledBy (n .paired) (s .even) (s .machine .claiming) (m′ .claiming))
@@ -108,7 +108,7 @@ module _ (n : Numbers) (s : EventState) where
   unfolding ticksInJump
   ticks-are m nextEvent granted k em eb eg e = e ∙ (λ i. leastLeft 32 (bit (eg i)) (eb i - s .tick) (em i .left))
 
-  -- and where it lands
+  -- and where it ends
   pub jump-taken :
       (m₁ m₂ : Machine) (nextEvent chosen granted even k due : ℕ) → Seen m₁ nextEvent even → chosen ≡ afterHandling n s .claiming → granted ≡ grantedInJump n s
       → k ≡ ticksInJump n s → m₂ ≡ elapsed k (bit granted) m₁ → due ≡ cond (eqb (s .tick + k) nextEvent) (dueAt (s .tick + k) (n .count) (m₂ .event)) 0

@@ -1,4 +1,4 @@
--- A run that jumps, as it stands at a tick, and what its numbers say of the book.
+-- The state of a run that jumps at a tick, and the relation of its numbers to the book.
 -- Its machine is that of crate simulation, but the event of a place is the next tick at which a job of it is released or is due, ended or not.
 use mathlib.Core.Path.{_≡_}
 use mathlib.Core.Bool.{Bool, false, _&&_, cond}
@@ -19,8 +19,8 @@ use Rattle.simulation.specs.TickState.{pairedIn, loadedNumbers, choice}
 use Rattle.judge.specs.Judged.{loadedTable}
 use Rattle.event_simulation.specs.declared.state.Registers.{Registers}
 
--- the machine; the set of the places whose event this tick is; the next event, the earliest event of all; the claimants that the choice is kept for, and
--- who is granted cores by it; of the places with two widths, those that are at their second
+-- the machine; the set of the places whose event this tick is; the next event, the earliest event of all; the claimants that the choice was made for, and
+-- those that are granted cores by it; of the places with two widths, those that are at their second
 pub record EventState : Type 0 where
   pub tick : ℕ
   pub machine : Machine
@@ -30,7 +30,7 @@ pub record EventState : Type 0 where
   pub granted : ℕ
   pub even : ℕ
 
--- .. as code has it: registers, and the numbers of the places in one list
+-- .. as in code: registers, and the numbers of the places in one list
 abbrev pub eventStateOf : Registers → List ℕ → EventState
 eventStateOf p places = record {
   tick = p .tick;
@@ -51,7 +51,7 @@ unfoldable pub earliestOf : ℕ → List ℕ → ℕ
 earliestOf zero events = getD events 0 0
 earliestOf (suc n) events = min (earliestOf n events) (getD events n 0)
 
--- before tick 0: nobody claims or is granted cores, and each task waits for its first release, which turns it to its first width
+-- before tick 0: no place claims or is granted cores, and each task waits for its first release, which turns it to its first width
 abbrev pub initialEventState : Loaded → EventState
 initialEventState t = record {
   tick = 0;
@@ -63,7 +63,7 @@ initialEventState t = record {
   even = pairedIn (t .tasks);
 }
 
--- WHAT THE NUMBERS SAY. `seen` is the tick where its due events have not been looked at yet, and one more where they have
+-- WHAT THE NUMBERS MEAN. `seen` is the tick where its due events have not been handled yet, and one more where they have
 
 -- a job of the task is released at u, or is due at u
 abbrev pub ReleaseOrDeadline : Task → ℕ → Type 0
@@ -76,7 +76,7 @@ pub record UpcomingEvent (τ : Task) (seen m n : ℕ) : Type 0 where
   pub first : (u : ℕ) → seen ≤ u → ReleaseOrDeadline τ u → m ≤ u
   pub next : (k : ℕ) → seen ≤ release τ k → n ≤ release τ k
 
--- a place: l ticks are left, m is its event, n its next release, c says whether it claims. While it claims its event is the deadline of the job that
+-- a place: l ticks are left, m is its event, n its next release, c is true if it claims. While it claims its event is the deadline of the job that
 -- it works on, which has had what is not left; else every job released so far has ended
 pub record PlaceRepresents (τ : Task) (seen : ℕ) (js : ℕ → Job) (l m n : ℕ) (c : Bool) : Type 0 where
   pub tied : PlaceTiedAt τ seen js l (cond c m n) n c
@@ -97,7 +97,7 @@ pub record MachineRepresents (s : Table) (t seen : ℕ) (m : Machine) : Type 0 w
 abbrev pub MetBefore : Table → ℕ → Type 0
 MetBefore s u = (p w : ℕ) → w < u → ¬ Missed s p w
 
--- a run stands as the full-length run of table t does at its tick, and no deadline was missed before
+-- a state represents the full-length run of table t at its tick, and no deadline was missed before
 pub record StateRepresents (t : Loaded) (s : EventState) : Type 0 where
   pub machines : MachineRepresents (loadedTable t) (s .tick) (s .tick) (s .machine)
   pub dues : s .due ≡ dueAt (s .tick) (t .count) (s .machine .event)

@@ -1,4 +1,4 @@
--- A jump in numbers, what is promised of it, and the jumps of a whole run.
+-- A jump in numbers, its contract, and the jumps of a whole run.
 use mathlib.Core.Path.{_≡_}
 use mathlib.Core.Bool.{Bool, true, not, _&&_, _||_, cond}
 use mathlib.Core.List.{List}
@@ -17,7 +17,7 @@ use Rattle.judge.specs.Judged.{loadedTable, Fit}
 use Rattle.event_simulation.specs.Event.{Event, NextEvent, SameAllocation}
 use Rattle.event_simulation.specs.EventState.{EventState, dueAt, earliestOf, initialEventState, MetBefore, StateRepresents}
 
--- THE DUE PLACES, where nobody is late. C, D and T list the lengths, deadlines and periods of the tasks
+-- THE DUE PLACES, where no job is late. C, D and T list the lengths, deadlines and periods of the tasks
 
 -- place p at its event t: its next job is released where it comes at t; else its last was due at t, and its event is its next release
 unfoldable pub handled : ℕ → ℕ → ℕ → ℕ → ℕ → Machine → Machine
@@ -51,7 +51,7 @@ leastLeft (suc n) granted most left =
 abbrev pub GrantedOwe : ℕ → (ℕ → Bool) → Machine → Type 0
 GrantedOwe k granted m = (p : ℕ) → granted p ≡ true → (bit (m .claiming) p ≡ true) × (k ≤ getD (m .left) p 0)
 
--- k ticks of the places that are granted cores: each is owed k less, and who is owed none claims no more
+-- k ticks of the places that are granted cores: each is owed k less, and a place that is owed none claims no more
 unfoldable pub elapsed : ℕ → (ℕ → Bool) → Machine → Machine
 elapsed k granted m = record {
   left = mapPlaces (λ p l. cond (granted p) (l - k) l) (m .left);
@@ -62,7 +62,7 @@ elapsed k granted m = record {
 
 -- A JUMP
 
--- the machine once the due places have been looked at, where there are any
+-- the machine once the due places have been handled, where there are any
 unfoldable pub afterHandling : Numbers → EventState → Machine
 afterHandling n s = cond (eqb (s .due) 0) (s .machine) (handledAll (s .tick) (bit (s .due)) (n .lengths) (n .deadlines) (n .periods) (s .machine))
 
@@ -70,7 +70,7 @@ afterHandling n s = cond (eqb (s .due) 0) (s .machine) (handledAll (s .tick) (bi
 unfoldable pub nextEventAhead : Numbers → EventState → ℕ
 nextEventAhead n s = cond (eqb (s .due) 0) (s .event) (earliestOf (n .count) (afterHandling n s .event))
 
--- the places that are at their second width in the ticks of the jump: who begins to claim was released, and has turned
+-- the places that are at their second width in the ticks of the jump: a place that begins to claim was released, and has turned
 unfoldable pub evenInJump : Numbers → EventState → ℕ
 evenInJump n s = toggledBy (n .paired) (s .even) (s .machine .claiming) (afterHandling n s .claiming)
 
@@ -78,7 +78,7 @@ evenInJump n s = toggledBy (n .paired) (s .even) (s .machine .claiming) (afterHa
 abbrev pub choiceKeptInJump : Numbers → EventState → Bool
 choiceKeptInJump n s = eqb (afterHandling n s .claiming) (s .chosen) && eqb (evenInJump n s) (s .even)
 
--- who is granted cores: kept while these are unchanged, or chosen anew
+-- the places that are granted cores: kept while these are unchanged, or chosen anew
 unfoldable pub grantedInJump : Numbers → EventState → ℕ
 grantedInJump n s = cond (choiceKeptInJump n s) (s .granted) (choice n (afterHandling n s .claiming) (evenInJump n s))
 
@@ -86,7 +86,7 @@ grantedInJump n s = cond (choiceKeptInJump n s) (s .granted) (choice n (afterHan
 unfoldable pub ticksInJump : Numbers → EventState → ℕ
 ticksInJump n s = leastLeft mostTasks (bit (grantedInJump n s)) (nextEventAhead n s - s .tick) (afterHandling n s .left)
 
--- the run where it lands
+-- the state after the jump
 unfoldable pub jumped : Numbers → EventState → EventState
 jumped n s = record {
   tick = s .tick + ticksInJump n s;
@@ -98,9 +98,9 @@ jumped n s = record {
   even = evenInJump n s;
 }
 
--- WHAT IS PROMISED
+-- THE CONTRACT
 
--- where a jump begins: at the state of the full-length run at a tick up to the horizon at which no deadline is missed
+-- the start of a jump: the state of the full-length run at a tick up to the horizon at which no deadline is missed
 pub record JumpStarts (t : Loaded) (n : Numbers) (s : EventState) : Type 0 where
   pub fit : Fit t
   pub numbers : n ≡ loadedNumbers t
@@ -108,13 +108,13 @@ pub record JumpStarts (t : Loaded) (n : Numbers) (s : EventState) : Type 0 where
   pub met : (p : ℕ) → ¬ Missed (loadedTable t) p (s .tick)
   pub early : s .tick ≤ t .horizon
 
--- it lands on the state at the least event after, and at every tick up to it the cores stay with the same tasks
+-- it leads to the state at the least event after, and at every tick up to it the tasks keep the same cores
 pub record JumpLands (t : Loaded) (s s′ : EventState) : Type 0 where
   pub next : NextEvent (loadedTable t) (s .tick) (s′ .tick)
   pub represents : StateRepresents t s′
   pub same : (w : ℕ) → s .tick ≤ w → w < s′ .tick → SameAllocation (loadedTable t) (s .tick) w
 
--- the value of a jump, and what it means for every table whose run it is
+-- the value of a jump, and its meaning for every table whose run it is
 pub record JumpOf (n : Numbers) (s s′ : EventState) : Type 0 where
   pub value : s′ ≡ jumped n s
   pub lands : (t : Loaded) → JumpStarts t n s → JumpLands t s s′
@@ -126,11 +126,11 @@ unfoldable pub jumps : Loaded → ℕ → EventState
 jumps t zero = initialEventState t
 jumps t (suc n) = jumped (loadedNumbers t) (jumps t n)
 
--- no deadline is missed at the tick of any of the first n stands
+-- no deadline is missed at the tick of any of the first n states
 abbrev pub Unmissed : Loaded → ℕ → Type 0
 Unmissed t n = (i p : ℕ) → i < n → ¬ Missed (loadedTable t) p (jumps t i .tick)
 
--- the ticks reached by repeating the jump: 0 and all events, in order, none left out, up to the first miss
+-- the ticks reached by repeating the jump: 0 and all events, in order, none skipped, up to the first miss
 pub record AreEvents (t : Loaded) : Type 0 where
   -- the first is 0
   pub begins : jumps t 0 .tick ≡ 0

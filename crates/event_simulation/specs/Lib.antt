@@ -1,4 +1,4 @@
--- What a run is that jumps from event to event: the events, how it stands at a tick, and a jump in numbers.
+-- A run that jumps from event to event: the events, its state at a tick, and a jump in numbers.
 pub mod Event
 pub mod EventState
 pub mod Jump

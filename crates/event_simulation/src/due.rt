@@ -55,7 +55,7 @@ pub(crate) fn earliest(count: usize, places: &[u32; TRIPLE]) -> u32
     event
 }
 
-// Looks at a place at its event, this tick, where no tick is left, and answers the set of claimants: its next job is released, or it waits for its next release.
+// Handles a place at its event, this tick, where no tick is left, and returns the set of claimants: its next job is released, or it waits for its next release.
 pub(crate) fn handle_event(
     place: usize,
     tick: u32,

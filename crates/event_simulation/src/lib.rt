@@ -10,7 +10,7 @@ use table::Loaded;
 
 mod due; // due.rt: the places whose event a tick is
 pub mod misses; // misses.rt: the full-length run, jump by jump, up to its first missed deadline
-pub mod state; // state.rt: how a run that jumps stands at a tick, and a jump
+pub mod state; // state.rt: the state of a run that jumps at a tick, and a jump
 mod ticks; // ticks.rt: the ticks of a jump
 
 // The verdict of the full-length run: its first miss up to and including the horizon, or accepted.

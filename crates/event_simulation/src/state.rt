@@ -1,5 +1,5 @@
-// How a run that jumps stands at a tick, and a jump. Its machine is that of crate simulation: three numbers for each of 32 places in one array, lent, and registers by
-// value; but the event of a place is its next release or deadline, whichever comes first, and the deadline counts whether the job has ended or not.
+// The state of a run that jumps at a tick, and a jump. Its machine is that of crate simulation: three numbers for each of 32 places in one array, lent, and
+// registers by value; but the event of a place is its next release or deadline, whichever is first, and the deadline counts whether the job has ended or not.
 ghost use mathlib.Core.Path.{_≡_};
 ghost use Rattle.table.specs.declared.Loaded.{Loaded};
 ghost use Rattle.simulation.specs.TickState.{numbersBy};
@@ -11,8 +11,8 @@ use simulation::TRIPLE;
 use simulation::columns::Setting;
 use table::Loaded;
 
-// Where a run stands: the next event, its earliest event; the set of the places whose event this tick is; the set of claimants; the claimants for whom the kept
-// choice was made, and who is granted cores by it; of the places with two widths, those that are at their second.
+// The state of a run: the next event, its earliest event; the set of the places whose event this tick is; the set of claimants; the claimants for which
+// the kept choice was made, and those that are granted cores by it; of the places with two widths, those that are at their second.
 pub struct Registers {
     pub tick: u32,
     pub event: u32,
@@ -29,7 +29,7 @@ pub struct Machine {
     pub places: [u32; TRIPLE],
 }
 
-// The run before tick 0: nobody claims, nobody is granted cores, and each task waits for its first release, which turns it to its first width.
+// The run before tick 0: no place claims or is granted cores, and each task waits for its first release, which turns it to its first width.
 pub fn start(table: Loaded) -> Machine
     requires { ⌜ Fit table ⌝ }
     ensures { λ r. ⌜ eventStateOf (r .registers) (r .places) ≡ initialEventState table ⌝ }
@@ -54,8 +54,8 @@ pub fn start(table: Loaded) -> Machine
     }
 }
 
-// A jump from a tick at which nobody is late to the least event after it: the due places are looked at, and who is released turns to its other width; the
-// choice is made where the claimants or their widths have changed; so many ticks pass as are left up to the next event or to the first end of a job that has cores.
+// A jump from a tick at which no job is late to the least event after it: the due places are handled, and a released place turns to its other width; the
+// choice is made where the claimants or their widths have changed; the ticks up to the next event or to the first end of a job that has cores pass.
 pub fn jump(
     setting: Setting,
     widths: &[u32; PAIR],

@@ -1,4 +1,4 @@
-// The ticks of a jump: how many, and what they leave.
+// The ticks of a jump: how many, and the state after them.
 ghost use mathlib.Core.Path.{_≡_};
 ghost use Rattle.model.specs.Search.{bit};
 ghost use Rattle.model.specs.Sizes.{mostTasks};
@@ -21,7 +21,7 @@ pub(crate) fn shortest(granted: u32, most: u32, places: &[u32; TRIPLE]) -> u32
     ticks
 }
 
-// So many ticks of the granted places, and answers the set of those that still claim after them.
+// This number of ticks of the granted places; returns the set of those that still claim after them.
 pub(crate) fn elapse(ticks: u32, granted: u32, claiming: u32, places: &mut [u32; TRIPLE]) -> u32
     requires { ⌜ GrantedOwe ticks (bit granted) (machineOf (now places) claiming) ⌝ }
     ensures { λ r. ⌜ machineOf (now (places .exit)) r ≡ elapsed ticks (bit granted) (machineOf (now (places .entry)) claiming) ⌝ }

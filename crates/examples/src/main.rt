@@ -448,7 +448,8 @@ fn fenced() {
     );
 }
 
-// Odd and even widths: P takes 2T; under greedy a table is firm where no width of a task is above one of the next; the choice changes though the claimants do not.
+// Odd and even widths: P takes 2T; under greedy a table is firm where no width of a task is above one of the next; the choice changes though the claimants
+// do not.
 fn paired() {
     show(
         b"odd-and-even",

@@ -1,4 +1,4 @@
--- What the two judges have to do in a sample of 1,000,000 ticks, by which the faster one is chosen. No answer depends on it.
+-- The cost of the two judges in a sample of 1,000,000 ticks, by which the faster one is chosen. No answer depends on it.
 use mathlib.Core.Bool.{Bool, cond}
 use mathlib.Core.List.{List}
 use Prim.Native.Nat.{ℕ, zero, suc, _+_, _*_, _/_}
@@ -17,11 +17,11 @@ sample = 1000000
 unfoldable pub jobsOf : Task → ℕ
 jobsOf t = cond (eqb (t .period) 0) 0 (sample / t .period)
 
--- what its jobs cost the jumping judge: a release and an end, and a deadline, which is no event of its own where the next job is released then
+-- the cost of its jobs for the event judge: a release and an end, and a deadline, which is no event of its own where the next job is released then
 unfoldable pub eventCost : Task → ℕ
 eventCost t = jobsOf t * cond (eqb (t .deadline) (t .period)) 16 36
 
--- what they cost the tick judge: the ticks that they want
+-- their cost for the tick judge: the ticks that they need
 unfoldable pub tickCost : Task → ℕ
 tickCost t = jobsOf t * t .length
 
@@ -30,11 +30,11 @@ unfoldable pub sumTo : (Task → ℕ) → ℕ → List Task → ℕ
 sumTo f zero ts = 0
 sumTo f (suc n) ts = sumTo f n ts + f (getD ts n noTask)
 
--- what the tick judge has to do: every tick, and in it every job that works
+-- the cost of the tick judge: every tick, and in it every job that works
 abbrev pub tickJudgeCost : Loaded → ℕ
 tickJudgeCost t = sample + sumTo tickCost mostTasks (t .tasks)
 
--- what the jumping judge has to do, weighed by what was measured
+-- the cost of the event judge, weighted by measurement
 abbrev pub eventJudgeCost : Loaded → ℕ
 eventJudgeCost t = sumTo eventCost mostTasks (t .tasks)
 

@@ -1,2 +1,2 @@
--- What the two judges have to do, counted, by which the faster one is chosen.
+-- The cost of the two judges, by which the faster one is chosen.
 pub mod Cost

@@ -12,10 +12,10 @@ const SAMPLE: u32 = 1_000_000;
 // The same in 64 bits.
 const TICKS: u64 = SAMPLE as u64;
 
-// What a job costs who jumps, in ticks of one job's work, as measured: where its deadline is the next release ..
+// The cost of a job for the event judge, in ticks of one job's work, as measured: where its deadline is the next release (implicit deadline) ..
 const IMPLICIT_DEADLINE: u32 = 16;
 
-// .. and where the deadline is an event of its own.
+// .. and where the deadline is an event of its own (constrained deadline).
 const CONSTRAINED_DEADLINE: u32 = 36;
 
 // The jobs of a task in the sample; none where there is no task.
@@ -29,7 +29,7 @@ fn jobs_of(task: Task) -> u32
     SAMPLE / period
 }
 
-// What a task costs who jumps.
+// The cost of a task for the event judge.
 fn event_cost(task: Task) -> u32
     ensures { λ r. ⌜ (r ≡ eventCost task) × (r ≤ 36000000) ⌝ }
 {
@@ -42,7 +42,7 @@ fn event_cost(task: Task) -> u32
     jobs * CONSTRAINED_DEADLINE
 }
 
-// What it costs who takes every tick.
+// Its cost for the tick judge.
 fn tick_cost(task: Task) -> u64
     ensures { λ r. ⌜ (r ≡ tickCost task) × (r ≤ 4294967296000000) ⌝ }
 {

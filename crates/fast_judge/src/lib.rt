@@ -1,5 +1,5 @@
-// The verdict and the first miss by the faster of the two judges. Which one that is the table alone tells: how many events its tasks bring in a sample of
-// ticks. Where nearly every tick is an event the judge that takes every tick is faster, else the one that jumps.
+// The verdict and the first miss by the faster of the two judges. The choice depends on the table alone: on the number of events of its tasks in a sample of
+// ticks. Where nearly every tick is an event, the tick judge is faster, else the event judge.
 ghost use mathlib.Core.Path.{_≡_};
 ghost use Prim.Native.Nat.{_+_, _≤_, suc};
 ghost use lib.ListN.{length};
@@ -11,7 +11,7 @@ use judge::misses::Missed;
 use table::Answer;
 use table::Loaded;
 
-mod cost; // cost.rt: how many events the tasks bring
+mod cost; // cost.rt: the number of events of the tasks
 
 // The first deadline that the full-length run misses before tick `end`, at equal ticks the first in priority.
 pub fn first_miss(table: Loaded, end: u32) -> Missed

@@ -1,4 +1,4 @@
--- The verdict on a table that misses no deadline, computed where it turns on two widths; and the verdict of words under rules 3 and 4, which is the same.
+-- The verdict on a table that misses no deadline, computed where it depends on two widths; and the verdict of words under rules 3 and 4, which is the same.
 use mathlib.Core.List.{List, [], _∷_}
 use mathlib.Core.Path.{_≡_, refl}
 use Prim.Native.Nat.{ℕ}
@@ -50,7 +50,7 @@ other-rules = (refl, refl, refl)
 abbrev met-all : ℕ → List ℕ
 met-all r = 1 ∷ 2 ∷ r ∷ 0 ∷ 0 ∷ 2 ∷ 0 ∷ 2 ∷ 1 ∷ 3 ∷ 3 ∷ 2 ∷ 0 ∷ 0 ∷ 1 ∷ 2 ∷ 3 ∷ 3 ∷ 1 ∷ []
 
--- 2 cores: widths 1, 2 and 1, C 3, 1 and 2, D 3, 4 and 2, T 4: position 3 is met only where position 2, which does not fit, is passed over
+-- 2 cores: widths 1, 2 and 1, C 3, 1 and 2, D 3, 4 and 2, T 4: position 3 is met only where position 2, which does not fit, is skipped
 abbrev passed-over : ℕ → List ℕ
 passed-over r =
     1 ∷ 2 ∷ r ∷ 0 ∷ 0 ∷ 2 ∷ 0 ∷ 1 ∷ 3 ∷ 3 ∷ 4 ∷ 1 ∷ 3 ∷ 0 ∷ 2 ∷ 1 ∷ 4 ∷ 4 ∷ 2 ∷ 0 ∷ 0 ∷ 1 ∷ 2 ∷ 2 ∷ 4 ∷ 1 ∷ []
@@ -59,7 +59,7 @@ passed-over r =
 abbrev late : ℕ → List ℕ
 late r = 1 ∷ 1 ∷ r ∷ 0 ∷ 0 ∷ 2 ∷ 0 ∷ 1 ∷ 1 ∷ 2 ∷ 2 ∷ 1 ∷ 0 ∷ 0 ∷ 1 ∷ 2 ∷ 2 ∷ 2 ∷ 1 ∷ []
 
--- what rule 3 says rule 4 says: S and P, or the miss
+-- rules 3 and 4 have the same verdict: S and P, or the miss
 pub same-firm : (verdictOf (met-all 3) ≡ Firm 0 3) × (verdictOf (met-all 4) ≡ Firm 0 3)
 unfolding computing verdictOf answerOf byWalk byTasks byHorizon firstOut endingOf lastStep headerNumber tableOf chain count met
 same-firm = (refl, refl)

@@ -27,7 +27,7 @@ module _ (s : Table) (ok : AllValid s) where
   pub found : (b p t : ℕ) → t < b → Missed s p t → any b (missedIn s) ≡ true
   found b p t l m = any-of b (missedIn s) t l (missed-in-exact s ok t .1 (p, m))
 
-  -- where it is not missed, the test says so
+  -- where it is not missed, the test is false
   met-in : (t : ℕ) → ((p : ℕ) → ¬ Missed s p t) → missedIn s t ≡ false
   met-in t met = not-true-false (missedIn s t) (λ e. let x = missed-in-exact s ok t .0 e in met (x .0) (x .1))
 
@@ -54,7 +54,7 @@ module _ (s : Table) (ok : AllValid s) where
       (λ x l. not-true-false (missedAt s t x) (λ e. f .no-higher x l (missed-exact s ok t x (omega arith) .0 e))) in
       rw (some, tick, place, f .place .1)
 
-  -- what is found is what is promised
+  -- what is found meets its contract
   settled :
       (b : ℕ) (m : missed.Missed) → m ≡ missedBefore s b
       → ((t p : ℕ) → missMeaning m ≡ firstAt t p → FirstMiss s t p × (t < b)) → (missMeaning m ≡ noMiss → (p t : ℕ) → t < b → ¬ Missed s p t)
@@ -80,7 +80,7 @@ module _ (s : Table) (ok : AllValid s) where
       apart : firstAt t p ≡ noMiss → ⊥
       apart e = let z : _≡_ {A = ℕ} 0 1 = cc in omega arith
 
--- none is found exactly if the test says no
+-- none is found exactly if the test is false
 pub never-found : (s : Table) (b : ℕ) → missedBefore s b ≡ Never → any b (missedIn s) ≡ false
 unfolding missedBefore
 never-found s b = go (any b (missedIn s)) (least b (missedIn s)) (suc (least (length (s .tasks)) (missedAt s (least b (missedIn s)))))

@@ -29,7 +29,7 @@ use Rattle.judge.proofs.Refines.{RefinesTick}
 abbrev pub first : ℕ → ℕ
 first rest = trailingZeros 32 rest
 
--- what is left of the claimants to be looked at: of the others none is at its event
+-- the claimants that are left to be tested: of the others none is at its event
 pub record Looking (m : Machine) (t rest : ℕ) : Type 0 where
   pub claims : (q : ℕ) → bit rest q ≡ true → bit (m .claiming) q ≡ true
   pub seen : (q : ℕ) → bit (m .claiming) q ≡ true → bit rest q ≡ false → getD (m .event) q 0 ≡ t → ⊥

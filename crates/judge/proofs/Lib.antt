@@ -1,4 +1,4 @@
--- The proofs of the judge's promise: from the ticks of the machine to the first miss, the verdict, and what changes no verdict.
+-- The proofs of the judge's contract: from the ticks of the machine to the first miss, the verdict, and what changes no verdict.
 pub mod Examples
 pub mod Widths
 pub mod Ticks

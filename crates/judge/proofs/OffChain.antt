@@ -1,4 +1,4 @@
--- What the words of a record off the chain say changes no verdict.
+-- The words of a record off the chain change no verdict.
 use mathlib.Core.Path.{_≡_, refl, sym, ap, _∙_}
 use mathlib.Core.List.{List}
 use Prim.Native.Nat.{ℕ}

@@ -1,4 +1,4 @@
--- What is promised of the verdict of the words follows from the numbers of the table and from the model's theorem on its verdict.
+-- The contract of the verdict of the words follows from the numbers of the table and from the model's theorem on its verdict.
 use native.Mathlib.Omega.{arith}
 use mathlib.Core.Path.{_≡_, refl, sym, ap, _∙_, subst}
 use mathlib.Core.List.{List, _++_}
@@ -35,7 +35,7 @@ use Rattle.judge.proofs.FirstMiss.{verdict-by}
 
 -- THE CASES OF THE ANSWER
 
--- the case that says a thing says it, and a case is that of what it says
+-- the case of a meaning has that meaning, and a case is that of its meaning
 pub meaning-case : (x : JudgeAnswer) → verdictMeaning (verdictCase x) ≡ x
 meaning-case (judged (model.Firm a b)) = refl
 meaning-case (judged (model.Full a b)) = refl
@@ -48,7 +48,7 @@ case-meaning (Full a b) = refl
 case-meaning (Miss a b) = refl
 case-meaning (Refused n p) = refl
 
--- one verdict is said at most, and none where it is refused
+-- there is one verdict at most, and none where it is refused
 same-verdict : {v w : model.Verdict} → judged v ≡ judged w → v ≡ w
 same-verdict e = cc
 
@@ -91,7 +91,7 @@ firm-words ws none = (says, found)
     found (inr (inr (inl q))) = inr (inr (inl (rule-of ws 4 q)))
     found (inr (inr (inr (q, h)))) = inr (inr (inr (rule-of ws 1 q, h)))
 
--- THE PROMISE
+-- THE CONTRACT
 
 pub passed-is : (ws : List ℕ) → answerOf ws ≡ Passed → verdictOf ws ≡ verdictCase (judged (verdict (tableOf ws)))
 unfolding verdictOf
@@ -168,7 +168,7 @@ by-refused ws m q e = record {
     neither a b (inl x) = not-refused (sym x ∙ is)
     neither a b (inr x) = not-refused (sym x ∙ is)
 
--- THE THEOREM: the verdict of the words is what is promised
+-- THE THEOREM: the verdict of the words meets its contract
 pub judged-exact : (ws : List ℕ) → Judged ws (verdictOf ws)
 judged-exact ws = go (answerOf ws) refl
   where

@@ -1,4 +1,4 @@
--- A run that stands as a table's full-length run does before a tick stands so before the next, where no deadline of the tick is missed.
+-- A run that represents the table's full-length run before a tick represents it before the next, where no deadline of the tick is missed.
 use mathlib.Core.Path.{_≡_, refl, sym, ap, _∙_, subst, subst₂}
 use mathlib.Core.Bool.{Bool, true, false, not, _&&_, cond}
 use mathlib.Core.List.{List, [], map}
@@ -31,7 +31,7 @@ use Rattle.rule.proofs.Widths.{widths-length}
 use Rattle.judge.specs.Judged.{loadedTable, Fit}
 use Rattle.judge.proofs.Ticks.{size, few, columns, paired, Before, After, at-start, walk-skipped, Chosen, chosen-none, chosen-owed, next-tick}
 
--- before its tick the machine is tied to the full-length run, no deadline has been missed, and the choice is that of the claimants it is kept for, with
+-- before its tick the machine is related to the full-length run, no deadline has been missed, and the choice is that of the claimants it is kept for, with
 -- their widths
 pub record RefinesTick (t : Loaded) (s : TickState) : Type 0 where
   pub before : Before t (s .machine) (s .even) (s .event) (s .tick)
@@ -112,7 +112,7 @@ module _ (t : Loaded) (fit : Fit t) where
             subst (λ (x : ℕ). After t (s .machine) x (s .event) (s .tick)) (sym (toggled-none (n .paired) (s .even) (s .machine .claiming)))
             (walk-skipped t fit (s .machine) (s .even) (s .event) (s .tick) (h .before) (leb-false (s .event) (s .tick) e))
 
-    -- who is granted cores
+    -- the places that are granted cores
     chosen : Chosen t (afterEvents n s .claiming) (evenAtTick n s) (grantedAt n s)
     unfolding grantedAt
     chosen = go (choiceKept n s) refl

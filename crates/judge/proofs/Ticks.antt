@@ -53,7 +53,7 @@ abbrev pub Chosen : Loaded → ℕ → ℕ → ℕ → Type 0
 Chosen t c e g =
     (p : ℕ) → bit g p ≡ granted (ruleOf (t .rule)) (claimants (widthsIn e (loadedNumbers t .widths)) (bit c)) (unfencedCores (loadedTable t)) p
 
--- where nobody claims, nobody is granted cores
+-- where no place claims, no place is granted cores
 pub chosen-none : (t : Loaded) (e : ℕ) → Chosen t 0 e 0
 chosen-none t e p = bit-none p ∙ sym (grants-empty (ruleOf (t .rule)) (widthsIn e (loadedNumbers t .widths)) (unfencedCores (loadedTable t)) p)
 
@@ -61,7 +61,7 @@ module _ (t : Loaded) (fit : Fit t) where
   abbrev s : Table
   s = loadedTable t
 
-  -- the table has as many tasks as the count says
+  -- the table has as many tasks as the count
   pub size : length (s .tasks) ≡ t .count
   size = tasks-length (t .tasks) (t .count) (omega (arith, fit .few, fit .places))
 
@@ -72,7 +72,7 @@ module _ (t : Loaded) (fit : Fit t) where
   pub column : (f : Task → ℕ) (g : model.Task → ℕ) → ((x : Task) → f x ≡ g (taskOf x)) → (p : ℕ) → p < length (s .tasks) → getD (map f (t .tasks)) p (f noTask) ≡ g (task s p)
   column f g e p l = List·getD-map f (t .tasks) p noTask ∙ (e (getD (t .tasks) p noTask) ∙ ap g (sym (task-at (t .tasks) (t .count) p (omega (arith, size)))))
 
-  -- the two widths of a task stand in two columns, one after the other
+  -- the two widths of a task are in two columns, one after the other
   first-wide : length (map (λ (x : Task). x .width) (t .tasks)) ≡ 32
   first-wide = length-map (t .tasks) (λ (x : Task). x .width) ∙ fit .places
 
@@ -116,7 +116,7 @@ module _ (t : Loaded) (fit : Fit t) where
     met = λ p u h. absurd (omega arith);
   }
 
-  -- before the next event there is nothing to look at
+  -- before the next event there is nothing to handle
   pub walk-skipped : (m : Machine) (even nextEvent tick : ℕ) → Before t m even nextEvent tick → tick < nextEvent → After t m even nextEvent tick
   walk-skipped m even nextEvent tick b h = record {
     ready = no-event s (fit .valid) few tick nextEvent m (b .tied) (b .next-event) h;
@@ -148,7 +148,7 @@ module _ (t : Loaded) (fit : Fit t) where
         (map (λ x. x .length) (t .tasks)) (map (λ x. x .deadline) (t .tasks)) (map (λ x. x .period) (t .tasks)) columns
         (t .count) (omega (arith, size)) (fit .few)
 
-    -- who is granted cores is in the row
+    -- a place that is granted cores is in the row
     pub chosen-row : (g : ℕ) → Chosen t (m .claiming) even g → (p : ℕ) → bit g p ≡ inRow s (full s tick) p
     chosen-row g e p = e p ∙ row-places s (fit .valid) tick m (a .ready) (widthsIn even (loadedNumbers t .widths)) widths-agree p
 

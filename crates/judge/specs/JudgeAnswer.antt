@@ -9,14 +9,14 @@ pub data JudgeAnswer : Type 0 where
   judged : model.Verdict → JudgeAnswer
   refused : ℕ → ℕ → JudgeAnswer
 
--- what each case of the answer says
+-- the meaning of each case of the answer
 abbrev pub verdictMeaning : Verdict → JudgeAnswer
 verdictMeaning (Firm s p) = judged (model.Firm s p)
 verdictMeaning (Full s p) = judged (model.Full s p)
 verdictMeaning (Miss t p) = judged (model.Miss t p)
 verdictMeaning (Refused n p) = refused n p
 
--- the case that says it: the other way round (`meaning-case`, `case-meaning`)
+-- the case with this meaning: the inverse (`meaning-case`, `case-meaning`)
 abbrev pub verdictCase : JudgeAnswer → Verdict
 verdictCase (judged (model.Firm s p)) = Firm s p
 verdictCase (judged (model.Full s p)) = Full s p

@@ -1,4 +1,4 @@
--- The judge's answer, and what is promised of it (demand 2).
+-- The judge's answer, and its contract (demand 2).
 use mathlib.Core.Path.{_≡_}
 use mathlib.Core.Bool.{cond}
 use mathlib.Core.List.{List}
@@ -39,7 +39,7 @@ verdictOf ws = verdictCase (judgedBy (answerOf ws) (tableOf ws))
 abbrev pub FirmWords : List ℕ → Type 0
 FirmWords ws = (rule ws ≡ 2) ⊎ ((rule ws ≡ 3) ⊎ ((rule ws ≡ 4) ⊎ ((rule ws ≡ 1) × ParallelismMonotonic (tableOf ws .tasks))))
 
--- what is promised of the answer v to the words ws
+-- the contract of the answer v to the words ws
 pub record Judged (ws : List ℕ) (v : Verdict) : Type 0 where
   -- it is the verdict of the words
   pub value : v ≡ verdictOf ws

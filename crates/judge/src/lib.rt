@@ -54,8 +54,8 @@ fn parallelism_monotonic(tasks: [Task; MOST_TASKS], count: usize) -> bool
     true
 }
 
-// Whether the rule and the widths of the first `count` tasks keep their promise for shorter jobs too: rules 2, 3 and 4, and any other where widths
-// never fall. The verdict asks it of a table, number 21 of a run.
+// Whether the rule and the widths of the first `count` tasks are firm, that is predictable for shorter jobs too: rules 2, 3 and 4, and any other where widths
+// never fall. The verdict tests it of a table, number 21 of a run.
 pub fn is_firm(rule: u32, tasks: [Task; MOST_TASKS], count: usize) -> bool
     requires { ⌜ count ≤ mostTasks ⌝ }
     ensures { λ r. ⌜ r ≡ firm (ruleOf rule) (tasksOf tasks count) ⌝ }

@@ -1,4 +1,4 @@
--- What 'longer' and 'behind' say: as tests, of every kind of pair of lines, and of books: no book is longer than the full-length one,
+-- The meaning of 'longer' and 'behind': as tests, of every kind of pair of lines, and of books: no book is longer than the full-length one,
 -- and on a table that is Full and not Firm a list with no longer job can be behind.
 use mathlib.Core.Bool.{Bool, _&&_, _||_, false, not, true}
 use mathlib.Core.List.{List, [], map, _∷_}
@@ -84,7 +84,7 @@ pub record Pair : Type 0 where
   pub first-behind : Bool
   pub second-behind : Bool
 
--- what the definitions say of a pair
+-- the value by the definitions of a pair
 abbrev pub compared : Pair → Pair
 compared l = record {
   first = l .first;
@@ -106,7 +106,7 @@ going h c = mk h c false
 abbrev ended : ℕ → ℕ → Job
 ended h c = mk h c true
 
--- neither, one or both have ended; the first has had fewer, as many or more; the ticks claimed say nothing
+-- neither, one or both have ended; the first has had fewer, as many or more; the ticks claimed do not matter
 abbrev pub pairs : List Pair
 pairs =
     pair (going 1 1) (going 2 2) false false true false
@@ -125,7 +125,7 @@ pairs =
     ∷ pair (ended 2 2) (ended 2 5) false false false false
     ∷ []
 
--- every pair is what the definitions say, line by line
+-- every pair is its value by the definitions, line by line
 each-pair : LineByLine compared pairs pairs
 unfolding longer behind
 each-pair = (refl, (refl, (refl, (refl, (refl, (refl, (refl, (refl, (refl, (refl, (refl, (refl, (refl, (refl, tt))))))))))))))

@@ -1,4 +1,4 @@
--- What a computed example opens: where an `unfolding` line names `computing`, a table's verdict, and the answers, rows and book of a list, compute.
+-- Unfolding for the computed examples: where an `unfolding` line contains `computing`, a table's verdict, and the answers, rows and book of a list, compute.
 use Rattle.model.specs.Book.{afterTaken, answer, answersFrom, asked, bookFrom, borrowed, borrowing, claims, emptiable, emptied, enter, full}
 use Rattle.model.specs.Book.{late, misemptied, misreported, offer, reportable, rowsFrom, seeks, served, step, strangers, takenFrom, work, workLent}
 use Rattle.model.specs.Firm.{firm, parallelismMonotonic}

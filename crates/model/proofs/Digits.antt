@@ -263,7 +263,7 @@ cleared-from (suc d) n p h =
     omega (arith, and-step n (n - 1), i, ap (λ (x : ℕ). 2 ^ x) (tz-into d n (n / 2) z)))
     (eq-zero-or-pos (n % 2))
 
--- one turn of a walk through the d digits of a set: its lowest number, and the set without it
+-- one step of a walk through the d digits of a set: its lowest number, and the set without it
 pub record LowestDigit (d n : ℕ) : Type 0 where
   pub place : trailingZeros d n < d
   pub lowest : Lowest n (trailingZeros d n)

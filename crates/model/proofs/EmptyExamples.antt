@@ -81,7 +81,7 @@ empty-lines =
     (two 2 2 ∷ two 3 0 ∷ rowRefused 15 3 ∷ rowRefused 15 3 ∷ [])
     ∷ []
 
--- every line is what the definitions say, line by line
+-- every line is its value by the definitions, line by line
 computed : LineByLine worked empty-lines empty-lines
 unfolding computing
 computed = (refl, (refl, (refl, (refl, (refl, (refl, (refl, (refl, (refl, (refl, (refl, (refl, (refl, (refl, (refl, tt)))))))))))))))

@@ -1,5 +1,6 @@
--- The lines of the scope's table of examples that are marked *, and lines of our own for what those leave open (16, two positions late at once, tables with a fence), computed from the definitions.
--- A line's list goes on where start would refuse the table by 13 (A2, F): the book of a list is defined for every table.
+-- The lines of the scope's table of examples that are marked *, and lines of our own for what those leave open (16, two positions late at once, tables with
+-- a fence), computed from the definitions. A line's list goes on where start would refuse the table by 13 (A2, F): the book of a list is defined for every
+-- table.
 use mathlib.Core.Bool.{false, true}
 use mathlib.Core.List.{List, [], map, _∷_}
 use mathlib.Core.Path.{refl, _≡_}
@@ -44,7 +45,7 @@ pub record Line : Type 0 where
   pub answers : List Answer
   pub rows : List Asked
 
--- what the definitions say of a line's table and list
+-- the value by the definitions of a line's table and list
 abbrev pub worked : Line → Line
 worked l = record {
   name = l .name;
@@ -118,7 +119,7 @@ lines =
     (fencedOn 5 9 limited (A greedy .tasks)) (Miss 5 3) [] [] (shown (255 ∷ 1 ∷ 1 ∷ 255 ∷ 0 ∷ []) ∷ [])
     ∷ []
 
--- every line is what the definitions say, line by line
+-- every line is its value by the definitions, line by line
 computed : LineByLine worked lines lines
 unfolding computing
 computed = (refl, (refl, (refl, (refl, (refl, (refl, (refl, (refl, (refl, (refl, (refl, (refl, (refl, (refl, (refl, (refl, (refl, tt)))))))))))))))))

@@ -1,4 +1,4 @@
--- The definitions say what the scope says: one claim a task loses nothing, the bounded searches miss nothing, S and P are what they are called.
+-- The definitions agree with the scope: one claim a task loses nothing, the bounded searches miss nothing, S and P are what they are called.
 use mathlib.Core.Bool.{_&&_, Bool, false, not, true, true≢false}
 use mathlib.Core.List.{List, [], _∷_}
 use mathlib.Core.Logic.{_↔_}

@@ -1,4 +1,4 @@
--- The firm rules keep their promise for shorter jobs: what holds of every list of advances and withdrawals on a firm table, refused ones included.
+-- The firm rules are predictable for shorter jobs: what holds of every list of advances and withdrawals on a firm table, refused ones included.
 use mathlib.Core.Bool.{Bool, cond, false, true, true≢false}
 use mathlib.Core.List.{List}
 use mathlib.Core.Path.{ap, refl, subst, sym, _∙_, _≡_}
@@ -34,7 +34,7 @@ module _ (s : Table) (ok : AllValid s) (firmly : FirmRule s) (accepted : NeverMi
       finished s ok firmly xs p k l
       (subst (λ (n : ℕ). full s n .job p k .ended ≡ true) (d .1) (full-stays s (due (task s p) k) (d .0) p k met))
 
-  -- so nobody is late
+  -- so no task is late
   none-late : (xs : List Entry) → ltb (firstLate s (book s xs)) (length (s .tasks)) ≡ false
   none-late xs = not-true-false (ltb (firstLate s (book s xs)) (length (s .tasks))) (λ e.
       let l = ltb-true (firstLate s (book s xs)) (length (s .tasks)) e in

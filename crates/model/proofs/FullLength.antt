@@ -78,7 +78,7 @@ full-length s n h = go-on s n 0 (λ t p g l. none t p (omega arith) l) ∙ ap (f
 
 -- PAST A MISS the book of empty sets stays: it is always the full-length run at its own tick
 
--- an advance with empty sets, where nobody is withdrawn, is taken if nobody is late, and else refused
+-- an advance with empty sets, where no position is withdrawn, is taken if no task is late, and else refused
 pub enter-empty : (s : Table) (b : Book) → b .withdrawn ≡ 0 → enter s noReports b ≡ cond (ltb (firstLate s b) (length (s .tasks))) b (step s none b)
 unfolding enter answer afterTaken misemptied misreported any
 enter-empty s b w = go (ltb (firstLate s b) (length (s .tasks)))

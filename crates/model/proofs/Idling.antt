@@ -63,7 +63,7 @@ module _ (r : Rule) (passes : endsChoosing r ≡ false) (τs : List Task) (m f :
   unfolding served
   same-served n e p k = rw (same-claims n e p k, same-grants n e)
 
-  -- nobody borrows
+  -- no place borrows
   same-borrowing : (n p k : ℕ) → borrowing I (full I n) p k ≡ borrowing G (full G n) p k
   same-borrowing n p k = not-borrowing I (full I n) (full-offer I n) p k ∙ sym (not-borrowing G (full G n) (full-offer G n) p k)
 

@@ -140,7 +140,7 @@ bounds-next C f true h c false g = record {
   paid = λ o. omega (arith, g .paid refl);
 }
 
--- where nobody lends, a job that has not ended has had as many ticks as it has claimed
+-- where no place lends, a job that has not ended has had as many ticks as it has claimed
 pub even-next :
     (C : ℕ) (f s : Bool) (h c : ℕ) (e : Bool) → (e ≡ false → c ≡ h)
     → next C f s (mk h c e) .ended ≡ false → next C f s (mk h c e) .claimed ≡ next C f s (mk h c e) .had

@@ -1,5 +1,5 @@
--- Lending (request 109), computed from the definitions: figure 3 of Goossens and Berten, who lends and who borrows which cores, that a lent tick is work
--- and no reserved tick, and who may be reported. The row before each entry is asked with the empty jobs that it names.
+-- Lending (request 109), computed from the definitions: figure 3 of Goossens and Berten, which places lend and borrow which cores, that a lent tick is work
+-- and no reserved tick, and which jobs may be reported. The row before each entry is asked with its empty jobs.
 use mathlib.Core.List.{List, [], map, _∷_}
 use mathlib.Core.Path.{refl, _≡_}
 use lib.ListN.{drop}
@@ -127,7 +127,7 @@ lend-lines =
     [] [] (one 1 ∷ [])
     ∷ []
 
--- every line is what the definitions say, line by line
+-- every line is its value by the definitions, line by line
 later : LineByLine worked (drop 11 lend-lines) (drop 11 lend-lines)
 unfolding computing
 later = (refl, (refl, (refl, (refl, (refl, (refl, (refl, (refl, (refl, (refl, (refl, tt)))))))))))

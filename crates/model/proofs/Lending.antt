@@ -31,7 +31,7 @@ not-lending lending h = absurd (h refl)
 
 -- WHERE NOTHING IS OFFERED
 
--- of no free cores nobody is given any
+-- of no free cores no place is given any
 grants-nothing : (r : Rule) (bs : List Claimant) (q : ℕ) → getD (grants r bs []) q [] ≡ []
 unfolding grants
 grants-nothing r [] q = refl
@@ -116,7 +116,7 @@ lent-settled ws sk o p (suc d) = rw add-suc (later (lent ws sk o (p + d)) ∙ le
         beside-at bs (grants greedy (claimants ws (tries sk (p + d) bs)) (o (p + d))) p
         (grants-none greedy ws (tries sk (p + d) bs) (o (p + d)) p (rw (le-ltb (p + d) p (omega arith))))
 
--- WHO BORROWS
+-- PLACES THAT BORROW
 
 beside-some : (gs hs : List (List ℕ)) (q : ℕ) → some (getD (merged gs hs) q []) ≡ true → (some (getD gs q []) ≡ true) ⊎ (some (getD hs q []) ≡ true)
 unfolding merged
@@ -126,7 +126,7 @@ beside-some ([] ∷ gs) (h ∷ hs) zero e = inr e
 beside-some ((c ∷ g) ∷ gs) (h ∷ hs) zero e = inl refl
 beside-some (g ∷ gs) (h ∷ hs) (suc q) e = beside-some gs hs q e
 
--- who has borrowed seeks cores
+-- a place that has borrowed seeks cores
 pub lent-seeks : (ws : List ℕ) (sk : ℕ → Bool) (o : ℕ → List ℕ) (n q : ℕ) → some (getD (lent ws sk o n) q []) ≡ true → sk q ≡ true
 unfolding lent
 lent-seeks ws sk o zero q e = absurd (false≢true (sym (ap some (map-nil ws q)) ∙ e))
@@ -213,7 +213,7 @@ pub borrowed-above : (s : Table) (b : Book) (p : ℕ) → borrowed s b p ≡ get
 unfolding borrowed
 borrowed-above s b p = lent-above (widths s (b .tick)) (seeks s b) (offer s b) (length (s .tasks)) p (le-of-eq (widths-length s (b .tick)))
 
--- who borrows has unfinished work, and is given no cores of its own
+-- a place that borrows has unfinished work, and is given no cores of its own
 pub record Borrower (s : Table) (b : Book) (p : ℕ) : Type 0 where
   pub claiming : taskClaims s b p ≡ true
   pub unfinished : newestEnded s b p ≡ false
@@ -232,7 +232,7 @@ borrower s b p e =
       unserved = not-true (inRow s b p) (and-right (c && not u) (not (inRow s b p)) h);
     }
 
--- IN WHICH NOBODY LENDS
+-- IN WHICH NO PLACE LENDS
 
 module _ (s : Table) (b : Book) (nothing : (q : ℕ) → offer s b q ≡ []) where
   lent-none : (p : ℕ) → getD (lentOf s b) p [] ≡ []
@@ -262,7 +262,7 @@ pub offer-none : (s : Table) (b : Book) → lends (s .rule) ≡ false → (q : �
 unfolding offer
 offer-none s b e q = rw e
 
--- and under any rule a book in which who has ended has claimed C ticks
+-- and under any rule a book in which every job that has ended has claimed C ticks
 pub offer-whole :
     (s : Table) (b : Book) → ((p k : ℕ) → b .job p k .ended ≡ true → task s p .length ≤ b .job p k .claimed)
     → (q : ℕ) → offer s b q ≡ []

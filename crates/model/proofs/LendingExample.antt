@@ -1,4 +1,4 @@
--- What rule 4 does not keep (request 109), computed. Of two lists at one tick, no job is longer in the first, and yet the first is behind on a job:
+-- What does not hold under rule 4 (request 109), computed. Of two lists at one tick, no job is longer in the first, and yet the first is behind on a job:
 -- position 2, reported in tick 1, lets position 3, which is wider, borrow before position 4. And a task below changes what a row shows of one above.
 use mathlib.Core.Bool.{Bool, false, false≢true, true, true≢false}
 use mathlib.Core.List.{List, [], _∷_}
@@ -80,7 +80,7 @@ pub counterexample-behind : Behind (book counterexample reporting .job 3 0) (boo
 unfolding first
 counterexample-behind = subst₂ Behind (sym (ap (λ x. x .3) competing)) (sym (ap (λ x. x .3) free)) (refl, inl refl)
 
--- THE WITNESS: the table is Firm, and is not kept abreast
+-- THE WITNESS: the table is Firm, and is not sustainable between two such lists
 pub lending-not-sustainable : (verdict counterexample ≡ Firm 0 6) × (¬ Sustainable counterexample reporting unreported)
 lending-not-sustainable = (unfold computing in refl, λ h. h (ticks .0 ∙ sym (ticks .1)) none-longer 3 0 (omega arith) counterexample-behind)
 
@@ -105,7 +105,7 @@ pub lending-shows :
 unfolding computing
 lending-shows = (refl, refl, refl, refl, refl)
 
--- .. and as sets: that of a holder, which has cores to lend, is another where somebody borrows of them
+-- .. and as sets: that of a holder, which has cores to lend, is another where some place borrows of them
 pub lending-sets :
     (setsAsked alone (book alone (reports 1 ∷ [])) 0 ≡ shown (7 ∷ []))
     × (setsAsked served-below (book served-below (reports 1 ∷ [])) 0 ≡ shown (4 ∷ 3 ∷ []))

@@ -1,4 +1,4 @@
--- The theorems on the definitions alone: computed examples, laws of searches, lists and digits, and what the book, the horizon and the verdict promise.
+-- The theorems on the definitions alone: computed examples, laws of searches, lists and digits, and those of the book, the horizon and the verdict.
 pub mod LineByLine
 pub mod Computing
 pub mod Examples

@@ -1,4 +1,4 @@
--- No task changes the core of a task above it: what stands below position n changes nothing for positions 1 to n.
+-- No task changes the core of a task above it: what is below position n changes nothing for positions 1 to n.
 use mathlib.Core.Bool.{Bool, cond, false, true, _||_}
 use mathlib.Core.List.{List, [], map, _∷_}
 use mathlib.Core.Logic.{inl, inr, _⊎_, ⊎-elim}
@@ -57,7 +57,7 @@ book-took s (x ∷ xs) b = go (answer s b x) (book-took s xs)
     go taken ih = ih (afterTaken s x b)
     go (refused n p) ih = ih b
 
--- WHAT THE FIRST PLACES BRING TO A TICK
+-- WHAT THE FIRST PLACES CLAIM IN A TICK
 
 -- the widths of the first n places in tick t
 first-widths : (n t : ℕ) (s s′ : Table) → take n (s .tasks) ≡ take n (s′ .tasks) → take n (widths s t) ≡ take n (widths s′ t)
@@ -166,7 +166,7 @@ module _ (n : ℕ) (s s′ : Table) (al : EqualAbove n s s′) where
       ∙ (ap (λ (x : List (List ℕ)). getD x p []) (same-grants b b′ ag)
       ∙ getD-take n (grantsOf s′ b′) p [] l)
 
-  -- who has ended, seeks and offers, and so what is borrowed
+  -- the places that have ended, that seek and that offer, and so what is borrowed
   same-ended : (b b′ : Book) → Agree n b b′ → (p : ℕ) → p < n → newestEnded s b p ≡ newestEnded s′ b′ p
   same-ended b b′ ag p l =
       ap (λ (j : Job). j .ended) (ag .jobs p (newest (task s p) (b .tick)) l)
@@ -257,7 +257,7 @@ module _ (n : ℕ) (s s′ : Table) (al : EqualAbove n s s′) where
   took-agree (x ∷ xs) [] r b b′ ag = absurd r
   took-agree (x ∷ xs) (y ∷ ys) r b b′ ag = took-agree xs ys (r .1) (afterTaken s x b) (afterTaken s′ y b′) (same-after x y (r .0) b b′ ag)
 
--- WHAT IS WITHDRAWN BELOW POSITION n IS NOT NOTICED
+-- WHAT IS WITHDRAWN BELOW POSITION n CHANGES NOTHING ABOVE
 
 agree-sym : (n : ℕ) (b c : Book) → Agree n b c → Agree n c b
 agree-sym n b c h = record { ticks = sym (h .ticks); jobs = λ p k l. sym (h .jobs p k l); gone = λ q l. sym (h .gone q l) }
@@ -281,7 +281,7 @@ unnoticed n b c ag x off = record {
   gone = λ q l. or-bit (b .withdrawn) x q ∙ (rw (off q l) (or-false (bit (b .withdrawn) q)) ∙ ag .gone q l);
 }
 
--- an entry goes on with what stands behind it, or is left out
+-- an entry goes on with what is after it, or is left out
 noticed-step :
     (n : ℕ) (s : Table) (x : Entry) (xs : List Entry) (b c : Book) → Agree n b c
     → ((d : Book) → Agree n (afterTaken s x b) d → Agree n (took s (afterTaken s x b) xs) (took s d (relevant n xs)))
@@ -317,7 +317,7 @@ module _ (n : ℕ) (s s′ : Table) (al : EqualAbove n s s′) where
   pub local-full : (t : ℕ) → SameCoresAbove n s (full s t) s′ (full s′ t)
   local-full t = shown-same n s s′ al (full s t) (full s′ t) (full-agree n s s′ al t)
 
-  -- .. whose rows, since nobody lends at full length, show them alike under every rule
+  -- .. whose rows, since no place lends at full length, show them alike under every rule
   pub local-rows : (t : ℕ) → map (upTo n) (bookRow s (full s t)) ≡ map (upTo n) (bookRow s′ (full s′ t))
   local-rows t = local-full t .bytes (full-offer s t) (full-offer s′ t)
 

@@ -1,4 +1,4 @@
--- Cores by other numbers: nothing looks at which numbers the cores have, and where no two get one number the rows are the same too.
+-- Cores by other numbers: nothing depends on which numbers the cores have, and where no two get one number the rows are the same too.
 use mathlib.Core.Bool.{Bool, _&&_, cond, false, not, true}
 use mathlib.Core.List.{List, [], map, _++_, _∷_}
 use mathlib.Core.Path.{ap, ap₂, refl, sym, _∙_, _≡_}

@@ -19,12 +19,12 @@ use Rattle.model.specs.Row.{row}
 use Rattle.model.specs.Search.{bit}
 use Rattle.model.specs.Task.{AllValid, Table, due, release, task}
 
--- an advance by its tests: who is reported, and whose job is empty
+-- an advance by its tests: which jobs are reported, and which are empty
 pub record Move : Type 0 where
   pub reports : ℕ → Bool
   pub empties : ℕ → Bool
 
--- the book after one, entered whatever it says
+-- the book after one, entered without a test whether it is refused
 abbrev pub moved : Table → Move → Book → Book
 moved s m b = advanced s (m .reports) (m .empties) b
 
@@ -37,7 +37,7 @@ run s b (m ∷ ms) = run s (moved s m b) ms
 abbrev pub moveWith : ℕ → ℕ → ℕ → Move
 moveWith w x e = record { reports = bit x; empties = λ p. bit e p || bit w p }
 
--- those of a list: a withdrawal is none, and says whose jobs are empty in the advances that follow
+-- those of a list: a withdrawal is none, and determines which jobs are empty in the advances that follow
 unfoldable pub movesWith : ℕ → List Entry → List Move
 movesWith w [] = []
 movesWith w (advance x e ∷ xs) = moveWith w x e ∷ movesWith w xs
@@ -119,13 +119,13 @@ unfolding run full emptied
 full-run s zero = refl
 full-run s (suc n) = step-last s n emptyBook ∙ ap (step s none) (full-run s n)
 
--- in the full-length run nobody is withdrawn
+-- in the full-length run no position is withdrawn
 pub full-withdrawn : (s : Table) (n : ℕ) → full s n .withdrawn ≡ 0
 unfolding full step
 full-withdrawn s zero = refl
 full-withdrawn s (suc n) = full-withdrawn s n
 
--- where nobody is withdrawn no bit of the empty set names an empty job, so an advance whose sets are both empty is a step with no report
+-- where no position is withdrawn no bit of the empty set names an empty job, so an advance whose sets are both empty is a step with no report
 pub still-emptied : (s : Table) (b : Book) → b .withdrawn ≡ 0 → emptied s (emptyIn b 0) b ≡ b
 unfolding emptied
 still-emptied s b w = ap (λ (f : ℕ → Bool). emptied s f b) (fun-ext absentTask)
@@ -168,7 +168,7 @@ whole-from s (suc n) b o w = whole-from s n (enter s noReports b) (out (answer s
 pub whole-empty : (s : Table) (n : ℕ) → WholeBook s (book s (replicate n noReports))
 whole-empty s n = whole-from s n emptyBook refl (λ p k e. absurd (false≢true e))
 
--- the ticks claimed are no fewer than those had: nobody lends, since who has ended has claimed C ticks
+-- the ticks claimed are no fewer than those had: no place lends, since a job that has ended has claimed C ticks
 had-claimed : (C : ℕ) (f s : Bool) (h c : ℕ) (e : Bool) → h ≤ c → next C f s (mk h c e) .had ≤ next C f s (mk h c e) .claimed
 unfolding work
 had-claimed C f false h c e l = l

@@ -28,7 +28,7 @@ pub record Line : Type 0 where
   pub empties : ℕ
   pub sets : Asked
 
--- what the definitions say
+-- the value by the definitions
 abbrev pub answered : Line → Line
 answered l = record {
   name = l .name;
@@ -73,7 +73,7 @@ sets-lines =
     ∷ line "15 before 20" (B greedy) (advance 1 0 ∷ none ∷ []) 8 (rowRefused 15 3)
     ∷ []
 
--- every line is what the definitions say, line by line
+-- every line is its value by the definitions, line by line
 computed : LineByLine answered sets-lines sets-lines
 unfolding computing
 computed = (refl, (refl, (refl, (refl, (refl, (refl, (refl, (refl, (refl, (refl, (refl, (refl, (refl, (refl, (refl, (refl, (refl, (refl, tt))))))))))))))))))
@@ -102,7 +102,7 @@ pub not-kept : ¬ SetsCount (2 ∷ 1 ∷ []) (λ p. cond (eqb p 0) (0 ∷ 1 ∷ 
 unfolding setOf filtered among memb
 not-kept h = let e : _≡_ {A = ℕ} 3 2 = h .lender 0 cons≢nil in omega arith
 
--- a holder of width 2 that has one core to lend, of which nobody borrows
+-- a holder of width 2 that has one core to lend, of which no place borrows
 pub not-whole : ¬ SetsCount (2 ∷ []) (λ p. 0 ∷ []) ([] ∷ []) (1 ∷ [])
 unfolding ones filtered among memb
 not-whole h = let e : _≡_ {A = ℕ} 1 2 = h .parts 0 cons≢nil in omega arith

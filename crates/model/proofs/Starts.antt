@@ -31,7 +31,7 @@ pub release-from : (τ : Task) (t : ℕ) → 0 < τ .period → t ≤ releaseFro
 release-from τ t h =
     omega (arith, div-add-mod' (t - τ .offset + (τ .period - 1)) (τ .period), mod-lt (t - τ .offset + (τ .period - 1)) h)
 
--- .. and no release between is passed over
+-- .. and no release between is skipped
 pub release-first : (τ : Task) (t k : ℕ) → 0 < τ .period → t ≤ release τ k → releaseFrom τ t ≤ release τ k
 release-first τ t k h l =
     let few : (t - τ .offset + (τ .period - 1)) / τ .period < suc k = div-lt-iff-lt-mul h .1 (omega arith) in

@@ -1,5 +1,5 @@
 -- Sustainability: under a firm rule that lends nothing, of two runs at one tick of which the first has no longer job, the first is behind on none:
--- whoever runs in the longer run and still claims in the shorter one runs there too. Under every firm rule no list is behind the full-length run.
+-- a task that runs in the longer run and still claims in the shorter one runs there too. Under every firm rule no list is behind the full-length run.
 use mathlib.Core.Bool.{_&&_, Bool, and-false, cond, false, false≢true, true, true≢false}
 use mathlib.Core.List.{List, [], _∷_}
 use mathlib.Core.Logic.{inl, inr}
@@ -71,7 +71,7 @@ kind s (inr (inr (inl e))) = holding (subst Reserving (sym e) (λ τ j. refl))
 kind s (inr (inr (inr (e, h)))) =
     releasing (λ t. subst (λ r. GrantsMono r (widths s t)) (sym e) (mono-greedy (widths s t) (monotonic-widths s h t))) (subst Releasing (sym e) (λ τ j. refl))
 
--- a rule under which a job that ended claims no more has nobody to lend
+-- a rule under which a job that ended claims no more lends nothing
 releasing-lends : (r : Rule) → Releasing r → lends r ≡ false
 releasing-lends greedy h = refl
 releasing-lends limited h = refl
@@ -95,7 +95,7 @@ module _ (s : Table) where
   same-moved m n a b e = ap suc e
 
 module _ (s : Table) (ok : AllValid s) (keeps : lends (s .rule) ≡ false) where
-  -- nobody borrows
+  -- no place borrows
   none-borrows : (b : Book) (p k : ℕ) → borrowing s b p k ≡ false
   none-borrows b = not-borrowing s b (offer-none s b keeps)
 

@@ -1,6 +1,6 @@
 -- Several positions withdrawn together (request 113), computed from the definitions: all, some and none of a table's, under each rule, in the release
--- tick and after it, positions that are withdrawn already, and by which number a set is refused. The row before each entry is asked with no empty job
--- but those that it names.
+-- tick and after it, positions that are withdrawn already, and by which number a set is refused. The row before each entry is asked with its empty jobs
+-- only.
 use mathlib.Core.List.{List, [], map, _∷_}
 use mathlib.Core.Path.{refl, sym, _≡_}
 use Prim.Native.Nat.{suc, zero, ℕ}
@@ -71,7 +71,7 @@ together-lines =
     (one 1 ∷ rowRefused 15 1 ∷ rowRefused 15 1 ∷ rowRefused 15 1 ∷ rowRefused 15 1 ∷ rowRefused 15 1 ∷ rowRefused 15 1 ∷ [])
     ∷ []
 
--- every line is what the definitions say, line by line
+-- every line is its value by the definitions, line by line
 computed : LineByLine worked together-lines together-lines
 unfolding computing
 computed = (refl, (refl, (refl, (refl, (refl, (refl, (refl, (refl, (refl, (refl, (refl, (refl, tt))))))))))))
@@ -93,8 +93,8 @@ pub any-order : Enumerates 5 (2 ∷ 0 ∷ 2 ∷ [])
 unfolding members
 any-order q = sym (members-bit (2 ∷ 0 ∷ 2 ∷ []) q)
 
--- what entries say of position 1: withdrawals below it nothing, single or of a set; a set that has it says what a single one says, and what positions
--- below it stand in a set says nothing
+-- entries restricted to position 1: withdrawals below it are dropped, single or of a set; a set that has it is equal to the single one, whatever positions
+-- below it are in the set
 pub same-reports :
     SameReports 1 (withdraw 2 ∷ []) []
     × SameReports 1 (withdrawAll 2 ∷ none ∷ []) (none ∷ [])

@@ -1,5 +1,5 @@
 -- Odd and even widths (request 108), computed from the definitions: which job has which width, what P counts with, what is firm, and that
--- the parity changes with every job, an empty or withdrawn one included. The row before each entry is asked with the empty jobs that it names.
+-- the parity changes with every job, an empty or withdrawn one included. The row before each entry is asked with its empty jobs.
 use mathlib.Core.List.{List, [], map, _∷_}
 use mathlib.Core.Path.{refl, _≡_}
 use Rattle.model.proofs.Computing.{computing}
@@ -55,7 +55,7 @@ width-lines =
     (shown (1 ∷ 255 ∷ 0 ∷ []) ∷ shown (1 ∷ 255 ∷ 1 ∷ []) ∷ shown (1 ∷ 255 ∷ 0 ∷ []) ∷ [])
     ∷ []
 
--- every line is what the definitions say, line by line
+-- every line is its value by the definitions, line by line
 computed : LineByLine worked width-lines width-lines
 unfolding computing
 computed = (refl, (refl, (refl, (refl, (refl, (refl, (refl, (refl, (refl, (refl, (refl, (refl, (refl, tt)))))))))))))

@@ -1,4 +1,5 @@
--- Withdrawals (requests 106 and 113): when one is taken, that only the set moves, that withdrawing again changes nothing, and whose jobs are empty from then on.
+-- Withdrawals (requests 106 and 113): when one is taken, that only the set changes, that withdrawing again changes nothing, and which jobs are empty from then
+-- on.
 use mathlib.Core.Bool.{Bool, cond, false, not, true, true≢false, _||_}
 use mathlib.Core.List.{List, [], _∷_}
 use mathlib.Core.Logic.{_↔_, inl, inr, _⊎_}
@@ -20,7 +21,7 @@ use Rattle.model.specs.Search.{bit}
 use Rattle.model.specs.Task.{Table}
 use Rattle.model.specs.WithdrawSet.{SetBelow}
 
--- WHAT IT IS ANSWERED, whatever stands in the book: 15 is not looked at
+-- THE ANSWER, whatever is in the book: 15 is not tested
 
 -- a position is none of the table exactly if it is 0 or past the count
 pub stranger-exact : (s : Table) (p : ℕ) → (stranger s p ≡ true) ↔ ((p ≡ 0) ⊎ (length (s .tasks) < p))
@@ -125,7 +126,7 @@ withdraw-all-taken s b x = (
   λ y. rw (firm-exact s .1 (y .0), within-strangers s x .1 (y .1)),
 )
 
--- ONLY THE SET MOVES
+-- ONLY THE SET CHANGES
 
 -- the position is in it, and nothing else comes in ..
 pub withdrawn-now : (s : Table) (b : Book) (p q : ℕ) → bit (afterTaken s (withdraw p) b .withdrawn) q ≡ bit (b .withdrawn) q || eqb q (p - 1)
@@ -143,7 +144,7 @@ withdraw-lines s b p = go (answer s b (withdraw p))
 
 -- ONCE WITHDRAWN, FOR EVER
 
--- an entry takes nobody out of the set
+-- an entry takes no position out of the set
 stays-one : (s : Table) (x : Entry) (b : Book) (q : ℕ) → bit (b .withdrawn) q ≡ true → bit (enter s x b .withdrawn) q ≡ true
 unfolding enter afterTaken step emptied
 stays-one s x b q h = go x (answer s b x)

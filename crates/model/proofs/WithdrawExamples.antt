@@ -1,5 +1,5 @@
--- Withdrawals (request 106), computed from the definitions: while a task comes, in its release tick, after it and at its deadline, twice, under each
--- rule, beside empty bits and reports, and by which number they are refused. The row before each entry is asked with the empty jobs that it names.
+-- Withdrawals (request 106), computed from the definitions: before the first release of a task, in its release tick, after it and at its deadline, twice, under
+-- each rule, beside empty bits and reports, and by which number they are refused. The row before each entry is asked with its empty jobs.
 use mathlib.Core.List.{List, [], map, _∷_}
 use mathlib.Core.Path.{refl, _≡_}
 use Rattle.model.proofs.Computing.{computing}
@@ -91,7 +91,7 @@ withdraw-lines =
     (one 1 ∷ rowRefused 15 1 ∷ rowRefused 15 1 ∷ rowRefused 15 1 ∷ rowRefused 15 1 ∷ rowRefused 15 1 ∷ [])
     ∷ []
 
--- every line is what the definitions say, line by line
+-- every line is its value by the definitions, line by line
 computed : LineByLine worked withdraw-lines withdraw-lines
 unfolding computing
 computed = (refl, (refl, (refl, (refl, (refl, (refl, (refl, (refl, (refl, (refl, (refl, (refl, (refl, (refl, tt))))))))))))))

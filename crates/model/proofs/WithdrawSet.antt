@@ -1,4 +1,4 @@
--- Several positions withdrawn together (request 113): the book that single withdrawals of them leave, in any order, or the book as it is.
+-- Several positions withdrawn together (request 113): the book after single withdrawals of them, in any order, or the book as it is.
 use mathlib.Core.Bool.{Bool, cond, false, false≢true, true, _||_}
 use mathlib.Core.List.{List, [], _∷_}
 use mathlib.Core.Path.{ap, ap₂, refl, sym, _∙_, _≡_}
@@ -43,7 +43,7 @@ or-chain a x y =
     go true v w = refl
     go false v w = refl
 
--- every place of a list is one of so many; and so are those of its rest
+-- every place of a list is below n; and so are those of its rest
 abbrev pub Below : ℕ → List ℕ → Type 0
 Below n qs = (q : ℕ) → memb q qs ≡ true → q < n
 
@@ -60,11 +60,11 @@ below-rest n q qs h i e = h i (or-right (eqb i q) (memb i qs) e)
 
 -- ONE BY ONE
 
--- a position of the table is no stranger
+-- a position of the table is known
 known : (s : Table) (q : ℕ) → q < length (s .tasks) → stranger s (suc q) ≡ false
 known s q l = rw (ne-eqb (suc q) 0 (λ e. omega arith), le-ltb (length (s .tasks)) (suc q) l)
 
--- nothing but rule and widths says how a withdrawal of positions of the table is answered, so that all are answered alike
+-- the answer to a withdrawal of positions of the table depends on rule and widths alone, so that all get the same
 single-answer : (s : Table) (b : Book) (q : ℕ) → q < length (s .tasks) → answer s b (withdraw (suc q)) ≡ withdrawing s false
 unfolding answer
 single-answer s b q l = rw (known s q l)
@@ -109,7 +109,7 @@ all-answer : (s : Table) (b : Book) (x : ℕ) → SetBelow (length (s .tasks)) x
 unfolding answer
 all-answer s b x h = rw (within-strangers s x .1 h)
 
--- a stranger among them: 21 or 22, and the book stays
+-- an unknown position among them: 21 or 22, and the book stays
 none-out : (s : Table) (b : Book) (x : ℕ) → strangers s x ≡ true → enter s (withdrawAll x) b ≡ b
 unfolding enter answer
 none-out s b x e = rw e (go (firm (s .rule) (s .tasks)))

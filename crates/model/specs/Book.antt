@@ -1,4 +1,4 @@
--- The book of a run (scope, section 'The book of a run'): kept from a table and a list of advances, each with its two sets, the reports and the
+-- The book of a run (scope: book; the field: reference trace): kept from a table and a list of advances, each with its two sets, the reports and the
 -- empty jobs (request 105), and of withdrawals, of one position (request 106) or of several together (request 113).
 use mathlib.Core.Bool.{Bool, true, false, not, _&&_, _||_, cond}
 use mathlib.Core.List.{List, [], _∷_, map}
@@ -25,19 +25,19 @@ pub record Job : Type 0 where
 abbrev pub fresh : Job
 fresh = record { had = 0; claimed = 0; ended = false }
 
--- the book, the trace of an execution: the tick, the line of job k of place p, and the set of withdrawn positions, bit 0 for position 1
+-- the book (scope: book; the field: reference trace): the tick, the line of job k of place p, and the set of withdrawn positions, bit 0 for position 1
 pub record Book : Type 0 where
   pub tick : ℕ
   pub job : ℕ → ℕ → Job
   pub withdrawn : ℕ
 
--- the book of the empty list: tick 0, every line fresh, nobody withdrawn
+-- the book of the empty list: tick 0, every line fresh, no position withdrawn
 abbrev pub emptyBook : Book
 emptyBook = record { tick = 0; job = λ p k. fresh; withdrawn = 0 }
 
--- EMPTY JOBS
+-- EMPTY JOBS (scope: empty job; the field: a job of execution time zero)
 
--- job k of place p is released in the book's very tick
+-- job k of place p is released in the book's tick
 abbrev pub releasedNow : Table → Book → ℕ → ℕ → Bool
 releasedNow s b p k = eqb (release (task s p) k) (b .tick)
 
@@ -45,7 +45,7 @@ releasedNow s b p k = eqb (release (task s p) k) (b .tick)
 abbrev pub endedWith : Job → Job
 endedWith j = record { had = j .had; claimed = j .claimed; ended = true }
 
--- the book with its empty jobs ended, as it is before it takes the claims of its tick: of the places that e names, the jobs released in this tick
+-- the book with its empty jobs ended, before the claims of its tick are taken: e contains the places whose jobs released in this tick are empty
 unfoldable pub emptied : Table → (ℕ → Bool) → Book → Book
 emptied s e b = record {
   tick = b .tick;
@@ -53,7 +53,7 @@ emptied s e b = record {
   withdrawn = b .withdrawn;
 }
 
--- whose job is empty where it is released in this tick: the positions of the set e, and the withdrawn ones, with or without their bit
+-- the job of place p, if released in this tick, is empty: its position is in the set e, or it is withdrawn, with or without its bit
 abbrev pub emptyIn : Book → ℕ → ℕ → Bool
 emptyIn b e p = bit e p || bit (b .withdrawn) p
 
@@ -112,15 +112,15 @@ seeks s b p = taskClaims s b p && not (newestEnded s b p) && not (inRow s b p)
 abbrev pub lentOf : Table → Book → List (List ℕ)
 lentOf s b = lent (widths s (b .tick)) (seeks s b) (offer s b) (length (s .tasks))
 
--- the cores that place p borrows: from the places above it, for it and those below lend it none (`borrowed-above`)
+-- the cores that place p borrows: from the places above it; the place itself and those below lend it none (`borrowed-above`)
 unfoldable pub borrowed : Table → Book → ℕ → List ℕ
 borrowed s b p = getD (lentOf s b) p []
 
--- place p borrows some, and so is served
+-- place p borrows some, and so has the tick
 abbrev pub borrows : Table → Book → ℕ → Bool
 borrows s b p = some (borrowed s b p)
 
--- job k of place p does
+-- job k of place p borrows some
 unfoldable pub borrowing : Table → Book → ℕ → ℕ → Bool
 borrowing s b p k = jobClaims s b p k && borrows s b p
 
@@ -132,7 +132,7 @@ shownOf s b = shownCores (grantsOf s b) (lentOf s b)
 abbrev pub bookRow : Table → Book → List ℕ
 bookRow s b = row (s .fence) (s .cores) (shownOf s b)
 
--- AN ADVANCE THAT IS TAKEN
+-- AN ADVANCE THAT IS TAKEN (scope: advance; the field: a step of one tick with its reports)
 
 -- a job that is given cores has claimed one tick more and, if not ended, has had one more; such a job ends if its bit is set or it has had C
 unfoldable pub work : ℕ → Bool → Job → Job
@@ -147,7 +147,7 @@ workLent C report j =
     cond (j .ended) j
     (record { had = suc (j .had); claimed = j .claimed; ended = report || leb C (suc (j .had)) })
 
--- one advance with the reports f, entered without asking whether it is refused; t goes up by one
+-- one advance with the reports f (scope: report; the field: early completion), without a test whether it is refused; t goes up by one
 unfoldable pub step : Table → (ℕ → Bool) → Book → Book
 step s f b = record {
   tick = suc (b .tick);
@@ -164,13 +164,14 @@ advanced s f e b = step s f (emptied s e b)
 
 -- THE ENTRIES OF A LIST
 
--- an advance with its set of reports and its set of empty jobs, bit 0 for position 1; or the withdrawal of a position, or of a set of them together
+-- an advance with its sets of reports and empty jobs, bit 0 for position 1; or a withdrawal of one position or of a set of them (scope: withdraw; the field:
+-- task removal)
 pub data Entry : Type 0 where
   advance : ℕ → ℕ → Entry
   withdraw : ℕ → Entry
   withdrawAll : ℕ → Entry
 
--- the empty jobs that an entry names
+-- the set of empty jobs of an entry
 abbrev pub emptiesOf : Entry → ℕ
 emptiesOf (advance x e) = e
 emptiesOf (withdraw p) = 0
@@ -217,7 +218,7 @@ emptiable s b p =
 unfoldable pub misemptied : Table → Book → ℕ → Bool
 misemptied s b e = any e (λ p. bit e p && not (emptiable s b p))
 
--- a position that is none of the table: 0, or one past the last (`stranger-exact`)
+-- an unknown position, one that is not in the table: 0, or past the last (`stranger-exact`)
 abbrev pub stranger : Table → ℕ → Bool
 stranger s p = eqb p 0 || ltb (length (s .tasks)) p
 
@@ -225,13 +226,13 @@ stranger s p = eqb p 0 || ltb (length (s .tasks)) p
 unfoldable pub strangers : Table → ℕ → Bool
 strangers s x = any x (λ p. bit x p && not (ltb p (length (s .tasks))))
 
--- what a call is answered: taken, or refused with number and position
+-- the answer to a call: taken, or refused with number and position
 pub data Answer : Type 0 where
   taken : Answer
   refused : ℕ → ℕ → Answer
 
--- a withdrawal: 21 where the table's rule and widths are not firm; else 22 where a position that it names is none of the table's; else taken.
--- 15 is not looked at, nor anything else in the book (`withdraw-taken`, `withdraw-all-taken`)
+-- a withdrawal: 21 where the table's rule and widths are not firm; else 22 where one of its positions is not in the table; else taken.
+-- 15 is not tested, nor anything else in the book (`withdraw-taken`, `withdraw-all-taken`)
 abbrev pub withdrawing : Table → Bool → Answer
 withdrawing s strange = cond (firm (s .rule) (s .tasks)) (cond strange (refused 22 0) taken) (refused 21 0)
 
@@ -246,12 +247,12 @@ answer s b (advance x e) =
 answer s b (withdraw p) = withdrawing s (stranger s p)
 answer s b (withdrawAll x) = withdrawing s (strangers s x)
 
--- what a row asked is answered: the row, or refused with number and position
+-- the answer to a row asked: the row, or refused with number and position
 pub data Asked : Type 0 where
   shown : List ℕ → Asked
   rowRefused : ℕ → ℕ → Asked
 
--- what a book shows, asked with the empty jobs e: 15 with the lowest late position; else 20 with position 0; else it is shown with these ended.
+-- the answer of a book asked with the empty jobs e: 15 with the lowest late position; else 20 with position 0; else what it shows with these ended.
 -- Nothing changes in the book
 abbrev pub askedBy : (Book → List ℕ) → Table → Book → ℕ → Asked
 askedBy show s b e =
@@ -288,20 +289,20 @@ unfoldable pub answersFrom : Table → Book → List Entry → List Answer
 answersFrom s b [] = []
 answersFrom s b (x ∷ xs) = answer s b x ∷ answersFrom s (enter s x b) xs
 
--- an entry moves the tick if it is an advance that is taken
+-- the ticks of an entry: one if it is an advance that is taken
 abbrev pub ticksOf : Entry → Answer → ℕ
 ticksOf (advance x e) taken = 1
 ticksOf (advance x e) (refused n p) = 0
 ticksOf (withdraw q) w = 0
 ticksOf (withdrawAll x) w = 0
 
--- how many advances of a list were not refused, by its answers: the list's tick (`tick-taken`)
+-- the number of advances of a list that were not refused, by its answers: the list's tick (`tick-taken`)
 unfoldable pub takenIn : List Entry → List Answer → ℕ
 takenIn [] ws = 0
 takenIn (x ∷ xs) [] = 0
 takenIn (x ∷ xs) (w ∷ ws) = ticksOf x w + takenIn xs ws
 
--- an entry goes before the others if it is taken, and is dropped if it is refused
+-- an entry is kept before the others if it is taken, and dropped if it is refused
 abbrev pub keep : Answer → Entry → List Entry → List Entry
 keep taken x xs = x ∷ xs
 keep (refused n p) x xs = xs
@@ -315,7 +316,7 @@ takenFrom s b (x ∷ xs) = keep (answer s b x) x (takenFrom s (enter s x b) xs)
 abbrev pub takenOf : Table → List Entry → List Entry
 takenOf s xs = takenFrom s emptyBook xs
 
--- every entry of the list is taken, from book b on (it is so of `takenOf`, and then nothing is dropped: `taken-all`, `taken-same`)
+-- every entry of the list is taken, from book b on (this holds of `takenOf`, and then nothing is dropped: `taken-all`, `taken-same`)
 abbrev pub AllTaken : Table → Book → List Entry → Type 0
 AllTaken s b xs = answersFrom s b xs ≡ replicate (length xs) taken
 
@@ -334,8 +335,8 @@ none p = false
 abbrev pub noReports : Entry
 noReports = advance 0 0
 
--- the full-length run at tick n: every advance is entered with no report and no empty job, past a miss too; nobody is withdrawn.
--- It is the scope's, the book of n advances whose sets are both empty, up to the first miss (`full-length`)
+-- the full-length run at tick n (scope: full; the field: the run with exact execution times): every advance is entered with no report and no empty job, past
+-- a miss too; no position is withdrawn. Up to the first miss it is the scope's, the book of n advances whose sets are both empty (`full-length`)
 unfoldable pub full : Table → ℕ → Book
 full s zero = emptyBook
 full s (suc n) = step s none (full s n)
@@ -348,6 +349,6 @@ Misses s b p = (p < length (s .tasks)) × ((k : ℕ) × (due (task s p) k ≡ b 
 abbrev pub Missed : Table → ℕ → ℕ → Type 0
 Missed s p t = Misses s (full s t) p
 
--- no deadline of the full-length run is missed at any tick (`never-missed-exact` says so of the books of empty sets)
+-- no deadline of the full-length run is missed at any tick (`never-missed-exact`: the same of the books of empty sets)
 abbrev pub NeverMissed : Table → Type 0
 NeverMissed s = (p t : ℕ) → ¬ Missed s p t

@@ -1,4 +1,4 @@
--- Cores that are kept for others (request 102): the fence is the set of reserved processors, and the rule gives only those below the count that are not in it.
+-- The fence is a set of cores kept for others (request 102; scope: fence; the field: reserved processors). The rule gives only cores outside it.
 use mathlib.Core.Bool.{cond, not}
 use mathlib.Core.List.{List, map}
 use Prim.Native.Nat.{ℕ}
@@ -15,7 +15,7 @@ outside fence cs = filtered (λ c. not (bit fence c)) cs
 abbrev pub unfenced : ℕ → ℕ → List ℕ
 unfenced fence m = outside fence (upFrom 0 m)
 
--- how many they are
+-- the number of unfenced cores below m
 abbrev pub unfencedCount : ℕ → ℕ → ℕ
 unfencedCount fence m = length (unfenced fence m)
 

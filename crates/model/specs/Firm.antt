@@ -1,6 +1,6 @@
--- Firm is the scope's word for predictable (Goossens and Berten) or sustainable: jobs that end early make no job late; widths that never fall are their
--- parallelism monotonic order.
--- Which rules and widths are firm (scope, 'Look-ahead and verdict'): the verdict Firm and number 21 of a withdrawal ask the same.
+-- Which rules and widths are firm (scope: firm; the field: predictable, sustainable): jobs that end early make no job late.
+-- Widths that never fall along the chain are parallelism monotonic (Goossens and Berten).
+-- The verdict Firm and number 21 of a withdrawal use the same test (scope, 'Look-ahead and verdict').
 use mathlib.Core.Bool.{_&&_, Bool, true}
 use mathlib.Core.List.{List, [], _∷_}
 use mathlib.Core.Logic.{_⊎_}
@@ -10,7 +10,7 @@ use lib.Dec.{leb}
 use lib.ListN.{getD, length}
 use Rattle.model.specs.Task.{Rule, Table, Task, greedy, idling, lending, limited, narrowest, absentTask, widest}
 
--- widths never fall along the chain, the larger of each task being at most the smaller of the next: the test (`monotonic-exact`)
+-- widths never fall along the chain: the larger of each task is at most the smaller of the next; the test (`monotonic-exact`)
 unfoldable pub parallelismMonotonic : List Task → Bool
 parallelismMonotonic [] = true
 parallelismMonotonic (τ ∷ []) = true

@@ -1,4 +1,4 @@
--- How far the judge looks (scope, 'Look-ahead and verdict'; Goossens and Berten, theorem 25): S, P and the horizon.
+-- The interval that the judge simulates (scope, 'Look-ahead and verdict'; Goossens and Berten, theorem 25): S, P and the horizon.
 use mathlib.Core.List.{List, [], _∷_}
 use mathlib.Core.Path.{_≡_}
 use Prim.Native.Nat.{_%_, _*_, _+_, _-_, _/_, _<_, suc, zero, ℕ, _≤_}
@@ -11,7 +11,8 @@ use Rattle.model.specs.Task.{Table, Task, cycle, absentTask, release}
 abbrev pub releaseFrom : Task → ℕ → ℕ
 releaseFrom τ t = τ .offset + (t - τ .offset + (τ .period - 1)) / τ .period * τ .period
 
--- S of position 1 is its O; S of a later position is its O, or if larger, its first release not before the previous S
+-- S of position 1 is its O; S of a later position is its O, or if larger, its first release not before the previous S (scope: S; the field: start of the
+-- periodic part)
 unfoldable pub S : List Task → ℕ → ℕ
 S τs zero = getD τs 0 absentTask .offset
 S τs (suc p) = releaseFrom (getD τs (suc p) absentTask) (S τs p)
@@ -24,12 +25,12 @@ lastS τs = S τs (length τs - 1)
 unfoldable pub lcm : ℕ → ℕ → ℕ
 lcm a b = suc (least a (λ k. eqb (suc k * b % a) 0)) * b
 
--- P, the hyperperiod: the least common multiple of the periods, a task whose widths differ counting with 2T (`P-exact`)
+-- the least common multiple of the periods, 2T for a task whose widths differ (scope: P; the field: hyperperiod; `P-exact`)
 unfoldable pub hyperperiod : List Task → ℕ
 hyperperiod [] = 1
 hyperperiod (τ ∷ τs) = lcm (cycle τ) (hyperperiod τs)
 
--- the last S plus P: the end of the interval that an exact schedulability test looks at
+-- the last S plus P (scope: horizon; the field: end of the feasibility or schedulability interval)
 unfoldable pub horizon : Table → ℕ
 horizon s = lastS (s .tasks) + hyperperiod (s .tasks)
 

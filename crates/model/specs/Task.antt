@@ -1,12 +1,13 @@
 -- The abstract table: its tasks in priority order, the core count, the fence and the rule.
--- Places and jobs count from 0 here: place p is position p + 1, and job k is the paper's job k + 1.
+-- Places and jobs count from 0 here: place p is position p + 1 (scope: position; the field: rank in fixed task priority order), job k is the paper's job k + 1.
 use mathlib.Core.Bool.{cond}
 use mathlib.Core.List.{List}
 use Prim.Native.Nat.{ℕ, _+_, _*_, _-_, _/_, _%_, _≤_, _<_, max, min}
 use lib.ListN.{length, getD}
 use lib.Dec.{eqb}
 
--- a task: offset O, length C, deadline D, period T, and its widths (request 108): v of its odd jobs and w of its even ones
+-- a task: offset O, length C (the field: execution time), deadline D, period T, and its widths (request 108; the field: cores of a rigid gang job): v of its
+-- odd jobs and w of its even ones
 pub record Task : Type 0 where
   pub offset : ℕ
   pub oddWidth : ℕ
@@ -30,7 +31,7 @@ pub record Table : Type 0 where
   pub fence : ℕ
   pub rule : Rule
 
--- no task: what stands past the last place
+-- no task: the value past the last place
 abbrev pub absentTask : Task
 absentTask = record { offset = 0; oddWidth = 0; length = 0; deadline = 0; period = 0; evenWidth = 0 }
 
@@ -46,7 +47,7 @@ pub record ValidTask (τ : Task) : Type 0 where
   pub deadline-pos : 1 ≤ τ .deadline
   pub constrained : τ .deadline ≤ τ .period
 
--- every task of the table is within them
+-- every task of the table is valid
 abbrev pub AllValid : Table → Type 0
 AllValid s = (p : ℕ) → p < length (s .tasks) → ValidTask (task s p)
 
@@ -54,7 +55,7 @@ AllValid s = (p : ℕ) → p < length (s .tasks) → ValidTask (task s p)
 abbrev pub release : Task → ℕ → ℕ
 release τ k = τ .offset + k * τ .period
 
--- scope: and must have its C ticks, in each of them as many cores together as the job is wide, by that tick plus D
+-- scope: a job must have its C ticks, each on as many cores together as its width, by that tick plus D
 abbrev pub due : Task → ℕ → ℕ
 due τ k = release τ k + τ .deadline
 
@@ -69,7 +70,7 @@ widest τ = max (τ .oddWidth) (τ .evenWidth)
 abbrev pub narrowest : Task → ℕ
 narrowest τ = min (τ .oddWidth) (τ .evenWidth)
 
--- after how many ticks a task's releases and widths repeat: T, or 2T where the widths differ
+-- the number of ticks after which a task's releases and widths repeat: T, or 2T where the widths differ
 abbrev pub cycle : Task → ℕ
 cycle τ = cond (eqb (τ .oddWidth) (τ .evenWidth)) (τ .period) (2 * τ .period)
 

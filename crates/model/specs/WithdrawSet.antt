@@ -8,7 +8,7 @@ use Rattle.model.specs.Book.{Book, Entry, answer, answersFrom, bookFrom,
 use Rattle.model.specs.Search.{bit, memb}
 use Rattle.model.specs.Task.{Table}
 
--- every position of a set is one of so many
+-- every position of a set is one of the first n
 abbrev pub SetBelow : ℕ → ℕ → Type 0
 SetBelow count x = (q : ℕ) → bit x q ≡ true → q < count
 
@@ -20,11 +20,11 @@ Enumerates x qs = (q : ℕ) → memb q qs ≡ bit x q
 abbrev pub oneByOne : List ℕ → List Entry
 oneByOne qs = map (λ q. withdraw (suc q)) qs
 
--- what is claimed of a set x withdrawn in book b
+-- the claims about a set x withdrawn in book b
 pub record SetAsSingles (s : Table) (b : Book) (x : ℕ) : Type 0 where
-  -- where every position is one of the table's, it leaves the book that single withdrawals leave, in any order ..
+  -- where every position is one of the table's, the book after it is that after single withdrawals, in any order ..
   pub singles : SetBelow (length (s .tasks)) x → (qs : List ℕ) → Enumerates x qs → enter s (withdrawAll x) b ≡ bookFrom s b (oneByOne qs)
-  -- .. and each of these is answered as the set is: all are taken where it is
+  -- .. and each of these has the answer of the set: all are taken where it is
   pub each : SetBelow (length (s .tasks)) x → (qs : List ℕ) → Enumerates x qs → answersFrom s b (oneByOne qs) ≡ replicate (length qs) (answer s b (withdrawAll x))
-  -- where one is none of the table's, none is withdrawn
+  -- where one is not in the table, none is withdrawn
   pub none : ¬ SetBelow (length (s .tasks)) x → enter s (withdrawAll x) b ≡ b

@@ -90,7 +90,7 @@ hold-ends τ even u = rw (eq-eqb (τ .deadline) (τ .deadline) refl) (go (eqb u 
 
 -- ONE TICK KEEPS THE LIMITS
 
--- where a task stands is within the limits
+-- the state of a task is within the limits
 abbrev pub StateIn : Rule → Task → TaskState → Type 0
 StateIn r τ w = PhaseIn r τ (w .even) (w .phase)
 

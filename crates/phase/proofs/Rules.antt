@@ -1,4 +1,4 @@
--- Under which rules' numbers ended work holds its cores, and cores are lent; and a phase with room for one more tick has it as it is seen.
+-- Under which rules' numbers ended work holds its cores, and cores are lent; and a phase with space for one more tick has it as it is seen.
 use mathlib.Core.Path.{_≡_, refl}
 use mathlib.Core.Bool.{Bool, true, false, _||_, _&&_, cond}
 use Prim.Native.Nat.{ℕ}

@@ -1,4 +1,4 @@
--- What a move needs of a phase: its numbers have room for one more tick.
+-- What a step needs of a phase: its numbers can change by one more tick without overflow.
 use Prim.Native.Nat.{_<_, _≤_}
 use Rattle.phase.specs.declared.Phase.{Phase}
 use Rattle.phase.specs.declared.Phase.the-variants.{Coming, Working, Holding, Resting}

@@ -1,5 +1,5 @@
--- The phases of a task (scope, 'The run in the cab', and requests 105, 108 and 109): their limits, what a phase claims, how an empty job is seen, and
--- where one tick takes a phase and the parity of its job.
+-- The phases of a task (scope, 'The run in the cab', and requests 105, 108 and 109): their limits, what a phase claims, the effect of an empty job, and
+-- the next phase after a tick with the parity of its job.
 use mathlib.Core.Path.{_≡_}
 use mathlib.Core.Bool.{Bool, true, false, not, _&&_, _||_, cond}
 use mathlib.Core.Logic.{_⊎_}
@@ -14,8 +14,9 @@ use Rattle.phase.specs.declared.TaskState.{TaskState}
 
 -- THE LIMITS
 
--- Coming(left), 1 to O, with an odd job to come; Working(since release z, ticks had, ticks reserved): z 0 to D, had below C and at most z, reserved at
--- most had, and equal to it under rules 1 to 3; Holding(z, reserved), rules 3 and 4 only: z 0 to D−1, reserved 0 to C−1 and at most z; Resting(z), 1 to T−1
+-- Coming(left), 1 to O, before the first release; its first job is an odd one. Working(since release z, ticks had, ticks reserved): z 0 to D, had below C and
+-- at most z, reserved at most had, and equal to it under rules 1 to 3. Holding(z, reserved), rules 3 and 4 only: z 0 to D−1, reserved 0 to C−1 and at most z.
+-- Resting(z), 1 to T−1. (scope: Coming; the field: not yet released. Working: pending. Holding: completed early, processors reserved. Resting: completed)
 abbrev pub PhaseIn : Rule → Task → Bool → Phase → Type 0
 PhaseIn r τ even (Coming left) = InRange 1 (τ .offset) left × (even ≡ false)
 PhaseIn r τ even (Working z had reserved) =
@@ -23,7 +24,7 @@ PhaseIn r τ even (Working z had reserved) =
 PhaseIn r τ even (Holding z reserved) = ((r ≡ idling) ⊎ (r ≡ lending)) × (z < τ .deadline) × (reserved < τ .length) × (reserved ≤ z)
 PhaseIn r τ even (Resting z) = InRange 1 (τ .period - 1) z
 
--- under rules 3 and 4 ended work holds its cores
+-- under rules 3 and 4 a job that ended holds its cores
 abbrev pub idles : Rule → Bool
 idles greedy = false
 idles limited = false
@@ -38,7 +39,7 @@ phaseIn r τ even (Working z had reserved) =
 phaseIn r τ even (Holding z reserved) = idles r && (ltb z (τ .deadline) && (ltb reserved (τ .length) && leb reserved z))
 phaseIn r τ even (Resting z) = leb 1 z && ltb z (τ .period)
 
--- WHAT A PHASE SAYS
+-- WHAT A PHASE MEANS
 
 -- the task has a job still claiming ticks: it works, or it holds its cores
 abbrev pub claiming : Phase → Bool
@@ -68,20 +69,20 @@ lateIn D (Working z had reserved) = eqb z D
 lateIn D (Holding z reserved) = false
 lateIn D (Resting z) = false
 
--- the task is Working at (0,0): its job is released in this very tick, and nothing has been done of it
+-- the task is Working at (0,0): its job is released in this tick, and has had no tick
 abbrev pub released : Phase → Bool
 released (Coming left) = false
 released (Working z had reserved) = eqb z 0 && eqb had 0
 released (Holding z reserved) = false
 released (Resting z) = false
 
--- EMPTY JOBS, looked at before cores are chosen
+-- EMPTY JOBS, applied before cores are chosen
 
 -- an empty job in the tick of its release: under rules 3 and 4 it holds its cores, else it claims nothing (Resting(0) is never stored)
 abbrev pub emptyPhase : Rule → Phase
 emptyPhase r = cond (idles r) (Holding 0 0) (Resting 0)
 
--- the phase as cores are chosen, by whether the job is empty that is released in this very tick
+-- the phase as cores are chosen, by whether a job released in this tick is empty
 abbrev pub seen : Rule → Bool → Phase → Phase
 seen r empty ph = cond (empty && released ph) (emptyPhase r) ph
 
@@ -104,11 +105,11 @@ startState O = coming false O
 abbrev pub resting : Task → Bool → ℕ → TaskState
 resting τ even z = cond (eqb z (τ .period)) (taskState (not even) (Working 0 0 0)) (taskState even (Resting z))
 
--- a hold ends at C reserved ticks or at z = D, and then rests
+-- a hold ends at C reserved ticks or at z = D; then the task rests
 abbrev pub holding : Task → Bool → ℕ → ℕ → TaskState
 holding τ even z reserved = cond (eqb reserved (τ .length) || eqb z (τ .deadline)) (resting τ even z) (taskState even (Holding z reserved))
 
--- ended work rests, or holds under rules 3 and 4 while fewer than C ticks were reserved
+-- a task whose job ended rests, or holds under rules 3 and 4 while fewer than C ticks were reserved
 abbrev pub ended : Rule → Task → Bool → ℕ → ℕ → TaskState
 ended r τ even z reserved = cond (idles r) (holding τ even z reserved) (resting τ even z)
 
@@ -117,7 +118,7 @@ abbrev pub worked : Rule → Task → Bool → Bool → ℕ → ℕ → ℕ → 
 worked r τ reported even z had reserved =
     cond (reported || eqb had (τ .length)) (ended r τ even z reserved) (taskState even (Working z had reserved))
 
--- where a task stands one tick on from the phase that was seen, by whether it is given cores in this tick (under rule 4 they are reserved for it),
+-- the state of a task one tick on from the seen phase, by whether it is given cores in this tick (under rule 4 they are reserved for it),
 -- whether it borrows some (under rule 4) and whether its bit is set: a lent tick counts as work and not as a reserved tick
 abbrev pub nextState : Rule → Task → Bool → Bool → Bool → Bool → Phase → TaskState
 nextState r τ given lent reported even (Coming left) = coming even (left - 1)

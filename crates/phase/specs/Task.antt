@@ -1,4 +1,4 @@
--- A task with its phase (scope, 'The run in the cab'): which task of the table it is, its limits, how it starts, and where one tick takes it.
+-- A task with its phase (scope, 'The run in the cab'): the task of the table that it is, its limits, its start, and one tick of it.
 use mathlib.Core.Bool.{Bool, false, _||_, not, cond}
 use Prim.Native.Nat.{ℕ}
 use Rattle.model.specs.Task as model
@@ -9,7 +9,7 @@ use Rattle.phase.specs.declared.TaskState.{TaskState}
 use Rattle.phase.specs.declared.Task.{Task}
 use Rattle.phase.specs.Phase.{phaseIn, taskState, startState, seen, nextState}
 
--- the task of the table that a task with its phase is
+-- the task of the table that a task with its phase is; as in table/specs/Task: the model's task of a task in code
 abbrev pub taskOf : Task → model.Task
 taskOf t = record {
   offset = t .offset;
@@ -20,7 +20,7 @@ taskOf t = record {
   evenWidth = t .second;
 }
 
--- a task of the table where it stands
+-- a task of the table in this state
 abbrev pub withState : TaskState → model.Task → Task
 withState w τ = record {
   offset = τ .offset;
@@ -45,7 +45,7 @@ pastEnd = withState (taskState false (Coming 0)) model.absentTask
 abbrev pub widthNow : Task → ℕ
 widthNow t = cond (t .even) (t .second) (t .width)
 
--- the task breaks 7 or 8 on so many unfenced cores, or its phase or its parity is outside the limits
+-- the task breaks 7 or 8 on this number of unfenced cores, or its phase or its parity is outside the limits
 abbrev pub outIn : ℕ → model.Rule → Task → Bool
 outIn wide r t = taskOut wide (taskOf t) || not (phaseIn r (taskOf t) (t .even) (t .phase))
 

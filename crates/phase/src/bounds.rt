@@ -42,7 +42,7 @@ impl Task {
         }
     }
 
-    // Whether the task breaks 7 or 8 on so many unfenced cores, or its phase or its parity is outside the limits.
+    // Whether the task breaks 7 or 8 on this number of unfenced cores, or its phase or its parity is outside the limits.
     pub fn out(self, rule: u32, wide: u32) -> bool
         ensures { λ r. ⌜ r ≡ outIn wide (ruleOf rule) self ⌝ }
     {

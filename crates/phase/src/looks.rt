@@ -1,11 +1,11 @@
-// A phase as it is seen when cores are chosen: whose job is released in this very tick, and an empty one.
+// A phase as it is seen when cores are chosen: whether its job is released in this tick, and an empty job.
 ghost use mathlib.Core.Path.{_≡_};
 ghost use Rattle.model.specs.Task.{ruleOf};
 ghost use Rattle.phase.specs.Phase.{released, seen};
 use crate::Phase;
 
 impl Phase {
-    // Whether a task in this phase is Working at (0,0): its job is released in this very tick.
+    // Whether a task in this phase is Working at (0,0): its job is released in this tick.
     pub fn released(self) -> bool
         ensures { λ r. ⌜ r ≡ released self ⌝ }
     {
@@ -17,7 +17,7 @@ impl Phase {
         }
     }
 
-    // The phase as cores are chosen, by whether the job is empty that is released in this very tick.
+    // The phase as cores are chosen, by whether a job released in this tick is empty.
     pub fn seen(self, rule: u32, empty: bool) -> Phase
         ensures { λ r. ⌜ r ≡ seen (ruleOf rule) empty self ⌝ }
     {

@@ -1,4 +1,4 @@
-// One tick of a task: where it stands then.
+// One tick of a task: its next state.
 ghost use mathlib.Core.Path.{_≡_};
 ghost use mathlib.Core.Bool.{cond};
 ghost use Prim.Native.Nat.{_+_, _<_};
@@ -20,7 +20,7 @@ fn counted(reserved: u32, given: bool) -> u32
 }
 
 impl Task {
-    // Where ended work stands, z ticks after its release: it rests, or the next job is released, whose parity is the other one.
+    // The state of a task whose job has ended, z ticks after its release: it rests, or the next job is released, whose parity is the other one.
     fn rested(self, z: u32) -> TaskState
         ensures { λ r. ⌜ r ≡ resting (taskOf self) (self .even) z ⌝ }
     {
@@ -37,7 +37,7 @@ impl Task {
         }
     }
 
-    // Where held cores stand, with z and the reserved ticks of the tick that has passed counted.
+    // The state of a task that holds its cores, with z and the reserved ticks of the tick that has passed counted.
     fn held(self, z: u32, reserved: u32) -> TaskState
         ensures { λ r. ⌜ r ≡ holding (taskOf self) (self .even) z reserved ⌝ }
     {
@@ -51,7 +51,7 @@ impl Task {
         }
     }
 
-    // Where work that has ended stands.
+    // The state of a task whose job has just ended.
     fn ended(self, rule: u32, z: u32, reserved: u32) -> TaskState
         ensures { λ r. ⌜ r ≡ ended (ruleOf rule) (taskOf self) (self .even) z reserved ⌝ }
     {
@@ -62,7 +62,7 @@ impl Task {
         }
     }
 
-    // Where work stands after a tick of it, own or lent.
+    // The state of a task after a tick of work, own or lent.
     fn worked(self, rule: u32, reported: bool, z: u32, had: u32, reserved: u32) -> TaskState
         ensures { λ r. ⌜ r ≡ worked (ruleOf rule) (taskOf self) reported (self .even) z had reserved ⌝ }
     {
@@ -76,7 +76,7 @@ impl Task {
         }
     }
 
-    // Where the task stands one tick on from the phase that was seen, by whether it is given cores in this tick, whether it borrows some and whether
+    // The state of the task one tick on from the seen phase, by whether it is given cores in this tick, whether it borrows some and whether
     // it is reported.
     fn stepped(self, rule: u32, given: bool, lent: bool, reported: bool, seen: Phase) -> TaskState
         requires { ⌜ HasRoom seen ⌝ }

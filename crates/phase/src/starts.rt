@@ -1,4 +1,4 @@
-// A task as it starts from a table, and what stands in a place past the count.
+// A task as it starts from a table, and the value of a place past the count.
 ghost use mathlib.Core.Path.{_≡_};
 ghost use Rattle.table.specs.Task as table;
 ghost use Rattle.phase.specs.Phase.{startState};

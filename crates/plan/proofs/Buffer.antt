@@ -1,4 +1,4 @@
--- The rows in the buffer: how long they are, one row more, and that nothing after the last row is touched.
+-- The rows in the buffer: how long they are, one row more, and that nothing after the last row is changed.
 use native.Mathlib.Omega.{arith}
 use native.Mathlib.Nat.{add-zero, suc-mul, add-suc, suc-add, zero-mul, mul-le-mul-right, not-suc-le-zero}
 use mathlib.Core.Path.{_≡_, refl, sym, ap, ap₂, _∙_}

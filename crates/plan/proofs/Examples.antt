@@ -25,7 +25,7 @@ pub record Line : Type 0 where
   pub says : Planned
   pub leaves : List ℕ
 
--- what the definitions say of a line's words, a, b and buffer
+-- the value by the definitions of a line's words, a, b and buffer
 abbrev pub worked : Line → Line
 worked l =
     let v = plannedOf (l .words) (l .a) (l .b) (length (l .lent)) in
@@ -39,7 +39,7 @@ worked l =
       leaves = bufferOf (planMeaning v) (tableOf (l .words)) (l .a) (l .b) (l .lent);
     }
 
--- so many bytes, none of which is a position
+-- a number of bytes, none of which is a position
 abbrev lent : ℕ → List ℕ
 lent n = replicate n 9
 
@@ -65,7 +65,7 @@ fencedA = 3 ∷ 5 ∷ 1 ∷ 9 ∷ 0 ∷ drop 5 wordsA
 abbrev fencedF : List ℕ
 fencedF = 1 ∷ 34 ∷ 1 ∷ 4294967295 ∷ 1 ∷ drop 5 wordsF
 
--- two cores, horizon 2: one task of widths 1 and 2, released in every tick; and behind one of width 1, where position 2 misses at tick 2
+-- two cores, horizon 2: one task of widths 1 and 2, released in every tick; and below one of width 1, where position 2 misses at tick 2
 abbrev pairs : List ℕ
 pairs = 1 ∷ 2 ∷ 1 ∷ 0 ∷ 0 ∷ 0 ∷ 0 ∷ 1 ∷ 1 ∷ 1 ∷ 1 ∷ 2 ∷ []
 
@@ -106,7 +106,7 @@ lines =
     ∷ writes "the second width does not fit: b = the tick of that miss" behind 0 2 4 (1 ∷ 2 ∷ 1 ∷ 0 ∷ [])
     ∷ []
 
--- every line is what the definitions say, line by line
+-- every line is its value by the definitions, line by line
 computed : LineByLine worked lines lines
 unfolding plannedOf byPlan fullRowsFrom answerOf byWalk byTasks byHorizon firstOut endingOf lastStep headerNumber tableOf chain count met computing
 computed =

@@ -1,4 +1,4 @@
--- Whether a deadline is missed before a tick: the test, and what it says of the first miss.
+-- Whether a deadline is missed before a tick: the test, and its relation to the first miss.
 use native.Mathlib.Omega.{arith}
 use mathlib.Core.Path.{_≡_, refl, sym, _∙_}
 use mathlib.Core.Bool.{true, false, true≢false}
@@ -31,10 +31,10 @@ module _ (s : Table) (ok : AllValid s) (b : ℕ) where
       } in
       (t, suc (least n (missedAt s t)), f, least-below b (missedIn s) e)
 
-  -- b is above the tick of the first miss exactly if the test says so
+  -- b is above the tick of the first miss exactly if the test is true
   pub miss-decides : Decides (any b (missedIn s)) (MissOut s b)
   miss-decides = (first, λ x. found s ok b (x .2 .place .0) (x .0) (x .3) (x .2 .missed))
 
-  -- where it says no, every deadline before b is met
+  -- where it is false, every deadline before b is met
   pub all-met : any b (missedIn s) ≡ false → (p t : ℕ) → t < b → ¬ Missed s p t
   all-met e p t l m = true≢false (sym (found s ok b p t l m) ∙ e)

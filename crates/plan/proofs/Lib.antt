@@ -1,4 +1,4 @@
--- The proofs of the plan's promise: no deadline is missed before its end, its numbers are exact, its rows are the book's; and computed examples.
+-- The proofs of the plan's contract: no deadline is missed before its end, its numbers are exact, its rows are the book's; and computed examples.
 pub mod Late
 pub mod Exact
 pub mod Buffer

@@ -1,5 +1,5 @@
--- What the words of a record off the chain say changes neither the plan's answer nor the buffer afterwards:
--- where the table passes it is the same table, and a refusal looks at its number only.
+-- The words of a record off the chain change neither the plan's answer nor the buffer afterwards:
+-- where the table passes it is the same table, and a refusal depends on its number only.
 use mathlib.Core.Path.{_≡_, refl, sym, ap, _∙_}
 use mathlib.Core.List.{List}
 use Prim.Native.Nat.{ℕ}

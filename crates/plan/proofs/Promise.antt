@@ -1,4 +1,4 @@
--- What is promised of the plan follows from the exactness of its numbers and from what is done with a table that passed.
+-- The contract of the plan follows from the exactness of its numbers and from what is done with a table that passed.
 use native.Mathlib.Omega.{arith}
 use mathlib.Core.Path.{_≡_, refl, sym, ap, _∙_}
 use mathlib.Core.List.{List}
@@ -27,7 +27,7 @@ use Rattle.plan.proofs.Late.{miss-decides}
 use Rattle.plan.proofs.Exact.{refused-exact, written-exact}
 use Rattle.plan.proofs.Buffer.{with-length, over-at, over-past}
 
--- what is told of an answer determines it
+-- the meaning of an answer determines it
 pub meaning-written : (v : Planned) → planMeaning v ≡ model.taken → v ≡ Written
 meaning-written Written e = refl
 meaning-written (Refused n p) e = absurd (let z : _≡_ {A = ℕ} 0 1 = cc in omega arith)

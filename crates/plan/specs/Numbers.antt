@@ -13,7 +13,7 @@ use Rattle.table.specs.Numbers as table
 abbrev pub RangeOut : Table → ℕ → ℕ → Type 0
 RangeOut s a b = (b < a) ⊎ (horizon s < b)
 
--- a lent buffer of so many bytes has fewer than (b − a) × cores
+-- a lent buffer of this number of bytes has fewer than (b − a) × cores
 abbrev pub BufferShort : Table → ℕ → ℕ → ℕ → Type 0
 BufferShort s a b bytes = bytes < (b - a) * s .cores
 
@@ -21,7 +21,7 @@ BufferShort s a b bytes = bytes < (b - a) * s .cores
 abbrev pub MissOut : Table → ℕ → Type 0
 MissOut s b = (t : ℕ) × (p : ℕ) × FirstMiss s t p × (t < b)
 
--- number n applies, with position p, to the words, a, b and a buffer of so many bytes
+-- number n applies, with position p, to the words, a, b and a buffer of this number of bytes. As in table/specs/Numbers: `Applies`, `First`, `NoneApplies`
 pub data Applies (ws : List ℕ) (a b bytes : ℕ) : ℕ → ℕ → Type 0 where
   -- those of the table
   words : (n p : ℕ) → table.Applies ws n p → Applies ws a b bytes n p

@@ -12,7 +12,7 @@ ghost use Rattle.plan.specs.Plan.{over};
 use model::ROW;
 use table::Loaded;
 
-// Puts the first `count` bytes of a row into the buffer, from byte `at` on.
+// Writes the first `count` bytes of a row into the buffer, from byte `at` on.
 fn put(row: [u8; ROW], count: usize, at: usize, out: &mut [u8])
     requires { ⌜ (count ≤ mostCores) × (at + count ≤ length (now out)) ⌝ }
     ensures { λ _. ⌜ now (out .exit) ≡ paste (now (out .entry)) at row count ⌝ }

@@ -1,4 +1,4 @@
--- EVERY ANSWER MEANS WHAT IT SAYS: the stepwise answer to a list of rows is the one that the rows have, and the only one.
+-- EVERY ANSWER IS EXACT: the stepwise answer to a list of rows is the one that the rows have, and the only one.
 use mathlib.Core.Bool.{Bool, false, true, true≢false}
 use mathlib.Core.List.{List, []}
 use mathlib.Core.Logic.{_↔_, ⊎-elim}

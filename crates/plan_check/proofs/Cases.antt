@@ -1,4 +1,4 @@
--- The cases of a row taken, in the order in which code looks.
+-- The cases of a row taken, in the order in which code tests.
 use mathlib.Core.Bool.{Bool, false, true}
 use mathlib.Core.List.{List}
 use mathlib.Core.Path.{refl, _≡_}

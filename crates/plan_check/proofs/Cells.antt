@@ -1,4 +1,4 @@
--- The bytes of a row: as many cores show a position as its place is given, and there is no stranger among them.
+-- The bytes of a row: as many cores show a position as its place is given, and there is no unknown position among them.
 use mathlib.Core.Bool.{Bool, cond, false, not, true, true≢false}
 use mathlib.Core.List.{List, [], map, _∷_}
 use mathlib.Core.Logic.{inl, inr, _⊎_, ⊎-elim}
@@ -20,7 +20,7 @@ use Rattle.cores.proofs.Ascending.{Range, getD-up, memb-below, memb-kept, range
 use Rattle.rule.proofs.Granting.{Apart, apart, in-grants, range-left}
 use Rattle.plan_check.specs.Plan.{Stranger, cellCount}
 
--- the owner of a core is nobody or one of the places listed
+-- a core has no owner or one of the places listed
 owner-low : (c p : ℕ) (gs : List (List ℕ)) → (owner c p gs ≡ 0) ⊎ (p ≤ owner c p gs)
 unfolding owner
 owner-low c p [] = inl refl
@@ -40,7 +40,7 @@ owner-most c p (g ∷ gs) = go (memb c g) (owner-most c (suc p) gs)
     go true x = omega arith
     go false x = omega arith
 
--- where no core stands in two lists, a core shows a place exactly if it stands in that place's list
+-- where no core is in two lists, a core shows a place exactly if it is in that place's list
 pub owner-is : (c q : ℕ) (gs : List (List ℕ)) → Apart gs → (p : ℕ) → eqb (owner c (suc q) gs) (suc (q + p)) ≡ memb c (getD gs p [])
 unfolding owner memb
 owner-is c q [] a p = ne-eqb 0 (suc (q + p)) (λ e. omega arith)
@@ -60,7 +60,7 @@ owner-is c q (g ∷ gs) a (suc p) = go (memb c g) refl (owner-is c (suc q) gs (�
         ∙ sym (not-true-false (memb c (getD gs p [])) (λ k. a c 0 (suc p) (omega arith) e k))
     go false e ih = subst (λ (n : ℕ). eqb (owner c (suc (suc q)) gs) (suc n) ≡ memb c (getD gs p [])) (omega arith) ih
 
--- counting the numbers from i up that stand in an ascending list
+-- counting the numbers from i up that are in an ascending list
 count-list :
     (f : ℕ → ℕ) (b i n : ℕ) (g : List ℕ) → Range i (i + n) g → ((c : ℕ) → i ≤ c → eqb (f c) b ≡ memb c g)
     → cellCount b (map f (upFrom i n)) ≡ length g
@@ -118,7 +118,7 @@ module _ (r : Rule) (bs : List Claimant) (fence m p : ℕ) (few : suc p < fenced
   free : Range 0 m (unfenced fence m)
   free = range-kept (λ c. not (bit fence c)) 0 m (upFrom 0 m) (range-up 0 m m (omega arith))
 
-  -- a fenced core is given to nobody
+  -- a fenced core is given to no place
   fenced-none : (c : ℕ) → bit fence c ≡ true → memb c (getD gs p []) ≡ false
   fenced-none c e = not-true-false (memb c (getD gs p [])) (λ h.
       true≢false
@@ -139,7 +139,7 @@ module _ (r : Rule) (bs : List Claimant) (fence m p : ℕ) (few : suc p < fenced
       (range-weaken (getD gs p []) (le-refl 0) (omega arith) (grants-range r m bs (unfenced fence m) free p))
       (λ c l. byte-is c)
 
--- a row holds no stranger: 255 on a fenced core, and on another no byte past the last position
+-- a row holds no unknown position: 255 on a fenced core, and on another no byte past the last position
 pub row-known :
     (s : Table) (gs : List (List ℕ)) → length gs ≤ length (s .tasks) → (c : ℕ) → c < s .cores → ¬ Stranger s c (getD (row (s .fence) (s .cores) gs) c 0)
 unfolding row

@@ -1,4 +1,4 @@
--- The tests of a row's numbers decide what they say.
+-- The tests of a row's numbers decide their conditions.
 use mathlib.Core.Bool.{Bool, false, false≢true, not, true, true≢false, _&&_, cond}
 use mathlib.Core.List.{List}
 use mathlib.Core.Logic.{inl, inr, _⊎_, ⊎-elim}

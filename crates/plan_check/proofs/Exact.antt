@@ -1,4 +1,4 @@
--- THE STEPWISE ANSWER IS THE CONDITIONS: a list of rows is accepted exactly if it is as the request says.
+-- THE STEPWISE ANSWER IS THE CONDITIONS: a list of rows is accepted exactly if it is acceptable.
 use mathlib.Core.List.{List}
 use mathlib.Core.Logic.{_↔_, ⊎-elim}
 use mathlib.Core.Path.{subst, sym, _≡_}

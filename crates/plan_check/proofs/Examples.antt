@@ -34,7 +34,7 @@ pub record Line : Type 0 where
   pub answers : List RowAnswer
   pub comes : PlanOutcome
 
--- what the definitions say of a line's words and rows
+-- the value by the definitions of a line's words and rows
 abbrev pub computes : Line → Line
 computes l = record {
   name = l .name;
@@ -47,11 +47,11 @@ computes l = record {
 abbrev line : String → List ℕ → PlanOutcome → List RowAnswer → List (List ℕ) → Line
 line n ws o answers rows = record { name = n; words = ws; rows = rows; answers = answers; comes = o }
 
--- so many rows taken
+-- a number of rows taken
 abbrev took : ℕ → List RowAnswer
 took n = replicate n taken
 
--- a row of so many cores
+-- a row of a number of cores
 abbrev one : ℕ → List ℕ
 one a = a ∷ []
 
@@ -197,7 +197,7 @@ lines =
     (two 1 0 ∷ two 1 0 ∷ [])
     ∷ []
 
--- every line is what the definitions say, line by line
+-- every line is its value by the definitions, line by line
 computed : LineByLine computes lines lines
 unfolding rowAnswersFrom outcomeFrom beginOf takeOf takeAnswer answerAt finalAnswer differs missed stateOut faulty anyStranger workedRow cellCount startedRun mapFirst runOut pastCount
     answerOf byWalk byTasks byHorizon firstOut endingOf lastStep headerNumber tableOf chain count met computing

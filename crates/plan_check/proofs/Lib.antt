@@ -1,6 +1,6 @@
--- The laws of plans by another planner: which job is the newest, the ticks counted in rows, the plan book that is kept of them and what it says, when a list
+-- The laws of plans by another planner: which job is the newest, the ticks counted in rows, the plan book that is kept of them and its meaning, when a list
 -- is accepted and what each answer means, that an accepted plan repeats for ever; a task moved by the rows, states that 14 passes, that `take` answers
--- as the plan book does; the tool's own plans; and computed examples. Of one row: its tests and their order, what it shows, the tick, and what is promised.
+-- as the plan book does; the tool's own plans; and computed examples. Of one row: its tests and their order, what it shows, the tick, and its contract.
 pub mod Newest
 pub mod Ticks
 pub mod PhaseBy

@@ -21,7 +21,7 @@ use Rattle.plan_check.proofs.PhaseBy.{owes-phase, phase-from, phase-owe
 use Rattle.plan_check.proofs.Steps.{notedAt, planBookAt}
 use Rattle.plan_check.proofs.Ticks.{valid-works, ticks-grow}
 
--- from the last S on, what is noted is what was owed there
+-- from the last S on, what is recorded is what was owed there
 noted-last : (s : Table) (r : ℕ → List ℕ) (p t : ℕ) → lastS (s .tasks) ≤ t → notedAt s r t p ≡ openAt s r (lastS (s .tasks)) p
 unfolding notedAt
 noted-last s r p zero h = rw (eq-eqb 0 (lastS (s .tasks)) (omega arith)) (ap (λ (t : ℕ). openAt s r t p) (omega arith))
@@ -110,7 +110,7 @@ module _ (s : Table) (ok : AllValid s) (r : ℕ → List ℕ) where
   far : H ≡ L + hyperperiod (s .tasks)
   far = unfold horizon in refl
 
-  -- what is noted at the horizon is what was owed at the last S
+  -- what is recorded at the horizon is what was owed at the last S
   owes-last : (p : ℕ) → p < length (s .tasks) → notedAt s r H p ≡ task s p .length - hadInRows s r p (newest (task s p) L) L
   owes-last p l = noted-last s r p H (omega (arith, far)) ∙ open-owed s ok r p l L (offset-last s ok p l)
 

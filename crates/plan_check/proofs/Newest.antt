@@ -37,7 +37,7 @@ module _ (τ : Task) (pos : 0 < τ .period) where
       (λ (l : suc t < release τ (suc (newest τ t))). l)
       (eq-or-lt-of-le (newest-next t h)))
 
-  -- P ticks later it is the one so many periods on
+  -- P ticks later it is the one P / T periods on
   pub newest-later : (t m P : ℕ) → P ≡ m * τ .period → τ .offset ≤ t → newest τ (t + P) ≡ newest τ t + m
   newest-later t m P e h = ap (λ (x : ℕ). x / τ .period) (omega arith) ∙ add-mul-div-right (t - τ .offset) m pos
 

@@ -1,4 +1,4 @@
--- What the stepwise plan book says of the rows: the ticks owed are C less those had, and its tests are the conditions of a tick.
+-- The relation of the stepwise plan book to the rows: the ticks owed are C less those had, and its tests are the conditions of a tick.
 use mathlib.Core.Bool.{_&&_, Bool, cond, false, false≢true, not, true, true≢false, _||_}
 use mathlib.Core.List.{List}
 use mathlib.Core.Logic.{_↔_, inl, inr}
@@ -118,7 +118,7 @@ module _ (s : Table) (ok : AllValid s) (r : ℕ → List ℕ) (p : ℕ) (l : p <
       eq-eqb (due τ (newest τ (due τ k - τ .deadline))) (due τ k)
       (ap (due τ) (ap (newest τ) (omega arith) ∙ newest-release τ pos k))
 
--- 25: where nobody is late at t, every job due at t has had its C ticks
+-- 25: where no task is late at t, every job due at t has had its C ticks
 module _ (s : Table) (ok : AllValid s) (r : ℕ → List ℕ) where
   pub late-none :
       (t : ℕ) → lateNow s t (owedAt s r t) ≡ false
@@ -137,7 +137,7 @@ module _ (s : Table) (ok : AllValid s) (r : ℕ → List ℕ) where
       second true b e q = q
       second false b e q = absurd (false≢true e)
 
-  -- and if somebody is, some job due at t has not
+  -- and if some place is late, some job due at t has not
   pub late-job :
       (t : ℕ) → lateNow s t (owedAt s r t) ≡ true
       → (p k : ℕ) × (p < length (s .tasks)) × (due (task s p) k ≡ t) × (hadInRows s r p k t < task s p .length)
@@ -152,7 +152,7 @@ module _ (s : Table) (ok : AllValid s) (r : ℕ → List ℕ) where
       subst (λ (n : ℕ). owedAt s r n p ≡ task s p .length - hadInRows s r p k n) d (owed-due s ok r p (x .1) k) in
       (p, k, x .1, d, omega arith)
 
--- 24: what the row's test says, for any ticks owed
+-- 24: the row's test, for any ticks owed
 pub record Right (s : Table) (t : ℕ) (o : ℕ → ℕ) (row : List ℕ) : Type 0 where
   pub known : (c : ℕ) → c < length row → ¬ Stranger s c (getD row c 0)
   pub wide :
@@ -164,7 +164,7 @@ or-left-false : (a b : Bool) → a || b ≡ false → a ≡ false
 or-left-false true b e = e
 or-left-false false b e = refl
 
--- a stranger is one by its test, and the other way round
+-- an unknown position is one by its test, and the other way round
 pub stranger-decides : (s : Table) (row : List ℕ) (c : ℕ) → (strangerAt s row c ≡ true) ↔ Stranger s c (getD row c 0)
 unfolding strangerAt
 stranger-decides s row c = (there (bit (s .fence) c) refl, back)

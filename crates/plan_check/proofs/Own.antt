@@ -76,7 +76,7 @@ module _ (s : Table) (ok : AllValid s) (few : length (s .tasks) < fencedByte) wh
           ∙ (width-newest s p (full s t .tick) l ∙ ap (λ (n : ℕ). widthOf (task s p) (newest (task s p) n)) (full-tick s t)))
       go (inr q) = absurd (false≢true (sym (ap some q) ∙ (sym (own-runs p t l) ∙ e)))
 
-  -- who is in the row claims for its newest job, which has not ended
+  -- a place that is in the row claims for its newest job, which has not ended
   record Serves (p t : ℕ) : Type 0 where
     claiming : jobClaims s (full s t) p (newest (task s p) t) ≡ true
     unended : full s t .job p (newest (task s p) t) .ended ≡ false
@@ -151,7 +151,7 @@ module _ (s : Table) (ok : AllValid s) (few : length (s .tasks) < fencedByte) wh
             ticks-on (ownRow s) p a t begun
             ∙ (ap (λ (b : Bool). cond b (suc (hadInRows s (ownRow s) p k t)) (hadInRows s (ownRow s) p k t)) (own-runs p t l ∙ f) ∙ (ap suc ih ∙ sym (served-on t k on o)))
 
-    -- who is in the row has work still owed
+    -- a place that is in the row has work still owed
     own-owed : (t : ℕ) → runs (ownRow s) p t ≡ true → Owed s (ownRow s) p (newest τ t) t
     own-owed t e =
         let k : ℕ = newest τ t in

@@ -1,4 +1,4 @@
--- A state that 14 passes: what it says of the run, that the beginning is one, and that a row taken where nobody is late leaves one again, with the same tasks.
+-- A state that 14 passes: what holds of its run, that the beginning is one, and that a row taken where no task is late leaves one again, with the same tasks.
 use mathlib.Core.Bool.{Bool, cond, false, false≢true, not, true, true≢false, _||_}
 use mathlib.Core.List.{List}
 use mathlib.Core.Path.{ap, refl, subst, sym, _∙_, _≡_}
@@ -111,7 +111,7 @@ module _ (r : Run) (row : List ℕ) where
   worked-tasks = take-kept (workedAt r row) (r .count) (r .tasks) (λ p t. refl)
 
   module _ (h : Passes r) where
-    -- what stands at a place
+    -- the value at a place
     pub worked-at : (p : ℕ) → p < r .count → placeAt (workedRow r row) p ≡ workedAt r row p (placeAt r p)
     unfolding workedRow
     worked-at p l = mapFirst-at (workedAt r row) (r .count) (r .tasks) p pastEnd l (in-array r p (h .tasks p l))

@@ -1,4 +1,4 @@
--- Places past the count, and what is noted of them, are not read.
+-- Places past the count, and what is recorded of them, are not read.
 use mathlib.Core.Bool.{Bool, _&&_, _||_, cond, false, not, true}
 use mathlib.Core.List.{List, [], map, _++_, _∷_}
 use mathlib.Core.Path.{ap, ap₂, refl, subst, subst⁻¹, sym, _∙_, _≡_}
@@ -134,7 +134,7 @@ module _
       (any-same (r .count) (wrongAt r row) (wrongAt q row)
       (λ p l. ap (λ (t : Task). shownInRow row p && not (eqb (cellCount (suc p) row) (widthNow t) && working (t .phase))) (same-at p l)))
 
--- the front of what is noted, where all places are there
+-- the front of what is recorded, where all places are there
 front : (n : ℕ) (ts : List Task) (ns : List Note) → n ≤ length ts → take n (map noteOf (take n ts) ++ drop n ns) ≡ map noteOf (take n ts)
 front n ts ns h = take-at (map noteOf (take n ts)) (drop n ns) n (length-map (take n ts) noteOf ∙ length-take-le n ts h)
 

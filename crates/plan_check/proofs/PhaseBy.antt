@@ -1,4 +1,4 @@
--- The phase of a place by the rows: from its offset on it is told by the ticks since its release and the ticks still owed.
+-- The phase of a place by the rows: from its offset on it is determined by the ticks since its release and the ticks still owed.
 use mathlib.Core.Bool.{Bool, cond, false, true}
 use mathlib.Core.List.{List}
 use mathlib.Core.Path.{ap, refl, sym, _∙_, _≡_}

@@ -1,5 +1,5 @@
 -- A plan taken row by row on the table alone, by the ticks owed to each place: a plan book between rows, the answer to each, and the answer to a list. The
--- theorems go through it; that the states of `take` are answered as it is, is `Bridge`.
+-- theorems go through it; the states of `take` have its answers: `TakeAnswers`.
 use mathlib.Core.Bool.{_&&_, Bool, cond, not, _||_}
 use mathlib.Core.List.{List, [], _∷_}
 use Prim.Native.Nat.{_-_, suc, ℕ}
@@ -12,7 +12,7 @@ use Rattle.model.specs.Task.{Table, Task, due, newest, release, task, widthOf}
 use Rattle.plan_check.specs.Answers.{PlanOutcome, accepts, refuses, unfinished}
 use Rattle.plan_check.specs.Plan.{cellCount}
 
--- the plan book at the start of a tick, before the jobs released at it: the ticks still owed to each place, and those noted at the last S
+-- the plan book at the start of a tick, before the jobs released at it: the ticks still owed to each place, and those recorded at the last S
 pub record PlanBook : Type 0 where
   pub tick : ℕ
   pub owed : ℕ → ℕ
@@ -33,7 +33,7 @@ opened s t o p = cond (releasedAt (task s p) t) (task s p .length) (o p)
 unfoldable pub lateNow : Table → ℕ → (ℕ → ℕ) → Bool
 lateNow s t o = any (length (s .tasks)) (λ p. dueAt (task s p) t && ltb 0 (o p))
 
--- 24: a stranger; a place in the row with a wrong width or with nothing owed
+-- 24: an unknown position; a place in the row with a wrong width or with nothing owed
 unfoldable pub strangerAt : Table → List ℕ → ℕ → Bool
 strangerAt s row c = cond (bit (s .fence) c) (not (eqb (getD row c 0) fencedByte)) (ltb (length (s .tasks)) (getD row c 0))
 
@@ -49,7 +49,7 @@ faulty s t o row = any (length row) (strangerAt s row) || any (length (s .tasks)
 unfoldable pub workedRow : Table → ℕ → (ℕ → ℕ) → List ℕ → ℕ → ℕ
 workedRow s t o row p = opened s t o p - cond (ltb 0 (cellCount (suc p) row)) 1 0
 
--- the plan book that arrives at tick t: at the last S what is owed is noted
+-- the plan book that arrives at tick t: at the last S what is owed is recorded
 unfoldable pub planBookAfter : Table → ℕ → (ℕ → ℕ) → (ℕ → ℕ) → PlanBook
 planBookAfter s t o n = record { tick = t; owed = o; noted = cond (eqb t (lastS (s .tasks))) (opened s t o) n }
 

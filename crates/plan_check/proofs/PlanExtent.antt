@@ -37,7 +37,7 @@ module _ (r : Run) (e : runOut r ≡ false) where
   pub tasks-at : (p : ℕ) → p < r .count → getD (tasksIn r) p model.absentTask ≡ runTaskAt r p
   tasks-at p l = List·getD-map taskOf (take (r .count) (r .tasks)) p pastEnd ∙ ap taskOf (getD-take (r .count) (r .tasks) p pastEnd l)
 
-  -- they are within the limits that finding S and P asks for
+  -- they are within the limits that S and P need
   pub plain-within : (ts : List Task) → tasksOf ts (r .count) ≡ tasksIn r → InLimits ts (r .count)
   plain-within ts same p l =
       let at : table.taskOf (getD ts p noTask) ≡ runTaskAt r p =
@@ -78,7 +78,7 @@ pub number-none : (r : Run) → stateOut r ≡ false → horizonOut (horizonIn r
 unfolding firstNumber
 number-none r e f = rw (e, f)
 
--- what looking ahead gives: zeros beside a number ..
+-- the extent: zeros beside a number ..
 pub extent-refused : (r : Run) (n : ℕ) → firstNumber r ≡ n → ¬ (n ≡ 0) → record { number = n; start = 0; horizon = 0 } ≡ extentOf r
 unfolding extentOf
 extent-refused r n e z = rw (e, ne-eqb n 0 z)

@@ -1,4 +1,4 @@
--- AN ACCEPTED PLAN REPEATS FOR EVER: from the last S on, what each task has had goes as it went P ticks before.
+-- AN ACCEPTED PLAN REPEATS FOR EVER: from the last S on, the ticks that each task has repeat with P.
 use mathlib.Core.Bool.{Bool, cond, false, true}
 use mathlib.Core.List.{List}
 use mathlib.Core.Path.{ap, refl, subst, sym, _∙_, _≡_}
@@ -77,7 +77,7 @@ module _ (s : Table) (ok : AllValid s) (rows : List (List ℕ)) (acc : Acceptabl
     whole : P ≡ m * τ .period
     whole = hyperperiod-divides (s .tasks) p periods l .1
 
-    -- P ticks later a job has the same width: so many jobs on the parity is the same, where the widths differ
+    -- P ticks later a job has the same width: m jobs on the parity is the same, where the widths differ
     same-width : (k : ℕ) → widthOf τ (k + m) ≡ widthOf τ k
     same-width k = width-shift (s .tasks) p periods l m whole k
 

@@ -1,4 +1,4 @@
--- Two phases are the same exactly if their test says so.
+-- Two phases are the same exactly if their test is true.
 use mathlib.Core.Bool.{_&&_, false≢true, true}
 use mathlib.Core.Logic.{_↔_}
 use mathlib.Core.Path.{ap, subst, _∙_, _≡_, refl}

@@ -1,4 +1,4 @@
--- The beginning: the run of a table as it starts is of that table, and what is promised of a beginning.
+-- The beginning: the run of a table as it starts is of that table, and the contract of a beginning.
 use mathlib.Core.List.{List, [], map, _∷_}
 use mathlib.Core.Path.{ap, refl, subst, sym, _∙_, _≡_}
 use Prim.Native.Nat.{_-_, ℕ, _≤_}
@@ -87,7 +87,7 @@ module _ (ws : List ℕ) where
   same-answer : beginOf ws .answer ≡ loadOf ws .answer
   same-answer = unfold beginOf in begun-answer (answerOf ws) (firstState ws) ∙ sym (load-answer ws)
 
-  -- what the table's answer says of the beginning
+  -- the beginning by the table's answer
   passed-answer : loadMeaning (beginOf ws .answer) ≡ book.taken → answerOf ws ≡ Passed
   passed-answer e = sym (load-answer ws) ∙ meaning-passed (loadOf ws .answer) (sym (ap loadMeaning same-answer) ∙ e)
 
@@ -97,7 +97,7 @@ module _ (ws : List ℕ) where
   none-applies : loadMeaning (beginOf ws .answer) ≡ book.taken → NoneApplies ws
   none-applies e = promised .passed .0 (sym (ap loadMeaning same-answer) ∙ e)
 
-  -- a value that is the beginning's by definition keeps what a beginning promises
+  -- a value that is the beginning's by definition meets the contract of a beginning
   pub begin-of : (b : Begun) → b ≡ beginOf ws → BeginOf ws b
   begin-of b e = rw e record {
     value = refl;

@@ -1,5 +1,5 @@
--- A TASK MOVED BY THE ROWS: where it stands after each row, moved by `nextState` as one that is given its cores exactly where it is in the row and is
--- never reported, is what the rows say, up to the first fault: its phase is `phaseBy`, its parity that of its newest job.
+-- A TASK MOVED BY THE ROWS: its state after each row, moved by `nextState` as one that is given its cores exactly where it is in the row and is
+-- never reported, is that of the rows, up to the first fault: its phase is `phaseBy`, its parity that of its newest job.
 use mathlib.Core.Bool.{_&&_, Bool, cond, false, not, true}
 use mathlib.Core.List.{List}
 use mathlib.Core.Path.{ap, ap₂, refl, subst, sym, _∙_, _≡_}
@@ -24,7 +24,7 @@ use Rattle.plan_check.proofs.OneTick.{next-of, next-parity, phase-of, p
 use Rattle.plan_check.proofs.PhaseBy.{phase-coming, phase-from}
 use Rattle.plan_check.proofs.Ticks.{ticks-grow, ticks-none, ticks-on}
 
--- where place p stands at tick t, moved by the rows
+-- the state of place p at tick t, moved by the rows
 unfoldable pub stateByRows : Table → (ℕ → List ℕ) → ℕ → ℕ → TaskState
 stateByRows s r p zero = startState (task s p .offset)
 stateByRows s r p (suc t) = nextState (s .rule) (task s p) (runs r p t) false false (stateByRows s r p t .even) (stateByRows s r p t .phase)
@@ -33,7 +33,7 @@ stateByRows s r p (suc t) = nextState (s .rule) (task s p) (runs r p t) false fa
 abbrev pub evenAt : Task → ℕ → Bool
 evenAt τ t = not (eqb (newest τ t % 2) 0)
 
--- where the rows say that it stands
+-- its state by the rows
 abbrev pub statesAnswer : Table → (ℕ → List ℕ) → ℕ → ℕ → TaskState
 statesAnswer s r p t = taskState (evenAt (task s p) t) (phaseBy s r p t)
 
@@ -162,7 +162,7 @@ module _ (s : Table) (ok : AllValid s) (r : ℕ → List ℕ) (p : ℕ) (l : p <
       (λ (o : ℕ). cond (ltb 0 o) (taskState e (Working (t - release τ (newest τ t) + 1) (τ .length - o) (τ .length - o))) (resting τ e (t - release τ (newest τ t) + 1)))
       (sym (owed-next s ok r p l t)))
 
-  -- the step of the tie
+  -- the step of the relation
   phase-next : (t : ℕ) → Steady (suc t) → nextState (s .rule) τ (runs r p t) false false (evenAt τ t) (phaseBy s r p t) ≡ statesAnswer s r p (suc t)
   phase-next t x = go (leb (τ .offset) t) refl
     where
@@ -233,7 +233,7 @@ module _ (s : Table) (ok : AllValid s) (r : ℕ → List ℕ) (p : ℕ) (l : p <
           ap₂ (λ (b : Bool) (ph : Phase). taskState b ph) (sym (first-odd 0 (omega arith)))
           (ap Coming whole ∙ sym (phase-coming s r p 0 (omega (arith, eqb-false (τ .offset) 0 e))))
 
-  -- THE TIE
+  -- THE RELATION
   pub state-by-phase : (t : ℕ) → Steady t → stateByRows s r p t ≡ statesAnswer s r p t
   unfolding stateByRows
   state-by-phase zero x = phase-start

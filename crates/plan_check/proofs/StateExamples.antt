@@ -1,5 +1,5 @@
 -- Single rows on states built by hand, and beginnings, computed from the definitions: each number from both sides, which comes first where two apply,
--- what is noted and when, and what stays.
+-- what is recorded and when, and what stays.
 use mathlib.Core.Bool.{Bool, false, true}
 use mathlib.Core.List.{List, [], map, _++_, _∷_}
 use mathlib.Core.Path.{refl, _≡_}
@@ -35,7 +35,7 @@ use Rattle.plan_check.specs.Take.{answerAt, finalAnswer, takeAnswer, tak
 
 -- STATES
 
--- a task where it stands: O, v, C, D, T, w, whether its job is an even one, and its phase
+-- a task in its state: O, v, C, D, T, w, whether its job is an even one, and its phase
 abbrev at₂ : ℕ → ℕ → ℕ → ℕ → ℕ → ℕ → Bool → Phase → Task
 at₂ o v c d p w e ph = record { offset = o; width = v; length = c; deadline = d; period = p; second = w; even = e; phase = ph }
 
@@ -50,14 +50,14 @@ places ts = ts ++ replicate (mostTasks - length ts) unused
 abbrev notes : List Phase → List Note
 notes phs = map note phs ++ drop (length phs) blank
 
--- so many cores under a rule, with nothing fenced or withdrawn
+-- a number of cores under a rule, with nothing fenced or withdrawn
 abbrev on : ℕ → ℕ → List Task → Run
 on rule m ts = record { rule = rule; cores = m; fence = 0; withdrawn = 0; count = length ts; tasks = places ts }
 
 abbrev state : Run → ℕ → List Phase → Supplied
 state r t phs = record { run = r; tick = t; noted = notes phs }
 
--- what a state shows below its count: the tick, the phases, whether each job is an even one, and what is noted
+-- what a state shows below its count: the tick, the phases, whether each job is an even one, and what is recorded
 pub record Shows : Type 0 where
   pub tick : ℕ
   pub phases : List Phase
@@ -98,7 +98,7 @@ abbrev goes : String → RowAnswer → Supplied → List ℕ → ℕ → List Ph
 goes name a w row t phs es ns =
     record { name = name; before = w; row = row; says = a; after = record { tick = t; phases = phs; evens = es; noted = ns } }
 
--- one core, a task (0,1,2,4,4): the last S is 0, the horizon 4. Its phase, the tick, what is noted
+-- one core, a task (0,1,2,4,4): the last S is 0, the horizon 4. Its phase, the tick, what is recorded
 abbrev one : Phase → ℕ → Phase → Supplied
 one ph t n = state (on 1 1 (at 0 2 4 4 ph ∷ [])) t (n ∷ [])
 
@@ -191,7 +191,7 @@ lines =
     ∷ goes "from the last S on what is noted stays" taken (late (Working 0 0 0) 2 (Resting 1)) (1 ∷ []) 3 (Resting 1 ∷ []) (false ∷ []) (Resting 1 ∷ [])
     ∷ []
 
--- every line is what the definitions say, line by line
+-- every line is its value by the definitions, line by line
 computed : LineByLine computes lines lines
 unfolding takeOf takeAnswer answerAt finalAnswer differs missed stateOut faulty anyStranger workedRow cellCount mapFirst runOut pastCount computing
 computed =
@@ -207,7 +207,7 @@ computed =
 pub state-examples : map computes lines ≡ lines
 state-examples = by-line computes lines lines computed
 
--- HOW FAR PLANS GO: the number, the last S and the horizon
+-- EXTENTS OF PLANS: the number, the last S and the horizon
 
 abbrev ahead : ℕ → ℕ → ℕ → Extent
 ahead n s h = record { number = n; start = s; horizon = h }
@@ -237,7 +237,7 @@ beyond t ns = record {
   noted = notes ns;
 }
 
--- any number hands back the whole state; a row that is taken, and notes, leaves what stands past the count
+-- any number returns the whole state; a row that is taken, and notes, leaves what is past the count
 pub rest-stays :
     (takeOf (one (Working 3 0 0) 3 (Working 0 0 0)) (1 ∷ []) .plan ≡ one (Working 3 0 0) 3 (Working 0 0 0))
     × (drop 1 (takeOf (beyond 1 (Resting 0 ∷ Holding 8 8 ∷ [])) (0 ∷ []) .plan .run .tasks) ≡ at 7 7 7 7 (Holding 7 7) ∷ replicate 30 unused)

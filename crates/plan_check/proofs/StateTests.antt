@@ -1,4 +1,4 @@
--- Number 14 of a state: the tests in the order in which code looks, and how many tasks a run that passes has.
+-- Number 14 of a state: the tests in the order in which code tests, and how many tasks a run that passes has.
 use mathlib.Core.Bool.{false, true}
 use mathlib.Core.Path.{_≡_}
 use Prim.Native.Nat.{_≤_}

@@ -16,7 +16,7 @@ use Rattle.plan_check.proofs.PlanBook.{faulty, lateNow, refused, takeRo
 use Rattle.plan_check.specs.Plan.{rowAt}
 use Rattle.plan_check.proofs.Owed.{openAt, owedAt}
 
--- what is noted when tick t has come
+-- what is recorded when tick t has come
 unfoldable pub notedAt : Table → (ℕ → List ℕ) → ℕ → ℕ → ℕ
 notedAt s r zero = cond (eqb 0 (lastS (s .tasks))) (openAt s r 0) (λ p. 0)
 notedAt s r (suc t) = cond (eqb (suc t) (lastS (s .tasks))) (openAt s r (suc t)) (notedAt s r t)
@@ -31,7 +31,7 @@ pub record Ok (s : Table) (r : ℕ → List ℕ) (t : ℕ) : Type 0 where
   pub on-time : lateNow s t (owedAt s r t) ≡ false
   pub right : faulty s t (owedAt s r t) (r t) ≡ false
 
--- and what is looked at after the last
+-- and what is tested after the last
 pub record Closing (s : Table) (r : ℕ → List ℕ) (t : ℕ) : Type 0 where
   pub on-time : lateNow s t (owedAt s r t) ≡ false
   pub same : differs s (planBookAt s r t) ≡ false

@@ -1,5 +1,5 @@
--- What is promised of a row taken: it is refused with n and t exactly if n is the first number that applies, with tick t; taken or accepted exactly if none
--- applies; and what it hands back.
+-- The contract of a row taken: it is refused with n and t exactly if n is the first number that applies, with tick t; taken or accepted exactly if none
+-- applies; and what it returns.
 use mathlib.Core.Bool.{Bool, cond, false, not, true}
 use mathlib.Core.List.{List, map, _++_}
 use mathlib.Core.Logic.{_⊎_, _↔_, ⊎-elim}
@@ -41,11 +41,11 @@ module _ (w : Supplied) (row : List ℕ) where
   abbrev t : ℕ
   t = w .tick
 
-  -- what a row leaves, where nobody is late, passes 14 again
+  -- what a row leaves, where no task is late, passes 14 again
   next-passes : stateOut r ≡ false → missed r ≡ false → stateOut (workedRow r row) ≡ false
   next-passes e m = state-passes (workedRow r row) (worked-passes r row (state-if r e) m)
 
-  -- WHAT AN ANSWER SAYS
+  -- THE MEANING OF AN ANSWER
 
   abbrev Right : Answer → Type 0
   Right Taken = NoneApplies w row × (suc t < horizonIn r)
@@ -262,7 +262,7 @@ module _ (w : Supplied) (row : List ℕ) where
   accepted-exact Accepted h = (λ e. h, λ n. refl)
   accepted-exact (Refused m u) h = (λ e. absurd (let z : _≡_ {A = ℕ} 0 1 = cc in omega arith), λ n. absurd (n .0 m u (h .0)))
 
-  -- WHAT STANDS BESIDE AN ANSWER
+  -- THE VALUE BESIDE AN ANSWER
 
   -- the row was taken, as the last or before
   abbrev Went : Answer → Type 0
@@ -295,7 +295,7 @@ module _ (w : Supplied) (row : List ℕ) where
     there : r .count ≤ length (r .tasks)
     there = all-places r (passes-run r passed)
 
-  -- what is noted of places past the count stays
+  -- what is recorded of places past the count stays
   notes-past : (b : Bool) → r .count ≤ length (r .tasks) → drop (r .count) (cond b (noting (workedRow r row) (w .noted)) (w .noted)) ≡ drop (r .count) (w .noted)
   notes-past false h = refl
   notes-past true h =
@@ -303,7 +303,7 @@ module _ (w : Supplied) (row : List ℕ) where
       ∙ drop-at (map noteOf (take (r .count) (workedRow r row .tasks))) (drop (r .count) (w .noted)) (r .count)
       (length-map (take (r .count) (workedRow r row .tasks)) noteOf ∙ length-take-le (r .count) (workedRow r row .tasks) (omega (arith, worked-length r row, h)))
 
-  -- a value that is the definition's keeps what is promised
+  -- a value that is the definition's meets the contract
   pub take-of : (e : Entered) → e ≡ takeOf w row → TakeOf w row e
   take-of e q = rw q record {
     value = refl;
@@ -334,7 +334,7 @@ module _ (w : Supplied) (row : List ℕ) where
       same-notes Accepted h = notes-past (eqb (suc t) (startIn (workedRow r row))) (there (h .0))
       same-notes (Refused n s) h = refl
 
-  -- where the state was ready, what comes back is ready with the same numbers
+  -- where the state was ready, what is returned is ready with the same numbers
   pub ready-next : (start horizon : ℕ) → Ready r start horizon → Ready (takeOf w row .plan .run) start horizon
   unfolding takeOf
   ready-next start horizon h = go (takeAnswer w row) take-right

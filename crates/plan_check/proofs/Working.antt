@@ -1,4 +1,4 @@
--- One tick of a run in a row: by its counts it is what it is by its bytes; the tasks stay, and what stands past the count.
+-- One tick of a run in a row: by its counts it is what it is by its bytes; the tasks stay, and what is past the count.
 use mathlib.Core.Bool.{Bool, false, true, _||_}
 use mathlib.Core.List.{List, [], _∷_}
 use mathlib.Core.Path.{ap, refl, sym, _∙_, _≡_}
@@ -36,7 +36,7 @@ module _ (r : Run) (ns row : List ℕ) (few : r .count ≤ mostTasks) (same : (b
   count-at : (p : ℕ) → p < r .count → getD ns (suc p) 0 ≡ cellCount (suc p) row
   count-at p l = same (suc p) (omega arith)
 
-  -- the counts say what the bytes do: what is wrong ..
+  -- the counts represent the bytes: what is wrong ..
   pub wrong-counted : anyStranger (r .fence) (r .count) row || anyWrong r ns ≡ faulty r row
   unfolding faulty anyWrong
   wrong-counted =
@@ -52,7 +52,7 @@ module _ (r : Run) (ns row : List ℕ) (few : r .count ≤ mostTasks) (same : (b
       (mapFirst-same (λ p t. nextTask (ruleIn r) false (ltb 0 (getD ns (suc p) 0)) false false t) (workedAt r row) (r .count) (r .tasks)
       (λ p t l. ap (λ (n : ℕ). nextTask (ruleIn r) false (ltb 0 n) false false t) (count-at p l)))
 
--- what is found wrong with a row that is read is what 24 says
+-- what is found wrong with a row that is read is the condition of 24
 pub fault-found :
     (r : Run) (row : List ℕ) (s : Shown) → r .count ≤ mostTasks → ShownOf (r .fence) (r .count) row s → s .strange || anyWrong r (s .cells) ≡ faulty r row
 fault-found r row s few h = go (s .strange) refl
@@ -83,7 +83,7 @@ pub worked-count : (r : Run) (row : List ℕ) → workedRow r row .count ≡ r .
 unfolding workedRow
 worked-count r row = refl
 
--- what stands past the count stays
+-- what is past the count stays
 pub worked-past : (r : Run) (row : List ℕ) → drop (r .count) (workedRow r row .tasks) ≡ drop (r .count) (r .tasks)
 unfolding workedRow
 worked-past r row = drop-mapFirst (workedAt r row) (r .count) (r .tasks)

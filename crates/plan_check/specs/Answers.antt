@@ -1,4 +1,4 @@
--- What a list of rows is answered, and what each answer means, said of the rows and the table alone (request 112). `answer-exact` shows it both ways.
+-- The answer to a list of rows, and the meaning of each answer in terms of the rows and the table alone (request 112). `answer-exact` shows it both ways.
 use mathlib.Core.List.{List}
 use mathlib.Core.Path.{_≡_}
 use Prim.Native.Nat.{_<_, ℕ, _≤_}
@@ -17,7 +17,7 @@ pub data PlanOutcome : Type 0 where
 abbrev pub DeadlineMissed : Table → (ℕ → List ℕ) → ℕ → Type 0
 DeadlineMissed s r t = (p k : ℕ) × (p < length (s .tasks)) × (due (task s p) k ≡ t) × (hadInRows s r p k t < task s p .length)
 
--- before t every row is as it should be and no deadline is missed
+-- before t every row is valid and no deadline is missed
 abbrev pub ValidBefore : Table → (ℕ → List ℕ) → ℕ → Type 0
 ValidBefore s r t = (u : ℕ) → u < t → ValidRow s r u × (¬ DeadlineMissed s r u)
 
@@ -29,7 +29,7 @@ pub data OutcomeFor (s : Table) (rows : List (List ℕ)) : PlanOutcome → Type 
       → OutcomeFor s rows accepts
   -- no fault, and rows are missing
   too-few : length rows < horizon s → ValidBefore s (rowAt rows) (length rows) → OutcomeFor s rows unfinished
-  -- 10: all went well up to the horizon, and there is a row more
+  -- 10: no fault up to the horizon, and there is a row more
   past :
       horizon s < length rows → ValidBefore s (rowAt rows) (horizon s) → ¬ DeadlineMissed s (rowAt rows) (horizon s) → Agree s (rowAt rows)
       → OutcomeFor s rows (refuses 10 0)
@@ -39,7 +39,7 @@ pub data OutcomeFor (s : Table) (rows : List (List ℕ)) : PlanOutcome → Type 
   late :
       (t : ℕ) → t < horizon s → t < length rows → ValidBefore s (rowAt rows) t → length (rowAt rows t) ≡ s .cores → DeadlineMissed s (rowAt rows) t
       → OutcomeFor s rows (refuses 25 t)
-  -- 24: the first fault is the row of t, no deadline being missed at t
+  -- 24: the first fault is the row of t, and no deadline is missed at t
   bad :
       (t : ℕ) → t < horizon s → t < length rows → ValidBefore s (rowAt rows) t → length (rowAt rows t) ≡ s .cores
       → ¬ DeadlineMissed s (rowAt rows) t → ¬ ValidRow s (rowAt rows) t → OutcomeFor s rows (refuses 24 t)

@@ -1,4 +1,4 @@
--- The beginning of a supplied plan, for any table that passes 9, whatever its verdict (request 112).
+-- The beginning of a supplied plan, for any table that passes 9, with any verdict (request 112).
 use mathlib.Core.List.{List}
 use mathlib.Core.Logic.{_↔_}
 use mathlib.Core.Path.{_≡_}
@@ -16,7 +16,7 @@ use Rattle.plan_check.specs.declared.Supplied.{Supplied}
 use Rattle.plan_check.specs.Numbers.{StateOut}
 use Rattle.plan_check.specs.State.{stateAt, blank}
 
--- the table of the words as a run starts, at tick 0: where the last S is 0 its phases are noted at once
+-- the table of the words as a run starts, at tick 0: where the last S is 0 its phases are recorded at once
 abbrev pub firstState : List ℕ → Supplied
 firstState ws = stateAt (startedRun (rule ws) (tableOf ws)) 0 blank
 
@@ -33,7 +33,7 @@ begunBy (Refused n p) w = record { answer = Refused n p; plan = emptyState }
 unfoldable pub beginOf : List ℕ → Begun
 beginOf ws = begunBy (answerOf ws) (firstState ws)
 
--- what is promised of a beginning from the words
+-- the contract of a beginning from the words
 pub record BeginOf (ws : List ℕ) (b : Begun) : Type 0 where
   -- its value
   pub value : b ≡ beginOf ws
@@ -44,6 +44,6 @@ pub record BeginOf (ws : List ℕ) (b : Begun) : Type 0 where
   pub begun : loadMeaning (b .answer) ≡ book.taken → b .plan ≡ firstState ws
   -- refused: all zeros
   pub zeros : (n p : ℕ) → loadMeaning (b .answer) ≡ book.refused n p → b .plan ≡ emptyState
-  -- 14 passes the one, and turns the other down
+  -- a state that begins passes 14; the state of all zeros does not
   pub passes : loadMeaning (b .answer) ≡ book.taken → ¬ StateOut (b .plan .run)
   pub out : (n p : ℕ) → loadMeaning (b .answer) ≡ book.refused n p → StateOut (b .plan .run)

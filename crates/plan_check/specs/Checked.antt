@@ -1,5 +1,5 @@
 -- A WHOLE PLAN (request 112): a list of rows taken one after another from the beginning of a table's words, up to the first that is refused. `checked`
--- shows what is claimed of every table that passes 9 and every list of rows, `own-plans` of every table that is accepted, `own-buffer` of what `plan` writes.
+-- shows the claims of every table that passes 9 and every list of rows, `own-plans` of every table that is accepted, `own-buffer` of what `plan` writes.
 use mathlib.Core.List.{List, [], map, _++_, _∷_}
 use mathlib.Core.Logic.{_↔_}
 use mathlib.Core.Path.{_≡_}
@@ -20,7 +20,7 @@ use Rattle.plan_check.specs.Plan.{Acceptable, ForEver, repeated}
 use Rattle.plan_check.specs.RowAnswer.{RowAnswer, accepted, refused, taken, rowAnswerMeaning}
 use Rattle.plan_check.specs.Take.{takeOf}
 
--- the answer to each row of a list, from state w on: each is taken from the state that the one before it hands back
+-- the answer to each row of a list, from state w on: each is taken from the state after the one before it
 unfoldable pub rowAnswersFrom : Supplied → List (List ℕ) → List RowAnswer
 rowAnswersFrom w [] = []
 rowAnswersFrom w (row ∷ rows) = rowAnswerMeaning (takeOf w row .answer) ∷ rowAnswersFrom (takeOf w row .plan) rows
@@ -29,22 +29,22 @@ rowAnswersFrom w (row ∷ rows) = rowAnswerMeaning (takeOf w row .answer) ∷ ro
 abbrev pub rowAnswersOf : List ℕ → List (List ℕ) → List RowAnswer
 rowAnswersOf ws rows = rowAnswersFrom (beginOf ws .plan) rows
 
--- what the answers to a list come to, where those before it came to o: the first refusal, or else what the last one says
+-- the outcome of the answers to a list, where o is that of those before it: the first refusal, or else the last answer
 unfoldable pub outcomeFrom : PlanOutcome → List RowAnswer → PlanOutcome
 outcomeFrom o [] = o
 outcomeFrom o (taken ∷ rest) = outcomeFrom unfinished rest
 outcomeFrom o (accepted ∷ rest) = outcomeFrom accepts rest
 outcomeFrom o (refused n t ∷ rest) = refuses n t
 
--- what a list of rows is answered
+-- the answer to a list of rows
 abbrev pub outcomeOf : List ℕ → List (List ℕ) → PlanOutcome
 outcomeOf ws rows = outcomeFrom unfinished (rowAnswersOf ws rows)
 
--- what is claimed of the words of a table and a list of rows
+-- the claims about the words of a table and a list of rows
 pub record Checked (ws : List ℕ) (rows : List (List ℕ)) : Type 0 where
-  -- accepted exactly if the plan is as the request says
+  -- accepted exactly if the plan is acceptable
   pub accepted-exact : (outcomeOf ws rows ≡ accepts) ↔ Acceptable (tableOf ws) rows
-  -- and every answer, with its number and tick, exactly if the rows say so
+  -- and every answer, with its number and tick, exactly if its condition holds of the rows
   pub answer-exact : (o : PlanOutcome) → (outcomeOf ws rows ≡ o) ↔ OutcomeFor (tableOf ws) rows o
   -- an accepted plan, repeated from the last S on, meets every deadline for ever, with the width of each job
   pub repeats-for-ever : outcomeOf ws rows ≡ accepts → ForEver (tableOf ws) (repeated (tableOf ws) rows)
@@ -59,7 +59,7 @@ splitRows m n bytes = map (λ t. take m (drop (t * m) bytes)) (upFrom 0 n)
 abbrev pub planRows : Table → List (List ℕ)
 planRows s = splitRows (s .cores) (horizon s) (rowsOf s 0 (horizon s))
 
--- what is claimed of the words of an accepted table: its plan is accepted, and each earlier row is taken
+-- the claim about the words of an accepted table: its plan is accepted, and each earlier row is taken
 abbrev pub OwnPlan : List ℕ → Type 0
 OwnPlan ws = rowAnswersOf ws (planRows (tableOf ws)) ≡ replicate (horizon (tableOf ws) - 1) taken ++ (accepted ∷ [])
 

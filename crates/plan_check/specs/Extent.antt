@@ -1,4 +1,4 @@
--- How far a supplied plan goes, as code keeps it between rows: the last S and the horizon of its run, looked at once.
+-- The extent of a supplied plan, as code keeps it between rows: the last S and the horizon of its run, computed once.
 use mathlib.Core.Bool.{cond, false}
 use mathlib.Core.Path.{_≡_}
 use Prim.Native.Nat.{ℕ, _≤_}
@@ -16,11 +16,11 @@ pub record Ready (r : Run) (s h : ℕ) : Type 0 where
   pub horizon : h ≡ horizonIn r
   pub within : horizonIn r ≤ mostHorizon
 
--- 14, then 9, whatever the row is; 0 where neither applies
+-- 14, then 9, for any row; 0 where neither applies
 unfoldable pub firstNumber : Run → ℕ
 firstNumber r = cond (stateOut r) 14 (cond (horizonOut (horizonIn r)) 9 0)
 
--- what looking ahead gives: that number, and beside 0 the last S and the horizon, beside 14 and 9 zeros
+-- the extent of a run: that number, and beside 0 the last S and the horizon, beside 14 and 9 zeros
 unfoldable pub extentOf : Run → Extent
 extentOf r = record {
   number = firstNumber r;
@@ -28,7 +28,7 @@ extentOf r = record {
   horizon = cond (eqb (firstNumber r) 0) (horizonIn r) 0;
 }
 
--- what is promised of it
+-- the contract of it
 pub record ExtentOf (r : Run) (a : Extent) : Type 0 where
   -- its value
   pub value : a ≡ extentOf r

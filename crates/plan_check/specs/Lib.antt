@@ -1,5 +1,5 @@
--- What a plan by another planner must be, and what each answer to a list of rows says; the state between rows, what beginning and taking a row
--- promise; a whole plan; what code keeps beside the state: how far the plan goes, what a row shows; and that places past the count are not read.
+-- A plan by another planner: its conditions, and the meaning of each answer to a list of rows; the state between rows, the contracts of the beginning and of
+-- a row; a whole plan; what code keeps beside the state: the extent of the plan, the cells of a row; and that places past the count are not read.
 pub mod Plan
 pub mod Answers
 pub mod State

@@ -21,7 +21,7 @@ use Rattle.plan_check.specs.Plan.{cellCount}
 use Rattle.plan_check.specs.Row.{byteAt, shownInRow, workedRow}
 use Rattle.plan_check.specs.State.{stateAt, horizonIn, notedAt}
 
--- WHAT EACH NUMBER SAYS
+-- THE CONDITION OF EACH NUMBER
 
 -- no supplied plan leaves a task in this phase: it holds cores, or its counts are unequal
 abbrev pub UnreachablePhase : Phase → Type 0
@@ -37,7 +37,7 @@ StateOut r = RunOut r ⊎ ((¬ (r .withdrawn ≡ 0)) ⊎ ((p : ℕ) × (p < r .c
 abbrev pub AnyLate : Run → Type 0
 AnyLate r = (p : ℕ) × (p < r .count) × PlaceLate r p
 
--- core c is fenced without 255, or another core with a byte that is neither 0 nor a position
+-- core c is fenced without 255, or another core with a byte that is neither 0 nor a position: an unknown position
 abbrev pub StrangerAt : Run → List ℕ → ℕ → Type 0
 StrangerAt r row c =
     ((bit (r .fence) c ≡ true) × (¬ (byteAt row c ≡ fencedByte)))
@@ -47,19 +47,19 @@ StrangerAt r row c =
 abbrev pub WorkOwed : Run → ℕ → Type 0
 WorkOwed r p = (z had reserved : ℕ) × (phaseAt r p ≡ Working z had reserved)
 
--- place p is in the row, and that with another width than its job's, or with nothing owed
+-- place p is in the row, with another width than its job's, or with nothing owed
 abbrev pub WrongAt : Run → List ℕ → ℕ → Type 0
 WrongAt r row p = (shownInRow row p ≡ true) × ((¬ (cellCount (suc p) row ≡ widthNow (placeAt r p))) ⊎ (¬ WorkOwed r p))
 
--- a stranger, or a place in the row with a wrong width or nothing owed
+-- an unknown position, or a place in the row with a wrong width or nothing owed
 abbrev pub Faulty : Run → List ℕ → Type 0
 Faulty r row = ((c : ℕ) × (c < length row) × StrangerAt r row c) ⊎ ((p : ℕ) × (p < r .count) × WrongAt r row p)
 
--- some task's phase is not the one noted, parity aside
+-- some task's phase is not the recorded one, apart from parity
 abbrev pub Differs : Supplied → Type 0
 Differs w = (p : ℕ) × (p < w .run .count) × (¬ (phaseAt (w .run) p ≡ notedAt w p))
 
--- the state that the row leaves, one tick on
+-- the state after the row, one tick on
 abbrev pub afterRow : Supplied → List ℕ → Supplied
 afterRow w row = stateAt (workedRow (w .run) row) (suc (w .tick)) (w .noted)
 
@@ -67,7 +67,7 @@ afterRow w row = stateAt (workedRow (w .run) row) (suc (w .tick)) (w .noted)
 abbrev pub Last : Supplied → Type 0
 Last w = suc (w .tick) ≡ horizonIn (w .run)
 
--- number n applies to a row, with tick t
+-- number n applies to a row, with tick t. As in table/specs/Numbers, with a tick for the position: `Applies`, `First`, `NoneApplies`, `Earlier`, `order`
 pub data Applies (w : Supplied) (row : List ℕ) : ℕ → ℕ → Type 0 where
   -- 14. The run is one that 14 turns down, or has a task Holding, withdrawn or with unequal counts.
   fourteen : StateOut (w .run) → Applies w row 14 0
@@ -80,9 +80,9 @@ pub data Applies (w : Supplied) (row : List ℕ) : ℕ → ℕ → Type 0 where
   -- 25. A deadline is missed at the start of this tick; after the last row, on the horizon.
   late-now : AnyLate (w .run) → Applies w row 25 (w .tick)
   late-last : Last w → AnyLate (workedRow (w .run) row) → Applies w row 25 (suc (w .tick))
-  -- 24. A stranger in the row, a wrong width, or nothing owed.
+  -- 24. An unknown position in the row, a wrong width, or nothing owed.
   twenty-four : Faulty (w .run) row → Applies w row 24 (w .tick)
-  -- 26. After the last row the phases differ from those noted at the last S.
+  -- 26. After the last row the phases differ from those recorded at the last S.
   twenty-six : Last w → Differs (afterRow w row) → Applies w row 26 (suc (w .tick))
 
 -- WHICH IS THE FIRST

@@ -1,5 +1,5 @@
--- Places past the count (scope, 'The run in the cab'): later calls neither read nor change them, nor what is noted of them (request 112). `past-unread`
--- shows the one, `past` and `past-notes` of `TakeOf` say the other.
+-- Places past the count (scope, 'The run in the cab'): later calls neither read nor change them, nor the phases recorded of them (request 112). They are not
+-- read (`past-unread`), and not changed (`past` and `past-notes` of `TakeOf`).
 use mathlib.Core.List.{List}
 use mathlib.Core.Path.{_≡_}
 use Prim.Native.Nat.{ℕ}
@@ -10,13 +10,13 @@ use Rattle.plan_check.specs.Extent.{extentOf}
 use Rattle.plan_check.specs.Checked.{rowAnswersFrom}
 use Rattle.plan_check.specs.Take.{takeOf}
 
--- two states that are equal up to the count: their runs, their ticks, and what is noted
+-- two states that are equal up to the count: their runs, their ticks, and the recorded phases
 pub record SameSupplied (w v : Supplied) : Type 0 where
   pub run : SameBelow (w .run) (v .run)
   pub tick : w .tick ≡ v .tick
   pub noted : take (w .run .count) (w .noted) ≡ take (v .run .count) (v .noted)
 
--- they go equally far; to any row they get equal answers, and it leaves states that are equal up to the count; so all rows are answered equally
+-- they have equal extents; to any row they give equal answers, and the states after it are equal up to the count; so all rows get equal answers
 pub record PlanTailUnread (w v : Supplied) : Type 0 where
   pub extent : extentOf (w .run) ≡ extentOf (v .run)
   pub answer : (row : List ℕ) → takeOf w row .answer ≡ takeOf v row .answer

@@ -1,4 +1,4 @@
--- What a supplied row says to a run (request 112): who is in it, what is wrong with it, and the tick in which exactly those in it have worked.
+-- A supplied row for a run (request 112): the tasks in it, its faults, and the tick in which exactly these have worked.
 use mathlib.Core.Bool.{_&&_, Bool, cond, false, not, _||_}
 use mathlib.Core.List.{List}
 use Prim.Native.Nat.{suc, ℕ}
@@ -21,7 +21,7 @@ byteAt row c = getD row c 0
 abbrev pub shownInRow : List ℕ → ℕ → Bool
 shownInRow row p = ltb 0 (cellCount (suc p) row)
 
--- core c shows a stranger: it is fenced without 255, or another core with a byte above the last position
+-- core c shows an unknown position: it is fenced without 255, or another core with a byte above the last position
 abbrev pub strangerAt : ℕ → ℕ → List ℕ → ℕ → Bool
 strangerAt fence count row c = cond (bit fence c) (not (eqb (byteAt row c) fencedByte)) (ltb count (byteAt row c))
 
@@ -32,15 +32,15 @@ anyStranger fence count row = any (length row) (strangerAt fence count row)
 abbrev pub wrongAt : Run → List ℕ → ℕ → Bool
 wrongAt r row p = shownInRow row p && not (eqb (cellCount (suc p) row) (widthNow (placeAt r p)) && working (phaseAt r p))
 
--- 24: a stranger, a wrong width or nothing owed (`faulty-decides`)
+-- 24: an unknown position, a wrong width or nothing owed (`faulty-decides`)
 unfoldable pub faulty : Run → List ℕ → Bool
 faulty r row = anyStranger (r .fence) (r .count) row || any (r .count) (wrongAt r row)
 
--- what the tick makes of the task at place p: where it is in the row it is given its cores; no job is empty, reported or lent any
+-- the task at place p after the tick: where it is in the row it is given its cores; no job is empty, reported or lent any
 abbrev pub workedAt : Run → List ℕ → ℕ → Task → Task
 workedAt r row p t = nextTask (ruleIn r) false (shownInRow row p) false false t
 
--- the run one tick on: each task below the count moves, all else stays
+-- the run one tick on: each task below the count changes, all else stays
 unfoldable pub workedRow : Run → List ℕ → Run
 workedRow r row = record {
   rule = r .rule;

@@ -1,15 +1,15 @@
--- What a row of a supplied plan is answered (request 112), in the paper's numbers and values.
+-- The answer to a row of a supplied plan (request 112), in the paper's numbers and values.
 use Prim.Native.Nat.{ℕ}
 use Rattle.plan_check.specs.declared.Answer.{Answer}
 use Rattle.plan_check.specs.declared.Answer.the-variants.{Accepted, Refused, Taken}
 use Rattle.plan_check.specs.declared.Supplied.{Supplied}
 
--- taken, or taken as the last and the plan accepted, or refused with number and tick: 24 to 26 come with theirs, all else with 0
+-- taken, or taken as the last and the plan accepted, or refused with number and tick: 24 to 26 have their tick, all else 0
 pub data RowAnswer : Type 0 where
   taken accepted : RowAnswer
   refused : ℕ → ℕ → RowAnswer
 
--- the answer that each case is
+-- the meaning of each case
 abbrev pub rowAnswerMeaning : Answer → RowAnswer
 rowAnswerMeaning Taken = taken
 rowAnswerMeaning Accepted = accepted

@@ -1,4 +1,4 @@
--- What a row shows as code keeps it: for each byte, how many cores show it; what is wrong with that, and the tick by it.
+-- The cells of a row as code keeps them: for each byte, how many cores show it; its faults, and the tick by them.
 use mathlib.Core.Bool.{_&&_, Bool, false, not}
 use mathlib.Core.List.{List}
 use mathlib.Core.Path.{_≡_}
@@ -15,7 +15,7 @@ use Rattle.plan_check.specs.declared.rows.Shown.{Shown}
 use Rattle.plan_check.specs.Plan.{cellCount}
 use Rattle.plan_check.specs.Row.{anyStranger}
 
--- a stranger is met, or for each byte the number of cores that show it is kept
+-- an unknown position is met, or for each byte the number of cores that show it is kept
 pub record ShownOf (fence count : ℕ) (row : List ℕ) (s : Shown) : Type 0 where
   pub strange : s .strange ≡ anyStranger fence count row
   pub counted : s .strange ≡ false → (b : ℕ) → b < 256 → getD (s .cells) b 0 ≡ cellCount b row
@@ -24,7 +24,7 @@ pub record ShownOf (fence count : ℕ) (row : List ℕ) (s : Shown) : Type 0 whe
 abbrev pub wrongWith : Task → ℕ → Bool
 wrongWith t n = ltb 0 n && not (eqb n (widthNow t) && working (t .phase))
 
--- some task of the run is so, in a row of these counts
+-- some task of the run is wrong in a row of these counts
 unfoldable pub anyWrong : Run → List ℕ → Bool
 anyWrong r ns = any (r .count) (λ p. wrongWith (placeAt r p) (getD ns (suc p) 0))
 

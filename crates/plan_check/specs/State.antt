@@ -1,4 +1,4 @@
--- A supplied plan between two rows (request 112): a run, its tick, and the phases noted at the last S. Place p is position p + 1.
+-- A supplied plan between two rows (request 112): a run, its tick, and the phases recorded at the last S. Place p is position p + 1.
 use mathlib.Core.Bool.{cond}
 use mathlib.Core.List.{List, map, _++_}
 use Prim.Native.Nat.{ℕ}
@@ -21,15 +21,15 @@ startIn r = lastS (tasksIn r)
 abbrev pub horizonIn : Run → ℕ
 horizonIn r = horizon (runTable r)
 
--- a phase noted; the parity of the job is left aside
+-- a phase recorded; without the parity of the job
 abbrev pub note : Phase → Note
 note ph = record { phase = ph }
 
--- the phase noted of a task
+-- the phase recorded of a task
 abbrev pub noteOf : Task → Note
 noteOf t = note (t .phase)
 
--- nothing noted: Resting(0), which no task below the count has in a run that passes 14
+-- nothing recorded: Resting(0), which no task below the count has in a run that passes 14
 abbrev pub blank : List Note
 blank = replicate mostTasks (note (Resting 0))
 
@@ -37,14 +37,14 @@ blank = replicate mostTasks (note (Resting 0))
 abbrev pub pastNote : Note
 pastNote = note (Coming 0)
 
--- what is noted of place p
+-- the phase recorded of place p
 abbrev pub notedAt : Supplied → ℕ → Phase
 notedAt w p = getD (w .noted) p pastNote .phase
 
--- the phases of the tasks below the count; what stands past it stays
+-- the phases of the tasks below the count; the rest of the list stays
 abbrev pub noting : Run → List Note → List Note
 noting r ns = map noteOf (take (r .count) (r .tasks)) ++ drop (r .count) ns
 
--- a run that arrives at tick t: at the last S its phases are noted
+-- a run that arrives at tick t: at the last S its phases are recorded
 abbrev pub stateAt : Run → ℕ → List Note → Supplied
 stateAt r t ns = record { run = r; tick = t; noted = cond (eqb t (startIn r)) (noting r ns) ns }

@@ -22,11 +22,11 @@ use Rattle.plan_check.specs.State.{horizonIn}
 unfoldable pub finalAnswer : Supplied → Answer
 finalAnswer w = cond (missed (w .run)) (Refused 25 (w .tick)) (cond (differs w) (Refused 26 (w .tick)) Accepted)
 
--- the answer of the state that a row leaves
+-- the answer of the state after a row
 unfoldable pub answerAt : Supplied → Answer
 answerAt w = cond (eqb (w .tick) (horizonIn (w .run))) (finalAnswer w) Taken
 
--- 14, 9, 10 and 11, then 25 and 24 in this tick; else by the state that the row leaves
+-- 14, 9, 10 and 11, then 25 and 24 in this tick; else by the state after the row
 unfoldable pub takeAnswer : Supplied → List ℕ → Answer
 takeAnswer w row =
     cond (stateOut (w .run)) (Refused 14 0)
@@ -37,11 +37,11 @@ takeAnswer w row =
     (cond (faulty (w .run) row) (Refused 24 (w .tick))
     (answerAt (afterRow w row)))))))
 
--- the answer, and the state one tick on; any number hands the state back as given
+-- the answer, and the state one tick on; where refused, the state as given
 unfoldable pub takeOf : Supplied → List ℕ → Entered
 takeOf w row = record { answer = takeAnswer w row; plan = stateByAnswer (takeAnswer w row) (afterRow w row) w }
 
--- what is promised of a row taken from state w
+-- the contract of a row taken from state w
 pub record TakeOf (w : Supplied) (row : List ℕ) (e : Entered) : Type 0 where
   -- its value
   pub value : e ≡ takeOf w row
@@ -55,8 +55,8 @@ pub record TakeOf (w : Supplied) (row : List ℕ) (e : Entered) : Type 0 where
   -- .. it passes 14 again, and its tasks, and with them its horizon, are the same
   pub passes : (rowAnswerMeaning (e .answer) ≡ said.taken) ⊎ (rowAnswerMeaning (e .answer) ≡ said.accepted) → ¬ StateOut (e .plan .run)
   pub tasks : tasksIn (e .plan .run) ≡ tasksIn (w .run)
-  -- any number hands the state back as given
+  -- refused: the state as given
   pub as-given : (n t : ℕ) → rowAnswerMeaning (e .answer) ≡ said.refused n t → e .plan ≡ w
-  -- places past the count, and what is noted of them, come back as given
+  -- places past the count, and the phases recorded of them, are as given
   pub past : drop (w .run .count) (e .plan .run .tasks) ≡ drop (w .run .count) (w .run .tasks)
   pub past-notes : drop (w .run .count) (e .plan .noted) ≡ drop (w .run .count) (w .noted)

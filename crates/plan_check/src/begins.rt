@@ -1,4 +1,4 @@
-// A state of all zeros: what a refused beginning leaves, and nothing noted.
+// A state of all zeros: the state of a refused beginning, with nothing recorded.
 ghost use mathlib.Core.Path.{_≡_};
 ghost use Rattle.plan_check.specs.Begin.{emptyState};
 ghost use Rattle.plan_check.specs.State.{blank};
@@ -7,7 +7,7 @@ use crate::Supplied;
 use model::MOST_TASKS;
 use phase::Phase;
 
-// Nothing noted.
+// Nothing recorded.
 pub(crate) fn blank() -> [Note; MOST_TASKS]
     ensures { λ r. ⌜ r ≡ blank ⌝ }
 {
@@ -17,7 +17,7 @@ pub(crate) fn blank() -> [Note; MOST_TASKS]
     [note; MOST_TASKS]
 }
 
-// A state of all zeros, which 14 turns down: its run is what a refused start leaves.
+// A state of all zeros, which 14 turns down: its run is that of a refused start.
 pub(crate) fn empty() -> Supplied
     ensures { λ r. ⌜ r ≡ emptyState ⌝ }
 {

@@ -1,4 +1,4 @@
-// Number 14 of a state, 25, and the answer of the state that a row leaves, with 26.
+// Number 14 of a state, 25, and the answer of the state after a row, with 26.
 ghost use mathlib.Core.Path.{_≡_};
 ghost use mathlib.Core.Bool.{_&&_};
 ghost use Prim.Native.Nat.{_≤_};
@@ -108,7 +108,7 @@ fn same(a: Phase, b: Phase) -> bool
 }
 
 impl Supplied {
-    // Whether some task's phase is not the one noted (number 26).
+    // Whether some task's phase is not the recorded one (number 26).
     fn differs(self) -> bool
         requires { ⌜ self .run .count ≤ mostTasks ⌝ }
         ensures { λ r. ⌜ r ≡ differs self ⌝ }
@@ -147,7 +147,7 @@ impl Supplied {
         Answer::Accepted
     }
 
-    // The answer of the state that a row leaves, where the horizon is known.
+    // The answer of the state after a row, where the horizon is known.
     pub(crate) fn answer_at(self, horizon: u32) -> Answer
         requires { ⌜ self .run .count ≤ mostTasks ⌝ ∗ ⌜ horizon ≡ horizonIn (self .run) ⌝ }
         ensures { λ r. ⌜ r ≡ answerAt self ⌝ }

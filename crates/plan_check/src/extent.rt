@@ -1,4 +1,4 @@
-// How far a supplied plan goes: the last S and the horizon of its run, and numbers 14 and 9.
+// The extent of a supplied plan: the last S and the horizon of its run, and numbers 14 and 9.
 ghost use mathlib.Core.Path.{_≡_};
 ghost use mathlib.Core.Bool.{false};
 ghost use Rattle.plan_check.specs.Extent.{ExtentOf};
@@ -24,7 +24,7 @@ fn no_extent(number: u32) -> Extent
     }
 }
 
-// How far the plan of a run that passes 14 goes: S and P of its tasks.
+// The extent of the plan of a run that passes 14: S and P of its tasks.
 fn by_tasks(run: Run) -> Extent
     requires { ⌜ stateOut run ≡ false ⌝ }
     ensures { λ r. ⌜ ExtentOf run r ⌝ }
@@ -44,7 +44,7 @@ fn by_tasks(run: Run) -> Extent
 }
 
 impl Supplied {
-    // How far the plan goes, or 14 or 9. A taken row leaves it as it is.
+    // The extent of the plan, or 14 or 9. A taken row does not change it.
     pub fn extent(self) -> Extent
         ensures { λ r. ⌜ ExtentOf (self .run) r ⌝ }
     {

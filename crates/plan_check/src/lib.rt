@@ -8,48 +8,48 @@ ghost use Rattle.plan_check.specs.Begin.{BeginOf};
 ghost use Rattle.plan_check.specs.RowAnswer.{stateByAnswer};
 ghost use Rattle.plan_check.specs.Take.{TakeOf, takeOf};
 
-mod extent; // extent.rt: how far a plan goes, and numbers 14 and 9
+mod extent; // extent.rt: the extent of a plan, and numbers 14 and 9
 mod begins; // begins.rt: a state of all zeros
 mod bounds; // bounds.rt: number 14 of a state, 25 and 26
-mod moves; // moves.rt: one tick, and the phases noted
-mod rows; // rows.rt: what a row shows, and number 24
+mod moves; // moves.rt: one tick, and the phases recorded
+mod rows; // rows.rt: the cells of a row, and number 24
 
 use model::MOST_TASKS;
 use phase::Phase;
 use run::Run;
 
-// A phase noted at the last S.
+// A phase recorded at the last S.
 pub struct Note {
     pub phase: Phase,
 }
 
-// A supplied plan between two rows: a run, its tick, and the phases noted at the last S.
+// A supplied plan between two rows: a run, its tick, and the phases recorded at the last S.
 pub struct Supplied {
     pub run: Run,
     pub tick: u32,
     pub noted: [Note; MOST_TASKS],
 }
 
-// What the beginning gives: the table's answer, and the state at tick 0.
+// The result of the beginning: the table's answer, and the state at tick 0.
 pub struct Begun {
     pub answer: table::Answer,
     pub plan: Supplied,
 }
 
-// What a row is answered: taken; taken as the last, and the plan accepted; or refused with number and tick.
+// The answer to a row: taken; taken as the last, and the plan accepted; or refused with number and tick.
 pub enum Answer {
     Taken,
     Accepted,
     Refused(u32, u32),
 }
 
-// What a row gives: the answer, and the next state.
+// The result of a row: the answer, and the next state.
 pub struct Entered {
     pub answer: Answer,
     pub plan: Supplied,
 }
 
-// The state at tick 0 for the words of a table, whatever its verdict; or the first of 1 to 9 and 19 that applies, and a state of all zeros.
+// The state at tick 0 for the words of a table, with any verdict; or the first of 1 to 9 and 19 that applies, and a state of all zeros.
 pub fn begin(words: &[u32]) -> Begun
     ensures { λ r. ⌜ BeginOf (now (words .entry)) r ⌝ }
 {
@@ -87,7 +87,7 @@ impl Supplied {
         }
     }
 
-    // The answer with the state that goes with it: the next one, or where it is refused the one given.
+    // The answer with its state: the next one, or where it is refused the one given.
     fn by_answer(self, answer: Answer, next: Supplied) -> Entered
         ensures { λ r. ⌜ r ≡ record { answer = answer; plan = stateByAnswer answer next self } ⌝ }
     {
@@ -104,7 +104,7 @@ impl Supplied {
         }
     }
 
-    // The row of a tick before the horizon, one byte a core: 25, 24, or by the state that it leaves.
+    // The row of a tick before the horizon, one byte a core: 25, 24, or the answer of the state after it.
     fn shown(self, start: u32, horizon: u32, row: &[u8]) -> Entered
         requires { ⌜ Ready (self .run) start horizon ⌝ ∗ ⌜ self .tick < horizon ⌝ ∗ ⌜ length (now row) ≡ self .run .cores ⌝ }
         ensures { λ r. ⌜ r ≡ takeOf self (now (row .entry)) ⌝ }
@@ -124,7 +124,7 @@ impl Supplied {
         self.by_answer(answer, next)
     }
 
-    // The row of this tick, as `take` answers it, where `extent` has been asked: for rows in their thousands. What it hands back is ready for the next.
+    // The answer of `take` to the row of this tick, where `extent` is known: for plans of many rows. The state that it returns is ready for the next row.
     pub fn enter(self, start: u32, horizon: u32, row: &[u8]) -> Entered
         requires { ⌜ Ready (self .run) start horizon ⌝ }
         ensures { λ r. ⌜ (r ≡ takeOf self (now (row .entry))) × Ready (r .plan .run) start horizon ⌝ }
@@ -139,8 +139,8 @@ impl Supplied {
         self.shown(start, horizon, row)
     }
 
-    // The row of this tick, one byte a core: taken, and the state one tick on; accepted as the last one; or 14, 9, 10, 11, 25, 24 and, after the last
-    // row, 25 and 26 at the horizon, and the state as given.
+    // The row of this tick, one byte a core: taken, with the state one tick on; accepted as the last one; or 14, 9, 10, 11, 25, 24 and, after the last
+    // row, 25 and 26 at the horizon, with the state as given.
     pub fn take(self, row: &[u8]) -> Entered
         ensures { λ r. ⌜ TakeOf self (now (row .entry)) r ⌝ }
     {

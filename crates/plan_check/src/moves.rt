@@ -1,4 +1,4 @@
-// One tick of a supplied plan: each task in the row has worked, and at the last S the phases are noted.
+// One tick of a supplied plan: each task in the row has worked, and at the last S the phases are recorded.
 ghost use mathlib.Core.Path.{_≡_};
 ghost use mathlib.Core.Bool.{false};
 ghost use Prim.Native.Nat.{_≤_, _<_, suc};
@@ -12,7 +12,7 @@ use crate::rows::BYTES;
 use model::MOST_TASKS;
 use run::Run;
 
-// The run one tick on, in a row of so many cells.
+// The run one tick on, in a row with these counts of cells.
 fn worked(run: Run, cells: &[u8; BYTES]) -> Run
     requires { ⌜ runOut run ≡ false ⌝ }
     ensures { λ r. ⌜ r ≡ workedWith run (now (cells .entry)) ⌝ }
@@ -30,7 +30,7 @@ fn worked(run: Run, cells: &[u8; BYTES]) -> Run
     next
 }
 
-// The phases of the tasks below the count noted; what stands past it stays.
+// The phases of the tasks below the count recorded; the rest of the array stays.
 fn noting(run: Run, noted: [Note; MOST_TASKS]) -> [Note; MOST_TASKS]
     requires { ⌜ run .count ≤ mostTasks ⌝ }
     ensures { λ r. ⌜ r ≡ noting run noted ⌝ }
@@ -47,7 +47,7 @@ fn noting(run: Run, noted: [Note; MOST_TASKS]) -> [Note; MOST_TASKS]
     notes
 }
 
-// A run that arrives at a tick: at the last S its phases are noted.
+// A run that arrives at a tick: at the last S its phases are recorded.
 pub(crate) fn state_at(run: Run, tick: u32, start: u32, noted: [Note; MOST_TASKS]) -> Supplied
     requires { ⌜ run .count ≤ mostTasks ⌝ ∗ ⌜ start ≡ startIn run ⌝ }
     ensures { λ r. ⌜ r ≡ stateAt run tick noted ⌝ }
@@ -68,7 +68,7 @@ pub(crate) fn state_at(run: Run, tick: u32, start: u32, noted: [Note; MOST_TASKS
 }
 
 impl Supplied {
-    // The state that a row of so many cells leaves.
+    // The state after a row with these counts of cells.
     pub(crate) fn after(self, start: u32, cells: &[u8; BYTES]) -> Supplied
         requires { ⌜ runOut (self .run) ≡ false ⌝ ∗ ⌜ start ≡ startIn (self .run) ⌝ ∗ ⌜ self .tick < mostWord ⌝ }
         ensures { λ r. ⌜ r ≡ stateAt (workedWith (self .run) (now (cells .entry))) (suc (self .tick)) (self .noted) ⌝ }

@@ -1,4 +1,4 @@
-// What a supplied row shows: how many cores have each byte, strangers, and tasks with a wrong width or nothing owed (number 24).
+// The cells of a supplied row: how many cores have each byte, unknown positions, and tasks with a wrong width or nothing owed (number 24).
 ghost use mathlib.Core.Path.{_≡_};
 ghost use mathlib.Core.Bool.{not, cond};
 ghost use Prim.Native.Nat.{ℕ, _+_, _≤_, _<_};
@@ -17,13 +17,13 @@ pub const BYTES: usize = 256;
 // The byte of a fenced core.
 const FENCED: u8 = 255;
 
-// Whether the row shows a stranger; and where it does not, how many cores show each byte.
+// Whether the row shows an unknown position; and where it does not, how many cores show each byte.
 pub struct Shown {
     pub strange: bool,
     pub cells: [u8; BYTES],
 }
 
-// Whether a byte is a stranger on a core: a fenced one without 255, another with a byte above the last position.
+// Whether a byte is an unknown position on a core: a fenced one without 255, another with a byte above the last position.
 fn stranger(fence: u64, count: usize, core: u32, byte: u8) -> bool
     requires { ⌜ core < mostCores ⌝ }
     ensures { λ r. ⌜ r ≡ cond (bit fence core) (not (eqb byte fencedByte)) (ltb count byte) ⌝ }
@@ -43,7 +43,7 @@ fn add(cells: &mut [u8; BYTES], byte: u8)
     cells[byte as usize] += 1;
 }
 
-// What a row shows.
+// The cells of a row.
 pub(crate) fn counted(row: &[u8], fence: u64, count: usize) -> Shown
     requires { ⌜ length (now row) ≤ mostCores ⌝ }
     ensures { λ r. ⌜ ShownOf fence count (now (row .entry)) r ⌝ }
@@ -74,7 +74,7 @@ fn width_of(task: Task) -> u32
     if task.even { task.second } else { task.width }
 }
 
-// Whether a task that has so many cores of the row has another number than its job's width, or nothing owed.
+// Whether a task that has this number of cores of the row has another number than its job's width, or nothing owed.
 fn wrong(task: Task, cells: u8) -> bool
     ensures { λ r. ⌜ r ≡ wrongWith task cells ⌝ }
 {
@@ -82,7 +82,7 @@ fn wrong(task: Task, cells: u8) -> bool
     (0 < cells) & !((cells as u32 == width_of(task)) & phase.works())
 }
 
-// Whether some task of the run is wrong in a row of so many cells.
+// Whether some task of the run is wrong in a row with these counts of cells.
 pub(crate) fn any_wrong(run: Run, cells: &[u8; BYTES]) -> bool
     requires { ⌜ run .count ≤ mostTasks ⌝ }
     ensures { λ r. ⌜ r ≡ anyWrong run (now (cells .entry)) ⌝ }

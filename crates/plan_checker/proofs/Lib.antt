@@ -1,2 +1,2 @@
--- Laws of a turn.
+-- Laws of a round.
 pub mod Rounds

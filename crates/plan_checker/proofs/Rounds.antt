@@ -1,4 +1,4 @@
--- Laws of a turn: bytes moved to the front of the buffer, and what came of a read.
+-- Laws of a round: bytes moved to the front of the buffer, and what came of a read.
 use mathlib.Core.Bool.{Bool, false, false≢true, not, true, true≢false}
 use mathlib.Core.List.{List, _++_, _∷_, []}
 use mathlib.Core.Path.{_∙_, _≡_, ap, ap₂, refl, subst, subst⁻¹, sym}
@@ -21,7 +21,7 @@ use Rattle.plan_checker.specs.Rounds.{ReceivedBytes, ReceivedOf, MovedTo
 
 -- TO THE FRONT
 
--- so many bytes have been moved, and what states from there on is as it was
+-- a number of bytes has been moved, and the rest of the buffer is as it was
 abbrev pub Moved : ℕ → List ℕ → List ℕ → ℕ → Type 0
 Moved from before b k = (length b ≡ length before) × (take k b ≡ take k (drop from before)) × (drop k b ≡ drop k before)
 
@@ -49,7 +49,7 @@ kept-of from end before b k w e = record { count = refl; same = w .0; front = ap
 -- A READ
 
 module _ (c : Check) (held : ℕ) (before read after : List ℕ) (r : Received) (w : ReadAfter held before read (r .reading)) (same : length after ≡ length before) where
-  -- what the read brought, behind what was left
+  -- the bytes read, after what was left
   came : List ℕ
   came = drop held (take (r .reading .held) read)
 
@@ -115,7 +115,7 @@ module _ (c : Check) (held : ℕ) (before read after : List ℕ) (r : Received) 
     unread = λ g. (e, a);
   }
 
--- where it reads again there is room
+-- where it reads again there is space
 pub again-room : (c : Check) (held : ℕ) (before after : List ℕ) (r : Received) → ReceivedOf c held before after r → r .again ≡ true → r .held < tooMany
 again-room c held before after r w a = go (r .reading .failed) (r .reading .ended) refl refl
   where

@@ -1,4 +1,4 @@
-// Reads a table, a line `--` and a supplied plan from standard input as they come, and prints what is said to it: one line.
+// Reads a table, a line `--` and a supplied plan from standard input as they come, and prints the answer: one line.
 ghost use mathlib.Core.Path.{_≡_};
 ghost use Prim.Native.Nat.{_<_, _≤_};
 ghost use lib.ListN.{length};
@@ -12,7 +12,7 @@ use stream::Reading;
 use stream::Sent;
 use text::row::LINE;
 
-// What came of a read: the check after it, how many bytes of the buffer are left to it, what was written, and whether it reads again.
+// The result of a read: the check after it, how many bytes of the buffer are left to it, what was written, and whether it reads again.
 struct Received {
     reading: Reading,
     check: Check,
@@ -21,7 +21,7 @@ struct Received {
     again: bool,
 }
 
-// Prints what is said.
+// Prints the answer.
 fn print(answer: PlanAnswer) -> Sent
     ensures { λ r. ⌜ SentOf 0 (planAnswerLine answer) r ⌝ }
 {
@@ -30,7 +30,7 @@ fn print(answer: PlanAnswer) -> Sent
     stream::send(0, &line[..length])
 }
 
-// Moves the bytes from a place up to another to the front of the buffer; the answer is how many they are.
+// Moves the bytes from a place up to another to the front of the buffer; returns how many they are.
 fn move_to_front(buffer: &mut [u8], from: usize, end: usize) -> usize
     requires { ⌜ (from ≤ end) × (end ≤ length (now buffer)) ⌝ }
     ensures { λ r. ⌜ MovedToFront from end (now (buffer .entry)) (now (buffer .exit)) r ⌝ }
@@ -54,7 +54,7 @@ fn nothing_sent() -> Sent
     }
 }
 
-// Reads once behind the bytes that are left, and prints what is said if that is the answer.
+// Reads once after the bytes that are left, and prints the answer if it is known.
 fn receive(check: Check, buffer: &mut [u8], held: usize) -> Received
     requires { ⌜ held < length (now buffer) ⌝ }
     ensures { λ r. ⌜ ReceivedOf check held (now (buffer .entry)) (now (buffer .exit)) r ⌝ }
@@ -106,7 +106,7 @@ fn receive(check: Check, buffer: &mut [u8], held: usize) -> Received
     }
 }
 
-// A proved loop has to end, and nothing says that standard input does: the turns are counted down from a number that no run uses up.
+// A proved loop has to end, and no contract ensures that standard input does: the rounds are counted down from a number that no run uses up.
 fn main() {
     let mut check = Check::new();
     let mut buffer = io::buffer();

@@ -1,4 +1,4 @@
--- What is said, case by case.
+-- The answers, case by case.
 use mathlib.Core.Bool.{Bool, _&&_, _||_, cond, false, false≢true, true}
 use mathlib.Core.List.{List, [], _++_, _∷_}
 use mathlib.Core.Path.{_∙_, _≡_, ap, ap₂, refl, sym}
@@ -74,7 +74,7 @@ pub entered-refused :
     (a : foreign.Answer) (w : Supplied) (n k t : ℕ) (s : PlanAnswer) → a ≡ answer.Refused k t → s ≡ refusalAnswer k t → lineAnswer (rowsAt w n false) s ≡ rowEntered a w n
 entered-refused a w n k t s e h = rw (e, h)
 
--- the plan after a row is what `take` hands back
+-- the plan after a row is what `take` returns
 pub entered-plan : (a : foreign.Answer) (w : Supplied) (n : ℕ) → rowEntered a w n .rows .plan ≡ w
 entered-plan answer.Taken w n = refl
 entered-plan answer.Accepted w n = refl
@@ -88,7 +88,7 @@ pub end-unfinished : (r : PlanProgress) → r .accepted ≡ false → Unfinished
 unfolding endAnswer
 end-unfinished r e = rw e
 
--- a line that is passed over
+-- a line that is skipped
 pub step-passed :
     (r : PlanProgress) (l : List ℕ) (n : ℕ) (p : Bool) → p ≡ skipped r l → p ≡ true → n ≡ nextLine (r .lines)
     → lineAnswer (rowsAt (r .plan) n (r .accepted)) More ≡ stepOf r l
@@ -109,7 +109,7 @@ count-within (row t ns) k e =
     omega (arith, a, b)
 count-within noRow k e = let a : k .count ≡ 0 = ap (λ (y : Line). y .count) e in omega (arith, a)
 
--- a row of the tick that is wanted is taken ..
+-- a row of the expected tick is taken ..
 pub enters-row :
     (r : PlanProgress) (x : Read) (k : Line) (e : Entered) (u : LineAnswer) → k ≡ readLine x → k .found ≡ true → k .tick ≡ r .plan .tick
     → e ≡ takeOf (r .plan) (take (k .count) (k .cells)) → u ≡ rowEntered (e .answer) (e .plan) (nextLine (r .lines)) → u ≡ enters r x
@@ -131,7 +131,7 @@ pub enters-none : (r : PlanProgress) (x : Read) (k : Line) (n : ℕ) → k ≡ r
 enters-none r (row t ns) k n q f h = absurd (false≢true (sym f ∙ ap (λ (y : Line). y .found) q))
 enters-none r noRow k n q f h = rw h
 
--- WHERE MORE IS WANTED
+-- WHERE MORE LINES ARE NEEDED
 
 pub on-more : (s x : PlanAnswer) → isMore s ≡ true → orElse s x ≡ x
 on-more s x e = rw e

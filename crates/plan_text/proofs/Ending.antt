@@ -1,4 +1,4 @@
--- The table and the plan as a whole: what is handed back after a part of the input, and what is said at its end.
+-- The table and the plan as a whole: what is returned after a part of the input, and the answer at its end.
 use mathlib.Core.Bool.{Bool, cond, false, false≢true, true, true≢false}
 use mathlib.Core.List.{List, [], _++_, append-nil, _∷_}
 use mathlib.Core.Path.{_∙_, _≡_, ap, refl, subst, subst⁻¹, sym}
@@ -22,7 +22,7 @@ use Rattle.plan_text.specs.Check.{CutOf, FedBy, FedOf, PlanFed, isOver, 
 use Rattle.plan_text.proofs.Feeding.{fed-over}
 use Rattle.plan_text.proofs.Lines.{opens-end, opens-more, part-rest, plan-rest, rows-end, rows-none, rows-on, table-end, table-long, table-waits}
 
--- a check that is over says its answer
+-- a check that is over gives its answer
 pub over-answer : (c : Check) (e : InputEnd) (bs : List ℕ) → isOver (c .stage) ≡ true → checkAnswer c e bs ≡ c .answer
 over-answer c e bs = go (c .stage)
   where
@@ -34,7 +34,7 @@ over-answer c e bs = go (c .stage)
 -- THE END OF A PLAN
 
 module _ (r₀ : PlanProgress) (from : ℕ) (bs : List ℕ) (f : Fed) (w : PlanFed r₀ from bs f) where
-  -- what there is to say is what the check says to what is left
+  -- the answer is that of the check to what is left
   left : planAnswer r₀ nothing (drop from bs) ≡ checkAnswer (f .check) nothing (drop (f .taken) bs)
   left =
       ap (planAnswer r₀ nothing) (sym (append-nil (drop from bs))) ∙ w .fed .text []

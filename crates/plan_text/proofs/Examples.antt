@@ -1,4 +1,4 @@
--- Lines and what is read in them, a small plan and what is said to its lines, and the line that is printed, computed from the definitions.
+-- Lines and what is read in them, a small plan and the answer to its lines, and the line that is printed, computed from the definitions.
 use mathlib.Core.Bool.{false}
 use mathlib.Core.List.{List, [], map, _∷_}
 use mathlib.Core.Path.{_≡_, refl}
@@ -58,7 +58,7 @@ some-lines =
     ∷ reads "0 -1" noRow
     ∷ reads "0 a" noRow
     ∷ reads "0 1\r" noRow
-    -- one space before each number, and nothing behind the last
+    -- one space before each number, and nothing after the last
     ∷ reads " 0 1" noRow
     ∷ reads "0  1" noRow
     ∷ reads "0 1 " noRow
@@ -75,7 +75,7 @@ each-line = (refl, (refl, (refl, (refl, (refl, (refl, (refl, (refl, (refl, (refl
 pub lines-read : map (λ l. reads (l .text) (rowIn (letters (l .text)))) some-lines ≡ some-lines
 lines-read = by-line reading some-lines some-lines each-line
 
--- WHAT IS SAID TO THE LINES OF A PLAN
+-- THE ANSWER TO THE LINES OF A PLAN
 
 -- one core and one task, (0,1,1,2,2), as it is begun: its horizon is 2, and of each two ticks it takes one
 abbrev pub plan : Supplied
@@ -96,7 +96,7 @@ pub plan-begun : beginOf (1 ∷ 1 ∷ 1 ∷ 0 ∷ 0 ∷ 0 ∷ 0 ∷ 1 ∷ 1 ∷ 
 unfolding beginOf startedRun answerOf byWalk byTasks byHorizon firstOut endingOf lastStep headerNumber tableOf chain count met computing
 plan-begun = refl
 
--- the lines of a plan, and what is said to them
+-- the lines of a plan, and the answer to them
 pub record Check : Type 0 where
   pub input : String
   pub says : PlanAnswer
@@ -108,7 +108,7 @@ abbrev pub checks : List Check
 checks =
     check "0 1\n1 0\n" Accepted
     ∷ check "firm 0 2\n0 0\n1 1" Accepted
-    -- empty lines behind the last row are no rows; a row there is one too many
+    -- empty lines after the last row are no rows; a row there is one too many
     ∷ check "0 1\n1 0\n\n\n" Accepted
     ∷ check "0 1\n1 0\n\n2 0\n" (Refused 10 0)
     ∷ check "0 1\n1 0\n0 1\n" (Unread 3)
@@ -116,7 +116,7 @@ checks =
     ∷ check "0 1\n" (Unfinished 1)
     ∷ check "miss 2 1\n" (Unfinished 0)
     ∷ check "" (Unfinished 0)
-    -- faults of the plan, and a row of two cores; what follows is not looked at
+    -- faults of the plan, and a row of two cores; what follows is not read
     ∷ check "0 1\n1 1\nx" (Fault 24 1)
     ∷ check "0 0\n1 0\n" (Fault 25 2)
     ∷ check "0 1 0\n" (Refused 11 0)

@@ -1,4 +1,4 @@
--- The lines of a plan one after another, and the check that is handed back.
+-- The lines of a plan one after another, and the check that is returned.
 use mathlib.Core.Bool.{Bool, cond, false, true, true≢false}
 use mathlib.Core.List.{List, [], _++_, append-nil, _∷_}
 use mathlib.Core.Path.{_∙_, _≡_, ap, refl, subst⁻¹, sym}
@@ -54,7 +54,7 @@ extent-known-on a x n t e w = subst⁻¹ (λ (u : LineAnswer). ExtentKnown a (u 
 abbrev pub Taken : PlanProgress → ℕ → List ℕ → PlanProgress → ℕ → Type 0
 Taken r₀ from bs r at = (at ≤ length bs) × ((e : InputEnd) (more : List ℕ) → planAnswer r₀ e (drop from bs ++ more) ≡ planAnswer r e (drop at bs ++ more))
 
--- no line has ended, and nothing is said to it where more may come
+-- no line has ended, and there is no answer to it where more may come
 pub waits : (r : PlanProgress) (bs : List ℕ) (at end : ℕ) → end ≡ at + lineLength (drop at bs) → end ≡ length bs → planAnswer r unknown (drop at bs) ≡ More
 unfolding linesFrom lastLine endAnswer
 waits r bs at end q h =
@@ -68,7 +68,7 @@ module _ (r₀ : PlanProgress) (from : ℕ) (bs : List ℕ) (r : PlanProgress) (
   abbrev pub line : List ℕ
   line = take (end - at) (drop at bs)
 
-  -- it has ended: more is wanted ..
+  -- it has ended: more lines are needed ..
   pub taken-next : (end ≡ length bs → ⊥) → isMore (stepOf r line .answer) ≡ true → Taken r₀ from bs (stepOf r line .rows) (end + 1)
   taken-next n m =
       let h : end < length bs = omega (arith, line-ends, n) in (

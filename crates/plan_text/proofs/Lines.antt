@@ -1,4 +1,4 @@
--- Lines that come in pieces: what is said where some bytes of a line have been read.
+-- Lines that come in pieces: the answer where some bytes of a line have been read.
 use mathlib.Core.Bool.{Bool, cond, false, false≢true, true}
 use mathlib.Core.List.{List, [], _++_, append-assoc, _∷_}
 use mathlib.Core.Path.{_∙_, _≡_, ap, ap₂, refl, sym}
@@ -24,7 +24,7 @@ use Rattle.plan_text.proofs.Taking.{begin-none}
 
 -- THE FIRST LINE OF A TEXT, FROM A PLACE ON
 
--- a text from a place on, where its line has ended: the line, its newline, and the text behind it
+-- a text from a place on, where its line has ended: the line, its newline, and the text after it
 pub line-here :
     (bs : List ℕ) (at end : ℕ) → end ≡ at + lineLength (drop at bs) → end < length bs
     → drop at bs ≡ take (end - at) (drop at bs) ++ (newline ∷ drop (end + 1) bs)
@@ -37,7 +37,7 @@ line-here bs at end e h =
     (ap (λ (i : ℕ). drop i (drop at bs)) k ∙ drop-cons (drop at bs) (lineLength (drop at bs)) 0 l
     ∙ ap₂ (λ (b : ℕ) (x : List ℕ). b ∷ x) (line-stop (drop at bs) l) (drop-drop (suc (lineLength (drop at bs))) at bs ∙ ap (λ (i : ℕ). drop i bs) m))
 
--- so many bytes of a text's first line, from a place on, and then more: they are no newlines
+-- a number of bytes of a text's first line, from a place on, and then more: they are no newlines
 pub lines-here :
     (e : InputEnd) (l bs : List ℕ) (at end : ℕ) (more : List ℕ) → end ≡ at + lineLength (drop at bs)
     → linesFrom e l (take (end - at) (drop at bs) ++ more) ≡ linesFrom e (l ++ take (end - at) (drop at bs)) more

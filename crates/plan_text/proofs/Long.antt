@@ -1,4 +1,4 @@
--- A line that is too long decides: what stands behind its first 726 bytes is not looked at.
+-- A line that is too long decides: what is after its first 726 bytes is not read.
 use mathlib.Core.Bool.{Bool, _&&_, _||_, cond, false, true}
 use mathlib.Core.List.{List, [], _++_, map, _∷_}
 use mathlib.Core.Logic.{_⊎_, inl, inr, ⊎-elim}
@@ -64,7 +64,7 @@ mark-on m (b ∷ l) more e = go (eqb b m) e (mark-on m l more)
     go true e ih = absurd (omega (arith, e))
     go false e ih = let q = ih (omega (arith, e)) in omega (arith, q)
 
--- more than ten bytes say no number
+-- more than ten bytes represent no number
 long-number : (w : List ℕ) → 10 < length w → isNumber w ≡ false
 long-number w h = not-true-false (isNumber w) (λ e. omega (arith, h, number-exact w .0 e .short))
 
@@ -95,14 +95,14 @@ first-word l more h = ⊎-elim all-of (λ q. inl (ends q)) (eq-or-lt-of-le (mark
           long-number (word (l ++ more)) (omega (arith, h, on, whole)),
         )
 
--- THE NUMBERS BEHIND IT
+-- THE NUMBERS AFTER IT
 
--- the words behind a space: the first, and those behind it
+-- the words after a space: the first, and those after it
 behind-split : (b : ℕ) (l : List ℕ) → wordsBehind (b ∷ l) ≡ word l ∷ wordsBehind (rest l)
 unfolding wordsBehind
 behind-split b l = words-split l
 
--- whether the first k words say bytes
+-- whether the first k words represent bytes
 abbrev bytes : ℕ → List ℕ → Bool
 bytes k x = all isByte (take k (wordsBehind x))
 
@@ -118,13 +118,13 @@ no-byte : (w : List ℕ) → isNumber w ≡ false → isByte w ≡ false
 unfolding isByte
 no-byte w e = rw e
 
--- what is said of the first k words
+-- what holds of the first k words
 abbrev Many : ℕ → List ℕ → List ℕ → Type 0
 Many k x more =
     ((bytes k x ≡ true) × (take k (wordsBehind (x ++ more)) ≡ take k (wordsBehind x)) × (length (take k (wordsBehind x)) ≡ k))
     ⊎ ((bytes k x ≡ false) × (bytes k (x ++ more) ≡ false))
 
--- k words that say bytes stand in 11 k bytes and one more, whatever follows; where one of them says none, it still does not
+-- k words that represent bytes are in 11 k bytes and one more, whatever follows; where one of them represents none, it still does not
 many : (k : ℕ) (x more : List ℕ) → 11 * k < length x → Many k x more
 unfolding all
 many zero x more h = inl (refl, refl, refl)
@@ -223,9 +223,9 @@ long-read l more h = ⊎-elim inside (λ q. (row-not (l ++ more) (q .1) ∙ sym 
               subst⁻¹ Wide (row-by l e) (c .1),
             )
 
--- WHAT IS SAID TO IT
+-- THE ANSWER TO IT
 
--- it is not passed over
+-- it is not skipped
 long-passed : (r : PlanProgress) (l : List ℕ) → longLine ≤ length l → skipped r l ≡ false
 unfolding skipped
 long-passed r l h = rw (← verdict-long l h, ne-eqb (length l) 0 (λ e. omega (arith, h, e))) (go (eqb (r .lines) 0) (r .accepted))
@@ -268,7 +268,7 @@ long-step r l more h =
       ap (λ (u : LineAnswer). isMore (u .answer)) (step-long r l h) ∙ wide-ends r (rowIn l) (x .1),
     )
 
--- whatever comes, it is said what is said to what has come of it
+-- whatever comes, the answer is that to what has come of it
 pub rows-long : (r : PlanProgress) (l bs : List ℕ) → longLine ≤ length l → rowsAnswer nothing r (linesFrom nothing l bs) ≡ stepOf r l .answer
 unfolding linesFrom lastLine
 rows-long r [] [] h = absurd (omega (arith, h))

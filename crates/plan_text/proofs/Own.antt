@@ -55,7 +55,7 @@ module _ (ws : List ℕ) (none : NoneApplies ws) where
   unfolding tableOf
   few-cores = passed-cores ws none .1
 
-  -- an acceptable plan can be said: its rows have a byte for each of at most 64 cores, a position, 0 or 255
+  -- an acceptable plan is expressible: its rows have a byte for each of at most 64 cores, a position, 0 or 255
   pub expressible : (rows : List (List ℕ)) → Acceptable s rows → (t : ℕ) → t < length rows → ExpressibleRow (getD rows t [])
   expressible rows a t h = (omega (arith, row .size, few-cores), λ c l. byte c (omega (arith, l, row .size)))
     where

@@ -1,4 +1,4 @@
--- WHAT THE PROGRAM PRINTS IS A PLAN: its rows are read back as they are, and its first line is passed over.
+-- WHAT THE PROGRAM PRINTS IS A PLAN: its rows are parsed to themselves, and its first line is skipped.
 use mathlib.Core.Bool.{Bool, _&&_, _||_, cond, false, false≢true, true}
 use mathlib.Core.List.{List, [], _++_, append-assoc, append-nil, map, _∷_}
 use mathlib.Core.Path.{_∙_, _≡_, ap, ap₂, refl, subst, sym}
@@ -46,11 +46,11 @@ use Rattle.plan_text.proofs.Answers.{entered-plan, on-end, on-more}
 use Rattle.session.proofs.Asking.{words-one}
 use Rattle.text.specs.Input.{lengthTo}
 
--- what is said to a row
+-- the answer to a row
 abbrev pub takes : PlanProgress → List ℕ → LineAnswer
 takes r ns = rowEntered (takeOf (r .plan) ns .answer) (takeOf (r .plan) ns .plan) (nextLine (r .lines))
 
--- what is said to a list of rows, each taken from the state that the one before hands back
+-- the answer to a list of rows, each taken from the state that the one before returns
 unfoldable pub listAnswer : PlanProgress → List (List ℕ) → PlanAnswer
 listAnswer r [] = endAnswer nothing r
 listAnswer r (ns ∷ rows) = orElse (takes r ns .answer) (listAnswer (takes r ns .rows) rows)
@@ -155,7 +155,7 @@ row-read t ns h s =
     ap rowOfWords (row-words (decimal t) ns (digits-mark space (decimal t) (decimal-digits t) (omega arith)))
     ∙ rw (text-number t h, few, b .0, decimal-value t, b .1)
 
--- it is not passed over: it begins with a digit
+-- it is not skipped: it begins with a digit
 digit-first : (t : ℕ) (ns : List ℕ) → (d : ℕ) × (l : List ℕ) × (bare t ns ≡ d ∷ l) × (48 ≤ d) × (d ≤ 57)
 digit-first t ns = go (decimal t) (decimal-some t) (decimal-digits t)
   where
@@ -296,7 +296,7 @@ pair-short word a b w p q =
     let j = length-append (decimal b) [] in
     omega (arith, n, k, j, w, decimal-most a (omega (arith, p)), decimal-most b (omega (arith, q)))
 
--- where no line has come yet it is passed over
+-- where no line has come yet it is skipped
 pair-passed :
     (r : PlanProgress) (word : List ℕ) (a b : ℕ) → r .lines ≡ 0 → length word ≡ 4 → a ≤ mostWord → b ≤ mostWord
     → (startsWith (letters "firm") (pair word a b) || (startsWith (letters "full") (pair word a b) || startsWith (letters "miss") (pair word a b))) ≡ true

@@ -1,4 +1,4 @@
--- The line of what is said, as it is put into a buffer.
+-- The line of an answer, as it is written into a buffer.
 use mathlib.Core.List.{List, [], _++_, append-assoc, append-nil, _∷_}
 use mathlib.Core.Path.{_∙_, _≡_, ap, refl, subst, sym}
 use Prim.Native.Nat.{_+_, ℕ, _≤_}
@@ -39,7 +39,7 @@ one-put before word middle after n start end e p q =
     let last = put-then both (put-one after end newline (omega (arith, p .1, q .1, same))) (omega (arith, p .1, q .1, e)) in
     (subst (λ (s : List ℕ). Put before 0 s (set after end newline) (end + 1)) (one-text word n) last, omega (arith, p .1, q .1))
 
--- WHAT IS SAID
+-- THE ANSWER
 
 pub answer-more : (s : PlanAnswer) (line : List ℕ) → s ≡ More → (Put line 0 (planAnswerLine s) line 0) × (0 ≤ longestAnswer)
 unfolding planAnswerLine

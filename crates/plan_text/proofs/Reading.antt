@@ -25,7 +25,7 @@ use Rattle.plan_text.specs.Line.{Read, wordsBehind, cellsOf, isByte, rea
 
 -- WORDS
 
--- the words of a text: the first, and those behind its space
+-- the words of a text: the first, and those after its space
 pub words-split : (l : List ℕ) → wordsIn l ≡ take (lengthTo space l) l ∷ wordsBehind (drop (lengthTo space l) l)
 unfolding wordsBehind
 words-split l = ⊎-elim one more (eq-or-lt-of-le (mark-within space l))
@@ -40,7 +40,7 @@ words-split l = ⊎-elim one more (eq-or-lt-of-le (mark-within space l))
         words-more l h
         ∙ ap (λ (y : List (List ℕ)). take (lengthTo space l) l ∷ y) (ap wordsBehind (sym (drop-cons l (lengthTo space l) 0 h)))
 
--- from a place on: the word behind the space that stands there, and those behind it
+-- from a place on: the word after the space that is there, and those after it
 pub behind-here :
     (l : List ℕ) (at end : ℕ) → at < length l → end ≡ at + 1 + lengthTo space (drop (at + 1) l)
     → wordsBehind (drop at l) ≡ take (end - (at + 1)) (drop (at + 1) l) ∷ wordsBehind (drop end l)
@@ -73,7 +73,7 @@ byte-found w n e h = let v = value-found w n e in rw (v .0) (le-leb (value w) 25
 
 -- NUMBERS READ AND WORDS LEFT
 
--- the row where the numbers ns have been read and the words ws are left, of which as many are looked at as there is room for
+-- the row where the numbers ns have been read and the words ws are left, of which as many are read as there is space for
 unfoldable pub cellsFrom : ℕ → List ℕ → List (List ℕ) → Read
 cellsFrom t ns ws =
     cond (all isByte (take (mostCells - length ns) ws)) (row t (ns ++ map value (take (mostCells - length ns) ws))) noRow

@@ -67,15 +67,15 @@ module _ (ws : List ℕ) (few : length ws ≤ mostNumbers) (fit : (i : ℕ) → 
       table-text nothing [] ws bs
       ∙ ap (λ (vs : List ℕ). orElse (openedBy (beginOf vs .answer) (beginOf vs .plan) .answer) (rowsAnswer nothing (openedBy (beginOf vs .answer) (beginOf vs .plan) .rows) (linesFrom nothing [] bs))) read
 
-  -- where the table is turned down its number is said, whatever the plan is
+  -- where the table is turned down the answer is its number, whatever the plan is
   pub refused-text : (n p : ℕ) (bs : List ℕ) → beginOf ws .answer ≡ table.Refused n p → checkedOf (textOf ws ++ behindDashes bs) ≡ Refused n p
   refused-text n p bs e = said bs ∙ rw e
 
-  -- else what is said to the bytes of the plan
+  -- else the answer is that to the bytes of the plan
   pub begun-text : (bs : List ℕ) → beginOf ws .answer ≡ table.Passed → checkedOf (textOf ws ++ behindDashes bs) ≡ rowsAnswer nothing (rowsAt (beginOf ws .plan) 0 false) (linesFrom nothing [] bs)
   begun-text bs e = said bs ∙ rw e
 
-  -- THE THEOREM: the text of a table and of rows is answered as the words and the list of rows are (what that means, `checked` of crate plan_check says)
+  -- THE THEOREM: the text of a table and of rows gets the answer of the words and the list of rows (`checked` of crate plan_check gives its meaning)
   pub checked-text :
       (rows : List (List ℕ)) → beginOf ws .answer ≡ table.Passed → ((t : ℕ) → t < length rows → ExpressibleRow (getD rows t [])) → length rows ≤ mostWord
       → checkedOf (textOf ws ++ behindDashes (planText 0 rows)) ≡ planAnswerOf (outcomeOf ws rows) (length rows)

@@ -1,4 +1,4 @@
--- A whole check: however the input comes, what is said is what the definition says of it, and no answer waits.
+-- A whole check: in whatever parts the input comes, the answer is that of the definition, and no answer waits.
 use mathlib.Core.Bool.{Bool, false, true}
 use mathlib.Core.List.{List, [], _++_, append-assoc, append-nil}
 use mathlib.Core.Path.{_∙_, _≡_, ap, refl, sym}
@@ -18,7 +18,7 @@ use Rattle.plan_text.proofs.Lines.{table-waits}
 parts : (left chunk bs cs : List ℕ) → left ++ ((chunk ++ bs) ++ cs) ≡ (left ++ chunk) ++ (bs ++ cs)
 parts left chunk bs cs = ap (λ (x : List ℕ). left ++ x) (append-assoc chunk bs cs) ∙ sym (append-assoc left chunk (bs ++ cs))
 
--- what there is to say is what the check says to what is left, and to what may still come
+-- the answer is that of the check to what is left, and to what may still come
 answer-so-far :
     {c c′ : Check} {left bs left′ : List ℕ} → Feeds c left bs left′ c′ → (cs : List ℕ) → checkAnswer c nothing (left ++ (bs ++ cs)) ≡ checkAnswer c′ nothing (left′ ++ cs)
 answer-so-far none cs = refl
@@ -26,7 +26,7 @@ answer-so-far {c} (more left chunk {bs} r o w f) cs =
     ap (checkAnswer c nothing) (parts left chunk bs cs) ∙ w .text (bs ++ cs)
     ∙ answer-so-far f cs
 
--- what a new check says at the end of the bytes bs, however they come, is `checkedOf bs`
+-- the answer of a new check at the end of the bytes bs, in whatever parts they come, is `checkedOf bs`
 pub whole-check : (c c′ : Check) (bs left : List ℕ) (s : PlanAnswer) → NewOf c → Feeds c [] bs left c′ → s ≡ checkAnswer c′ nothing left → s ≡ checkedOf bs
 whole-check c c′ bs left s new f e =
     e ∙ ap (checkAnswer c′ nothing) (sym (append-nil left)) ∙ sym (answer-so-far f []) ∙ ap (checkAnswer c nothing) (append-nil bs) ∙ new bs .0
@@ -35,7 +35,7 @@ whole-check c c′ bs left s new f e =
 pub over-check : (c c′ : Check) (bs left cs : List ℕ) → NewOf c → Feeds c [] bs left c′ → isOver (c′ .stage) ≡ true → c′ .answer ≡ checkedOf (bs ++ cs)
 over-check c c′ bs left cs new f o = sym (over-answer c′ nothing (left ++ cs) o) ∙ sym (answer-so-far f cs) ∙ new (bs ++ cs) .0
 
--- where it is not over, what is due is what it says to what is left ..
+-- where it is not over, the answer due is that to what is left ..
 due-so-far :
     {c c′ : Check} {left bs left′ : List ℕ} → Feeds c left bs left′ c′ → isOver (c′ .stage) ≡ false
     → (isOver (c .stage) ≡ false) × ((cs : List ℕ) → checkAnswer c unknown (left ++ (bs ++ cs)) ≡ checkAnswer c′ unknown (left′ ++ cs))

@@ -1,4 +1,4 @@
--- What is said to a table and a supplied plan: the table's text, a line `--`, and the lines of the plan, whose rows are taken one after another.
+-- The answer to a table and a supplied plan: the table's text, a line `--`, and the lines of the plan, whose rows are taken one after another.
 use mathlib.Core.Bool.{Bool, _&&_, _||_, cond, false, true}
 use mathlib.Core.List.{List, [], _++_, _∷_}
 use Prim.Native.Nat.{suc, ℕ}
@@ -22,15 +22,15 @@ use Rattle.plan_text.specs.Line.{Read, isVerdict, noRow, row, rowIn}
 
 -- ONE LINE
 
--- a line counted; the count stops at the largest number that it can be
+-- the number of the next line; the count stops at the largest number that it can be
 unfoldable pub nextLine : ℕ → ℕ
 nextLine n = cond (ltb n mostWord) (suc n) n
 
--- a line that is passed over: the first one where it is the program's first line, and an empty one behind the last row
+-- a line that is skipped: the first one where it is the program's first line, and an empty one after the last row
 unfoldable pub skipped : PlanProgress → List ℕ → Bool
 skipped r l = (eqb (r .lines) 0 && isVerdict l) || (r .accepted && eqb (length l) 0)
 
--- the rows after so many lines
+-- the state after a number of lines
 abbrev pub rowsAt : Supplied → ℕ → Bool → PlanProgress
 rowsAt plan lines accepted = record { plan = plan; lines = lines; accepted = accepted }
 
@@ -41,17 +41,17 @@ lineAnswer r s = record { rows = r; answer = s }
 abbrev pub refusalAnswer : ℕ → ℕ → PlanAnswer
 refusalAnswer n t = cond (leb 24 n) (Fault n t) (Refused n t)
 
--- what is said to a row by what `take` answers: more is wanted, or it ends with a number
+-- the answer to a row by that of `take`: more lines are needed, or the check ends with a number
 abbrev pub rowEntered : foreign.Answer → Supplied → ℕ → LineAnswer
 rowEntered answer.Taken plan lines = lineAnswer (rowsAt plan lines false) More
 rowEntered answer.Accepted plan lines = lineAnswer (rowsAt plan lines true) More
 rowEntered (answer.Refused n t) plan lines = lineAnswer (rowsAt plan lines false) (refusalAnswer n t)
 
--- a line that is no row, or of another tick than is wanted, ends it with its number
+-- a line that is no row, or of another tick than expected, ends the check with its number
 abbrev pub noRowAnswer : PlanProgress → LineAnswer
 noRowAnswer r = lineAnswer r (Unread (nextLine (r .lines)))
 
--- what is said to what is read in a line
+-- the answer to what is read in a line
 abbrev pub enters : PlanProgress → Read → LineAnswer
 enters r (row t ns) = cond (eqb t (r .plan .tick)) (rowEntered (takeOf (r .plan) ns .answer) (takeOf (r .plan) ns .plan) (nextLine (r .lines))) (noRowAnswer r)
 enters r noRow = noRowAnswer r
@@ -62,7 +62,7 @@ stepOf r l = cond (skipped r l) (lineAnswer (rowsAt (r .plan) (nextLine (r .line
 
 -- ALL LINES
 
--- more is wanted
+-- more lines are needed
 abbrev pub isMore : PlanAnswer → Bool
 isMore More = true
 isMore Accepted = false
@@ -71,42 +71,42 @@ isMore (Fault n t) = false
 isMore (Refused n p) = false
 isMore (Unread n) = false
 
--- what is said first, and what is said then if more is wanted
+-- the first answer, or the second if the first is that more lines are needed
 abbrev pub orElse : PlanAnswer → PlanAnswer → PlanAnswer
 orElse s more = cond (isMore s) more s
 
--- behind the last line: the plan is accepted with its last row; else rows are missing, from the tick that is wanted on. Where the input has not ended
--- more is wanted
+-- the answer after the last line: the plan is accepted with its last row; else rows are missing, from the expected tick on. Where the input has not ended
+-- more lines are needed
 unfoldable pub endAnswer : InputEnd → PlanProgress → PlanAnswer
 endAnswer nothing r = cond (r .accepted) Accepted (Unfinished (r .plan .tick))
 endAnswer unknown r = More
 
--- what is said to the lines of a plan: the first line that does not want more ends it
+-- the answer to the lines of a plan: the first line with another answer than more ends the check
 unfoldable pub rowsAnswer : InputEnd → PlanProgress → List (List ℕ) → PlanAnswer
 rowsAnswer e r [] = endAnswer e r
 rowsAnswer e r (l ∷ ls) = orElse (stepOf r l .answer) (rowsAnswer e (stepOf r l .rows) ls)
 
 -- THE TABLE
 
--- by the table's answer: rows are wanted from tick 0 on, or it is refused
+-- by the table's answer: rows are expected from tick 0 on, or it is refused
 abbrev pub openedBy : Answer → Supplied → LineAnswer
 openedBy table.Passed plan = lineAnswer (rowsAt plan 0 false) More
 openedBy (table.Refused n p) plan = lineAnswer (rowsAt plan 0 false) (Refused n p)
 
--- what is said to a table's text
+-- the answer to a table's text
 unfoldable pub openedOf : List ℕ → LineAnswer
 openedOf d = openedBy (beginOf (numbersIn (wordsOf d)) .answer) (beginOf (numbersIn (wordsOf d)) .plan)
 
--- what is said to it and to the lines of a plan
+-- the answer to it and to the lines of a plan
 unfoldable pub opens : InputEnd → List ℕ → List (List ℕ) → PlanAnswer
 opens e d ls = orElse (openedOf d .answer) (rowsAnswer e (openedOf d .rows) ls)
 
--- the bytes of a table that no line `--` has ended: where the input ends they are all of it, but for a last line `--`
+-- the answer to the bytes of a table that no line `--` has ended: where the input ends they are all of it, but for a last line `--`
 unfoldable pub unclosedAnswer : InputEnd → List ℕ → List ℕ → PlanAnswer
 unclosedAnswer nothing d l = opens nothing (cond (isDashes l) d (d ++ l)) []
 unclosedAnswer unknown d l = More
 
--- what is said where the whole lines d and the bytes l of one more stand before the bytes bs: the first line `--` ends the table
+-- the answer where the whole lines d and the bytes l of one more are before the bytes bs: the first line `--` ends the table
 unfoldable pub tableAnswer : InputEnd → List ℕ → List ℕ → List ℕ → PlanAnswer
 tableAnswer e d l [] = unclosedAnswer e d l
 tableAnswer e d l (b ∷ bs) =
@@ -114,10 +114,10 @@ tableAnswer e d l (b ∷ bs) =
     (cond (isDashes l) (opens e d (linesFrom e [] bs)) (tableAnswer e (d ++ (l ++ (newline ∷ []))) [] bs))
     (tableAnswer e d (l ++ (b ∷ [])) bs)
 
--- what is said to the bytes of an input
+-- the answer to the bytes of an input
 unfoldable pub checkedOf : List ℕ → PlanAnswer
 checkedOf bs = tableAnswer nothing [] [] bs
 
--- what must have been said once these bytes have come: the first line that does not want more is answered at once
+-- the answer that is due once these bytes have come: the first line with another answer than more is answered at once
 unfoldable pub dueOf : List ℕ → PlanAnswer
 dueOf bs = tableAnswer unknown [] [] bs

@@ -1,4 +1,4 @@
--- A supplied plan as text: what a line of it says, what is said in the end, and where a check stands.
+-- A supplied plan as text: the meaning of a line of it, the answer, and the state of a check.
 pub mod Line
 pub mod Checked
 pub mod Check

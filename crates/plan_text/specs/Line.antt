@@ -12,15 +12,15 @@ use Rattle.sentence.specs.Reading.{startsWith}
 use Rattle.session.specs.Operation.{wordsIn}
 use Rattle.plan_text.specs.declared.line.Line.{Line}
 
--- so many numbers of a row are looked at, one more than a row can have: a longer one gets 11, whatever stands behind them
+-- the number of cells of a row that are read, one more than a row can have: a longer one gets 11, whatever follows them
 abbrev pub mostCells : ℕ
 mostCells = mostCores + 1
 
--- so many bytes of a line decide, whatever stands behind them (`long-step`): a tick, that many numbers with a space before each, and one byte more
+-- the number of bytes of a line that decide, whatever follows them (`long-step`): a tick, that many numbers with a space before each, and one byte more
 abbrev pub longLine : ℕ
 longLine = mostDigits + mostCells * (1 + mostDigits) + 1
 
--- a word says a byte: a number up to 255
+-- a word represents a byte: a number up to 255
 unfoldable pub isByte : List ℕ → Bool
 isByte w = isNumber w && leb (value w) 255
 
@@ -29,11 +29,11 @@ pub data Read : Type 0 where
   row : ℕ → List ℕ → Read
   noRow : Read
 
--- the row of a tick and of words that all say bytes
+-- the row of a tick and of words that all represent bytes
 unfoldable pub cellsOf : ℕ → List (List ℕ) → Read
 cellsOf t ws = cond (all isByte ws) (row t (map value ws)) noRow
 
--- the row of a line's words: the tick, and the numbers behind it, as many as are looked at
+-- the row of a line's words: the tick, and the numbers after it, as many as are read
 unfoldable pub rowOfWords : List (List ℕ) → Read
 rowOfWords [] = noRow
 rowOfWords (w ∷ ws) = cond (isNumber w) (cellsOf (value w) (take mostCells ws)) noRow
@@ -42,7 +42,7 @@ rowOfWords (w ∷ ws) = cond (isNumber w) (cellsOf (value w) (take mostCells ws)
 abbrev pub rowIn : List ℕ → Read
 rowIn l = rowOfWords (wordsIn l)
 
--- the words behind a space, if there is one
+-- the words after a space, if there is one
 unfoldable pub wordsBehind : List ℕ → List (List ℕ)
 wordsBehind [] = []
 wordsBehind (b ∷ l) = wordsIn l

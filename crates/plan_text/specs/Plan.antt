@@ -1,4 +1,4 @@
--- Rows as the program prints them, and what is said to a list of rows: the text is answered as the list is (`checked-text`), and the text that the
+-- Rows as the program prints them, and the answer to a list of rows: the text gets the answer of the list (`checked-text`), and the text that the
 -- program prints for an accepted table is accepted (`own-output`).
 use mathlib.Core.List.{List, [], _++_, _∷_}
 use Prim.Native.Nat.{_<_, suc, ℕ, _≤_}
@@ -13,7 +13,7 @@ use Rattle.plan_text.specs.declared.PlanAnswer.the-variants.{Accepted, U
 use Rattle.plan_text.specs.Checked.{refusalAnswer}
 use Rattle.plan_text.specs.Line.{mostCells}
 
--- a row that a line can say whole: no more numbers than are looked at, and each is a byte
+-- a row that a line can represent: no more numbers than are read, and each is a byte
 abbrev pub ExpressibleRow : List ℕ → Type 0
 ExpressibleRow row = (length row ≤ mostCells) × ((c : ℕ) → c < length row → getD row c 0 ≤ 255)
 
@@ -22,7 +22,7 @@ unfoldable pub planText : ℕ → List (List ℕ) → List ℕ
 planText t [] = []
 planText t (row ∷ rows) = rowLine t row ++ planText (suc t) rows
 
--- what is said of what a list of so many rows is answered
+-- the answer for the outcome of a list of this number of rows
 abbrev pub planAnswerOf : PlanOutcome → ℕ → PlanAnswer
 planAnswerOf accepts n = Accepted
 planAnswerOf unfinished n = Unfinished n

@@ -1,4 +1,4 @@
-// The line that is printed for what is said.
+// The line that is printed for an answer.
 ghost use mathlib.Core.List.{[], _∷_};
 ghost use Prim.Native.Nat.{_≤_};
 ghost use lib.ListN.{length};
@@ -10,7 +10,7 @@ use text::first;
 use text::row;
 use text::row::LINE;
 
-// Writes a line of a word and a number; the answer is where it ends.
+// Writes a line of a word and a number; returns where it ends.
 fn put_one(line: &mut [u8; LINE], word: &[u8], number: u32) -> usize
     requires { ⌜ length (now word) ≤ 10 ⌝ }
     ensures { λ r. ⌜ (Put (now (line .entry)) 0 (lineOf (now (word .entry)) (number ∷ [])) (now (line .exit)) r) × (r ≤ longestAnswer) ⌝ }
@@ -21,7 +21,7 @@ fn put_one(line: &mut [u8; LINE], word: &[u8], number: u32) -> usize
     end + 1
 }
 
-// Writes what is said; the answer is where it ends.
+// Writes an answer; returns where it ends.
 pub fn put(line: &mut [u8; LINE], answer: PlanAnswer) -> usize
     ensures { λ r. ⌜ (Put (now (line .entry)) 0 (planAnswerLine answer) (now (line .exit)) r) × (r ≤ longestAnswer) ⌝ }
 {

@@ -10,7 +10,7 @@ ghost use Rattle.plan_text.specs.declared.Stage.the-variants.{Table};
 ghost use Rattle.plan_text.specs.Checked.{nextLine, skipped, refusalAnswer, rowEntered, stepOf, isMore, openedOf, endAnswer, tableAnswer};
 ghost use Rattle.plan_text.specs.Check.{ExtentKnown, planAnswer, answerIn, checkAnswer, isOver, overWith, planWith, PlanFed, FedBy, FedOf, NewOf, CutOf};
 
-pub mod line; // line.rt: what a line says
+pub mod line; // line.rt: the row in a line
 pub mod answer_text; // answer_text.rt: the line that is printed
 
 use plan_check::Answer;
@@ -19,7 +19,7 @@ use plan_check::Supplied;
 use session::TOO_MANY;
 use session::open;
 
-// What is said: more lines are wanted; the plan is accepted; rows are missing from this tick on; a fault with its number and tick; refused with number
+// The answer: more lines are needed; the plan is accepted; rows are missing from this tick on; a fault with its number and tick; refused with number
 // and position; or the line with this number is no row.
 pub enum PlanAnswer {
     More,
@@ -30,34 +30,34 @@ pub enum PlanAnswer {
     Unread(u32),
 }
 
-// A plan between two lines: its state, how many lines have come, and whether its last row was taken and it is accepted.
+// A plan between two lines: its state, the number of lines so far, and whether its last row was taken and it is accepted.
 pub struct PlanProgress {
     pub plan: Supplied,
     pub lines: u32,
     pub accepted: bool,
 }
 
-// What is said to a line, and the plan after it.
+// The answer to a line, and the plan after it.
 pub struct LineAnswer {
     pub rows: PlanProgress,
     pub answer: PlanAnswer,
 }
 
-// How far a plan goes, looked at once for its rows in their thousands: the last S and the horizon, known where neither 14 nor 9 turns it down.
+// The extent of a plan, computed once for all its rows: the last S and the horizon, known where neither 14 nor 9 turns it down.
 pub struct KnownExtent {
     pub known: bool,
     pub start: u32,
     pub horizon: u32,
 }
 
-// What the bytes that come are read as: the table, the plan, or nothing any more.
+// What the next bytes are read as: the table, the plan, or nothing any more.
 pub enum Stage {
     Table,
     Plan,
     Over,
 }
 
-// Where a check stands: the plan, and what is said where it is over.
+// The state of a check: the plan, and the answer where it is over.
 pub struct Check {
     pub stage: Stage,
     pub rows: PlanProgress,
@@ -83,7 +83,7 @@ fn next_line(lines: u32) -> u32
     if lines < u32::MAX { lines + 1 } else { lines }
 }
 
-// Whether a line is passed over: the first where it says a verdict, and an empty one behind the last row.
+// Whether a line is skipped: the first where it is a verdict's, and an empty one after the last row.
 fn passes(rows: PlanProgress, line: &[u8]) -> bool
     ensures { λ r. ⌜ r ≡ skipped rows (now (line .entry)) ⌝ }
 {
@@ -101,7 +101,7 @@ fn refusal_of(number: u32, tick: u32) -> PlanAnswer
     PlanAnswer::Refused(number, tick)
 }
 
-// What is said to a row by its answer.
+// The answer to a row by that of `take`.
 fn enter(row: Entered, lines: u32) -> LineAnswer
     ensures { λ r. ⌜ r ≡ rowEntered (row .answer) (row .plan) lines ⌝ }
 {
@@ -138,7 +138,7 @@ fn enter(row: Entered, lines: u32) -> LineAnswer
     }
 }
 
-// How far a plan goes.
+// The extent of a plan.
 fn extent_of(plan: Supplied) -> KnownExtent
     ensures { λ r. ⌜ ExtentKnown r plan ⌝ }
 {
@@ -150,7 +150,7 @@ fn extent_of(plan: Supplied) -> KnownExtent
     }
 }
 
-// Takes a row of a plan that goes so far.
+// Takes a row of a plan with this extent.
 fn take(plan: Supplied, extent: KnownExtent, row: &[u8]) -> Entered
     requires { ⌜ ExtentKnown extent plan ⌝ }
     ensures { λ r. ⌜ (r ≡ takeOf plan (now (row .entry))) × ExtentKnown extent (r .plan) ⌝ }
@@ -161,7 +161,7 @@ fn take(plan: Supplied, extent: KnownExtent, row: &[u8]) -> Entered
     plan.take(row)
 }
 
-// What is said to a line of a plan that goes so far, and the plan after it.
+// The answer to a line of a plan with this extent, and the plan after it.
 fn step(rows: PlanProgress, extent: KnownExtent, bytes: &[u8]) -> LineAnswer
     requires { ⌜ ExtentKnown extent (rows .plan) ⌝ }
     ensures { λ r. ⌜ (r ≡ stepOf rows (now (bytes .entry))) × ExtentKnown extent (r .rows .plan) ⌝ }
@@ -192,7 +192,7 @@ fn step(rows: PlanProgress, extent: KnownExtent, bytes: &[u8]) -> LineAnswer
     }
 }
 
-// Whether more lines are wanted.
+// Whether more lines are needed.
 pub fn is_more(answer: PlanAnswer) -> bool
     ensures { λ r. ⌜ r ≡ isMore answer ⌝ }
 {
@@ -220,7 +220,7 @@ fn over(rows: PlanProgress, answer: PlanAnswer, taken: usize) -> Fed
     }
 }
 
-// A check that wants more lines of the plan.
+// A check that needs more lines of the plan.
 fn going(rows: PlanProgress, taken: usize) -> Fed
     ensures { λ r. ⌜ r ≡ planWith rows taken ⌝ }
 {
@@ -265,7 +265,7 @@ fn feed_plan(start: PlanProgress, bytes: &[u8], from: usize) -> Fed
     going(rows, at)
 }
 
-// What is said to a table's text, and its plan before the first row.
+// The answer to a table's text, and its plan before the first row.
 fn begin(table: &[u8]) -> LineAnswer
     ensures { λ r. ⌜ r ≡ openedOf (now (table .entry)) ⌝ }
 {
@@ -295,7 +295,7 @@ fn begin(table: &[u8]) -> LineAnswer
     }
 }
 
-// Looks for the line `--`.
+// Searches for the line `--`.
 fn find_dashes(bytes: &[u8]) -> Cut
     ensures { λ r. ⌜ CutOf (now (bytes .entry)) r ⌝ }
 {
@@ -322,7 +322,7 @@ fn find_dashes(bytes: &[u8]) -> Cut
     }
 }
 
-// The table and the line `--`, once it has ended, and what stands of the plan behind it; or too many bytes for a table.
+// The table and the line `--`, once it has ended, and the bytes of the plan after it; or too many bytes for a table.
 fn feed_table(check: Check, bytes: &[u8]) -> Fed
     requires { ⌜ check .stage ≡ Table ⌝ }
     ensures { λ r. ⌜ FedBy (answerIn Table check) 0 (now (bytes .entry)) r ⌝ }
@@ -347,7 +347,7 @@ fn feed_table(check: Check, bytes: &[u8]) -> Fed
     over(check.rows, PlanAnswer::Refused(1, 0), bytes.len())
 }
 
-// What is said behind the last line.
+// The answer after the last line.
 fn end_rows(rows: PlanProgress) -> PlanAnswer
     ensures { λ r. ⌜ r ≡ endAnswer nothing rows ⌝ }
 {
@@ -433,7 +433,7 @@ impl Check {
         }
     }
 
-    // Takes what has ended of the bytes, and says what is to be said; what is left is to be handed on again, with what comes behind it.
+    // Takes the lines that have ended of the bytes, and gives the answer that is due; what is left is to be fed again, with what comes after it.
     pub fn feed(self, bytes: &[u8]) -> Fed
         ensures { λ r. ⌜ FedOf self (now (bytes .entry)) r ⌝ }
     {
@@ -448,7 +448,7 @@ impl Check {
         }
     }
 
-    // Whether the answer is there: nothing that comes changes it any more.
+    // Whether the answer is known: nothing that comes changes it any more.
     pub fn is_over(self) -> bool
         ensures { λ r. ⌜ r ≡ isOver (self .stage) ⌝ }
     {
@@ -460,7 +460,7 @@ impl Check {
         }
     }
 
-    // What is said where no more bytes come behind these.
+    // The answer where no more bytes come after these.
     pub fn end(self, bytes: &[u8]) -> PlanAnswer
         ensures { λ r. ⌜ r ≡ checkAnswer self nothing (now (bytes .entry)) ⌝ }
     {

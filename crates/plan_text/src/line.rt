@@ -7,10 +7,10 @@ use model::ROW;
 use sentence::reader;
 use text::line::ParsedNumber;
 
-// How many numbers of a row are looked at: one more than a row can have.
+// The number of cells of a row that are read: one more than a row can have.
 pub const CELLS: usize = ROW + 1;
 
-// So many bytes of a line decide, whatever stands behind them: a tick, that many numbers with a space before each, and one byte more.
+// The number of bytes of a line that decide, whatever follows them: a tick, that many numbers with a space before each, and one byte more.
 pub const LONG: usize = text::DIGITS + CELLS * (1 + text::DIGITS) + 1;
 
 // What was read: whether it is a row, and its tick and its numbers, zeros past the count; all zeros where it is none.
@@ -34,7 +34,7 @@ fn no_row() -> Line
     }
 }
 
-// The row of a tick and of the numbers that stand from `start` on, a space before each.
+// The row of a tick and of the numbers from `start` on, a space before each.
 fn cells_from(line: &[u8], start: usize, tick: u32) -> Line
     requires { ⌜ start ≤ length (now line) ⌝ }
     ensures { λ r. ⌜ r ≡ readLine (cellsOf tick (take mostCells (wordsBehind (drop start (now (line .entry)))))) ⌝ }
@@ -72,7 +72,7 @@ fn cells_from(line: &[u8], start: usize, tick: u32) -> Line
     }
 }
 
-// The row that a line says.
+// The row in a line.
 pub fn read(line: &[u8]) -> Line
     ensures { λ r. ⌜ r ≡ readLine (rowIn (now (line .entry))) ⌝ }
 {

@@ -1,4 +1,4 @@
--- Handing out: what has been handed out and what is left make up the whole.
+-- Writing pieces: what has been written and what is left make up the whole.
 use mathlib.Core.Path.{_≡_, refl, sym, ap, ap₂, _∙_, subst}
 use mathlib.Core.Bool.{Bool, true, false, cond, true≢false}
 use mathlib.Core.List.{List, [], _∷_, _++_}
@@ -18,7 +18,7 @@ use Rattle.printer.specs.declared.Stage.{Stage}
 use Rattle.printer.proofs.Safe.{safe-next}
 use Rattle.printer.proofs.Limits.{Limits, limits-valid, Arrays, limits-safe}
 
--- a sound printer has all that is to come to hand out, another has nothing
+-- a valid printer has all that is to come left, another has nothing
 pub rest-valid : (p : Printer) → valid p ≡ true → rest p ≡ toCome p
 unfolding rest
 rest-valid p e = ap (λ (b : Bool). cond b (toCome p) []) e
@@ -39,7 +39,7 @@ drop-front (suc k) n (x ∷ l) =
     let e : suc k + n ≡ suc (k + n) = omega arith in
     ap (λ (j : ℕ). drop (suc k) (take j (x ∷ l))) e ∙ drop-front k n l
 
--- what a printer p has handed out of what p₀ had, into a buffer
+-- what a printer p has written of what p₀ had, into a buffer
 pub record Emitting (p₀ p : Printer) (before after : List ℕ) (at : ℕ) : Type 0 where
   pub limits : Limits p
   pub arrays : Arrays p
@@ -51,7 +51,7 @@ pub record Emitting (p₀ p : Printer) (before after : List ℕ) (at : ℕ) : Ty
 pub emit-start : (p : Printer) (buffer : List ℕ) → Limits p → Arrays p → Emitting p p buffer buffer 0
 emit-start p buffer k a = record { limits = k; arrays = a; left = refl; bytes = put-none buffer 0; room = omega arith; same = refl }
 
--- a printer that has handed out so much of its line
+-- a printer that has written this much of its line
 abbrev pub at-given : Printer → ℕ → Printer
 at-given p g = record { table = p .table; end = p .end; places = p .places; stage = p .stage; row = p .row; line = p .line; given = g }
 
@@ -111,7 +111,7 @@ pub part-fills :
 part-fills p₀ p before after after′ at at′ part h e q l =
     omega (arith, part-ends p after after′ at at′ part (h .limits) (h .arrays) (omega arith) q, h .same, h .room)
 
--- a part of the line is handed out
+-- a part of the line is written
 pub emit-part :
     (p₀ p : Printer) (before after after′ : List ℕ) (at at′ part : ℕ) → Emitting p₀ p before after at
     → part ≡ min (p .stage .ready - p .given) (length after - at) → Put after at (take part (drop (p .given) (p .line))) after′ at′
@@ -154,7 +154,7 @@ stepping-of p n e k a l = record {
   long = a .long;
 }
 
--- the line is handed out, and the next is made
+-- the line is written, and the next is made
 module _
     (p : Printer) (k : Limits p) (a : Arrays p) (over : p .stage .ready ≤ p .given) (l : p .stage .registers .tick < p .end) (stage : Stage) (places row line : List ℕ)
     (s : Stepped (loadedNumbers (p .table)) (runStateOf p) (textKept p) (p .line) stage places row line)
@@ -268,7 +268,7 @@ emit-done p₀ p before after at ok h over e =
         let y : p .end - p .stage .registers .tick ≡ 0 = omega arith in
         ap₂ (λ (i j : ℕ). take i (drop (p .given) (p .line)) ++ linesIn (loadedNumbers (p .table)) j (runStateOf p) (textKept p)) z y
 
--- a printer that is not sound is handed back as it is
+-- a printer that is not valid is returned as it is
 pub piece-refused : (p : Printer) (buffer : List ℕ) → valid p ≡ false → PieceOf p buffer buffer (record { printer = p; length = 0 })
 piece-refused p buffer e = record {
   length = omega (arith, ap length (rest-none p e));

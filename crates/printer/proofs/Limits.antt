@@ -1,4 +1,4 @@
--- What it says that a printer is sound: its numbers in their limits, and its run one that can be stepped.
+-- The meaning of a valid printer: its numbers in their limits, and its run one that can be stepped.
 use mathlib.Core.Path.{_≡_, refl}
 use mathlib.Core.Bool.{Bool, true, false, not, _&&_}
 use mathlib.Core.List.{map}
@@ -25,7 +25,7 @@ use Rattle.printer.specs.Printer.{runStateOf}
 use Rattle.printer.specs.declared.Printer.{Printer}
 use Rattle.text.specs.Output.{longestCells, longestLine}
 
--- the limits of a sound printer, one by one
+-- the limits of a valid printer, one by one
 pub record Limits (p : Printer) : Type 0 where
   pub table : tableValid (p .table) ≡ true
   pub tick : p .stage .registers .tick ≤ p .end
@@ -84,7 +84,7 @@ limits-valid p l =
     (and-both d (f && (g && h)) (le-leb (p .given) (p .stage .ready) (l .given))
     (and-both f (g && h) (le-leb (p .stage .text) longestCells (l .text)) (and-both g h (l .claims) (l .chosen)))))))
 
--- A SOUND TABLE
+-- A VALID TABLE
 
 pub record TableLimits (t : Loaded) : Type 0 where
   pub few : t .count ≤ mostTasks
@@ -120,7 +120,7 @@ module _ (t : Loaded) where
   pub none-out : t .count ≤ mostTasks → t .cores ≤ mostCores → ((i : ℕ) → i < t .count → outAt t i ≡ false) → tableValid t ≡ true
   none-out k l f = table-by true true false (le-leb (t .count) mostTasks k) (le-leb (t .cores) mostCores l) (none-any (t .count) (outAt t) f)
 
--- A SOUND RUN
+-- A VALID RUN
 
 -- the arrays that its type gives a printer
 pub record Arrays (p : Printer) : Type 0 where

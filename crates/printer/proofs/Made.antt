@@ -1,4 +1,4 @@
--- A printer as it is made: all that is printed for the words, and so for the bytes, is still to be handed out.
+-- A printer as it is made: all that is printed for the words, and so for the bytes, is left.
 use native.Mathlib.Omega.{arith}
 use mathlib.Core.Path.{_≡_, refl, sym, ap, ap₂, _∙_, subst, subst⁻¹}
 use mathlib.Core.List.{List, [], _++_, append-nil}
@@ -63,11 +63,11 @@ use Rattle.printer.proofs.Emitting.{rest-valid}
 
 -- THE START
 
--- nobody is in any set
+-- no place is in the empty set
 none-within : (b : ℕ) → within 0 b ≡ true
 none-within b = eq-eqb (bitAnd 0 b) 0 (and-zero-l b)
 
--- the first line is written, and the run stands before tick 0
+-- the first line is written, and the run is before tick 0
 module _
     (t : Loaded) (e : ℕ) (v : Verdict) (registers : Registers) (places : List ℕ) (m : tickStateOf registers places ≡ initialTickState t) (widths : List ℕ)
     (w : widths ≡ loadedNumbers t .widths) (row line : List ℕ) (size ready : ℕ)
@@ -157,7 +157,7 @@ inside-in m τ i =
     (λ w. ⊎-elim (λ x. omega (arith, i .offset-most)) (λ w. ⊎-elim (λ x. x (i .length-from)) (λ w. ⊎-elim (λ x. x (i .period-from)) (λ x. x (i .deadline-from)) w) w) w)
     (task-decides m τ .0 e))
 
--- and what was loaded is sound
+-- and what was loaded is valid
 load-valid : (ws : List ℕ) (r : Loaded) → LoadOf ws r → tableValid r ≡ true
 load-valid ws r l = go (r .answer) refl
   where

@@ -48,7 +48,7 @@ module _ (left : List ℕ) (i : ℕ) (h : i < mostTasks) where
       first : ltb 0 (getD left (i + 0) 0) ≡ b
       first = let z : i + 0 ≡ i = omega arith in ap (λ (q : ℕ). ltb 0 (getD left q 0)) z ∙ e
 
-  -- it has room
+  -- it has space
   pub owed-room : owedFrom left (i + 1) * 2 + 1 < 2 ^ 32
   unfolding owedFrom
   owed-room =

@@ -1,4 +1,4 @@
--- THE TIE to the book: a run that follows a table gives, up to the first miss, the rows of the table's full-length run.
+-- THE RELATION to the book: a run that refines a table's gives, up to the first miss, the rows of the table's full-length run.
 use mathlib.Core.Path.{_≡_, refl, sym, ap, ap₂, _∙_}
 use mathlib.Core.Bool.{Bool, true, false, cond}
 use mathlib.Core.List.{List, [], _∷_, _++_}

@@ -1,4 +1,5 @@
--- A run that can be stepped can be stepped again: who claims is owed ticks after the due events and after the tick, and who is granted cores claims.
+-- A run that can be stepped can be stepped again: a place that claims is owed ticks after the due events and after the tick, and one that is granted cores
+-- claims.
 use mathlib.Core.Path.{_≡_, refl, sym, ap, _∙_, subst}
 use mathlib.Core.Bool.{Bool, true, false, not, _&&_, cond, true≢false, false≢true}
 use mathlib.Core.List.{List}
@@ -39,7 +40,7 @@ within-of a b small h = eq-eqb (bitAnd a b) a (same-digits mostTasks (bitAnd a b
     go p true e = h p e
     go p false e = refl
 
--- WHO IS OWED TICKS
+-- THE PLACES THAT ARE OWED TICKS
 
 -- every claimant of a machine is one of its 32 places, and is owed ticks
 abbrev pub ClaimsOwed : Machine → Type 0
@@ -118,7 +119,7 @@ worked-owed g m z h p e = go (leb mostTasks p) refl
 
 -- A STEP
 
--- who is chosen is among the claimants
+-- a place that is chosen is among the claimants
 choice-claims : (n : Numbers) (c v p : ℕ) → bit (choice n c v) p ≡ true → bit c p ≡ true
 choice-claims n c v p e = go (leb mostTasks p) refl
   where
@@ -146,7 +147,7 @@ module _ (n : Numbers) (s : TickState) (h : Safe n s) where
           (claims-owed (s .machine) (h .owed))
       go false = (h .sized, claims-owed (s .machine) (h .owed))
 
-  -- who is granted cores claims
+  -- a place that is granted cores claims
   granted-kept : within (grantedAt n s) (afterEvents n s .claiming) ≡ true
   unfolding grantedAt
   granted-kept = go (choiceKept n s) refl

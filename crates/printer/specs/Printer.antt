@@ -1,4 +1,4 @@
--- What a printer still has to hand out, and what is promised of each piece, for every printer, whoever made it.
+-- The bytes that a printer has left, and the contract of each piece, for every printer, valid or not.
 use mathlib.Core.Bool.{true, false, cond}
 use mathlib.Core.List.{List, [], _++_}
 use mathlib.Core.Path.{_≡_}
@@ -33,7 +33,7 @@ unfoldable pub toCome : Printer → List ℕ
 toCome p =
     take (p .stage .ready - p .given) (drop (p .given) (p .line)) ++ linesIn (loadedNumbers (p .table)) (p .end - p .stage .registers .tick) (runStateOf p) (textKept p)
 
--- what a printer still has to hand out: where it is sound, all that; else nothing
+-- the bytes that a printer has left: all that where it is valid; else nothing
 unfoldable pub rest : Printer → List ℕ
 rest p = cond (valid p) (toCome p) []
 
@@ -47,7 +47,7 @@ pub record Stepping (n : Numbers) (x : Stage) (places row old : List ℕ) : Type
   pub wide : length row ≡ longestCells
   pub long : length old ≡ longestLine
 
--- one tick on: the line of the tick is written, and the run stands before the next; `kept` is the text that was kept
+-- one tick on: the line of the tick is written, and the state is that before the next; `kept` is the text that was kept
 pub record Stepped (n : Numbers) (s : TickState) (kept old : List ℕ) (x′ : Stage) (places′ row′ new : List ℕ) : Type 0 where
   pub state : tickStateOf (x′ .registers) places′ ≡ nextTickState n s
   pub keeps : take (x′ .text) row′ ≡ textIn n s kept
@@ -71,19 +71,19 @@ pub record WordsPrinter (ws : List ℕ) (p : Printer) : Type 0 where
   pub valid : valid p ≡ true
   pub whole : rest p ≡ printedBy (answerOf ws) (tableOf ws)
 
--- of the bytes of an input: it is sound, and has all of the output still to hand out
+-- of the bytes of an input: it is valid, and has all of the output left
 pub record MadeFrom (bs : List ℕ) (p : Printer) : Type 0 where
   pub valid : valid p ≡ true
   pub whole : rest p ≡ output bs
 
 -- A PIECE
 
--- as much of what is left as the buffer takes stands at its front, all else in the buffer is as it was, and the rest is left for later
+-- as much of what is left as fits is at the front of the buffer, all else in the buffer is as it was, and the rest is left for later
 pub record PieceOf (p : Printer) (before after : List ℕ) (r : Piece) : Type 0 where
   pub length : r .length ≡ min (length before) (length (rest p))
   pub bytes : Put before 0 (take (r .length) (rest p)) after (r .length)
   pub rest : rest (r .printer) ≡ drop (r .length) (rest p)
-  -- a printer that is not sound is refused: nothing is handed out, the buffer is as found, the printer as given
+  -- a printer that is not valid is refused: nothing is written, the buffer is as found, the printer as given
   pub refused : valid p ≡ false → (r .length ≡ 0) × (after ≡ before) × (r .printer ≡ p)
-  -- and a sound one stays sound
+  -- and a valid one stays valid
   pub valid : valid (r .printer) ≡ valid p

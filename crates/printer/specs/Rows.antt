@@ -1,5 +1,5 @@
--- The rows that a run still gives, said for every run, whoever made it: the steps of crate `full`, with the text that is kept while the claimants and
--- their widths are unchanged. That a run which follows a table gives the rows of the book is proved: `rows-follow` in proofs/Follows.antt.
+-- The rows that are left of any run: the steps of crate simulation, with the text that is kept while the claimants and
+-- their widths are unchanged. A run that refines a table's gives the rows of the book: `rows-follow` in proofs/Refines.antt.
 use mathlib.Core.Bool.{cond}
 use mathlib.Core.List.{List, [], _++_}
 use Prim.Native.Nat.{ℕ, zero, suc}

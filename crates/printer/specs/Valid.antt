@@ -1,6 +1,6 @@
--- When a printer is sound: its numbers are in the limits within which it can be stepped. `Printer::new` gives sound ones, a piece leaves a sound one
--- sound, and one that is not, forged by its caller, has nothing to hand out. The next event, the events, the next releases, who is at its second width, the
--- texts and the rule are not asked for, and the fence only where 7 measures a width: whatever they are, they say which rows there are. The table's answer,
+-- When a printer is valid: its numbers are in the limits within which it can be stepped. `Printer::new` returns valid ones, a piece leaves a valid one
+-- valid, and an invalid one, made by its caller, has no bytes left. The next event, the events, the next releases, the places at their second width, the
+-- texts and the rule are not tested, and the fence only where 7 limits a width: any values of them determine some rows. The table's answer,
 -- S, P and horizon are not read.
 use mathlib.Core.Bool.{Bool, true, not, _&&_}
 use mathlib.Core.List.{List}
@@ -37,8 +37,8 @@ owed left = setWhere mostTasks (λ p. ltb 0 (getD left p 0))
 abbrev pub within : ℕ → ℕ → Bool
 within a b = eqb (bitAnd a b) a
 
--- the tick is at most the last, which is at most 1,000,000,000; line and text fit their arrays; who claims is owed ticks, and who is granted cores
--- is among those that the choice is for
+-- the tick is at most the last, which is at most 1,000,000,000; line and text fit their arrays; every place that claims is owed ticks, and every place that is
+-- granted cores is among those that the choice is for
 unfoldable pub valid : Printer → Bool
 valid p =
     tableValid (p .table)

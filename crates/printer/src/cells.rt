@@ -10,7 +10,7 @@ use rule::PAIR;
 use text::row;
 
 // Writes the bytes of the cores, and a newline, where the places of the set `claims` claim, those of the set `even` with their second width;
-// the answer is where they end.
+// returns where they end.
 pub(crate) fn put_cells(
     rule: u32,
     cores: u32,

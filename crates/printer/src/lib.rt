@@ -22,15 +22,15 @@ use text::row;
 use text::row::CELLS;
 use text::row::LINE;
 
-// Where the printing stands: the registers of its run, how long the text of the row is, and how long the line.
+// The state of the printing: the registers of its run, the length of the row's text, and that of the line.
 pub struct Stage {
     pub registers: Registers,
     pub text: usize,
     pub ready: usize,
 }
 
-// What is still to be printed of an input: the table, where its rows end, its run, the text of the row,
-// the line that is being handed out, and how much of it has been.
+// What is left to print of an input: the table, where its rows end, its run, the text of the row,
+// the line that is being written, and how much of it has been.
 pub struct Printer {
     pub table: Loaded,
     pub end: u32,
@@ -41,7 +41,7 @@ pub struct Printer {
     pub given: usize,
 }
 
-// How many bytes were handed out, and the printer of what is left.
+// The number of bytes written, and the printer of what is left.
 pub struct Piece {
     pub printer: Printer,
     pub length: usize,
@@ -138,14 +138,14 @@ impl Printer {
     pub fn new(bytes: &[u8]) -> Printer
         ensures { λ r. ⌜ MadeFrom (now (bytes .entry)) r ⌝ }
     {
-        // what is no table's text has no numbers, and no words are refused as it is: 1 0
+        // what is no table's text has no numbers, and no words are refused likewise: 1 0
         let input = text::read(bytes);
         let words = input.words;
         let count = input.count;
         of_words(&words[..count])
     }
 
-    // Fills the buffer with the next bytes of the output, from a printer that is sound.
+    // Fills the buffer with the next bytes of the output, from a printer that is valid.
     fn emit(self, buffer: &mut [u8]) -> Piece
         requires { ⌜ valid self ≡ true ⌝ }
         ensures { λ r. ⌜ PieceOf self (now (buffer .entry)) (now (buffer .exit)) r ⌝ }
@@ -198,7 +198,7 @@ impl Printer {
         }
     }
 
-    // Fills the buffer with the next bytes of the output; a printer that is not sound has none.
+    // Fills the buffer with the next bytes of the output; a printer that is not valid has none.
     pub fn piece(self, buffer: &mut [u8]) -> Piece
         ensures { λ r. ⌜ PieceOf self (now (buffer .entry)) (now (buffer .exit)) r ⌝ }
     {

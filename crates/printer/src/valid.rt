@@ -1,4 +1,4 @@
-// Whether the numbers of a printer are in their limits, whoever made it.
+// Whether the numbers of any printer are in their limits.
 ghost use mathlib.Core.Path.{_≡_};
 ghost use Rattle.simulation.specs.Places.{segment};
 ghost use Rattle.printer.specs.Valid.{tableValid, owed, within, valid};

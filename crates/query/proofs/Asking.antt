@@ -1,4 +1,4 @@
--- What is printed for a question: what `sentence` answers says it, and so many bytes of an input as the buffer takes decide it.
+-- The output for a question: the answer of `sentence` determines it, and as many bytes of an input as the buffer holds decide it.
 -- Assumes nothing.
 use mathlib.Core.Bool.{Bool, true, false, _&&_, cond, false≢true}
 use mathlib.Core.List.{List, [], _∷_, _++_}
@@ -34,7 +34,7 @@ module _ (ws old new : List ℕ) (v : SentenceAnswer) (h : SentenceOf ws old new
   unfolding whyOf
   by-answer = ap (λ (w : SentenceAnswer). whyBy (sentenceMeaning w) ws) (h .value ∙ ap (sentenceAnswerOf ws) l)
 
-  -- a sentence leaves room for a newline
+  -- a sentence has space for a newline
   pub leaves-room : (n : ℕ) → v ≡ Length n → n < length new
   unfolding digitCount digitsWithin
   leaves-room n e = let k : n ≤ 700 = h .short n (ap sentenceMeaning e) in let s = h .size in omega arith
@@ -77,7 +77,7 @@ word-some Longest = omega arith
 word-some Clash = omega arith
 word-some Spare = omega arith
 
--- WHICH IS TOLD by where the table behind its word begins, 0 where its word does not stand in front
+-- WHICH ONE is decided by where the table after its word begins, 0 where its word is not in front
 module _ (q : Question) (bs : List ℕ) (r : ℕ) (e : r ≡ cond (startsWith (wordOf q) bs) (length (wordOf q)) 0) where
   pub is-asked : 0 < r → (startsWith (wordOf q) bs ≡ true) × (r ≡ length (wordOf q)) × (r ≤ length bs)
   is-asked h = go (startsWith (wordOf q) bs) refl e
@@ -93,7 +93,7 @@ module _ (q : Question) (bs : List ℕ) (r : ℕ) (e : r ≡ cond (startsWith (w
       go true b z = let l = word-some q in absurd (let n : 0 < 0 = omega arith in omega arith)
       go false b z = b
 
--- the question at a place of the list is answered where its word stands in front, ..
+-- the question at a place of the list is answered where its word is in front, ..
 pub asked-here :
     (i : ℕ) (bs : List ℕ) → i < length questions → startsWith (wordOf (getD questions i Why)) bs ≡ true → queryOutputOf (drop i questions) bs ≡ answerBehind (getD questions i Why) bs
 unfolding queryOutputOf
@@ -102,7 +102,7 @@ asked-here i bs h e =
     ap (λ (qs : List Question). queryOutputOf qs bs) (drop-cons questions i Why h)
     ∙ ap (λ (t : Bool). cond t (answerBehind q bs) (queryOutputOf (drop (suc i) questions) bs)) e
 
--- .. and else passed over
+-- .. and else skipped
 pub asked-on :
     (i : ℕ) (bs : List ℕ) → i < length questions → startsWith (wordOf (getD questions i Why)) bs ≡ false
     → queryOutputOf (drop i questions) bs ≡ queryOutputOf (drop (i + 1) questions) bs
@@ -118,7 +118,7 @@ pub asked-none : (i : ℕ) (bs : List ℕ) → i ≡ length questions → queryO
 unfolding queryOutputOf
 asked-none i bs e = ap (λ (k : ℕ). queryOutputOf (drop k questions) bs) e
 
--- so many bytes as the word has tell whether a text begins with it
+-- as many bytes as the word has decide whether a text begins with it
 begins-enough : (word : List ℕ) (n : ℕ) (bs : List ℕ) → startsWith word (take (length word + n) bs) ≡ startsWith word bs
 unfolding startsWith
 begins-enough [] n bs = refl
@@ -127,7 +127,7 @@ begins-enough (c ∷ cs) n (b ∷ bs) =
     let e : suc (length cs) + n ≡ suc (length cs + n) = omega arith in
     ap (λ (m : ℕ). startsWith (c ∷ cs) (take m (b ∷ bs))) e ∙ ap (λ (t : Bool). eqb c b && t) (begins-enough cs n bs)
 
--- what stands behind the first k bytes
+-- what is after the first k bytes
 behind : (k n : ℕ) (bs : List ℕ) → drop k (take (k + n) bs) ≡ take n (drop k bs)
 behind zero n bs = let e : 0 + n ≡ n = omega arith in ap (λ (m : ℕ). take m bs) e
 behind (suc k) n [] = ap (drop (suc k)) (take-nil (suc k + n)) ∙ sym (take-nil n)

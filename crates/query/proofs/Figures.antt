@@ -1,4 +1,4 @@
--- The lines of figures: one line more, as it is written; and what an answer says. Assumes nothing.
+-- The lines of numbers: one line more, as it is written; and the meaning of an answer. Assumes nothing.
 use mathlib.Core.List.{List, [], _∷_, _++_, append-assoc, append-nil}
 use mathlib.Core.Path.{_≡_, refl, ap, sym, _∙_, subst}
 use Prim.Native.Nat.{ℕ, suc, _+_, _≤_, _<_}
@@ -26,12 +26,12 @@ use Rattle.slack.specs.Numbers as sparing
 use Rattle.query.specs.Figures.{figureLines, figureLinesBy}
 use Rattle.query.specs.Query.{responseTimesText, slackText}
 
--- a line for each figure, from position 1 on, as it is printed
+-- a line for each number, from position 1 on, as it is printed
 pub figures-printed : figureLines 0 (2 ∷ 50 ∷ []) ≡ letters "1 2" ++ (newline ∷ (letters "2 50" ++ (newline ∷ [])))
 unfolding figureLines lineOf fields decimal digitCount digitsWithin lastDigits
 figures-printed = refl
 
--- the line of one figure more
+-- the line of one number more
 lines-more : (q : ℕ) (xs : List ℕ) (x : ℕ) → figureLines q (xs ++ (x ∷ [])) ≡ figureLines q xs ++ lineOf (decimal (suc (q + length xs))) (x ∷ [])
 unfolding figureLines
 lines-more q [] x =
@@ -53,12 +53,12 @@ lines-next xs k h =
     ∙ sym (lines-more 0 (take k xs) (getD xs k 0))
     ∙ ap (figureLines 0) (sym (ap (λ (j : ℕ). take j xs) (add-one k) ∙ take-suc xs k 0 h))
 
--- a line is a position, a space, a figure and a newline
+-- a line is a position, a space, a number and a newline
 line-text : (s : List ℕ) (n x : ℕ) → ((s ++ decimal n) ++ (space ∷ decimal x)) ++ (newline ∷ []) ≡ s ++ lineOf (decimal n) (x ∷ [])
 unfolding lineOf fields
 line-text s n x = simp (append-assoc, append-nil)
 
--- the line of one figure more is put
+-- the line of one number more is put
 pub put-line :
     (l m n o : List ℕ) (at middle end k : ℕ) (xs : List ℕ) → Put l 0 (figureLines 0 (take k xs)) m at → k < length xs
     → Put m at (decimal (k + 1)) n middle → Put n middle (space ∷ decimal (getD xs k 0)) o end → middle ≤ end → end < length l
@@ -92,23 +92,23 @@ refusal-text a xs n p e = ap (λ (b : Answer). figureLinesBy b xs) (sym e)
 -- WHAT `response_times` ANSWERS
 
 module _ (ws : List ℕ) (r : ResponseTimes) (h : ResponseTimesOf ws r) where
-  -- what is said goes by it
+  -- the output follows from it
   pub response-times-by : figureLinesBy (r .answer) (take (length (tableOf ws .tasks)) (r .responses)) ≡ responseTimesText ws
   unfolding responseTimesText
   response-times-by = ap (λ (w : ResponseTimes). figureLinesBy (w .answer) (take (length (tableOf ws .tasks)) (w .responses))) (h .value)
 
-  -- no number turns down a table whose figures are given
+  -- no number turns down a table whose response times are given
   pub response-times-none : r .answer ≡ Passed → NoneApplies ws
   response-times-none e n p a = h .passed .0 (ap loadMeaning e) n p (words n p a)
 
 -- WHAT `slack` ANSWERS
 
 module _ (ws : List ℕ) (r : SlackAnswer) (h : SlackOf ws r) where
-  -- what is said goes by it
+  -- the output follows from it
   pub slack-by : figureLinesBy (r .answer) (take (length (tableOf ws .tasks)) (r .slack)) ≡ slackText ws
   unfolding slackText
   slack-by = ap (λ (w : SlackAnswer). figureLinesBy (w .answer) (take (length (tableOf ws .tasks)) (w .slack))) (h .value)
 
-  -- no number turns down a table whose figures are given
+  -- no number turns down a table whose slack is given
   pub slack-none : r .answer ≡ Passed → NoneApplies ws
   slack-none e n p a = h .passed .0 (ap loadMeaning e) n p (sparing.words n p a)

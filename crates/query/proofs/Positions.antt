@@ -31,7 +31,7 @@ positions-printed = (refl, refl, refl)
 
 -- ONE NUMBER MORE
 
--- behind other bytes it has a space before it
+-- after other bytes it has a space before it
 pub spaced-behind : (at n : ℕ) → 0 < at → spacedAt at n ≡ space ∷ decimal n
 unfolding spacedAt
 spaced-behind zero n h = absurd (not-suc-le-zero h)
@@ -67,7 +67,7 @@ put-position l m n at end p x before e more h =
     ∙ (ap (λ (t : Bool). spaced (cond t (s ++ (suc p ∷ [])) s)) (sym e) ∙ ap (λ (k : ℕ). spaced (positionsBelow k x)) (sym (add-one p))))) in
     subst (λ (t : List ℕ). Put l 0 t n end) next (put-then before more h)
 
--- any other is passed over
+-- any other is skipped
 pub pass-position : (p x : ℕ) → bit x p ≡ false → positionsBelow p x ≡ positionsBelow (p + 1) x
 unfolding positionsBelow
 pass-position p x e =
@@ -76,7 +76,7 @@ pass-position p x e =
 -- WHAT `conflict` ANSWERS
 
 module _ (ws : List ℕ) (r : ConflictAnswer) (h : ConflictOf ws r) where
-  -- what is said goes by it
+  -- the output follows from it
   by-kept : positionsBy (r .answer) (r .kept) ≡ conflictText ws
   unfolding conflictText
   by-kept = ap (λ (w : ConflictAnswer). positionsBy (w .answer) (w .kept)) (h .value)

@@ -1,4 +1,4 @@
--- Figures of tasks as they are printed: a line for each, its position and the figure.
+-- A number for each task as it is printed: a line for each, its position and the number.
 use mathlib.Core.List.{List, [], _∷_, _++_}
 use Prim.Native.Nat.{ℕ, suc}
 use Rattle.judge.specs.JudgeAnswer.{refused}
@@ -7,7 +7,7 @@ use Rattle.table.specs.declared.Answer.the-variants.{Passed, Refused}
 use Rattle.text.specs.Decimal.{decimal}
 use Rattle.text.specs.Output.{lineOf, firstLine}
 
--- the lines of figures, of which the first is that of place q
+-- the lines of numbers, of which the first is that of place q
 unfoldable pub figureLines : ℕ → List ℕ → List ℕ
 figureLines q [] = []
 figureLines q (x ∷ xs) = lineOf (decimal (suc q)) (x ∷ []) ++ figureLines (suc q) xs

@@ -1,4 +1,4 @@
--- What `ask` prints: one definition, of the whole input.
+-- What the program query prints: one definition, of the whole input.
 pub mod Figures
 pub mod Positions
 pub mod Query

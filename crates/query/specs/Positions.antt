@@ -21,7 +21,7 @@ unfoldable pub spaced : List ℕ → List ℕ
 spaced [] = []
 spaced (n ∷ ns) = decimal n ++ fields ns
 
--- .. one of them, where so many bytes stand before it in its line
+-- .. one of them, where this number of bytes is before it in its line
 unfoldable pub spacedAt : ℕ → ℕ → List ℕ
 spacedAt zero n = decimal n
 spacedAt (suc at) n = space ∷ decimal n

@@ -1,4 +1,4 @@
--- What is printed for a question on a table: the first line of the input is the question's word, and the table follows.
+-- The answer to a question on a table: the first line of the input is the question's word, and the table follows.
 use mathlib.Core.Bool.{cond}
 use mathlib.Core.List.{List, [], _∷_, _++_}
 use Prim.Native.Nat.{ℕ, _+_}
@@ -20,11 +20,11 @@ use Rattle.query.specs.declared.Question.the-variants.{Why, Longest, Cla
 use Rattle.query.specs.Figures.{figureLinesBy}
 use Rattle.query.specs.Positions.{positionsBy}
 
--- the room for an answer: a sentence, of at most 700 bytes while ticks are at most 1,000,000,000, and a newline
+-- the most bytes of an answer: a sentence, of at most 700 bytes while ticks are at most 1,000,000,000, and a newline
 abbrev pub answerRoom : ℕ
 answerRoom = 700 + 1
 
--- the answer by what `sentence` answers: the sentence and a newline; else the verdict's line, which says also what a table is refused for
+-- the answer by that of `sentence`: the sentence and a newline; else the verdict's line, which also contains the number that a table is refused with
 abbrev pub whyBy : SentenceOutcome → List ℕ → List ℕ
 whyBy (ofLength n) ws = sentenceText (factsOf ws) ++ (newline ∷ [])
 whyBy (refusedBy n p) ws = firstLine (verdictMeaning (verdictOf ws))
@@ -33,19 +33,19 @@ whyBy (refusedBy n p) ws = firstLine (verdictMeaning (verdictOf ws))
 unfoldable pub whyOf : List ℕ → List ℕ
 whyOf ws = whyBy (sentenceMeaning (sentenceAnswerOf ws answerRoom)) ws
 
--- the longest answer of each task, or the refusal
+-- the worst-case response time of each task, or the refusal
 unfoldable pub responseTimesText : List ℕ → List ℕ
 responseTimesText ws = figureLinesBy (responseTimesOf ws .answer) (take (length (tableOf ws .tasks)) (responseTimesOf ws .responses))
 
--- the positions of the tasks in the clash, or the refusal
+-- the positions of the tasks in conflict, or the refusal
 unfoldable pub conflictText : List ℕ → List ℕ
 conflictText ws = positionsBy (conflictOf ws .answer) (conflictOf ws .kept)
 
--- the spare ticks of each task, or the refusal
+-- the slack of each task, or the refusal
 unfoldable pub slackText : List ℕ → List ℕ
 slackText ws = figureLinesBy (slackOf ws .answer) (take (length (tableOf ws .tasks)) (slackOf ws .slack))
 
--- what is said to a question on the words of a table
+-- the answer to a question on the words of a table
 abbrev pub answerTo : Question → List ℕ → List ℕ
 answerTo Why ws = whyOf ws
 answerTo Longest ws = responseTimesText ws
@@ -59,15 +59,15 @@ wordOf Longest = letters "longest" ++ (newline ∷ [])
 wordOf Clash = letters "clash" ++ (newline ∷ [])
 wordOf Spare = letters "spare" ++ (newline ∷ [])
 
--- .. on the table that stands behind the word
+-- .. on the table after the word
 abbrev pub answerBehind : Question → List ℕ → List ℕ
 answerBehind q bs = answerTo q (numbersIn (wordsOf (drop (length (wordOf q)) bs)))
 
--- what is said where the first line is no question
+-- the answer where the first line is no question
 abbrev pub noQuestion : List ℕ
 noQuestion = letters "no such question" ++ (newline ∷ [])
 
--- the first of these questions whose word stands in front is answered
+-- the first of these questions whose word is in front is answered
 unfoldable pub queryOutputOf : List Question → List ℕ → List ℕ
 queryOutputOf [] bs = noQuestion
 queryOutputOf (q ∷ qs) bs = cond (startsWith (wordOf q) bs) (answerBehind q bs) (queryOutputOf qs bs)
@@ -80,6 +80,6 @@ questions = Why ∷ Longest ∷ Clash ∷ Spare ∷ []
 unfoldable pub queryOutput : List ℕ → List ℕ
 queryOutput bs = queryOutputOf questions bs
 
--- how many bytes of an input are enough (`asked-enough`): the longest word's, and a table's
+-- the number of bytes of an input that are enough (`asked-enough`): the longest word's, and a table's
 abbrev pub enoughInput : ℕ
 enoughInput = length (wordOf Longest) + enoughBytes

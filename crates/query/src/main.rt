@@ -1,8 +1,8 @@
 // Answers a question on a table: the first line of standard input is the question's word, and the table follows, one decimal number a line.
 // The question `why` is answered by the miss in a sentence, and by the verdict's line where the table has no miss or is refused;
-// `longest` by a line for each task, its position and the longest answer of its jobs, or by the refusal;
-// `clash` by one line, the positions of the tasks in the clash, or by the refusal;
-// `spare` by a line for each task, its position and its spare ticks, or by the refusal.
+// `longest` by a line for each task, its position and the worst-case response time of its jobs, or by the refusal;
+// `clash` by one line, the positions of the tasks in conflict, or by the refusal;
+// `spare` by a line for each task, its position and its slack, or by the refusal.
 ghost use mathlib.Core.Path.{_≡_};
 ghost use mathlib.Core.Bool.{cond};
 ghost use Prim.Native.Nat.{_+_, _≤_};
@@ -39,20 +39,20 @@ enum Question {
 // The most bytes of a question's word and its newline.
 const WORD: usize = 8;
 
-// How many bytes of an input are enough to tell all that is printed for it: the longest question, and as many as a table takes.
+// The number of bytes of an input that decide all that is printed for it: the longest question, and as many as a table takes.
 const INPUT: usize = WORD + ENOUGH;
 
-// The room for an answer: a sentence and a newline.
+// The most bytes of an answer: a sentence and a newline.
 const ROOM: usize = LONGEST + 1;
 
-// What came of it: the buffer and what was read into it, and what was printed.
+// The result: the buffer and what was read into it, and what was printed.
 struct Outcome {
     bytes: [u8; INPUT],
     reading: Reading,
     sent: Sent,
 }
 
-// Writes why a table misses at the front of the line, or its verdict; the answer is where the line ends.
+// Writes why a table misses at the front of the line, or its verdict; returns where the line ends.
 fn why(words: &[u32], line: &mut [u8]) -> usize
     requires { ⌜ length (now line) ≡ answerRoom ⌝ }
     ensures { λ r. ⌜ (r ≤ answerRoom) × (take r (now (line .exit)) ≡ whyOf (now (words .entry))) ⌝ }
@@ -70,7 +70,7 @@ fn why(words: &[u32], line: &mut [u8]) -> usize
     }
 }
 
-// Writes a line for each of the first figures, its position and the figure, at the front of the lines; the answer is where they end.
+// Writes a line for each of the first numbers, its position and the number, at the front of the lines; returns where they end.
 fn put_figures(figures: [u32; MOST_TASKS], count: usize, lines: &mut [u8]) -> usize
     requires { ⌜ (count ≤ mostTasks) × (length (now lines) ≡ answerRoom) ⌝ }
     ensures { λ r. ⌜ (Put (now (lines .entry)) 0 (figureLines 0 (take count figures)) (now (lines .exit)) r) × (r ≤ answerRoom) ⌝ }
@@ -87,7 +87,7 @@ fn put_figures(figures: [u32; MOST_TASKS], count: usize, lines: &mut [u8]) -> us
     at
 }
 
-// Writes a line for each task, its position and its figure, at the front of the lines, or the refusal; the answer is where they end.
+// Writes a line for each task, its position and its number, at the front of the lines, or the refusal; returns where they end.
 fn put_answer(words: &[u32], answer: Answer, figures: [u32; MOST_TASKS], lines: &mut [u8]) -> usize
     requires { ⌜ (answer ≡ Passed → NoneApplies (now words)) × (length (now lines) ≡ answerRoom) ⌝ }
     ensures { λ r. ⌜ (r ≤ answerRoom) × (take r (now (lines .exit)) ≡ figureLinesBy answer (take (length (tableOf (now (words .entry)) .tasks)) figures)) ⌝ }
@@ -103,7 +103,7 @@ fn put_answer(words: &[u32], answer: Answer, figures: [u32; MOST_TASKS], lines: 
     }
 }
 
-// Writes the longest answer of each task at the front of the lines, or the refusal; the answer is where they end.
+// Writes the worst-case response time of each task at the front of the lines, or the refusal; returns where they end.
 fn response_times(words: &[u32], lines: &mut [u8]) -> usize
     requires { ⌜ length (now lines) ≡ answerRoom ⌝ }
     ensures { λ r. ⌜ (r ≤ answerRoom) × (take r (now (lines .exit)) ≡ responseTimesText (now (words .entry))) ⌝ }
@@ -114,7 +114,7 @@ fn response_times(words: &[u32], lines: &mut [u8]) -> usize
     put_answer(words, answer, figures, lines)
 }
 
-// Writes a number, behind a space where it is not the first of its line; the answer is where it ends.
+// Writes a number, after a space where it is not the first of its line; returns where it ends.
 fn put_spaced(line: &mut [u8], at: usize, number: u32) -> usize
     requires { ⌜ at + 11 ≤ length (now line) ⌝ }
     ensures { λ r. ⌜ (Put (now (line .entry)) at (spacedAt at number) (now (line .exit)) r) × (r ≤ at + 11) ⌝ }
@@ -125,7 +125,7 @@ fn put_spaced(line: &mut [u8], at: usize, number: u32) -> usize
     text::first::put_field(line, at, number)
 }
 
-// Writes the positions of a set on one line, a space between two; the answer is where the line ends.
+// Writes the positions of a set on one line, a space between two; returns where the line ends.
 fn put_positions(set: u32, line: &mut [u8]) -> usize
     requires { ⌜ length (now line) ≡ answerRoom ⌝ }
     ensures { λ r. ⌜ (Put (now (line .entry)) 0 (positionLine set) (now (line .exit)) r) × (r ≤ answerRoom) ⌝ }
@@ -142,7 +142,7 @@ fn put_positions(set: u32, line: &mut [u8]) -> usize
     at + 1
 }
 
-// Writes the positions of the tasks in the clash on one line, or the refusal; the answer is where it ends.
+// Writes the positions of the tasks in conflict on one line, or the refusal; returns where it ends.
 fn conflict(words: &[u32], line: &mut [u8]) -> usize
     requires { ⌜ length (now line) ≡ answerRoom ⌝ }
     ensures { λ r. ⌜ (r ≤ answerRoom) × (take r (now (line .exit)) ≡ conflictText (now (words .entry))) ⌝ }
@@ -157,7 +157,7 @@ fn conflict(words: &[u32], line: &mut [u8]) -> usize
     }
 }
 
-// Writes the spare ticks of each task at the front of the lines, or the refusal; the answer is where they end.
+// Writes the slack of each task at the front of the lines, or the refusal; returns where they end.
 fn slack(words: &[u32], lines: &mut [u8]) -> usize
     requires { ⌜ length (now lines) ≡ answerRoom ⌝ }
     ensures { λ r. ⌜ (r ≤ answerRoom) × (take r (now (lines .exit)) ≡ slackText (now (words .entry))) ⌝ }
@@ -168,7 +168,7 @@ fn slack(words: &[u32], lines: &mut [u8]) -> usize
     put_answer(words, answer, figures, lines)
 }
 
-// Writes what is said to a question on a table at the front of the lines; the answer is where it ends.
+// Writes the answer to a question on a table at the front of the lines; returns where it ends.
 fn put(question: Question, words: &[u32], lines: &mut [u8]) -> usize
     requires { ⌜ length (now lines) ≡ answerRoom ⌝ }
     ensures { λ r. ⌜ (r ≤ answerRoom) × (take r (now (lines .exit)) ≡ answerTo question (now (words .entry))) ⌝ }
@@ -181,7 +181,7 @@ fn put(question: Question, words: &[u32], lines: &mut [u8]) -> usize
     }
 }
 
-// Prints what is said to a question on the table in these bytes.
+// Prints the answer to a question on the table in these bytes.
 fn send_answer(question: Question, bytes: &[u8]) -> Sent
     ensures { λ r. ⌜ SentOf 0 (answerTo question (numbersIn (wordsOf (now (bytes .entry))))) r ⌝ }
 {
@@ -193,7 +193,7 @@ fn send_answer(question: Question, bytes: &[u8]) -> Sent
     stream::send(0, &lines[..length])
 }
 
-// Where the bytes behind a word begin; 0 where they do not begin with it.
+// Where the bytes after a word begin; 0 where they do not begin with it.
 fn behind_word(bytes: &[u8], word: &[u8]) -> usize
     ensures { λ r. ⌜ r ≡ cond (startsWith (now (word .entry)) (now (bytes .entry))) (length (now (word .entry))) 0 ⌝ }
 {
@@ -204,7 +204,7 @@ fn behind_word(bytes: &[u8], word: &[u8]) -> usize
     0
 }
 
-// Where the table behind a question's word begins; 0 where the bytes do not begin with it.
+// Where the table after a question's word begins; 0 where the bytes do not begin with it.
 fn table_behind(question: Question, bytes: &[u8]) -> usize
     ensures { λ r. ⌜ r ≡ cond (startsWith (wordOf question) (now (bytes .entry))) (length (wordOf question)) 0 ⌝ }
 {
@@ -238,7 +238,8 @@ fn print(bytes: &[u8]) -> Sent
     stream::send(0, b"no such question\n")
 }
 
-// Reads standard input until its end, or until it is longer than any question can be, and prints the answer; a read that fails is said, and nothing is printed.
+// Reads standard input until its end, or until it is longer than any question can be, and prints the answer; a read that fails is reported, and nothing is
+// printed.
 fn answer() -> Outcome
     ensures { λ r. ⌜ Answered queryOutput (r .bytes) (r .reading) (r .sent) ⌝ }
 {

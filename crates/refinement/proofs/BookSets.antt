@@ -1,5 +1,5 @@
--- SETS AND THE BOOK: the sets of cores of a started run, taken through a list of entries, are the book's, whatever jobs are empty; and what a run promises
--- of its sets holds of them in the book's words.
+-- SETS AND THE BOOK: the sets of cores of a started run, taken through a list of entries, are the book's, whatever jobs are empty; and the contract of a run's
+-- sets holds of them in the book's words.
 use mathlib.Core.Path.{_≡_, refl, sym, ap, ap₂, subst₂, _∙_}
 use mathlib.Core.Bool.{Bool, true, false, not, _&&_, _||_, cond}
 use mathlib.Core.Logic.{_⊎_, inl, inr}
@@ -35,7 +35,7 @@ use Rattle.refinement.proofs.Looks.{SeenAlike, SameTable, below-count, 
 use Rattle.refinement.proofs.Related.{in-time, looks, same-any, same-first, same-misemptied}
 use Rattle.refinement.proofs.Represents.{Represents}
 
--- a run that stands for a book gives its sets
+-- a run that represents a book gives its sets
 same-sets : (s : Table) → AllValid s → (b : Book) (r : Run) → Represents s b r → (e : ℕ) → setsMeaning (setsOf r e) ≡ askedIn32 (setsAsked s b e)
 unfolding setsOf rowAnswer setsAsked setsIn
 same-sets s ok b r h e =
@@ -66,7 +66,7 @@ same-sets s ok b r h e =
 pub sets-book : (ws : List ℕ) → answerMeaning (startOf ws .answer) ≡ taken → (xs : List Entry) → SetsBook ws xs
 sets-book ws e xs = same-sets (tableOf ws) (sound ws e) (book (tableOf ws) xs) (runAfterList (firstRun ws) xs) (stands ws e xs)
 
--- WHAT A RUN PROMISES OF ITS SETS, read of one that stands for a book
+-- THE CONTRACT OF A RUN'S SETS, for one that represents a book
 
 module _ (s : Table) (ok : AllValid s) (b : Book) (r : Run) (h : Represents s b r) (e : ℕ) (w : Sets) (o : SetsOf r e w) where
   -- the book with the empty jobs ended
@@ -83,7 +83,7 @@ module _ (s : Table) (ok : AllValid s) (b : Book) (r : Run) (h : Represents s b 
   numbers n p (twenty q x) = inr refl
 
   module _ (t : answerMeaning (w .answer) ≡ taken) where
-    -- nobody is late, so the run as it is seen is tied to the book
+    -- no task is late, so the run as it is seen is related to the book
     seen : SeenAlike s c r e
     seen = looks s ok b r (h .related) it e
       where

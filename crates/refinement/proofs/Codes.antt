@@ -1,4 +1,4 @@
--- The answers of an entry as numbers: each answer is small, and the numbers of a list tell its answers.
+-- The answers of an entry as numbers: each answer is small, and the numbers of a list determine its answers.
 use mathlib.Core.Path.{_≡_, refl, ap}
 use mathlib.Core.Bool.{Bool, true, false, cond}
 use mathlib.Core.List.{List, [], _∷_, map}
@@ -68,7 +68,7 @@ code-tells (model.refused n p) (model.refused m q) h k e =
     let b : p ≡ q = omega arith in
     λ i. model.refused (a i) (b i)
 
--- .. so the numbers of a list of entries tell its answers
+-- .. so the numbers of a list of entries determine its answers
 pub codes-tell : (r s : Run) (xs ys : List model.Entry) → codes r xs ≡ codes s ys → map answerMeaning (answers r xs) ≡ map answerMeaning (answers s ys)
 unfolding answers
 codes-tell r s [] [] e = refl

@@ -119,7 +119,7 @@ empty-lines =
     (on2 2 2 ∷ on2 3 0 ∷ no 15 3 ∷ no 15 3 ∷ []) (runB 1 (Resting 2) (Resting 2) (Working 2 1 1))
     ∷ []
 
--- every line is what the definitions say, line by line
+-- every line is its value by the definitions, line by line
 computed : LineByLine worked-named empty-lines empty-lines
 unfolding running rows
 computed = (refl, (refl, (refl, (refl, (refl, (refl, (refl, (refl, (refl, (refl, (refl, (refl, (refl, (refl, (refl, (refl, (refl, (refl, (refl, (refl, (refl, (refl, (refl, tt)))))))))))))))))))))))

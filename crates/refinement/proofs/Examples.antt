@@ -1,6 +1,7 @@
 -- The marked lines of the table of examples, and those with empty jobs, with withdrawals of one position and of several together, with two widths and
--- with lending, through `replay`: what its contract says of the words of a line's table and of the line's list is what the line says.
--- So B with its report shows the right side of figure 2 of Goossens and Berten row by row, up to the miss; and B3 with the same report shows the rows that it shows without.
+-- with lending, through `replay`: its contract gives for the words of a line's table and the line's list what is in the line.
+-- So B with its report shows the right side of figure 2 of Goossens and Berten row by row, up to the miss; and B3 with the same report shows the rows that it
+-- shows without.
 use mathlib.Core.Path.{_≡_, refl, sym, ap, _∙_, subst}
 use mathlib.Core.List.{List, [], _∷_, map, _++_}
 use Prim.Native.Nat.{ℕ, zero, suc, _/_, _%_, _^_, _≤_}
@@ -52,7 +53,7 @@ wordsOf l = 1 ∷ l .table .cores ∷ numberOf (l .table .rule) ∷ l .table .fe
 
 -- WHAT IS SHOWN OF A LINE
 
--- a replay of its first k entries writes its first k answers, and is told its row k where that is asked with no empty job, as a replay asks
+-- a replay of its first k entries writes its first k answers, and its row k where that is asked with no empty job, as a replay asks
 abbrev pub Shows : Line → Type 0
 Shows l =
     (k : ℕ) → k ≤ length (l .entries) → (numbers bytes : List ℕ) (o : ReplayOutcome)
@@ -194,7 +195,7 @@ begun-lend =
     (refl, (refl, (refl, (refl, (refl, (refl, (refl, (refl, (refl, (refl, (refl, tt))))))))))) in
     (refl, (refl, (refl, (refl, (refl, (refl, (refl, (refl, (refl, (refl, (refl, later)))))))))))
 
--- what the definitions say of lines, the contract says of them through `replay`
+-- the contract gives for lines through `replay` their values by the definitions
 through : (ls : List Line) → map worked ls ≡ ls → LineByLine begins ls (map expected ls) → Each (λ l. ByVerdict (l .says) l) ls
 through ls works starts =
     both (λ l. worked l ≡ l) (λ l. begins l ≡ expected l) (λ l. ByVerdict (l .says) l)

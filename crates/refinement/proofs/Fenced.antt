@@ -15,7 +15,7 @@ use Rattle.run.specs.Start.{startOf}
 use Rattle.refinement.specs.Fenced.{Fenced, spreadOver}
 use Rattle.refinement.proofs.Refines.{refines}
 
--- who is late and who may be empty does not depend on the cores, and the row is spread
+-- which places are late and which may be empty does not depend on the cores, and the row is spread
 spread-asked : (s : Table) (b : Book) (e : ℕ) → asked s b e ≡ spreadOver s (asked (unfencedTable s) b e)
 unfolding asked late misemptied emptiable emptied
 spread-asked s b e = go (ltb (firstLate s b) (length (s .tasks))) (misemptied s b e)

@@ -33,7 +33,7 @@ pub record Line : Type 0 where
   pub shows : List Row
   pub ends : Run
 
--- what the definitions say of a line's run and list
+-- the value by the definitions of a line's run and list
 abbrev pub worked : Line → Line
 worked l = record {
   from = l .from;
@@ -107,11 +107,11 @@ asked r w = record { from = r; entries = []; gets = []; shows = w ∷ []; ends =
 abbrev pub limit : ℕ → Phase → Row → Line
 limit r ph w = asked (one r 1 (t 2 1 3 4 6 ph)) w
 
--- a count of so many tasks, which rest, on one core; there is a task at each place below it
+-- a count of tasks, which rest, on one core; there is a task at each place below it
 abbrev resters : ℕ → Row → Line
 resters n w = asked (record { rule = 1; cores = 1; fence = 0; withdrawn = 0; count = n; tasks = replicate 33 (t 2 1 3 4 6 (Resting 1)) }) w
 
--- one task (O, v, C, D, T) in a phase, on so many cores
+-- one task (O, v, C, D, T) in a phase, on a number of cores
 abbrev sized : ℕ → Task → Row → Line
 sized m a w = asked (one 1 m a) w
 
@@ -221,14 +221,14 @@ lines =
     ∷ limit 3 (Holding 1 0) (on1 1) ∷ limit 3 (Holding 3 0) (on1 1) ∷ limit 3 (Holding 4 0) (no 14 0)
     ∷ limit 3 (Holding 3 1) (on1 1) ∷ limit 3 (Holding 4 1) (no 14 0)
     ∷ limit 3 (Holding 3 2) (on1 1) ∷ limit 3 (Holding 3 3) (no 14 0) ∷ limit 3 (Holding 2 2) (on1 1) ∷ limit 3 (Holding 1 2) (no 14 0)
-    -- C of 1: a hold has claimed nothing; D of 1: it stands at 0
+    -- C of 1: a hold has claimed nothing; D of 1: it is at 0
     ∷ asked (one 3 1 (t 0 1 1 4 6 (Holding 3 0))) (on1 1) ∷ asked (one 3 1 (t 0 1 1 4 6 (Holding 1 1))) (no 14 0)
     ∷ asked (one 3 1 (t 0 1 3 1 6 (Holding 0 0))) (on1 1) ∷ asked (one 3 1 (t 0 1 3 1 6 (Holding 1 0))) (no 14 0)
     -- Resting 1 to T − 1
     ∷ limit 1 (Resting 0) (no 14 0) ∷ limit 1 (Resting 1) (on1 0) ∷ limit 1 (Resting 5) (on1 0) ∷ limit 1 (Resting 6) (no 14 0)
     ∷ []
 
--- every line is what the definitions say, line by line; a line is named by what it is made of
+-- every line is its value by the definitions, line by line; a line is named by what it is made of
 computed : LineByLine worked lines lines
 unfolding running rows
 computed =

@@ -1,6 +1,6 @@
--- Runs built by hand under rule 4 (request 109), computed from the definitions: who lends and who borrows, that a lent tick is work and no reserved tick,
--- that work ends by the ticks had and a hold by the reserved ones, who may be reported; and 14 of the two counts from both sides. The row before each
--- entry is asked with the empty jobs that it names, the row after the last with none.
+-- Runs built by hand under rule 4 (request 109), computed from the definitions: which places lend and borrow, that a lent tick is work and no reserved tick,
+-- that work ends by the ticks had and a hold by the reserved ones, which jobs may be reported; and 14 of the two counts from both sides. The row before each
+-- entry is asked with its empty jobs, the row after the last with none.
 use mathlib.Core.List.{List, [], _∷_, map}
 use mathlib.Core.Path.{_≡_, refl}
 use Prim.Native.Nat.{ℕ}
@@ -186,7 +186,7 @@ count-lines =
     ∷ limit 0 (Working 2 1 1) (no 14 0) ∷ limit 5 (Working 2 1 1) (no 14 0) ∷ limit 5 (Working 2 1 0) (no 14 0) ∷ limit 5 (Holding 1 1) (no 14 0)
     ∷ []
 
--- every line is what the definitions say, line by line
+-- every line is its value by the definitions, line by line
 computed : LineByLine worked-named lend-lines lend-lines
 unfolding running rows
 computed =

@@ -1,4 +1,5 @@
--- The proofs of the promises on a list of entries: from the tie of one task to `refines`, `sets-book`, `sets-kept`, `demand-3` and `fenced`, and examples through `replay`.
+-- The theorems on a list of entries: from the relation of one task to `refines`, `sets-book`, `sets-kept`, `demand-3` and `fenced`, and examples through
+-- `replay`.
 pub mod Tied
 pub mod Seen
 pub mod Ticks

@@ -107,7 +107,7 @@ length-listing (advance x e ∷ xs) = omega (arith, length-listing xs)
 length-listing (withdraw p ∷ xs) = omega (arith, length-listing xs)
 length-listing (withdrawAll x ∷ xs) = omega (arith, length-listing xs)
 
--- what stands behind three words stands three words on
+-- what is after three words is three words on
 further :
     (a b c : ℕ) (ws : List ℕ) (i : ℕ) (x : Entry) → IsEntry (entryKindAt ws i) (entrySecondAt ws i) × (entryAt ws i ≡ x)
     → IsEntry (entryKindAt (a ∷ b ∷ c ∷ ws) (suc i)) (entrySecondAt (a ∷ b ∷ c ∷ ws) (suc i)) × (entryAt (a ∷ b ∷ c ∷ ws) (suc i) ≡ x)
@@ -128,7 +128,7 @@ further a b c ws i x h = (
     second : word (3 * suc i + 2) ≡ getD ws (3 * i + 2) 0
     second = let e : 3 * suc i + 2 ≡ suc (suc (suc (3 * i + 2))) = omega arith in ap word e
 
--- each entry stands in its three words
+-- each entry is in its three words
 listing-at :
     (xs : List Entry) (i : ℕ) → i < length xs
     → IsEntry (entryKindAt (listing xs) i) (entrySecondAt (listing xs) i) × (entryAt (listing xs) i ≡ getD xs i noReports)
@@ -141,7 +141,7 @@ listing-at (advance x e ∷ xs) (suc i) l = further 0 x e (listing xs) i (getD x
 listing-at (withdraw p ∷ xs) (suc i) l = further 1 p 0 (listing xs) i (getD xs i noReports) (listing-at xs i (le-of-suc-le-suc l))
 listing-at (withdrawAll x ∷ xs) (suc i) l = further 2 x 0 (listing xs) i (getD xs i noReports) (listing-at xs i (le-of-suc-le-suc l))
 
--- LAW: every list of entries stands in words, and comes back from them
+-- LAW: every list of entries is encoded in words, and decoded from them
 pub listing-listed : (xs : List Entry) → Listed (listing xs)
 listing-listed xs =
     let n = length-listing xs in

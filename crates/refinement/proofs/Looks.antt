@@ -1,5 +1,5 @@
--- A run as it is seen in a tick, and a book with its empty jobs ended: task by task tied, they give the same cores and lend the same, show the same
--- row, let the same be reported; and a tick on they are tied again.
+-- A run as it is seen in a tick, and a book with its empty jobs ended: task by task related, they give the same cores and lend the same, show the same
+-- row, let the same be reported; and a tick on they are related again.
 use mathlib.Core.Path.{_≡_, refl, sym, ap, ap₂, _∙_, subst}
 use mathlib.Core.Bool.{Bool, true, false, not, _&&_, _||_, and-comm, cond, false≢true, true≢false}
 use mathlib.Core.List.{List, []}
@@ -47,7 +47,7 @@ pub record SameTable (s : Table) (r : Run) : Type 0 where
   pub same-count : r .count ≡ length (s .tasks)
   pub same-tasks : tasksIn r ≡ s .tasks
 
--- and each task's phase, as it is seen in a tick with the empties e, and its parity are tied to its line of the book c; nobody is late
+-- and each task's phase, as it is seen in a tick with the empties e, and its parity are related to its line of the book c; no task is late
 pub record SeenAlike (s : Table) (c : Book) (r : Run) (e : ℕ) : Type 0 where
   pub same : SameTable s r
   pub tied : (p : ℕ) → p < length (s .tasks) → Tied (s .rule) (task s p) (c .tick) (c .job p) (evenAt r p) (seenAt r e p)
@@ -87,7 +87,7 @@ module _ (s : Table) (ok : AllValid s) (c : Book) (r : Run) (e : ℕ) (h : SeenA
   same-claims : (p : ℕ) → p < length (s .tasks) → taskClaims s c p ≡ claiming (seenAt r e p)
   same-claims p l = does p l .claimed
 
-  -- who claims is a place of the table
+  -- a place that claims is a place of the table
   pub claims-below : (p : ℕ) → taskClaims s c p ≡ true → p < length (s .tasks)
   claims-below p q = go (ltb p (length (s .tasks))) refl
     where
@@ -142,7 +142,7 @@ module _ (s : Table) (ok : AllValid s) (c : Book) (r : Run) (e : ℕ) (h : SeenA
 
   -- WHAT IS LENT
 
-  -- who claims works exactly if its job is open, and holds exactly if that has ended
+  -- a place that claims works exactly if its job is open, and holds exactly if that has ended
   pub open-works : (p : ℕ) → p < length (s .tasks) → taskClaims s c p && not (newestEnded s c p) ≡ working (seenAt r e p)
   open-works p l = ap (λ (x : Bool). x && not (newestEnded s c p)) (same-claims p l) ∙ does p l .open-job
 
@@ -208,14 +208,14 @@ module _ (s : Table) (ok : AllValid s) (c : Book) (r : Run) (e : ℕ) (h : SeenA
   pub same-row : row (r .fence) (r .cores) (shownIn r e) ≡ bookRow s c
   same-row = λ i. row (h .same .same-fence i) (h .same .same-cores i) (same-shown i)
 
-  -- who does not claim is given nothing, and borrows nothing
+  -- a place that does not claim is given nothing, and borrows nothing
   no-cores : (p : ℕ) → taskClaims s c p ≡ false → inRow s c p ≡ false
   no-cores p q = ap some (grants-none (s .rule) (widths s (c .tick)) (taskClaims s c) (unfencedCores s) p q)
 
   no-lent : (p : ℕ) → taskClaims s c p ≡ false → borrows s c p ≡ false
   no-lent p q = not-true-false (borrows s c p) (λ w. true≢false (sym (borrower s c p w .claiming) ∙ q))
 
-  -- who may be reported is the same of both
+  -- which jobs may be reported is the same of both
   same-reportable : (p : ℕ) → reportableAt r e p ≡ reportable s c p
   unfolding reportable
   same-reportable p =

@@ -1,4 +1,4 @@
--- What a replay gives, case by case; and from its value what it promises: refused as the start is, unfit where the slices are, and else the book's
+-- The result of a replay, case by case; and from its value its contract: refused as the start is, unfit where the slices are, and else the book's
 -- answers and row.
 use mathlib.Core.Path.{_≡_, refl, sym, ap, _∙_, subst}
 use mathlib.Core.Bool.{Bool, true, false, cond}
@@ -73,7 +73,7 @@ module _ (ws es numbers bytes : List ℕ) where
   unfolding replayOf
   replay-taken e = rw e refl
 
--- ---- what a replay promises
+-- ---- the contract of a replay
 
 -- a row's case is neither a refused start nor unfit
 case-refused : (a : Answer) (n p : ℕ) → rowCase a ≡ replayed.Refused n p → ⊥
@@ -84,7 +84,7 @@ case-unfit : (a : Answer) → rowCase a ≡ replayed.Unfit → ⊥
 case-unfit Taken e = let z : _≡_ {A = ℕ} 0 1 = cc in omega arith
 case-unfit (Refused m q) e = let z : _≡_ {A = ℕ} 0 1 = cc in omega arith
 
--- and says what the row says
+-- and has the row's meaning
 case-outcome : (w : Row) → rowOutcome (rowCase (w .answer)) (w .bytes) ≡ rowMeaning w
 case-outcome w = go (w .answer)
   where
@@ -119,7 +119,7 @@ module _ (r : Run) (es numbers bytes : List ℕ) where
       go false q = refl
 
 module _ (ws es numbers bytes : List ℕ) where
-  -- the start's own promise
+  -- the start's own contract
   started : StartOf ws (startOf ws)
   started = start-of ws (startOf ws) refl
 

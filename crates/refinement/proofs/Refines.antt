@@ -1,4 +1,4 @@
--- FOLLOWS: a started run, taken through a list of entries, gives the book's answers, and after the list the book's row, whatever jobs are empty.
+-- REFINES: a started run, taken through a list of entries, gives the book's answers, and after the list the book's row, whatever jobs are empty.
 use mathlib.Core.Path.{_≡_, refl, sym, ap, _∙_, subst}
 use mathlib.Core.List.{List, map}
 use Prim.Native.Nat.{ℕ}
@@ -24,18 +24,18 @@ module _ (ws : List ℕ) (e : answerMeaning (startOf ws .answer) ≡ taken) wher
   none : NoneApplies ws
   none = taken-passes ws e
 
-  -- the tasks are sound
+  -- the tasks are valid
   pub sound : AllValid (tableOf ws)
   sound = passed-valid ws none
 
   started : Represents (tableOf ws) emptyBook (firstRun ws)
   started = subst (λ (r : Run). Represents (tableOf ws) emptyBook r) (sym (start-of ws (startOf ws) refl .started e)) (represents-start ws none)
 
-  -- the run stands for the book after the list
+  -- the run represents the book after the list
   pub stands : (xs : List Entry) → Represents (tableOf ws) (book (tableOf ws) xs) (runAfterList (firstRun ws) xs)
   stands xs = represents-after (tableOf ws) sound xs emptyBook (firstRun ws) started
 
-  -- THEOREM (follows): for every table that start takes, Firm and Full alike, and every list of entries
+  -- THEOREM (refines): for every table that start takes, Firm and Full alike, and every list of entries
   pub refines : (xs : List Entry) → Refines ws xs
   refines xs = record {
     each-answer = same;

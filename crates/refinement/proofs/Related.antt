@@ -1,4 +1,4 @@
--- A run and a book that are related, task by task: the same is late and may be empty; as it is seen in a tick the run is tied to the book with its
+-- A run and a book that are related, task by task: the same is late and may be empty; as it is seen in a tick the run is related to the book with its
 -- empty jobs ended; and a taken advance or withdrawal keeps them related.
 use mathlib.Core.Path.{_≡_, refl, sym, ap, ap₂, _∙_, subst, subst₂}
 use mathlib.Core.Bool.{Bool, true, false, not, _&&_, _||_}
@@ -34,7 +34,7 @@ use Rattle.refinement.proofs.Ticks.{tied-start}
 use Rattle.refinement.proofs.TiedTask.{late-is, late-has, newest-does}
 use Rattle.refinement.proofs.Looks.{SameTable, SeenAlike, same-task, same-moved, tied-moved}
 
--- the run is of the table, the same positions are withdrawn, and each task's phase and parity are tied to its line of the book
+-- the run is of the table, the same positions are withdrawn, and each task's phase and parity are related to its line of the book
 pub record Related (s : Table) (b : Book) (r : Run) : Type 0 where
   pub table : SameTable s r
   pub same-withdrawn : r .withdrawn ≡ b .withdrawn
@@ -93,7 +93,7 @@ module _ (s : Table) (ok : AllValid s) (b : Book) (r : Run) (h : Related s b r) 
   pub same-any : ltb (firstLateIn r) (r .count) ≡ ltb (firstLate s b) (length (s .tasks))
   same-any = ap₂ ltb same-first (h .table .same-count)
 
-  -- nobody is late
+  -- no task is late
   abbrev pub InTime : Type 0
   InTime = (p : ℕ) → p < length (s .tasks) → lateAt r p ≡ false
 
@@ -105,7 +105,7 @@ module _ (s : Table) (ok : AllValid s) (b : Book) (r : Run) (h : Related s b r) 
     punctual : (p : ℕ) → p < length (s .tasks) → lateIn (task s p .deadline) (phaseAt r p) ≡ false
     punctual p l = sym (same-deadline p l) ∙ it p l
 
-    -- who may be empty is the same of both
+    -- which jobs may be empty is the same of both
     same-emptiable : (p : ℕ) → emptiableAt r p ≡ emptiable s b p
     unfolding emptiable
     same-emptiable p = ap (λ (n : ℕ). ltb p n && released (phaseAt r p)) (h .table .same-count) ∙ go (ltb p (length (s .tasks))) refl
@@ -130,7 +130,7 @@ module _ (s : Table) (ok : AllValid s) (b : Book) (r : Run) (h : Related s b r) 
     same-empty : (e p : ℕ) → emptyAt r e p ≡ emptyIn b e p
     same-empty e p = ap (λ (w : ℕ). bit e p || bit w p) (h .same-withdrawn)
 
-    -- as it is seen in a tick with the empties e, the run is tied to the book with its empty jobs ended
+    -- as it is seen in a tick with the empties e, the run is related to the book with its empty jobs ended
     pub looks : (e : ℕ) → SeenAlike s (emptied s (emptyIn b e) b) r e
     looks e = record {
       same = h .table;

@@ -1,4 +1,4 @@
--- A run that stands for a book: it gives the book's answers and rows, and an entry, taken or refused, keeps it standing.
+-- A run that represents a book: it gives the book's answers and rows, and after an entry, taken or refused, it represents the book after it.
 use mathlib.Core.Path.{_≡_, refl, sym, ap, ap₂, subst, _∙_}
 use mathlib.Core.Bool.{Bool, true, false, not, _&&_, _||_, cond}
 use mathlib.Core.List.{List, [], _∷_, map}
@@ -35,7 +35,7 @@ pub record Represents (s : Table) (b : Book) (r : Run) : Type 0 where
   pub related : Related s b r
 
 module _ (s : Table) (ok : AllValid s) where
-  -- what an advance is answered where nobody is late
+  -- the answer to an advance where no task is late
   abbrev inTime : Book → ℕ → ℕ → Answer
   inTime b x e = cond (misemptied s b e) (refused 20 0) (cond (misreported s (emptied s (emptyIn b e) b) x) (refused 16 0) taken)
 
@@ -123,7 +123,7 @@ module _ (s : Table) (ok : AllValid s) where
   number taken = 0
   number (refused n p) = n
 
-  -- where an advance is taken, nobody is late
+  -- where an advance is taken, no task is late
   taken-in-time : (b : Book) (x e : ℕ) → answer s b (advance x e) ≡ taken → ltb (firstLate s b) (length (s .tasks)) ≡ false
   unfolding answer number
   taken-in-time b x e w = go (ltb (firstLate s b) (length (s .tasks))) (ap number w)
@@ -146,7 +146,7 @@ module _ (s : Table) (ok : AllValid s) where
           })
       go (Refused n i) e q = rw (sym q) h
 
-  -- an entry, taken or refused, keeps a run standing for its book
+  -- after an entry, taken or refused, a run represents the book after it
   represents-entry : (b : Book) (r : Run) → Represents s b r → (x : Entry) → Represents s (enter s x b) (entryOf r x .run)
   unfolding enter afterTaken advanceOf withdrawOf withdrawAllOf
   represents-entry b r h (advance x e) = go (advanceAnswer r x e) (same-advance b r h x e)

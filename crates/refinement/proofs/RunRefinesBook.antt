@@ -1,4 +1,4 @@
--- DEMAND 3: of a table that the judge calls Firm, a started run follows the book, is never behind and never late.
+-- DEMAND 3: of a table with the verdict Firm, a started run refines the book, is never behind and never late.
 use mathlib.Core.Path.{_≡_, sym, ap}
 use mathlib.Core.List.{List}
 use Prim.Native.Nat.{ℕ}
@@ -16,7 +16,7 @@ use Rattle.run.proofs.ByVerdict.{start-answer}
 use Rattle.refinement.specs.RunRefinesBook.{RunRefinesBook}
 use Rattle.refinement.proofs.Refines.{refines}
 
--- THEOREM (demand 3 of the scope: the run refines the book): for the words of every table that the judge calls Firm, and every list of entries
+-- THEOREM (demand 3 of the scope: the run refines the book): for the words of every table with the verdict Firm, and every list of entries
 pub demand-3 : (ws : List ℕ) (S P : ℕ) → verdictOf ws ≡ Firm S P → (xs : List Entry) → RunRefinesBook ws xs
 demand-3 ws S P firm xs =
     let says = judged-exact ws .firm S P .0 (ap verdictMeaning firm) in

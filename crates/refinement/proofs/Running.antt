@@ -1,4 +1,4 @@
--- What a computed run opens: where an `unfolding` line names `running`, the answers to a list of entries, its rows and the run after it compute.
+-- Unfolding for computed runs: where an `unfolding` line contains `running`, the answers to a list of entries, its rows and the run after it compute.
 use Rattle.model.specs.Firm.{firm, parallelismMonotonic}
 use Rattle.model.specs.Grants.{claimants, given, grants, left}
 use Rattle.model.specs.Lending.{among, merged, lent}

@@ -1,4 +1,4 @@
--- Empty jobs: to end them in the book is to see their tasks as holding, or as claiming nothing; the tie is kept.
+-- Empty jobs: to end them in the book is to see their tasks as holding, or as claiming nothing; the relation is preserved.
 use mathlib.Core.Path.{_≡_, refl, sym, ap, _∙_, subst}
 use mathlib.Core.Bool.{Bool, true, false, and-false, _&&_, cond}
 use Prim.Native.Nat.{ℕ, _<_}
@@ -45,7 +45,7 @@ module _ (r : Rule) (τ : Task) (ok : ValidTask τ) (t : ℕ) (js : ℕ → Job)
     parity = h .parity;
   }
 
--- the tie is kept, where the task is not late
+-- the relation is preserved, where the task is not late
 pub tied-seen :
     (r : Rule) (τ : Task) → ValidTask τ → (t : ℕ) (js : ℕ → Job) (e even : Bool) (ph : Phase)
     → Tied r τ t js even ph → lateIn (τ .deadline) ph ≡ false

@@ -1,6 +1,6 @@
 -- Runs built by hand, asked as sets of cores (request 114), computed from the definitions: lenders and borrowers, holders with and without cores, the fence,
--- 64 cores, an even job, withdrawn and empty jobs; and each refusal, whose sets are all empty. The row's bytes stand beside the sets; and how the sets that
--- are told of a run, and those of the book, are made 32.
+-- 64 cores, an even job, withdrawn and empty jobs; and each refusal, whose sets are all empty. The row's bytes are beside the sets; and how the sets
+-- of a run, and those of the book, are made 32.
 use mathlib.Core.List.{List, [], _∷_, _++_, map}
 use mathlib.Core.Path.{_≡_, refl}
 use Prim.Native.Nat.{ℕ, _-_, _^_}
@@ -30,7 +30,7 @@ pub record Line : Type 0 where
   pub gets : Sets
   pub row : List ℕ
 
--- what the definitions say
+-- the value by the definitions
 abbrev pub asked : Line → Line
 asked l = record {
   name = l .name;
@@ -142,7 +142,7 @@ sets-examples = by-line asked sets-lines sets-lines computed
 pub refused-examples : map asked refused-lines ≡ refused-lines
 refused-examples = by-line asked refused-lines refused-lines refused
 
--- what is told: the 32 sets, or the refusal; and of the book's sets, as 32
+-- the meaning: the 32 sets, or the refusal; and of the book's sets, as 32
 pub meaning-as : (setsMeaning (setsOf (pair 4 (Holding 1 1) (Working 1 0 0)) 0) ≡ shown (2 ∷ 1 ∷ replicate 30 0))
     × (setsMeaning (setsOf (pair 1 (Working 1 0 0) (Working 6 0 0)) 0) ≡ rowRefused 15 2)
     × (askedIn32 (shown (2 ∷ 1 ∷ [])) ≡ shown (2 ∷ 1 ∷ replicate 30 0))

@@ -1,4 +1,4 @@
--- A tick keeps the tie of a task's phase and parity to its line of jobs, where the task is not late; and the start is tied to the empty book.
+-- A tick preserves the relation of a task's phase and parity to its line of jobs, where the task is not late; and the start is related to the empty book.
 use mathlib.Core.Path.{_≡_, refl, sym, ap, _∙_, subst}
 use mathlib.Core.Bool.{Bool, true, false, not, _&&_, _||_, cond}
 use mathlib.Core.Logic.{⊎-elim}
@@ -141,7 +141,7 @@ tied-start r τ ok =
     })
     (λ n. record { some = omega arith; when = omega arith; unmet = λ i. refl; odd = refl })
 
--- the tie holds one tick on, where the task is not late
+-- the relation holds one tick on, where the task is not late
 pub tied-on :
     (r : Rule) (τ : Task) → ValidTask τ → (t : ℕ) (js : ℕ → Job) (even w l f : Bool) (ph : Phase)
     → Tied r τ t js even ph → lateIn (τ .deadline) ph ≡ false

@@ -1,4 +1,4 @@
--- A task's phase and its line of jobs in the book: what ties them, and which job claims.
+-- A task's phase and its line of jobs in the book: their relation, and which job claims.
 use mathlib.Core.Path.{_≡_, refl}
 use mathlib.Core.Bool.{Bool, true, false, not, _||_, false≢true, true≢false}
 use Prim.Native.Nat.{ℕ, suc, _+_, _%_, _≤_, _<_}
@@ -15,9 +15,9 @@ use Rattle.phase.specs.declared.Phase.the-variants.{Coming, Working, Holding, R
 use Rattle.phase.specs.declared.TaskState.{TaskState}
 use Rattle.phase.specs.Phase.{idles}
 
--- THE TIE
+-- THE RELATION
 
--- Coming left: the first release is so many ticks ahead, every job is fresh, and the first is an odd one
+-- Coming left: the first release is `left` ticks ahead, every job is fresh, and the first is an odd one
 pub record Comes (τ : Task) (t : ℕ) (js : ℕ → Job) (even : Bool) (left : ℕ) : Type 0 where
   pub some : 1 ≤ left
   pub when : t + left ≡ τ .offset
@@ -60,7 +60,7 @@ pub record Rests (r : Rule) (τ : Task) (t : ℕ) (js : ℕ → Job) (even : Boo
   pub over : js number .ended ≡ true
   pub done : holds r τ (js number) ≡ true → τ .deadline ≤ z
 
--- what ties a phase, as it is stored or as it is seen in a tick, and the parity of its job to the line of its task's jobs (that stored ones are
+-- the relation of a phase, as it is stored or as it is seen in a tick, and the parity of its job to the line of its task's jobs (that stored ones are
 -- within their limits is `Passes`)
 abbrev pub Tied : Rule → Task → ℕ → (ℕ → Job) → Bool → Phase → Type 0
 Tied r τ t js even (Coming left) = Comes τ t js even left

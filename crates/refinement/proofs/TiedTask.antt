@@ -1,4 +1,4 @@
--- A task and its line of jobs that are tied: the same is late, the same claims, with the same parity, the same may be reported and may be empty.
+-- A task and its line of jobs that are related: the same is late, the same claims, with the same parity, the same may be reported and may be empty.
 use mathlib.Core.Path.{_≡_, refl, sym, ap, subst, _∙_}
 use mathlib.Core.Bool.{Bool, true, false, not, _&&_, and-false, false≢true, true≢false}
 use mathlib.Core.Logic.{⊎-elim}

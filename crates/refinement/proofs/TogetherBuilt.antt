@@ -1,6 +1,6 @@
 -- Runs built by hand with several positions withdrawn together (request 113), computed from the definitions: none, some and all of the positions, up to
 -- all 32, in several phases and under each rule, positions that are withdrawn already, and 14, 21 and 22 in their order. The row before each entry is
--- asked with the empty jobs that it names, the row after the last with none.
+-- asked with its empty jobs, the row after the last with none.
 use mathlib.Core.Bool.{true, false}
 use mathlib.Core.List.{List, [], _∷_, map}
 use mathlib.Core.Path.{_≡_, refl}
@@ -104,7 +104,7 @@ together-lines =
     (out 2147483647 (many 31 (Resting 1)))
     ∷ []
 
--- every line is what the definitions say, line by line
+-- every line is its value by the definitions, line by line
 computed : LineByLine worked-named together-lines together-lines
 unfolding running rows
 computed = (refl, (refl, (refl, (refl, (refl, (refl, (refl, (refl, (refl, (refl, (refl, (refl, (refl, (refl, (refl, tt)))))))))))))))

@@ -1,6 +1,6 @@
 -- Runs built by hand with odd and even widths (request 108), computed from the definitions: the parity changes at every release from the second on, of
--- empty and withdrawn jobs too, and at nothing else; a hold keeps the width of its job; what does not fit is passed over or ends the choosing; 14 of
--- the parity and of the second width from both sides; and 21 by both widths. The row before each entry is asked with the empty jobs that it names,
+-- empty and withdrawn jobs too, and at nothing else; a hold keeps the width of its job; what does not fit is skipped or ends the choosing; 14 of
+-- the parity and of the second width from both sides; and 21 by both widths. The row before each entry is asked with its empty jobs,
 -- the row after the last with none.
 use mathlib.Core.Bool.{false}
 use mathlib.Core.List.{List, [], _∷_, map}
@@ -146,7 +146,7 @@ limit-lines =
     (pairs 3 3 1 2 1) (withdraw 2 ∷ []) (Taken ∷ []) (row64 (1 ∷ 1 ∷ 1 ∷ []) ∷ row64 (1 ∷ 1 ∷ 1 ∷ []) ∷ []) (out 2 (pairs 3 3 1 2 1))
     ∷ []
 
--- every line is what the definitions say, line by line
+-- every line is its value by the definitions, line by line
 computed : LineByLine worked-named width-lines width-lines
 unfolding running rows
 computed = (refl, (refl, (refl, (refl, (refl, (refl, (refl, (refl, (refl, (refl, (refl, (refl, tt))))))))))))

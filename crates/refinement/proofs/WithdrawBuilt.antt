@@ -1,6 +1,6 @@
 -- Runs built by hand with withdrawals (request 106), computed from the definitions: in every phase of a task, at its deadline, twice, under each rule,
 -- beside empty bits and reports, where a withdrawal is refused and in what order, and 14 of the withdrawn set from both sides. The row before each
--- entry is asked with the empty jobs that it names, the row after the last with none.
+-- entry is asked with its empty jobs, the row after the last with none.
 use mathlib.Core.List.{List, [], _∷_, map}
 use mathlib.Core.Path.{_≡_, refl}
 use Prim.Native.Nat.{ℕ}
@@ -19,7 +19,7 @@ use Rattle.refinement.proofs.Running.{running}
 abbrev pub out : ℕ → Run → Run
 out x r = record { rule = r .rule; cores = r .cores; fence = r .fence; withdrawn = x; count = r .count; tasks = r .tasks }
 
--- so many tasks in one phase on one core, under greedy
+-- a number of tasks in one phase on one core, under greedy
 abbrev pub many : ℕ → Phase → Run
 many n ph = record { rule = 1; cores = 1; fence = 0; withdrawn = 0; count = n; tasks = replicate 32 (t 2 1 3 4 6 ph) }
 
@@ -167,7 +167,7 @@ set-lines =
     (out 2147483648 (many 31 (Resting 1)))
     ∷ []
 
--- every line is what the definitions say, line by line
+-- every line is its value by the definitions, line by line
 computed : LineByLine worked-named withdraw-lines withdraw-lines
 unfolding running rows
 computed = (refl, (refl, (refl, (refl, (refl, (refl, (refl, (refl, (refl, (refl, (refl, (refl, (refl, (refl, (refl, (refl, (refl, (refl, (refl, tt)))))))))))))))))))

@@ -1,4 +1,4 @@
--- The run that starts from the words of a table that passes 1 to 9 and 19 stands for the empty book.
+-- The run that starts from the words of a table that passes 1 to 9 and 19 represents the empty book.
 use mathlib.Core.Path.{_≡_, refl}
 use mathlib.Core.List.{List}
 use Prim.Native.Nat.{ℕ}

@@ -12,12 +12,12 @@ use Rattle.run.specs.Row.{rowOf}
 use Rattle.refinement.specs.Entries.{answers, runAfterList}
 use Rattle.refinement.specs.Refines.{firstRun}
 
--- a row that is shown, spread over a table's unfenced cores; a refusal as it is
+-- a row that is shown, spread over a table's unfenced cores; a refusal unchanged
 abbrev pub spreadOver : Table → Asked → Asked
 spreadOver s (shown bytes) = shown (spread (s .fence) (s .cores) bytes)
 spreadOver s (rowRefused n p) = rowRefused n p
 
--- what is claimed of the words of a table and a list xs of entries
+-- the claims about the words of a table and a list xs of entries
 pub record Fenced (ws : List ℕ) (xs : List Entry) : Type 0 where
   -- each answer in it is that of the book without a fence
   pub each-answer : map answerMeaning (answers (firstRun ws) xs) ≡ answersFrom (unfencedTable (tableOf ws)) emptyBook xs

@@ -1,4 +1,4 @@
--- What is promised of a list of entries: that the run follows the book, in rows and in sets, demand 3, the replay of a whole list, and what a fence changes.
+-- The claims about a list of entries: the run refines the book, in rows and in sets, demand 3, the replay of a whole list, and the effect of a fence.
 pub mod Entries
 pub mod Refines
 pub mod Sets

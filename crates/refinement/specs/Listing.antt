@@ -10,11 +10,11 @@ use lib.Dec.{eqb}
 use Rattle.model.specs.Book.{Entry, advance, withdraw, withdrawAll}
 use Rattle.model.specs.Search.{any, upFrom}
 
--- how many entries there are
+-- the number of entries
 abbrev pub entryCount : List ℕ → ℕ
 entryCount es = length es / 3
 
--- entry i stands in words 3i to 3i + 2; the first says what it is
+-- entry i is in words 3i to 3i + 2; the first is its kind
 abbrev pub entryKindAt : List ℕ → ℕ → ℕ
 entryKindAt es i = getD es (3 * i) 0
 
@@ -24,7 +24,7 @@ entryFirstAt es i = getD es (3 * i + 1) 0
 abbrev pub entrySecondAt : List ℕ → ℕ → ℕ
 entrySecondAt es i = getD es (3 * i + 2) 0
 
--- the entry that three words are
+-- the entry that three words represent
 abbrev pub entryBy : ℕ → ℕ → ℕ → Entry
 entryBy kind a b = cond (eqb kind 0) (advance a b) (cond (eqb kind 1) (withdraw a) (withdrawAll a))
 

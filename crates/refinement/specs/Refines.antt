@@ -15,7 +15,7 @@ use Rattle.refinement.specs.Entries.{answers, runAfterList}
 abbrev pub firstRun : List ℕ → Run
 firstRun ws = startOf ws .run
 
--- what is claimed of the words of a table and a list xs of entries
+-- the claims about the words of a table and a list xs of entries
 pub record Refines (ws : List ℕ) (xs : List Entry) : Type 0 where
   -- each answer in it, taken or refused with number and position, is the book's
   pub each-answer : map answerMeaning (answers (firstRun ws) xs) ≡ answersFrom (tableOf ws) emptyBook xs
@@ -23,5 +23,5 @@ pub record Refines (ws : List ℕ) (xs : List Entry) : Type 0 where
   pub list-tick : takenIn xs (map answerMeaning (answers (firstRun ws) xs)) ≡ book (tableOf ws) xs .tick
   -- and so is the row asked of the run after it with any set of empty jobs, or its refusal, byte by byte
   pub row-after : (e : ℕ) → rowMeaning (rowOf (runAfterList (firstRun ws) xs) e) ≡ askedIn64 (asked (tableOf ws) (book (tableOf ws) xs) e)
-  -- 14 never turns that run down
+  -- that run passes 14
   pub passes : ¬ RunOut (runAfterList (firstRun ws) xs)

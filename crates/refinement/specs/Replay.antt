@@ -1,5 +1,5 @@
--- A replay: the run of a table's words is started, taken through a whole list of entries and asked for its row with no empty job (scope, 'The book of a run', demand 3).
--- The list stands in words, three an entry (Listing.antt). What it writes goes into two lent slices: a number for each answer, and the bytes of the last row.
+-- A replay: the run of a table's words is started, taken through a whole list of entries and asked for its row with no empty job (scope, 'The book of a run',
+-- demand 3). The list is in words, three an entry (Listing.antt). The results go into two lent slices: a number for each answer, and the bytes of the last row.
 use mathlib.Core.Path.{_≡_}
 use mathlib.Core.Logic.{_↔_}
 use mathlib.Core.Bool.{Bool, _&&_, cond}
@@ -24,7 +24,7 @@ use Rattle.refinement.specs.Entries.{answers, runAfterList}
 use Rattle.refinement.specs.Refines.{firstRun}
 use Rattle.refinement.specs.Listing.{Listed, listed, entryCount, entriesIn}
 
--- an answer as one number: 0 for taken, else its number times 256 plus its position (no two answers of an entry share one: `codes-tell`)
+-- an answer as one number: 0 for taken, else its number times 256 plus its position (no two answers of an entry have the same: `codes-tell`)
 abbrev pub code : model.Answer → ℕ
 code model.taken = 0
 code (model.refused n p) = n * 256 + p
@@ -38,7 +38,7 @@ EntryAnswer (model.refused n p) = InRange 1 22 n × (p ≤ mostTasks)
 abbrev pub codes : Run → List model.Entry → List ℕ
 codes r xs = map (λ a. code (answerMeaning a)) (answers r xs)
 
--- the lent slices fit: the words are a list of entries, and there is room for a number for each, and for 64 bytes
+-- the lent slices fit: the words are a list of entries, and there is space for a number for each, and for 64 bytes
 abbrev pub SlicesFit : List ℕ → List ℕ → List ℕ → Type 0
 SlicesFit es numbers bytes = Listed es × (entryCount es ≤ length numbers) × (mostCores ≤ length bytes)
 
@@ -46,7 +46,7 @@ SlicesFit es numbers bytes = Listed es × (entryCount es ≤ length numbers) × 
 abbrev pub slicesFit : List ℕ → ℕ → ℕ → Bool
 slicesFit es numbers bytes = listed es && (leb (entryCount es) numbers && leb mostCores bytes)
 
--- what a replay gives: its answer, and the lent slices afterwards
+-- the result of a replay: its answer, and the lent slices afterwards
 pub record ReplayOutcome : Type 0 where
   pub answer : Replayed
   pub numbers : List ℕ
@@ -57,14 +57,14 @@ abbrev pub rowCase : Answer → Replayed
 rowCase Taken = replayed.Shown
 rowCase (Refused n p) = replayed.RowRefused n p
 
--- what the last row is answered, by the case and the bytes written
+-- the answer to the last row, by the case and the bytes written
 abbrev pub rowOutcome : Replayed → List ℕ → model.Asked
 rowOutcome replayed.Shown bytes = model.shown bytes
 rowOutcome (replayed.RowRefused n p) bytes = model.rowRefused n p
 rowOutcome (replayed.Refused n p) bytes = model.rowRefused n p
 rowOutcome replayed.Unfit bytes = model.rowRefused 0 0
 
--- a run that has started: the answers and the row after the list are written, and what stands behind them stays; where the slices do not fit,
+-- a run that has started: the answers and the row after the list are written, and the rest of the slices is as found; where the slices do not fit,
 -- everything is as found
 unfoldable pub replayedRun : Run → List ℕ → List ℕ → List ℕ → ReplayOutcome
 replayedRun r es numbers bytes =
@@ -81,20 +81,20 @@ abbrev pub byStart : Answer → ReplayOutcome → List ℕ → List ℕ → Repl
 byStart Taken o numbers bytes = o
 byStart (Refused n p) o numbers bytes = record { answer = replayed.Refused n p; numbers = numbers; bytes = bytes }
 
--- the words are started, and the run is played
+-- the words are started, and the run is taken through the list
 unfoldable pub replayOf : List ℕ → List ℕ → List ℕ → List ℕ → ReplayOutcome
 replayOf ws es numbers bytes = byStart (startOf ws .answer) (replayedRun (firstRun ws) es numbers bytes) numbers bytes
 
--- what was written is the book's
+-- the results are those of the book
 pub record MatchesBook (ws : List ℕ) (xs : List model.Entry) (numbers bytes : List ℕ) (o : ReplayOutcome) : Type 0 where
-  -- each answer, and what stands behind them as found
+  -- each answer, and the rest as found
   pub each-answer : o .numbers ≡ map code (model.answersFrom (tableOf ws) model.emptyBook xs) ++ drop (length xs) numbers
   -- the row asked after the list, or its refusal
   pub row-after : rowOutcome (o .answer) (take mostCores (o .bytes)) ≡ askedIn64 (model.asked (tableOf ws) (model.book (tableOf ws) xs) 0)
-  -- what stands behind the row, as found
+  -- the bytes after the row, as found
   pub behind : drop mostCores (o .bytes) ≡ drop mostCores bytes
 
--- what a replay of the words with the entries' words es promises
+-- the contract of a replay of the words with the entries' words es
 pub record ReplayOf (ws es numbers bytes : List ℕ) (o : ReplayOutcome) : Type 0 where
   -- its value
   pub value : o ≡ replayOf ws es numbers bytes

@@ -1,4 +1,4 @@
--- DEMAND 3, refinement: a single claim about the list (scope, 'The book of a run'): `demand-3` shows it of every table that the judge calls Firm.
+-- DEMAND 3, refinement: a single claim about the list (scope, 'The book of a run'): `demand-3` shows it of every table with the verdict Firm.
 use mathlib.Core.Path.{_≡_}
 use mathlib.Core.List.{List}
 use Prim.Native.Nat.{ℕ}
@@ -9,7 +9,7 @@ use Rattle.run.specs.Answer.{answerMeaning}
 use Rattle.run.specs.Start.{startOf}
 use Rattle.refinement.specs.Refines.{Refines}
 
--- what is claimed of the words of a table and a list xs of advances and withdrawals
+-- the claims about the words of a table and a list xs of advances and withdrawals
 pub record RunRefinesBook (ws : List ℕ) (xs : List Entry) : Type 0 where
   -- start takes the table
   pub started : answerMeaning (startOf ws .answer) ≡ taken

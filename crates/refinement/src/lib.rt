@@ -1,11 +1,11 @@
-// A whole list of entries: the run of a table through all of them, and what the book says of it.
+// A whole list of entries: the run of a table through all of them, and its refinement of the book.
 ghost use Rattle.refinement.specs.Replay.{ReplayOf};
 
 mod replays; // replays.rt: a run through a whole list of entries
 
 use run::Answer;
 
-// What a replay is answered: the last row shown, or refused with number and position; the start refused with number and position; or the lent slices
+// The answer of a replay: the last row shown, or refused with number and position; the start refused with number and position; or the lent slices
 // do not fit: too short, or the entries' words are no list of entries.
 pub enum Replayed {
     Shown,

@@ -52,7 +52,7 @@ fn listed(entries: &[u32]) -> bool
     false
 }
 
-// Whether the words are a list of entries, and slices of so many numbers and bytes have room for its answers and its last row.
+// Whether the words are a list of entries, and slices of this number of numbers and bytes have space for its answers and its last row.
 fn fits(entries: &[u32], numbers: usize, bytes: usize) -> bool
     ensures { λ r. ⌜ r ≡ slicesFit (now (entries .entry)) numbers bytes ⌝ }
 {
@@ -93,7 +93,7 @@ fn enter_all(run: Run, entries: &[u32], numbers: &mut [u32]) -> Run
     last
 }
 
-// The row is written, and what stands behind it stays.
+// Writes the row; the bytes after it are unchanged.
 fn put(row: [u8; ROW], bytes: &mut [u8])
     requires { ⌜ mostCores ≤ length (now bytes) ⌝ }
     ensures { λ r. ⌜ now (bytes .exit) ≡ row ++ drop mostCores (now (bytes .entry)) ⌝ }

@@ -1,4 +1,4 @@
--- A turn, part by part: what was fed so far, what was said to it, and that writes took it.
+-- A round, part by part: what was fed so far, the replies to it, and that writes took them.
 -- Assumes nothing.
 use mathlib.Core.Bool.{Bool, true, false, not, false≢true}
 use mathlib.Core.List.{List, [], _∷_, _++_, append-assoc, append-nil}
@@ -29,7 +29,7 @@ feeds-then {s} (more {chunk = c} {after = a} {bs = bs} {text = text} {r = q} v f
     subst₂ (λ (b t : List ℕ). Feeds s b t (r .session)) (sym (append-assoc (take (q .taken) c) bs (take (r .taken) chunk))) (sym (append-assoc (take (q .length) a) text (take (r .length) after)))
     (more v (feeds-then f w))
 
--- so far: the chunk is what was fed and what is still to be fed; all that was said was taken
+-- so far: the chunk is what was fed and what is still to be fed; writes took all replies
 pub record SoFar (s : Session) (chunk left : List ℕ) (now : Session) (sent : Sent) : Type 0 where
   pub fed : List ℕ
   pub text : List ℕ
@@ -49,7 +49,7 @@ module _ (s : Session) (chunk left before after : List ℕ) (now : Session) (sen
   sent-on : SentOf 0 (i .text ++ take (r .length) after) sent′
   sent-on = sent-then 0 (i .text) (take (r .length) after) sent sent′ (i .taken) (i .whole) t
 
-  -- what was said was taken
+  -- writes took the replies
   pub so-far-on : sent′ .whole ≡ true → SoFar s chunk (drop (r .taken) left) (r .session) sent′
   so-far-on v =
       record { fed = i .fed ++ take (r .taken) left; text = i .text ++ take (r .length) after; parts = parts-on; feeds = feeds-then (i .feeds) w; taken = sent-on; whole = v }

@@ -9,20 +9,20 @@ use session::Session;
 use stream::Reading;
 use stream::Sent;
 
-// What came of a part of the input: the session after it, what was written, and whether it reads again.
+// The result of a part of the input: the session after it, what was written, and whether it reads again.
 struct Round {
     session: Session,
     sent: Sent,
     again: bool,
 }
 
-// What came of a read.
+// The result of a read.
 struct Received {
     reading: Reading,
     round: Round,
 }
 
-// Feeds a chunk to a session, and writes what it says.
+// Feeds a chunk to a session, and writes its replies.
 fn feed_chunk(start: Session, chunk: &[u8]) -> Round
     ensures { λ r. ⌜ RoundOf start (now (chunk .entry)) r ⌝ }
 {
@@ -55,7 +55,7 @@ fn feed_chunk(start: Session, chunk: &[u8]) -> Round
     }
 }
 
-// Writes what is said at the end of the input.
+// Writes the reply at the end of the input.
 fn finish(session: Session) -> Sent
     ensures { λ r. ⌜ SentOf 0 (transcriptOf session nothing []) r ⌝ }
 {
@@ -64,7 +64,7 @@ fn finish(session: Session) -> Sent
     stream::send(0, &out[..length])
 }
 
-// Reads once, and writes what is said to what came.
+// Reads once, and writes the replies to the bytes read.
 fn receive(session: Session, chunk: &mut [u8]) -> Received
     ensures { λ r. ⌜ ReceivedOf session (now (chunk .exit)) r ⌝ }
 {
@@ -105,7 +105,7 @@ fn receive(session: Session, chunk: &mut [u8]) -> Received
     }
 }
 
-// A proved loop has to end, and nothing says that standard input does: the turns are counted down from a number that no run uses up.
+// A proved loop has to end, and no contract ensures that standard input does: the rounds are counted down from a number that no run uses up.
 fn main() {
     let mut session = Session::new();
     let mut chunk = io::buffer();

@@ -1,5 +1,5 @@
 -- THE LONGEST SO FAR, from one tick to a later one: the same where no job has ended between, and where one has its time is taken in. From the horizon on it
--- is the figure.
+-- is the response time.
 use mathlib.Core.Bool.{Bool, cond, false, false≢true, true, true≢false}
 use mathlib.Core.Path.{ap, refl, subst, sym, _∙_, _≡_}
 use Prim.Native.Nat.{_+_, _-_, _<_, suc, ℕ, _≤_, max}
@@ -120,7 +120,7 @@ module _ (s : Table) (ok : AllValid s) (nm : NeverMissed s) (p : ℕ) (l : p < l
       down : max (worstResponseBy s p n) time ≤ worstResponseBy s p (suc m)
       down = omega (arith, worst-response-grows n (suc m) (omega arith), own, counted-most (suc m) K)
 
-  -- FROM THE HORIZON ON it is the figure: no job takes longer
+  -- FROM THE HORIZON ON it is the response time: no job takes longer
   pub worst-response-after : (n : ℕ) → horizon s ≤ n → worstResponseBy s p n ≡ worstResponse s p
   worst-response-after n h = le-antisymm (worst-response-least n (worstResponse s p) (λ k. within k (ended n k))) (worst-response-grows (horizon s) n h)
     where

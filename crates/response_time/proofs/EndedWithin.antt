@@ -1,4 +1,5 @@
--- THEOREM (worst-response-kept): in every list of advances on a firm table each job has ended once the figure's ticks have passed since its release.
+-- THEOREM (worst-response-kept): in every list of advances on a firm table each job has ended once the worst-case response time of its task has passed since
+-- its release.
 use Prim.Native.Nat.{ℕ, _<_}
 use lib.ListN.{length}
 use Rattle.model.proofs.Sustain.{finished}

@@ -1,4 +1,4 @@
--- Figures computed from the definitions: the examples A to F, what each number turns down, and figures at their edges.
+-- Response times computed from the definitions: the examples A to F, what each number turns down, and response times at their edges.
 use mathlib.Core.List.{List, [], _++_, map, _∷_}
 use mathlib.Core.Path.{refl, _≡_}
 use Prim.Native.Nat.{ℕ, _-_}
@@ -19,11 +19,11 @@ pub record Line : Type 0 where
   pub words : List ℕ
   pub says : ResponseTimes
 
--- what the definitions say of a line's words
+-- the value by the definitions of a line's words
 abbrev pub worked : Line → Line
 worked l = record { words = l .words; says = responseTimesOf (l .words) }
 
--- these figures are given, with zeros past them; the words are turned down by a number, with its position
+-- these response times are given, with zeros past them; the words are turned down by a number, with its position
 abbrev gives : List ℕ → List ℕ → Line
 gives ws xs = record { words = ws; says = answers.givenTimes (xs ++ replicate (mostTasks - length xs) 0) }
 
@@ -60,7 +60,7 @@ wordsF = header 1 1 1 ++ entry 0 0 1 2 1 2
 abbrev early : List ℕ
 early = header 1 4 3 ++ entry 2 6 2 1 2 3 ++ entry 3 0 4 1 4 6 ++ entry 0 0 2 1 2 4
 
--- six tasks that all want one core in tick 0, and so miss at tick 1, and a seventh; their horizon is 1,000,000,001
+-- six tasks that all claim one core in tick 0, and so miss at tick 1, and a seventh; their horizon is 1,000,000,001
 abbrev six-at-once : List ℕ
 six-at-once = header 1 1 1 ++ chained 7 1 (8 ∷ 27 ∷ 125 ∷ 7 ∷ 11 ∷ 13 ∷ []) ++ entry 0 1001 1 1 1 37
 
@@ -71,7 +71,7 @@ alternating c = header 1 2 1 ++ entry₂ 2 0 1 2 2 2 2 ++ entry 0 0 1 c 6 6
 
 abbrev pub lines : List Line
 lines =
-    -- A, which is Full, with its records permuted and with a fence; A2 misses on the horizon; A3, and rule 4 with its figures
+    -- A, which is Full, with its records permuted and with a fence; A2 misses on the horizon; A3, and rule 4 with its response times
     gives wordsA (2 ∷ 5 ∷ 4 ∷ []) ∷ gives fencedA (2 ∷ 5 ∷ 4 ∷ []) ∷ refuses (ruledA 2) 13 0 ∷ gives (ruledA 3) (2 ∷ 5 ∷ 4 ∷ [])
     ∷ gives (ruledA 4) (2 ∷ 5 ∷ 4 ∷ [])
     -- B, B2, B3 and B4
@@ -89,14 +89,14 @@ lines =
     ∷ gives (alternating 2) (2 ∷ 4 ∷ []) ∷ refuses (alternating 3) 13 0
     -- the even job waits for both cores, and alone it never waits
     ∷ gives (header 1 2 2 ++ entry 2 0 1 2 4 4 ++ entry₂ 0 0 1 2 1 4 4) (2 ∷ 3 ∷ []) ∷ gives (header 1 2 2 ++ entry₂ 0 0 1 2 1 1 1) (1 ∷ [])
-    -- 32 places, which have 32 figures
+    -- 32 places, which have 32 response times
     ∷ gives (header 1 32 1 ++ chained 0 1 (replicate 32 1)) (replicate 32 1)
     -- 1, 2 before 13, 7 with its position, and 9 before 13
     ∷ refuses (drop 1 (header 1 1 1)) 1 0 ∷ refuses (header 1 0 1 ++ entry 0 0 1 2 1 2) 2 0
     ∷ refuses (header 1 1 1 ++ entry 2 0 1 2 1 2 ++ entry 0 0 2 1 1 1) 7 2 ∷ refuses six-at-once 9 0
     ∷ []
 
--- every line is what the definitions say
+-- every line is its value by the definitions
 pub examples : map worked lines ≡ lines
 unfolding responseTimesOf responseTimesIn worstResponseBy greatest responseTime verdictOf chained answerOf byWalk byTasks byHorizon firstOut endingOf lastStep headerNumber
     tableOf chain count met computing

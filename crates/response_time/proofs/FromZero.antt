@@ -1,4 +1,4 @@
--- THE LOOK HAS TO BEGIN AT TICK 0: a table whose third task has a job that takes 2 ticks, before the last S, and from then on never takes more than 1.
+-- THE SIMULATION HAS TO BEGIN AT TICK 0: a table whose third task has a job that takes 2 ticks, before the last S, and from then on never takes more than 1.
 use mathlib.Core.Bool.{true}
 use mathlib.Core.List.{[], _∷_}
 use mathlib.Core.Logic.{inl}
@@ -26,7 +26,7 @@ valid (suc zero) l = record { odd-pos = omega arith; even-pos = omega arith; len
 valid (suc (suc zero)) l = record { odd-pos = omega arith; even-pos = omega arith; length-pos = omega arith; deadline-pos = omega arith; constrained = omega arith }
 valid (suc (suc (suc p))) l = absurd (omega arith)
 
--- what is computed: the table is Firm, the figure of its third task, S and P, and that its jobs 2, 3 and 4 end after a tick
+-- what is computed: the table is Firm, the response time of its third task, S and P, and that its jobs 2, 3 and 4 end after a tick
 pub record Computed : Type 0 where
   pub fits : verdict early ≡ Firm 8 12
   pub figure : worstResponse early 2 ≡ 2
@@ -68,7 +68,7 @@ later (suc (suc (suc j))) = go (later j)
         (subst (λ (u : ℕ). full early u .job 2 (2 + j + 3) .ended ≡ true) when
         (subst (λ (x : Job). x .ended ≡ true) (repeat-all early valid 2 (omega arith) 3 whole (2 + j) from 1) e))
 
--- THE THEOREM: the figure is 2, and every job that is released from the last S on has ended after 1 tick
+-- THE THEOREM: the response time is 2, and every job that is released from the last S on has ended after 1 tick
 pub only-before-S : WorstResponse early 2 2 × ((k : ℕ) → lastS (early .tasks) ≤ release (task early 2) k → endedAfter early 2 k 1 ≡ true)
 only-before-S = (
   subst (WorstResponse early 2) (computed .figure) (worst-response-exact early valid never 2 (omega arith)),

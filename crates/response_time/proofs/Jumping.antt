@@ -1,4 +1,4 @@
--- A JUMP AND THE FIGURES: the places that claim no more where it lands are those whose job has ended, and its time is the tick less its release.
+-- A JUMP AND THE RESPONSE TIMES: the places that claim no more where it ends are those whose job has ended, and its time is the tick less its release.
 use mathlib.Core.Path.{_≡_, refl, sym, ap, ap₂, _∙_, subst, subst₂}
 use mathlib.Core.Bool.{Bool, true, false, not, _&&_, cond, true≢false, false≢true}
 use mathlib.Core.List.{List}
@@ -30,11 +30,11 @@ use Rattle.response_time.proofs.Counted.{worst-response-same, worst-res
 use Rattle.response_time.proofs.Ends.{Ended, works-ended, rests-ended, ended-same, ended-more, release-one, open-until}
 use Rattle.response_time.proofs.Recorded.{noted-at, noted-length}
 
--- the set of the places whose job has ended where a run stands: they claimed when the cores were chosen, and claim no more
+-- the set of the places whose job has ended in a state: they claimed when the cores were chosen, and claim no more
 abbrev pub endedSet : EventState → ℕ
 endedSet s = bitAnd (s .chosen) (bitXor (s .chosen) (s .machine .claiming))
 
--- what is noted at tick u: 32 figures; those of the tasks are the longest so far, if no deadline is ever missed; those past the count are 0
+-- what is recorded at tick u: 32 response times; those of the tasks are the longest so far, if no deadline is ever missed; those past the count are 0
 pub record Noted (t : Loaded) (u : ℕ) (xs : List ℕ) : Type 0 where
   pub size : length xs ≡ 32
   pub figures : NeverMissed (loadedTable t) → (p : ℕ) → p < length (loadedTable t .tasks) → getD xs p 0 ≡ worstResponseBy (loadedTable t) p u
@@ -47,7 +47,7 @@ module _ (t : Loaded) (fit : Fit t) (s : EventState) (h : StateRepresents t s) (
   abbrev n : Numbers
   n = loadedNumbers t
 
-  -- once the due places have been looked at, and where the jump lands
+  -- once the due places have been handled, and where the jump ends
   abbrev m : Machine
   m = afterHandling n s
 
@@ -63,7 +63,7 @@ module _ (t : Loaded) (fit : Fit t) (s : EventState) (h : StateRepresents t s) (
   looked : MachineRepresents book (s .tick) (suc (s .tick)) m
   looked = seen t fit s h met
 
-  -- who claims at a place before the jump's ticks and after them, and its next release, which stays
+  -- whether a place claims before the jump's ticks and after them, and its next release, which stays
   abbrev c : ℕ → Bool
   c p = bit (m .claiming) p
 
@@ -85,7 +85,7 @@ module _ (t : Loaded) (fit : Fit t) (s : EventState) (h : StateRepresents t s) (
   pub ended-exact : (p : ℕ) → bit (endedSet there) p ≡ c p && not (c′ p)
   ended-exact p = without-bit (there .chosen) (there .machine .claiming) p ∙ ap (λ (b : Bool). b && not (c′ p)) (chosen-claims p)
 
-  -- nobody begins to claim in a jump's ticks
+  -- no place begins to claim in a jump's ticks
   claims-before : (p : ℕ) → p < 32 → c′ p ≡ true → c p ≡ true
   unfolding jumped
   claims-before p l e = and-left (c p) _ (sym (passed-claims (ticksInJump n s) (bit (grantedInJump n s)) m p l) ∙ e)
@@ -182,7 +182,7 @@ module _ (t : Loaded) (fit : Fit t) (s : EventState) (h : StateRepresents t s) (
         release-one τ (fit .valid p l) (r′ .number) (r .number) (sym (r′ .following) ∙ (same-next p ∙ r .following)) in
         ended-same js js′ (r .number) (rests-ended τ (suc (s .tick)) js _ _ _ r) (subst (Ended js′) one (rests-ended τ u js′ _ _ _ r′))
 
-    -- what is noted at the place
+    -- what is recorded at the place
     module _ (nm : NeverMissed book) (x : ℕ) (so-far : x ≡ worstResponseBy book p (s .tick)) where
       later : s .tick < u
       later = landing .next .after
@@ -215,7 +215,7 @@ module _ (t : Loaded) (fit : Fit t) (s : EventState) (h : StateRepresents t s) (
           go false e true e′ = absurd (true≢false (sym (claims-before p (le-trans l (few t fit)) e′) ∙ e))
           go false e false e′ = still (same-rests e e′)
 
-  -- who is in the set is one of the tasks
+  -- a place that is in the set is one of the tasks
   ended-past : (p : ℕ) → length (book .tasks) ≤ p → bit (endedSet there) p ≡ false
   ended-past p l = ended-exact p ∙ ap (λ (b : Bool). b && not (c′ p)) (looked .beyond p l)
 
@@ -226,7 +226,7 @@ module _ (t : Loaded) (fit : Fit t) (s : EventState) (h : StateRepresents t s) (
       go true q = absurd (true≢false (sym e ∙ ended-past p (leb-true (length (book .tasks)) p q)))
       go false q = leb-false (length (book .tasks)) p q
 
-  -- THE FIGURES where the jump lands
+  -- THE RESPONSE TIMES where the jump ends
   pub noted-next : (xs : List ℕ) → Noted t (s .tick) xs → Noted t u (recorded (bit (endedSet there)) u (n .periods) (there .machine .next) xs)
   noted-next xs x = record {
     size = noted-length u (n .periods) (there .machine .next) xs (bit (endedSet there)) ∙ x .size;
@@ -273,7 +273,7 @@ module _ (t : Loaded) (n : Numbers) (s s′ : EventState) (b : JumpStarts t n s)
   there-is : s′ ≡ jumped (loadedNumbers t) s
   there-is = e ∙ ap (λ (x : Numbers). jumped x s) (b .numbers)
 
-  -- the figures where it lands
+  -- the response times where it ends
   pub jump-recorded :
       (xs : List ℕ) → Noted t (s .tick) xs
       → (ys : List ℕ) → ys ≡ recorded (bit (endedSet s′)) (s′ .tick) (n .periods) (s′ .machine .next) xs → Noted t (s′ .tick) ys

@@ -1,4 +1,4 @@
--- The laws behind `worstResponse`: the theory over all ticks, the walk over the jumps, and computed examples.
+-- The laws of `response_times`: the theory over all ticks, the walk over the jumps, and computed examples.
 pub mod Greatest
 pub mod Response
 pub mod Examples

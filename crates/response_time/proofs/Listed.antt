@@ -1,4 +1,4 @@
--- The list of figures: 32 of them, that of each task at its place, and zeros past the count.
+-- The list of response times: 32 of them, that of each task at its place, and zeros past the count.
 use mathlib.Core.Path.{_≡_, ap, _∙_}
 use mathlib.Core.List.{List, map, _++_}
 use Prim.Native.Nat.{ℕ, _+_, _-_, _≤_, _<_}

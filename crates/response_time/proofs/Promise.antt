@@ -1,4 +1,5 @@
--- What is promised of `worstResponse`: its numbers are the first that apply, its figures hold over all ticks, and it is what is done with a table that was loaded.
+-- The contract of `response_times`: its refusal is the first that applies, its response times hold over all ticks, and it is what is done with a table that was
+-- loaded.
 use mathlib.Core.Path.{_≡_, refl, sym, ap, _∙_, subst}
 use mathlib.Core.List.{List}
 use Prim.Native.Nat.{ℕ, suc, _<_}
@@ -73,7 +74,7 @@ module _ (ws : List ℕ) where
       ok : AllValid s
       ok = passed-valid ws none
 
-      -- the figure at a place is that of the definition
+      -- the response time at a place is that of the definition
       at : (p : ℕ) (P : ℕ → Type 0) → p < length (s .tasks) → P (worstResponse s p) → P (getD (responseTimesIn s) p 0)
       at p P l x = subst P (sym (figures-at s p l)) x
 
@@ -112,7 +113,7 @@ module _ (ws : List ℕ) where
       zeros = λ m q e. refl;
     }
 
-  -- THE PROMISE, by the verdict
+  -- THE CONTRACT, by the verdict
   pub response-times-promise : ResponseTimesOf ws (responseTimesOf ws)
   response-times-promise = subst (ResponseTimesOf ws) (is (verdictOf ws) refl) (go (verdictOf ws) refl)
     where

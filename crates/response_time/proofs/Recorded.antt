@@ -1,4 +1,4 @@
--- The times noted at the places of a set: place after place as the set is walked, and what stands at a place.
+-- The times recorded at the places of a set: place after place as the set is walked, and the value at a place.
 use mathlib.Core.Path.{_≡_, sym, ap, _∙_}
 use mathlib.Core.Bool.{Bool, cond}
 use mathlib.Core.List.{List}
@@ -23,7 +23,7 @@ module _ (tick : ℕ) (periods next figures : List ℕ) where
     abbrev p : ℕ
     p = lowest rest
 
-    -- the lowest place still has its figure
+    -- the lowest place still has its response time
     pub noted-still : getD now p 0 ≡ getD figures p 0
     unfolding recorded
     noted-still =
@@ -47,7 +47,7 @@ module _ (tick : ℕ) (periods next figures : List ℕ) where
       each-same (more (taken ended rest)) (more (bit ended)) figures
       (λ i. ap (λ (b : Bool). cond b (max (getD figures i 0) (responseAt tick periods next i)) (getD figures i 0)) (all-taken ended rest z i))
 
-  -- what stands at a place, and as many as before
+  -- the value at a place, and as many as before
   pub noted-at : (f : ℕ → Bool) (i : ℕ) → i < length figures → getD (recorded f tick periods next figures) i 0 ≡ more f i (getD figures i 0)
   unfolding recorded
   noted-at f i l = each-at (more f) figures i l

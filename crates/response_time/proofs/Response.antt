@@ -1,4 +1,4 @@
--- THE LONGEST TIME of each task: what the jobs show that have ended by the horizon, since a job due after the horizon goes as the one P before it.
+-- THE WORST-CASE RESPONSE TIME of each task: that of the jobs that have ended by the horizon, since a job due after the horizon runs as the one P before it.
 use mathlib.Core.Bool.{Bool, cond, false, false≢true, true, true≢false}
 use mathlib.Core.List.{List}
 use mathlib.Core.Path.{ap, fun-ext, refl, subst, sym, _∙_, _≡_}
@@ -135,7 +135,7 @@ module _ (s : Table) (ok : AllValid s) (nm : NeverMissed s) (p : ℕ) (l : p < l
       go : (i : ℕ) × (i < suc (horizon s)) × (worstResponse s p ≡ counted i) → Reached
       go x = at (x .0) (full s (horizon s) .job p (x .0) .ended) (x .2)
 
-  -- THE THEOREM: the figure that the horizon shows holds over all ticks
+  -- THE THEOREM: the response time that the horizon shows holds over all ticks
   pub worst-response-exact : WorstResponse s p (worstResponse s p)
   worst-response-exact = record {
     bound = λ k n h. ended-later s p k (release (task s p) k + worstResponse s p) n h (bounded (suc k) k (omega arith));
@@ -168,7 +168,7 @@ worst-response-range s ok nm p l = (least-one (worstResponse s p) refl, omega (a
     over : ¬ (task s p .deadline < worstResponse s p)
     over h = true≢false (sym (met s ok nm p l (x .reached .0)) ∙ x .reached .2 (task s p .deadline) h)
 
--- THE THEOREM (lending-worst-response): under rule 4 each figure is that of rule 3, since the full-length runs are equal
+-- THE THEOREM (lending-worst-response): under rule 4 each response time is that of rule 3, since the full-length runs are equal
 pub lending-worst-response : (τs : List Task) (m f p : ℕ) → worstResponse (under lending τs m f) p ≡ worstResponse (under idling τs m f) p
 unfolding worstResponseBy responseTime horizon
 lending-worst-response τs m f p = ap by-run (fun-ext (λ n. lending-idling τs m f n .0))

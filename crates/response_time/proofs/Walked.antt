@@ -1,4 +1,4 @@
--- The walk over the jumps: where it begins, what it finds late, and what it has noted past the horizon.
+-- The walk over the jumps: where it begins, what it finds late, and what it has recorded past the horizon.
 use mathlib.Core.Path.{_≡_, refl, sym, ap, _∙_}
 use mathlib.Core.Bool.{Bool, true, false, _&&_, cond, false≢true}
 use mathlib.Core.List.{List}
@@ -43,7 +43,7 @@ module _ (t : Loaded) (fit : Fit t) where
   abbrev book : Table
   book = loadedTable t
 
-  -- AT TICK 0 all figures are 0
+  -- AT TICK 0 all response times are 0
   pub noted-start : Noted t 0 (replicate 32 0)
   noted-start = record {
     size = refl;
@@ -108,7 +108,7 @@ module _ (t : Loaded) (fit : Fit t) where
           absurd (false≢true (sym (never-found book (suc (t .horizon)) e) ∙ found book (fit .valid) (suc (t .horizon)) p w (omega arith) x))
       go (At u q) e = refl
 
-  -- none is: what is noted past the horizon are the figures
+  -- none is: what is recorded past the horizon are the response times
   module _ (u : ℕ) (past : t .horizon < u) (met : MetBefore book u) where
     never : NeverMissed book
     never = horizon-enough book (fit .valid) (λ p w h. met p w (omega (arith, fit .horizon)))

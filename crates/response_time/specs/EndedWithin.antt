@@ -1,4 +1,4 @@
--- What a firm table keeps of a figure in every list of entries (request 107). All that is said of lists stands here, and what shows it in proofs/Kept.antt.
+-- What a firm table guarantees of a worst-case response time in every list of entries (request 107); shown in proofs/EndedWithin.antt.
 use mathlib.Core.Bool.{true}
 use mathlib.Core.List.{List}
 use mathlib.Core.Path.{_≡_}
@@ -10,6 +10,6 @@ use Rattle.model.specs.Task.{Table, release, task}
 abbrev pub EndedWithin : Table → ℕ → ℕ → List Entry → Type 0
 EndedWithin s p r xs = (k : ℕ) → release (task s p) k + r ≤ book s xs .tick → book s xs .job p k .ended ≡ true
 
--- and so in every list: at that tick and at every later one, taken and refused advances alike
+-- and in every list: at that tick and at every later one, after taken and refused advances alike
 abbrev pub AlwaysEndedWithin : Table → ℕ → ℕ → Type 0
 AlwaysEndedWithin s p r = (xs : List Entry) → EndedWithin s p r xs

@@ -1,4 +1,4 @@
--- The longest answer of each task: the time of a job and the figure, what a firm table keeps of it, and what is promised.
+-- The worst-case response time of each task: that of a job, the maximum, what a firm table guarantees of it, and the contract.
 pub mod Response
 pub mod EndedWithin
 pub mod Numbers

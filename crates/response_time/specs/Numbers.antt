@@ -1,4 +1,4 @@
--- Numbers for what `worstResponse` turns down: the table's, then 13 (request 107); when each applies, and which is the first.
+-- Numbers for what `response_times` turns down: the table's, then 13 (request 107); when each applies, and which is the first.
 use mathlib.Core.List.{List}
 use mathlib.Core.Path.{_≡_}
 use Prim.Native.Nat.{ℕ}
@@ -8,7 +8,7 @@ use Rattle.table.specs.Numbers as table
 use Rattle.judge.specs.JudgeAnswer.{judged, verdictMeaning}
 use Rattle.judge.specs.Judged.{verdictOf}
 
--- number n applies to the words, with position p
+-- number n applies to the words, with position p. As in table/specs/Numbers: `Applies`, `First`, `NoneApplies`
 pub data Applies (ws : List ℕ) : ℕ → ℕ → Type 0 where
   -- those of the table
   words : (n p : ℕ) → table.Applies ws n p → Applies ws n p

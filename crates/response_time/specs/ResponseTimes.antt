@@ -1,4 +1,4 @@
--- What `worstResponse` answers, and what is promised of it (request 107).
+-- The answer of `response_times`, and its contract (request 107).
 use mathlib.Core.Path.{_≡_}
 use mathlib.Core.List.{List, map, _++_}
 use mathlib.Core.Logic.{_↔_}
@@ -19,41 +19,41 @@ use Rattle.response_time.specs.Response.{worstResponse, WorstResponse}
 use Rattle.response_time.specs.EndedWithin.{AlwaysEndedWithin}
 use Rattle.response_time.specs.Numbers.{First, NoneApplies}
 
--- the figure of each task, and zeros past the count
+-- the worst-case response time of each task, and zeros past the count
 unfoldable pub responseTimesIn : Table → List ℕ
 responseTimesIn s = map (worstResponse s) (upFrom 0 (length (s .tasks))) ++ replicate (mostTasks - length (s .tasks)) 0
 
--- the figures are given; or they are turned down with number and position, and all of them are 0
+-- the response times are given; or they are refused with number and position, and all of them are 0
 abbrev pub givenTimes : List ℕ → ResponseTimes
 givenTimes xs = record { answer = table.Passed; responses = xs }
 
 abbrev pub noTimes : ℕ → ℕ → ResponseTimes
 noTimes n p = record { answer = table.Refused n p; responses = replicate mostTasks 0 }
 
--- by the judge's verdict: given for Firm and Full, 13 for a miss, and the table's numbers as they are there
+-- by the judge's verdict: given for Firm and Full, 13 for a miss, and the table's numbers unchanged
 abbrev pub responseTimesBy : Verdict → List ℕ → ResponseTimes
 responseTimesBy (Firm a b) xs = givenTimes xs
 responseTimesBy (Full a b) xs = givenTimes xs
 responseTimesBy (Miss t p) xs = noTimes 13 0
 responseTimesBy (Refused n p) xs = noTimes n p
 
--- what `worstResponse` answers of the words
+-- the answer of `response_times` to the words
 unfoldable pub responseTimesOf : List ℕ → ResponseTimes
 responseTimesOf ws = responseTimesBy (verdictOf ws) (responseTimesIn (tableOf ws))
 
--- what is promised of the answer r to the words
+-- the contract of the answer r to the words
 pub record ResponseTimesOf (ws : List ℕ) (r : ResponseTimes) : Type 0 where
   -- its value
   pub value : r ≡ responseTimesOf ws
   -- refused with n and p exactly if n is the first number that applies, at p; given exactly if none applies
   pub refused : (n p : ℕ) → (loadMeaning (r .answer) ≡ book.refused n p) ↔ First ws n p
   pub passed : (loadMeaning (r .answer) ≡ book.taken) ↔ NoneApplies ws
-  -- given: of each task, no full-length job ever takes longer than the figure, and some full-length job takes just that
+  -- given: of each task, no full-length job ever takes longer than its response time, and some full-length job takes exactly that
   pub figures : loadMeaning (r .answer) ≡ book.taken → (p : ℕ) → p < length (tableOf ws .tasks) → WorstResponse (tableOf ws) p (getD (r .responses) p 0)
-  -- Firm: in every list of advances each job has ended at its release plus the figure, and at every tick after
+  -- Firm: in every list of advances each job has ended at its release plus that time, and at every tick after
   pub kept :
       (a b : ℕ) → verdictOf ws ≡ Firm a b → (p : ℕ) → p < length (tableOf ws .tasks) → AlwaysEndedWithin (tableOf ws) p (getD (r .responses) p 0)
-  -- there are 32 figures; those past the count are 0, and in a refusal all of them
+  -- there are 32 numbers; those past the count are 0, and in a refusal all of them
   pub size : length (r .responses) ≡ mostTasks
   pub past : (p : ℕ) → length (tableOf ws .tasks) ≤ p → getD (r .responses) p 0 ≡ 0
   pub zeros : (n p : ℕ) → loadMeaning (r .answer) ≡ book.refused n p → r .responses ≡ replicate mostTasks 0

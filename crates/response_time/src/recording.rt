@@ -1,4 +1,4 @@
-// What is late at a tick of the jumping run, and the times of the jobs that end.
+// What is late at a tick of the jumping run, and the response times of the jobs that end.
 ghost use mathlib.Core.Bool.{true};
 ghost use mathlib.Core.Path.{_≡_};
 ghost use Prim.Native.Nat.{ℕ, _+_, _≤_, _<_, _^_, max};
@@ -33,7 +33,7 @@ fn larger(a: u32, b: u32) -> u32
     if a < b { b } else { a }
 }
 
-// Notes the time of each place of a set, whose job ends at this tick, where it is longer than what is noted.
+// Records the response time of each place of a set, whose job ends at this tick, where it is longer than the recorded one.
 pub(crate) fn record_ends(
     ended: u32,
     tick: u32,

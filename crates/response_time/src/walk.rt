@@ -1,4 +1,4 @@
-// The full-length run of a table that passed, from event to event, and the longest time of each task in it.
+// The full-length run of a table that passed, from event to event, and the worst-case response time of each task in it.
 ghost use mathlib.Core.Path.{_≡_};
 ghost use Prim.Native.Nat.{suc};
 ghost use Rattle.judge.specs.FirstMiss.{missedBefore, byMiss};
@@ -9,7 +9,7 @@ use model::MOST_TASKS;
 use table::Answer;
 use table::Loaded;
 
-// Jumps up to the horizon and past it, and notes the time of each job that ends; a missed deadline is 13.
+// Jumps up to the horizon and past it, and records the response time of each job that ends; a missed deadline is 13.
 pub(crate) fn times_of(table: Loaded) -> ResponseTimes
     requires { ⌜ Fit table ⌝ }
     ensures { λ r. ⌜ r ≡ responseTimesBy (byMiss (missedBefore (loadedTable table) (suc (table .horizon))) (acceptedOf table)) (responseTimesIn (loadedTable table)) ⌝ }

@@ -1,6 +1,6 @@
--- Of every table and book: the sets of cores that a row shows never overlap, have no fenced core and none past the count, and count their job's width or
--- nothing, but that one that may lend keeps what nobody borrows, and counts its width with what is borrowed of it; and no task changes the set of a task
--- above it that has nothing to lend.
+-- Of every table and book: the sets of cores that a row shows never overlap, have no fenced core and none past the count, and have as many cores as their
+-- job's width or none, but a place that may lend keeps what no place borrows, and has its width together with what is borrowed of it; and no task changes the
+-- set of a task above it that has nothing to lend.
 use mathlib.Core.Path.{_≡_, refl, sym, ap, ap₂, _∙_}
 use mathlib.Core.Logic.{_⊎_, inl, inr}
 use mathlib.Core.Bool.{Bool, true, false, not, _&&_, cond}
@@ -17,7 +17,7 @@ use Rattle.model.proofs.Bools.{and-right}
 use Rattle.rule.proofs.Borrowed.{none-some}
 use Rattle.rule.proofs.Tick.{tick-sets-apart, tick-sets-count, tick-sets-open, tick-shows}
 
--- what is offered is what is given, or nothing; who seeks is given nothing
+-- what is offered is what is given, or nothing; a place that seeks is given nothing
 module _ (s : Table) (b : Book) where
   offers : (p : ℕ) → (offer s b p ≡ []) ⊎ (offer s b p ≡ getD (grantsOf s b) p [])
   unfolding offer

@@ -1,5 +1,5 @@
--- Laws of the model's lending, place by place: who borrows seeks cores, and borrows as many as its width; each of them is lent by a place, and none twice.
--- What a row shows then: no core stands twice, and each is one that is given or borrowed.
+-- Laws of the model's lending, place by place: a place that borrows seeks cores, and borrows as many as its width; each core is lent by a place, and none
+-- twice. What a row shows then: no core is there twice, and each is one that is given or borrowed.
 use mathlib.Core.Path.{_≡_, refl, sym, ap, _∙_}
 use mathlib.Core.Logic.{_⊎_, inl, inr, ⊎-elim}
 use mathlib.Core.Bool.{Bool, true, false, _&&_, _||_, and-false, false≢true, not, or-assoc}
@@ -56,7 +56,7 @@ unfolding memb
 memb-append c [] b = refl
 memb-append c (x ∷ a) b = ap (λ (t : Bool). eqb c x || t) (memb-append c a b) ∙ sym (or-assoc (eqb c x) (memb c a) (memb c b))
 
--- a number that stands in two lists, one behind the other, stands in one of them
+-- a number that is in two lists, one after the other, is in one of them
 in-append : (c : ℕ) (a b : List ℕ) → In c (a ++ b) → (In c a) ⊎ (In c b)
 in-append c a b h = or-cases (memb c a) (memb c b) (sym (memb-append c a b) ∙ h)
 
@@ -65,7 +65,7 @@ module _ (ws : List ℕ) (sk : ℕ → Bool) (o : ℕ → List ℕ) where
   abbrev pub had : ℕ → ℕ → List ℕ
   had n q = getD (lent ws sk o n) q []
 
-  -- who is tried as place n lends, and what they are given
+  -- the places that are tried as place n lends, and what they are given
   abbrev pub tried : ℕ → ℕ → Bool
   tried n = tries sk n (lent ws sk o n)
 
@@ -89,7 +89,7 @@ module _ (ws : List ℕ) (sk : ℕ → Bool) (o : ℕ → List ℕ) where
       none true b = and-false b
       none false b = refl
 
-  -- who does not seek cores borrows none
+  -- a place that does not seek cores borrows none
   pub lent-seekers : (n q : ℕ) → sk q ≡ false → had n q ≡ []
   lent-seekers n q e = none-some (had n q) (not-true-false (some (had n q)) (λ h. false≢true (sym e ∙ lent-seeks ws sk o n q h)))
 
@@ -115,7 +115,7 @@ module _ (ws : List ℕ) (sk : ℕ → Bool) (o : ℕ → List ℕ) where
       (λ k. (n, omega arith, in-grants greedy c (claimants ws (tried n)) (o n) q k))
       (in-append c (had n q) (getD (lentBy n) q []) (sym (ap (memb c) (lent-more n q)) ∙ h))
 
-  -- no core is lent twice, where the places lend ascending lists and no core stands in two of these
+  -- no core is lent twice, where the places lend ascending lists and no core is in two of these
   pub lent-apart :
       (hi : ℕ) → ((m : ℕ) → Range 0 hi (o m)) → ((c i j : ℕ) → i < j → In c (o i) → In c (o j) → ⊥)
       → (n : ℕ) → Apart (lent ws sk o n)
@@ -137,7 +137,7 @@ module _ (ws : List ℕ) (sk : ℕ → Bool) (o : ℕ → List ℕ) where
 
 -- ---- what a row shows
 
--- a core of one of the lists stands among them
+-- a core of one of the lists is among them
 among-of : (c : ℕ) (bs : List (List ℕ)) (j : ℕ) → In c (getD bs j []) → among c bs ≡ true
 unfolding among
 among-of c [] j h = absurd (not-in-none c h)
@@ -153,7 +153,7 @@ module _ (gs bs : List (List ℕ)) (same : length gs ≡ length bs) where
   pub shown-length : length (shownCores gs bs) ≡ length gs
   shown-length = beside-length bs (map (unlent bs) gs) ∙ sym same
 
-  -- of each place: what it borrows, and what nobody borrows of its own
+  -- of each place: what it borrows, and what no place borrows of its own
   pub shown-place : (q : ℕ) → getD (shownCores gs bs) q [] ≡ getD bs q [] ++ unlent bs (getD gs q [])
   unfolding filtered
   shown-place q =
@@ -164,7 +164,7 @@ module _ (gs bs : List (List ℕ)) (same : length gs ≡ length bs) where
     split : (q : ℕ) → In c (getD (shownCores gs bs) q []) → (In c (getD bs q [])) ⊎ (In c (unlent bs (getD gs q [])))
     split q h = in-append c (getD bs q []) (unlent bs (getD gs q [])) (sym (ap (memb c) (shown-place q)) ∙ h)
 
-    -- what is kept is of its own, and nobody's
+    -- what is kept is of its own, and of no other place
     kept-own : (q : ℕ) → In c (unlent bs (getD gs q [])) → (In c (getD gs q [])) × (among c bs ≡ false)
     kept-own q h =
         let e = sym (memb-kept (λ x. not (among x bs)) c (getD gs q [])) ∙ h in
@@ -181,7 +181,7 @@ module _ (gs bs : List (List ℕ)) (same : length gs ≡ length bs) where
     borrowed-kept : (i j : ℕ) → In c (getD bs i []) → In c (unlent bs (getD gs j [])) → ⊥
     borrowed-kept i j h k = false≢true (sym (kept-own j k .1) ∙ among-of c bs i h)
 
-  -- and none stands twice
+  -- and none is there twice
   pub shown-apart : Apart gs → Apart bs → Apart (shownCores gs bs)
   shown-apart ag ab c i j l h k =
       ⊎-elim

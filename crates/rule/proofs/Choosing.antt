@@ -97,7 +97,7 @@ module _ (r : Rule) where
   only-first (suc n) (w ∷ ws) c free zero h = refl
   only-first (suc n) (w ∷ ws) c free (suc p) h = only-first n ws (lower c) (left r (claimant (c 0) w) free) p (λ i k. h (suc i) (omega arith))
 
-  -- who is given cores claims
+  -- a place that is given cores claims
   pub granted-claims : (ws : List ℕ) (c : ℕ → Bool) (free : List ℕ) (p : ℕ) → granted r (claimants ws c) free p ≡ true → (p < length ws) × (c p ≡ true)
   unfolding grants claimants
   granted-claims [] c free p h = absurd (false≢true h)

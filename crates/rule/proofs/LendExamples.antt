@@ -19,7 +19,7 @@ pub one-fits : borrowing (2 ∷ 1 ∷ []) (3 ∷ 0 ∷ []) 1 2 ≡ [] ∷ (0 ∷
 unfolding lent merged grants claimants given left cores filtered upFrom
 one-fits = refl
 
--- position 2 is too wide, and is passed over for position 3
+-- position 2 is too wide, and is skipped for position 3
 pub passed-for-another : borrowing (2 ∷ 3 ∷ 1 ∷ []) (3 ∷ 0 ∷ 0 ∷ []) 1 6 ≡ [] ∷ [] ∷ (0 ∷ []) ∷ []
 unfolding lent merged grants claimants given left cores filtered upFrom
 passed-for-another = refl
@@ -44,7 +44,7 @@ pub served-once : borrowing (1 ∷ 1 ∷ 1 ∷ 1 ∷ []) (1 ∷ 2 ∷ 0 ∷ 0 �
 unfolding lent merged grants claimants given left cores filtered upFrom
 served-once = refl
 
--- nothing is lent where nobody holds, where a holder has no cores, or to a position above it
+-- nothing is lent where no place holds, where a holder has no cores, or to a position above it
 pub no-holder : borrowing (2 ∷ 1 ∷ []) (3 ∷ 0 ∷ []) 0 2 ≡ [] ∷ [] ∷ []
 unfolding lent merged grants claimants given left cores filtered upFrom
 no-holder = refl
@@ -75,7 +75,7 @@ pub all-cores :
 unfolding lent merged grants claimants given left cores filtered upFrom
 all-cores = refl
 
--- the row shows the borrower, and the holder on what it keeps; who works keeps its cores
+-- the row shows the borrower, and the holder on what it keeps; a place that works keeps its cores
 pub keeps-the-rest : shownCores ((0 ∷ 1 ∷ 2 ∷ []) ∷ (4 ∷ []) ∷ [] ∷ []) ([] ∷ [] ∷ (0 ∷ 1 ∷ []) ∷ []) ≡ (2 ∷ []) ∷ (4 ∷ []) ∷ (0 ∷ 1 ∷ []) ∷ []
 unfolding merged among memb filtered
 keeps-the-rest = refl

@@ -77,7 +77,7 @@ pub shown-end : (start : List ℕ) (p i : ℕ) (sets : List ℕ) → length sets
 unfolding shown
 shown-end start p i sets h = ap (λ (l : List ℕ). shown start p (map cores l)) (drop-of-length-le sets h)
 
--- ---- where no core stands in two lists, the row shows who holds each core
+-- ---- where no core is in two lists, the row shows the position that has each core
 
 pub length-shown : (start : List ℕ) (p : ℕ) (gs : List (List ℕ)) → length (shown start p gs) ≡ length start
 unfolding shown
@@ -85,7 +85,7 @@ length-shown start p [] = refl
 length-shown start p (g ∷ gs) = length-shown (marked start p g) (suc p) gs ∙ length-marked start p g
 
 module _ (c : ℕ) where
-  -- c stands in none of the lists
+  -- c is in none of the lists
   abbrev Absent : List (List ℕ) → Type 0
   Absent gs = (j : ℕ) → In c (getD gs j []) → ⊥
 
@@ -149,7 +149,7 @@ module _ (n m f : ℕ) (F : List ℕ) (few : m ≤ n) (fenced : (c : ℕ) → c 
       front : List ℕ
       front = map (byteOf f gs) (upFrom 0 m)
 
-      -- nobody holds a core past the count or in the fence
+      -- no place holds a core past the count or in the fence
       none : (c : ℕ) → ((c < m) × (bit f c ≡ false) → ⊥) → owner c 1 gs ≡ 0
       none c x = none-holds c 1 gs (λ j i. x (k c j i))
 

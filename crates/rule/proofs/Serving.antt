@@ -1,5 +1,5 @@
--- What holds while the claimants of a tick are served, one turn each: each place's set and what the rest will give it stay what all give it;
--- when no one is left, the sets are the model's grants.
+-- What holds while the claimants of a tick are served, one iteration each: each place's set and what the rest will give it stay what all give it;
+-- when none is left, the sets are the model's grants.
 use borrow.Author.Tests.{eqb-true, eqb-false}
 use native.Mathlib.Omega.{arith}
 use mathlib.Core.Path.{_≡_, refl, sym, ap, _∙_}
@@ -28,7 +28,7 @@ use Rattle.rule.proofs.Choosing.{first-of, first-given}
 abbrev pub share : Rule → List ℕ → ℕ → List ℕ → ℕ → List ℕ
 share r ws x free p = getD (grants r (claimants ws (bit x)) free) p []
 
--- what holds before each turn; ws are the widths that are looked at, set and left the free cores and how many they are
+-- what holds before each iteration; ws are the widths that are read, set and left the free cores and how many they are
 pub record Held (r : Rule) (ws : List ℕ) (claims free count : ℕ) (sets : List ℕ) (rest set left : ℕ) : Type 0 where
   pub fit : rest < 2 ^ 32
   pub whole : set < 2 ^ 64
@@ -51,7 +51,7 @@ begun r ws claims free count h k = record {
   gives = λ p. ap (λ (x : List ℕ). x ++ share r ws claims (cores free) p) (ap cores (getD-zeros 32 p) ∙ cores-none);
 }
 
--- ---- one turn, at the lowest digit q of the rest; y is the rest after it
+-- ---- one iteration, at the lowest digit q of the rest; y is the rest after it
 
 module _ (r : Rule) (ws : List ℕ) (claims free count : ℕ) (sets : List ℕ) (rest set left q y : ℕ) (h : Held r ws claims free count sets rest set left) (l : Lowest rest q) (e : y ≡ rest - 2 ^ q) where
   abbrev pub width : ℕ
@@ -66,7 +66,7 @@ module _ (r : Rule) (ws : List ℕ) (claims free count : ℕ) (sets : List ℕ) 
   less : y < 2 ^ 32
   less = omega (arith, h .fit)
 
-  -- what the rule says to it, of the free cores
+  -- the rule's answer to it, of the free cores
   answer : (s : Selection) → selection r left width ≡ s → Case r (claimant true width) (cores set) (givenBy s width (cores set)) (leftBy s width (cores set))
   answer s a = answer-means r width (cores set) s (ap (λ (n : ℕ). selection r n width) (sym (h .counted)) ∙ a)
 
@@ -110,7 +110,7 @@ module _ (r : Rule) (ws : List ℕ) (claims free count : ℕ) (sets : List ℕ) 
       one-step s a p ∙ ap (λ (x : List ℕ). cond (eqb p q) x [] ++ share r ws y (leftBy s width (cores set)) p) z
       ∙ ap (λ (x : List ℕ). x ++ share r ws y (leftBy s width (cores set)) p) (same-either (eqb p q) [])
 
-  -- it is passed over
+  -- it is skipped
   pub passed-over : selection r left width ≡ Passed → Held r ws claims free count sets y set left
   passed-over a = record {
     fit = less;
@@ -137,7 +137,7 @@ module _ (r : Rule) (ws : List ℕ) (claims free count : ℕ) (sets : List ℕ) 
         ap (λ (x : List ℕ). cores (getD sets p 0) ++ x) (none ∙ sym (nothing Ends a refl p)) ∙ h .gives p;
   }
 
-  -- it stands past the count
+  -- it is past the count
   pub skipped : length ws ≤ q → Held r ws claims free count sets y set left
   skipped k =
       let same : claimants ws (bit y) ≡ claimants ws (bit rest) = claimants-same ws (bit y) (bit rest) (λ i j. rw e (l .others i (λ z. omega arith))) in

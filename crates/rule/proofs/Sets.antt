@@ -1,4 +1,4 @@
--- What a caller learns of the sets of one tick: place by place, that no two overlap, that each counts its width or nothing, and that a row can show them.
+-- The laws of the sets of one tick: place by place, no two overlap, each has as many cores as its width or none, and a row can show them.
 use mathlib.Core.Path.{_≡_, refl, sym, ap, _∙_, subst}
 use mathlib.Core.Logic.{_⊎_, inl, inr, ⊎-elim}
 use mathlib.Core.Bool.{Bool, true, false, not, _&&_}
@@ -27,7 +27,7 @@ use Rattle.cores.proofs.Cores.{cores-none, cores-range, cores-length, set-cores
 use Rattle.cores.proofs.Unfenced.{in-open, open-of}
 use Rattle.rule.proofs.Granting.{idle, apart, in-grants, width-or-none}
 
--- who is given cores of the set of the open ones
+-- the places that are given cores of the set of the unfenced ones
 pub granted-open :
     (r : Rule) (bs : List Claimant) (free f n : ℕ) → n ≤ 64 → cores free ≡ unfenced f (min n 64)
     → (p : ℕ) → granted r bs (cores free) p ≡ granted r bs (unfenced f n) p
@@ -47,7 +47,7 @@ no-common a b h k f =
     and-bit a b c ∙ not-true-false (bit a c && bit b c) (λ e. f c (cores-memb a c l ∙ and-left (bit a c) (bit b c) e) (cores-memb b c l ∙ and-right (bit a c) (bit b c) e)))
     ∙ kept-none (upFrom 0 64))
 
--- a row can show what is given of the open cores
+-- a row can show what is given of the unfenced cores
 pub grants-showable : (r : Rule) (bs : List Claimant) (f m : ℕ) → Showable f m (grants r bs (unfenced f m))
 grants-showable r bs f m = record {
   apart = apart r m bs (unfenced f m) (range-kept (λ c. not (bit f c)) 0 m (upFrom 0 m) (range-up 0 m m (omega arith)));
@@ -87,7 +87,7 @@ module _ (r : Rule) (bs : List Claimant) (count free : ℕ) (sets : List ℕ) (h
       (λ e. inr (no-cores s k (sets-at p ∙ e)))
       (width-or-none r bs (cores free) p)
 
-  -- a row can show them, where they are given of the open cores
+  -- a row can show them, where they are given of the unfenced cores
   pub sets-showable : (f m : ℕ) → cores free ≡ unfenced f m → Showable f m (map cores (take count sets))
   sets-showable f m o =
       let same : map cores (take count sets) ≡ grants r bs (unfenced f m) = h .gives ∙ ap (grants r bs) o in

@@ -1,5 +1,5 @@
--- What a row shows of one tick, in the model's words: no core stands under two places, and each is open; a place that has nothing to lend has its width
--- or nothing, and keeps what it is given; one that may lend keeps what nobody borrows, and that and what is borrowed of it are its width.
+-- What a row shows of one tick, in the model's words: no core is under two places, and each is unfenced; a place that has nothing to lend has its width
+-- or nothing, and keeps what it is given; one that may lend keeps what no place borrows, and that and what is borrowed of it are its width.
 use mathlib.Core.Path.{_≡_, refl, sym, ap, subst, _∙_}
 use mathlib.Core.Logic.{_⊎_, inl, inr, ⊎-elim}
 use mathlib.Core.Bool.{Bool, true, false, not, cond, false≢true}
@@ -58,7 +58,7 @@ lent-range ws sk o hi r (suc n) q = go (some (had ws sk o n q)) refl (lent-range
         (sym (lent-more ws sk o n q ∙ ap (λ (l : List ℕ). l ++ getD (lentBy ws sk o n) q []) (none-some (had ws sk o n q) e)))
         (grants-range greedy (claimants ws (tried ws sk o n)) hi (o n) (r n) q)
 
--- ---- what nobody borrows
+-- ---- what no place borrows
 
 among-some : (c : ℕ) (bs : List (List ℕ)) → among c bs ≡ true → (q : ℕ) × In c (getD bs q [])
 unfolding among
@@ -76,8 +76,8 @@ kept-all f (x ∷ l) h =
     ap (λ (t : Bool). consIf t x (filtered f l)) (h x (rw (eq-eqb x x refl)))
     ∙ ap (λ (k : List ℕ). x ∷ k) (kept-all f l (λ c e. h c (or-right (eqb c x) (memb c l) e)))
 
--- ---- the cores of a tick: ws are the widths and c the claims, of which the rule gives the open cores; who seeks has none of them, and what a place offers
--- is what it is given, or nothing
+-- ---- the cores of a tick: ws are the widths and c the claims, of which the rule gives the unfenced cores; a place that seeks has none of them, and what a
+-- place offers is what it is given, or nothing
 
 module _ (r : Rule) (ws : List ℕ) (c : ℕ → Bool) (f m : ℕ) (sk : ℕ → Bool) (o : ℕ → List ℕ) (n : ℕ) where
   abbrev pub gs : List (List ℕ)
@@ -127,11 +127,11 @@ module _ (r : Rule) (ws : List ℕ) (c : ℕ → Bool) (f m : ℕ) (sk : ℕ →
             (given-show .open-only x j)
             (shown-in gs bs same x j h)
 
-    -- each place: what it borrows, and what nobody borrows of its own
+    -- each place: what it borrows, and what no place borrows of its own
     pub tick-place : (p : ℕ) → shownAt p ≡ getD bs p [] ++ unlent bs (getD gs p [])
     tick-place = shown-place gs bs same
 
-    -- nobody has cores of its own and borrows some
+    -- no place has cores of its own and borrows some
     pub tick-either : (p : ℕ) → (getD gs p [] ≡ []) ⊎ (getD bs p [] ≡ [])
     tick-either p = go (sk p) refl
       where
@@ -148,7 +148,7 @@ module _ (r : Rule) (ws : List ℕ) (c : ℕ → Bool) (f m : ℕ) (sk : ℕ →
         let u = lent-from ws sk o x n (y .0) (y .1) in
         lender x h (u .0) (u .2) (eqb (u .0) p) refl)))
       where
-        -- who lends one of its cores is no other place
+        -- no other place lends one of its cores
         lender : (x : ℕ) → In x (getD gs p []) → (q : ℕ) → In x (o q) → (t : Bool) → eqb q p ≡ t → ⊥
         lender x h q k true e = not-in-none x (subst (In x) none (subst (λ (i : ℕ). In x (o i)) (eqb-true q p e) k))
         lender x h q k false e = go (ltb q p) refl
@@ -179,7 +179,7 @@ module _ (r : Rule) (ws : List ℕ) (c : ℕ → Bool) (f m : ℕ) (sk : ℕ →
         ⊎-elim (λ w. inl (ap length z ∙ (w ∙ width-of ws c p))) (λ w. inr (z ∙ w)) (width-or-none r (claimants ws c) (unfenced f m) p))
         (tick-either p)
 
-    -- a place that may lend keeps what nobody borrows
+    -- a place that may lend keeps what no place borrows
     pub tick-lender : (p : ℕ) → some (o p) ≡ true → shownAt p ≡ unlent bs (o p)
     tick-lender p e =
         ⊎-elim

@@ -1,4 +1,4 @@
--- What the tick rule promises (scope, 'Who runs in a tick'), in the model's words; a set of cores is spoken of by the list of its cores.
+-- What the tick rule guarantees (scope, 'Who runs in a tick'), in the model's words; a set of cores is represented by the list of its cores.
 use mathlib.Core.Path.{_≡_}
 use mathlib.Core.Bool.{Bool, cond}
 use mathlib.Core.List.{List, [], map}
@@ -12,8 +12,8 @@ use Rattle.cores.specs.Cores.{cores}
 use Rattle.rule.specs.declared.Selection.{Selection}
 use Rattle.rule.specs.declared.Selection.the-variants.{Takes, Passed, Ends}
 
--- what the rule says to a claimant of this width where so many cores are free: a width that fits takes its cores; one that doesn't ends the
--- tick's choosing or is passed over
+-- the rule's answer to a claimant of this width where `free` cores are free: a width that fits takes its cores; one that doesn't ends the
+-- tick's choosing or is skipped
 abbrev pub selection : Rule → ℕ → ℕ → Selection
 selection r free width = cond (leb width free) Takes (cond (endsChoosing r) Ends Passed)
 

@@ -1,4 +1,4 @@
-// The tick rule: who of the claimants is given cores in a tick, which cores, what is lent of them, and the row that shows it.
+// The tick rule: the claimants that are given cores in a tick, their cores, what is lent of them, and the row that shows it.
 ghost use mathlib.Core.Path.{_≡_};
 ghost use mathlib.Core.Bool.{_&&_};
 ghost use mathlib.Core.List.{map, _++_};
@@ -23,20 +23,20 @@ use model::FENCED;
 use model::MOST_TASKS;
 use model::ROW;
 
-// Each place has two widths: the first of every place stands before the second of any. How many they are.
+// The number of widths: each place has two, the first of every place before the second of any.
 pub const PAIR: usize = 2 * MOST_TASKS;
 
-// Rule 1: a claimant that doesn't fit is passed over.
+// Rule 1: a claimant that doesn't fit is skipped.
 const GREEDY: u32 = 1;
 
-// What the tick rule says to a claimant: it takes its cores, it is passed over, or it ends the tick's choosing.
+// The tick rule's answer to a claimant: it takes its cores, it is skipped, or it ends the tick's choosing.
 pub enum Selection {
     Takes,
     Passed,
     Ends,
 }
 
-// The tick rule, for one claimant on so many free cores: a width that fits takes its cores.
+// The tick rule, for one claimant on this number of free cores: a width that fits takes its cores.
 pub fn select(rule: u32, free: u32, width: u32) -> Selection
     ensures { λ r. ⌜ r ≡ selection (ruleOf rule) free width ⌝ }
 {
@@ -218,7 +218,7 @@ fn merged(sets: [u64; MOST_TASKS], more: &[u64; MOST_TASKS]) -> [u64; MOST_TASKS
 }
 
 // The set of cores that each of the first `count` positions borrows, 0 where none. Of the sets reserved for them each holder, by priority, lends its
-// own: the seekers below it that are not yet served are the claimants, and are served as under rule 1.
+// own: the seekers below it that have not yet borrowed are the claimants, and they are granted cores as under rule 1.
 pub fn lend(
     reserved: &[u64; MOST_TASKS],
     holders: u32,
@@ -261,7 +261,7 @@ fn union(sets: &[u64; MOST_TASKS], count: usize) -> u64
     all
 }
 
-// The set of cores that the row shows of each of the first `count` positions: those that it borrows, or of its own those that nobody does.
+// The set of cores that the row shows of each of the first `count` positions: those that it borrows, or its own cores that no place borrows.
 pub fn shown(
     reserved: &[u64; MOST_TASKS],
     borrowed: &[u64; MOST_TASKS],

@@ -1,4 +1,4 @@
--- What a taken advance hands back passes 14 again.
+-- What a taken advance returns passes 14 again.
 use mathlib.Core.Path.{_≡_, refl, sym, subst}
 use mathlib.Core.Bool.{Bool, true, false, cond}
 use Prim.Native.Nat.{ℕ, suc, _<_}
@@ -20,7 +20,7 @@ use Rattle.run.specs.Advance.{advanceAnswer, advanceOf}
 use Rattle.run.proofs.First.{by-taken}
 use Rattle.run.proofs.Limits.{run-decides, passes-if, passes-runs, moved-passes}
 
--- a taken advance passed 14, and nobody was late
+-- a taken advance passed 14, and no task was late
 taken-passes : (r : Run) (x e : ℕ) → answerMeaning (advanceAnswer r x e) ≡ model.taken → (runOut r ≡ false) × (ltb (firstLateIn r) (r .count) ≡ false)
 unfolding advanceAnswer
 taken-passes r x e q = go (runOut r) (ltb (firstLateIn r) (r .count)) q

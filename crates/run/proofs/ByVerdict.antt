@@ -1,4 +1,4 @@
--- What a start gives, by the judge's verdict on the words.
+-- The result of a start, by the judge's verdict on the words.
 use mathlib.Core.Path.{_≡_, refl, sym, ap}
 use mathlib.Core.List.{List}
 use Prim.Native.Nat.{ℕ}

@@ -1,4 +1,4 @@
--- What sets, a row, an advance and a withdrawal give, case by case, in the order in which code looks.
+-- The results of sets, a row, an advance and a withdrawal, case by case, in the order in which code tests.
 use mathlib.Core.Path.{_≡_, refl, sym, _∙_}
 use mathlib.Core.Bool.{Bool, true, false, cond}
 use Prim.Native.Nat.{ℕ, suc, _≤_, _<_}

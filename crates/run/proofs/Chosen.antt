@@ -1,4 +1,4 @@
--- Who has cores in a run's present tick and who borrows some, from the sets that code gathers; and 20 and 16 by one test of sets each.
+-- The places that have cores in a run's present tick and those that borrow some, from the sets that code gathers; and 20 and 16 by one test of sets each.
 use mathlib.Core.Path.{_≡_, refl, sym, ap, ap₂, _∙_}
 use mathlib.Core.Bool.{Bool, true, false, not, _&&_, _||_, cond, and-assoc, true≢false}
 use mathlib.Core.List.{List, [], map}
@@ -35,13 +35,13 @@ use Rattle.run.specs.Sets.{in32, setsIn}
 use Rattle.run.specs.Allocation.{AllocationOf, givenTo, isGiven, lentTo}
 use Rattle.run.proofs.Lent.{past-grants, past-offer}
 
--- ---- who has cores, and who borrows some
+-- ---- the places that have cores, and those that borrow some
 
 module _ (r : Run) (e : ℕ) (c : Claims) (h : ClaimsOf r e c) where
   below : (q : ℕ) → q < r .count → bit (c .claiming) q ≡ claiming (seenAt r e q)
   below q l = h .claimed q ∙ ap (λ (t : Bool). t && claiming (seenAt r e q)) (lt-ltb q (r .count) l)
 
-  -- nobody claims past the count
+  -- no place claims past the count
   pub claims-below : (q : ℕ) → r .count ≤ q → bit (c .claiming) q ≡ false
   claims-below q l = h .claimed q ∙ ap (λ (t : Bool). t && claiming (seenAt r e q)) (le-ltb q (r .count) l)
 
@@ -72,7 +72,7 @@ module _ (r : Run) (e : ℕ) (c : Claims) (h : ClaimsOf r e c) where
   unfolding offerIn
   same-offer p = go (ltb p (r .count)) refl
     where
-      -- who claims and is not Working holds
+      -- a place that claims and is not Working holds
       held : (ph : Phase) → claiming ph && not (working ph) ≡ holder ph
       held (Coming left) = refl
       held (Working z had reserved) = refl

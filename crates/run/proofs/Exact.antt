@@ -1,4 +1,5 @@
--- Row, sets and advance are refused with n and p exactly if n is the first of 14, 15, 20 and 16 that applies, with position p; and taken exactly if none applies.
+-- Row, sets and advance are refused with n and p exactly if n is the first of 14, 15, 20 and 16 that applies, with position p; and taken exactly if none
+-- applies.
 use mathlib.Core.Path.{_≡_, refl, sym, ap, ap₂, _∙_}
 use mathlib.Core.Bool.{Bool, true, false, not, _&&_, _||_, cond, true≢false, false≢true}
 use mathlib.Core.List.{List, [], _∷_}
@@ -194,7 +195,7 @@ module _ (r : Run) where
     unfolding setsOf
     sets-taken = taken-exact (RowApplies r e) (rowAnswer r e) row-right
 
-    -- a value that is the row's by definition keeps what a row promises
+    -- a value that is the row's by definition meets the contract of a row
     pub row-of : (w : Row) → w ≡ rowOf r e → RowOf r e w
     row-of w q = rw q record {
       value = refl;
@@ -253,7 +254,7 @@ module _ (r : Run) where
       unfolding advanceOf
       advance-taken = taken-exact (AdvanceApplies r x e) (advanceAnswer r x e) advance-right
 
-      -- a value that is the advance's by definition keeps what an advance promises
+      -- a value that is the advance's by definition meets the contract of an advance
       pub advance-of : (a : Advanced) → a ≡ advanceOf r x e → AdvanceOf r x e a
       advance-of a q = rw q record {
         value = refl;

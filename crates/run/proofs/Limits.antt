@@ -1,4 +1,4 @@
--- Number 14: its test decides what it says, what passes it has sound tasks, and a move and a withdrawal pass it again.
+-- Number 14: its test decides its condition, what passes it has valid tasks, and an advance and a withdrawal pass it again.
 use mathlib.Core.Path.{_≡_, refl, sym, subst}
 use mathlib.Core.Bool.{Bool, true, false, not, _||_, true≢false}
 use Prim.Native.Nat.{ℕ, _<_}
@@ -99,7 +99,7 @@ passes-runs r h = rw (h .count, h .cores, h .rule, h .fence, h .withdrawn) (none
     at : (p : ℕ) → p < r .count → placeOut r p ≡ false
     at p l = rw (h .tasks p l, phase-decides (ruleIn r) (runTaskAt r p) (evenAt r p) (phaseAt r p) .1 (h .phases p l))
 
--- a task that 7 and 8 pass is sound
+-- a task that 7 and 8 pass is valid
 pub valid-if : (m : ℕ) (τ : model.Task) → taskOut m τ ≡ false → model.ValidTask τ
 valid-if m τ e = inside-valid m τ (inside-test m τ e)
 
@@ -114,7 +114,7 @@ in-array r p e = go (leb (length (r .tasks)) p) refl
     go true q =
         absurd (true≢false (subst (λ (t : Task). taskOut (wideIn r) (taskOf t) ≡ false) (List·getD-eq-default (r .tasks) pastEnd (leb-true (length (r .tasks)) p q)) e))
 
--- the run one tick on passes 14, where nobody is late
+-- the run one tick on passes 14, where no task is late
 pub moved-passes : (f : ℕ → Bool) (e : ℕ) (r : Run) → Passes r → ((p : ℕ) → p < r .count → lateAt r p ≡ false) → Passes (moved f e r)
 unfolding moved
 moved-passes f e r h n = record {

@@ -1,4 +1,5 @@
--- Who is given cores and who borrows some, from sets of places: under rule 4 what is reserved, borrowed and shown; the other rules lend nothing.
+-- The places that are given cores and those that borrow some, from sets of places: under rule 4 what is reserved, borrowed and shown; the other rules lend
+-- nothing.
 use mathlib.Core.Path.{_≡_, refl, sym, ap, ap₂, subst, _∙_}
 use mathlib.Core.Bool.{Bool, true, false, _&&_, not, cond}
 use mathlib.Core.List.{List, [], _∷_, _++_, map}
@@ -111,7 +112,7 @@ module _ (r : Rule) (ws : List ℕ) (claiming working free count : ℕ) (size : 
         (g .gives ∙ sym (own-shown r none ws claiming working (cores free) count)) (g .none);
   }
 
-  -- under rule 4, by who holds and who seeks
+  -- under rule 4, by the places that hold and those that seek
   module _ (lending : lends r ≡ true) where
     abbrev pub holders : ℕ
     holders = bitAnd claiming (bitXor claiming working)
@@ -132,7 +133,7 @@ module _ (r : Rule) (ws : List ℕ) (claiming working free count : ℕ) (size : 
         ∙ ap (λ (t : Bool). cond (t && (bit claiming q && not (bit working q))) (getD (givenTo r ws claiming (cores free)) q []) []) (sym lending))
 
     module _ (borrowed : List ℕ) (b : LentAs ws reserved holders seekers count borrowed) where
-      -- nobody has cores of its own and borrows some
+      -- no place has cores of its own and borrows some
       pub one-or-other : NotBoth reserved borrowed
       one-or-other =
           not-both ws reserved holders seekers count size borrowed b (λ p e.

@@ -1,4 +1,4 @@
--- What the words of a record off the chain say changes no start, neither its answer nor its run:
+-- The words of a record off the chain change no start, neither its answer nor its run:
 -- the verdict is the same, where the table passes it is the same table, and a refusal has the run of all zeros.
 use mathlib.Core.Path.{_≡_, refl, sym, ap, _∙_}
 use mathlib.Core.List.{List}

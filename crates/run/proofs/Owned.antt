@@ -24,7 +24,7 @@ use Rattle.cores.proofs.Cores.{cores-none}
 use Rattle.rule.specs.Lent.{Showable}
 use Rattle.run.specs.Answer.{in64}
 
--- ---- what stands past the last is nothing
+-- ---- what is past the last is nothing
 
 pub padded : (xs : List ℕ) (k p : ℕ) → getD (xs ++ replicate k 0) p 0 ≡ getD xs p 0
 padded [] k p = getD-zeros k p
@@ -71,7 +71,7 @@ owner-in c p (g ∷ gs) x e h = go (memb c g) refl e (λ k. owner-in c (suc p) g
     go true m k ih = (0, omega arith, m)
     go false m k ih = let o = ih k in (suc (o .0), omega (arith, o .1), o .2)
 
--- where no core stands in two lists, whose list has the core owns it
+-- where no core is in two lists, the position whose list has a core owns it
 owner-of :
     (c p : ℕ) (gs : List (List ℕ)) → ((i j : ℕ) → i < j → In c (getD gs i []) → In c (getD gs j []) → ⊥)
     → (q : ℕ) → In c (getD gs q []) → owner c p gs ≡ p + q

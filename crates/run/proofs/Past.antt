@@ -36,7 +36,7 @@ use Rattle.run.specs.Past.{SameBelow, TailUnread}
 use Rattle.run.proofs.Lent.{past-offer}
 use Rattle.run.proofs.Places.{drop-mapFirst, take-mapFirst}
 
--- NOT CHANGED: what stands past the count comes back as given
+-- NOT CHANGED: what is past the count is as given
 pub past-unchanged : (r : Run) (x e : ℕ) → drop (r .count) (advanceOf r x e .run .tasks) ≡ drop (r .count) (r .tasks)
 unfolding advanceOf
 past-unchanged r x e = go (advanceAnswer r x e)

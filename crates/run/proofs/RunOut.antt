@@ -1,4 +1,5 @@
--- Number 14 in the order in which code looks: the count, the core count, the rule, the fence and the withdrawn set, then each place; and the room that a phase leaves for one more tick.
+-- Number 14 in the order in which code tests: the count, the core count, the rule, the fence and the withdrawn set, then each place; and the space that a
+-- phase has for one more tick.
 use mathlib.Core.Path.{_≡_, refl, ap, _∙_}
 use mathlib.Core.Bool.{Bool, true, false, not, _||_}
 use Prim.Native.Nat.{ℕ, _≤_, _<_, min}
@@ -74,7 +75,7 @@ module _ (r : Run) where
 
 -- ---- what a run that passes 14 has
 
--- a phase within its limits leaves room, where O, D and T are at most 1,000,000
+-- a phase within its limits has space, where O, D and T are at most 1,000,000
 room :
     (r : model.Rule) (τ : model.Task) (even : Bool) (ph : Phase) → τ .offset ≤ mostTime → τ .deadline ≤ mostTime → τ .period ≤ mostTime
     → PhaseIn r τ even ph → HasRoom ph
@@ -90,7 +91,7 @@ module _ (r : Run) (e : runOut r ≡ false) where
   pub few-cores : r .cores ≤ mostCores
   few-cores = from-decides 1 mostCores (r .cores) .0 (not-false (inRange 1 mostCores (r .cores)) (passes-if r e .cores)) .1
 
-  -- each place leaves room for one more tick
+  -- each place has space for one more tick
   pub has-room : (p : ℕ) → p < r .count → HasRoom (phaseAt r p)
   has-room p l =
       let i = inside-test (wideIn r) (runTaskAt r p) (passes-if r e .tasks p l) in

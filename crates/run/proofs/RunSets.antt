@@ -1,6 +1,6 @@
--- The sets of cores of a run's present tick: 32, empty past the count; no two overlap, none has a fenced core or one past the count, each counts its job's
--- width or nothing, but of what a place offers it keeps what nobody borrows; who works has the tick exactly if its set is not empty; and the row's bytes
--- are those of the sets, core by core.
+-- The sets of cores of a run's present tick: 32, empty past the count; no two overlap, none has a fenced core or one past the count, each has as many cores
+-- as its job's width or none, but a place that lends keeps what no place borrows; a task that works has the tick exactly if its set is not empty; and the
+-- row's bytes are those of the sets, core by core.
 use mathlib.Core.Path.{_≡_, refl, sym, ap, ap₂, _∙_}
 use mathlib.Core.Logic.{_⊎_, inl, inr}
 use mathlib.Core.Bool.{Bool, true, false, not, _&&_, _||_, cond, false≢true}
@@ -58,7 +58,7 @@ lists-again (g ∷ gs) h = ap₂ (λ (l : List ℕ) (ls : List (List ℕ)). l �
 -- ---- of one tick
 
 module _ (r : Run) (e : ℕ) where
-  -- what is offered is what is given, or nothing; who seeks is given nothing
+  -- what is offered is what is given, or nothing; a place that seeks is given nothing
   offers : (p : ℕ) → (offerIn r e p ≡ []) ⊎ (offerIn r e p ≡ getD (grantsIn r e) p [])
   unfolding offerIn
   offers p = go (lends (ruleIn r) && holder (seenAt r e p))
@@ -152,7 +152,7 @@ module _ (r : Run) (e : ℕ) where
     pub listed-in : map cores (map setOf (shownIn r e)) ≡ shownIn r e
     listed-in = lists-again (shownIn r e) ascending
 
-    -- they are the first, as many as the count says
+    -- they are the first, as many as the count
     pub front-in : length (r .tasks) ≡ 32 → r .count ≤ 32 → map cores (take (r .count) (setsIn r e)) ≡ shownIn r e
     unfolding setsIn
     front-in len most =
@@ -176,7 +176,7 @@ module _ (r : Run) (e : ℕ) where
         ap (λ (n : ℕ). bit n c) (set-at p)
         ∙ (set-bit (getD (shownIn r e) p []) (ascending p) c ∙ shown-owned (r .fence) (r .cores) (shownIn r e) run-showable p c l)
 
-  -- who works offers nothing, so its set has what it borrows and what it is given
+  -- a place that works offers nothing, so its set has what it borrows and what it is given
   works-none : (p : ℕ) → working (seenAt r e p) ≡ true → offerIn r e p ≡ []
   unfolding offerIn
   works-none p h = go (seenAt r e p) h (lends (ruleIn r)) (getD (grantsIn r e) p [])
@@ -254,7 +254,7 @@ module _ (r : Run) (e : ℕ) where
   unfolding setsOf
   sets-works t p h = works-in p h ∙ ap (λ (sets : List ℕ). ltb 0 (getD sets p 0)) (sym (by-taken (rowAnswer r e) (setsIn r e) noSets t))
 
-  -- core by core, the row's bytes say the sets
+  -- core by core, the row's bytes represent the sets
   pub sets-each : (p c : ℕ) → p < mostTasks → bit (getD (setsOf r e .sets) p 0) c ≡ eqb (getD (rowOf r e .bytes) c 0) (suc p)
   unfolding rowOf setsOf
   sets-each p c l = go (rowAnswer r e) refl
@@ -276,7 +276,7 @@ module _ (r : Run) (e : ℕ) where
       go Taken q = bytes-in (few q)
       go (Refused n p) q = refl
 
-  -- a value that is the sets' by definition keeps what sets promise
+  -- a value that is the sets' by definition meets the contract of sets
   pub sets-of : (w : Sets) → w ≡ setsOf r e → SetsOf r e w
   sets-of w q = rw q record {
     value = refl;

@@ -84,7 +84,7 @@ module _ (ws : List ℕ) where
   pub taken-passes : answerMeaning (startOf ws .answer) ≡ model.taken → table-numbers.NoneApplies ws
   taken-passes e n p h = start-taken .0 e n p (as-table n p h)
 
-  -- a value that is the start's by definition keeps what a start promises
+  -- a value that is the start's by definition meets the contract of a start
   pub start-of : (s : Started) → s ≡ startOf ws → StartOf ws s
   start-of s e = rw e record {
     value = refl;

@@ -37,7 +37,7 @@ within-past n x h = not-true-false (pastCount n x) (λ e. let y = past-decides n
 
 -- ONE BY ONE
 
--- a position of the run is no stranger
+-- a position of the run is known
 known : (r : Run) (q : ℕ) → q < r .count → strangerIn r (suc q) ≡ false
 known r q l = rw (ne-eqb (suc q) 0 (λ e. omega arith), le-ltb (r .count) (suc q) l)
 
@@ -109,7 +109,7 @@ none-out r x y = rw (past-decides (r .count) x .1 y) (go (runOut r) (firmIn r))
     go false true = refl
     go false false = refl
 
--- THE LAW: a value that is the withdrawal's by definition keeps what a withdrawal of several together promises
+-- THE LAW: a value that is the withdrawal's by definition meets the contract of a withdrawal of several together
 pub withdraw-set : (r : Run) (x : ℕ) (a : Advanced) → a ≡ withdrawAllOf r x → WithdrawAllOf r x a
 withdraw-set r x a q = rw q record {
   value = refl;

@@ -1,5 +1,5 @@
 -- A withdrawal is refused with n and p exactly if n is the first of 14, 21 and 22 that applies, with position p; and taken exactly if none applies. What
--- it hands back passes 14 again, and withdrawing again changes nothing.
+-- it returns passes 14 again, and withdrawing again changes nothing.
 use mathlib.Core.Path.{_≡_, refl, sym, subst, ap, _∙_}
 use mathlib.Core.Bool.{Bool, true, false, _||_, cond}
 use mathlib.Core.Logic.{_↔_, _⊎_, inl, inr}
@@ -34,7 +34,7 @@ use Rattle.run.proofs.Limits.{run-decides, passes-if, passes-runs, with
 pub stranger-decides : (r : Run) (p : ℕ) → Decides (strangerIn r p) (NoSuchPosition r p)
 stranger-decides r p = decides-or _ _ _ _ (decides-eq p 0) (decides-lt (r .count) p)
 
--- THE FIRST NUMBER, where the test t decides whether a stranger is named
+-- THE FIRST NUMBER, where the test t decides whether there is an unknown position
 module _ (r : Run) (t : Bool) (stranger : Type 0) (d : Decides t stranger) where
   withdraw-14 : runOut r ≡ true → FirstOf (WithdrawApplies r stranger) 14 0
   unfolding place
@@ -79,7 +79,7 @@ module _ (r : Run) (t : Bool) (stranger : Type 0) (d : Decides t stranger) where
       go false q true f true g = withdraw-22 q f g
       go false q true f false g = withdraw-none q f g
 
--- a taken withdrawal passed 14, was firm and named no stranger
+-- a taken withdrawal passed 14, was firm and had no unknown position
 pub taken-parts : (r : Run) (t : Bool) → answerMeaning (withdrawAnswer r t) ≡ model.taken → (runOut r ≡ false) × (firmIn r ≡ true) × (t ≡ false)
 unfolding withdrawAnswer
 taken-parts r t e = go (runOut r) (firmIn r) t e
@@ -91,7 +91,7 @@ taken-parts r t e = go (runOut r) (firmIn r) t e
     go false true true q = absurd (let z : _≡_ {A = ℕ} 0 1 = cc in omega arith)
     go false true false q = (refl, refl, refl)
 
--- what a withdrawal of the set x gives, where no stranger is named only if x is within the count
+-- the result of a withdrawal of the set x, where there is no unknown position only if x is within the count
 module _ (r : Run) (t : Bool) (stranger : Type 0) (d : Decides t stranger) (x : ℕ) (known : runOut r ≡ false → t ≡ false → pastCount (r .count) x ≡ false) where
   again-passes : answerMeaning (withdrawAnswer r t) ≡ model.taken → ¬ RunOut (byAnswer (withdrawAnswer r t) (withdrawnIn x r) r)
   again-passes e =
@@ -135,7 +135,7 @@ known-within r p e = let k = known-from r p e in within-only (r .count) p (k .0)
 pub taken-within : (r : Run) (p : ℕ) → withdrawAnswer r (strangerIn r p) ≡ Taken → pastCount (r .count) (model.singleton p) ≡ false
 taken-within r p e = known-within r p (taken-parts r (strangerIn r p) (ap answerMeaning e) .2)
 
--- a value that is the withdrawal's by definition keeps what a withdrawal promises
+-- a value that is the withdrawal's by definition meets the contract of a withdrawal
 pub withdraw-of : (r : Run) (p : ℕ) (a : Advanced) → a ≡ withdrawOf r p → WithdrawOf r p a
 withdraw-of r p a q = rw q record {
   value = refl;

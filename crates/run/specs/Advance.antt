@@ -1,4 +1,5 @@
--- An advance (scope, 'The run in the cab', and request 105): the run, a set of reports and a set of empty jobs, bit 0 for position 1, give the run one tick on.
+-- An advance (scope: advance; the field: a step of one tick with its reports; request 105): a run, a set of reports (the field: early completions) and a set of
+-- empty jobs, bit 0 for position 1, give the run one tick on.
 use mathlib.Core.Path.{_≡_}
 use mathlib.Core.Logic.{_↔_}
 use mathlib.Core.Bool.{cond}
@@ -28,7 +29,7 @@ advanceAnswer r x e =
 unfoldable pub advanceOf : Run → ℕ → ℕ → Advanced
 advanceOf r x e = record { answer = advanceAnswer r x e; run = byAnswer (advanceAnswer r x e) (moved (bit x) e r) r }
 
--- what an advance of run r with reports x and empties e promises
+-- what an advance of run r with reports x and empties e guarantees
 pub record AdvanceOf (r : Run) (x e : ℕ) (a : Advanced) : Type 0 where
   -- its value
   pub value : a ≡ advanceOf r x e
@@ -39,7 +40,7 @@ pub record AdvanceOf (r : Run) (x e : ℕ) (a : Advanced) : Type 0 where
   pub on : answerMeaning (a .answer) ≡ model.taken → a .run ≡ moved (bit x) e r
   -- refused: the run as given
   pub as-given : (n p : ℕ) → answerMeaning (a .answer) ≡ model.refused n p → a .run ≡ r
-  -- what a taken advance hands back passes 14 again
+  -- the run after a taken advance passes 14 again
   pub passes : answerMeaning (a .answer) ≡ model.taken → ¬ RunOut (a .run)
-  -- places past the count come back as given
+  -- places past the count are as given
   pub past : drop (r .count) (a .run .tasks) ≡ drop (r .count) (r .tasks)

@@ -1,5 +1,5 @@
--- Who is given cores in a tick and who borrows some (request 109), from the sets of the places that claim and that are Working: ws are the widths of the
--- places below the count, F the cores that the rule gives from.
+-- The places that are given cores in a tick and those that borrow some (request 109), from the sets of the places that claim and that are Working: ws are the
+-- widths of the places below the count, F the cores that the rule gives from.
 use mathlib.Core.Path.{_≡_}
 use mathlib.Core.Bool.{Bool, _&&_, not, cond}
 use mathlib.Core.List.{List, [], map}
@@ -28,7 +28,7 @@ lentTo r ws claiming working F count =
     lent ws (λ p. bit working p && not (isGiven r ws claiming F p))
     (λ p. cond (lends r && (bit claiming p && not (bit working p))) (getD (givenTo r ws claiming F) p []) []) count
 
--- the sets of those that are given cores and of those that borrow some; and of each place the set of cores that the row shows, none past the count
+-- the sets of the places that are given cores and of those that borrow some; and of each place the set of cores that the row shows, none past the count
 pub record AllocationOf (r : Rule) (ws : List ℕ) (claiming working : ℕ) (F : List ℕ) (count : ℕ) (s : Allocation) : Type 0 where
   pub given : (p : ℕ) → bit (s .given) p ≡ isGiven r ws claiming F p
   pub lent : (p : ℕ) → bit (s .lent) p ≡ some (getD (lentTo r ws claiming working F count) p [])

@@ -18,9 +18,9 @@ use Rattle.phase.specs.Phase.{PhaseIn, working, lateIn, released}
 use Rattle.phase.specs.Task.{outIn}
 use Rattle.run.specs.Run.{ruleIn, placeAt, runTaskAt, evenAt, phaseAt, runTable, seenAt, grantsIn, hasCores, borrowedIn, hasLent}
 
--- WHAT EACH NUMBER SAYS
+-- THE CONDITION OF EACH NUMBER
 
--- what a width is measured against: the number of unfenced cores
+-- the largest width that fits: the number of unfenced cores
 abbrev pub wideIn : Run → ℕ
 wideIn r = unfencedCount (r .fence) (r .cores)
 
@@ -28,7 +28,7 @@ wideIn r = unfencedCount (r .fence) (r .cores)
 abbrev pub PlaceOut : Run → ℕ → Type 0
 PlaceOut r p = (WidthOut (wideIn r) (runTaskAt r p) ⊎ TimesOut (runTaskAt r p)) ⊎ (¬ PhaseIn (ruleIn r) (runTaskAt r p) (evenAt r p) (phaseAt r p))
 
--- a set names a place at or past the count
+-- a set contains a place at or past the count
 abbrev pub PastCount : ℕ → ℕ → Type 0
 PastCount count x = (p : ℕ) × ((bit x p ≡ true) × (count ≤ p))
 
@@ -47,15 +47,15 @@ RunOut r =
 abbrev pub PlaceLate : Run → ℕ → Type 0
 PlaceLate r p = (had reserved : ℕ) × (phaseAt r p ≡ Working (runTaskAt r p .deadline) had reserved)
 
--- the bit of place p is set in the empties, which is past the count, or whose task is not Working at (0,0)
+-- the bit of place p is set in the empties, and p is past the count or its task is not Working at (0,0)
 abbrev pub Misempties : Run → ℕ → ℕ → Type 0
 Misempties r e p = (bit e p ≡ true) × ((r .count ≤ p) ⊎ (¬ ((reserved : ℕ) × (phaseAt r p ≡ Working 0 0 reserved))))
 
--- the task at place p is Working as cores are chosen: one whose job is empty no longer is
+-- the task at place p is Working as cores are chosen: a task whose job is empty is not
 abbrev pub PlaceWorking : Run → ℕ → ℕ → Type 0
 PlaceWorking r e p = (z had reserved : ℕ) × (seenAt r e p ≡ Working z had reserved)
 
--- the bit of place p is set in the reports, which is past the count, or its task isn't Working, or is neither given cores in this tick nor borrows any
+-- the bit of place p is set in the reports, and p is past the count, or its task isn't Working, or is neither given cores in this tick nor borrows any
 abbrev pub Misreports : Run → ℕ → ℕ → ℕ → Type 0
 Misreports r e x p =
     (bit x p ≡ true) × ((r .count ≤ p) ⊎ ((¬ PlaceWorking r e p) ⊎ ((getD (grantsIn r e) p [] ≡ []) × (borrowedIn r e p ≡ []))))
@@ -77,7 +77,7 @@ pub data AdvanceApplies (r : Run) (x e : ℕ) : ℕ → ℕ → Type 0 where
   -- 16. Advance: a bit is set for a position past the count, or for a task that isn't Working or gets no cores in this tick, its own or lent ones.
   sixteen : (p : ℕ) → Misreports r e x p → AdvanceApplies r x e 16 0
 
--- number n applies to a withdrawal from the run, with position p; `stranger` says that it names a position that is none of the run's
+-- number n applies to a withdrawal from the run, with position p; `stranger` is the statement that one of its positions is not in the run
 pub data WithdrawApplies (r : Run) (stranger : Type 0) : ℕ → ℕ → Type 0 where
   -- 14, as of row, sets and advance
   not-a-run : RunOut r → WithdrawApplies r stranger 14 0
@@ -92,7 +92,7 @@ NoSuchPosition r p = (p ≡ 0) ⊎ (r .count < p)
 
 -- THE TESTS THAT DECIDE THEM
 
--- a set names a place at or past the count: as a number it is no less than that place's digit (`past-decides`)
+-- a set contains a place at or past the count: as a number it is no less than that place's digit (`past-decides`)
 unfoldable pub pastCount : ℕ → ℕ → Bool
 pastCount count x = leb (2 ^ count) x
 

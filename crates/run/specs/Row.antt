@@ -1,5 +1,5 @@
--- The row of a run (scope, 'The run in the cab', and request 105): it shows the present tick with a set of empty jobs, held cores with the holder's
--- position, lent ones with the borrower's (request 109), fenced ones with 255.
+-- The row of a run (scope: row; the field: the schedule at a tick, an allocation; request 105): it shows the present tick with a set of empty jobs, held cores
+-- with the holder's position, lent ones with the borrower's (request 109), fenced ones with 255.
 use mathlib.Core.Path.{_≡_}
 use mathlib.Core.Logic.{_↔_}
 use mathlib.Core.Bool.{cond}
@@ -38,7 +38,7 @@ noBytes = replicate mostCores 0
 unfoldable pub rowOf : Run → ℕ → Row
 rowOf r e = record { answer = rowAnswer r e; bytes = byAnswer (rowAnswer r e) (bytesIn r e) noBytes }
 
--- what a row asked of run r with empties e promises
+-- what a row asked of run r with empties e guarantees
 pub record RowOf (r : Run) (e : ℕ) (w : Row) : Type 0 where
   -- its value
   pub value : w ≡ rowOf r e

@@ -21,7 +21,7 @@ use Rattle.phase.specs.Task.{taskOf, pastEnd, widthNow, nextTask}
 abbrev pub ruleIn : Run → model.Rule
 ruleIn r = model.ruleOf (r .rule)
 
--- what stands at place p: a task, whether its job is an even one (request 108), and its phase
+-- the task at place p, with the parity of its job (request 108) and its phase
 abbrev pub placeAt : Run → ℕ → Task
 placeAt r p = getD (r .tasks) p pastEnd
 
@@ -38,7 +38,7 @@ phaseAt r p = placeAt r p .phase
 abbrev pub widthsNow : Run → List ℕ
 widthsNow r = map widthNow (take (r .count) (r .tasks))
 
--- the tasks below the count as a table has them, and the table that the run is of
+-- the tasks below the count as a table has them, and the table of the run
 abbrev pub tasksIn : Run → List model.Task
 tasksIn r = map taskOf (take (r .count) (r .tasks))
 
@@ -47,7 +47,7 @@ runTable r = record { tasks = tasksIn r; cores = r .cores; fence = r .fence; rul
 
 -- EMPTY JOBS: sets have bit 0 for position 1
 
--- the job of place p, if it is released in this very tick, is empty: its bit is set, or its position is withdrawn
+-- the job of place p, if released in this tick, is empty: its bit is set, or its position is withdrawn
 abbrev pub emptyAt : Run → ℕ → ℕ → Bool
 emptyAt r e p = bit e p || bit (r .withdrawn) p
 
@@ -85,23 +85,23 @@ borrowedIn r e p = getD (lentIn r e) p []
 abbrev pub hasLent : Run → ℕ → ℕ → Bool
 hasLent r e p = some (borrowedIn r e p)
 
--- the cores of each place as the row shows them: those that it borrows, or of its own those that nobody does
+-- the cores of each place as the row shows them: those that it borrows, or its own cores that no place borrows
 abbrev pub shownIn : Run → ℕ → List (List ℕ)
 shownIn r e = shownCores (grantsIn r e) (lentIn r e)
 
 -- ONE TICK
 
--- f of its place applied to each of the first n tasks
+-- the list with f applied to each of its first n tasks and their places
 unfoldable pub mapFirst : (ℕ → Task → Task) → ℕ → List Task → List Task
 mapFirst f zero ts = ts
 mapFirst f (suc n) [] = []
 mapFirst f (suc n) (t ∷ ts) = f 0 t ∷ mapFirst (λ p. f (suc p)) n ts
 
--- what a tick makes of the task at place p
+-- the task at place p one tick on
 abbrev pub nextAt : Run → (ℕ → Bool) → ℕ → ℕ → Task → Task
 nextAt r reported e p t = nextTask (ruleIn r) (emptyAt r e p) (hasCores r e p) (hasLent r e p) (reported p) t
 
--- the run one tick on, by who is reported and the set of empty jobs: each task below the count moves, the places past it stay, and so does the
+-- the run one tick on, by the reports and the set of empty jobs: each task below the count changes, the places past it stay, and so does the
 -- withdrawn set
 unfoldable pub moved : (ℕ → Bool) → ℕ → Run → Run
 moved reported e r = record {
@@ -115,11 +115,11 @@ moved reported e r = record {
 
 -- WITHDRAWALS
 
--- the run's rule and widths are firm: the test that the verdict asks of a table
+-- the run's rule and widths are firm: the verdict's test of a table
 abbrev pub firmIn : Run → Bool
 firmIn r = firm (ruleIn r) (tasksIn r)
 
--- the run with the positions of a set withdrawn: only the set moves, and every phase stays
+-- the run with the positions of a set withdrawn: only the withdrawn set changes, and every phase stays
 unfoldable pub withdrawnIn : ℕ → Run → Run
 withdrawnIn x r = record {
   rule = r .rule;

@@ -22,7 +22,7 @@ use Rattle.phase.specs.Task.{startTask, unused}
 use Rattle.run.specs.Answer.{answerMeaning, byAnswer}
 use Rattle.run.specs.Numbers.{RunOut}
 
--- a table, whose rule has number n, as it starts, nobody withdrawn; places past the count hold zeros and Resting(0)
+-- the run of a table, whose rule has number n, as it starts, with no position withdrawn; places past the count hold zeros and Resting(0)
 unfoldable pub startedRun : ℕ → model.Table → Run
 startedRun n s = record {
   rule = n;
@@ -44,7 +44,7 @@ pub data StartApplies (ws : List ℕ) : ℕ → ℕ → Type 0 where
   -- 13. Start: the verdict is Miss.
   thirteen : (t p : ℕ) → verdictMeaning (verdictOf ws) ≡ judged (verdict.Miss t p) → StartApplies ws 13 0
 
--- by the judge's verdict: Firm and Full are taken, Miss is 13, and 1 to 9 and 19 turn down as they do there
+-- by the judge's verdict: Firm and Full are taken, Miss is 13, and the refusals 1 to 9 and 19 are the same
 abbrev pub byVerdict : Verdict → Answer
 byVerdict (judge.Firm a b) = Taken
 byVerdict (judge.Full a b) = Taken
@@ -59,7 +59,7 @@ startAnswer ws = byVerdict (verdictOf ws)
 unfoldable pub startOf : List ℕ → Started
 startOf ws = record { answer = startAnswer ws; run = byAnswer (startAnswer ws) (startedRun (rule ws) (tableOf ws)) emptyRun }
 
--- what a start from the words promises
+-- what a start from the words guarantees
 pub record StartOf (ws : List ℕ) (s : Started) : Type 0 where
   -- its value
   pub value : s ≡ startOf ws
@@ -70,6 +70,6 @@ pub record StartOf (ws : List ℕ) (s : Started) : Type 0 where
   pub started : answerMeaning (s .answer) ≡ book.taken → s .run ≡ startedRun (rule ws) (tableOf ws)
   -- refused: all zeros
   pub zeros : (n p : ℕ) → answerMeaning (s .answer) ≡ book.refused n p → s .run ≡ emptyRun
-  -- 14 passes the one, and turns the other down
+  -- a run that starts passes 14; the run of all zeros does not
   pub passes : answerMeaning (s .answer) ≡ book.taken → ¬ RunOut (s .run)
   pub out : (n p : ℕ) → answerMeaning (s .answer) ≡ book.refused n p → RunOut (s .run)

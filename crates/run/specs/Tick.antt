@@ -1,5 +1,5 @@
--- What is known of the present tick of a run with the empty jobs e: row's answer and the sets of cores; and where it is taken, who is given cores, who
--- borrows some and who is Working.
+-- The present tick of a run with the empty jobs e: the answer to a row and the sets of cores; and where it is taken, the places that are given cores, that
+-- borrow some and that are Working.
 use mathlib.Core.Path.{_≡_}
 use mathlib.Core.Bool.{_&&_}
 use Prim.Native.Nat.{ℕ}

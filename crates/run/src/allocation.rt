@@ -1,4 +1,4 @@
-// The cores of a tick: who is given some, who borrows some, and which the row shows of each position.
+// The cores of a tick: the positions that are given some, those that borrow some, and the cores that the row shows of each.
 ghost use mathlib.Core.Path.{_≡_};
 ghost use Prim.Native.Nat.{_≤_};
 ghost use lib.ListN.{take};
@@ -9,7 +9,7 @@ ghost use Rattle.rule.specs.Widths.{widthsIn};
 ghost use Rattle.run.specs.Allocation.{AllocationOf};
 use model::MOST_TASKS;
 
-// Rule 4: who has ended lends the cores that are reserved for it.
+// Rule 4: a job that has ended lends the cores that are reserved for it.
 const LENDING: u32 = 4;
 
 // The set of the positions that are given cores in a tick, and of those that borrow some, bit 0 for position 1; and of each position the set of cores

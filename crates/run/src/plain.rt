@@ -8,7 +8,7 @@ use crate::Run;
 use model::MOST_TASKS;
 
 impl Run {
-    // The tasks below the count, their phases left aside.
+    // The tasks below the count, without their phases.
     pub fn plain(self) -> [table::Task; MOST_TASKS]
         requires { ⌜ self .count ≤ mostTasks ⌝ }
         ensures { λ r. ⌜ tasksOf r (self .count) ≡ tasksIn self ⌝ }

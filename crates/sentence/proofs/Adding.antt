@@ -1,4 +1,4 @@
--- The counts of 32 places, one more for each place of a set: place after place as the set is walked, and what stands at a place.
+-- The counts of 32 places, one more for each place of a set: place after place as the set is walked, and the value at a place.
 use mathlib.Core.Path.{_≡_, refl, sym, ap, _∙_}
 use mathlib.Core.Bool.{Bool, true, false, not, _&&_, cond, and-true}
 use mathlib.Core.List.{List, _++_}
@@ -46,7 +46,7 @@ counted-all granted rest ran z =
     each-same (λ q n. cond (taken granted rest q) (n + 1) n) (λ q n. cond (bit granted q) (n + 1) n) ran
     (λ q. ap (λ (b : Bool). cond b (getD ran q 0 + 1) (getD ran q 0)) (ap (λ (b : Bool). bit granted q && not b) (ap (λ (x : ℕ). bit x q) z ∙ bit-none q) ∙ and-true (bit granted q)))
 
--- what stands at a place
+-- the value at a place
 pub added-at : (granted : ℕ) (ran : List ℕ) (q : ℕ) → q < length ran → getD (added granted ran) q 0 ≡ cond (bit granted q) (getD ran q 0 + 1) (getD ran q 0)
 added-at granted ran q l = each-at (λ q n. cond (bit granted q) (n + 1) n) ran q l
 

@@ -33,7 +33,7 @@ use Rattle.sentence.specs.SentenceAnswer.{byBuffer, byTable, sentenceAns
 use Rattle.sentence.specs.declared.SentenceAnswer.{SentenceAnswer}
 use Rattle.sentence.specs.declared.SentenceAnswer.the-variants.{Length, Refused}
 
--- WHAT THE SEARCH SAYS OF THE TABLE
+-- THE RESULT OF THE SEARCH IN THE TABLE
 
 module _ (s : Table) (ok : AllValid s) where
   -- where it finds nothing no deadline is ever missed

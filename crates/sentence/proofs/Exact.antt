@@ -1,4 +1,4 @@
--- Reading back is exact both ways: facts are found of a text exactly if they are Sayable and it is their sentence,
+-- Parsing is exact both ways: facts are found of a text exactly if they are expressible and it is their sentence,
 -- since the numbers in a sentence are its facts.
 use mathlib.Core.Bool.{Bool, true, false, _&&_, cond, false≢true}
 use mathlib.Core.List.{List, [], _∷_}
@@ -71,7 +71,7 @@ same-exact (b ∷ bs) (c ∷ cs) = (
   λ e. and-both (eqb b c) (same bs cs) (eq-eqb b c (cc)) (same-exact bs cs .1 (cc)),
 )
 
--- a text is read back to f exactly if f is Sayable and the text is f's sentence
+-- a text is read back to f exactly if f is expressible and the text is f's sentence
 pub read-back : (bs : List ℕ) (f : Facts) → (parsed bs ≡ facts f) ↔ (Expressible f × (bs ≡ sentenceText f))
 unfolding parsed
 read-back bs f = (to (expressible (candidate bs) && same (sentenceText (candidate bs)) bs) refl, from)
@@ -92,11 +92,11 @@ read-back bs f = (to (expressible (candidate bs) && same (sentenceText (candidat
         whole .1 (subst Expressible (sym g) (h .0), ap sentenceText g ∙ sym (h .1)) in
         rw t (ap facts g)
 
--- .. so the sentence of Sayable facts is read back to them
+-- .. so the sentence of expressible facts is read back to them
 pub sentence-back : (f : Facts) → Expressible f → parsed (sentenceText f) ≡ facts f
 sentence-back f h = read-back (sentenceText f) f .1 (h, refl)
 
--- nothing is found exactly if it is the sentence of no Sayable facts
+-- nothing is found exactly if it is the sentence of no expressible facts
 pub none-exact : (bs : List ℕ) → (parsed bs ≡ none) ↔ ((f : Facts) → Expressible f → ¬ (bs ≡ sentenceText f))
 none-exact bs = (λ e f h q. different f (sym (read-back bs f .1 (h, q)) ∙ e), λ h. go (parsed bs) refl h)
   where

@@ -1,4 +1,4 @@
--- Sentences, and texts with what they are read back to, computed from the definitions.
+-- Sentences, and texts with what they are parsed to, computed from the definitions.
 use mathlib.Core.List.{List, [], _∷_, map}
 use mathlib.Core.Path.{_≡_, refl}
 use Prim.Native.Nat.{ℕ}
@@ -64,7 +64,7 @@ cases =
     ∷ case "" none
     ∷ []
 
--- what the definitions say of a text; a case is named by its text
+-- the value by the definitions of a text; a case is named by its text
 abbrev read : Case → Case
 read c = case (c .text) (parsed (letters (c .text)))
 
@@ -78,7 +78,7 @@ each-case =
 pub read-cases : map (λ c. case (c .text) (parsed (letters (c .text)))) cases ≡ cases
 read-cases = by-line read cases cases each-case
 
--- what is said of facts, also of such as are not read back
+-- the sentence of facts, also of some that are not parsed back
 pub record SentenceExample : Type 0 where
   pub of : Facts
   pub text : String
@@ -90,7 +90,7 @@ sentenceExamples =
     ∷ record { of = miss 0 0 0 0 (ran 9 0 ∷ ran 9 0 ∷ []); text = "task 0 misses at tick 0 with 0 of 0 ticks; task 9 ran 0; task 9 ran 0." }
     ∷ []
 
--- what is said, and what is to be
+-- the sentence, and the expected one
 abbrev sentenceExample : SentenceExample → List ℕ
 sentenceExample s = sentenceText (s .of)
 

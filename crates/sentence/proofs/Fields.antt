@@ -1,4 +1,4 @@
--- A word and a number after it: found where they stand, and nothing else can stand there.
+-- A word and a number after it: found where they are, and nothing else can be there.
 use mathlib.Core.Bool.{true, false, false≢true}
 use mathlib.Core.List.{List, _++_}
 use mathlib.Core.Path.{_≡_, ap, sym, subst, _∙_}
@@ -42,7 +42,7 @@ module _ (bs word : List ℕ) (before r : Field) where
         none = λ q g n rest l s e. m .none q n rest l s (sym d ∙ ap (drop (length word)) e ∙ drop-append-seam word (decimal n ++ rest));
       }
 
-  -- what stands there is found
+  -- what is there is found
   pub field-found : FieldOf bs word before r → before .found ≡ true → (n : ℕ) (rest : List ℕ) → n < limit → Stops rest → drop (before .next) bs ≡ wordField word n rest →
       (r .found ≡ true) × (r .value ≡ n) × (drop (r .next) bs ≡ rest)
   field-found o f n rest l s e =

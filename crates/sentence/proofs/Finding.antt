@@ -13,7 +13,7 @@ use Rattle.sentence.specs.declared.reader.Parts.{Parts}
 use Rattle.sentence.proofs.Numbers.{sentence-injective}
 use Rattle.sentence.proofs.Exact.{read-back, none-exact}
 
--- facts that may be said and whose sentence the text is
+-- expressible facts whose sentence the text is
 pub facts-found : (bs : List ℕ) (r : ParsedFacts) → r .found ≡ true → Expressible (factsBy (r .facts)) × (bs ≡ sentenceText (factsBy (r .facts))) → FactsOf bs r
 facts-found bs r e h = record {
   value = ap (λ (b : Bool). parsedBy b (factsBy (r .facts))) e ∙ sym (read-back bs (factsBy (r .facts)) .1 h);

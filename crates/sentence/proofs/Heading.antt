@@ -1,4 +1,4 @@
--- The head of a sentence: four fields and a word, each found where it stands.
+-- The head of a sentence: four fields and a word, each found where it is.
 use mathlib.Core.Bool.{Bool, true, false, _&&_, false≢true}
 use mathlib.Core.List.{List, _++_}
 use mathlib.Core.Path.{_≡_, refl, ap, sym, subst, _∙_}
@@ -33,7 +33,7 @@ late position had all = leb 1 position && (leb position 32 && ltb had all)
 module _ (bs : List ℕ) (p t h l : Field)
     (first : FieldOf bs (letters "task ") (place 0) p) (second : FieldOf bs (letters " misses at tick ") p t)
     (third : FieldOf bs (letters " with ") t h) (fourth : FieldOf bs (letters " of ") h l) where
-  -- of a sentence of Sayable facts each field is found
+  -- of a sentence of expressible facts each field is found
   fields-found : (f : Facts) → Expressible f → bs ≡ sentenceText f →
       (l .found ≡ true) × (p .value ≡ f .position) × (h .value ≡ f .had) × (l .value ≡ f .length) × (drop (l .next) bs ≡ letters " ticks" ++ parts (f .others) (letters "."))
   unfolding sentenceText sentenceHead
@@ -50,7 +50,7 @@ module _ (bs : List ℕ) (p t h l : Field)
   pub head-none : (r : Head) → r ≡ noHead → l .found ≡ false → HeadOf bs r
   head-none r e q = no-head bs r e (λ f s d. false≢true (sym q ∙ fields-found f s d .0))
 
-  -- the numbers may not be said
+  -- the numbers are not expressible
   pub head-wrong : (r : Head) → r ≡ noHead → late (p .value) (h .value) (l .value) ≡ false → HeadOf bs r
   head-wrong r e q =
       no-head bs r e

@@ -1,4 +1,4 @@
--- The proofs of the sentence: reading back is exact, counting finds the facts of the miss, no sentence is longer than said; and computed examples.
+-- The proofs of the sentence: parsing is exact, counting finds the facts of the miss, no sentence is longer than its limit; and computed examples.
 pub mod Numbers
 pub mod Exact
 pub mod Reading

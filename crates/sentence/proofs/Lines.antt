@@ -1,5 +1,5 @@
--- Sentences of tables computed from the definitions: A2 and F, what counts as waiting and who is named, rules 3 and 4, tasks with two widths, and 17 and 18
--- from both sides; one list, one check.
+-- Sentences of tables computed from the definitions: A2 and F, what counts as waiting and which tasks have a part, rules 3 and 4, tasks with two widths, and 17
+-- and 18 from both sides; one list, one check.
 use mathlib.Core.Path.{_≡_, refl}
 use mathlib.Core.List.{List, [], _∷_, map}
 use Prim.Native.Nat.{ℕ, zero, suc}
@@ -31,7 +31,7 @@ line s ws n a x = record { name = s; words = ws; bytes = n; says = a; text = x }
 abbrev misses : String → List ℕ → ℕ → String → Line
 misses s ws n x = line s ws 100 (ofLength n) x
 
--- what is answered, and what then stands at the front of the buffer
+-- what is answered, and what then is at the front of the buffer
 pub record Outcome : Type 0 where
   pub says : SentenceOutcome
   pub bytes : List ℕ
@@ -60,7 +60,7 @@ sentenceF = "task 1 misses at tick 1 with 1 of 2 ticks."
 abbrev sentenceA2 : String
 sentenceA2 = "task 3 misses at tick 5 with 3 of 4 ticks; task 1 ran 2."
 
--- a text and what stands behind it
+-- a text and what is after it
 abbrev joined : String → String → String
 joined String.[] s = s
 joined (String._∷_ c r) s = String._∷_ c (joined r s)

@@ -1,4 +1,4 @@
--- The facts of every first miss may be said, and their sentence is short: the late job had fewer than C ticks, and the ticks that it had and its waiting
+-- The facts of every first miss are expressible, and their sentence is short: the late job had fewer than C ticks, and the ticks that it had and its waiting
 -- ticks are together at most D.
 use mathlib.Core.Path.{_≡_, refl, sym, ap, _∙_, subst}
 use mathlib.Core.Bool.{Bool, true, false, not, _&&_, cond, and-false}
@@ -117,7 +117,7 @@ module _ (s : Table) (ok : AllValid s) (t p : ℕ) (f : FirstMiss s t (suc p)) w
   few-ticks q = tally-most t (ranIn s t p q)
 
   module _ (few : length (s .tasks) ≤ 32) where
-    -- THE LAW: the facts of the first miss may be said
+    -- THE LAW: the facts of the first miss are expressible
     pub miss-expressible : t < limit → task s p .length < limit → Expressible (factsAt s t p)
     miss-expressible lt lc = record {
       first = omega arith;

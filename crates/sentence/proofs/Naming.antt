@@ -1,4 +1,4 @@
--- The parts that an array of counts names: they rise by themselves, and a count set after the last one names a part at the end.
+-- The parts of an array of counts: they rise by themselves, and a count set after the last one adds a part at the end.
 use mathlib.Core.Bool.{Bool, true, false, cond}
 use mathlib.Core.List.{List, [], _∷_, _++_}
 use mathlib.Core.Path.{_≡_, refl, ap, ap₂, sym, _∙_}
@@ -26,13 +26,13 @@ unfolding namedFrom
 named-zeros i [] h = refl
 named-zeros i (n ∷ ns) h = let e : n ≡ 0 = h 0 in rw e (named-zeros (suc i) ns (λ k. h (suc k)))
 
--- .. also behind other counts
+-- .. also after other counts
 pub named-behind : (i : ℕ) (ns zs : List ℕ) → ((k : ℕ) → getD zs k 0 ≡ 0) → namedFrom i (ns ++ zs) ≡ namedFrom i ns
 unfolding namedFrom
 named-behind i [] zs h = named-zeros i zs h
 named-behind i (n ∷ ns) zs h = rw (named-behind (suc i) ns zs h)
 
--- where each count and what was had are together at most so many, so they are in each part
+-- where each count and what was had are together at most `most`, so they are in each part
 pub named-together : (i had most : ℕ) (ns : List ℕ) → ((k : ℕ) → had + getD ns k 0 ≤ most) → CountsWithin had most (namedFrom i ns)
 unfolding namedFrom CountsWithin
 named-together i had most [] h = tt
@@ -136,7 +136,7 @@ named-injective i (x ∷ xs) (y ∷ ys) l e = go (eqb x 0) refl (eqb y 0) refl (
     go false p true q ih h = let z = first-later (suc i) ys (record { position = suc i; count = x }) (namedFrom (suc i) xs) (sym h) in absurd (omega arith)
     go false p false q ih h = ap₂ (λ (z : ℕ) (zs : List ℕ). z ∷ zs) (ap firstCount h) (ih (ap laterParts h))
 
--- two structs of 32 counts that tell the same facts are the same
+-- two structs of 32 counts with the same facts are the same
 pub meaning-injective : (f g : code.Facts) → length (f .ran) ≡ length (g .ran) → factsBy f ≡ factsBy g → f ≡ g
 meaning-injective f g l e =
     let p : f .position ≡ g .position = ap (λ (x : Facts). x .position) e in

@@ -25,7 +25,7 @@ digits-on run (d ∷ ds) rest e =
     rw (and-left (isDigit d) (all isDigit ds) e)
     (digits-on (run ++ (d ∷ [])) ds rest (and-right (isDigit d) (all isDigit ds) e) ∙ ap (λ (r : List ℕ). numbersFrom r rest) (append-snoc run d ds))
 
--- a run of digits says its number
+-- a run of digits represents its number
 closed-some : (ds ns : List ℕ) → 1 ≤ length ds → numberBefore ds ns ≡ value ds ∷ ns
 closed-some [] ns h = absurd (omega arith)
 closed-some (d ∷ ds) ns h = refl
@@ -48,7 +48,7 @@ number-only m n x y p q e =
     ap (λ (ns : List ℕ). getD ns 0 0) (sym (number-first m x p) ∙ ap (numbersFrom []) e ∙ number-first n y q) in
     (one, sym (drop-append-seam (decimal m) x) ∙ ap (drop (length (decimal m))) e ∙ ap (λ (k : ℕ). drop (length (decimal k)) (decimal n ++ y)) one ∙ drop-append-seam (decimal n) y)
 
--- after a number stands a part or the full stop
+-- after a number is a part or the full stop
 pub parts-stop : (ps : List Part) → Stops (parts ps (letters "."))
 unfolding parts
 parts-stop [] = refl

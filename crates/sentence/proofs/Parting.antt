@@ -1,4 +1,4 @@
--- Reading the parts one by one: those read so far are what the counts so far name,
+-- Reading the parts one by one: those read so far are those of the counts so far,
 -- and parts that rise from the start are, from here on, parts that rise after the last task read.
 use mathlib.Core.Bool.{Bool, true, false, _&&_, false≢true}
 use mathlib.Core.List.{List, [], _∷_, _++_}
@@ -69,7 +69,7 @@ passed last position task count t =
 module _ (bs : List ℕ) (from position : ℕ) (ran : List ℕ) (last at : ℕ) (task count : Field)
     (read : Read bs from position ran last at) (small : position ≤ 32)
     (first : FieldOf bs (letters "; task ") (place at) task) (second : FieldOf bs (letters " ran ") task count) where
-  -- a part that stands here is found
+  -- a part that is here is found
   part-found : (p : Part) (qs : List Part) → MayFollow last position p → drop at bs ≡ parts (p ∷ qs) (letters ".") →
       (count .found ≡ true) × (task .value ≡ p .position) × (count .value ≡ p .count) × (drop (count .next) bs ≡ parts qs (letters "."))
   unfolding parts
@@ -78,7 +78,7 @@ module _ (bs : List ℕ) (from position : ℕ) (ran : List ℕ) (last at : ℕ) 
       let y = field-found bs (letters " ran ") task count second (x .0) (p .count) (parts qs (letters ".")) (f .fits) (parts-stop qs) (x .2) in
       (y .0, x .1, y .1, y .2)
 
-  -- the part that was found stands here
+  -- the part that was found is here
   pub here : count .found ≡ true → (at < count .next) × (count .next ≤ length bs) × (count .value < limit) × (task .value < limit)
       × (drop at bs ≡ wordField (letters "; task ") (task .value) (wordField (letters " ran ") (count .value) (drop (count .next) bs)))
   here f =
@@ -147,7 +147,7 @@ module _ (bs : List ℕ) (from position : ℕ) (ran : List ℕ) (last at : ℕ) 
           let v = getD-set-other ran (task .value - 1) k (count .value) 0 (eqb-false k (task .value - 1) e) in
           omega (arith, read .fits k)
 
-  -- it may not stand here
+  -- it may not be here
   pub read-wrong : count .found ≡ true → tests last position (task .value) (count .value) ≡ false → PartsOf bs from position (record { found = false; ran = ran })
   read-wrong f t = record {
     there = λ q. absurd (false≢true q);

@@ -1,4 +1,4 @@
--- What is promised of `sentence` follows from the exactness of its numbers and from what is done with a table that passed.
+-- The contract of `sentence` follows from the exactness of its numbers and from what is done with a table that passed.
 use native.Mathlib.Omega.{arith}
 use mathlib.Core.Path.{_≡_, refl, sym, ap, _∙_, subst}
 use mathlib.Core.Bool.{Bool, true, false}
@@ -37,7 +37,7 @@ use Rattle.sentence.proofs.Misses.{miss-expressible}
 use Rattle.sentence.proofs.Short.{sentence-longest}
 use Rattle.sentence.proofs.Answers.{never, first-found, first-within, refused-exact, length-exact}
 
--- what is told of an answer determines it
+-- the meaning of an answer determines it
 meaning-length : (v : SentenceAnswer) (n : ℕ) → sentenceMeaning v ≡ ofLength n → v ≡ Length n
 meaning-length (Length m) n e = cc
 meaning-length (Refused m q) n e = absurd (let z : _≡_ {A = ℕ} 0 1 = cc in omega arith)
@@ -46,7 +46,7 @@ meaning-refused : (v : SentenceAnswer) (n p : ℕ) → sentenceMeaning v ≡ ref
 meaning-refused (Length m) n p e = absurd (let z : _≡_ {A = ℕ} 0 1 = cc in omega arith)
 meaning-refused (Refused m q) n p e = cc
 
--- a text at the front of a buffer: behind it the bytes as found
+-- a text at the front of a buffer: after it the bytes as found
 front-behind : (w old : List ℕ) (i : ℕ) → length w ≤ i → getD (front w old) i 0 ≡ getD old i 0
 front-behind w old i l =
     let e : i ≡ length w + (i - length w) = omega arith in
@@ -57,7 +57,7 @@ front-size : (w old : List ℕ) → length w ≤ length old → length (front w 
 front-size w old l = omega (arith, length-append w (drop (length w) old), length-drop (length w) old)
 
 module _ (ws : List ℕ) where
-  -- the facts of a table that misses may be said
+  -- the facts of a table that misses are expressible
   facts-expressible : table.NoneApplies ws → any (suc (horizon (tableOf ws))) (missedIn (tableOf ws)) ≡ true → Expressible (factsOf ws)
   unfolding factsIn
   facts-expressible none e =
@@ -72,7 +72,7 @@ module _ (ws old new : List ℕ) where
   abbrev text : List ℕ
   text = sentenceText (factsOf ws)
 
-  -- where no number applies the sentence may be said, and has room
+  -- where no number applies the facts are expressible, and the sentence has space
   expressible-here : NoneApplies ws (length old) → Expressible (factsOf ws)
   expressible-here none =
       facts-expressible ws passed (not-false-true (any (suc (horizon (tableOf ws))) (missedIn (tableOf ws))) (λ e. none 17 0 (seventeen (never (tableOf ws) (passed-valid ws passed) e))))

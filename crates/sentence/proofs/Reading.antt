@@ -150,7 +150,7 @@ number-plain bs rest n h e = go (eqb (getD bs 0 0) 48) refl
         let o = count-one n (omega arith) in
         not-below (digitsOf bs) (omega arith)
 
--- the first digits say no more than all
+-- the first digits represent no more than all
 value-first : (xs ys : List ℕ) → value xs ≤ value (xs ++ ys)
 unfolding value
 value-first [] ys = omega arith

@@ -1,4 +1,5 @@
--- What is done with the facts of a miss: the sentence is written aside, measured, and copied to the front of the buffer; and which facts the search finds.
+-- What is done with the facts of a miss: the sentence is written into a buffer of its own, measured, and copied to the front of the caller's; and which
+-- facts the search finds.
 use mathlib.Core.Path.{_≡_, refl, sym, ap, _∙_, subst}
 use mathlib.Core.Bool.{Bool, true, false, cond}
 use mathlib.Core.List.{List, _++_}

@@ -1,4 +1,4 @@
--- The counting pass over the machine: a run that stands as the table's full-length run does, with the waiting ticks counted so far, and what is left of
+-- The counting pass over the machine: a run that represents the table's full-length run, with the waiting ticks counted so far, and what is left of
 -- the late job at the end.
 use mathlib.Core.Path.{_≡_, refl, sym, ap, _∙_, subst, subst₂}
 use mathlib.Core.Bool.{Bool, true, false, not}
@@ -80,7 +80,7 @@ module _ (t : Loaded) (fit : Fit t) (tick place : ℕ) (f : FirstMiss (loadedTab
       tick-next : y .tick ≡ suc (x .tick)
       tick-next = tick-on (loadedNumbers t) x y e ∙ omega arith
 
-      -- who is granted cores is in the row of the book
+      -- a place that is granted cores is in the row of the book
       pub granted-row : (q : ℕ) → bit (y .granted) q ≡ inRow s (bookAt s (x .tick)) q
       granted-row q =
           chosen-row t fit (afterEvents (loadedNumbers t) x) (evenAtTick (loadedNumbers t) x) (nextEventAfter (loadedNumbers t) x) (x .tick) (looked t fit x (c .follows) met-here)

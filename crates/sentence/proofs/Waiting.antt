@@ -60,7 +60,7 @@ module _ (s : Table) (ok : AllValid s) (t p : ℕ) (f : FirstMiss s t (suc p)) w
   pub had-full : hadBy s t p ≡ full s t .job p job .had
   had-full = ap (λ (b : Book). b .job p (lateJob s t p) .had) (same-book t (omega arith)) ∙ ap (λ (k : ℕ). full s t .job p k .had) late-job
 
--- WHO RUNS: at full length nobody lends, so that who is given cores is just who the row shows, under rule 4 too
+-- THE TASKS THAT RUN: at full length no place lends, so that the places that are given cores are exactly those that the row shows, under rule 4 too
 pub shown-runs : (s : Table) (u q : ℕ) → some (getD (shownOf s (bookAt s u)) q []) ≡ inRow s (bookAt s u) q
 shown-runs s u q =
     ap (λ (b : Book). some (getD (shownOf s b) q [])) (empty-full s u)

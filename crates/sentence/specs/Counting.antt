@@ -1,4 +1,4 @@
--- What the counting in code does with the counts of 32 places.
+-- The effect of the counting in code on the counts of 32 places.
 use mathlib.Core.Bool.{cond}
 use mathlib.Core.List.{List, _++_}
 use Prim.Native.Nat.{ℕ, _+_, _-_, _≤_, _<_}

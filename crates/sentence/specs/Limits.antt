@@ -1,4 +1,4 @@
--- How long a sentence can be, by the limits of a table.
+-- The length of a sentence, by the limits of a table.
 use mathlib.Core.List.{List, [], _∷_}
 use Prim.Native.Nat.{ℕ, _+_, _≤_, _<_}
 use Rattle.text.specs.Decimal.{digitCount}

@@ -9,7 +9,7 @@ use Rattle.table.specs.Numbers as table
 use Rattle.sentence.specs.Sentence.{sentenceText}
 use Rattle.sentence.specs.Waiting.{factsOf}
 
--- number n applies, with position p, to the words and a buffer of so many bytes
+-- number n applies, with position p, to the words and a buffer of this number of bytes. As in table/specs/Numbers: `Applies`, `First`, `NoneApplies`
 pub data Applies (ws : List ℕ) (bytes : ℕ) : ℕ → ℕ → Type 0 where
   -- those of the table
   words : (n p : ℕ) → table.Applies ws n p → Applies ws bytes n p

@@ -1,4 +1,4 @@
--- A sentence read back: the facts that its numbers are, if these facts may be said and their sentence is just these bytes.
+-- A sentence parsed: the facts that its numbers give, if these facts are expressible and their sentence is exactly these bytes.
 use mathlib.Core.Bool.{Bool, true, false, _&&_, cond}
 use mathlib.Core.List.{List, [], _∷_, _++_}
 use mathlib.Core.Logic.{_↔_}
@@ -12,7 +12,7 @@ use Rattle.sentence.specs.Sentence.{sentenceText}
 use Rattle.sentence.specs.declared.ParsedFacts.{ParsedFacts}
 use Rattle.model.specs.Sizes.{mostTasks}
 
--- the number that a run of digits says, before the numbers that follow; a run of no digit says none
+-- the number that a run of digits represents, before the numbers that follow; a run of no digit gives none
 abbrev pub numberBefore : List ℕ → List ℕ → List ℕ
 numberBefore [] ns = ns
 numberBefore (d ∷ ds) ns = value (d ∷ ds) ∷ ns
@@ -28,11 +28,11 @@ paired [] = []
 paired (q ∷ []) = []
 paired (q ∷ n ∷ ns) = record { position = q; count = n } ∷ paired ns
 
--- facts of these numbers in the order of a sentence
+-- facts from these numbers in the order of a sentence
 abbrev pub arranged : List ℕ → Facts
 arranged ns = record { position = getD ns 0 0; tick = getD ns 1 0; had = getD ns 2 0; length = getD ns 3 0; others = paired (drop 4 ns) }
 
--- the facts that the numbers in a text are (`numbers-sentence`)
+-- the facts from the numbers in a text (`numbers-sentence`)
 unfoldable pub candidate : List ℕ → Facts
 candidate bs = arranged (numbersFrom [] bs)
 
@@ -43,16 +43,16 @@ same [] (c ∷ cs) = false
 same (b ∷ bs) [] = false
 same (b ∷ bs) (c ∷ cs) = eqb b c && same bs cs
 
--- what a text is read back to
+-- the result of parsing a text
 pub data ParsedSentence : Type 0 where
   facts : Facts → ParsedSentence
   none : ParsedSentence
 
--- it is read back to f exactly if f is Sayable and the text is f's sentence (`read-back`)
+-- the text is parsed to f exactly if f is expressible and the text is f's sentence (`read-back`)
 unfoldable pub parsed : List ℕ → ParsedSentence
 parsed bs = cond (expressible (candidate bs) && same (sentenceText (candidate bs)) bs) (facts (candidate bs)) none
 
--- what an answer says
+-- the meaning of an answer
 abbrev pub parsedBy : Bool → Facts → ParsedSentence
 parsedBy true f = facts f
 parsedBy false f = none
@@ -61,12 +61,12 @@ parsedBy false f = none
 abbrev pub nothing : ParsedFacts
 nothing = record { found = false; facts = record { position = 0; tick = 0; had = 0; length = 0; ran = replicate mostTasks 0 } }
 
--- what `facts_of` promises of the bytes
+-- the contract of `facts_of` on the bytes
 pub record FactsOf (bs : List ℕ) (r : ParsedFacts) : Type 0 where
   -- its value
   pub value : parsedBy (r .found) (factsBy (r .facts)) ≡ parsed bs
   pub zeros : r .found ≡ false → r ≡ nothing
-  -- it is f exactly if f is Sayable and the bytes are f's sentence
+  -- it is f exactly if f is expressible and the bytes are f's sentence
   pub exact : (f : Facts) → ((r .found ≡ true) × (factsBy (r .facts) ≡ f)) ↔ (Expressible f × (bs ≡ sentenceText f))
-  -- nothing is found exactly if they are the sentence of no Sayable facts
+  -- nothing is found exactly if they are the sentence of no expressible facts
   pub none : (r .found ≡ false) ↔ ((f : Facts) → Expressible f → ¬ (bs ≡ sentenceText f))

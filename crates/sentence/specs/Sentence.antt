@@ -1,4 +1,4 @@
--- The bytes of a sentence: `task P misses at tick T with H of C ticks`, `; task Q ran N` for each part as it stands, and a full stop; no newline.
+-- The bytes of a sentence: `task P misses at tick T with H of C ticks`, `; task Q ran N` for each part in its order, and a full stop; no newline.
 use mathlib.Core.List.{List, [], _∷_, _++_}
 use Prim.Native.Nat.{ℕ}
 use Rattle.text.specs.Decimal.{decimal}

@@ -1,4 +1,4 @@
--- What `sentence` answers, and what is promised of it and of the buffer (request 'the miss in a sentence').
+-- The answer of `sentence`, and the contract of it and of the buffer (request 'the miss in a sentence').
 use mathlib.Core.Path.{_≡_}
 use mathlib.Core.Bool.{cond}
 use mathlib.Core.List.{List, _++_}
@@ -24,11 +24,11 @@ use Rattle.sentence.specs.Parsed.{ParsedSentence, facts, parsed}
 use Rattle.sentence.specs.declared.SentenceAnswer.{SentenceAnswer}
 use Rattle.sentence.specs.declared.SentenceAnswer.the-variants.{Length, Refused}
 
--- facts are said into a buffer of so many bytes: 18 where it is shorter than the sentence, else the sentence's length
+-- facts are written into a buffer of this number of bytes: 18 where it is shorter than the sentence, else the sentence's length
 unfoldable pub byBuffer : Facts → ℕ → SentenceAnswer
 byBuffer f bytes = cond (ltb bytes (length (sentenceText f))) (Refused 18 0) (Length (length (sentenceText f)))
 
--- for a table that passes: 17 where no deadline is missed up to and including the horizon, else the first miss is said
+-- for a table that passes: 17 where no deadline is missed up to and including the horizon, else the sentence of the first miss
 unfoldable pub byTable : Table → ℕ → SentenceAnswer
 byTable s bytes = cond (any (suc (horizon s)) (missedIn s)) (byBuffer (factsIn s) bytes) (Refused 17 0)
 
@@ -37,7 +37,7 @@ abbrev pub sentenceAnswerBy : Answer → SentenceAnswer → SentenceAnswer
 sentenceAnswerBy table.Passed v = v
 sentenceAnswerBy (table.Refused n p) v = Refused n p
 
--- what `sentence` answers of the words and a buffer of so many bytes
+-- the answer of `sentence` to the words and a buffer of this number of bytes
 unfoldable pub sentenceAnswerOf : List ℕ → ℕ → SentenceAnswer
 sentenceAnswerOf ws bytes = sentenceAnswerBy (answerOf ws) (byTable (tableOf ws) bytes)
 
@@ -46,12 +46,12 @@ pub data SentenceOutcome : Type 0 where
   ofLength : ℕ → SentenceOutcome
   refusedBy : ℕ → ℕ → SentenceOutcome
 
--- what each case says
+-- the meaning of each case
 abbrev pub sentenceMeaning : SentenceAnswer → SentenceOutcome
 sentenceMeaning (Length n) = ofLength n
 sentenceMeaning (Refused n p) = refusedBy n p
 
--- a text at the front of a buffer, and what stands behind it as found
+-- a text at the front of a buffer, and the rest as found
 abbrev pub front : List ℕ → List ℕ → List ℕ
 front text old = text ++ drop (length text) old
 
@@ -60,7 +60,7 @@ abbrev pub leftIn : SentenceOutcome → Facts → List ℕ → List ℕ
 leftIn (ofLength n) f old = front (sentenceText f) old
 leftIn (refusedBy n p) f old = old
 
--- what is promised of the answer v to the words with a buffer that was `old` and is `new`
+-- the contract of the answer v to the words with a buffer that was `old` and is `new`
 pub record SentenceOf (ws old new : List ℕ) (v : SentenceAnswer) : Type 0 where
   -- its value
   pub value : v ≡ sentenceAnswerOf ws (length old)
@@ -70,10 +70,10 @@ pub record SentenceOf (ws old new : List ℕ) (v : SentenceAnswer) : Type 0 wher
   pub written : (n : ℕ) → (sentenceMeaning v ≡ ofLength n) ↔ (NoneApplies ws (length old) × (n ≡ length (sentenceText (factsOf ws))))
   -- the buffer afterwards
   pub buffer : new ≡ leftIn (sentenceMeaning v) (factsOf ws) old
-  -- its first n bytes are the sentence, and it is read back to the facts
+  -- its first n bytes are the sentence, which is parsed to the facts
   pub sentence : (n : ℕ) → sentenceMeaning v ≡ ofLength n → take n new ≡ sentenceText (factsOf ws)
   pub back : (n : ℕ) → sentenceMeaning v ≡ ofLength n → parsed (take n new) ≡ facts (factsOf ws)
-  -- bytes after the sentence stay untouched
+  -- bytes after the sentence are unchanged
   pub behind : (n i : ℕ) → sentenceMeaning v ≡ ofLength n → n ≤ i → getD new i 0 ≡ getD old i 0
   pub size : length new ≡ length old
   -- no sentence is longer than 700 bytes

@@ -48,8 +48,8 @@ fn counts_above(ran: [u64; MOST_TASKS], place: usize) -> [u64; MOST_TASKS]
     counts
 }
 
-// The facts of the first miss, of a place at a tick: the run up to that tick, in which from the late job's release on each tick that it is not granted
-// counts for those that are.
+// The facts of the first miss, of a place at a tick: the run up to that tick; from the late job's release on, each tick in which it is not granted cores
+// is counted for the places that are.
 pub(crate) fn count(table: Loaded, tick: u32, place: usize) -> Facts
     requires { ⌜ Fit table × FirstMiss (loadedTable table) tick (suc place) × (tick ≤ table .horizon) ⌝ }
     ensures { λ r. ⌜ factsBy r ≡ factsAt (loadedTable table) tick place ⌝ }

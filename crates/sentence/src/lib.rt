@@ -1,4 +1,4 @@
-// The miss in a sentence: written, and read back.
+// The miss in a sentence: written, and parsed.
 ghost use mathlib.Core.Path.{_≡_};
 ghost use Prim.Native.Nat.{suc, _≤_};
 ghost use lib.ListN.{length};
@@ -14,7 +14,7 @@ use table::Answer;
 use table::Loaded;
 
 mod counting; // counting.rt: the facts of a miss, counted in the full-length run
-pub mod reader; // reader.rt: a sentence read back
+pub mod reader; // reader.rt: a sentence parsed
 pub mod writer; // writer.rt: a sentence written
 
 // No sentence is longer than this, for ticks up to 1,000,000,000.
@@ -26,7 +26,7 @@ pub enum SentenceAnswer {
     Refused(u32, u32),
 }
 
-// The facts of a miss: `ran[q]` is the count of the task at position q + 1, and 0 where it is not named.
+// The facts of a miss: `ran[q]` is the count of the task at position q + 1, and 0 where it has no part.
 pub struct Facts {
     pub position: u32,
     pub tick: u64,
@@ -35,13 +35,13 @@ pub struct Facts {
     pub ran: [u64; MOST_TASKS],
 }
 
-// What a text is read back to: facts, or none, with zeros for all of them.
+// The result of parsing a text: facts, or none, with zeros for all of them.
 pub struct ParsedFacts {
     pub found: bool,
     pub facts: Facts,
 }
 
-// Nothing is read back.
+// Nothing is found.
 fn no_facts() -> ParsedFacts
     ensures { λ r. ⌜ r ≡ nothing ⌝ }
 {
@@ -58,7 +58,7 @@ fn no_facts() -> ParsedFacts
     }
 }
 
-// The facts that a sentence says; none where the bytes are no sentence of facts that may be said.
+// The facts of a sentence; none where the bytes are no sentence of expressible facts.
 pub fn facts_of(bytes: &[u8]) -> ParsedFacts
     ensures { λ r. ⌜ FactsOf (now (bytes .entry)) r ⌝ }
 {
@@ -83,7 +83,7 @@ pub fn facts_of(bytes: &[u8]) -> ParsedFacts
     }
 }
 
-// Says the miss of a place at a tick at the front of the buffer, or answers 18 where it is too short.
+// Writes the sentence of a miss of a place at a tick at the front of the buffer, or returns 18 where it is too short.
 fn write_miss(table: Loaded, tick: u32, place: usize, buffer: &mut [u8]) -> SentenceAnswer
     requires { ⌜ Fit table × FirstMiss (loadedTable table) tick (suc place) × (tick ≤ table .horizon) × Short table ⌝ }
     ensures { λ r. ⌜ (r ≡ byBuffer (factsAt (loadedTable table) tick place) (length (now (buffer .entry))))
@@ -111,7 +111,7 @@ fn by_table(table: Loaded, buffer: &mut [u8]) -> SentenceAnswer
     }
 }
 
-// The first miss of the table in these words, said at the front of the buffer.
+// Writes the sentence of the first miss of the table in these words at the front of the buffer.
 pub fn sentence(words: &[u32], buffer: &mut [u8]) -> SentenceAnswer
     ensures { λ r. ⌜ SentenceOf (now (words .entry)) (now (buffer .entry)) (now (buffer .exit)) r ⌝ }
 {

@@ -11,7 +11,7 @@ use model::MOST_TASKS;
 use text::decimal;
 use text::row;
 
-// Writes a word and a number from `at` on; the answer is where they end.
+// Writes a word and a number from `at` on; returns where they end.
 fn put_field(line: &mut [u8], at: usize, word: &[u8], number: u64) -> usize
     requires { ⌜ at + length (now word ++ decimal number) ≤ length (now line) ⌝ }
     ensures { λ r. ⌜ Put (now (line .entry)) at (now (word .entry) ++ decimal number) (now (line .exit)) r ⌝ }
@@ -20,7 +20,7 @@ fn put_field(line: &mut [u8], at: usize, word: &[u8], number: u64) -> usize
     decimal::put(line, middle, number)
 }
 
-// Writes the part of the task at `place`, counted from 0, if it ran; the answer is where it ends.
+// Writes the part of the task at `place`, counted from 0, if it ran; returns where it ends.
 fn put_part(line: &mut [u8], at: usize, place: usize, count: u64) -> usize
     requires { ⌜ (place ≤ 31) × (at + length (parts (namedFrom place (count ∷ [])) []) ≤ length (now line)) ⌝ }
     ensures { λ r. ⌜ Put (now (line .entry)) at (parts (namedFrom place (count ∷ [])) []) (now (line .exit)) r ⌝ }
@@ -32,7 +32,7 @@ fn put_part(line: &mut [u8], at: usize, place: usize, count: u64) -> usize
     put_field(line, middle, b" ran ", count)
 }
 
-// Writes the parts from `from` on; the answer is where they end.
+// Writes the parts from `from` on; returns where they end.
 fn put_parts(line: &mut [u8], from: usize, ran: [u64; MOST_TASKS]) -> usize
     requires { ⌜ from + length (parts (named ran) []) ≤ length (now line) ⌝ }
     ensures { λ r. ⌜ Put (now (line .entry)) from (parts (named ran) []) (now (line .exit)) r ⌝ }
@@ -46,7 +46,7 @@ fn put_parts(line: &mut [u8], from: usize, ran: [u64; MOST_TASKS]) -> usize
     at
 }
 
-// Writes the sentence at the front of a buffer that it fits in; the answer is its length.
+// Writes the sentence at the front of a buffer that it fits in; returns its length.
 pub fn put(facts: Facts, line: &mut [u8]) -> usize
     requires { ⌜ length (sentenceText (factsBy facts)) ≤ length (now line) ⌝ }
     ensures { λ r. ⌜ Put (now (line .entry)) 0 (sentenceText (factsBy facts)) (now (line .exit)) r ⌝ }

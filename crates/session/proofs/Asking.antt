@@ -1,4 +1,4 @@
--- What a line asks, as the code finds it: the numbers behind the letter by the first space among them, and the operation by its letter.
+-- The operation of a line, as the code finds it: the numbers after the letter by the first space among them, and the operation by its letter.
 use mathlib.Core.Bool.{Bool, true, false, cond}
 use mathlib.Core.List.{List, [], _∷_}
 use mathlib.Core.Logic.{⊎-elim}
@@ -38,7 +38,7 @@ words-one (b ∷ l) e = go (eqb b space) e (words-one l)
     go true e ih = absurd (omega arith)
     go false e ih = ap (joined b) (ih (omega arith))
 
--- else it is its first word, and the words behind the space
+-- else it is its first word, and the words after the space
 pub words-more : (l : List ℕ) → lengthTo space l < length l → wordsIn l ≡ take (lengthTo space l) l ∷ wordsIn (drop (suc (lengthTo space l)) l)
 unfolding wordsIn lengthTo
 words-more [] h = absurd (not-suc-le-zero h)
@@ -58,7 +58,7 @@ words-some l = ⊎-elim (λ e. (l, [], words-one l e)) (λ h. (take (lengthTo sp
 
 -- NUMBERS
 
--- a text with a space says no number
+-- a text with a space represents no number
 spaced : (l : List ℕ) → lengthTo space l < length l → found.Nothing ≡ parseNumber l
 spaced l h = found-nothing l (λ n. omega (arith, mark-stop space l h, n .digits (lengthTo space l) h))
 
@@ -88,20 +88,20 @@ numbers-one : (l : List ℕ) → lengthTo space l ≡ length l → numbersOf (wo
 unfolding numbersOf
 numbers-one l e = ap numbersOf (words-one l e)
 
--- else what stands before the first space and what stands behind it are the two numbers
+-- else what is before the first space and what is after it are the two numbers
 numbers-two :
     (l : List ℕ) → lengthTo space l < length l
     → numbersOf (wordsIn l) ≡ twoOf (parseNumber (take (lengthTo space l) l)) (parseNumber (drop (suc (lengthTo space l)) l))
 numbers-two l h = ap numbersOf (words-more l h) ∙ numbers-last (take (lengthTo space l) l) (drop (suc (lengthTo space l)) l)
 
--- BEHIND THE LETTER
+-- AFTER THE LETTER
 
 pub behind-none : (l : List ℕ) → length l ≡ 0 → Bare ≡ numbersBehind l
 unfolding numbersBehind
 behind-none [] e = refl
 behind-none (b ∷ l) e = absurd (omega arith)
 
--- a word behind the first byte ends within the bytes
+-- a word after the first byte ends within the bytes
 pub word-end : (l : List ℕ) (end : ℕ) → (length l ≡ 0 → ⊥) → end ≡ 1 + lengthTo space (drop 1 l) → end ≤ length l
 word-end [] end n e = absurd (n refl)
 word-end (b ∷ l) end n e = omega (arith, e, mark-within space l)

@@ -1,4 +1,4 @@
--- Lines and what they ask, and operations of small runs with what is said to them, computed from the definitions.
+-- Lines and their operations, and operations of small runs with the replies to them, computed from the definitions.
 use mathlib.Core.Bool.{false}
 use mathlib.Core.List.{List, [], _∷_, map}
 use mathlib.Core.Path.{_≡_, refl}
@@ -25,7 +25,7 @@ use Rattle.session.specs.declared.operations.Operation.the-variants.{Adv
 use Rattle.session.specs.Operation.{wordsIn, numbersOf, numbersBehind, operationBy, operationOf, plain, answerLine, shownLine, setsLine, reply, runAfter}
 use Rattle.session.specs.Transcript.{nothing, lastLine, linesFrom, replies}
 
--- WHAT A LINE ASKS
+-- THE OPERATION OF A LINE
 
 -- a line and the operation that it is
 pub record Line : Type 0 where
@@ -66,7 +66,7 @@ lines =
     ∷ asks "w 1 2" Nothing
     ∷ asks "W" Nothing
     ∷ asks "W 1 2" Nothing
-    -- one space before each number, and nothing behind the last
+    -- one space before each number, and nothing after the last
     ∷ asks "a " Nothing
     ∷ asks "a  1" Nothing
     ∷ asks "a 1 " Nothing
@@ -134,7 +134,7 @@ lines =
     ∷ asks "a 4294967295  4294967295" Nothing
     ∷ []
 
--- what the definitions say of a line; it is named by its text
+-- the value by the definitions of a line; it is named by its text
 abbrev worked : Line → Line
 worked l = asks (l .text) (operationOf (letters (l .text)))
 
@@ -154,7 +154,7 @@ each-line =
 pub lines-asked : map (λ l. asks (l .text) (operationOf (letters (l .text)))) lines ≡ lines
 lines-asked = by-line worked lines lines each-line
 
--- WHAT IS SAID
+-- THE REPLIES
 
 -- a task of one tick in the release tick of an odd job, by its widths
 abbrev task : ℕ → ℕ → Task
@@ -179,7 +179,7 @@ lending = record { rule = 4; cores = 2; fence = 0; withdrawn = 0; count = 2; tas
 abbrev pub none : Run
 none = record { rule = 0; cores = 0; fence = 0; withdrawn = 0; count = 0; tasks = replicate 32 unused }
 
--- operations of a run, and what is said to them
+-- operations of a run, and the replies to them
 pub record TranscriptExample : Type 0 where
   pub from : Run
   pub input : String
@@ -190,7 +190,7 @@ transcript r i o = record { from = r; input = i; output = o }
 
 abbrev pub transcripts : List TranscriptExample
 transcripts =
-    -- a row asked with empties shows who has the core then, and changes nothing
+    -- a row asked with empties shows the task that has the core then, and changes nothing
     transcript pair "r\nr 1\nr 2\nr 3\nr 4\nr" "row 1\nrow 2\nrow 1\nrow 0\nrefused 20 0\nrow 1\n"
     -- reports are the first number and empties the second
     ∷ transcript pair "a 2\na 1 1\na 2 1\nr\na 0 1\na 0\nr" "refused 16 0\nrefused 16 0\ntaken\nrow 0\nrefused 20 0\ntaken\nrow 1\n"
@@ -203,7 +203,7 @@ transcripts =
     -- no position 0 and none past the count; what is refused changes nothing
     ∷ transcript pair "w 0\nw 3\nw 4294967295\nr" "refused 22 0\nrefused 22 0\nrefused 22 0\nrow 1\n"
     ∷ transcript falling "w 1\nw 0\nr" "refused 21 0\nrefused 21 0\nrow 1 1\n"
-    -- both together, in the release tick and a tick later; the empty set changes nothing, and a set with a position past the count withdraws nobody
+    -- both together, in the release tick and a tick later; the empty set changes nothing, and a set with a position past the count withdraws none
     ∷ transcript pair "W 3\nr\nW 1\nW 0\nr\na 0\na 0\nr" "taken\nrow 0\ntaken\ntaken\nrow 0\ntaken\ntaken\nrow 0\n"
     ∷ transcript pair "a 0\nW 3\nr\na 0\na 0\nr" "taken\ntaken\nrow 2\ntaken\ntaken\nrow 0\n"
     ∷ transcript pair "W 0\nr\nW 5\nW 4294967295\nr\nw 1\nW 2\nr" "taken\nrow 1\nrefused 22 0\nrefused 22 0\nrow 1\ntaken\ntaken\nrow 0\n"
@@ -211,13 +211,13 @@ transcripts =
     ∷ transcript none "a 0\nw 1\nW 0\nr\na 1 2" "refused 14 0\nrefused 14 0\nrefused 14 0\nrefused 14 0\nrefused 14 0\n"
     -- each release turns to the other width, that of an empty job too
     ∷ transcript alternating "r\na 0\nr\na 0\nr\na 0 1\na 0\nr\na 0\na 0\nr" "row 1 0\ntaken\nrow 0 0\ntaken\nrow 1 1\ntaken\ntaken\nrow 1 0\ntaken\ntaken\nrow 1 1\n"
-    -- under rule 4 an empty job lends its cores: the row shows the borrower, who may be reported; the lender may not
+    -- under rule 4 an empty job lends its cores: the row shows the borrower, which may be reported; the lender may not
     ∷ transcript lending "r\nr 1\na 2\na 1 1\na 2 1\nr" "row 1 1\nrow 2 1\nrefused 16 0\nrefused 16 0\ntaken\nrow 2 0\n"
     -- the same as sets: the lender keeps what it has not lent; a refusal has no sets; and nothing changes
     ∷ transcript lending "s\ns 1\ns 4\nr"
     "sets 3 0 0 0 0 0 0 0 0 0 0 0 0 0 0 0 0 0 0 0 0 0 0 0 0 0 0 0 0 0 0 0\nsets 2 1 0 0 0 0 0 0 0 0 0 0 0 0 0 0 0 0 0 0 0 0 0 0 0 0 0 0 0 0 0 0\nrefused 20 0\nrow 1 1\n"
     ∷ transcript none "s" "refused 14 0\n"
-    -- after a line that is no operation nothing is said
+    -- after a line that is no operation nothing is written
     ∷ transcript pair "r 1 2\nr\n" "not an operation\n"
     ∷ []
 

@@ -1,4 +1,4 @@
--- A chunk of the input: a part of it is held or said, and the session that is handed back says the rest.
+-- A chunk of the input: a part of it is held or answered, and the session that is returned gives the rest.
 use mathlib.Core.Bool.{Bool, true, false, cond}
 use mathlib.Core.List.{List, [], _∷_, _++_, append-assoc}
 use mathlib.Core.Path.{_≡_, refl, sym, ap, ap₂, _∙_, subst}
@@ -40,7 +40,7 @@ pub speaks :
 unfolding transcriptOf
 speaks stage s e bs q f h = ap (λ (t : Stage). transcriptIn t s e bs) (within stage s q f h)
 
--- what a session says in the stage that it is in
+-- the transcript of a session in its stage
 pub transcript-in : (s : Session) (t : Stage) (e : InputEnd) (bs : List ℕ) → stageOf s ≡ t → transcriptOf s e bs ≡ transcriptIn t s e bs
 unfolding transcriptOf
 transcript-in s t e bs q = ap (λ (x : Stage). transcriptIn x s e bs) q
@@ -82,12 +82,12 @@ unfolding transcriptOf transcriptIn
 transcript-after e true bytes run bs = refl
 transcript-after e false bytes run bs = refl
 
--- a session that is over says nothing
+-- a session that is over writes nothing
 pub over-empty : (s : Session) (taken length : ℕ) (e : InputEnd) (bs : List ℕ) → transcriptOf (overWith s taken length .session) e bs ≡ []
 unfolding transcriptOf transcriptIn
 over-empty s taken length e bs = refl
 
--- where nobody knows what comes, nothing has to be said before it
+-- where it is unknown what comes, no reply is due before it
 pub nothing-due : (s : Session) → transcriptOf s unknown [] ≡ []
 nothing-due s = by-stage (stageOf s) refl
   where
@@ -102,7 +102,7 @@ nothing-due s = by-stage (stageOf s) refl
     by-stage Operations q = transcript-in s Operations unknown [] q ∙ transcript-operations s unknown [] ∙ due-empty (s .run) (take (s .held) (s .bytes))
     by-stage Over q = over-transcript s unknown [] q
 
--- what was said, and what the session after it says, make up what there was to say
+-- the replies, and those of the session after them, make up the transcript
 pub fed :
     (f : InputEnd → List ℕ → List ℕ) (chunk before after text : List ℕ) (r : Fed) → r .taken ≤ length chunk → (0 < length chunk → 0 < r .taken)
     → TextWritten text before after (r .length) → ((e : InputEnd) (bs : List ℕ) → f e (take (r .taken) chunk ++ bs) ≡ text ++ transcriptOf (r .session) e bs)
@@ -120,7 +120,7 @@ fed f chunk before after text r t m s h = record {
     all : (e : InputEnd) (bs : List ℕ) → f e (take (r .taken) chunk ++ bs) ≡ take (r .length) after ++ transcriptOf (r .session) e bs
     all e bs = h e bs ∙ ap (λ (x : List ℕ). x ++ transcriptOf (r .session) e bs) (sym (s .front))
 
--- the session ends with what was said, whatever comes
+-- the session ends with the replies, whatever comes
 pub fed-over :
     (f : InputEnd → List ℕ → List ℕ) (s : Session) (chunk before after text : List ℕ) (n : ℕ) → TextWritten text before after n
     → ((bs : List ℕ) → f nothing (chunk ++ bs) ≡ text) → ((bs : List ℕ) → IsPrefix (f unknown (chunk ++ bs)) text)
@@ -155,7 +155,7 @@ part-front (suc i) zero l = sym (take-none (drop (suc i) l))
 part-front (suc i) (suc n) [] = sym (take-nil (suc n - suc i))
 part-front (suc i) (suc n) (x ∷ l) = let e : n - i ≡ suc n - suc i = omega arith in part-front i n l ∙ ap (λ (k : ℕ). take k (drop i l)) e
 
--- A PART OF THE CHUNK IS HELD: as much of its first line as there is room for
+-- A PART OF THE CHUNK IS HELD: as much of its first line as there is space for
 
 module _
     (s : Session) (chunk bytes : List ℕ) (most end count held : ℕ) (wide : length (s .bytes) ≡ tooMany) (room : s .held ≤ most) (fits : most ≤ tooMany)
@@ -253,7 +253,7 @@ module _
         (length-take-le (held - s .from) (drop (s .from) bytes) (omega (arith, length-drop (s .from) bytes, held-most s chunk bytes tooMany end count held wide room fits e m p, wide′)))
         ∙ omega (arith, f, sum)
 
-    -- no room is left: the table is too long
+    -- no space is left: the table is too long
     pub table-full : (n : ℕ) (r : Fed) → held ≡ tooMany → TextWritten tooLong before after n → r ≡ overWith s (length chunk) n → FedBy (transcriptIn Table s) chunk before after r
     table-full n r h w q =
         subst (λ (x : Fed). FedBy (transcriptIn Table s) chunk before after x) (sym q)

@@ -1,4 +1,4 @@
--- What was put at the front of a buffer is said; numbers put one after the other.
+-- What was written at the front of a buffer is the text; numbers written one after the other.
 use mathlib.Core.List.{List, [], _∷_, _++_, append-assoc}
 use mathlib.Core.Path.{_≡_, refl, sym, ap, _∙_, subst}
 use Prim.Native.Nat.{ℕ, _+_, _≤_, _<_}
@@ -22,7 +22,7 @@ text-put {text} {before} {after} {n} p h = record {
   front = put-front p;
 }
 
--- nothing is said
+-- nothing is written
 pub text-nothing : (before : List ℕ) → TextWritten [] before before 0
 text-nothing before = record { room = omega arith; same = refl; behind = refl; front = refl }
 

@@ -1,4 +1,4 @@
--- Lines that come in pieces: what is said where some bytes of a line have been read.
+-- Lines that come in pieces: the transcript where some bytes of a line have been read.
 use mathlib.Core.Bool.{Bool, true, false, _&&_, cond, false≢true}
 use mathlib.Core.List.{List, [], _∷_, _++_}
 use mathlib.Core.Path.{_≡_, refl, sym, ap, _∙_}
@@ -52,7 +52,7 @@ lines-more e l (b ∷ chunk) (suc k) bs h = go (eqb b newline) h (lines-more e (
     go true q ih = absurd (not-suc-le-zero q)
     go false q ih = ih (le-of-suc-le-suc q) ∙ ap (λ (m : List ℕ). linesFrom e m bs) (append-snoc l b (take k chunk))
 
--- what is said to a table that is too long
+-- the answer to a table that is too long
 abbrev pub tooLong : List ℕ
 tooLong = lineOf (letters "refused") (1 ∷ 0 ∷ [])
 
@@ -133,7 +133,7 @@ transcript-end d l = refl
 
 -- THE OPERATIONS
 
--- what is said to a line that is no operation
+-- the reply to a line that is no operation
 abbrev pub noOperation : List ℕ
 noOperation = plain (letters "not an operation")
 
@@ -171,7 +171,7 @@ pub lines-line : (e : InputEnd) (l bs : List ℕ) → linesFrom e l (newline ∷
 unfolding linesFrom
 lines-line e l bs = refl
 
--- what is said to one line, and then to the rest
+-- the reply to one line, and then those to the rest
 pub replies-line :
     (r : Run) (l : List ℕ) (ls : List (List ℕ)) → isLast (operationOf l) ≡ false
     → replies r (l ∷ ls) ≡ reply (operationOf l) r ++ replies (runAfter (operationOf l) r) ls

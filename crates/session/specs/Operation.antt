@@ -1,4 +1,4 @@
--- What a line after the table asks of the run, and what is said to it.
+-- The operation of a line after the table, and the reply to it.
 use mathlib.Core.Bool.{Bool, true, false, cond}
 use mathlib.Core.List.{List, [], _∷_, _++_}
 use Prim.Native.Nat.{ℕ, _+_, _*_}
@@ -22,15 +22,15 @@ use Rattle.session.specs.declared.operations.Numbers.the-variants.{Bare,
 use Rattle.session.specs.declared.operations.Operation.{Operation}
 use Rattle.session.specs.declared.operations.Operation.the-variants.{Advance, Withdraw, WithdrawAll, Row, Sets, Nothing}
 
--- a line of so many bytes is no operation: one more than a letter and two numbers, each with a space before it
+-- a line of this number of bytes is no operation: one more than a letter and two numbers, each with a space before it
 abbrev pub noneLong : ℕ
 noneLong = 1 + 2 * (1 + mostDigits) + 1
 
--- no more bytes than these are said at once: `sets`, for each of 32 positions a space and up to 20 digits, and a newline
+-- the most bytes of a reply: `sets`, for each of 32 positions a space and up to 20 digits, and a newline
 abbrev pub longestReply : ℕ
 longestReply = 4 + mostTasks * (1 + 20) + 1
 
--- the words of a text: what stands before, between and behind its spaces
+-- the words of a text: what is before, between and after its spaces
 unfoldable pub wordsIn : List ℕ → List (List ℕ)
 wordsIn [] = [] ∷ []
 wordsIn (b ∷ bs) = cond (eqb b space) ([] ∷ wordsIn bs) (joined b (wordsIn bs))
@@ -46,33 +46,33 @@ twoOf (found.Value n) (found.Value m) = Two n m
 twoOf (found.Value n) found.Nothing = Other
 twoOf found.Nothing f = Other
 
--- the numbers that words say: one or two
+-- the numbers that words represent: one or two
 unfoldable pub numbersOf : List (List ℕ) → Numbers
 numbersOf [] = Other
 numbersOf (l ∷ []) = oneOf (parseNumber l)
 numbersOf (l ∷ m ∷ []) = twoOf (parseNumber l) (parseNumber m)
 numbersOf (l ∷ m ∷ k ∷ ls) = Other
 
--- what stands behind the letter of a line: nothing, or numbers with one space before each; or something else
+-- what is after the letter of a line: nothing, or numbers with one space before each; or something else
 unfoldable pub numbersBehind : List ℕ → Numbers
 numbersBehind [] = Bare
 numbersBehind (b ∷ l) = cond (eqb b space) (numbersOf (wordsIn l)) Other
 
--- `a REPORTS EMPTIES` is an advance with these two sets; empties that are left out are 0
+-- `a REPORTS EMPTIES` is an advance with these two sets; without the second number the empties are 0
 abbrev pub advanceBy : Numbers → Operation
 advanceBy Bare = Nothing
 advanceBy (One x) = Advance x 0
 advanceBy (Two x e) = Advance x e
 advanceBy Other = Nothing
 
--- `r EMPTIES` asks a row with that set; empties that are left out are 0
+-- `r EMPTIES` asks a row with that set; without a number it is 0
 abbrev pub rowBy : Numbers → Operation
 rowBy Bare = Row 0
 rowBy (One e) = Row e
 rowBy (Two e n) = Nothing
 rowBy Other = Nothing
 
--- `s EMPTIES` asks the row as sets with that set; empties that are left out are 0
+-- `s EMPTIES` asks the row as sets with that set; without a number it is 0
 abbrev pub setsBy : Numbers → Operation
 setsBy Bare = Sets 0
 setsBy (One e) = Sets e
@@ -93,7 +93,7 @@ withdrawAllBy (One x) = WithdrawAll x
 withdrawAllBy (Two x n) = Nothing
 withdrawAllBy Other = Nothing
 
--- the operation of a letter, `a`, `r`, `w`, `W` or `s`, and what stands behind it; with any other letter it is none
+-- the operation of a letter, `a`, `r`, `w`, `W` or `s`, and what is after it; with any other letter it is none
 unfoldable pub operationBy : ℕ → Numbers → Operation
 operationBy letter ns =
     cond (eqb letter 97) (advanceBy ns)
@@ -126,7 +126,7 @@ unfoldable pub setsLine : Answer → List ℕ → List ℕ
 setsLine Taken sets = lineOf (letters "sets") sets
 setsLine (Refused n p) sets = lineOf (letters "refused") (n ∷ p ∷ [])
 
--- what is said to an operation of run r
+-- the reply to an operation on run r
 unfoldable pub reply : Operation → Run → List ℕ
 reply (Advance x e) r = answerLine (letters "taken") (advanceOf r x e .answer)
 reply (Withdraw p) r = answerLine (letters "taken") (withdrawOf r p .answer)

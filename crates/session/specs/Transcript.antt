@@ -1,5 +1,5 @@
--- Everything that the program `replay` prints for an input: a table's text, a line `--`, then one operation a line; the last line may lack its newline.
--- And what it must have printed once some bytes of an input have come: answers do not wait.
+-- The transcript, everything that the program replay prints for an input: a table's text, a line `--`, then one operation a line; the last line may lack its
+-- newline. And what it must have printed once some bytes of an input have come: answers do not wait.
 use mathlib.Core.Bool.{Bool, false, _&&_, cond}
 use mathlib.Core.List.{List, [], _∷_, _++_}
 use Prim.Native.Nat.{ℕ, _+_}
@@ -11,11 +11,11 @@ use Rattle.run.specs.declared.Run.{Run}
 use Rattle.run.specs.Start.{startOf}
 use Rattle.session.specs.Operation.{operationOf, answerLine, reply, runAfter, isLast}
 
--- so many bytes with no line `--` in them are too many for a table: the longest text, the two dashes, and one more
+-- this number of bytes with no line `--` in them is too many for a table: the longest text, the two dashes, and one more
 abbrev pub tooMany : ℕ
 tooMany = mostBytes + 3
 
--- what lies ahead of the bytes that have come: nothing, the input ends; or nobody knows
+-- what comes after the bytes so far: nothing, the input ends; or it is unknown
 pub data InputEnd : Type 0 where
   nothing : InputEnd
   unknown : InputEnd
@@ -26,12 +26,12 @@ lastLine nothing [] = []
 lastLine nothing (b ∷ l) = (b ∷ l) ∷ []
 lastLine unknown l = []
 
--- the lines of the bytes bs, where the bytes l stand before them
+-- the lines of the bytes bs, where the bytes l are before them
 unfoldable pub linesFrom : InputEnd → List ℕ → List ℕ → List (List ℕ)
 linesFrom e l [] = lastLine e l
 linesFrom e l (b ∷ bs) = cond (eqb b newline) (l ∷ linesFrom e [] bs) (linesFrom e (l ++ (b ∷ [])) bs)
 
--- what is said to the operations in these lines, from run r on
+-- the replies to the operations in these lines, from run r on
 unfoldable pub replies : Run → List (List ℕ) → List ℕ
 replies r [] = []
 replies r (l ∷ ls) = reply (operationOf l) r ++ cond (isLast (operationOf l)) [] (replies (runAfter (operationOf l) r) ls)
@@ -40,7 +40,7 @@ replies r (l ∷ ls) = reply (operationOf l) r ++ cond (isLast (operationOf l)) 
 unfoldable pub startLine : List ℕ → List ℕ
 startLine ws = answerLine (letters "ok") (startOf ws .answer)
 
--- what is said to a table's text, and to the lines after it; a text longer than any table can be is `refused 1 0` and ends the session
+-- the answers to a table's text, and to the lines after it; a text longer than any table can be is `refused 1 0` and ends the session
 unfoldable pub opened : List ℕ → List (List ℕ) → List ℕ
 opened table ls =
     cond (leb (length table) mostBytes)
@@ -54,13 +54,13 @@ isDashes (a ∷ []) = false
 isDashes (a ∷ b ∷ []) = eqb a 45 && eqb b 45
 isDashes (a ∷ b ∷ c ∷ l) = false
 
--- what is said where the whole lines `table` and the bytes l of one more have come, and no line `--` has ended: where the input ends the table is
--- what stands before a last line `--`, or all of it; else nothing yet, but the refusal once 2,523 bytes have come
+-- the transcript where the whole lines `table` and the bytes l of one more have come, and no line `--` has ended: where the input ends the table is
+-- what is before a last line `--`, or all of it; else nothing yet, but the refusal once 2,523 bytes have come
 unfoldable pub unclosed : InputEnd → List ℕ → List ℕ → List ℕ
 unclosed nothing table l = opened (cond (isDashes l) table (table ++ l)) []
 unclosed unknown table l = cond (leb (tooMany + 1) (length table + length l)) (lineOf (letters "refused") (1 ∷ 0 ∷ [])) []
 
--- what is said where the whole lines `table` and the bytes l of one more stand before the bytes bs: the first line `--` ends the table
+-- the transcript where the whole lines `table` and the bytes l of one more are before the bytes bs: the first line `--` ends the table
 unfoldable pub transcriptFrom : InputEnd → List ℕ → List ℕ → List ℕ → List ℕ
 transcriptFrom e table l [] = unclosed e table l
 transcriptFrom e table l (b ∷ bs) =

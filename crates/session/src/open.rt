@@ -12,7 +12,7 @@ use crate::replies;
 use run::Run;
 use run::Started;
 
-// What was said to the table, its run, and whether the session is over.
+// The length of the answer to the table, its run, and whether the session is over.
 pub struct Opened {
     pub run: Run,
     pub length: usize,

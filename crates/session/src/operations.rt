@@ -1,4 +1,4 @@
-// What a line asks of the run.
+// The operation of a line.
 ghost use mathlib.Core.Path.{_≡_};
 ghost use Rattle.session.specs.Operation.{operationOf, numbersBehind, oneOf, twoOf, advanceBy, rowBy, setsBy, withdrawBy, withdrawAllBy};
 use text::line::ParsedNumber;
@@ -14,7 +14,7 @@ pub enum Operation {
     Nothing,
 }
 
-// What stands behind the letter of a line: nothing, one or two numbers, or something else.
+// What is after the letter of a line: nothing, one or two numbers, or something else.
 pub enum Numbers {
     Bare,
     One(u32),
@@ -22,7 +22,7 @@ pub enum Numbers {
     Other,
 }
 
-// The number that is found.
+// The number found.
 fn one(found: ParsedNumber) -> Numbers
     ensures { λ r. ⌜ r ≡ oneOf found ⌝ }
 {
@@ -32,7 +32,7 @@ fn one(found: ParsedNumber) -> Numbers
     }
 }
 
-// The two numbers that are found.
+// The two numbers found.
 fn two(first: ParsedNumber, second: ParsedNumber) -> Numbers
     ensures { λ r. ⌜ r ≡ twoOf first second ⌝ }
 {
@@ -45,7 +45,7 @@ fn two(first: ParsedNumber, second: ParsedNumber) -> Numbers
     }
 }
 
-// The numbers behind the letter of a line, one space before each.
+// The numbers after the letter of a line, one space before each.
 fn behind(rest: &[u8]) -> Numbers
     ensures { λ r. ⌜ r ≡ numbersBehind (now (rest .entry)) ⌝ }
 {
@@ -64,7 +64,7 @@ fn behind(rest: &[u8]) -> Numbers
     Numbers::Other
 }
 
-// An advance with the numbers behind its letter.
+// An advance with the numbers after its letter.
 fn advance_by(numbers: Numbers) -> Operation
     ensures { λ r. ⌜ r ≡ advanceBy numbers ⌝ }
 {
@@ -76,7 +76,7 @@ fn advance_by(numbers: Numbers) -> Operation
     }
 }
 
-// A row asked with the number behind its letter.
+// A row asked with the number after its letter.
 fn row_by(numbers: Numbers) -> Operation
     ensures { λ r. ⌜ r ≡ rowBy numbers ⌝ }
 {
@@ -88,7 +88,7 @@ fn row_by(numbers: Numbers) -> Operation
     }
 }
 
-// A row asked as sets with the number behind its letter.
+// A row asked as sets with the number after its letter.
 fn sets_by(numbers: Numbers) -> Operation
     ensures { λ r. ⌜ r ≡ setsBy numbers ⌝ }
 {
@@ -100,7 +100,7 @@ fn sets_by(numbers: Numbers) -> Operation
     }
 }
 
-// A withdrawal of the position behind its letter.
+// A withdrawal of the position after its letter.
 fn withdraw_by(numbers: Numbers) -> Operation
     ensures { λ r. ⌜ r ≡ withdrawBy numbers ⌝ }
 {
@@ -112,7 +112,7 @@ fn withdraw_by(numbers: Numbers) -> Operation
     }
 }
 
-// A withdrawal of the positions of the set behind its letter together.
+// A withdrawal of the positions of the set after its letter together.
 fn withdraw_all_by(numbers: Numbers) -> Operation
     ensures { λ r. ⌜ r ≡ withdrawAllBy numbers ⌝ }
 {

@@ -1,4 +1,4 @@
-// What is said to an operation.
+// The reply to an operation.
 ghost use mathlib.Core.Path.{_≡_};
 ghost use mathlib.Core.Bool.{false};
 ghost use mathlib.Core.List.{[], _∷_};
@@ -23,21 +23,21 @@ use text::first;
 use text::row;
 use text::row::CELLS;
 
-// What was said, and the run after it; whether that was the last.
+// The length of the reply, and the run after it; whether that was the last.
 pub struct Reply {
     pub run: Run,
     pub length: usize,
     pub last: bool,
 }
 
-// Writes a refusal with number and position; the answer is where it ends.
+// Writes a refusal with number and position; returns where it ends.
 pub(crate) fn write_refused(number: u32, position: u32, out: &mut [u8; REPLY]) -> usize
     ensures { λ r. ⌜ TextWritten (lineOf (letters "refused") (number ∷ position ∷ [])) (now (out .entry)) (now (out .exit)) r ⌝ }
 {
     first::put_pair(out, b"refused", number, position)
 }
 
-// Writes a word and a newline; the answer is where they end.
+// Writes a word and a newline; returns where they end.
 pub(crate) fn write_word(word: &[u8], out: &mut [u8; REPLY]) -> usize
     requires { ⌜ length (now word) ≤ 16 ⌝ }
     ensures { λ r. ⌜ TextWritten (plain (now (word .entry))) (now (out .entry)) (now (out .exit)) r ⌝ }
@@ -58,7 +58,7 @@ pub(crate) fn write_answer(word: &[u8], answer: Answer, out: &mut [u8; REPLY]) -
     }
 }
 
-// Writes the answer to a move of the run, and hands on the run that it leaves.
+// Writes the answer to an advance or a withdrawal, and returns the run after it.
 fn write_moved(advanced: Advanced, out: &mut [u8; REPLY]) -> Reply
     ensures { λ r. ⌜ TextWritten (answerLine (letters "taken") (advanced .answer)) (now (out .entry)) (now (out .exit)) (r .length) × (r .run ≡ advanced .run) × (r .last ≡ false) ⌝ }
 {
@@ -95,7 +95,7 @@ fn write_row(cores: u32, row: Row, out: &mut [u8; REPLY]) -> usize
     }
 }
 
-// Writes a space and a set; the answer is where they end.
+// Writes a space and a set; returns where they end.
 fn put_set(line: &mut [u8], at: usize, set: u64) -> usize
     requires { ⌜ at + 21 ≤ length (now line) ⌝ }
     ensures { λ r. ⌜ (Put (now (line .entry)) at (space ∷ decimal set) (now (line .exit)) r) × (r ≤ at + 21) ⌝ }
@@ -104,7 +104,7 @@ fn put_set(line: &mut [u8], at: usize, set: u64) -> usize
     decimal::put(line, at + 1, set)
 }
 
-// Writes 32 sets, a space before each; the answer is where they end.
+// Writes 32 sets, a space before each; returns where they end.
 fn put_sets(line: &mut [u8], from: usize, sets: [u64; MOST_TASKS]) -> usize
     requires { ⌜ from + 672 ≤ length (now line) ⌝ }
     ensures { λ r. ⌜ (Put (now (line .entry)) from (fields sets) (now (line .exit)) r) × (r ≤ from + 672) ⌝ }
@@ -140,7 +140,7 @@ fn write_sets(shown: Sets, out: &mut [u8; REPLY]) -> usize
     }
 }
 
-// Does an operation, and writes what is said to it.
+// Does an operation, and writes the reply to it.
 pub(crate) fn answer(run: Run, operation: Operation, out: &mut [u8; REPLY]) -> Reply
     ensures { λ r. ⌜ TextWritten (reply operation run) (now (out .entry)) (now (out .exit)) (r .length) × (r .run ≡ runAfter operation run) × (r .last ≡ isLast operation) ⌝ }
 {

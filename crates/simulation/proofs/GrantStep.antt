@@ -1,4 +1,4 @@
--- A turn of the walk over the granted places: the lowest is taken off the set and served.
+-- A step of the walk over the granted places: the lowest is taken off the set and served.
 use mathlib.Core.Path.{_≡_, refl, sym, ap, _∙_, subst}
 use mathlib.Core.Bool.{Bool, true, false, not, _&&_, and-true}
 use mathlib.Core.List.{List}
@@ -154,7 +154,7 @@ module _
             served-out before afterEvents m (first rest) (w .off) (w .on) (w .same) (w .below) (have .0)
             (eq-eqb (getD (m .left) (first rest) 0) 1 (omega (arith, still, have .1)))
 
--- A turn on a machine whose numbers stand in one list
+-- A step on a machine whose numbers are in one list
 module _ (granted rest : ℕ) (m₀ : Machine) (xs : List ℕ) (c : ℕ) (w : GrantStep granted rest m₀ (machineOf xs c)) where
   has : getD (segment 0 xs) (first rest) 0 ≡ getD xs (first rest) 0
   has = front-at xs (first rest) (w .below)

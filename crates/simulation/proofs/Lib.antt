@@ -1,4 +1,4 @@
--- The tie of the machine to the full-length run of the book: from one line of jobs and one place to a tick and to a whole run.
+-- The relation of the machine to the full-length run of the book: from one line of jobs and one place to a tick and to a whole run.
 pub mod Examples
 pub mod Lines
 pub mod Places

@@ -1,4 +1,4 @@
--- What stands at each place after a release and after a tick.
+-- The value at each place after a release and after a tick.
 use mathlib.Core.Path.{_≡_, refl, _∙_}
 use mathlib.Core.Bool.{Bool, true, false, not, _&&_, _||_, cond}
 use mathlib.Core.List.{List}

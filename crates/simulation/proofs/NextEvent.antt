@@ -1,4 +1,4 @@
--- The next event, a lower bound of every event: before it there is nothing to look at, and neither a release nor a tick brings an event before it.
+-- The next event, a lower bound of every event: before it there is nothing to handle, and neither a release nor a tick makes an event before it.
 use mathlib.Core.Path.{_≡_, sym, subst}
 use mathlib.Core.Bool.{Bool, true, false, cond}
 use mathlib.Core.Logic.{⊎-elim}
@@ -33,7 +33,7 @@ unfolding withRelease
 next-event-release n nextEvent m h i t C D T le p l = rw (getD-set-other (m .event) i p (t + D) 0 (omega arith)) (h p l)
 
 module _ (s : Table) (ok : AllValid s) (few : length (s .tasks) ≤ 32) where
-  -- no event is due before the next event: there is nothing to look at
+  -- no event is due before the next event: there is nothing to handle
   pub no-event : (t nextEvent : ℕ) (m : Machine) → Tied s t m → NextEventBound (length (s .tasks)) nextEvent m → t < nextEvent → Ready s t m
   no-event t nextEvent m h below before = record {
     sized = h .sized;

@@ -1,4 +1,4 @@
--- One place of the machine and its line of jobs in the book: a release and a tick keep the tie.
+-- One place of the machine and its line of jobs in the book: a release and a tick preserve the relation.
 use mathlib.Core.Path.{_≡_, refl, sym, ap, _∙_, subst}
 use mathlib.Core.Bool.{Bool, true, false, not, _&&_, cond, true≢false}
 use mathlib.Core.Logic.{⊎-elim}
@@ -14,7 +14,7 @@ use Rattle.model.proofs.Faithful.{no-claim-before}
 use Rattle.simulation.specs.PlaceRelation.{PlaceWorks, PlaceRests, PlaceTiedAt}
 use Rattle.simulation.proofs.Lines.{lineOn, line-off, line-own, work-open}
 
--- who claims is owed ticks, and who is owed ticks claims
+-- a place that claims is owed ticks, and a place that is owed ticks claims
 pub claims-owed : (τ : Task) (seen : ℕ) (js : ℕ → Job) (l m n : ℕ) (c : Bool) → PlaceTiedAt τ seen js l m n c → c ≡ ltb 0 l
 claims-owed τ seen js l m n true h = sym (lt-ltb 0 l (h .owed))
 claims-owed τ seen js l m n false h = rw (h .none)
@@ -110,7 +110,7 @@ overdue-is τ ok seen js l m n false h t k before d o = go (leb (h .number) k) r
         absurd (omega (arith, release-order τ (h .number) k (leb-true (h .number) k e), ok .deadline-pos, h .event, h .ahead-of))
     go false e = absurd (true≢false (sym (h .past k (leb-false (h .number) k e)) ∙ o))
 
--- THE CLAIMS OF A TICK, once its due events have been looked at
+-- THE CLAIMS OF A TICK, once its due events have been handled
 
 -- every job that has ended has claimed its C ticks, as at full length
 abbrev pub Claimed : Task → (ℕ → Job) → Type 0

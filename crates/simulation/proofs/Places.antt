@@ -1,4 +1,4 @@
--- What stands at a place after a change.
+-- The value at a place after a change.
 use mathlib.Core.Path.{_≡_, refl, ap}
 use mathlib.Core.List.{List, [], _∷_}
 use Prim.Native.Nat.{ℕ, zero, suc, _<_}

@@ -1,4 +1,4 @@
--- THE TIE, over a whole run: up to the first miss the machine stepped from tick 0 is tied to the full-length run of the book.
+-- THE RELATION, over a whole run: up to the first miss the machine stepped from tick 0 is related to the full-length run of the book.
 use mathlib.Core.Bool.{Bool}
 use mathlib.Core.List.{List, []}
 use Prim.Native.Nat.{ℕ, zero, suc, _≤_, _<_}
@@ -26,14 +26,14 @@ pub record Run : Type 0 where
 abbrev pub granted : Table → List ℕ → Machine → ℕ → ℕ → Bool
 granted s v m even p = some (getD (grants (s .rule) (claimants (widthsIn even v) (bit (m .claiming))) (unfencedCores s)) p [])
 
--- the due events of tick t: the machine after them, and who is at its second width then; q is the set of the places with two
+-- the due events of tick t: the machine after them, and the places at their second width then; q is the set of the places with two
 abbrev pub events-handled : Table → List ℕ → List ℕ → List ℕ → ℕ → Run → Machine
 events-handled s C D T t r = releasedDue t C D T (length (s .tasks)) (r .machine)
 
 abbrev pub width-toggled : Table → ℕ → List ℕ → List ℕ → List ℕ → ℕ → Run → ℕ
 width-toggled s q C D T t r = toggledBy q (r .even) (r .machine .claiming) (events-handled s C D T t r .claiming)
 
--- tick t, from the run before it: its due events, then the tick of those who are granted cores
+-- tick t, from the run before it: its due events, then the tick of the places that are granted cores
 abbrev pub stepped : Table → ℕ → List ℕ → List ℕ → List ℕ → List ℕ → ℕ → Run → Run
 stepped s q v C D T t r = record {
   machine = workedTick (granted s v (events-handled s C D T t r) (width-toggled s q C D T t r)) (events-handled s C D T t r);
@@ -45,7 +45,7 @@ unfoldable pub runAt : Table → ℕ → List ℕ → List ℕ → List ℕ → 
 runAt s q O v C D T zero = record { machine = started O; even = q }
 runAt s q O v C D T (suc t) = stepped s q v C D T t (runAt s q O v C D T t)
 
--- a run is tied to the book, and so are its widths
+-- a run is related to the book, and so are its widths
 pub record RefinesFull (s : Table) (t : ℕ) (r : Run) : Type 0 where
   pub tied : Tied s t (r .machine)
   pub turns : WidthToggled s (r .machine) (r .even)
@@ -60,7 +60,7 @@ module _
     pub turns : (t : ℕ) (r : Run) → RefinesFull s t r → ((p : ℕ) → ¬ Missed s p t) → WidthToggled s (events-handled s C D T t r) (width-toggled s q C D T t r)
     turns t r h met = toggled-due s ok t (r .machine) (events-handled s C D T t r) q (r .even) (h .tied) (ready t r h met) two (h .turns)
 
-    -- and the tick keeps the tie
+    -- and the tick preserves the relation
     pub step-keeps : (t : ℕ) (r : Run) → RefinesFull s t r → ((p : ℕ) → ¬ Missed s p t) → RefinesFull s (suc t) (stepped s q v C D T t r)
     step-keeps t r h met =
         let m = events-handled s C D T t r in

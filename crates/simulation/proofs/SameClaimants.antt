@@ -1,4 +1,4 @@
--- After the due events of a tick the machine's claimants are the book's, and their widths; and so are the grants, the row and who is in it.
+-- After the due events of a tick the machine's claimants are the book's, and their widths; and so are the grants, the row and the places in it.
 use mathlib.Core.Path.{_≡_, refl, sym, ap, _∙_, subst}
 use mathlib.Core.Bool.{Bool, true, false, false≢true, true≢false}
 use mathlib.Core.List.{List, [], _∷_, map}
@@ -26,7 +26,7 @@ use Rattle.model.proofs.Rows.{owner-take}
 use Rattle.rule.specs.Widths.{widthsIn}
 use Rattle.rule.proofs.Widths.{widths-length, widths-at, front-length, front-at}
 
--- widths that are right for the places that claim: those of their newest jobs. What stands at the other places does not matter
+-- widths that are right for the places that claim: those of their newest jobs. What is at the other places does not matter
 pub record Agrees (s : Table) (t : ℕ) (m : Machine) (ws : List ℕ) : Type 0 where
   pub long : length (s .tasks) ≤ length ws
   pub same : (p : ℕ) → p < length (s .tasks) → bit (m .claiming) p ≡ true → getD ws p 0 ≡ widthOf (task s p) (newest (task s p) t)
@@ -57,7 +57,7 @@ module _ (s : Table) (ok : AllValid s) (t : ℕ) (m : Machine) (h : Ready s t m)
       (tied-claims (s .rule) (task s p) (ok p l) t (full s t .job p) (full-claimed s t p)
       (getD (m .left) p 0) (getD (m .event) p 0) (getD (m .next) p 0) (bit (m .claiming) p) (h .done p l l)))
 
-  -- who claims is owed ticks
+  -- a place that claims is owed ticks
   pub claims-left : (p : ℕ) → bit (m .claiming) p ≡ true → (p < length (s .tasks)) × (0 < getD (m .left) p 0)
   claims-left p e = go (leb (length (s .tasks)) p) refl
     where
@@ -98,7 +98,7 @@ module _ (s : Table) (ok : AllValid s) (t : ℕ) (m : Machine) (h : Ready s t m)
             let q : p < length (s .tasks) = omega (arith, front) in
             getD-take (length (s .tasks)) ws p 0 q ∙ (agree .same p q c ∙ sym (map-at (λ τ. widthOf τ (newest τ t)) (s .tasks) p 0 absentTask q))
 
-    -- .. and past them nobody is given cores
+    -- .. and past them no place is given cores
     pub grants-past : (p : ℕ) → length (s .tasks) ≤ p → getD chosen p [] ≡ []
     grants-past p l = grants-none (s .rule) ws (bit (m .claiming)) (unfencedCores s) p (h .beyond p l)
 
@@ -134,7 +134,7 @@ module _ (s : Table) (ok : AllValid s) (t : ℕ) (m : Machine) (h : Ready s t m)
         map-same [] = refl
         map-same (c ∷ cs) = rw (owner-take c 1 (length (s .tasks)) chosen grants-past, map-same cs)
 
-    -- who is granted cores claims
+    -- a place that is granted cores claims
     pub granted-claims : (p : ℕ) → inRow s (full s t) p ≡ true → bit (m .claiming) p ≡ true
     granted-claims p e =
         not-false-true (bit (m .claiming) p)

@@ -13,7 +13,7 @@ use Rattle.simulation.specs.Machine.{Machine, machine, finishes, workedT
 use Rattle.simulation.proofs.Places.{each-none, each-still, each-more}
 use Rattle.simulation.proofs.Sets.{set-has, set-lt, set-is}
 
--- nobody is served: the machine is as it was
+-- no place is served: the machine is as it was
 pub served-none : (f : ℕ → Bool) (m : Machine) → m .claiming < 2 ^ 32 → ((p : ℕ) → f p ≡ false) → workedTick f m ≡ m
 unfolding workedTick
 served-none f m h e = λ i. record {
@@ -44,7 +44,7 @@ by-place q p P here away = go (eqb q p) refl
     go true e = here (eqb-true q p e)
     go false e = away (eqb-false q p e)
 
--- g serves who f serves, and place p
+-- g serves the places that f serves, and place p
 module _ (f g : ℕ → Bool) (m : Machine) (p : ℕ) (off : f p ≡ false) (on : g p ≡ true) (other : (q : ℕ) → (q ≡ p → ⊥) → g q ≡ f q) where
   -- what place p still has
   pub unserved-left : getD (workedTick f m .left) p 0 ≡ getD (m .left) p 0

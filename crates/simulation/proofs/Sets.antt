@@ -62,6 +62,6 @@ toggled-bit q e c c′ p =
     xor-bit e (bitAnd (bitXor c′ c) q) p
     ∙ ap (λ (b : Bool). cond (bit e p) (not b) b) (and-bit (bitXor c′ c) q p ∙ ap (λ (b : Bool). b && bit q p) (xor-bit c′ c p))
 
--- where the claimants stay nobody does
+-- where the claimants stay none does
 pub toggled-none : (q e c : ℕ) → toggledBy q e c c ≡ e
 toggled-none q e c = ap (λ (x : ℕ). bitXor e (bitAnd x q)) (xor-self c) ∙ (ap (bitXor e) (and-zero-l q) ∙ xor-zero-r e)

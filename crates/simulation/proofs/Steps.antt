@@ -1,4 +1,4 @@
--- One tick as code takes it is the step of the definitions: the due events looked at or the next event not yet come, the choice kept or made anew.
+-- One tick as code takes it is the step of the definitions: the due events handled or the next event not yet come, the choice kept or made anew.
 use mathlib.Core.Path.{_≡_, refl, sym, ap, ap₂, _∙_}
 use mathlib.Core.Bool.{Bool, true, false, not, _&&_, _||_, cond}
 use Prim.Native.Nat.{ℕ, _+_, _^_, _≤_, _<_}
@@ -27,7 +27,7 @@ module _ (n : Numbers) (s : TickState) where
   unfolding nextEventAfter
   next-event-by b e = ap (λ (x : Bool). cond x (earliest (n .count) (afterEvents n s .event)) (s .event)) (sym e)
 
-  -- the due events are looked at
+  -- the due events are handled
   pub due-handled :
       (m′ : Machine) (bell′ : ℕ) → s .event ≤ s .tick → DueEvents (s .tick) (n .count) (n .lengths) (n .deadlines) (n .periods) (s .machine) m′ bell′
       → (m′ ≡ afterEvents n s) × (bell′ ≡ nextEventAfter n s)
@@ -40,7 +40,7 @@ module _ (n : Numbers) (s : TickState) where
   pub due-skipped : s .tick < s .event → (s .machine ≡ afterEvents n s) × (s .event ≡ nextEventAfter n s)
   due-skipped l = let e = lt-leb (s .event) (s .tick) l in (after-by false e, next-event-by false e)
 
-  -- who is at its second width
+  -- the places at their second width
   pub even-handled : (c : ℕ) → c ≡ afterEvents n s .claiming → toggledBy (n .paired) (s .even) (s .machine .claiming) c ≡ evenAtTick n s
   unfolding evenAtTick
   even-handled c e = ap (toggledBy (n .paired) (s .even) (s .machine .claiming)) e

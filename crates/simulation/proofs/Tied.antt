@@ -1,5 +1,5 @@
--- The machine and the full-length run of the book: what ties them. They are tied at the start, and the walk over the due events of a tick
--- and the tick itself keep the tie as long as nobody is late.
+-- The machine and the full-length run of the book: their relation. They are related at the start, and the walk over the due events of a tick
+-- and the tick itself preserve the relation as long as no task is late.
 use mathlib.Core.Path.{_≡_, refl, sym, _∙_, subst}
 use mathlib.Core.Bool.{Bool, true, false, not, _&&_, cond}
 use mathlib.Core.List.{List}
@@ -21,23 +21,23 @@ use Rattle.simulation.specs.PlaceRelation.{PlaceTiedAt}
 use Rattle.simulation.proofs.Place.{start-tied, pass-tied, release-tied, tick-tied}
 use Rattle.simulation.proofs.Moves.{SameAt, released-sized, released-own, released-other, released-past, worked-sized, worked-left, worked-event, worked-claims, worked-past, worked-none}
 
--- place p of the machine is tied to its jobs in the full-length run at t; the due events of `seen` ticks have been looked at there
+-- place p of the machine is related to its jobs in the full-length run at t; the due events of `seen` ticks have been handled there
 abbrev pub PlaceTied : Table → ℕ → ℕ → Machine → ℕ → Type 0
 PlaceTied s t seen m p =
     PlaceTiedAt (task s p) seen (full s t .job p) (getD (m .left) p 0) (getD (m .event) p 0) (getD (m .next) p 0) (bit (m .claiming) p)
 
--- tick t, with the due events of the places below i looked at
+-- tick t, with the due events of the places below i handled
 pub record Walked (s : Table) (t i : ℕ) (m : Machine) : Type 0 where
   pub sized : Sized m
   pub done : (p : ℕ) → p < length (s .tasks) → p < i → PlaceTied s t (suc t) m p
   pub waiting : (p : ℕ) → p < length (s .tasks) → i ≤ p → PlaceTied s t t m p
   pub beyond : (p : ℕ) → length (s .tasks) ≤ p → bit (m .claiming) p ≡ false
 
--- before the due events of tick t are looked at
+-- before the due events of tick t are handled
 abbrev pub Tied : Table → ℕ → Machine → Type 0
 Tied s t m = Walked s t 0 m
 
--- after them: nobody is late, and what was due is released
+-- after them: no task is late, and what was due is released
 abbrev pub Ready : Table → ℕ → Machine → Type 0
 Ready s t m = Walked s t (length (s .tasks)) m
 
@@ -52,7 +52,7 @@ pub record Columns (s : Table) (O v C D T : List ℕ) : Type 0 where
   pub deadlines : (p : ℕ) → p < length (s .tasks) → getD D p 0 ≡ task s p .deadline
   pub periods : (p : ℕ) → p < length (s .tasks) → getD T p 0 ≡ task s p .period
 
--- the same numbers have the same tie
+-- the same numbers have the same relation
 moved :
     (τ : Task) (seen : ℕ) (js : ℕ → Job) (l l′ m m′ n n′ : ℕ) (c c′ : Bool) → l ≡ l′ → m ≡ m′ → n ≡ n′ → c ≡ c′
     → PlaceTiedAt τ seen js l′ m′ n′ c′ → PlaceTiedAt τ seen js l m n c
@@ -151,7 +151,7 @@ module _ (s : Table) (ok : AllValid s) (few : length (s .tasks) ≤ 32) where
       subst (λ (js : ℕ → Job). PlaceTiedAt (task s p) seen js l m n c) (λ i k. sym (full-next s t p k) i)
       (subst (λ (u : ℕ). PlaceTiedAt (task s p) seen (lineOn (s .rule) (task s p) u (inRow s (full s t) p) (full s t .job p)) l m n c) (sym (full-tick s t)) h)
 
-  -- a tick whose cores go to the places of the book's row keeps the tie
+  -- a tick whose cores go to the places of the book's row preserves the relation
   pub tick-keeps :
       (t : ℕ) (m : Machine) → Ready s t m → (granted : ℕ → Bool) → ((p : ℕ) → p < length (s .tasks) → granted p ≡ inRow s (full s t) p)
       → Tied s (suc t) (workedTick granted m)

@@ -27,7 +27,7 @@ earliest-set (suc n) ms i v h = rw (earliest-set n ms i v (omega arith), getD-se
 abbrev look : ℕ → List ℕ → List ℕ → List ℕ → ℕ → Machine → Machine
 look t C D T n m = cond (eqb (getD (m .event) n 0) t) (withRelease n t (getD C n 0) (getD D n 0) (getD T n 0) m) m
 
--- the machine once place n has been looked at, and the earliest of the first n events, which is as it was
+-- the machine once place n has been handled, and the earliest of the first n events, which is as it was
 pub record EventsHandled (t : ℕ) (C D T : List ℕ) (n : ℕ) (start before after : Machine) : Type 0 where
   pub machines : after ≡ releasedDue t C D T (suc n) start
   pub same : earliest n (after .event) ≡ earliest n (before .event)

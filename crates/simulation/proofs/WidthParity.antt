@@ -34,7 +34,7 @@ odd-suc k = let e : suc k % 2 ≡ suc (k % 2) % 2 = omega arith in ap (λ (x : �
 even-two : (τ : Task) (k : ℕ) → evenJob τ (suc (suc k)) ≡ evenJob τ k
 even-two τ k = let e : suc (suc k) % 2 ≡ k % 2 = omega arith in ap (λ (x : ℕ). eqb x 1 && not (eqb (τ .oddWidth) (τ .evenWidth))) e
 
--- the width that the mark says is that of the job
+-- the width by the mark is that of the job
 pub width-known : (τ : Task) (k : ℕ) (e : Bool) → e ≡ evenJob τ k → cond e (τ .evenWidth) (τ .oddWidth) ≡ widthOf τ k
 width-known τ k e h = ap (λ (b : Bool). cond b (τ .evenWidth) (τ .oddWidth)) h ∙ go (k % 2) (omega arith) (eqb (τ .oddWidth) (τ .evenWidth)) refl
   where

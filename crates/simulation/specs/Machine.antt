@@ -1,5 +1,5 @@
 -- The full-length run (scope, 'The book of a run') in plain numbers, as the judge, the plan and the printer step it.
--- That up to the first miss it follows the book is proved: `machine-refines` in proofs/Follows.antt.
+-- Up to the first miss it refines the book: `machine-refines` in proofs/Refines.antt.
 use mathlib.Core.Path.{_≡_}
 use mathlib.Core.Bool.{Bool, true, not, _&&_, _||_, cond}
 use mathlib.Core.List.{List}
@@ -18,11 +18,11 @@ pub record Machine : Type 0 where
   pub next : List ℕ
   pub claiming : ℕ
 
--- a machine of its parts
+-- a machine from its parts
 abbrev pub machine : List ℕ → List ℕ → List ℕ → ℕ → Machine
 machine l m n c = record { left = l; event = m; next = n; claiming = c }
 
--- a machine whose places' numbers stand in one list: the ticks left first, then the events, then the next releases
+-- a machine whose numbers are in one list: the ticks left of each place first, then the events, then the next releases
 abbrev pub machineOf : List ℕ → ℕ → Machine
 machineOf places c = machine (segment 0 places) (segment second places) (segment third places) c
 
@@ -32,7 +32,7 @@ pub record Sized (m : Machine) : Type 0 where
   pub event : length (m .event) ≡ mostTasks
   pub next : length (m .next) ≡ mostTasks
 
--- before tick 0: nobody claims, and each task's first job is released at its O
+-- before tick 0: no place claims, and each task's first job is released at its O
 abbrev pub started : List ℕ → Machine
 started offsets = machine (replicate mostTasks 0) offsets offsets 0
 
@@ -49,7 +49,7 @@ withRelease p t C D T m = record {
   claiming = setWhere mostTasks (λ q. eqb q p || bit (m .claiming) q);
 }
 
--- the due events of tick t, looked at in the first n places, where nobody is late: a job is released in each place whose event it is.
+-- the machine after the due events of tick t in the first n places, where no job is late: a job is released in each place whose event it is.
 -- C, D and T list the lengths, deadlines and periods of the tasks
 unfoldable pub releasedDue : ℕ → List ℕ → List ℕ → List ℕ → ℕ → Machine → Machine
 releasedDue t C D T zero m = m
@@ -63,7 +63,7 @@ unfoldable pub earliest : ℕ → List ℕ → ℕ
 earliest zero events = 2 ^ 32 - 1
 earliest (suc n) events = min (earliest n events) (getD events n 0)
 
--- the machine after the due events of a tick, and a next event at the earliest event to come
+-- the machine after the due events of a tick, and the time of the next event
 pub record DueEvents (t n : ℕ) (C D T : List ℕ) (before after : Machine) (earliest-next : ℕ) : Type 0 where
   pub machines : after ≡ releasedDue t C D T n before
   pub event : earliest-next ≡ earliest n (after .event)
@@ -76,7 +76,7 @@ GrantedOwed granted m = (p : ℕ) → granted p ≡ true → (bit (m .claiming) 
 abbrev pub finishes : (ℕ → Bool) → Machine → ℕ → Bool
 finishes granted m p = granted p && eqb (getD (m .left) p 0) 1
 
--- scope: each job in the row has had one tick more. It is owed one less; who had its last claims no more, and its next event is the next release
+-- scope: each job in the row has had one tick more. It is owed one less; a place that had its last tick claims no more, and its next event is the next release
 unfoldable pub workedTick : (ℕ → Bool) → Machine → Machine
 workedTick granted m = record {
   left = mapPlaces (λ p l. cond (granted p) (l - 1) l) (m .left);

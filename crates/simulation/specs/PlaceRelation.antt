@@ -1,4 +1,4 @@
--- What ties one place of the machine to its line of jobs in the book, and its width to the job that it works on.
+-- The relation of one place of the machine to its line of jobs in the book, and of its width to the job that it works on.
 use mathlib.Core.Path.{_≡_}
 use mathlib.Core.Bool.{Bool, true, false, not, _&&_}
 use Prim.Native.Nat.{ℕ, suc, _+_, _%_, _≤_, _<_}
@@ -6,7 +6,7 @@ use lib.Dec.{eqb}
 use Rattle.model.specs.Task.{Task, release, due}
 use Rattle.model.specs.Book.{Job, fresh}
 
--- `seen` counts the ticks whose due events have been looked at: it is t before those of tick t are, and t + 1 after.
+-- `seen` counts the ticks whose due events have been handled: it is t before those of tick t are, and t + 1 after.
 
 -- l ticks are left, the deadline m is ahead: a job was released, has not ended, and has had what is not left; those before it have ended,
 -- those after it are fresh, and the first of them comes at n
@@ -44,7 +44,7 @@ PlaceTiedAt τ seen js l m n false = PlaceRests τ seen js l m n
 abbrev pub evenJob : Task → ℕ → Bool
 evenJob τ k = eqb (k % 2) 1 && not (eqb (τ .oddWidth) (τ .evenWidth))
 
--- e says whether a place is at its second width, and n is its next release: e is right for the job before that one, which is odd or even as the job after
+-- e is true if a place is at its second width, and n is its next release: e is right for the job before that one, which is odd or even as the job after
 -- it is. So before its first release a place with two widths is at its second
 pub record WidthParity (τ : Task) (n : ℕ) (e : Bool) : Type 0 where
   pub number : ℕ

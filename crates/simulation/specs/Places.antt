@@ -5,7 +5,7 @@ use Prim.Native.Nat.{ℕ, zero, suc, _+_, _*_}
 use lib.ListN.{take, drop}
 use Rattle.model.specs.Sizes.{mostTasks}
 
--- a list with three numbers for each place has those of one kind after those of another: where the second and the third kind begin, and how long it is
+-- a list with three numbers for each place has those of one kind after those of another: where the second and the third kind begin, and its length
 abbrev pub second : ℕ
 second = mostTasks
 
@@ -15,11 +15,11 @@ third = 2 * mostTasks
 abbrev pub triple : ℕ
 triple = 3 * mostTasks
 
--- the numbers of the 32 places that stand one after the other from k on, in a list that has several for each place
+-- the numbers of the 32 places, one after the other from k on, in a list that has several for each place
 unfoldable pub segment : ℕ → List ℕ → List ℕ
 segment k xs = take mostTasks (drop k xs)
 
--- what stands at each place, changed by f, which is told the place
+-- the number of each place, changed by f, which is given the place and the number
 unfoldable pub mapPlaces : (ℕ → ℕ → ℕ) → List ℕ → List ℕ
 mapPlaces f [] = []
 mapPlaces f (x ∷ xs) = f 0 x ∷ mapPlaces (λ p. f (suc p)) xs

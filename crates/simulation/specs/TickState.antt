@@ -1,5 +1,5 @@
--- One tick of a run, said for every run, whoever made it: the machine, with the choice that is kept while the claimants and their widths are unchanged.
--- That a run which stands as the table's full-length run does before a tick stands so after it is proved where the table is at hand, in crate `judge`.
+-- One tick of any run: the machine, with the choice that is kept while the claimants and their widths are unchanged.
+-- A tick preserves the relation to the table's full-length run: this is proved where the table is known, in crate `judge`.
 use mathlib.Core.Path.{_≡_}
 use mathlib.Core.Bool.{Bool, not, _&&_, cond}
 use mathlib.Core.List.{List, _++_, map}
@@ -39,7 +39,7 @@ pub record Numbers : Type 0 where
   pub deadlines : List ℕ
   pub periods : List ℕ
 
--- .. as code has them: lengths, deadlines and periods in one list
+-- .. as in code: lengths, deadlines and periods in one list
 abbrev pub numbersBy : Setting → List ℕ → List ℕ → Numbers
 numbersBy x v times = record {
   rule = x .rule;
@@ -67,8 +67,8 @@ loadedNumbers t = record {
   periods = map (λ x. x .period) (t .tasks);
 }
 
--- a run before a tick: its machine; the next event, before which nothing is due; the claimants that the choice is kept for, and who is granted cores by it;
--- of the places with two widths, those that are at their second
+-- a run before a tick: its machine; the next event, before which nothing is due; the claimants that the choice was made for, and those that are granted cores
+-- by it; of the places with two widths, those that are at their second
 pub record TickState : Type 0 where
   pub tick : ℕ
   pub machine : Machine
@@ -77,7 +77,7 @@ pub record TickState : Type 0 where
   pub granted : ℕ
   pub even : ℕ
 
--- .. as code has it: registers, and the numbers of the places in one list
+-- .. as in code: registers, and the numbers of the places in one list
 abbrev pub tickStateOf : Registers → List ℕ → TickState
 tickStateOf p places = record {
   tick = p .tick;
@@ -88,7 +88,7 @@ tickStateOf p places = record {
   even = p .even;
 }
 
--- before tick 0: nobody claims or is granted cores, and the next event has come. Each place with two widths is at its second, so that its first release
+-- before tick 0: no place claims or is granted cores, and the next event has come. Each place with two widths is at its second, so that its first release
 -- turns it to its first
 abbrev pub initialTickState : Loaded → TickState
 initialTickState t = record {
@@ -100,17 +100,17 @@ initialTickState t = record {
   even = pairedIn (t .tasks);
 }
 
--- the due events of the tick are looked at where the next event has come
+-- the due events of the tick are handled where the next event has come
 unfoldable pub afterEvents : Numbers → TickState → Machine
 afterEvents n s =
     cond (leb (s .event) (s .tick)) (releasedDue (s .tick) (n .lengths) (n .deadlines) (n .periods) (n .count) (s .machine)) (s .machine)
 
--- .. and then it is set to the earliest event to come
+-- .. and then the next event is the earliest event to come
 unfoldable pub nextEventAfter : Numbers → TickState → ℕ
 nextEventAfter n s = cond (leb (s .event) (s .tick)) (earliest (n .count) (afterEvents n s .event)) (s .event)
 
--- the set `even` where a release turns a place of the set `paired` to its other width: in the due events of a tick the claimants `before` become those
--- of `behind`, and who is new among them was released
+-- the set `even` where a release turns a place of the set `paired` to its other width: in the due events of a tick the claimants `before` become
+-- `behind`, and a claimant that is new among them was released
 abbrev pub toggledBy : ℕ → ℕ → ℕ → ℕ → ℕ
 toggledBy paired even before behind = bitXor even (bitAnd (bitXor behind before) paired)
 
@@ -126,7 +126,7 @@ choiceKept n s = eqb (afterEvents n s .claiming) (s .chosen) && eqb (evenAtTick 
 abbrev pub choice : Numbers → ℕ → ℕ → ℕ
 choice n c e = setWhere mostTasks (granted (ruleOf (n .rule)) (claimants (widthsIn e (n .widths)) (bit c)) (unfenced (n .fence) (n .cores)))
 
--- who is granted cores: kept, or chosen anew
+-- the places that are granted cores: kept, or chosen anew
 unfoldable pub grantedAt : Numbers → TickState → ℕ
 grantedAt n s = cond (choiceKept n s) (s .granted) (choice n (afterEvents n s .claiming) (evenAtTick n s))
 
@@ -141,7 +141,7 @@ nextTickState n s = record {
   even = evenAtTick n s;
 }
 
--- a run that can be stepped: there are at most 32 tasks and 64 cores, its sums stay small, and who is granted cores is owed ticks
+-- a run that can be stepped: there are at most 32 tasks and 64 cores, its sums stay small, and every place that is granted cores is owed ticks
 pub record Steppable (n : Numbers) (s : TickState) : Type 0 where
   pub few : n .count ≤ mostTasks
   pub narrow : n .cores ≤ mostCores

@@ -7,7 +7,7 @@ use rule::PAIR;
 use table::Loaded;
 use table::Task;
 
-// What stays as it is in a run, beside the tasks: the rule, how many cores there are, the fence, how many tasks, and the set of the places with two widths.
+// The constants of a run, beside the tasks: the rule, the number of cores, the fence, the number of tasks, and the set of the places with two widths.
 pub struct Setting {
     pub rule: u32,
     pub cores: u32,
@@ -16,7 +16,7 @@ pub struct Setting {
     pub paired: u32,
 }
 
-// The numbers of a table that its run is stepped with; in `widths` the first of each place stand before the second, in `times` the lengths stand first,
+// The numbers of a table that its run is stepped with; `widths` has the first of each place before the second, `times` has the lengths first,
 // then the deadlines, then the periods.
 pub struct Columns {
     pub setting: Setting,

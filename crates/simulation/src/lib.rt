@@ -25,10 +25,10 @@ pub const DEADLINE: usize = MOST_TASKS;
 
 pub const PERIOD: usize = 2 * MOST_TASKS;
 
-// How long both arrays are.
+// The length of both arrays.
 pub const TRIPLE: usize = 3 * MOST_TASKS;
 
-// Releases a job of a place at this tick, and answers the set of claimants with the place in it.
+// Releases a job of a place at this tick, and returns the set of claimants with the place in it.
 pub fn release(
     place: usize,
     tick: u32,
@@ -61,7 +61,7 @@ pub struct Due {
     pub event: u32,
 }
 
-// Releases a job at each of the first `count` places whose event is this tick, for runs in which nobody is late.
+// Releases a job at each of the first `count` places whose event is this tick, for runs in which no job is late.
 pub fn release_due(
     tick: u32,
     count: usize,
@@ -89,7 +89,7 @@ pub fn release_due(
     }
 }
 
-// A tick of the places that are granted cores, and answers the set of those that still claim after it.
+// A tick of the places that are granted cores; returns the set of those that still claim after it.
 pub fn work(granted: u32, claiming: u32, places: &mut [u32; TRIPLE]) -> u32
     requires { ⌜ GrantedOwed (bit granted) (machineOf (now places) claiming) ⌝ }
     ensures { λ r. ⌜ machineOf (now (places .exit)) r ≡ workedTick (bit granted) (machineOf (now (places .entry)) claiming) ⌝ }
@@ -111,7 +111,7 @@ pub fn work(granted: u32, claiming: u32, places: &mut [u32; TRIPLE]) -> u32
     set
 }
 
-// One tick, for runs in which nobody is late: the due events where the next event has come, which turn who is released to its other width; the choice where
+// One tick, for runs in which no job is late: the due events where the next event has come, which turn a released place to its other width; the choice where
 // the claimants or their widths have changed; the work.
 pub fn step(
     setting: Setting,

@@ -1,4 +1,4 @@
-// The machine that runs a table at full length, and how it stands before tick 0.
+// The machine that runs a table at full length, and its state before tick 0.
 ghost use mathlib.Core.Path.{_≡_};
 ghost use lib.ListN.{length};
 ghost use Rattle.simulation.specs.TickState.{tickStateOf, initialTickState};
@@ -7,8 +7,8 @@ use crate::TRIPLE;
 use model::MOST_TASKS;
 use table::Loaded;
 
-// Where a run stands before a tick: the next event, before which nothing is due; the set of claimants; the claimants for whom the kept choice was made,
-// and who is granted cores by it; of the places with two widths, those that are at their second.
+// The state of a run before a tick: the next event, before which nothing is due; the set of claimants; the claimants for which the kept choice was made,
+// and those that are granted cores by it; of the places with two widths, those that are at their second.
 pub struct Registers {
     pub tick: u32,
     pub event: u32,
@@ -24,7 +24,7 @@ pub struct Machine {
     pub places: [u32; TRIPLE],
 }
 
-// The machine before tick 0: nobody claims, nobody is granted cores, and each task waits for its first release, which turns it to its first width.
+// The machine before tick 0: no place claims or is granted cores, and each task waits for its first release, which turns it to its first width.
 pub fn start(table: Loaded) -> Machine
     ensures { λ r. ⌜ (tickStateOf (r .registers) (r .places) ≡ initialTickState table) × (length (r .places) ≡ triple) ⌝ }
 {

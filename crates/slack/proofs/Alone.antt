@@ -1,5 +1,5 @@
--- THEOREM (alone-slack): a task alone, whose widths fit in the unfenced cores, runs in every tick from its release on, and so may grow to its deadline: its spare
--- ticks are D − C, up to C = 1,000,000.
+-- THEOREM (alone-slack): a task alone, whose widths fit in the unfenced cores, runs in every tick from its release on, and so may grow to its deadline: its
+-- slack is D − C, up to C = 1,000,000.
 use mathlib.Core.Bool.{Bool, cond, false, true, true≢false}
 use mathlib.Core.List.{[], _∷_}
 use mathlib.Core.Path.{_≡_, ap, refl, subst, sym, _∙_}
@@ -115,7 +115,7 @@ alone-slack m f r τ ok fits short = go (ltb g room) refl
     g : ℕ
     g = least room late
 
-    -- the task is as sound with any growth
+    -- the task is valid with any growth too
     longer : (h : ℕ) → ValidTask (lengthen h τ)
     longer h = record {
       odd-pos = ok .odd-pos;

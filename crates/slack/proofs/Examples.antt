@@ -1,5 +1,5 @@
--- Spare ticks computed from the definitions: figures at their edges, and what each number turns down. And why the order of rules and widths is needed: under
--- the other rules, and under rule 1 out of the width order, a longer job can save a table.
+-- Slack computed from the definitions: at its limits, and what each number turns down. And why the order of rules and widths is needed: under
+-- the other rules, and under rule 1 out of the width order, a table can miss and with a longer job be accepted.
 use mathlib.Core.List.{List, [], _++_, map, _∷_}
 use mathlib.Core.Logic.{inl, inr, _⊎_}
 use mathlib.Core.Path.{refl, _≡_}
@@ -82,11 +82,11 @@ pub record Line : Type 0 where
   pub words : List ℕ
   pub says : SlackAnswer
 
--- what the definitions say of a line's words
+-- the value by the definitions of a line's words
 abbrev pub worked : Line → Line
 worked l = record { words = l .words; says = slackOf (l .words) }
 
--- these figures are given, with zeros past them; the words are turned down by a number, with its position
+-- these numbers are given, with zeros past them; the words are turned down by a number, with its position
 abbrev givenSlack : List ℕ → List ℕ → Line
 givenSlack ws xs = record { words = ws; says = answers.givenSlack (xs ++ replicate (mostTasks - length xs) 0) }
 
@@ -136,24 +136,24 @@ alternating r = header 1 2 r ++ entry₂ 2 0 1 2 1 3 3 ++ entry 0 0 1 1 3 3
 abbrev alternating-second : ℕ → List ℕ
 alternating-second r = header 1 2 r ++ entry 2 0 1 1 3 3 ++ entry₂ 0 0 1 2 1 3 3
 
--- six tasks that all want one core in tick 0, and so miss at tick 1, and a seventh; their horizon is 1,000,000,001
+-- six tasks that all claim one core in tick 0, and so miss at tick 1, and a seventh; their horizon is 1,000,000,001
 abbrev six-at-once : List ℕ
 six-at-once = header 1 1 1 ++ chained 7 1 (8 ∷ 27 ∷ 125 ∷ 7 ∷ 11 ∷ 13 ∷ []) ++ entry 0 1001 1 1 1 37
 
 abbrev pub lines : List Line
 lines =
-    -- one task alone may grow to its deadline: it has no spare ticks, or two of them with D below T
+    -- one task alone may grow to its deadline: it has no slack, or two of them with D below T
     givenSlack (header 1 1 2 ++ entry 0 0 1 2 2 2) (0 ∷ []) ∷ givenSlack (header 1 1 2 ++ entry 0 0 1 1 3 5) (2 ∷ [])
     -- two tasks share two ticks, each alone may have them; one is bounded by the other's deadline
     ∷ givenSlack (header 1 1 2 ++ entry 2 0 1 1 4 4 ++ entry 0 0 1 1 4 4) (2 ∷ 2 ∷ [])
     ∷ givenSlack (header 1 1 2 ++ entry 2 0 1 1 4 4 ++ entry 0 0 1 1 3 4) (1 ∷ 1 ∷ [])
-    -- the second has no room, and so the first none, but the third; with the records in other places
+    -- the second has no space, and so the first none, but the third; with the records in other places
     ∷ givenSlack harmed (0 ∷ 0 ∷ 3 ∷ []) ∷ givenSlack permuted (0 ∷ 0 ∷ 3 ∷ [])
     -- C2, in the width order, under rules 1 and 2; not under 3 and 4, though it is accepted
     ∷ givenSlack (ruledC2 1) (0 ∷ 1 ∷ 0 ∷ []) ∷ givenSlack (ruledC2 2) (0 ∷ 1 ∷ 0 ∷ []) ∷ refuses (ruledC2 3) 23 0 ∷ refuses (ruledC2 4) 23 0
     -- E, whose first job is released late
     ∷ givenSlack wordsE (0 ∷ 0 ∷ [])
-    -- two widths: rule 2 asks for no order, rule 1 for the larger of each to be at most the smaller of the next
+    -- two widths: rule 2 needs no order, rule 1 needs the larger of each to be at most the smaller of the next
     ∷ givenSlack (alternating 2) (1 ∷ 1 ∷ []) ∷ refuses (alternating 1) 23 0 ∷ givenSlack (alternating-second 1) (1 ∷ 1 ∷ []) ∷ givenSlack (alternating-second 2) (1 ∷ 1 ∷ [])
     -- on the one core that the fence leaves of two, and on both
     ∷ givenSlack (1 ∷ 2 ∷ 2 ∷ 2 ∷ 0 ∷ entry 2 0 1 1 2 3 ++ entry 0 0 1 1 3 3) (1 ∷ 1 ∷ [])
@@ -164,7 +164,7 @@ lines =
     ∷ refuses (ruledA 2) 23 0 ∷ refuses (ruledB 2) 23 0 ∷ refuses (ruledC 2) 23 0 ∷ refuses (wordsF 1 2) 23 0 ∷ givenSlack (wordsF 1 1) (0 ∷ [])
     -- rules 3 and 4: A and B, which are Firm
     ∷ refuses (ruledA 3) 23 0 ∷ refuses (ruledA 4) 23 0 ∷ refuses (ruledB 3) 23 0 ∷ refuses (ruledB 4) 23 0
-    -- 32 places, which have 32 figures
+    -- 32 places, which have 32 numbers
     ∷ givenSlack (header 1 32 1 ++ chained 0 1 (replicate 32 1)) (replicate 32 0)
     -- C of 1,000,000 and one more: 23 and 8
     ∷ refuses (wordsF 2 1000000) 23 0 ∷ refuses (wordsF 2 1000001) 8 1
@@ -173,7 +173,7 @@ lines =
     ∷ refuses (header 1 1 3 ++ entry 2 0 1 1 2 2 ++ entry 0 0 2 1 1 1) 7 2 ∷ refuses six-at-once 9 0
     ∷ []
 
--- every line is what the definitions say
+-- every line is its value by the definitions
 pub examples : map worked lines ≡ lines
 unfolding slackOf slackIn hasSlack ordered slack misses chained answerOf byWalk byTasks byHorizon firstOut endingOf lastStep headerNumber tableOf chain count
     met computing

@@ -1,5 +1,5 @@
--- THE SPARE TICKS: the figure has what is claimed of it (`slack-exact`), no other number has (`slack-only`), and a growth that is accepted where one tick more
--- misses is the figure (`slack-found`); no larger growth is accepted (`slack-largest`).
+-- THE SLACK: `slack` has what is claimed of it (`slack-exact`), no other number has (`slack-only`), and a growth that is accepted where one tick more
+-- misses is the slack (`slack-found`); no larger growth is accepted (`slack-largest`).
 use mathlib.Core.Bool.{Bool, false, true}
 use mathlib.Core.Logic.{inl, inr, _⊎_}
 use mathlib.Core.Path.{refl, subst, sym, _≡_}
@@ -74,7 +74,7 @@ module _ (s : Table) (ok : AllValid s) (p : ℕ) (l : p < length (s .tasks)) whe
         more true e = least-found room f (ltb-true g room e)
         more false e = past-deadline (suc g) (omega (arith, ltb-false g room e))
 
-    -- HALVING: where longer jobs miss no less, an accepted growth with one tick more that misses is the figure
+    -- BISECTION: where longer jobs miss no less, an accepted growth with one tick more that misses is the slack
     pub slack-found : Ordered s → (g : ℕ) → misses (grown s p g) ≡ false → misses (grown s p (suc g)) ≡ true → g ≡ slack s p
     slack-found o g fits late =
         slack-only s p g (slack s p)
@@ -99,6 +99,6 @@ module _ (s : Table) (ok : AllValid s) (p : ℕ) (l : p < length (s .tasks)) whe
             go (inl m) = smaller-growth s ok o p h (suc g) i fits (m .0) (m .1) (m .2)
             go (inr m) = omega (arith, grown-within h fits)
 
-    -- the figure leaves C within the deadline
+    -- the slack leaves C within the deadline
     pub slack-room : task s p .length + slack s p ≤ task s p .deadline
     slack-room = grown-within (slack s p) (slack-exact .accepted (slack s p) (omega arith))

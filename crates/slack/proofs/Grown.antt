@@ -1,4 +1,4 @@
--- Tables whose lengths have grown: they are sound and in the width order where the table is, S, P and the horizon stay, and less growth is accepted where more
+-- Tables whose lengths have grown: they are valid and in the width order where the table is, S, P and the horizon stay, and less growth is accepted where more
 -- is (`smaller-growth`).
 use mathlib.Core.List.{List, [], _∷_}
 use mathlib.Core.Logic.{inl, inr}

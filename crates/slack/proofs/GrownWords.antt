@@ -1,5 +1,5 @@
--- THEOREM (every-growth): the words with one C grown say the table that has grown, and no number turns them down where none turns down the whole and C is
--- within its limit. One word changes, which the walk along the chain does not read, nor S, P and the horizon.
+-- THEOREM (every-growth): the words with one C grown represent the table that has grown, and no number turns them down where none turns down the whole and C
+-- is within its limit. One word changes, which the walk along the chain does not read, nor S, P and the horizon.
 use mathlib.Core.Bool.{Bool, false, true}
 use mathlib.Core.List.{List}
 use mathlib.Core.Logic.{_⊎_, inl, inr}
@@ -132,7 +132,7 @@ module _ (ws : List ℕ) (none : NoneApplies ws) (p : ℕ) (l : p < length (tabl
       let k : q < count us = omega (arith, table-length us) in
       table-at us q k ∙ task-grown q (omega (arith, same-count)))
 
-  -- THE WORDS SAY THE TABLE THAT HAS GROWN
+  -- THE WORDS REPRESENT THE TABLE THAT HAS GROWN
   pub grown-table : tableOf us ≡ grown (tableOf ws) p g
   unfolding tableOf
   grown-table =

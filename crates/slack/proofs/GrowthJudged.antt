@@ -1,4 +1,4 @@
--- THEOREM (growth-judged): the spare ticks in the judge's words. The words with a growth up to the figure get the verdict of the table itself, and those with one
+-- THEOREM (growth-judged): the slack in the judge's words. The words with a growth up to the slack get the verdict of the table itself, and those with one
 -- tick more a miss, where C is then within 1,000,000.
 use mathlib.Core.Bool.{Bool, false, true}
 use mathlib.Core.List.{List}

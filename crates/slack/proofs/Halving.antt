@@ -1,4 +1,4 @@
--- Halving between a growth that is accepted and one that misses: where they are next to each other, the lower one is the figure.
+-- Bisection between a growth that is accepted and one that misses: where they are next to each other, the lower one is the slack.
 use mathlib.Core.Bool.{false, true}
 use mathlib.Core.Path.{_≡_, subst}
 use Prim.Native.Nat.{ℕ, suc, _+_, _-_, _<_, _≤_}
@@ -34,7 +34,7 @@ module _ (s : Table) (ok : AllValid s) (e : hasSlack s ≡ true) (p : ℕ) (l : 
     near = omega (arith, length-short);
   }
 
-  -- to the figure
+  -- to the slack
   pub between-end : (fits late : ℕ) → Between s p fits late → late ≤ fits + 1 → fits ≡ slack s p
   between-end fits late b h =
       slack-found s ok p l (gives-exact s ok .0 e .0) short (gives-exact s ok .0 e .1) fits (b .accepted)

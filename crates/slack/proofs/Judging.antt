@@ -1,4 +1,4 @@
--- What is found of the first miss, and which rules a number means: what code asks of a table that was loaded.
+-- What is found of the first miss, and which rules a number means: the tests of a table that was loaded.
 use mathlib.Core.Bool.{Bool, cond, false, true}
 use mathlib.Core.List.{List}
 use mathlib.Core.Path.{_≡_, refl, subst, sym, _∙_}
@@ -23,7 +23,7 @@ abbrev pub isFound : Missed → Bool
 isFound Never = false
 isFound (At t p) = true
 
--- what is found before the tick after the horizon says whether the table misses
+-- what is found before the tick after the horizon decides whether the table misses
 pub found-misses : (t : Loaded) → Fit t → (m u : Missed) → m ≡ missedBefore (loadedTable t) (t .horizon + 1) → m ≡ u → isFound u ≡ misses (loadedTable t)
 unfolding misses
 found-misses t fit m u v e = go u (subst (λ (b : ℕ). missedBefore (loadedTable t) b ≡ u) (omega (arith, fit .horizon)) (sym v ∙ e))

@@ -1,4 +1,4 @@
--- The laws behind `slack`: longer jobs miss no less, tables that have grown and their words, the figure and the halving that finds it, the promise, and
+-- The laws of `slack`: longer jobs miss no less, tables that have grown and their words, the slack and the bisection that finds it, the contract, and
 -- computed examples.
 pub mod Longer
 pub mod Misses

@@ -1,4 +1,4 @@
--- The list of figures: 32 of them, that of each task at its place, and zeros past the count.
+-- The list of slacks: 32 numbers, that of each task at its place, and zeros past the count.
 use mathlib.Core.Bool.{Bool, false, true}
 use mathlib.Core.List.{List, map, _++_}
 use mathlib.Core.Logic.{⊎-elim}
@@ -43,7 +43,7 @@ module _ (s : Table) where
       ap (λ (i : ℕ). getD (front ++ replicate (32 - count) 0) i 0) e
       ∙ (getD-append-add front (replicate (32 - count) 0) (p - count) 0 ∙ getD-zeros (32 - count) (p - count))
 
-  -- the figures of the first i places, and zeros behind them
+  -- the numbers of the first i places, and zeros after them
   pub record Filled (xs : List ℕ) (i : ℕ) : Type 0 where
     pub size : length xs ≡ 32
     pub done : (p : ℕ) → p < i → getD xs p 0 ≡ slack s p

@@ -1,5 +1,5 @@
 -- THEOREM (longer-misses): under rule 2, and under rule 1 in the width order, a table that never misses with longer lengths never misses with shorter ones.
--- The run with shorter lengths stays ahead: who runs in the longer run, and has not ended in the shorter one, runs there too.
+-- The run with shorter lengths stays ahead: a task that runs in the longer run, and has not ended in the shorter one, runs there too.
 use mathlib.Core.Bool.{Bool, false, false≢true, not, true, true≢false}
 use mathlib.Core.List.{List, []}
 use mathlib.Core.Logic.{inl, inr}
@@ -115,7 +115,7 @@ module _ (s s′ : Table) (ok : AllValid s) (x : TableLengthened s s′) (y : Yi
   abbrev Leads : ℕ → Type 0
   Leads n = (p k : ℕ) → p < length (s .tasks) → LongerBehind (full s n .job p k) (full s′ n .job p k)
 
-  -- who claims in the shorter run claims in the longer one
+  -- a place that claims in the shorter run claims in the longer one
   subset : (n : ℕ) → Leads n → (q : ℕ) → q < length (widths s (full s n .tick)) → taskClaims s (full s n) q ≡ true → taskClaims s′ (full s′ n) q ≡ true
   subset n ab q l e =
       let k : ℕ = newest (task s q) n in
@@ -124,7 +124,7 @@ module _ (s s′ : Table) (ok : AllValid s) (x : TableLengthened s s′) (y : Yi
       claims-both (s .rule) (s′ .rule) (x .places q) (y .lets) k n (full s n .job q k) (full s′ n .job q k) (ab q k (rw length-map at l)) here in
       rw (full-tick s′ n) (subst (λ (m : ℕ). claims (s′ .rule) (task s′ q) m n (full s′ n .job q m) ≡ true) (same-newest (x .places q) n) there)
 
-  -- so who runs there, and has not ended here, runs here
+  -- so a place that runs there, and has not ended here, runs here
   follow :
       (n : ℕ) → Leads n → (p k : ℕ) → p < length (s .tasks) → full s n .job p k .ended ≡ false
       → served s′ (full s′ n) p k ≡ true → served s (full s n) p k ≡ true

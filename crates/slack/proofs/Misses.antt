@@ -36,11 +36,11 @@ module _ (s : Table) (ok : AllValid s) where
   pub never-misses : NeverMissed s → misses s ≡ false
   never-misses nm = not-true-false (misses s) (λ e. let x = misses-some e in nm (x .0) (x .1) (x .2))
 
-  -- THEOREM: the test says whether some deadline is ever missed
+  -- THEOREM: the test is true exactly if some deadline is ever missed
   pub misses-exact : (misses s ≡ true) ↔ ((p t : ℕ) × Missed s p t)
   misses-exact = (misses-some, λ x. not-false-true (misses s) (λ e. misses-never e (x .0) (x .1) (x .2)))
 
--- a tick brings a job at most one tick
+-- a job has at most one tick more after a tick
 next-one : (C : ℕ) (f u : Bool) (h c : ℕ) (e : Bool) → next C f u (mk h c e) .had ≤ suc h
 unfolding work
 next-one C f true h c true = omega arith

@@ -1,4 +1,4 @@
--- What the words of a record off the chain say changes no answer.
+-- The words of a record off the chain change no answer.
 use mathlib.Core.List.{List}
 use mathlib.Core.Path.{_≡_, ap, refl, _∙_}
 use Prim.Native.Nat.{ℕ}
@@ -10,7 +10,7 @@ use Rattle.table.specs.OffChain.{SameOnChain}
 use Rattle.table.specs.Words.{tableOf}
 use Rattle.slack.specs.Answer.{slackBy, slackOf}
 
--- two tables that agree on the header and on every record that the walk meets have the same spare ticks
+-- two tables that agree on the header and on every record that the walk meets have the same slack
 pub off-chain-slack : (ws us : List ℕ) → SameOnChain ws us → slackOf ws ≡ slackOf us
 unfolding slackOf
 off-chain-slack ws us same = ap (λ (a : Answer). slackBy a (tableOf ws)) (off-chain-answer ws us same) ∙ go (answerOf us) refl

@@ -1,4 +1,4 @@
--- The rules and widths that spare ticks are given for: the test, and the condition by the rule's number.
+-- The rules and widths that slack is given for: the test, and the condition by the rule's number.
 use mathlib.Core.Bool.{false, false≢true, not, true}
 use mathlib.Core.List.{List}
 use mathlib.Core.Logic.{_↔_, inl, inr}
@@ -18,7 +18,7 @@ use Rattle.slack.specs.Ordered.{Ordered, OrderedWords, ordered}
 use Rattle.slack.specs.Slack.{misses}
 use Rattle.slack.proofs.Misses.{misses-never, never-misses}
 
--- the test says whether they are these
+-- the test is true exactly if they are these
 pub ordered-exact : (s : Table) → (ordered (s .rule) (s .tasks) ≡ true) ↔ Ordered s
 unfolding ordered
 ordered-exact s = (found (s .rule) refl, back)
@@ -33,7 +33,7 @@ ordered-exact s = (found (s .rule) refl, back)
     back (inl e) = subst (λ (r : Rule). ordered r (s .tasks) ≡ true) (sym e) refl
     back (inr (e, h)) = subst (λ (r : Rule). ordered r (s .tasks) ≡ true) (sym e) (monotonic-exact (s .tasks) .1 h)
 
--- spare ticks are given exactly for the accepted tables among them
+-- slack is given exactly for the accepted tables among them
 pub gives-exact : (s : Table) → AllValid s → (hasSlack s ≡ true) ↔ (NeverMissed s × Ordered s)
 unfolding hasSlack
 gives-exact s ok = (

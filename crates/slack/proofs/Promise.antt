@@ -1,4 +1,4 @@
--- What is promised of `slack`: its numbers are the first that apply, and its figures hold over all ticks.
+-- The contract of `slack`: its refusal is the first that applies, and the slack holds over all ticks.
 use mathlib.Core.Bool.{Bool, false, false≢true, true}
 use mathlib.Core.List.{List}
 use mathlib.Core.Path.{_≡_, ap, refl, subst, sym, _∙_}
@@ -112,7 +112,7 @@ module _ (ws : List ℕ) where
       zeros = λ m q e. refl;
     }
 
-  -- THE PROMISE, by the table's answer
+  -- THE CONTRACT, by the table's answer
   pub slack-promise : SlackOf ws (slackOf ws)
   slack-promise = subst (SlackOf ws) (is (answerOf ws) refl) (go (answerOf ws) refl)
     where

@@ -1,4 +1,4 @@
--- Spare ticks: tables with longer lengths, the rules that they are given for, the figure of a task, its words, and what is promised.
+-- Slack: tables with longer lengths, the rules that it is given for, the slack of a task, its words, and the contract.
 pub mod Longer
 pub mod Ordered
 pub mod Slack

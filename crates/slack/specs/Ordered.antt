@@ -1,4 +1,4 @@
--- The rules and widths that spare ticks are given for (request 111): rule 2, and rule 1 in the width order.
+-- The rules and widths that slack is given for (request 111): rule 2, and rule 1 in the width order.
 use mathlib.Core.Bool.{Bool, true, false}
 use mathlib.Core.List.{List}
 use mathlib.Core.Logic.{_⊎_}
@@ -8,7 +8,7 @@ use Rattle.model.specs.Firm.{ParallelismMonotonic, parallelismMonotonic}
 use Rattle.model.specs.Task.{Rule, Table, Task, greedy, idling, lending, limited}
 use Rattle.table.specs.Words.{rule, tableOf}
 
--- under these a table that is accepted with longer lengths is accepted with shorter ones (`longer-misses`), under the others it need not be (`longer-fits`)
+-- under these a table that is accepted with longer lengths is accepted with shorter ones (`longer-misses`), under the others not always (`longer-fits`)
 abbrev pub Ordered : Table → Type 0
 Ordered s = (s .rule ≡ limited) ⊎ ((s .rule ≡ greedy) × ParallelismMonotonic (s .tasks))
 

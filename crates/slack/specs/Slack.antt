@@ -1,4 +1,4 @@
--- The spare ticks of a task (request 111): how much longer it alone may become with the table still accepted.
+-- The slack of a task (request 111): how much longer it alone may become with the table still accepted. It is not slack reclaiming (lending).
 use mathlib.Core.Bool.{Bool}
 use mathlib.Core.Logic.{_⊎_}
 use Prim.Native.Nat.{ℕ, suc, _+_, _-_, _<_, _≤_}
@@ -14,11 +14,11 @@ use Rattle.slack.specs.Longer.{grown}
 unfoldable pub misses : Table → Bool
 misses s = any (suc (horizon s)) (missedIn s)
 
--- THE FIGURE of place p: the least growth after which one tick more misses, or what takes C to the deadline, since no longer job is ever done by then
+-- THE SLACK of place p: the least growth after which one tick more misses, or that which takes C to the deadline, since no longer job ever ends by then
 unfoldable pub slack : Table → ℕ → ℕ
 slack s p = least (task s p .deadline - task s p .length) (λ g. misses (grown s p (suc g)))
 
--- what is claimed of the spare ticks g of place p, over all ticks (`slack-exact` shows it of the figure, `slack-only` that no other number has it)
+-- the claims about the slack g of place p, over all ticks (`slack-exact` shows them of `slack`, `slack-only` that no other number has them)
 pub record Slack (s : Table) (p g : ℕ) : Type 0 where
   -- this growth and every smaller one is accepted
   pub accepted : (h : ℕ) → h ≤ g → NeverMissed (grown s p h)

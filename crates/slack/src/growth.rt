@@ -1,4 +1,4 @@
-// A table that passed, with the C of one task grown: whether it misses, and how far one may grow.
+// A table that passed, with the C of one task grown: whether it misses, and how far one task may grow.
 ghost use mathlib.Core.Bool.{true};
 ghost use mathlib.Core.Path.{_≡_};
 ghost use Prim.Native.Nat.{_+_, _≤_, _<_};
@@ -38,7 +38,7 @@ fn misses_longer(table: Loaded, place: usize, growth: u32) -> bool
     misses(longer)
 }
 
-// Whether the rule and the widths are those that spare ticks are given for.
+// Whether the rule and the widths are those that slack is given for.
 fn is_ordered(rule: u32, tasks: [Task; MOST_TASKS], count: usize) -> bool
     requires { ⌜ count ≤ mostTasks ⌝ }
     ensures { λ r. ⌜ r ≡ ordered (ruleOf rule) (tasksOf tasks count) ⌝ }
@@ -52,7 +52,7 @@ fn is_ordered(rule: u32, tasks: [Task; MOST_TASKS], count: usize) -> bool
     judge::is_firm(rule, tasks, count)
 }
 
-// Whether spare ticks are given for a table: it is so ordered, and accepted.
+// Whether slack is given for a table: it is so ordered, and accepted.
 pub(crate) fn is_given(table: Loaded) -> bool
     requires { ⌜ Fit table ⌝ }
     ensures { λ r. ⌜ r ≡ hasSlack (loadedTable table) ⌝ }
@@ -64,7 +64,7 @@ pub(crate) fn is_given(table: Loaded) -> bool
     false
 }
 
-// The spare ticks of the task at a place: halving between a growth that fits and one that misses, from none and from one past the deadline.
+// The slack of the task at a place: bisection between a growth that fits and one that misses, from none and from one past the deadline.
 fn slack_at(table: Loaded, place: usize) -> u32
     requires { ⌜ Fit table × (place < table .count) × (hasSlack (loadedTable table) ≡ true) ⌝ }
     ensures { λ r. ⌜ r ≡ slack (loadedTable table) place ⌝ }
@@ -83,7 +83,7 @@ fn slack_at(table: Loaded, place: usize) -> u32
     fits
 }
 
-// The spare ticks of each task, and zeros past the count.
+// The slack of each task, and zeros past the count.
 pub(crate) fn figures(table: Loaded) -> [u32; MOST_TASKS]
     requires { ⌜ Fit table × (hasSlack (loadedTable table) ≡ true) ⌝ }
     ensures { λ r. ⌜ r ≡ slackIn (loadedTable table) ⌝ }

@@ -1,4 +1,4 @@
-// Spare ticks: by how many ticks each task of a table alone may become longer.
+// Slack: by how many ticks each task of a table alone may become longer.
 ghost use mathlib.Core.Path.{_≡_};
 ghost use Rattle.judge.specs.Judged.{loadedTable, Fit};
 ghost use Rattle.slack.specs.Answer.{slackIn, hasSlack, slackAnswer, noSlack, SlackOf};
@@ -6,9 +6,9 @@ use model::MOST_TASKS;
 use table::Answer;
 use table::Loaded;
 
-mod growth; // growth.rt: a table with one task longer, and the figure of a task
+mod growth; // growth.rt: a table with one task longer, and the slack of a task
 
-// The answer: passed, or Refused with number and position. And the spare ticks of each task in priority order; zeros past the count, and in a refusal.
+// The answer: passed, or Refused with number and position. And the slack of each task in priority order; zeros past the count, and in a refusal.
 pub struct SlackAnswer {
     pub answer: Answer,
     pub slack: [u32; MOST_TASKS],
@@ -25,7 +25,7 @@ fn refused(number: u32, position: u32) -> SlackAnswer
     }
 }
 
-// The figures of a table that passed, or 23.
+// The slack of each task of a table that passed, or 23.
 fn by_table(table: Loaded) -> SlackAnswer
     requires { ⌜ Fit table ⌝ }
     ensures { λ r. ⌜ r ≡ slackAnswer (hasSlack (loadedTable table)) (slackIn (loadedTable table)) ⌝ }
@@ -40,8 +40,8 @@ fn by_table(table: Loaded) -> SlackAnswer
     refused(23, 0)
 }
 
-// The spare ticks of the table in these words; or the first of the table's numbers that applies, or 23 where it is not accepted under rule 2, nor under
-// rule 1 in the width order.
+// The slack of each task of the table in these words; or the first of the table's numbers that applies, or 23 where it is not accepted under rule 2, nor
+// under rule 1 in the width order.
 pub fn slack(words: &[u32]) -> SlackAnswer
     ensures { λ r. ⌜ SlackOf (now (words .entry)) r ⌝ }
 {

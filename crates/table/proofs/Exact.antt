@@ -95,7 +95,7 @@ first-other ws n other a b = (a, earlier)
         let same : m ≡ n = codeTask ws m q x .alone (λ y. other (sym e ∙ y)) ∙ (ap numberAt e ∙ sym (codeTask ws n 0 a .alone other)) in
         omega (arith, same)
 
--- what an answer says of the words
+-- the meaning of an answer for the words
 abbrev Right : List ℕ → Answer → Type 0
 Right ws Passed = NoneApplies ws
 Right ws (Refused n p) = First ws n p

@@ -23,7 +23,7 @@ pub record Line : Type 0 where
   pub words : List ℕ
   pub gives : Loaded
 
--- what the definitions say of a line's words
+-- the value by the definitions of a line's words
 abbrev pub worked : Line → Line
 worked l = record { name = l .name; words = l .words; gives = loadOf (l .words) }
 
@@ -250,7 +250,7 @@ pub unfenced-last : unfencedWords (fenced 1 33 2 4294967295 0 ++ entry 0 0 1 1 1
 unfolding unfencedWords filtered upFrom
 unfenced-last = refl
 
--- every line is what the definitions say, line by line
+-- every line is its value by the definitions, line by line
 computed : LineByLine worked lines lines
 unfolding chained filtered loadOf answerOf byWalk byTasks byHorizon firstOut endingOf lastStep headerNumber tableOf chain count met horizon S hyperperiod lcm least any upFrom
 computed =

@@ -40,7 +40,7 @@ inside m τ n =
 pub inside-test : (m : ℕ) (τ : Task) → taskOut m τ ≡ false → Inside m τ
 inside-test m τ e = inside m τ (fails (taskOut m τ) (WidthOut m τ ⊎ TimesOut τ) (task-decides m τ) e)
 
--- and so within what the theorems of the model ask
+-- and so within the assumptions of the model's theorems
 pub inside-valid : (m : ℕ) (τ : Task) → Inside m τ → ValidTask τ
 inside-valid m τ i = record {
   odd-pos = i .odd-from .0;

@@ -1,4 +1,4 @@
--- The proofs of what `load` promises: tests that decide, the walk along the chain, the order of the numbers, S and P; and computed examples.
+-- The proofs of the contract of `load`: tests that decide, the walk along the chain, the order of the numbers, S and P; and computed examples.
 pub mod Examples
 pub mod Decide
 pub mod Tests

@@ -1,4 +1,4 @@
--- What code gives at each stage of `load` is what the definitions say.
+-- What code gives at each stage of `load` is the value by the definitions.
 use mathlib.Core.Path.{_≡_, refl, sym, ap, _∙_}
 use mathlib.Core.Bool.{true, false}
 use mathlib.Core.List.{List, [], _∷_, map}
@@ -25,7 +25,7 @@ use Rattle.table.proofs.FirstOut.{out-lowest}
 use Rattle.table.proofs.Inside.{inside-test}
 use Rattle.table.proofs.Hyperperiods.{exceeds-capped, capped-exact}
 
--- the tasks that stand in the places
+-- the tasks that are in the places
 placed-back : (τs : List model.Task) → map taskOf (map codeTask τs) ≡ τs
 placed-back [] = refl
 placed-back (τ ∷ τs) = ap {B = List model.Task} (λ ts. τ ∷ ts) (placed-back τs)

@@ -17,7 +17,7 @@ shared = 8
 abbrev pub numberAt : ℕ → ℕ
 numberAt k = cond (eqb k 4) 19 (cond (ltb 4 k && ltb k shared) (k - 1) k)
 
--- a number that applies to a table: it stands at one of the places 1 to 9, and at a place that is not shared it is the only one
+-- a number that applies to a table: it is at one of the places 1 to 9, and at a place that is not shared it is the only one
 pub record Placed (n : ℕ) : Type 0 where
   pub from : 1 ≤ place n
   pub most : place n < 10

@@ -1,4 +1,4 @@
--- The tasks of an array's first places: how many there are, and which stands at a place.
+-- The tasks of an array's first places: how many there are, and which is at a place.
 use mathlib.Core.Path.{_≡_, ap, _∙_}
 use mathlib.Core.List.{List}
 use Prim.Native.Nat.{ℕ, _≤_, _<_}

@@ -1,4 +1,4 @@
--- What `load` promises follows from its value.
+-- The contract of `load` follows from its value.
 use mathlib.Core.Path.{_≡_, refl, sym, ap, _∙_, subst}
 use mathlib.Core.List.{List}
 use Prim.Native.Nat.{ℕ}
@@ -15,7 +15,7 @@ use Rattle.table.proofs.Exact.{refusal-exact, passed-exact}
 use Rattle.table.proofs.Passed.{passed-count, passed-horizon}
 use Rattle.table.proofs.Loads.{places-tasks, places-past}
 
--- what is told of an answer determines it
+-- the meaning of an answer determines it
 pub meaning-passed : (a : Answer) → loadMeaning a ≡ book.taken → a ≡ Passed
 meaning-passed Passed e = refl
 meaning-passed (Refused n p) e = absurd (let z : _≡_ {A = ℕ} 0 1 = cc in omega arith)

@@ -16,8 +16,8 @@ use Rattle.table.specs.Task.{taskOf, tasksOf, noTask, TimesWithin, InLim
 use Rattle.table.proofs.Places.{tasks-length, task-at}
 use Rattle.table.specs.Limits.{mostTime}
 
--- the ticks of t since an offset, by arithmetic alone: with 2^26 added first, the quotient by 2^26 says whether t has
--- reached the offset, and the rest by how much
+-- the ticks of t since an offset, by arithmetic alone: with 2^26 added first, the quotient by 2^26 is 1 if t has
+-- reached the offset, and the rest is by how much
 abbrev pub since : ℕ → ℕ → ℕ
 since t offset = (t + 67108864 - offset) % 67108864 * ((t + 67108864 - offset) / 67108864)
 

@@ -1,4 +1,4 @@
--- The tests of the numbers decide what the numbers say.
+-- The tests of the numbers decide their conditions.
 use mathlib.Core.Path.{_≡_, refl, sym, ap, subst, _∙_}
 use mathlib.Core.Bool.{Bool, true, false, not, _||_, cond, true≢false}
 use mathlib.Core.List.{List}

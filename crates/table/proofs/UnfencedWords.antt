@@ -1,4 +1,5 @@
--- A table with just its unfenced cores and no fence: it is the model's (`unfenced-table`), and no number turns it down where none turned the fenced one down (`unfenced-passes`).
+-- A table with just its unfenced cores and no fence: it is the model's (`unfenced-table`), and no number turns it down where none turned the fenced one down
+-- (`unfenced-passes`).
 use mathlib.Core.Bool.{Bool, true, false, not, _&&_}
 use mathlib.Core.List.{List, [], _∷_, map}
 use mathlib.Core.Logic.{_⊎_, inl, inr, ⊎-elim}
@@ -39,7 +40,7 @@ module _ (ws : List ℕ) (long : headerWords ≤ length ws) where
   same-records : records us ≡ records ws
   same-records = ap (λ (n : ℕ). (n - headerWords) / recordWords) same-length
 
-  -- a word behind the header
+  -- a word after the header
   same-word : (k : ℕ) → getD us (headerWords + k) 0 ≡ getD ws (headerWords + k) 0
   unfolding unfencedWords
   same-word k =
@@ -163,6 +164,6 @@ module _ (ws : List ℕ) (none : NoneApplies ws) where
       unfenced-horizon : horizon (unfencedTable (tableOf ws)) ≡ horizon (tableOf ws)
       unfenced-horizon = unfold horizon in refl
 
-  -- THE THEOREM: the words with just the unfenced cores pass too, and say the table with just its unfenced cores
+  -- THE THEOREM: the words with just the unfenced cores pass too, and represent the table with just its unfenced cores
   pub unfenced-table : tableOf (unfencedWords ws) ≡ unfencedTable (tableOf ws)
   unfenced-table = unfenced-is ws enough

@@ -18,7 +18,7 @@ use Rattle.table.proofs.Decide.{Decides, fails}
 use Rattle.table.proofs.Tests.{past-decides, again-decides, stops-decides}
 use Rattle.table.proofs.Pigeonhole.{pigeonhole}
 
--- what stands at a step where the walk goes on
+-- what is at a step where the walk goes on
 pub goes-on : (ws : List ℕ) (j : ℕ) → stopsAt ws j ≡ false → (¬ EndAt ws j) × (¬ PastAt ws j) × (¬ AgainAt ws j)
 goes-on ws j e =
     let never = fails (stopsAt ws j) _ (stops-decides ws j) e in

@@ -67,7 +67,7 @@ again-not-whole e = let z : _≡_ {A = ℕ} 0 1 = cc in omega arith
 
 module _ (ws : List ℕ) (tasks : List Task) (seen : List Bool) (k at : ℕ) (w : Walking ws tasks seen k at) where
   module _ (some : at ≡ 0 → ⊥) (inside : at ≤ records ws) (few : records ws ≤ mostTasks) where
-    -- the mark of the record met says whether it is met again
+    -- the mark of the record met is set exactly if it is met again
     mark : getD seen (at - 1) false ≡ againAt ws k
     mark =
         let e : suc (at - 1) ≡ met ws k = (let h = w .here in omega arith) in

@@ -1,5 +1,5 @@
--- What `load` answers, as a value that computes: the tests of the numbers in their order.
--- That it is the first number that applies, and passed where none does, are the laws `refusal-exact` and `passed-exact`.
+-- The answer of `load`, as a value that computes: the tests of the numbers in their order.
+-- It is the first number that applies, and passed where none does: `refusal-exact` and `passed-exact`.
 use mathlib.Core.Bool.{Bool, not, _||_, cond}
 use mathlib.Core.List.{List}
 use Prim.Native.Nat.{ℕ, suc, _-_, _%_}
@@ -52,7 +52,7 @@ firstOut m τs = least (length τs) (λ p. taskOut m (getD τs p absentTask))
 unfoldable pub byHorizon : Table → Answer
 byHorizon s = cond (horizonOut (horizon s)) (Refused 9 0) Passed
 
--- what a width is measured against: the number of unfenced cores
+-- the largest width that fits: the number of unfenced cores
 abbrev pub wide : Table → ℕ
 wide s = unfencedCount (s .fence) (s .cores)
 

@@ -1,4 +1,4 @@
--- The limits on the header and on a task (scope, 'The table'): for each what it says, and the test that decides it.
+-- The limits on the header and on a task (scope, 'The table'): the condition of each, and the test that decides it.
 use mathlib.Core.Path.{_≡_}
 use mathlib.Core.Bool.{Bool, true, not, _&&_, _||_, cond}
 use mathlib.Core.Logic.{_⊎_}
@@ -40,7 +40,7 @@ RuleOut n = ¬ InRange 1 4 n
 abbrev pub ruleOut : ℕ → Bool
 ruleOut n = not (inRange 1 4 n)
 
--- 19: the fence names a core past the count m, or all cores
+-- 19: the fence contains a core past the count m, or all cores
 abbrev pub FenceOut : ℕ → ℕ → Type 0
 FenceOut m fence = ((c : ℕ) × (m ≤ c) × (bit fence c ≡ true)) ⊎ ((c : ℕ) → c < m → bit fence c ≡ true)
 
@@ -52,7 +52,7 @@ fenceOut m fence = leb (2 ^ m - 1) fence
 abbrev pub OneOut : ℕ → ℕ → Type 0
 OneOut m v = (v ≡ 0) ⊎ (m < v)
 
--- 7: so is a width of the task, that of its odd jobs or that of its even ones (request 108)
+-- 7: this holds of a width of the task, that of its odd jobs or that of its even ones (request 108)
 abbrev pub WidthOut : ℕ → Task → Type 0
 WidthOut m τ = OneOut m (τ .oddWidth) ⊎ OneOut m (τ .evenWidth)
 

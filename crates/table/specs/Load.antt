@@ -1,4 +1,4 @@
--- What `load` gives: the answer, and beside it the table, or zeros where it is refused.
+-- The result of `load`: the answer, and beside it the table, or zeros where it is refused.
 use mathlib.Core.Path.{_≡_}
 use mathlib.Core.Logic.{_↔_}
 use mathlib.Core.List.{List, map, _++_}
@@ -20,7 +20,7 @@ use Rattle.table.specs.Limits.{InRange, mostHorizon}
 use Rattle.table.specs.Numbers.{First, NoneApplies}
 use Rattle.table.specs.Answer.{answerOf, endingOf}
 
--- a task of the model as code keeps it
+-- a task of the model as code stores it
 abbrev pub codeTask : model.Task → Task
 codeTask τ = record {
   offset = τ .offset;
@@ -55,16 +55,16 @@ abbrev pub refusal : ℕ → ℕ → Loaded
 refusal n p =
     record { answer = Refused n p; count = 0; cores = 0; fence = 0; rule = 0; tasks = replicate mostTasks noTask; start = 0; period = 0; horizon = 0 }
 
--- by the answer: what passes, or the refusal
+-- by the answer: the table that passes, or the refusal
 abbrev pub loadedBy : Answer → Loaded → Loaded
 loadedBy Passed l = l
 loadedBy (Refused n p) l = refusal n p
 
--- what `load` gives of the words
+-- the result of `load` on the words
 unfoldable pub loadOf : List ℕ → Loaded
 loadOf ws = loadedBy (answerOf ws) (passing (word ws 2) (tableOf ws))
 
--- what a table that passed holds
+-- the contents of a table that passed
 pub record Holds (ws : List ℕ) (r : Loaded) : Type 0 where
   -- as many tasks as the chain has, 1 to 32
   pub count : r .count ≡ length (tableOf ws .tasks)
@@ -82,12 +82,12 @@ pub record Holds (ws : List ℕ) (r : Loaded) : Type 0 where
   pub horizon : r .horizon ≡ horizon (tableOf ws)
   pub horizon-most : r .horizon ≤ mostHorizon
 
--- the answer that each case is: taken where the table passes, or refused with number and position
+-- the meaning of each case: taken where the table passes, or refused with number and position
 abbrev pub loadMeaning : Answer → book.Answer
 loadMeaning Passed = book.taken
 loadMeaning (Refused n p) = book.refused n p
 
--- what `load` promises of the words
+-- the contract of `load` on the words
 pub record LoadOf (ws : List ℕ) (r : Loaded) : Type 0 where
   -- its value
   pub value : r ≡ loadOf ws
@@ -99,11 +99,11 @@ pub record LoadOf (ws : List ℕ) (r : Loaded) : Type 0 where
   -- in a table that passed the rest is the table
   pub holds : loadMeaning (r .answer) ≡ book.taken → Holds ws r
 
--- the tasks on so many cores, with this fence and the rule of this number
+-- the tasks on this number of cores, with this fence and the rule of this number
 abbrev pub tableWith : ℕ → ℕ → ℕ → List model.Task → model.Table
 tableWith m f r τs = record { tasks = τs; cores = m; fence = f; rule = model.ruleOf r }
 
--- what the walk gives: how it ends, and where it ends at the zero, the tasks
+-- the result of the walk: how it ends, and where it ends at the zero, the tasks
 pub record WalkOf (ws : List ℕ) (r : Walked) : Type 0 where
   pub ending : r .ending ≡ endingOf ws
   pub counted : r .ending ≡ Whole → r .count ≡ count ws

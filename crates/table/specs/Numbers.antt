@@ -34,7 +34,7 @@ Reaches ws k = (j : ℕ) → j < k → (¬ EndAt ws j) × (¬ PastAt ws j) × (�
 abbrev pub Position : List ℕ → ℕ → Type 0
 Position ws p = InRange 1 (count ws) p
 
--- number n applies, with position p
+-- number n applies, with position p. In the other crates' specs/Numbers the names `Applies`, `First` and `NoneApplies` mean the same, of their own routine
 pub data Applies (ws : List ℕ) : ℕ → ℕ → Type 0 where
   -- 1. The slice has fewer than 5 words, or the rest is no whole number of records, or there are more than 32.
   one : WordsOut ws → Applies ws 1 0
@@ -42,7 +42,7 @@ pub data Applies (ws : List ℕ) : ℕ → ℕ → Type 0 where
   two : CoresOut (coreCount ws) → Applies ws 2 0
   -- 3. The rule is not 1 to 4.
   three : RuleOut (rule ws) → Applies ws 3 0
-  -- 19. The fence names a core past the count, or all cores.
+  -- 19. The fence contains a core past the count, or all cores.
   nineteen : FenceOut (coreCount ws) (fence ws) → Applies ws 19 0
   -- 4. The head is zero.
   four : head ws ≡ 0 → Applies ws 4 0
@@ -57,11 +57,11 @@ pub data Applies (ws : List ℕ) : ℕ → ℕ → Type 0 where
   -- 9. The horizon exceeds 1,000,000,000.
   nine : HorizonOut (horizon (tableOf ws)) → Applies ws 9 0
 
--- checked in this order; 8 stands where 7 does
+-- the numbers of all routines in the order in which they are checked; 8 has the place of 7
 abbrev pub order : List ℕ
 order = 1 ∷ 2 ∷ 3 ∷ 19 ∷ 4 ∷ 5 ∷ 6 ∷ 7 ∷ 9 ∷ 10 ∷ 11 ∷ 12 ∷ 13 ∷ 14 ∷ 21 ∷ 22 ∷ 15 ∷ 20 ∷ 16 ∷ 17 ∷ 18 ∷ 23 ∷ []
 
--- where n stands in a list whose first place is i
+-- the index of n in a list whose first index is i
 abbrev pub placeFrom : ℕ → List ℕ → ℕ → ℕ
 placeFrom i [] n = i
 placeFrom i (m ∷ ms) n = cond (eqb n m) i (placeFrom (suc i) ms n)

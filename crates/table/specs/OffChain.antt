@@ -1,4 +1,4 @@
--- What the words of a record off the chain say changes no answer (scope, 'The table'): tables that differ only there.
+-- The words of a record off the chain change no answer (scope, 'The table'): tables that differ only there.
 use mathlib.Core.Path.{_≡_}
 use mathlib.Core.List.{List}
 use Prim.Native.Nat.{ℕ, _<_}

@@ -1,5 +1,5 @@
--- The words of a table with just its unfenced cores and no fence (request 102). `unfenced-table` and `unfenced-passes` show that they are that table, and that they
--- pass where the words do.
+-- The words of a table with just its unfenced cores and no fence (request 102). They represent that table (`unfenced-table`), and they pass where the words
+-- do (`unfenced-passes`).
 use mathlib.Core.List.{List, _∷_}
 use Prim.Native.Nat.{ℕ}
 use lib.ListN.{drop}

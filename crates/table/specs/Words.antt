@@ -37,7 +37,7 @@ fenceOf low high = low + high * 2 ^ 32
 abbrev pub fence : List ℕ → ℕ
 fence ws = fenceOf (word ws 3) (word ws 4)
 
--- records follow: how many there are
+-- records follow: the number of them
 abbrev pub records : List ℕ → ℕ
 records ws = (length ws - headerWords) / recordWords
 
@@ -66,7 +66,7 @@ unfoldable pub met : List ℕ → ℕ → ℕ
 met ws zero = head ws
 met ws (suc k) = next ws (met ws k)
 
--- zero ends the chain: how many records stand on it, searched within as many steps as there are records (`ends-there`: enough where 5 and 6 do not apply)
+-- zero ends the chain: the number of records on it, searched within as many steps as there are records (`ends-there`: enough where 5 and 6 do not apply)
 unfoldable pub count : List ℕ → ℕ
 count ws = least (suc (records ws)) (λ k. eqb (met ws k) 0)
 
@@ -74,10 +74,10 @@ count ws = least (suc (records ws)) (λ k. eqb (met ws k) 0)
 unfoldable pub chain : List ℕ → List ℕ
 chain ws = map (met ws) (upFrom 0 (count ws))
 
--- a task's position is its place on the chain, from 1, the highest priority: the task at position p
+-- a task's position is its place on the chain, from 1, the highest priority (scope: position; the field: rank in fixed task priority order): the task at p
 abbrev pub taskAt : List ℕ → ℕ → Task
 taskAt ws p = taskOfRecord ws (met ws (p - 1))
 
--- the table that the words say
+-- the table that the words represent
 unfoldable pub tableOf : List ℕ → Table
 tableOf ws = record { tasks = map (taskOfRecord ws) (chain ws); cores = coreCount ws; fence = fence ws; rule = ruleOf (rule ws) }

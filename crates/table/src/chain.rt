@@ -24,7 +24,7 @@ pub struct Walked {
     pub tasks: [Task; MOST_TASKS],
 }
 
-// No task: what stands past the count.
+// No task: the value past the count.
 pub(crate) fn no_task() -> Task
     ensures { λ r. ⌜ r ≡ noTask ⌝ }
 {

@@ -31,7 +31,7 @@ pub(crate) fn refused(number: u32, position: u32) -> Loaded
     }
 }
 
-// Whether the last S and P reach past the longest horizon (number 9).
+// Whether the last S plus P exceeds the longest horizon (number 9).
 pub fn horizon_out(start: u32, period: u32) -> bool
     ensures { λ r. ⌜ r ≡ horizonOut (start + period) ⌝ }
 {

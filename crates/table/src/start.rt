@@ -1,11 +1,12 @@
-// S of a position after the first, from the S before it: one piece of arithmetic, with no branch here or in anything it calls.
+// S of a position after the first, from the S before it (scope: S; the field: start of the periodic part): one expression, with no branch here or in
+// anything it calls.
 ghost use mathlib.Core.Path.{_≡_};
 ghost use Prim.Native.Nat.{_≤_};
 ghost use Rattle.model.specs.Horizon.{releaseFrom};
 ghost use Rattle.table.specs.Task.{taskOf, TimesWithin};
 use crate::Task;
 
-// Above every offset, and above every tick that is asked for.
+// Above every offset, and above every tick that is passed.
 const FAR: u32 = 67_108_864;
 
 // The first release of the task that is not before t: its offset where t is earlier.

@@ -1,4 +1,4 @@
--- Numbers written one to a line are read back as they were.
+-- Numbers written one to a line are parsed to themselves.
 use mathlib.Core.List.{List, [], _∷_}
 use mathlib.Core.Path.{_≡_, subst}
 use Prim.Native.Nat.{ℕ, suc, _≤_, _<_}
@@ -9,7 +9,7 @@ use Rattle.text.specs.Format.{largest, mostNumbers, Number, words, words
 use Rattle.text.proofs.Decimals.{decimal-some, decimal-most, decimal-digits, decimal-value}
 use Rattle.text.proofs.Exact.{text-exact}
 
--- a number up to the largest, in decimal, is a line that says it
+-- a number up to the largest, in decimal, is a line that represents it
 pub number-of : (w : ℕ) → w ≤ largest → Number (decimal w)
 number-of w h =
     let e = decimal-value w in

@@ -18,7 +18,7 @@ use Rattle.text.specs.Output.{output, outputOf}
 use Rattle.text.proofs.Lines.{line-within, line-split, lines-first, lines-line, lines-last}
 use Rattle.text.proofs.Numbers.{number-exact}
 
--- where every line says a number, the first does, and every one after it
+-- where every line represents a number, the first does, and every one after it
 first-test : (bs : List ℕ) → all isNumber (take (lineLength bs) bs ∷ lines (drop (suc (lineLength bs)) bs)) ≡ true →
     Number (take (lineLength bs) bs) × (all isNumber (lines (drop (suc (lineLength bs)) bs)) ≡ true)
 unfolding all
@@ -33,7 +33,7 @@ no-lines none e = refl
 no-lines (last {l} n) e = let z : length l ≡ 0 = ap length e in absurd (omega (arith, n .some))
 no-lines (line {l} {bs} n t) e = let z : length (l ++ (newline ∷ bs)) ≡ 0 = ap length e in absurd (omega (arith, length-append l (newline ∷ bs)))
 
--- a first line that says a number, and the numbers of what stands after its newline
+-- a first line that represents a number, and the numbers of what is after its newline
 first-line : (bs ws : List ℕ) → Number (take (lineLength bs) bs) → Lines (drop (suc (lineLength bs)) bs) ws → Lines bs (value (take (lineLength bs) bs) ∷ ws)
 first-line bs ws n t = ⊎-elim whole part (eq-or-lt-of-le (line-within bs))
   where
@@ -47,7 +47,7 @@ first-line bs ws n t = ⊎-elim whole part (eq-or-lt-of-le (line-within bs))
     part : lineLength bs < length bs → Lines bs (value (take (lineLength bs) bs) ∷ ws)
     part l = subst (λ (x : List ℕ). Lines x (value (take (lineLength bs) bs) ∷ ws)) (sym (line-split bs l)) (line n t)
 
--- the bytes are the numbers of their lines, where each line says one
+-- the bytes are the numbers of their lines, where each line represents one
 numbers-of : (n : ℕ) (bs : List ℕ) → length bs ≤ n → all isNumber (lines bs) ≡ true → Lines bs (map value (lines bs))
 unfolding lines
 numbers-of zero [] h e = none

@@ -42,7 +42,7 @@ cases =
     ∷ case "3\r\n" noText
     ∷ []
 
--- what the definitions say of a text; a case is named by its text
+-- the value by the definitions of a text; a case is named by its text
 abbrev read : Case → Case
 read c = case (c .text) (wordsOf (letters (c .text)))
 

@@ -1,4 +1,4 @@
--- The first line determines what it says, whatever is printed after it.
+-- The first line determines the answer, whatever is printed after it.
 use mathlib.Core.Bool.{Bool, true, not, _&&_}
 use mathlib.Core.List.{List, [], _∷_, _++_, append-assoc, append-cancel-left, head-eq-of-cons-eq, tail-eq-of-cons-eq}
 use mathlib.Core.Path.{_≡_, refl, ap, ap₂, sym, _∙_}
@@ -15,7 +15,7 @@ use Rattle.judge.specs.JudgeAnswer.{JudgeAnswer, judged, refused}
 use Rattle.text.specs.Output.{letters, space, fields, lineOf, firstLine}
 use Rattle.text.proofs.Decimals.{decimal-digits, decimal-injective}
 
--- digits end where the first byte below `0` stands
+-- digits end where the first byte below `0` is
 digits-end : (xs ys : List ℕ) (c d : ℕ) (r s : List ℕ) → Digits xs → Digits ys → c < 48 → d < 48 → xs ++ (c ∷ r) ≡ ys ++ (d ∷ s) → (xs ≡ ys) × (r ≡ s)
 digits-end [] [] c d r s p q a b e = (refl, tail-eq-of-cons-eq e)
 digits-end [] (y ∷ ys) c d r s p q a b e = let f : Digit y = q 0 (omega arith) in let h = head-eq-of-cons-eq e in absurd (omega arith)
@@ -24,13 +24,13 @@ digits-end (x ∷ xs) (y ∷ ys) c d r s p q a b e =
     let t = digits-end xs ys c d r s (λ i l. p (suc i) (omega arith)) (λ i l. q (suc i) (omega arith)) a b (tail-eq-of-cons-eq e) in
     (ap₂ (λ (z : ℕ) (zs : List ℕ). z ∷ zs) (head-eq-of-cons-eq e) (t .0), t .1)
 
--- a number and what stands after it
+-- a number and what is after it
 number-end : (m n c d : ℕ) (r s : List ℕ) → c < 48 → d < 48 → decimal m ++ (c ∷ r) ≡ decimal n ++ (d ∷ s) → (m ≡ n) × (r ≡ s)
 number-end m n c d r s a b e =
     let t = digits-end (decimal m) (decimal n) c d r s (decimal-digits m) (decimal-digits n) a b e in
     (decimal-injective m n (t .0), t .1)
 
--- what stands after the word of a line with two numbers
+-- what is after the word of a line with two numbers
 tail : ℕ → ℕ → List ℕ → List ℕ
 tail a b r = space ∷ (decimal a ++ (space ∷ (decimal b ++ (newline ∷ r))))
 

@@ -1,4 +1,4 @@
--- A line says a number exactly where the test says so.
+-- A line represents a number exactly where the test is true.
 use mathlib.Core.Bool.{Bool, true, false, _&&_, cond}
 use mathlib.Core.List.{List}
 use mathlib.Core.Logic.{_↔_}
@@ -53,11 +53,11 @@ digits-more l i q e d = rw (add-one, take-suc l i 0 q) (all-more isDigit (take i
 pub value-on : (l : List ℕ) (i : ℕ) → i < length l → value (take i l) * 10 + (getD l i 0 - 48) ≡ value (take (i + 1) l)
 value-on l i q = sym (rw (add-one, take-suc l i 0 q) (value-more (take i l) (getD l i 0)))
 
--- up to nine digits say less than 10^9
+-- up to nine digits represent less than 10^9
 pub value-nine : (l : List ℕ) (i : ℕ) → i ≤ 9 → all isDigit (take i l) ≡ true → value (take i l) < 1000000000
 value-nine l i q e = value-within (take i l) 9 (digits-exact (take i l) .0 e) (simp length-take (omega arith))
 
--- what was found says whether the line says a number, and which
+-- what was found decides whether the line represents a number, and which
 pub nothing-found : (l : List ℕ) → parseNumber l ≡ Nothing → isNumber l ≡ false
 nothing-found l = go (isNumber l)
   where

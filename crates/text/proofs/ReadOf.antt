@@ -1,4 +1,4 @@
--- The value of `read` says all that it promises.
+-- The value of `read` implies its contract.
 use mathlib.Core.Bool.{true≢false, false≢true}
 use mathlib.Core.List.{List}
 use mathlib.Core.Path.{_≡_, refl, ap, sym, subst⁻¹, _∙_}

@@ -29,7 +29,7 @@ unfolding wordsFrom all
 from-end ws m = rw (le-leb (length ws + 0) mostNumbers (omega arith), append-nil ws)
 
 module _ (ws l : List ℕ) (ls : List (List ℕ)) where
-  -- a line that says no number
+  -- a line that represents no number
   pub from-wrong : isNumber l ≡ false → wordsFrom ws (l ∷ ls) ≡ noText
   unfolding wordsFrom all
   from-wrong e = rw e
@@ -43,7 +43,7 @@ module _ (ws l : List ℕ) (ls : List (List ℕ)) where
       go true = refl
       go false = refl
 
-  -- a line that says a number
+  -- a line that represents a number
   pub from-more : isNumber l ≡ true → wordsFrom ws (l ∷ ls) ≡ wordsFrom (ws ++ (value l ∷ [])) ls
   unfolding wordsFrom all
   from-more e =

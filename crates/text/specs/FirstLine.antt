@@ -1,4 +1,4 @@
--- What the first line says, and how many rows follow it, by the judge's answer.
+-- The first line, and the number of rows after it, by the judge's answer.
 use mathlib.Core.List.{List}
 use Prim.Native.Nat.{ℕ}
 use Rattle.judge.specs.declared.Verdict.{Verdict}
@@ -7,12 +7,12 @@ use Rattle.judge.specs.Judged.{verdictOf}
 use Rattle.text.specs.Format.{wordsOf, numbersIn}
 use Rattle.text.specs.Output.{firstLine, rowsPrinted}
 
--- the rows printed after what the first line says; none after a refusal
+-- the number of rows printed after the first line; none after a refusal
 abbrev rowsAfter : JudgeAnswer → ℕ → ℕ
 rowsAfter (judged v) h = rowsPrinted v h
 rowsAfter (refused n p) h = 0
 
--- the rows printed of a table whose horizon is h, by the judge's answer
+-- the number of rows printed of a table whose horizon is h, by the judge's answer
 abbrev pub endOf : Verdict → ℕ → ℕ
 endOf v h = rowsAfter (verdictMeaning v) h
 

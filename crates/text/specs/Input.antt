@@ -1,4 +1,4 @@
--- What `read` gives of the bytes, and what its two helpers do.
+-- The result of `read` on the bytes, and of its two helpers.
 use mathlib.Core.Bool.{true, false, cond}
 use mathlib.Core.List.{List, [], _∷_, _++_}
 use mathlib.Core.Logic.{_↔_}
@@ -12,7 +12,7 @@ use Rattle.text.specs.declared.Input.{Input}
 use Rattle.text.specs.declared.line.ParsedNumber.{ParsedNumber}
 use Rattle.text.specs.declared.line.ParsedNumber.the-variants.{Value, Nothing}
 
--- how many bytes stand before the first byte `mark`, or in all where there is none
+-- the number of bytes before the first byte `mark`, or in all where there is none
 unfoldable pub lengthTo : ℕ → List ℕ → ℕ
 lengthTo mark [] = 0
 lengthTo mark (b ∷ bs) = cond (eqb b mark) 0 (suc (lengthTo mark bs))
@@ -21,7 +21,7 @@ lengthTo mark (b ∷ bs) = cond (eqb b mark) 0 (suc (lengthTo mark bs))
 abbrev pub lineLength : List ℕ → ℕ
 lineLength bs = lengthTo newline bs
 
--- the number that a line says, or nothing
+-- the number that a line represents, or nothing
 abbrev pub parseNumber : List ℕ → ParsedNumber
 parseNumber l = cond (isNumber l) (Value (value l)) Nothing
 
@@ -34,7 +34,7 @@ abbrev pub inputOf : Words → Input
 inputOf (words ws) = record { accepted = true; count = length ws; words = padNumbers ws }
 inputOf noText = record { accepted = false; count = 0; words = replicate mostNumbers 0 }
 
--- what `read` promises of the bytes
+-- the contract of `read` on the bytes
 pub record ReadOf (bs : List ℕ) (r : Input) : Type 0 where
   -- its value
   pub value : r ≡ inputOf (wordsOf bs)

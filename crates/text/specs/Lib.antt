@@ -1,4 +1,4 @@
--- What text is read and printed: numbers in decimal, the table's format, the verdict's line and the rows, and what a buffer holds.
+-- The text that is read and printed: numbers in decimal, the table's format, the verdict's line and the rows, and the contents of a buffer.
 pub mod Decimal
 pub mod Format
 pub mod Input

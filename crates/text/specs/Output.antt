@@ -16,7 +16,7 @@ use Rattle.judge.specs.JudgeAnswer.{JudgeAnswer, judged, refused}
 use Rattle.text.specs.Decimal.{decimal}
 use Rattle.text.specs.Format.{newline, mostDigits, Words, words, noText, wordsOf}
 
--- the bytes of a word of plain letters
+-- the bytes of a word of plain letters; as `letters` in stream/specs/Sent
 abbrev pub letters : String → List ℕ
 letters String.[] = []
 letters (String._∷_ c s) = code c ∷ letters s
@@ -30,7 +30,7 @@ unfoldable pub fields : List ℕ → List ℕ
 fields [] = []
 fields (n ∷ ns) = space ∷ (decimal n ++ fields ns)
 
--- a line that begins so and has these numbers
+-- a line with this beginning and these numbers
 unfoldable pub lineOf : List ℕ → List ℕ → List ℕ
 lineOf begin ns = begin ++ (fields ns ++ (newline ∷ []))
 

@@ -1,13 +1,13 @@
-// One line of the input: where it or a word of it ends, and which number it says.
+// One line of the input: where it or a word of it ends, and the number that it represents.
 ghost use mathlib.Core.Path.{_≡_};
 ghost use Prim.Native.Nat.{_+_};
 ghost use lib.ListN.{drop};
 ghost use Rattle.text.specs.Input.{lengthTo, parseNumber};
 
-// The largest number that a line may say.
+// The largest number of a line.
 const LARGEST: u64 = u32::MAX as u64;
 
-// The number that a line says, if it says one.
+// The number that a line represents, if there is one.
 pub enum ParsedNumber {
     Value(u32),
     Nothing,

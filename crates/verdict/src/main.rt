@@ -11,14 +11,14 @@ use stream::Sent;
 use text::ENOUGH;
 use text::row::LINE;
 
-// What came of it: the buffer and what was read into it, and what was printed.
+// The result: the buffer and what was read into it, and what was printed.
 struct Outcome {
     bytes: [u8; ENOUGH],
     reading: Reading,
     sent: Sent,
 }
 
-// The verdict on a table's text; what is none has no numbers, and those are refused as it is: 1 0.
+// The verdict on a table's text; what is none has no numbers, and those are refused likewise: 1 0.
 fn verdict_on(bytes: &[u8]) -> Verdict
     ensures { λ r. ⌜ r ≡ verdictOf (numbersIn (wordsOf (now (bytes .entry)))) ⌝ }
 {
@@ -37,7 +37,8 @@ fn print(bytes: &[u8]) -> Sent
     stream::send(0, &line[..length])
 }
 
-// Reads standard input until its end, or until it is longer than any table can be, and prints the verdict on it; a read that fails is said, and nothing is printed.
+// Reads standard input until its end, or until it is longer than any table can be, and prints the verdict on it; a read that fails is reported, and nothing is
+// printed.
 fn answer() -> Outcome
     ensures { λ r. ⌜ Answered firstFor (r .bytes) (r .reading) (r .sent) ⌝ }
 {

@@ -1,4 +1,4 @@
--- `capi::sivorandra_advance` meets its contract: buffer and answer are those of the advance, and its three words are put where there is room.
+-- `capi::sivorandra_advance` meets its contract: buffer and answer are those of the advance, and its three words are written where there is space.
 -- Assumes nothing.
 use mathlib.Core.Path.{sym, ap, _∙_}
 use Rattle.capi.specs.declared.answer_words.AnswerWords.{AnswerWords}

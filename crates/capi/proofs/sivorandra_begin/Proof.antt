@@ -1,4 +1,4 @@
--- `capi::sivorandra_begin` meets its contract: the plan that begin returns and its answer are put where there is room.
+-- `capi::sivorandra_begin` meets its contract: the plan that begin returns and its answer are written where there is space.
 -- Assumes nothing.
 use mathlib.Core.Path.{sym, ap, _∙_}
 use Rattle.capi.specs.declared.answer_words.AnswerWords.{AnswerWords}

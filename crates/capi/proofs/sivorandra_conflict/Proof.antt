@@ -1,4 +1,4 @@
--- `capi::sivorandra_conflict` meets its contract: the set and the answer are the clash's, and its three words are put where there is room.
+-- `capi::sivorandra_conflict` meets its contract: the set and the answer are the conflict's, and its three words are written where there is space.
 -- Assumes nothing.
 use mathlib.Core.Path.{sym, ap, _∙_}
 use mathlib.Core.List.{List, [], _∷_}

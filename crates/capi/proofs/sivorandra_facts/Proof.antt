@@ -1,4 +1,4 @@
--- `capi::sivorandra_facts` meets its contract: the facts that are read back and the answer are put where there is room.
+-- `capi::sivorandra_facts` meets its contract: the parsed facts and the answer are written where there is space.
 -- Assumes nothing.
 use mathlib.Core.Path.{sym, ap, _∙_}
 use borrow.Author.Needs.{needs}

@@ -1,4 +1,4 @@
--- `capi::sivorandra_judge_ticks` meets its contract: the verdict is the judge's, and its three words are put where there is room.
+-- `capi::sivorandra_judge_ticks` meets its contract: the verdict is the judge's, and its three words are written where there is space.
 -- Assumes nothing.
 use mathlib.Core.Path.{sym, ap, _∙_}
 use mathlib.Core.List.{List, [], _∷_}

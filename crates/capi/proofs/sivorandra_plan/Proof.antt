@@ -1,4 +1,4 @@
--- `capi::sivorandra_plan` meets its contract: rows and answer are the plan's, and its three words are put where there is room.
+-- `capi::sivorandra_plan` meets its contract: rows and answer are the plan's, and its three words are written where there is space.
 -- Assumes nothing.
 use mathlib.Core.Path.{sym, ap, _∙_}
 use borrow.Author.Needs.{needs}

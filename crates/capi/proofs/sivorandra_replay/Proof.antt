@@ -1,4 +1,4 @@
--- `capi::sivorandra_replay` meets its contract: numbers, row and answer are the replay's, and its three words are put where there is room.
+-- `capi::sivorandra_replay` meets its contract: numbers, row and answer are the replay's, and its three words are written where there is space.
 -- Assumes nothing.
 use mathlib.Core.Path.{sym, ap, _∙_}
 use borrow.Author.Needs.{needs}

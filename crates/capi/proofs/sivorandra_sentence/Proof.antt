@@ -1,4 +1,4 @@
--- `capi::sivorandra_sentence` meets its contract: buffer and answer are the sentence's, and its three words are put where there is room.
+-- `capi::sivorandra_sentence` meets its contract: buffer and answer are the sentence's, and its three words are written where there is space.
 -- Assumes nothing.
 use mathlib.Core.Path.{sym, ap, _∙_}
 use native.Mathlib.Omega.{arith}

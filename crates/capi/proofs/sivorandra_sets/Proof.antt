@@ -1,4 +1,4 @@
--- `capi::sivorandra_sets` meets its contract: the sets and their answer are put where there is room.
+-- `capi::sivorandra_sets` meets its contract: the sets and their answer are written where there is space.
 -- Assumes nothing.
 use mathlib.Core.Path.{sym, ap, _∙_}
 use Rattle.capi.specs.declared.answer_words.AnswerWords.{AnswerWords}

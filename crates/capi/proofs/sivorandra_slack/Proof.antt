@@ -1,4 +1,4 @@
--- `capi::sivorandra_slack` meets its contract: the figures and the answer are put where there is room.
+-- `capi::sivorandra_slack` meets its contract: the numbers and the answer are written where there is space.
 -- Assumes nothing.
 use mathlib.Core.Path.{sym, ap, _∙_}
 use Rattle.slack.specs.declared.SlackAnswer.{SlackAnswer}

@@ -1,5 +1,5 @@
--- `capi::sivorandra_withdraw_all` meets its contract: buffer and answer are those of the withdrawal of the set, and its three words are put where there is room.
--- Assumes nothing.
+-- `capi::sivorandra_withdraw_all` meets its contract: buffer and answer are those of the withdrawal of the set, and its three words are put where there is
+-- space. Assumes nothing.
 use mathlib.Core.Path.{sym, ap, _∙_}
 use Rattle.capi.specs.declared.answer_words.AnswerWords.{AnswerWords}
 use Rattle.capi.specs.AnswerWords.{answerWritten}

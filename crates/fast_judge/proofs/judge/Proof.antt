@@ -1,4 +1,4 @@
--- `fast_judge::judge` meets its contract: what `load` promises of the words fits the run, and a refusal is the verdict itself. Assumes nothing.
+-- `fast_judge::judge` meets its contract: the contract of `load` fits the run, and a refusal is the verdict itself. Assumes nothing.
 use borrow.Author.Needs.{needs}
 use denote.Ref.{now}
 use Rattle.judge.proofs.Promise.{fit, run-value, refused-value}

@@ -1,4 +1,4 @@
--- `judge::is_firm` meets its contract: each way out is the case of `firm` for the rule's number. Assumes nothing.
+-- `judge::is_firm` meets its contract: each return is the case of `firm` for the rule's number. Assumes nothing.
 use borrow.Author.Needs.{needs}
 use mathlib.Core.Path.{sym, _∙_}
 use Rattle.table.specs.Task.{tasksOf}

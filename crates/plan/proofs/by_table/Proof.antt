@@ -1,4 +1,4 @@
--- `plan::by_table` meets its contract: the tests are made in the scope's order, and the rows are written where none of them says no. Assumes nothing.
+-- `plan::by_table` meets its contract: the tests are made in the scope's order, and the rows are written where none of them refuses. Assumes nothing.
 use borrow.Author.Needs.{needs}
 use native.Mathlib.Omega.{arith}
 use native.Mathlib.Nat.{mul-le-mul}

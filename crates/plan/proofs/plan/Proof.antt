@@ -1,4 +1,4 @@
--- `plan::plan` meets its contract: what `load` promises of the words fits the plan of a table, and a refusal of the table is the plan's. Assumes nothing.
+-- `plan::plan` meets its contract: the contract of `load` fits the plan of a table, and a refusal of the table is the plan's. Assumes nothing.
 use borrow.Author.Needs.{needs}
 use mathlib.Core.Path.{refl}
 use denote.Ref.{now}

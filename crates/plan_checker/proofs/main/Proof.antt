@@ -1,4 +1,4 @@
--- `plan_checker::main` is safe and ends: there is room behind what is left, and the measure is the number of turns.
+-- `plan_checker::main` is safe and ends: there is space after what is left, and the measure is the number of rounds.
 -- Assumes nothing.
 use borrow.Author.Needs.{needs}
 use native.Mathlib.Omega.{arith}

@@ -1,4 +1,4 @@
--- `plan_checker::move_to_front` meets its contract: after k turns the first k bytes are in their place, and those behind are as they were (Turning).
+-- `plan_checker::move_to_front` meets its contract: after k iterations the first k bytes are in their place, and those after are as they were (Rounds).
 -- Assumes nothing.
 use borrow.Author.Needs.{needs}
 use native.Mathlib.Omega.{arith}

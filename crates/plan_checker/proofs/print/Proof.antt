@@ -1,4 +1,4 @@
--- `plan_checker::print` meets its contract: what is sent is what was put at the front of the line.
+-- `plan_checker::print` meets its contract: what is sent is what was written at the front of the line.
 -- Assumes nothing.
 use borrow.Author.Needs.{needs}
 use native.Mathlib.Omega.{arith}

@@ -1,4 +1,4 @@
--- `plan_checker::receive` meets its contract: the check is fed what was left and what the read brought (Turning).
+-- `plan_checker::receive` meets its contract: the check is fed what was left and the bytes read (Rounds).
 -- Assumes nothing.
 use borrow.Author.Needs.{needs}
 use native.Mathlib.Omega.{arith}

@@ -1,4 +1,4 @@
--- `plan_text::end_rows` meets its contract: the two ways out are the definition's.
+-- `plan_text::end_rows` meets its contract: the two returns are the definition's.
 -- Assumes nothing.
 use Rattle.plan_text.proofs.Answers.{end-accepted, end-unfinished}
 use Rattle.plan_text.proofs.end_rows.Statement.{statement}

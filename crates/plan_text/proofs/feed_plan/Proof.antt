@@ -1,4 +1,4 @@
--- `plan_text::feed_plan` meets its contract: what is said from the start is what the plan so far says from this place on (Feeding).
+-- `plan_text::feed_plan` meets its contract: the answer from the start is that of the plan so far from this place on (Feeding).
 -- Assumes nothing.
 use borrow.Author.Needs.{needs}
 use native.Mathlib.Omega.{arith}

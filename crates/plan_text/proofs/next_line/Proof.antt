@@ -1,4 +1,4 @@
--- `plan_text::next_line` meets its contract: the two ways out are the definition's.
+-- `plan_text::next_line` meets its contract: the two returns are the definition's.
 -- Assumes nothing.
 use borrow.Author.Needs.{needs}
 use native.Mathlib.Omega.{arith}

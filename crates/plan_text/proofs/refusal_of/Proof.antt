@@ -1,4 +1,4 @@
--- `plan_text::refusal_of` meets its contract: the two ways out are the definition's.
+-- `plan_text::refusal_of` meets its contract: the two returns are the definition's.
 -- Assumes nothing.
 use native.Mathlib.Omega.{arith}
 use Rattle.plan_text.proofs.Answers.{fault, refused}

@@ -1,4 +1,4 @@
--- `plan_text::step` meets its contract: the line is passed over, its row is taken, or it is not read (Saying).
+-- `plan_text::step` meets its contract: the line is skipped, its row is taken, or it is not read (Answers).
 -- Assumes nothing.
 use borrow.Author.Needs.{needs}
 use mathlib.Core.Path.{_∙_, ap, sym}

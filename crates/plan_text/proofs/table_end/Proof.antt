@@ -1,4 +1,4 @@
--- `plan_text::table_end` meets its contract: the two ways out are the two cases of the test for dashes.
+-- `plan_text::table_end` meets its contract: the two returns are the two cases of the test for dashes.
 -- Assumes nothing.
 use borrow.Author.Needs.{needs}
 use Rattle.plan_text.proofs.Lines.{ends-after, ends-before}

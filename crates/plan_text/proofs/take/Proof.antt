@@ -1,4 +1,4 @@
--- `plan_text::take` meets its contract: where it is known how far the plan goes, `enter` gives what `take` does.
+-- `plan_text::take` meets its contract: where the extent of the plan is known, `enter` gives what `take` does.
 -- Assumes nothing.
 use borrow.Author.Needs.{needs}
 use mathlib.Core.Bool.{false≢true}

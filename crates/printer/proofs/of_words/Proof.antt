@@ -1,4 +1,4 @@
--- `printer::of_words` meets its contract: the verdict of the words says what is printed of the table that was loaded.
+-- `printer::of_words` meets its contract: the verdict of the words determines what is printed of the table that was loaded.
 -- Assumes nothing.
 use mathlib.Core.Path.{subst}
 use Prim.Native.Nat.{ℕ}

@@ -1,4 +1,4 @@
--- `printer::start` meets its contract: the first line is written, and the run stands before tick 0 with the text of no claimants.
+-- `printer::start` meets its contract: the first line is written, and the run is before tick 0 with the text of no claimants.
 -- Assumes nothing.
 use borrow.Author.Needs.{needs}
 use mathlib.Core.Path.{ap}

@@ -1,4 +1,4 @@
--- `query::conflict` meets its contract: what `conflict` answers says the positions kept, or the refusal (Positions). Assumes nothing.
+-- `query::conflict` meets its contract: the answer of `conflict` gives the positions kept, or the refusal (Positions). Assumes nothing.
 use native.Mathlib.Omega.{arith}
 use mathlib.Core.Path.{_∙_}
 use denote.Ref.{now}

@@ -1,4 +1,4 @@
--- `query::print` meets its contract: the questions are looked for in their order, and the table is the text behind a question's word. Assumes nothing.
+-- `query::print` meets its contract: the questions are searched for in their order, and the table is the text after a question's word. Assumes nothing.
 use mathlib.Core.Bool.{true}
 use mathlib.Core.List.{List}
 use mathlib.Core.Path.{_≡_, refl, sym, ap, subst, _∙_}
@@ -18,7 +18,7 @@ use Rattle.query.proofs.Asking.{is-asked, not-asked, asked-here, asked-
 use Rattle.query.proofs.print.Statement.{statement}
 use Rattle.query.proofs.print.Tie as tie
 
--- what is printed is what the questions from here on say
+-- what is printed is the output of the questions from here on
 abbrev Inv-loop : tie.InvT-loop
 Inv-loop bytes questions i₀ t6 i = (i ≤ length spec.questions) × (queryOutput bytes ≡ queryOutputOf (drop i spec.questions) bytes)
 
@@ -33,7 +33,7 @@ in-loop c = c .before .before
 abbrev entry : tie.In-loop Inv-loop μ-loop → tie.Start Inv-loop μ-loop
 entry c = c .before .before .before
 
--- the question that is looked for
+-- the question that is searched for
 abbrev question : tie.In-loop Inv-loop μ-loop → Question
 question c = getD spec.questions (c .before .loop .i) Why
 

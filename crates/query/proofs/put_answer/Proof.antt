@@ -11,7 +11,7 @@ use borrow.Author.Needs.{needs}
 use Rattle.query.proofs.put_answer.Statement.{statement}
 use Rattle.query.proofs.put_answer.Tie as tie
 
--- the state where the figures are known to be given
+-- the state where the numbers are known to be given
 abbrev told : tie.After-load → tie.After-enum-told
 told c = c .before
 

@@ -1,4 +1,4 @@
--- `query::put_figures` meets its contract: after k turns the lines of the first k figures are written, 14 bytes for each at most.
+-- `query::put_figures` meets its contract: after k iterations the lines of the first k numbers are written, 14 bytes for each at most.
 -- Assumes nothing.
 use mathlib.Core.Path.{_≡_, _∙_, refl, subst}
 use Prim.Native.Nat.{ℕ, _+_, _-_, _*_, _≤_, _<_}
@@ -50,7 +50,7 @@ middle c =
     let most : put c .put .result ≤ l .at + 2 = omega (arith, p .ends, two-digits (l .place + 1) (omega (arith, entry c .pre .0))) in
     (most, put-length p (omega (arith, l .inv .3, entry c .pre .0, entry c .pre .1)) ∙ (l .inv .3 ∙ entry c .pre .1))
 
--- where a figure ends
+-- where a number ends
 end :
     (c : tie.After-slice-known3 Inv-loop μ-loop)
     → (c .before .before .put-field .result ≤ in-loop (before-field c) .before .loop .at + 13) × (length (c .before .before .put-field .last .0) ≡ 701)

@@ -1,4 +1,4 @@
--- `query::put_positions` meets its contract: after k turns the positions of the set up to k are written, 11 bytes for each at most. Assumes nothing.
+-- `query::put_positions` meets its contract: after k iterations the positions of the set up to k are written, 11 bytes for each at most. Assumes nothing.
 use mathlib.Core.Logic.{⊎-elim}
 use mathlib.Core.Path.{_≡_, _∙_, refl, subst}
 use Prim.Native.Nat.{ℕ, _+_, _-_, _*_, _≤_, _<_}

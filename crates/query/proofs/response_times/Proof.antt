@@ -1,4 +1,4 @@
--- `query::response_times` meets its contract: what `response_times` answers says a line for each task, or the refusal (Figures). Assumes nothing.
+-- `query::response_times` meets its contract: the answer of `response_times` gives a line for each task, or the refusal (Figures). Assumes nothing.
 use mathlib.Core.Path.{_∙_}
 use denote.Ref.{now}
 use Rattle.query.proofs.Figures.{response-times-by, response-times-none}

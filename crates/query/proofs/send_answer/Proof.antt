@@ -1,4 +1,4 @@
--- `query::send_answer` meets its contract: the numbers of the text are asked about, and the lines that answer are sent. Assumes nothing.
+-- `query::send_answer` meets its contract: the question is answered on the numbers of the text, and the lines are sent. Assumes nothing.
 use native.Mathlib.Omega.{arith}
 use mathlib.Core.List.{List}
 use mathlib.Core.Path.{_≡_, sym, ap, subst, _∙_}

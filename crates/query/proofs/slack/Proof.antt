@@ -1,4 +1,4 @@
--- `query::slack` meets its contract: what `slack` answers says a line for each task, or the refusal (Figures). Assumes nothing.
+-- `query::slack` meets its contract: the answer of `slack` gives a line for each task, or the refusal (Figures). Assumes nothing.
 use mathlib.Core.Path.{_∙_}
 use denote.Ref.{now}
 use Rattle.query.proofs.Figures.{slack-by, slack-none}

@@ -1,4 +1,4 @@
--- `query::why` meets its contract: a sentence is followed by a newline, and else the verdict's line is put (Asking).
+-- `query::why` meets its contract: a sentence is followed by a newline, and else the verdict's line is written (Asking).
 -- Assumes nothing.
 use native.Mathlib.Omega.{arith}
 use borrow.Author.Needs.{needs}

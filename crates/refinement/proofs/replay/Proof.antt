@@ -1,4 +1,4 @@
--- `refinement::replay` meets its contract: a refused start leaves everything as found, and a run that has started is played (`replay-of`).
+-- `refinement::replay` meets its contract: a refused start leaves everything as found, and a run that has started is taken through the list (`replay-of`).
 -- Assumes nothing.
 use mathlib.Core.Path.{_≡_, sym, ap, _∙_}
 use borrow.Author.Needs.{needs}

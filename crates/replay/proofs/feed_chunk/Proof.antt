@@ -1,4 +1,4 @@
--- `replay::feed_chunk` meets its contract and ends: each part that is fed takes at least a byte of the chunk, and what is said to it is sent. Assumes nothing.
+-- `replay::feed_chunk` meets its contract and ends: each part that is fed takes at least a byte of the chunk, and the reply to it is sent. Assumes nothing.
 use borrow.Author.Needs.{needs}
 use native.Mathlib.Omega.{arith}
 use mathlib.Core.Bool.{not}

@@ -1,4 +1,4 @@
--- `replay::main` is safe and ends: the measure is the number of turns that are left. Assumes nothing.
+-- `replay::main` is safe and ends: the measure is the number of rounds that are left. Assumes nothing.
 use borrow.Author.Needs.{needs}
 use native.Mathlib.Omega.{arith}
 use mathlib.Core.Path.{_≡_, sym}

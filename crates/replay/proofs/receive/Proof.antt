@@ -1,4 +1,4 @@
--- `replay::receive` meets its contract: the session is fed what the read brought. Assumes nothing.
+-- `replay::receive` meets its contract: the session is fed the bytes read. Assumes nothing.
 use native.Mathlib.Omega.{arith}
 use mathlib.Core.Path.{refl, sym}
 use lib.Seq.{length-take-le}

@@ -1,4 +1,4 @@
--- `response_time::response_times` meets its contract: what `load` promises of the words fits the walk, and a refusal is the answer itself. Assumes nothing.
+-- `response_time::response_times` meets its contract: the contract of `load` fits the walk, and a refusal is the answer itself. Assumes nothing.
 use borrow.Author.Needs.{needs}
 use denote.Ref.{now}
 use Rattle.judge.proofs.Promise.{fit}

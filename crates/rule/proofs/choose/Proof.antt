@@ -1,5 +1,5 @@
--- `rule::choose` meets its contract: in each turn the lowest digit of the rest is the first claimant, so what is chosen and what the rest will be given stay what all are given.
--- Assumes nothing.
+-- `rule::choose` meets its contract: in each iteration the lowest digit of the rest is the first claimant, so what is chosen and what the rest will be given
+-- stay what all are given. Assumes nothing.
 use borrow.Author.Needs.{needs}
 use borrow.Author.Tests.{lt-ltb, le-ltb}
 use native.Mathlib.Omega.{arith}
@@ -58,7 +58,7 @@ loop-holds c =
           ∙ places-on (ruleOf (a .rule)) (widthsIn (a .even) (a .widths .now)) (a .claims) p (cores (a .free))),
     )
 
--- ---- one turn, at the lowest digit q of the rest x, of width v; y is the rest after it
+-- ---- one iteration, at the lowest digit q of the rest x, of width v; y is the rest after it
 
 module _ (r : Rule) (ws : List ℕ) (x y q v n chosen : ℕ) (l : Lowest x q) (e : y ≡ x - 2 ^ q) (f : v ≡ getD ws q 0) (p : ℕ) where
   -- it fits: what the rest was given is q, where it has a width, and what is given below
@@ -102,7 +102,7 @@ select-requires c κs = search needs
 enum-told : tie.Need-enum-told Inv-loop μ-loop
 enum-told c = search needs
 
--- the width that is read, and what the rule said to it
+-- the width that is read, and the rule's answer to it
 abbrev width : tie.After-select Inv-loop μ-loop → ℕ
 width c = c .before .width-at .result
 

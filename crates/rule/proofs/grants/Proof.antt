@@ -1,5 +1,5 @@
--- `rule::grants` meets its contract: in each turn the lowest digit of the rest is the first claimant, and what the rule says to it is one turn of `Serving`.
--- Assumes nothing.
+-- `rule::grants` meets its contract: in each iteration the lowest digit of the rest is the first claimant, and the rule's answer to it is one iteration of
+-- `Serving`. Assumes nothing.
 use borrow.Author.Needs.{needs}
 use native.Mathlib.Omega.{arith}
 use mathlib.Core.Path.{_≡_, sym, ap, _∙_}
@@ -94,7 +94,7 @@ read c =
     getD-take (a .count) (widthsIn (a .even) (a .widths .now)) (trailingZeros 32 (in-loop-from-select c .before .loop .rest)) 0 (c .before .before .if1 .taken)
     ∙ sym (c .before .width-at .ensures)
 
--- what the rule said to it
+-- the rule's answer to it
 said : (c : tie.After-select Inv-loop μ-loop)
     → selection (ruleOf (entry-from-select c .args .rule)) (in-loop-from-select c .before .loop .left) (own c) ≡ c .select .result
 said c =

@@ -1,4 +1,4 @@
--- `rule::mark` meets its contract: each turn marks the first core of the rest, so marking the rest still gives the whole.
+-- `rule::mark` meets its contract: each iteration marks the first core of the rest, so marking the rest still gives the whole.
 -- Assumes nothing.
 use borrow.Author.Needs.{needs}
 use native.Mathlib.Omega.{arith}

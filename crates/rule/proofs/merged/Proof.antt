@@ -1,4 +1,4 @@
--- `rule::merged` meets its contract: each turn puts one place's two sets together. Assumes nothing.
+-- `rule::merged` meets its contract: each iteration puts one place's two sets together. Assumes nothing.
 use borrow.Author.Needs.{needs}
 use native.Mathlib.Omega.{arith}
 use mathlib.Core.Path.{_≡_, refl, sym, ap, _∙_}

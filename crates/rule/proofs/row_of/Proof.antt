@@ -1,4 +1,4 @@
--- `rule::row_of` meets its contract: each turn paints one position, so showing the positions that are left still gives the whole row.
+-- `rule::row_of` meets its contract: each iteration marks one position, so showing the positions that are left still gives the whole row.
 -- Assumes nothing.
 use borrow.Author.Needs.{needs}
 use native.Mathlib.Omega.{arith}

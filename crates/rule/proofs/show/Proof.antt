@@ -1,4 +1,4 @@
--- `rule::show` meets its contract: a row can show the sets that the rule grants of the open cores (`sets-showable`). Assumes nothing.
+-- `rule::show` meets its contract: a row can show the sets that the rule grants of the unfenced cores (`sets-showable`). Assumes nothing.
 use borrow.Author.Needs.{needs}
 use native.Mathlib.Omega.{arith}
 use mathlib.Core.Path.{_≡_, ap, _∙_}
@@ -23,7 +23,7 @@ unfenced-cores-requires c κs = search needs
 grants-requires : tie.Need-grants-requires
 grants-requires c κs = search needs
 
--- the cores that are free are the open ones
+-- the cores that are free are the unfenced ones
 opened : (c : tie.After-unfenced-cores) → cores (c .unfenced-cores .result) ≡ unfenced (c .before .args .fence) (c .before .args .cores)
 opened c = open-of (c .unfenced-cores .result) (c .before .args .fence) (c .before .args .cores) (omega arith) (c .unfenced-cores .ensures)
 

@@ -1,5 +1,5 @@
--- `rule::shown` meets its contract: each turn puts together what one place borrows and what nobody borrows of its own; one of them is nothing (`cores-or`).
--- Assumes nothing.
+-- `rule::shown` meets its contract: each iteration puts together what one place borrows and what no place borrows of its own; one of them is nothing
+-- (`cores-or`). Assumes nothing.
 use borrow.Author.Needs.{needs}
 use native.Mathlib.Omega.{arith}
 use mathlib.Core.Path.{_≡_, refl, sym, ap, _∙_, subst}
@@ -30,7 +30,7 @@ pub record Shows (reserved borrowed : List ℕ) (count : ℕ) (sets : List ℕ) 
   pub below : (p : ℕ) → p < i → cores (getD sets p 0) ≡ shownAt reserved borrowed count p
   pub above : (p : ℕ) → i ≤ p → getD sets p 0 ≡ 0
 
--- one place more; w is the set of what nobody borrows of its own
+-- one place more; w is the set of what no place borrows of its own
 module _ (reserved borrowed : List ℕ) (count : ℕ) (sets : List ℕ) (i lent w : ℕ) (h : Shows reserved borrowed count sets i) (inside : i < 32)
     (all : (c : ℕ) → c < 64 → bit lent c ≡ among c (map cores (take count borrowed))) (own : cores w ≡ outside lent (cores (getD reserved i 0)))
     (once : NotBoth reserved borrowed) where

@@ -1,4 +1,4 @@
--- `rule::width_at` meets its contract: the set's digit, times the number of places, is where the width stands (`read-at`). Assumes nothing.
+-- `rule::width_at` meets its contract: the set's digit, times the number of places, is the offset of the width (`read-at`). Assumes nothing.
 use borrow.Author.Needs.{needs}
 use mathlib.Core.Path.{_≡_, sym, ap, _∙_}
 use Prim.Native.Nat.{ℕ}

@@ -1,4 +1,4 @@
--- `run::start` meets its contract: the answer goes by the judge's verdict, and the run goes with the answer (`ByVerdict`).
+-- `run::start` meets its contract: the judge's verdict determines the answer, and the answer the run (`ByVerdict`).
 -- Assumes nothing.
 use mathlib.Core.Path.{_≡_, sym, ap, _∙_}
 use mathlib.Core.Logic.{inl, inr}

@@ -1,4 +1,4 @@
--- `sentence::by_table` meets its contract: what the search finds is said, and 17 is answered where it finds nothing. Assumes nothing.
+-- `sentence::by_table` meets its contract: what the search finds is written, and 17 is returned where it finds nothing. Assumes nothing.
 use borrow.Author.Needs.{needs}
 use mathlib.Core.Path.{_≡_, refl, sym, ap, _∙_, subst}
 use mathlib.Core.List.{List}

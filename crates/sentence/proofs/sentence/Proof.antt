@@ -1,4 +1,4 @@
--- `sentence::sentence` meets its contract: what `load` promises of the words fits the sentence of a table, and a refusal of the table is the sentence's.
+-- `sentence::sentence` meets its contract: the contract of `load` fits the sentence of a table, and a refusal of the table is the sentence's.
 -- Assumes nothing.
 use borrow.Author.Needs.{needs}
 use mathlib.Core.Path.{refl}

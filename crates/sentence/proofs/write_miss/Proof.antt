@@ -1,4 +1,4 @@
--- `sentence::write_miss` meets its contract: the sentence fits in the array that it is written in, and is copied where the buffer has room. Assumes nothing.
+-- `sentence::write_miss` meets its contract: the sentence fits in the array that it is written in, and is copied where the buffer has space. Assumes nothing.
 use borrow.Author.Needs.{needs}
 use mathlib.Core.Path.{_≡_, refl, sym, ap, _∙_, subst}
 use mathlib.Core.List.{List}

@@ -34,7 +34,7 @@ else1-from-answer c = else1-from-operation-of (c .before .before)
 abbrev entry-from-answer : tie.After-answer → tie.Start
 entry-from-answer c = else1-from-answer c .before .before
 
--- no bytes stand after the last newline
+-- no bytes are after the last newline
 no-reply : (s : Session) → s .held ≡ 0 → transcriptIn Operations s nothing [] ≡ []
 no-reply s e = transcript-operations s nothing [] ∙ ap (λ (n : ℕ). replies (s .run) (linesFrom nothing (take n (s .bytes)) [])) e ∙ replies-empty (s .run)
 

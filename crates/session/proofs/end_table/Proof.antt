@@ -1,4 +1,4 @@
--- `session::end_table` meets its contract: the table ends before a last line of dashes or with the bytes held, and `begin` says what is said to it.
+-- `session::end_table` meets its contract: the table ends before a last line of dashes or with the bytes held, and `begin` writes the answer to it.
 -- Assumes nothing.
 use borrow.Author.Needs.{needs}
 use native.Mathlib.Omega.{arith}

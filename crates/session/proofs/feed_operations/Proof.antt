@@ -1,4 +1,4 @@
--- `session::feed_operations` meets its contract: each way out is a law of Feeding, a line too long, a part held, the last operation, or one more line answered.
+-- `session::feed_operations` meets its contract: each return is a law of Feeding, a line too long, a part held, the last operation, or one more line answered.
 -- Assumes nothing.
 use borrow.Author.Needs.{needs}
 use native.Mathlib.Omega.{arith}

@@ -1,5 +1,5 @@
--- `session::feed_table` meets its contract: each way out is a law of Feeding, a text too long, a part held, the dashes that open the run, or one more line held.
--- Assumes nothing.
+-- `session::feed_table` meets its contract: each return is a law of Feeding, a text too long, a part held, the dashes that open the run, or one more line
+-- held. Assumes nothing.
 use borrow.Author.Needs.{needs}
 use native.Mathlib.Omega.{arith}
 use mathlib.Core.Path.{_≡_, sym, _∙_}

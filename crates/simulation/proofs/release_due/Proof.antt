@@ -1,4 +1,4 @@
--- `simulation::release_due` meets its contract: after each turn the machine is the one in which the places so far have been looked at, and the next event
+-- `simulation::release_due` meets its contract: after each iteration the machine is the one in which the places so far have been handled, and the next event
 -- is the earliest of their events. Assumes nothing.
 use borrow.Author.Needs.{needs}
 use mathlib.Core.Path.{_≡_, refl, sym, ap, ap₂, _∙_}
@@ -75,7 +75,7 @@ add-i c = omega arith
 loop-less : tie.Need-loop-less Inv-loop μ-loop
 loop-less c = omega arith
 
--- what the look at a place leaves
+-- the machine after a place is handled
 at-join :
     (c : tie.Joined1 Inv-loop μ-loop)
     → EventsHandled (loop-from-joined1 c .before .args .tick)

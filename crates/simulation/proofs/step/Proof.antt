@@ -1,4 +1,4 @@
--- `simulation::step` meets its contract: it steps as the definitions do, whether the due events were looked at or the next event had not come, and whether
+-- `simulation::step` meets its contract: it steps as the definitions do, whether the due events were handled or the next event had not come, and whether
 -- the choice is kept or made anew. Assumes nothing.
 use borrow.Author.Needs.{needs}
 use mathlib.Core.Logic.{⊎-elim}
@@ -41,14 +41,14 @@ after-of c =
     (ap₂ machineOf (w .1) (w .2) ∙ d .0, w .3 ∙ d .1, w .4 ∙ even-skipped n s (w .0 .left)))
     (c .if1 .came)
 
--- the claimants, and who is at its second width
+-- the claimants, and the places at their second width
 claims-of : (c : tie.Joined1) → c .if1 .claiming ≡ afterEvents (nums (c .before)) (state (c .before)) .claiming
 claims-of c = ap (λ (m : Machine). m .claiming) (after-of c .0)
 
 even-of : (c : tie.Joined1) → c .if1 .even ≡ evenAtTick (nums (c .before)) (state (c .before))
 even-of c = after-of c .2
 
--- who is granted cores: kept, or chosen anew
+-- the places that are granted cores: kept, or chosen anew
 granted-of : (c : tie.Joined2) → c .if2 .granted ≡ grantedAt (nums (c .before .before .before)) (state (c .before .before .before))
 granted-of c =
     let j = c .before .before in
@@ -62,7 +62,7 @@ granted-of c =
     (λ w. w .2 ∙ chosen-kept n s (unchanged-by n s (j .if1 .claiming) (j .if1 .even) false (claims-of j) (even-of j) (w .0 .left)))
     (c .if2 .came)
 
--- and for whom they were chosen
+-- and the claimants that they were chosen from
 chosen-of : (c : tie.Joined2) → c .if2 .chosen ≡ afterEvents (nums (c .before .before .before)) (state (c .before .before .before)) .claiming
 chosen-of c =
     let j = c .before .before in

@@ -1,4 +1,4 @@
--- `simulation::work` meets its contract: after each turn the machine is the one in which the places taken off the granted set have been served.
+-- `simulation::work` meets its contract: after each iteration the machine is the one in which the places taken off the granted set have been served.
 -- Assumes nothing.
 use mathlib.Core.Path.{_≡_, refl, sym, ap, _∙_, subst}
 use mathlib.Core.Bool.{Bool, true, false, not, _&&_, and-true}
@@ -42,7 +42,7 @@ loop-holds c =
     none-taken true = refl
     none-taken false = refl
 
--- a turn takes the lowest place that is left and serves it
+-- an iteration takes the lowest place that is left and serves it
 at-step :
     (c : tie.In-loop Inv-loop μ-loop)
     → GrantStep (c .before .before .args .granted) (c .before .loop .rest)

@@ -1,4 +1,4 @@
--- `slack::by_table` meets its contract: the figures where they are given, else 23. Assumes nothing.
+-- `slack::by_table` meets its contract: the numbers where they are given, else 23. Assumes nothing.
 use mathlib.Core.Bool.{Bool}
 use mathlib.Core.Path.{_≡_, ap, sym, _∙_}
 use borrow.Author.Needs.{needs}

@@ -1,4 +1,4 @@
--- `stream::fill` meets its contract and ends: each read that brings bytes leaves less room, and keeps what was read before.
+-- `stream::fill` meets its contract and ends: each read that gives bytes leaves less space, and keeps what was read before.
 -- Assumes nothing.
 use borrow.Author.Needs.{needs}
 use native.Mathlib.Omega.{arith}

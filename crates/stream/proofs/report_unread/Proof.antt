@@ -1,4 +1,4 @@
--- `stream::report_unread` meets its contract: what it says comes behind the name where writes took that whole, and else no more is said.
+-- `stream::report_unread` meets its contract: the message comes after the name where writes took that whole, and else no more is written.
 -- Assumes nothing.
 use borrow.Author.Needs.{needs}
 use Rattle.stream.proofs.Moving.{sent-then, sent-stopped}

@@ -1,4 +1,4 @@
--- `table::load` meets its contract: its value is `loadOf` of the words at each return, and the value settles what is promised.
+-- `table::load` meets its contract: its value is `loadOf` of the words at each return, and the value determines the rest.
 -- Assumes nothing.
 use Prim.Native.Nat.{ℕ, _≤_}
 use mathlib.Core.Path.{_≡_, sym, ap, _∙_}

@@ -1,4 +1,4 @@
--- `verdict::print` meets its contract: what is sent is the line that was put at the front of the buffer. Assumes nothing.
+-- `verdict::print` meets its contract: what is sent is the line that was written at the front of the buffer. Assumes nothing.
 use native.Mathlib.Omega.{arith}
 use mathlib.Core.List.{List}
 use mathlib.Core.Path.{_≡_, sym, ap, subst, _∙_}

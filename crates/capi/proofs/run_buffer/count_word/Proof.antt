@@ -1,4 +1,4 @@
--- `capi::run_buffer::count_word` meets its contract: each arm is what its test says.
+-- `capi::run_buffer::count_word` meets its contract: each arm follows from its test.
 -- Assumes nothing.
 use borrow.Author.Tests.{le-leb, lt-leb}
 use borrow.Author.Needs.{needs}

@@ -1,5 +1,5 @@
--- `capi::run_buffer::keep` meets its contract: the run of an entry that is taken is written (`kept-taken`), and where it is refused nothing is (`kept-refused`).
--- Assumes nothing.
+-- `capi::run_buffer::keep` meets its contract: the run of an entry that is taken is written (`kept-taken`), and where it is refused nothing is
+-- (`kept-refused`). Assumes nothing.
 use Rattle.capi.proofs.Keeping.{kept-taken, kept-refused}
 use borrow.Author.Needs.{needs}
 use Rattle.capi.proofs.run_buffer.keep.Statement.{statement}

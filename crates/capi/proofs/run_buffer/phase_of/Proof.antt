@@ -1,4 +1,4 @@
--- `capi::run_buffer::phase_of` meets its contract: each arm is what its tests say.
+-- `capi::run_buffer::phase_of` meets its contract: each arm follows from its tests.
 -- Assumes nothing.
 use borrow.Author.Tests.{eq-eqb, ne-eqb}
 use Rattle.capi.proofs.run_buffer.phase_of.Statement.{statement}

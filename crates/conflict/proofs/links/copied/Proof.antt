@@ -1,4 +1,4 @@
--- `conflict::links::copied` meets its contract: after i turns the first i words are in their place. Assumes nothing.
+-- `conflict::links::copied` meets its contract: after i iterations the first i words are in their place. Assumes nothing.
 use mathlib.Core.Path.{_≡_, ap, refl, subst, sym, _∙_}
 use mathlib.Core.List.{List, [], _++_, _∷_}
 use Prim.Native.Nat.{ℕ, suc, _+_, _-_, _≤_}

@@ -1,4 +1,4 @@
--- `conflict::passes::still_misses` meets its contract: the verdict on the words of a part says whether it clashes. Assumes nothing.
+-- `conflict::passes::still_misses` meets its contract: the verdict on the words of a part decides whether it misses. Assumes nothing.
 use mathlib.Core.List.{List}
 use mathlib.Core.Path.{_≡_, ap, subst, sym, _∙_}
 use Prim.Native.Nat.{ℕ}
@@ -20,7 +20,7 @@ use Rattle.conflict.proofs.passes.still_misses.Tie as tie
 abbrev call : tie.After-judge → tie.Start
 call c = c .before .before .before .before
 
--- what the verdict on the words of the part says
+-- the verdict on the words of the part
 says : (c : tie.After-judge) (u : Verdict) → c .judge .result ≡ u → verdictMiss u ≡ conflicts (tableOf (now (call c .args .words))) (call c .args .kept)
 says c u q =
     let v = c .judge .result in

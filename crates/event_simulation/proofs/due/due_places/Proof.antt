@@ -1,4 +1,4 @@
--- `event_simulation::due::due_places` meets its contract: after each turn the set is that of the places passed. Assumes nothing.
+-- `event_simulation::due::due_places` meets its contract: after each iteration the set is that of the places passed. Assumes nothing.
 use mathlib.Core.Path.{_≡_, sym, _∙_, subst}
 use mathlib.Core.Logic.{⊎-elim}
 use Prim.Native.Nat.{ℕ, _+_, _-_, _≤_, _<_}

@@ -1,4 +1,4 @@
--- `event_simulation::due::earliest` meets its contract: after each turn the next event is the earliest event of the places passed. Assumes nothing.
+-- `event_simulation::due::earliest` meets its contract: after each iteration the next event is the earliest event of the places passed. Assumes nothing.
 use borrow.Author.Needs.{needs}
 use mathlib.Core.Path.{_≡_, sym, ap, _∙_}
 use Prim.Native.Nat.{ℕ, _+_, _-_, _≤_, _<_, min}

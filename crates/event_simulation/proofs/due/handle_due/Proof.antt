@@ -1,4 +1,4 @@
--- `event_simulation::due::handle_due` meets its contract: after each turn the places taken off the due set have been looked at. Assumes nothing.
+-- `event_simulation::due::handle_due` meets its contract: after each iteration the places taken off the due set have been handled. Assumes nothing.
 use mathlib.Core.Path.{_≡_, sym, ap, _∙_}
 use mathlib.Core.Bool.{true}
 use Prim.Native.Nat.{ℕ, _^_, _<_}

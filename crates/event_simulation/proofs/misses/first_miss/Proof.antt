@@ -1,5 +1,5 @@
--- `event_simulation::misses::first_miss` meets its contract. After each jump the run is that of the jumps from tick 0 on (`jumps`), at none of whose ticks a deadline
--- was missed, and so stands as the table's full-length run does; along the walk over the due claimants none so far has ticks left (`Looking`). A due
+-- `event_simulation::misses::first_miss` meets its contract. After each jump the run is that of the jumps from tick 0 on (`jumps`), at none of whose ticks a
+-- deadline was missed, and so represents the table's full-length run; along the walk over the due claimants none so far has ticks left (`Looking`). A due
 -- place with ticks left is the first miss; at the end nothing has been missed. Assumes nothing.
 use borrow.Author.Needs.{needs}
 use native.Mathlib.Nat.{not-suc-le-zero}
@@ -32,7 +32,7 @@ record Run (t : Loaded) (x : Setting) (widths times : List ℕ) (p : Registers) 
   pub numbers : numbersBy x widths times ≡ loadedNumbers t
   pub stand : eventStateOf p places ≡ initialEventState t
 
--- the run after so many jumps, at none of whose ticks a deadline was missed
+-- the run after a number of jumps, at none of whose ticks a deadline was missed
 abbrev Jumped : Loaded → EventState → Type 0
 Jumped t s = (n : ℕ) × Unmissed t n × (s ≡ jumps t n)
 

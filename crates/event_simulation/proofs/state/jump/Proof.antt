@@ -72,7 +72,7 @@ after-of c =
 claims-of : (c : tie.Joined1) → c .if1 .claiming ≡ afterHandling (nums (c .before .before)) (state (c .before .before)) .claiming
 claims-of c = ap (λ (m : Machine). m .claiming) (after-of c .machines)
 
--- who is granted cores: kept, or chosen anew
+-- the places that are granted cores: kept, or chosen anew
 granted-of : (c : tie.Joined2) → c .if2 .granted ≡ grantedInJump (nums (entry-from-joined2 c)) (state (entry-from-joined2 c))
 granted-of c =
     let s = entry-from-joined2 c in
@@ -87,7 +87,7 @@ granted-of c =
     (λ w. w .2 ∙ chosen-kept n (state s) claiming even (claims-of j) (after-of j .even) (w .0 .left))
     (c .if2 .came)
 
--- and for whom they were chosen
+-- and the claimants that they were chosen from
 chosen-of : (c : tie.Joined2) → c .if2 .chosen ≡ afterHandling (nums (entry-from-joined2 c)) (state (entry-from-joined2 c)) .claiming
 chosen-of c =
     let s = entry-from-joined2 c in

@@ -1,5 +1,5 @@
--- `event_simulation::ticks::elapse` meets its contract: after each turn the machine is the one in which the places taken off the granted set have had their ticks.
--- Assumes nothing.
+-- `event_simulation::ticks::elapse` meets its contract: after each iteration the machine is the one in which the places taken off the granted set have had
+-- their ticks. Assumes nothing.
 use mathlib.Core.Path.{_≡_, sym, _∙_, subst}
 use mathlib.Core.Bool.{true}
 use Prim.Native.Nat.{ℕ, _^_, _<_}
@@ -32,7 +32,7 @@ loop-holds c =
 at-off : (c : tie.In-loop Inv-loop μ-loop) → Off (c .before .before .args .granted) (c .before .loop .rest)
 at-off c = off-turn (c .before .before .args .granted) (c .before .loop .rest) (c .loop-test .taken) (c .before .loop .inv .0) (c .before .loop .inv .1)
 
--- a turn takes the lowest place that is left
+-- an iteration takes the lowest place that is left
 at-turn :
     (c : tie.In-loop Inv-loop μ-loop)
     → GrantStep (c .before .before .args .ticks) (c .before .before .args .granted) (c .before .loop .rest)

@@ -1,4 +1,5 @@
--- `event_simulation::ticks::shortest` meets its contract: after each turn it is the least of what is left at the places taken off the granted set. Assumes nothing.
+-- `event_simulation::ticks::shortest` meets its contract: after each iteration it is the least of what is left at the places taken off the granted set.
+-- Assumes nothing.
 use borrow.Author.Needs.{needs}
 use mathlib.Core.Path.{_≡_, refl, sym, ap, _∙_}
 use mathlib.Core.Bool.{Bool, true, false, true≢false}

@@ -1,4 +1,4 @@
--- `judge::misses::first_miss` meets its contract. Before each tick the run stands as the table's full-length run does, and no deadline has been missed
+-- `judge::misses::first_miss` meets its contract. Before each tick the run represents the table's full-length run, and no deadline has been missed
 -- (`RefinesTick`); along the walk over the claimants none so far is at its event (`Looking`). A claimant that is at its event is the first miss; at the end
 -- nothing has been missed. Assumes nothing.
 use borrow.Author.Needs.{needs}

@@ -1,4 +1,4 @@
--- `phase::Task::next` meets its contract: it is what its calls promise, one after the other; a phase has room as it is seen, too.
+-- `phase::Task::next` meets its contract: it follows from the contracts of its calls; a phase has space as it is seen, too.
 -- Assumes nothing.
 use borrow.Author.Needs.{needs}
 use Rattle.model.specs.Task.{ruleOf}

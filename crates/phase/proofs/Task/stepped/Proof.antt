@@ -1,4 +1,4 @@
--- `phase::Task::stepped` meets its contract: each arm is the clause of its phase; the sums fit, since the phase leaves room.
+-- `phase::Task::stepped` meets its contract: each arm is the clause of its phase; the sums fit, since the phase has space.
 -- Assumes nothing.
 use mathlib.Core.Path.{_≡_, refl}
 use mathlib.Core.Bool.{Bool, true, false, _||_, cond, false≢true, true≢false}

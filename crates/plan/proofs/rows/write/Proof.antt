@@ -1,4 +1,4 @@
--- `plan::rows::write` meets its contract. Before each tick the run stands as the table's full-length run does (`RefinesTick`) and the buffer has the rows so
+-- `plan::rows::write` meets its contract. Before each tick the run represents the table's full-length run (`RefinesTick`) and the buffer has the rows so
 -- far (`Filled`); the row is kept with the claimants and the widths it was made for (`RowFor`). Assumes nothing.
 use borrow.Author.Needs.{needs}
 use native.Mathlib.Omega.{arith}

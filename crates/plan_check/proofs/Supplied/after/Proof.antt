@@ -1,4 +1,4 @@
--- `plan_check::Supplied::after` meets its contract: the tick, and then what is noted; the tasks, and with them the last S, stay.
+-- `plan_check::Supplied::after` meets its contract: the tick, and then what is recorded; the tasks, and with them the last S, stay.
 -- Assumes nothing.
 use mathlib.Core.Path.{ap, sym, _∙_}
 use native.Mathlib.Numerals.{add-one}

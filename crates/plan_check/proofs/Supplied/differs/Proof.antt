@@ -1,4 +1,4 @@
--- `plan_check::Supplied::differs` meets its contract. The loop's invariant: each place passed has the phase that is noted.
+-- `plan_check::Supplied::differs` meets its contract. The loop's invariant: each place passed has the phase that is recorded.
 -- Assumes nothing.
 use mathlib.Core.Bool.{Bool, false, not}
 use mathlib.Core.Path.{ap, sym, _∙_, _≡_}
@@ -28,7 +28,7 @@ loop c = c .before .before .before .before
 abbrev entry : tie.At-loop Inv-loop μ-loop → tie.Start Inv-loop μ-loop
 entry s = s .before .before .before
 
--- place p has another phase than is noted
+-- place p has another phase than is recorded
 abbrev otherwise : Supplied → ℕ → Bool
 otherwise w p = not (samePhase (phaseAt (w .run) p) (notedAt w p))
 

@@ -1,4 +1,4 @@
--- `plan_check::Supplied::enter` meets its contract: 10, then 11, then what the row shows (`Cases`); what comes back is ready for the next (`ready-next`).
+-- `plan_check::Supplied::enter` meets its contract: 10, then 11, then what the row shows (`Cases`); what is returned is ready for the next (`ready-next`).
 -- Assumes nothing.
 use mathlib.Core.Path.{sym, _∙_}
 use native.Mathlib.Omega.{arith}

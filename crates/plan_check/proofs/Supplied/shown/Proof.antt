@@ -1,5 +1,5 @@
--- `plan_check::Supplied::shown` meets its contract: each way out is a case of the definition, in its order (`Cases`); the counts say what the bytes do (`Working`).
--- Assumes nothing.
+-- `plan_check::Supplied::shown` meets its contract: each return is a case of the definition, in its order (`Cases`); the counts represent the bytes
+-- (`Working`). Assumes nothing.
 use mathlib.Core.Bool.{Bool, false, _||_}
 use mathlib.Core.Path.{ap, sym, _∙_, _≡_}
 use Prim.Native.Nat.{_<_, suc, _≤_}
@@ -28,11 +28,11 @@ use Rattle.plan_check.proofs.Supplied.shown.Tie as tie
 abbrev by : Answer → Supplied → Supplied → Entered
 by a v w = record { answer = a; plan = stateByAnswer a v w }
 
--- the state at the call, from that in which lateness is looked at
+-- the state at the call, from that in which lateness is tested
 abbrev called : tie.After-missed → tie.Start
 called c = c .before .before .before
 
--- and that one, from the state in which the row is looked at
+-- and that one, from the state in which the row is tested
 abbrev looked : tie.After-struct-known → tie.After-missed
 looked c = c .before .before .before .before .before .before
 

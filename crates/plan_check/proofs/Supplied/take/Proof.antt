@@ -1,4 +1,4 @@
--- `plan_check::Supplied::take` meets its contract: 14 and 9 whatever the row is (`take-refused`), then the row; the value has all that is promised (`take-of`).
+-- `plan_check::Supplied::take` meets its contract: 14 and 9 for any row (`take-refused`), then the row; the value has the whole contract (`take-of`).
 -- Assumes nothing.
 use mathlib.Core.Path.{ap, sym, _∙_}
 use Prim.Native.Nat.{ℕ}

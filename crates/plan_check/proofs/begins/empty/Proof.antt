@@ -1,4 +1,4 @@
--- `plan_check::begins::empty` meets its contract: the run that a refused start leaves, and nothing noted.
+-- `plan_check::begins::empty` meets its contract: the run that a refused start leaves, and nothing recorded.
 -- Assumes nothing.
 use borrow.Author.Needs.{needs}
 use Rattle.plan_check.proofs.begins.empty.Statement.{statement}

@@ -1,4 +1,4 @@
--- `plan_check::bounds::any_unreachable` meets its contract. The loop's invariant: no place passed is astray.
+-- `plan_check::bounds::any_unreachable` meets its contract. The loop's invariant: no place passed is in an unreachable phase.
 -- Assumes nothing.
 use mathlib.Core.Bool.{false}
 use mathlib.Core.Path.{sym, _∙_, _≡_}

@@ -1,4 +1,4 @@
--- `plan_check::extent::by_tasks` meets its contract: S and P of the tasks that the run has, P up to one above the limit (`Looking`).
+-- `plan_check::extent::by_tasks` meets its contract: S and P of the tasks that the run has, P up to one above the limit (`PlanExtent`).
 -- Assumes nothing.
 use mathlib.Core.Bool.{false}
 use mathlib.Core.Path.{subst⁻¹, sym, _∙_, _≡_}
@@ -16,7 +16,7 @@ use Rattle.plan_check.proofs.StateTests.{passes-run}
 use Rattle.plan_check.proofs.extent.by_tasks.Statement.{statement}
 use Rattle.plan_check.proofs.extent.by_tasks.Tie as tie
 
--- what the test says of the horizon
+-- the test of the horizon
 far :
     (c : tie.After-horizon-out)
     → horizonOut (c .before .before .last-start .result + c .before .hyperperiod .result) ≡ horizonOut (horizonIn (c .before .before .before .before .args .run))

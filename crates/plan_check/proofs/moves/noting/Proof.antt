@@ -1,5 +1,5 @@
--- `plan_check::moves::noting` meets its contract. The loop's invariant: the phases of the places passed are noted, and the others are as given (`written-more`).
--- Assumes nothing.
+-- `plan_check::moves::noting` meets its contract. The loop's invariant: the phases of the places passed are recorded, and the others are as given
+-- (`written-more`). Assumes nothing.
 use mathlib.Core.List.{List, [], map, _++_, _∷_}
 use mathlib.Core.Path.{ap, refl, sym, _∙_, _≡_}
 use Prim.Native.Nat.{_+_, _-_, ℕ, _≤_}

@@ -1,4 +1,4 @@
--- `plan_check::moves::state_at` meets its contract: the phases are noted exactly at the last S.
+-- `plan_check::moves::state_at` meets its contract: the phases are recorded exactly at the last S.
 -- Assumes nothing.
 use mathlib.Core.Path.{_∙_, sym}
 use borrow.Author.Needs.{needs}

@@ -1,4 +1,4 @@
--- `plan_check::rows::add` meets its contract: a count below 255 has room for one more.
+-- `plan_check::rows::add` meets its contract: a count below 255 has space for one more.
 -- Assumes nothing.
 use native.Mathlib.Omega.{arith}
 use borrow.Author.Needs.{needs}

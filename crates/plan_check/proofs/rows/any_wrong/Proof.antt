@@ -29,7 +29,7 @@ loop c = c .before .before .before .before
 abbrev entry : tie.At-loop Inv-loop μ-loop → tie.Start Inv-loop μ-loop
 entry s = s .before
 
--- place p is wrong; the byte of position p + 1 is looked up at p + 1
+-- place p is wrong; the byte of position p + 1 is read at p + 1
 abbrev wrongIn : Run → List ℕ → ℕ → Bool
 wrongIn r ns p = wrongWith (placeAt r p) (getD ns (suc p) 0)
 

@@ -1,5 +1,5 @@
--- `plan_check::rows::counted` meets its contract. The loop's invariant: no core passed shows a stranger, and the bytes of the cores passed are counted.
--- Assumes nothing.
+-- `plan_check::rows::counted` meets its contract. The loop's invariant: no core passed shows an unknown position, and the bytes of the cores passed are
+-- counted. Assumes nothing.
 use mathlib.Core.Bool.{false, true≢false}
 use mathlib.Core.List.{List}
 use mathlib.Core.Path.{ap, subst, sym, _∙_, _≡_}

@@ -1,4 +1,4 @@
--- `plan_text::Check::end` meets its contract: each stage's end says what is said in it.
+-- `plan_text::Check::end` meets its contract: each stage's end gives the answer of the stage.
 -- Assumes nothing.
 use borrow.Author.Needs.{needs}
 use Rattle.plan_text.specs.declared.Stage.the-variants.{Plan, Table}

@@ -1,4 +1,4 @@
--- `plan_text::Check::feed` meets its contract: each stage's feed hands back what says the rest; one that is over stays so.
+-- `plan_text::Check::feed` meets its contract: each stage's feed returns a check that gives the rest of the answer; one that is over stays so.
 -- Assumes nothing.
 use borrow.Author.Needs.{needs}
 use Rattle.plan_text.specs.declared.Stage.the-variants.{Plan, Table}

@@ -44,7 +44,7 @@ ends c =
     let at = head c .loop .at in
     omega (arith, c .end-from .ensures, mark-within space (drop (at + 1) line), length-drop (at + 1) line, c .before .before .loop-test .taken)
 
--- the row of the numbers read, of this word and of those behind it
+-- the row of the numbers read, of this word and of those after it
 here :
     (c : tie.After-end-from Inv-loop μ-loop)
     → let line = head c .before .before .args .line .now in

@@ -1,4 +1,4 @@
--- `plan_text::line::is_verdict` meets its contract: the three words are looked for, and a line that is too long has none.
+-- `plan_text::line::is_verdict` meets its contract: the three words are searched for, and a line that is too long has none.
 -- Assumes nothing.
 use borrow.Author.Needs.{needs}
 use native.Mathlib.Omega.{arith}

@@ -1,4 +1,4 @@
--- `plan_text::line::read` meets its contract: the first word is the tick, and the words behind it are the numbers (Reading).
+-- `plan_text::line::read` meets its contract: the first word is the tick, and the words after it are the numbers (Reading).
 -- Assumes nothing.
 use borrow.Author.Needs.{needs}
 use native.Mathlib.Omega.{arith}

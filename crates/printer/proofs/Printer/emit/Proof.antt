@@ -1,5 +1,5 @@
--- `printer::Printer::emit` meets its contract: what has been handed out and what is left make up what there was (`Emitting`). It stops where the
--- buffer is full, or where the line is at its end and no row is to come. Each turn but the last makes a row's line. Assumes nothing.
+-- `printer::Printer::emit` meets its contract: what has been written and what is left make up what there was (`Emitting`). It stops where the
+-- buffer is full, or where the line is at its end and no row is to come. Each iteration but the last makes a row's line. Assumes nothing.
 use borrow.Author.Needs.{needs}
 use native.Mathlib.Omega.{arith}
 use mathlib.Core.List.{List}

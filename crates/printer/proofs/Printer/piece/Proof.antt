@@ -1,4 +1,4 @@
--- `printer::Printer::piece` meets its contract: a sound printer hands out its next piece, another is handed back as it is. Assumes nothing.
+-- `printer::Printer::piece` meets its contract: a valid printer writes its next piece, another is returned as it is. Assumes nothing.
 use borrow.Author.Needs.{needs}
 use mathlib.Core.Path.{sym, _∙_}
 use Rattle.printer.proofs.Emitting.{piece-refused}

@@ -24,7 +24,7 @@ entry-from-then1 c = c .before .before .before
 abbrev entry-from-else1 : tie.Else1 Inv-loop μ-loop → tie.Start Inv-loop μ-loop
 entry-from-else1 c = c .before .before .before
 
--- place i - 1 is looked at
+-- place i - 1 is tested
 module _ (places : List ℕ) (i set : ℕ) (h : (i ≤ mostTasks) × (set ≡ owedFrom (segment 0 places) i)) (l : 0 < i) where
   is : set ≡ owedFrom (segment 0 places) (i - 1 + 1)
   is = let e : i ≡ i - 1 + 1 = omega arith in h .1 ∙ ap (owedFrom (segment 0 places)) e

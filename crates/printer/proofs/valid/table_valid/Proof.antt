@@ -36,7 +36,7 @@ returns c = sym (many-out (c .before .args .table) (c .if1 .taken))
 returns-2 : tie.Need-returns-2 Inv-loop μ-loop
 returns-2 c = sym (wide-out (c .before .before .args .table) (c .before .if1 .left) (c .if2 .taken))
 
--- a width is measured against the open cores
+-- a width is measured against the unfenced cores
 measured : (c : tie.After-unfenced-count Inv-loop μ-loop) → c .unfenced-count .result ≡ unfencedCount (entry c .args .table .fence) (entry c .args .table .cores)
 measured c =
     let t = entry c .args .table in

@@ -1,4 +1,5 @@
--- `response_time::recording::any_left` meets its contract: the places that have been looked at have no tick left (`Looking` of crate event_simulation). Assumes nothing.
+-- `response_time::recording::any_left` meets its contract: the places that have been handled have no tick left (`Looking` of crate event_simulation).
+-- Assumes nothing.
 use mathlib.Core.Path.{_≡_, refl, sym, ap, _∙_}
 use mathlib.Core.Bool.{Bool, true, false, _&&_, true≢false}
 use mathlib.Core.List.{List}
@@ -41,7 +42,7 @@ found set left p l on some =
     sym (any-of 32 (λ q. bit set q && ltb 0 (getD left q 0)) p l
     (and-both (bit set p) (ltb 0 (getD left p 0)) on (lt-ltb 0 (getD left p 0) some)))
 
--- all have been looked at
+-- all have been handled
 none-found : (set : ℕ) (left : List ℕ) → ((p : ℕ) → bit set p ≡ true → getD left p 0 ≡ 0) → false ≡ anyLeft set left
 unfolding anyLeft
 none-found set left none = sym (none-any 32 (λ q. bit set q && ltb 0 (getD left q 0)) (λ p l. go p (bit set p) refl))

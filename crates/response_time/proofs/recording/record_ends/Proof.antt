@@ -1,4 +1,4 @@
--- `response_time::recording::record_ends` meets its contract: after each turn the times of the places taken off the set are noted. Assumes nothing.
+-- `response_time::recording::record_ends` meets its contract: after each iteration the times of the places taken off the set are recorded. Assumes nothing.
 use borrow.Author.Needs.{needs}
 use mathlib.Core.Path.{_≡_, sym, ap₂, _∙_}
 use mathlib.Core.Bool.{true}
@@ -27,7 +27,7 @@ loop-holds c =
     let a = c .args in
     (c .fits .ended .fits, λ p e. e, noted-none (a .tick) (segment 64 (a .times .now)) (segment 64 (a .places .now)) (a .responses .now) (a .ended))
 
--- THE STATES: the turn in which the time is worked out, and in which it is noted
+-- THE STATES: the iteration in which the time is worked out, and in which it is recorded
 abbrev worked : tie.After-time2 Inv-loop μ-loop → tie.In-loop Inv-loop μ-loop
 worked c = c .before .before
 
@@ -40,7 +40,7 @@ off c =
     let l = c .before .loop in
     off-turn (c .before .before .args .ended) (l .rest) (c .loop-test .taken) (l .inv .0) (l .inv .1)
 
--- its period and its next release, as they stand in the lists
+-- its period and its next release, as they are in the lists
 period-at : (c : tie.In-loop Inv-loop μ-loop) (xs : List ℕ) → getD (segment 64 xs) (lowest (c .before .loop .rest)) 0 ≡ getD xs (64 + lowest (c .before .loop .rest)) 0
 period-at c xs = part-at 64 xs (lowest (c .before .loop .rest)) (off c .below)
 

@@ -1,5 +1,5 @@
--- `response_time::walk::times_of` meets its contract. After each jump the run stands as the table's full-length run does, and the longest times so far are noted
--- (`Noted`). A due claimant with ticks left is a miss; past the horizon what is noted are the figures. Assumes nothing.
+-- `response_time::walk::times_of` meets its contract. After each jump the run represents the table's full-length run, and the longest times so far are recorded
+-- (`Noted`). A due claimant with ticks left is a miss; past the horizon what is recorded are the response times. Assumes nothing.
 use borrow.Author.Needs.{needs}
 use mathlib.Core.Path.{sym, _∙_, subst}
 use Prim.Native.Nat.{suc, _-_}
@@ -22,7 +22,7 @@ Inv-loop table setting widths times pace₀ places₀ longest₀ registers place
 abbrev μ-loop : tie.MeasureT-loop
 μ-loop table setting widths times pace₀ places₀ longest₀ registers places longest = suc (table .horizon) - registers .tick
 
--- THE STATES: where the loop is entered, what it rests on, and the turn that each step of it belongs to
+-- THE STATES: where the loop is entered, what it rests on, and the iteration that each step of it belongs to
 abbrev begin : tie.After-places Inv-loop μ-loop → tie.After-columns-of Inv-loop μ-loop
 begin p = p .before .before .before .before .before .before
 
@@ -59,7 +59,7 @@ fit-of p = begin p .before .pre
 abbrev state-of : tie.At-loop Inv-loop μ-loop → EventState
 state-of k = eventStateOf (k .loop .registers) (k .loop .places)
 
--- where nobody is late a jump may begin
+-- where no task is late a jump may begin
 begins : (c : tie.Else2 Inv-loop μ-loop) → JumpStarts (table-of (turn (c .before) .before)) (nums (turn (c .before) .before)) (state-of (turn (c .before)))
 begins c =
     let k = turn (c .before) in

@@ -1,4 +1,4 @@
--- `run::Run::is_firm` meets its contract: the judge is asked of the run's tasks.
+-- `run::Run::is_firm` meets its contract: it is the judge's test of the run's tasks.
 -- Assumes nothing.
 use mathlib.Core.Path.{ap, _∙_}
 use borrow.Author.Needs.{needs}

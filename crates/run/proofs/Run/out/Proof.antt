@@ -1,5 +1,5 @@
--- `run::Run::out` meets its contract. The loop's invariant: no place passed is out of its limits, measured against the unfenced cores; the head is looked at first (`out-by-head`, `out-by-place`).
--- Assumes nothing.
+-- `run::Run::out` meets its contract. The loop's invariant: no place passed is out of its limits, measured against the unfenced cores; the head is tested
+-- first (`out-by-head`, `out-by-place`). Assumes nothing.
 use mathlib.Core.Path.{_≡_, sym, ap, _∙_}
 use mathlib.Core.Bool.{true, false}
 use Prim.Native.Nat.{ℕ, _≤_, _<_, _-_}
@@ -34,7 +34,7 @@ loop c = c .before .before .before
 abbrev entry : tie.After-unfenced-count Inv-loop μ-loop → tie.Start Inv-loop μ-loop
 entry c = c .before .before .before
 
--- a place is looked at with the number of unfenced cores that was counted
+-- a place is tested with the number of unfenced cores that was counted
 by-wide : (r : Run) (p wide : ℕ) → wide ≡ wideIn r → placeOut r p ≡ outIn wide (ruleIn r) (placeAt r p)
 by-wide r p wide e = ap (λ (m : ℕ). outIn m (ruleIn r) (placeAt r p)) (sym e)
 

@@ -76,7 +76,7 @@ passes c =
     let r = entry g .args .self in
     out-by-place r (head-in (g .before)) ∙ none-gathered (placeOut r) (r .count) (g .claims .result .broken) (g .claims .ensures .breaking) (omega (arith, c .if2 .left))
 
--- and past the third nobody is late
+-- and past the third no task is late
 none-late : (c : tie.Else3) → (let r = entry (in-time c) .args .self in r .count ≤ firstLateIn r)
 unfolding firstLateIn
 none-late c =
@@ -85,7 +85,7 @@ none-late c =
     let n = least-none (r .count) (lateAt r) (none-gathered (lateAt r) (r .count) (g .claims .result .late) (g .claims .ensures .being-late) (omega (arith, c .if3 .left))) in
     omega (arith, n)
 
--- 20 is looked at by one test of sets
+-- 20 is decided by one test of sets
 abbrev Begun : tie.After-claims → Type 0
 Begun g =
     let s = entry g in

@@ -1,4 +1,4 @@
--- `run::Run::withdraw` meets its contract: each way out is a case of the withdrawal's definition, in its order (`Cases`).
+-- `run::Run::withdraw` meets its contract: each return is a case of the withdrawal's definition, in its order (`Cases`).
 -- Assumes nothing.
 use mathlib.Core.Path.{_≡_, sym, ap, _∙_}
 use mathlib.Core.Bool.{true, false}

@@ -1,4 +1,4 @@
--- `run::allocation::allocate` meets its contract: who has a core in its set is given some; under rule 4 what is lent of that is borrowed and shown
+-- `run::allocation::allocate` meets its contract: a place that has a core in its set is given some; under rule 4 what is lent of that is borrowed and shown
 -- (`shared-lent`), else nothing is lent (`shared-own`).
 -- Assumes nothing.
 use mathlib.Core.Path.{_≡_, ap, _∙_}
@@ -30,7 +30,7 @@ entry c = c .before .before .before
 abbrev granted : tie.After-owners → tie.After-grants
 granted c = c .before .before
 
--- the widths of the places below the count, and that they are so many
+-- the widths of the places below the count, and the number of them
 abbrev ws : tie.After-owners → List ℕ
 ws c = let a = entry c .args in take (a .count) (widthsIn (a .even) (a .widths .now))
 

@@ -1,4 +1,4 @@
--- `sentence::counting::add` meets its contract: after each turn the places taken off the set have one more. Assumes nothing.
+-- `sentence::counting::add` meets its contract: after each iteration the places taken off the set have one more. Assumes nothing.
 use mathlib.Core.Path.{_≡_, refl, sym, ap, _∙_, subst}
 use mathlib.Core.Bool.{Bool, true}
 use Prim.Native.Nat.{ℕ, _≤_}

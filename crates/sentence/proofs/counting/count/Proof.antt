@@ -1,4 +1,4 @@
--- `sentence::counting::count` meets its contract: before each tick the run stands as the table's full-length run does, and the waiting ticks so far are
+-- `sentence::counting::count` meets its contract: before each tick the run represents the table's full-length run, and the waiting ticks so far are
 -- counted (`Counting`); at the end what is left of C is what the late job did not have. Assumes nothing.
 use borrow.Author.Needs.{needs}
 use mathlib.Core.Path.{_≡_, refl, sym, ap, _∙_, subst}

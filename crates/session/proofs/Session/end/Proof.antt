@@ -1,4 +1,4 @@
--- `session::Session::end` meets its contract: the stage is the definition's, and the end of each stage says what is spoken in it; one that is over says nothing.
+-- `session::Session::end` meets its contract: the stage is the definition's, and the end of each stage gives its transcript; one that is over writes nothing.
 -- Assumes nothing.
 use borrow.Author.Needs.{needs}
 use mathlib.Core.Path.{sym, _∙_}

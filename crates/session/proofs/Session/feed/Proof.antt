@@ -1,4 +1,4 @@
--- `session::Session::feed` meets its contract: the stage is the definition's, and each stage's feed says what is spoken in it; one that is over is silent.
+-- `session::Session::feed` meets its contract: the stage is the definition's, and each stage's feed gives its transcript; one that is over writes nothing.
 -- Assumes nothing.
 use borrow.Author.Needs.{needs}
 use mathlib.Core.Path.{_≡_, sym, _∙_, subst}

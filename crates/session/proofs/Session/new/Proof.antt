@@ -1,4 +1,4 @@
--- `session::Session::new` meets its contract: with no bytes held, what will be said to bytes is the whole transcript by definition.
+-- `session::Session::new` meets its contract: with no bytes held, the transcript for bytes is the whole one by definition.
 -- Assumes nothing.
 use borrow.Author.Needs.{needs}
 use mathlib.Core.Path.{refl}

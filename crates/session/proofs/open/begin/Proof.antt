@@ -1,4 +1,4 @@
--- `session::open::begin` meets its contract: a text longer than any table is refused and ends the session, and else start's answer is said.
+-- `session::open::begin` meets its contract: a text longer than any table is refused and ends the session, and else start's answer is written.
 -- Assumes nothing.
 use borrow.Author.Needs.{needs}
 use Rattle.session.proofs.Replying.{opened-refused, opened-run}

@@ -1,4 +1,4 @@
--- `session::operations::behind` meets its contract: the first space behind the letter's own tells whether there is one number or two (Asking).
+-- `session::operations::behind` meets its contract: the first space after the letter's own decides whether there is one number or two (Asking).
 -- Assumes nothing.
 use borrow.Author.Needs.{needs}
 use mathlib.Core.Path.{_∙_, ap, ap₂}

@@ -1,4 +1,4 @@
--- `session::operations::operation_of` meets its contract: each letter is a case of Asking, with the numbers behind it.
+-- `session::operations::operation_of` meets its contract: each letter is a case of Asking, with the numbers after it.
 -- Assumes nothing.
 use borrow.Author.Needs.{needs}
 use mathlib.Core.Path.{_≡_, _∙_, ap}

@@ -1,4 +1,4 @@
--- `session::replies::put_sets` meets its contract: after k turns the first k sets are written, 21 bytes for each at most.
+-- `session::replies::put_sets` meets its contract: after k iterations the first k sets are written, 21 bytes for each at most.
 -- Assumes nothing.
 use mathlib.Core.List.{List, _∷_, _++_}
 use mathlib.Core.Path.{_≡_, refl, subst}

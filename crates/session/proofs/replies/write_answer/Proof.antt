@@ -1,4 +1,4 @@
--- `session::replies::write_answer` meets its contract: each arm is what was put for its case of the answer.
+-- `session::replies::write_answer` meets its contract: each arm is what was written for its case of the answer.
 -- Assumes nothing.
 use borrow.Author.Needs.{needs}
 use Rattle.session.proofs.TextWritten.{text-of}

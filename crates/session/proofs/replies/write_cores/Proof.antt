@@ -1,4 +1,4 @@
--- `session::replies::write_cores` meets its contract: the word and the spelled cells stand one after the other, and a line has room for both.
+-- `session::replies::write_cores` meets its contract: the word and the text of the cells are one after the other, and a line has space for both.
 -- Assumes nothing.
 use borrow.Author.Needs.{needs}
 use native.Mathlib.Omega.{arith}

@@ -1,4 +1,4 @@
--- `session::replies::write_each` meets its contract: the word, the sets and the newline stand one after the other, and a reply has room for them.
+-- `session::replies::write_each` meets its contract: the word, the sets and the newline are one after the other, and a reply has space for them.
 -- Assumes nothing.
 use borrow.Author.Needs.{needs}
 use native.Mathlib.Omega.{arith}

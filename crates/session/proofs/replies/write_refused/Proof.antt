@@ -1,4 +1,4 @@
--- `session::replies::write_refused` meets its contract: the line that was put has room, so it is said.
+-- `session::replies::write_refused` meets its contract: there is space for the line that is written.
 -- Assumes nothing.
 use borrow.Author.Needs.{needs}
 use native.Mathlib.Omega.{arith}

@@ -1,4 +1,4 @@
--- `session::replies::write_word` meets its contract: the word has at most 16 bytes, so there is room for it and the newline behind it.
+-- `session::replies::write_word` meets its contract: the word has at most 16 bytes, so there is space for it and the newline after it.
 -- Assumes nothing.
 use borrow.Author.Needs.{needs}
 use native.Mathlib.Omega.{arith}

@@ -1,4 +1,4 @@
--- `simulation::columns::columns_of` meets its contract: after i turns the first i places of each part of the widths and of the times have the field of
+-- `simulation::columns::columns_of` meets its contract: after i iterations the first i places of each part of the widths and of the times have the field of
 -- the tasks. Assumes nothing.
 use borrow.Author.Needs.{needs}
 use native.Mathlib.Omega.{arith}

@@ -1,4 +1,4 @@
--- `simulation::columns::paired_in` meets its contract: after i turns the set has those of the first i places whose widths differ. Assumes nothing.
+-- `simulation::columns::paired_in` meets its contract: after i iterations the set has those of the first i places whose widths differ. Assumes nothing.
 use native.Mathlib.Omega.{arith}
 use mathlib.Core.Logic.{⊎-elim}
 use mathlib.Core.Path.{_≡_, sym, subst}

@@ -1,4 +1,4 @@
--- `simulation::machine::start` meets its contract: after i turns the first i events and next releases are the tasks' offsets, and no tick is left.
+-- `simulation::machine::start` meets its contract: after i iterations the first i events and next releases are the tasks' offsets, and no tick is left.
 -- Assumes nothing.
 use borrow.Author.Needs.{needs}
 use native.Mathlib.Omega.{arith}

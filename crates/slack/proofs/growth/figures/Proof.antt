@@ -1,4 +1,4 @@
--- `slack::growth::figures` meets its contract: after each turn the figures of the places so far stand, and zeros behind them. Assumes nothing.
+-- `slack::growth::figures` meets its contract: after each iteration the array has the slack of the places so far, and zeros after them. Assumes nothing.
 use mathlib.Core.Path.{_≡_, subst, sym}
 use Prim.Native.Nat.{ℕ, _+_, _-_, _<_, _≤_}
 use native.Mathlib.Omega.{arith}
@@ -16,7 +16,7 @@ Inv-loop table figures₀ place₀ figures place = (place ≤ table .count) × F
 abbrev μ-loop : tie.MeasureT-loop
 μ-loop table figures₀ place₀ figures place = table .count - place
 
--- the turn that a figure is made in
+-- the iteration in which a slack is computed
 abbrev turn : tie.After-slack-at Inv-loop μ-loop → tie.Then1 Inv-loop μ-loop
 turn c = c .before
 

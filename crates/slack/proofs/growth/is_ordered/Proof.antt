@@ -1,4 +1,4 @@
--- `slack::growth::is_ordered` meets its contract: each way out is the case of `ordered` for the rule's number. Assumes nothing.
+-- `slack::growth::is_ordered` meets its contract: each return is the case of `ordered` for the rule's number. Assumes nothing.
 use mathlib.Core.Bool.{false}
 use mathlib.Core.Path.{_≡_, subst, sym, _∙_}
 use Prim.Native.Nat.{ℕ}

@@ -9,7 +9,7 @@ use Rattle.slack.proofs.Judging.{found-misses, isFound}
 use Rattle.slack.proofs.growth.misses.Statement.{statement}
 use Rattle.slack.proofs.growth.misses.Tie as tie
 
--- what the search says
+-- the result of the search
 says : (c : tie.After-first-miss) (u : Missed) → c .first-miss .result ≡ u → isFound u ≡ misses (loadedTable (c .before .before .args .table))
 says c u e =
     let s = c .before .before in

@@ -1,4 +1,4 @@
--- `slack::growth::misses_longer` meets its contract: what is asked is the table with the task longer. Assumes nothing.
+-- `slack::growth::misses_longer` meets its contract: the table tested is that with the task longer. Assumes nothing.
 use mathlib.Core.Path.{ap, _∙_}
 use native.Mathlib.Omega.{arith}
 use borrow.Author.Needs.{needs}

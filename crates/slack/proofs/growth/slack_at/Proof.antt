@@ -19,7 +19,7 @@ Inv-loop place table fits₀ late₀ fits late = Between (loadedTable table) pla
 abbrev μ-loop : tie.MeasureT-loop
 μ-loop place table fits₀ late₀ fits late = late - fits
 
--- the state at the call, and the turn that each step belongs to
+-- the state at the call, and the iteration that each step belongs to
 abbrev call : tie.At-loop Inv-loop μ-loop → tie.Start Inv-loop μ-loop
 call c = c .before .before .before
 

@@ -1,5 +1,5 @@
 -- `table::checks::by_tasks` meets its contract: the first task that is turned down is answered with its number and position;
--- where there is none, each task is within its limits and the horizon is looked at. Assumes nothing.
+-- where there is none, each task is within its limits and the horizon is tested. Assumes nothing.
 use mathlib.Core.Path.{_≡_, sym, ap, _∙_}
 use borrow.Author.Needs.{needs}
 use native.Mathlib.Omega.{arith}
@@ -22,7 +22,7 @@ use Rattle.table.proofs.checks.by_tasks.Tie as tie
 abbrev first-out : tie.After-task-number → tie.After-first-out
 first-out c = c .before .before .before
 
--- the table that is looked at, and its tasks counted
+-- the table that is tested, and its tasks counted
 abbrev given : tie.After-unfenced-count → model.Table
 given c = tableWith (c .before .args .cores) (c .before .args .fence) (c .before .args .rule) (tasksOf (c .before .args .t4) (c .before .args .count))
 
@@ -31,7 +31,7 @@ counted c =
     let there : length (c .before .args .t4) ≡ mostTasks = search needs in
     tasks-length (c .before .args .t4) (c .before .args .count) (omega arith)
 
--- a width is measured against the open cores
+-- a width is measured against the unfenced cores
 measured : (c : tie.After-unfenced-count) → c .unfenced-count .result ≡ wide (given c)
 measured c =
     let all : min (c .before .args .cores) 64 ≡ c .before .args .cores = omega (arith, c .before .pre .0) in

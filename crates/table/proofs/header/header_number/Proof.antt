@@ -48,7 +48,7 @@ cores-fine c = sym (c .before .cores-out .ensures) ∙ c .if4 .left
 rule-fine : (c : tie.Else5) → ruleOut (rule (now (entry-from-else5 c .args .words))) ≡ false
 rule-fine c = sym (c .before .rule-out .ensures) ∙ c .if5 .left
 
--- the words, and what the test of the fence says of them
+-- the words, and the test of their fence
 abbrev words-of : tie.Else5 → List ℕ
 words-of c = now (entry-from-else5 c .args .words)
 

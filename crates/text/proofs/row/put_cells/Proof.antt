@@ -1,4 +1,4 @@
--- `text::row::put_cells` meets its contract: after c turns the positions of the first c cores are written, four bytes for each at most.
+-- `text::row::put_cells` meets its contract: after c iterations the positions of the first c cores are written, four bytes for each at most.
 -- Assumes nothing.
 use mathlib.Core.List.{[], _∷_, _++_}
 use mathlib.Core.Path.{_≡_, refl, subst}
