@@ -1,5 +1,5 @@
-//! Calls of the library for tests/outside/spare: each line of standard input is a call, and one line answers it.
-//! `spare WORD..` asks for the spare ticks, and the answer is `ok` and 32 figures or `refused NUMBER POSITION`; `judge WORD..` for the verdict, and the answer is the program's verdict line.
+//! Calls of the library for tests/outside/slack: each line of standard input is a call, and one line answers it.
+//! `slack WORD..` asks for the slack, and the answer is `ok` and 32 figures or `refused NUMBER POSITION`; `judge WORD..` for the verdict, and the answer is the program's verdict line.
 use sivorandra::{judge, slack, Refusal};
 use std::io::{self, BufRead, Write};
 
@@ -12,9 +12,9 @@ fn main() -> io::Result<()> {
     for line in io::stdin().lock().lines() {
         let line = line?;
         let mut given = line.split_whitespace();
-        let asks_spare = given.next() == Some("spare");
+        let asks_slack = given.next() == Some("slack");
         let words: Vec<u32> = given.map(|word| word.parse().expect("a number")).collect();
-        let answer = if asks_spare {
+        let answer = if asks_slack {
             slack(&words).map(|figures| format!("ok {}", figures.map(|figure| figure.to_string()).join(" ")))
         } else {
             judge(&words).map(|verdict| verdict.to_string())

@@ -1,4 +1,4 @@
-//! Empty slices lent from Rust, whose pointers are not NULL (tests/library/edge.c lends NULL).
+//! Empty slices lent from Rust, whose pointers are not NULL (tests/library/hostile.c lends NULL).
 use crate::calls::{same, Tried};
 use sivorandra::{judge, judge_ticks, plan, replay, Refusal, Replay, Run, ROW_BYTES};
 

@@ -1,5 +1,5 @@
-//! The library beside the simulator by another hand. `attack` runs a fixed seed; `attack --long SECONDS` goes on with new seeds for so long;
-//! `attack --seed N` begins with the seed N, which a difference has named. The last line is 'N passed, M failed'.
+//! The library beside the simulator by another hand. `fuzz` runs a fixed seed; `fuzz --long SECONDS` goes on with new seeds for so long;
+//! `fuzz --seed N` begins with the seed N, which a difference has named. The last line is 'N passed, M failed'.
 mod book;
 mod calls;
 mod empty;
@@ -160,7 +160,7 @@ impl Counts {
             Err(why) => {
                 self.failed += 1;
                 if self.failed <= MOST_PRINTED {
-                    println!("attack: {why}");
+                    println!("fuzz: {why}");
                 }
             }
         }
@@ -235,11 +235,11 @@ fn told() -> Option<(u64, Option<Duration>)> {
 
 fn main() {
     let Some((seed, long)) = told() else {
-        println!("usage: attack [--long SECONDS | --seed N]");
+        println!("usage: fuzz [--long SECONDS | --seed N]");
         println!("0 passed, 1 failed");
         std::process::exit(2);
     };
-    println!("attack: seed {seed}");
+    println!("fuzz: seed {seed}");
     book::begin();
     let begun = Instant::now();
     let mut counts = Counts::default();
@@ -274,16 +274,16 @@ fn main() {
     });
     let Counts { tables, firm, full, miss, fenced, second, alone, plans, replays, late, advances, empty, withdrawn, together, runs, nodes, ends, abreast, overtaken, crowded, .. } = counts;
     let Counts { lending, borrowed, borrower_reported, sets, lent_sets, .. } = counts;
-    println!("attack: {tables} tables (firm {firm}, full {full}, miss {miss}), {plans} plans, {replays} replays ({late} to a missed deadline), {advances} advances ({empty} taken with an empty job), {withdrawn} withdrawals and {together} of several positions together taken, {runs} runs built by hand");
-    println!("attack: {} small tables searched, {nodes} nodes ({ends} at a missed deadline)", counts.searched.len());
-    println!("attack: {abreast} pairs of lists of firm tables with no longer job in the first, which is abreast; {overtaken} of full tables, where it is behind, and {crowded} under lending");
-    println!("attack: {lending} of the tables that are not refused are under lending; {borrowed} advances are taken in which somebody borrows, {borrower_reported} with a borrower reported");
-    println!("attack: {sets} rows are shown as sets, in {lent_sets} of them somebody borrows");
-    println!("attack: {fenced} of the tables that are not refused have a fence, {second} of them in the second word, {alone} that leaves one core");
+    println!("fuzz: {tables} tables (firm {firm}, full {full}, miss {miss}), {plans} plans, {replays} replays ({late} to a missed deadline), {advances} advances ({empty} taken with an empty job), {withdrawn} withdrawals and {together} of several positions together taken, {runs} runs built by hand");
+    println!("fuzz: {} small tables searched, {nodes} nodes ({ends} at a missed deadline)", counts.searched.len());
+    println!("fuzz: {abreast} pairs of lists of firm tables with no longer job in the first, which is abreast; {overtaken} of full tables, where it is behind, and {crowded} under lending");
+    println!("fuzz: {lending} of the tables that are not refused are under lending; {borrowed} advances are taken in which somebody borrows, {borrower_reported} with a borrower reported");
+    println!("fuzz: {sets} rows are shown as sets, in {lent_sets} of them somebody borrows");
+    println!("fuzz: {fenced} of the tables that are not refused have a fence, {second} of them in the second word, {alone} that leaves one core");
     let [pairs_firm, pairs_full, pairs_miss, late_even] = counts.pairs;
-    println!("attack: tables with a task of two widths: firm {pairs_firm}, full {pairs_full}, miss {pairs_miss}, {late_even} of them with an even job of such a task");
+    println!("fuzz: tables with a task of two widths: firm {pairs_firm}, full {pairs_full}, miss {pairs_miss}, {late_even} of them with an even job of such a task");
     let often: Vec<String> = NUMBERS.map(|number| format!("{number}: {}", counts.numbers[number])).to_vec();
-    println!("attack: numbers among the answers: {}", often.join(", "));
+    println!("fuzz: numbers among the answers: {}", often.join(", "));
     if long.is_none() {
         for number in NUMBERS {
             let seen = counts.numbers[number] > 0;
@@ -309,7 +309,7 @@ fn main() {
         counts.count(if abreast >= FEWEST_ABREAST { Ok(()) } else { Err(format!("only {abreast} pairs of lists of firm tables with no longer job in the first")) });
         counts.count(if overtaken >= FEWEST_OVERTAKEN { Ok(()) } else { Err(format!("only {overtaken} pairs of lists of full tables with no longer job in the first, which is behind")) });
     }
-    println!("attack: {:.0} s", begun.elapsed().as_secs_f64());
+    println!("fuzz: {:.0} s", begun.elapsed().as_secs_f64());
     println!("{} passed, {} failed", counts.passed, counts.failed);
     std::process::exit(i32::from(counts.failed != 0));
 }

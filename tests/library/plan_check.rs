@@ -1,4 +1,4 @@
-//! Calls of the library for tests/outside/supplied: each line of standard input is one, and one line answers it. `begin WORDS` and `state WORDS` set the plan, `own WORDS` gives the bytes of the
+//! Calls of the library for tests/outside/plan-check: each line of standard input is one, and one line answers it. `begin WORDS` and `state WORDS` set the plan, `own WORDS` gives the bytes of the
 //! rows that our own planner makes up to the horizon, `row BYTES` takes a row, and `words` gives the words of the plan.
 use sivorandra::{judge, plan, Refusal, RowAnswer, Supplied, Verdict, PLAN_WORDS};
 use std::io::{self, BufRead, Write};
