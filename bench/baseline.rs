@@ -1,6 +1,6 @@
-// A strong peer: a plain Rust judge written for speed by the judges' own methods, to be measured beside them. Not proved; bench/verdict holds its verdicts to the simulator's.
+// A fast baseline: a plain Rust judge written for speed by the judges' own methods, to be measured beside them. Not proved; bench/verdict holds its verdicts to the simulator's.
 //
-// The full-length run tick by tick on sets of 32 bits: due moments are looked at only when the bell rings, and the choice is kept while the claimants and their widths are unchanged.
+// The full-length run tick by tick on sets of 32 bits: releases and deadlines are looked at only at the next event, and the choice is kept while the claimants and their widths are unchanged.
 // With the word `jump` it goes from event to event instead: while nobody is due and nobody ends, every tick is as the one before. The deadline of a job that has ended it passes over.
 
 use std::io::Read;
@@ -145,24 +145,24 @@ pub fn first_miss<const JUMP: bool>(table: &Table) -> Option<(u32, usize)> {
     let count = table.tasks.len();
     let mut tasks = [Task::default(); 32];
     tasks[..count].copy_from_slice(&table.tasks);
-    let mut width = tasks.map(|task| task.second); // of the newest job; before the first release the second one, which the first turns
-    let turn = tasks.map(|task| task.width ^ task.second);
+    let mut width = tasks.map(|task| task.second); // of the newest job; before the first release the second one, which the first changes
+    let change = tasks.map(|task| task.width ^ task.second);
     let length = tasks.map(|task| task.length);
     let deadline = tasks.map(|task| task.deadline);
     let period = tasks.map(|task| task.period);
     let mut left = [0u32; 32]; // ticks owed; 0: not claiming
-    let mut moment = [u32::MAX; 32]; // the deadline while claiming, else the next release
+    let mut event = [u32::MAX; 32]; // the deadline while claiming, else the next release
     let mut next = [0u32; 32]; // the next release
     for place in 0..count {
-        moment[place] = tasks[place].offset;
+        event[place] = tasks[place].offset;
     }
     let end = (table.s + table.p) as u32;
-    let (mut tick, mut bell, mut claiming, mut chosen, mut granted, mut turned) = (0, 0, 0u32, 0, 0u32, 0);
+    let (mut tick, mut next_event, mut claiming, mut chosen, mut granted, mut changed) = (0, 0, 0u32, 0, 0u32, 0);
     loop {
-        if tick == bell {
+        if tick == next_event {
             let mut due = 0u32;
             for place in 0..32 {
-                due |= u32::from(moment[place] == tick) << place;
+                due |= u32::from(event[place] == tick) << place;
             }
             while due != 0 {
                 let place = due.trailing_zeros() as usize & 31;
@@ -171,24 +171,24 @@ pub fn first_miss<const JUMP: bool>(table: &Table) -> Option<(u32, usize)> {
                     return Some((tick, place + 1));
                 }
                 left[place] = length[place];
-                moment[place] = tick + deadline[place];
+                event[place] = tick + deadline[place];
                 next[place] = tick + period[place];
                 claiming |= 1 << place;
-                width[place] ^= turn[place];
-                turned |= turn[place];
+                width[place] ^= change[place];
+                changed |= change[place];
             }
-            bell = moment.iter().fold(u32::MAX, |a, &b| a.min(b));
+            next_event = event.iter().fold(u32::MAX, |a, &b| a.min(b));
         }
         if tick == end {
             return None;
         }
-        if claiming != chosen || turned != 0 {
-            (chosen, turned) = (claiming, 0);
+        if claiming != chosen || changed != 0 {
+            (chosen, changed) = (claiming, 0);
             granted = choose(table, &width, claiming);
         }
         let mut ticks = 1;
         if JUMP {
-            ticks = bell.min(end) - tick;
+            ticks = next_event.min(end) - tick;
             let mut rest = granted;
             while rest != 0 {
                 ticks = ticks.min(left[rest.trailing_zeros() as usize & 31]);
@@ -202,7 +202,7 @@ pub fn first_miss<const JUMP: bool>(table: &Table) -> Option<(u32, usize)> {
             left[place] -= ticks;
             if left[place] == 0 {
                 claiming &= !(1 << place);
-                moment[place] = next[place];
+                event[place] = next[place];
             }
         }
         tick += ticks;

@@ -8,7 +8,7 @@ import sys
 import tempfile
 
 ROOT = pathlib.Path(__file__).resolve().parents[1]
-LONGEST = 300  # bytes of anything that a failing test shows
+MOST_SHOWN = 300  # bytes of anything that a failing test shows
 BLOCK = 1 << 16
 MOST_WORDS = 229  # of a table
 STAGE = "114"  # the last request that changes what is read or printed
@@ -23,7 +23,7 @@ def table(name):
     return (ROOT / "tables" / name).read_bytes()
 
 
-def said(command, text):
+def stdout_of(command, text):
     return subprocess.run(command, input=text, capture_output=True, timeout=60).stdout
 
 
@@ -77,15 +77,15 @@ def vectors(*kinds):
     """The name, the input and the output of each vector of these kinds."""
     folder = ROOT / "tests" / "vectors"
     for line in (folder / "INDEX").read_text().splitlines():
-        number, its = line.split()[:2]
+        name, its = line.split()[:2]
         if its in kinds:
-            yield f"vector {number}", (folder / f"{number}.in").read_bytes(), (folder / f"{number}.out").read_bytes()
+            yield f"vector {name}", (folder / f"{name}.in").read_bytes(), (folder / f"{name}.out").read_bytes()
 
 
-def cut(said):
-    """What was said, as it is shown where a test fails: at most 300 bytes of it."""
-    shown = repr(said[:LONGEST]) if isinstance(said, (bytes, str)) else repr(said)[:LONGEST]
-    return shown + (f" and {len(said) - LONGEST} more" if isinstance(said, (bytes, str)) and len(said) > LONGEST else "")
+def cut(text):
+    """A text as it is shown where a test fails: at most 300 bytes of it."""
+    shown = repr(text[:MOST_SHOWN]) if isinstance(text, (bytes, str)) else repr(text)[:MOST_SHOWN]
+    return shown + (f" and {len(text) - MOST_SHOWN} more" if isinstance(text, (bytes, str)) and len(text) > MOST_SHOWN else "")
 
 
 def difference(expected, got):
@@ -108,7 +108,7 @@ def check(name, holds, why=""):
         passed += 1
     else:
         failed += 1
-        print(f"{name}: {why if len(why) <= 12 * LONGEST else cut(why)}")
+        print(f"{name}: {why if len(why) <= 12 * MOST_SHOWN else cut(why)}")
 
 
 def compare(name, text, expected, got):

@@ -1,5 +1,5 @@
 //! The C functions, each with its lent slices inside larger ones: what stands around them must stay.
-use crate::book::{phase_at, Said, RESTING};
+use crate::simulator::{phase_at, Answer, RESTING};
 use crate::rng::Rng;
 use sivorandra::{Entry, Refusal, Run, Verdict, ROW_BYTES, RUN_WORDS, SETS};
 use std::fmt::Debug;
@@ -18,10 +18,10 @@ extern "C" {
 }
 
 /// What is wrong, in words.
-pub type Tried<T> = Result<T, String>;
+pub type Checked<T> = Result<T, String>;
 
 /// Fails unless both are the same.
-pub fn same<T: PartialEq + Debug>(what: &str, expected: T, got: T) -> Tried<()> {
+pub fn same<T: PartialEq + Debug>(what: &str, expected: T, got: T) -> Checked<()> {
     if expected == got {
         return Ok(());
     }
@@ -29,7 +29,7 @@ pub fn same<T: PartialEq + Debug>(what: &str, expected: T, got: T) -> Tried<()> 
 }
 
 /// Fails unless both runs have the same words.
-pub fn same_run(what: &str, expected: &[u32; RUN_WORDS], got: &[u32; RUN_WORDS]) -> Tried<()> {
+pub fn same_run(what: &str, expected: &[u32; RUN_WORDS], got: &[u32; RUN_WORDS]) -> Checked<()> {
     match (0..RUN_WORDS).find(|&at| expected[at] != got[at]) {
         None => Ok(()),
         Some(at) => Err(format!("{what}: word {at} of the run: expected {}, got {}", expected[at], got[at])),
@@ -50,15 +50,15 @@ pub const NO_RUN: [u32; RUN_WORDS] = {
 const GUARD: usize = 24;
 
 /// A slice to lend, with other elements before and behind it.
-pub struct Lent<T> {
+pub struct Guarded<T> {
     found: Vec<T>,
     now: Vec<T>,
 }
 
-impl<T: Copy + PartialEq + Debug> Lent<T> {
-    pub fn new(len: usize, mut one: impl FnMut() -> T) -> Lent<T> {
+impl<T: Copy + PartialEq + Debug> Guarded<T> {
+    pub fn new(len: usize, mut one: impl FnMut() -> T) -> Guarded<T> {
         let found: Vec<T> = (0..len + 2 * GUARD).map(|_| one()).collect();
-        Lent { now: found.clone(), found }
+        Guarded { now: found.clone(), found }
     }
 
     pub fn len(&self) -> usize {
@@ -71,7 +71,7 @@ impl<T: Copy + PartialEq + Debug> Lent<T> {
     }
 
     /// Fails unless the first elements are these and everything else is as found. What is there counts as found from now on.
-    pub fn holds(&mut self, what: &str, first: &[T]) -> Tried<()> {
+    pub fn holds(&mut self, what: &str, first: &[T]) -> Checked<()> {
         self.found[GUARD..][..first.len()].copy_from_slice(first);
         if self.found == self.now {
             return Ok(());
@@ -80,47 +80,47 @@ impl<T: Copy + PartialEq + Debug> Lent<T> {
         Err(format!("{what}: element {} of {} is {:?} and not {:?}", at as i64 - GUARD as i64, self.len(), self.now[at], self.found[at]))
     }
 
-    pub fn as_found(&mut self, what: &str) -> Tried<()> {
+    pub fn as_found(&mut self, what: &str) -> Checked<()> {
         self.holds(what, &[])
     }
 
-    fn as_found_if(&mut self, short: bool, what: &str) -> Tried<()> {
+    fn as_found_if(&mut self, short: bool, what: &str) -> Checked<()> {
         if short { self.as_found(what) } else { Ok(()) }
     }
 }
 
-impl Lent<u8> {
-    pub fn bytes(rng: &mut Rng, len: usize) -> Lent<u8> {
+impl Guarded<u8> {
+    pub fn bytes(rng: &mut Rng, len: usize) -> Guarded<u8> {
         let mut left = 0;
-        Lent::new(len, || {
+        Guarded::new(len, || {
             left = if left < 256 { rng.next() } else { left >> 8 };
             left as u8
         })
     }
 }
 
-impl Lent<u32> {
-    pub fn words(rng: &mut Rng, len: usize) -> Lent<u32> {
-        Lent::new(len, || rng.word())
+impl Guarded<u32> {
+    pub fn words(rng: &mut Rng, len: usize) -> Guarded<u32> {
+        Guarded::new(len, || rng.word())
     }
 }
 
-impl Lent<u64> {
-    pub fn longs(rng: &mut Rng, len: usize) -> Lent<u64> {
-        Lent::new(len, || rng.next())
+impl Guarded<u64> {
+    pub fn longs(rng: &mut Rng, len: usize) -> Guarded<u64> {
+        Guarded::new(len, || rng.next())
     }
 }
 
 /// The answer's three words; at times first with no room for them, where the call itself sees to it that all else stays. Fails unless the words behind them stay.
-fn ask(rng: &mut Rng, mut call: impl FnMut(&mut [u32]) -> Tried<u32>) -> Tried<[u32; 3]> {
+fn ask(rng: &mut Rng, mut call: impl FnMut(&mut [u32]) -> Checked<u32>) -> Checked<[u32; 3]> {
     if rng.once_in(16) {
         let len = rng.below(3);
-        let mut answer = Lent::words(rng, len);
+        let mut answer = Guarded::words(rng, len);
         same("the value with a short answer", 1, call(answer.lent())?)?;
         answer.as_found("a short answer")?;
     }
     let len = 3 + rng.below(3);
-    let mut answer = Lent::words(rng, len);
+    let mut answer = Guarded::words(rng, len);
     same("the value", 0, call(answer.lent())?)?;
     let three = [answer.lent()[0], answer.lent()[1], answer.lent()[2]];
     answer.holds("the answer", &three)?;
@@ -128,7 +128,7 @@ fn ask(rng: &mut Rng, mut call: impl FnMut(&mut [u32]) -> Tried<u32>) -> Tried<[
 }
 
 /// Done or refused, as start, row, sets, advance and plan say it.
-fn done(three: [u32; 3]) -> Tried<Said<()>> {
+fn done(three: [u32; 3]) -> Checked<Answer<()>> {
     match three {
         [0, 0, 0] => Ok(Ok(())),
         [3, number, position] => Ok(Err(Refusal::new(number, position))),
@@ -136,8 +136,8 @@ fn done(three: [u32; 3]) -> Tried<Said<()>> {
     }
 }
 
-/// What a judge says: the one that leaps, or the one that goes tick by tick.
-pub fn judge(rng: &mut Rng, words: &[u32], by_ticks: bool) -> Tried<Said<Verdict>> {
+/// What a judge says: the event-driven one, or the one that goes tick by tick.
+pub fn judge(rng: &mut Rng, words: &[u32], by_ticks: bool) -> Checked<Answer<Verdict>> {
     let call = if by_ticks { sivorandra_judge_ticks } else { sivorandra_judge };
     let three = ask(rng, |answer| Ok(unsafe { call(words.as_ptr(), words.len(), answer.as_mut_ptr(), answer.len()) }))?;
     match three {
@@ -150,8 +150,8 @@ pub fn judge(rng: &mut Rng, words: &[u32], by_ticks: bool) -> Tried<Said<Verdict
 }
 
 /// What plan says; it leaves the rows expected, and in a refusal everything as found.
-pub fn plan(rng: &mut Rng, words: &[u32], a: u32, b: u32, len: usize, expected: &Said<Vec<u8>>) -> Tried<Said<()>> {
-    let mut rows = Lent::bytes(rng, len);
+pub fn plan(rng: &mut Rng, words: &[u32], a: u32, b: u32, len: usize, expected: &Answer<Vec<u8>>) -> Checked<Answer<()>> {
+    let mut rows = Guarded::bytes(rng, len);
     let three = ask(rng, |answer| {
         let value = unsafe { sivorandra_plan(words.as_ptr(), words.len(), a, b, rows.lent().as_mut_ptr(), len, answer.as_mut_ptr(), answer.len()) };
         rows.as_found_if(value == 1, "the rows")?;
@@ -169,7 +169,7 @@ pub const fn reported(reports: u32) -> Entry {
 }
 
 /// An entry on a run, from Rust.
-pub fn enter(run: &mut Run, entry: Entry) -> Said<()> {
+pub fn enter(run: &mut Run, entry: Entry) -> Answer<()> {
     match entry {
         Entry::Advance { reports, empties } => run.advance(reports, empties),
         Entry::Withdraw { position } => run.withdraw(position),
@@ -189,7 +189,7 @@ fn in_words(entry: &Entry) -> [u32; 3] {
 }
 
 /// Words that are no list of entries: some are missing or too many, the first of an entry is another, or the last of a withdrawal is not 0.
-fn spoilt(rng: &mut Rng, entries: &[u32]) -> Vec<u32> {
+fn with_fault(rng: &mut Rng, entries: &[u32]) -> Vec<u32> {
     let mut words = entries.to_vec();
     if words.is_empty() || rng.once_in(3) {
         words.extend([0; 2].iter().take(1 + rng.below(2)));
@@ -203,10 +203,10 @@ fn spoilt(rng: &mut Rng, entries: &[u32]) -> Vec<u32> {
 }
 
 /// What replay says of the last row or of the start; it leaves the answers and the row expected, and where the start is refused everything as found.
-pub fn replay(rng: &mut Rng, words: &[u32], list: &[Entry], expected: &Said<(Vec<u32>, Said<[u8; ROW_BYTES]>)>) -> Tried<()> {
+pub fn replay(rng: &mut Rng, words: &[u32], list: &[Entry], expected: &Answer<(Vec<u32>, Answer<[u8; ROW_BYTES]>)>) -> Checked<()> {
     let entries: Vec<u32> = list.iter().flat_map(in_words).collect();
     let (numbers_len, row_len) = (list.len() + rng.below(3), ROW_BYTES + rng.below(3));
-    let (mut numbers, mut row) = (Lent::words(rng, numbers_len), Lent::bytes(rng, row_len));
+    let (mut numbers, mut row) = (Guarded::words(rng, numbers_len), Guarded::bytes(rng, row_len));
     let mut call = |entries: &[u32], numbers_len: usize, row_len: usize, answer: &mut [u32]| {
         let (into, last) = (numbers.lent().as_mut_ptr(), row.lent().as_mut_ptr());
         let value = unsafe { sivorandra_replay(words.as_ptr(), words.len(), entries.as_ptr(), entries.len(), into, numbers_len, last, row_len, answer.as_mut_ptr(), answer.len()) };
@@ -218,13 +218,13 @@ pub fn replay(rng: &mut Rng, words: &[u32], list: &[Entry], expected: &Said<(Vec
         // no room for the answers, or for the row
         let for_numbers = rng.once_in(2) && !list.is_empty();
         let lens = if for_numbers { (rng.below(list.len()), row_len) } else { (numbers_len, rng.below(ROW_BYTES)) };
-        let mut answer = Lent::words(rng, 3);
+        let mut answer = Guarded::words(rng, 3);
         same("the value with a short slice", 1, call(&entries, lens.0, lens.1, answer.lent())?)?;
         answer.as_found("the answer to a short slice")?;
     }
     if expected.is_ok() && rng.once_in(16) {
-        let none = spoilt(rng, &entries);
-        let mut answer = Lent::words(rng, 3);
+        let none = with_fault(rng, &entries);
+        let mut answer = Guarded::words(rng, 3);
         same("the value with words that are no list", 1, call(&none, numbers_len, row_len, answer.lent())?)?;
         answer.as_found("the answer to words that are no list")?;
     }
@@ -239,44 +239,44 @@ pub fn replay(rng: &mut Rng, words: &[u32], list: &[Entry], expected: &Said<(Vec
     row.holds("the last row", bytes)
 }
 
-/// A run kept in words, with a row's bytes and its sets to ask it into.
-pub struct Kept {
-    run: Lent<u32>,
-    row: Lent<u8>,
-    sets: Lent<u64>,
+/// A run in words, with a row's bytes and its sets to ask it into.
+pub struct RunBuffer {
+    run: Guarded<u32>,
+    row: Guarded<u8>,
+    sets: Guarded<u64>,
 }
 
-impl Kept {
+impl RunBuffer {
     /// The run of a table as it starts, or the run of all zeros.
-    pub fn start(rng: &mut Rng, words: &[u32], expected: Said<[u32; RUN_WORDS]>) -> Tried<(Kept, Said<()>)> {
+    pub fn start(rng: &mut Rng, words: &[u32], expected: Answer<[u32; RUN_WORDS]>) -> Checked<(RunBuffer, Answer<()>)> {
         let len = RUN_WORDS + rng.below(3);
-        let mut run = Lent::words(rng, len);
+        let mut run = Guarded::words(rng, len);
         let mut call = |len: usize, answer: &mut [u32]| {
             let value = unsafe { sivorandra_start(words.as_ptr(), words.len(), run.lent().as_mut_ptr(), len, answer.as_mut_ptr(), answer.len()) };
             run.as_found_if(value == 1, "the run")?;
             Ok(value)
         };
         if rng.once_in(64) {
-            let mut answer = Lent::words(rng, 3);
+            let mut answer = Guarded::words(rng, 3);
             same("the value with a short run", 1, call(rng.below(RUN_WORDS), answer.lent())?)?;
             answer.as_found("the answer to a short run")?;
         }
         let got = done(ask(rng, |answer| call(len, answer))?)?;
         same("start", expected.map(|_| ()), got)?;
         run.holds("the started run", &expected.unwrap_or(NO_RUN))?;
-        Ok((Kept { run, row: Lent::bytes(rng, ROW_BYTES + 2), sets: Lent::longs(rng, SETS + 2) }, got))
+        Ok((RunBuffer { run, row: Guarded::bytes(rng, ROW_BYTES + 2), sets: Guarded::longs(rng, SETS + 2) }, got))
     }
 
     /// A run built by hand.
-    pub fn from(rng: &mut Rng, words: &[u32; RUN_WORDS]) -> Kept {
-        let mut run = Lent::words(rng, RUN_WORDS + 1);
+    pub fn from(rng: &mut Rng, words: &[u32; RUN_WORDS]) -> RunBuffer {
+        let mut run = Guarded::words(rng, RUN_WORDS + 1);
         run.lent()[..RUN_WORDS].copy_from_slice(words);
         run.found = run.now.clone();
-        Kept { run, row: Lent::bytes(rng, ROW_BYTES + 2), sets: Lent::longs(rng, SETS + 2) }
+        RunBuffer { run, row: Guarded::bytes(rng, ROW_BYTES + 2), sets: Guarded::longs(rng, SETS + 2) }
     }
 
-    pub fn row(&mut self, rng: &mut Rng, empties: u32, expected: Said<[u8; ROW_BYTES]>) -> Tried<Said<()>> {
-        let Kept { run, row, .. } = self;
+    pub fn row(&mut self, rng: &mut Rng, empties: u32, expected: Answer<[u8; ROW_BYTES]>) -> Checked<Answer<()>> {
+        let RunBuffer { run, row, .. } = self;
         let three = ask(rng, |answer| {
             let value = unsafe { sivorandra_row(run.lent().as_ptr(), run.len(), empties, row.lent().as_mut_ptr(), row.len(), answer.as_mut_ptr(), answer.len()) };
             row.as_found_if(value == 1, "the row")?;
@@ -290,8 +290,8 @@ impl Kept {
     }
 
     /// The row as sets, from C and from Rust.
-    pub fn sets(&mut self, rng: &mut Rng, empties: u32, expected: Said<[u64; SETS]>) -> Tried<Said<()>> {
-        let Kept { run, sets, .. } = self;
+    pub fn sets(&mut self, rng: &mut Rng, empties: u32, expected: Answer<[u64; SETS]>) -> Checked<Answer<()>> {
+        let RunBuffer { run, sets, .. } = self;
         let three = ask(rng, |answer| {
             let value = unsafe { sivorandra_sets(run.lent().as_ptr(), run.len(), empties, sets.lent().as_mut_ptr(), sets.len(), answer.as_mut_ptr(), answer.len()) };
             sets.as_found_if(value == 1, "the sets")?;
@@ -307,7 +307,7 @@ impl Kept {
     }
 
     /// An entry, which leaves the run expected, or in a refusal the run as found.
-    pub fn enter(&mut self, rng: &mut Rng, entry: Entry, expected: Said<[u32; RUN_WORDS]>) -> Tried<Said<()>> {
+    pub fn enter(&mut self, rng: &mut Rng, entry: Entry, expected: Answer<[u32; RUN_WORDS]>) -> Checked<Answer<()>> {
         let run = &mut self.run;
         let three = ask(rng, |answer| {
             let (words, len) = (run.lent().as_mut_ptr(), run.len());
@@ -327,8 +327,8 @@ impl Kept {
     }
 
     /// Row, sets, advance and withdrawals of too few words for a run, which 14 turns down, a row asked into too few bytes, and as too few sets.
-    pub fn cut(&mut self, rng: &mut Rng) -> Tried<()> {
-        let Kept { run, row, sets } = self;
+    pub fn cut(&mut self, rng: &mut Rng) -> Checked<()> {
+        let RunBuffer { run, row, sets } = self;
         let (words, bytes, few) = (rng.below(RUN_WORDS), rng.below(ROW_BYTES), rng.below(SETS));
         let mut answer = [0; 3];
         same("the value of a row of too few words", 0, unsafe { sivorandra_row(run.lent().as_ptr(), words, 0, row.lent().as_mut_ptr(), row.len(), answer.as_mut_ptr(), 3) })?;

@@ -1,5 +1,5 @@
 //! Empty slices lent from Rust, whose pointers are not NULL (tests/library/hostile.c lends NULL).
-use crate::calls::{same, Tried};
+use crate::calls::{same, Checked};
 use sivorandra::{judge, judge_ticks, plan, replay, Refusal, Replay, Run, ROW_BYTES};
 
 /// Example A, whose first row has position 1 on cores 0 and 1 and position 3 on core 2.
@@ -10,7 +10,7 @@ fn refused<T>(number: u32) -> Result<T, Refusal> {
 }
 
 /// Each call by name, and whether it is answered as it should be.
-pub fn all() -> Vec<(String, Tried<()>)> {
+pub fn all() -> Vec<(String, Checked<()>)> {
     let mut row = [0; ROW_BYTES];
     row[..3].copy_from_slice(&[1, 1, 3]);
     let tried = [

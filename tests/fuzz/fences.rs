@@ -1,7 +1,7 @@
 //! Fences of runs built by hand: what 14 says of each core and each count, and the rows with 255.
-use crate::book::{HOLDING, RESTING, WORKING};
-use crate::calls::{same, Kept, Tried};
-use crate::hand::{fenced, odd, Place, Words, OUT, PLAIN};
+use crate::simulator::{HOLDING, RESTING, WORKING};
+use crate::calls::{same, RunBuffer, Checked};
+use crate::hand_built_runs::{fenced, odd, Place, Words, NOT_A_RUN, PLAIN};
 use crate::rng::Rng;
 use sivorandra::{Refusal, Run, ROW_BYTES, RUN_HEAD_WORDS};
 
@@ -49,7 +49,7 @@ pub fn limits() -> Vec<(String, Words, Words)> {
 }
 
 /// The row of a fenced run: 255 on fenced cores, 0 past the count, all zeros where it is refused; its sets have no fenced core; and an advance keeps the fence.
-pub fn rows() -> Tried<()> {
+pub fn rows() -> Checked<()> {
     let two = odd([0, 2, 4, 6, 8, WORKING, 1, 1]);
     let late = odd([5, 1, 4, 6, 8, WORKING, 6, 1]);
     let four_or_two = |even| [0, 4, 4, 6, 8, 2, even, WORKING, 1, 1, 1];
@@ -78,10 +78,10 @@ pub fn rows() -> Tried<()> {
     for (words, row) in [
         (fenced(1, 64, u64::MAX << 32, &[odd([0, 32, 4, 6, 8, WORKING, 1, 1])]), Ok(halves)),
         (fenced(1, 3, 0b010, &[late]), Err(Refusal::Late { position: 1 })),
-        (fenced(1, 3, 0b111, &[PLAIN]), Err(OUT)),
-        (fenced(5, 3, 0b010, &[PLAIN]), Err(OUT)),
+        (fenced(1, 3, 0b111, &[PLAIN]), Err(NOT_A_RUN)),
+        (fenced(5, 3, 0b010, &[PLAIN]), Err(NOT_A_RUN)),
     ] {
-        let _ = Kept::from(&mut rng, &words).row(&mut rng, 0, row)?;
+        let _ = RunBuffer::from(&mut rng, &words).row(&mut rng, 0, row)?;
     }
     Ok(())
 }

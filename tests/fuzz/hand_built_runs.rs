@@ -1,6 +1,6 @@
 //! Runs built by hand: number 14 at each limit, the fence among them, 15, who borrows, and what no started run shows.
-use crate::book::{self, phase_at, place_at, COMING, HOLDING, RESTING, WITHDRAWN, WORKING};
-use crate::calls::{enter, reported, same, same_run, Kept, Tried};
+use crate::simulator::{self, phase_at, place_at, COMING, HOLDING, RESTING, WITHDRAWN, WORKING};
+use crate::calls::{enter, reported, same, same_run, RunBuffer, Checked};
 use crate::fences;
 use crate::lending::{self, IDLING, LENDING};
 use crate::random::withdrawal;
@@ -17,7 +17,7 @@ type Phase = [u32; 3];
 type Odd = [u32; 8];
 
 pub const fn odd([o, v, c, d, t, kind, first, second]: Odd) -> Place {
-    place_of([o, v, c, d, t], v, 0, whole([kind, first, second]))
+    place_of([o, v, c, d, t], v, 0, phase_of([kind, first, second]))
 }
 
 /// A place of two widths.
@@ -26,7 +26,7 @@ pub const fn place_of([o, v, c, d, t]: [u32; 5], w: u32, even: u32, [kind, first
 }
 
 /// The kind and the three numbers of a phase.
-const fn whole([kind, first, second]: Phase) -> [u32; 4] {
+const fn phase_of([kind, first, second]: Phase) -> [u32; 4] {
     [kind, first, second, if kind == WORKING { second } else { 0 }]
 }
 
@@ -49,11 +49,11 @@ pub fn fenced(rule: u32, cores: u32, fence: u64, places: &[Place]) -> Words {
     words
 }
 
-/// Whether the words hold no run, or number 14 turns it down (scope, 'The run in the cab').
-fn turned_down(words: &Words) -> bool {
+/// Whether the words hold no run, or number 14 turns it down (scope, 'The run in the reference').
+fn is_not_a_run(words: &Words) -> bool {
     let [rule, cores, count, low, high, withdrawn, ..] = *words;
     let within = |n: u32, low: u32, high: u32| low <= n && n <= high;
-    let is_stand = |place: &[u32]| {
+    let is_task_state = |place: &[u32]| {
         place[EVEN] <= 1
             && match place[7] {
                 COMING | RESTING => place[9] == 0 && place[10] == 0,
@@ -80,28 +80,28 @@ fn turned_down(words: &Words) -> bool {
             }
     };
     let mut used = words[RUN_HEAD_WORDS..].chunks(RUN_PLACE_WORDS).take(count as usize);
-    !(within(count, 1, 32) && within(cores, 1, 64) && within(rule, 1, LENDING) && !past && unfenced > 0 && u64::from(withdrawn) >> count == 0 && used.all(|place| is_stand(place) && fits(place)))
+    !(within(count, 1, 32) && within(cores, 1, 64) && within(rule, 1, LENDING) && !past && unfenced > 0 && u64::from(withdrawn) >> count == 0 && used.all(|place| is_task_state(place) && fits(place)))
 }
 
-pub const OUT: Refusal = Refusal::NotARun;
+pub const NOT_A_RUN: Refusal = Refusal::NotARun;
 
 /// Row, sets and entries of a run, for some ticks, beside 14 and the book.
-fn compare(rng: &mut Rng, counts: &mut Counts, words: &Words, ticks: usize) -> Tried<()> {
-    let mut kept = Kept::from(rng, words);
-    if turned_down(words) {
+fn compare(rng: &mut Rng, counts: &mut Counts, words: &Words, ticks: usize) -> Checked<()> {
+    let mut buffer = RunBuffer::from(rng, words);
+    if is_not_a_run(words) {
         let sets = [0, 1, u32::MAX];
         let asked = rng.pick(&sets);
-        counts.answer(&kept.row(rng, asked, Err(OUT))?);
-        counts.asked(0, &kept.sets(rng, asked, Err(OUT))?);
+        counts.answer(&buffer.row(rng, asked, Err(NOT_A_RUN))?);
+        counts.asked(0, &buffer.sets(rng, asked, Err(NOT_A_RUN))?);
         for entry in [Entry::Advance { reports: rng.pick(&sets), empties: rng.pick(&sets) }, Entry::Withdraw { position: rng.pick(&sets) }, Entry::WithdrawAll { set: rng.pick(&sets) }] {
-            counts.entered(entry, 0, &kept.enter(rng, entry, Err(OUT))?);
+            counts.entered(entry, 0, &buffer.enter(rng, entry, Err(NOT_A_RUN))?);
         }
         return Ok(());
     }
-    let (out, mut cab) = book::built(words);
+    let (out, mut reference) = simulator::built(words);
     same("14 as the simulator reads it", false, out)?;
     let mut now = *words;
-    same_run("the simulator's run", &now, &cab.words(&now))?;
+    same_run("the simulator's run", &now, &reference.words(&now))?;
     for _ in 0..ticks {
         let mut any_of = |may: u32| match rng.below(8) {
             0 => rng.word(),
@@ -109,19 +109,19 @@ fn compare(rng: &mut Rng, counts: &mut Counts, words: &Words, ticks: usize) -> T
             2 => may,
             _ => rng.word() & may,
         };
-        let (asked, given) = (any_of(cab.may_be_empty()), any_of(cab.may_be_empty()));
-        let reports = any_of(cab.may_report(given));
+        let (asked, given) = (any_of(reference.may_be_empty()), any_of(reference.may_be_empty()));
+        let reports = any_of(reference.may_report(given));
         let empties = if rng.once_in(2) { 0 } else { given };
-        counts.answer(&kept.row(rng, asked, cab.row(asked)).map_err(|why| format!("with the empty jobs {asked}: {why}"))?);
-        let shown = kept.sets(rng, asked, cab.sets(asked)).map_err(|why| format!("as sets with the empty jobs {asked}: {why}"))?;
-        counts.asked(cab.borrowers(Entry::Advance { reports: 0, empties: asked }), &shown);
-        let entry = if rng.once_in(6) { withdrawal(rng, cab.count()) } else { Entry::Advance { reports, empties } };
-        let borrowers = cab.borrowers(entry);
-        let answer = cab.enter(entry);
+        counts.answer(&buffer.row(rng, asked, reference.row(asked)).map_err(|why| format!("with the empty jobs {asked}: {why}"))?);
+        let shown = buffer.sets(rng, asked, reference.sets(asked)).map_err(|why| format!("as sets with the empty jobs {asked}: {why}"))?;
+        counts.asked(reference.borrowers(Entry::Advance { reports: 0, empties: asked }), &shown);
+        let entry = if rng.once_in(6) { withdrawal(rng, reference.count()) } else { Entry::Advance { reports, empties } };
+        let borrowers = reference.borrowers(entry);
+        let answer = reference.enter(entry);
         if answer.is_ok() {
-            now = cab.words(&now);
+            now = reference.words(&now);
         }
-        counts.entered(entry, borrowers, &kept.enter(rng, entry, answer.map(|()| now))?);
+        counts.entered(entry, borrowers, &buffer.enter(rng, entry, answer.map(|()| now))?);
     }
     Ok(())
 }
@@ -142,13 +142,13 @@ fn place(rng: &mut Rng, rule: u32, cores: u32) -> Place {
     let w = if rng.once_in(3) { rng.from(1, cores) } else { v };
     let z = |rng: &mut Rng, low: u32, high: u32| if rng.once_in(3) { high } else { rng.from(low, high) };
     let phase = match rng.below(8) {
-        0 if o > 0 => whole([COMING, rng.pick(&[1, o, o.div_ceil(2)]), 0]),
-        1 | 2 if t > 1 => whole([RESTING, z(rng, 1, t - 1), 0]),
+        0 if o > 0 => phase_of([COMING, rng.pick(&[1, o, o.div_ceil(2)]), 0]),
+        1 | 2 if t > 1 => phase_of([RESTING, z(rng, 1, t - 1), 0]),
         3..=5 if rule >= IDLING => {
             let z = z(rng, 0, d - 1);
-            whole([HOLDING, z, rng.from(0, z.min(c - 1))])
+            phase_of([HOLDING, z, rng.from(0, z.min(c - 1))])
         }
-        6 => whole([WORKING, 0, 0]),
+        6 => phase_of([WORKING, 0, 0]),
         _ => {
             let z = if rng.once_in(12) { d } else { rng.from(0, d - 1) };
             let had = rng.from(0, z.min(c - 1));
@@ -160,14 +160,14 @@ fn place(rng: &mut Rng, rule: u32, cores: u32) -> Place {
 }
 
 /// Anything in the places past the count.
-fn litter(rng: &mut Rng, words: &mut Words) {
+fn fill_past_the_count(rng: &mut Rng, words: &mut Words) {
     let used = RUN_HEAD_WORDS + RUN_PLACE_WORDS * words[2] as usize;
     let ones = rng.once_in(8);
     words[used..].fill_with(|| if ones { u32::MAX } else if rng.once_in(4) { rng.from(0, 4) } else { rng.word() });
 }
 
 /// A random run built by hand, at times with a fault, and with anything past the count.
-pub fn case(seed: u64, counts: &mut Counts) -> Tried<()> {
+pub fn case(seed: u64, counts: &mut Counts) -> Checked<()> {
     let mut rng = Rng::new(seed);
     let (rule, cores) = (rng.pick(&[1, 2, 3, 3, 4, 4, 4]), rng.pick(&[1, 2, 3, 4, 8, 64]));
     let count = if rng.once_in(8) { rng.from(1, 32) } else { rng.from(1, 5) };
@@ -175,7 +175,7 @@ pub fn case(seed: u64, counts: &mut Counts) -> Tried<()> {
     let places: Vec<Place> = (0..count).map(|_| place(&mut rng, rule, left)).collect();
     let mut words = fenced(rule, cores, fence, &places);
     words[WITHDRAWN] = if rng.once_in(2) { 0 } else { rng.word() & (u32::MAX >> (32 - count)) };
-    litter(&mut rng, &mut words);
+    fill_past_the_count(&mut rng, &mut words);
     if rng.once_in(3) {
         let place = place_at(rng.below(count as usize));
         let w = words[place..][..RUN_PLACE_WORDS].to_vec();
@@ -319,23 +319,23 @@ fn limits() -> Vec<(String, Words, Words)> {
 }
 
 /// A run inside is accepted, and one outside gets 14.
-fn limit(counts: &mut Counts, inside: &Words, outside: &Words) -> Tried<()> {
+fn limit(counts: &mut Counts, inside: &Words, outside: &Words) -> Checked<()> {
     let mut rng = Rng::new(1);
     for (words, out) in [(inside, false), (outside, true)] {
-        same("row with 14", out, Run::from_words(*words).row(0) == Err(OUT))?;
-        same("sets with 14", out, Run::from_words(*words).sets(0) == Err(OUT))?;
+        same("row with 14", out, Run::from_words(*words).row(0) == Err(NOT_A_RUN))?;
+        same("sets with 14", out, Run::from_words(*words).sets(0) == Err(NOT_A_RUN))?;
         let mut run = Run::from_words(*words);
-        same("advance with 14", out, run.advance(0, 0) == Err(OUT))?;
-        same("withdraw with 14", out, run.withdraw(0) == Err(OUT))?;
-        same("withdraw_all with 14", out, run.withdraw_all(1 << 31) == Err(OUT))?;
-        same("the test's own reading of 14", out, turned_down(words))?;
+        same("advance with 14", out, run.advance(0, 0) == Err(NOT_A_RUN))?;
+        same("withdraw with 14", out, run.withdraw(0) == Err(NOT_A_RUN))?;
+        same("withdraw_all with 14", out, run.withdraw_all(1 << 31) == Err(NOT_A_RUN))?;
+        same("the test's own reading of 14", out, is_not_a_run(words))?;
         compare(&mut rng, counts, words, 3)?;
     }
     Ok(())
 }
 
 /// Late positions: 15 with the lowest, after 14 and before 20 and 16, in row, sets and advance.
-fn lateness(counts: &mut Counts) -> Tried<()> {
+fn lateness(counts: &mut Counts) -> Checked<()> {
     let late = odd([5, 1, 4, 6, 8, WORKING, 6, 1]);
     for set in 1u32..1 << 6 {
         let mut places = vec![PLAIN; 6];
@@ -355,7 +355,7 @@ fn lateness(counts: &mut Counts) -> Tried<()> {
                 }
             }
             words[place_at(5) + if rule == 2 { SECOND } else { 1 }] = 5;
-            same("14 before 15", Err(OUT), Run::from_words(words).advance(0, 0))?;
+            same("14 before 15", Err(NOT_A_RUN), Run::from_words(words).advance(0, 0))?;
         }
     }
     Ok(())
@@ -411,7 +411,7 @@ fn moves() -> Vec<(&'static str, u32, Odd, u32, Phase)> {
 }
 
 /// A move of a place on two cores, with one width and with two, of an odd job and, where it is not Coming, of an even one: the parity changes with each release but the first.
-fn a_move(rule: u32, task: [u32; 5], before: [u32; 4], entry: Entry, after: [u32; 4]) -> Tried<()> {
+fn check_move(rule: u32, task: [u32; 5], before: [u32; 4], entry: Entry, after: [u32; 4]) -> Checked<()> {
     let v = task[1];
     for (w, even) in [(v, 0), (v + 1, 0), (v, 1), (v + 1, 1)] {
         if (before[0], even) == (COMING, 1) {
@@ -427,14 +427,14 @@ fn a_move(rule: u32, task: [u32; 5], before: [u32; 4], entry: Entry, after: [u32
 
 /// O, v, C, D, T of a place, and its phase.
 const fn parts([o, v, c, d, t, kind, first, second]: Odd) -> ([u32; 5], [u32; 4]) {
-    ([o, v, c, d, t], whole([kind, first, second]))
+    ([o, v, c, d, t], phase_of([kind, first, second]))
 }
 
 /// The phase of a job that is released in this tick.
 const FRESH: [u32; 4] = [WORKING, 0, 0, 0];
 
 /// What a row shows of an odd job, of an even one and of one that holds: its own width.
-fn widths() -> Tried<()> {
+fn widths() -> Checked<()> {
     for (name, even, [kind, first, second], row) in [
         ("an odd job", 0, [WORKING, 1, 1], [1, 1, 1, 0]),
         ("an even job", 1, [WORKING, 1, 1], [1, 1, 2, 2]),
@@ -443,14 +443,14 @@ fn widths() -> Tried<()> {
         ("an odd job that has ended", 0, [RESTING, 1, 0], [2, 2, 0, 0]),
         ("an even job that has ended", 1, [RESTING, 1, 0], [2, 2, 0, 0]),
     ] {
-        let words = run(3, 4, &[place_of([0, 3, 4, 6, 8], 2, even, whole([kind, first, second])), odd([0, 2, 4, 6, 8, WORKING, 1, 1])]);
+        let words = run(3, 4, &[place_of([0, 3, 4, 6, 8], 2, even, phase_of([kind, first, second])), odd([0, 2, 4, 6, 8, WORKING, 1, 1])]);
         same(name, Ok(row), Run::from_words(words).row(0).map(|row| [row[0], row[1], row[2], row[3]]))?;
     }
     Ok(())
 }
 
 /// Held cores have the holder's position, and hold others back; its reports are refused with 16.
-fn held_back() -> Tried<()> {
+fn hold_blocks() -> Checked<()> {
     let mut held = Run::from_words(run(3, 2, &[odd([0, 2, 4, 6, 8, HOLDING, 5, 1]), odd([0, 1, 2, 8, 8, WORKING, 5, 0])]));
     same("the row", Ok([1, 1]), held.row(0).map(|row| [row[0], row[1]]))?;
     same("the holder reported", Err(Refusal::BadReport), held.advance(1, 0))?;
@@ -462,7 +462,7 @@ fn held_back() -> Tried<()> {
 
 /// An empty job of the first of two wide tasks: under idling it holds its cores, else the second has them, under lending as a borrower, and may be reported. A row asked changes nothing, a refused
 /// advance keeps nothing of its empty jobs, and a report on an empty job is 16.
-fn emptied() -> Tried<()> {
+fn empty_job() -> Checked<()> {
     let wide = odd([0, 2, 4, 6, 8, WORKING, 0, 0]);
     for (rule, row, reported) in [(1, [2, 2], Ok(())), (2, [2, 2], Ok(())), (3, [1, 1], Err(Refusal::BadReport)), (4, [2, 2], Ok(()))] {
         let words = run(rule, 2, &[wide, wide]);
@@ -480,7 +480,7 @@ fn emptied() -> Tried<()> {
 }
 
 /// One task on one core that is taken out: the rule, the phase, and the phase one tick on. A job released in this tick is empty, one released before goes on.
-fn taken_out() -> Tried<()> {
+fn withdrawn_task() -> Checked<()> {
     let cases = [
         (1, [COMING, 5, 0], [COMING, 4, 0]),
         (1, [COMING, 1, 0], [WORKING, 0, 0]),
@@ -499,7 +499,7 @@ fn taken_out() -> Tried<()> {
     ];
     for (rule, phase, next) in cases {
         let of = |even: u32, phase: Phase, withdrawn: u32| {
-            let mut words = run(rule, 1, &[place_of([5, 1, 4, 6, 8], 1, even, whole(phase))]);
+            let mut words = run(rule, 1, &[place_of([5, 1, 4, 6, 8], 1, even, phase_of(phase))]);
             words[WITHDRAWN] = withdrawn;
             words
         };
@@ -523,9 +523,9 @@ fn taken_out() -> Tried<()> {
 }
 
 /// 14, then 21, then 22; 15 is not looked at.
-fn not_taken_out(counts: &mut Counts) -> Tried<()> {
+fn no_withdrawal(counts: &mut Counts) -> Checked<()> {
     let (wide, late) = (odd([5, 2, 4, 6, 8, WORKING, 2, 1]), odd([5, 1, 4, 6, 8, WORKING, 6, 1]));
-    let of = |v: u32, w: u32, even: u32| place_of([5, v, 4, 6, 8], w, even, whole([WORKING, 2, 1]));
+    let of = |v: u32, w: u32, even: u32| place_of([5, v, 4, 6, 8], w, even, phase_of([WORKING, 2, 1]));
     let cases = [
         (1, [PLAIN, wide], true),
         (1, [wide, PLAIN], false),
@@ -556,7 +556,7 @@ fn not_taken_out(counts: &mut Counts) -> Tried<()> {
             same_run("the run", &after, held.words())?;
             let mut out = words;
             out[0] = LENDING + 1;
-            same("14 first", Err(OUT), Run::from_words(out).withdraw(position))?;
+            same("14 first", Err(NOT_A_RUN), Run::from_words(out).withdraw(position))?;
         }
         for (set, withdrawn) in [0, 1, 2, 3, 4, 5, 7, 1 << 31, 3 | 1 << 31, u32::MAX].into_iter().flat_map(|set| (0..4).map(move |withdrawn| (set, withdrawn))) {
             let mut before = words;
@@ -571,14 +571,14 @@ fn not_taken_out(counts: &mut Counts) -> Tried<()> {
             same_run("the run", &after, held.words())?;
             let mut out = before;
             out[0] = LENDING + 1;
-            same("14 first", Err(OUT), Run::from_words(out).withdraw_all(set))?;
+            same("14 first", Err(NOT_A_RUN), Run::from_words(out).withdraw_all(set))?;
         }
     }
     Ok(())
 }
 
 /// 20 for a position past the count and for every phase but Working(0, 0), before 16.
-fn not_emptied(counts: &mut Counts) -> Tried<()> {
+fn no_empty_job(counts: &mut Counts) -> Checked<()> {
     let phases = [[COMING, 1, 0], [WORKING, 1, 0], [WORKING, 1, 1], [HOLDING, 0, 0], [HOLDING, 1, 0], [HOLDING, 1, 1], [RESTING, 1, 0], [RESTING, 7, 0]];
     for (rule, [kind, first, second]) in [IDLING, LENDING].into_iter().flat_map(|rule| phases.map(|phase| (rule, phase))) {
         let words = run(rule, 4, &[odd([5, 1, 4, 6, 8, WORKING, 0, 0]), odd([5, 1, 4, 6, 8, kind, first, second])]);
@@ -599,14 +599,14 @@ fn not_emptied(counts: &mut Counts) -> Tried<()> {
 }
 
 /// Random words past the count, for every count that leaves places there: row, sets and advance answer as with zeros, and these words come back unchanged.
-fn past_the_count(counts: &mut Counts, count: u32) -> Tried<()> {
+fn past_the_count(counts: &mut Counts, count: u32) -> Checked<()> {
     let mut rng = Rng::new(count.into());
     for rule in 1..=LENDING {
         let places: Vec<Place> = (0..count).map(|_| place(&mut rng, rule, 8)).collect();
         let clean = if count % 2 == 0 { run(rule, 8, &places) } else { fenced(rule, 40, 0xff_0f0f_ff0f, &places) };
-        let mut littered = clean;
-        litter(&mut rng, &mut littered);
-        let (mut plain, mut held) = (Run::from_words(clean), Run::from_words(littered));
+        let mut filled = clean;
+        fill_past_the_count(&mut rng, &mut filled);
+        let (mut plain, mut held) = (Run::from_words(clean), Run::from_words(filled));
         for _ in 0..4 {
             let (any, other) = (rng.word(), rng.word());
             let (reports, empties) = (rng.pick(&[0, 1, any]), rng.pick(&[0, 0, 1, other]));
@@ -621,15 +621,15 @@ fn past_the_count(counts: &mut Counts, count: u32) -> Tried<()> {
             same("withdraw_all", plain.withdraw_all(set), held.withdraw_all(set))?;
             let used = RUN_HEAD_WORDS + RUN_PLACE_WORDS * count as usize;
             same("the words up to the count", &plain.words()[..used], &held.words()[..used])?;
-            same("the words past the count", &littered[used..], &held.words()[used..])?;
+            same("the words past the count", &filled[used..], &held.words()[used..])?;
         }
-        compare(&mut rng, counts, &littered, 4)?;
+        compare(&mut rng, counts, &filled, 4)?;
     }
     Ok(())
 }
 
 /// Each fixed run by name, and whether the library does with it what it should.
-pub fn all(counts: &mut Counts) -> Vec<(String, Tried<()>)> {
+pub fn all(counts: &mut Counts) -> Vec<(String, Checked<()>)> {
     let mut done = Vec::new();
     for (name, inside, outside) in limits() {
         let tried = limit(counts, &inside, &outside);
@@ -638,22 +638,22 @@ pub fn all(counts: &mut Counts) -> Vec<(String, Tried<()>)> {
     done.push(("the lowest late position".into(), lateness(counts)));
     for (name, rule, place, reports, phase) in moves() {
         let (task, before) = parts(place);
-        done.push((format!("{name}, rule {rule}"), a_move(rule, task, before, reported(reports), whole(phase))));
+        done.push((format!("{name}, rule {rule}"), check_move(rule, task, before, reported(reports), phase_of(phase))));
     }
     for (name, rule, place, phase) in empty_moves() {
         let (task, before) = parts(place);
-        done.push((format!("{name}, rule {rule}"), a_move(rule, task, before, Entry::Advance { reports: 0, empties: 1 }, whole(phase))));
+        done.push((format!("{name}, rule {rule}"), check_move(rule, task, before, Entry::Advance { reports: 0, empties: 1 }, phase_of(phase))));
     }
     for (name, period, before, reports, after) in lending::moves() {
-        done.push((format!("{name}, under lending"), a_move(LENDING, [5, 1, 4, 6, period], before, reported(reports), after)));
+        done.push((format!("{name}, under lending"), check_move(LENDING, [5, 1, 4, 6, period], before, reported(reports), after)));
     }
     done.push(("a holder lends".into(), lending::one_lends()));
     done.push(("two holders lend".into(), lending::two_lend()));
-    done.push(("an empty job beside another".into(), emptied()));
-    done.push(("what cannot be empty".into(), not_emptied(counts)));
-    done.push(("a task taken out".into(), taken_out()));
-    done.push(("what cannot be taken out".into(), not_taken_out(counts)));
-    done.push(("a hold holds others back".into(), held_back()));
+    done.push(("an empty job beside another".into(), empty_job()));
+    done.push(("what cannot be empty".into(), no_empty_job(counts)));
+    done.push(("a task taken out".into(), withdrawn_task()));
+    done.push(("what cannot be taken out".into(), no_withdrawal(counts)));
+    done.push(("a hold holds others back".into(), hold_blocks()));
     done.push(("the width of a job".into(), widths()));
     done.push(("rows with a fence".into(), fences::rows()));
     for count in 1..32 {

@@ -1,7 +1,7 @@
 //! Lending in runs built by hand: the limits of the reserved count, moves of one task whose counts differ, and who borrows from whom.
-use crate::book::{COMING, HOLDING, RESTING, WORKING};
-use crate::calls::{same, same_run, Tried};
-use crate::hand::{odd, place_of, run, Place};
+use crate::simulator::{COMING, HOLDING, RESTING, WORKING};
+use crate::calls::{same, same_run, Checked};
+use crate::hand_built_runs::{odd, place_of, run, Place};
 use sivorandra::{Refusal, Run};
 
 /// The rules under which a job that has ended holds; under the last it lends.
@@ -75,7 +75,7 @@ pub fn moves() -> Vec<(&'static str, u32, Phase, u32, Phase)> {
 
 /// Under lending the first holds and the others wait: the cores, the holder's width and phase, the widths of the others, the row, who borrows, and the holder's phase one tick on.
 /// A borrower has one tick more and none more reserved; it may be reported, and nobody else.
-pub fn one_lends() -> Tried<()> {
+pub fn one_lends() -> Checked<()> {
     let task = |v: u32| [5, v, 4, 6, 8];
     let (before, waiting) = ([HOLDING, 2, 1, 0], [WORKING, 2, 1, 0]);
     let goes_on = [HOLDING, 3, 2, 0];
@@ -115,7 +115,7 @@ pub fn one_lends() -> Tried<()> {
 
 /// Two holders and those that wait below them, on so many cores: a borrower is fed by one holder only and once, one between the two is fed by the first alone, and a holder
 /// without cores lends nothing.
-pub fn two_lend() -> Tried<()> {
+pub fn two_lend() -> Checked<()> {
     let holds = |v: u32| odd([5, v, 4, 6, 8, HOLDING, 2, 1]);
     let waits = |v: u32| place_of([5, v, 4, 6, 8], v, 0, [WORKING, 2, 1, 0]);
     for (name, cores, places, row) in [

@@ -1,20 +1,20 @@
 //! The library beside the simulator by another hand. `fuzz` runs a fixed seed; `fuzz --long SECONDS` goes on with new seeds for so long;
 //! `fuzz --seed N` begins with the seed N, which a difference has named. The last line is 'N passed, M failed'.
-mod book;
 mod calls;
-mod empty;
+mod empty_slices;
+mod exhaustive;
 mod fences;
-mod hand;
+mod hand_built_runs;
 mod lending;
-mod lists;
 mod random;
 mod rng;
-mod small;
+mod simulator;
+mod sustainability;
 mod tables;
 mod vectors;
 
-use book::Said;
-use calls::Tried;
+use calls::Checked;
+use simulator::Answer;
 use sivorandra::{Entry, Verdict};
 use std::collections::HashSet;
 use std::sync::atomic::{AtomicU64, Ordering};
@@ -33,8 +33,8 @@ const MOST_PRINTED: u64 = 20;
 /// At least so many small tables are searched.
 const FEWEST_SEARCHED: usize = 200;
 /// At least so many pairs of lists are compared of which the first has no longer job: those on firm tables, and those of full tables in which it is behind.
-const FEWEST_ABREAST: u64 = 100_000;
-const FEWEST_OVERTAKEN: u64 = 1_000;
+const FEWEST_SUSTAINED: u64 = 100_000;
+const FEWEST_BEHIND: u64 = 1_000;
 /// At least so many tables with a fence are not refused, and so many with one in the second word, and so many with one that leaves one core.
 const FEWEST_FENCED: u64 = 1_000;
 /// At least so many tables with tasks of two widths are firm, full, and miss, and miss with an even job of such a task.
@@ -90,22 +90,22 @@ pub struct Counts {
     nodes: u64,
     /// Nodes at which a deadline is missed.
     ends: u64,
-    /// Pairs of lists of which the first has no longer job: on firm tables, where it must be abreast, and on full ones and under lending, where it is behind.
-    abreast: u64,
-    overtaken: u64,
-    crowded: u64,
+    /// Pairs of lists of which the first has no longer job: on firm tables, where it must be behind on none, and on full ones and under lending, where it is behind.
+    sustained: u64,
+    behind: u64,
+    behind_by_lending: u64,
     searched: HashSet<Vec<u32>>,
 }
 
 impl Counts {
-    pub fn answer(&mut self, answer: &Said<()>) {
+    pub fn answer(&mut self, answer: &Answer<()>) {
         if let Err(refusal) = answer {
             self.numbers[(refusal.number() as usize).min(LAST)] += 1;
         }
     }
 
     /// An entry of a list, who borrows in its tick, and its answer.
-    pub fn entered(&mut self, entry: Entry, borrowers: u32, answer: &Said<()>) {
+    pub fn entered(&mut self, entry: Entry, borrowers: u32, answer: &Answer<()>) {
         self.answer(answer);
         match entry {
             Entry::Withdraw { .. } => self.withdrawn += u64::from(answer.is_ok()),
@@ -122,7 +122,7 @@ impl Counts {
     }
 
     /// A row asked as sets, and who borrows in its tick.
-    pub fn asked(&mut self, borrowers: u32, answer: &Said<()>) {
+    pub fn asked(&mut self, borrowers: u32, answer: &Answer<()>) {
         self.answer(answer);
         self.sets += u64::from(answer.is_ok());
         self.lent_sets += u64::from(borrowers != 0);
@@ -134,7 +134,7 @@ impl Counts {
         self.borrower_reported += u64::from(borrowers & reports != 0);
     }
 
-    pub fn verdict(&mut self, verdict: &Said<Verdict>) {
+    pub fn verdict(&mut self, verdict: &Answer<Verdict>) {
         match verdict {
             Ok(Verdict::Firm { .. }) => self.firm += 1,
             Ok(Verdict::Full { .. }) => self.full += 1,
@@ -144,7 +144,7 @@ impl Counts {
     }
 
     /// Of a table that is not refused: whether a task has two widths, and whether the late job is an even one of such a task.
-    pub fn pairs(&mut self, (pairs, late_even): (bool, bool), verdict: Said<Verdict>) {
+    pub fn pairs(&mut self, (pairs, late_even): (bool, bool), verdict: Answer<Verdict>) {
         let at = match verdict {
             Ok(Verdict::Firm { .. }) => 0,
             Ok(Verdict::Full { .. }) => 1,
@@ -154,7 +154,7 @@ impl Counts {
         self.pairs[3] += u64::from(late_even);
     }
 
-    fn count(&mut self, tried: Tried<()>) {
+    fn count(&mut self, tried: Checked<()>) {
         match tried {
             Ok(()) => self.passed += 1,
             Err(why) => {
@@ -194,9 +194,9 @@ impl Counts {
         self.runs += other.runs;
         self.nodes += other.nodes;
         self.ends += other.ends;
-        self.abreast += other.abreast;
-        self.overtaken += other.overtaken;
-        self.crowded += other.crowded;
+        self.sustained += other.sustained;
+        self.behind += other.behind;
+        self.behind_by_lending += other.behind_by_lending;
         self.searched.extend(other.searched);
     }
 
@@ -207,19 +207,19 @@ impl Counts {
             self.tables += 1;
         }
         for seed in first..first + RUNS {
-            let tried = hand::case(seed, self);
+            let tried = hand_built_runs::case(seed, self);
             self.count(tried);
             self.runs += 1;
         }
         for seed in first..first + SEARCHES {
-            let tried = small::case(seed, self);
+            let tried = exhaustive::case(seed, self);
             self.count(tried);
         }
     }
 }
 
 /// The seed to begin with, and how long to go on; the fixed number of batches where it is not said.
-fn told() -> Option<(u64, Option<Duration>)> {
+fn arguments() -> Option<(u64, Option<Duration>)> {
     let words: Vec<String> = std::env::args().skip(1).collect();
     let words: Vec<&str> = words.iter().map(String::as_str).collect();
     match words[..] {
@@ -234,16 +234,16 @@ fn told() -> Option<(u64, Option<Duration>)> {
 }
 
 fn main() {
-    let Some((seed, long)) = told() else {
+    let Some((seed, long)) = arguments() else {
         println!("usage: fuzz [--long SECONDS | --seed N]");
         println!("0 passed, 1 failed");
         std::process::exit(2);
     };
     println!("fuzz: seed {seed}");
-    book::begin();
+    simulator::begin();
     let begun = Instant::now();
     let mut counts = Counts::default();
-    let fixed = [vectors::all(), empty::all(), hand::all(&mut counts)].concat();
+    let fixed = [vectors::all(), empty_slices::all(), hand_built_runs::all(&mut counts)].concat();
     for (what, is_run) in [("plan", false), ("run", true)] {
         if !fixed.iter().any(|(name, _)| name.starts_with("vector") && name.ends_with("a run") == is_run) {
             counts.count(Err(format!("no {what} vector")));
@@ -272,11 +272,11 @@ fn main() {
             }
         }
     });
-    let Counts { tables, firm, full, miss, fenced, second, alone, plans, replays, late, advances, empty, withdrawn, together, runs, nodes, ends, abreast, overtaken, crowded, .. } = counts;
+    let Counts { tables, firm, full, miss, fenced, second, alone, plans, replays, late, advances, empty, withdrawn, together, runs, nodes, ends, sustained, behind, behind_by_lending, .. } = counts;
     let Counts { lending, borrowed, borrower_reported, sets, lent_sets, .. } = counts;
     println!("fuzz: {tables} tables (firm {firm}, full {full}, miss {miss}), {plans} plans, {replays} replays ({late} to a missed deadline), {advances} advances ({empty} taken with an empty job), {withdrawn} withdrawals and {together} of several positions together taken, {runs} runs built by hand");
     println!("fuzz: {} small tables searched, {nodes} nodes ({ends} at a missed deadline)", counts.searched.len());
-    println!("fuzz: {abreast} pairs of lists of firm tables with no longer job in the first, which is abreast; {overtaken} of full tables, where it is behind, and {crowded} under lending");
+    println!("fuzz: {sustained} pairs of lists of firm tables with no longer job in the first, which is behind on none; {behind} of full tables, where it is behind, and {behind_by_lending} under lending");
     println!("fuzz: {lending} of the tables that are not refused are under lending; {borrowed} advances are taken in which somebody borrows, {borrower_reported} with a borrower reported");
     println!("fuzz: {sets} rows are shown as sets, in {lent_sets} of them somebody borrows");
     println!("fuzz: {fenced} of the tables that are not refused have a fence, {second} of them in the second word, {alone} that leaves one core");
@@ -306,8 +306,8 @@ fn main() {
         counts.count(if together >= FEWEST_TOGETHER { Ok(()) } else { Err(format!("only {together} withdrawals of several positions together taken")) });
         let searched = counts.searched.len();
         counts.count(if searched >= FEWEST_SEARCHED { Ok(()) } else { Err(format!("only {searched} small tables")) });
-        counts.count(if abreast >= FEWEST_ABREAST { Ok(()) } else { Err(format!("only {abreast} pairs of lists of firm tables with no longer job in the first")) });
-        counts.count(if overtaken >= FEWEST_OVERTAKEN { Ok(()) } else { Err(format!("only {overtaken} pairs of lists of full tables with no longer job in the first, which is behind")) });
+        counts.count(if sustained >= FEWEST_SUSTAINED { Ok(()) } else { Err(format!("only {sustained} pairs of lists of firm tables with no longer job in the first")) });
+        counts.count(if behind >= FEWEST_BEHIND { Ok(()) } else { Err(format!("only {behind} pairs of lists of full tables with no longer job in the first, which is behind")) });
     }
     println!("fuzz: {:.0} s", begun.elapsed().as_secs_f64());
     println!("{} passed, {} failed", counts.passed, counts.failed);

@@ -1,6 +1,6 @@
 //! Both verdicts, plan, replay and the run in words beside the simulator, on one random table.
-use crate::book::{self, Cab, Known, Said};
-use crate::calls::{self, reported, same, Kept, Lent, Tried};
+use crate::simulator::{self, ReferenceRun, Known, Answer};
+use crate::calls::{self, reported, same, RunBuffer, Guarded, Checked};
 use crate::lending::{IDLING, LENDING};
 use crate::rng::Rng;
 use crate::tables;
@@ -12,12 +12,12 @@ const MOST_ENTRIES: u32 = 60;
 /// At most so many rows of a long table.
 const MOST_ROWS: u32 = 2_000;
 
-fn code(answer: &Said<()>) -> u32 {
+fn code(answer: &Answer<()>) -> u32 {
     answer.map_or_else(|refusal| refusal.number() * 256 + refusal.position(), |()| 0)
 }
 
 /// Rows to ask for and a buffer's length: mostly such that they can be written.
-fn asked(rng: &mut Rng, known: &Said<Known>) -> (u32, u32, usize) {
+fn asked(rng: &mut Rng, known: &Answer<Known>) -> (u32, u32, usize) {
     let (cores, horizon, miss) = match known {
         Ok(known) => match known.verdict() {
             Verdict::Miss { tick, .. } => (known.cores(), known.horizon(), tick),
@@ -52,7 +52,7 @@ fn asked(rng: &mut Rng, known: &Said<Known>) -> (u32, u32, usize) {
     (a, b, len)
 }
 
-fn compare_plans(rng: &mut Rng, counts: &mut Counts, words: &[u32], known: &Said<Known>) -> Tried<()> {
+fn compare_plans(rng: &mut Rng, counts: &mut Counts, words: &[u32], known: &Answer<Known>) -> Checked<()> {
     let times = if known.as_ref().is_ok_and(|known| known.horizon() < 1_000) { 3 } else { 1 };
     for _ in 0..times {
         let (a, b, len) = asked(rng, known);
@@ -60,7 +60,7 @@ fn compare_plans(rng: &mut Rng, counts: &mut Counts, words: &[u32], known: &Said
         let got = calls::plan(rng, words, a, b, len, &expected).map_err(|why| format!("plan {a} {b} into {len} bytes: {why}"))?;
         counts.plans += 1;
         counts.answer(&got);
-        let mut rows = Lent::bytes(rng, len);
+        let mut rows = Guarded::bytes(rng, len);
         same("plan in Rust", got, sivorandra::plan(words, a, b, rows.lent()))?;
         rows.holds("the rows in Rust", expected.as_deref().unwrap_or(&[]))?;
     }
@@ -80,8 +80,8 @@ fn any_of(rng: &mut Rng, may: u32, often: u32) -> u32 {
 }
 
 /// A set of empty jobs, none in every second one.
-fn empties(rng: &mut Rng, cab: &Cab, often: u32) -> u32 {
-    if rng.once_in(2) { 0 } else { any_of(rng, cab.may_be_empty(), often) }
+fn empties(rng: &mut Rng, reference: &ReferenceRun, often: u32) -> u32 {
+    if rng.once_in(2) { 0 } else { any_of(rng, reference.may_be_empty(), often) }
 }
 
 /// A position, mostly one that there is.
@@ -107,53 +107,53 @@ pub fn withdrawal(rng: &mut Rng, count: u32) -> Entry {
 }
 
 /// The next entry: in few lists, and now and then, a withdrawal.
-fn entry(rng: &mut Rng, cab: &Cab, often: u32) -> Entry {
+fn entry(rng: &mut Rng, reference: &ReferenceRun, often: u32) -> Entry {
     if rng.once_in(8 * often) {
-        return withdrawal(rng, cab.count());
+        return withdrawal(rng, reference.count());
     }
-    let empties = empties(rng, cab, often);
-    Entry::Advance { reports: any_of(rng, cab.may_report(empties), often), empties }
+    let empties = empties(rng, reference, often);
+    Entry::Advance { reports: any_of(rng, reference.may_report(empties), often), empties }
 }
 
-/// A list of entries through the run kept in words, step by step, and then as a whole.
-fn compare_runs(rng: &mut Rng, counts: &mut Counts, words: &[u32], known: &Said<Known>, list: &mut Vec<Entry>) -> Tried<()> {
+/// A list of entries through the run in words, step by step, and then as a whole.
+fn compare_runs(rng: &mut Rng, counts: &mut Counts, words: &[u32], known: &Answer<Known>, list: &mut Vec<Entry>) -> Checked<()> {
     let mut begun = known.as_ref().map_err(|refusal| *refusal).and_then(Known::start);
     let mut held = calls::NO_RUN;
-    let first = begun.as_ref().map(|cab| cab.words(&held)).map_err(|refusal| *refusal);
-    let (mut kept, started) = Kept::start(rng, words, first)?;
+    let first = begun.as_ref().map(|reference| reference.words(&held)).map_err(|refusal| *refusal);
+    let (mut buffer, started) = RunBuffer::start(rng, words, first)?;
     counts.answer(&started);
     same("start in Rust", first, Run::start(words).map(|run| *run.words()))?;
     let often = rng.pick(&[1, 2, 4, 16]);
     let length = rng.from(0, MOST_ENTRIES);
     let mut expected = Vec::new();
     let unmade = Refusal::NotARun;
-    let mut row: Said<[u8; ROW_BYTES]> = Err(unmade);
+    let mut row: Answer<[u8; ROW_BYTES]> = Err(unmade);
     for at in 0..=length {
-        let others = begun.as_ref().map_or(at, |cab| empties(rng, cab, often));
+        let others = begun.as_ref().map_or(at, |reference| empties(rng, reference, often));
         for set in [others, 0] {
-            row = begun.as_ref().map_or(Err(unmade), |cab| cab.row(set));
-            let shown = kept.row(rng, set, row).map_err(|why| format!("after {at} entries, with the empty jobs {set}: {why}"))?;
+            row = begun.as_ref().map_or(Err(unmade), |reference| reference.row(set));
+            let shown = buffer.row(rng, set, row).map_err(|why| format!("after {at} entries, with the empty jobs {set}: {why}"))?;
             counts.answer(&shown);
-            let sets = begun.as_ref().map_or(Err(unmade), |cab| cab.sets(set));
-            let shown = kept.sets(rng, set, sets).map_err(|why| format!("after {at} entries, as sets with the empty jobs {set}: {why}"))?;
-            counts.asked(begun.as_ref().map_or(0, |cab| cab.borrowers(Entry::Advance { reports: 0, empties: set })), &shown);
+            let sets = begun.as_ref().map_or(Err(unmade), |reference| reference.sets(set));
+            let shown = buffer.sets(rng, set, sets).map_err(|why| format!("after {at} entries, as sets with the empty jobs {set}: {why}"))?;
+            counts.asked(begun.as_ref().map_or(0, |reference| reference.borrowers(Entry::Advance { reports: 0, empties: set })), &shown);
         }
         if at == length || (begun.is_err() && at == 2) {
             break;
         }
-        let next = begun.as_ref().map_or(reported(at), |cab| entry(rng, cab, often));
+        let next = begun.as_ref().map_or(reported(at), |reference| entry(rng, reference, often));
         list.push(next);
-        let borrowers = begun.as_ref().map_or(0, |cab| cab.borrowers(next));
-        let answer = begun.as_mut().map_or(Err(unmade), |cab| cab.enter(next));
-        if let (Ok(cab), Ok(())) = (&begun, answer) {
-            held = cab.words(&held);
+        let borrowers = begun.as_ref().map_or(0, |reference| reference.borrowers(next));
+        let answer = begun.as_mut().map_or(Err(unmade), |reference| reference.enter(next));
+        if let (Ok(reference), Ok(())) = (&begun, answer) {
+            held = reference.words(&held);
         }
-        let taken = kept.enter(rng, next, answer.map(|()| held)).map_err(|why| format!("entry {at}: {why}"))?;
+        let taken = buffer.enter(rng, next, answer.map(|()| held)).map_err(|why| format!("entry {at}: {why}"))?;
         counts.entered(next, borrowers, &taken);
         expected.push(answer);
     }
     if rng.once_in(8) {
-        kept.cut(rng)?;
+        buffer.cut(rng)?;
     }
     let whole = begun.as_ref().map(|_| (expected.iter().map(code).collect(), row)).map_err(|refusal| *refusal);
     calls::replay(rng, words, list, &whole)?;
@@ -164,7 +164,7 @@ fn compare_runs(rng: &mut Rng, counts: &mut Counts, words: &[u32], known: &Said<
 }
 
 /// A table that passes 9 has the verdict of the one with just its unfenced cores, and its first rows are those of that one, spread over these cores with 255 between.
-fn compare_unfenced(counts: &mut Counts, words: &[u32], verdict: Said<Verdict>) -> Tried<()> {
+fn compare_unfenced(counts: &mut Counts, words: &[u32], verdict: Answer<Verdict>) -> Checked<()> {
     let (just, free) = Known::just_unfenced(words);
     if just == words {
         return Ok(());
@@ -191,7 +191,7 @@ fn compare_unfenced(counts: &mut Counts, words: &[u32], verdict: Said<Verdict>) 
 }
 
 /// At full length a table under lending has the verdict of the one under idling, and its first rows.
-fn compare_idling(counts: &mut Counts, words: &[u32], known: &Known) -> Tried<()> {
+fn compare_idling(counts: &mut Counts, words: &[u32], known: &Known) -> Checked<()> {
     if words[2] != LENDING {
         return Ok(());
     }
@@ -211,15 +211,15 @@ fn compare_idling(counts: &mut Counts, words: &[u32], known: &Known) -> Tried<()
 }
 
 /// One random table; the error says what differs on what.
-pub fn case(seed: u64, counts: &mut Counts) -> Tried<()> {
+pub fn case(seed: u64, counts: &mut Counts) -> Checked<()> {
     let mut rng = Rng::new(seed);
     let words = tables::any(&mut rng);
     let mut list = Vec::new();
     compare(&mut rng, counts, &words, &mut list).map_err(|why| format!("seed {seed}: {why}\n  table {words:?}\n  list {list:?}"))
 }
 
-fn compare(rng: &mut Rng, counts: &mut Counts, words: &[u32], list: &mut Vec<Entry>) -> Tried<()> {
-    let known = book::read(words);
+fn compare(rng: &mut Rng, counts: &mut Counts, words: &[u32], list: &mut Vec<Entry>) -> Checked<()> {
+    let known = simulator::read(words);
     let expected = known.as_ref().map(Known::verdict).map_err(|refusal| *refusal);
     let got = calls::judge(rng, words, false)?;
     same("verdict", expected, got)?;

@@ -14,15 +14,15 @@ pub fn begin() {
     STAGE.store(REQUEST, Ordering::Relaxed);
 }
 
-pub type Said<T> = Result<T, Refused>;
+pub type Answer<T> = Result<T, Refused>;
 
-fn said(refusal: Refusal) -> Refused {
+fn refusal_of(refusal: Refusal) -> Refused {
     Refused::new(refusal.number, refusal.place as u32)
 }
 
 /// The numbers of a table's text.
-pub fn numbers(text: &[u8]) -> Said<Vec<u32>> {
-    read_numbers(text).map_err(said)
+pub fn numbers(text: &[u8]) -> Answer<Vec<u32>> {
+    read_numbers(text).map_err(refusal_of)
 }
 
 /// A table that passed 1 to 9, and its verdict.
@@ -31,8 +31,8 @@ pub struct Known {
     verdict: Verdict,
 }
 
-pub fn read(words: &[u32]) -> Said<Known> {
-    let table = Table::check(words).map_err(said)?;
+pub fn read(words: &[u32]) -> Answer<Known> {
+    let table = Table::check(words).map_err(refusal_of)?;
     let verdict = judge(&table);
     Ok(Known { table, verdict })
 }
@@ -68,17 +68,17 @@ impl Known {
     }
 
     /// Rows a up to b, one byte a core, into a buffer of `bytes`.
-    pub fn plan(&self, a: u32, b: u32, bytes: usize) -> Said<Vec<u8>> {
-        check_plan(&self.table, a.into(), b.into(), bytes as u64).map_err(said)?;
+    pub fn plan(&self, a: u32, b: u32, bytes: usize) -> Answer<Vec<u8>> {
+        check_plan(&self.table, a.into(), b.into(), bytes as u64).map_err(refusal_of)?;
         let mut rows = Vec::new();
         each_row(&self.table, a.into(), b.into(), |_, row| rows.extend_from_slice(row));
         Ok(rows)
     }
 
-    pub fn start(&self) -> Said<Cab> {
+    pub fn start(&self) -> Answer<ReferenceRun> {
         match self.verdict {
             Verdict::Miss { .. } => Err(Refused::TableMisses),
-            _ => Ok(Cab { book: Some(Book::begin(&self.table)), run: Run::begin(&self.table) }),
+            _ => Ok(ReferenceRun { book: Some(Book::begin(&self.table)), run: Run::begin(&self.table) }),
         }
     }
 
@@ -118,23 +118,23 @@ pub const HOLDING: u32 = 2;
 pub const RESTING: u32 = 3;
 
 /// A list of entries so far: the book, where the run was started, and the run.
-pub struct Cab {
+pub struct ReferenceRun {
     book: Option<Book>,
     run: Run,
 }
 
-impl Clone for Cab {
+impl Clone for ReferenceRun {
     fn clone(&self) -> Self {
         let copy = |book: &Book| Book { table: book.table.clone(), t: book.t, jobs: book.jobs.clone(), empty_from: book.empty_from.clone() };
-        Cab { book: self.book.as_ref().map(copy), run: self.run.clone() }
+        ReferenceRun { book: self.book.as_ref().map(copy), run: self.run.clone() }
     }
 }
 
-impl Cab {
-    pub fn row(&self, empties: u32) -> Said<[u8; ROW_BYTES]> {
-        let row = self.run.row(empties.into()).map_err(said);
+impl ReferenceRun {
+    pub fn row(&self, empties: u32) -> Answer<[u8; ROW_BYTES]> {
+        let row = self.run.row(empties.into()).map_err(refusal_of);
         if let Some(book) = &self.book {
-            let by_book = book.row(empties.into()).map_err(said).map(|cores| {
+            let by_book = book.row(empties.into()).map_err(refusal_of).map(|cores| {
                 let mut row = [0; ROW_BYTES];
                 row[..cores.len()].copy_from_slice(&cores);
                 row
@@ -145,17 +145,17 @@ impl Cab {
     }
 
     /// The row as sets, by the cores that the book gives and lends and by those of the run; turned back into bytes they are the row.
-    pub fn sets(&self, empties: u32) -> Said<[u64; SETS]> {
-        let sets = self.run.sets(empties.into()).map_err(said);
+    pub fn sets(&self, empties: u32) -> Answer<[u64; SETS]> {
+        let sets = self.run.sets(empties.into()).map_err(refusal_of);
         if let Some(book) = &self.book {
-            assert_eq!(book.sets(empties.into()).map_err(said), sets, "the simulator's book and its run have different sets");
+            assert_eq!(book.sets(empties.into()).map_err(refusal_of), sets, "the simulator's book and its run have different sets");
         }
         let bytes = sets.map(|sets| bytes_of(&sets, self.run.fence, self.run.cores as usize));
         assert_eq!(self.row(empties), bytes, "the simulator's row is not that of its sets");
         sets
     }
 
-    pub fn enter(&mut self, entry: Asked) -> Said<()> {
+    pub fn enter(&mut self, entry: Asked) -> Answer<()> {
         let (next, by_book) = match entry {
             Asked::Advance { reports, empties } => {
                 let (reports, empties) = (reports.into(), empties.into());
@@ -165,9 +165,9 @@ impl Cab {
             Asked::WithdrawAll { set } => (self.run.withdraw_set(set.into()), self.book.as_mut().map(|book| book.withdraw_set(set.into()))),
             other => panic!("no such entry: {other:?}"),
         };
-        let next = next.map_err(said);
+        let next = next.map_err(refusal_of);
         if let Some(by_book) = by_book {
-            let by_book = by_book.map_err(said);
+            let by_book = by_book.map_err(refusal_of);
             assert_eq!(by_book, next.as_ref().map(|_| ()).map_err(|refusal| *refusal), "the simulator's book and its run have different answers");
         }
         self.run = next?;
@@ -263,9 +263,9 @@ fn decoded(words: &[u32; RUN_WORDS]) -> Run {
 }
 
 /// A run built by hand whose words hold a run: whether 14 turns it down, and the list that begins with it.
-pub fn built(words: &[u32; RUN_WORDS]) -> (bool, Cab) {
+pub fn built(words: &[u32; RUN_WORDS]) -> (bool, ReferenceRun) {
     let run = decoded(words);
-    (run.check14().is_err(), Cab { book: None, run })
+    (run.check14().is_err(), ReferenceRun { book: None, run })
 }
 
 /// What stands before the line `--`, and the operations after it.

@@ -1,6 +1,6 @@
 //! The lists of one small table beside each other, at one tick: how far each job is in each of them, as the library's runs say it.
-use crate::book::{phase_at, place_at, WITHDRAWN, WORKING};
-use crate::calls::Tried;
+use crate::simulator::{phase_at, place_at, WITHDRAWN, WORKING};
+use crate::calls::Checked;
 use crate::Counts;
 use sivorandra::{Entry, RUN_WORDS};
 
@@ -88,7 +88,7 @@ impl List {
 }
 
 /// The lists of one tick beside the full-length one: no job is longer, and on a firm table none is behind.
-fn compare_with_full(firm: bool, lists: &[List]) -> Tried<()> {
+fn compare_with_full(firm: bool, lists: &[List]) -> Checked<()> {
     let full = lists.iter().find(|list| list.full_length()).ok_or("no list is the full-length one")?;
     for list in lists {
         if let Some(job) = list.some(full, Line::longer) {
@@ -102,8 +102,8 @@ fn compare_with_full(firm: bool, lists: &[List]) -> Tried<()> {
 }
 
 /// The lists of one tick, or as many of them as are compared, each with each: on a firm table a list that has no longer job is behind on none, but under lending, where a wider borrower
-/// may crowd out another.
-pub fn compare(firm: bool, lending: bool, lists: &[List], counts: &mut Counts) -> Tried<()> {
+/// may be served in place of another.
+pub fn compare(firm: bool, lending: bool, lists: &[List], counts: &mut Counts) -> Checked<()> {
     compare_with_full(firm, lists)?;
     let chosen: Vec<&List> = lists.iter().step_by(lists.len().div_ceil(MOST_LISTS).max(1)).collect();
     for a in &chosen {
@@ -113,10 +113,10 @@ pub fn compare(firm: bool, lending: bool, lists: &[List], counts: &mut Counts) -
                 continue;
             }
             match a.some(b, Line::behind) {
-                None => counts.abreast += u64::from(firm && !lending),
-                Some(_) if lending => counts.crowded += 1,
+                None => counts.sustained += u64::from(firm && !lending),
+                Some(_) if lending => counts.behind_by_lending += 1,
                 Some(job) if firm => return Err(format!("no job is longer, and one is behind: {}", a.named(b, job))),
-                Some(_) => counts.overtaken += 1,
+                Some(_) => counts.behind += 1,
             }
         }
     }

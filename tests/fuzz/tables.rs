@@ -107,7 +107,7 @@ fn linked(rng: &mut Rng, left: u32, rule: u32, tasks: &[Task]) -> Vec<u32> {
 }
 
 /// A fault that one of 1 to 9, or 19, may turn down.
-fn spoil(rng: &mut Rng, words: &mut Vec<u32>) {
+fn add_fault(rng: &mut Rng, words: &mut Vec<u32>) {
     let records = words.len().saturating_sub(HEAD) / RECORD;
     if records == 0 {
         return;
@@ -170,7 +170,7 @@ fn long(rng: &mut Rng) -> (u32, Vec<Task>) {
 }
 
 /// As the scope's example B: the second task is too wide beside the first, the third is not, and has little room once the first ends early.
-fn frail(rng: &mut Rng) -> (u32, Vec<Task>) {
+fn not_sustainable(rng: &mut Rng) -> (u32, Vec<Task>) {
     let cores = rng.from(2, 5);
     let first = rng.from(1, cores - 1);
     let (long, short) = (rng.from(2, 6), rng.from(1, 3));
@@ -210,7 +210,7 @@ pub fn any(rng: &mut Rng) -> Vec<u32> {
             let cores = rng.pick(&[8, 16, 33, 63, 64]);
             (cores, tasks(rng, 32, (cores / 4).max(1), &[8, 12, 16, 24, 48], 4))
         }
-        90..=199 => frail(rng),
+        90..=199 => not_sustainable(rng),
         200..=349 => waiting(rng),
         350..=549 => {
             let cores = rng.pick(&[1, 2, 3, 4, 8]);
@@ -228,9 +228,9 @@ pub fn any(rng: &mut Rng) -> Vec<u32> {
     let rule = rng.pick(&[1, 1, 2, 3, 4, 4]);
     let mut words = words(rng, cores, rule, tasks);
     if rng.once_in(4) {
-        spoil(rng, &mut words);
+        add_fault(rng, &mut words);
         if rng.once_in(4) {
-            spoil(rng, &mut words);
+            add_fault(rng, &mut words);
         }
     }
     words
@@ -239,7 +239,7 @@ pub fn any(rng: &mut Rng) -> Vec<u32> {
 /// A table of at most 4 tasks, without a fault.
 pub fn small(rng: &mut Rng) -> Vec<u32> {
     let (cores, tasks) = if rng.once_in(2) {
-        frail(rng)
+        not_sustainable(rng)
     } else if rng.once_in(3) {
         let (cores, mut tasks) = waiting(rng);
         tasks.truncate(4);

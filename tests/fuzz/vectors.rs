@@ -1,7 +1,7 @@
 //! The examples through replay, the plan vectors, and those of runs built by hand and started: INDEX has lines 'NAME plan A B LEN', 'NAME run', 'NAME phases' and 'NAME book';
 //! NAME.in is the table's text, or the run's or the table's and then operations, NAME.out what is to be printed.
-use crate::book;
-use crate::calls::{self, reported, same, Lent, Tried};
+use crate::simulator;
+use crate::calls::{self, reported, same, Guarded, Checked};
 use crate::rng::Rng;
 use sivorandra::{Entry, Refusal, Run, ROW_BYTES};
 use std::fs;
@@ -12,9 +12,9 @@ fn refused(refusal: Refusal) -> String {
 }
 
 /// What the library's plan gives, printed a row a line.
-fn printed(text: &[u8], a: u32, b: u32, len: usize) -> Tried<String> {
-    let mut lent = Lent::bytes(&mut Rng::new(1), len);
-    match book::numbers(text).and_then(|words| sivorandra::plan(&words, a, b, lent.lent()).map(|()| words[1] as usize)) {
+fn printed(text: &[u8], a: u32, b: u32, len: usize) -> Checked<String> {
+    let mut lent = Guarded::bytes(&mut Rng::new(1), len);
+    match simulator::numbers(text).and_then(|words| sivorandra::plan(&words, a, b, lent.lent()).map(|()| words[1] as usize)) {
         Ok(cores) => {
             let rows = lent.lent()[..(b - a) as usize * cores].to_vec();
             lent.holds("the rows", &rows)?;
@@ -27,8 +27,8 @@ fn printed(text: &[u8], a: u32, b: u32, len: usize) -> Tried<String> {
     }
 }
 
-fn one(number: &str, a: &str, b: &str, len: &str) -> Tried<()> {
-    let read = |end| fs::read(format!("tests/vectors/{number}.{end}")).map_err(|why| why.to_string());
+fn one(name: &str, a: &str, b: &str, len: &str) -> Checked<()> {
+    let read = |end| fs::read(format!("tests/vectors/{name}.{end}")).map_err(|why| why.to_string());
     let (text, expected) = (read("in")?, read("out")?);
     let parse = |word: &str| word.parse::<u32>().map_err(|why| why.to_string());
     let got = printed(&text, parse(a)?, parse(b)?, parse(len)? as usize)?;
@@ -37,7 +37,7 @@ fn one(number: &str, a: &str, b: &str, len: &str) -> Tried<()> {
 
 /// What the library says to the operations on a run: `r [EMPTIES]` a row, `s [EMPTIES]` its sets, `a REPORTS [EMPTIES]` an advance, `w POSITION` a withdrawal,
 /// `W SET` several together, `p` the run as text.
-fn operated(mut run: Run, operations: Vec<String>) -> Tried<String> {
+fn operated(mut run: Run, operations: Vec<String>) -> Checked<String> {
     let mut out = String::new();
     for operation in operations {
         let mut words = operation.split(' ');
@@ -45,7 +45,7 @@ fn operated(mut run: Run, operations: Vec<String>) -> Tried<String> {
         let sets: Vec<u32> = words.map(str::parse).collect::<Result<_, _>>().map_err(|_| format!("no operation: {operation}"))?;
         let empties = |at: usize| sets.get(at).copied().unwrap_or(0);
         out += &match kind {
-            Some("p") => book::text_of(run.words()),
+            Some("p") => simulator::text_of(run.words()),
             Some("r") => run.row(empties(0)).map_or_else(refused, |row| {
                 let cores = run.words()[1] as usize;
                 format!("row {}\n", row[..cores].iter().map(u8::to_string).collect::<Vec<_>>().join(" "))
@@ -61,29 +61,29 @@ fn operated(mut run: Run, operations: Vec<String>) -> Tried<String> {
 }
 
 /// .. on one that is built by hand.
-fn built(text: &[u8]) -> Tried<String> {
-    let (words, operations) = book::built_from(text, &calls::NO_RUN);
+fn built(text: &[u8]) -> Checked<String> {
+    let (words, operations) = simulator::built_from(text, &calls::NO_RUN);
     operated(Run::from_words(words), operations)
 }
 
 /// .. on one that is started, with start's answer before them; where it is refused, on the run of all zeros.
-fn started(text: &[u8]) -> Tried<String> {
-    let (before, operations) = book::split(text);
-    match book::numbers(&before).and_then(|words| Run::start(&words)) {
+fn started(text: &[u8]) -> Checked<String> {
+    let (before, operations) = simulator::split(text);
+    match simulator::numbers(&before).and_then(|words| Run::start(&words)) {
         Ok(run) => Ok("ok\n".to_string() + &operated(run, operations)?),
         Err(refusal) => Ok(refused(refusal) + &operated(Run::from_words(calls::NO_RUN), operations)?),
     }
 }
 
-fn one_run(name: &str, said: fn(&[u8]) -> Tried<String>) -> Tried<()> {
+fn one_run(name: &str, answers: fn(&[u8]) -> Checked<String>) -> Checked<()> {
     let read = |end| fs::read(format!("tests/vectors/{name}.{end}")).map_err(|why| why.to_string());
     let (text, expected) = (read("in")?, read("out")?);
-    same(&format!("for {:?}", String::from_utf8_lossy(&text)), String::from_utf8_lossy(&expected), said(&text)?.into())
+    same(&format!("for {:?}", String::from_utf8_lossy(&text)), String::from_utf8_lossy(&expected), answers(&text)?.into())
 }
 
 /// Example B with its report, that the job of position 1 ends after tick 0 (figure 2, right side), and with an empty job there, B3 with the same, and figure 3 of Goossens and Berten,
 /// limited slack reclaiming, with its report (right side), with an empty job there, with a borrower reported and with the holder, which is refused, through replay.
-fn examples() -> Vec<(String, Tried<()>)> {
+fn examples() -> Vec<(String, Checked<()>)> {
     let row_of = |positions: &[u8]| {
         let mut bytes = [0; ROW_BYTES];
         bytes[..positions.len()].copy_from_slice(positions);
@@ -114,17 +114,17 @@ fn examples() -> Vec<(String, Tried<()>)> {
     ];
     let one = |table: &str, list: &[Entry], last: Result<[u8; ROW_BYTES], Refusal>| {
         let text = fs::read(format!("tables/{table}.txt")).map_err(|why| why.to_string())?;
-        let words = book::numbers(&text).map_err(|why| format!("{why:?}"))?;
+        let words = simulator::numbers(&text).map_err(|why| format!("{why:?}"))?;
         calls::replay(&mut Rng::new(1), &words, list, &Ok((vec![0; list.len()], last)))
     };
     cases.into_iter().map(|(table, list, last)| (format!("{table} replayed with {list:?}"), one(table, &list, last))).collect()
 }
 
 /// Each example and vector by name, and whether the library gives what it says.
-pub fn all() -> Vec<(String, Tried<()>)> {
+pub fn all() -> Vec<(String, Checked<()>)> {
     let index = fs::read_to_string("tests/vectors/INDEX").unwrap_or_default();
     let plans = index.lines().filter_map(|line| match line.split(' ').collect::<Vec<_>>()[..] {
-        [number, "plan", a, b, len] => Some((format!("vector {number}"), one(number, a, b, len))),
+        [name, "plan", a, b, len] => Some((format!("vector {name}"), one(name, a, b, len))),
         [name, "run"] => Some((format!("vector {name}, a run"), one_run(name, built))),
         [name, "phases" | "book"] => Some((format!("vector {name}, a run that is started"), one_run(name, started))),
         _ => None,

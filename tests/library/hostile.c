@@ -140,11 +140,11 @@ static uint32_t advance_with(uint32_t reports, uint32_t empties) { return sivora
 static uint32_t advance(uint32_t reports) { return advance_with(reports, 0); }
 static uint32_t withdraw(uint32_t position) { return sivorandra_withdraw(words_at(&run), run.len, position, ANSWER); }
 static uint32_t withdraw_all(uint32_t set) { return sivorandra_withdraw_all(words_at(&run), run.len, set, ANSWER); }
-static uint32_t clash(const uint32_t *table, size_t len) { return sivorandra_conflict(table, len, ANSWER); }
+static uint32_t conflict(const uint32_t *table, size_t len) { return sivorandra_conflict(table, len, ANSWER); }
 static uint32_t begin(const uint32_t *table, size_t len) { return sivorandra_begin(table, len, words_at(&run), run.len, ANSWER); }
 static uint32_t take(const uint8_t *row_lent, size_t len) { return sivorandra_take(words_at(&run), run.len, row_lent, len, ANSWER); }
-static uint32_t longest(const uint32_t *table, size_t len) { return sivorandra_response_times(table, len, words_at(&numbers), numbers.len, ANSWER); }
-static uint32_t spare(const uint32_t *table, size_t len) { return sivorandra_slack(table, len, words_at(&numbers), numbers.len, ANSWER); }
+static uint32_t response_times(const uint32_t *table, size_t len) { return sivorandra_response_times(table, len, words_at(&numbers), numbers.len, ANSWER); }
+static uint32_t slack(const uint32_t *table, size_t len) { return sivorandra_slack(table, len, words_at(&numbers), numbers.len, ANSWER); }
 
 /* A slice of length 0 whose pointer is NULL. */
 #define NONE(slice) ((slice).len = 0, (slice).null = 1)
@@ -159,9 +159,9 @@ static void nulls(void)
     fresh(), refused(1), expect("judge_ticks: no words", 0, ticks(NULL, 0));
     fresh(), NONE(answer), expect("judge_ticks: no answer", 1, ticks(full, TABLE));
     fresh(), NONE(answer), expect("judge_ticks: nothing", 1, ticks(NULL, 0));
-    fresh(), refused(1), expect("clash: no words", 0, clash(NULL, 0));
-    fresh(), NONE(answer), expect("clash: no answer", 1, clash(miss, TABLE));
-    fresh(), NONE(answer), expect("clash: nothing", 1, clash(NULL, 0));
+    fresh(), refused(1), expect("conflict: no words", 0, conflict(NULL, 0));
+    fresh(), NONE(answer), expect("conflict: no answer", 1, conflict(miss, TABLE));
+    fresh(), NONE(answer), expect("conflict: nothing", 1, conflict(NULL, 0));
     fresh(), refused(1), expect("plan: no words", 0, plan(NULL, 0, 0, 0));
     fresh(), NONE(row), answered(0, 0, 0), expect("plan: no rows, none asked", 0, plan(full, TABLE, 0, 0));
     fresh(), NONE(row), refused(11), expect("plan: no rows, one asked", 0, plan(full, TABLE, 0, 1));
@@ -239,7 +239,7 @@ static void sentences(void)
     fresh(), NONE(answer), expect("facts: no answer", 1, sivorandra_facts(NULL, 0, none, FACTS, ANSWER));
 }
 
-/* The longest answers and the spare ticks: 32 words in front and no more, all zeros in a refusal, lengths around 32, and NULL for each slice. `numbers`
+/* The response times and the slacks: 32 words in front and no more, all zeros in a refusal, lengths around 32, and NULL for each slice. `numbers`
    has the figures. */
 static void figures_given(uint32_t a, uint32_t b, uint32_t c)
 {
@@ -271,11 +271,11 @@ static void figures_by(uint32_t (*call)(const uint32_t *, size_t), const uint32_
 
 static void figures(void)
 {
-    static const uint32_t hurt[TABLE] = { 1, 1, 2, 0, 0, 2, 0, 1, 1, 6, 6, 1, 3, 0, 1, 1, 2, 6, 1, 0, 0, 1, 1, 6, 6, 1 };
-    static const uint32_t longest_of_full[3] = { 2, 5, 4 }, spare_of_hurt[3] = { 0, 0, 3 };
-    figures_by(longest, full, longest_of_full, miss, 13);
-    figures_by(spare, hurt, spare_of_hurt, miss, 23);
-    figures_by(spare, hurt, spare_of_hurt, full, 23); /* rule 1 out of the width order */
+    static const uint32_t limited[TABLE] = { 1, 1, 2, 0, 0, 2, 0, 1, 1, 6, 6, 1, 3, 0, 1, 1, 2, 6, 1, 0, 0, 1, 1, 6, 6, 1 };
+    static const uint32_t response_times_of_full[3] = { 2, 5, 4 }, slack_of_limited[3] = { 0, 0, 3 };
+    figures_by(response_times, full, response_times_of_full, miss, 13);
+    figures_by(slack, limited, slack_of_limited, miss, 23);
+    figures_by(slack, limited, slack_of_limited, full, 23); /* rule 1 out of the width order */
 }
 
 /* Every lent slice afresh, and a plan of the table in `run`: the run at tick 0, and its phases noted, S being 0. */
@@ -377,7 +377,7 @@ static void tables(void)
     for (size_t i = 0; i < sizeof lens / sizeof lens[0]; i++) {
         fresh(), refused(lens[i].number), expect("judge: fewer words", 0, judge(full, lens[i].len));
         fresh(), refused(lens[i].number), expect("judge_ticks: fewer words", 0, ticks(full, lens[i].len));
-        fresh(), refused(lens[i].number), expect("clash: fewer words", 0, clash(miss, lens[i].len));
+        fresh(), refused(lens[i].number), expect("conflict: fewer words", 0, conflict(miss, lens[i].len));
         fresh(), refused(lens[i].number), expect("plan: fewer words", 0, plan(full, lens[i].len, ONES, 0));
         fresh(), refused(lens[i].number), no_run(), expect("start: fewer words", 0, start(full, lens[i].len));
     }
@@ -385,7 +385,7 @@ static void tables(void)
     for (size_t i = 0; i < sizeof many / sizeof many[0]; i++) {
         fresh(), refused(many[i].number), expect("judge: all ones", 0, judge(ones, many[i].len));
         fresh(), refused(many[i].number), expect("judge_ticks: all ones", 0, ticks(ones, many[i].len));
-        fresh(), refused(many[i].number), expect("clash: all ones", 0, clash(ones, many[i].len));
+        fresh(), refused(many[i].number), expect("conflict: all ones", 0, conflict(ones, many[i].len));
         fresh(), refused(many[i].number), no_run(), expect("start: all ones", 0, start(ones, many[i].len));
         fresh(), refused(many[i].number), expect("replay: all ones", 0, replay(ones, many[i].len, ones, 1 << 20));
     }
@@ -393,8 +393,8 @@ static void tables(void)
     fresh(), answered(SIVORANDRA_MISS, 2, 3), expect("judge: a miss", 0, judge(miss, TABLE));
     fresh(), answered(SIVORANDRA_FULL, 0, 5), expect("judge_ticks", 0, ticks(full, TABLE));
     fresh(), answered(SIVORANDRA_MISS, 2, 3), expect("judge_ticks: a miss", 0, ticks(miss, TABLE));
-    fresh(), answered(SIVORANDRA_KEPT, 6, 0), expect("clash", 0, clash(miss, TABLE));
-    fresh(), refused(17), expect("clash: no miss", 0, clash(full, TABLE));
+    fresh(), answered(SIVORANDRA_KEPT, 6, 0), expect("conflict", 0, conflict(miss, TABLE));
+    fresh(), refused(17), expect("conflict: no miss", 0, conflict(full, TABLE));
     fresh(), refused(13), no_run(), expect("start: a miss", 0, start(miss, TABLE));
     fresh(), refused(13), expect("replay: a miss", 0, replay(miss, TABLE, ones, 2));
 }
@@ -422,7 +422,7 @@ static void horizons(void)
             }
             fresh(), refused(more ? 9 : 10), expect("plan: past the largest horizon", 0, plan(table, TWO, 0, MOST_HORIZON + 1));
             fresh(), refused(more ? 9 : 11), expect("plan: up to the largest horizon", 0, plan(table, TWO, 0, MOST_HORIZON));
-            fresh(), late && !more ? answered(SIVORANDRA_KEPT, 1, 0) : refused(more ? 9 : 17), expect("clash: about the largest horizon", 0, clash(table, TWO));
+            fresh(), late && !more ? answered(SIVORANDRA_KEPT, 1, 0) : refused(more ? 9 : 17), expect("conflict: about the largest horizon", 0, conflict(table, TWO));
             if (more || late)
                 fresh(), refused(more ? 9 : 13), no_run(), expect("start: about the largest horizon", 0, start(table, TWO));
             if (more || !late)

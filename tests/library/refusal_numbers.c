@@ -49,8 +49,8 @@ static uint32_t advance(uint32_t reports, uint32_t empties) { return sivorandra_
 static uint32_t withdraw(uint32_t position) { return sivorandra_withdraw(run, RUN, position, answer, SIVORANDRA_ANSWER_WORDS); }
 static uint32_t withdraw_all(uint32_t set) { return sivorandra_withdraw_all(run, RUN, set, answer, SIVORANDRA_ANSWER_WORDS); }
 static uint32_t sentence(size_t len) { return sivorandra_sentence(table, words, rows, len, answer, SIVORANDRA_ANSWER_WORDS); }
-static uint32_t longest(void) { return sivorandra_response_times(table, words, run, SIVORANDRA_MOST_TASKS, answer, SIVORANDRA_ANSWER_WORDS); }
-static uint32_t spare(void) { return sivorandra_slack(table, words, run, SIVORANDRA_MOST_TASKS, answer, SIVORANDRA_ANSWER_WORDS); }
+static uint32_t response_times(void) { return sivorandra_response_times(table, words, run, SIVORANDRA_MOST_TASKS, answer, SIVORANDRA_ANSWER_WORDS); }
+static uint32_t slack(void) { return sivorandra_slack(table, words, run, SIVORANDRA_MOST_TASKS, answer, SIVORANDRA_ANSWER_WORDS); }
 static uint32_t begin(void) { return sivorandra_begin(table, words, run, PLAN, answer, SIVORANDRA_ANSWER_WORDS); }
 static uint32_t take(uint8_t a, uint8_t b)
 {
@@ -63,7 +63,7 @@ static uint32_t idle(uint32_t ticks)
         take(0, 0);
     return take(0, 0);
 }
-static uint32_t clash(void) { return sivorandra_conflict(table, words, answer, SIVORANDRA_ANSWER_WORDS); }
+static uint32_t conflict(void) { return sivorandra_conflict(table, words, answer, SIVORANDRA_ANSWER_WORDS); }
 
 static void numbers(void)
 {
@@ -124,19 +124,19 @@ static void numbers(void)
     expect("not firm before one past the count", withdraw_all(4), SIVORANDRA_NOT_FIRM, 0);
     fresh(1), expect("no miss", sentence(sizeof rows), SIVORANDRA_NO_MISS, 0);
     with(C, 6), expect("a short buffer", sentence(1), SIVORANDRA_SHORT_BUFFER, 0);
-    with(C, 6), expect("a miss has no longest answers", longest(), SIVORANDRA_TABLE_MISSES, 0);
-    fresh(1), expect("longest answers", longest(), PASSES, 0);
-    with(V, 3), expect("too wide, asked for the longest answers", longest(), SIVORANDRA_BAD_WIDTH, 1);
-    fresh(1), expect("no miss, no clash", clash(), SIVORANDRA_NO_MISS, 0);
-    with(C, 6), expect("a clash", clash(), PASSES, 0);
-    with(C, 6), table[V] = 3, expect("too wide, asked for the clash", clash(), SIVORANDRA_BAD_WIDTH, 1);
-    fresh(2), expect("spare ticks, greedy and no width above the next", spare(), PASSES, 0);
-    fresh(2), table[V] = 2, expect("greedy and a width above the next", spare(), SIVORANDRA_SLACK_NOT_GIVEN, 0);
-    table[RULE] = SIVORANDRA_LIMITED, expect("the same under limited", spare(), PASSES, 0);
-    table[RULE] = SIVORANDRA_IDLING, expect("the same under idling", spare(), SIVORANDRA_SLACK_NOT_GIVEN, 0);
-    table[RULE] = SIVORANDRA_LENDING, expect("the same under lending", spare(), SIVORANDRA_SLACK_NOT_GIVEN, 0);
-    with(C, 6), table[RULE] = SIVORANDRA_LIMITED, expect("a miss under limited", spare(), SIVORANDRA_SLACK_NOT_GIVEN, 0);
-    with(V, 3), table[RULE] = SIVORANDRA_IDLING, expect("too wide, asked for the spare ticks", spare(), SIVORANDRA_BAD_WIDTH, 1);
+    with(C, 6), expect("a miss has no response times", response_times(), SIVORANDRA_TABLE_MISSES, 0);
+    fresh(1), expect("response times", response_times(), PASSES, 0);
+    with(V, 3), expect("too wide, asked for the response times", response_times(), SIVORANDRA_BAD_WIDTH, 1);
+    fresh(1), expect("no miss, no conflict", conflict(), SIVORANDRA_NO_MISS, 0);
+    with(C, 6), expect("a conflict", conflict(), PASSES, 0);
+    with(C, 6), table[V] = 3, expect("too wide, asked for the conflict", conflict(), SIVORANDRA_BAD_WIDTH, 1);
+    fresh(2), expect("slack, greedy and no width above the next", slack(), PASSES, 0);
+    fresh(2), table[V] = 2, expect("greedy and a width above the next", slack(), SIVORANDRA_SLACK_NOT_GIVEN, 0);
+    table[RULE] = SIVORANDRA_LIMITED, expect("the same under limited", slack(), PASSES, 0);
+    table[RULE] = SIVORANDRA_IDLING, expect("the same under idling", slack(), SIVORANDRA_SLACK_NOT_GIVEN, 0);
+    table[RULE] = SIVORANDRA_LENDING, expect("the same under lending", slack(), SIVORANDRA_SLACK_NOT_GIVEN, 0);
+    with(C, 6), table[RULE] = SIVORANDRA_LIMITED, expect("a miss under limited", slack(), SIVORANDRA_SLACK_NOT_GIVEN, 0);
+    with(V, 3), table[RULE] = SIVORANDRA_IDLING, expect("too wide, asked for the slack", slack(), SIVORANDRA_BAD_WIDTH, 1);
 
     /* plans by others: a row without a task is idle */
     with(V, 3), expect("too wide for a plan by others", begin(), SIVORANDRA_BAD_WIDTH, 1);
@@ -193,12 +193,12 @@ static void limits(void)
     table[RECORD + O] = 0, table[W] = 2, expect("2T where the widths differ", judge(), SIVORANDRA_LONG_HORIZON, 0);
     table[T] = 500, expect("half of it", judge(), PASSES, 0);
     expect("its P", answer[2] != 999999000u, PASSES, 0);
-    fresh(SIVORANDRA_MOST_TASKS), table[CORES] = SIVORANDRA_MOST_CORES, table[words - RECORD + C - HEAD] = 6, expect("a clash of the last position", clash(), PASSES, 0);
+    fresh(SIVORANDRA_MOST_TASKS), table[CORES] = SIVORANDRA_MOST_CORES, table[words - RECORD + C - HEAD] = 6, expect("a conflict of the last position", conflict(), PASSES, 0);
     expect("its set", answer[0] != SIVORANDRA_KEPT || answer[1] != 0x80000000u || answer[2] != 0, PASSES, 0);
-    fresh(1), table[C] = SIVORANDRA_MOST_LENGTH - 1, table[D] = table[T] = SIVORANDRA_MOST_PERIOD, expect("a tick below the largest C", spare(), PASSES, 0);
-    expect("its spare tick", run[0] != 1, PASSES, 0);
-    table[C]++, expect("the largest C", spare(), PASSES, 0);
-    expect("no spare tick", run[0] != 0, PASSES, 0);
+    fresh(1), table[C] = SIVORANDRA_MOST_LENGTH - 1, table[D] = table[T] = SIVORANDRA_MOST_PERIOD, expect("a tick below the largest C", slack(), PASSES, 0);
+    expect("its slack", run[0] != 1, PASSES, 0);
+    table[C]++, expect("the largest C", slack(), PASSES, 0);
+    expect("no slack", run[0] != 0, PASSES, 0);
     fresh(SIVORANDRA_MOST_TASKS), table[CORES] = SIVORANDRA_MOST_CORES, start(), expect("all of the most tasks withdrawn", withdraw_all(0xffffffffu), PASSES, 0);
     expect("their set", run[SIVORANDRA_RUN_HEAD_WORDS - 1] != 0xffffffffu, PASSES, 0);
     fresh(SIVORANDRA_MOST_TASKS - 1), table[CORES] = SIVORANDRA_MOST_CORES, start(), expect("a task more", withdraw_all(0x80000000u), SIVORANDRA_NO_POSITION, 0);
