@@ -476,7 +476,7 @@ pub fn facts_of(bytes: &[u8]) -> Option<Facts> {
     (case == 0).then_some(Facts { position: words[0] as u32, tick: words[1], had: words[2], length: words[3], ran })
 }
 
-/// The longest answer of each task of a table's words: the most ticks from a job's release to its end, that of position 1 first, and 0 past the last task. No full-length job
+/// The worst-case response time of each task of a table's words: the most ticks from a job's release to its end, that of position 1 first, and 0 past the last task. No full-length job
 /// ever takes longer and some full-length job takes just that; in a run of a firm table no job takes longer, however early jobs end. 13 where the table misses.
 ///
 /// ```
@@ -492,7 +492,7 @@ pub fn response_times(words: &[u32]) -> Result<[u32; MOST_TASKS], Refusal> {
     figures(|figures, most, answer, len| unsafe { sivorandra_response_times(words.as_ptr(), words.len(), figures, most, answer, len) })
 }
 
-/// The tasks in the clash of a table's words, which misses: the set of the positions kept, bit p for position p + 1. From the lowest priority upward a task is dropped if what
+/// The tasks in the conflict of a table's words, which misses: the set of the positions kept, bit p for position p + 1. From the lowest priority upward a task is dropped if what
 /// remains still misses and is not empty, in whole passes until one drops nothing. The tasks kept still miss, and without any one of them the rest does not, or is empty. 17 where
 /// the table has no miss.
 ///
@@ -509,7 +509,7 @@ pub fn conflict(words: &[u32]) -> Result<u32, Refusal> {
     given(ask(|answer, len| unsafe { sivorandra_conflict(words.as_ptr(), words.len(), answer, len) }))
 }
 
-/// The spare ticks of each task of a table's words: the largest number of ticks by which its C alone can grow with the table still accepted, that of position 1 first, and 0 past the
+/// The slack of each task of a table's words: the largest number of ticks by which its C alone can grow with the table still accepted, that of position 1 first, and 0 past the
 /// last task. Every smaller growth is accepted too, and one tick more misses, or takes C past `MOST_LENGTH`. 23 where the table is not accepted under rule 2, nor under rule 1 with no
 /// width of a task above one of the next.
 ///

@@ -46,7 +46,7 @@ pub enum Refusal {
     ShortRows,
     /// 12, of a plan: b is above the tick of the first miss.
     PastMiss,
-    /// 13, of a start, a replay or the longest answers: the verdict is a miss.
+    /// 13, of a start, a replay or the response times: the verdict is a miss.
     TableMisses,
     /// 14, of a row, an advance or a withdrawal: the words are no run; of a row taken: they are no supplied plan's.
     NotARun,
@@ -57,7 +57,7 @@ pub enum Refusal {
     },
     /// 16, of an advance: a report for a position past the count, or for a task that is not working or has no cores, its own or lent, in this tick.
     BadReport,
-    /// 17, of a sentence or a clash: the table has no miss.
+    /// 17, of a sentence or a conflict: the table has no miss.
     NoMiss,
     /// 18, of a sentence: the buffer is shorter than the sentence.
     ShortBuffer,
@@ -69,7 +69,7 @@ pub enum Refusal {
     NotFirm,
     /// 22, of a withdrawal: a position is 0 or past the count.
     NoPosition,
-    /// 23, of the spare ticks: the table is not accepted under rule 2, nor under rule 1 with no width of a task above one of the next.
+    /// 23, of the slack: the table is not accepted under rule 2, nor under rule 1 with no width of a task above one of the next.
     SlackNotGiven,
     /// 24, of a row taken: a byte that is neither 0 nor a position, a fenced core without 255, a task with another width than its job's, or one with no work owed.
     BadRow {
