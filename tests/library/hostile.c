@@ -202,7 +202,7 @@ static void sentences(void)
     static const uint32_t late[LATE] = { 1, 1, 1, 0, 0, 0, 0, 1, 2, 1, 1, 1 };
     static const char said[] = "task 1 misses at tick 1 with 1 of 2 ticks.";
     enum { LENGTH = sizeof said - 1, FACTS = SIVORANDRA_FACT_WORDS };
-    static const uint64_t told[4] = { 1, 1, 1, 2 };
+    static const uint64_t late_facts[4] = { 1, 1, 1, 2 };
     for (size_t len = 0; len <= LENGTH + 2; len++) {
         fresh(), row.len = len;
         if (len < LENGTH)
@@ -228,7 +228,7 @@ static void sentences(void)
         if (len >= FACTS) {
             memset(want, 0, FACTS * sizeof want[0]);
             if (length == LENGTH)
-                memcpy(want, told, sizeof told);
+                memcpy(want, late_facts, sizeof late_facts);
             answered(length == LENGTH ? SIVORANDRA_DONE : SIVORANDRA_NO_SENTENCE, 0, 0);
         }
         uint32_t got = sivorandra_facts((const uint8_t *)said, length, len ? facts : NULL, len, ANSWER);
