@@ -36,7 +36,7 @@ extern "C" {
 #define SIVORANDRA_VERSION_MINOR 17
 #define SIVORANDRA_VERSION_PATCH 0
 #define SIVORANDRA_VERSION (SIVORANDRA_VERSION_MAJOR * 10000 + SIVORANDRA_VERSION_MINOR * 100 + SIVORANDRA_VERSION_PATCH)
-#define SIVORANDRA_VERSION_TEXT "0.17.0"
+#define SIVORANDRA_VERSION_TEXT "0.18.0"
 
 /* No call uses more bytes of the stack. */
 #define SIVORANDRA_STACK_BYTES 20480
@@ -55,10 +55,10 @@ extern "C" {
 #define SIVORANDRA_MISS 2u        /* tick and position */
 #define SIVORANDRA_LENGTH 0u      /* from sivorandra_sentence: the sentence's length, and 0 */
 #define SIVORANDRA_KEPT 0u        /* from sivorandra_conflict: the set of the positions kept, bit 0 for position 1, and 0 */
-#define SIVORANDRA_REFUSED 3u     /* number, one of enum sivorandra_number, and position; from sivorandra_take the tick instead */
+#define SIVORANDRA_REFUSED 3u     /* number, one of enum sivorandra_number, and position; from sivorandra_check_row the tick instead */
 #define SIVORANDRA_ROW_REFUSED 4u /* the last row of a replay: number and position */
 #define SIVORANDRA_NO_SENTENCE 5u /* from sivorandra_facts: 0 and 0 */
-#define SIVORANDRA_ACCEPTED 6u    /* from sivorandra_take: the row is taken as the last, and the whole plan is accepted: 0 and 0 */
+#define SIVORANDRA_ACCEPTED 6u    /* from sivorandra_check_row: the row is taken as the last, and the whole plan is accepted: 0 and 0 */
 
 /* The number of a refusal: the first that applies, where 19 comes between 3 and 4, and 20 between 15 and 16; take's order is 14, 9,
    10, 11, 25, 24 and, after the last row, 25 and 26. The position is 0 but with 7, 8 and 15; 24 to 26 come with a tick instead. Later versions may
@@ -279,11 +279,11 @@ uint32_t sivorandra_slack(const uint32_t *words, size_t words_len,
                           uint32_t *answer, size_t answer_len);
 
 /* Begins a plan that another planner makes for the table in `words`, whatever the table's verdict: done, or refused by the table's numbers, 1 to 9 and
-   19. Its rows are then lent to sivorandra_take, from tick 0 on, as many as the horizon, S + P.
+   19. Its rows are then lent to sivorandra_check_row, from tick 0 on, as many as the horizon, S + P.
    Begun or refused, it writes all SIVORANDRA_PLAN_WORDS words: places past the count are zeros and Resting(0), and nothing is noted, Resting(0), but
    where S is 0 the phases of the tasks; a refused beginning leaves a plan of all zeros with every phase and note Resting(0), which take
    refuses with 14. */
-uint32_t sivorandra_begin(const uint32_t *words, size_t words_len,
+uint32_t sivorandra_check_begin(const uint32_t *words, size_t words_len,
                           uint32_t *plan, size_t plan_len,
                           uint32_t *answer, size_t answer_len);
 
@@ -293,7 +293,7 @@ uint32_t sivorandra_begin(const uint32_t *words, size_t words_len,
    A taken row writes the head and the places below the count, and the tick; at the last S it notes the phases of these places. Places and notes past the
    count are neither read nor changed. Notes are not read before the last row: words of one that are no phase stay as they are, and agree with
    no phase (26). Words whose run is no run are refused with 14, as by row; so are a withdrawn position, a task Holding and unequal counts. */
-uint32_t sivorandra_take(uint32_t *plan, size_t plan_len,
+uint32_t sivorandra_check_row(uint32_t *plan, size_t plan_len,
                          const uint8_t *row, size_t row_len,
                          uint32_t *answer, size_t answer_len);
 

@@ -141,8 +141,8 @@ static uint32_t advance(uint32_t reports) { return advance_with(reports, 0); }
 static uint32_t withdraw(uint32_t position) { return sivorandra_withdraw(words_at(&run), run.len, position, ANSWER); }
 static uint32_t withdraw_all(uint32_t set) { return sivorandra_withdraw_all(words_at(&run), run.len, set, ANSWER); }
 static uint32_t conflict(const uint32_t *table, size_t len) { return sivorandra_conflict(table, len, ANSWER); }
-static uint32_t begin(const uint32_t *table, size_t len) { return sivorandra_begin(table, len, words_at(&run), run.len, ANSWER); }
-static uint32_t take(const uint8_t *row_lent, size_t len) { return sivorandra_take(words_at(&run), run.len, row_lent, len, ANSWER); }
+static uint32_t begin(const uint32_t *table, size_t len) { return sivorandra_check_begin(table, len, words_at(&run), run.len, ANSWER); }
+static uint32_t take(const uint8_t *row_lent, size_t len) { return sivorandra_check_row(words_at(&run), run.len, row_lent, len, ANSWER); }
 static uint32_t response_times(const uint32_t *table, size_t len) { return sivorandra_response_times(table, len, words_at(&numbers), numbers.len, ANSWER); }
 static uint32_t slack(const uint32_t *table, size_t len) { return sivorandra_slack(table, len, words_at(&numbers), numbers.len, ANSWER); }
 
@@ -284,7 +284,7 @@ static void fresh_plan(void)
     static uint32_t begun[PLAN];
     uint32_t three[3];
     fresh();
-    sivorandra_begin(full, TABLE, begun, PLAN, three, 3);
+    sivorandra_check_begin(full, TABLE, begun, PLAN, three, 3);
     words(&run, PLAN, begun, PLAN);
 }
 

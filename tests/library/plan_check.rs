@@ -1,6 +1,6 @@
 //! Calls of the library for tests/outside/plan-check: each line of standard input is one, and one line answers it. `begin WORDS` and `state WORDS` set the plan, `own WORDS` gives the bytes of the
 //! rows that our own planner makes up to the horizon, `row BYTES` takes a row, and `words` gives the words of the plan.
-use sivorandra::{judge, plan, Refusal, RowAnswer, Supplied, Verdict, PLAN_WORDS};
+use sivorandra::{judge, plan, Refusal, RowAnswer, SuppliedPlan, Verdict, PLAN_WORDS};
 use std::io::{self, BufRead, Write};
 
 /// 24 to 26 are faults, with their tick.
@@ -25,18 +25,18 @@ fn own(words: &[u32]) -> Vec<u8> {
 
 fn main() -> io::Result<()> {
     let mut out = io::stdout().lock();
-    let mut state = Supplied::from_words([0; PLAN_WORDS]);
+    let mut state = SuppliedPlan::from_words([0; PLAN_WORDS]);
     for line in io::stdin().lock().lines() {
         let line = line?;
         let (call, rest) = line.split_once(' ').unwrap_or((&line, ""));
         let words: Vec<u32> = rest.split_whitespace().map(|word| word.parse().expect("a number")).collect();
         let answer = match call {
-            "begin" => Supplied::begin(&words).map_or_else(refused, |begun| {
+            "begin" => SuppliedPlan::begin(&words).map_or_else(refused, |begun| {
                 state = begun;
                 "ok".to_string()
             }),
             "state" => {
-                state = Supplied::from_words(words.try_into().expect("the words of a plan"));
+                state = SuppliedPlan::from_words(words.try_into().expect("the words of a plan"));
                 "ok".to_string()
             }
             "own" => listed(&own(&words)),

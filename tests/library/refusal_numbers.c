@@ -51,11 +51,11 @@ static uint32_t withdraw_all(uint32_t set) { return sivorandra_withdraw_all(run,
 static uint32_t sentence(size_t len) { return sivorandra_sentence(table, words, rows, len, answer, SIVORANDRA_ANSWER_WORDS); }
 static uint32_t response_times(void) { return sivorandra_response_times(table, words, run, SIVORANDRA_MOST_TASKS, answer, SIVORANDRA_ANSWER_WORDS); }
 static uint32_t slack(void) { return sivorandra_slack(table, words, run, SIVORANDRA_MOST_TASKS, answer, SIVORANDRA_ANSWER_WORDS); }
-static uint32_t begin(void) { return sivorandra_begin(table, words, run, PLAN, answer, SIVORANDRA_ANSWER_WORDS); }
+static uint32_t begin(void) { return sivorandra_check_begin(table, words, run, PLAN, answer, SIVORANDRA_ANSWER_WORDS); }
 static uint32_t take(uint8_t a, uint8_t b)
 {
     uint8_t two[2] = { a, b };
-    return sivorandra_take(run, PLAN, two, 2, answer, SIVORANDRA_ANSWER_WORDS);
+    return sivorandra_check_row(run, PLAN, two, 2, answer, SIVORANDRA_ANSWER_WORDS);
 }
 static uint32_t idle(uint32_t ticks)
 {
@@ -143,7 +143,7 @@ static void numbers(void)
     expect("the plan of a refused beginning", take(0, 0), SIVORANDRA_NOT_A_RUN, 0);
     with(C, 6), expect("a miss by our rule begins", begin(), PASSES, 0);
     fresh(1), expect("a plan by others", begin(), PASSES, 0);
-    expect("no row", sivorandra_take(run, PLAN, NULL, 0, answer, SIVORANDRA_ANSWER_WORDS), SIVORANDRA_SHORT_ROWS, 0);
+    expect("no row", sivorandra_check_row(run, PLAN, NULL, 0, answer, SIVORANDRA_ANSWER_WORDS), SIVORANDRA_SHORT_ROWS, 0);
     expect("no such position in a row", take(2, 0), SIVORANDRA_BAD_ROW, 0);
     expect("another width", take(1, 1), SIVORANDRA_BAD_ROW, 0);
     expect("a row", take(0, 1), PASSES, 0);

@@ -32,12 +32,12 @@ static void parse(void) { sivorandra_facts(sentence, length, facts, FACTS, answe
 static void response_times(void) { sivorandra_response_times(table, words, numbers, TASKS, answer, 3); }
 static void slack(void) { sivorandra_slack(table, words, numbers, TASKS, answer, 3); }
 static void conflict(void) { sivorandra_conflict(table, words, answer, 3); }
-static void begin(void) { sivorandra_begin(table, words, supplied, SIVORANDRA_PLAN_WORDS, answer, 3); }
+static void begin(void) { sivorandra_check_begin(table, words, supplied, SIVORANDRA_PLAN_WORDS, answer, 3); }
 /* an idle row, at the beginning and as the last */
 static void take(void)
 {
-    sivorandra_take(supplied, SIVORANDRA_PLAN_WORDS, idle, SIVORANDRA_MOST_CORES, answer, 3);
-    supplied[RUN] = last, sivorandra_take(supplied, SIVORANDRA_PLAN_WORDS, idle, SIVORANDRA_MOST_CORES, answer, 3);
+    sivorandra_check_row(supplied, SIVORANDRA_PLAN_WORDS, idle, SIVORANDRA_MOST_CORES, answer, 3);
+    supplied[RUN] = last, sivorandra_check_row(supplied, SIVORANDRA_PLAN_WORDS, idle, SIVORANDRA_MOST_CORES, answer, 3);
 }
 
 static struct { const char *name; void (*call)(void); size_t most; } calls[] = {

@@ -29,7 +29,7 @@ pub use refusal::Refusal;
 use std::fmt;
 
 /// The version that these bindings are for: major * 10000 + minor * 100 + patch. `version` is that of the library that is linked.
-pub const VERSION: u32 = 1700;
+pub const VERSION: u32 = 1800;
 
 /// The most tasks on a chain, and the most records of a table.
 pub const MOST_TASKS: usize = 32;
@@ -249,11 +249,11 @@ pub struct Run {
 /// with 14. A plan that is accepted, repeated from the last S on, meets every deadline at every tick.
 ///
 /// ```
-/// use sivorandra::{Refusal, RowAnswer, Supplied, LIMITED};
+/// use sivorandra::{Refusal, RowAnswer, SuppliedPlan, LIMITED};
 ///
 /// // by this rule a deadline is missed; the supplied plan misses none
 /// let table = [1, 3, LIMITED, 0, 0, 2, 0, 2, 2, 5, 5, 2, 3, 0, 2, 3, 5, 5, 2, 0, 0, 1, 4, 5, 5, 1];
-/// let mut plan = Supplied::begin(&table)?;
+/// let mut plan = SuppliedPlan::begin(&table)?;
 /// for row in [[1, 1, 3], [1, 1, 3], [2, 2, 3], [2, 2, 3]] {
 ///     assert_eq!(plan.take(&row)?, RowAnswer::Taken);
 /// }
@@ -262,16 +262,16 @@ pub struct Run {
 /// # Ok::<(), Refusal>(())
 /// ```
 #[derive(Clone, Debug, PartialEq, Eq)]
-pub struct Supplied {
+pub struct SuppliedPlan {
     words: [u32; PLAN_WORDS],
 }
 
 /// The answer to a row of a supplied plan that is not refused.
 ///
 /// ```
-/// use sivorandra::{RowAnswer, Supplied};
+/// use sivorandra::{RowAnswer, SuppliedPlan};
 ///
-/// let mut plan = Supplied::begin(&[1, 1, 1, 0, 0, 0, 0, 1, 1, 2, 2, 1])?;
+/// let mut plan = SuppliedPlan::begin(&[1, 1, 1, 0, 0, 0, 0, 1, 1, 2, 2, 1])?;
 /// assert_eq!([plan.take(&[0])?, plan.take(&[1])?], [RowAnswer::Taken, RowAnswer::Accepted]);
 /// # Ok::<(), sivorandra::Refusal>(())
 /// ```
@@ -333,8 +333,8 @@ extern "C" {
     fn sivorandra_response_times(words: *const u32, words_len: usize, figures: *mut u32, figures_len: usize, answer: *mut u32, answer_len: usize) -> u32;
     fn sivorandra_conflict(words: *const u32, words_len: usize, answer: *mut u32, answer_len: usize) -> u32;
     fn sivorandra_slack(words: *const u32, words_len: usize, figures: *mut u32, figures_len: usize, answer: *mut u32, answer_len: usize) -> u32;
-    fn sivorandra_begin(words: *const u32, words_len: usize, plan: *mut u32, plan_len: usize, answer: *mut u32, answer_len: usize) -> u32;
-    fn sivorandra_take(plan: *mut u32, plan_len: usize, row: *const u8, row_len: usize, answer: *mut u32, answer_len: usize) -> u32;
+    fn sivorandra_check_begin(words: *const u32, words_len: usize, plan: *mut u32, plan_len: usize, answer: *mut u32, answer_len: usize) -> u32;
+    fn sivorandra_check_row(plan: *mut u32, plan_len: usize, row: *const u8, row_len: usize, answer: *mut u32, answer_len: usize) -> u32;
 }
 
 /// The three words of an answer: every slice that these functions lend is long enough.
@@ -741,40 +741,40 @@ impl Run {
     }
 }
 
-impl Supplied {
+impl SuppliedPlan {
     /// The plan of a table's words as it begins, at tick 0, whatever the table's verdict.
     ///
     /// ```
-    /// use sivorandra::{Refusal, Supplied};
+    /// use sivorandra::{Refusal, SuppliedPlan};
     ///
-    /// assert_eq!(Supplied::begin(&[]), Err(Refusal::NotATable));
-    /// assert!(Supplied::begin(&[1, 1, 1, 0, 0, 0, 0, 1, 2, 1, 1, 1]).is_ok()); // C is above D, and so 25 will come
+    /// assert_eq!(SuppliedPlan::begin(&[]), Err(Refusal::NotATable));
+    /// assert!(SuppliedPlan::begin(&[1, 1, 1, 0, 0, 0, 0, 1, 2, 1, 1, 1]).is_ok()); // C is above D, and so 25 will come
     /// ```
-    pub fn begin(words: &[u32]) -> Result<Supplied, Refusal> {
+    pub fn begin(words: &[u32]) -> Result<SuppliedPlan, Refusal> {
         let mut plan = [0; PLAN_WORDS];
-        done(ask(|answer, len| unsafe { sivorandra_begin(words.as_ptr(), words.len(), plan.as_mut_ptr(), plan.len(), answer, len) }))?;
-        Ok(Supplied { words: plan })
+        done(ask(|answer, len| unsafe { sivorandra_check_begin(words.as_ptr(), words.len(), plan.as_mut_ptr(), plan.len(), answer, len) }))?;
+        Ok(SuppliedPlan { words: plan })
     }
 
     /// A plan from any words: words that are no plan are refused with 14 by `take`. Words of a note that are no phase are kept, and agree with no phase (26).
     ///
     /// ```
-    /// use sivorandra::{Refusal, Supplied, PLAN_WORDS};
+    /// use sivorandra::{Refusal, SuppliedPlan, PLAN_WORDS};
     ///
-    /// let mut plan = Supplied::from_words([0; PLAN_WORDS]);
+    /// let mut plan = SuppliedPlan::from_words([0; PLAN_WORDS]);
     /// assert_eq!(plan.take(&[0]), Err(Refusal::NotARun));
     /// ```
-    pub fn from_words(words: [u32; PLAN_WORDS]) -> Supplied {
-        Supplied { words }
+    pub fn from_words(words: [u32; PLAN_WORDS]) -> SuppliedPlan {
+        SuppliedPlan { words }
     }
 
     /// The plan's words.
     ///
     /// ```
-    /// use sivorandra::Supplied;
+    /// use sivorandra::SuppliedPlan;
     ///
-    /// let plan = Supplied::begin(&[1, 3, 1, 0, 0, 0, 0, 2, 2, 5, 5, 2])?;
-    /// assert_eq!(Supplied::from_words(*plan.words()), plan);
+    /// let plan = SuppliedPlan::begin(&[1, 3, 1, 0, 0, 0, 0, 2, 2, 5, 5, 2])?;
+    /// assert_eq!(SuppliedPlan::from_words(*plan.words()), plan);
     /// # Ok::<(), sivorandra::Refusal>(())
     /// ```
     pub fn words(&self) -> &[u32; PLAN_WORDS] {
@@ -784,7 +784,7 @@ impl Supplied {
     /// The core count, fenced ones too: the number of bytes of a row. For words that are no plan it is the word in its place.
     ///
     /// ```
-    /// let plan = sivorandra::Supplied::begin(&[1, 3, 1, 0, 0, 0, 0, 2, 2, 5, 5, 2])?;
+    /// let plan = sivorandra::SuppliedPlan::begin(&[1, 3, 1, 0, 0, 0, 0, 2, 2, 5, 5, 2])?;
     /// assert_eq!(plan.cores(), 3);
     /// # Ok::<(), sivorandra::Refusal>(())
     /// ```
@@ -795,7 +795,7 @@ impl Supplied {
     /// The tick whose row is next: the number of rows taken.
     ///
     /// ```
-    /// let mut plan = sivorandra::Supplied::begin(&[1, 3, 1, 0, 0, 0, 0, 2, 2, 5, 5, 2])?;
+    /// let mut plan = sivorandra::SuppliedPlan::begin(&[1, 3, 1, 0, 0, 0, 0, 2, 2, 5, 5, 2])?;
     /// plan.take(&[1, 0, 1])?;
     /// assert_eq!(plan.tick(), 1);
     /// # Ok::<(), sivorandra::Refusal>(())
@@ -808,16 +808,16 @@ impl Supplied {
     /// past the horizon, 11 where the row has not a byte for each core, 24 to 26 with their tick.
     ///
     /// ```
-    /// use sivorandra::{Refusal, Supplied};
+    /// use sivorandra::{Refusal, SuppliedPlan};
     ///
-    /// let mut plan = Supplied::begin(&[1, 3, 1, 0, 0, 0, 0, 2, 2, 5, 5, 2])?;
+    /// let mut plan = SuppliedPlan::begin(&[1, 3, 1, 0, 0, 0, 0, 2, 2, 5, 5, 2])?;
     /// assert_eq!(plan.take(&[1, 1]), Err(Refusal::ShortRows));
     /// assert_eq!(plan.take(&[1, 0, 0]), Err(Refusal::BadRow { tick: 0 })); // the job has two cores
     /// plan.take(&[0, 1, 1])?;
     /// # Ok::<(), Refusal>(())
     /// ```
     pub fn take(&mut self, row: &[u8]) -> Result<RowAnswer, Refusal> {
-        let [case, number, tick] = ask(|answer, len| unsafe { sivorandra_take(self.words.as_mut_ptr(), self.words.len(), row.as_ptr(), row.len(), answer, len) });
+        let [case, number, tick] = ask(|answer, len| unsafe { sivorandra_check_row(self.words.as_mut_ptr(), self.words.len(), row.as_ptr(), row.len(), answer, len) });
         match case {
             0 => Ok(RowAnswer::Taken),
             6 => Ok(RowAnswer::Accepted),

@@ -2,7 +2,7 @@
 -- compute.
 use Rattle.model.proofs.Computing.{computing}
 use Rattle.run.specs.Advance.{advanceAnswer, advanceOf}
-use Rattle.run.specs.Numbers.{pastCount, runOut, firstLateIn, misemptiedIn, misreportedIn}
+use Rattle.run.specs.Numbers.{pastCount, runOut, firstLateIn, wrongEmptiesIn, wrongReportsIn}
 use Rattle.run.specs.Row.{rowAnswer, bytesIn, rowOf}
 use Rattle.run.specs.Sets.{setsIn, setsOf}
 use Rattle.run.specs.Run.{grantsIn, lentIn, mapFirst, moved, offerIn, seeksIn, withdrawnIn}
@@ -12,5 +12,5 @@ use Rattle.capi.specs.Runs.{rowCall, setsCall, advanceCall, withdrawCall
 
 unfoldable pub calling : Unit {0}
 unfolding computing rowCall setsCall advanceCall withdrawCall withdrawAllCall holdsRun arePlaces runIn placesIn encodeTo placesWords rowOf rowAnswer bytesIn setsOf setsIn advanceOf
-    advanceAnswer withdrawOf withdrawAllOf withdrawAnswer pastCount runOut firstLateIn misemptiedIn misreportedIn grantsIn lentIn offerIn seeksIn mapFirst moved withdrawnIn
+    advanceAnswer withdrawOf withdrawAllOf withdrawAnswer pastCount runOut firstLateIn wrongEmptiesIn wrongReportsIn grantsIn lentIn offerIn seeksIn mapFirst moved withdrawnIn
 calling = tt

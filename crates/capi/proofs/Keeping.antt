@@ -22,7 +22,7 @@ use Rattle.run.specs.Answer.{byAnswer}
 use Rattle.run.specs.Start.{startOf}
 use Rattle.run.specs.Row.{noBytes, rowOf}
 use Rattle.run.specs.Sets.{noSets, setsOf}
-use Rattle.run.specs.Numbers.{strangerIn, pastCount}
+use Rattle.run.specs.Numbers.{unknownIn, pastCount}
 use Rattle.run.specs.Advance.{advanceAnswer, advanceOf}
 use Rattle.run.specs.Withdraw.{withdrawAnswer, withdrawOf, withdrawAllOf}
 use Rattle.refinement.specs.Entries.{entryOf}
@@ -171,7 +171,7 @@ count-kept r (advance x e) = go (advanceAnswer r x e)
     go : (a : Answer) → byAnswer a (moved (bit x) e r) r .count ≡ r .count
     go Taken = unfold moved in refl
     go (Refused n p) = refl
-count-kept r (withdraw q) = count-withdrawn r (singleton q) (withdrawAnswer r (strangerIn r q))
+count-kept r (withdraw q) = count-withdrawn r (singleton q) (withdrawAnswer r (unknownIn r q))
 count-kept r (withdrawAll x) = count-withdrawn r x (withdrawAnswer r (pastCount (r .count) x))
 
 -- what is kept of an entry, by its answer

@@ -20,7 +20,7 @@ use Rattle.phase.specs.Task.{unused, startTask}
 use Rattle.run.specs.Run.{moved, withdrawnIn}
 use Rattle.run.specs.Answer.{answerMeaning, byAnswer}
 use Rattle.run.specs.Start.{startedRun, startAnswer, startOf}
-use Rattle.run.specs.Numbers.{strangerIn, pastCount}
+use Rattle.run.specs.Numbers.{unknownIn, pastCount}
 use Rattle.run.specs.Advance.{advanceAnswer, advanceOf}
 use Rattle.run.specs.Withdraw.{withdrawAnswer, withdrawOf, withdrawAllOf}
 use Rattle.refinement.specs.Entries.{entryOf}
@@ -33,20 +33,20 @@ use Rattle.capi.proofs.Places.{length-read, held-long, held-few}
 use Rattle.capi.proofs.Inverse.{length-to, decode-to, decode-encode, few-accepted, held-run}
 
 -- a run as a buffer holds it: 32 places, of which those past the count are clear
-pub record FitsWord (r : Run) : Type 0 where
+pub record StoredRun (r : Run) : Type 0 where
   pub all : length (r .tasks) ≡ places
   pub few : r .count ≤ places
   pub past : drop (r .count) (r .tasks) ≡ replicate (places - r .count) unused
 
 -- such a run is as it is when it is cleared
-pub clear-fits : (r : Run) → FitsWord r → cleared r ≡ r
+pub clear-fits : (r : Run) → StoredRun r → cleared r ≡ r
 clear-fits r f =
     ap (λ (ts : List Task). record { rule = r .rule; cores = r .cores; fence = r .fence; withdrawn = r .withdrawn; count = r .count; tasks = ts })
     (ap (λ (l : List Task). take (r .count) (r .tasks) ++ l) (sym (f .past)) ∙ take-append-drop (r .count) (r .tasks))
 
 -- START
 
-pub fits-started : (n : ℕ) (s : model.Table) → startedRun n s .count ≤ places → FitsWord (startedRun n s)
+pub fits-started : (n : ℕ) (s : model.Table) → startedRun n s .count ≤ places → StoredRun (startedRun n s)
 unfolding startedRun
 fits-started n s h =
     let rest = replicate (places - length (s .tasks)) unused in
@@ -55,16 +55,16 @@ fits-started n s h =
     let c = length-replicate (places - length (s .tasks)) unused in
     record { all = omega arith; few = h; past = drop-at (map startTask (s .tasks)) rest (length (s .tasks)) b }
 
-pub fits-start : (ws : List ℕ) → FitsWord (startOf ws .run)
+pub fits-start : (ws : List ℕ) → StoredRun (startOf ws .run)
 fits-start ws = go (startAnswer ws) refl
   where
-    go : (a : Answer) → startAnswer ws ≡ a → FitsWord (startOf ws .run)
+    go : (a : Answer) → startAnswer ws ≡ a → StoredRun (startOf ws .run)
     go Taken e =
         let v = start-taken ws e in
         let few = few-accepted (startOf ws .run) (start-of ws (startOf ws) refl .passes (ap (λ (s : Started). answerMeaning (s .answer)) v)) in
-        subst (λ (s : Started). FitsWord (s .run)) (sym v) (fits-started (rule ws) (tableOf ws) (subst (λ (s : Started). s .run .count ≤ places) v few))
+        subst (λ (s : Started). StoredRun (s .run)) (sym v) (fits-started (rule ws) (tableOf ws) (subst (λ (s : Started). s .run .count ≤ places) v few))
     go (Refused n p) e =
-        subst (λ (s : Started). FitsWord (s .run)) (sym (start-refused ws n p e)) (record { all = refl; few = omega arith; past = refl })
+        subst (λ (s : Started). StoredRun (s .run)) (sym (start-refused ws n p e)) (record { all = refl; few = omega arith; past = refl })
 
 -- start writes all words of the run that it returns, whatever was there
 pub start-whole : (ws buffer : List ℕ) → take runWords (startedIn ws buffer) ≡ encode (startOf ws .run)
@@ -85,7 +85,7 @@ started-back ws = ap decode (sym (append-nil (encode (startOf ws .run)))) ∙ st
 
 -- AN ENTRY
 
-fits-held : (ws : List ℕ) → holdsRun ws ≡ true → FitsWord (runIn ws)
+fits-held : (ws : List ℕ) → holdsRun ws ≡ true → StoredRun (runIn ws)
 unfolding runIn
 fits-held ws e =
     let n = countIn ws in
@@ -98,10 +98,10 @@ fits-held ws e =
     record { all = omega arith; few = few; past = drop-at read rest n b }
 
 -- a run that a buffer holds fits, and the buffer is long enough
-pub held-fits : (ws : List ℕ) (r : Run) → decode ws ≡ run r → FitsWord r × (runWords ≤ length ws)
-held-fits ws r e = let h = held-run ws r e in (subst FitsWord (h .1) (fits-held ws (h .0)), held-long ws (h .0))
+pub held-fits : (ws : List ℕ) (r : Run) → decode ws ≡ run r → StoredRun r × (runWords ≤ length ws)
+held-fits ws r e = let h = held-run ws r e in (subst StoredRun (h .1) (fits-held ws (h .0)), held-long ws (h .0))
 
-fits-moved : (f : ℕ → Bool) (e : ℕ) (r : Run) → FitsWord r → FitsWord (moved f e r)
+fits-moved : (f : ℕ → Bool) (e : ℕ) (r : Run) → StoredRun r → StoredRun (moved f e r)
 unfolding moved
 fits-moved f e r h = record {
   all = length-mapFirst _ (r .count) (r .tasks) ∙ h .all;
@@ -110,20 +110,20 @@ fits-moved f e r h = record {
 }
 
 -- a withdrawal, by its answer
-fits-withdrawn : (x : ℕ) (r : Run) → FitsWord r → (a : Answer) → FitsWord (byAnswer a (withdrawnIn x r) r)
+fits-withdrawn : (x : ℕ) (r : Run) → StoredRun r → (a : Answer) → StoredRun (byAnswer a (withdrawnIn x r) r)
 unfolding withdrawnIn
 fits-withdrawn x r h Taken = record { all = h .all; few = h .few; past = h .past }
 fits-withdrawn x r h (Refused n p) = h
 
 -- what an entry returns fits, taken or refused
-pub fits-entered : (r : Run) (x : Entry) → FitsWord r → FitsWord (entryOf r x .run)
+pub fits-entered : (r : Run) (x : Entry) → StoredRun r → StoredRun (entryOf r x .run)
 unfolding advanceOf withdrawOf withdrawAllOf
 fits-entered r (advance x e) f = go (advanceAnswer r x e)
   where
-    go : (a : Answer) → FitsWord (byAnswer a (moved (bit x) e r) r)
+    go : (a : Answer) → StoredRun (byAnswer a (moved (bit x) e r) r)
     go Taken = fits-moved (bit x) e r f
     go (Refused n p) = f
-fits-entered r (withdraw q) f = fits-withdrawn (singleton q) r f (withdrawAnswer r (strangerIn r q))
+fits-entered r (withdraw q) f = fits-withdrawn (singleton q) r f (withdrawAnswer r (unknownIn r q))
 fits-entered r (withdrawAll x) f = fits-withdrawn x r f (withdrawAnswer r (pastCount (r .count) x))
 
 -- an entry that is refused returns the run as given
@@ -134,7 +134,7 @@ as-given r (withdraw q) n p t = ap (λ (a : Answer). byAnswer a (withdrawnIn (si
 as-given r (withdrawAll x) n p t = ap (λ (a : Answer). byAnswer a (withdrawnIn x r) r) t
 
 -- a run that fits, written into a long buffer up to its count, is held there
-pub fits-written : (r : Run) (ws : List ℕ) → FitsWord r → runWords ≤ length ws → decode (overwritten (r .count) r ws) ≡ run r
+pub fits-written : (r : Run) (ws : List ℕ) → StoredRun r → runWords ≤ length ws → decode (overwritten (r .count) r ws) ≡ run r
 fits-written r ws f h =
     let few = f .few in
     let all = f .all in

@@ -18,10 +18,10 @@ pub mod Examples
 pub mod Calling
 pub mod RunExamples
 pub mod SetsExamples
-pub mod TogetherExamples
+pub mod WithdrawSetExamples
 pub mod LendExamples
 pub mod SentenceExamples
 pub mod FigureExamples
-pub mod ClashExamples
-pub mod SpareExamples
+pub mod ConflictExamples
+pub mod SlackExamples
 pub mod SuppliedExamples

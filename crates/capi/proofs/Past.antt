@@ -22,7 +22,7 @@ use Rattle.table.specs.Words.{fenceOf}
 use Rattle.capi.proofs.Places.{length-words, length-read, held-by, by-held, held-few, held-places}
 use Rattle.capi.proofs.Inverse.{length-to, held-run, places-are, places-back, places-encode}
 use Rattle.capi.proofs.Keeping.{count-kept}
-use Rattle.capi.proofs.Kept.{FitsWord, held-fits, fits-entered}
+use Rattle.capi.proofs.Kept.{StoredRun, held-fits, fits-entered}
 
 -- the buffer's count is that of the run that it holds
 held-count : (ws : List ℕ) (r : Run) → decode ws ≡ run r → r .count ≡ countIn ws
@@ -132,7 +132,7 @@ same-held ws vs s = go (decode ws) (decode vs) refl refl
 -- NOT CHANGED
 
 -- what an entry on run r leaves in a buffer, in two parts: up to the count, and after it
-module _ (r : Run) (f : FitsWord r) (x : Entry) where
+module _ (r : Run) (f : StoredRun r) (x : Entry) where
   abbrev next : Run
   next = entryOf r x .run
 

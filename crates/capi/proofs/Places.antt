@@ -39,9 +39,9 @@ length-read zero ws = refl
 length-read (suc n) ws = ap suc (length-read n (drop eachWords ws))
 
 -- tested: it is one, and the others decide ..
-pub look-on : (m n at : ℕ) (ws : List ℕ) → m ≡ suc n → isPlace (drop at ws) ≡ true → arePlaces m (drop at ws) ≡ arePlaces n (drop (at + eachWords) ws)
+pub test-on : (m n at : ℕ) (ws : List ℕ) → m ≡ suc n → isPlace (drop at ws) ≡ true → arePlaces m (drop at ws) ≡ arePlaces n (drop (at + eachWords) ws)
 unfolding arePlaces
-look-on m n at ws e p =
+test-on m n at ws e p =
     ap (λ (k : ℕ). arePlaces k (drop at ws)) e
     ∙ (ap (λ (t : Bool). t && arePlaces n (drop eachWords (drop at ws))) p ∙ ap (arePlaces n) (drop-drop eachWords at ws))
 
@@ -51,9 +51,9 @@ unfolding arePlaces
 none-left ws = refl
 
 -- .. or it is none, and decides
-pub look-stop : (m n at : ℕ) (ws : List ℕ) → m ≡ suc n → isPlace (drop at ws) ≡ false → arePlaces m (drop at ws) ≡ false
+pub test-stop : (m n at : ℕ) (ws : List ℕ) → m ≡ suc n → isPlace (drop at ws) ≡ false → arePlaces m (drop at ws) ≡ false
 unfolding arePlaces
-look-stop m n at ws e p =
+test-stop m n at ws e p =
     ap (λ (k : ℕ). arePlaces k (drop at ws)) e ∙ ap (λ (t : Bool). t && arePlaces n (drop eachWords (drop at ws))) p
 
 -- what is read at a place

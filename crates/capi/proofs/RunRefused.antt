@@ -14,7 +14,7 @@ use borrow.Author.Tests.{leb-true, leb-false, lt-leb, eqb-false, ne-eqb}
 use Rattle.run.specs.declared.Answer.{Answer}
 use Rattle.run.specs.declared.Answer.the-variants.{Taken, Refused}
 use Rattle.run.specs.declared.Run.{Run}
-use Rattle.run.specs.Numbers.{RunOut, runOut, strangerIn, pastCount, firstLateIn, misemptiedIn, misreportedIn}
+use Rattle.run.specs.Numbers.{RunOut, runOut, unknownIn, pastCount, firstLateIn, wrongEmptiesIn, wrongReportsIn}
 use Rattle.run.specs.Run.{firmIn}
 use Rattle.run.specs.Row.{rowAnswer, rowOf}
 use Rattle.run.specs.Sets.{setsOf}
@@ -163,13 +163,13 @@ not-late : (t : Bool) (p : ℕ) (a : Answer) → (a ≡ Refused 14 0 → ⊥) �
 not-late true p a n e = not-number 15 p (λ z. omega arith) e
 not-late false p a n e = n e
 
-not-misemptied : (t : Bool) (a : Answer) → (a ≡ Refused 14 0 → ⊥) → cond t (Refused 20 0) a ≡ Refused 14 0 → ⊥
-not-misemptied true a n e = not-number 20 0 (λ z. omega arith) e
-not-misemptied false a n e = n e
+not-wrong-empties : (t : Bool) (a : Answer) → (a ≡ Refused 14 0 → ⊥) → cond t (Refused 20 0) a ≡ Refused 14 0 → ⊥
+not-wrong-empties true a n e = not-number 20 0 (λ z. omega arith) e
+not-wrong-empties false a n e = n e
 
-not-misreported : (t : Bool) → cond t (Refused 16 0) Taken ≡ Refused 14 0 → ⊥
-not-misreported true e = not-number 16 0 (λ z. omega arith) e
-not-misreported false e = not-taken e
+not-wrong-reports : (t : Bool) → cond t (Refused 16 0) Taken ≡ Refused 14 0 → ⊥
+not-wrong-reports true e = not-number 16 0 (λ z. omega arith) e
+not-wrong-reports false e = not-taken e
 
 not-withdrawn : (f u : Bool) → cond f (cond u (Refused 22 0) Taken) (Refused 21 0) ≡ Refused 14 0 → ⊥
 not-withdrawn true true e = not-number 22 0 (λ z. omega arith) e
@@ -182,7 +182,7 @@ module _ (r : Run) (e : ℕ) where
   row-out q =
       run-decides r .0
       (number-14-by (runOut r) _
-      (not-late (ltb (firstLateIn r) (r .count)) (suc (firstLateIn r)) _ (not-misemptied (misemptiedIn r e) Taken not-taken)) q)
+      (not-late (ltb (firstLateIn r) (r .count)) (suc (firstLateIn r)) _ (not-wrong-empties (wrongEmptiesIn r e) Taken not-taken)) q)
 
   row-out-back : RunOut r → rowAnswer r e ≡ Refused 14 0
   unfolding rowAnswer
@@ -194,7 +194,7 @@ module _ (r : Run) (e : ℕ) where
       run-decides r .0
       (number-14-by (runOut r) _
       (not-late (ltb (firstLateIn r) (r .count)) (suc (firstLateIn r)) _
-      (not-misemptied (misemptiedIn r e) (cond (misreportedIn r e x) (Refused 16 0) Taken) (not-misreported (misreportedIn r e x)))) q)
+      (not-wrong-empties (wrongEmptiesIn r e) (cond (wrongReportsIn r e x) (Refused 16 0) Taken) (not-wrong-reports (wrongReportsIn r e x)))) q)
 
   advance-out-back : (x : ℕ) → RunOut r → advanceAnswer r x e ≡ Refused 14 0
   unfolding advanceAnswer
@@ -244,7 +244,7 @@ module _ (ws : List ℕ) where
   pub withdraw-14 : (p : ℕ) → (withdrawFrom (decode ws) p ws .answer ≡ Refused 14 0) ↔ BufferRunOut ws
   unfolding withdrawOf
   withdraw-14 p =
-      by-buffer (λ h. withdrawFrom h p ws .answer) refl (withdraw-out (runIn ws) (strangerIn (runIn ws) p)) (withdraw-out-back (runIn ws) (strangerIn (runIn ws) p))
+      by-buffer (λ h. withdrawFrom h p ws .answer) refl (withdraw-out (runIn ws) (unknownIn (runIn ws) p)) (withdraw-out-back (runIn ws) (unknownIn (runIn ws) p))
 
   -- of several positions together too
   pub withdraw-all-14 : (x : ℕ) → (withdrawAllFrom (decode ws) x ws .answer ≡ Refused 14 0) ↔ BufferRunOut ws

@@ -11,11 +11,11 @@ use Rattle.phase.specs.declared.Phase.{Phase}
 use Rattle.phase.specs.declared.Phase.the-variants.{Coming, Working, Resting}
 use Rattle.run.specs.Start.{startedRun}
 use Rattle.table.specs.Answer.{answerOf, byHorizon, byTasks, byWalk, endingOf, firstOut, headerNumber, lastStep}
-use Rattle.table.specs.Words.{chain, count, met, tableOf}
+use Rattle.table.specs.Words.{chain, count, visited, tableOf}
 use Rattle.plan_check.specs.Begin.{beginOf}
 use Rattle.plan_check.specs.Numbers.{differs, missed, stateOut}
 use Rattle.plan_check.specs.Plan.{cellCount}
-use Rattle.plan_check.specs.Row.{faulty, anyStranger, workedRow}
+use Rattle.plan_check.specs.Row.{faulty, anyUnknownByte, workedRow}
 use Rattle.plan_check.specs.Take.{answerAt, finalAnswer, takeAnswer, takeOf}
 use Rattle.capi.specs.Calls.{CallResult, callResult}
 use Rattle.capi.specs.Encoding.{placeWords}
@@ -92,8 +92,8 @@ released = 1 ∷ 0 ∷ 0 ∷ 0 ∷ []
 abbrev nothing : List ℕ
 nothing = 3 ∷ 0 ∷ 0 ∷ 0 ∷ []
 
-abbrev strange : List ℕ
-strange = 9 ∷ 8 ∷ 7 ∷ 6 ∷ []
+abbrev unknownByteState : List ℕ
+unknownByteState = 9 ∷ 8 ∷ 7 ∷ 6 ∷ []
 
 -- a place past the count as begin leaves it
 abbrev clear : List ℕ
@@ -120,12 +120,12 @@ lines =
     ∷ leaves "a refused beginning leaves zeros" (begins []) (lent 488) (times 6 (0 ∷ []) ++ (times 32 clear ++ (0 ∷ (times 32 nothing ++ lent 1)))) 3 1 0
     ∷ stays "begin, a word too few" (begins (one 1)) (lent 486) 4
     ∷ stays "begin, no room for an answer" (begins (one 1)) (lent 488) 2
-    ∷ leaves "a row that arrives at the last S, over words that are no phase" (takes (0 ∷ [])) (plan false (Coming 1) 0 strange) (plan false (Working 0 0 0) 1 released) 0 0 0
+    ∷ leaves "a row that arrives at the last S, over words that are no phase" (takes (0 ∷ [])) (plan false (Coming 1) 0 unknownByteState) (plan false (Working 0 0 0) 1 released) 0 0 0
     ∷ leaves "a row past it" (takes (1 ∷ [])) (plan false (Working 0 0 0) 1 released) (plan false (Resting 1) 2 released) 0 0 0
-    ∷ leaves "the same beside words that are no phase, which stay" (takes (1 ∷ [])) (plan false (Working 0 0 0) 1 strange) (plan false (Resting 1) 2 strange) 0 0 0
+    ∷ leaves "the same beside words that are no phase, which stay" (takes (1 ∷ [])) (plan false (Working 0 0 0) 1 unknownByteState) (plan false (Resting 1) 2 unknownByteState) 0 0 0
     ∷ leaves "the last row, and the plan is accepted" (takes (0 ∷ [])) (plan false (Resting 1) 2 released) (plan true (Working 0 0 0) 3 released) 6 0 0
     ∷ refuses "26 with the horizon" (0 ∷ []) (plan false (Resting 1) 2 nothing) 26 3
-    ∷ refuses "26: words that are no phase agree with none" (0 ∷ []) (plan false (Resting 1) 2 strange) 26 3
+    ∷ refuses "26: words that are no phase agree with none" (0 ∷ []) (plan false (Resting 1) 2 unknownByteState) 26 3
     ∷ refuses "25 with the horizon" (0 ∷ []) (plan false (Working 0 0 0) 2 released) 25 3
     ∷ refuses "25 with its tick" (1 ∷ []) (plan false (Working 1 0 0) 2 released) 25 2
     ∷ refuses "24 with its tick" (2 ∷ []) (plan false (Working 0 0 0) 1 released) 24 1
@@ -141,8 +141,8 @@ lines =
 
 -- every line is its value by the definitions, line by line
 computed : LineByLine computes lines lines
-unfolding times beginCall takeCall planOver notesWords notesIn holdsPlan planIn beginOf takeOf takeAnswer answerAt finalAnswer differs missed stateOut faulty anyStranger
-    workedRow cellCount startedRun answerOf byWalk byTasks byHorizon firstOut endingOf lastStep headerNumber tableOf chain count met calling
+unfolding times beginCall takeCall planOver notesWords notesIn holdsPlan planIn beginOf takeOf takeAnswer answerAt finalAnswer differs missed stateOut faulty anyUnknownByte
+    workedRow cellCount startedRun answerOf byWalk byTasks byHorizon firstOut endingOf lastStep headerNumber tableOf chain count visited calling
 computed =
     (refl, (refl, (refl, (refl, (refl, (refl, (refl, (refl, (refl, (refl, (refl, (refl, (refl, (refl, (refl, (refl, (refl, (refl, (refl, (refl, (refl, (refl, tt))))))))))))))))))))))
 

@@ -23,7 +23,7 @@ use Rattle.plan_check.specs.declared.Answer.{Answer}
 use Rattle.plan_check.specs.declared.Answer.the-variants.{Taken, Accepted, Refused}
 use Rattle.plan_check.specs.declared.Begun.{Begun}
 use Rattle.plan_check.specs.declared.Note.{Note}
-use Rattle.plan_check.specs.declared.Supplied.{Supplied}
+use Rattle.plan_check.specs.declared.SuppliedPlan.{SuppliedPlan}
 use Rattle.plan_check.specs.Begin.{beginOf, firstState}
 use Rattle.plan_check.specs.Numbers.{afterRow}
 use Rattle.plan_check.specs.Row.{workedRow, workedAt}
@@ -37,7 +37,7 @@ use Rattle.capi.specs.Supplied.{tickAt, notesAt, noteSize, noteAt, planW
 use Rattle.capi.specs.Taking.{begunIn, byTaken, takeFrom}
 use Rattle.capi.proofs.Places.{by-held, held-few, held-long}
 use Rattle.capi.proofs.Inverse.{length-to, decode-encode, few-accepted, encode-decode, held-run}
-use Rattle.capi.proofs.Kept.{FitsWord, clear-fits, fits-started, held-fits, fits-written}
+use Rattle.capi.proofs.Kept.{StoredRun, clear-fits, fits-started, held-fits, fits-written}
 use Rattle.capi.proofs.Past.{same-held}
 use Rattle.capi.proofs.Noting.{length-put, take-put, drop-put, from-put, put-next, put-same, word-read, length-notes, length-noted, take-noted, notes-back, notes-over, notes-encode}
 use Rattle.capi.proofs.Supplying.{plan-by-run, by-held-plan, plan-long, plan-run}
@@ -54,7 +54,7 @@ held-by-parts ws r long e f g =
     by-held-plan ws (plan-by-run ws long ∙ h .0) ∙ (λ i. plan (record { run = h .1 i; tick = f i; noted = g i }))
 
 -- a buffer that is decoded to a plan holds it
-pub held-plan : (ws : List ℕ) (w : Supplied) → decodePlan ws ≡ plan w → (holdsPlan ws ≡ true) × (planIn ws ≡ w)
+pub held-plan : (ws : List ℕ) (w : SuppliedPlan) → decodePlan ws ≡ plan w → (holdsPlan ws ≡ true) × (planIn ws ≡ w)
 held-plan ws w e = go (holdsPlan ws) refl
   where
     go : (t : Bool) → holdsPlan ws ≡ t → (holdsPlan ws ≡ true) × (planIn ws ≡ w)
@@ -66,11 +66,11 @@ held-plan ws w e = go (holdsPlan ws) refl
         absurd (let z : _≡_ {A = ℕ} 0 1 = cc in omega arith)
 
 -- its run is held by the same buffer
-run-held : (ws : List ℕ) (w : Supplied) → decodePlan ws ≡ plan w → decode ws ≡ run (w .run)
+run-held : (ws : List ℕ) (w : SuppliedPlan) → decodePlan ws ≡ plan w → decode ws ≡ run (w .run)
 unfolding planIn
 run-held ws w e =
     let h = held-plan ws w e in
-    by-held ws (plan-run ws (h .0)) ∙ ap (λ (v : Supplied). run (v .run)) (h .1)
+    by-held ws (plan-run ws (h .0)) ∙ ap (λ (v : SuppliedPlan). run (v .run)) (h .1)
 
 -- WORDS PUT AFTER A RUN
 
@@ -104,7 +104,7 @@ behind-run n k r ws all few far =
 abbrev notesOf : List ℕ → List Note
 notesOf ws = notesIn places (drop notesAt ws)
 
-module _ (w : Supplied) (ws : List ℕ) (f : FitsWord (w .run)) (long : planWords ≤ length ws) where
+module _ (w : SuppliedPlan) (ws : List ℕ) (f : StoredRun (w .run)) (long : planWords ≤ length ws) where
   abbrev n : ℕ
   n = w .run .count
 
@@ -186,7 +186,7 @@ module _ (w : Supplied) (ws : List ℕ) (f : FitsWord (w .run)) (long : planWord
 
 -- A ROW
 
-fits-worked : (r : Run) (row : List ℕ) → FitsWord r → FitsWord (workedRow r row)
+fits-worked : (r : Run) (row : List ℕ) → StoredRun r → StoredRun (workedRow r row)
 unfolding workedRow
 fits-worked r row f = record {
   all = length-mapFirst (workedAt r row) (r .count) (r .tasks) ∙ f .all;
@@ -195,14 +195,14 @@ fits-worked r row f = record {
 }
 
 -- the notes of a run that fits, below its count
-noted-front : (r : Run) (ns : List Note) → FitsWord r → take (r .count) (noting r ns) ≡ map noteOf (take (r .count) (r .tasks))
+noted-front : (r : Run) (ns : List Note) → StoredRun r → take (r .count) (noting r ns) ≡ map noteOf (take (r .count) (r .tasks))
 noted-front r ns f =
     let all = f .all in
     let few = f .few in
     take-at (map noteOf (take (r .count) (r .tasks))) (drop (r .count) ns) (r .count)
     (length-map (take (r .count) (r .tasks)) noteOf ∙ length-take-le (r .count) (r .tasks) (omega arith))
 
-length-noting : (r : Run) (ns : List Note) → FitsWord r → length ns ≡ places → length (noting r ns) ≡ places
+length-noting : (r : Run) (ns : List Note) → StoredRun r → length ns ≡ places → length (noting r ns) ≡ places
 length-noting r ns f e =
     let all = f .all in
     let few = f .few in
@@ -212,19 +212,19 @@ length-noting r ns f e =
     let d = length-drop (r .count) ns in
     omega arith
 
-module _ (ws : List ℕ) (w : Supplied) (row : List ℕ) (e : decodePlan ws ≡ plan w) where
+module _ (ws : List ℕ) (w : SuppliedPlan) (row : List ℕ) (e : decodePlan ws ≡ plan w) where
   long : planWords ≤ length ws
   long = plan-long ws (held-plan ws w e .0)
 
-  fits : FitsWord (workedRow (w .run) row)
+  fits : StoredRun (workedRow (w .run) row)
   fits = fits-worked (w .run) row (held-fits ws (w .run) (run-held ws w e) .0)
 
   notes : w .noted ≡ notesOf ws
   unfolding planIn
-  notes = sym (ap (λ (v : Supplied). v .noted) (held-plan ws w e .1))
+  notes = sym (ap (λ (v : SuppliedPlan). v .noted) (held-plan ws w e .1))
 
   -- the plan one tick on, which is or is not at the last S
-  abbrev arriving : Bool → Supplied
+  abbrev arriving : Bool → SuppliedPlan
   arriving t = record {
     run = workedRow (w .run) row;
     tick = afterRow w row .tick;
@@ -246,7 +246,7 @@ module _ (ws : List ℕ) (w : Supplied) (row : List ℕ) (e : decodePlan ws ≡ 
 
 -- the answer to a row on the buffer is that of the plan that it holds, and the buffer afterwards holds the plan that the row returns
 pub take-held :
-    (ws : List ℕ) (w : Supplied) (row : List ℕ) → decodePlan ws ≡ plan w
+    (ws : List ℕ) (w : SuppliedPlan) (row : List ℕ) → decodePlan ws ≡ plan w
     → (takeFrom (decodePlan ws) row ws .answer ≡ takeOf w row .answer) × (decodePlan (takeFrom (decodePlan ws) row ws .buffer) ≡ plan (takeOf w row .plan))
 unfolding takeOf
 take-held ws w row e = (
@@ -254,7 +254,7 @@ take-held ws w row e = (
   ap (λ (h : BufferPlan). decodePlan (takeFrom h row ws .buffer)) e ∙ go (takeAnswer w row),
 )
   where
-    next : Answer → Supplied
+    next : Answer → SuppliedPlan
     next a = stateByAnswer a (afterRow w row) w
 
     go : (a : Answer) → decodePlan (byTaken a (planOver (eqb (next a .tick) (startIn (next a .run))) (next a .run .count) (next a) ws) ws) ≡ plan (next a)
@@ -264,7 +264,7 @@ take-held ws w row e = (
 
 -- A WHOLE PLAN
 
-module _ (w : Supplied) (all : length (w .run .tasks) ≡ places) (many : length (w .noted) ≡ places) where
+module _ (w : SuppliedPlan) (all : length (w .run .tasks) ≡ places) (many : length (w .noted) ≡ places) where
   words-run : length (encode (w .run)) ≡ runWords
   words-run = length-to places (w .run) (omega arith)
 
@@ -314,8 +314,8 @@ module _ (w : Supplied) (all : length (w .run .tasks) ≡ places) (many : length
 -- BEGIN
 
 -- the plan that begin returns, begun or refused, is one that a buffer can hold
-pub record FitsPlan (w : Supplied) : Type 0 where
-  pub fits : FitsWord (w .run)
+pub record FitsPlan (w : SuppliedPlan) : Type 0 where
+  pub fits : StoredRun (w .run)
   pub many : length (w .noted) ≡ places
 
 fits-first : (ws : List ℕ) → startedRun (rule ws) (tableOf ws) .count ≤ places → FitsPlan (firstState ws)
@@ -359,14 +359,14 @@ begin-held ws buffer long =
 
 -- WHAT IS DECODED IS ENCODED
 
-module _ (ws : List ℕ) (narrow : getD ws 3 0 ≤ mostWord) (w : Supplied) (e : decodePlan ws ≡ plan w) where
+module _ (ws : List ℕ) (narrow : getD ws 3 0 ≤ mostWord) (w : SuppliedPlan) (e : decodePlan ws ≡ plan w) where
   moved-same : movedIn (w .run .count) w ws ≡ ws
   unfolding planIn
   moved-same =
       let h = held-plan ws w e in
       let long = plan-long ws (h .0) in
       ap (putAt tickAt (w .tick ∷ [])) (encode-decode ws narrow (w .run) (run-held ws w e))
-      ∙ (ap (λ (v : Supplied). putAt tickAt (v .tick ∷ []) ws) (sym (h .1))
+      ∙ (ap (λ (v : SuppliedPlan). putAt tickAt (v .tick ∷ []) ws) (sym (h .1))
       ∙ put-same ws (getD ws tickAt 0 ∷ []) tickAt (sym (drop-cons ws tickAt 0 (omega (arith, long)))) (omega (arith, long)))
 
   -- to encode the run and the tick again changes no word, where the fence's low number is a word, as it is in every lent buffer ..

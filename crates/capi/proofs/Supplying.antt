@@ -13,7 +13,7 @@ use Rattle.plan_check.specs.declared.Answer.the-variants.{Taken, Accepted, Refu
 use Rattle.plan_check.specs.declared.Begun.{Begun}
 use Rattle.plan_check.specs.declared.Entered.{Entered}
 use Rattle.plan_check.specs.declared.Note.{Note}
-use Rattle.plan_check.specs.declared.Supplied.{Supplied}
+use Rattle.plan_check.specs.declared.SuppliedPlan.{SuppliedPlan}
 use Rattle.plan_check.specs.Extent.{firstNumber}
 use Rattle.plan_check.specs.Begin.{beginOf}
 use Rattle.plan_check.specs.State.{startIn}
@@ -31,7 +31,7 @@ use Rattle.capi.proofs.Noting.{word-put}
 
 -- WRITTEN
 
-module _ (n : ℕ) (w : Supplied) (ws : List ℕ) where
+module _ (n : ℕ) (w : SuppliedPlan) (ws : List ℕ) where
   pub tick-over : {vs : List ℕ} → vs ≡ overwritten n (w .run) ws → tickAt < length vs → set vs tickAt (w .tick) ≡ movedIn n w ws
   tick-over {vs} e h = word-put vs tickAt (w .tick) h ∙ ap (putAt tickAt (w .tick ∷ [])) e
 
@@ -111,14 +111,14 @@ module _ (ws : List ℕ) where
 
   pub plan-read :
       {r : Run} {ns : List Note} → r ≡ runIn ws → ns ≡ notesIn places (drop notesAt ws)
-      → _≡_ {A = Supplied} (record { run = r; tick = getD ws tickAt 0; noted = ns }) (planIn ws)
+      → _≡_ {A = SuppliedPlan} (record { run = r; tick = getD ws tickAt 0; noted = ns }) (planIn ws)
   unfolding planIn
   plan-read e f = λ i. record { run = e i; tick = getD ws tickAt 0; noted = f i }
 
   module _ (row : List ℕ) where
     -- 14 and 9, whatever the row is
     pub take-extent :
-        (w : Supplied) {n : ℕ} → holdsPlan ws ≡ true → w ≡ planIn ws → n ≡ firstNumber (w .run) → ¬ (n ≡ 0)
+        (w : SuppliedPlan) {n : ℕ} → holdsPlan ws ≡ true → w ≡ planIn ws → n ≡ firstNumber (w .run) → ¬ (n ≡ 0)
         → _≡_ {A = RowTaken} (record { answer = Refused n 0; buffer = ws }) (takeFrom (decodePlan ws) row ws)
     take-extent w h e p q =
         ap (λ (k : ℕ). keptPlan (Refused k 0) w ws) p
@@ -127,7 +127,7 @@ module _ (ws : List ℕ) where
 
     -- what is kept of a row taken by the plan that the buffer holds
     pub take-kept :
-        (t : Entered) (w : Supplied) {v : RowTaken} → holdsPlan ws ≡ true → w ≡ planIn ws → t ≡ takeOf w row → v ≡ keptPlan (t .answer) (t .plan) ws
+        (t : Entered) (w : SuppliedPlan) {v : RowTaken} → holdsPlan ws ≡ true → w ≡ planIn ws → t ≡ takeOf w row → v ≡ keptPlan (t .answer) (t .plan) ws
         → v ≡ takeFrom (decodePlan ws) row ws
     take-kept t w h e p k =
         k

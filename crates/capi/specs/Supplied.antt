@@ -7,7 +7,7 @@ use lib.Dec.{leb}
 use Rattle.phase.specs.declared.Phase.{Phase}
 use Rattle.phase.specs.declared.Phase.the-variants.{Resting}
 use Rattle.plan_check.specs.declared.Note.{Note}
-use Rattle.plan_check.specs.declared.Supplied.{Supplied}
+use Rattle.plan_check.specs.declared.SuppliedPlan.{SuppliedPlan}
 use Rattle.plan_check.specs.State.{note}
 use Rattle.capi.specs.declared.run_buffer.PhaseWords.{PhaseWords}
 use Rattle.capi.specs.Encoding.{places, runWords, ofPhase, encode, overwritten, phaseOf, isPhase, holdsRun, runIn, cleared}
@@ -50,7 +50,7 @@ notesWords [] = []
 notesWords (n ∷ ns) = noteWords n ++ notesWords ns
 
 -- a plan in words: the run with all its places, the tick, and all notes
-unfoldable pub encodePlan : Supplied → List ℕ
+unfoldable pub encodePlan : SuppliedPlan → List ℕ
 encodePlan w = encode (w .run) ++ (w .tick ∷ notesWords (w .noted))
 
 -- a buffer after these words are written into it from word n on: the words before and after them stay
@@ -58,11 +58,11 @@ abbrev pub putAt : ℕ → List ℕ → List ℕ → List ℕ
 putAt n vs ws = (take n ws ++ vs) ++ drop (n + length vs) ws
 
 -- a buffer after the head and the first n places of a plan's run, and its tick, are written into it ..
-abbrev pub movedIn : ℕ → Supplied → List ℕ → List ℕ
+abbrev pub movedIn : ℕ → SuppliedPlan → List ℕ → List ℕ
 movedIn n w ws = putAt tickAt (w .tick ∷ []) (overwritten n (w .run) ws)
 
 -- .. and its first n notes, where they are to be written too
-unfoldable pub planOver : Bool → ℕ → Supplied → List ℕ → List ℕ
+unfoldable pub planOver : Bool → ℕ → SuppliedPlan → List ℕ → List ℕ
 planOver noting n w ws = cond noting (putAt notesAt (notesWords (take n (w .noted))) (movedIn n w ws)) (movedIn n w ws)
 
 -- THE DECODING
@@ -94,12 +94,12 @@ unfoldable pub holdsPlan : List ℕ → Bool
 holdsPlan ws = leb planWords (length ws) && holdsRun ws
 
 -- the plan at the front of the buffer
-unfoldable pub planIn : List ℕ → Supplied
+unfoldable pub planIn : List ℕ → SuppliedPlan
 planIn ws = record { run = runIn ws; tick = getD ws tickAt 0; noted = notesIn places (drop notesAt ws) }
 
 -- the plan that a buffer holds, or none
 pub data BufferPlan : Type 0 where
-  plan : Supplied → BufferPlan
+  plan : SuppliedPlan → BufferPlan
   none : BufferPlan
 
 -- the plan where it holds one
@@ -107,5 +107,5 @@ abbrev pub decodePlan : List ℕ → BufferPlan
 decodePlan ws = cond (holdsPlan ws) (plan (planIn ws)) none
 
 -- a plan with the places of its run past the count cleared
-abbrev pub clearedPlan : Supplied → Supplied
+abbrev pub clearedPlan : SuppliedPlan → SuppliedPlan
 clearedPlan w = record { run = cleared (w .run); tick = w .tick; noted = w .noted }

@@ -6,7 +6,7 @@ use lib.Dec.{leb, eqb}
 use lib.ListN.{length}
 use Rattle.plan_check.specs.declared.Answer.{Answer}
 use Rattle.plan_check.specs.declared.Answer.the-variants.{Taken, Accepted, Refused}
-use Rattle.plan_check.specs.declared.Supplied.{Supplied}
+use Rattle.plan_check.specs.declared.SuppliedPlan.{SuppliedPlan}
 use Rattle.plan_check.specs.Begin.{beginOf}
 use Rattle.plan_check.specs.State.{startIn}
 use Rattle.plan_check.specs.Take.{takeOf}
@@ -45,7 +45,7 @@ byTaken Accepted a b = a
 byTaken (Refused n t) a b = b
 
 -- the plan that a row returns, with the places below its count, and those notes where it arrives at the last S; a refusal leaves the buffer as found
-abbrev pub keptPlan : Answer → Supplied → List ℕ → RowTaken
+abbrev pub keptPlan : Answer → SuppliedPlan → List ℕ → RowTaken
 keptPlan a w ws = record { answer = a; buffer = byTaken a (planOver (eqb (w .tick) (startIn (w .run))) (w .run .count) w ws) ws }
 
 -- a row taken by the plan that a buffer holds; 14 where it holds none

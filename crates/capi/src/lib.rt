@@ -22,7 +22,7 @@ mod plan_buffer; // plan_buffer.rt: a supplied plan in a lent buffer of words
 mod answer_words; // answer_words.rt: an answer in three words
 
 // The version of the library as one number: major * 10000 + minor * 100 + patch.
-const VERSION: u32 = 1700;
+const VERSION: u32 = 1800;
 
 // The version of the library that is linked; the header has its own.
 #[no_mangle]
@@ -327,7 +327,7 @@ pub extern "C" fn sivorandra_slack(words: &[u32], figures: &mut [u32], answer: &
 // The plan of a table's words from the supplier's own planner as it begins, all its words, into the front of `plan`: case 0, or 3 Refused number position
 // and the plan of all zeros.
 #[no_mangle]
-pub extern "C" fn sivorandra_begin(words: &[u32], plan: &mut [u32], answer: &mut [u32]) -> u32
+pub extern "C" fn sivorandra_check_begin(words: &[u32], plan: &mut [u32], answer: &mut [u32]) -> u32
     ensures { λ r. ⌜ record { value = r; lent = now (plan .exit) ∷ (now (answer .exit) ∷ []) } ≡ beginCall (now (words .entry)) (now (plan .entry)) (now (answer .entry)) ⌝ }
 {
     if answer.len() < 3 {
@@ -348,7 +348,7 @@ pub extern "C" fn sivorandra_begin(words: &[u32], plan: &mut [u32], answer: &mut
 // The row of the plan's present tick, one byte a core, as the supplier has it: case 0 taken, 6 taken as the last, and the whole plan accepted; or
 // 3 Refused number tick and `plan` as found; 14 where `plan` holds no plan.
 #[no_mangle]
-pub extern "C" fn sivorandra_take(plan: &mut [u32], row: &[u8], answer: &mut [u32]) -> u32
+pub extern "C" fn sivorandra_check_row(plan: &mut [u32], row: &[u8], answer: &mut [u32]) -> u32
     ensures { λ r. ⌜ record { value = r; lent = now (plan .exit) ∷ (now (answer .exit) ∷ []) } ≡ takeCall (now (plan .entry)) (now (row .entry)) (now (answer .entry)) ⌝ }
 {
     if answer.len() < 3 {

@@ -14,7 +14,7 @@ use phase::Phase;
 use plan_check::Answer;
 use plan_check::Entered;
 use plan_check::Note;
-use plan_check::Supplied;
+use plan_check::SuppliedPlan;
 
 // The index of the tick: right after the run.
 const TICK: usize = run_buffer::WORDS;
@@ -75,7 +75,7 @@ fn put_notes(noted: [Note; run_buffer::PLACES], shown: usize, words: &mut [u32])
 }
 
 // Writes the head and the first `shown` places of the run, the tick, and where they are recorded the first `shown` notes; all else stays.
-pub(crate) fn put_plan(plan: Supplied, shown: usize, noting: bool, words: &mut [u32])
+pub(crate) fn put_plan(plan: SuppliedPlan, shown: usize, noting: bool, words: &mut [u32])
     requires { ⌜ (shown ≤ places) × (planWords ≤ length (now words)) ⌝ }
     ensures { λ r. ⌜ now (words .exit) ≡ planOver noting shown plan (now (words .entry)) ⌝ }
 {
@@ -125,13 +125,13 @@ fn notes_in(words: &[u32]) -> [Note; run_buffer::PLACES]
 }
 
 // The plan at the front of the buffer.
-fn plan_in(words: &[u32]) -> Supplied
+fn plan_in(words: &[u32]) -> SuppliedPlan
     requires { ⌜ (planWords ≤ length (now words)) × (countIn (now words) ≤ places) ⌝ }
     ensures { λ r. ⌜ r ≡ planIn (now (words .entry)) ⌝ }
 {
     let run = run_buffer::run_in(words);
     let noted = notes_in(words);
-    Supplied {
+    SuppliedPlan {
         run: run,
         tick: words[TICK],
         noted: noted,

@@ -1,4 +1,4 @@
--- What one place, a pass and all passes leave of a set. THEOREM (passes-settle): as many passes as tasks are enough.
+-- What one place, a pass and all passes leave of a set. THEOREM (passes-stable): as many passes as tasks are enough.
 use mathlib.Core.Bool.{Bool, cond, false, false≢true, true, _&&_}
 use mathlib.Core.Logic.{⊎-elim}
 use mathlib.Core.Path.{ap, refl, subst, sym, _∙_, _≡_}
@@ -9,7 +9,7 @@ use lib.Dec.{eqb}
 use lib.ListN.{length}
 use lib.Pow.{pow-pos}
 use borrow.Author.Tests.{eq-eqb, eqb-false, eqb-true}
-use Rattle.model.proofs.Digits.{Without, bit-past, bit-suc, bit-zero, odd-half}
+use Rattle.model.proofs.Digits.{BitCleared, bit-past, bit-suc, bit-zero, odd-half}
 use Rattle.model.proofs.Digits as digits
 use Rattle.model.specs.Search.{bit}
 use Rattle.model.specs.Task.{Table}
@@ -29,10 +29,10 @@ module _ (s : Table) where
     falls : y ≤ x
     fewer : size y ≤ size x
     same : size y ≡ size x → y ≡ x
-    clash-kept : conflicts s x ≡ true → conflicts s y ≡ true
+    miss-kept : conflicts s x ≡ true → conflicts s y ≡ true
 
   left-all : (x : ℕ) → Left x x
-  left-all x = record { falls = le-refl x; fewer = le-refl (size x); same = λ h. refl; clash-kept = λ h. h }
+  left-all x = record { falls = le-refl x; fewer = le-refl (size x); same = λ h. refl; miss-kept = λ h. h }
 
   left-then : (x y z : ℕ) → Left x y → Left y z → Left x z
   left-then x y z a b = record {
@@ -41,7 +41,7 @@ module _ (s : Table) where
     same = λ h.
         let e : y ≡ x = a .same (omega (arith, a .fewer, b .fewer)) in
         b .same (h ∙ ap size (sym e)) ∙ e;
-    clash-kept = λ h. b .clash-kept (a .clash-kept h);
+    miss-kept = λ h. b .miss-kept (a .miss-kept h);
   }
 
   -- a place that is kept, left out
@@ -51,7 +51,7 @@ module _ (s : Table) where
   size-without : (x p : ℕ) → p < n → bit x p ≡ true → suc (size (withoutPlace x p)) ≡ size x
   size-without x p l e =
       rw (without-kept x p e)
-      (chosen-less (bit x) (bit (x - 2 ^ p)) (s .tasks) p l e (digits.withWithdrawn x p e .others))
+      (chosen-less (bit x) (bit (x - 2 ^ p)) (s .tasks) p l e (digits.clear-bit x p e .others))
 
   -- one place by its cases: it is dropped, it is needed, or it is not kept
   pub dropped-drops : (p x : ℕ) → bit x p ≡ true → conflicts s (x - 2 ^ p) ≡ true → dropped s p x ≡ x - 2 ^ p
@@ -87,14 +87,14 @@ module _ (s : Table) where
     where
       go : (t : Bool) → bit x p ≡ t → (u : Bool) → conflicts s (withoutPlace x p) ≡ u → DropStep p x (cond (t && u) (withoutPlace x p) x)
       go true e true c =
-          let w : Without x p = digits.withWithdrawn x p e in
+          let w : BitCleared x p = digits.clear-bit x p e in
           let less : suc (size (withoutPlace x p)) ≡ size x = size-without x p l e in
           let is : withoutPlace x p ≡ x - 2 ^ p = without-kept x p e in record {
             left = record {
               falls = omega arith;
               fewer = omega arith;
               same = λ h. absurd (omega arith);
-              clash-kept = λ h. c;
+              miss-kept = λ h. c;
             };
             needed = λ h. absurd (omega (arith, w .within, pow-pos p));
           }
@@ -153,11 +153,11 @@ module _ (s : Table) where
   -- as many passes as tasks left are enough: one more drops nothing
   record Done (x y : ℕ) : Type 0 where
     left : Left x y
-    settled : pass s n y ≡ y
+    stable : pass s n y ≡ y
 
   done : (m x : ℕ) → size x ≤ m → Done x (passes s m x)
   unfolding passes
-  done zero x l = record { left = left-all x; settled = a .same (omega (arith, a .fewer)) }
+  done zero x l = record { left = left-all x; stable = a .same (omega (arith, a .fewer)) }
     where
       a : Left x (pass s n x)
       a = passing n (le-refl n) x .left
@@ -167,10 +167,10 @@ module _ (s : Table) where
       y = pass s n x
 
       go : (t : Bool) → eqb y x ≡ t → (size y ≤ m → Done y (passes s m y)) → Done x (cond t x (passes s m y))
-      go true e ih = record { left = left-all x; settled = eqb-true y x e }
+      go true e ih = record { left = left-all x; stable = eqb-true y x e }
       go false e ih =
           let d = ih (omega (arith, pass-fewer x (eqb-false y x e))) in
-          record { left = left-then x y (passes s m y) (passing n (le-refl n) x .left) (d .left); settled = d .settled }
+          record { left = left-then x y (passes s m y) (passing n (le-refl n) x .left) (d .left); stable = d .stable }
 
   -- ---- the whole table
 
@@ -210,16 +210,16 @@ module _ (s : Table) where
   going-on x (suc m, l, e) d = (m, omega (arith, l, pass-fewer x d), sym (passes-step m x d) ∙ e)
 
   -- THEOREM: as many passes as tasks are enough, one more drops nothing
-  pub passes-settle : pass s (length (s .tasks)) (conflictSet s) ≡ conflictSet s
-  passes-settle = all-done .settled
+  pub passes-stable : pass s (length (s .tasks)) (conflictSet s) ≡ conflictSet s
+  passes-stable = all-done .stable
 
   -- what misses goes on to miss
   pub passes-keep : conflicts s (allPlaces s) ≡ true → conflicts s (conflictSet s) ≡ true
-  passes-keep h = all-done .left .clash-kept h
+  passes-keep h = all-done .left .miss-kept h
 
   -- where a pass drops nothing, each place is needed
-  pub settled-needed : (x : ℕ) → pass s n x ≡ x → (p : ℕ) → p < n → bit x p ≡ true → conflicts s (withoutPlace x p) ≡ false
-  settled-needed x e = passing n (le-refl n) x .needed e
+  pub stable-needed : (x : ℕ) → pass s n x ≡ x → (p : ℕ) → p < n → bit x p ≡ true → conflicts s (withoutPlace x p) ≡ false
+  stable-needed x e = passing n (le-refl n) x .needed e
 
   -- no place past the count is left
   pub conflict-past : (p : ℕ) → length (s .tasks) ≤ p → bit (conflictSet s) p ≡ false

@@ -8,7 +8,7 @@ use Rattle.model.proofs.Examples.{on, t}
 use Rattle.model.specs.Task.{Table, greedy}
 use Rattle.table.proofs.Examples.{chained, wordsA}
 use Rattle.table.specs.Answer.{answerOf, byHorizon, byTasks, byWalk, endingOf, firstOut, headerNumber, lastStep}
-use Rattle.table.specs.Words.{chain, count, met, tableOf}
+use Rattle.table.specs.Words.{chain, count, visited, tableOf}
 use Rattle.judge.specs.Judged.{verdictOf}
 use Rattle.conflict.specs.declared.ConflictAnswer.{ConflictAnswer}
 use Rattle.conflict.specs.Answer.{conflictOf, givenConflict, noConflict}
@@ -110,12 +110,12 @@ lines =
 -- every line is its value by the definitions
 pub examples : map worked lines ≡ lines
 unfolding conflictOf conflictSet passes pass dropped conflicts chosen verdictOf chained answerOf byWalk byTasks byHorizon firstOut endingOf lastStep headerNumber
-    tableOf chain count met computing
+    tableOf chain count visited computing
 examples = refl
 
 -- the words of positions 2 and 3, and of none
 pub relinked-words :
     (relinked (fourth 1) 6 ≡ header 2 2 1 ++ entry 2 0 1 1 1 2 ++ entry 3 0 2 1 2 2 ++ entry 0 0 1 1 1 2 ++ entry 0 0 1 1 2 3)
     × (relinked (fourth 1) 0 ≡ 0 ∷ drop 1 (fourth 1))
-unfolding relinked linked chosen chain count met computing
+unfolding relinked linked chosen chain count visited computing
 relinked-words = (refl, refl)

@@ -15,7 +15,7 @@ use Rattle.table.proofs.Exact.{passed-exact}
 use Rattle.table.proofs.Passed.{passed-valid}
 use Rattle.table.specs.Numbers.{NoneApplies}
 use Rattle.table.specs.Words.{tableOf}
-use Rattle.judge.proofs.Promise.{judged-exact, passed-is}
+use Rattle.judge.proofs.Contract.{judged-exact, passed-is}
 use Rattle.judge.specs.declared.Verdict.{Verdict}
 use Rattle.judge.specs.declared.Verdict.the-variants.{Firm, Full, Miss, Refused}
 use Rattle.judge.specs.Judged.{Judged, verdictOf}

@@ -9,6 +9,6 @@ pub mod Linked
 pub mod Relinked
 pub mod Linking
 pub mod Judging
-pub mod Promise
+pub mod Contract
 pub mod OffChain
 pub mod Examples

@@ -16,7 +16,7 @@ use Rattle.table.proofs.Tasks.{chain-at, chain-length}
 use Rattle.table.proofs.Walk.{ends-there, five-decides, last-ends, last-reached, six-decides}
 use Rattle.table.specs.Answer.{againAt, lastStep, pastAt}
 use Rattle.table.specs.Numbers.{EndAt, NoneApplies, Reaches, WordsOut}
-use Rattle.table.specs.Words.{chain, count, headerWords, met, recordWords, records, word}
+use Rattle.table.specs.Words.{chain, count, headerWords, visited, recordWords, records, word}
 use Rattle.conflict.specs.SubTable.{chosen}
 use Rattle.conflict.specs.Relinked.{linked, mostWords, nextWordAt}
 use Rattle.conflict.proofs.Chosen.{chosen-all}
@@ -125,10 +125,10 @@ module _ (ws : List ℕ) (none : NoneApplies ws) where
   chain-reached = subst (Reaches ws) (sym (ends-there ws (lastStep ws) (last-reached ws) (last-ends ws no-past no-again))) (last-reached ws)
 
   -- its records are among those of the table
-  pub chain-in : (k : ℕ) → k < count ws → (1 ≤ met ws k) × (met ws k ≤ records ws)
+  pub chain-in : (k : ℕ) → k < count ws → (1 ≤ visited ws k) × (visited ws k ≤ records ws)
   chain-in k l =
-      let a : ¬ (met ws k ≡ 0) = chain-reached k l .0 in
-      let b : ¬ (records ws < met ws k) = chain-reached k l .1 in
+      let a : ¬ (visited ws k ≡ 0) = chain-reached k l .0 in
+      let b : ¬ (records ws < visited ws k) = chain-reached k l .1 in
       omega arith
 
   pub chain-all : All (λ n. (1 ≤ n) × (n ≤ records ws)) (chain ws)

@@ -13,7 +13,7 @@ use Rattle.model.specs.Sizes.{mostTasks}
 use Rattle.table.proofs.Passed.{passed-count}
 use Rattle.table.proofs.Tasks.{chain-at, chain-length, table-length}
 use Rattle.table.specs.Numbers.{NoneApplies}
-use Rattle.table.specs.Words.{chain, count, head, met, next, records}
+use Rattle.table.specs.Words.{chain, count, head, visited, next, records}
 use Rattle.conflict.specs.SubTable.{chosen}
 use Rattle.conflict.specs.Relinked.{linked, nextWordAt, relinked}
 use Rattle.conflict.proofs.Linked.{chain-ends, chain-in, next-inside}
@@ -25,7 +25,7 @@ rest ws x k = chosen (λ q. bit x (k + q)) (drop k (chain ws))
 rest-start : (ws : List ℕ) (x : ℕ) → rest ws x 0 ≡ chosen (bit x) (chain ws)
 rest-start ws x = ap (λ (f : ℕ → Bool). chosen f (chain ws)) (fun-ext (λ q. ap (bit x) (zero-add q)))
 
-rest-more : (ws : List ℕ) (x k : ℕ) → k < count ws → rest ws x k ≡ cond (bit x k) (met ws k ∷ rest ws x (suc k)) (rest ws x (suc k))
+rest-more : (ws : List ℕ) (x k : ℕ) → k < count ws → rest ws x k ≡ cond (bit x k) (visited ws k ∷ rest ws x (suc k)) (rest ws x (suc k))
 unfolding chosen
 rest-more ws x k l =
     ap (chosen (λ q. bit x (k + q))) (drop-cons (chain ws) k 0 (omega (arith, chain-length ws)))
@@ -47,12 +47,12 @@ rest-end ws x = ap (chosen (λ q. bit x (count ws + q))) (drop-of-length-le (cha
 -- the walk has come to this place of the chain; word `link` is to name the next record kept
 pub record Linking (ws : List ℕ) (x : ℕ) (copy : List ℕ) (link place number : ℕ) : Type 0 where
   pub within : place ≤ count ws
-  pub here : number ≡ met ws place
+  pub here : number ≡ visited ws place
   pub inside : link < length ws
   pub linking : linked link (rest ws x place) (take (length ws) copy) ≡ relinked ws x
 
 pub linking-start : (ws : List ℕ) (x : ℕ) (copy : List ℕ) → 0 < length ws → take (length ws) copy ≡ ws → Linking ws x copy 0 0 (head ws)
-unfolding relinked met
+unfolding relinked visited
 linking-start ws x copy l e = record {
   within = omega arith;
   here = refl;
@@ -65,7 +65,7 @@ module _ (ws : List ℕ) (none : NoneApplies ws) (x : ℕ) (copy : List ℕ) (li
   pub linking-room : 0 < number → place < count ws
   linking-room h =
       ⊎-elim
-      (λ (e : place ≡ count ws). absurd (let z : met ws place ≡ 0 = ap (met ws) e ∙ chain-ends ws none in omega (arith, w .here)))
+      (λ (e : place ≡ count ws). absurd (let z : visited ws place ≡ 0 = ap (visited ws) e ∙ chain-ends ws none in omega (arith, w .here)))
       (λ (e : place < count ws). e) (eq-or-lt-of-le (w .within))
 
   -- the place is one of 32
@@ -80,7 +80,7 @@ module _ (ws : List ℕ) (none : NoneApplies ws) (x : ℕ) (copy : List ℕ) (li
 
   -- a record that is kept
   pub linking-kept : 0 < number → bit x place ≡ true → Linking ws x (set copy link number) (nextWordAt number) (suc place) (next ws number)
-  unfolding linked met
+  unfolding linked visited
   linking-kept h e = record {
     within = linking-room h;
     here = ap (next ws) (w .here);
@@ -93,12 +93,12 @@ module _ (ws : List ℕ) (none : NoneApplies ws) (x : ℕ) (copy : List ℕ) (li
       these : rest ws x place ≡ number ∷ rest ws x (suc place)
       these =
           rest-more ws x place (linking-room h)
-          ∙ (ap (λ (b : Bool). cond b (met ws place ∷ rest ws x (suc place)) (rest ws x (suc place))) e
+          ∙ (ap (λ (b : Bool). cond b (visited ws place ∷ rest ws x (suc place)) (rest ws x (suc place))) e
           ∙ ap (λ (n : ℕ). n ∷ rest ws x (suc place)) (sym (w .here)))
 
   -- one that is dropped
   pub linking-dropped : 0 < number → bit x place ≡ false → Linking ws x copy link (suc place) (next ws number)
-  unfolding met
+  unfolding visited
   linking-dropped h e = record {
     within = linking-room h;
     here = ap (next ws) (w .here);
@@ -109,7 +109,7 @@ module _ (ws : List ℕ) (none : NoneApplies ws) (x : ℕ) (copy : List ℕ) (li
       these : rest ws x place ≡ rest ws x (suc place)
       these =
           rest-more ws x place (linking-room h)
-          ∙ ap (λ (b : Bool). cond b (met ws place ∷ rest ws x (suc place)) (rest ws x (suc place))) e
+          ∙ ap (λ (b : Bool). cond b (visited ws place ∷ rest ws x (suc place)) (rest ws x (suc place))) e
 
   -- the end of the chain
   pub linking-end : number ≡ 0 → take (length ws) (set copy link 0) ≡ relinked ws x

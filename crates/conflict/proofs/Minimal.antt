@@ -11,14 +11,14 @@ use Rattle.model.specs.Task.{AllValid, Table}
 use Rattle.conflict.specs.Conflict.{Minimal, allPlaces, conflictSet, conflicts}
 use Rattle.conflict.specs.SubTable.{withoutPlace}
 use Rattle.conflict.proofs.Chosen.{chosen-some}
-use Rattle.conflict.proofs.Dropping.{conflict-past, passes-keep, passes-settle, settled-needed, whole-part}
+use Rattle.conflict.proofs.Dropping.{conflict-past, passes-keep, passes-stable, stable-needed, whole-part}
 use Rattle.conflict.proofs.Still.{conflicts-left, conflicts-never, conflicts-some, missed-conflicts}
 
 pub conflict-minimal : (s : Table) → AllValid s → (p t : ℕ) → Missed s p t → Minimal s (conflictSet s)
 conflict-minimal s ok p t m = record {
   some = chosen-some (bit (conflictSet s)) (s .tasks) (conflicts-left s ok (conflictSet s) still);
   misses = conflicts-some s ok (conflictSet s) still;
-  needed = λ q e. conflicts-never s ok (withoutPlace (conflictSet s) q) (settled-needed s (conflictSet s) (passes-settle s) q (within q e) e);
+  needed = λ q e. conflicts-never s ok (withoutPlace (conflictSet s) q) (stable-needed s (conflictSet s) (passes-stable s) q (within q e) e);
 }
   where
     still : conflicts s (conflictSet s) ≡ true

@@ -10,7 +10,7 @@ use Rattle.table.specs.Answer.{answerOf}
 use Rattle.table.specs.OffChain.{SameOnChain}
 use Rattle.table.specs.Words.{tableOf}
 use Rattle.judge.proofs.OffChain.{off-chain-verdict}
-use Rattle.judge.proofs.Promise.{refused-is}
+use Rattle.judge.proofs.Contract.{refused-is}
 use Rattle.judge.specs.declared.Verdict.{Verdict}
 use Rattle.judge.specs.Judged.{verdictOf}
 use Rattle.conflict.specs.Answer.{conflictBy, conflictOf}

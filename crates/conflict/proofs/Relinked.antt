@@ -23,7 +23,7 @@ use Rattle.table.specs.Answer.{againAt, lastStep, pastAt}
 use Rattle.table.specs.Limits.{CoresOut, FenceOut, RuleOut, TimesOut, WidthOut}
 use Rattle.table.specs.Numbers.{AgainAt, Applies, EndAt, NoneApplies, PastAt, Reaches}
 use Rattle.table.specs.Numbers.{eight, five, four, nine, nineteen, one, seven, six, three, two}
-use Rattle.table.specs.Words.{chain, coreCount, count, fence, fenceOf, field, head, headerWords, met, next, recordWords, records}
+use Rattle.table.specs.Words.{chain, coreCount, count, fence, fenceOf, field, head, headerWords, visited, next, recordWords, records}
 use Rattle.table.specs.Words.{tableOf, taskAt, taskOfRecord, word}
 use Rattle.conflict.specs.SubTable.{chosen, subTable}
 use Rattle.conflict.specs.Relinked.{nextWordAt, relinked}
@@ -95,10 +95,10 @@ module _ (ws : List ℕ) (none : NoneApplies ws) (x : ℕ) where
       λ i. record { offset = one i; oddWidth = two i; length = three i; deadline = four i; period = five i; evenWidth = six i }
 
   -- the walk meets the records kept, and then the zero
-  met-kept : (k : ℕ) → k ≤ length ns → met us k ≡ getD ns k 0
-  unfolding met
-  met-kept zero l = unfold relinked in linked-first 0 ns ws (omega (arith, long)) (λ q m e. omega arith)
-  met-kept (suc k) l = ap (next us) (met-kept k (omega arith)) ∙ behind
+  visited-kept : (k : ℕ) → k ≤ length ns → visited us k ≡ getD ns k 0
+  unfolding visited
+  visited-kept zero l = unfold relinked in linked-first 0 ns ws (omega (arith, long)) (λ q m e. omega arith)
+  visited-kept (suc k) l = ap (next us) (visited-kept k (omega arith)) ∙ behind
     where
       behind : next us (getD ns k 0) ≡ getD ns (suc k) 0
       behind =
@@ -106,15 +106,15 @@ module _ (ws : List ℕ) (none : NoneApplies ws) (x : ℕ) where
           ∙ (unfold relinked in linked-next 0 ns ws (length ws) (le-refl (length ws)) records-there records-differ k l)
 
   ends-kept : EndAt us (length ns)
-  ends-kept = met-kept (length ns) (le-refl (length ns)) ∙ List·getD-eq-default ns 0 (le-refl (length ns))
+  ends-kept = visited-kept (length ns) (le-refl (length ns)) ∙ List·getD-eq-default ns 0 (le-refl (length ns))
 
   reaches-kept : Reaches us (length ns)
   reaches-kept j l =
-      let m : met us j ≡ getD ns j 0 = met-kept j (omega arith) in
+      let m : visited us j ≡ getD ns j 0 = visited-kept j (omega arith) in
       let h = records-in j l in (
         λ e. omega (arith, m, h),
         λ e. omega (arith, m, h, same-records),
-        λ a. distinct-at ns records-differ (a .0) j (a .1) l (sym (met-kept (a .0) (omega (arith, a .1))) ∙ (a .2 ∙ m)),
+        λ a. distinct-at ns records-differ (a .0) j (a .1) l (sym (visited-kept (a .0) (omega (arith, a .1))) ∙ (a .2 ∙ m)),
       )
 
   count-kept : count us ≡ length ns
@@ -125,7 +125,7 @@ module _ (ws : List ℕ) (none : NoneApplies ws) (x : ℕ) where
   chain-kept =
       ext-getD 0 (chain us) ns (chain-length us ∙ count-kept)
       (λ i l. let m : i < length ns = omega (arith, chain-length us, count-kept) in
-      chain-at us i 0 (omega (arith, count-kept)) ∙ met-kept i (omega arith))
+      chain-at us i 0 (omega (arith, count-kept)) ∙ visited-kept i (omega arith))
 
   tasks-kept : tableOf us .tasks ≡ subTable (tableOf ws) x .tasks
   unfolding tableOf
@@ -182,8 +182,8 @@ module _ (ws : List ℕ) (none : NoneApplies ws) (x : ℕ) where
   sooner = subst (λ (s : Table). horizon s ≤ horizon (tableOf ws)) (sym part-table) (part-fewer (tableOf ws) (passed-valid ws none) x .sooner)
 
   head-kept : head us ≡ getD ns 0 0
-  unfolding met
-  head-kept = met-kept 0 (omega arith)
+  unfolding visited
+  head-kept = visited-kept 0 (omega arith)
 
   some-kept : 0 < length (subTable (tableOf ws) x .tasks) → 0 < length ns
   some-kept l = omega (arith, l, ap {B = ℕ} length tasks-kept, table-length us, count-kept)
@@ -206,8 +206,8 @@ module _ (ws : List ℕ) (none : NoneApplies ws) (x : ℕ) where
 
   -- the empty part is refused by 4
   pub part-empty : (length (subTable (tableOf ws) x .tasks) ≡ 0) → Applies us 4 0
-  unfolding met
-  part-empty e = four (sym (ap (met us) nothing) ∙ ends-kept)
+  unfolding visited
+  part-empty e = four (sym (ap (visited us) nothing) ∙ ends-kept)
     where
       nothing : length ns ≡ 0
       nothing = omega (arith, e, ap {B = ℕ} length tasks-kept, table-length us, count-kept)

@@ -44,7 +44,7 @@ passes s (suc m) x = cond (eqb (pass s (length (s .tasks)) x) x) x (passes s m (
 abbrev pub allPlaces : Table → ℕ
 allPlaces s = 2 ^ length (s .tasks) - 1
 
--- THE ANSWER: what the passes leave of the whole table. As many passes as tasks are enough (`passes-settle`)
+-- THE ANSWER: what the passes leave of the whole table. As many passes as tasks are enough (`passes-stable`)
 unfoldable pub conflictSet : Table → ℕ
 conflictSet s = passes s (length (s .tasks)) (allPlaces s)
 

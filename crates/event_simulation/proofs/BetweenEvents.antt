@@ -16,10 +16,10 @@ use Rattle.model.specs.Grants.{some}
 use Rattle.model.specs.Book.{Job, Book, claims, full, served, taskClaims, widths, grantsOf, inRow}
 use Rattle.model.proofs.Runs.{full-tick, full-claimed, full-next}
 use Rattle.model.proofs.Grants.{grants-length}
-use Rattle.simulation.specs.PlaceRelation.{PlaceTiedAt}
+use Rattle.simulation.specs.PlaceRelation.{PlaceRelatedAt}
 use Rattle.simulation.specs.Machine.{Machine}
 use Rattle.simulation.proofs.Lines.{lineOn}
-use Rattle.simulation.proofs.Place.{tied-claims, pass-tied}
+use Rattle.simulation.proofs.Place.{related-claims, pass-related}
 use Rattle.event_simulation.specs.Event.{Event, NoEventBetween, Ends, SameAllocation}
 use Rattle.event_simulation.specs.EventState.{PlaceRepresents, MachineRepresents}
 use Rattle.event_simulation.proofs.Between.{SameNewest, ends-at, ends-by, newest-stays, same-claims}
@@ -90,16 +90,16 @@ module _
 
     -- place p at tick u, j ticks after t
     abbrev At : ℕ → ℕ → ℕ → Type 0
-    At u j p = PlaceTiedAt (task s p) (suc u) (full s u .job p) (afterHandling j p) (cond (c p) (M p) (N p)) (N p) (c p)
+    At u j p = PlaceRelatedAt (task s p) (suc u) (full s u .job p) (afterHandling j p) (cond (c p) (M p) (N p)) (N p) (c p)
 
     -- it claims as it did at t
     claims-is : (u j p : ℕ) → p < length (s .tasks) → At u j p → taskClaims s (full s u) p ≡ c p
     claims-is u j p l a =
         subst (λ (x : ℕ). claims (s .rule) (task s p) (newest (task s p) x) x (full s u .job p (newest (task s p) x)) ≡ c p) (sym (full-tick s u))
-        (tied-claims (s .rule) (task s p) (ok p l) u (full s u .job p) (full-claimed s u p) (afterHandling j p) (cond (c p) (M p) (N p)) (N p) (c p) a)
+        (related-claims (s .rule) (task s p) (ok p l) u (full s u .job p) (full-claimed s u p) (afterHandling j p) (cond (c p) (M p) (N p)) (N p) (c p) a)
 
     start : (p : ℕ) → p < length (s .tasks) → At t 0 p
-    start p l = subst (λ (x : ℕ). PlaceTiedAt (task s p) (suc t) (full s t .job p) x (cond (c p) (M p) (N p)) (N p) (c p)) (same (granted p)) (h .places p l .tied)
+    start p l = subst (λ (x : ℕ). PlaceRelatedAt (task s p) (suc t) (full s t .job p) x (cond (c p) (M p) (N p)) (N p) (c p)) (same (granted p)) (h .places p l .related)
       where
         same : (g : Bool) → L p ≡ cond g (L p - 0) (L p)
         same true = omega arith
@@ -120,10 +120,10 @@ module _
 
     -- the tick u at place p
     ticked : (u j : ℕ) → SameNewest s t u → ((p : ℕ) → p < length (s .tasks) → At u j p) → (p : ℕ) → p < length (s .tasks)
-        → PlaceTiedAt (task s p) (suc u) (full s (suc u) .job p) (cond (granted p) (L p - suc j) (L p))
+        → PlaceRelatedAt (task s p) (suc u) (full s (suc u) .job p) (cond (granted p) (L p - suc j) (L p))
         (cond (c p && not (granted p && eqb (afterHandling j p) 1)) (M p) (N p)) (N p) (c p && not (granted p && eqb (afterHandling j p) 1))
     ticked u j new a p l =
-        subst₂ (λ (js : ℕ → Job) (x : ℕ). PlaceTiedAt (task s p) (suc u) js x (cond c′ (M p) (N p)) (N p) c′)
+        subst₂ (λ (js : ℕ → Job) (x : ℕ). PlaceRelatedAt (task s p) (suc u) js x (cond c′ (M p) (N p)) (N p) c′)
         (ap (λ (w : Bool). lineOn (s .rule) (task s p) u w (full s u .job p)) (sym (same-at u j new a p)) ∙ line-next s u p)
         (one-less (granted p) (L p) j)
         (tick-represents (s .rule) (task s p) (ok p l) u (full s u .job p) (full-claimed s u p) (afterHandling j p) (M p) (N p) (c p) (granted p) (a p l))
@@ -136,8 +136,8 @@ module _
     no-event zero b p l = subst (λ (u : ℕ). At u 0 p) (sym (add-zero t)) (start p l)
     no-event (suc j) b p l =
         subst (λ (u : ℕ). At u (suc j) p) (sym (add-suc t j))
-        (pass-tied (task s p) (suc (t + j)) (full s (suc (t + j)) .job p) (afterHandling (suc j) p) (cond (c p) (M p) (N p)) (N p) (c p)
-        (subst (λ (x : Bool). PlaceTiedAt (task s p) (suc (t + j)) (full s (suc (t + j)) .job p) (afterHandling (suc j) p) (cond x (M p) (N p)) (N p) x) still
+        (pass-related (task s p) (suc (t + j)) (full s (suc (t + j)) .job p) (afterHandling (suc j) p) (cond (c p) (M p) (N p)) (N p) (c p)
+        (subst (λ (x : Bool). PlaceRelatedAt (task s p) (suc (t + j)) (full s (suc (t + j)) .job p) (afterHandling (suc j) p) (cond x (M p) (N p)) (N p) x) still
         (ticked (t + j) j (newest-is j (omega arith)) (λ q i. no-event j (omega arith) q i) p l))
         (λ e. absurd (omega (arith, near p l, event-least (task s p) (suc t) (full s t .job p) (L p) (M p) (N p) (c p) (h .places p l)))))
       where
@@ -195,10 +195,10 @@ module _
         → PlaceRepresents (task s p) (suc (t + j)) (full s (suc (t + j)) .job p) (cond (granted p) (L p - suc j) (L p)) (M p) (N p)
         (c p && not (granted p && eqb (L p) (suc j)))
     landed j e p l = record {
-      tied =
+      related =
           subst
           (λ (x : Bool).
-          PlaceTiedAt (task s p) (suc (t + j)) (full s (suc (t + j)) .job p) (cond (granted p) (L p - suc j) (L p)) (cond (c p && not x) (M p) (N p)) (N p) (c p && not x))
+          PlaceRelatedAt (task s p) (suc (t + j)) (full s (suc (t + j)) .job p) (cond (granted p) (L p - suc j) (L p)) (cond (c p && not x) (M p) (N p)) (N p) (c p && not x))
           (is-last (granted p) (L p) j (λ g. let q = short p g in omega arith))
           (ticked (t + j) j (newest-is j (omega arith)) (no-event j (omega arith)) p l);
       ahead = upcoming-later (task s p) (suc t) (suc (t + j)) (M p) (N p) (h .places p l .ahead) (omega arith) (omega (arith, near p l));

@@ -50,8 +50,8 @@ due-none t ms = record {
 }
 
 -- where no event is t no place is due
-pub due-empty : (t n : ℕ) (ms : List ℕ) → ((p : ℕ) → p < n → getD ms p 0 ≡ t → ⊥) → 0 ≡ dueAt t n ms
-due-empty t n ms away = due-one t n ms 0 (record { small = omega arith; bits = λ p. bit-none p ∙ sym (go p (ltb p n) refl) })
+pub no-place-due : (t n : ℕ) (ms : List ℕ) → ((p : ℕ) → p < n → getD ms p 0 ≡ t → ⊥) → 0 ≡ dueAt t n ms
+no-place-due t n ms away = due-one t n ms 0 (record { small = omega arith; bits = λ p. bit-none p ∙ sym (go p (ltb p n) refl) })
   where
     go : (p : ℕ) (x : Bool) → ltb p n ≡ x → ltb p n && eqb (getD ms p 0) t ≡ false
     go p true e =

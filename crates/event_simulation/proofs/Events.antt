@@ -34,9 +34,9 @@ module _ (t : Loaded) (fit : Fit t) where
   n = loadedNumbers t
 
   -- before tick 0
-  standing : MachineRepresents book 0 0 (started (map (λ x. x .offset) (t .tasks)))
+  initially : MachineRepresents book 0 0 (started (map (λ x. x .offset) (t .tasks)))
   unfolding full
-  standing = record {
+  initially = record {
     sized = record { left = refl; event = simp length-map (fit .places); next = simp length-map (fit .places) };
     places = λ p l.
         same-represents (task book p) 0 (emptyBook .job p)
@@ -51,7 +51,7 @@ module _ (t : Loaded) (fit : Fit t) where
 
   pub initial-represents : StateRepresents t (initialEventState t)
   initial-represents = record {
-    machines = standing;
+    machines = initially;
     dues = refl;
     next-event = refl;
     parity = toggled-start book (fit .valid) (map (λ x. x .offset) (t .tasks)) (n .paired) (columns t fit .offsets) (paired t fit);

@@ -16,11 +16,11 @@ use Rattle.model.proofs.Runs.{missed-at}
 use Rattle.simulation.specs.Places.{mapPlaces, setWhere}
 use Rattle.simulation.specs.Machine.{Machine, machine, withRelease, Sized}
 use Rattle.simulation.specs.TickState.{toggledBy}
-use Rattle.simulation.specs.PlaceRelation.{PlaceTiedAt, WidthParity}
+use Rattle.simulation.specs.PlaceRelation.{PlaceRelatedAt, WidthParity}
 use Rattle.simulation.proofs.Places.{each-length, each-at, each-none, each-still, each-more}
 use Rattle.simulation.proofs.Sets.{set-has, set-lt, set-past, set-is, toggled-bit}
 use Rattle.simulation.proofs.Place.{overdue-has, overdue-is}
-use Rattle.simulation.proofs.Tied.{Ready, Columns}
+use Rattle.simulation.proofs.MachineRelated.{Ready, Columns}
 use Rattle.simulation.proofs.WidthParity.{WidthToggled, Paired, parity-due}
 use Rattle.event_simulation.specs.EventState.{PlaceRepresents, PlaceRepresentsAt, MachineRepresents}
 use Rattle.event_simulation.specs.Jump.{handled, releasesAt, handledAll}
@@ -142,17 +142,17 @@ module _
 -- a place at its event with ticks left has a job that is due and has not ended
 pub late-has :
     (τ : Task) (t : ℕ) (js : ℕ → Job) (l m n : ℕ) (c : Bool) → PlaceRepresents τ t js l m n c → m ≡ t → 0 < l → (k : ℕ) × (due τ k ≡ t) × (js k .ended ≡ false)
-late-has τ t js l m n true h at some = overdue-has τ t js l m n true (h .tied) at some
-late-has τ t js l m n false h at some = absurd (omega (arith, h .tied .none))
+late-has τ t js l m n true h at some = overdue-has τ t js l m n true (h .related) at some
+late-has τ t js l m n false h at some = absurd (omega (arith, h .related .none))
 
 -- a place that has such a job is at its event, with ticks left
 pub late-is :
     (τ : Task) → ValidTask τ → (t : ℕ) (js : ℕ → Job) (l m n : ℕ) (c : Bool) → PlaceRepresents τ t js l m n c → (k : ℕ) → due τ k ≡ t → js k .ended ≡ false
     → (m ≡ t) × (0 < l)
-late-is τ ok t js l m n true h k d o = overdue-is τ ok t js l m n true (h .tied) t k (omega arith) d o
+late-is τ ok t js l m n true h k d o = overdue-is τ ok t js l m n true (h .related) t k (omega arith) d o
 late-is τ ok t js l m n false h k d o =
-    let x = overdue-is τ ok t js l n n false (h .tied) t k (omega arith) d o in
-    absurd (omega (arith, x .1, h .tied .none))
+    let x = overdue-is τ ok t js l n n false (h .related) t k (omega arith) d o in
+    absurd (omega (arith, x .1, h .related .none))
 
 -- THE RUN AFTER THE DUE PLACES ARE HANDLED
 
@@ -259,7 +259,7 @@ handled-parity s ok t m m′ q e h h′ two turns p l =
     (parity-due (task s p) (ok p l) t (full s t .job p)
     (getD (m .left) p 0) (cond (bit (m .claiming) p) (getD (m .event) p 0) (getD (m .next) p 0)) (getD (m .next) p 0)
     (getD (m′ .left) p 0) (cond (bit (m′ .claiming) p) (getD (m′ .event) p 0) (getD (m′ .next) p 0)) (getD (m′ .next) p 0)
-    (bit (m .claiming) p) (bit (m′ .claiming) p) (bit e p) (bit q p) (h .places p l .tied) (h′ .places p l .tied) (two p l) (turns p l))
+    (bit (m .claiming) p) (bit (m′ .claiming) p) (bit e p) (bit q p) (h .places p l .related) (h′ .places p l .related) (two p l) (turns p l))
 
 -- THE MACHINE OF CRATE SIMULATION: a place that does not claim has its next release for its event
 
@@ -275,9 +275,9 @@ handled-ready s t m few h = record {
     next = h .sized .next;
   };
   done = λ p l b.
-      subst (λ (x : ℕ). PlaceTiedAt (task s p) (suc t) (full s t .job p) (getD (m .left) p 0) x (getD (m .next) p 0) (bit (m .claiming) p))
+      subst (λ (x : ℕ). PlaceRelatedAt (task s p) (suc t) (full s t .job p) (getD (m .left) p 0) x (getD (m .next) p 0) (bit (m .claiming) p))
       (sym (each-at (λ p d. cond (bit (m .claiming) p) d (getD (m .next) p 0)) (m .event) p (omega (arith, h .sized .event, le-trans l few))))
-      (h .places p l .tied);
+      (h .places p l .related);
   waiting = λ p l b. absurd (omega arith);
   beyond = h .beyond;
 }

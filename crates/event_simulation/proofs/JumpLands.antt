@@ -23,7 +23,7 @@ use Rattle.rule.specs.Widths.{widthsIn}
 use Rattle.simulation.specs.Machine.{Machine}
 use Rattle.simulation.specs.TickState.{Numbers, loadedNumbers, choice}
 use Rattle.simulation.proofs.SameClaimants.{Agrees, all-agree, row-places, row-owed}
-use Rattle.simulation.proofs.Tied.{Ready}
+use Rattle.simulation.proofs.MachineRelated.{Ready}
 use Rattle.simulation.proofs.WidthParity.{WidthToggled}
 use Rattle.judge.specs.Judged.{loadedTable, Fit}
 use Rattle.judge.proofs.Ticks.{size, few, columns, paired}
@@ -32,7 +32,7 @@ use Rattle.event_simulation.specs.Event.{Event, NoEventBetween}
 use Rattle.event_simulation.specs.EventState.{EventState, PlaceRepresents, PlaceRepresentsAt, MachineRepresents, StateRepresents, dueAt, earliestOf, MetBefore}
 use Rattle.event_simulation.specs.Jump.{handledAll, GrantedOwe, elapsed, afterHandling, nextEventAhead, evenInJump, choiceKeptInJump, grantedInJump, ticksInJump, jumped, JumpStarts, JumpLands}
 use Rattle.event_simulation.proofs.Between.{same-between}
-use Rattle.event_simulation.proofs.DuePlaces.{due-is, due-empty, earliest-below, earliest-event}
+use Rattle.event_simulation.proofs.DuePlaces.{due-is, no-place-due, earliest-below, earliest-event}
 use Rattle.event_simulation.proofs.Handled.{late-is, none-due, handled-represents, handled-parity, plain, handled-ready}
 use Rattle.event_simulation.proofs.Passing.{passed-sized, passed-left, passed-claims, passed-past}
 use Rattle.event_simulation.proofs.BetweenEvents.{row-inside, none-between, ends, landed}
@@ -91,9 +91,9 @@ module _ (t : Loaded) (fit : Fit t) (s : EventState) (h : StateRepresents t s) w
     k = ticksInJump n s
 
     -- once its due events have been handled
-    pub seen : MachineRepresents book (s .tick) (suc (s .tick)) m
+    pub represents-handled : MachineRepresents book (s .tick) (suc (s .tick)) m
     unfolding afterHandling
-    seen = go (eqb (s .due) 0) refl
+    represents-handled = go (eqb (s .due) 0) refl
       where
         go : (b : Bool) → eqb (s .due) 0 ≡ b
             → MachineRepresents book (s .tick) (suc (s .tick)) (cond b (s .machine) (handledAll (s .tick) (bit (s .due)) (n .lengths) (n .deadlines) (n .periods) (s .machine)))
@@ -108,7 +108,7 @@ module _ (t : Loaded) (fit : Fit t) (s : EventState) (h : StateRepresents t s) w
     -- a place that is released has turned to its other width
     handled : WidthToggled book m even
     unfolding evenInJump
-    handled = handled-parity book (fit .valid) (s .tick) (s .machine) m (n .paired) (s .even) (h .machines) seen (paired t fit) (h .parity)
+    handled = handled-parity book (fit .valid) (s .tick) (s .machine) m (n .paired) (s .even) (h .machines) represents-handled (paired t fit) (h .parity)
 
     -- the next event is the earliest event to come
     next-event-is : nextEvent ≡ earliestOf (t .count) (m .event)
@@ -130,7 +130,7 @@ module _ (t : Loaded) (fit : Fit t) (s : EventState) (h : StateRepresents t s) w
         (r .0, omega (arith, r .1, size t fit), r .2 ∙ sym next-event-is)
 
     pub before : s .tick < nextEvent
-    before = let r = rings in omega (arith, r .2, seen .places (r .0) (r .1) .ahead .from)
+    before = let r = rings in omega (arith, r .2, represents-handled .places (r .0) (r .1) .ahead .from)
 
     -- THE PLACES THAT ARE GRANTED CORES
 
@@ -146,7 +146,7 @@ module _ (t : Loaded) (fit : Fit t) (s : EventState) (h : StateRepresents t s) w
         go false e = refl
 
     ready : Ready book (s .tick) (plain m)
-    ready = handled-ready book (s .tick) m (few t fit) seen
+    ready = handled-ready book (s .tick) m (few t fit) represents-handled
 
     -- the widths are those of the jobs that claim
     agree : Agrees book (s .tick) (plain m) (widthsIn even (n .widths))
@@ -178,7 +178,7 @@ module _ (t : Loaded) (fit : Fit t) (s : EventState) (h : StateRepresents t s) w
     near p l = omega (arith, short .within, before, next-event-below p l)
 
     none : NoEventBetween book (s .tick) (s .tick + k)
-    none = none-between book (fit .valid) (s .tick) m seen (bit g) row k (short .below) near
+    none = none-between book (fit .valid) (s .tick) m represents-handled (bit g) row k (short .below) near
 
     last : k ≡ suc (k - 1)
     last = omega (arith, some)
@@ -191,11 +191,11 @@ module _ (t : Loaded) (fit : Fit t) (s : EventState) (h : StateRepresents t s) w
         (λ (z : k ≡ nextEvent - s .tick).
         let r = rings in
         let p = r .0 in
-        let x = seen .places p (r .1) .ahead .marked in
+        let x = represents-handled .places p (r .1) .ahead .marked in
         let u : getD (m .event) p 0 ≡ s .tick + k = omega (arith, r .2, before) in
         (p, x .0, r .1, ⊎-elim (λ q. inl (q ∙ u)) (λ q. inr (inl (q ∙ u))) (x .1)))
         (λ (z : (p : ℕ) × (bit g p ≡ true) × (k ≡ getD (m .left) p 0)).
-        subst (Event book) over (ends book (fit .valid) (s .tick) m seen (bit g) row k (short .below) near (k - 1) last (z .0) (z .1) (z .2)))
+        subst (Event book) over (ends book (fit .valid) (s .tick) m represents-handled (bit g) row k (short .below) near (k - 1) last (z .0) (z .1) (z .2)))
         (short .reached)
 
     -- WHERE IT ENDS
@@ -209,9 +209,9 @@ module _ (t : Loaded) (fit : Fit t) (s : EventState) (h : StateRepresents t s) w
         (getD (there .left) p 0) (cond (bit g p) (getD (m .left) p 0 - k) (getD (m .left) p 0))
         (getD (there .event) p 0) (getD (m .event) p 0) (getD (there .next) p 0) (getD (m .next) p 0)
         (bit (there .claiming) p) (bit (m .claiming) p && not (bit g p && eqb (getD (m .left) p 0) k))
-        (passed-left k (bit g) m (seen .sized) p (le-trans l (few t fit))) same-event same-next (passed-claims k (bit g) m p (le-trans l (few t fit)))
+        (passed-left k (bit g) m (represents-handled .sized) p (le-trans l (few t fit))) same-event same-next (passed-claims k (bit g) m p (le-trans l (few t fit)))
         (subst₂ At over (sym last)
-        (landed book (fit .valid) (s .tick) m seen (bit g) row k (short .below) near (k - 1) last p l))
+        (landed book (fit .valid) (s .tick) m represents-handled (bit g) row k (short .below) near (k - 1) last p l))
       where
         At : ℕ → ℕ → Type 0
         At u x =
@@ -224,12 +224,12 @@ module _ (t : Loaded) (fit : Fit t) (s : EventState) (h : StateRepresents t s) w
         same-next : getD (there .next) p 0 ≡ getD (m .next) p 0
         same-next = unfold elapsed in refl
 
-    standing : MachineRepresents book (s .tick + k) (s .tick + k) there
-    standing = record { sized = passed-sized k (bit g) m (seen .sized); places = place; beyond = λ p q. go p q (leb 32 p) refl }
+    initially : MachineRepresents book (s .tick + k) (s .tick + k) there
+    initially = record { sized = passed-sized k (bit g) m (represents-handled .sized); places = place; beyond = λ p q. go p q (leb 32 p) refl }
       where
         go : (p : ℕ) → length (book .tasks) ≤ p → (x : Bool) → leb 32 p ≡ x → bit (there .claiming) p ≡ false
         go p q true x = passed-past k (bit g) m p (leb-true 32 p x)
-        go p q false x = passed-claims k (bit g) m p (leb-false 32 p x) ∙ rw (seen .beyond p q)
+        go p q false x = passed-claims k (bit g) m p (leb-false 32 p x) ∙ rw (represents-handled .beyond p q)
 
     -- before the next event no place is due
     dues : cond (eqb (s .tick + k) nextEvent) (dueAt (s .tick + k) (t .count) (m .event)) 0 ≡ dueAt (s .tick + k) (t .count) (m .event)
@@ -238,7 +238,7 @@ module _ (t : Loaded) (fit : Fit t) (s : EventState) (h : StateRepresents t s) w
         go : (b : Bool) → eqb (s .tick + k) nextEvent ≡ b → cond b (dueAt (s .tick + k) (t .count) (m .event)) 0 ≡ dueAt (s .tick + k) (t .count) (m .event)
         go true e = refl
         go false e =
-            due-empty (s .tick + k) (t .count) (m .event)
+            no-place-due (s .tick + k) (t .count) (m .event)
             (λ p l x. eqb-false (s .tick + k) nextEvent e (omega (arith, short .within, before, next-event-below p (omega (arith, size t fit)))))
 
     -- no deadline is missed on the way, since a deadline is an event
@@ -256,7 +256,7 @@ module _ (t : Loaded) (fit : Fit t) (s : EventState) (h : StateRepresents t s) w
     unfolding jumped elapsed
     lands = record {
       next = record { after = omega (arith, some); event = event; first = none };
-      represents = record { machines = standing; dues = dues; next-event = next-event-is; parity = handled; kept = kept; met = met-there };
+      represents = record { machines = initially; dues = dues; next-event = next-event-is; parity = handled; kept = kept; met = met-there };
       same = λ w a b. same-between book (fit .valid) (s .tick) (s .tick + k) none w a b;
     }
 

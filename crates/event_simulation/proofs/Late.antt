@@ -27,17 +27,17 @@ use Rattle.event_simulation.proofs.Sets.{lowest, others, Off, off-turn}
 use Rattle.event_simulation.proofs.Represents.{none-left}
 
 -- what is left of the due places to be handled: the others have no tick left
-pub record Looking (m : Machine) (due rest : ℕ) : Type 0 where
+pub record RemainingDue (m : Machine) (due rest : ℕ) : Type 0 where
   pub within : (q : ℕ) → bit rest q ≡ true → bit due q ≡ true
   pub seen : (q : ℕ) → bit due q ≡ true → bit rest q ≡ false → getD (m .left) q 0 ≡ 0
   pub small : rest < 2 ^ 32
 
-module _ (m : Machine) (due rest : ℕ) (h : Looking m due rest) (some : 0 < rest) where
+module _ (m : Machine) (due rest : ℕ) (h : RemainingDue m due rest) (some : 0 < rest) where
   pub at-lowest : Off due rest
   at-lowest = off-turn due rest some (h .small) (h .within)
 
   -- the lowest of them has no tick left
-  pub walk-passes : getD (m .left) (lowest rest) 0 ≤ 0 → Looking m due (others rest)
+  pub walk-passes : getD (m .left) (lowest rest) 0 ≤ 0 → RemainingDue m due (others rest)
   walk-passes none = record {
     within = at-lowest .subset;
     seen = λ q e f. go q e f (eqb q (lowest rest)) refl;
@@ -59,7 +59,7 @@ module _ (t : Loaded) (fit : Fit t) (s : EventState) (h : StateRepresents t s) w
   book = loadedTable t
 
   -- at first the due places that do not claim are left out: they have no tick left
-  pub walk-begins : Looking (s .machine) (s .due) (bitAnd (s .machine .claiming) (s .due))
+  pub walk-begins : RemainingDue (s .machine) (s .due) (bitAnd (s .machine .claiming) (s .due))
   walk-begins = record {
     within = λ q e.
         and-right (bit (s .machine .claiming) q) (bit (s .due) q) (sym (and-bit (s .machine .claiming) (s .due) q) ∙ e);
@@ -77,7 +77,7 @@ module _ (t : Loaded) (fit : Fit t) (s : EventState) (h : StateRepresents t s) w
 
   -- the first that is found with ticks left is the first miss
   pub walk-misses :
-      (rest : ℕ) → Looking (s .machine) (s .due) rest → 0 < rest → 0 < getD (s .machine .left) (lowest rest) 0
+      (rest : ℕ) → RemainingDue (s .machine) (s .due) rest → 0 < rest → 0 < getD (s .machine .left) (lowest rest) 0
       → FirstMiss book (s .tick) (lowest rest + 1)
   walk-misses rest k some owed = record {
     place = (p, add-one p);
@@ -102,7 +102,7 @@ module _ (t : Loaded) (fit : Fit t) (s : EventState) (h : StateRepresents t s) w
       inside = due-inside t fit s h p on
 
   -- none of them has ticks left
-  pub walk-ends : (rest : ℕ) → Looking (s .machine) (s .due) rest → rest ≤ 0 → (q : ℕ) → ¬ Missed book q (s .tick)
+  pub walk-ends : (rest : ℕ) → RemainingDue (s .machine) (s .due) rest → rest ≤ 0 → (q : ℕ) → ¬ Missed book q (s .tick)
   walk-ends rest k none q x =
       let y = missed-due t fit s h q x in
       let z : rest ≡ 0 = omega arith in

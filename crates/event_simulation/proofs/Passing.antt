@@ -8,7 +8,7 @@ use lib.ListN.{length, getD, set}
 use lib.Dec.{eqb}
 use borrow.Author.Tests.{eqb-true, eqb-false}
 use Rattle.model.specs.Search.{bit}
-use Rattle.model.proofs.Digits.{Without, withWithdrawn}
+use Rattle.model.proofs.Digits.{BitCleared, clear-bit}
 use Rattle.simulation.specs.Places.{mapPlaces, setWhere}
 use Rattle.simulation.specs.Machine.{Machine, machine, Sized}
 use Rattle.simulation.proofs.Places.{each-length, each-at, each-none, each-still, each-more}
@@ -107,8 +107,8 @@ module _ (k : ℕ) (f g : ℕ → Bool) (m : Machine) (p : ℕ) (off : f p ≡ f
       G : ℕ → Bool
       G q = bit (m .claiming) q && not (g q && eqb (getD (m .left) q 0) k)
 
-      out : Without (setWhere 32 F) p
-      out = withWithdrawn (setWhere 32 F) p (set-has 32 F p h ∙ rw (c, off))
+      out : BitCleared (setWhere 32 F) p
+      out = clear-bit (setWhere 32 F) p (set-has 32 F p h ∙ rw (c, off))
 
       bits : (q : ℕ) → q < 32 → bit (setWhere 32 F - 2 ^ p) q ≡ G q
       bits q l =

@@ -8,7 +8,7 @@ use lib.Dec.{eqb}
 use borrow.Author.Tests.{eq-eqb, ne-eqb}
 use Rattle.model.specs.Search.{bit}
 use Rattle.model.proofs.Bools.{and-left}
-use Rattle.model.proofs.Digits.{shifted-one, bit-none, Without, withWithdrawn}
+use Rattle.model.proofs.Digits.{shifted-one, bit-none, BitCleared, clear-bit}
 use Rattle.model.proofs.Digits as digits
 
 -- the places of a set that are off what is left of it
@@ -66,8 +66,8 @@ module _ (all rest : ℕ) (some : 0 < rest) (fits : rest < 2 ^ 32) (subset : (q 
   one : digit rest ≡ 2 ^ lowest rest
   one = shifted-one 32 (lowest rest) (low .place)
 
-  out-of : Without rest (lowest rest)
-  out-of = withWithdrawn rest (lowest rest) here
+  out-of : BitCleared rest (lowest rest)
+  out-of = clear-bit rest (lowest rest) here
 
   rest-bits : (q : ℕ) → bit (others rest) q ≡ bit rest q && not (eqb q (lowest rest))
   rest-bits q = ap (λ (b : ℕ). bit b q) (low .after) ∙ out-of .others q

@@ -20,29 +20,29 @@ use Rattle.event_simulation.specs.EventState.{EventState, dueAt, earlies
 use Rattle.event_simulation.specs.Jump.{handledAll, leastLeft, elapsed, afterHandling, nextEventAhead, evenInJump, choiceKeptInJump, grantedInJump, ticksInJump, jumped}
 
 module _ (n : Numbers) (s : EventState) where
-  abbrev seen : Machine
-  seen = handledAll (s .tick) (bit (s .due)) (n .lengths) (n .deadlines) (n .periods) (s .machine)
+  abbrev handledTo : Machine
+  handledTo = handledAll (s .tick) (bit (s .due)) (n .lengths) (n .deadlines) (n .periods) (s .machine)
 
-  after-by : (b : Bool) → eqb (s .due) 0 ≡ b → cond b (s .machine) seen ≡ afterHandling n s
+  after-by : (b : Bool) → eqb (s .due) 0 ≡ b → cond b (s .machine) handledTo ≡ afterHandling n s
   unfolding afterHandling
-  after-by b e = ap (λ (x : Bool). cond x (s .machine) seen) (sym e)
+  after-by b e = ap (λ (x : Bool). cond x (s .machine) handledTo) (sym e)
 
   next-event-by : (b : Bool) → eqb (s .due) 0 ≡ b → cond b (s .event) (earliestOf (n .count) (afterHandling n s .event)) ≡ nextEventAhead n s
   unfolding nextEventAhead
   next-event-by b e = ap (λ (x : Bool). cond x (s .event) (earliestOf (n .count) (afterHandling n s .event))) (sym e)
 
   -- what the due places leave: the machine, the earliest event to come, and the places at their second width
-  pub record Seen (m′ : Machine) (bell′ even′ : ℕ) : Type 0 where
+  pub record Seen (m′ : Machine) (event′ even′ : ℕ) : Type 0 where
     pub machines : m′ ≡ afterHandling n s
-    pub event : bell′ ≡ nextEventAhead n s
+    pub event : event′ ≡ nextEventAhead n s
     pub even : even′ ≡ evenInJump n s
 
   -- the due places are handled
   pub due-handled :
-      (m′ : Machine) (bell′ : ℕ) → 0 < s .due → m′ ≡ seen → bell′ ≡ earliestOf (n .count) (m′ .event)
-      → Seen m′ bell′ (toggledBy (n .paired) (s .even) (s .machine .claiming) (m′ .claiming))
+      (m′ : Machine) (event′ : ℕ) → 0 < s .due → m′ ≡ handledTo → event′ ≡ earliestOf (n .count) (m′ .event)
+      → Seen m′ event′ (toggledBy (n .paired) (s .even) (s .machine .claiming) (m′ .claiming))
   unfolding evenInJump
-  due-handled m′ bell′ l d b =
+  due-handled m′ event′ l d b =
       let e = ne-eqb (s .due) 0 (λ z. absurd (omega arith)) in
       let x : m′ ≡ afterHandling n s = d ∙ after-by false e in
       record {

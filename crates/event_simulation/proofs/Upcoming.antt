@@ -28,8 +28,8 @@ upcoming-start τ O e = record {
 }
 
 -- over ticks up to the event
-pub upcoming-later : (τ : Task) (seen seen′ m n : ℕ) → UpcomingEvent τ seen m n → seen ≤ seen′ → seen′ ≤ m → UpcomingEvent τ seen′ m n
-upcoming-later τ seen seen′ m n h a b = record {
+pub upcoming-later : (τ : Task) (handledTo seen′ m n : ℕ) → UpcomingEvent τ handledTo m n → handledTo ≤ seen′ → seen′ ≤ m → UpcomingEvent τ seen′ m n
+upcoming-later τ handledTo seen′ m n h a b = record {
   from = b;
   marked = h .marked;
   first = λ u c x. h .first u (omega arith) x;

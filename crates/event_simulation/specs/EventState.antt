@@ -14,7 +14,7 @@ use Rattle.model.specs.Book.{Job, full, Missed}
 use Rattle.table.specs.declared.Loaded.{Loaded}
 use Rattle.simulation.specs.Places.{setWhere}
 use Rattle.simulation.specs.Machine.{Machine, machineOf, started, Sized}
-use Rattle.simulation.specs.PlaceRelation.{PlaceTiedAt, WidthParity}
+use Rattle.simulation.specs.PlaceRelation.{PlaceRelatedAt, WidthParity}
 use Rattle.simulation.specs.TickState.{pairedIn, loadedNumbers, choice}
 use Rattle.judge.specs.Judged.{loadedTable}
 use Rattle.event_simulation.specs.declared.state.Registers.{Registers}
@@ -63,34 +63,34 @@ initialEventState t = record {
   even = pairedIn (t .tasks);
 }
 
--- WHAT THE NUMBERS MEAN. `seen` is the tick where its due events have not been handled yet, and one more where they have
+-- WHAT THE NUMBERS MEAN. `handledTo` is the tick where its due events have not been handled yet, and one more where they have
 
 -- a job of the task is released at u, or is due at u
 abbrev pub ReleaseOrDeadline : Task → ℕ → Type 0
 ReleaseOrDeadline τ u = (k : ℕ) × ((release τ k ≡ u) ⊎ (due τ k ≡ u))
 
--- m is the first tick from `seen` on that is marked, and n is no later than any release from `seen` on
-pub record UpcomingEvent (τ : Task) (seen m n : ℕ) : Type 0 where
-  pub from : seen ≤ m
+-- m is the first tick from `handledTo` on that is marked, and n is no later than any release from `handledTo` on
+pub record UpcomingEvent (τ : Task) (handledTo m n : ℕ) : Type 0 where
+  pub from : handledTo ≤ m
   pub marked : ReleaseOrDeadline τ m
-  pub first : (u : ℕ) → seen ≤ u → ReleaseOrDeadline τ u → m ≤ u
-  pub next : (k : ℕ) → seen ≤ release τ k → n ≤ release τ k
+  pub first : (u : ℕ) → handledTo ≤ u → ReleaseOrDeadline τ u → m ≤ u
+  pub next : (k : ℕ) → handledTo ≤ release τ k → n ≤ release τ k
 
 -- a place: l ticks are left, m is its event, n its next release, c is true if it claims. While it claims its event is the deadline of the job that
 -- it works on, which has had what is not left; else every job released so far has ended
-pub record PlaceRepresents (τ : Task) (seen : ℕ) (js : ℕ → Job) (l m n : ℕ) (c : Bool) : Type 0 where
-  pub tied : PlaceTiedAt τ seen js l (cond c m n) n c
-  pub ahead : UpcomingEvent τ seen m n
+pub record PlaceRepresents (τ : Task) (handledTo : ℕ) (js : ℕ → Job) (l m n : ℕ) (c : Bool) : Type 0 where
+  pub related : PlaceRelatedAt τ handledTo js l (cond c m n) n c
+  pub ahead : UpcomingEvent τ handledTo m n
 
 -- place p of the machine at tick t
 abbrev pub PlaceRepresentsAt : Table → ℕ → ℕ → Machine → ℕ → Type 0
-PlaceRepresentsAt s t seen m p =
-    PlaceRepresents (task s p) seen (full s t .job p) (getD (m .left) p 0) (getD (m .event) p 0) (getD (m .next) p 0) (bit (m .claiming) p)
+PlaceRepresentsAt s t handledTo m p =
+    PlaceRepresents (task s p) handledTo (full s t .job p) (getD (m .left) p 0) (getD (m .event) p 0) (getD (m .next) p 0) (bit (m .claiming) p)
 
 -- every place, and past them none claims
-pub record MachineRepresents (s : Table) (t seen : ℕ) (m : Machine) : Type 0 where
+pub record MachineRepresents (s : Table) (t handledTo : ℕ) (m : Machine) : Type 0 where
   pub sized : Sized m
-  pub places : (p : ℕ) → p < length (s .tasks) → PlaceRepresentsAt s t seen m p
+  pub places : (p : ℕ) → p < length (s .tasks) → PlaceRepresentsAt s t handledTo m p
   pub beyond : (p : ℕ) → length (s .tasks) ≤ p → bit (m .claiming) p ≡ false
 
 -- no deadline is missed before tick u

@@ -9,7 +9,7 @@ use Rattle.table.specs.declared.Answer.the-variants.{Passed}
 use Rattle.table.specs.declared.Loaded.{Loaded}
 use Rattle.table.specs.Answer.{answerOf, byHorizon, byTasks, byWalk, endingOf, firstOut, headerNumber, lastStep}
 use Rattle.table.specs.Task.{noTask}
-use Rattle.table.specs.Words.{chain, count, met, tableOf}
+use Rattle.table.specs.Words.{chain, count, visited, tableOf}
 use Rattle.judge.specs.declared.Verdict.the-variants.{Firm, Full, Miss, Refused}
 use Rattle.judge.specs.Judged.{acceptedOf, verdictOf}
 
@@ -61,20 +61,20 @@ late r = 1 ∷ 1 ∷ r ∷ 0 ∷ 0 ∷ 2 ∷ 0 ∷ 1 ∷ 1 ∷ 2 ∷ 2 ∷ 1 ∷
 
 -- rules 3 and 4 have the same verdict: S and P, or the miss
 pub same-firm : (verdictOf (met-all 3) ≡ Firm 0 3) × (verdictOf (met-all 4) ≡ Firm 0 3)
-unfolding computing verdictOf answerOf byWalk byTasks byHorizon firstOut endingOf lastStep headerNumber tableOf chain count met
+unfolding computing verdictOf answerOf byWalk byTasks byHorizon firstOut endingOf lastStep headerNumber tableOf chain count visited
 same-firm = (refl, refl)
 
 pub same-over :
     (verdictOf (passed-over 1) ≡ Full 0 4) × (verdictOf (passed-over 2) ≡ Miss 2 3)
     × (verdictOf (passed-over 3) ≡ Firm 0 4) × (verdictOf (passed-over 4) ≡ Firm 0 4)
-unfolding computing verdictOf answerOf byWalk byTasks byHorizon firstOut endingOf lastStep headerNumber tableOf chain count met
+unfolding computing verdictOf answerOf byWalk byTasks byHorizon firstOut endingOf lastStep headerNumber tableOf chain count visited
 same-over = (refl, refl, refl, refl)
 
 pub same-miss : (verdictOf (late 3) ≡ Miss 2 2) × (verdictOf (late 4) ≡ Miss 2 2)
-unfolding computing verdictOf answerOf byWalk byTasks byHorizon firstOut endingOf lastStep headerNumber tableOf chain count met
+unfolding computing verdictOf answerOf byWalk byTasks byHorizon firstOut endingOf lastStep headerNumber tableOf chain count visited
 same-miss = (refl, refl)
 
 -- there is no rule 5
 pub no-rule-5 : verdictOf (met-all 5) ≡ Refused 3 0
-unfolding computing verdictOf answerOf byWalk byTasks byHorizon firstOut endingOf lastStep headerNumber tableOf chain count met
+unfolding computing verdictOf answerOf byWalk byTasks byHorizon firstOut endingOf lastStep headerNumber tableOf chain count visited
 no-rule-5 = refl

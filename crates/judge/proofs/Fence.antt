@@ -11,7 +11,7 @@ use Rattle.table.proofs.UnfencedWords.{unfenced-passes, unfenced-table}
 use Rattle.table.proofs.Exact.{passed-exact}
 use Rattle.judge.specs.JudgeAnswer.{judged, verdictCase}
 use Rattle.judge.specs.Judged.{verdictOf}
-use Rattle.judge.proofs.Promise.{passed-is}
+use Rattle.judge.proofs.Contract.{passed-is}
 
 -- THE THEOREM, of the words of a table
 pub fence-judged : (ws : List ℕ) → NoneApplies ws → verdictOf ws ≡ verdictOf (unfencedWords ws)

@@ -55,24 +55,24 @@ module _ (s : Table) (ok : AllValid s) where
       rw (some, tick, place, f .place .1)
 
   -- what is found meets its contract
-  settled :
+  determined :
       (b : ℕ) (m : missed.Missed) → m ≡ missedBefore s b
       → ((t p : ℕ) → missMeaning m ≡ firstAt t p → FirstMiss s t p × (t < b)) → (missMeaning m ≡ noMiss → (p t : ℕ) → t < b → ¬ Missed s p t)
       → MissedOf s b m
-  settled b m e first none = record {
+  determined b m e first none = record {
     value = e;
     first = λ t p. (first t p, λ x. ap missMeaning (e ∙ sym (is-first b t p (x .1) (x .0))));
     none = (none, λ met. ap missMeaning (e ∙ sym (is-none b met)));
   }
 
   pub by-none : (b : ℕ) → ((p t : ℕ) → t < b → ¬ Missed s p t) → MissedOf s b Never
-  by-none b met = settled b Never (is-none b met) (λ t p e. absurd (apart e)) (λ e. met)
+  by-none b met = determined b Never (is-none b met) (λ t p e. absurd (apart e)) (λ e. met)
     where
       apart : {t p : ℕ} → noMiss ≡ firstAt t p → ⊥
       apart e = let z : _≡_ {A = ℕ} 0 1 = cc in omega arith
 
   pub by-first : (b t p : ℕ) → t < b → FirstMiss s t p → MissedOf s b (At t p)
-  by-first b t p h f = settled b (At t p) (is-first b t p h f) same (λ e. absurd (apart e))
+  by-first b t p h f = determined b (At t p) (is-first b t p h f) same (λ e. absurd (apart e))
     where
       same : (u q : ℕ) → firstAt t p ≡ firstAt u q → FirstMiss s u q × (u < b)
       same u q e = let i : t ≡ u = cc in let j : p ≡ q = cc in (rw (i, j) at f, omega arith)

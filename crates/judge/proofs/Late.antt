@@ -30,15 +30,15 @@ abbrev pub first : ℕ → ℕ
 first rest = trailingZeros 32 rest
 
 -- the claimants that are left to be tested: of the others none is at its event
-pub record Looking (m : Machine) (t rest : ℕ) : Type 0 where
+pub record RemainingClaimants (m : Machine) (t rest : ℕ) : Type 0 where
   pub claims : (q : ℕ) → bit rest q ≡ true → bit (m .claiming) q ≡ true
   pub seen : (q : ℕ) → bit (m .claiming) q ≡ true → bit rest q ≡ false → getD (m .event) q 0 ≡ t → ⊥
   pub small : rest < 2 ^ 32
 
-pub walk-begins : (m : Machine) (t : ℕ) → m .claiming < 2 ^ 32 → Looking m t (m .claiming)
+pub walk-begins : (m : Machine) (t : ℕ) → m .claiming < 2 ^ 32 → RemainingClaimants m t (m .claiming)
 walk-begins m t l = record { claims = λ q e. e; seen = λ q e f. absurd (true≢false (sym e ∙ f)); small = l }
 
-module _ (m : Machine) (t rest : ℕ) (h : Looking m t rest) (some : 0 < rest) where
+module _ (m : Machine) (t rest : ℕ) (h : RemainingClaimants m t rest) (some : 0 < rest) where
   pub at-first : LowestDigit mostTasks rest
   at-first = lowest-digit mostTasks rest some (h .small)
 
@@ -46,7 +46,7 @@ module _ (m : Machine) (t rest : ℕ) (h : Looking m t rest) (some : 0 < rest) w
   off q = ap (λ (x : ℕ). bit x q) (at-first .after)
 
   -- the first of them is not at its event
-  pub walk-passes : (getD (m .event) (first rest) 0 ≡ t → ⊥) → Looking m t (bitAnd rest (rest - 1))
+  pub walk-passes : (getD (m .event) (first rest) 0 ≡ t → ⊥) → RemainingClaimants m t (bitAnd rest (rest - 1))
   walk-passes away = record {
     claims = λ q e. go q e (eqb q (first rest)) refl;
     seen = λ q e f. here q e f (eqb q (first rest)) refl;
@@ -72,9 +72,9 @@ module _ (t : Loaded) (fit : Fit t) (s : TickState) (h : RefinesTick t s) where
   missed-claims : (q : ℕ) → Missed book q (s .tick) → (bit (s .machine .claiming) q ≡ true) × (getD (s .machine .event) q 0 ≡ s .tick)
   missed-claims q x =
       let l = x .0 in
-      let y = missed-late book (fit .valid) (s .tick) 0 (s .machine) (h .before .tied) q l (omega arith) x in (
+      let y = missed-late book (fit .valid) (s .tick) 0 (s .machine) (h .before .related) q l (omega arith) x in (
         claims-owed (task book q) (s .tick) (full book (s .tick) .job q) (getD (s .machine .left) q 0) (getD (s .machine .event) q 0)
-            (getD (s .machine .next) q 0) (bit (s .machine .claiming) q) (h .before .tied .waiting q l (omega arith))
+            (getD (s .machine .next) q 0) (bit (s .machine .claiming) q) (h .before .related .waiting q l (omega arith))
             ∙ lt-ltb 0 (getD (s .machine .left) q 0) (y .1),
         y .0,
       )
@@ -84,16 +84,16 @@ module _ (t : Loaded) (fit : Fit t) (s : TickState) (h : RefinesTick t s) where
   claims-inside q e = go (leb (length (book .tasks)) q) refl
     where
       go : (b : Bool) → leb (length (book .tasks)) q ≡ b → q < length (book .tasks)
-      go true x = absurd (true≢false (sym e ∙ h .before .tied .beyond q (leb-true (length (book .tasks)) q x)))
+      go true x = absurd (true≢false (sym e ∙ h .before .related .beyond q (leb-true (length (book .tasks)) q x)))
       go false x = leb-false (length (book .tasks)) q x
 
   -- the first that is found at its event is the first miss
   pub walk-misses :
-      (rest : ℕ) → Looking (s .machine) (s .tick) rest → 0 < rest → getD (s .machine .event) (first rest) 0 ≡ s .tick
+      (rest : ℕ) → RemainingClaimants (s .machine) (s .tick) rest → 0 < rest → getD (s .machine .event) (first rest) 0 ≡ s .tick
       → FirstMiss book (s .tick) (first rest + 1)
   walk-misses rest k some at = record {
     place = (first rest, add-one (first rest));
-    missed = late-missed book (fit .valid) (s .tick) 0 (s .machine) (h .before .tied) (first rest) inside (omega arith) at owes;
+    missed = late-missed book (fit .valid) (s .tick) 0 (s .machine) (h .before .related) (first rest) inside (omega arith) at owes;
     no-earlier = h .before .met;
     no-higher = λ q l x.
         let y = missed-claims q x in
@@ -111,10 +111,10 @@ module _ (t : Loaded) (fit : Fit t) (s : TickState) (h : RefinesTick t s) where
           ltb-true 0 (getD (s .machine .left) (first rest) 0)
           (sym (claims-owed (task book (first rest)) (s .tick) (full book (s .tick) .job (first rest)) (getD (s .machine .left) (first rest) 0)
           (getD (s .machine .event) (first rest) 0) (getD (s .machine .next) (first rest) 0) (bit (s .machine .claiming) (first rest))
-          (h .before .tied .waiting (first rest) inside (omega arith))) ∙ claims)
+          (h .before .related .waiting (first rest) inside (omega arith))) ∙ claims)
 
   -- none of them is at its event
-  pub walk-ends : (rest : ℕ) → Looking (s .machine) (s .tick) rest → rest ≤ 0 → (q : ℕ) → ¬ Missed book q (s .tick)
+  pub walk-ends : (rest : ℕ) → RemainingClaimants (s .machine) (s .tick) rest → rest ≤ 0 → (q : ℕ) → ¬ Missed book q (s .tick)
   walk-ends rest k none q x =
       let y = missed-claims q x in
       let z : rest ≡ 0 = omega arith in

@@ -5,6 +5,6 @@ pub mod Ticks
 pub mod Refines
 pub mod Late
 pub mod FirstMiss
-pub mod Promise
+pub mod Contract
 pub mod OffChain
 pub mod Fence

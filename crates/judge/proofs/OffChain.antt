@@ -11,7 +11,7 @@ use Rattle.table.specs.OffChain.{SameOnChain}
 use Rattle.table.proofs.OffChain.{off-chain-answer, off-chain-table}
 use Rattle.judge.specs.JudgeAnswer.{judged, verdictCase}
 use Rattle.judge.specs.Judged.{verdictOf}
-use Rattle.judge.proofs.Promise.{passed-is, refused-is}
+use Rattle.judge.proofs.Contract.{passed-is, refused-is}
 
 -- two tables that agree on the header and on every record that the walk meets have the same verdict
 pub off-chain-verdict : (ws us : List ℕ) → SameOnChain ws us → verdictOf ws ≡ verdictOf us

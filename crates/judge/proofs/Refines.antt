@@ -20,7 +20,7 @@ use Rattle.simulation.specs.TickState.{Numbers, numbersBy, loadedNumbers, paire
 use Rattle.simulation.specs.TickState.{afterEvents, nextEventAfter, toggledBy, evenAtTick, choiceKept, choice, grantedAt, nextTickState}
 use Rattle.simulation.specs.declared.columns.Setting.{Setting}
 use Rattle.simulation.specs.declared.machine.Registers.{Registers}
-use Rattle.simulation.proofs.Tied.{Ready}
+use Rattle.simulation.proofs.MachineRelated.{Ready}
 use Rattle.simulation.proofs.WidthParity.{toggled-due}
 use Rattle.simulation.proofs.Sets.{set-has, set-past, set-lt, toggled-none}
 use Rattle.simulation.proofs.Steps.{unchanged-claims, unchanged-even}
@@ -42,7 +42,7 @@ pub record RefinesTick (t : Loaded) (s : TickState) : Type 0 where
 pub record Begins (t : Loaded) (x : Setting) (widths times : List ℕ) (p : Registers) (places : List ℕ) : Type 0 where
   pub fit : Fit t
   pub numbers : numbersBy x widths times ≡ loadedNumbers t
-  pub stand : tickStateOf p places ≡ initialTickState t
+  pub state-start : tickStateOf p places ≡ initialTickState t
 
 module _ (t : Loaded) (fit : Fit t) where
   abbrev book : Table
@@ -62,14 +62,14 @@ module _ (t : Loaded) (fit : Fit t) where
       → After t m′ (toggledBy (n .paired) even (m .claiming) (m′ .claiming)) (earliest (t .count) (m′ .event)) tick
   due-after m even nextEvent tick b met m′ e = record {
     ready = ready;
-    turns = toggled-due book (fit .valid) tick m m′ (n .paired) even (b .tied) ready (paired t fit) (b .turns);
+    toggles = toggled-due book (fit .valid) tick m m′ (n .paired) even (b .related) ready (paired t fit) (b .toggles);
     next-event = λ p l. earliest-event (t .count) m′ p (omega (arith, size t fit));
   }
     where
       walked : Ready book tick (releasedDue tick (n .lengths) (n .deadlines) (n .periods) (length (book .tasks)) m)
       walked =
           due-walked book (fit .valid) (few t fit) (map (λ x. x .offset) (t .tasks)) (n .widths) (n .lengths) (n .deadlines) (n .periods) (columns t fit)
-          tick m (b .tied) met (length (book .tasks)) (omega arith)
+          tick m (b .related) met (length (book .tasks)) (omega arith)
 
       ready : Ready book tick m′
       ready =

@@ -26,7 +26,7 @@ use Rattle.table.proofs.Places.{tasks-length, task-at}
 use Rattle.simulation.specs.Machine.{Machine, started, workedTick, GrantedOwed}
 use Rattle.simulation.specs.TickState.{loadedNumbers, pairedIn}
 use Rattle.simulation.proofs.Sets.{set-has}
-use Rattle.simulation.proofs.Tied.{Tied, Ready, Columns, tied-start, tick-keeps}
+use Rattle.simulation.proofs.MachineRelated.{MachineRelated, Ready, Columns, related-start, tick-keeps}
 use Rattle.simulation.proofs.WidthParity.{WidthToggled, Paired, toggled-start, toggled-tick}
 use Rattle.simulation.proofs.NextEvent.{NextEventBound, next-event-tick, no-event}
 use Rattle.simulation.proofs.Late.{passed-met}
@@ -37,15 +37,15 @@ use Rattle.judge.specs.Judged.{loadedTable, Fit}
 
 -- before the due events of a tick
 pub record Before (t : Loaded) (m : Machine) (even nextEvent tick : ℕ) : Type 0 where
-  pub tied : Tied (loadedTable t) tick m
-  pub turns : WidthToggled (loadedTable t) m even
+  pub related : MachineRelated (loadedTable t) tick m
+  pub toggles : WidthToggled (loadedTable t) m even
   pub next-event : NextEventBound (length (loadedTable t .tasks)) nextEvent m
   pub met : (p u : ℕ) → u < tick → ¬ Missed (loadedTable t) p u
 
 -- after them: no deadline of the tick is missed
 pub record After (t : Loaded) (m : Machine) (even nextEvent tick : ℕ) : Type 0 where
   pub ready : Ready (loadedTable t) tick m
-  pub turns : WidthToggled (loadedTable t) m even
+  pub toggles : WidthToggled (loadedTable t) m even
   pub next-event : NextEventBound (length (loadedTable t .tasks)) nextEvent m
 
 -- g is the set of places that are granted cores where those of the set c claim, and those of the set e are at their second width
@@ -110,8 +110,8 @@ module _ (t : Loaded) (fit : Fit t) where
 
   pub at-start : Before t (started (map (λ x. x .offset) (t .tasks))) (pairedIn (t .tasks)) 0 0
   at-start = record {
-    tied = tied-start s (fit .valid) few (map (λ x. x .offset) (t .tasks)) (columns .places) (columns .offsets);
-    turns = toggled-start s (fit .valid) (map (λ x. x .offset) (t .tasks)) (pairedIn (t .tasks)) (columns .offsets) paired;
+    related = related-start s (fit .valid) few (map (λ x. x .offset) (t .tasks)) (columns .places) (columns .offsets);
+    toggles = toggled-start s (fit .valid) (map (λ x. x .offset) (t .tasks)) (pairedIn (t .tasks)) (columns .offsets) paired;
     next-event = λ p l. omega arith;
     met = λ p u h. absurd (omega arith);
   }
@@ -119,8 +119,8 @@ module _ (t : Loaded) (fit : Fit t) where
   -- before the next event there is nothing to handle
   pub walk-skipped : (m : Machine) (even nextEvent tick : ℕ) → Before t m even nextEvent tick → tick < nextEvent → After t m even nextEvent tick
   walk-skipped m even nextEvent tick b h = record {
-    ready = no-event s (fit .valid) few tick nextEvent m (b .tied) (b .next-event) h;
-    turns = b .turns;
+    ready = no-event s (fit .valid) few tick nextEvent m (b .related) (b .next-event) h;
+    toggles = b .toggles;
     next-event = b .next-event;
   }
 
@@ -139,12 +139,12 @@ module _ (t : Loaded) (fit : Fit t) where
     -- the widths of the places that claim are those of their newest jobs: of all places, and of the first ones
     pub widths-agree : Agrees s tick m (widthsIn even (loadedNumbers t .widths))
     widths-agree =
-        all-agree s (fit .valid) few tick m even (a .ready) (a .turns) (map (λ x. x .offset) (t .tasks)) (loadedNumbers t .widths)
+        all-agree s (fit .valid) few tick m even (a .ready) (a .toggles) (map (λ x. x .offset) (t .tasks)) (loadedNumbers t .widths)
         (map (λ x. x .length) (t .tasks)) (map (λ x. x .deadline) (t .tasks)) (map (λ x. x .period) (t .tasks)) columns
 
     pub front-agree : Agrees s tick m (take (t .count) (widthsIn even (loadedNumbers t .widths)))
     front-agree =
-        first-agree s (fit .valid) few tick m even (a .ready) (a .turns) (map (λ x. x .offset) (t .tasks)) (loadedNumbers t .widths)
+        first-agree s (fit .valid) few tick m even (a .ready) (a .toggles) (map (λ x. x .offset) (t .tasks)) (loadedNumbers t .widths)
         (map (λ x. x .length) (t .tasks)) (map (λ x. x .deadline) (t .tasks)) (map (λ x. x .period) (t .tasks)) columns
         (t .count) (omega (arith, size)) (fit .few)
 
@@ -160,8 +160,8 @@ module _ (t : Loaded) (fit : Fit t) where
         → Before t m′ even nextEvent (tick + 1)
     next-tick m′ g met e w =
         rw add-one (subst (λ (x : Machine). Before t x even nextEvent (suc tick)) (sym w) (record {
-          tied = tick-keeps s (fit .valid) few tick m (a .ready) (bit g) (λ p l. chosen-row g e p);
-          turns = toggled-tick s (fit .valid) m even (bit g) (a .turns);
+          related = tick-keeps s (fit .valid) few tick m (a .ready) (bit g) (λ p l. chosen-row g e p);
+          toggles = toggled-tick s (fit .valid) m even (bit g) (a .toggles);
           next-event = next-event-tick s (fit .valid) few tick nextEvent m (a .ready) (a .next-event) (bit g);
           met = λ p u l. met-at m even nextEvent tick met a p u (omega arith);
         }))

@@ -24,12 +24,12 @@ use Rattle.table.specs.Limits.{mostTime}
 use Rattle.judge.specs.declared.Verdict.{Verdict}
 use Rattle.judge.specs.declared.Verdict.the-variants.{Firm, Full}
 use Rattle.judge.specs.JudgeAnswer.{JudgeAnswer, judged, verdictMeaning, verdictCase}
-use Rattle.judge.specs.JudgeAnswer as said
+use Rattle.judge.specs.JudgeAnswer as meaning
 
 -- by the table's answer: the verdict on one that passes, or its refusal with number and position
 abbrev pub judgedBy : Answer → Table → JudgeAnswer
 judgedBy Passed s = judged (verdict s)
-judgedBy (table.Refused n p) s = said.refused n p
+judgedBy (table.Refused n p) s = meaning.refused n p
 
 -- the verdict of a table's words
 unfoldable pub verdictOf : List ℕ → Verdict
@@ -44,7 +44,7 @@ pub record Judged (ws : List ℕ) (v : Verdict) : Type 0 where
   -- it is the verdict of the words
   pub value : v ≡ verdictOf ws
   -- refused with n and p exactly if n is the first number that applies, at p
-  pub refused : (n p : ℕ) → (verdictMeaning v ≡ said.refused n p) ↔ First ws n p
+  pub refused : (n p : ℕ) → (verdictMeaning v ≡ meaning.refused n p) ↔ First ws n p
   -- Firm or Full exactly if no number applies and no deadline of the full-length run is missed at any tick
   pub accepted : ((s p : ℕ) × ((verdictMeaning v ≡ judged (model.Firm s p)) ⊎ (verdictMeaning v ≡ judged (model.Full s p)))) ↔ (NoneApplies ws × NeverMissed (tableOf ws))
   -- Miss t p exactly if no number applies and (t, p) is the earliest missed deadline, at equal ticks the first in priority

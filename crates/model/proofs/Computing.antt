@@ -1,6 +1,6 @@
 -- Unfolding for the computed examples: where an `unfolding` line contains `computing`, a table's verdict, and the answers, rows and book of a list, compute.
 use Rattle.model.specs.Book.{afterTaken, answer, answersFrom, asked, bookFrom, borrowed, borrowing, claims, emptiable, emptied, enter, full}
-use Rattle.model.specs.Book.{late, misemptied, misreported, offer, reportable, rowsFrom, seeks, served, step, strangers, takenFrom, work, workLent}
+use Rattle.model.specs.Book.{late, wrongEmpties, wrongReports, offer, reportable, rowsFrom, seeks, served, step, unknownPositions, takenFrom, work, workLent}
 use Rattle.model.specs.Firm.{firm, parallelismMonotonic}
 use Rattle.model.specs.Grants.{claimants, given, grants, left}
 use Rattle.model.specs.Horizon.{S, horizon, hyperperiod, lcm}
@@ -12,6 +12,6 @@ use Rattle.model.specs.Verdict.{firstMiss, missedAt, missedIn, verdict}
 
 unfoldable pub computing : Unit {0}
 unfolding verdict firstMiss missedIn missedAt firm parallelismMonotonic horizon S hyperperiod lcm least any memb upFrom filtered owner row given left grants claimants
-    claims served lent merged among borrowed borrowing offer seeks work workLent step full late reportable misreported emptied emptiable misemptied
-    strangers answer asked afterTaken enter bookFrom answersFrom takenFrom rowsFrom setOf setsAsked
+    claims served lent merged among borrowed borrowing offer seeks work workLent step full late reportable wrongReports emptied emptiable wrongEmpties
+    unknownPositions answer asked afterTaken enter bookFrom answersFrom takenFrom rowsFrom setOf setsAsked
 computing = tt

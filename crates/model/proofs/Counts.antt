@@ -39,4 +39,4 @@ module _ (s : Table) (keeps : lends (s .rule) ≡ false) where
 pub claimed-had :
     (s : Table) → AllValid s → (xs : List Entry) (p k : ℕ) → p < length (s .tasks)
     → book s xs .job p k .ended ≡ false → book s xs .job p k .claimed ≤ book s xs .job p k .had
-claimed-had s ok xs p k l = bounds-book s ok xs p k l .paid
+claimed-had s ok xs p k l = bounds-book s ok xs p k l .claimed-had

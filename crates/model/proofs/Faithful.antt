@@ -17,8 +17,8 @@ use Rattle.model.proofs.Runs.{early-book, full-tick, missed-at}
 use Rattle.model.proofs.Search.{any-of, any-some}
 use Rattle.model.proofs.Starts.{Periods, S-release, hyperperiod-cycles, hyperperiod-least, hyperperiod-pos, release-first, release-from}
 use Rattle.model.specs.Book.{AllTaken, Answer, Book, Entry, Job, Missed, advance, advanced, afterTaken, answer, answersFrom, book, bookFrom, claims}
-use Rattle.model.specs.Book.{emptiable, emptied, emptyBook, emptyIn, endedWith, enter, entered, full, jobClaims, keep, late, misemptied, misreported, singleton, refused}
-use Rattle.model.specs.Book.{reportable, step, strangers, taken, takenFrom, takenIn, takenOf, taskClaims, ticksOf, withdraw, withdrawAll, withWithdrawn}
+use Rattle.model.specs.Book.{emptiable, emptied, emptyBook, emptyIn, endedWith, enter, entered, full, jobClaims, keep, late, wrongEmpties, wrongReports, singleton, refused}
+use Rattle.model.specs.Book.{reportable, step, unknownPositions, taken, takenFrom, takenIn, takenOf, taskClaims, ticksOf, withdraw, withdrawAll, withWithdrawn}
 use Rattle.model.specs.Horizon.{Later, LeastCommonMultiple, S, hyperperiod, releaseFrom}
 use Rattle.model.specs.Search.{any, bit}
 use Rattle.model.specs.Task.{AllValid, Rule, ValidTask, Table, Task, due, newest, release, task}
@@ -86,23 +86,23 @@ set-exact x f = (
         go false q = leb-false x p q
 
 -- a report set is refused by 16 exactly if some bit of it, however high, is set for a position that may not be reported
-pub misreported-exact :
+pub wrong-reports-exact :
     (s : Table) (b : Book) (x : ℕ)
-    → (misreported s b x ≡ true) ↔ ((p : ℕ) × (bit x p ≡ true) × (reportable s b p ≡ false))
-unfolding misreported
-misreported-exact s b x = set-exact x (reportable s b)
+    → (wrongReports s b x ≡ true) ↔ ((p : ℕ) × (bit x p ≡ true) × (reportable s b p ≡ false))
+unfolding wrongReports
+wrong-reports-exact s b x = set-exact x (reportable s b)
 
 -- and a set of empty jobs by 20, where some bit is set for a position that may not be empty
-pub misemptied-exact :
+pub wrong-empties-exact :
     (s : Table) (b : Book) (e : ℕ)
-    → (misemptied s b e ≡ true) ↔ ((p : ℕ) × (bit e p ≡ true) × (emptiable s b p ≡ false))
-unfolding misemptied
-misemptied-exact s b e = set-exact e (emptiable s b)
+    → (wrongEmpties s b e ≡ true) ↔ ((p : ℕ) × (bit e p ≡ true) × (emptiable s b p ≡ false))
+unfolding wrongEmpties
+wrong-empties-exact s b e = set-exact e (emptiable s b)
 
 -- and a set to be withdrawn by 22, where some bit is set for a position that is none of the table's
-pub strangers-exact : (s : Table) (x : ℕ) → (strangers s x ≡ true) ↔ ((p : ℕ) × (bit x p ≡ true) × (length (s .tasks) ≤ p))
-unfolding strangers
-strangers-exact s x = (
+pub unknown-positions-exact : (s : Table) (x : ℕ) → (unknownPositions s x ≡ true) ↔ ((p : ℕ) × (bit x p ≡ true) × (length (s .tasks) ≤ p))
+unfolding unknownPositions
+unknown-positions-exact s x = (
   λ e. let y = set-exact x (λ p. ltb p (length (s .tasks))) .0 e in (y .0, y .1, ltb-false (y .0) (length (s .tasks)) (y .2)),
   λ y. set-exact x (λ p. ltb p (length (s .tasks))) .1 (y .0, y .1, le-ltb (y .0) (length (s .tasks)) (y .2)),
 )

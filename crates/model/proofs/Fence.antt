@@ -14,8 +14,8 @@ use Rattle.model.proofs.Lists.{map-at, up-at, up-length}
 use Rattle.model.proofs.Renumbered.{at-map, grants-map, lent-map, owner-map, shown-map, some-map}
 use Rattle.model.proofs.Search.{any-same}
 use Rattle.model.specs.Book.{Answer, Book, Entry, advance, afterTaken, answer, answersFrom, book, bookFrom, borrowed, borrowing, borrows}
-use Rattle.model.specs.Book.{emptiable, emptied, emptyBook, emptyIn, enter, full, grantsOf, inRow, late, lentOf, misemptied, misreported, newestEnded}
-use Rattle.model.specs.Book.{none, offer, reportable, bookRow, seeks, served, shownOf, step, strangers, taskClaims, widths, withdraw, withdrawAll, work, workLent}
+use Rattle.model.specs.Book.{emptiable, emptied, emptyBook, emptyIn, enter, full, grantsOf, inRow, late, lentOf, wrongEmpties, wrongReports, newestEnded}
+use Rattle.model.specs.Book.{none, offer, reportable, bookRow, seeks, served, shownOf, step, unknownPositions, taskClaims, widths, withdraw, withdrawAll, work, workLent}
 use Rattle.model.specs.Fence.{unfencedTable, unfencedCores, outside, spread, unfenced}
 use Rattle.model.specs.Grants.{claimants, grants, some}
 use Rattle.model.specs.Horizon.{horizon}
@@ -27,12 +27,12 @@ use Rattle.model.specs.Verdict.{firstMiss, missedAt, missedIn, verdict}
 
 -- THE UNFENCED CORES
 
-abbrev pub Ascending : List ℕ → Type 0
-Ascending F = (i j : ℕ) → i < j → j < length F → getD F i 0 < getD F j 0
+abbrev pub AscendingList : List ℕ → Type 0
+AscendingList F = (i j : ℕ) → i < j → j < length F → getD F i 0 < getD F j 0
 
 -- the cores of a list ascend, from i up to below m
 pub record Up (i m : ℕ) (F : List ℕ) : Type 0 where
-  pub rising : Ascending F
+  pub rising : AscendingList F
   pub from : (j : ℕ) → j < length F → i ≤ getD F j 0
   pub below : (j : ℕ) → j < length F → getD F j 0 < m
 
@@ -48,7 +48,7 @@ kept-up f i (suc n) = go (f i) (kept-up f (suc i) n)
     go false x = record { rising = x .rising; from = λ j l. omega (arith, x .from j l); below = λ j l. omega (arith, x .below j l) }
     go true x = record { rising = rise; from = above; below = under }
       where
-        rise : Ascending (i ∷ rest)
+        rise : AscendingList (i ∷ rest)
         rise a zero l g = absurd (not-suc-le-zero l)
         rise zero (suc b) l g = x .from b (omega arith)
         rise (suc a) (suc b) l g = x .rising a b (omega arith) (omega arith)
@@ -112,8 +112,8 @@ module _ (s : Table) where
   abbrev n : ℕ
   n = length (unfencedCores s)
 
-  ups : Up 0 (0 + s .cores) (unfencedCores s)
-  ups = kept-up (λ c. not (bit (s .fence) c)) 0 (s .cores)
+  ascending-unfenced : Up 0 (0 + s .cores) (unfencedCores s)
+  ascending-unfenced = kept-up (λ c. not (bit (s .fence) c)) 0 (s .cores)
 
   -- the number of the core at a place among the unfenced; past them, numbers of no core
   core : ℕ → ℕ
@@ -130,11 +130,11 @@ module _ (s : Table) where
       go : (t : Bool) → ltb i n ≡ t → (u : Bool) → ltb j n ≡ u
           → cond t (getD (unfencedCores s) i 0) (s .cores + i) ≡ cond u (getD (unfencedCores s) j 0) (s .cores + j) → i ≡ j
       go true p true q e =
-          let a : ¬ (i < j) = λ l. omega (arith, ups .rising i j l (ltb-true j n q)) in
-          let b : ¬ (j < i) = λ l. omega (arith, ups .rising j i l (ltb-true i n p)) in
+          let a : ¬ (i < j) = λ l. omega (arith, ascending-unfenced .rising i j l (ltb-true j n q)) in
+          let b : ¬ (j < i) = λ l. omega (arith, ascending-unfenced .rising j i l (ltb-true i n p)) in
           omega arith
-      go true p false q e = absurd (omega (arith, ups .below i (ltb-true i n p)))
-      go false p true q e = absurd (omega (arith, ups .below j (ltb-true j n q)))
+      go true p false q e = absurd (omega (arith, ascending-unfenced .below i (ltb-true i n p)))
+      go false p true q e = absurd (omega (arith, ascending-unfenced .below j (ltb-true j n q)))
       go false p false q e = omega arith
 
   open-core : unfencedCores s ≡ map core (unfencedCores (unfencedTable s))
@@ -255,7 +255,7 @@ module _ (s : Table) where
 
   -- and in every list: the answers are the same, and so is the book
   same-answer : (b : Book) (x : Entry) → answer s b x ≡ answer (unfencedTable s) b x
-  unfolding answer late misreported reportable misemptied emptiable emptied strangers
+  unfolding answer late wrongReports reportable wrongEmpties emptiable emptied unknownPositions
   same-answer b (advance x e) =
       let c : Book = emptied s (emptyIn b e) b in
       rw (any-same x (λ p. bit x p && not ((inRow s c p || borrows s c p) && not (newestEnded s c p)))

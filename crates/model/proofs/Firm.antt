@@ -16,7 +16,7 @@ use Rattle.model.proofs.Search.{least-found}
 use Rattle.model.proofs.Sustain.{sustained-lists, finished, none-behind}
 use Rattle.model.proofs.Verdict.{verdict-exact}
 use Rattle.model.specs.Book.{Answer, Asked, Book, Entry, NeverMissed, advance, answer, asked, askedBy, book, emptied, emptyIn, firstLate, full, late}
-use Rattle.model.specs.Book.{misemptied, misreported, noReports, refused, bookRow, rowRefused, shown, taken, stranger, strangers, withdraw, withdrawAll}
+use Rattle.model.specs.Book.{wrongEmpties, wrongReports, noReports, refused, bookRow, rowRefused, shown, taken, unknownPosition, unknownPositions, withdraw, withdrawAll}
 use Rattle.model.specs.Compare.{NoneBehind}
 use Rattle.model.specs.FirmKept.{FirmKept}
 use Rattle.model.specs.Sets.{setsAsked, bookSets}
@@ -46,9 +46,9 @@ module _ (s : Table) (ok : AllValid s) (firmly : FirmRule s) (accepted : NeverMi
   number taken = 0
   number (refused n p) = n
 
-  denial : Asked → ℕ
-  denial (shown r) = 0
-  denial (rowRefused n p) = n
+  refusalNumber : Asked → ℕ
+  refusalNumber (shown r) = 0
+  refusalNumber (rowRefused n p) = n
 
   no-15-out : (u v : Bool) → number (cond u (cond v (refused 22 0) taken) (refused 21 0)) ≡ 15 → ⊥
   unfolding number
@@ -60,20 +60,20 @@ module _ (s : Table) (ok : AllValid s) (firmly : FirmRule s) (accepted : NeverMi
   unfolding answer number
   no-15 xs (advance x g) p e =
       let b : Book = book s xs in
-      go (misemptied s b g) (misreported s (emptied s (emptyIn b g) b) x) (rw (none-late xs) at (ap number e))
+      go (wrongEmpties s b g) (wrongReports s (emptied s (emptyIn b g) b) x) (rw (none-late xs) at (ap number e))
     where
       go : (u v : Bool) → number (cond u (refused 20 0) (cond v (refused 16 0) taken)) ≡ 15 → ⊥
       go true v q = omega arith
       go false true q = omega arith
       go false false q = omega arith
-  no-15 xs (withdraw q) p e = no-15-out (firm (s .rule) (s .tasks)) (stranger s q) (ap number e)
-  no-15 xs (withdrawAll x) p e = no-15-out (firm (s .rule) (s .tasks)) (strangers s x) (ap number e)
+  no-15 xs (withdraw q) p e = no-15-out (firm (s .rule) (s .tasks)) (unknownPosition s q) (ap number e)
+  no-15 xs (withdrawAll x) p e = no-15-out (firm (s .rule) (s .tasks)) (unknownPositions s x) (ap number e)
 
   no-15-shown : (show : Book → List ℕ) (xs : List Entry) (e p : ℕ) → ¬ (askedBy show s (book s xs) e ≡ rowRefused 15 p)
-  unfolding denial
-  no-15-shown show xs e p q = go (misemptied s (book s xs) e) (show (emptied s (emptyIn (book s xs) e) (book s xs))) (rw (none-late xs) at (ap denial q))
+  unfolding refusalNumber
+  no-15-shown show xs e p q = go (wrongEmpties s (book s xs) e) (show (emptied s (emptyIn (book s xs) e) (book s xs))) (rw (none-late xs) at (ap refusalNumber q))
     where
-      go : (u : Bool) (r : List ℕ) → denial (cond u (rowRefused 20 0) (shown r)) ≡ 15 → ⊥
+      go : (u : Bool) (r : List ℕ) → refusalNumber (cond u (rowRefused 20 0) (shown r)) ≡ 15 → ⊥
       go true r q = omega arith
       go false r q = omega arith
 

@@ -12,7 +12,7 @@ use Rattle.model.proofs.Bools.{and-left, and-right, not-true-false}
 use Rattle.model.proofs.Runs.{full-stays, full-tick, full-withdrawn, missed-at, still-advance}
 use Rattle.model.proofs.Search.{any-some, least-none, none-any}
 use Rattle.model.specs.Book.{Book, Missed, Misses, NeverMissed, advanced, afterTaken, answer, book, bookFrom, emptyIn, enter, entered, firstLate, full}
-use Rattle.model.specs.Book.{late, misemptied, misreported, none, noReports, refused, step, taken}
+use Rattle.model.specs.Book.{late, wrongEmpties, wrongReports, none, noReports, refused, step, taken}
 use Rattle.model.specs.Search.{any, bit}
 use Rattle.model.specs.Task.{Table, due, task}
 
@@ -36,7 +36,7 @@ none-late s b h =
     (le-of-eq (sym (least-none (length (s .tasks)) (late s b) (none-any (length (s .tasks)) (late s b) h))))
 
 none-taken : (s : Table) (b : Book) → ((p : ℕ) → p < length (s .tasks) → late s b p ≡ false) → answer s b noReports ≡ taken
-unfolding answer misemptied misreported any
+unfolding answer wrongEmpties wrongReports any
 none-taken s b h = rw (none-late s b h)
 
 enter-none : (s : Table) (n : ℕ) → ((p : ℕ) → p < length (s .tasks) → late s (full s n) p ≡ false) → enter s noReports (full s n) ≡ full s (suc n)
@@ -80,7 +80,7 @@ full-length s n h = go-on s n 0 (λ t p g l. none t p (omega arith) l) ∙ ap (f
 
 -- an advance with empty sets, where no position is withdrawn, is taken if no task is late, and else refused
 pub enter-empty : (s : Table) (b : Book) → b .withdrawn ≡ 0 → enter s noReports b ≡ cond (ltb (firstLate s b) (length (s .tasks))) b (step s none b)
-unfolding enter answer afterTaken misemptied misreported any
+unfolding enter answer afterTaken wrongEmpties wrongReports any
 enter-empty s b w = go (ltb (firstLate s b) (length (s .tasks)))
   where
     go : (t : Bool) → entered (cond t (refused 15 (suc (firstLate s b))) taken) (advanced s (bit 0) (emptyIn b 0) b) b ≡ cond t b (step s none b)

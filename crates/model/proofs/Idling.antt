@@ -13,7 +13,7 @@ use Rattle.model.proofs.Lending.{not-borrowing, offer-none, shown-given
 use Rattle.model.proofs.SameClaims.{same-claims-asked, same-claimants}
 use Rattle.model.proofs.Runs.{full-claimed, full-offer, full-shown, full-withdrawn, still-emptied}
 use Rattle.model.specs.Book.{Book, Entry, asked, book, bookFrom, borrowing, claims, emptied, firstLate, full, grantsOf, jobClaims, late}
-use Rattle.model.specs.Book.{misemptied, none, noReports, bookRow, rowRefused, served, shown, step, taskClaims, widths, work, workLent}
+use Rattle.model.specs.Book.{wrongEmpties, none, noReports, bookRow, rowRefused, served, shown, step, taskClaims, widths, work, workLent}
 use Rattle.model.specs.Firm.{firm}
 use Rattle.model.specs.Grants.{Claimant, claimants, endsChoosing, given, grants, left}
 use Rattle.model.specs.Horizon.{horizon}
@@ -109,7 +109,7 @@ module _ (r : Rule) (passes : endsChoosing r ≡ false) (τs : List Task) (m f :
       go false true e x y = absurd (false≢true e)
 
   same-asked : (b : Book) → b .withdrawn ≡ 0 → bookRow I b ≡ bookRow G b → asked I b 0 ≡ asked G b 0
-  unfolding asked late misemptied any
+  unfolding asked late wrongEmpties any
   same-asked b w e =
       ap (λ (r : List ℕ). cond (ltb (firstLate I b) (length τs)) (rowRefused 15 (suc (firstLate I b))) (shown r))
       (ap (bookRow I) (still-emptied I b w) ∙ (e ∙ ap (bookRow G) (sym (still-emptied G b w))))

@@ -125,19 +125,19 @@ sustained-line C f g false false h c false h′ c′ false nb both nl (o, x) = n
 pub record LineBounds (C : ℕ) (j : Job) : Type 0 where
   pub within : j .had ≤ C
   pub short : j .ended ≡ false → j .had < C
-  pub paid : j .ended ≡ false → j .claimed ≤ j .had
+  pub claimed-had : j .ended ≡ false → j .claimed ≤ j .had
 
 pub bounds-fresh : (C : ℕ) → 1 ≤ C → LineBounds C (mk 0 0 false)
-bounds-fresh C h = record { within = omega arith; short = λ e. h; paid = λ e. omega arith }
+bounds-fresh C h = record { within = omega arith; short = λ e. h; claimed-had = λ e. omega arith }
 
 pub bounds-next : (C : ℕ) (f s : Bool) (h c : ℕ) (e : Bool) → LineBounds C (mk h c e) → LineBounds C (next C f s (mk h c e))
 unfolding work
 bounds-next C f false h c e g = g
-bounds-next C f true h c true g = record { within = g .within; short = λ o. absurd (true≢false o); paid = λ o. absurd (true≢false o) }
+bounds-next C f true h c true g = record { within = g .within; short = λ o. absurd (true≢false o); claimed-had = λ o. absurd (true≢false o) }
 bounds-next C f true h c false g = record {
   within = g .short refl;
   short = λ o. leb-false C (suc h) (or-right-false f (leb C (suc h)) o);
-  paid = λ o. omega (arith, g .paid refl);
+  claimed-had = λ o. omega (arith, g .claimed-had refl);
 }
 
 -- where no place lends, a job that has not ended has had as many ticks as it has claimed
@@ -181,7 +181,7 @@ step-bounds C f false true h c true g = g
 step-bounds C f false true h c false g = record {
   within = g .short refl;
   short = λ o. leb-false C (suc h) (or-right-false f (leb C (suc h)) o);
-  paid = λ o. omega (arith, g .paid refl);
+  claimed-had = λ o. omega (arith, g .claimed-had refl);
 }
 
 pub step-whole :
@@ -212,7 +212,7 @@ start-claimed true j = refl
 start-claimed false j = refl
 
 pub start-bounds : (C : ℕ) (x : Bool) (j : Job) → LineBounds C j → LineBounds C (start x j)
-start-bounds C true j g = record { within = g .within; short = λ o. absurd (true≢false o); paid = λ o. absurd (true≢false o) }
+start-bounds C true j g = record { within = g .within; short = λ o. absurd (true≢false o); claimed-had = λ o. absurd (true≢false o) }
 start-bounds C false j g = g
 
 pub start-even : (x : Bool) (j : Job) → (j .ended ≡ false → j .claimed ≡ j .had) → start x j .ended ≡ false → start x j .claimed ≡ start x j .had
@@ -220,16 +220,16 @@ start-even true j g o = absurd (true≢false o)
 start-even false j g o = g o
 
 -- an empty job is behind nothing
-pub start-near : (x : Bool) (a b : Job) → ¬ Behind a b → ¬ Behind (start x a) b
-start-near true a b nb h = true≢false (h .0)
-start-near false a b nb h = nb h
+pub start-not-behind : (x : Bool) (a b : Job) → ¬ Behind a b → ¬ Behind (start x a) b
+start-not-behind true a b nb h = true≢false (h .0)
+start-not-behind false a b nb h = nb h
 
 -- of two jobs just released, of which the first is not longer, the first is not behind
-pub fresh-near : (x y : Bool) → ¬ Longer (start x (mk 0 0 false)) (start y (mk 0 0 false)) → ¬ Behind (start x (mk 0 0 false)) (start y (mk 0 0 false))
-fresh-near true y nl h = true≢false (h .0)
-fresh-near false true nl h = nl (refl, inr (refl, refl))
-fresh-near false false nl (o, inl d) = false≢true d
-fresh-near false false nl (o, inr d) = omega arith
+pub fresh-not-behind : (x y : Bool) → ¬ Longer (start x (mk 0 0 false)) (start y (mk 0 0 false)) → ¬ Behind (start x (mk 0 0 false)) (start y (mk 0 0 false))
+fresh-not-behind true y nl h = true≢false (h .0)
+fresh-not-behind false true nl h = nl (refl, inr (refl, refl))
+fresh-not-behind false false nl (o, inl d) = false≢true d
+fresh-not-behind false false nl (o, inr d) = omega arith
 
 -- a rule under which a job that ended claims until it has claimed C ticks
 abbrev pub Reserving : Rule → Type 0
@@ -238,7 +238,7 @@ Reserving r = (τ : Task) (j : Job) → holds r τ j ≡ ltb (j .claimed) (τ .l
 -- under such a rule a good line claims by its window and the ticks claimed
 idle-test : (C h c : ℕ) (e : Bool) → LineBounds C (mk h c e) → not e || ltb c C ≡ ltb c C
 idle-test C h c true g = refl
-idle-test C h c false g = sym (lt-ltb c C (omega (arith, g .paid refl, g .short refl)))
+idle-test C h c false g = sym (lt-ltb c C (omega (arith, g .claimed-had refl, g .short refl)))
 
 pub idle-claims :
     (r : Rule) → Reserving r → (τ : Task) (k t : ℕ) (a b : Job) → LineBounds (τ .length) a → LineBounds (τ .length) b → a .claimed ≡ b .claimed

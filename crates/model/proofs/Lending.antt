@@ -105,11 +105,11 @@ lent-local n ws vs sk sk′ o o′ e es eo (suc m) l = go (lent ws sk o m) (lent
             rw (es q h, x)
 
 -- a place and those below it lend it nothing: what it borrows is settled once the places above it have lent
-pub lent-settled :
+pub lent-final :
     (ws : List ℕ) (sk : ℕ → Bool) (o : ℕ → List ℕ) (p d : ℕ) → getD (lent ws sk o (p + d)) p [] ≡ getD (lent ws sk o p) p []
 unfolding lent
-lent-settled ws sk o p zero = rw add-zero
-lent-settled ws sk o p (suc d) = rw add-suc (later (lent ws sk o (p + d)) ∙ lent-settled ws sk o p d)
+lent-final ws sk o p zero = rw add-zero
+lent-final ws sk o p (suc d) = rw add-suc (later (lent ws sk o (p + d)) ∙ lent-final ws sk o p d)
   where
     later : (bs : List (List ℕ)) → getD (lendOnce ws sk (o (p + d)) (p + d) bs) p [] ≡ getD bs p []
     later bs =
@@ -166,7 +166,7 @@ lent-above ws sk o n p h = go (leb p n) refl
     go : (t : Bool) → leb p n ≡ t → getD (lent ws sk o n) p [] ≡ getD (lent ws sk o p) p []
     go true e =
         let d = le-dest (leb-true p n e) in
-        subst (λ (m : ℕ). getD (lent ws sk o m) p [] ≡ getD (lent ws sk o p) p []) (d .1) (lent-settled ws sk o p (d .0))
+        subst (λ (m : ℕ). getD (lent ws sk o m) p [] ≡ getD (lent ws sk o p) p []) (d .1) (lent-final ws sk o p (d .0))
     go false e =
         let far : length ws ≤ p = omega (arith, leb-false p n e) in
         past-end (lent ws sk o n) p (rw (lent-length ws sk o n) far) ∙ sym (past-end (lent ws sk o p) p (rw (lent-length ws sk o p) far))

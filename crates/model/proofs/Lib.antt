@@ -4,7 +4,7 @@ pub mod Computing
 pub mod Examples
 pub mod EmptyExamples
 pub mod WithdrawExamples
-pub mod TogetherExamples
+pub mod WithdrawSetExamples
 pub mod WidthExamples
 pub mod LendExamples
 pub mod SetsExamples

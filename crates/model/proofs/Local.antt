@@ -274,43 +274,43 @@ only-below : (n p q : ℕ) → leb p n ≡ false → q < n → bit (singleton p)
 only-below n p q h l = bit-power (p - 1) q ∙ ne-eqb q (p - 1) (λ e. omega (arith, leb-false p n h))
 
 -- a withdrawal of places from n on alone
-unnoticed : (n : ℕ) (b c : Book) → Agree n b c → (x : ℕ) → ((q : ℕ) → q < n → bit x q ≡ false) → Agree n (withWithdrawn x b) c
-unnoticed n b c ag x off = record {
+irrelevant-withdrawal : (n : ℕ) (b c : Book) → Agree n b c → (x : ℕ) → ((q : ℕ) → q < n → bit x q ≡ false) → Agree n (withWithdrawn x b) c
+irrelevant-withdrawal n b c ag x off = record {
   ticks = ag .ticks;
   jobs = ag .jobs;
   gone = λ q l. or-bit (b .withdrawn) x q ∙ (rw (off q l) (or-false (bit (b .withdrawn) q)) ∙ ag .gone q l);
 }
 
 -- an entry goes on with what is after it, or is left out
-noticed-step :
+relevant-step :
     (n : ℕ) (s : Table) (x : Entry) (xs : List Entry) (b c : Book) → Agree n b c
     → ((d : Book) → Agree n (afterTaken s x b) d → Agree n (took s (afterTaken s x b) xs) (took s d (relevant n xs)))
     → Agree n (took s (afterTaken s x b) xs) (took s c (relevantIf n x (relevant n xs)))
-noticed-step n s (advance x e) xs b c ag more =
+relevant-step n s (advance x e) xs b c ag more =
     unfold took in more (afterTaken s (advance x e) c) (same-after n s s (equal-above-self n s) (advance x e) (advance x e) (λ q l. refl, λ q l. refl) b c ag)
-noticed-step n s (withdraw p) xs b c ag more = go (leb p n) refl
+relevant-step n s (withdraw p) xs b c ag more = go (leb p n) refl
   where
     go : (t : Bool) → leb p n ≡ t
         → Agree n (took s (afterTaken s (withdraw p) b) xs) (took s c (cond t (withdraw p ∷ relevant n xs) (relevant n xs)))
     go true h = unfold took in more (afterTaken s (withdraw p) c) (same-after n s s (equal-above-self n s) (withdraw p) (withdraw p) refl b c ag)
-    go false h = more c (unfold afterTaken in unnoticed n b c ag (singleton p) (λ q l. only-below n p q h l))
-noticed-step n s (withdrawAll x) xs b c ag more = go (any n (bit x)) refl
+    go false h = more c (unfold afterTaken in irrelevant-withdrawal n b c ag (singleton p) (λ q l. only-below n p q h l))
+relevant-step n s (withdrawAll x) xs b c ag more = go (any n (bit x)) refl
   where
     go : (t : Bool) → any n (bit x) ≡ t
         → Agree n (took s (afterTaken s (withdrawAll x) b) xs) (took s c (cond t (withdrawAll x ∷ relevant n xs) (relevant n xs)))
     go true h =
         unfold took in more (afterTaken s (withdrawAll x) c) (same-after n s s (equal-above-self n s) (withdrawAll x) (withdrawAll x) (λ q l. refl) b c ag)
-    go false h = more c (unfold afterTaken in unnoticed n b c ag x (λ q l. none-at n (bit x) q h l))
+    go false h = more c (unfold afterTaken in irrelevant-withdrawal n b c ag x (λ q l. none-at n (bit x) q h l))
 
-noticed-took : (n : ℕ) (s : Table) (xs : List Entry) (b c : Book) → Agree n b c → Agree n (took s b xs) (took s c (relevant n xs))
+relevant-took : (n : ℕ) (s : Table) (xs : List Entry) (b c : Book) → Agree n b c → Agree n (took s b xs) (took s c (relevant n xs))
 unfolding relevant took
-noticed-took n s [] b c ag = ag
-noticed-took n s (x ∷ xs) b c ag = noticed-step n s x xs b c ag (noticed-took n s xs (afterTaken s x b))
+relevant-took n s [] b c ag = ag
+relevant-took n s (x ∷ xs) b c ag = relevant-step n s x xs b c ag (relevant-took n s xs (afterTaken s x b))
 
-noticed-book : (n : ℕ) (s : Table) (xs : List Entry) → Agree n (book s xs) (took s emptyBook (relevant n (takenOf s xs)))
-noticed-book n s xs =
+relevant-book : (n : ℕ) (s : Table) (xs : List Entry) → Agree n (book s xs) (took s emptyBook (relevant n (takenOf s xs)))
+relevant-book n s xs =
     subst (λ (b : Book). Agree n b (took s emptyBook (relevant n (takenOf s xs)))) (sym (book-took s xs emptyBook))
-    (noticed-took n s (takenOf s xs) emptyBook emptyBook (start-agree n s s (equal-above-self n s)))
+    (relevant-took n s (takenOf s xs) emptyBook emptyBook (start-agree n s s (equal-above-self n s)))
 
 module _ (n : ℕ) (s s′ : Table) (al : EqualAbove n s s′) where
   -- THE THEOREM, for the full-length runs
@@ -339,8 +339,8 @@ module _ (n : ℕ) (s s′ : Table) (al : EqualAbove n s s′) where
       let b : Book = book s xs in
       let b′ : Book = book s′ ys in
       let ag : Agree n b b′ =
-      agree-trans n b (took s emptyBook (relevant n (takenOf s xs))) b′ (noticed-book n s xs)
+      agree-trans n b (took s emptyBook (relevant n (takenOf s xs))) b′ (relevant-book n s xs)
       (agree-trans n (took s emptyBook (relevant n (takenOf s xs))) (took s′ emptyBook (relevant n (takenOf s′ ys))) b′
       (took-agree n s s′ al (relevant n (takenOf s xs)) (relevant n (takenOf s′ ys)) r emptyBook emptyBook (start-agree n s s′ al))
-      (agree-sym n b′ (took s′ emptyBook (relevant n (takenOf s′ ys))) (noticed-book n s′ ys))) in
+      (agree-sym n b′ (took s′ emptyBook (relevant n (takenOf s′ ys))) (relevant-book n s′ ys))) in
       shown-same n s s′ al (emptied s (emptyIn b e) b) (emptied s′ (emptyIn b′ e′) b′) (same-empty n s s′ al b b′ ag e e′ h)

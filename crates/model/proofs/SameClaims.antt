@@ -112,5 +112,5 @@ module _ (s : Table) (ok : AllValid s) (reserving : Reserving (s .rule)) where
 
       near : ¬ Behind (book s xs .job p k) (full s (book s xs .tick) .job p k)
       near (o, inl e) =
-          omega (arith, ab .bounds-a p k l .short o, ab .bounds-a p k l .paid o, ab .same-claimed p k l, full-claimed s (book s xs .tick) p k e)
-      near (o, inr h) = omega (arith, h .1, ab .bounds-a p k l .paid o, ab .same-claimed p k l, full-had s (book s xs .tick) p k)
+          omega (arith, ab .bounds-a p k l .short o, ab .bounds-a p k l .claimed-had o, ab .same-claimed p k l, full-claimed s (book s xs .tick) p k e)
+      near (o, inr h) = omega (arith, h .1, ab .bounds-a p k l .claimed-had o, ab .same-claimed p k l, full-had s (book s xs .tick) p k)

@@ -13,7 +13,7 @@ use borrow.Author.Tests.{eqb-true}
 use Rattle.model.proofs.Bools.{and-both, and-left, and-right, not-false-true}
 use Rattle.model.proofs.Compare.{none-longer}
 use Rattle.model.proofs.Grants.{MonotonicList, greedy-limited, limited-mono}
-use Rattle.model.proofs.Jobs.{Releasing, Reserving, sustained-line, after-release, before-due, claims-less, claims-open, fresh-near, longer-left}
+use Rattle.model.proofs.Jobs.{Releasing, Reserving, sustained-line, after-release, before-due, claims-less, claims-open, fresh-not-behind, longer-left}
 use Rattle.model.proofs.Jobs.{longer-right, newest-is, next, start}
 use Rattle.model.proofs.Lending.{not-borrowing, offer-none}
 use Rattle.model.proofs.SameClaims.{SameClaims, same-claims-emptied, same-claims-near, same-claims-start, same-claims-step, same-served}
@@ -165,7 +165,7 @@ module _ (s : Table) (ok : AllValid s) (keeps : lends (s .rule) ≡ false) where
           → ¬ Behind (start (e p && releasedNow s a p k) (a .job p k)) (start (g p && releasedNow s b p k) (b .job p k))
       by-now p k l true q =
           rw (ea p k (at-release s a p k q), eb p k (at-release s b p k (rw (ab .same-tick) at q)))
-          (fresh-near (e p && releasedNow s a p k) (g p && releasedNow s b p k))
+          (fresh-not-behind (e p && releasedNow s a p k) (g p && releasedNow s b p k))
       by-now p k l false q =
           let q′ : releasedNow s b p k ≡ false = rw (ab .same-tick) at q in
           rw (q, q′, and-false (e p), and-false (g p)) (λ nl′. ab .near p k l)

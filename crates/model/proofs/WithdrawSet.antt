@@ -10,9 +10,9 @@ use lib.ListN.{length, replicate}
 use borrow.Author.Tests.{eq-eqb, le-ltb, ne-eqb}
 use Rattle.model.proofs.Bools.{not-false-true, or-right}
 use Rattle.model.proofs.Digits.{bit-none, bit-power, or-bit, same-set}
-use Rattle.model.proofs.Withdraw.{within-strangers}
-use Rattle.model.specs.Book.{Answer, Book, afterTaken, answer, answersFrom, bookFrom, enter, entered, refused, stranger}
-use Rattle.model.specs.Book.{strangers, taken, withdraw, withdrawAll, withdrawing, withWithdrawn}
+use Rattle.model.proofs.Withdraw.{within-unknown}
+use Rattle.model.specs.Book.{Answer, Book, afterTaken, answer, answersFrom, bookFrom, enter, entered, refused, unknownPosition}
+use Rattle.model.specs.Book.{unknownPositions, taken, withdraw, withdrawAll, withdrawing, withWithdrawn}
 use Rattle.model.specs.Firm.{firm}
 use Rattle.model.specs.Search.{bit, memb}
 use Rattle.model.specs.Task.{Table}
@@ -61,7 +61,7 @@ below-rest n q qs h i e = h i (or-right (eqb i q) (memb i qs) e)
 -- ONE BY ONE
 
 -- a position of the table is known
-known : (s : Table) (q : ℕ) → q < length (s .tasks) → stranger s (suc q) ≡ false
+known : (s : Table) (q : ℕ) → q < length (s .tasks) → unknownPosition s (suc q) ≡ false
 known s q l = rw (ne-eqb (suc q) 0 (λ e. omega arith), le-ltb (length (s .tasks)) (suc q) l)
 
 -- the answer to a withdrawal of positions of the table depends on rule and widths alone, so that all get the same
@@ -107,10 +107,10 @@ one-by-one s (q ∷ qs) h b =
 
 all-answer : (s : Table) (b : Book) (x : ℕ) → SetBelow (length (s .tasks)) x → answer s b (withdrawAll x) ≡ withdrawing s false
 unfolding answer
-all-answer s b x h = rw (within-strangers s x .1 h)
+all-answer s b x h = rw (within-unknown s x .1 h)
 
 -- an unknown position among them: 21 or 22, and the book stays
-none-out : (s : Table) (b : Book) (x : ℕ) → strangers s x ≡ true → enter s (withdrawAll x) b ≡ b
+none-out : (s : Table) (b : Book) (x : ℕ) → unknownPositions s x ≡ true → enter s (withdrawAll x) b ≡ b
 unfolding enter answer
 none-out s b x e = rw e (go (firm (s .rule) (s .tasks)))
   where
@@ -127,7 +127,7 @@ withdraw-set s b x = record {
       ∙ sym (one-by-one s qs (below-just (length (s .tasks)) x qs just h) b));
   each = λ h qs just.
       each-answer s qs (below-just (length (s .tasks)) x qs just h) b ∙ ap (replicate (length qs)) (sym (all-answer s b x h));
-  none = λ n. none-out s b x (not-false-true (strangers s x) (λ e. n (within-strangers s x .0 e)));
+  none = λ n. none-out s b x (not-false-true (unknownPositions s x) (λ e. n (within-unknown s x .0 e)));
 }
 
 -- of no position: 21 or taken, and the book stays

@@ -205,26 +205,26 @@ firstLate s b = least (length (s .tasks)) (late s b)
 unfoldable pub reportable : Table → Book → ℕ → Bool
 reportable s b p = (inRow s b p || borrows s b p) && not (newestEnded s b p)
 
--- some bit of the report set is set for anything else (a set x has no bit from x up: `misreported-exact`)
-unfoldable pub misreported : Table → Book → ℕ → Bool
-misreported s b x = any x (λ p. bit x p && not (reportable s b p))
+-- some bit of the report set is set for anything else (a set x has no bit from x up: `wrong-reports-exact`)
+unfoldable pub wrongReports : Table → Book → ℕ → Bool
+wrongReports s b x = any x (λ p. bit x p && not (reportable s b p))
 
 -- a bit may be set in the empties for a position of the table whose job is released in this tick and has not ended (`emptiable-exact`)
 unfoldable pub emptiable : Table → Book → ℕ → Bool
 emptiable s b p =
     ltb p (length (s .tasks)) && releasedNow s b p (newest (task s p) (b .tick)) && not (b .job p (newest (task s p) (b .tick)) .ended)
 
--- some bit of the empties is set for anything else (`misemptied-exact`)
-unfoldable pub misemptied : Table → Book → ℕ → Bool
-misemptied s b e = any e (λ p. bit e p && not (emptiable s b p))
+-- some bit of the empties is set for anything else (`wrong-empties-exact`)
+unfoldable pub wrongEmpties : Table → Book → ℕ → Bool
+wrongEmpties s b e = any e (λ p. bit e p && not (emptiable s b p))
 
--- an unknown position, one that is not in the table: 0, or past the last (`stranger-exact`)
-abbrev pub stranger : Table → ℕ → Bool
-stranger s p = eqb p 0 || ltb (length (s .tasks)) p
+-- an unknown position, one that is not in the table: 0, or past the last (`unknown-position-exact`)
+abbrev pub unknownPosition : Table → ℕ → Bool
+unknownPosition s p = eqb p 0 || ltb (length (s .tasks)) p
 
--- some bit of a set is set past the last position (`strangers-exact`)
-unfoldable pub strangers : Table → ℕ → Bool
-strangers s x = any x (λ p. bit x p && not (ltb p (length (s .tasks))))
+-- some bit of a set is set past the last position (`unknown-positions-exact`)
+unfoldable pub unknownPositions : Table → ℕ → Bool
+unknownPositions s x = any x (λ p. bit x p && not (ltb p (length (s .tasks))))
 
 -- the answer to a call: taken, or refused with number and position
 pub data Answer : Type 0 where
@@ -241,11 +241,11 @@ unfoldable pub answer : Table → Book → Entry → Answer
 answer s b (advance x e) =
     cond (ltb (firstLate s b) (length (s .tasks)))
     (refused 15 (suc (firstLate s b)))
-    (cond (misemptied s b e)
+    (cond (wrongEmpties s b e)
     (refused 20 0)
-    (cond (misreported s (emptied s (emptyIn b e) b) x) (refused 16 0) taken))
-answer s b (withdraw p) = withdrawing s (stranger s p)
-answer s b (withdrawAll x) = withdrawing s (strangers s x)
+    (cond (wrongReports s (emptied s (emptyIn b e) b) x) (refused 16 0) taken))
+answer s b (withdraw p) = withdrawing s (unknownPosition s p)
+answer s b (withdrawAll x) = withdrawing s (unknownPositions s x)
 
 -- the answer to a row asked: the row, or refused with number and position
 pub data Asked : Type 0 where
@@ -258,7 +258,7 @@ abbrev pub askedBy : (Book → List ℕ) → Table → Book → ℕ → Asked
 askedBy show s b e =
     cond (ltb (firstLate s b) (length (s .tasks)))
     (rowRefused 15 (suc (firstLate s b)))
-    (cond (misemptied s b e) (rowRefused 20 0) (shown (show (emptied s (emptyIn b e) b))))
+    (cond (wrongEmpties s b e) (rowRefused 20 0) (shown (show (emptied s (emptyIn b e) b))))
 
 -- a row asked
 unfoldable pub asked : Table → Book → ℕ → Asked

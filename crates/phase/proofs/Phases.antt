@@ -12,7 +12,7 @@ use Rattle.table.proofs.Decide.{Decides, decides-le, decides-lt, decides-eq, de
 use Rattle.phase.specs.declared.Phase.{Phase}
 use Rattle.phase.specs.declared.Phase.the-variants.{Coming, Working, Holding, Resting}
 use Rattle.phase.specs.declared.TaskState.{TaskState}
-use Rattle.phase.specs.Phase.{PhaseIn, idles, phaseIn, lateIn, released, emptyPhase, seen, taskState, startState, resting, holding, ended, worked, nextState}
+use Rattle.phase.specs.Phase.{PhaseIn, idles, phaseIn, lateIn, released, emptyPhase, phaseEmptied, taskState, startState, resting, holding, ended, worked, nextState}
 
 -- TESTS
 
@@ -151,10 +151,10 @@ module _ (r : Rule) (τ : Task) (ok : ValidTask τ) where
   next-in given lent f even j (Resting z) h n = resting-in even (z + 1) (omega arith) (omega arith)
 
   -- .. and so if its job, released in this tick, is empty
-  pub seen-in :
+  pub emptied-in :
       (empty given lent f even : Bool) → (lent ≡ true → r ≡ lending) → (ph : Phase) → PhaseIn r τ even ph → lateIn (τ .deadline) ph ≡ false
-      → StateIn r τ (nextState r τ given lent f even (seen r empty ph))
-  seen-in empty given lent f even j ph h n = go (empty && released ph)
+      → StateIn r τ (nextState r τ given lent f even (phaseEmptied r empty ph))
+  emptied-in empty given lent f even j ph h n = go (empty && released ph)
     where
       none : (x : Bool) → idles r ≡ x → StateIn r τ (nextState r τ given lent f even (cond x (Holding 0 0) (Resting 0)))
       none true e = next-in given lent f even j (Holding 0 0) (idles-decides r .0 e, ok .deadline-pos, ok .length-pos, omega arith) refl
@@ -172,8 +172,8 @@ module _ (r : Rule) (τ : Task) (ok : ValidTask τ) where
       (λ n. ((omega arith, omega arith), refl))
 
 -- an empty job is not late
-pub seen-late : (r : Rule) (D : ℕ) (empty : Bool) (ph : Phase) → lateIn D ph ≡ false → lateIn D (seen r empty ph) ≡ false
-seen-late r D empty ph n = go (empty && released ph)
+pub emptied-late : (r : Rule) (D : ℕ) (empty : Bool) (ph : Phase) → lateIn D ph ≡ false → lateIn D (phaseEmptied r empty ph) ≡ false
+emptied-late r D empty ph n = go (empty && released ph)
   where
     none : (x : Bool) → lateIn D (cond x (Holding 0 0) (Resting 0)) ≡ false
     none true = refl

@@ -83,8 +83,8 @@ abbrev pub emptyPhase : Rule → Phase
 emptyPhase r = cond (idles r) (Holding 0 0) (Resting 0)
 
 -- the phase as cores are chosen, by whether a job released in this tick is empty
-abbrev pub seen : Rule → Bool → Phase → Phase
-seen r empty ph = cond (empty && released ph) (emptyPhase r) ph
+abbrev pub phaseEmptied : Rule → Bool → Phase → Phase
+phaseEmptied r empty ph = cond (empty && released ph) (emptyPhase r) ph
 
 -- THE START AND ONE TICK
 

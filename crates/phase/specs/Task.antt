@@ -7,7 +7,7 @@ use Rattle.phase.specs.declared.Phase.{Phase}
 use Rattle.phase.specs.declared.Phase.the-variants.{Coming, Resting}
 use Rattle.phase.specs.declared.TaskState.{TaskState}
 use Rattle.phase.specs.declared.Task.{Task}
-use Rattle.phase.specs.Phase.{phaseIn, taskState, startState, seen, nextState}
+use Rattle.phase.specs.Phase.{phaseIn, taskState, startState, phaseEmptied, nextState}
 
 -- the task of the table that a task with its phase is; as in table/specs/Task: the model's task of a task in code
 abbrev pub taskOf : Task → model.Task
@@ -57,4 +57,4 @@ startTask τ = withState (startState (τ .offset)) τ
 -- is reported
 abbrev pub nextTask : model.Rule → Bool → Bool → Bool → Bool → Task → Task
 nextTask r empty given lent reported t =
-    withState (nextState r (taskOf t) given lent reported (t .even) (seen r empty (t .phase))) (taskOf t)
+    withState (nextState r (taskOf t) given lent reported (t .even) (phaseEmptied r empty (t .phase))) (taskOf t)

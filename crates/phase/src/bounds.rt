@@ -9,7 +9,7 @@ use crate::Task;
 
 impl Task {
     // The task of the table that it is.
-    pub fn plain(self) -> table::Task
+    pub fn parameters(self) -> table::Task
         ensures { λ r. ⌜ table.taskOf r ≡ taskOf self ⌝ }
     {
         table::Task {
@@ -46,7 +46,7 @@ impl Task {
     pub fn out(self, rule: u32, wide: u32) -> bool
         ensures { λ r. ⌜ r ≡ outIn wide (ruleOf rule) self ⌝ }
     {
-        let plain = self.plain();
+        let plain = self.parameters();
         !(table::limits::task_number(wide, plain) == 0) | !self.phase_in(rule)
     }
 

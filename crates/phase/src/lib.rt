@@ -4,7 +4,7 @@ ghost use Rattle.model.specs.Task.{ruleOf};
 ghost use Rattle.phase.specs.Phase.{claiming, idles, working};
 
 mod bounds; // bounds.rt: the limits of a task and its phase, and lateness
-mod looks; // looks.rt: a phase as it is seen when cores are chosen
+mod empties; // empties.rt: a phase as it is seen when cores are chosen
 mod moves; // moves.rt: one tick
 pub mod starts; // starts.rt: a task as it starts, and a place past the count
 

@@ -6,7 +6,7 @@ ghost use Rattle.model.specs.Sizes.{mostWord};
 ghost use Rattle.model.specs.Task.{ruleOf};
 ghost use Rattle.phase.specs.Phase.{resting, holding, ended, worked, nextState};
 ghost use Rattle.phase.specs.Task.{taskOf, nextTask};
-ghost use Rattle.phase.specs.Headroom.{HasRoom};
+ghost use Rattle.phase.specs.NoOverflow.{NoOverflow};
 use crate::Phase;
 use crate::Task;
 use crate::TaskState;
@@ -79,7 +79,7 @@ impl Task {
     // The state of the task one tick on from the seen phase, by whether it is given cores in this tick, whether it borrows some and whether
     // it is reported.
     fn stepped(self, rule: u32, given: bool, lent: bool, reported: bool, seen: Phase) -> TaskState
-        requires { ⌜ HasRoom seen ⌝ }
+        requires { ⌜ NoOverflow seen ⌝ }
         ensures { λ r. ⌜ r ≡ nextState (ruleOf rule) (taskOf self) given lent reported (self .even) seen ⌝ }
     {
         match seen {
@@ -116,11 +116,11 @@ impl Task {
     // The task one tick on, by whether its job is empty if it is released in this tick, whether it is given cores, whether it borrows some and whether
     // it is reported.
     pub fn next(self, rule: u32, empty: bool, given: bool, lent: bool, reported: bool) -> Task
-        requires { ⌜ HasRoom (self .phase) ⌝ }
+        requires { ⌜ NoOverflow (self .phase) ⌝ }
         ensures { λ r. ⌜ r ≡ nextTask (ruleOf rule) empty given lent reported self ⌝ }
     {
         let old = self.phase;
-        let seen = old.seen(rule, empty);
+        let seen = old.emptied(rule, empty);
         let state = self.stepped(rule, given, lent, reported, seen);
         let phase = state.phase;
         Task {

@@ -7,7 +7,7 @@ use Prim.Native.String.{String}
 use lib.ListN.{drop, length, replicate}
 use Rattle.model.proofs.Computing.{computing}
 use Rattle.model.proofs.LineByLine.{LineByLine, by-line}
-use Rattle.table.specs.Words.{met, count, chain, tableOf}
+use Rattle.table.specs.Words.{visited, count, chain, tableOf}
 use Rattle.table.specs.Answer.{headerNumber, lastStep, endingOf, firstOut, byHorizon, byTasks, byWalk, answerOf}
 use Rattle.table.proofs.Examples.{wordsA}
 use Rattle.plan.specs.declared.Planned.{Planned}
@@ -108,7 +108,7 @@ lines =
 
 -- every line is its value by the definitions, line by line
 computed : LineByLine worked lines lines
-unfolding plannedOf byPlan fullRowsFrom answerOf byWalk byTasks byHorizon firstOut endingOf lastStep headerNumber tableOf chain count met computing
+unfolding plannedOf byPlan fullRowsFrom answerOf byWalk byTasks byHorizon firstOut endingOf lastStep headerNumber tableOf chain count visited computing
 computed =
     let past-14 : LineByLine worked (drop 14 lines) (drop 14 lines) =
     (refl, (refl, (refl, (refl, (refl, (refl, (refl, (refl, (refl, (refl, (refl, (refl, (refl, (refl, (refl, (refl, tt)))))))))))))))) in

@@ -13,11 +13,11 @@ use Rattle.model.proofs.Search.{least-any, least-below, least-lowest}
 use Rattle.model.proofs.Faithful.{missed-exact, missed-in-exact}
 use Rattle.table.proofs.Decide.{Decides}
 use Rattle.judge.proofs.FirstMiss.{found}
-use Rattle.plan.specs.Numbers.{MissOut}
+use Rattle.plan.specs.Numbers.{MissBefore}
 
 module _ (s : Table) (ok : AllValid s) (b : ℕ) where
   -- one with a miss before b has a first
-  first : any b (missedIn s) ≡ true → MissOut s b
+  first : any b (missedIn s) ≡ true → MissBefore s b
   first e =
       let t : ℕ = least b (missedIn s) in
       let n : ℕ = length (s .tasks) in
@@ -32,7 +32,7 @@ module _ (s : Table) (ok : AllValid s) (b : ℕ) where
       (t, suc (least n (missedAt s t)), f, least-below b (missedIn s) e)
 
   -- b is above the tick of the first miss exactly if the test is true
-  pub miss-decides : Decides (any b (missedIn s)) (MissOut s b)
+  pub miss-decides : Decides (any b (missedIn s)) (MissBefore s b)
   miss-decides = (first, λ x. found s ok b (x .2 .place .0) (x .0) (x .3) (x .2 .missed))
 
   -- where it is false, every deadline before b is met

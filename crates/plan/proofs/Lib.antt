@@ -4,6 +4,6 @@ pub mod Exact
 pub mod Buffer
 pub mod Writing
 pub mod Cases
-pub mod Promise
+pub mod Contract
 pub mod OffChain
 pub mod Examples

@@ -14,8 +14,8 @@ use Rattle.model.proofs.Bools.{not-false-true}
 use Rattle.model.proofs.Starts.{hyperperiod-pos}
 use Rattle.model.specs.Horizon.{horizon}
 use Rattle.model.specs.Task.{AllValid, Table}
-use Rattle.plan_check.specs.Answers.{ValidBefore, DeadlineMissed, PlanOutcome, OutcomeFor, accepts, all-well, bad, late, late-end, past, phases, refuses, size, too-few, unfinished}
-use Rattle.plan_check.proofs.PlanBook.{Answer, PlanBook, accepted, after, planBookAnswer, check, checkFrom, finalAnswer, differs, faulty, lateNow, refused, takeRow}
+use Rattle.plan_check.specs.Answers.{ValidBefore, DeadlineMissed, PlanOutcome, OutcomeFor, accepts, all-valid, bad, late, late-end, past, phases, refuses, size, too-few, unfinished}
+use Rattle.plan_check.proofs.PlanBook.{Answer, PlanBook, accepted, after, planBookAnswer, check, checkFrom, finalBookAnswer, differs, faulty, lateNow, refused, takeRow}
 use Rattle.plan_check.specs.Plan.{Agree, ValidRow, rowAt}
 use Rattle.plan_check.proofs.Meets.{agree-differs, differs-agree, valid-right, late-found, late-not, not-late, right-valid}
 use Rattle.plan_check.proofs.Owed.{late-job, owedAt}
@@ -76,11 +76,11 @@ module _ (s : Table) (ok : AllValid s) (rows : List (List ℕ)) where
   row-24 t h e n f = rw (lt-leb H t h, eq-eqb (length (r t)) (s .cores) e, not-late s ok r t n, f)
 
   end-25 : (t : ℕ) → t ≡ H → DeadlineMissed s r t → planBookAnswer s (planBookAt s r t) ≡ refused 25 t
-  unfolding planBookAnswer finalAnswer
+  unfolding planBookAnswer finalBookAnswer
   end-25 t e x = rw (eq-eqb t H e, late-found s ok r t x)
 
   end-26 : (t : ℕ) → t ≡ H → ¬ DeadlineMissed s r t → differs s (planBookAt s r t) ≡ true → planBookAnswer s (planBookAt s r t) ≡ refused 26 t
-  unfolding planBookAnswer finalAnswer
+  unfolding planBookAnswer finalBookAnswer
   end-26 t e n d = rw (eq-eqb t H e, not-late s ok r t n, d)
 
   -- no deadline is missed up to t
@@ -88,19 +88,19 @@ module _ (s : Table) (ok : AllValid s) (rows : List (List ℕ)) where
   none-upto t b n u h =
       ⊎-elim (λ (e : u ≡ t). subst (λ (x : ℕ). ¬ DeadlineMissed s r x) (sym e) n) (λ (g : u < t). b u g .1) (eq-or-lt-of-le h)
 
-  well : ¬ DeadlineMissed s r H → Agree s r → Closing s r H
-  well n a = record { on-time = not-late s ok r H n; same = agree-differs s ok r a }
+  closing : ¬ DeadlineMissed s r H → Agree s r → Closing s r H
+  closing n a = record { on-time = not-late s ok r H n; same = agree-differs s ok r a }
 
   -- THE ANSWER IS THE ONE THAT THE ROWS HAVE
   outcome-check : (o : PlanOutcome) → OutcomeFor s rows o → check s rows ≡ o
-  outcome-check o (all-well e b n a) =
+  outcome-check o (all-valid e b n a) =
       ending accepts (omega arith) b (λ h q.
-      ap (λ x. on x h) (end-last s r (suc h) q (subst (Closing s r) (sym q) (well n a)))
+      ap (λ x. on x h) (end-last s r (suc h) q (subst (Closing s r) (sym q) (closing n a)))
       ∙ ap (λ (l : List (List ℕ)). after (accepted (planBookAt s r (suc h))) l (λ next. checkFrom s next l)) (drop-of-length-le rows {i = suc h} (omega arith)))
   outcome-check o (too-few l b) = reach (length rows) l (le-refl (length rows)) b ∙ ended s rows (length rows) (le-refl (length rows))
   outcome-check o (past l b n a) =
       ending (refuses 10 0) (omega arith) b (λ h q.
-      ap (λ x. on x h) (end-last s r (suc h) q (subst (Closing s r) (sym q) (well n a)))
+      ap (λ x. on x h) (end-last s r (suc h) q (subst (Closing s r) (sym q) (closing n a)))
       ∙ ap (λ (l : List (List ℕ)). after (accepted (planBookAt s r (suc h))) l (λ next. checkFrom s next l)) (drop-cons rows (suc h) [] (omega arith)))
   outcome-check o (size t h l b n) = at-row t 11 0 h l b (row-11 t h n)
   outcome-check o (late t h l b e x) = at-row t 25 t h l b (row-25 t h e x)
@@ -129,7 +129,7 @@ module _ (s : Table) (ok : AllValid s) (rows : List (List ℕ)) where
           → (o : PlanOutcome) × OutcomeFor s rows o
       go true e c f d g = (refuses 25 H, late-end l b (late-job s ok r H e))
       go false e true f d g = (refuses 26 H, phases l b (late-not s ok r H e) (λ a. true≢false (sym f ∙ agree-differs s ok r a)))
-      go false e false f true g = (accepts, all-well (sym (eqb-true H (length rows) g)) b (late-not s ok r H e) (differs-agree s ok r f))
+      go false e false f true g = (accepts, all-valid (sym (eqb-true H (length rows) g)) b (late-not s ok r H e) (differs-agree s ok r f))
       go false e false f false g = (refuses 10 0, past (omega (arith, eqb-false H (length rows) g)) b (late-not s ok r H e) (differs-agree s ok r f))
 
   -- one row more without a fault

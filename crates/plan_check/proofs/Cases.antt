@@ -14,13 +14,13 @@ use Rattle.plan_check.specs.State.{horizonIn}
 use Rattle.plan_check.specs.Take.{answerAt, takeAnswer, takeOf}
 use Rattle.plan_check.specs.declared.Answer.the-variants.{Refused}
 use Rattle.plan_check.specs.declared.Entered.{Entered}
-use Rattle.plan_check.specs.declared.Supplied.{Supplied}
+use Rattle.plan_check.specs.declared.SuppliedPlan.{SuppliedPlan}
 
 -- turned down, the state as given
-abbrev pub refusal : Supplied → ℕ → ℕ → Entered
+abbrev pub refusal : SuppliedPlan → ℕ → ℕ → Entered
 refusal w n t = record { answer = Refused n t; plan = w }
 
-module _ (w : Supplied) (row : List ℕ) where
+module _ (w : SuppliedPlan) (row : List ℕ) where
   -- 14 and 9, whatever the row is
   pub take-refused : ¬ (firstNumber (w .run) ≡ 0) → takeOf w row ≡ refusal w (firstNumber (w .run)) 0
   unfolding takeOf takeAnswer firstNumber

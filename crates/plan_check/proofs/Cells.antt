@@ -18,7 +18,7 @@ use Rattle.model.specs.Sizes.{fencedByte}
 use Rattle.model.specs.Task.{Rule, Table}
 use Rattle.cores.proofs.Ascending.{Range, getD-up, memb-below, memb-kept, range-kept, range-take, range-up, range-weaken}
 use Rattle.rule.proofs.Granting.{Apart, apart, in-grants, range-left}
-use Rattle.plan_check.specs.Plan.{Stranger, cellCount}
+use Rattle.plan_check.specs.Plan.{UnknownByte, cellCount}
 
 -- a core has no owner or one of the places listed
 owner-low : (c p : ℕ) (gs : List (List ℕ)) → (owner c p gs ≡ 0) ⊎ (p ≤ owner c p gs)
@@ -141,14 +141,14 @@ module _ (r : Rule) (bs : List Claimant) (fence m p : ℕ) (few : suc p < fenced
 
 -- a row holds no unknown position: 255 on a fenced core, and on another no byte past the last position
 pub row-known :
-    (s : Table) (gs : List (List ℕ)) → length gs ≤ length (s .tasks) → (c : ℕ) → c < s .cores → ¬ Stranger s c (getD (row (s .fence) (s .cores) gs) c 0)
+    (s : Table) (gs : List (List ℕ)) → length gs ≤ length (s .tasks) → (c : ℕ) → c < s .cores → ¬ UnknownByte s c (getD (row (s .fence) (s .cores) gs) c 0)
 unfolding row
 row-known s gs few c h = go (bit (s .fence) c) refl
   where
     at : getD (map (byteOf (s .fence) gs) (upFrom 0 (s .cores))) c 0 ≡ byteOf (s .fence) gs c
     at = getD-up (byteOf (s .fence) gs) 0 0 (s .cores) c h ∙ ap (byteOf (s .fence) gs) (zero-add c)
 
-    go : (b : Bool) → bit (s .fence) c ≡ b → ¬ Stranger s c (getD (map (byteOf (s .fence) gs) (upFrom 0 (s .cores))) c 0)
+    go : (b : Bool) → bit (s .fence) c ≡ b → ¬ UnknownByte s c (getD (map (byteOf (s .fence) gs) (upFrom 0 (s .cores))) c 0)
     go b e (inl (f, n)) = n (at ∙ ap (λ (t : Bool). cond t fencedByte (owner c 1 gs)) f)
     go b e (inr (f, l)) = omega (arith, at ∙ ap (λ (t : Bool). cond t fencedByte (owner c 1 gs)) f, owner-most c 0 gs)
 

@@ -31,7 +31,7 @@ use Rattle.plan_check.specs.Begin.{beginOf, begunBy, firstState}
 use Rattle.plan_check.specs.Checked.{Checked, OwnBuffer, OwnPlan, rowAnswersFrom, outcomeFrom, splitRows, outcomeOf, planRows}
 use Rattle.plan_check.specs.Plan.{rowAt}
 use Rattle.plan_check.specs.RowAnswer.{accepted, taken}
-use Rattle.plan_check.specs.declared.Supplied.{Supplied}
+use Rattle.plan_check.specs.declared.SuppliedPlan.{SuppliedPlan}
 use Rattle.plan_check.proofs.Answers.{check-outcome}
 use Rattle.plan_check.proofs.TakeAnswers.{all-taken, follow}
 use Rattle.plan_check.proofs.Exact.{check-exact}
@@ -39,7 +39,7 @@ use Rattle.plan_check.proofs.PlanBook.{PlanBook, check, checkFrom}
 use Rattle.plan_check.proofs.Own.{own-check, ownRow, ownRows}
 use Rattle.plan_check.proofs.Repeats.{acceptable-repeats}
 use Rattle.plan_check.proofs.Steps.{Passes, check-passes, starts}
-use Rattle.plan_check.proofs.Tied.{begun-tied}
+use Rattle.plan_check.proofs.StateRelated.{begun-related}
 
 module _ (ws : List ℕ) (none : NoneApplies ws) where
   abbrev s : Table
@@ -59,8 +59,8 @@ module _ (ws : List ℕ) (none : NoneApplies ws) where
   -- the list is answered as the plan book answers it
   pub outcome-check : (rows : List (List ℕ)) → outcomeOf ws rows ≡ check s rows
   outcome-check rows =
-      ap (λ (w : Supplied). outcomeFrom unfinished (rowAnswersFrom w rows)) begins
-      ∙ (follow s ok near rows (length rows) 0 (firstState ws) (zero-add (length rows)) (begun-tied ws none (rowAt rows)) (λ u h. absurd (not-suc-le-zero h))
+      ap (λ (w : SuppliedPlan). outcomeFrom unfinished (rowAnswersFrom w rows)) begins
+      ∙ (follow s ok near rows (length rows) 0 (firstState ws) (zero-add (length rows)) (begun-related ws none (rowAt rows)) (λ u h. absurd (not-suc-le-zero h))
       ∙ ap (λ (st : PlanBook). checkFrom s st rows) (sym (starts s (rowAt rows))))
 
   -- THE THEOREM OF A LIST OF ROWS
@@ -141,7 +141,7 @@ own-plans ws none never = go (horizon s) refl
         let x : (length (ownRows s) ≡ horizon s) × Passes s (ownRows s) 0 =
         check-passes s (ownRows s) (own-check s (passed-valid ws none) few never) in
         let less : h ≡ suc h - 1 = omega arith in
-        ap (λ (w : Supplied). rowAnswersFrom w (planRows s)) (begins ws none)
+        ap (λ (w : SuppliedPlan). rowAnswersFrom w (planRows s)) (begins ws none)
         ∙ (ap (rowAnswersFrom (firstState ws)) (own-written s)
-        ∙ (all-taken s (ok ws none) (near ws none) (ownRows s) (x .1) (x .0) h 0 (firstState ws) (omega arith) (begun-tied ws none (rowAt (ownRows s)))
+        ∙ (all-taken s (ok ws none) (near ws none) (ownRows s) (x .1) (x .0) h 0 (firstState ws) (omega arith) (begun-related ws none (rowAt (ownRows s)))
         ∙ ap (λ (n : ℕ). replicate n taken ++ (accepted ∷ [])) less))

@@ -18,11 +18,11 @@ use Rattle.run.proofs.Limits.{run-decides}
 use Rattle.run.specs.Numbers.{PlaceLate, lateAt}
 use Rattle.run.specs.Run.{phaseAt, placeAt}
 use Rattle.run.specs.declared.Run.{Run}
-use Rattle.plan_check.specs.Numbers.{AnyLate, UnreachablePhase, Differs, Faulty, WorkOwed, StateOut, StrangerAt, WrongAt, unreachablePhase, differs, missed, samePhase, stateOut}
+use Rattle.plan_check.specs.Numbers.{AnyLate, UnreachablePhase, Differs, Faulty, WorkOwed, StateOut, UnknownByteAt, WrongAt, unreachablePhase, differs, missed, samePhase, stateOut}
 use Rattle.plan_check.specs.Plan.{cellCount}
-use Rattle.plan_check.specs.Row.{byteAt, faulty, strangerAt, anyStranger, wrongAt}
+use Rattle.plan_check.specs.Row.{byteAt, faulty, unknownByteAt, anyUnknownByte, wrongAt}
 use Rattle.plan_check.specs.State.{notedAt}
-use Rattle.plan_check.specs.declared.Supplied.{Supplied}
+use Rattle.plan_check.specs.declared.SuppliedPlan.{SuppliedPlan}
 use Rattle.plan_check.proofs.SamePhase.{same-phase}
 
 -- 14
@@ -51,11 +51,11 @@ missed-decides r = decides-any (r .count) (lateAt r) (PlaceLate r) (late-decides
 
 -- 24
 
-stranger-decides : (r : Run) (row : List ℕ) (c : ℕ) → Decides (strangerAt (r .fence) (r .count) row c) (StrangerAt r row c)
-stranger-decides r row c = go (bit (r .fence) c) refl
+unknown-decides : (r : Run) (row : List ℕ) (c : ℕ) → Decides (unknownByteAt (r .fence) (r .count) row c) (UnknownByteAt r row c)
+unknown-decides r row c = go (bit (r .fence) c) refl
   where
     go : (b : Bool) → bit (r .fence) c ≡ b
-        → Decides (cond b (not (eqb (byteAt row c) fencedByte)) (ltb (r .count) (byteAt row c))) (StrangerAt r row c)
+        → Decides (cond b (not (eqb (byteAt row c) fencedByte)) (ltb (r .count) (byteAt row c))) (UnknownByteAt r row c)
     go true e = (
       λ h. inl (e, decides-not _ _ (decides-eq (byteAt row c) fencedByte) .0 h),
       λ x. ⊎-elim (λ h. decides-not _ _ (decides-eq (byteAt row c) fencedByte) .1 (h .1)) (λ h. absurd (true≢false (sym e ∙ h .0))) x,
@@ -75,24 +75,24 @@ owed-decides r p = (there (phaseAt r p), λ x. ap working (x .3))
     there (Resting z) e = absurd (false≢true e)
 
 -- not both: not the one, or not the other
-nand : (a b : Bool) (P Q : Type 0) → Decides a P → Decides b Q → Decides (not (a && b)) ((¬ P) ⊎ (¬ Q))
-nand true b P Q c d = (λ e. inr (decides-not b Q d .0 e), λ x. ⊎-elim (λ p. absurd (p (c .0 refl))) (λ q. decides-not b Q d .1 q) x)
-nand false b P Q c d = (λ e. inl (decides-not false P c .0 refl), λ x. refl)
+not-both : (a b : Bool) (P Q : Type 0) → Decides a P → Decides b Q → Decides (not (a && b)) ((¬ P) ⊎ (¬ Q))
+not-both true b P Q c d = (λ e. inr (decides-not b Q d .0 e), λ x. ⊎-elim (λ p. absurd (p (c .0 refl))) (λ q. decides-not b Q d .1 q) x)
+not-both false b P Q c d = (λ e. inl (decides-not false P c .0 refl), λ x. refl)
 
 wrong-decides : (r : Run) (row : List ℕ) (p : ℕ) → Decides (wrongAt r row p) (WrongAt r row p)
 wrong-decides r row p =
     decides-and _ _ _ _ (λ e. e, λ e. e)
-    (nand _ _ _ _ (decides-eq (cellCount (suc p) row) (widthNow (placeAt r p))) (owed-decides r p))
+    (not-both _ _ _ _ (decides-eq (cellCount (suc p) row) (widthNow (placeAt r p))) (owed-decides r p))
 
 pub faulty-decides : (r : Run) (row : List ℕ) → Decides (faulty r row) (Faulty r row)
-unfolding faulty anyStranger
+unfolding faulty anyUnknownByte
 faulty-decides r row =
-    decides-or _ _ _ _ (decides-any (length row) (strangerAt (r .fence) (r .count) row) (StrangerAt r row) (stranger-decides r row))
+    decides-or _ _ _ _ (decides-any (length row) (unknownByteAt (r .fence) (r .count) row) (UnknownByteAt r row) (unknown-decides r row))
     (decides-any (r .count) (wrongAt r row) (WrongAt r row) (wrong-decides r row))
 
 -- 26
 
-pub differs-decides : (w : Supplied) → Decides (differs w) (Differs w)
+pub differs-decides : (w : SuppliedPlan) → Decides (differs w) (Differs w)
 unfolding differs
 differs-decides w =
     decides-any (w .run .count) (λ p. not (samePhase (phaseAt (w .run) p) (notedAt w p))) (λ p. ¬ (phaseAt (w .run) p ≡ notedAt w p))

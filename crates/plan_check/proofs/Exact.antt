@@ -23,7 +23,7 @@ module _ (s : Table) (ok : AllValid s) (rows : List (List ℕ)) where
   acceptable : Passes s rows 0 → length rows ≡ horizon s → Acceptable s rows
   acceptable x e = record {
     count = e;
-    fine = valid-row;
+    rows-valid = valid-row;
     done = λ p k l h.
         le-antisymm
         (had-most s ok r p l k (due (task s p) k) (λ u g. valid-row u (omega arith)) (omega (arith, ok p l .constrained)))
@@ -43,7 +43,7 @@ module _ (s : Table) (ok : AllValid s) (rows : List (List ℕ)) where
 
   passes : Acceptable s rows → Passes s rows 0
   passes a = record {
-    ok = λ t g h. record { size = a .fine t h .size; on-time = not-late s ok r t (timely t (omega arith)); right = valid-right s ok r t (a .fine t h) };
+    ok = λ t g h. record { size = a .rows-valid t h .size; on-time = not-late s ok r t (timely t (omega arith)); right = valid-right s ok r t (a .rows-valid t h) };
     closing = record { on-time = not-late s ok r (horizon s) (timely (horizon s) (le-refl (horizon s))); same = agree-differs s ok r (a .agree) };
   }
     where

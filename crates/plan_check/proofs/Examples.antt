@@ -16,13 +16,13 @@ use Rattle.run.specs.Run.{mapFirst}
 use Rattle.run.specs.Start.{startedRun}
 use Rattle.table.proofs.Examples.{wordsA}
 use Rattle.table.specs.Answer.{answerOf, byHorizon, byTasks, byWalk, endingOf, firstOut, headerNumber, lastStep}
-use Rattle.table.specs.Words.{chain, count, met, tableOf}
+use Rattle.table.specs.Words.{chain, count, visited, tableOf}
 use Rattle.plan_check.specs.Answers.{PlanOutcome, accepts, refuses, unfinished}
 use Rattle.plan_check.specs.Begin.{beginOf}
 use Rattle.plan_check.specs.Checked.{rowAnswersFrom, rowAnswersOf, outcomeFrom, outcomeOf, planRows}
 use Rattle.plan_check.specs.Numbers.{differs, missed, stateOut}
 use Rattle.plan_check.specs.Plan.{cellCount, phaseBy, repeated, rowAt, ticks}
-use Rattle.plan_check.specs.Row.{faulty, anyStranger, workedRow}
+use Rattle.plan_check.specs.Row.{faulty, anyUnknownByte, workedRow}
 use Rattle.plan_check.specs.RowAnswer.{RowAnswer, accepted, refused, taken}
 use Rattle.plan_check.specs.Take.{answerAt, finalAnswer, takeAnswer, takeOf}
 
@@ -199,8 +199,8 @@ lines =
 
 -- every line is its value by the definitions, line by line
 computed : LineByLine computes lines lines
-unfolding rowAnswersFrom outcomeFrom beginOf takeOf takeAnswer answerAt finalAnswer differs missed stateOut faulty anyStranger workedRow cellCount startedRun mapFirst runOut pastCount
-    answerOf byWalk byTasks byHorizon firstOut endingOf lastStep headerNumber tableOf chain count met computing
+unfolding rowAnswersFrom outcomeFrom beginOf takeOf takeAnswer answerAt finalAnswer differs missed stateOut faulty anyUnknownByte workedRow cellCount startedRun mapFirst runOut pastCount
+    answerOf byWalk byTasks byHorizon firstOut endingOf lastStep headerNumber tableOf chain count visited computing
 computed =
     let past-42 : LineByLine computes (drop 42 lines) (drop 42 lines) =
     (refl, (refl, (refl, (refl, tt)))) in
@@ -220,14 +220,14 @@ pub own-rows :
     × (planRows (tableOf fencedA) ≡ five 255 1 1 255 3 ∷ five 255 1 1 255 3 ∷ five 255 2 2 255 3 ∷ five 255 2 2 255 3 ∷ five 255 2 2 255 0 ∷ [])
     × (planRows (tableOf pairs) ≡ two 1 0 ∷ two 1 1 ∷ [])
     × (verdict (tableOf (ruledA 2)) ≡ Miss 5 3)
-unfolding fullRowsFrom tableOf chain count met computing
+unfolding fullRowsFrom tableOf chain count visited computing
 own-rows = (refl, refl, refl, refl)
 
 -- the rows of `later` for all ticks, as the first of its accepted plans repeats: the last S is 1, so that the first row never comes again
 pub for-ever :
     map (repeated (tableOf later) (two 0 0 ∷ two 1 2 ∷ two 0 0 ∷ [])) (upFrom 0 8)
     ≡ two 0 0 ∷ two 1 2 ∷ two 0 0 ∷ two 1 2 ∷ two 0 0 ∷ two 1 2 ∷ two 0 0 ∷ two 1 2 ∷ []
-unfolding tableOf chain count met computing
+unfolding tableOf chain count visited computing
 for-ever = refl
 
 -- the phases of a plan of `openAtS` up to the horizon, by the rows: at the last S, 3, and on the horizon, 7, task 1 is as far, and so is task 2
@@ -236,5 +236,5 @@ pub phases :
     ≡ Working 0 0 0 ∷ Working 1 1 1 ∷ Working 2 1 1 ∷ Working 3 1 1 ∷ Working 0 0 0 ∷ Working 1 0 0 ∷ Working 2 1 1 ∷ Working 3 1 1 ∷ [])
     × (map (phaseBy (tableOf openAtS) (rowAt rowsOpen) 1) (upFrom 0 8)
     ≡ Coming 3 ∷ Coming 2 ∷ Coming 1 ∷ Working 0 0 0 ∷ Working 1 0 0 ∷ Resting 2 ∷ Resting 3 ∷ Working 0 0 0 ∷ [])
-unfolding phaseBy ticks cellCount tableOf chain count met computing
+unfolding phaseBy ticks cellCount tableOf chain count visited computing
 phases = (refl, refl)

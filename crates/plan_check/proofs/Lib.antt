@@ -25,7 +25,7 @@ pub mod Cases
 pub mod Order
 pub mod Taking
 pub mod Past
-pub mod Tied
+pub mod StateRelated
 pub mod TakeAnswers
 pub mod Cells
 pub mod Own

@@ -9,7 +9,7 @@ use lib.Dec.{eqb, ltb}
 use borrow.Author.Tests.{ltb-false, ltb-true}
 use Rattle.table.specs.Numbers.{placeFrom}
 use Rattle.plan_check.specs.Numbers.{Applies, Earlier, First, eleven, fourteen, inTick, late-last, late-now, nine, order, ten, twenty-four, twenty-six}
-use Rattle.plan_check.specs.declared.Supplied.{Supplied}
+use Rattle.plan_check.specs.declared.SuppliedPlan.{SuppliedPlan}
 
 -- a number of a later place is not checked before ..
 pub later : (m s n t : ℕ) → placeFrom 1 order n < placeFrom 1 order m → ¬ Earlier m s n t
@@ -34,7 +34,7 @@ numberAt p k =
     cond (eqb p 1) 14 (cond (eqb p 2) 9 (cond (eqb p 3) 10 (cond (eqb p 4) 11 (cond (eqb k 1) 25 (cond (eqb k 2) 24 26)))))
 
 -- a number that applies is that of its place
-known : (w : Supplied) (row : List ℕ) (n t : ℕ) → Applies w row n t → n ≡ numberAt (placeFrom 1 order n) (placeFrom 1 inTick n)
+known : (w : SuppliedPlan) (row : List ℕ) (n t : ℕ) → Applies w row n t → n ≡ numberAt (placeFrom 1 order n) (placeFrom 1 inTick n)
 known w row n t (fourteen h) = refl
 known w row n t (nine h) = refl
 known w row n t (ten h) = refl
@@ -54,7 +54,7 @@ same-unless a b p q = go (ltb a b) refl (ltb b a) refl
     go false e false f = omega (arith, ltb-false a b e, ltb-false b a f)
 
 -- so one at most is the first of the numbers that apply
-pub first-only : (w : Supplied) (row : List ℕ) (n t m s : ℕ) → First w row n t → First w row m s → (n ≡ m) × (t ≡ s)
+pub first-only : (w : SuppliedPlan) (row : List ℕ) (n t m s : ℕ) → First w row n t → First w row m s → (n ≡ m) × (t ≡ s)
 first-only w row n t m s f g = (known w row n t (f .0) ∙ (ap₂ numberAt place tick-place ∙ sym (known w row m s (g .0))), tick)
   where
     there : ¬ Earlier n t m s

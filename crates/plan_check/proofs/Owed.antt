@@ -15,15 +15,15 @@ use Rattle.model.proofs.Search.{any-some, none-any, none-at}
 use Rattle.model.specs.Search.{any, bit}
 use Rattle.model.specs.Sizes.{fencedByte}
 use Rattle.model.specs.Task.{AllValid, Table, Task, due, newest, release, task, widthOf}
-use Rattle.plan_check.proofs.PlanBook.{dueAt, faulty, lateNow, opened, releasedAt, strangerAt, workedRow, wrongAt}
-use Rattle.plan_check.specs.Plan.{Stranger, cellCount, hadInRows, runs}
+use Rattle.plan_check.proofs.PlanBook.{dueAt, faulty, lateNow, opened, releasedAt, unknownByteIn, owedAfterRow, wrongAt}
+use Rattle.plan_check.specs.Plan.{UnknownByte, cellCount, hadInRows, runs}
 use Rattle.plan_check.proofs.Newest.{newest-begun, newest-release, newest-step}
 use Rattle.plan_check.proofs.Ticks.{ticks-none, ticks-on}
 
 -- what is owed at the start of tick t, before the jobs released at it
 unfoldable pub owedAt : Table → (ℕ → List ℕ) → ℕ → ℕ → ℕ
 owedAt s r zero = λ p. 0
-owedAt s r (suc t) = workedRow s t (owedAt s r t) (r t)
+owedAt s r (suc t) = owedAfterRow s t (owedAt s r t) (r t)
 
 -- and after
 abbrev pub openAt : Table → (ℕ → List ℕ) → ℕ → ℕ → ℕ
@@ -47,7 +47,7 @@ module _ (s : Table) (ok : AllValid s) (r : ℕ → List ℕ) (p : ℕ) (l : p <
 
   -- a tick takes one from a place in the row, and without a release nothing is added
   pub owed-next : (t : ℕ) → owedAt s r (suc t) p ≡ openAt s r t p - cond (runs r p t) 1 0
-  unfolding owedAt workedRow
+  unfolding owedAt owedAfterRow
   owed-next t = refl
 
   pub unreleased : (t : ℕ) → releasedAt τ t ≡ false → openAt s r t p ≡ owedAt s r t p
@@ -154,7 +154,7 @@ module _ (s : Table) (ok : AllValid s) (r : ℕ → List ℕ) where
 
 -- 24: the row's test, for any ticks owed
 pub record Right (s : Table) (t : ℕ) (o : ℕ → ℕ) (row : List ℕ) : Type 0 where
-  pub known : (c : ℕ) → c < length row → ¬ Stranger s c (getD row c 0)
+  pub known : (c : ℕ) → c < length row → ¬ UnknownByte s c (getD row c 0)
   pub wide :
       (p : ℕ) → p < length (s .tasks) → ltb 0 (cellCount (suc p) row) ≡ true
       → cellCount (suc p) row ≡ widthOf (task s p) (newest (task s p) t)
@@ -165,18 +165,18 @@ or-left-false true b e = e
 or-left-false false b e = refl
 
 -- an unknown position is one by its test, and the other way round
-pub stranger-decides : (s : Table) (row : List ℕ) (c : ℕ) → (strangerAt s row c ≡ true) ↔ Stranger s c (getD row c 0)
-unfolding strangerAt
-stranger-decides s row c = (there (bit (s .fence) c) refl, back)
+pub unknown-decides : (s : Table) (row : List ℕ) (c : ℕ) → (unknownByteIn s row c ≡ true) ↔ UnknownByte s c (getD row c 0)
+unfolding unknownByteIn
+unknown-decides s row c = (there (bit (s .fence) c) refl, back)
   where
     x : ℕ
     x = getD row c 0
 
-    there : (b : Bool) → bit (s .fence) c ≡ b → cond b (not (eqb x fencedByte)) (ltb (length (s .tasks)) x) ≡ true → Stranger s c x
+    there : (b : Bool) → bit (s .fence) c ≡ b → cond b (not (eqb x fencedByte)) (ltb (length (s .tasks)) x) ≡ true → UnknownByte s c x
     there true e q = inl (e, eqb-false x fencedByte (not-true (eqb x fencedByte) q))
     there false e q = inr (e, ltb-true (length (s .tasks)) x q)
 
-    back : Stranger s c x → cond (bit (s .fence) c) (not (eqb x fencedByte)) (ltb (length (s .tasks)) x) ≡ true
+    back : UnknownByte s c x → cond (bit (s .fence) c) (not (eqb x fencedByte)) (ltb (length (s .tasks)) x) ≡ true
     back (inl (e, n)) = rw (e, ne-eqb x fencedByte n)
     back (inr (e, l)) = rw (e, lt-ltb (length (s .tasks)) x l)
 
@@ -184,8 +184,8 @@ pub faulty-right : (s : Table) (t : ℕ) (o : ℕ → ℕ) (row : List ℕ) → 
 unfolding faulty
 faulty-right s t o row e = record {
   known = λ c l q.
-      true≢false (sym (stranger-decides s row c .1 q)
-      ∙ none-at (length row) (strangerAt s row) c (or-left-false (any (length row) (strangerAt s row)) (any (length (s .tasks)) (wrongAt s t o row)) e) l);
+      true≢false (sym (unknown-decides s row c .1 q)
+      ∙ none-at (length row) (unknownByteIn s row) c (or-left-false (any (length row) (unknownByteIn s row)) (any (length (s .tasks)) (wrongAt s t o row)) e) l);
   wide = λ p l q. eqb-true (cellCount (suc p) row) (width p) (and-left (eqb (cellCount (suc p) row) (width p)) (ltb 0 (opened s t o p)) (both p l q));
   owed = λ p l q. ltb-true 0 (opened s t o p) (and-right (eqb (cellCount (suc p) row) (width p)) (ltb 0 (opened s t o p)) (both p l q));
 }
@@ -203,13 +203,13 @@ faulty-right s t o row e = record {
         second (ltb 0 (cellCount (suc p) row)) (eqb (cellCount (suc p) row) (width p) && ltb 0 (opened s t o p)) q
         (unfold wrongAt in
         none-at (length (s .tasks)) (wrongAt s t o row) p
-        (or-right-false (any (length row) (strangerAt s row)) (any (length (s .tasks)) (wrongAt s t o row)) e) l)
+        (or-right-false (any (length row) (unknownByteIn s row)) (any (length (s .tasks)) (wrongAt s t o row)) e) l)
 
 pub right-faulty : (s : Table) (t : ℕ) (o : ℕ → ℕ) (row : List ℕ) → Right s t o row → faulty s t o row ≡ false
 unfolding faulty
 right-faulty s t o row x =
     rw (
-      none-any (length row) (strangerAt s row) (λ c l. not-true-false (strangerAt s row c) (λ q. x .known c l (stranger-decides s row c .0 q))),
+      none-any (length row) (unknownByteIn s row) (λ c l. not-true-false (unknownByteIn s row c) (λ q. x .known c l (unknown-decides s row c .0 q))),
       none-any (length (s .tasks)) (wrongAt s t o row) (λ p l. unfold wrongAt in fine p l (ltb 0 (cellCount (suc p) row)) refl),
     )
   where

@@ -27,7 +27,7 @@ use Rattle.model.specs.Task.{AllValid, Table, Task, due, newest, absentTask, re
 use Rattle.rule.proofs.Granting.{idle, width-or-none}
 use Rattle.plan_check.specs.Answers.{accepts}
 use Rattle.plan_check.proofs.PlanBook.{check}
-use Rattle.plan_check.specs.Plan.{Acceptable, ValidRow, InTime, Owed, Stranger, cellCount, hadInRows, phaseAfter, phaseBy, rowAt, runs, ticks}
+use Rattle.plan_check.specs.Plan.{Acceptable, ValidRow, InTime, Owed, UnknownByte, cellCount, hadInRows, phaseAfter, phaseBy, rowAt, runs, ticks}
 use Rattle.plan_check.proofs.Cells.{row-cells, row-known, some-cells}
 use Rattle.plan_check.proofs.Exact.{check-exact}
 use Rattle.plan_check.proofs.Newest.{newest-begun, newest-later, newest-next, newest-only, offset-last, since-later}
@@ -233,7 +233,7 @@ module _ (s : Table) (ok : AllValid s) (few : length (s .tasks) < fencedByte) wh
   own-valid : (t : ℕ) → ValidRow s (ownRow s) t
   own-valid t = record {
     size = ap length (full-row s t) ∙ row-length (s .fence) (s .cores) (grantsOf s (full s t));
-    known = λ c h. subst (λ (bytes : List ℕ). ¬ Stranger s c (getD bytes c 0)) (sym (full-row s t)) (row-known s (grantsOf s (full s t)) count c h);
+    known = λ c h. subst (λ (bytes : List ℕ). ¬ UnknownByte s c (getD bytes c 0)) (sym (full-row s t)) (row-known s (grantsOf s (full s t)) count c h);
     works = λ p l e. (newest (task s p) t, own-owed p l t e, own-wide p t l e);
   }
     where
@@ -257,7 +257,7 @@ module _ (s : Table) (ok : AllValid s) (few : length (s .tasks) < fencedByte) wh
   pub own-acceptable : NeverMissed s → Acceptable s (ownRows s)
   own-acceptable nm = record {
     count = own-count;
-    fine = λ t h. valid-same s (ownRow s) (rowAt (ownRows s)) t (λ u g. own-at u (omega arith)) (own-valid t);
+    rows-valid = λ t h. valid-same s (ownRow s) (rowAt (ownRows s)) t (λ u g. own-at u (omega arith)) (own-valid t);
     done = λ p k l h. done-same s (ownRow s) (rowAt (ownRows s)) p k (λ u g. own-at u (omega arith)) (own-done p l nm k);
     agree = λ p l. sym (same p (lastS (s .tasks)) below) ∙ (own-agree p l ∙ same p (horizon s) (le-refl (horizon s)));
   }

@@ -10,7 +10,7 @@ use Rattle.model.proofs.Bools.{or-right-false}
 use Rattle.model.proofs.Search.{none-any, none-at}
 use Rattle.model.specs.Search.{any}
 use Rattle.model.specs.Task as model
-use Rattle.phase.proofs.Phases.{seen-in}
+use Rattle.phase.proofs.Phases.{emptied-in}
 use Rattle.phase.specs.Phase.{PhaseIn, ended, nextState, resting, taskState}
 use Rattle.phase.specs.Task.{pastEnd, taskOf}
 use Rattle.phase.specs.declared.Phase.{Phase}
@@ -19,7 +19,7 @@ use Rattle.phase.specs.declared.Task.{Task}
 use Rattle.run.proofs.Limits.{Passes, in-array, or-left-false, passes-if, passes-runs, valid-if}
 use Rattle.run.proofs.Places.{mapFirst-at, take-kept}
 use Rattle.run.proofs.StartPasses.{start-passes, started-at}
-use Rattle.run.specs.Numbers.{lateAt, runOut, wideIn}
+use Rattle.run.specs.Numbers.{lateAt, runOut, widthLimitIn}
 use Rattle.run.specs.Run.{evenAt, phaseAt, placeAt, ruleIn, runTaskAt, tasksIn}
 use Rattle.run.specs.Start.{startedRun}
 use Rattle.run.specs.declared.Run.{Run}
@@ -56,41 +56,41 @@ state-passes r h = rw (passes-runs r (h .run), eq-eqb (r .withdrawn) 0 (h .prese
 
 -- THE BEGINNING
 
-start-straight : (O : ℕ) (b : Bool) → unreachablePhase (cond b (Working 0 0 0) (Coming O)) ≡ false
-start-straight O true = refl
-start-straight O false = refl
+start-reachable : (O : ℕ) (b : Bool) → unreachablePhase (cond b (Working 0 0 0) (Coming O)) ≡ false
+start-reachable O true = refl
+start-reachable O false = refl
 
 pub started-state : (ws : List ℕ) → NoneApplies ws → StatePasses (startedRun (rule ws) (tableOf ws))
 started-state ws none = record {
   run = start-passes ws none;
   present = unfold startedRun in refl;
-  straight = straight;
+  straight = reachable;
 }
   where
-    straight : (p : ℕ) → p < startedRun (rule ws) (tableOf ws) .count → unreachablePhase (phaseAt (startedRun (rule ws) (tableOf ws)) p) ≡ false
-    straight p l = unfold startedRun in
+    reachable : (p : ℕ) → p < startedRun (rule ws) (tableOf ws) .count → unreachablePhase (phaseAt (startedRun (rule ws) (tableOf ws)) p) ≡ false
+    reachable p l = unfold startedRun in
         ap (λ (t : Task). unreachablePhase (t .phase)) (started-at (tableOf ws .tasks) _ p l)
-        ∙ start-straight (model.task (tableOf ws) p .offset) (eqb (model.task (tableOf ws) p .offset) 0)
+        ∙ start-reachable (model.task (tableOf ws) p .offset) (eqb (model.task (tableOf ws) p .offset) 0)
 
 -- A ROW
 
-rest-straight : (τ : model.Task) (e : Bool) (z : ℕ) → unreachablePhase (resting τ e z .phase) ≡ false
-rest-straight τ e z = go (eqb z (τ .period))
+rest-reachable : (τ : model.Task) (e : Bool) (z : ℕ) → unreachablePhase (resting τ e z .phase) ≡ false
+rest-reachable τ e z = go (eqb z (τ .period))
   where
     go : (b : Bool) → unreachablePhase (cond b (taskState (not e) (Working 0 0 0)) (taskState e (Resting z)) .phase) ≡ false
     go true = refl
     go false = refl
 
 -- where nothing is reported or lent, a task with equal counts keeps them equal, and none comes to hold
-next-straight :
+next-reachable :
     (r : model.Rule) (τ : model.Task) (given e : Bool) (ph : Phase) → unreachablePhase ph ≡ false → unreachablePhase (nextState r τ given false false e ph .phase) ≡ false
-next-straight r τ given e (Coming left) h = go (eqb (left - 1) 0)
+next-reachable r τ given e (Coming left) h = go (eqb (left - 1) 0)
   where
     go : (b : Bool) → unreachablePhase (cond b (Working 0 0 0) (Coming (left - 1))) ≡ false
     go true = refl
     go false = refl
-next-straight r τ false e (Working z had reserved) h = h
-next-straight r τ true e (Working z had reserved) h = go (eqb (had + 1) (τ .length)) refl
+next-reachable r τ false e (Working z had reserved) h = h
+next-reachable r τ true e (Working z had reserved) h = go (eqb (had + 1) (τ .length)) refl
   where
     same : reserved ≡ had
     same = eqb-true reserved had (not-false (eqb reserved had) h)
@@ -99,10 +99,10 @@ next-straight r τ true e (Working z had reserved) h = go (eqb (had + 1) (τ .le
         → unreachablePhase (cond b (ended r τ e (z + 1) (reserved + 1)) (taskState e (Working (z + 1) (had + 1) (reserved + 1))) .phase) ≡ false
     go true q =
         let all : reserved + 1 ≡ τ .length = ap (λ (n : ℕ). n + 1) same ∙ eqb-true (had + 1) (τ .length) q in
-        rw (end-rests r τ e (z + 1) (reserved + 1) all) (rest-straight τ e (z + 1))
+        rw (end-rests r τ e (z + 1) (reserved + 1) all) (rest-reachable τ e (z + 1))
     go false q = let equal : reserved + 1 ≡ had + 1 = ap (λ (n : ℕ). n + 1) same in rw (eq-eqb (reserved + 1) (had + 1) equal)
-next-straight r τ given e (Holding z reserved) h = absurd (true≢false h)
-next-straight r τ given e (Resting z) h = rest-straight τ e (z + 1)
+next-reachable r τ given e (Holding z reserved) h = absurd (true≢false h)
+next-reachable r τ given e (Resting z) h = rest-reachable τ e (z + 1)
 
 module _ (r : Run) (row : List ℕ) where
   -- the tasks stay
@@ -117,7 +117,7 @@ module _ (r : Run) (row : List ℕ) where
     worked-at p l = mapFirst-at (workedAt r row) (r .count) (r .tasks) p pastEnd l (in-array r p (h .tasks p l))
 
   pub worked-passes : StatePasses r → missed r ≡ false → StatePasses (workedRow r row)
-  worked-passes x m = record { run = run; present = unfold workedRow in x .present; straight = straight }
+  worked-passes x m = record { run = run; present = unfold workedRow in x .present; straight = reachable }
     where
       h : Passes r
       h = x .run
@@ -132,14 +132,14 @@ module _ (r : Run) (row : List ℕ) where
         rule = h .rule;
         fence = h .fence;
         withdrawn = h .withdrawn;
-        tasks = λ p l. subst (λ (t : Task). taskOut (wideIn r) (taskOf t) ≡ false) (sym (worked-at h p l)) (h .tasks p l);
+        tasks = λ p l. subst (λ (t : Task). taskOut (widthLimitIn r) (taskOf t) ≡ false) (sym (worked-at h p l)) (h .tasks p l);
         phases = λ p l.
             subst (λ (t : Task). PhaseIn (ruleIn r) (taskOf t) (t .even) (t .phase)) (sym (worked-at h p l))
-            (seen-in (ruleIn r) (runTaskAt r p) (valid-if (wideIn r) (runTaskAt r p) (h .tasks p l)) false (shownInRow row p) false false
+            (emptied-in (ruleIn r) (runTaskAt r p) (valid-if (widthLimitIn r) (runTaskAt r p) (h .tasks p l)) false (shownInRow row p) false false
             (evenAt r p) (λ e. absurd (false≢true e)) (phaseAt r p) (h .phases p l) (on-time p l));
       }
 
-      straight : (p : ℕ) → p < workedRow r row .count → unreachablePhase (phaseAt (workedRow r row) p) ≡ false
-      straight p l = unfold workedRow in
+      reachable : (p : ℕ) → p < workedRow r row .count → unreachablePhase (phaseAt (workedRow r row) p) ≡ false
+      reachable p l = unfold workedRow in
           subst (λ (t : Task). unreachablePhase (t .phase) ≡ false) (sym (worked-at h p l))
-          (next-straight (ruleIn r) (runTaskAt r p) (shownInRow row p) (evenAt r p) (phaseAt r p) (x .straight p l))
+          (next-reachable (ruleIn r) (runTaskAt r p) (shownInRow row p) (evenAt r p) (phaseAt r p) (x .straight p l))

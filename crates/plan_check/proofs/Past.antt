@@ -15,28 +15,28 @@ use Rattle.phase.specs.Phase.{lateIn, phaseIn, working}
 use Rattle.phase.specs.Task.{pastEnd, taskOf, widthNow}
 use Rattle.phase.specs.declared.Task.{Task}
 use Rattle.run.proofs.Places.{length-mapFirst, take-mapFirst}
-use Rattle.run.specs.Numbers.{lateAt, placeOut, runOut, wideIn}
+use Rattle.run.specs.Numbers.{lateAt, placeOut, runOut, widthLimitIn}
 use Rattle.run.specs.Run.{mapFirst, phaseAt, placeAt, ruleIn, tasksIn}
 use Rattle.run.specs.declared.Run.{Run}
 use Rattle.plan_check.specs.Extent.{extentOf, firstNumber}
 use Rattle.plan_check.specs.Checked.{rowAnswersFrom}
 use Rattle.plan_check.specs.Numbers.{afterRow, unreachablePhase, differs, missed, samePhase, stateOut}
-use Rattle.plan_check.specs.Past.{SameSupplied, PlanTailUnread}
+use Rattle.plan_check.specs.Past.{SamePlan, PlanTailUnread}
 use Rattle.plan_check.specs.Plan.{cellCount}
-use Rattle.plan_check.specs.Row.{faulty, shownInRow, anyStranger, workedRow, workedAt, wrongAt}
+use Rattle.plan_check.specs.Row.{faulty, shownInRow, anyUnknownByte, workedRow, workedAt, wrongAt}
 use Rattle.plan_check.specs.RowAnswer.{RowAnswer, stateByAnswer, rowAnswerMeaning}
 use Rattle.plan_check.specs.State.{horizonIn, noteOf, notedAt, noting, pastNote, startIn}
 use Rattle.plan_check.specs.Take.{answerAt, finalAnswer, takeAnswer, takeOf}
 use Rattle.plan_check.specs.declared.Answer.{Answer}
 use Rattle.plan_check.specs.declared.Answer.the-variants.{Accepted, Refused, Taken}
 use Rattle.plan_check.specs.declared.Note.{Note}
-use Rattle.plan_check.specs.declared.Supplied.{Supplied}
+use Rattle.plan_check.specs.declared.SuppliedPlan.{SuppliedPlan}
 use Rattle.plan_check.proofs.PlanExtent.{all-places}
 use Rattle.plan_check.proofs.StateTests.{passes-run}
 use Rattle.plan_check.proofs.Working.{horizon-kept}
 
 -- a state with other places, and other notes
-abbrev instead : Supplied → List Task → List Note → Supplied
+abbrev instead : SuppliedPlan → List Task → List Note → SuppliedPlan
 instead w us ms = record {
   run = record { rule = w .run .rule; cores = w .run .cores; fence = w .run .fence; withdrawn = w .run .withdrawn; count = w .run .count; tasks = us };
   tick = w .tick;
@@ -45,18 +45,18 @@ instead w us ms = record {
 
 -- TWO STATES that differ only past the count
 module _
-    (w : Supplied) (us : List Task) (ms : List Note) (same : take (w .run .count) (w .run .tasks) ≡ take (w .run .count) us)
+    (w : SuppliedPlan) (us : List Task) (ms : List Note) (same : take (w .run .count) (w .run .tasks) ≡ take (w .run .count) us)
     (same-notes : take (w .run .count) (w .noted) ≡ take (w .run .count) ms) where
   abbrev r : Run
   r = w .run
 
-  abbrev v : Supplied
+  abbrev v : SuppliedPlan
   v = instead w us ms
 
   abbrev q : Run
   q = v .run
 
-  as-given : SameSupplied w v
+  as-given : SamePlan w v
   as-given = record {
     run = record { rule = refl; cores = refl; fence = refl; withdrawn = refl; count = refl; tasks = same };
     tick = refl;
@@ -77,7 +77,7 @@ module _
   unfolding runOut
   same-run-out =
       rw (any-same (r .count) (placeOut r) (placeOut q)
-      (λ p l. ap (λ (t : Task). taskOut (wideIn r) (taskOf t) || not (phaseIn (ruleIn r) (taskOf t) (t .even) (t .phase))) (same-at p l)))
+      (λ p l. ap (λ (t : Task). taskOut (widthLimitIn r) (taskOf t) || not (phaseIn (ruleIn r) (taskOf t) (t .even) (t .phase))) (same-at p l)))
 
   same-unreachable : any (r .count) (λ p. unreachablePhase (phaseAt r p)) ≡ any (r .count) (λ p. unreachablePhase (phaseAt q p))
   same-unreachable =
@@ -130,7 +130,7 @@ module _
   same-faulty : (row : List ℕ) → faulty r row ≡ faulty q row
   unfolding faulty
   same-faulty row =
-      ap (λ (t : Bool). anyStranger (r .fence) (r .count) row || t)
+      ap (λ (t : Bool). anyUnknownByte (r .fence) (r .count) row || t)
       (any-same (r .count) (wrongAt r row) (wrongAt q row)
       (λ p l. ap (λ (t : Task). shownInRow row p && not (eqb (cellCount (suc p) row) (widthNow t) && working (t .phase))) (same-at p l)))
 
@@ -138,18 +138,18 @@ module _
 front : (n : ℕ) (ts : List Task) (ns : List Note) → n ≤ length ts → take n (map noteOf (take n ts) ++ drop n ns) ≡ map noteOf (take n ts)
 front n ts ns h = take-at (map noteOf (take n ts)) (drop n ns) n (length-map (take n ts) noteOf ∙ length-take-le n ts h)
 
-out-answer : (w : Supplied) (row : List ℕ) → stateOut (w .run) ≡ true → takeAnswer w row ≡ Refused 14 0
+out-answer : (w : SuppliedPlan) (row : List ℕ) → stateOut (w .run) ≡ true → takeAnswer w row ≡ Refused 14 0
 unfolding takeAnswer
 out-answer w row e = rw e
 
 -- A ROW taken from them
 module _
-    (w : Supplied) (us : List Task) (ms : List Note) (same : take (w .run .count) (w .run .tasks) ≡ take (w .run .count) us)
+    (w : SuppliedPlan) (us : List Task) (ms : List Note) (same : take (w .run .count) (w .run .tasks) ≡ take (w .run .count) us)
     (same-notes : take (w .run .count) (w .noted) ≡ take (w .run .count) ms) (row : List ℕ) where
   abbrev n : ℕ
   n = w .run .count
 
-  abbrev x : Supplied
+  abbrev x : SuppliedPlan
   x = instead w us ms
 
   abbrev ts′ : List Task
@@ -189,7 +189,7 @@ module _
     unfolding workedRow
     answer-after = same-answer-at (afterRow w row) us′ (afterRow x row .noted) same-worked notes-after
 
-    same-after : SameSupplied (afterRow w row) (afterRow x row)
+    same-after : SamePlan (afterRow w row) (afterRow x row)
     unfolding workedRow
     same-after = as-given (afterRow w row) us′ (afterRow x row .noted) same-worked notes-after
 
@@ -211,12 +211,12 @@ module _
       go false e = passed-answer e
 
   abbrev Both : Answer → Answer → Type 0
-  Both a b = SameSupplied (stateByAnswer a (afterRow w row) w) (stateByAnswer b (afterRow x row) x)
+  Both a b = SamePlan (stateByAnswer a (afterRow w row) w) (stateByAnswer b (afterRow x row) x)
 
   same-plan : Both (takeAnswer w row) (takeAnswer x row)
   same-plan = subst (Both (takeAnswer w row)) same-answer (go (stateOut (w .run)) refl)
     where
-      given : SameSupplied w x
+      given : SamePlan w x
       given = as-given w us ms same same-notes
 
       by : stateOut (w .run) ≡ false → (a : Answer) → Both a a
@@ -231,7 +231,7 @@ module _
 -- THE LAW, of any two states that are equal up to the count
 
 -- the one with the other's places and notes is the other
-put : (w v : Supplied) → SameSupplied w v → instead w (v .run .tasks) (v .noted) ≡ v
+put : (w v : SuppliedPlan) → SamePlan w v → instead w (v .run .tasks) (v .noted) ≡ v
 put w v h = λ i. record {
   run = record {
     rule = h .run .rule i;
@@ -245,7 +245,7 @@ put w v h = λ i. record {
   noted = v .noted;
 }
 
-module _ (w v : Supplied) (h : SameSupplied w v) where
+module _ (w v : SuppliedPlan) (h : SamePlan w v) where
   places : take (w .run .count) (w .run .tasks) ≡ take (w .run .count) (v .run .tasks)
   places = h .run .tasks ∙ ap (λ (n : ℕ). take n (v .run .tasks)) (sym (h .run .count))
 
@@ -254,27 +254,27 @@ module _ (w v : Supplied) (h : SameSupplied w v) where
 
   unread-extent : extentOf (w .run) ≡ extentOf (v .run)
   unread-extent =
-      subst (λ (x : Supplied). extentOf (w .run) ≡ extentOf (x .run)) (put w v h) (same-extent w (v .run .tasks) (v .noted) places notes)
+      subst (λ (x : SuppliedPlan). extentOf (w .run) ≡ extentOf (x .run)) (put w v h) (same-extent w (v .run .tasks) (v .noted) places notes)
 
   unread-answer : (row : List ℕ) → takeOf w row .answer ≡ takeOf v row .answer
   unfolding takeOf
   unread-answer row =
-      subst (λ (x : Supplied). takeAnswer w row ≡ takeAnswer x row) (put w v h) (same-answer w (v .run .tasks) (v .noted) places notes row)
+      subst (λ (x : SuppliedPlan). takeAnswer w row ≡ takeAnswer x row) (put w v h) (same-answer w (v .run .tasks) (v .noted) places notes row)
 
-  unread-plan : (row : List ℕ) → SameSupplied (takeOf w row .plan) (takeOf v row .plan)
+  unread-plan : (row : List ℕ) → SamePlan (takeOf w row .plan) (takeOf v row .plan)
   unfolding takeOf
   unread-plan row =
-      subst (λ (x : Supplied). SameSupplied (stateByAnswer (takeAnswer w row) (afterRow w row) w) (stateByAnswer (takeAnswer x row) (afterRow x row) x)) (put w v h)
+      subst (λ (x : SuppliedPlan). SamePlan (stateByAnswer (takeAnswer w row) (afterRow w row) w) (stateByAnswer (takeAnswer x row) (afterRow x row) x)) (put w v h)
       (same-plan w (v .run .tasks) (v .noted) places notes row)
 
-unread-answers : (rows : List (List ℕ)) (w v : Supplied) → SameSupplied w v → rowAnswersFrom w rows ≡ rowAnswersFrom v rows
+unread-answers : (rows : List (List ℕ)) (w v : SuppliedPlan) → SamePlan w v → rowAnswersFrom w rows ≡ rowAnswersFrom v rows
 unfolding rowAnswersFrom
 unread-answers [] w v h = refl
 unread-answers (row ∷ rows) w v h =
     ap₂ (λ (a : Answer) (l : List RowAnswer). rowAnswerMeaning a ∷ l) (unread-answer w v h row)
     (unread-answers rows (takeOf w row .plan) (takeOf v row .plan) (unread-plan w v h row))
 
-pub past-unread : (w v : Supplied) → SameSupplied w v → PlanTailUnread w v
+pub past-unread : (w v : SuppliedPlan) → SamePlan w v → PlanTailUnread w v
 past-unread w v h = record {
   extent = unread-extent w v h;
   answer = unread-answer w v h;

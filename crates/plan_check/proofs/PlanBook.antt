@@ -34,8 +34,8 @@ unfoldable pub lateNow : Table → ℕ → (ℕ → ℕ) → Bool
 lateNow s t o = any (length (s .tasks)) (λ p. dueAt (task s p) t && ltb 0 (o p))
 
 -- 24: an unknown position; a place in the row with a wrong width or with nothing owed
-unfoldable pub strangerAt : Table → List ℕ → ℕ → Bool
-strangerAt s row c = cond (bit (s .fence) c) (not (eqb (getD row c 0) fencedByte)) (ltb (length (s .tasks)) (getD row c 0))
+unfoldable pub unknownByteIn : Table → List ℕ → ℕ → Bool
+unknownByteIn s row c = cond (bit (s .fence) c) (not (eqb (getD row c 0) fencedByte)) (ltb (length (s .tasks)) (getD row c 0))
 
 unfoldable pub wrongAt : Table → ℕ → (ℕ → ℕ) → List ℕ → ℕ → Bool
 wrongAt s t o row p =
@@ -43,11 +43,11 @@ wrongAt s t o row p =
     && not (eqb (cellCount (suc p) row) (widthOf (task s p) (newest (task s p) t)) && ltb 0 (opened s t o p))
 
 unfoldable pub faulty : Table → ℕ → (ℕ → ℕ) → List ℕ → Bool
-faulty s t o row = any (length row) (strangerAt s row) || any (length (s .tasks)) (wrongAt s t o row)
+faulty s t o row = any (length row) (unknownByteIn s row) || any (length (s .tasks)) (wrongAt s t o row)
 
 -- what is owed after the tick: one less to each place in the row
-unfoldable pub workedRow : Table → ℕ → (ℕ → ℕ) → List ℕ → ℕ → ℕ
-workedRow s t o row p = opened s t o p - cond (ltb 0 (cellCount (suc p) row)) 1 0
+unfoldable pub owedAfterRow : Table → ℕ → (ℕ → ℕ) → List ℕ → ℕ → ℕ
+owedAfterRow s t o row p = opened s t o p - cond (ltb 0 (cellCount (suc p) row)) 1 0
 
 -- the plan book that arrives at tick t: at the last S what is owed is recorded
 unfoldable pub planBookAfter : Table → ℕ → (ℕ → ℕ) → (ℕ → ℕ) → PlanBook
@@ -68,11 +68,11 @@ pub data Answer : Type 0 where
   refused : ℕ → ℕ → Answer
 
 -- after the last row: 25 and then 26, both with the horizon as tick
-unfoldable pub finalAnswer : Table → PlanBook → Answer
-finalAnswer s st = cond (lateNow s (st .tick) (st .owed)) (refused 25 (st .tick)) (cond (differs s st) (refused 26 (st .tick)) (accepted st))
+unfoldable pub finalBookAnswer : Table → PlanBook → Answer
+finalBookAnswer s st = cond (lateNow s (st .tick) (st .owed)) (refused 25 (st .tick)) (cond (differs s st) (refused 26 (st .tick)) (accepted st))
 
 unfoldable pub planBookAnswer : Table → PlanBook → Answer
-planBookAnswer s st = cond (eqb (st .tick) (horizon s)) (finalAnswer s st) (taken st)
+planBookAnswer s st = cond (eqb (st .tick) (horizon s)) (finalBookAnswer s st) (taken st)
 
 -- 10 a row past the horizon, 11 one whose length isn't the core count, 25, 24
 unfoldable pub takeRow : Table → PlanBook → List ℕ → Answer
@@ -81,7 +81,7 @@ takeRow s st row =
     (cond (not (eqb (length row) (s .cores))) (refused 11 0)
     (cond (lateNow s (st .tick) (st .owed)) (refused 25 (st .tick))
     (cond (faulty s (st .tick) (st .owed) row) (refused 24 (st .tick))
-    (planBookAnswer s (planBookAfter s (suc (st .tick)) (workedRow s (st .tick) (st .owed) row) (st .noted))))))
+    (planBookAnswer s (planBookAfter s (suc (st .tick)) (owedAfterRow s (st .tick) (st .owed) row) (st .noted))))))
 
 -- the answer to a list of rows, which stop at the first refusal
 abbrev pub after : Answer → List (List ℕ) → (PlanBook → PlanOutcome) → PlanOutcome

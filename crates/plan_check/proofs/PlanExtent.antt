@@ -21,7 +21,7 @@ use Rattle.table.specs.Task as table
 use Rattle.table.specs.declared.Task.{Task}
 use Rattle.phase.specs.Task.{pastEnd, taskOf}
 use Rattle.run.proofs.Limits.{in-array, passes-if}
-use Rattle.run.specs.Numbers.{runOut, wideIn}
+use Rattle.run.specs.Numbers.{runOut, widthLimitIn}
 use Rattle.run.specs.Run.{runTable, runTaskAt, tasksIn}
 use Rattle.run.specs.declared.Run.{Run}
 use Rattle.plan_check.specs.Extent.{Ready, extentOf, firstNumber}
@@ -42,7 +42,7 @@ module _ (r : Run) (e : runOut r ≡ false) where
   plain-within ts same p l =
       let at : table.taskOf (getD ts p noTask) ≡ runTaskAt r p =
       sym (task-at ts (r .count) p l) ∙ (ap (λ (τs : List model.Task). getD τs p model.absentTask) same ∙ tasks-at p l) in
-      let i = inside-test (wideIn r) (table.taskOf (getD ts p noTask)) (ap (taskOut (wideIn r)) at ∙ passes-if r e .tasks p l) in
+      let i = inside-test (widthLimitIn r) (table.taskOf (getD ts p noTask)) (ap (taskOut (widthLimitIn r)) at ∙ passes-if r e .tasks p l) in
       record { offset-most = i .offset-most; period-least = i .period-from .0; period-most = i .period-from .1 }
 
 -- S and P capped decide 9 ..

@@ -98,9 +98,9 @@ module _ (s : Table) (ok : AllValid s) (rows : List (List ℕ)) (acc : Acceptabl
         (hadInRows s (rowAt rows) p (newest τ H) H)
         (sym (phase-from s (rowAt rows) p L offset) ∙ (acc .agree p l ∙ phase-from s (rowAt rows) p H (omega (arith, offset, far)))) in
         let a : hadInRows s (rowAt rows) p (newest τ L) L ≤ τ .length =
-        had-most s ok (rowAt rows) p l (newest τ L) L (λ u g. acc .fine u (omega (arith, far))) (le-trans (omega arith) (newest-next τ pos L offset)) in
+        had-most s ok (rowAt rows) p l (newest τ L) L (λ u g. acc .rows-valid u (omega (arith, far))) (le-trans (omega arith) (newest-next τ pos L offset)) in
         let b : hadInRows s (rowAt rows) p (newest τ H) H ≤ τ .length =
-        had-most s ok (rowAt rows) p l (newest τ H) H (λ u g. acc .fine u g) (le-trans (omega arith) (newest-next τ pos H (omega (arith, offset, far)))) in
+        had-most s ok (rowAt rows) p l (newest τ H) H (λ u g. acc .rows-valid u g) (le-trans (omega arith) (newest-next τ pos H (omega (arith, offset, far)))) in
         let c : hadInRows s (rowAt rows) p (newest τ L) L ≡ hadInRows s (rowAt rows) p (newest τ H) H =
         owes-had (τ .length) (hadInRows s (rowAt rows) p (newest τ L) L) (hadInRows s (rowAt rows) p (newest τ H) H) a b owes in
         let d : hadInRows s r p (newest τ L) L ≡ hadInRows s r p (newest τ H) H =
@@ -144,7 +144,7 @@ module _ (s : Table) (ok : AllValid s) (rows : List (List ℕ)) (acc : Acceptabl
   valid-below (suc n) t h = go (ltb t H) refl (valid-below n)
     where
       go : (b : Bool) → ltb t H ≡ b → ((u : ℕ) → u < n → ValidRow s r u) → ValidRow s r t
-      go true e ih = let now = ltb-true t H e in valid-same s (rowAt rows) r t (λ u g. early u (omega arith)) (acc .fine t now)
+      go true e ih = let now = ltb-true t H e in valid-same s (rowAt rows) r t (λ u g. early u (omega arith)) (acc .rows-valid t now)
       go false e ih =
           let late : H ≤ t = ltb-false t H e in
           from (t - P) (omega (arith, far)) (omega (arith, far)) (ih (t - P) (omega (arith, far, hyperperiod-pos (s .tasks))))
@@ -229,4 +229,4 @@ module _ (s : Table) (ok : AllValid s) (rows : List (List ℕ)) (acc : Acceptabl
 
   -- THE THEOREM
   pub acceptable-repeats : ForEver s (repeated s rows)
-  acceptable-repeats = record { fine = valid-all; done = λ p k l. done-below p l (suc k) k (omega arith) }
+  acceptable-repeats = record { rows-valid = valid-all; done = λ p k l. done-below p l (suc k) k (omega arith) }

@@ -10,9 +10,9 @@ use Rattle.model.specs.Horizon.{lastS}
 use Rattle.model.specs.Sizes.{mostTasks}
 use Rattle.model.specs.Task as model
 use Rattle.table.proofs.Decide.{fails}
-use Rattle.table.proofs.Promise.{load-answer, promise, meaning-passed, meaning-refused}
+use Rattle.table.proofs.Contract.{load-answer, contract-of, meaning-passed, meaning-refused}
 use Rattle.table.specs.Answer.{answerOf}
-use Rattle.table.specs.Load.{Holds, LoadOf, loadOf, loadMeaning, tableWith}
+use Rattle.table.specs.Load.{LoadedAs, LoadOf, loadOf, loadMeaning, tableWith}
 use Rattle.table.specs.Numbers.{NoneApplies}
 use Rattle.table.specs.Task.{tasksOf}
 use Rattle.table.specs.Words.{rule, tableOf}
@@ -29,7 +29,7 @@ use Rattle.plan_check.specs.Begin.{BeginOf, beginOf, begunBy, emptyState
 use Rattle.plan_check.specs.Numbers.{StateOut, stateOut}
 use Rattle.plan_check.specs.State.{startIn}
 use Rattle.plan_check.specs.declared.Begun.{Begun}
-use Rattle.plan_check.specs.declared.Supplied.{Supplied}
+use Rattle.plan_check.specs.declared.SuppliedPlan.{SuppliedPlan}
 use Rattle.plan_check.proofs.Deciding.{state-decides}
 use Rattle.plan_check.proofs.Passing.{started-state, state-passes}
 use Rattle.plan_check.proofs.StateTests.{out-run}
@@ -57,18 +57,18 @@ module _ (ws : List ℕ) where
 
   -- what was loaded, as it starts
   pub loaded-run :
-      (l : Loaded) → Holds ws l → startedRun (l .rule) (tableWith (l .cores) (l .fence) (l .rule) (tasksOf (l .tasks) (l .count))) ≡ first
+      (l : Loaded) → LoadedAs ws l → startedRun (l .rule) (tableWith (l .cores) (l .fence) (l .rule) (tasksOf (l .tasks) (l .count))) ≡ first
   loaded-run l h = loaded-table ws l h
 
-  pub loaded-start : (l : Loaded) → Holds ws l → l .start ≡ startIn first
+  pub loaded-start : (l : Loaded) → LoadedAs ws l → l .start ≡ startIn first
   loaded-start l h = h .start ∙ ap lastS (sym (started-tasks (rule ws) (tableOf ws)))
 
-  pub loaded-few : (l : Loaded) → Holds ws l → first .count ≤ mostTasks
+  pub loaded-few : (l : Loaded) → LoadedAs ws l → first .count ≤ mostTasks
   loaded-few l h = omega (arith, started-count (rule ws) (tableOf ws), h .count, h .count-from)
 
 -- THE BEGINNING
 
-begun-answer : (a : Answer) (w : Supplied) → begunBy a w .answer ≡ a
+begun-answer : (a : Answer) (w : SuppliedPlan) → begunBy a w .answer ≡ a
 begun-answer Passed w = refl
 begun-answer (Refused n p) w = refl
 
@@ -82,7 +82,7 @@ module _ (ws : List ℕ) where
   begin-refused n p e = ap (λ (a : Answer). begunBy a (firstState ws)) e
 
   promised : LoadOf ws (loadOf ws)
-  promised = promise ws (loadOf ws) refl
+  promised = contract-of ws (loadOf ws) refl
 
   same-answer : beginOf ws .answer ≡ loadOf ws .answer
   same-answer = unfold beginOf in begun-answer (answerOf ws) (firstState ws) ∙ sym (load-answer ws)
@@ -109,9 +109,9 @@ module _ (ws : List ℕ) where
     begun = begun;
     zeros = zeros;
     passes = λ q.
-        subst (λ (w : Supplied). ¬ StateOut (w .run)) (sym (begun q))
+        subst (λ (w : SuppliedPlan). ¬ StateOut (w .run)) (sym (begun q))
         (fails (stateOut (first ws)) (StateOut (first ws)) (state-decides (first ws)) (state-passes (first ws) (started-state ws (none-applies q))));
-    out = λ n p q. subst (λ (w : Supplied). StateOut (w .run)) (sym (zeros n p q)) (state-decides emptyRun .0 (out-run emptyRun empty-run-out));
+    out = λ n p q. subst (λ (w : SuppliedPlan). StateOut (w .run)) (sym (zeros n p q)) (state-decides emptyRun .0 (out-run emptyRun empty-run-out));
   }
     where
       begun : loadMeaning (beginOf ws .answer) ≡ book.taken → beginOf ws .plan ≡ firstState ws

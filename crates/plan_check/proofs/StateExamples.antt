@@ -12,7 +12,7 @@ use Rattle.model.specs.Book as book
 use Rattle.model.specs.Sizes.{mostTasks}
 use Rattle.table.specs.Answer.{answerOf, byHorizon, byTasks, byWalk, endingOf, firstOut, headerNumber, lastStep}
 use Rattle.table.specs.Load.{loadMeaning}
-use Rattle.table.specs.Words.{chain, count, met, tableOf}
+use Rattle.table.specs.Words.{chain, count, visited, tableOf}
 use Rattle.phase.specs.declared.Phase.{Phase}
 use Rattle.phase.specs.declared.Phase.the-variants.{Coming, Holding, Resting, Working}
 use Rattle.phase.specs.declared.Task.{Task}
@@ -23,12 +23,12 @@ use Rattle.run.specs.Run.{mapFirst}
 use Rattle.run.specs.Start.{startedRun}
 use Rattle.plan_check.specs.declared.Note.{Note}
 use Rattle.plan_check.specs.declared.extent.Extent.{Extent}
-use Rattle.plan_check.specs.declared.Supplied.{Supplied}
+use Rattle.plan_check.specs.declared.SuppliedPlan.{SuppliedPlan}
 use Rattle.plan_check.specs.Extent.{extentOf, firstNumber}
 use Rattle.plan_check.specs.Begin.{beginOf}
 use Rattle.plan_check.specs.Numbers.{differs, missed, stateOut}
 use Rattle.plan_check.specs.Plan.{cellCount}
-use Rattle.plan_check.specs.Row.{faulty, anyStranger, workedRow}
+use Rattle.plan_check.specs.Row.{faulty, anyUnknownByte, workedRow}
 use Rattle.plan_check.specs.RowAnswer.{RowAnswer, accepted, refused, taken, rowAnswerMeaning}
 use Rattle.plan_check.specs.State.{blank, note}
 use Rattle.plan_check.specs.Take.{answerAt, finalAnswer, takeAnswer, takeOf}
@@ -54,7 +54,7 @@ notes phs = map note phs ++ drop (length phs) blank
 abbrev on : ℕ → ℕ → List Task → Run
 on rule m ts = record { rule = rule; cores = m; fence = 0; withdrawn = 0; count = length ts; tasks = places ts }
 
-abbrev state : Run → ℕ → List Phase → Supplied
+abbrev state : Run → ℕ → List Phase → SuppliedPlan
 state r t phs = record { run = r; tick = t; noted = notes phs }
 
 -- what a state shows below its count: the tick, the phases, whether each job is an even one, and what is recorded
@@ -64,7 +64,7 @@ pub record Shows : Type 0 where
   pub evens : List Bool
   pub noted : List Phase
 
-abbrev shows : Supplied → Shows
+abbrev shows : SuppliedPlan → Shows
 shows w = record {
   tick = w .tick;
   phases = map (λ (t : Task). t .phase) (take (w .run .count) (w .run .tasks));
@@ -75,7 +75,7 @@ shows w = record {
 -- ROWS: a line is its name, a state and a row; what is answered, and the state after it
 pub record Line : Type 0 where
   pub name : String
-  pub before : Supplied
+  pub before : SuppliedPlan
   pub row : List ℕ
   pub says : RowAnswer
   pub after : Shows
@@ -90,24 +90,24 @@ computes l = record {
 }
 
 -- turned down, the state as given
-abbrev turns : String → ℕ → ℕ → Supplied → List ℕ → Line
+abbrev turns : String → ℕ → ℕ → SuppliedPlan → List ℕ → Line
 turns name n t w row = record { name = name; before = w; row = row; says = refused n t; after = shows w }
 
 -- taken or accepted, and then so
-abbrev goes : String → RowAnswer → Supplied → List ℕ → ℕ → List Phase → List Bool → List Phase → Line
+abbrev goes : String → RowAnswer → SuppliedPlan → List ℕ → ℕ → List Phase → List Bool → List Phase → Line
 goes name a w row t phs es ns =
     record { name = name; before = w; row = row; says = a; after = record { tick = t; phases = phs; evens = es; noted = ns } }
 
 -- one core, a task (0,1,2,4,4): the last S is 0, the horizon 4. Its phase, the tick, what is recorded
-abbrev one : Phase → ℕ → Phase → Supplied
+abbrev one : Phase → ℕ → Phase → SuppliedPlan
 one ph t n = state (on 1 1 (at 0 2 4 4 ph ∷ [])) t (n ∷ [])
 
 -- the same under another rule
-abbrev ruled : ℕ → Phase → Supplied
+abbrev ruled : ℕ → Phase → SuppliedPlan
 ruled rule ph = state (on rule 1 (at 0 2 4 4 ph ∷ [])) 1 (Working 0 0 0 ∷ [])
 
 -- the same with a set of withdrawn positions
-abbrev without : ℕ → Supplied
+abbrev without : ℕ → SuppliedPlan
 without x = record {
   run = record { rule = 1; cores = 1; fence = 0; withdrawn = x; count = 1; tasks = places (at 0 2 4 4 (Working 1 0 0) ∷ []) };
   tick = 1;
@@ -115,19 +115,19 @@ without x = record {
 }
 
 -- no tasks
-abbrev nobody : Supplied
+abbrev nobody : SuppliedPlan
 nobody = state (on 1 1 []) 0 []
 
 -- one core, a task (2,1,1,2,3): the last S is 2, the horizon 5
-abbrev late : Phase → ℕ → Phase → Supplied
+abbrev late : Phase → ℕ → Phase → SuppliedPlan
 late ph t n = state (on 1 1 (at 2 1 2 3 ph ∷ [])) t (n ∷ [])
 
 -- one core, tasks of these periods
-abbrev every : List ℕ → ℕ → Supplied
+abbrev every : List ℕ → ℕ → SuppliedPlan
 every ps t = state (on 1 1 (map (λ p. at 0 1 p p (Working 0 0 0)) ps)) t []
 
 -- two cores, of which core 1 is fenced
-abbrev fenced : Supplied
+abbrev fenced : SuppliedPlan
 fenced = record {
   run = record { rule = 1; cores = 2; fence = 2; withdrawn = 0; count = 1; tasks = places (at 0 2 4 4 (Working 1 0 0) ∷ []) };
   tick = 1;
@@ -135,7 +135,7 @@ fenced = record {
 }
 
 -- two cores, a task of widths 1 and 2 at an odd job and at an even one
-abbrev wide : Bool → Supplied
+abbrev wide : Bool → SuppliedPlan
 wide e = state (on 1 2 (at₂ 0 1 2 4 4 2 e (Working 1 0 0) ∷ [])) 1 (Working 0 0 0 ∷ [])
 
 abbrev pub lines : List Line
@@ -193,7 +193,7 @@ lines =
 
 -- every line is its value by the definitions, line by line
 computed : LineByLine computes lines lines
-unfolding takeOf takeAnswer answerAt finalAnswer differs missed stateOut faulty anyStranger workedRow cellCount mapFirst runOut pastCount computing
+unfolding takeOf takeAnswer answerAt finalAnswer differs missed stateOut faulty anyUnknownByte workedRow cellCount mapFirst runOut pastCount computing
 computed =
     let past-42 : LineByLine computes (drop 42 lines) (drop 42 lines) =
     (refl, (refl, (refl, (refl, (refl, (refl, (refl, tt))))))) in
@@ -214,7 +214,7 @@ ahead n s h = record { number = n; start = s; horizon = h }
 
 -- an offset, at whatever tick; 25 and 10 are no part of it; 14 and 9 have zeros beside them; just within 9
 pub extent-examples :
-    map (λ (w : Supplied). extentOf (w .run))
+    map (λ (w : SuppliedPlan). extentOf (w .run))
     (late (Coming 2) 0 (Resting 0)
     ∷ late (Working 0 0 0) 2 (Resting 1)
     ∷ one (Working 4 1 1) 4 (Working 0 0 0)
@@ -230,7 +230,7 @@ extent-examples = refl
 -- A REFUSED ROW, AND PLACES PAST THE COUNT
 
 -- a state with a second task and a second note past its count of one
-abbrev beyond : ℕ → List Phase → Supplied
+abbrev beyond : ℕ → List Phase → SuppliedPlan
 beyond t ns = record {
   run = record { rule = 1; cores = 1; fence = 0; withdrawn = 0; count = 1; tasks = at 2 1 2 3 (Coming (2 - t)) ∷ at 7 7 7 7 (Holding 7 7) ∷ replicate 30 unused };
   tick = t;
@@ -242,7 +242,7 @@ pub rest-stays :
     (takeOf (one (Working 3 0 0) 3 (Working 0 0 0)) (1 ∷ []) .plan ≡ one (Working 3 0 0) 3 (Working 0 0 0))
     × (drop 1 (takeOf (beyond 1 (Resting 0 ∷ Holding 8 8 ∷ [])) (0 ∷ []) .plan .run .tasks) ≡ at 7 7 7 7 (Holding 7 7) ∷ replicate 30 unused)
     × (takeOf (beyond 1 (Resting 0 ∷ Holding 8 8 ∷ [])) (0 ∷ []) .plan .noted ≡ notes (Working 0 0 0 ∷ Holding 8 8 ∷ []))
-unfolding takeOf takeAnswer answerAt finalAnswer differs missed stateOut faulty anyStranger workedRow cellCount mapFirst runOut pastCount computing
+unfolding takeOf takeAnswer answerAt finalAnswer differs missed stateOut faulty anyUnknownByte workedRow cellCount mapFirst runOut pastCount computing
 rest-stays = (refl, refl, refl)
 
 -- BEGINNINGS: the words of a table, what is answered, and the state
@@ -287,7 +287,7 @@ beginnings =
     ∷ []
 
 begun-computed : LineByLine begins beginnings beginnings
-unfolding beginOf startedRun answerOf byWalk byTasks byHorizon firstOut endingOf lastStep headerNumber tableOf chain count met computing
+unfolding beginOf startedRun answerOf byWalk byTasks byHorizon firstOut endingOf lastStep headerNumber tableOf chain count visited computing
 begun-computed = (refl, (refl, (refl, (refl, (refl, (refl, tt))))))
 
 pub begin-examples : map begins beginnings ≡ beginnings

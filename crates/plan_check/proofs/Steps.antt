@@ -11,8 +11,8 @@ use borrow.Author.Tests.{eq-eqb, eqb-false, eqb-true, leb-false, lt-leb, ne-eqb}
 use Rattle.model.specs.Horizon.{horizon, lastS}
 use Rattle.model.specs.Task.{Table}
 use Rattle.plan_check.specs.Answers.{PlanOutcome, accepts, refuses, unfinished}
-use Rattle.plan_check.proofs.PlanBook.{Answer, PlanBook, accepted, after, planBookAfter, planBookAnswer, planBookStart, check, checkFrom, finalAnswer, differs}
-use Rattle.plan_check.proofs.PlanBook.{faulty, lateNow, refused, takeRow, taken, workedRow}
+use Rattle.plan_check.proofs.PlanBook.{Answer, PlanBook, accepted, after, planBookAfter, planBookAnswer, planBookStart, check, checkFrom, finalBookAnswer, differs}
+use Rattle.plan_check.proofs.PlanBook.{faulty, lateNow, refused, takeRow, taken, owedAfterRow}
 use Rattle.plan_check.specs.Plan.{rowAt}
 use Rattle.plan_check.proofs.Owed.{openAt, owedAt}
 
@@ -48,7 +48,7 @@ module _ (s : Table) (r : ℕ → List ℕ) where
   unfolding planBookAfter owedAt notedAt
   starts = refl
 
-  pub next-plan-book : (t : ℕ) → planBookAfter s (suc t) (workedRow s t (owedAt s r t) (r t)) (notedAt s r t) ≡ planBookAt s r (suc t)
+  pub next-plan-book : (t : ℕ) → planBookAfter s (suc t) (owedAfterRow s t (owedAt s r t) (r t)) (notedAt s r t) ≡ planBookAt s r (suc t)
   unfolding planBookAfter owedAt notedAt
   next-plan-book t = refl
 
@@ -59,7 +59,7 @@ module _ (s : Table) (r : ℕ → List ℕ) where
     last : Ok s r t → suc t ≡ horizon s → Closing s r (suc t) → a ≡ accepted (planBookAt s r (suc t)) → Case t a
 
   by-end : (t : ℕ) → t < horizon s → Ok s r t → Case t (planBookAnswer s (planBookAt s r (suc t)))
-  unfolding planBookAnswer finalAnswer
+  unfolding planBookAnswer finalBookAnswer
   by-end t h x =
       go (eqb (suc t) (horizon s)) refl (lateNow s (suc t) (owedAt s r (suc t))) refl (differs s (planBookAt s r (suc t))) refl
     where
@@ -99,7 +99,7 @@ module _ (s : Table) (r : ℕ → List ℕ) where
   end-on t h = rw (ne-eqb t (horizon s) (λ e. omega arith))
 
   pub end-last : (t : ℕ) → t ≡ horizon s → Closing s r t → planBookAnswer s (planBookAt s r t) ≡ accepted (planBookAt s r t)
-  unfolding planBookAnswer finalAnswer
+  unfolding planBookAnswer finalBookAnswer
   end-last t h x = rw (eq-eqb t (horizon s) h, x .on-time, x .same)
 
 module _ (s : Table) (rows : List (List ℕ)) where

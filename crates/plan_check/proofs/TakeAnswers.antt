@@ -23,27 +23,27 @@ use Rattle.plan_check.specs.State.{horizonIn}
 use Rattle.plan_check.specs.Take.{answerAt, finalAnswer, takeAnswer, takeOf}
 use Rattle.plan_check.specs.declared.Answer.{Answer}
 use Rattle.plan_check.specs.declared.Answer.the-variants.{Accepted, Refused, Taken}
-use Rattle.plan_check.specs.declared.Supplied.{Supplied}
+use Rattle.plan_check.specs.declared.SuppliedPlan.{SuppliedPlan}
 use Rattle.plan_check.proofs.PlanBook.{after, checkFrom, lateNow, takeRow}
-use Rattle.plan_check.proofs.PlanBook as ledger
+use Rattle.plan_check.proofs.PlanBook as planBook
 use Rattle.plan_check.proofs.Owed.{owedAt}
 use Rattle.plan_check.proofs.Passing.{state-passes}
 use Rattle.plan_check.proofs.Steps.{Case, Closing, Ok, Passes, cases, end-last, end-on, fault, goes, last, planBookAt, next-plan-book, take-ok, unroll}
-use Rattle.plan_check.proofs.Tied.{Good, Tied, differs-same, faulty-same, missed-same, next-tied}
+use Rattle.plan_check.proofs.StateRelated.{Good, StateRelated, differs-same, faulty-same, missed-same, next-related}
 
 -- the answer that each case of the plan book is
-abbrev kind : ledger.Answer → RowAnswer
-kind (ledger.taken st) = taken
-kind (ledger.accepted st) = accepted
-kind (ledger.refused n t) = refused n t
+abbrev kind : planBook.Answer → RowAnswer
+kind (planBook.taken st) = taken
+kind (planBook.accepted st) = accepted
+kind (planBook.refused n t) = refused n t
 
 -- where a row is taken the state moves on
-taken-plan : (a : Answer) (x y : Supplied) → rowAnswerMeaning a ≡ taken → stateByAnswer a x y ≡ x
+taken-plan : (a : Answer) (x y : SuppliedPlan) → rowAnswerMeaning a ≡ taken → stateByAnswer a x y ≡ x
 taken-plan Taken x y e = refl
 taken-plan Accepted x y e = refl
 taken-plan (Refused n t) x y e = let z : _≡_ {A = ℕ} 0 1 = cc in absurd (omega arith)
 
-accepted-plan : (a : Answer) (x y : Supplied) → rowAnswerMeaning a ≡ accepted → stateByAnswer a x y ≡ x
+accepted-plan : (a : Answer) (x y : SuppliedPlan) → rowAnswerMeaning a ≡ accepted → stateByAnswer a x y ≡ x
 accepted-plan Taken x y e = refl
 accepted-plan Accepted x y e = refl
 accepted-plan (Refused n t) x y e = let z : _≡_ {A = ℕ} 0 1 = cc in absurd (omega arith)
@@ -60,7 +60,7 @@ module _ (s : Table) (ok : AllValid s) (near : horizonOut (horizon s) ≡ false)
 
   -- ONE ROW
 
-  module _ (t : ℕ) (w : Supplied) (x : Tied s ok r t w) where
+  module _ (t : ℕ) (w : SuppliedPlan) (x : StateRelated s ok r t w) where
     same-horizon : horizonIn (w .run) ≡ H
     same-horizon = ap horizon (x .table)
 
@@ -84,27 +84,27 @@ module _ (s : Table) (ok : AllValid s) (near : horizonOut (horizon s) ≡ false)
     unfolding answerAt finalAnswer
     end-by = rw (same-horizon, x .tick)
 
-    answer-same : Good s ok r t → rowAnswerMeaning (answerAt w) ≡ kind (ledger.planBookAnswer s (planBookAt s r t))
-    answer-same g = ap rowAnswerMeaning end-by ∙ (unfold ledger.planBookAnswer ledger.finalAnswer in
+    answer-same : Good s ok r t → rowAnswerMeaning (answerAt w) ≡ kind (planBook.planBookAnswer s (planBookAt s r t))
+    answer-same g = ap rowAnswerMeaning end-by ∙ (unfold planBook.planBookAnswer planBook.finalBookAnswer in
         go (eqb t H) refl (missed (w .run)) refl (lateNow s t (owedAt s r t)) refl (differs w) refl)
       where
         go : (a : Bool) → eqb t H ≡ a → (b : Bool) → missed (w .run) ≡ b → (b′ : Bool) → lateNow s t (owedAt s r t) ≡ b′ → (c : Bool) → differs w ≡ c
             → rowAnswerMeaning (cond a (cond b (Refused 25 t) (cond c (Refused 26 t) Accepted)) Taken)
             ≡ kind
-            (cond a (cond b′ (ledger.refused 25 t) (cond (ledger.differs s (planBookAt s r t)) (ledger.refused 26 t) (ledger.accepted (planBookAt s r t))))
-            (ledger.taken (planBookAt s r t)))
+            (cond a (cond b′ (planBook.refused 25 t) (cond (planBook.differs s (planBookAt s r t)) (planBook.refused 26 t) (planBook.accepted (planBookAt s r t))))
+            (planBook.taken (planBookAt s r t)))
         go false e b f b′ f′ c d = refl
         go true e true f true f′ c d = refl
         go true e true f false f′ c d = absurd (true≢false (sym f ∙ (missed-same s ok r t w x g ∙ f′)))
         go true e false f true f′ c d = absurd (true≢false (sym f′ ∙ (sym (missed-same s ok r t w x g) ∙ f)))
         go true e false f false f′ c d =
             let here : t ≡ H = eqb-true t H e in
-            let same : ledger.differs s (planBookAt s r t) ≡ c =
-            ap (λ (u : ℕ). ledger.differs s (planBookAt s r u)) here ∙ (sym (differs-same s ok r t w x g f′ here) ∙ d) in
-            closes c (ledger.differs s (planBookAt s r t)) (sym same)
+            let same : planBook.differs s (planBookAt s r t) ≡ c =
+            ap (λ (u : ℕ). planBook.differs s (planBookAt s r u)) here ∙ (sym (differs-same s ok r t w x g f′ here) ∙ d) in
+            closes c (planBook.differs s (planBookAt s r t)) (sym same)
           where
             closes : (c c′ : Bool) → c ≡ c′
-                → rowAnswerMeaning (cond c (Refused 26 t) Accepted) ≡ kind (cond c′ (ledger.refused 26 t) (ledger.accepted (planBookAt s r t)))
+                → rowAnswerMeaning (cond c (Refused 26 t) Accepted) ≡ kind (cond c′ (planBook.refused 26 t) (planBook.accepted (planBookAt s r t)))
             closes true true q = refl
             closes false false q = refl
             closes true false q = absurd (true≢false q)
@@ -112,48 +112,48 @@ module _ (s : Table) (ok : AllValid s) (near : horizonOut (horizon s) ≡ false)
 
   -- THE ANSWER TO THE ROW OF TICK t
   pub same-answer :
-      (t : ℕ) (w : Supplied) → Tied s ok r t w → Good s ok r t → rowAnswerMeaning (takeAnswer w (r t)) ≡ kind (takeRow s (planBookAt s r t) (r t))
+      (t : ℕ) (w : SuppliedPlan) → StateRelated s ok r t w → Good s ok r t → rowAnswerMeaning (takeAnswer w (r t)) ≡ kind (takeRow s (planBookAt s r t) (r t))
   same-answer t w x g =
       ap rowAnswerMeaning (answer-by t w x (r t)) ∙ (unfold takeRow in rw (missed-same s ok r t w x g, next-plan-book s r t)
-      (go (leb H t) (eqb (length (r t)) (s .cores)) refl (lateNow s t (owedAt s r t)) refl (ledger.faulty s t (owedAt s r t) (r t)) refl))
+      (go (leb H t) (eqb (length (r t)) (s .cores)) refl (lateNow s t (owedAt s r t)) refl (planBook.faulty s t (owedAt s r t) (r t)) refl))
     where
       go : (a b : Bool) → eqb (length (r t)) (s .cores) ≡ b → (c : Bool) → lateNow s t (owedAt s r t) ≡ c
-          → (d : Bool) → ledger.faulty s t (owedAt s r t) (r t) ≡ d
+          → (d : Bool) → planBook.faulty s t (owedAt s r t) (r t) ≡ d
           → rowAnswerMeaning
           (cond a (Refused 10 0)
           (cond (not b) (Refused 11 0) (cond c (Refused 25 t) (cond (faulty (w .run) (r t)) (Refused 24 t) (answerAt (afterRow w (r t)))))))
           ≡ kind
-          (cond a (ledger.refused 10 0)
-          (cond (not b) (ledger.refused 11 0) (cond c (ledger.refused 25 t) (cond d (ledger.refused 24 t) (ledger.planBookAnswer s (planBookAt s r (suc t)))))))
+          (cond a (planBook.refused 10 0)
+          (cond (not b) (planBook.refused 11 0) (cond c (planBook.refused 25 t) (cond d (planBook.refused 24 t) (planBook.planBookAnswer s (planBookAt s r (suc t)))))))
       go true b e c f d h = refl
       go false false e c f d h = refl
       go false true e true f d h = refl
       go false true e false f d h = rw (faulty-same s ok r t w x g f ∙ h) (ends d h)
         where
-          ends : (d : Bool) → ledger.faulty s t (owedAt s r t) (r t) ≡ d
-              → rowAnswerMeaning (cond d (Refused 24 t) (answerAt (afterRow w (r t)))) ≡ kind (cond d (ledger.refused 24 t) (ledger.planBookAnswer s (planBookAt s r (suc t))))
+          ends : (d : Bool) → planBook.faulty s t (owedAt s r t) (r t) ≡ d
+              → rowAnswerMeaning (cond d (Refused 24 t) (answerAt (afterRow w (r t)))) ≡ kind (cond d (planBook.refused 24 t) (planBook.planBookAnswer s (planBookAt s r (suc t))))
           ends true h = refl
           ends false h =
-              answer-same (suc t) (afterRow w (r t)) (next-tied s ok r t w x (missed-same s ok r t w x g ∙ f))
+              answer-same (suc t) (afterRow w (r t)) (next-related s ok r t w x (missed-same s ok r t w x g ∙ f))
               (good-next t g record { size = eqb-true (length (r t)) (s .cores) e; on-time = f; right = h })
 
   -- THE ANSWERS TO A LIST
 
   -- the answer to the first of the rows from t on, and to the rest of them
-  answers-on : (t : ℕ) (w : Supplied) → t < length rows
+  answers-on : (t : ℕ) (w : SuppliedPlan) → t < length rows
       → rowAnswersFrom w (drop t rows) ≡ rowAnswerMeaning (takeAnswer w (r t)) ∷ rowAnswersFrom (stateByAnswer (takeAnswer w (r t)) (afterRow w (r t)) w) (drop (suc t) rows)
   unfolding rowAnswersFrom takeOf
   answers-on t w h = rw (drop-cons rows t [] h)
 
   -- rows after an accepted one are past the horizon
-  after-last : (t : ℕ) (w : Supplied) → Tied s ok r t w → H ≤ t → (l : List (List ℕ)) (st : ledger.PlanBook)
-      → outcomeFrom accepts (rowAnswersFrom w l) ≡ after (ledger.accepted st) l (λ next. checkFrom s next l)
+  after-last : (t : ℕ) (w : SuppliedPlan) → StateRelated s ok r t w → H ≤ t → (l : List (List ℕ)) (st : planBook.PlanBook)
+      → outcomeFrom accepts (rowAnswersFrom w l) ≡ after (planBook.accepted st) l (λ next. checkFrom s next l)
   unfolding rowAnswersFrom takeOf outcomeFrom
   after-last t w x h [] st = refl
   after-last t w x h (row ∷ l) st = rw (past-ten t w x h row)
 
   pub follow :
-      (n t : ℕ) (w : Supplied) → t + n ≡ length rows → Tied s ok r t w → Good s ok r t
+      (n t : ℕ) (w : SuppliedPlan) → t + n ≡ length rows → StateRelated s ok r t w → Good s ok r t
       → outcomeFrom unfinished (rowAnswersFrom w (drop t rows)) ≡ checkFrom s (planBookAt s r t) (drop t rows)
   unfolding rowAnswersFrom outcomeFrom checkFrom
   follow zero t w e x g = rw (drop-of-length-le rows {i = t} (omega arith))
@@ -168,8 +168,8 @@ module _ (s : Table) (ok : AllValid s) (near : horizonOut (horizon s) ≡ false)
       on : Ok s r t → missed (w .run) ≡ false
       on o = missed-same s ok r t w x g ∙ o .on-time
 
-      go : (a : ledger.Answer) → Case s r t a → rowAnswerMeaning (takeAnswer w (r t)) ≡ kind a
-          → (Tied s ok r (suc t) (afterRow w (r t)) → Good s ok r (suc t)
+      go : (a : planBook.Answer) → Case s r t a → rowAnswerMeaning (takeAnswer w (r t)) ≡ kind a
+          → (StateRelated s ok r (suc t) (afterRow w (r t)) → Good s ok r (suc t)
           → outcomeFrom unfinished (rowAnswersFrom (afterRow w (r t)) rest) ≡ checkFrom s (planBookAt s r (suc t)) rest)
           → outcomeFrom unfinished (rowAnswerMeaning (takeAnswer w (r t)) ∷ rowAnswersFrom (stateByAnswer (takeAnswer w (r t)) (afterRow w (r t)) w) rest)
           ≡ after a rest (λ next. checkFrom s next rest)
@@ -177,11 +177,11 @@ module _ (s : Table) (ok : AllValid s) (near : horizonOut (horizon s) ≡ false)
       go a (goes o h f) q ih =
           let said : rowAnswerMeaning (takeAnswer w (r t)) ≡ taken = q ∙ ap kind f in
           rw (taken-plan (takeAnswer w (r t)) (afterRow w (r t)) w said, said, f)
-          (ih (next-tied s ok r t w x (on o)) (good-next t g o))
+          (ih (next-related s ok r t w x (on o)) (good-next t g o))
       go a (last o h c f) q ih =
           let said : rowAnswerMeaning (takeAnswer w (r t)) ≡ accepted = q ∙ ap kind f in
           rw (accepted-plan (takeAnswer w (r t)) (afterRow w (r t)) w said, said, f)
-          (after-last (suc t) (afterRow w (r t)) (next-tied s ok r t w x (on o)) (omega arith) rest (planBookAt s r (suc t)))
+          (after-last (suc t) (afterRow w (r t)) (next-related s ok r t w x (on o)) (omega arith) rest (planBookAt s r (suc t)))
 
   -- where all goes well ..
   module _ (a : Passes s rows 0) (e : length rows ≡ H) where
@@ -189,15 +189,15 @@ module _ (s : Table) (ok : AllValid s) (near : horizonOut (horizon s) ≡ false)
     all-good t h u l = a .ok u (omega arith) (omega arith)
 
     row-answered :
-        (t : ℕ) (w : Supplied) → t < H → Tied s ok r t w → (b : RowAnswer) → kind (ledger.planBookAnswer s (planBookAt s r (suc t))) ≡ b
+        (t : ℕ) (w : SuppliedPlan) → t < H → StateRelated s ok r t w → (b : RowAnswer) → kind (planBook.planBookAnswer s (planBookAt s r (suc t))) ≡ b
         → rowAnswerMeaning (takeAnswer w (r t)) ≡ b
     row-answered t w h x b f = same-answer t w x (all-good t (omega arith)) ∙ (ap kind (take-ok s r t h (a .ok t (omega arith) h)) ∙ f)
 
-    row-on : (t : ℕ) (w : Supplied) → t < H → Tied s ok r t w → Tied s ok r (suc t) (afterRow w (r t))
-    row-on t w h x = next-tied s ok r t w x (missed-same s ok r t w x (all-good t (omega arith)) ∙ a .ok t (omega arith) h .on-time)
+    row-on : (t : ℕ) (w : SuppliedPlan) → t < H → StateRelated s ok r t w → StateRelated s ok r (suc t) (afterRow w (r t))
+    row-on t w h x = next-related s ok r t w x (missed-same s ok r t w x (all-good t (omega arith)) ∙ a .ok t (omega arith) h .on-time)
 
     -- .. every row is taken, and the last accepted
-    pub all-taken : (n t : ℕ) (w : Supplied) → t + suc n ≡ H → Tied s ok r t w → rowAnswersFrom w (drop t rows) ≡ replicate n taken ++ (accepted ∷ [])
+    pub all-taken : (n t : ℕ) (w : SuppliedPlan) → t + suc n ≡ H → StateRelated s ok r t w → rowAnswersFrom w (drop t rows) ≡ replicate n taken ++ (accepted ∷ [])
     unfolding rowAnswersFrom
     all-taken zero t w q x =
         let f : rowAnswerMeaning (takeAnswer w (r t)) ≡ accepted =

@@ -20,13 +20,13 @@ use Rattle.plan_check.specs.Numbers.{Applies, eleven, fourteen, late-las
 use Rattle.plan_check.specs.Numbers.{AnyLate, Differs, Earlier, Faulty, First, Last, NoneApplies, StateOut, afterRow, differs, missed, stateOut}
 use Rattle.plan_check.specs.Row.{faulty, workedRow}
 use Rattle.plan_check.specs.RowAnswer.{stateByAnswer, rowAnswerMeaning}
-use Rattle.plan_check.specs.RowAnswer as said
+use Rattle.plan_check.specs.RowAnswer as meaning
 use Rattle.plan_check.specs.State.{horizonIn, noteOf, noting, startIn}
 use Rattle.plan_check.specs.Take.{TakeOf, answerAt, finalAnswer, takeAnswer, takeOf}
 use Rattle.plan_check.specs.declared.Answer.{Answer}
 use Rattle.plan_check.specs.declared.Answer.the-variants.{Accepted, Refused, Taken}
 use Rattle.plan_check.specs.declared.Entered.{Entered}
-use Rattle.plan_check.specs.declared.Supplied.{Supplied}
+use Rattle.plan_check.specs.declared.SuppliedPlan.{SuppliedPlan}
 use Rattle.plan_check.proofs.Deciding.{differs-decides, faulty-decides, missed-decides, state-decides}
 use Rattle.plan_check.proofs.PlanExtent.{all-places, ready-again}
 use Rattle.plan_check.proofs.Order.{first-only, later, later-tick, no-earlier}
@@ -34,7 +34,7 @@ use Rattle.plan_check.proofs.Passing.{state-if, state-passes, worked-pa
 use Rattle.plan_check.proofs.StateTests.{passes-run}
 use Rattle.plan_check.proofs.Working.{horizon-kept, worked-count, worked-length, worked-past}
 
-module _ (w : Supplied) (row : List ℕ) where
+module _ (w : SuppliedPlan) (row : List ℕ) where
   abbrev r : Run
   r = w .run
 
@@ -244,7 +244,7 @@ module _ (w : Supplied) (row : List ℕ) where
           right-answer (fails _ _ (state-decides r) qa) (fails _ _ (decides-lt mostHorizon (horizonIn r)) qb) (leb-false (horizonIn r) t qc)
           (eqb-true (length row) (r .cores) qd) (fails _ _ (missed-decides r) qe) (fails _ _ (faulty-decides r row) qf)
 
-  refused-exact : (a : Answer) → Right a → (n s : ℕ) → (rowAnswerMeaning a ≡ said.refused n s) ↔ First w row n s
+  refused-exact : (a : Answer) → Right a → (n s : ℕ) → (rowAnswerMeaning a ≡ meaning.refused n s) ↔ First w row n s
   refused-exact Taken h n s = (λ e. absurd (let z : _≡_ {A = ℕ} 0 1 = cc in omega arith), λ f. absurd (h .0 n s (f .0)))
   refused-exact Accepted h n s = (λ e. absurd (let z : _≡_ {A = ℕ} 0 1 = cc in omega arith), λ f. absurd (h .0 n s (f .0)))
   refused-exact (Refused m u) h n s = (
@@ -252,12 +252,12 @@ module _ (w : Supplied) (row : List ℕ) where
     λ f. let x = first-only w row m u n s h f in rw (x .0, x .1),
   )
 
-  taken-exact : (a : Answer) → Right a → (rowAnswerMeaning a ≡ said.taken) ↔ (NoneApplies w row × (suc t < horizonIn r))
+  taken-exact : (a : Answer) → Right a → (rowAnswerMeaning a ≡ meaning.taken) ↔ (NoneApplies w row × (suc t < horizonIn r))
   taken-exact Taken h = (λ e. h, λ n. refl)
   taken-exact Accepted h = (λ e. absurd (let z : _≡_ {A = ℕ} 0 1 = cc in omega arith), λ n. absurd (omega (arith, n .1, h .1)))
   taken-exact (Refused m u) h = (λ e. absurd (let z : _≡_ {A = ℕ} 0 1 = cc in omega arith), λ n. absurd (n .0 m u (h .0)))
 
-  accepted-exact : (a : Answer) → Right a → (rowAnswerMeaning a ≡ said.accepted) ↔ (NoneApplies w row × Last w)
+  accepted-exact : (a : Answer) → Right a → (rowAnswerMeaning a ≡ meaning.accepted) ↔ (NoneApplies w row × Last w)
   accepted-exact Taken h = (λ e. absurd (let z : _≡_ {A = ℕ} 0 1 = cc in omega arith), λ n. absurd (omega (arith, n .1, h .1)))
   accepted-exact Accepted h = (λ e. h, λ n. refl)
   accepted-exact (Refused m u) h = (λ e. absurd (let z : _≡_ {A = ℕ} 0 1 = cc in omega arith), λ n. absurd (n .0 m u (h .0)))
@@ -265,21 +265,21 @@ module _ (w : Supplied) (row : List ℕ) where
   -- THE VALUE BESIDE AN ANSWER
 
   -- the row was taken, as the last or before
-  abbrev Went : Answer → Type 0
-  Went a = (rowAnswerMeaning a ≡ said.taken) ⊎ (rowAnswerMeaning a ≡ said.accepted)
+  abbrev Continues : Answer → Type 0
+  Continues a = (rowAnswerMeaning a ≡ meaning.taken) ⊎ (rowAnswerMeaning a ≡ meaning.accepted)
 
-  by-went : (a : Answer) → Went a → stateByAnswer a (afterRow w row) w ≡ afterRow w row
-  by-went Taken h = refl
-  by-went Accepted h = refl
-  by-went (Refused n s) h = ⊎-elim (λ e. absurd (let z : _≡_ {A = ℕ} 0 1 = cc in omega arith)) (λ e. absurd (let z : _≡_ {A = ℕ} 0 1 = cc in omega arith)) h
+  by-continues : (a : Answer) → Continues a → stateByAnswer a (afterRow w row) w ≡ afterRow w row
+  by-continues Taken h = refl
+  by-continues Accepted h = refl
+  by-continues (Refused n s) h = ⊎-elim (λ e. absurd (let z : _≡_ {A = ℕ} 0 1 = cc in omega arith)) (λ e. absurd (let z : _≡_ {A = ℕ} 0 1 = cc in omega arith)) h
 
-  by-refused : (a : Answer) (n s : ℕ) → rowAnswerMeaning a ≡ said.refused n s → stateByAnswer a (afterRow w row) w ≡ w
+  by-refused : (a : Answer) (n s : ℕ) → rowAnswerMeaning a ≡ meaning.refused n s → stateByAnswer a (afterRow w row) w ≡ w
   by-refused Taken n s e = absurd (let z : _≡_ {A = ℕ} 0 1 = cc in omega arith)
   by-refused Accepted n s e = absurd (let z : _≡_ {A = ℕ} 0 1 = cc in omega arith)
   by-refused (Refused m u) n s e = refl
 
   -- then no number applies
-  none-if : (a : Answer) → Right a → Went a → NoneApplies w row
+  none-if : (a : Answer) → Right a → Continues a → NoneApplies w row
   none-if a h x = ⊎-elim (λ e. taken-exact a h .0 e .0) (λ e. accepted-exact a h .0 e .0) x
 
   module _ (none : NoneApplies w row) where
@@ -310,9 +310,9 @@ module _ (w : Supplied) (row : List ℕ) where
     refused = unfold takeOf in refused-exact (takeAnswer w row) take-right;
     taken = unfold takeOf in taken-exact (takeAnswer w row) take-right;
     accepted = unfold takeOf in accepted-exact (takeAnswer w row) take-right;
-    on = unfold takeOf in by-went (takeAnswer w row);
+    on = unfold takeOf in by-continues (takeAnswer w row);
     passes = unfold takeOf in λ x.
-        subst (λ (v : Supplied). ¬ StateOut (v .run)) (sym (by-went (takeAnswer w row) x)) (again (none-if (takeAnswer w row) take-right x));
+        subst (λ (v : SuppliedPlan). ¬ StateOut (v .run)) (sym (by-continues (takeAnswer w row) x)) (again (none-if (takeAnswer w row) take-right x));
     tasks = unfold takeOf in same-tasks (takeAnswer w row);
     as-given = unfold takeOf in by-refused (takeAnswer w row);
     past = unfold takeOf in same-past (takeAnswer w row);

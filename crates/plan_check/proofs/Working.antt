@@ -18,7 +18,7 @@ use Rattle.run.proofs.Places.{drop-mapFirst, length-mapFirst, take-kept}
 use Rattle.run.specs.Run.{mapFirst, placeAt, ruleIn, tasksIn}
 use Rattle.run.specs.declared.Run.{Run}
 use Rattle.plan_check.specs.Plan.{cellCount}
-use Rattle.plan_check.specs.Row.{faulty, anyStranger, workedRow, workedAt, wrongAt}
+use Rattle.plan_check.specs.Row.{faulty, anyUnknownByte, workedRow, workedAt, wrongAt}
 use Rattle.plan_check.specs.Shown.{ShownOf, anyWrong, workedWith, wrongWith}
 use Rattle.plan_check.specs.State.{horizonIn}
 use Rattle.plan_check.specs.declared.rows.Shown.{Shown}
@@ -37,10 +37,10 @@ module _ (r : Run) (ns row : List ℕ) (few : r .count ≤ mostTasks) (same : (b
   count-at p l = same (suc p) (omega arith)
 
   -- the counts represent the bytes: what is wrong ..
-  pub wrong-counted : anyStranger (r .fence) (r .count) row || anyWrong r ns ≡ faulty r row
+  pub wrong-counted : anyUnknownByte (r .fence) (r .count) row || anyWrong r ns ≡ faulty r row
   unfolding faulty anyWrong
   wrong-counted =
-      ap (λ (t : Bool). anyStranger (r .fence) (r .count) row || t)
+      ap (λ (t : Bool). anyUnknownByte (r .fence) (r .count) row || t)
       (any-same (r .count) (λ p. wrongWith (placeAt r p) (getD ns (suc p) 0)) (wrongAt r row)
       (λ p l. ap (wrongWith (placeAt r p)) (count-at p l)))
 
@@ -54,15 +54,15 @@ module _ (r : Run) (ns row : List ℕ) (few : r .count ≤ mostTasks) (same : (b
 
 -- what is found wrong with a row that is read is the condition of 24
 pub fault-found :
-    (r : Run) (row : List ℕ) (s : Shown) → r .count ≤ mostTasks → ShownOf (r .fence) (r .count) row s → s .strange || anyWrong r (s .cells) ≡ faulty r row
-fault-found r row s few h = go (s .strange) refl
+    (r : Run) (row : List ℕ) (s : Shown) → r .count ≤ mostTasks → ShownOf (r .fence) (r .count) row s → s .unknown || anyWrong r (s .cells) ≡ faulty r row
+fault-found r row s few h = go (s .unknown) refl
   where
-    go : (b : Bool) → s .strange ≡ b → s .strange || anyWrong r (s .cells) ≡ faulty r row
-    go true e = ap (λ (t : Bool). t || anyWrong r (s .cells)) e ∙ sym (by-strangers (sym (h .strange) ∙ e))
+    go : (b : Bool) → s .unknown ≡ b → s .unknown || anyWrong r (s .cells) ≡ faulty r row
+    go true e = ap (λ (t : Bool). t || anyWrong r (s .cells)) e ∙ sym (by-strangers (sym (h .unknown) ∙ e))
       where
-        by-strangers : anyStranger (r .fence) (r .count) row ≡ true → faulty r row ≡ true
-        by-strangers q = unfold faulty in or-left (anyStranger (r .fence) (r .count) row) (any (r .count) (wrongAt r row)) q
-    go false e = ap (λ (t : Bool). t || anyWrong r (s .cells)) (h .strange) ∙ wrong-counted r (s .cells) row few (h .counted e)
+        by-strangers : anyUnknownByte (r .fence) (r .count) row ≡ true → faulty r row ≡ true
+        by-strangers q = unfold faulty in or-left (anyUnknownByte (r .fence) (r .count) row) (any (r .count) (wrongAt r row)) q
+    go false e = ap (λ (t : Bool). t || anyWrong r (s .cells)) (h .unknown) ∙ wrong-counted r (s .cells) row few (h .counted e)
 
 -- the tasks stay
 pub counted-tasks : (r : Run) (ns : List ℕ) → tasksIn (workedWith r ns) ≡ tasksIn r

@@ -24,7 +24,7 @@ ValidBefore s r t = (u : ℕ) → u < t → ValidRow s r u × (¬ DeadlineMissed
 -- the rows of a list, and the first fault among them
 pub data OutcomeFor (s : Table) (rows : List (List ℕ)) : PlanOutcome → Type 0 where
   -- a row for each tick, no fault, and the phases agree
-  all-well :
+  all-valid :
       length rows ≡ horizon s → ValidBefore s (rowAt rows) (horizon s) → ¬ DeadlineMissed s (rowAt rows) (horizon s) → Agree s (rowAt rows)
       → OutcomeFor s rows accepts
   -- no fault, and rows are missing

@@ -12,20 +12,20 @@ use Rattle.table.specs.Numbers.{First, NoneApplies}
 use Rattle.table.specs.Words.{rule, tableOf}
 use Rattle.run.specs.Start.{emptyRun, startedRun}
 use Rattle.plan_check.specs.declared.Begun.{Begun}
-use Rattle.plan_check.specs.declared.Supplied.{Supplied}
+use Rattle.plan_check.specs.declared.SuppliedPlan.{SuppliedPlan}
 use Rattle.plan_check.specs.Numbers.{StateOut}
 use Rattle.plan_check.specs.State.{stateAt, blank}
 
 -- the table of the words as a run starts, at tick 0: where the last S is 0 its phases are recorded at once
-abbrev pub firstState : List ℕ → Supplied
+abbrev pub firstState : List ℕ → SuppliedPlan
 firstState ws = stateAt (startedRun (rule ws) (tableOf ws)) 0 blank
 
 -- all zeros and Resting(0), which 14 turns down
-abbrev pub emptyState : Supplied
+abbrev pub emptyState : SuppliedPlan
 emptyState = record { run = emptyRun; tick = 0; noted = blank }
 
 -- by the table's answer
-abbrev pub begunBy : Answer → Supplied → Begun
+abbrev pub begunBy : Answer → SuppliedPlan → Begun
 begunBy Passed w = record { answer = Passed; plan = w }
 begunBy (Refused n p) w = record { answer = Refused n p; plan = emptyState }
 

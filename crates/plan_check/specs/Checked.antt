@@ -13,7 +13,7 @@ use Rattle.table.specs.Words.{tableOf}
 use Rattle.plan.specs.declared.Planned.{Planned}
 use Rattle.plan.specs.Plan.{PlanOf, planMeaning}
 use Rattle.plan.specs.Rows.{rowsOf}
-use Rattle.plan_check.specs.declared.Supplied.{Supplied}
+use Rattle.plan_check.specs.declared.SuppliedPlan.{SuppliedPlan}
 use Rattle.plan_check.specs.Answers.{PlanOutcome, OutcomeFor, accepts, refuses, unfinished}
 use Rattle.plan_check.specs.Begin.{beginOf}
 use Rattle.plan_check.specs.Plan.{Acceptable, ForEver, repeated}
@@ -21,7 +21,7 @@ use Rattle.plan_check.specs.RowAnswer.{RowAnswer, accepted, refused, tak
 use Rattle.plan_check.specs.Take.{takeOf}
 
 -- the answer to each row of a list, from state w on: each is taken from the state after the one before it
-unfoldable pub rowAnswersFrom : Supplied → List (List ℕ) → List RowAnswer
+unfoldable pub rowAnswersFrom : SuppliedPlan → List (List ℕ) → List RowAnswer
 rowAnswersFrom w [] = []
 rowAnswersFrom w (row ∷ rows) = rowAnswerMeaning (takeOf w row .answer) ∷ rowAnswersFrom (takeOf w row .plan) rows
 

@@ -16,7 +16,7 @@ use Rattle.phase.specs.Task.{widthNow}
 use Rattle.run.specs.declared.Run.{Run}
 use Rattle.run.specs.Run.{phaseAt, placeAt}
 use Rattle.run.specs.Numbers.{PlaceLate, RunOut, lateAt, runOut}
-use Rattle.plan_check.specs.declared.Supplied.{Supplied}
+use Rattle.plan_check.specs.declared.SuppliedPlan.{SuppliedPlan}
 use Rattle.plan_check.specs.Plan.{cellCount}
 use Rattle.plan_check.specs.Row.{byteAt, shownInRow, workedRow}
 use Rattle.plan_check.specs.State.{stateAt, horizonIn, notedAt}
@@ -38,8 +38,8 @@ abbrev pub AnyLate : Run → Type 0
 AnyLate r = (p : ℕ) × (p < r .count) × PlaceLate r p
 
 -- core c is fenced without 255, or another core with a byte that is neither 0 nor a position: an unknown position
-abbrev pub StrangerAt : Run → List ℕ → ℕ → Type 0
-StrangerAt r row c =
+abbrev pub UnknownByteAt : Run → List ℕ → ℕ → Type 0
+UnknownByteAt r row c =
     ((bit (r .fence) c ≡ true) × (¬ (byteAt row c ≡ fencedByte)))
     ⊎ ((bit (r .fence) c ≡ false) × (r .count < byteAt row c))
 
@@ -53,22 +53,22 @@ WrongAt r row p = (shownInRow row p ≡ true) × ((¬ (cellCount (suc p) row ≡
 
 -- an unknown position, or a place in the row with a wrong width or nothing owed
 abbrev pub Faulty : Run → List ℕ → Type 0
-Faulty r row = ((c : ℕ) × (c < length row) × StrangerAt r row c) ⊎ ((p : ℕ) × (p < r .count) × WrongAt r row p)
+Faulty r row = ((c : ℕ) × (c < length row) × UnknownByteAt r row c) ⊎ ((p : ℕ) × (p < r .count) × WrongAt r row p)
 
 -- some task's phase is not the recorded one, apart from parity
-abbrev pub Differs : Supplied → Type 0
+abbrev pub Differs : SuppliedPlan → Type 0
 Differs w = (p : ℕ) × (p < w .run .count) × (¬ (phaseAt (w .run) p ≡ notedAt w p))
 
 -- the state after the row, one tick on
-abbrev pub afterRow : Supplied → List ℕ → Supplied
+abbrev pub afterRow : SuppliedPlan → List ℕ → SuppliedPlan
 afterRow w row = stateAt (workedRow (w .run) row) (suc (w .tick)) (w .noted)
 
 -- the row is the last: the tick after it is the horizon
-abbrev pub Last : Supplied → Type 0
+abbrev pub Last : SuppliedPlan → Type 0
 Last w = suc (w .tick) ≡ horizonIn (w .run)
 
 -- number n applies to a row, with tick t. As in table/specs/Numbers, with a tick for the position: `Applies`, `First`, `NoneApplies`, `Earlier`, `order`
-pub data Applies (w : Supplied) (row : List ℕ) : ℕ → ℕ → Type 0 where
+pub data Applies (w : SuppliedPlan) (row : List ℕ) : ℕ → ℕ → Type 0 where
   -- 14. The run is one that 14 turns down, or has a task Holding, withdrawn or with unequal counts.
   fourteen : StateOut (w .run) → Applies w row 14 0
   -- 9. The horizon of its tasks exceeds 1,000,000,000.
@@ -103,11 +103,11 @@ Earlier m s n t =
     × ((s < t) ⊎ ((s ≡ t) × (placeFrom 1 inTick m < placeFrom 1 inTick n))))
 
 -- of the numbers that apply, n is the first, with tick t (`first-only`: there is one at most)
-abbrev pub First : Supplied → List ℕ → ℕ → ℕ → Type 0
+abbrev pub First : SuppliedPlan → List ℕ → ℕ → ℕ → Type 0
 First w row n t = Applies w row n t × ((m s : ℕ) → Earlier m s n t → ¬ Applies w row m s)
 
 -- no number applies
-abbrev pub NoneApplies : Supplied → List ℕ → Type 0
+abbrev pub NoneApplies : SuppliedPlan → List ℕ → Type 0
 NoneApplies w row = NoneOf (Applies w row)
 
 -- THE TESTS THAT DECIDE THEM
@@ -147,5 +147,5 @@ samePhase (Resting a) (Holding z reserved) = false
 samePhase (Resting a) (Resting z) = eqb a z
 
 -- 26 (`differs-decides`)
-unfoldable pub differs : Supplied → Bool
+unfoldable pub differs : SuppliedPlan → Bool
 differs w = any (w .run .count) (λ p. not (samePhase (phaseAt (w .run) p) (notedAt w p)))

@@ -5,20 +5,20 @@ use mathlib.Core.Path.{_≡_}
 use Prim.Native.Nat.{ℕ}
 use lib.ListN.{take}
 use Rattle.run.specs.Past.{SameBelow}
-use Rattle.plan_check.specs.declared.Supplied.{Supplied}
+use Rattle.plan_check.specs.declared.SuppliedPlan.{SuppliedPlan}
 use Rattle.plan_check.specs.Extent.{extentOf}
 use Rattle.plan_check.specs.Checked.{rowAnswersFrom}
 use Rattle.plan_check.specs.Take.{takeOf}
 
 -- two states that are equal up to the count: their runs, their ticks, and the recorded phases
-pub record SameSupplied (w v : Supplied) : Type 0 where
+pub record SamePlan (w v : SuppliedPlan) : Type 0 where
   pub run : SameBelow (w .run) (v .run)
   pub tick : w .tick ≡ v .tick
   pub noted : take (w .run .count) (w .noted) ≡ take (v .run .count) (v .noted)
 
 -- they have equal extents; to any row they give equal answers, and the states after it are equal up to the count; so all rows get equal answers
-pub record PlanTailUnread (w v : Supplied) : Type 0 where
+pub record PlanTailUnread (w v : SuppliedPlan) : Type 0 where
   pub extent : extentOf (w .run) ≡ extentOf (v .run)
   pub answer : (row : List ℕ) → takeOf w row .answer ≡ takeOf v row .answer
-  pub plan : (row : List ℕ) → SameSupplied (takeOf w row .plan) (takeOf v row .plan)
+  pub plan : (row : List ℕ) → SamePlan (takeOf w row .plan) (takeOf v row .plan)
   pub answers : (rows : List (List ℕ)) → rowAnswersFrom w rows ≡ rowAnswersFrom v rows

@@ -34,8 +34,8 @@ abbrev pub hadInRows : Table → (ℕ → List ℕ) → ℕ → ℕ → ℕ → 
 hadInRows s r p k t = ticks r p (release (task s p) k) t
 
 -- an unknown position: a fenced core without 255, or another core with a byte that is neither 0 nor a position, and so above the last one
-abbrev pub Stranger : Table → ℕ → ℕ → Type 0
-Stranger s c byte = ((bit (s .fence) c ≡ true) × (¬ (byte ≡ fencedByte))) ⊎ ((bit (s .fence) c ≡ false) × (length (s .tasks) < byte))
+abbrev pub UnknownByte : Table → ℕ → ℕ → Type 0
+UnknownByte s c byte = ((bit (s .fence) c ≡ true) × (¬ (byte ≡ fencedByte))) ⊎ ((bit (s .fence) c ≡ false) × (length (s .tasks) < byte))
 
 -- job k of place p has work still owed at tick t: it is released, its deadline has not passed, and it has had fewer than C ticks
 pub record Owed (s : Table) (r : ℕ → List ℕ) (p k t : ℕ) : Type 0 where
@@ -48,7 +48,7 @@ pub record ValidRow (s : Table) (r : ℕ → List ℕ) (t : ℕ) : Type 0 where
   -- one byte a core
   pub size : length (r t) ≡ s .cores
   -- no unknown position
-  pub known : (c : ℕ) → c < s .cores → ¬ Stranger s c (getD (r t) c 0)
+  pub known : (c : ℕ) → c < s .cores → ¬ UnknownByte s c (getD (r t) c 0)
   -- each task in it has a job with work still owed (there is one at most, since D ≤ T), and exactly the width of that job
   pub works :
       (p : ℕ) → p < length (s .tasks) → runs r p t ≡ true
@@ -83,7 +83,7 @@ rowAt rows t = getD rows t []
 -- phases at the last S and at the horizon (what is due later is in the phases)
 pub record Acceptable (s : Table) (rows : List (List ℕ)) : Type 0 where
   pub count : length rows ≡ horizon s
-  pub fine : (t : ℕ) → t < horizon s → ValidRow s (rowAt rows) t
+  pub rows-valid : (t : ℕ) → t < horizon s → ValidRow s (rowAt rows) t
   pub done : (p k : ℕ) → p < length (s .tasks) → due (task s p) k ≤ horizon s → InTime s (rowAt rows) p k
   pub agree : Agree s (rowAt rows)
 
@@ -97,5 +97,5 @@ repeated s rows t =
 -- the claims about rows for all ticks (`repeats-for-ever`): each is valid, with the width of each job, and every job of every task is
 -- in time
 pub record ForEver (s : Table) (r : ℕ → List ℕ) : Type 0 where
-  pub fine : (t : ℕ) → ValidRow s r t
+  pub rows-valid : (t : ℕ) → ValidRow s r t
   pub done : (p k : ℕ) → p < length (s .tasks) → InTime s r p k

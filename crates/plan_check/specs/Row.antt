@@ -22,11 +22,11 @@ abbrev pub shownInRow : List ℕ → ℕ → Bool
 shownInRow row p = ltb 0 (cellCount (suc p) row)
 
 -- core c shows an unknown position: it is fenced without 255, or another core with a byte above the last position
-abbrev pub strangerAt : ℕ → ℕ → List ℕ → ℕ → Bool
-strangerAt fence count row c = cond (bit fence c) (not (eqb (byteAt row c) fencedByte)) (ltb count (byteAt row c))
+abbrev pub unknownByteAt : ℕ → ℕ → List ℕ → ℕ → Bool
+unknownByteAt fence count row c = cond (bit fence c) (not (eqb (byteAt row c) fencedByte)) (ltb count (byteAt row c))
 
-unfoldable pub anyStranger : ℕ → ℕ → List ℕ → Bool
-anyStranger fence count row = any (length row) (strangerAt fence count row)
+unfoldable pub anyUnknownByte : ℕ → ℕ → List ℕ → Bool
+anyUnknownByte fence count row = any (length row) (unknownByteAt fence count row)
 
 -- place p is in the row with another width than its job's, or with nothing owed: its task is not Working
 abbrev pub wrongAt : Run → List ℕ → ℕ → Bool
@@ -34,7 +34,7 @@ wrongAt r row p = shownInRow row p && not (eqb (cellCount (suc p) row) (widthNow
 
 -- 24: an unknown position, a wrong width or nothing owed (`faulty-decides`)
 unfoldable pub faulty : Run → List ℕ → Bool
-faulty r row = anyStranger (r .fence) (r .count) row || any (r .count) (wrongAt r row)
+faulty r row = anyUnknownByte (r .fence) (r .count) row || any (r .count) (wrongAt r row)
 
 -- the task at place p after the tick: where it is in the row it is given its cores; no job is empty, reported or lent any
 abbrev pub workedAt : Run → List ℕ → ℕ → Task → Task

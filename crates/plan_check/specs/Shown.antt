@@ -13,12 +13,12 @@ use Rattle.run.specs.declared.Run.{Run}
 use Rattle.run.specs.Run.{mapFirst, placeAt, ruleIn}
 use Rattle.plan_check.specs.declared.rows.Shown.{Shown}
 use Rattle.plan_check.specs.Plan.{cellCount}
-use Rattle.plan_check.specs.Row.{anyStranger}
+use Rattle.plan_check.specs.Row.{anyUnknownByte}
 
 -- an unknown position is met, or for each byte the number of cores that show it is kept
 pub record ShownOf (fence count : ℕ) (row : List ℕ) (s : Shown) : Type 0 where
-  pub strange : s .strange ≡ anyStranger fence count row
-  pub counted : s .strange ≡ false → (b : ℕ) → b < 256 → getD (s .cells) b 0 ≡ cellCount b row
+  pub unknown : s .unknown ≡ anyUnknownByte fence count row
+  pub counted : s .unknown ≡ false → (b : ℕ) → b < 256 → getD (s .cells) b 0 ≡ cellCount b row
 
 -- a task with n cores of the row has another number than its job's width, or nothing owed
 abbrev pub wrongWith : Task → ℕ → Bool

@@ -12,7 +12,7 @@ use Rattle.phase.specs.declared.Task.{Task}
 use Rattle.run.specs.declared.Run.{Run}
 use Rattle.run.specs.Run.{runTable, tasksIn}
 use Rattle.plan_check.specs.declared.Note.{Note}
-use Rattle.plan_check.specs.declared.Supplied.{Supplied}
+use Rattle.plan_check.specs.declared.SuppliedPlan.{SuppliedPlan}
 
 -- the last S and the horizon of the run's tasks
 abbrev pub startIn : Run → ℕ
@@ -38,7 +38,7 @@ abbrev pub pastNote : Note
 pastNote = note (Coming 0)
 
 -- the phase recorded of place p
-abbrev pub notedAt : Supplied → ℕ → Phase
+abbrev pub notedAt : SuppliedPlan → ℕ → Phase
 notedAt w p = getD (w .noted) p pastNote .phase
 
 -- the phases of the tasks below the count; the rest of the list stays
@@ -46,5 +46,5 @@ abbrev pub noting : Run → List Note → List Note
 noting r ns = map noteOf (take (r .count) (r .tasks)) ++ drop (r .count) ns
 
 -- a run that arrives at tick t: at the last S its phases are recorded
-abbrev pub stateAt : Run → ℕ → List Note → Supplied
+abbrev pub stateAt : Run → ℕ → List Note → SuppliedPlan
 stateAt r t ns = record { run = r; tick = t; noted = cond (eqb t (startIn r)) (noting r ns) ns }

@@ -3,7 +3,7 @@ ghost use mathlib.Core.Path.{_≡_};
 ghost use Rattle.plan_check.specs.Begin.{emptyState};
 ghost use Rattle.plan_check.specs.State.{blank};
 use crate::Note;
-use crate::Supplied;
+use crate::SuppliedPlan;
 use model::MOST_TASKS;
 use phase::Phase;
 
@@ -18,13 +18,13 @@ pub(crate) fn blank() -> [Note; MOST_TASKS]
 }
 
 // A state of all zeros, which 14 turns down: its run is that of a refused start.
-pub(crate) fn empty() -> Supplied
+pub(crate) fn empty() -> SuppliedPlan
     ensures { λ r. ⌜ r ≡ emptyState ⌝ }
 {
     let refused = run::starts::refused(0, 0);
     let run = refused.run;
     let noted = blank();
-    Supplied {
+    SuppliedPlan {
         run: run,
         tick: 0,
         noted: noted,

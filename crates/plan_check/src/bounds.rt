@@ -10,7 +10,7 @@ ghost use Rattle.plan_check.specs.Numbers.{unreachablePhase, stateOut, m
 ghost use Rattle.plan_check.specs.State.{horizonIn};
 ghost use Rattle.plan_check.specs.Take.{answerAt, finalAnswer};
 use crate::Answer;
-use crate::Supplied;
+use crate::SuppliedPlan;
 use phase::Phase;
 use run::Run;
 
@@ -107,7 +107,7 @@ fn same(a: Phase, b: Phase) -> bool
     }
 }
 
-impl Supplied {
+impl SuppliedPlan {
     // Whether some task's phase is not the recorded one (number 26).
     fn differs(self) -> bool
         requires { ⌜ self .run .count ≤ mostTasks ⌝ }

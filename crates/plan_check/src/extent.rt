@@ -3,7 +3,7 @@ ghost use mathlib.Core.Path.{_≡_};
 ghost use mathlib.Core.Bool.{false};
 ghost use Rattle.plan_check.specs.Extent.{ExtentOf};
 ghost use Rattle.plan_check.specs.Numbers.{stateOut};
-use crate::Supplied;
+use crate::SuppliedPlan;
 use run::Run;
 
 // The number that turns every row down, 14 or 9, with zeros; or 0, with the last S and the horizon.
@@ -29,7 +29,7 @@ fn by_tasks(run: Run) -> Extent
     requires { ⌜ stateOut run ≡ false ⌝ }
     ensures { λ r. ⌜ ExtentOf run r ⌝ }
 {
-    let tasks = run.plain();
+    let tasks = run.parameters();
     let count = run.count;
     let start = table::positions::last_start(tasks, count);
     let period = table::hyperperiod::hyperperiod(tasks, count);
@@ -43,7 +43,7 @@ fn by_tasks(run: Run) -> Extent
     }
 }
 
-impl Supplied {
+impl SuppliedPlan {
     // The extent of the plan, or 14 or 9. A taken row does not change it.
     pub fn extent(self) -> Extent
         ensures { λ r. ⌜ ExtentOf (self .run) r ⌝ }

@@ -24,7 +24,7 @@ pub struct Note {
 }
 
 // A supplied plan between two rows: a run, its tick, and the phases recorded at the last S.
-pub struct Supplied {
+pub struct SuppliedPlan {
     pub run: Run,
     pub tick: u32,
     pub noted: [Note; MOST_TASKS],
@@ -33,7 +33,7 @@ pub struct Supplied {
 // The result of the beginning: the table's answer, and the state at tick 0.
 pub struct Begun {
     pub answer: table::Answer,
-    pub plan: Supplied,
+    pub plan: SuppliedPlan,
 }
 
 // The answer to a row: taken; taken as the last, and the plan accepted; or refused with number and tick.
@@ -46,7 +46,7 @@ pub enum Answer {
 // The result of a row: the answer, and the next state.
 pub struct Entered {
     pub answer: Answer,
-    pub plan: Supplied,
+    pub plan: SuppliedPlan,
 }
 
 // The state at tick 0 for the words of a table, with any verdict; or the first of 1 to 9 and 19 that applies, and a state of all zeros.
@@ -76,7 +76,7 @@ pub fn begin(words: &[u32]) -> Begun
     }
 }
 
-impl Supplied {
+impl SuppliedPlan {
     // A row that is turned down: the state as given.
     fn refused(self, number: u32, tick: u32) -> Entered
         ensures { λ r. ⌜ r ≡ record { answer = Refused number tick; plan = self } ⌝ }
@@ -88,7 +88,7 @@ impl Supplied {
     }
 
     // The answer with its state: the next one, or where it is refused the one given.
-    fn by_answer(self, answer: Answer, next: Supplied) -> Entered
+    fn by_answer(self, answer: Answer, next: SuppliedPlan) -> Entered
         ensures { λ r. ⌜ r ≡ record { answer = answer; plan = stateByAnswer answer next self } ⌝ }
     {
         match answer {
@@ -116,7 +116,7 @@ impl Supplied {
         }
         let shown = rows::counted(row, run.fence, run.count);
         let cells = shown.cells;
-        if shown.strange | rows::any_wrong(run, &cells) {
+        if shown.unknown | rows::any_wrong(run, &cells) {
             return self.refused(24, tick);
         }
         let next = self.after(start, &cells);

@@ -7,7 +7,7 @@ ghost use Rattle.run.specs.Numbers.{runOut};
 ghost use Rattle.plan_check.specs.Shown.{workedWith};
 ghost use Rattle.plan_check.specs.State.{stateAt, noting, startIn};
 use crate::Note;
-use crate::Supplied;
+use crate::SuppliedPlan;
 use crate::rows::BYTES;
 use model::MOST_TASKS;
 use run::Run;
@@ -48,28 +48,28 @@ fn noting(run: Run, noted: [Note; MOST_TASKS]) -> [Note; MOST_TASKS]
 }
 
 // A run that arrives at a tick: at the last S its phases are recorded.
-pub(crate) fn state_at(run: Run, tick: u32, start: u32, noted: [Note; MOST_TASKS]) -> Supplied
+pub(crate) fn state_at(run: Run, tick: u32, start: u32, noted: [Note; MOST_TASKS]) -> SuppliedPlan
     requires { ⌜ run .count ≤ mostTasks ⌝ ∗ ⌜ start ≡ startIn run ⌝ }
     ensures { λ r. ⌜ r ≡ stateAt run tick noted ⌝ }
 {
     if tick == start {
         let notes = noting(run, noted);
-        return Supplied {
+        return SuppliedPlan {
             run: run,
             tick: tick,
             noted: notes,
         };
     }
-    Supplied {
+    SuppliedPlan {
         run: run,
         tick: tick,
         noted: noted,
     }
 }
 
-impl Supplied {
+impl SuppliedPlan {
     // The state after a row with these counts of cells.
-    pub(crate) fn after(self, start: u32, cells: &[u8; BYTES]) -> Supplied
+    pub(crate) fn after(self, start: u32, cells: &[u8; BYTES]) -> SuppliedPlan
         requires { ⌜ runOut (self .run) ≡ false ⌝ ∗ ⌜ start ≡ startIn (self .run) ⌝ ∗ ⌜ self .tick < mostWord ⌝ }
         ensures { λ r. ⌜ r ≡ stateAt (workedWith (self .run) (now (cells .entry))) (suc (self .tick)) (self .noted) ⌝ }
     {

@@ -19,12 +19,12 @@ const FENCED: u8 = 255;
 
 // Whether the row shows an unknown position; and where it does not, how many cores show each byte.
 pub struct Shown {
-    pub strange: bool,
+    pub unknown: bool,
     pub cells: [u8; BYTES],
 }
 
 // Whether a byte is an unknown position on a core: a fenced one without 255, another with a byte above the last position.
-fn stranger(fence: u64, count: usize, core: u32, byte: u8) -> bool
+fn unknown_byte(fence: u64, count: usize, core: u32, byte: u8) -> bool
     requires { ⌜ core < mostCores ⌝ }
     ensures { λ r. ⌜ r ≡ cond (bit fence core) (not (eqb byte fencedByte)) (ltb count byte) ⌝ }
 {
@@ -52,9 +52,9 @@ pub(crate) fn counted(row: &[u8], fence: u64, count: usize) -> Shown
     let mut core: usize = 0;
     while core < row.len() {
         let byte = row[core];
-        if stranger(fence, count, core as u32, byte) {
+        if unknown_byte(fence, count, core as u32, byte) {
             return Shown {
-                strange: true,
+                unknown: true,
                 cells: cells,
             };
         }
@@ -62,7 +62,7 @@ pub(crate) fn counted(row: &[u8], fence: u64, count: usize) -> Shown
         core += 1;
     }
     Shown {
-        strange: false,
+        unknown: false,
         cells: cells,
     }
 }

@@ -18,11 +18,11 @@ use Rattle.sentence.specs.Reading.{startsWith}
 use Rattle.session.specs.Transcript.{nothing}
 use Rattle.plan_check.specs.Begin.{beginOf}
 use Rattle.plan_check.specs.Take.{takeOf}
-use Rattle.plan_check.specs.declared.Answer as foreign
+use Rattle.plan_check.specs.declared.Answer as planCheck
 use Rattle.plan_check.specs.declared.Answer.the-variants as answer
 use Rattle.plan_check.specs.declared.Begun.{Begun}
 use Rattle.plan_check.specs.declared.Entered.{Entered}
-use Rattle.plan_check.specs.declared.Supplied.{Supplied}
+use Rattle.plan_check.specs.declared.SuppliedPlan.{SuppliedPlan}
 use Rattle.plan_text.specs.declared.PlanProgress.{PlanProgress}
 use Rattle.plan_text.specs.declared.PlanAnswer.{PlanAnswer}
 use Rattle.plan_text.specs.declared.PlanAnswer.the-variants.{Accepted, Fault, More, Refused, Unfinished, Unread}
@@ -64,18 +64,18 @@ fault n t h = rw (le-leb 24 n h)
 pub refused : (n t : ℕ) → n < 24 → Refused n t ≡ refusalAnswer n t
 refused n t h = rw (lt-leb 24 n h)
 
-pub entered-taken : (a : foreign.Answer) (w : Supplied) (n : ℕ) → a ≡ answer.Taken → lineAnswer (rowsAt w n false) More ≡ rowEntered a w n
+pub entered-taken : (a : planCheck.Answer) (w : SuppliedPlan) (n : ℕ) → a ≡ answer.Taken → lineAnswer (rowsAt w n false) More ≡ rowEntered a w n
 entered-taken a w n e = rw e
 
-pub entered-accepted : (a : foreign.Answer) (w : Supplied) (n : ℕ) → a ≡ answer.Accepted → lineAnswer (rowsAt w n true) More ≡ rowEntered a w n
+pub entered-accepted : (a : planCheck.Answer) (w : SuppliedPlan) (n : ℕ) → a ≡ answer.Accepted → lineAnswer (rowsAt w n true) More ≡ rowEntered a w n
 entered-accepted a w n e = rw e
 
 pub entered-refused :
-    (a : foreign.Answer) (w : Supplied) (n k t : ℕ) (s : PlanAnswer) → a ≡ answer.Refused k t → s ≡ refusalAnswer k t → lineAnswer (rowsAt w n false) s ≡ rowEntered a w n
+    (a : planCheck.Answer) (w : SuppliedPlan) (n k t : ℕ) (s : PlanAnswer) → a ≡ answer.Refused k t → s ≡ refusalAnswer k t → lineAnswer (rowsAt w n false) s ≡ rowEntered a w n
 entered-refused a w n k t s e h = rw (e, h)
 
 -- the plan after a row is what `take` returns
-pub entered-plan : (a : foreign.Answer) (w : Supplied) (n : ℕ) → rowEntered a w n .rows .plan ≡ w
+pub entered-plan : (a : planCheck.Answer) (w : SuppliedPlan) (n : ℕ) → rowEntered a w n .rows .plan ≡ w
 entered-plan answer.Taken w n = refl
 entered-plan answer.Accepted w n = refl
 entered-plan (answer.Refused k t) w n = refl

@@ -8,7 +8,7 @@ use lib.ListN.{replicate}
 use Rattle.model.proofs.Computing.{computing}
 use Rattle.model.proofs.LineByLine.{LineByLine, by-line}
 use Rattle.table.specs.Answer.{answerOf, byHorizon, byTasks, byWalk, endingOf, firstOut, headerNumber, lastStep}
-use Rattle.table.specs.Words.{chain, count, met, tableOf}
+use Rattle.table.specs.Words.{chain, count, visited, tableOf}
 use Rattle.phase.specs.declared.Phase.the-variants.{Resting, Working}
 use Rattle.phase.specs.Task.{unused}
 use Rattle.run.specs.Numbers.{pastCount, runOut}
@@ -20,11 +20,11 @@ use Rattle.text.specs.Output.{fields, letters, lineOf}
 use Rattle.sentence.specs.Reading.{startsWith}
 use Rattle.session.specs.Operation.{wordsIn}
 use Rattle.session.specs.Transcript.{isDashes, lastLine, linesFrom, nothing}
-use Rattle.plan_check.specs.declared.Supplied.{Supplied}
+use Rattle.plan_check.specs.declared.SuppliedPlan.{SuppliedPlan}
 use Rattle.plan_check.specs.Begin.{beginOf}
 use Rattle.plan_check.specs.Numbers.{differs, missed, stateOut}
 use Rattle.plan_check.specs.Plan.{cellCount}
-use Rattle.plan_check.specs.Row.{faulty, anyStranger, workedRow}
+use Rattle.plan_check.specs.Row.{faulty, anyUnknownByte, workedRow}
 use Rattle.plan_check.specs.State.{note}
 use Rattle.plan_check.specs.Take.{answerAt, finalAnswer, takeAnswer, takeOf}
 use Rattle.plan_text.specs.declared.PlanAnswer.{PlanAnswer}
@@ -78,7 +78,7 @@ lines-read = by-line reading some-lines some-lines each-line
 -- THE ANSWER TO THE LINES OF A PLAN
 
 -- one core and one task, (0,1,1,2,2), as it is begun: its horizon is 2, and of each two ticks it takes one
-abbrev pub plan : Supplied
+abbrev pub plan : SuppliedPlan
 plan = record {
   run = record {
     rule = 1;
@@ -93,7 +93,7 @@ plan = record {
 }
 
 pub plan-begun : beginOf (1 ∷ 1 ∷ 1 ∷ 0 ∷ 0 ∷ 0 ∷ 0 ∷ 1 ∷ 1 ∷ 2 ∷ 2 ∷ 1 ∷ []) .plan ≡ plan
-unfolding beginOf startedRun answerOf byWalk byTasks byHorizon firstOut endingOf lastStep headerNumber tableOf chain count met computing
+unfolding beginOf startedRun answerOf byWalk byTasks byHorizon firstOut endingOf lastStep headerNumber tableOf chain count visited computing
 plan-begun = refl
 
 -- the lines of a plan, and the answer to them
@@ -132,7 +132,7 @@ checking c = check (c .input) (rowsAnswer nothing (rowsAt plan 0 false) (linesFr
 
 each-check : LineByLine checking checks checks
 unfolding rowsAnswer endAnswer stepOf skipped nextLine isVerdict startsWith linesFrom lastLine rowOfWords cellsOf isByte wordsIn isNumber all value takeOf takeAnswer answerAt finalAnswer differs missed
-    stateOut faulty anyStranger workedRow cellCount mapFirst runOut pastCount computing
+    stateOut faulty anyUnknownByte workedRow cellCount mapFirst runOut pastCount computing
 each-check = (refl, (refl, (refl, (refl, (refl, (refl, (refl, (refl, (refl, (refl, (refl, (refl, (refl, (refl, (refl, tt)))))))))))))))
 
 pub checks-exact : map checking checks ≡ checks
@@ -140,9 +140,9 @@ checks-exact = by-line checking checks checks each-check
 
 -- A TABLE THAT IS TURNED DOWN, AND THE LINE THAT IS PRINTED
 
-pub turned-down : (checkedOf (letters "") ≡ Refused 1 0) × (checkedOf (letters "x\n--\n0 1\n") ≡ Refused 1 0) × (checkedOf (letters "1\n65\n1\n0\n0\n--\n") ≡ Refused 2 0)
+pub refusedLine : (checkedOf (letters "") ≡ Refused 1 0) × (checkedOf (letters "x\n--\n0 1\n") ≡ Refused 1 0) × (checkedOf (letters "1\n65\n1\n0\n0\n--\n") ≡ Refused 2 0)
 unfolding checkedOf tableAnswer unclosedAnswer opens openedOf isDashes wordsOf lines isNumber all value beginOf answerOf headerNumber rowsAnswer endAnswer linesFrom lastLine
-turned-down = (refl, refl, refl)
+refusedLine = (refl, refl, refl)
 
 pub answer-lines :
     (planAnswerLine Accepted ≡ letters "accepted\n") × (planAnswerLine (Unfinished 10) ≡ letters "unfinished 10\n") × (planAnswerLine (Fault 24 1000000000) ≡ letters "fault 24 1000000000\n")

@@ -18,7 +18,7 @@ use Rattle.text.specs.Input.{lengthTo}
 use Rattle.text.specs.Output.{space}
 use Rattle.text.proofs.Lines.{mark-within}
 use Rattle.text.proofs.Numbers.{number-exact}
-use Rattle.plan_check.specs.declared.Answer as foreign
+use Rattle.plan_check.specs.declared.Answer as planCheck
 use Rattle.plan_check.specs.declared.Answer.the-variants as answer
 use Rattle.plan_check.specs.Take.{takeOf}
 use Rattle.session.specs.Transcript.{lastLine, linesFrom, nothing}
@@ -26,7 +26,7 @@ use Rattle.plan_text.specs.declared.PlanProgress.{PlanProgress}
 use Rattle.plan_text.specs.declared.PlanAnswer.{PlanAnswer}
 use Rattle.plan_text.specs.declared.PlanAnswer.the-variants.{Fault, Refused, Unread}
 use Rattle.plan_text.specs.declared.LineAnswer.{LineAnswer}
-use Rattle.plan_text.specs.Line.{Read, wordsBehind, cellsOf, isByte, isVerdict, longLine, mostCells, noRow, row, rowIn, rowOfWords}
+use Rattle.plan_text.specs.Line.{Read, wordsAfter, cellsOf, isByte, isVerdict, longLine, mostCells, noRow, row, rowIn, rowOfWords}
 use Rattle.plan_text.specs.Checked.{rowEntered, enters, isMore, nextLine, skipped, refusalAnswer, rowsAnswer, stepOf, noRowAnswer}
 use Rattle.plan_text.proofs.Lines.{rows-end}
 use Rattle.plan_text.proofs.Reading.{row-split, words-split}
@@ -98,13 +98,13 @@ first-word l more h = ⊎-elim all-of (λ q. inl (ends q)) (eq-or-lt-of-le (mark
 -- THE NUMBERS AFTER IT
 
 -- the words after a space: the first, and those after it
-behind-split : (b : ℕ) (l : List ℕ) → wordsBehind (b ∷ l) ≡ word l ∷ wordsBehind (rest l)
-unfolding wordsBehind
+behind-split : (b : ℕ) (l : List ℕ) → wordsAfter (b ∷ l) ≡ word l ∷ wordsAfter (rest l)
+unfolding wordsAfter
 behind-split b l = words-split l
 
 -- whether the first k words represent bytes
 abbrev bytes : ℕ → List ℕ → Bool
-bytes k x = all isByte (take k (wordsBehind x))
+bytes k x = all isByte (take k (wordsAfter x))
 
 bytes-split : (k b : ℕ) (l : List ℕ) → bytes (suc k) (b ∷ l) ≡ (isByte (word l) && bytes k (rest l))
 unfolding all
@@ -121,7 +121,7 @@ no-byte w e = rw e
 -- what holds of the first k words
 abbrev Many : ℕ → List ℕ → List ℕ → Type 0
 Many k x more =
-    ((bytes k x ≡ true) × (take k (wordsBehind (x ++ more)) ≡ take k (wordsBehind x)) × (length (take k (wordsBehind x)) ≡ k))
+    ((bytes k x ≡ true) × (take k (wordsAfter (x ++ more)) ≡ take k (wordsAfter x)) × (length (take k (wordsAfter x)) ≡ k))
     ⊎ ((bytes k x ≡ false) × (bytes k (x ++ more) ≡ false))
 
 -- k words that represent bytes are in 11 k bytes and one more, whatever follows; where one of them represents none, it still does not
@@ -151,7 +151,7 @@ many (suc k) (b ∷ l) more h =
         by-rest : isByte (word l) ≡ true → Many k (rest l) more → Many (suc k) (b ∷ l) more
         by-rest e (inl w) = inl (
           bytes-split k b l ∙ ap₂ (λ (t u : Bool). t && u) e (w .0),
-          ap (take (suc k)) (behind-split b (l ++ more)) ∙ ap₂ (λ (x : List ℕ) (ws : List (List ℕ)). x ∷ ws) (q .1) (ap (λ (y : List ℕ). take k (wordsBehind y)) (q .2) ∙ w .1)
+          ap (take (suc k)) (behind-split b (l ++ more)) ∙ ap₂ (λ (x : List ℕ) (ws : List (List ℕ)). x ∷ ws) (q .1) (ap (λ (y : List ℕ). take k (wordsAfter y)) (q .2) ∙ w .1)
               ∙ sym (ap (take (suc k)) (behind-split b l)),
           ap (λ (ws : List (List ℕ)). length (take (suc k) ws)) (behind-split b l) ∙ ap suc (w .2),
         )
@@ -184,23 +184,23 @@ map-length (w ∷ ws) = ap suc (map-length ws)
 
 long-cells :
     (t : ℕ) (x more : List ℕ) → 11 * mostCells < length x
-    → (cellsOf t (take mostCells (wordsBehind (x ++ more))) ≡ cellsOf t (take mostCells (wordsBehind x))) × Wide (cellsOf t (take mostCells (wordsBehind x)))
+    → (cellsOf t (take mostCells (wordsAfter (x ++ more))) ≡ cellsOf t (take mostCells (wordsAfter x))) × Wide (cellsOf t (take mostCells (wordsAfter x)))
 long-cells t x more h = go (many mostCells x more h)
   where
-    go : Many mostCells x more → (cellsOf t (take mostCells (wordsBehind (x ++ more))) ≡ cellsOf t (take mostCells (wordsBehind x))) × Wide (cellsOf t (take mostCells (wordsBehind x)))
+    go : Many mostCells x more → (cellsOf t (take mostCells (wordsAfter (x ++ more))) ≡ cellsOf t (take mostCells (wordsAfter x))) × Wide (cellsOf t (take mostCells (wordsAfter x)))
     go (inl w) = (
       ap (cellsOf t) (w .1),
-      inr (t, map value (take mostCells (wordsBehind x)), cells-some t (take mostCells (wordsBehind x)) (w .0), omega (arith, map-length (take mostCells (wordsBehind x)), w .2)),
+      inr (t, map value (take mostCells (wordsAfter x)), cells-some t (take mostCells (wordsAfter x)) (w .0), omega (arith, map-length (take mostCells (wordsAfter x)), w .2)),
     )
     go (inr w) = (
-      cells-none t (take mostCells (wordsBehind (x ++ more))) (w .1) ∙ sym (cells-none t (take mostCells (wordsBehind x)) (w .0)),
-      inl (cells-none t (take mostCells (wordsBehind x)) (w .0)),
+      cells-none t (take mostCells (wordsAfter (x ++ more))) (w .1) ∙ sym (cells-none t (take mostCells (wordsAfter x)) (w .0)),
+      inl (cells-none t (take mostCells (wordsAfter x)) (w .0)),
     )
 
 row-not : (l : List ℕ) → isNumber (word l) ≡ false → rowIn l ≡ noRow
 row-not l e = row-split l ∙ rw e
 
-row-by : (l : List ℕ) → isNumber (word l) ≡ true → rowIn l ≡ cellsOf (value (word l)) (take mostCells (wordsBehind (rest l)))
+row-by : (l : List ℕ) → isNumber (word l) ≡ true → rowIn l ≡ cellsOf (value (word l)) (take mostCells (wordsAfter (rest l)))
 row-by l e = row-split l ∙ rw e
 
 pub long-read : (l more : List ℕ) → longLine ≤ length l → (rowIn (l ++ more) ≡ rowIn l) × Wide (rowIn l)
@@ -219,7 +219,7 @@ long-read l more h = ⊎-elim inside (λ q. (row-not (l ++ more) (q .1) ∙ sym 
             let c = long-cells (value (word l)) (rest l) more
             (omega (arith, h, n .short, length-take-le (lengthTo space l) l (mark-within space l), length-drop (lengthTo space l) l)) in (
               row-by (l ++ more) (same ∙ e)
-                  ∙ ap₂ (λ (w y : List ℕ). cellsOf (value w) (take mostCells (wordsBehind y))) (q .1) (q .2) ∙ c .0 ∙ sym (row-by l e),
+                  ∙ ap₂ (λ (w y : List ℕ). cellsOf (value w) (take mostCells (wordsAfter y))) (q .1) (q .2) ∙ c .0 ∙ sym (row-by l e),
               subst⁻¹ Wide (row-by l e) (c .1),
             )
 
@@ -251,7 +251,7 @@ wide-ends r x (inr w) = ap (λ (y : Read). isMore (enters r y .answer)) (w .2) �
     taken : isMore (rowEntered (takeOf (r .plan) (w .1) .answer) (takeOf (r .plan) (w .1) .plan) (nextLine (r .lines)) .answer) ≡ false
     taken =
         let z = take-long (r .plan) (w .1) (w .3) in
-        ap (λ (a : foreign.Answer). isMore (rowEntered a (takeOf (r .plan) (w .1) .plan) (nextLine (r .lines)) .answer)) (z .2) ∙ refusal-ends (z .0) (z .1)
+        ap (λ (a : planCheck.Answer). isMore (rowEntered a (takeOf (r .plan) (w .1) .plan) (nextLine (r .lines)) .answer)) (z .2) ∙ refusal-ends (z .0) (z .1)
 
     go : (b : Bool) → isMore (cond {A = LineAnswer} b (rowEntered (takeOf (r .plan) (w .1) .answer) (takeOf (r .plan) (w .1) .plan) (nextLine (r .lines))) (noRowAnswer r) .answer) ≡ false
     go true = taken

@@ -31,13 +31,13 @@ use Rattle.plan_check.specs.Begin.{beginOf, begunBy, firstState}
 use Rattle.plan_check.specs.Checked.{rowAnswersFrom, rowAnswersOf, outcomeFrom, outcomeOf, planRows}
 use Rattle.plan_check.specs.Plan.{Acceptable, ValidRow, rowAt}
 use Rattle.plan_check.specs.RowAnswer.{RowAnswer, accepted, taken}
-use Rattle.plan_check.specs.declared.Supplied.{Supplied}
+use Rattle.plan_check.specs.declared.SuppliedPlan.{SuppliedPlan}
 use Rattle.plan_check.proofs.Checked.{checked, own-plans, own-written}
 use Rattle.session.specs.Transcript.{linesFrom, nothing}
 use Rattle.plan_text.specs.declared.PlanProgress.{PlanProgress}
 use Rattle.plan_text.specs.declared.PlanAnswer.the-variants.{Accepted}
 use Rattle.plan_text.specs.Checked.{checkedOf, nextLine, rowsAt, rowsAnswer}
-use Rattle.plan_text.specs.Plan.{WordsOf, ExpressibleRow, behindDashes, planText, planAnswerOf}
+use Rattle.plan_text.specs.Plan.{WordsOf, ExpressibleRow, afterDashes, planText, planAnswerOf}
 use Rattle.plan_text.proofs.Plan.{before, plan-answer, rows-text, verdict-passed}
 use Rattle.plan_text.proofs.Text.{begin-tick, begun-text}
 
@@ -90,11 +90,11 @@ module _ (ws : List ℕ) (none : NoneApplies ws) where
 
     own-answer : (r : PlanProgress) → r .plan ≡ beginOf ws .plan → r .accepted ≡ false → rowsAnswer nothing r (linesFrom nothing [] (planText 0 own)) ≡ Accepted
     own-answer r p a =
-        let zero : r .plan .tick ≡ 0 = ap (λ (w : Supplied). w .tick) p ∙ begin-tick ws in
+        let zero : r .plan .tick ≡ 0 = ap (λ (w : SuppliedPlan). w .tick) p ∙ begin-tick ws in
         ap (λ (t : ℕ). rowsAnswer nothing r (linesFrom nothing [] (planText t own))) (sym zero)
         ∙ plan-answer r own (expressible own plan) (omega (arith, zero, plan .count, passed-horizon ws none))
         ∙ ap (λ (o : PlanOutcome). planAnswerOf o (r .plan .tick + length own))
-        (ap₂ (λ (b : Bool) (w : Supplied). outcomeFrom (before b) (rowAnswersFrom w own)) a p ∙ own-accepted)
+        (ap₂ (λ (b : Bool) (w : SuppliedPlan). outcomeFrom (before b) (rowAnswersFrom w own)) a p ∙ own-accepted)
 
     -- the verdict is firm or full, with S and P
     by-verdict : (a b : ℕ) → (verdict s ≡ Firm a b) ⊎ (verdict s ≡ Full a b) → (rowsPrinted (verdict s) (horizon s) ≡ horizon s) × WordsOf (verdict s)
@@ -118,7 +118,7 @@ module _ (ws : List ℕ) (none : NoneApplies ws) where
     -- THE THEOREM: the table's text, the line `--` and what the program prints for the table are accepted
     pub own-output :
         length ws ≤ mostNumbers → ((i : ℕ) → i < length ws → getD ws i 0 ≤ largest)
-        → checkedOf (textOf ws ++ behindDashes (output (textOf ws))) ≡ Accepted
+        → checkedOf (textOf ws ++ afterDashes (output (textOf ws))) ≡ Accepted
     own-output few fit =
         begun-text ws few fit (output (textOf ws)) begun
         ∙ ap (λ (x : List ℕ). rowsAnswer nothing first (linesFrom nothing [] x)) (out ∙ own-printed)

@@ -30,9 +30,9 @@ use Rattle.plan_check.specs.Answers.{PlanOutcome, accepts, refuses, unfinished}
 use Rattle.plan_check.specs.Checked.{rowAnswersFrom, outcomeFrom}
 use Rattle.plan_check.specs.RowAnswer.{stateByAnswer, rowAnswerMeaning}
 use Rattle.plan_check.specs.Take.{takeAnswer, takeOf}
-use Rattle.plan_check.specs.declared.Answer as foreign
+use Rattle.plan_check.specs.declared.Answer as planCheck
 use Rattle.plan_check.specs.declared.Answer.the-variants as answer
-use Rattle.plan_check.specs.declared.Supplied.{Supplied}
+use Rattle.plan_check.specs.declared.SuppliedPlan.{SuppliedPlan}
 use Rattle.plan_text.specs.declared.PlanProgress.{PlanProgress}
 use Rattle.plan_text.specs.declared.PlanAnswer.{PlanAnswer}
 use Rattle.plan_text.specs.declared.PlanAnswer.the-variants.{Accepted, More, Unfinished}
@@ -190,12 +190,12 @@ row-step r ns h s =
     rw (row-passed r (r .plan .tick) ns, row-read (r .plan .tick) ns h s, eq-eqb (r .plan .tick) (r .plan .tick) refl)
 
 -- a row that is taken leaves the next tick
-taken-tick : (w : Supplied) (ns : List ℕ) (n : ℕ) → isMore (rowEntered (takeOf w ns .answer) (takeOf w ns .plan) n .answer) ≡ true → takeOf w ns .plan .tick ≡ suc (w .tick)
+taken-tick : (w : SuppliedPlan) (ns : List ℕ) (n : ℕ) → isMore (rowEntered (takeOf w ns .answer) (takeOf w ns .plan) n .answer) ≡ true → takeOf w ns .plan .tick ≡ suc (w .tick)
 unfolding takeOf
 taken-tick w ns n = go (takeAnswer w ns)
   where
     go :
-        (a : foreign.Answer) → isMore (rowEntered a (stateByAnswer a (afterRow w ns) w) n .answer) ≡ true
+        (a : planCheck.Answer) → isMore (rowEntered a (stateByAnswer a (afterRow w ns) w) n .answer) ≡ true
         → stateByAnswer a (afterRow w ns) w .tick ≡ suc (w .tick)
     go answer.Taken m = refl
     go answer.Accepted m = refl
@@ -222,7 +222,7 @@ plan-read r (ns ∷ rows) f h =
 
     next-tick : isMore (takes r ns .answer) ≡ true → takes r ns .rows .plan .tick ≡ suc (r .plan .tick)
     next-tick m =
-        ap (λ (w : Supplied). w .tick) (entered-plan (takeOf (r .plan) ns .answer) (takeOf (r .plan) ns .plan) (nextLine (r .lines)))
+        ap (λ (w : SuppliedPlan). w .tick) (entered-plan (takeOf (r .plan) ns .answer) (takeOf (r .plan) ns .plan) (nextLine (r .lines)))
         ∙ taken-tick (r .plan) ns (nextLine (r .lines)) m
 
     by-answer :
@@ -248,7 +248,7 @@ before false = unfinished
 -- one row of it
 module _ (o : PlanOutcome) (t n : ℕ) (rows : List (List ℕ)) where
   list-row :
-      (a : foreign.Answer) (w : Supplied) → (isMore (rowEntered a w n .answer) ≡ true → w .tick ≡ suc t)
+      (a : planCheck.Answer) (w : SuppliedPlan) → (isMore (rowEntered a w n .answer) ≡ true → w .tick ≡ suc t)
       → listAnswer (rowEntered a w n .rows) rows ≡ planAnswerOf (outcomeFrom (before (rowEntered a w n .rows .accepted)) (rowAnswersFrom (rowEntered a w n .rows .plan) rows)) (rowEntered a w n .rows .plan .tick + length rows)
       → orElse (rowEntered a w n .answer) (listAnswer (rowEntered a w n .rows) rows) ≡ planAnswerOf (outcomeFrom o (rowAnswerMeaning a ∷ rowAnswersFrom w rows)) (t + suc (length rows))
   unfolding outcomeFrom

@@ -21,41 +21,41 @@ use Rattle.text.proofs.Numbers.{nothing-found, value-found}
 use Rattle.session.specs.Operation.{wordsIn}
 use Rattle.session.proofs.Asking.{words-more, words-one}
 use Rattle.plan_text.specs.declared.line.Line.{Line}
-use Rattle.plan_text.specs.Line.{Read, wordsBehind, cellsOf, isByte, readLine, mostCells, noRow, padCells, row, rowIn, rowOfWords}
+use Rattle.plan_text.specs.Line.{Read, wordsAfter, cellsOf, isByte, readLine, mostCells, noRow, padCells, row, rowIn, rowOfWords}
 
 -- WORDS
 
 -- the words of a text: the first, and those after its space
-pub words-split : (l : List ℕ) → wordsIn l ≡ take (lengthTo space l) l ∷ wordsBehind (drop (lengthTo space l) l)
-unfolding wordsBehind
+pub words-split : (l : List ℕ) → wordsIn l ≡ take (lengthTo space l) l ∷ wordsAfter (drop (lengthTo space l) l)
+unfolding wordsAfter
 words-split l = ⊎-elim one more (eq-or-lt-of-le (mark-within space l))
   where
-    one : lengthTo space l ≡ length l → wordsIn l ≡ take (lengthTo space l) l ∷ wordsBehind (drop (lengthTo space l) l)
+    one : lengthTo space l ≡ length l → wordsIn l ≡ take (lengthTo space l) l ∷ wordsAfter (drop (lengthTo space l) l)
     one e =
         let z : drop (lengthTo space l) l ≡ [] = drop-of-length-le l {i = lengthTo space l} (omega (arith, e)) in
-        words-one l e ∙ ap₂ (λ (x : List ℕ) (y : List (List ℕ)). x ∷ y) (sym (take-all (lengthTo space l) l (omega (arith, e)))) (ap wordsBehind (sym z))
+        words-one l e ∙ ap₂ (λ (x : List ℕ) (y : List (List ℕ)). x ∷ y) (sym (take-all (lengthTo space l) l (omega (arith, e)))) (ap wordsAfter (sym z))
 
-    more : lengthTo space l < length l → wordsIn l ≡ take (lengthTo space l) l ∷ wordsBehind (drop (lengthTo space l) l)
+    more : lengthTo space l < length l → wordsIn l ≡ take (lengthTo space l) l ∷ wordsAfter (drop (lengthTo space l) l)
     more h =
         words-more l h
-        ∙ ap (λ (y : List (List ℕ)). take (lengthTo space l) l ∷ y) (ap wordsBehind (sym (drop-cons l (lengthTo space l) 0 h)))
+        ∙ ap (λ (y : List (List ℕ)). take (lengthTo space l) l ∷ y) (ap wordsAfter (sym (drop-cons l (lengthTo space l) 0 h)))
 
 -- from a place on: the word after the space that is there, and those after it
 pub behind-here :
     (l : List ℕ) (at end : ℕ) → at < length l → end ≡ at + 1 + lengthTo space (drop (at + 1) l)
-    → wordsBehind (drop at l) ≡ take (end - (at + 1)) (drop (at + 1) l) ∷ wordsBehind (drop end l)
-unfolding wordsBehind
+    → wordsAfter (drop at l) ≡ take (end - (at + 1)) (drop (at + 1) l) ∷ wordsAfter (drop end l)
+unfolding wordsAfter
 behind-here l at end h e =
     let m : List ℕ = drop (at + 1) l in
     let n : lengthTo space m ≡ end - (at + 1) = omega (arith, e) in
-    ap wordsBehind (drop-cons l at 0 h ∙ ap (λ (k : ℕ). getD l at 0 ∷ drop k l) (sym (add-one at)))
+    ap wordsAfter (drop-cons l at 0 h ∙ ap (λ (k : ℕ). getD l at 0 ∷ drop k l) (sym (add-one at)))
     ∙ words-split m
     ∙ ap₂ (λ (x : List ℕ) (y : List (List ℕ)). x ∷ y) (ap (λ (k : ℕ). take k m) n)
-    (ap wordsBehind (drop-drop (lengthTo space m) (at + 1) l ∙ ap (λ (k : ℕ). drop k l) (sym e)))
+    (ap wordsAfter (drop-drop (lengthTo space m) (at + 1) l ∙ ap (λ (k : ℕ). drop k l) (sym e)))
 
-pub behind-none : (l : List ℕ) (at : ℕ) → length l ≤ at → wordsBehind (drop at l) ≡ []
-unfolding wordsBehind
-behind-none l at h = ap wordsBehind (drop-of-length-le l h)
+pub behind-none : (l : List ℕ) (at : ℕ) → length l ≤ at → wordsAfter (drop at l) ≡ []
+unfolding wordsAfter
+behind-none l at h = ap wordsAfter (drop-of-length-le l h)
 
 -- BYTES
 
@@ -119,7 +119,7 @@ line-of t ns places count p q = λ i. record { found = true; tick = t; count = q
 
 -- THE FIRST WORD
 
-pub row-split : (l : List ℕ) → rowIn l ≡ cond (isNumber (take (lengthTo space l) l)) (cellsOf (value (take (lengthTo space l) l)) (take mostCells (wordsBehind (drop (lengthTo space l) l)))) noRow
+pub row-split : (l : List ℕ) → rowIn l ≡ cond (isNumber (take (lengthTo space l) l)) (cellsOf (value (take (lengthTo space l) l)) (take mostCells (wordsAfter (drop (lengthTo space l) l)))) noRow
 unfolding rowOfWords
 row-split l = ap rowOfWords (words-split l)
 
@@ -128,7 +128,7 @@ row-none l e = row-split l ∙ rw (nothing-found (take (lengthTo space l) l) e)
 
 pub row-some :
     (l : List ℕ) (t : ℕ) → parseNumber (take (lengthTo space l) l) ≡ Value t
-    → rowIn l ≡ cellsOf t (take mostCells (wordsBehind (drop (lengthTo space l) l)))
+    → rowIn l ≡ cellsOf t (take mostCells (wordsAfter (drop (lengthTo space l) l)))
 row-some l t e =
     let v = value-found (take (lengthTo space l) l) t e in
-    row-split l ∙ rw (v .0) (ap (λ (x : ℕ). cellsOf x (take mostCells (wordsBehind (drop (lengthTo space l) l)))) (sym (v .1)))
+    row-split l ∙ rw (v .0) (ap (λ (x : ℕ). cellsOf x (take mostCells (wordsAfter (drop (lengthTo space l) l)))) (sym (v .1)))

@@ -20,7 +20,7 @@ use Rattle.plan_check.specs.State.{horizonIn}
 use Rattle.plan_check.specs.Take.{answerAt, takeAnswer, takeOf}
 use Rattle.plan_check.specs.declared.Answer.{Answer}
 use Rattle.plan_check.specs.declared.Answer.the-variants as answer
-use Rattle.plan_check.specs.declared.Supplied.{Supplied}
+use Rattle.plan_check.specs.declared.SuppliedPlan.{SuppliedPlan}
 use Rattle.plan_check.proofs.Deciding.{state-decides}
 
 -- of no words
@@ -29,7 +29,7 @@ unfolding beginOf answerOf headerNumber
 begin-none = refl
 
 -- of 65 bytes or more: 14, 9 or 10, and else 11, since a run that passes 14 has at most 64 cores
-pub take-long : (w : Supplied) (row : List ℕ) → mostCores < length row → (n : ℕ) × (t : ℕ) × (takeOf w row .answer ≡ answer.Refused n t)
+pub take-long : (w : SuppliedPlan) (row : List ℕ) → mostCores < length row → (n : ℕ) × (t : ℕ) × (takeOf w row .answer ≡ answer.Refused n t)
 unfolding takeOf takeAnswer
 take-long w row h = go (stateOut (w .run)) refl (horizonOut (horizonIn (w .run))) (leb (horizonIn (w .run)) (w .tick))
   where

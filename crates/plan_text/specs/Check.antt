@@ -6,7 +6,7 @@ use Prim.Native.Nat.{_+_, _-_, _<_, ℕ, _≤_}
 use lib.ListN.{drop, length, take}
 use Rattle.text.specs.Input.{lineLength}
 use Rattle.plan_check.specs.Extent.{Ready}
-use Rattle.plan_check.specs.declared.Supplied.{Supplied}
+use Rattle.plan_check.specs.declared.SuppliedPlan.{SuppliedPlan}
 use Rattle.session.specs.Transcript.{InputEnd, linesFrom, nothing, tooMany, unknown}
 use Rattle.plan_text.specs.declared.Check.{Check}
 use Rattle.plan_text.specs.declared.Cut.{Cut}
@@ -20,7 +20,7 @@ use Rattle.plan_text.specs.declared.Stage.the-variants.{Over, Plan, Tabl
 use Rattle.plan_text.specs.Checked.{checkedOf, dueOf, opens, rowsAnswer, tableAnswer}
 
 -- this is the extent of the plan, where it is known
-abbrev pub ExtentKnown : KnownExtent → Supplied → Type 0
+abbrev pub ExtentKnown : KnownExtent → SuppliedPlan → Type 0
 ExtentKnown a w = a .known ≡ true → Ready (w .run) (a .start) (a .horizon)
 
 -- the answer to the bytes of a plan

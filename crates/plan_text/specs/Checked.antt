@@ -10,9 +10,9 @@ use Rattle.table.specs.declared.Answer.the-variants as table
 use Rattle.text.specs.Format.{newline, numbersIn, wordsOf}
 use Rattle.plan_check.specs.Begin.{beginOf}
 use Rattle.plan_check.specs.Take.{takeOf}
-use Rattle.plan_check.specs.declared.Answer as foreign
+use Rattle.plan_check.specs.declared.Answer as planCheck
 use Rattle.plan_check.specs.declared.Answer.the-variants as answer
-use Rattle.plan_check.specs.declared.Supplied.{Supplied}
+use Rattle.plan_check.specs.declared.SuppliedPlan.{SuppliedPlan}
 use Rattle.session.specs.Transcript.{InputEnd, isDashes, linesFrom, nothing, unknown}
 use Rattle.plan_text.specs.declared.PlanProgress.{PlanProgress}
 use Rattle.plan_text.specs.declared.PlanAnswer.{PlanAnswer}
@@ -31,7 +31,7 @@ unfoldable pub skipped : PlanProgress → List ℕ → Bool
 skipped r l = (eqb (r .lines) 0 && isVerdict l) || (r .accepted && eqb (length l) 0)
 
 -- the state after a number of lines
-abbrev pub rowsAt : Supplied → ℕ → Bool → PlanProgress
+abbrev pub rowsAt : SuppliedPlan → ℕ → Bool → PlanProgress
 rowsAt plan lines accepted = record { plan = plan; lines = lines; accepted = accepted }
 
 abbrev pub lineAnswer : PlanProgress → PlanAnswer → LineAnswer
@@ -42,7 +42,7 @@ abbrev pub refusalAnswer : ℕ → ℕ → PlanAnswer
 refusalAnswer n t = cond (leb 24 n) (Fault n t) (Refused n t)
 
 -- the answer to a row by that of `take`: more lines are needed, or the check ends with a number
-abbrev pub rowEntered : foreign.Answer → Supplied → ℕ → LineAnswer
+abbrev pub rowEntered : planCheck.Answer → SuppliedPlan → ℕ → LineAnswer
 rowEntered answer.Taken plan lines = lineAnswer (rowsAt plan lines false) More
 rowEntered answer.Accepted plan lines = lineAnswer (rowsAt plan lines true) More
 rowEntered (answer.Refused n t) plan lines = lineAnswer (rowsAt plan lines false) (refusalAnswer n t)
@@ -89,7 +89,7 @@ rowsAnswer e r (l ∷ ls) = orElse (stepOf r l .answer) (rowsAnswer e (stepOf r 
 -- THE TABLE
 
 -- by the table's answer: rows are expected from tick 0 on, or it is refused
-abbrev pub openedBy : Answer → Supplied → LineAnswer
+abbrev pub openedBy : Answer → SuppliedPlan → LineAnswer
 openedBy table.Passed plan = lineAnswer (rowsAt plan 0 false) More
 openedBy (table.Refused n p) plan = lineAnswer (rowsAt plan 0 false) (Refused n p)
 

@@ -43,9 +43,9 @@ abbrev pub rowIn : List ℕ → Read
 rowIn l = rowOfWords (wordsIn l)
 
 -- the words after a space, if there is one
-unfoldable pub wordsBehind : List ℕ → List (List ℕ)
-wordsBehind [] = []
-wordsBehind (b ∷ l) = wordsIn l
+unfoldable pub wordsAfter : List ℕ → List (List ℕ)
+wordsAfter [] = []
+wordsAfter (b ∷ l) = wordsIn l
 
 -- a line that begins as the program's first line does where rows follow it
 unfoldable pub isVerdict : List ℕ → Bool

@@ -29,8 +29,8 @@ planAnswerOf unfinished n = Unfinished n
 planAnswerOf (refuses k t) n = refusalAnswer k t
 
 -- a line `--` and the bytes of a plan
-abbrev pub behindDashes : List ℕ → List ℕ
-behindDashes bs = 45 ∷ 45 ∷ newline ∷ bs
+abbrev pub afterDashes : List ℕ → List ℕ
+afterDashes bs = 45 ∷ 45 ∷ newline ∷ bs
 
 -- the two numbers of a verdict are words
 abbrev pub WordsOf : Verdict → Type 0

@@ -15,7 +15,7 @@ pub mod answer_text; // answer_text.rt: the line that is printed
 
 use plan_check::Answer;
 use plan_check::Entered;
-use plan_check::Supplied;
+use plan_check::SuppliedPlan;
 use session::TOO_MANY;
 use session::open;
 
@@ -32,7 +32,7 @@ pub enum PlanAnswer {
 
 // A plan between two lines: its state, the number of lines so far, and whether its last row was taken and it is accepted.
 pub struct PlanProgress {
-    pub plan: Supplied,
+    pub plan: SuppliedPlan,
     pub lines: u32,
     pub accepted: bool,
 }
@@ -139,7 +139,7 @@ fn enter(row: Entered, lines: u32) -> LineAnswer
 }
 
 // The extent of a plan.
-fn extent_of(plan: Supplied) -> KnownExtent
+fn extent_of(plan: SuppliedPlan) -> KnownExtent
     ensures { λ r. ⌜ ExtentKnown r plan ⌝ }
 {
     let found = plan.extent();
@@ -151,7 +151,7 @@ fn extent_of(plan: Supplied) -> KnownExtent
 }
 
 // Takes a row of a plan with this extent.
-fn take(plan: Supplied, extent: KnownExtent, row: &[u8]) -> Entered
+fn take(plan: SuppliedPlan, extent: KnownExtent, row: &[u8]) -> Entered
     requires { ⌜ ExtentKnown extent plan ⌝ }
     ensures { λ r. ⌜ (r ≡ takeOf plan (now (row .entry))) × ExtentKnown extent (r .plan) ⌝ }
 {

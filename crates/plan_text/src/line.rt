@@ -2,7 +2,7 @@
 ghost use mathlib.Core.Path.{_≡_};
 ghost use Prim.Native.Nat.{_≤_};
 ghost use lib.ListN.{length, drop, take};
-ghost use Rattle.plan_text.specs.Line.{mostCells, isVerdict, rowIn, wordsBehind, cellsOf, readLine, noRow};
+ghost use Rattle.plan_text.specs.Line.{mostCells, isVerdict, rowIn, wordsAfter, cellsOf, readLine, noRow};
 use model::ROW;
 use sentence::reader;
 use text::line::ParsedNumber;
@@ -37,7 +37,7 @@ fn no_row() -> Line
 // The row of a tick and of the numbers from `start` on, a space before each.
 fn cells_from(line: &[u8], start: usize, tick: u32) -> Line
     requires { ⌜ start ≤ length (now line) ⌝ }
-    ensures { λ r. ⌜ r ≡ readLine (cellsOf tick (take mostCells (wordsBehind (drop start (now (line .entry)))))) ⌝ }
+    ensures { λ r. ⌜ r ≡ readLine (cellsOf tick (take mostCells (wordsAfter (drop start (now (line .entry)))))) ⌝ }
 {
     let mut cells = [0u8; CELLS];
     let mut count: usize = 0;

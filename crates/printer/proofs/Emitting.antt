@@ -12,20 +12,20 @@ use Rattle.text.specs.Written.{Put}
 use Rattle.text.proofs.Writing.{put-none, put-then, put-length, put-front}
 use Rattle.printer.specs.Rows.{textIn, lineIn, linesIn}
 use Rattle.printer.specs.Valid.{valid, Safe}
-use Rattle.printer.specs.Printer.{runStateOf, textKept, toCome, rest, PieceOf, Stepping, Stepped}
+use Rattle.printer.specs.Printer.{runStateOf, textKept, remaining, rest, PieceOf, Stepping, Stepped}
 use Rattle.printer.specs.declared.Printer.{Printer}
 use Rattle.printer.specs.declared.Stage.{Stage}
 use Rattle.printer.proofs.Safe.{safe-next}
 use Rattle.printer.proofs.Limits.{Limits, limits-valid, Arrays, limits-safe}
 
 -- a valid printer has all that is to come left, another has nothing
-pub rest-valid : (p : Printer) → valid p ≡ true → rest p ≡ toCome p
+pub rest-valid : (p : Printer) → valid p ≡ true → rest p ≡ remaining p
 unfolding rest
-rest-valid p e = ap (λ (b : Bool). cond b (toCome p) []) e
+rest-valid p e = ap (λ (b : Bool). cond b (remaining p) []) e
 
 pub rest-none : (p : Printer) → valid p ≡ false → rest p ≡ []
 unfolding rest
-rest-none p e = ap (λ (b : Bool). cond b (toCome p) []) e
+rest-none p e = ap (λ (b : Bool). cond b (remaining p) []) e
 
 -- nothing of nothing
 drop-nil' : {A : Type 0} (k n : ℕ) → _≡_ {A = List A} (drop k (take n [])) []
@@ -43,8 +43,8 @@ drop-front (suc k) n (x ∷ l) =
 pub record Emitting (p₀ p : Printer) (before after : List ℕ) (at : ℕ) : Type 0 where
   pub limits : Limits p
   pub arrays : Arrays p
-  pub left : toCome p ≡ drop at (toCome p₀)
-  pub bytes : Put before 0 (take at (toCome p₀)) after at
+  pub left : remaining p ≡ drop at (remaining p₀)
+  pub bytes : Put before 0 (take at (remaining p₀)) after at
   pub room : at ≤ length before
   pub same : length after ≡ length before
 
@@ -63,14 +63,14 @@ module _ (p : Printer) (k : Limits p) (a : Arrays p) (part : ℕ) (h : part ≤ 
   long : length (take (p .stage .ready - p .given) line-left) ≡ p .stage .ready - p .given
   long = length-take-le (p .stage .ready - p .given) line-left (omega (arith, length-drop (p .given) (p .line), a .long, k .ready))
 
-  pub part-taken : take part (toCome p) ≡ take part line-left
-  unfolding toCome
+  pub part-taken : take part (remaining p) ≡ take part line-left
+  unfolding remaining
   part-taken =
       take-append-le part (take (p .stage .ready - p .given) line-left) _ (omega (arith, long))
       ∙ take-take part (p .stage .ready - p .given) line-left h
 
-  pub part-left : toCome (at-given p (p .given + part)) ≡ drop part (toCome p)
-  unfolding toCome
+  pub part-left : remaining (at-given p (p .given + part)) ≡ drop part (remaining p)
+  unfolding remaining
   part-left =
       let e : p .stage .ready - p .given ≡ part + (p .stage .ready - (p .given + part)) = omega arith in
       let f : drop part (take (p .stage .ready - p .given) line-left) ≡ take (p .stage .ready - (p .given + part)) (drop (p .given + part) (p .line)) =
@@ -120,7 +120,7 @@ emit-part p₀ p before after after′ at at′ part h e q = record {
   limits = part-limits p (h .limits) (h .arrays) part few;
   arrays = part-arrays p (h .limits) (h .arrays) part few;
   left =
-      part-left p (h .limits) (h .arrays) part few ∙ ap (drop part) (h .left) ∙ drop-drop part at (toCome p₀) ∙ ap (λ (n : ℕ). drop n (toCome p₀)) (sym ends);
+      part-left p (h .limits) (h .arrays) part few ∙ ap (drop part) (h .left) ∙ drop-drop part at (remaining p₀) ∙ ap (λ (n : ℕ). drop n (remaining p₀)) (sym ends);
   bytes = subst (λ (x : List ℕ). Put before 0 x after′ at′) taken (put-then (h .bytes) q room′);
   room = room′;
   same = put-length q (omega (arith, h .same, room′)) ∙ h .same;
@@ -135,10 +135,10 @@ emit-part p₀ p before after after′ at at′ part h e q = record {
     room′ : at′ ≤ length before
     room′ = omega (arith, ends, h .same, h .room)
 
-    taken : take at (toCome p₀) ++ take part (drop (p .given) (p .line)) ≡ take at′ (toCome p₀)
+    taken : take at (remaining p₀) ++ take part (drop (p .given) (p .line)) ≡ take at′ (remaining p₀)
     taken =
-        ap (λ (l : List ℕ). take at (toCome p₀) ++ l) (sym (part-taken p (h .limits) (h .arrays) part few) ∙ ap (take part) (h .left))
-        ∙ sym (take-add at part (toCome p₀)) ∙ ap (λ (n : ℕ). take n (toCome p₀)) (sym ends)
+        ap (λ (l : List ℕ). take at (remaining p₀) ++ l) (sym (part-taken p (h .limits) (h .arrays) part few) ∙ ap (take part) (h .left))
+        ∙ sym (take-add at part (remaining p₀)) ∙ ap (λ (n : ℕ). take n (remaining p₀)) (sym ends)
 
 -- THE NEXT ROW
 
@@ -193,20 +193,20 @@ module _
     abbrev lines : List ℕ
     lines = lineIn n (runStateOf p) (textKept p) ++ linesIn n (p .end - suc t) (nextTickState n (runStateOf p)) (textIn n (runStateOf p) (textKept p))
 
-    new : toCome stepped ≡ lines
-    new = unfold toCome in
+    new : remaining stepped ≡ lines
+    new = unfold remaining in
         let z : stage .ready - 0 ≡ stage .ready = omega arith in
         let y : p .end - stage .registers .tick ≡ p .end - suc t = omega (arith, one) in
         ap₂ (λ (x y : List ℕ). x ++ y) (ap (λ (i : ℕ). take i line) z ∙ put-front (s .line))
         (ap₂ (λ (i : ℕ) (x : TickState). linesIn n i x (take (stage .text) row)) y (s .state) ∙ ap (linesIn n (p .end - suc t) (nextTickState n (runStateOf p))) (s .keeps))
 
-    old : toCome p ≡ lines
-    old = unfold toCome linesIn in
+    old : remaining p ≡ lines
+    old = unfold remaining linesIn in
         let z : p .stage .ready - p .given ≡ 0 = omega arith in
         let e : p .end - t ≡ suc (p .end - suc t) = omega arith in
         ap₂ (λ (i j : ℕ). take i (drop (p .given) (p .line)) ++ linesIn n j (runStateOf p) (textKept p)) z e
 
-    step-same : toCome stepped ≡ toCome p
+    step-same : remaining stepped ≡ remaining p
     step-same = new ∙ sym old
 
 pub emit-step :
@@ -228,11 +228,11 @@ emit-step p₀ p before after at h over l n e stage places row line q =
 -- THE END
 
 -- no more than there was
-emitted : (p₀ p : Printer) (before after : List ℕ) (at : ℕ) → Emitting p₀ p before after at → at ≤ length (toCome p₀)
-emitted p₀ p before after at h = omega (arith, h .bytes .ends, length-take at (toCome p₀))
+emitted : (p₀ p : Printer) (before after : List ℕ) (at : ℕ) → Emitting p₀ p before after at → at ≤ length (remaining p₀)
+emitted p₀ p before after at h = omega (arith, h .bytes .ends, length-take at (remaining p₀))
 
 piece-of :
-    (p₀ p : Printer) (before after : List ℕ) (at : ℕ) → valid p₀ ≡ true → Emitting p₀ p before after at → at ≡ min (length before) (length (toCome p₀))
+    (p₀ p : Printer) (before after : List ℕ) (at : ℕ) → valid p₀ ≡ true → Emitting p₀ p before after at → at ≡ min (length before) (length (remaining p₀))
     → PieceOf p₀ before after (record { printer = p; length = at })
 piece-of p₀ p before after at ok h e = record {
   length = e ∙ ap (λ (x : List ℕ). min (length before) (length x)) (sym all);
@@ -242,7 +242,7 @@ piece-of p₀ p before after at ok h e = record {
   valid = still ∙ sym ok;
 }
   where
-    all : rest p₀ ≡ toCome p₀
+    all : rest p₀ ≡ remaining p₀
     all = rest-valid p₀ ok
 
     still : valid p ≡ true
@@ -260,10 +260,10 @@ pub emit-done :
     → PieceOf p₀ before after (record { printer = p; length = at })
 emit-done p₀ p before after at ok h over e =
     piece-of p₀ p before after at ok h
-    (omega (arith, h .room, emitted p₀ p before after at h, ap length (sym (h .left) ∙ none), length-drop at (toCome p₀)))
+    (omega (arith, h .room, emitted p₀ p before after at h, ap length (sym (h .left) ∙ none), length-drop at (remaining p₀)))
   where
-    none : toCome p ≡ []
-    none = unfold toCome linesIn in
+    none : remaining p ≡ []
+    none = unfold remaining linesIn in
         let z : p .stage .ready - p .given ≡ 0 = omega arith in
         let y : p .end - p .stage .registers .tick ≡ 0 = omega arith in
         ap₂ (λ (i j : ℕ). take i (drop (p .given) (p .line)) ++ linesIn (loadedNumbers (p .table)) j (runStateOf p) (textKept p)) z y

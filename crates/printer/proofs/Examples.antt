@@ -13,7 +13,7 @@ use Rattle.model.proofs.LineByLine.{LineByLine, by-line}
 use Rattle.rule.specs.Widths.{widthsIn}
 use Rattle.table.specs.Answer.{headerNumber, lastStep, endingOf, firstOut, byHorizon, byTasks, byWalk, answerOf}
 use Rattle.table.specs.Load.{loadOf}
-use Rattle.table.specs.Words.{met, count, chain, tableOf}
+use Rattle.table.specs.Words.{visited, count, chain, tableOf}
 use Rattle.table.specs.declared.Loaded.{Loaded}
 use Rattle.simulation.specs.Machine.{withRelease, releasedDue, earliest, workedTick}
 use Rattle.simulation.specs.Places.{mapPlaces, setWhere}
@@ -70,7 +70,7 @@ whole p = letters (p .first) ++ letters (p .lines)
 
 each-text : LineByLine printing prints (map whole prints)
 unfolding output wordsOf lines isNumber all value printed firstLine rowLine rowLines lineOf fields decimal lastDigits digitCount digitsWithin answerOf byWalk
-    byTasks byHorizon firstOut endingOf lastStep headerNumber tableOf chain count met computing
+    byTasks byHorizon firstOut endingOf lastStep headerNumber tableOf chain count visited computing
 each-text = (refl, (refl, (refl, tt)))
 
 pub texts : map (λ p. output (letters (p .text))) prints ≡ map (λ p. letters (p .first) ++ letters (p .lines)) prints
@@ -88,7 +88,7 @@ rows p = letters (p .lines)
 
 each-run : LineByLine stepping prints (map rows prints)
 unfolding linesIn lineIn textIn cells nextTickState afterEvents nextEventAfter evenAtTick grantedAt pairedIn withRelease releasedDue earliest workedTick mapPlaces setWhere widthsIn fields decimal
-    lastDigits digitCount digitsWithin loadOf answerOf byWalk byTasks byHorizon firstOut endingOf lastStep headerNumber tableOf chain count met horizon S
+    lastDigits digitCount digitsWithin loadOf answerOf byWalk byTasks byHorizon firstOut endingOf lastStep headerNumber tableOf chain count visited horizon S
     hyperperiod lcm least any filtered memb upFrom owner row given left grants claimants
 each-run = (refl, (refl, (refl, tt)))
 

@@ -44,7 +44,7 @@ use Rattle.judge.specs.declared.Verdict.the-variants as judge
 use Rattle.judge.specs.JudgeAnswer.{JudgeAnswer, judged, refused, verdictMeaning, verdictCase}
 use Rattle.judge.specs.Judged.{Judged, loadedTable, Fit}
 use Rattle.judge.proofs.Refines.{refines-start}
-use Rattle.judge.proofs.Promise.{meaning-case, fit, same-table, passed-is, refused-is}
+use Rattle.judge.proofs.Contract.{meaning-case, fit, same-table, passed-is, refused-is}
 use Rattle.text.specs.Format.{mostNumbers, Words, words, noText, wordsOf}
 use Rattle.text.specs.Input.{inputOf, ReadOf}
 use Rattle.text.specs.Output.{firstLine, rowLines, rowsPrinted, printed, printedBy, outputOf, output, longestCells, longestLine}
@@ -53,7 +53,7 @@ use Rattle.printer.specs.Cells.{cells}
 use Rattle.text.specs.FirstLine.{endOf}
 use Rattle.printer.specs.Rows.{rowTextOf, linesIn}
 use Rattle.printer.specs.Valid.{outAt, tableValid, owed, within, valid}
-use Rattle.printer.specs.Printer.{runStateOf, textKept, toCome, PrinterStartOf, WordsPrinter, MadeFrom}
+use Rattle.printer.specs.Printer.{runStateOf, textKept, remaining, PrinterStartOf, WordsPrinter, MadeFrom}
 use Rattle.text.specs.declared.Input.{Input}
 use Rattle.printer.specs.declared.Printer.{Printer}
 use Rattle.text.proofs.Writing.{put-front}
@@ -123,7 +123,7 @@ module _
         claims = rw claims (none-within (owed (segment 0 places)));
         chosen = rw granted (none-within (registers .chosen));
       });
-      whole = λ f. unfold toCome in
+      whole = λ f. unfold remaining in
           let z : ready - 0 ≡ ready = omega arith in
           let y : e - registers .tick ≡ e = omega (arith, tick) in
           ap₂ (λ (i j : ℕ). take i line ++ linesIn (loadedNumbers t) j (runStateOf first) (textKept first)) z y

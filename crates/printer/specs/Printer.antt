@@ -29,13 +29,13 @@ abbrev pub textKept : Printer → List ℕ
 textKept p = take (p .stage .text) (p .row)
 
 -- the rest of its line, and the lines of the rows to come
-unfoldable pub toCome : Printer → List ℕ
-toCome p =
+unfoldable pub remaining : Printer → List ℕ
+remaining p =
     take (p .stage .ready - p .given) (drop (p .given) (p .line)) ++ linesIn (loadedNumbers (p .table)) (p .end - p .stage .registers .tick) (runStateOf p) (textKept p)
 
 -- the bytes that a printer has left: all that where it is valid; else nothing
 unfoldable pub rest : Printer → List ℕ
-rest p = cond (valid p) (toCome p) []
+rest p = cond (valid p) (remaining p) []
 
 -- ONE ROW
 
@@ -64,7 +64,7 @@ pub record PrinterStartOf (t : Loaded) (e : ℕ) (v : Verdict) (p : Printer) : T
   pub valid : tableValid t ≡ true → e ≤ mostHorizon → valid p ≡ true
   pub whole :
       (0 < e → Fit t × (e ≤ t .horizon) × ((q u : ℕ) → u < e → ¬ Missed (loadedTable t) q u))
-      → toCome p ≡ firstLine (verdictMeaning v) ++ rowLines (loadedTable t) 0 e
+      → remaining p ≡ firstLine (verdictMeaning v) ++ rowLines (loadedTable t) 0 e
 
 -- of a table's words
 pub record WordsPrinter (ws : List ℕ) (p : Printer) : Type 0 where

@@ -11,7 +11,7 @@ use text::row;
 
 // Writes the bytes of the cores, and a newline, where the places of the set `claims` claim, those of the set `even` with their second width;
 // returns where they end.
-pub(crate) fn put_cells(
+pub(crate) fn put_allocation(
     rule: u32,
     cores: u32,
     fence: u64,

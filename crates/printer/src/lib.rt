@@ -65,7 +65,7 @@ fn next_line(
     let next = simulation::step(setting, widths, times, registers, places);
     let mut size = stage.text;
     if (next.chosen != registers.chosen) | (next.even != registers.even) {
-        size = cells::put_cells(
+        size = cells::put_allocation(
             setting.rule,
             setting.cores,
             setting.fence,
@@ -95,7 +95,7 @@ fn start(table: Loaded, end: u32, verdict: Verdict) -> Printer
     let places = machine.places;
     let registers = machine.registers;
     let mut text = [0u8; CELLS];
-    let size = cells::put_cells(
+    let size = cells::put_allocation(
         table.rule,
         table.cores,
         table.fence,

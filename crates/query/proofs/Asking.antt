@@ -23,8 +23,8 @@ use Rattle.sentence.specs.declared.SentenceAnswer.the-variants.{Length, Refused
 use Rattle.sentence.specs.Reading.{startsWith}
 use Rattle.sentence.specs.SentenceAnswer.{sentenceMeaning, sentenceAnswerOf, SentenceOf}
 use Rattle.query.specs.declared.Question.{Question}
-use Rattle.query.specs.declared.Question.the-variants.{Why, Longest, Clash, Spare}
-use Rattle.query.specs.Query.{answerRoom, whyBy, whyOf, answerTo, wordOf, answerBehind, noQuestion, queryOutputOf, questions, queryOutput, enoughInput}
+use Rattle.query.specs.declared.Question.the-variants.{Why, ResponseTimes, Conflict, Slack}
+use Rattle.query.specs.Query.{answerRoom, whyBy, whyOf, answerTo, wordOf, answerAfterWord, noQuestion, queryOutputOf, questions, queryOutput, enoughInput}
 
 -- THE ANSWER TO `why`
 
@@ -73,9 +73,9 @@ begins-long (c ∷ cs) (b ∷ bs) e = go (eqb c b) (begins-long cs bs) e
 -- no word is empty
 word-some : (q : Question) → 0 < length (wordOf q)
 word-some Why = omega arith
-word-some Longest = omega arith
-word-some Clash = omega arith
-word-some Spare = omega arith
+word-some ResponseTimes = omega arith
+word-some Conflict = omega arith
+word-some Slack = omega arith
 
 -- WHICH ONE is decided by where the table after its word begins, 0 where its word is not in front
 module _ (q : Question) (bs : List ℕ) (r : ℕ) (e : r ≡ cond (startsWith (wordOf q) bs) (length (wordOf q)) 0) where
@@ -95,12 +95,12 @@ module _ (q : Question) (bs : List ℕ) (r : ℕ) (e : r ≡ cond (startsWith (w
 
 -- the question at a place of the list is answered where its word is in front, ..
 pub asked-here :
-    (i : ℕ) (bs : List ℕ) → i < length questions → startsWith (wordOf (getD questions i Why)) bs ≡ true → queryOutputOf (drop i questions) bs ≡ answerBehind (getD questions i Why) bs
+    (i : ℕ) (bs : List ℕ) → i < length questions → startsWith (wordOf (getD questions i Why)) bs ≡ true → queryOutputOf (drop i questions) bs ≡ answerAfterWord (getD questions i Why) bs
 unfolding queryOutputOf
 asked-here i bs h e =
     let q = getD questions i Why in
     ap (λ (qs : List Question). queryOutputOf qs bs) (drop-cons questions i Why h)
-    ∙ ap (λ (t : Bool). cond t (answerBehind q bs) (queryOutputOf (drop (suc i) questions) bs)) e
+    ∙ ap (λ (t : Bool). cond t (answerAfterWord q bs) (queryOutputOf (drop (suc i) questions) bs)) e
 
 -- .. and else skipped
 pub asked-on :
@@ -110,7 +110,7 @@ unfolding queryOutputOf
 asked-on i bs h e =
     let q = getD questions i Why in
     ap (λ (qs : List Question). queryOutputOf qs bs) (drop-cons questions i Why h)
-    ∙ (ap (λ (t : Bool). cond t (answerBehind q bs) (queryOutputOf (drop (suc i) questions) bs)) e
+    ∙ (ap (λ (t : Bool). cond t (answerAfterWord q bs) (queryOutputOf (drop (suc i) questions) bs)) e
     ∙ ap (λ (k : ℕ). queryOutputOf (drop k questions) bs) (sym (add-one i)))
 
 -- no question is left
@@ -134,7 +134,7 @@ behind (suc k) n [] = ap (drop (suc k)) (take-nil (suc k + n)) ∙ sym (take-nil
 behind (suc k) n (b ∷ bs) = let e : suc k + n ≡ suc (k + n) = omega arith in ap (λ (m : ℕ). drop (suc k) (take m (b ∷ bs))) e ∙ behind k n bs
 
 -- so are those of a word and a table for each question
-answer-enough : (q : Question) (n : ℕ) (bs : List ℕ) → enoughBytes ≤ n → answerBehind q (take (length (wordOf q) + n) bs) ≡ answerBehind q bs
+answer-enough : (q : Question) (n : ℕ) (bs : List ℕ) → enoughBytes ≤ n → answerAfterWord q (take (length (wordOf q) + n) bs) ≡ answerAfterWord q bs
 answer-enough q n bs h =
     ap (λ (w : Words). answerTo q (numbersIn w))
     (ap wordsOf (behind (length (wordOf q)) n bs) ∙ first-enough (drop (length (wordOf q)) bs) n h)
@@ -142,9 +142,9 @@ answer-enough q n bs h =
 -- no word is longer than `response_times`
 word-most : (q : Question) → (n : ℕ) × (enoughInput ≡ length (wordOf q) + n) × (enoughBytes ≤ n)
 word-most Why = (4 + enoughBytes, refl, omega arith)
-word-most Longest = (enoughBytes, refl, omega arith)
-word-most Clash = (2 + enoughBytes, refl, omega arith)
-word-most Spare = (2 + enoughBytes, refl, omega arith)
+word-most ResponseTimes = (enoughBytes, refl, omega arith)
+word-most Conflict = (2 + enoughBytes, refl, omega arith)
+word-most Slack = (2 + enoughBytes, refl, omega arith)
 
 of-enough : (qs : List Question) (bs : List ℕ) → queryOutputOf qs (take enoughInput bs) ≡ queryOutputOf qs bs
 unfolding queryOutputOf

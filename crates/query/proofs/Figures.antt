@@ -14,7 +14,7 @@ use Rattle.text.specs.Output.{space, fields, letters, lineOf, firstLine}
 use Rattle.table.specs.declared.Answer.{Answer}
 use Rattle.table.specs.declared.Answer.the-variants.{Passed, Refused}
 use Rattle.table.specs.declared.Loaded.{Loaded}
-use Rattle.table.specs.Load.{loadMeaning, Holds, LoadOf}
+use Rattle.table.specs.Load.{loadMeaning, LoadedAs, LoadOf}
 use Rattle.table.specs.Numbers.{NoneApplies}
 use Rattle.table.specs.Words.{tableOf}
 use Rattle.response_time.specs.declared.ResponseTimes.{ResponseTimes}
@@ -75,7 +75,7 @@ put-line l m n o at middle end k xs p h q r b f =
 
 module _ (ws : List ℕ) (none : NoneApplies ws) (t : Loaded) (l : LoadOf ws t) where
   -- a table that no number turns down is loaded
-  pub loads : Holds ws t
+  pub loads : LoadedAs ws t
   loads = l .holds (l .passed .1 none)
 
   -- one for each of its tasks

@@ -13,7 +13,7 @@ use Rattle.text.specs.Format.{newline}
 use Rattle.text.specs.Written.{Put}
 use Rattle.text.specs.Output.{space, fields, letters, lineOf, firstLine}
 use Rattle.text.proofs.Decimals.{decimal-some}
-use Rattle.text.proofs.Spelling.{fields-append}
+use Rattle.text.proofs.RowText.{fields-append}
 use Rattle.text.proofs.Writing.{put-then}
 use Rattle.table.specs.declared.Answer.{Answer}
 use Rattle.table.specs.declared.Answer.the-variants.{Passed, Refused}

@@ -16,7 +16,7 @@ use Rattle.response_time.specs.ResponseTimes.{responseTimesOf}
 use Rattle.conflict.specs.Answer.{conflictOf}
 use Rattle.slack.specs.Answer.{slackOf}
 use Rattle.query.specs.declared.Question.{Question}
-use Rattle.query.specs.declared.Question.the-variants.{Why, Longest, Clash, Spare}
+use Rattle.query.specs.declared.Question.the-variants.{Why, ResponseTimes, Conflict, Slack}
 use Rattle.query.specs.Figures.{figureLinesBy}
 use Rattle.query.specs.Positions.{positionsBy}
 
@@ -48,20 +48,20 @@ slackText ws = figureLinesBy (slackOf ws .answer) (take (length (tableOf ws .tas
 -- the answer to a question on the words of a table
 abbrev pub answerTo : Question → List ℕ → List ℕ
 answerTo Why ws = whyOf ws
-answerTo Longest ws = responseTimesText ws
-answerTo Clash ws = conflictText ws
-answerTo Spare ws = slackText ws
+answerTo ResponseTimes ws = responseTimesText ws
+answerTo Conflict ws = conflictText ws
+answerTo Slack ws = slackText ws
 
 -- the word of a question and a newline
 abbrev pub wordOf : Question → List ℕ
 wordOf Why = letters "why" ++ (newline ∷ [])
-wordOf Longest = letters "longest" ++ (newline ∷ [])
-wordOf Clash = letters "clash" ++ (newline ∷ [])
-wordOf Spare = letters "spare" ++ (newline ∷ [])
+wordOf ResponseTimes = letters "longest" ++ (newline ∷ [])
+wordOf Conflict = letters "clash" ++ (newline ∷ [])
+wordOf Slack = letters "spare" ++ (newline ∷ [])
 
 -- .. on the table after the word
-abbrev pub answerBehind : Question → List ℕ → List ℕ
-answerBehind q bs = answerTo q (numbersIn (wordsOf (drop (length (wordOf q)) bs)))
+abbrev pub answerAfterWord : Question → List ℕ → List ℕ
+answerAfterWord q bs = answerTo q (numbersIn (wordsOf (drop (length (wordOf q)) bs)))
 
 -- the answer where the first line is no question
 abbrev pub noQuestion : List ℕ
@@ -70,11 +70,11 @@ noQuestion = letters "no such question" ++ (newline ∷ [])
 -- the first of these questions whose word is in front is answered
 unfoldable pub queryOutputOf : List Question → List ℕ → List ℕ
 queryOutputOf [] bs = noQuestion
-queryOutputOf (q ∷ qs) bs = cond (startsWith (wordOf q) bs) (answerBehind q bs) (queryOutputOf qs bs)
+queryOutputOf (q ∷ qs) bs = cond (startsWith (wordOf q) bs) (answerAfterWord q bs) (queryOutputOf qs bs)
 
 -- all questions; no word is the beginning of another's
 abbrev pub questions : List Question
-questions = Why ∷ Longest ∷ Clash ∷ Spare ∷ []
+questions = Why ∷ ResponseTimes ∷ Conflict ∷ Slack ∷ []
 
 -- everything that is printed for the bytes of an input
 unfoldable pub queryOutput : List ℕ → List ℕ
@@ -82,4 +82,4 @@ queryOutput bs = queryOutputOf questions bs
 
 -- the number of bytes of an input that are enough (`asked-enough`): the longest word's, and a table's
 abbrev pub enoughInput : ℕ
-enoughInput = length (wordOf Longest) + enoughBytes
+enoughInput = length (wordOf ResponseTimes) + enoughBytes

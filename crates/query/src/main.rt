@@ -31,9 +31,9 @@ use text::ENOUGH;
 // A question on a table.
 enum Question {
     Why,
-    Longest,
-    Clash,
-    Spare,
+    ResponseTimes,
+    Conflict,
+    Slack,
 }
 
 // The most bytes of a question's word and its newline.
@@ -175,9 +175,9 @@ fn put(question: Question, words: &[u32], lines: &mut [u8]) -> usize
 {
     match question {
         Question::Why => why(words, lines),
-        Question::Longest => response_times(words, lines),
-        Question::Clash => conflict(words, lines),
-        Question::Spare => slack(words, lines),
+        Question::ResponseTimes => response_times(words, lines),
+        Question::Conflict => conflict(words, lines),
+        Question::Slack => slack(words, lines),
     }
 }
 
@@ -194,7 +194,7 @@ fn send_answer(question: Question, bytes: &[u8]) -> Sent
 }
 
 // Where the bytes after a word begin; 0 where they do not begin with it.
-fn behind_word(bytes: &[u8], word: &[u8]) -> usize
+fn after_word(bytes: &[u8], word: &[u8]) -> usize
     ensures { λ r. ⌜ r ≡ cond (startsWith (now (word .entry)) (now (bytes .entry))) (length (now (word .entry))) 0 ⌝ }
 {
     let found = reader::begins_with(bytes, 0, word);
@@ -205,14 +205,14 @@ fn behind_word(bytes: &[u8], word: &[u8]) -> usize
 }
 
 // Where the table after a question's word begins; 0 where the bytes do not begin with it.
-fn table_behind(question: Question, bytes: &[u8]) -> usize
+fn table_after_word(question: Question, bytes: &[u8]) -> usize
     ensures { λ r. ⌜ r ≡ cond (startsWith (wordOf question) (now (bytes .entry))) (length (wordOf question)) 0 ⌝ }
 {
     match question {
-        Question::Why => behind_word(bytes, b"why\n"),
-        Question::Longest => behind_word(bytes, b"longest\n"),
-        Question::Clash => behind_word(bytes, b"clash\n"),
-        Question::Spare => behind_word(bytes, b"spare\n"),
+        Question::Why => after_word(bytes, b"why\n"),
+        Question::ResponseTimes => after_word(bytes, b"longest\n"),
+        Question::Conflict => after_word(bytes, b"clash\n"),
+        Question::Slack => after_word(bytes, b"spare\n"),
     }
 }
 
@@ -222,14 +222,14 @@ fn print(bytes: &[u8]) -> Sent
 {
     let questions = [
         Question::Why,
-        Question::Longest,
-        Question::Clash,
-        Question::Spare,
+        Question::ResponseTimes,
+        Question::Conflict,
+        Question::Slack,
     ];
     let mut i: usize = 0;
     while i < questions.len() {
         let question = questions[i];
-        let start = table_behind(question, bytes);
+        let start = table_after_word(question, bytes);
         if 0 < start {
             return send_answer(question, &bytes[start..]);
         }

@@ -7,7 +7,7 @@ use mathlib.Core.List.{List, map}
 use Prim.Native.Nat.{ℕ, suc, _<_}
 use lib.ListN.{length, getD}
 use lib.Dec.{ltb}
-use Rattle.model.specs.Book.{Book, Entry, book, borrows, emptied, emptyIn, firstLate, inRow, lentOf, misemptied, newestEnded, offer, rowRefused, shown}
+use Rattle.model.specs.Book.{Book, Entry, book, borrows, emptied, emptyIn, firstLate, inRow, lentOf, wrongEmpties, newestEnded, offer, rowRefused, shown}
 use Rattle.model.specs.Book.{shownOf, taken, taskClaims, widths}
 use Rattle.model.specs.Sets.{SetsCount, SetsUnfenced, setOf, setsAsked}
 use Rattle.model.specs.Sets as model
@@ -20,7 +20,7 @@ use Rattle.run.specs.declared.Sets.{Sets}
 use Rattle.run.specs.declared.Answer as declared
 use Rattle.run.specs.declared.Answer.the-variants.{Taken, Refused}
 use Rattle.run.specs.Answer.{byAnswer, answerMeaning}
-use Rattle.run.specs.Numbers.{RowApplies, RunOut, fifteen, fourteen, lateAt, misemptiedIn, runOut, twenty}
+use Rattle.run.specs.Numbers.{RowApplies, RunOut, fifteen, fourteen, lateAt, wrongEmptiesIn, runOut, twenty}
 use Rattle.run.specs.Row.{noBytes, rowAnswer, rowOf}
 use Rattle.run.specs.Sets.{SetsOf, askedIn32, bytesOf, in32, noSets, setsIn, setsOf, setsMeaning}
 use Rattle.run.specs.Start.{startOf}
@@ -30,8 +30,8 @@ use Rattle.run.proofs.RunSets.{sets-of}
 use Rattle.refinement.specs.Entries.{runAfterList}
 use Rattle.refinement.specs.Refines.{firstRun}
 use Rattle.refinement.specs.Sets.{SetsBook, SetsHold, SetsKept}
-use Rattle.refinement.proofs.Refines.{sound, stands}
-use Rattle.refinement.proofs.Looks.{SeenAlike, SameTable, below-count, claims-below, open-works, same-cores-at, same-lent, same-lent-at, same-offer, same-shown, same-widths}
+use Rattle.refinement.proofs.Refines.{sound, represented}
+use Rattle.refinement.proofs.EmptiedRelated.{EmptiedRelated, SameTable, below-count, claims-below, open-works, same-cores-at, same-lent, same-lent-at, same-offer, same-shown, same-widths}
 use Rattle.refinement.proofs.Related.{in-time, looks, same-any, same-first, same-misemptied}
 use Rattle.refinement.proofs.Represents.{Represents}
 
@@ -53,18 +53,18 @@ same-sets s ok b r h e =
     twenty false sets q = ap shown q
 
     go : (t : Bool) → ltb (firstLate s b) (length (s .tasks)) ≡ t
-        → setsMeaning (gives (cond t (Refused 15 (suc (firstLate s b))) (cond (misemptiedIn r e) (Refused 20 0) Taken)))
-        ≡ askedIn32 (cond t (rowRefused 15 (suc (firstLate s b))) (cond (misemptied s b e) (rowRefused 20 0) (shown (model.bookSets s (emptied s (emptyIn b e) b)))))
+        → setsMeaning (gives (cond t (Refused 15 (suc (firstLate s b))) (cond (wrongEmptiesIn r e) (Refused 20 0) Taken)))
+        ≡ askedIn32 (cond t (rowRefused 15 (suc (firstLate s b))) (cond (wrongEmpties s b e) (rowRefused 20 0) (shown (model.bookSets s (emptied s (emptyIn b e) b)))))
     go true q = refl
     go false q =
         let it = in-time s ok b r (h .related) q in
         rw (same-misemptied s ok b r (h .related) it e)
-        (twenty (misemptied s b e) (model.bookSets s (emptied s (emptyIn b e) b))
+        (twenty (wrongEmpties s b e) (model.bookSets s (emptied s (emptyIn b e) b))
         (ap (λ (gs : List (List ℕ)). in32 (map setOf gs)) (same-shown s ok (emptied s (emptyIn b e) b) r e (looks s ok b r (h .related) it e))))
 
 -- THEOREM (sets-book): for every table that start takes, Firm and Full alike, and every list of entries
 pub sets-book : (ws : List ℕ) → answerMeaning (startOf ws .answer) ≡ taken → (xs : List Entry) → SetsBook ws xs
-sets-book ws e xs = same-sets (tableOf ws) (sound ws e) (book (tableOf ws) xs) (runAfterList (firstRun ws) xs) (stands ws e xs)
+sets-book ws e xs = same-sets (tableOf ws) (sound ws e) (book (tableOf ws) xs) (runAfterList (firstRun ws) xs) (represented ws e xs)
 
 -- THE CONTRACT OF A RUN'S SETS, for one that represents a book
 
@@ -84,7 +84,7 @@ module _ (s : Table) (ok : AllValid s) (b : Book) (r : Run) (h : Represents s b 
 
   module _ (t : answerMeaning (w .answer) ≡ taken) where
     -- no task is late, so the run as it is seen is related to the book
-    seen : SeenAlike s c r e
+    seen : EmptiedRelated s c r e
     seen = looks s ok b r (h .related) it e
       where
         it : (p : ℕ) → p < length (s .tasks) → lateAt r p ≡ false
@@ -111,7 +111,7 @@ module _ (s : Table) (ok : AllValid s) (b : Book) (r : Run) (h : Represents s b 
     size = o .size;
     past = λ p l. o .past p (rw (same .same-count) l);
     apart = o .apart;
-    open-only = subst₂ (λ (f m : ℕ). SetsUnfenced f m (w .sets)) (same .same-fence) (same .same-cores) (o .open-only);
+    unfenced-only = subst₂ (λ (f m : ℕ). SetsUnfenced f m (w .sets)) (same .same-fence) (same .same-cores) (o .unfenced-only);
     count = book-count;
     works = book-works;
     each = o .each;
@@ -123,4 +123,4 @@ module _ (s : Table) (ok : AllValid s) (b : Book) (r : Run) (h : Represents s b 
 pub sets-kept : (ws : List ℕ) → answerMeaning (startOf ws .answer) ≡ taken → (xs : List Entry) → SetsHold ws xs
 sets-kept ws t xs e =
     let r = runAfterList (firstRun ws) xs in
-    kept (tableOf ws) (sound ws t) (book (tableOf ws) xs) r (stands ws t xs) e (setsOf r e) (sets-of r e (setsOf r e) refl)
+    kept (tableOf ws) (sound ws t) (book (tableOf ws) xs) r (represented ws t xs) e (setsOf r e) (sets-of r e (setsOf r e) refl)

@@ -13,7 +13,7 @@ use Rattle.run.specs.declared.Answer.{Answer}
 use Rattle.run.specs.declared.Answer.the-variants.{Taken, Refused}
 use Rattle.run.specs.Answer.{answerMeaning}
 use Rattle.run.specs.Run.{firmIn}
-use Rattle.run.specs.Numbers.{runOut, pastCount, strangerIn, firstLateIn, misemptiedIn, misreportedIn}
+use Rattle.run.specs.Numbers.{runOut, pastCount, unknownIn, firstLateIn, wrongEmptiesIn, wrongReportsIn}
 use Rattle.run.specs.Advance.{advanceAnswer, advanceOf}
 use Rattle.run.specs.Withdraw.{withdrawAnswer, withdrawOf, withdrawAllOf}
 use Rattle.run.proofs.RunOut.{few}
@@ -31,11 +31,11 @@ small-advance r x e = by-out (runOut r) refl
     by-sets false false = tt
 
     rest : Answer
-    rest = cond (misemptiedIn r e) (Refused 20 0) (cond (misreportedIn r e x) (Refused 16 0) Taken)
+    rest = cond (wrongEmptiesIn r e) (Refused 20 0) (cond (wrongReportsIn r e x) (Refused 16 0) Taken)
 
     by-late : runOut r ≡ false → (t : Bool) → ltb (firstLateIn r) (r .count) ≡ t → EntryAnswer (answerMeaning (cond t (Refused 15 (suc (firstLateIn r))) rest))
     by-late q true l = ((omega arith, omega arith), omega (arith, ltb-true (firstLateIn r) (r .count) l, few r q))
-    by-late q false l = by-sets (misemptiedIn r e) (misreportedIn r e x)
+    by-late q false l = by-sets (wrongEmptiesIn r e) (wrongReportsIn r e x)
 
     by-out : (t : Bool) → runOut r ≡ t
         → EntryAnswer (answerMeaning (cond t (Refused 14 0) (cond (ltb (firstLateIn r) (r .count)) (Refused 15 (suc (firstLateIn r))) rest)))
@@ -55,29 +55,29 @@ small-withdraw r stranger = go (runOut r) (firmIn r) stranger
 
 pub small-answer : (r : Run) (x : model.Entry) → EntryAnswer (answerMeaning (entryOf r x .answer))
 small-answer r (model.advance x e) = small-advance r x e
-small-answer r (model.withdraw p) = unfold withdrawOf in small-withdraw r (strangerIn r p)
+small-answer r (model.withdraw p) = unfold withdrawOf in small-withdraw r (unknownIn r p)
 small-answer r (model.withdrawAll x) = unfold withdrawAllOf in small-withdraw r (pastCount (r .count) x)
 
 -- LAW: no two small answers have the same number ..
-pub code-tells : (a b : model.Answer) → EntryAnswer a → EntryAnswer b → code a ≡ code b → a ≡ b
-code-tells model.taken model.taken h k e = refl
-code-tells model.taken (model.refused m q) h k e = absurd (omega arith)
-code-tells (model.refused n p) model.taken h k e = absurd (omega arith)
-code-tells (model.refused n p) (model.refused m q) h k e =
+pub code-injective : (a b : model.Answer) → EntryAnswer a → EntryAnswer b → code a ≡ code b → a ≡ b
+code-injective model.taken model.taken h k e = refl
+code-injective model.taken (model.refused m q) h k e = absurd (omega arith)
+code-injective (model.refused n p) model.taken h k e = absurd (omega arith)
+code-injective (model.refused n p) (model.refused m q) h k e =
     let a : n ≡ m = omega arith in
     let b : p ≡ q = omega arith in
     λ i. model.refused (a i) (b i)
 
 -- .. so the numbers of a list of entries determine its answers
-pub codes-tell : (r s : Run) (xs ys : List model.Entry) → codes r xs ≡ codes s ys → map answerMeaning (answers r xs) ≡ map answerMeaning (answers s ys)
+pub codes-injective : (r s : Run) (xs ys : List model.Entry) → codes r xs ≡ codes s ys → map answerMeaning (answers r xs) ≡ map answerMeaning (answers s ys)
 unfolding answers
-codes-tell r s [] [] e = refl
-codes-tell r s [] (y ∷ ys) e = absurd (let z : _≡_ {A = ℕ} 0 (suc (length (codes (entryOf s y .run) ys))) = ap (λ (l : List ℕ). length l) e in omega arith)
-codes-tell r s (x ∷ xs) [] e = absurd (let z : _≡_ {A = ℕ} (suc (length (codes (entryOf r x .run) xs))) 0 = ap (λ (l : List ℕ). length l) e in omega arith)
-codes-tell r s (x ∷ xs) (y ∷ ys) e =
+codes-injective r s [] [] e = refl
+codes-injective r s [] (y ∷ ys) e = absurd (let z : _≡_ {A = ℕ} 0 (suc (length (codes (entryOf s y .run) ys))) = ap (λ (l : List ℕ). length l) e in omega arith)
+codes-injective r s (x ∷ xs) [] e = absurd (let z : _≡_ {A = ℕ} (suc (length (codes (entryOf r x .run) xs))) 0 = ap (λ (l : List ℕ). length l) e in omega arith)
+codes-injective r s (x ∷ xs) (y ∷ ys) e =
     let a : code (answerMeaning (entryOf r x .answer)) ≡ code (answerMeaning (entryOf s y .answer)) = cc in
     let b : codes (entryOf r x .run) xs ≡ codes (entryOf s y .run) ys = cc in
-    let u = code-tells (answerMeaning (entryOf r x .answer)) (answerMeaning (entryOf s y .answer))
+    let u = code-injective (answerMeaning (entryOf r x .answer)) (answerMeaning (entryOf s y .answer))
     (small-answer r x) (small-answer s y) a in
-    let v = codes-tell (entryOf r x .run) (entryOf s y .run) xs ys b in
+    let v = codes-injective (entryOf r x .run) (entryOf s y .run) xs ys b in
     λ i. u i ∷ v i

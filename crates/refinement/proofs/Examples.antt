@@ -16,10 +16,10 @@ use Rattle.model.proofs.LineByLine.{LineByLine, by-line}
 use Rattle.model.proofs.Examples.{Line, worked, lines, examples}
 use Rattle.model.proofs.EmptyExamples.{empty-lines, empty-examples}
 use Rattle.model.proofs.WithdrawExamples.{withdraw-lines, withdraw-examples}
-use Rattle.model.proofs.TogetherExamples.{together-lines, together-examples}
+use Rattle.model.proofs.WithdrawSetExamples.{together-lines, together-examples}
 use Rattle.model.proofs.WidthExamples.{width-lines, width-examples}
 use Rattle.model.proofs.LendExamples.{lend-lines, lend-examples}
-use Rattle.table.specs.Words.{met, count, chain, tableOf}
+use Rattle.table.specs.Words.{visited, count, chain, tableOf}
 use Rattle.table.specs.Answer.{headerNumber, lastStep, endingOf, firstOut, byHorizon, byTasks, byWalk, answerOf}
 use Rattle.judge.specs.Judged.{verdictOf}
 use Rattle.run.specs.Answer.{answerMeaning, askedIn64}
@@ -164,13 +164,13 @@ expected l = record { table = l .table; start = startOutcome (l .says) }
 -- what an example opens, so that its words' table and the answer of start compute
 unfoldable starting : Unit {0}
 unfolding computing expected records startOf startAnswer verdictOf answerOf byWalk byTasks byHorizon firstOut endingOf lastStep headerNumber tableOf
-    chain count met
+    chain count visited
 starting = tt
 
 -- line by line
-firstRun : LineByLine begins lines (map expected lines)
+line-by-line : LineByLine begins lines (map expected lines)
 unfolding starting
-firstRun = (refl, (refl, (refl, (refl, (refl, (refl, (refl, (refl, (refl, (refl, (refl, (refl, (refl, (refl, (refl, (refl, (refl, tt)))))))))))))))))
+line-by-line = (refl, (refl, (refl, (refl, (refl, (refl, (refl, (refl, (refl, (refl, (refl, (refl, (refl, (refl, (refl, (refl, (refl, tt)))))))))))))))))
 
 begun-empty : LineByLine begins empty-lines (map expected empty-lines)
 unfolding starting
@@ -208,7 +208,7 @@ through ls works starts =
 
 -- THEOREM: every marked line of the table of examples, through the contract of `replay`
 pub through-replay : Each (λ l. ByVerdict (l .says) l) lines
-through-replay = through lines examples firstRun
+through-replay = through lines examples line-by-line
 
 -- and every line with empty jobs
 pub empty-through-replay : Each (λ l. ByVerdict (l .says) l) empty-lines

@@ -5,7 +5,7 @@ use mathlib.Core.Path.{_≡_, refl, ap, _∙_}
 use Prim.Native.Nat.{ℕ, suc}
 use lib.Dec.{ltb}
 use lib.ListN.{length}
-use Rattle.model.specs.Book.{Book, Entry, asked, book, emptiable, emptied, emptyIn, firstLate, late, misemptied, bookRow, rowRefused, shown, taken}
+use Rattle.model.specs.Book.{Book, Entry, asked, book, emptiable, emptied, emptyIn, firstLate, late, wrongEmpties, bookRow, rowRefused, shown, taken}
 use Rattle.model.specs.Fence.{unfencedTable}
 use Rattle.model.specs.Task.{Table}
 use Rattle.model.proofs.Fence.{fence-lists, fence-row}
@@ -17,8 +17,8 @@ use Rattle.refinement.proofs.Refines.{refines}
 
 -- which places are late and which may be empty does not depend on the cores, and the row is spread
 spread-asked : (s : Table) (b : Book) (e : ℕ) → asked s b e ≡ spreadOver s (asked (unfencedTable s) b e)
-unfolding asked late misemptied emptiable emptied
-spread-asked s b e = go (ltb (firstLate s b) (length (s .tasks))) (misemptied s b e)
+unfolding asked late wrongEmpties emptiable emptied
+spread-asked s b e = go (ltb (firstLate s b) (length (s .tasks))) (wrongEmpties s b e)
   where
     c : Book
     c = emptied s (emptyIn b e) b

@@ -65,12 +65,12 @@ at-even a = record {
 }
 
 -- a run of one task on m cores with a fence
-abbrev pub walled : ℕ → ℕ → ℕ → Task → Run
-walled r m f a = record { rule = r; cores = m; fence = f; withdrawn = 0; count = 1; tasks = a ∷ replicate 31 unused }
+abbrev pub fencedRun : ℕ → ℕ → ℕ → Task → Run
+fencedRun r m f a = record { rule = r; cores = m; fence = f; withdrawn = 0; count = 1; tasks = a ∷ replicate 31 unused }
 
 -- runs of one, two and three tasks
 abbrev pub one : ℕ → ℕ → Task → Run
-one r m a = walled r m 0 a
+one r m a = fencedRun r m 0 a
 
 abbrev pub two : ℕ → ℕ → Task → Task → Run
 two r m a b = record { rule = r; cores = m; fence = 0; withdrawn = 0; count = 2; tasks = a ∷ b ∷ replicate 30 unused }
@@ -108,8 +108,8 @@ abbrev pub limit : ℕ → Phase → Row → Line
 limit r ph w = asked (one r 1 (t 2 1 3 4 6 ph)) w
 
 -- a count of tasks, which rest, on one core; there is a task at each place below it
-abbrev resters : ℕ → Row → Line
-resters n w = asked (record { rule = 1; cores = 1; fence = 0; withdrawn = 0; count = n; tasks = replicate 33 (t 2 1 3 4 6 (Resting 1)) }) w
+abbrev restingTasks : ℕ → Row → Line
+restingTasks n w = asked (record { rule = 1; cores = 1; fence = 0; withdrawn = 0; count = n; tasks = replicate 33 (t 2 1 3 4 6 (Resting 1)) }) w
 
 -- one task (O, v, C, D, T) in a phase, on a number of cores
 abbrev sized : ℕ → Task → Row → Line
@@ -120,8 +120,8 @@ abbrev pub row64 : List ℕ → Row
 row64 bytes = record { answer = Taken; bytes = in64 bytes }
 
 -- one task of width v, in a tick in which it claims, on m cores with fence f; what its row is answered
-abbrev wall : ℕ → ℕ → ℕ → Row → Line
-wall m f v w = asked (walled 1 m f (t 0 v 3 4 6 (Working 0 0 0))) w
+abbrev fencedRow : ℕ → ℕ → ℕ → Row → Line
+fencedRow m f v w = asked (fencedRun 1 m f (t 0 v 3 4 6 (Working 0 0 0))) w
 
 abbrev pub lines : List Line
 lines =
@@ -182,7 +182,7 @@ lines =
       ends = fencedB 3 3 2 (Holding 2 2) (Working 2 0 0) (Resting 2);
     }
     -- the limits of 14: the count 1 to 32
-    ∷ resters 0 (no 14 0) ∷ resters 1 (on1 0) ∷ resters 32 (on1 0) ∷ resters 33 (no 14 0)
+    ∷ restingTasks 0 (no 14 0) ∷ restingTasks 1 (on1 0) ∷ restingTasks 32 (on1 0) ∷ restingTasks 33 (no 14 0)
     -- the rule 1 to 4
     ∷ limit 0 (Resting 1) (no 14 0) ∷ limit 1 (Resting 1) (on1 0) ∷ limit 2 (Resting 1) (on1 0) ∷ limit 3 (Resting 1) (on1 0)
     ∷ limit 4 (Resting 1) (on1 0) ∷ limit 5 (Resting 1) (no 14 0)
@@ -193,16 +193,16 @@ lines =
     -- a width 0, and one above the cores
     ∷ sized 1 (t 2 0 3 4 6 (Resting 1)) (no 14 0) ∷ sized 1 (t 2 2 3 4 6 (Resting 1)) (no 14 0)
     -- a fence of a core past the count, and of the last: 5 of 5 cores, 33 of 33, 63 of 63, 63 of 64
-    ∷ wall 5 (2 ^ 5) 1 (no 14 0) ∷ wall 5 (2 ^ 4) 4 (row64 (replicate 4 1 ++ 255 ∷ []))
-    ∷ wall 33 (2 ^ 33) 1 (no 14 0) ∷ wall 33 (2 ^ 32) 32 (row64 (replicate 32 1 ++ 255 ∷ []))
-    ∷ wall 63 (2 ^ 63) 1 (no 14 0) ∷ wall 63 (2 ^ 62) 62 (row64 (replicate 62 1 ++ 255 ∷ []))
-    ∷ wall 64 (2 ^ 63) 63 (row64 (replicate 63 1 ++ 255 ∷ [])) ∷ wall 65 1 1 (no 14 0)
+    ∷ fencedRow 5 (2 ^ 5) 1 (no 14 0) ∷ fencedRow 5 (2 ^ 4) 4 (row64 (replicate 4 1 ++ 255 ∷ []))
+    ∷ fencedRow 33 (2 ^ 33) 1 (no 14 0) ∷ fencedRow 33 (2 ^ 32) 32 (row64 (replicate 32 1 ++ 255 ∷ []))
+    ∷ fencedRow 63 (2 ^ 63) 1 (no 14 0) ∷ fencedRow 63 (2 ^ 62) 62 (row64 (replicate 62 1 ++ 255 ∷ []))
+    ∷ fencedRow 64 (2 ^ 63) 63 (row64 (replicate 63 1 ++ 255 ∷ [])) ∷ fencedRow 65 1 1 (no 14 0)
     -- all cores fenced, and all but one
-    ∷ wall 1 1 1 (no 14 0) ∷ wall 5 31 1 (no 14 0) ∷ wall 5 15 1 (row64 (replicate 4 255 ++ 1 ∷ []))
-    ∷ wall 64 (2 ^ 64 - 1) 1 (no 14 0) ∷ wall 64 (2 ^ 63 - 1) 1 (row64 (replicate 63 255 ++ 1 ∷ []))
+    ∷ fencedRow 1 1 1 (no 14 0) ∷ fencedRow 5 31 1 (no 14 0) ∷ fencedRow 5 15 1 (row64 (replicate 4 255 ++ 1 ∷ []))
+    ∷ fencedRow 64 (2 ^ 64 - 1) 1 (no 14 0) ∷ fencedRow 64 (2 ^ 63 - 1) 1 (row64 (replicate 63 255 ++ 1 ∷ []))
     -- a width of the unfenced cores, and one above them
-    ∷ wall 5 9 3 (row64 (255 ∷ 1 ∷ 1 ∷ 255 ∷ 1 ∷ [])) ∷ wall 5 9 4 (no 14 0)
-    ∷ wall 64 (2 ^ 64 - 2 ^ 32) 32 (row64 (replicate 32 1 ++ replicate 32 255)) ∷ wall 64 (2 ^ 64 - 2 ^ 32) 33 (no 14 0)
+    ∷ fencedRow 5 9 3 (row64 (255 ∷ 1 ∷ 1 ∷ 255 ∷ 1 ∷ [])) ∷ fencedRow 5 9 4 (no 14 0)
+    ∷ fencedRow 64 (2 ^ 64 - 2 ^ 32) 32 (row64 (replicate 32 1 ++ replicate 32 255)) ∷ fencedRow 64 (2 ^ 64 - 2 ^ 32) 33 (no 14 0)
     -- O above 1,000,000; C and T 0, and above 1,000,000
     ∷ sized 1 (t 1000001 1 3 4 6 (Resting 1)) (no 14 0)
     ∷ sized 1 (t 2 1 0 4 6 (Resting 1)) (no 14 0) ∷ sized 1 (t 2 1 1000001 4 6 (Resting 1)) (no 14 0)

@@ -1,10 +1,10 @@
 -- The theorems on a list of entries: from the relation of one task to `refines`, `sets-book`, `sets-kept`, `demand-3` and `fenced`, and examples through
 -- `replay`.
-pub mod Tied
-pub mod Seen
+pub mod PhaseRelated
+pub mod Emptied
 pub mod Ticks
-pub mod TiedTask
-pub mod Looks
+pub mod RelatedTask
+pub mod EmptiedRelated
 pub mod Related
 pub mod Represents
 pub mod Words
@@ -20,7 +20,7 @@ pub mod Running
 pub mod HandBuilt
 pub mod EmptyBuilt
 pub mod WithdrawBuilt
-pub mod TogetherBuilt
+pub mod WithdrawSetBuilt
 pub mod WidthBuilt
 pub mod LendBuilt
 pub mod SetsBuilt

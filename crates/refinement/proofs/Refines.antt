@@ -32,16 +32,16 @@ module _ (ws : List ℕ) (e : answerMeaning (startOf ws .answer) ≡ taken) wher
   started = subst (λ (r : Run). Represents (tableOf ws) emptyBook r) (sym (start-of ws (startOf ws) refl .started e)) (represents-start ws none)
 
   -- the run represents the book after the list
-  pub stands : (xs : List Entry) → Represents (tableOf ws) (book (tableOf ws) xs) (runAfterList (firstRun ws) xs)
-  stands xs = represents-after (tableOf ws) sound xs emptyBook (firstRun ws) started
+  pub represented : (xs : List Entry) → Represents (tableOf ws) (book (tableOf ws) xs) (runAfterList (firstRun ws) xs)
+  represented xs = represents-after (tableOf ws) sound xs emptyBook (firstRun ws) started
 
   -- THEOREM (refines): for every table that start takes, Firm and Full alike, and every list of entries
   pub refines : (xs : List Entry) → Refines ws xs
   refines xs = record {
     each-answer = same;
     list-tick = ap (takenIn xs) same ∙ sym (tick-taken (tableOf ws) xs);
-    row-after = same-asked (tableOf ws) sound (book (tableOf ws) xs) (runAfterList (firstRun ws) xs) (stands xs);
-    passes = fails (runOut last) (RunOut last) (run-decides last) (passes-runs last (stands xs .passes));
+    row-after = same-asked (tableOf ws) sound (book (tableOf ws) xs) (runAfterList (firstRun ws) xs) (represented xs);
+    passes = fails (runOut last) (RunOut last) (run-decides last) (passes-runs last (represented xs .passes));
   }
     where
       last : Run

@@ -13,7 +13,7 @@ use borrow.Author.Tests.{ltb-false, ltb-true}
 use Rattle.model.specs.Search.{least, bit}
 use Rattle.model.specs.Task.{AllValid, Table, task, Rule, ruleOf, newest}
 use Rattle.model.specs.Task as model
-use Rattle.model.specs.Book.{Book, fresh, emptyBook, emptied, emptyIn, advanced, step, withWithdrawn, late, firstLate, releasedNow, emptiable, misemptied}
+use Rattle.model.specs.Book.{Book, fresh, emptyBook, emptied, emptyIn, advanced, step, withWithdrawn, late, firstLate, releasedNow, emptiable, wrongEmpties}
 use Rattle.model.proofs.Bools.{same-test}
 use Rattle.model.proofs.Search.{least-lowest, any-same, least-same}
 use Rattle.model.proofs.Faithful.{late-exact}
@@ -21,24 +21,24 @@ use Rattle.model.specs.Sizes.{mostTasks}
 use Rattle.phase.specs.declared.Phase.{Phase}
 use Rattle.phase.specs.declared.Task.{Task}
 use Rattle.run.specs.declared.Run.{Run}
-use Rattle.phase.specs.Phase.{lateIn, released, seen}
+use Rattle.phase.specs.Phase.{lateIn, released, phaseEmptied}
 use Rattle.phase.specs.Task.{taskOf, unused, startTask}
-use Rattle.phase.proofs.Phases.{seen-late}
+use Rattle.phase.proofs.Phases.{emptied-late}
 use Rattle.run.specs.Run.{ruleIn, evenAt, phaseAt, emptyAt, moved, withdrawnIn}
-use Rattle.run.specs.Numbers.{lateAt, firstLateIn, emptiableAt, misemptiedIn}
+use Rattle.run.specs.Numbers.{lateAt, firstLateIn, emptiableAt, wrongEmptiesIn}
 use Rattle.run.specs.Start.{startedRun}
 use Rattle.run.proofs.StartPasses.{started-at}
-use Rattle.refinement.proofs.Tied.{Tied}
-use Rattle.refinement.proofs.Seen.{tied-seen}
-use Rattle.refinement.proofs.Ticks.{tied-start}
-use Rattle.refinement.proofs.TiedTask.{late-is, late-has, newest-does}
-use Rattle.refinement.proofs.Looks.{SameTable, SeenAlike, same-task, same-moved, tied-moved}
+use Rattle.refinement.proofs.PhaseRelated.{PhaseRelated}
+use Rattle.refinement.proofs.Emptied.{related-emptied}
+use Rattle.refinement.proofs.Ticks.{phase-related-start}
+use Rattle.refinement.proofs.RelatedTask.{late-is, late-has, newest-does}
+use Rattle.refinement.proofs.EmptiedRelated.{SameTable, EmptiedRelated, same-task, same-moved, related-moved}
 
 -- the run is of the table, the same positions are withdrawn, and each task's phase and parity are related to its line of the book
 pub record Related (s : Table) (b : Book) (r : Run) : Type 0 where
   pub table : SameTable s r
   pub same-withdrawn : r .withdrawn ≡ b .withdrawn
-  pub tied : (p : ℕ) → p < length (s .tasks) → Tied (s .rule) (task s p) (b .tick) (b .job p) (evenAt r p) (phaseAt r p)
+  pub related : (p : ℕ) → p < length (s .tasks) → PhaseRelated (s .rule) (task s p) (b .tick) (b .job p) (evenAt r p) (phaseAt r p)
 
 -- THE START
 
@@ -60,9 +60,9 @@ related-start n s e ok = record {
         ∙ started-tasks (s .tasks);
   };
   same-withdrawn = refl;
-  tied = λ p l.
-      subst (λ (t : Task). Tied (s .rule) (task s p) 0 (λ k. fresh) (t .even) (t .phase)) (sym (started-at (s .tasks) rest p l))
-      (tied-start (s .rule) (task s p) (ok p l));
+  related = λ p l.
+      subst (λ (t : Task). PhaseRelated (s .rule) (task s p) 0 (λ k. fresh) (t .even) (t .phase)) (sym (started-at (s .tasks) rest p l))
+      (phase-related-start (s .rule) (task s p) (ok p l));
 }
   where
     rest : List Task
@@ -80,11 +80,11 @@ module _ (s : Table) (ok : AllValid s) (b : Book) (r : Run) (h : Related s b r) 
   same-late p l =
       same-test (lateAt r p) (late s b p)
       (λ e. late-exact s ok b p l .1
-      (late-has (s .rule) (task s p) (ok p l) (b .tick) (b .job p) (evenAt r p) (phaseAt r p) (h .tied p l) (sym (same-deadline p l) ∙ e)))
+      (late-has (s .rule) (task s p) (ok p l) (b .tick) (b .job p) (evenAt r p) (phaseAt r p) (h .related p l) (sym (same-deadline p l) ∙ e)))
       (λ e.
       let x = late-exact s ok b p l .0 e in
       same-deadline p l
-      ∙ late-is (s .rule) (task s p) (ok p l) (b .tick) (b .job p) (evenAt r p) (phaseAt r p) (h .tied p l) (x .0) (x .1) (x .2))
+      ∙ late-is (s .rule) (task s p) (ok p l) (b .tick) (b .job p) (evenAt r p) (phaseAt r p) (h .related p l) (x .0) (x .1) (x .2))
 
   pub same-first : firstLateIn r ≡ firstLate s b
   unfolding firstLateIn
@@ -116,12 +116,12 @@ module _ (s : Table) (ok : AllValid s) (b : Book) (r : Run) (h : Related s b r) 
         go : (x : Bool) → ltb p (length (s .tasks)) ≡ x → x && released (phaseAt r p) ≡ x && releasedNow s b p new && not (b .job p new .ended)
         go true i =
             let l = ltb-true p (length (s .tasks)) i in
-            sym (newest-does (s .rule) (task s p) (ok p l) (b .tick) (b .job p) (evenAt r p) (phaseAt r p) (h .tied p l) (punctual p l) .fresh-job)
+            sym (newest-does (s .rule) (task s p) (ok p l) (b .tick) (b .job p) (evenAt r p) (phaseAt r p) (h .related p l) (punctual p l) .fresh-job)
         go false i = refl
 
     -- so 20 is
-    pub same-misemptied : (e : ℕ) → misemptiedIn r e ≡ misemptied s b e
-    unfolding misemptiedIn misemptied
+    pub same-misemptied : (e : ℕ) → wrongEmptiesIn r e ≡ wrongEmpties s b e
+    unfolding wrongEmptiesIn wrongEmpties
     same-misemptied e =
         any-same e (λ p. bit e p && not (emptiableAt r p)) (λ p. bit e p && not (emptiable s b p))
         (λ p l. ap (λ (m : Bool). bit e p && not m) (same-emptiable p))
@@ -131,14 +131,14 @@ module _ (s : Table) (ok : AllValid s) (b : Book) (r : Run) (h : Related s b r) 
     same-empty e p = ap (λ (w : ℕ). bit e p || bit w p) (h .same-withdrawn)
 
     -- as it is seen in a tick with the empties e, the run is related to the book with its empty jobs ended
-    pub looks : (e : ℕ) → SeenAlike s (emptied s (emptyIn b e) b) r e
+    pub looks : (e : ℕ) → EmptiedRelated s (emptied s (emptyIn b e) b) r e
     looks e = record {
       same = h .table;
-      tied = λ p l. unfold emptied in
-          subst₂ (λ (u : Rule) (t : Bool). Tied (s .rule) (task s p) (b .tick) (emptied s (emptyIn b e) b .job p) (evenAt r p) (seen u t (phaseAt r p)))
+      related = λ p l. unfold emptied in
+          subst₂ (λ (u : Rule) (t : Bool). PhaseRelated (s .rule) (task s p) (b .tick) (emptied s (emptyIn b e) b .job p) (evenAt r p) (phaseEmptied u t (phaseAt r p)))
           (sym (h .table .same-rule)) (sym (same-empty e p))
-          (tied-seen (s .rule) (task s p) (ok p l) (b .tick) (b .job p) (emptyIn b e p) (evenAt r p) (phaseAt r p) (h .tied p l) (punctual p l));
-      punctual = λ p l. seen-late (ruleIn r) (task s p .deadline) (emptyAt r e p) (phaseAt r p) (punctual p l);
+          (related-emptied (s .rule) (task s p) (ok p l) (b .tick) (b .job p) (emptyIn b e p) (evenAt r p) (phaseAt r p) (h .related p l) (punctual p l));
+      in-time = λ p l. emptied-late (ruleIn r) (task s p .deadline) (emptyAt r e p) (phaseAt r p) (punctual p l);
     }
 
     -- a taken advance keeps them related
@@ -146,7 +146,7 @@ module _ (s : Table) (ok : AllValid s) (b : Book) (r : Run) (h : Related s b r) 
     related-on f e = record {
       table = same-moved s ok (emptied s (emptyIn b e) b) r e (looks e) f;
       same-withdrawn = unfold step emptied moved in h .same-withdrawn;
-      tied = λ p l. unfold step in tied-moved s ok (emptied s (emptyIn b e) b) r e (looks e) f p l;
+      related = λ p l. unfold step in related-moved s ok (emptied s (emptyIn b e) b) r e (looks e) f p l;
     }
 
 -- a withdrawal keeps them related: only the set moves
@@ -161,5 +161,5 @@ related-out s b r h x = record {
     same-tasks = h .table .same-tasks;
   };
   same-withdrawn = ap (λ (w : ℕ). bitOr w x) (h .same-withdrawn);
-  tied = h .tied;
+  related = h .related;
 }

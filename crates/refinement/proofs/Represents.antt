@@ -10,14 +10,14 @@ use Rattle.model.specs.Search.{any, bit}
 use Rattle.model.specs.Firm.{firm}
 use Rattle.model.specs.Task.{AllValid, Table}
 use Rattle.model.specs.Book.{Book, Entry, advance, withdraw, withdrawAll, bookRow, emptied, emptyIn, advanced, withWithdrawn, singleton, afterTaken, Answer, taken, refused}
-use Rattle.model.specs.Book.{firstLate, misemptied, misreported, strangers, withdrawing, answer, shown, rowRefused, asked, entered, enter, bookFrom, answersFrom}
+use Rattle.model.specs.Book.{firstLate, wrongEmpties, wrongReports, unknownPositions, withdrawing, answer, shown, rowRefused, asked, entered, enter, bookFrom, answersFrom}
 use Rattle.run.specs.declared.Run.{Run}
 use Rattle.run.specs.declared.Answer as declared
 use Rattle.run.specs.declared.Answer.the-variants.{Taken, Refused}
 use Rattle.run.specs.declared.Row.{Row}
 use Rattle.run.specs.Run.{moved, withdrawnIn}
 use Rattle.run.specs.Answer.{answerMeaning, byAnswer, rowMeaning, askedIn64, in64}
-use Rattle.run.specs.Numbers.{misemptiedIn, misreportedIn, pastCount, strangerIn}
+use Rattle.run.specs.Numbers.{wrongEmptiesIn, wrongReportsIn, pastCount, unknownIn}
 use Rattle.run.specs.Advance.{advanceAnswer, advanceOf}
 use Rattle.run.specs.Withdraw.{withdrawAnswer, withdrawOf, withdrawAllOf}
 use Rattle.run.specs.Row.{rowAnswer, bytesIn, noBytes}
@@ -26,7 +26,7 @@ use Rattle.refinement.specs.Entries.{entryOf, answers, runAfterList}
 use Rattle.run.proofs.Limits.{Passes, passes-runs, moved-passes, withdrawn-passes}
 use Rattle.run.proofs.SetTests.{past-search}
 use Rattle.run.proofs.WithdrawExact.{taken-parts, taken-within}
-use Rattle.refinement.proofs.Looks.{same-row, same-misreported}
+use Rattle.refinement.proofs.EmptiedRelated.{same-row, same-wrong-reports}
 use Rattle.refinement.proofs.Related.{Related, same-first, same-any, in-time, same-misemptied, looks, related-on, related-out}
 
 -- the run passes 14 and is related to the book
@@ -37,7 +37,7 @@ pub record Represents (s : Table) (b : Book) (r : Run) : Type 0 where
 module _ (s : Table) (ok : AllValid s) where
   -- the answer to an advance where no task is late
   abbrev inTime : Book → ℕ → ℕ → Answer
-  inTime b x e = cond (misemptied s b e) (refused 20 0) (cond (misreported s (emptied s (emptyIn b e) b) x) (refused 16 0) taken)
+  inTime b x e = cond (wrongEmpties s b e) (refused 20 0) (cond (wrongReports s (emptied s (emptyIn b e) b) x) (refused 16 0) taken)
 
   -- such a run and its book give one answer to an advance ..
   same-advance : (b : Book) (r : Run) → Represents s b r → (x e : ℕ) → answerMeaning (advanceAnswer r x e) ≡ answer s b (advance x e)
@@ -47,7 +47,7 @@ module _ (s : Table) (ok : AllValid s) where
       (go (ltb (firstLate s b) (length (s .tasks))) refl)
     where
       runs : declared.Answer
-      runs = cond (misemptiedIn r e) (Refused 20 0) (cond (misreportedIn r e x) (Refused 16 0) Taken)
+      runs = cond (wrongEmptiesIn r e) (Refused 20 0) (cond (wrongReportsIn r e x) (Refused 16 0) Taken)
 
       meaning-same : (u v : Bool) → answerMeaning (cond u (Refused 20 0) (cond v (Refused 16 0) Taken)) ≡ cond u (refused 20 0) (cond v (refused 16 0) taken)
       meaning-same true v = refl
@@ -60,9 +60,9 @@ module _ (s : Table) (ok : AllValid s) where
       go false q =
           let it = in-time s ok b r (h .related) q in
           let c : Book = emptied s (emptyIn b e) b in
-          meaning-same (misemptiedIn r e) (misreportedIn r e x)
+          meaning-same (wrongEmptiesIn r e) (wrongReportsIn r e x)
           ∙ ap₂ (λ (u v : Bool). cond u (refused 20 0) (cond v (refused 16 0) taken)) (same-misemptied s ok b r (h .related) it e)
-          (same-misreported s ok c r e (looks s ok b r (h .related) it e) x)
+          (same-wrong-reports s ok c r e (looks s ok b r (h .related) it e) x)
 
   -- .. and to a withdrawal ..
   same-withdraw : (b : Book) (r : Run) → Represents s b r → (t : Bool) → answerMeaning (withdrawAnswer r t) ≡ withdrawing s t
@@ -76,13 +76,13 @@ module _ (s : Table) (ok : AllValid s) where
       meaning-same true true = refl
       meaning-same true false = refl
 
-  same-single : (b : Book) (r : Run) → Represents s b r → (p : ℕ) → answerMeaning (withdrawAnswer r (strangerIn r p)) ≡ answer s b (withdraw p)
+  same-single : (b : Book) (r : Run) → Represents s b r → (p : ℕ) → answerMeaning (withdrawAnswer r (unknownIn r p)) ≡ answer s b (withdraw p)
   unfolding answer
   same-single b r h p =
-      same-withdraw b r h (strangerIn r p) ∙ ap (λ (n : ℕ). withdrawing s (eqb p 0 || ltb n p)) (h .related .table .same-count)
+      same-withdraw b r h (unknownIn r p) ∙ ap (λ (n : ℕ). withdrawing s (eqb p 0 || ltb n p)) (h .related .table .same-count)
 
   same-several : (b : Book) (r : Run) → Represents s b r → (x : ℕ) → answerMeaning (withdrawAnswer r (pastCount (r .count) x)) ≡ answer s b (withdrawAll x)
-  unfolding answer strangers
+  unfolding answer unknownPositions
   same-several b r h x =
       same-withdraw b r h (pastCount (r .count) x)
       ∙ (ap (withdrawing s) (past-search (r .count) x)
@@ -109,13 +109,13 @@ module _ (s : Table) (ok : AllValid s) where
       twenty false cs q = ap shown q
 
       go : (t : Bool) → ltb (firstLate s b) (length (s .tasks)) ≡ t
-          → rowMeaning (gives (cond t (Refused 15 (suc (firstLate s b))) (cond (misemptiedIn r e) (Refused 20 0) Taken)))
-          ≡ askedIn64 (cond t (rowRefused 15 (suc (firstLate s b))) (cond (misemptied s b e) (rowRefused 20 0) (shown (bookRow s (emptied s (emptyIn b e) b)))))
+          → rowMeaning (gives (cond t (Refused 15 (suc (firstLate s b))) (cond (wrongEmptiesIn r e) (Refused 20 0) Taken)))
+          ≡ askedIn64 (cond t (rowRefused 15 (suc (firstLate s b))) (cond (wrongEmpties s b e) (rowRefused 20 0) (shown (bookRow s (emptied s (emptyIn b e) b)))))
       go true q = refl
       go false q =
           let it = in-time s ok b r (h .related) q in
           rw (same-misemptied s ok b r (h .related) it e)
-          (twenty (misemptied s b e) (bookRow s (emptied s (emptyIn b e) b))
+          (twenty (wrongEmpties s b e) (bookRow s (emptied s (emptyIn b e) b))
           (ap in64 (same-row s ok (emptied s (emptyIn b e) b) r e (looks s ok b r (h .related) it e))))
 
   -- an answer's number
@@ -161,7 +161,7 @@ module _ (s : Table) (ok : AllValid s) where
             related = related-on s ok b r (h .related) it (bit x) e;
           })
       go (Refused n p) q = rw (sym q) h
-  represents-entry b r h (withdraw p) = represents-out b r h (strangerIn r p) (singleton p) (answer s b (withdraw p)) (taken-within r p) (same-single b r h p)
+  represents-entry b r h (withdraw p) = represents-out b r h (unknownIn r p) (singleton p) (answer s b (withdraw p)) (taken-within r p) (same-single b r h p)
   represents-entry b r h (withdrawAll x) =
       represents-out b r h (pastCount (r .count) x) x (answer s b (withdrawAll x)) (λ e. taken-parts r (pastCount (r .count) x) (ap answerMeaning e) .2)
       (same-several b r h x)

@@ -5,7 +5,7 @@ use Rattle.model.specs.Lending.{among, merged, lent}
 use Rattle.model.specs.Row.{owner, row}
 use Rattle.model.specs.Search.{any, filtered, least, memb, upFrom}
 use Rattle.run.specs.Run.{grantsIn, lentIn, mapFirst, moved, offerIn, seeksIn, withdrawnIn}
-use Rattle.run.specs.Numbers.{pastCount, runOut, firstLateIn, misemptiedIn, misreportedIn}
+use Rattle.run.specs.Numbers.{pastCount, runOut, firstLateIn, wrongEmptiesIn, wrongReportsIn}
 use Rattle.run.specs.Advance.{advanceAnswer, advanceOf}
 use Rattle.run.specs.Withdraw.{withdrawAnswer, withdrawOf, withdrawAllOf}
 use Rattle.run.specs.Row.{rowAnswer, bytesIn, rowOf}
@@ -13,5 +13,5 @@ use Rattle.refinement.specs.Entries.{answers, runAfterList}
 
 unfoldable pub running : Unit {0}
 unfolding any least memb upFrom filtered owner row given left grants claimants firm parallelismMonotonic lent merged among answers runAfterList advanceOf advanceAnswer withdrawOf
-    withdrawAllOf withdrawAnswer rowOf rowAnswer bytesIn pastCount runOut firstLateIn misemptiedIn misreportedIn grantsIn offerIn seeksIn lentIn mapFirst moved withdrawnIn
+    withdrawAllOf withdrawAnswer rowOf rowAnswer bytesIn pastCount runOut firstLateIn wrongEmptiesIn wrongReportsIn grantsIn offerIn seeksIn lentIn mapFirst moved withdrawnIn
 running = tt

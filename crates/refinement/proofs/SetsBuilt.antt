@@ -17,7 +17,7 @@ use Rattle.run.specs.declared.Sets.{Sets}
 use Rattle.run.specs.declared.Answer.the-variants.{Taken, Refused}
 use Rattle.run.specs.Row.{rowOf}
 use Rattle.run.specs.Sets.{askedIn32, setsIn, setsOf, setsMeaning}
-use Rattle.refinement.proofs.HandBuilt.{at-even, one, t, three, two, walled}
+use Rattle.refinement.proofs.HandBuilt.{at-even, one, t, three, two, fencedRun}
 use Rattle.refinement.proofs.Running.{running}
 use Rattle.refinement.proofs.WidthBuilt.{t₂}
 use Rattle.refinement.proofs.WithdrawBuilt.{out}
@@ -125,7 +125,7 @@ refused-lines =
     ∷ refuses "15 before 20" (pair 1 (Working 6 0 0) (Working 6 0 0)) 1 15 1
     ∷ refuses "20: not released in this tick" (pair 1 (Working 1 0 0) (Working 0 0 0)) 1 20 0
     ∷ refuses "20: past the count" (pair 1 (Working 0 0 0) (Working 0 0 0)) 4 20 0
-    ∷ refuses "a fence, and no bytes of it" (walled 1 2 3 (t 0 1 1 1 1 (Working 0 0 0))) 0 14 0
+    ∷ refuses "a fence, and no bytes of it" (fencedRun 1 2 3 (t 0 1 1 1 1 (Working 0 0 0))) 0 14 0
     ∷ []
 
 computed : LineByLine asked sets-lines sets-lines

@@ -15,7 +15,7 @@ use Rattle.phase.specs.declared.Phase.{Phase}
 use Rattle.phase.specs.declared.Phase.the-variants.{Coming, Working, Holding, Resting}
 use Rattle.phase.specs.Phase.{idles, lateIn, taskState, startState, resting, holding, ended, worked, nextState}
 use Rattle.phase.proofs.Phases.{by-eq}
-use Rattle.refinement.proofs.Tied.{Present, Tied, TiedAt, parity-suc, newest-in, early, hold-if, full-done, none-holds, ended-also, rests-off}
+use Rattle.refinement.proofs.PhaseRelated.{Present, PhaseRelated, StateRelatedAt, parity-suc, newest-in, early, hold-if, full-done, none-holds, ended-also, rests-off}
 
 -- a line after a tick in which its task was given cores (w), or borrowed some (l), or neither
 abbrev pub lineOn : Rule → Task → ℕ → Bool → Bool → Bool → (ℕ → Job) → ℕ → Job
@@ -49,9 +49,9 @@ present-on r τ ok t js even w l f k z new h = record {
 
 module _ (r : Rule) (τ : Task) (ok : ValidTask τ) (t : ℕ) (js : ℕ → Job) (even : Bool) (k z : ℕ) (h : Present τ t js even k z) where
   -- a job that has ended rests, or the next is released
-  rested : z ≤ τ .period → js k .ended ≡ true → (holds r τ (js k) ≡ true → τ .deadline ≤ z) → TiedAt r τ t js (resting τ even z)
+  rested : z ≤ τ .period → js k .ended ≡ true → (holds r τ (js k) ≡ true → τ .deadline ≤ z) → StateRelatedAt r τ t js (resting τ even z)
   rested b over done =
-      by-eq (λ (x : Bool). TiedAt r τ t js (cond x (taskState (not even) (Working 0 0 0)) (taskState even (Resting z)))) z (τ .period)
+      by-eq (λ (x : Bool). StateRelatedAt r τ t js (cond x (taskState (not even) (Working 0 0 0)) (taskState even (Resting z)))) z (τ .period)
       (λ e. record {
         number = suc k;
         present = record {
@@ -63,7 +63,7 @@ module _ (r : Rule) (τ : Task) (ok : ValidTask τ) (t : ℕ) (js : ℕ → Job)
         by-due = omega arith;
         short = ok .length-pos;
         within = omega arith;
-        paid = omega arith;
+        reserved-had = omega arith;
         line = h .ahead (suc k) (omega arith);
       })
       (λ n. record { number = k; present = h; short = omega arith; over = over; done = done })
@@ -71,12 +71,12 @@ module _ (r : Rule) (τ : Task) (ok : ValidTask τ) (t : ℕ) (js : ℕ → Job)
   -- a held job
   held-on :
       idles r ≡ true → z ≤ τ .deadline → (u : ℕ) → u ≤ τ .length → js k .ended ≡ true → js k .claimed ≡ u
-      → TiedAt r τ t js (holding τ even z u)
+      → StateRelatedAt r τ t js (holding τ even z u)
   held-on idle b u d over held =
-      by-eq (λ (x : Bool). TiedAt r τ t js (cond (x || eqb z (τ .deadline)) (resting τ even z) (taskState even (Holding z u)))) u (τ .length)
+      by-eq (λ (x : Bool). StateRelatedAt r τ t js (cond (x || eqb z (τ .deadline)) (resting τ even z) (taskState even (Holding z u)))) u (τ .length)
       (λ e. rested (le-trans b (ok .constrained)) over (λ q. absurd (full-done r τ (js k) (omega arith) q)))
       (λ n.
-      by-eq (λ (x : Bool). TiedAt r τ t js (cond x (resting τ even z) (taskState even (Holding z u)))) z (τ .deadline)
+      by-eq (λ (x : Bool). StateRelatedAt r τ t js (cond x (resting τ even z) (taskState even (Holding z u)))) z (τ .deadline)
       (λ e. rested (le-trans b (ok .constrained)) over (λ q. omega arith))
       (λ m. record {
         number = k;
@@ -89,20 +89,20 @@ module _ (r : Rule) (τ : Task) (ok : ValidTask τ) (t : ℕ) (js : ℕ → Job)
       }))
 
   -- a job that has just ended
-  ended-on : z ≤ τ .deadline → (u : ℕ) → u ≤ τ .length → js k .ended ≡ true → js k .claimed ≡ u → TiedAt r τ t js (ended r τ even z u)
+  ended-on : z ≤ τ .deadline → (u : ℕ) → u ≤ τ .length → js k .ended ≡ true → js k .claimed ≡ u → StateRelatedAt r τ t js (ended r τ even z u)
   ended-on b u d over held = go (idles r) refl
     where
-      go : (x : Bool) → idles r ≡ x → TiedAt r τ t js (cond x (holding τ even z u) (resting τ even z))
+      go : (x : Bool) → idles r ≡ x → StateRelatedAt r τ t js (cond x (holding τ even z u) (resting τ even z))
       go true e = held-on e b u d over held
       go false e = rested (le-trans b (ok .constrained)) over (λ q. absurd (none-holds r τ (js k) e q))
 
   -- an open job after a tick with cores, its own or borrowed ones
   worked-on :
       z ≤ τ .deadline → (had u : ℕ) (f : Bool) → had ≤ τ .length → had ≤ z → u ≤ had → js k ≡ mk had u (f || leb (τ .length) had)
-      → TiedAt r τ t js (worked r τ f even z had u)
+      → StateRelatedAt r τ t js (worked r τ f even z had u)
   worked-on b had u true d w q line = ended-on b u (omega arith) (ap (λ (j : Job). j .ended) line) (ap (λ (j : Job). j .claimed) line)
   worked-on b had u false d w q line =
-      by-eq (λ (x : Bool). TiedAt r τ t js (cond x (ended r τ even z u) (taskState even (Working z had u)))) had (τ .length)
+      by-eq (λ (x : Bool). StateRelatedAt r τ t js (cond x (ended r τ even z u) (taskState even (Working z had u)))) had (τ .length)
       (λ e. ended-on b u (omega arith) (ap (λ (j : Job). j .ended) line ∙ le-leb (τ .length) had (omega arith)) (ap (λ (j : Job). j .claimed) line))
       (λ n. record {
         number = k;
@@ -110,7 +110,7 @@ module _ (r : Rule) (τ : Task) (ok : ValidTask τ) (t : ℕ) (js : ℕ → Job)
         by-due = b;
         short = omega arith;
         within = w;
-        paid = q;
+        reserved-had = q;
         line = line ∙ ap (λ (e : Bool). mk had u e) (lt-leb (τ .length) had (omega arith));
       })
 
@@ -127,27 +127,27 @@ lent-open C had u f j e = rw e
 -- ONE TICK
 
 -- at the start the first release is now, or it is O ticks ahead
-pub tied-start : (r : Rule) (τ : Task) → ValidTask τ → TiedAt r τ 0 (λ k. fresh) (startState (τ .offset))
-tied-start r τ ok =
-    by-eq (λ (x : Bool). TiedAt r τ 0 (λ k. fresh) (taskState false (cond x (Working 0 0 0) (Coming (τ .offset))))) (τ .offset) 0
+pub phase-related-start : (r : Rule) (τ : Task) → ValidTask τ → StateRelatedAt r τ 0 (λ k. fresh) (startState (τ .offset))
+phase-related-start r τ ok =
+    by-eq (λ (x : Bool). StateRelatedAt r τ 0 (λ k. fresh) (taskState false (cond x (Working 0 0 0) (Coming (τ .offset))))) (τ .offset) 0
     (λ e. record {
       number = 0;
       present = record { when = omega arith; past = λ i l. absurd (omega arith); ahead = λ i l. refl; parity = refl };
       by-due = omega arith;
       short = ok .length-pos;
       within = omega arith;
-      paid = omega arith;
+      reserved-had = omega arith;
       line = refl;
     })
     (λ n. record { some = omega arith; when = omega arith; unmet = λ i. refl; odd = refl })
 
 -- the relation holds one tick on, where the task is not late
-pub tied-on :
+pub related-next :
     (r : Rule) (τ : Task) → ValidTask τ → (t : ℕ) (js : ℕ → Job) (even w l f : Bool) (ph : Phase)
-    → Tied r τ t js even ph → lateIn (τ .deadline) ph ≡ false
-    → TiedAt r τ (suc t) (lineOn r τ t w l f js) (nextState r τ w l f even ph)
-tied-on r τ ok t js even w l f (Coming left) h n =
-    by-eq (λ (x : Bool). TiedAt r τ (suc t) (lineOn r τ t w l f js) (taskState even (cond x (Working 0 0 0) (Coming (left - 1))))) (left - 1) 0
+    → PhaseRelated r τ t js even ph → lateIn (τ .deadline) ph ≡ false
+    → StateRelatedAt r τ (suc t) (lineOn r τ t w l f js) (nextState r τ w l f even ph)
+related-next r τ ok t js even w l f (Coming left) h n =
+    by-eq (λ (x : Bool). StateRelatedAt r τ (suc t) (lineOn r τ t w l f js) (taskState even (cond x (Working 0 0 0) (Coming (left - 1))))) (left - 1) 0
     (λ e. record {
       number = 0;
       present = record {
@@ -159,7 +159,7 @@ tied-on r τ ok t js even w l f (Coming left) h n =
       by-due = omega arith;
       short = ok .length-pos;
       within = omega arith;
-      paid = omega arith;
+      reserved-had = omega arith;
       line = unmet 0;
     })
     (λ e. record {
@@ -171,7 +171,7 @@ tied-on r τ ok t js even w l f (Coming left) h n =
   where
     unmet : (i : ℕ) → lineOn r τ t w l f js i ≡ fresh
     unmet i = line-off r τ t w l f js i (early r τ t i (js i) (omega (arith, h .when, h .some))) ∙ h .unmet i
-tied-on r τ ok t js even w l f (Working z had u) h n = go w l
+related-next r τ ok t js even w l f (Working z had u) h n = go w l
   where
     k : ℕ
     k = h .number
@@ -185,14 +185,14 @@ tied-on r τ ok t js even w l f (Working z had u) h n = go w l
     own : claims r τ k t (js k) ≡ true
     own = claims-if r τ k t (js k) (omega (arith, h .present .when)) (omega (arith, h .present .when, less)) (rw (h .line))
 
-    go : (w l : Bool) → TiedAt r τ (suc t) (lineOn r τ t w l f js) (nextState r τ w l f even (Working z had u))
+    go : (w l : Bool) → StateRelatedAt r τ (suc t) (lineOn r τ t w l f js) (nextState r τ w l f even (Working z had u))
     go true l =
         worked-on r τ ok (suc t) (lineOn r τ t true l f js) even k (z + 1) (present-on r τ ok t js even true l f k z new (h .present))
-        (omega (arith, less)) (had + 1) (u + 1) f (omega (arith, h .short)) (omega (arith, h .within)) (omega (arith, h .paid))
+        (omega (arith, less)) (had + 1) (u + 1) f (omega (arith, h .short)) (omega (arith, h .within)) (omega (arith, h .reserved-had))
         (line-own r τ t true l f js k own ∙ (work-open (τ .length) had u f (js k) (h .line) ∙ simp add-one))
     go false true =
         worked-on r τ ok (suc t) (lineOn r τ t false true f js) even k (z + 1) (present-on r τ ok t js even false true f k z new (h .present))
-        (omega (arith, less)) (had + 1) u f (omega (arith, h .short)) (omega (arith, h .within)) (omega (arith, h .paid))
+        (omega (arith, less)) (had + 1) u f (omega (arith, h .short)) (omega (arith, h .within)) (omega (arith, h .reserved-had))
         (line-own r τ t false true f js k own ∙ (lent-open (τ .length) had u f (js k) (h .line) ∙ simp add-one))
     go false false = record {
       number = k;
@@ -200,10 +200,10 @@ tied-on r τ ok t js even w l f (Working z had u) h n = go w l
       by-due = omega (arith, less);
       short = h .short;
       within = omega (arith, h .within);
-      paid = h .paid;
+      reserved-had = h .reserved-had;
       line = line-own r τ t false false f js k own ∙ h .line;
     }
-tied-on r τ ok t js even w l f (Holding z u) h n = go w
+related-next r τ ok t js even w l f (Holding z u) h n = go w
   where
     k : ℕ
     k = h .number
@@ -224,7 +224,7 @@ tied-on r τ ok t js even w l f (Holding z u) h n = go w
         ap (λ (j : Job). j .claimed) (line-own r τ t w l f js k own)
         ∙ step-claimed (τ .length) f w l (js k .had) (js k .claimed) (js k .ended)
 
-    go : (w : Bool) → TiedAt r τ (suc t) (lineOn r τ t w l f js) (holding τ even (z + 1) (cond w (u + 1) u))
+    go : (w : Bool) → StateRelatedAt r τ (suc t) (lineOn r τ t w l f js) (holding τ even (z + 1) (cond w (u + 1) u))
     go true =
         held-on r τ ok (suc t) (lineOn r τ t true l f js) even k (z + 1) (present-on r τ ok t js even true l f k z new (h .present))
         (h .idle) (omega (arith, h .in-time)) (u + 1) (omega (arith, h .short))
@@ -233,7 +233,7 @@ tied-on r τ ok t js even w l f (Holding z u) h n = go w
         held-on r τ ok (suc t) (lineOn r τ t false l f js) even k (z + 1) (present-on r τ ok t js even false l f k z new (h .present))
         (h .idle) (omega (arith, h .in-time)) u (omega (arith, h .short))
         (over false) (held false ∙ h .held)
-tied-on r τ ok t js even w l f (Resting z) h n =
+related-next r τ ok t js even w l f (Resting z) h n =
     rested r τ ok (suc t) (lineOn r τ t w l f js) even k (z + 1) (present-on r τ ok t js even w l f k z new (h .present))
     (omega (arith, h .short))
     (ap (λ (j : Job). j .ended) same ∙ h .over)

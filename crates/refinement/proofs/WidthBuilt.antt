@@ -15,7 +15,7 @@ use Rattle.phase.specs.declared.Task.{Task}
 use Rattle.phase.specs.Task.{unused}
 use Rattle.run.specs.declared.Run.{Run}
 use Rattle.run.specs.declared.Answer.the-variants.{Taken, Refused}
-use Rattle.refinement.proofs.HandBuilt.{rows, t, at-even, walled, one, two, three, on2, no, row64}
+use Rattle.refinement.proofs.HandBuilt.{rows, t, at-even, fencedRun, one, two, three, on2, no, row64}
 use Rattle.refinement.proofs.EmptyBuilt.{Named, worked-named, built, sets, none, empty-no, report-no, row-20}
 use Rattle.refinement.proofs.WithdrawBuilt.{out}
 use Rattle.refinement.proofs.Running.{running}
@@ -128,9 +128,9 @@ limit-lines =
     ∷ built "14: a second width of 0, of an odd job" (one 1 2 (t₂ 0 1 0 3 4 6 (Working 0 0 0))) [] [] (no 14 0 ∷ []) (one 1 2 (t₂ 0 1 0 3 4 6 (Working 0 0 0)))
     ∷ built "above the cores" (one 1 2 (t₂ 0 1 3 3 4 6 (Working 0 0 0))) [] [] (no 14 0 ∷ []) (one 1 2 (t₂ 0 1 3 3 4 6 (Working 0 0 0)))
     ∷ built "above the unfenced ones"
-    (walled 1 3 2 (t₂ 0 1 3 3 4 6 (Working 0 0 0))) [] [] (no 14 0 ∷ []) (walled 1 3 2 (t₂ 0 1 3 3 4 6 (Working 0 0 0)))
+    (fencedRun 1 3 2 (t₂ 0 1 3 3 4 6 (Working 0 0 0))) [] [] (no 14 0 ∷ []) (fencedRun 1 3 2 (t₂ 0 1 3 3 4 6 (Working 0 0 0)))
     ∷ built "all of these"
-    (walled 1 3 2 (at-even (t₂ 0 1 2 3 4 6 (Working 0 0 0)))) [] [] (row64 (1 ∷ 255 ∷ 1 ∷ []) ∷ []) (walled 1 3 2 (at-even (t₂ 0 1 2 3 4 6 (Working 0 0 0))))
+    (fencedRun 1 3 2 (at-even (t₂ 0 1 2 3 4 6 (Working 0 0 0)))) [] [] (row64 (1 ∷ 255 ∷ 1 ∷ []) ∷ []) (fencedRun 1 3 2 (at-even (t₂ 0 1 2 3 4 6 (Working 0 0 0))))
     ∷ built "14: a first width above the cores, of an even job"
     (one 1 2 (at-even (t₂ 0 3 1 3 4 6 (Working 0 0 0)))) [] [] (no 14 0 ∷ []) (one 1 2 (at-even (t₂ 0 3 1 3 4 6 (Working 0 0 0))))
     ∷ built "21: first widths rise, second ones fall"

@@ -24,7 +24,7 @@ use Rattle.refinement.specs.Entries.{answers, runAfterList}
 use Rattle.refinement.specs.Refines.{firstRun}
 use Rattle.refinement.specs.Listing.{Listed, listed, entryCount, entriesIn}
 
--- an answer as one number: 0 for taken, else its number times 256 plus its position (no two answers of an entry have the same: `codes-tell`)
+-- an answer as one number: 0 for taken, else its number times 256 plus its position (no two answers of an entry have the same: `codes-injective`)
 abbrev pub code : model.Answer → ℕ
 code model.taken = 0
 code (model.refused n p) = n * 256 + p

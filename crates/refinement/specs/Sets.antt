@@ -39,7 +39,7 @@ pub record SetsKept (s : Table) (c : Book) (w : Sets) (row : List ℕ) : Type 0 
   pub past : (p : ℕ) → length (s .tasks) ≤ p → getD (w .sets) p 0 ≡ 0
   -- no two overlap, and none has a fenced core or one past the count
   pub apart : SetsApart (w .sets)
-  pub open-only : SetsUnfenced (s .fence) (s .cores) (w .sets)
+  pub unfenced-only : SetsUnfenced (s .fence) (s .cores) (w .sets)
   -- taken: each set has as many cores as its job's width or none; a place that lends keeps what no place borrows
   pub count : answerMeaning (w .answer) ≡ taken → SetsCount (widths s (c .tick)) (offer s c) (lentOf s c) (w .sets)
   -- taken: a job that claims and has not ended is given cores, or borrows some, exactly if its task's set is not empty

@@ -7,7 +7,7 @@ use Rattle.model.proofs.Computing.{computing}
 use Rattle.model.specs.Sizes.{mostTasks}
 use Rattle.table.proofs.Examples.{chained, wordsA}
 use Rattle.table.specs.Answer.{answerOf, byHorizon, byTasks, byWalk, endingOf, firstOut, headerNumber, lastStep}
-use Rattle.table.specs.Words.{chain, count, met, tableOf}
+use Rattle.table.specs.Words.{chain, count, visited, tableOf}
 use Rattle.judge.specs.Judged.{verdictOf}
 use Rattle.response_time.specs.declared.ResponseTimes.{ResponseTimes}
 use Rattle.response_time.specs.ResponseTimes.{responseTimesIn, responseTimesOf, noTimes}
@@ -99,5 +99,5 @@ lines =
 -- every line is its value by the definitions
 pub examples : map worked lines ≡ lines
 unfolding responseTimesOf responseTimesIn worstResponseBy greatest responseTime verdictOf chained answerOf byWalk byTasks byHorizon firstOut endingOf lastStep headerNumber
-    tableOf chain count met computing
+    tableOf chain count visited computing
 examples = refl

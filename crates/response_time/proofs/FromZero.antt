@@ -20,11 +20,11 @@ use Rattle.response_time.proofs.Response.{worst-response-exact}
 abbrev pub early : Table
 early = on 4 idling (t 6 2 1 2 3 ∷ t 0 4 1 4 6 ∷ t 0 2 1 2 4 ∷ [])
 
-valid : AllValid early
-valid zero l = record { odd-pos = omega arith; even-pos = omega arith; length-pos = omega arith; deadline-pos = omega arith; constrained = omega arith }
-valid (suc zero) l = record { odd-pos = omega arith; even-pos = omega arith; length-pos = omega arith; deadline-pos = omega arith; constrained = omega arith }
-valid (suc (suc zero)) l = record { odd-pos = omega arith; even-pos = omega arith; length-pos = omega arith; deadline-pos = omega arith; constrained = omega arith }
-valid (suc (suc (suc p))) l = absurd (omega arith)
+early-valid : AllValid early
+early-valid zero l = record { odd-pos = omega arith; even-pos = omega arith; length-pos = omega arith; deadline-pos = omega arith; constrained = omega arith }
+early-valid (suc zero) l = record { odd-pos = omega arith; even-pos = omega arith; length-pos = omega arith; deadline-pos = omega arith; constrained = omega arith }
+early-valid (suc (suc zero)) l = record { odd-pos = omega arith; even-pos = omega arith; length-pos = omega arith; deadline-pos = omega arith; constrained = omega arith }
+early-valid (suc (suc (suc p))) l = absurd (omega arith)
 
 -- what is computed: the table is Firm, the response time of its third task, S and P, and that its jobs 2, 3 and 4 end after a tick
 pub record Computed : Type 0 where
@@ -45,7 +45,7 @@ last-start : lastS (early .tasks) ≡ 8
 last-start = computed .start
 
 never : NeverMissed early
-never = verdict-exact early valid .accepted .0 (8, 12, inl (computed .fits))
+never = verdict-exact early early-valid .accepted .0 (8, 12, inl (computed .fits))
 
 -- from job 2 on each goes as the one three periods before it
 later : (j : ℕ) → endedAfter early 2 (2 + j) 1 ≡ true
@@ -66,12 +66,12 @@ later (suc (suc (suc j))) = go (later j)
         let when : release τ (2 + j) + 1 + hyperperiod (early .tasks) ≡ release τ (2 + suc (suc (suc j))) + 1 = omega (arith, P) in
         subst (λ (k : ℕ). full early (release τ (2 + suc (suc (suc j))) + 1) .job 2 k .ended ≡ true) number
         (subst (λ (u : ℕ). full early u .job 2 (2 + j + 3) .ended ≡ true) when
-        (subst (λ (x : Job). x .ended ≡ true) (repeat-all early valid 2 (omega arith) 3 whole (2 + j) from 1) e))
+        (subst (λ (x : Job). x .ended ≡ true) (repeat-all early early-valid 2 (omega arith) 3 whole (2 + j) from 1) e))
 
 -- THE THEOREM: the response time is 2, and every job that is released from the last S on has ended after 1 tick
 pub only-before-S : WorstResponse early 2 2 × ((k : ℕ) → lastS (early .tasks) ≤ release (task early 2) k → endedAfter early 2 k 1 ≡ true)
 only-before-S = (
-  subst (WorstResponse early 2) (computed .figure) (worst-response-exact early valid never 2 (omega arith)),
+  subst (WorstResponse early 2) (computed .figure) (worst-response-exact early early-valid never 2 (omega arith)),
   λ k h.
       let e : 2 + (k - 2) ≡ k = omega (arith, last-start) in
       subst (λ (i : ℕ). endedAfter early 2 i 1 ≡ true) e (later (k - 2)),

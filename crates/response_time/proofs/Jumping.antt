@@ -22,7 +22,7 @@ use Rattle.judge.specs.Judged.{loadedTable, Fit}
 use Rattle.judge.proofs.Ticks.{size, few, columns}
 use Rattle.event_simulation.specs.EventState.{EventState, PlaceRepresents, MachineRepresents, StateRepresents}
 use Rattle.event_simulation.specs.Jump.{afterHandling, grantedInJump, ticksInJump, elapsed, jumped, JumpStarts, JumpLands}
-use Rattle.event_simulation.proofs.JumpLands.{seen, lands}
+use Rattle.event_simulation.proofs.JumpLands.{represents-handled, lands}
 use Rattle.event_simulation.proofs.Passing.{passed-claims}
 use Rattle.response_time.specs.Recording.{responseAt, recorded}
 use Rattle.response_time.specs.Response.{worstResponseBy}
@@ -61,7 +61,7 @@ module _ (t : Loaded) (fit : Fit t) (s : EventState) (h : StateRepresents t s) (
   landing = lands t fit s h met
 
   looked : MachineRepresents book (s .tick) (suc (s .tick)) m
-  looked = seen t fit s h met
+  looked = represents-handled t fit s h met
 
   -- whether a place claims before the jump's ticks and after them, and its next release, which stays
   abbrev c : ℕ → Bool
@@ -106,7 +106,7 @@ module _ (t : Loaded) (fit : Fit t) (s : EventState) (h : StateRepresents t s) (
       where
         go : (b : Bool) → b ≡ true → PlaceRepresents τ (suc (s .tick)) js (getD (m .left) p 0) (getD (m .event) p 0) (N p) b
             → PlaceWorks τ (suc (s .tick)) js (getD (m .left) p 0) (getD (m .event) p 0) (N p)
-        go true q x = x .tied
+        go true q x = x .related
         go false q x = absurd (false≢true q)
 
     rests : c p ≡ false → PlaceRests τ (suc (s .tick)) js (getD (m .left) p 0) (N p) (N p)
@@ -115,7 +115,7 @@ module _ (t : Loaded) (fit : Fit t) (s : EventState) (h : StateRepresents t s) (
         go : (b : Bool) → b ≡ false → PlaceRepresents τ (suc (s .tick)) js (getD (m .left) p 0) (getD (m .event) p 0) (N p) b
             → PlaceRests τ (suc (s .tick)) js (getD (m .left) p 0) (N p) (N p)
         go true q x = absurd (true≢false q)
-        go false q x = x .tied
+        go false q x = x .related
 
     abbrev L′ : ℕ
     L′ = getD (there .machine .left) p 0
@@ -130,7 +130,7 @@ module _ (t : Loaded) (fit : Fit t) (s : EventState) (h : StateRepresents t s) (
     works′ e = go (c′ p) e (landing .represents .machines .places p l)
       where
         go : (b : Bool) → b ≡ true → PlaceRepresents τ u js′ L′ M′ N′ b → PlaceWorks τ u js′ L′ M′ N′
-        go true q x = x .tied
+        go true q x = x .related
         go false q x = absurd (false≢true q)
 
     rests′ : c′ p ≡ false → PlaceRests τ u js′ L′ N′ N′
@@ -138,7 +138,7 @@ module _ (t : Loaded) (fit : Fit t) (s : EventState) (h : StateRepresents t s) (
       where
         go : (b : Bool) → b ≡ false → PlaceRepresents τ u js′ L′ M′ N′ b → PlaceRests τ u js′ L′ N′ N′
         go true q x = absurd (true≢false q)
-        go false q x = x .tied
+        go false q x = x .related
 
     -- IT WORKED AND RESTS: the job that it worked on has ended
     pub record Last : Type 0 where

@@ -10,4 +10,4 @@ pub mod Jumping
 pub mod Listed
 pub mod Walked
 pub mod EndedWithin
-pub mod Promise
+pub mod Contract

@@ -15,7 +15,7 @@ use Rattle.model.specs.Sets.{SetsApart, SetsCount, SetsUnfenced, setOf, bookSet
 use Rattle.model.specs.Task.{Table}
 use Rattle.model.proofs.Bools.{and-right}
 use Rattle.rule.proofs.Borrowed.{none-some}
-use Rattle.rule.proofs.Tick.{tick-sets-apart, tick-sets-count, tick-sets-open, tick-shows}
+use Rattle.rule.proofs.Tick.{tick-sets-apart, tick-sets-count, tick-sets-unfenced, tick-shows}
 
 -- what is offered is what is given, or nothing; a place that seeks is given nothing
 module _ (s : Table) (b : Book) where
@@ -39,9 +39,9 @@ module _ (s : Table) (b : Book) where
     sets-apart =
         tick-sets-apart (s .rule) (widths s (b .tick)) (taskClaims s b) (s .fence) (s .cores) (seeks s b) (offer s b) (length (s .tasks)) seekers offers few
 
-    pub sets-open : SetsUnfenced (s .fence) (s .cores) (bookSets s b)
-    sets-open =
-        tick-sets-open (s .rule) (widths s (b .tick)) (taskClaims s b) (s .fence) (s .cores) (seeks s b) (offer s b) (length (s .tasks)) seekers offers few
+    pub sets-unfenced : SetsUnfenced (s .fence) (s .cores) (bookSets s b)
+    sets-unfenced =
+        tick-sets-unfenced (s .rule) (widths s (b .tick)) (taskClaims s b) (s .fence) (s .cores) (seeks s b) (offer s b) (length (s .tasks)) seekers offers few
 
     pub sets-count : SetsCount (widths s (b .tick)) (offer s b) (lentOf s b) (bookSets s b)
     sets-count =

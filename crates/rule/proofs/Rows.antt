@@ -94,11 +94,11 @@ module _ (c : ℕ) where
   none-holds p [] h = refl
   none-holds p (g ∷ gs) h = rw (not-true-false (memb c g) (h 0)) (none-holds (suc p) gs (λ j. h (suc j)))
 
-  unpainted : (start : List ℕ) (p : ℕ) (gs : List (List ℕ)) → c < length start → Absent gs → getD (shown start p gs) c 0 ≡ getD start c 0
+  unmarked : (start : List ℕ) (p : ℕ) (gs : List (List ℕ)) → c < length start → Absent gs → getD (shown start p gs) c 0 ≡ getD start c 0
   unfolding shown
-  unpainted start p [] h k = refl
-  unpainted start p (g ∷ gs) h k =
-      unpainted (marked start p g) (suc p) gs (omega (arith, length-marked start p g)) (λ j. k (suc j))
+  unmarked start p [] h k = refl
+  unmarked start p (g ∷ gs) h k =
+      unmarked (marked start p g) (suc p) gs (omega (arith, length-marked start p g)) (λ j. k (suc j))
       ∙ marked-at start p g c h ∙ ap (λ (t : Bool). cond t p (getD start c 0)) (not-true-false (memb c g) (k 0))
 
   -- each byte: the owner's position, or the byte of the start row where no one holds the core
@@ -112,7 +112,7 @@ module _ (c : ℕ) where
           → getD (shown (marked start p g) (suc p) gs) c 0 ≡ cond (eqb (owner c (suc p) gs) 0) (getD (marked start p g) c 0) (owner c (suc p) gs)
           → getD (shown (marked start p g) (suc p) gs) c 0 ≡ cond (eqb (cond t p (owner c (suc p) gs)) 0) (getD start c 0) (cond t p (owner c (suc p) gs))
       go true e ih =
-          unpainted (marked start p g) (suc p) gs (omega (arith, length-marked start p g)) (λ j k. a c 0 (suc j) (omega arith) e k)
+          unmarked (marked start p g) (suc p) gs (omega (arith, length-marked start p g)) (λ j k. a c 0 (suc j) (omega arith) e k)
           ∙ marked-at start p g c h ∙ ap (λ (t : Bool). cond t p (getD start c 0)) e
           ∙ ap (λ (t : Bool). cond t (getD start c 0) p) (sym (ne-eqb p 0 (λ z. omega arith)))
       go false e ih =

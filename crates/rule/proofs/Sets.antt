@@ -28,10 +28,10 @@ use Rattle.cores.proofs.Unfenced.{in-open, open-of}
 use Rattle.rule.proofs.Granting.{idle, apart, in-grants, width-or-none}
 
 -- the places that are given cores of the set of the unfenced ones
-pub granted-open :
+pub granted-unfenced :
     (r : Rule) (bs : List Claimant) (free f n : ℕ) → n ≤ 64 → cores free ≡ unfenced f (min n 64)
     → (p : ℕ) → granted r bs (cores free) p ≡ granted r bs (unfenced f n) p
-granted-open r bs free f n h e p = ap (λ (l : List ℕ). granted r bs l p) (open-of free f n h e)
+granted-unfenced r bs free f n h e p = ap (λ (l : List ℕ). granted r bs l p) (open-of free f n h e)
 
 -- a set with no cores is 0
 pub no-cores : (n : ℕ) → n < 2 ^ 64 → cores n ≡ [] → n ≡ 0
@@ -51,7 +51,7 @@ no-common a b h k f =
 pub grants-showable : (r : Rule) (bs : List Claimant) (f m : ℕ) → Showable f m (grants r bs (unfenced f m))
 grants-showable r bs f m = record {
   apart = apart r m bs (unfenced f m) (range-kept (λ c. not (bit f c)) 0 m (upFrom 0 m) (range-up 0 m m (omega arith)));
-  open-only = λ c j i. in-open f m c (in-grants r c bs (unfenced f m) j i);
+  unfenced-only = λ c j i. in-open f m c (in-grants r c bs (unfenced f m) j i);
 }
 
 module _ (r : Rule) (bs : List Claimant) (count free : ℕ) (sets : List ℕ) (h : GrantedAs r bs count free sets) where

@@ -116,15 +116,15 @@ module _ (r : Rule) (ws : List ℕ) (c : ℕ → Bool) (f m : ℕ) (sk : ℕ →
 
     -- a row can show it
     pub tick-showable : Showable f m (shownCores gs bs)
-    tick-showable = record { apart = shown-apart gs bs same (given-show .apart) twice; open-only = open-only }
+    tick-showable = record { apart = shown-apart gs bs same (given-show .apart) twice; unfenced-only = open-only }
       where
         open-only : (x j : ℕ) → In x (shownAt j) → (x < m) × (bit f x ≡ false)
         open-only x j h =
             ⊎-elim
             (λ (k : In x (getD bs j [])).
             let u = lent-from ws sk o x n j k in
-            given-show .open-only x (u .0) (offer-in x (u .0) (u .2)))
-            (given-show .open-only x j)
+            given-show .unfenced-only x (u .0) (offer-in x (u .0) (u .2)))
+            (given-show .unfenced-only x j)
             (shown-in gs bs same x j h)
 
     -- each place: what it borrows, and what no place borrows of its own
@@ -258,8 +258,8 @@ module _ (r : Rule) (ws : List ℕ) (c : ℕ → Bool) (f m : ℕ) (sk : ℕ →
                   let b = ltb-false p q l in
                   tick-showable .apart x q p (omega arith) j i
 
-      pub tick-sets-open : SetsUnfenced f m sets
-      tick-sets-open p x h = tick-showable .open-only x p (sym (has p x) ∙ h)
+      pub tick-sets-unfenced : SetsUnfenced f m sets
+      tick-sets-unfenced p x h = tick-showable .unfenced-only x p (sym (has p x) ∙ h)
 
       may : (p : ℕ) → ¬ (o p ≡ []) → some (o p) ≡ true
       may p e = not-false-true (some (o p)) (λ z. e (none-some (o p) z))

@@ -36,4 +36,4 @@ pub record ShownAs (reserved borrowed : List ℕ) (count : ℕ) (sets : List ℕ
 -- a row of m cores with this fence can show these lists: no core is in two of them, and each is below m and outside the fence
 pub record Showable (fence m : ℕ) (gs : List (List ℕ)) : Type 0 where
   pub apart : (c i j : ℕ) → i < j → memb c (getD gs i []) ≡ true → memb c (getD gs j []) ≡ true → ⊥
-  pub open-only : (c j : ℕ) → memb c (getD gs j []) ≡ true → (c < m) × (bit fence c ≡ false)
+  pub unfenced-only : (c j : ℕ) → memb c (getD gs j []) ≡ true → (c < m) × (bit fence c ≡ false)

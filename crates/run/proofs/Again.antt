@@ -15,7 +15,7 @@ use Rattle.run.specs.declared.Answer.{Answer}
 use Rattle.run.specs.declared.Answer.the-variants.{Taken, Refused}
 use Rattle.run.specs.Run.{moved}
 use Rattle.run.specs.Answer.{answerMeaning}
-use Rattle.run.specs.Numbers.{RunOut, runOut, lateAt, firstLateIn, misemptiedIn, misreportedIn}
+use Rattle.run.specs.Numbers.{RunOut, runOut, lateAt, firstLateIn, wrongEmptiesIn, wrongReportsIn}
 use Rattle.run.specs.Advance.{advanceAnswer, advanceOf}
 use Rattle.run.proofs.First.{by-taken}
 use Rattle.run.proofs.Limits.{run-decides, passes-if, passes-runs, moved-passes}
@@ -26,7 +26,7 @@ unfolding advanceAnswer
 taken-passes r x e q = go (runOut r) (ltb (firstLateIn r) (r .count)) q
   where
     rest : Answer
-    rest = cond (misemptiedIn r e) (Refused 20 0) (cond (misreportedIn r e x) (Refused 16 0) Taken)
+    rest = cond (wrongEmptiesIn r e) (Refused 20 0) (cond (wrongReportsIn r e x) (Refused 16 0) Taken)
 
     go : (t u : Bool) → answerMeaning (cond t (Refused 14 0) (cond u (Refused 15 (suc (firstLateIn r))) rest)) ≡ model.taken → (t ≡ false) × (u ≡ false)
     go true u q = absurd (let z : _≡_ {A = ℕ} 0 1 = cc in omega arith)

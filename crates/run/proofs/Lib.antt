@@ -9,7 +9,7 @@ pub mod Past
 pub mod Again
 pub mod Exact
 pub mod WithdrawExact
-pub mod Together
+pub mod WithdrawSet
 pub mod StartPasses
 pub mod StartExact
 pub mod ByVerdict

@@ -19,17 +19,17 @@ use Rattle.run.specs.declared.Run.{Run}
 use Rattle.phase.specs.Phase.{PhaseIn, phaseIn}
 use Rattle.phase.specs.Task.{taskOf, pastEnd}
 use Rattle.run.specs.Run.{ruleIn, runTaskAt, evenAt, phaseAt, emptyAt, hasCores, hasLent, mapFirst, nextAt, moved, withdrawnIn}
-use Rattle.run.specs.Numbers.{wideIn, PlaceOut, RunOut, pastCount, placeOut, runOut, lateAt}
+use Rattle.run.specs.Numbers.{widthLimitIn, PlaceOut, RunOut, pastCount, placeOut, runOut, lateAt}
 use Rattle.run.proofs.SetTests.{past-decides, within-or}
 use Rattle.run.proofs.Lent.{lent-lends}
 use Rattle.run.proofs.Places.{mapFirst-at}
-use Rattle.phase.proofs.Phases.{phase-decides, seen-in}
+use Rattle.phase.proofs.Phases.{phase-decides, emptied-in}
 
 -- THE TEST OF 14
 
 pub place-decides : (r : Run) (p : ℕ) → Decides (placeOut r p) (PlaceOut r p)
 place-decides r p =
-    decides-or _ _ _ _ (task-decides (wideIn r) (runTaskAt r p))
+    decides-or _ _ _ _ (task-decides (widthLimitIn r) (runTaskAt r p))
     (decides-not _ _ (phase-decides (ruleIn r) (runTaskAt r p) (evenAt r p) (phaseAt r p)))
 
 pub run-decides : (r : Run) → Decides (runOut r) (RunOut r)
@@ -55,7 +55,7 @@ pub record Passes (r : Run) : Type 0 where
   pub rule : ruleOut (r .rule) ≡ false
   pub fence : fenceOut (r .cores) (r .fence) ≡ false
   pub withdrawn : pastCount (r .count) (r .withdrawn) ≡ false
-  pub tasks : (p : ℕ) → p < r .count → taskOut (wideIn r) (runTaskAt r p) ≡ false
+  pub tasks : (p : ℕ) → p < r .count → taskOut (widthLimitIn r) (runTaskAt r p) ≡ false
   pub phases : (p : ℕ) → p < r .count → PhaseIn (ruleIn r) (runTaskAt r p) (evenAt r p) (phaseAt r p)
 
 none-of :
@@ -76,11 +76,11 @@ passes-if r e = record {
   rule = none .2;
   fence = none .3;
   withdrawn = none .4;
-  tasks = λ p l. or-left-false (taskOut (wideIn r) (runTaskAt r p)) (not (phaseIn (ruleIn r) (runTaskAt r p) (evenAt r p) (phaseAt r p))) (at p l);
+  tasks = λ p l. or-left-false (taskOut (widthLimitIn r) (runTaskAt r p)) (not (phaseIn (ruleIn r) (runTaskAt r p) (evenAt r p) (phaseAt r p))) (at p l);
   phases = λ p l.
       phase-decides (ruleIn r) (runTaskAt r p) (evenAt r p) (phaseAt r p) .0
       (not-false (phaseIn (ruleIn r) (runTaskAt r p) (evenAt r p) (phaseAt r p))
-      (or-right-false (taskOut (wideIn r) (runTaskAt r p)) (not (phaseIn (ruleIn r) (runTaskAt r p) (evenAt r p) (phaseAt r p))) (at p l)));
+      (or-right-false (taskOut (widthLimitIn r) (runTaskAt r p)) (not (phaseIn (ruleIn r) (runTaskAt r p) (evenAt r p) (phaseAt r p))) (at p l)));
 }
   where
     none : (not (inRange 1 mostTasks (r .count)) ≡ false) × (coresOut (r .cores) ≡ false) × (ruleOut (r .rule) ≡ false) × (fenceOut (r .cores) (r .fence) ≡ false)
@@ -106,13 +106,13 @@ valid-if m τ e = inside-valid m τ (inside-test m τ e)
 -- A MOVE PASSES IT AGAIN
 
 -- a place with a task is a place of the array
-pub in-array : (r : Run) (p : ℕ) → taskOut (wideIn r) (runTaskAt r p) ≡ false → p < length (r .tasks)
+pub in-array : (r : Run) (p : ℕ) → taskOut (widthLimitIn r) (runTaskAt r p) ≡ false → p < length (r .tasks)
 in-array r p e = go (leb (length (r .tasks)) p) refl
   where
     go : (x : Bool) → leb (length (r .tasks)) p ≡ x → p < length (r .tasks)
     go false q = leb-false (length (r .tasks)) p q
     go true q =
-        absurd (true≢false (subst (λ (t : Task). taskOut (wideIn r) (taskOf t) ≡ false) (List·getD-eq-default (r .tasks) pastEnd (leb-true (length (r .tasks)) p q)) e))
+        absurd (true≢false (subst (λ (t : Task). taskOut (widthLimitIn r) (taskOf t) ≡ false) (List·getD-eq-default (r .tasks) pastEnd (leb-true (length (r .tasks)) p q)) e))
 
 -- the run one tick on passes 14, where no task is late
 pub moved-passes : (f : ℕ → Bool) (e : ℕ) (r : Run) → Passes r → ((p : ℕ) → p < r .count → lateAt r p ≡ false) → Passes (moved f e r)
@@ -126,7 +126,7 @@ moved-passes f e r h n = record {
   tasks = λ p l. rw (at p l) (h .tasks p l);
   phases = λ p l.
       subst (λ (t : Task). PhaseIn (ruleIn r) (taskOf t) (t .even) (t .phase)) (sym (at p l))
-      (seen-in (ruleIn r) (runTaskAt r p) (valid-if (wideIn r) (runTaskAt r p) (h .tasks p l)) (emptyAt r e p) (hasCores r e p) (hasLent r e p) (f p)
+      (emptied-in (ruleIn r) (runTaskAt r p) (valid-if (widthLimitIn r) (runTaskAt r p) (h .tasks p l)) (emptyAt r e p) (hasCores r e p) (hasLent r e p) (f p)
       (evenAt r p) (lent-lends r e p) (phaseAt r p) (h .phases p l) (n p l));
 }
   where

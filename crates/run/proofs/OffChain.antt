@@ -10,7 +10,7 @@ use Rattle.table.specs.Answer.{answerOf}
 use Rattle.table.specs.OffChain.{SameOnChain}
 use Rattle.table.proofs.OffChain.{off-chain-answer, off-chain-table}
 use Rattle.judge.specs.declared.Verdict.the-variants as judge
-use Rattle.judge.proofs.Promise.{refused-is}
+use Rattle.judge.proofs.Contract.{refused-is}
 use Rattle.judge.proofs.OffChain.{off-chain-verdict}
 use Rattle.run.specs.Answer.{byAnswer}
 use Rattle.run.specs.Start.{startedRun, emptyRun, byVerdict, startAnswer, startOf}

@@ -98,7 +98,7 @@ module _ (f m : ℕ) (gs : List (List ℕ)) where
   shown-owned s p c l = go (ltb c m) refl (bit f c) refl ∙ ap (λ (x : ℕ). eqb x (suc p)) (sym (byte-at c))
     where
       closed : ((c < m) × (bit f c ≡ false) → ⊥) → memb c (getD gs p []) ≡ false
-      closed n = not-true-false (memb c (getD gs p [])) (λ h. n (s .open-only c p h))
+      closed n = not-true-false (memb c (getD gs p [])) (λ h. n (s .unfenced-only c p h))
 
       go : (t : Bool) → ltb c m ≡ t → (u : Bool) → bit f c ≡ u → memb c (getD gs p []) ≡ eqb (cond t (cond u fencedByte (owner c 1 gs)) 0) (suc p)
       go true e true o = closed (λ x. false≢true (sym (x .1) ∙ o)) ∙ sym (ne-eqb fencedByte (suc p) (λ z. omega arith))

@@ -23,11 +23,11 @@ use Rattle.phase.specs.declared.Task.{Task}
 use Rattle.run.specs.declared.Run.{Run}
 use Rattle.run.specs.declared.Answer.{Answer}
 use Rattle.run.specs.declared.Answer.the-variants.{Taken, Refused}
-use Rattle.phase.specs.Phase.{claiming, holder, working, phaseIn, lateIn, released, seen}
+use Rattle.phase.specs.Phase.{claiming, holder, working, phaseIn, lateIn, released, phaseEmptied}
 use Rattle.phase.specs.Task.{taskOf, pastEnd, widthNow}
-use Rattle.run.specs.Run.{phaseAt, seenAt, widthsNow, grantsIn, hasCores, offerIn, seeksIn, lentIn, hasLent, nextAt, moved, withdrawnIn}
+use Rattle.run.specs.Run.{phaseAt, emptiedAt, widthsNow, grantsIn, hasCores, offerIn, seeksIn, lentIn, hasLent, nextAt, moved, withdrawnIn}
 use Rattle.run.specs.Answer.{byAnswer}
-use Rattle.run.specs.Numbers.{placeOut, runOut, pastCount, strangerIn, lateAt, firstLateIn, emptiableAt, misemptiedIn, reportableAt, misreportedIn}
+use Rattle.run.specs.Numbers.{placeOut, runOut, pastCount, unknownIn, lateAt, firstLateIn, emptiableAt, wrongEmptiesIn, reportableAt, wrongReportsIn}
 use Rattle.run.specs.Withdraw.{withdrawAnswer, withdrawOf, withdrawAllOf}
 use Rattle.run.specs.Advance.{advanceAnswer, advanceOf}
 use Rattle.run.specs.Row.{rowAnswer, bytesIn, rowOf}
@@ -67,9 +67,9 @@ module _ (rule cores fence withdrawn count : ℕ) (ts us : List Task) (same : ta
   unfolding firstLateIn
   same-late = least-same count (lateAt one) (lateAt other) (λ p l. ap (λ (t : Task). lateIn (t .deadline) (t .phase)) (same-at p l))
 
-  same-misemptied : (e : ℕ) → misemptiedIn one e ≡ misemptiedIn other e
-  unfolding misemptiedIn
-  same-misemptied e =
+  same-wrong-empties : (e : ℕ) → wrongEmptiesIn one e ≡ wrongEmptiesIn other e
+  unfolding wrongEmptiesIn
+  same-wrong-empties e =
       any-same e (λ p. bit e p && not (emptiableAt one p)) (λ p. bit e p && not (emptiableAt other p))
       (λ p l. ap (λ (m : Bool). bit e p && not m) (emptiable p))
     where
@@ -84,21 +84,21 @@ module _ (rule cores fence withdrawn count : ℕ) (ts us : List Task) (same : ta
 
   -- with the empty jobs e
   module _ (e : ℕ) where
-    same-seen : (p : ℕ) → p < count → seenAt one e p ≡ seenAt other e p
-    same-seen p l = ap (λ (t : Task). seen (ruleOf rule) (bit e p || bit withdrawn p) (t .phase)) (same-at p l)
+    same-seen : (p : ℕ) → p < count → emptiedAt one e p ≡ emptiedAt other e p
+    same-seen p l = ap (λ (t : Task). phaseEmptied (ruleOf rule) (bit e p || bit withdrawn p) (t .phase)) (same-at p l)
 
     same-grants : grantsIn one e ≡ grantsIn other e
     unfolding grantsIn
     same-grants =
-        ap (λ (l : List Task). grants (ruleOf rule) (claimants (map widthNow l) (λ p. claiming (seenAt one e p))) (unfenced fence cores)) same
+        ap (λ (l : List Task). grants (ruleOf rule) (claimants (map widthNow l) (λ p. claiming (emptiedAt one e p))) (unfenced fence cores)) same
         ∙ ap (λ (bs : List Claimant). grants (ruleOf rule) bs (unfenced fence cores))
-        (claimants-same (widthsNow other) (λ p. claiming (seenAt one e p)) (λ p. claiming (seenAt other e p))
+        (claimants-same (widthsNow other) (λ p. claiming (emptiedAt one e p)) (λ p. claiming (emptiedAt other e p))
         (λ p l. ap claiming (same-seen p (omega (arith, length-map (take count us) widthNow, length-take count us)))))
 
     same-seeks : (p : ℕ) → seeksIn one e p ≡ seeksIn other e p
     unfolding seeksIn
     same-seeks p =
-        same-and (ltb p count) (ltb p count) (working (seenAt one e p) && not (hasCores one e p)) (working (seenAt other e p) && not (hasCores other e p)) refl
+        same-and (ltb p count) (ltb p count) (working (emptiedAt one e p) && not (hasCores one e p)) (working (emptiedAt other e p) && not (hasCores other e p)) refl
         (λ l. rw (same-grants, same-seen p (ltb-true p count l)))
 
     same-offer : (p : ℕ) → offerIn one e p ≡ offerIn other e p
@@ -116,27 +116,27 @@ module _ (rule cores fence withdrawn count : ℕ) (ts us : List Task) (same : ta
 
     same-reportable : (p : ℕ) → reportableAt one e p ≡ reportableAt other e p
     same-reportable p =
-        same-and (ltb p count) (ltb p count) (working (seenAt one e p) && (hasCores one e p || hasLent one e p))
-        (working (seenAt other e p) && (hasCores other e p || hasLent other e p)) refl
+        same-and (ltb p count) (ltb p count) (working (emptiedAt one e p) && (hasCores one e p || hasLent one e p))
+        (working (emptiedAt other e p) && (hasCores other e p || hasLent other e p)) refl
         (λ l. rw (same-grants, same-lent, same-seen p (ltb-true p count l)))
 
-    same-misreported : (x : ℕ) → misreportedIn one e x ≡ misreportedIn other e x
-    unfolding misreportedIn
-    same-misreported x =
+    same-wrong-reports : (x : ℕ) → wrongReportsIn one e x ≡ wrongReportsIn other e x
+    unfolding wrongReportsIn
+    same-wrong-reports x =
         any-same x (λ p. bit x p && not (reportableAt one e p)) (λ p. bit x p && not (reportableAt other e p))
         (λ p l. ap (λ (m : Bool). bit x p && not m) (same-reportable p))
 
     same-advance : (x : ℕ) → advanceAnswer one x e ≡ advanceAnswer other x e
     unfolding advanceAnswer
-    same-advance x = rw (same-out, same-late, same-misemptied e, same-misreported x)
+    same-advance x = rw (same-out, same-late, same-wrong-empties e, same-wrong-reports x)
 
     same-row : rowOf one e ≡ rowOf other e
     unfolding rowOf rowAnswer bytesIn
-    same-row = rw (same-out, same-late, same-misemptied e, same-grants, same-lent)
+    same-row = rw (same-out, same-late, same-wrong-empties e, same-grants, same-lent)
 
     same-sets : setsOf one e ≡ setsOf other e
     unfolding setsOf rowAnswer setsIn
-    same-sets = rw (same-out, same-late, same-misemptied e, same-grants, same-lent)
+    same-sets = rw (same-out, same-late, same-wrong-empties e, same-grants, same-lent)
 
     same-moved : (f : ℕ → Bool) → SameBelow (moved f e one) (moved f e other)
     unfolding moved
@@ -155,8 +155,8 @@ module _ (rule cores fence withdrawn count : ℕ) (ts us : List Task) (same : ta
       sets = same-sets;
       answer = unfold advanceOf in same-advance x;
       run = unfold advanceOf in rw (same-advance x) (go (advanceAnswer other x e));
-      withdraw-answer = λ p. unfold withdrawOf in same-withdraw (strangerIn one p);
-      withdraw-run = λ p. unfold withdrawOf in rw (same-withdraw (strangerIn one p)) (out (singleton p) (withdrawAnswer other (strangerIn one p)));
+      withdraw-answer = λ p. unfold withdrawOf in same-withdraw (unknownIn one p);
+      withdraw-run = λ p. unfold withdrawOf in rw (same-withdraw (unknownIn one p)) (out (singleton p) (withdrawAnswer other (unknownIn one p)));
       withdraw-all-answer = λ y. unfold withdrawAllOf in same-withdraw (pastCount count y);
       withdraw-all-run = λ y. unfold withdrawAllOf in rw (same-withdraw (pastCount count y)) (out y (withdrawAnswer other (pastCount count y)));
     }

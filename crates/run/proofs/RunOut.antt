@@ -17,9 +17,9 @@ use Rattle.phase.specs.declared.Phase.{Phase}
 use Rattle.phase.specs.declared.Phase.the-variants.{Coming, Working, Holding, Resting}
 use Rattle.run.specs.declared.Run.{Run}
 use Rattle.phase.specs.Phase.{PhaseIn}
-use Rattle.phase.specs.Headroom.{HasRoom}
+use Rattle.phase.specs.NoOverflow.{NoOverflow}
 use Rattle.run.specs.Run.{ruleIn, runTaskAt, evenAt, phaseAt}
-use Rattle.run.specs.Numbers.{wideIn, pastCount, placeOut, runOut}
+use Rattle.run.specs.Numbers.{widthLimitIn, pastCount, placeOut, runOut}
 use Rattle.run.proofs.Limits.{or-left-false, passes-if}
 
 -- ---- the head, then the places
@@ -67,7 +67,7 @@ module _ (r : Run) where
         (not-false (inRange 1 mostCores (r .cores)) (or-left-false (coresOut (r .cores)) rest rest-in)) .1
 
     -- so the unfenced cores, of 64 at most, are those of the core count
-    pub head-wide : unfencedCount (r .fence) (min (r .cores) mostCores) ≡ wideIn r
+    pub head-wide : unfencedCount (r .fence) (min (r .cores) mostCores) ≡ widthLimitIn r
     head-wide =
         let few = head-few-cores in
         let all : min (r .cores) mostCores ≡ r .cores = omega arith in
@@ -78,7 +78,7 @@ module _ (r : Run) where
 -- a phase within its limits has space, where O, D and T are at most 1,000,000
 room :
     (r : model.Rule) (τ : model.Task) (even : Bool) (ph : Phase) → τ .offset ≤ mostTime → τ .deadline ≤ mostTime → τ .period ≤ mostTime
-    → PhaseIn r τ even ph → HasRoom ph
+    → PhaseIn r τ even ph → NoOverflow ph
 room r τ even (Coming left) o d t h = h .0 .0
 room r τ even (Working z had reserved) o d t h = (omega arith, omega arith, omega arith)
 room r τ even (Holding z reserved) o d t h = (omega arith, omega arith)
@@ -92,8 +92,8 @@ module _ (r : Run) (e : runOut r ≡ false) where
   few-cores = from-decides 1 mostCores (r .cores) .0 (not-false (inRange 1 mostCores (r .cores)) (passes-if r e .cores)) .1
 
   -- each place has space for one more tick
-  pub has-room : (p : ℕ) → p < r .count → HasRoom (phaseAt r p)
+  pub has-room : (p : ℕ) → p < r .count → NoOverflow (phaseAt r p)
   has-room p l =
-      let i = inside-test (wideIn r) (runTaskAt r p) (passes-if r e .tasks p l) in
+      let i = inside-test (widthLimitIn r) (runTaskAt r p) (passes-if r e .tasks p l) in
       room (ruleIn r) (runTaskAt r p) (evenAt r p) (phaseAt r p) (i .offset-most) (omega (arith, i .deadline-from, i .period-from)) (i .period-from .1)
       (passes-if r e .phases p l)

@@ -16,7 +16,7 @@ use Rattle.judge.specs.declared.Verdict.{Verdict}
 use Rattle.judge.specs.declared.Verdict.the-variants.{Firm, Full, Miss, Refused}
 use Rattle.judge.specs.JudgeAnswer.{judged, verdictMeaning}
 use Rattle.judge.specs.Judged.{Judged, verdictOf}
-use Rattle.judge.proofs.Promise.{judged-exact}
+use Rattle.judge.proofs.Contract.{judged-exact}
 use Rattle.run.specs.declared.Run.{Run}
 use Rattle.run.specs.declared.Started.{Started}
 use Rattle.run.specs.Answer.{answerMeaning}

@@ -24,15 +24,15 @@ use Rattle.run.specs.declared.Answer.the-variants.{Taken, Refused}
 use Rattle.run.specs.declared.Advanced.{Advanced}
 use Rattle.run.specs.Run.{runTable, firmIn, withdrawnIn}
 use Rattle.run.specs.Answer.{answerMeaning, byAnswer}
-use Rattle.run.specs.Numbers.{RunOut, WithdrawApplies, not-a-run, twenty-one, twenty-two, NoSuchPosition, pastCount, runOut, strangerIn}
+use Rattle.run.specs.Numbers.{RunOut, WithdrawApplies, not-a-run, twenty-one, twenty-two, NoSuchPosition, pastCount, runOut, unknownIn}
 use Rattle.run.specs.Withdraw.{withdrawAnswer, withdrawOf, WithdrawnOf, WithdrawOf}
 use Rattle.run.proofs.First.{by-taken, by-refused, Right, refused-exact, taken-exact}
 use Rattle.run.proofs.SetTests.{within-only}
 use Rattle.run.proofs.Limits.{run-decides, passes-if, passes-runs, withdrawn-passes}
 
 -- the test of 22
-pub stranger-decides : (r : Run) (p : ℕ) → Decides (strangerIn r p) (NoSuchPosition r p)
-stranger-decides r p = decides-or _ _ _ _ (decides-eq p 0) (decides-lt (r .count) p)
+pub unknown-decides : (r : Run) (p : ℕ) → Decides (unknownIn r p) (NoSuchPosition r p)
+unknown-decides r p = decides-or _ _ _ _ (decides-eq p 0) (decides-lt (r .count) p)
 
 -- THE FIRST NUMBER, where the test t decides whether there is an unknown position
 module _ (r : Run) (t : Bool) (stranger : Type 0) (d : Decides t stranger) where
@@ -121,25 +121,25 @@ module _ (r : Run) (t : Bool) (stranger : Type 0) (d : Decides t stranger) (x : 
 -- ONE POSITION
 
 -- a position that is known is within the count
-pub known-from : (r : Run) (p : ℕ) → strangerIn r p ≡ false → (1 ≤ p) × (p ≤ r .count)
+pub known-from : (r : Run) (p : ℕ) → unknownIn r p ≡ false → (1 ≤ p) × (p ≤ r .count)
 known-from r p e =
-    let no : ¬ NoSuchPosition r p = fails (strangerIn r p) (NoSuchPosition r p) (stranger-decides r p) e in
+    let no : ¬ NoSuchPosition r p = fails (unknownIn r p) (NoSuchPosition r p) (unknown-decides r p) e in
     let first : ¬ (p ≡ 0) = λ z. no (inl z) in
     let last : ¬ (r .count < p) = λ z. no (inr z) in
     (omega arith, omega arith)
 
-known-within : (r : Run) (p : ℕ) → strangerIn r p ≡ false → pastCount (r .count) (model.singleton p) ≡ false
+known-within : (r : Run) (p : ℕ) → unknownIn r p ≡ false → pastCount (r .count) (model.singleton p) ≡ false
 known-within r p e = let k = known-from r p e in within-only (r .count) p (k .0) (k .1)
 
 -- so a taken one's is
-pub taken-within : (r : Run) (p : ℕ) → withdrawAnswer r (strangerIn r p) ≡ Taken → pastCount (r .count) (model.singleton p) ≡ false
-taken-within r p e = known-within r p (taken-parts r (strangerIn r p) (ap answerMeaning e) .2)
+pub taken-within : (r : Run) (p : ℕ) → withdrawAnswer r (unknownIn r p) ≡ Taken → pastCount (r .count) (model.singleton p) ≡ false
+taken-within r p e = known-within r p (taken-parts r (unknownIn r p) (ap answerMeaning e) .2)
 
 -- a value that is the withdrawal's by definition meets the contract of a withdrawal
 pub withdraw-of : (r : Run) (p : ℕ) (a : Advanced) → a ≡ withdrawOf r p → WithdrawOf r p a
 withdraw-of r p a q = rw q record {
   value = refl;
-  exact = unfold withdrawOf in withdrawn-of r (strangerIn r p) (NoSuchPosition r p) (stranger-decides r p) (model.singleton p) (λ o e. known-within r p e);
+  exact = unfold withdrawOf in withdrawn-of r (unknownIn r p) (NoSuchPosition r p) (unknown-decides r p) (model.singleton p) (λ o e. known-within r p e);
 }
 
 -- what is taken is in the set, so that it is not added again
@@ -172,11 +172,11 @@ twice x r = ap (with-set r) (or-again (r .withdrawn) x)
 -- THE LAW: withdrawing a position again gets the same answer and leaves the same run
 pub withdraw-twice : (r : Run) (p : ℕ) → withdrawOf (withdrawOf r p .run) p ≡ withdrawOf r p
 unfolding withdrawOf withdrawnIn
-withdraw-twice r p = go (withdrawAnswer r (strangerIn r p)) refl
+withdraw-twice r p = go (withdrawAnswer r (unknownIn r p)) refl
   where
     next : Run
     next = withdrawnIn (model.singleton p) r
 
-    go : (a : Answer) → withdrawAnswer r (strangerIn r p) ≡ a → withdrawOf (byAnswer a next r) p ≡ record { answer = a; run = byAnswer a next r }
-    go Taken e = rw (same-answer r (strangerIn r p) (model.singleton p) e (taken-within r p e), twice (model.singleton p) r)
+    go : (a : Answer) → withdrawAnswer r (unknownIn r p) ≡ a → withdrawOf (byAnswer a next r) p ≡ record { answer = a; run = byAnswer a next r }
+    go Taken e = rw (same-answer r (unknownIn r p) (model.singleton p) e (taken-within r p e), twice (model.singleton p) r)
     go (Refused n q) e = rw e

@@ -15,15 +15,15 @@ use Rattle.run.specs.declared.Answer.the-variants.{Taken, Refused}
 use Rattle.run.specs.declared.Advanced.{Advanced}
 use Rattle.run.specs.Run.{moved}
 use Rattle.run.specs.Answer.{answerMeaning, byAnswer}
-use Rattle.run.specs.Numbers.{RunOut, AdvanceApplies, runOut, firstLateIn, misemptiedIn, misreportedIn}
+use Rattle.run.specs.Numbers.{RunOut, AdvanceApplies, runOut, firstLateIn, wrongEmptiesIn, wrongReportsIn}
 
 -- 14, then 15 with the lowest late position, then 20, then 16; else taken
 unfoldable pub advanceAnswer : Run → ℕ → ℕ → Answer
 advanceAnswer r x e =
     cond (runOut r) (Refused 14 0)
     (cond (ltb (firstLateIn r) (r .count)) (Refused 15 (suc (firstLateIn r)))
-    (cond (misemptiedIn r e) (Refused 20 0)
-    (cond (misreportedIn r e x) (Refused 16 0) Taken)))
+    (cond (wrongEmptiesIn r e) (Refused 20 0)
+    (cond (wrongReportsIn r e x) (Refused 16 0) Taken)))
 
 -- the run one tick on; where refused, the run as given
 unfoldable pub advanceOf : Run → ℕ → ℕ → Advanced

@@ -16,17 +16,17 @@ use Rattle.phase.specs.declared.Phase.the-variants.{Working}
 use Rattle.run.specs.declared.Run.{Run}
 use Rattle.phase.specs.Phase.{PhaseIn, working, lateIn, released}
 use Rattle.phase.specs.Task.{outIn}
-use Rattle.run.specs.Run.{ruleIn, placeAt, runTaskAt, evenAt, phaseAt, runTable, seenAt, grantsIn, hasCores, borrowedIn, hasLent}
+use Rattle.run.specs.Run.{ruleIn, placeAt, runTaskAt, evenAt, phaseAt, runTable, emptiedAt, grantsIn, hasCores, borrowedIn, hasLent}
 
 -- THE CONDITION OF EACH NUMBER
 
 -- the largest width that fits: the number of unfenced cores
-abbrev pub wideIn : Run → ℕ
-wideIn r = unfencedCount (r .fence) (r .cores)
+abbrev pub widthLimitIn : Run → ℕ
+widthLimitIn r = unfencedCount (r .fence) (r .cores)
 
 -- the task at place p breaks 7 or 8, or its phase or its parity is outside the limits
 abbrev pub PlaceOut : Run → ℕ → Type 0
-PlaceOut r p = (WidthOut (wideIn r) (runTaskAt r p) ⊎ TimesOut (runTaskAt r p)) ⊎ (¬ PhaseIn (ruleIn r) (runTaskAt r p) (evenAt r p) (phaseAt r p))
+PlaceOut r p = (WidthOut (widthLimitIn r) (runTaskAt r p) ⊎ TimesOut (runTaskAt r p)) ⊎ (¬ PhaseIn (ruleIn r) (runTaskAt r p) (evenAt r p) (phaseAt r p))
 
 -- a set contains a place at or past the count
 abbrev pub PastCount : ℕ → ℕ → Type 0
@@ -48,16 +48,16 @@ abbrev pub PlaceLate : Run → ℕ → Type 0
 PlaceLate r p = (had reserved : ℕ) × (phaseAt r p ≡ Working (runTaskAt r p .deadline) had reserved)
 
 -- the bit of place p is set in the empties, and p is past the count or its task is not Working at (0,0)
-abbrev pub Misempties : Run → ℕ → ℕ → Type 0
-Misempties r e p = (bit e p ≡ true) × ((r .count ≤ p) ⊎ (¬ ((reserved : ℕ) × (phaseAt r p ≡ Working 0 0 reserved))))
+abbrev pub WrongEmpties : Run → ℕ → ℕ → Type 0
+WrongEmpties r e p = (bit e p ≡ true) × ((r .count ≤ p) ⊎ (¬ ((reserved : ℕ) × (phaseAt r p ≡ Working 0 0 reserved))))
 
 -- the task at place p is Working as cores are chosen: a task whose job is empty is not
 abbrev pub PlaceWorking : Run → ℕ → ℕ → Type 0
-PlaceWorking r e p = (z had reserved : ℕ) × (seenAt r e p ≡ Working z had reserved)
+PlaceWorking r e p = (z had reserved : ℕ) × (emptiedAt r e p ≡ Working z had reserved)
 
 -- the bit of place p is set in the reports, and p is past the count, or its task isn't Working, or is neither given cores in this tick nor borrows any
-abbrev pub Misreports : Run → ℕ → ℕ → ℕ → Type 0
-Misreports r e x p =
+abbrev pub WrongReports : Run → ℕ → ℕ → ℕ → Type 0
+WrongReports r e x p =
     (bit x p ≡ true) × ((r .count ≤ p) ⊎ ((¬ PlaceWorking r e p) ⊎ ((getD (grantsIn r e) p [] ≡ []) × (borrowedIn r e p ≡ []))))
 
 -- number n applies to a row, or sets, asked of the run with empties e, with position p
@@ -68,16 +68,16 @@ pub data RowApplies (r : Run) (e : ℕ) : ℕ → ℕ → Type 0 where
   -- 15. Row, sets or advance: some task is Working at z = D.
   fifteen : (p : ℕ) → p < r .count → PlaceLate r p → RowApplies r e 15 (suc p)
   -- 20. Row, sets or advance: an empty bit past the count or for a task not Working at (0,0).
-  twenty : (p : ℕ) → Misempties r e p → RowApplies r e 20 0
+  twenty : (p : ℕ) → WrongEmpties r e p → RowApplies r e 20 0
 
 -- number n applies to an advance of the run with reports x and empties e, with position p
 pub data AdvanceApplies (r : Run) (x e : ℕ) : ℕ → ℕ → Type 0 where
   -- 14, 15 and 20
   as-row : (n p : ℕ) → RowApplies r e n p → AdvanceApplies r x e n p
   -- 16. Advance: a bit is set for a position past the count, or for a task that isn't Working or gets no cores in this tick, its own or lent ones.
-  sixteen : (p : ℕ) → Misreports r e x p → AdvanceApplies r x e 16 0
+  sixteen : (p : ℕ) → WrongReports r e x p → AdvanceApplies r x e 16 0
 
--- number n applies to a withdrawal from the run, with position p; `stranger` is the statement that one of its positions is not in the run
+-- number n applies to a withdrawal from the run, with position p; `unknownPosition` is the statement that one of its positions is not in the run
 pub data WithdrawApplies (r : Run) (stranger : Type 0) : ℕ → ℕ → Type 0 where
   -- 14, as of row, sets and advance
   not-a-run : RunOut r → WithdrawApplies r stranger 14 0
@@ -96,13 +96,13 @@ NoSuchPosition r p = (p ≡ 0) ⊎ (r .count < p)
 unfoldable pub pastCount : ℕ → ℕ → Bool
 pastCount count x = leb (2 ^ count) x
 
--- no such position (`stranger-decides`)
-abbrev pub strangerIn : Run → ℕ → Bool
-strangerIn r p = eqb p 0 || ltb (r .count) p
+-- no such position (`unknown-decides`)
+abbrev pub unknownIn : Run → ℕ → Bool
+unknownIn r p = eqb p 0 || ltb (r .count) p
 
 -- 14 of one place (`place-decides`)
 abbrev pub placeOut : Run → ℕ → Bool
-placeOut r p = outIn (wideIn r) (ruleIn r) (placeAt r p)
+placeOut r p = outIn (widthLimitIn r) (ruleIn r) (placeAt r p)
 
 -- 14 (`run-decides`)
 unfoldable pub runOut : Run → Bool
@@ -126,14 +126,14 @@ firstLateIn r = least (r .count) (lateAt r)
 abbrev pub emptiableAt : Run → ℕ → Bool
 emptiableAt r p = ltb p (r .count) && released (phaseAt r p)
 
--- 20: some bit is set that may not be (a set has no bit from its number up: `misemptied-decides`)
-unfoldable pub misemptiedIn : Run → ℕ → Bool
-misemptiedIn r e = any e (λ p. bit e p && not (emptiableAt r p))
+-- 20: some bit is set that may not be (a set has no bit from its number up: `wrong-empties-decides`)
+unfoldable pub wrongEmptiesIn : Run → ℕ → Bool
+wrongEmptiesIn r e = any e (λ p. bit e p && not (emptiableAt r p))
 
 -- the task at place p may be reported: it is Working, and is given or borrows cores in this tick
 abbrev pub reportableAt : Run → ℕ → ℕ → Bool
-reportableAt r e p = ltb p (r .count) && (working (seenAt r e p) && (hasCores r e p || hasLent r e p))
+reportableAt r e p = ltb p (r .count) && (working (emptiedAt r e p) && (hasCores r e p || hasLent r e p))
 
--- 16: some bit is set that may not be (`misreported-decides`)
-unfoldable pub misreportedIn : Run → ℕ → ℕ → Bool
-misreportedIn r e x = any x (λ p. bit x p && not (reportableAt r e p))
+-- 16: some bit is set that may not be (`wrong-reports-decides`)
+unfoldable pub wrongReportsIn : Run → ℕ → ℕ → Bool
+wrongReportsIn r e x = any x (λ p. bit x p && not (reportableAt r e p))

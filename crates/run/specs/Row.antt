@@ -17,14 +17,14 @@ use Rattle.run.specs.declared.Answer.the-variants.{Taken, Refused}
 use Rattle.run.specs.declared.Row.{Row}
 use Rattle.run.specs.Run.{shownIn}
 use Rattle.run.specs.Answer.{answerMeaning, byAnswer, in64}
-use Rattle.run.specs.Numbers.{RowApplies, runOut, firstLateIn, misemptiedIn}
+use Rattle.run.specs.Numbers.{RowApplies, runOut, firstLateIn, wrongEmptiesIn}
 
 -- 14, then 15 with the lowest late position, then 20; else taken
 unfoldable pub rowAnswer : Run → ℕ → Answer
 rowAnswer r e =
     cond (runOut r) (Refused 14 0)
     (cond (ltb (firstLateIn r) (r .count)) (Refused 15 (suc (firstLateIn r)))
-    (cond (misemptiedIn r e) (Refused 20 0) Taken))
+    (cond (wrongEmptiesIn r e) (Refused 20 0) Taken))
 
 -- the row of the present tick in 64 bytes
 unfoldable pub bytesIn : Run → ℕ → List ℕ

@@ -14,7 +14,7 @@ use Rattle.model.specs.Search.{bit}
 use Rattle.phase.specs.declared.Phase.{Phase}
 use Rattle.phase.specs.declared.Task.{Task}
 use Rattle.run.specs.declared.Run.{Run}
-use Rattle.phase.specs.Phase.{claiming, working, holder, seen}
+use Rattle.phase.specs.Phase.{claiming, working, holder, phaseEmptied}
 use Rattle.phase.specs.Task.{taskOf, pastEnd, widthNow, nextTask}
 
 -- the run's rule
@@ -52,14 +52,14 @@ abbrev pub emptyAt : Run → ℕ → ℕ → Bool
 emptyAt r e p = bit e p || bit (r .withdrawn) p
 
 -- the phase of place p as cores are chosen
-abbrev pub seenAt : Run → ℕ → ℕ → Phase
-seenAt r e p = seen (ruleIn r) (emptyAt r e p) (phaseAt r p)
+abbrev pub emptiedAt : Run → ℕ → ℕ → Phase
+emptiedAt r e p = phaseEmptied (ruleIn r) (emptyAt r e p) (phaseAt r p)
 
 -- THE CORES OF A TICK
 
 -- the tasks that work or hold claim; the rule gives the cores of each in the present tick, from those outside the fence; under rule 4 it reserves them
 unfoldable pub grantsIn : Run → ℕ → List (List ℕ)
-grantsIn r e = grants (ruleIn r) (claimants (widthsNow r) (λ p. claiming (seenAt r e p))) (unfenced (r .fence) (r .cores))
+grantsIn r e = grants (ruleIn r) (claimants (widthsNow r) (λ p. claiming (emptiedAt r e p))) (unfenced (r .fence) (r .cores))
 
 -- the task at place p is given cores in this tick
 abbrev pub hasCores : Run → ℕ → ℕ → Bool
@@ -67,11 +67,11 @@ hasCores r e p = some (getD (grantsIn r e) p [])
 
 -- the cores that place p lends (request 109): under rule 4 those reserved for a holder
 unfoldable pub offerIn : Run → ℕ → ℕ → List ℕ
-offerIn r e p = cond (lends (ruleIn r) && holder (seenAt r e p)) (getD (grantsIn r e) p []) []
+offerIn r e p = cond (lends (ruleIn r) && holder (emptiedAt r e p)) (getD (grantsIn r e) p []) []
 
 -- place p seeks cores: its task is Working, and is given none
 unfoldable pub seeksIn : Run → ℕ → ℕ → Bool
-seeksIn r e p = ltb p (r .count) && (working (seenAt r e p) && not (hasCores r e p))
+seeksIn r e p = ltb p (r .count) && (working (emptiedAt r e p) && not (hasCores r e p))
 
 -- what each place borrows, once every place has lent, by priority; only rule 4 lends (`lent-lends`)
 unfoldable pub lentIn : Run → ℕ → List (List ℕ)

@@ -9,7 +9,7 @@ use Rattle.phase.specs.Phase.{working}
 use Rattle.run.specs.declared.Run.{Run}
 use Rattle.run.specs.declared.Answer.the-variants.{Taken}
 use Rattle.run.specs.declared.tick.Tick.{Tick}
-use Rattle.run.specs.Run.{hasCores, hasLent, seenAt}
+use Rattle.run.specs.Run.{hasCores, hasLent, emptiedAt}
 use Rattle.run.specs.Sets.{setsOf}
 
 pub record TickOf (r : Run) (e : ℕ) (t : Tick) : Type 0 where
@@ -17,4 +17,4 @@ pub record TickOf (r : Run) (e : ℕ) (t : Tick) : Type 0 where
   pub shows : t .sets ≡ setsOf r e .sets
   pub gives : t .answer ≡ Taken → (p : ℕ) → bit (t .given) p ≡ hasCores r e p
   pub lends : t .answer ≡ Taken → (p : ℕ) → bit (t .lent) p ≡ hasLent r e p
-  pub works : t .answer ≡ Taken → (p : ℕ) → bit (t .working) p ≡ ltb p (r .count) && working (seenAt r e p)
+  pub works : t .answer ≡ Taken → (p : ℕ) → bit (t .working) p ≡ ltb p (r .count) && working (emptiedAt r e p)

@@ -15,7 +15,7 @@ use Rattle.run.specs.declared.Answer.the-variants.{Taken, Refused}
 use Rattle.run.specs.declared.Advanced.{Advanced}
 use Rattle.run.specs.Run.{firmIn, withdrawnIn}
 use Rattle.run.specs.Answer.{answerMeaning, byAnswer}
-use Rattle.run.specs.Numbers.{RunOut, WithdrawApplies, NoSuchPosition, PastCount, runOut, strangerIn, pastCount}
+use Rattle.run.specs.Numbers.{RunOut, WithdrawApplies, NoSuchPosition, PastCount, runOut, unknownIn, pastCount}
 
 -- 14, then 21, then 22 where one of its positions is not in the run; else taken. 15 is not tested
 unfoldable pub withdrawAnswer : Run → Bool → Answer
@@ -24,8 +24,8 @@ withdrawAnswer r stranger = cond (runOut r) (Refused 14 0) (cond (firmIn r) (con
 -- the run with position p withdrawn; where refused, the run as given
 unfoldable pub withdrawOf : Run → ℕ → Advanced
 withdrawOf r p = record {
-  answer = withdrawAnswer r (strangerIn r p);
-  run = byAnswer (withdrawAnswer r (strangerIn r p)) (withdrawnIn (model.singleton p) r) r;
+  answer = withdrawAnswer r (unknownIn r p);
+  run = byAnswer (withdrawAnswer r (unknownIn r p)) (withdrawnIn (model.singleton p) r) r;
 }
 
 -- the run with all positions of a set withdrawn; where refused, the run as given
@@ -35,7 +35,7 @@ withdrawAllOf r x = record {
   run = byAnswer (withdrawAnswer r (pastCount (r .count) x)) (withdrawnIn x r) r;
 }
 
--- what a withdrawal of the positions of set x from run r guarantees; `stranger` is the statement that one of them is not in the run
+-- what a withdrawal of the positions of set x from run r guarantees; `unknownPosition` is the statement that one of them is not in the run
 pub record WithdrawnOf (r : Run) (stranger : Type 0) (x : ℕ) (a : Advanced) : Type 0 where
   -- refused with n and p exactly if number n applies with position p and no earlier one does; taken exactly if none applies
   pub refused : (n p : ℕ) → (answerMeaning (a .answer) ≡ model.refused n p) ↔ FirstOf (WithdrawApplies r stranger) n p

@@ -46,7 +46,7 @@ impl Run {
             let place = i as u32;
             broken = bits::with(broken, place, task.out(rule, wide));
             late = bits::with(late, place, task.late());
-            let seen = phase.seen(rule, bits::has(emptied, place));
+            let seen = phase.emptied(rule, bits::has(emptied, place));
             claiming = bits::with(claiming, place, seen.claims());
             working = bits::with(working, place, seen.works());
             released = bits::with(released, place, phase.released());

@@ -12,7 +12,7 @@ mod bits; // bits.rt: sets of places
 mod bounds; // bounds.rt: number 14
 mod choosing; // choosing.rt: one pass over the tasks in the present tick
 mod moves; // moves.rt: one tick
-mod plain; // plain.rt: the tasks as a table has them
+mod parameters; // parameters.rt: the tasks as a table has them
 mod allocation; // allocation.rt: the positions that are given cores in a tick, those that borrow some, and the cores that are shown
 pub mod starts; // starts.rt: the run of a table as it starts
 mod tick; // tick.rt: the present tick, which row, sets and advance use

@@ -11,7 +11,7 @@ impl Run {
         requires { ⌜ self .count ≤ mostTasks ⌝ }
         ensures { λ r. ⌜ r ≡ firmIn self ⌝ }
     {
-        let tasks = self.plain();
+        let tasks = self.parameters();
         judge::is_firm(self.rule, tasks, self.count)
     }
 

@@ -142,13 +142,13 @@ module _ (ws : List ℕ) (bytes : ℕ) where
       go (answer.Refused n p) e = by-words n p (refusal-exact ws n p .0 e)
 
   -- what is right of an answer determines it
-  settled : (v : SentenceAnswer) → Right v
+  determined : (v : SentenceAnswer) → Right v
       → ((n p : ℕ) → (v ≡ Refused n p) ↔ First ws bytes n p) × ((n : ℕ) → (v ≡ Length n) ↔ (NoneApplies ws bytes × (n ≡ length (sentenceText (factsOf ws)))))
-  settled (Length m) r = (λ n p. (λ e. absurd (apart e), λ f. absurd (r .0 n p (f .0))), λ n. (λ e. let i : m ≡ n = cc in (r .0, sym i ∙ r .1), λ x. ap Length (r .1 ∙ sym (x .1))))
+  determined (Length m) r = (λ n p. (λ e. absurd (apart e), λ f. absurd (r .0 n p (f .0))), λ n. (λ e. let i : m ≡ n = cc in (r .0, sym i ∙ r .1), λ x. ap Length (r .1 ∙ sym (x .1))))
     where
       apart : {n p : ℕ} → Length m ≡ Refused n p → ⊥
       apart e = let z : _≡_ {A = ℕ} 0 1 = cc in omega arith
-  settled (Refused m q) r = (λ n p. (λ e. to n p e, λ f. from n p f), λ n. (λ e. absurd (apart e), λ x. absurd (x .0 m q (r .0))))
+  determined (Refused m q) r = (λ n p. (λ e. to n p e, λ f. from n p f), λ n. (λ e. absurd (apart e), λ x. absurd (x .0 m q (r .0))))
     where
       apart : {n : ℕ} → Refused m q ≡ Length n → ⊥
       apart e = let z : _≡_ {A = ℕ} 0 1 = cc in omega arith
@@ -161,8 +161,8 @@ module _ (ws : List ℕ) (bytes : ℕ) where
 
   -- refused with n and p exactly if number n applies with position p and no earlier one does
   pub refused-exact : (n p : ℕ) → (sentenceAnswerOf ws bytes ≡ Refused n p) ↔ First ws bytes n p
-  refused-exact n p = settled (sentenceAnswerOf ws bytes) right .0 n p
+  refused-exact n p = determined (sentenceAnswerOf ws bytes) right .0 n p
 
   -- and a length exactly if no number applies: the sentence's
   pub length-exact : (n : ℕ) → (sentenceAnswerOf ws bytes ≡ Length n) ↔ (NoneApplies ws bytes × (n ≡ length (sentenceText (factsOf ws))))
-  length-exact n = settled (sentenceAnswerOf ws bytes) right .1 n
+  length-exact n = determined (sentenceAnswerOf ws bytes) right .1 n

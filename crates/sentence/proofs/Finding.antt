@@ -35,12 +35,12 @@ facts-none bs r e h =
 
 module _ (bs : List ℕ) (front : Head) (read : HeadOf bs front) where
   -- where the head is not found
-  pub headless : front .found ≡ false → (f : Facts) → Expressible f → ¬ (bs ≡ sentenceText f)
-  headless q f s e = false≢true (sym q ∙ read .only f s e .0)
+  pub no-head : front .found ≡ false → (f : Facts) → Expressible f → ¬ (bs ≡ sentenceText f)
+  no-head q f s e = false≢true (sym q ∙ read .only f s e .0)
 
   -- where the parts are not found
-  pub partless : (back : Parts) → PartsOf bs (front .next) (front .position) back → back .found ≡ false → (f : Facts) → Expressible f → ¬ (bs ≡ sentenceText f)
-  partless back o q f s e =
+  pub no-parts : (back : Parts) → PartsOf bs (front .next) (front .position) back → back .found ≡ false → (f : Facts) → Expressible f → ¬ (bs ≡ sentenceText f)
+  no-parts back o q f s e =
       let u = read .only f s e in
       o .none q (f .others) (subst (λ (k : ℕ). Ascending 0 k (f .others)) (sym (u .1)) (s .others)) (u .2)
 

@@ -15,10 +15,10 @@ pub mod Adding
 pub mod Tallies
 pub mod Waiting
 pub mod Lending
-pub mod Standing
+pub mod CountingPass
 pub mod Misses
-pub mod Speaking
+pub mod WritingSentence
 pub mod Answers
-pub mod Short
-pub mod Promise
+pub mod LengthsWithin
+pub mod Contract
 pub mod Lines

@@ -7,7 +7,7 @@ use Prim.Native.String.{String}
 use lib.ListN.{drop}
 use Rattle.model.proofs.Computing.{computing}
 use Rattle.model.proofs.LineByLine.{LineByLine, by-line}
-use Rattle.table.specs.Words.{met, count, chain, tableOf}
+use Rattle.table.specs.Words.{visited, count, chain, tableOf}
 use Rattle.table.specs.Answer.{headerNumber, lastStep, endingOf, firstOut, byHorizon, byTasks, byWalk, answerOf}
 use Rattle.text.specs.Decimal.{decimal, lastDigits, digitCount, digitsWithin}
 use Rattle.text.specs.Output.{letters}
@@ -127,7 +127,7 @@ expected l = outcome (l .says) (letters (l .text))
 -- line by line
 each-line : LineByLine computed lines (map expected lines)
 unfolding sentenceAnswerOf byTable byBuffer sentenceText sentenceHead parts namedFrom decimal lastDigits digitCount digitsWithin factsIn missPlace ranWhileWaiting tally
-    answerOf byWalk byTasks byHorizon firstOut endingOf lastStep headerNumber tableOf chain count met computing
+    answerOf byWalk byTasks byHorizon firstOut endingOf lastStep headerNumber tableOf chain count visited computing
 each-line =
     let past-10 : LineByLine computed (drop 10 lines) (map expected (drop 10 lines)) =
     (refl, (refl, (refl, (refl, (refl, (refl, (refl, (refl, (refl, (refl, tt)))))))))) in

@@ -14,7 +14,7 @@ use Rattle.text.specs.Output.{letters}
 use Rattle.text.proofs.Decimals.{decimal-length, count-one, count-most}
 use Rattle.sentence.specs.Facts.{Facts, Part, MayFollow, Ascending, named, namedFrom}
 use Rattle.sentence.specs.Sentence.{wordField, parts, sentenceHead, sentenceText}
-use Rattle.sentence.specs.Limits.{CountsWithin, Limited, longestSentence}
+use Rattle.sentence.specs.Limits.{CountsWithin, FactsWithinLimits, longestSentence}
 
 -- a field's length
 field-length : (word : List ℕ) (n : ℕ) (rest : List ℕ) → length (wordField word n rest) ≡ length word + digitCount n + length rest
@@ -50,7 +50,7 @@ parts-short d had last position (x ∷ ps) rest p l r t c =
     omega arith
 
 -- the whole sentence
-pub sentence-short : (last : ℕ) (f : Facts) → Limited last f → length (sentenceText f) ≤ longestSentence last
+pub sentence-short : (last : ℕ) (f : Facts) → FactsWithinLimits last f → length (sentenceText f) ≤ longestSentence last
 unfolding sentenceText sentenceHead
 sentence-short last f h = go (ltb (f .had) 10) refl
   where

@@ -21,7 +21,7 @@ use Rattle.table.specs.Limits.{mostHorizon}
 use Rattle.text.specs.Decimal.{digitCount, digitsWithin}
 use Rattle.text.proofs.Decimals.{count-most}
 use Rattle.sentence.specs.Facts.{limit, Expressible}
-use Rattle.sentence.specs.Limits.{Limited, longestSentence}
+use Rattle.sentence.specs.Limits.{FactsWithinLimits, longestSentence}
 use Rattle.sentence.specs.Sentence.{sentenceText}
 use Rattle.sentence.specs.Waiting.{tally, bookAt, releaseOf, hadBy, waits, ranWhileWaiting, factsAt}
 use Rattle.sentence.proofs.Longest.{sentence-short, longest-now}
@@ -135,7 +135,7 @@ module _ (s : Table) (ok : AllValid s) (t p : ℕ) (f : FirstMiss s t (suc p)) w
       pub miss-within : (last : ℕ) → digitCount t ≤ digitCount last → t < limit → length (sentenceText (factsAt s t p)) ≤ longestSentence last
       miss-within last d lt = sentence-short last (factsAt s t p) limited
         where
-          limited : Limited last (factsAt s t p)
+          limited : FactsWithinLimits last (factsAt s t p)
           limited = record {
             position = omega (arith, below);
             tick = d;

@@ -55,24 +55,24 @@ parts-stop [] = refl
 parts-stop (p ∷ ps) = refl
 
 -- the numbers of the parts
-flat : List Part → List ℕ
-flat [] = []
-flat (p ∷ ps) = p .position ∷ p .count ∷ flat ps
+partNumbers : List Part → List ℕ
+partNumbers [] = []
+partNumbers (p ∷ ps) = p .position ∷ p .count ∷ partNumbers ps
 
-parts-numbers : (ps : List Part) → numbersFrom [] (parts ps (letters ".")) ≡ flat ps
-unfolding numbersFrom parts flat
+parts-numbers : (ps : List Part) → numbersFrom [] (parts ps (letters ".")) ≡ partNumbers ps
+unfolding numbersFrom parts partNumbers
 parts-numbers [] = refl
 parts-numbers (p ∷ ps) =
     number-first (p .position) (letters " ran " ++ (decimal (p .count) ++ parts ps (letters "."))) refl
     ∙ ap (λ (ns : List ℕ). p .position ∷ ns) (number-first (p .count) (parts ps (letters ".")) (parts-stop ps) ∙ ap (λ (ns : List ℕ). p .count ∷ ns) (parts-numbers ps))
 
-paired-flat : (ps : List Part) → paired (flat ps) ≡ ps
-unfolding paired flat
-paired-flat [] = refl
-paired-flat (p ∷ ps) = ap (λ (qs : List Part). p ∷ qs) (paired-flat ps)
+paired-part-numbers : (ps : List Part) → paired (partNumbers ps) ≡ ps
+unfolding paired partNumbers
+paired-part-numbers [] = refl
+paired-part-numbers (p ∷ ps) = ap (λ (qs : List Part). p ∷ qs) (paired-part-numbers ps)
 
 -- the numbers of a sentence
-sentence-numbers : (f : Facts) → numbersFrom [] (sentenceText f) ≡ f .position ∷ f .tick ∷ f .had ∷ f .length ∷ flat (f .others)
+sentence-numbers : (f : Facts) → numbersFrom [] (sentenceText f) ≡ f .position ∷ f .tick ∷ f .had ∷ f .length ∷ partNumbers (f .others)
 unfolding sentenceText sentenceHead numbersFrom
 sentence-numbers f =
     let rest : List ℕ = parts (f .others) (letters ".") in
@@ -90,7 +90,7 @@ pub numbers-sentence : (f : Facts) → candidate (sentenceText f) ≡ f
 unfolding candidate
 numbers-sentence f =
     ap arranged (sentence-numbers f)
-    ∙ ap (λ (ps : List Part). record { position = f .position; tick = f .tick; had = f .had; length = f .length; others = ps }) (paired-flat (f .others))
+    ∙ ap (λ (ps : List Part). record { position = f .position; tick = f .tick; had = f .had; length = f .length; others = ps }) (paired-part-numbers (f .others))
 
 -- two different sets of facts never give the same sentence
 pub sentence-injective : (f g : Facts) → sentenceText f ≡ sentenceText g → f ≡ g

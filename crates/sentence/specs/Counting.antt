@@ -20,5 +20,5 @@ abbrev pub above : ℕ → List ℕ → List ℕ
 above p ran = take p ran ++ replicate (mostTasks - p) 0
 
 -- each length C of the table that was loaded is within its limit
-abbrev pub Short : Loaded → Type 0
-Short t = (p : ℕ) → p < t .count → task (loadedTable t) p .length ≤ mostTime
+abbrev pub LengthsWithin : Loaded → Type 0
+LengthsWithin t = (p : ℕ) → p < t .count → task (loadedTable t) p .length ≤ mostTime

@@ -12,7 +12,7 @@ CountsWithin had most [] = Unit {0}
 CountsWithin had most (p ∷ ps) = (had + p .count ≤ most) × CountsWithin had most ps
 
 -- facts of a miss in a table whose ticks are at most `last`: C and a waiting job's deadline are at most 1,000,000
-pub record Limited (last : ℕ) (f : Facts) : Type 0 where
+pub record FactsWithinLimits (last : ℕ) (f : Facts) : Type 0 where
   pub position : f .position ≤ mostTasks
   pub tick : digitCount (f .tick) ≤ digitCount last
   pub short : f .had < f .length

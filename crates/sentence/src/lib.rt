@@ -6,7 +6,7 @@ ghost use Rattle.model.specs.Verdict.{FirstMiss};
 ghost use Rattle.judge.specs.Judged.{loadedTable, Fit};
 ghost use Rattle.sentence.specs.Parsed.{nothing, FactsOf};
 ghost use Rattle.sentence.specs.Waiting.{factsAt, factsIn};
-ghost use Rattle.sentence.specs.Counting.{Short};
+ghost use Rattle.sentence.specs.Counting.{LengthsWithin};
 ghost use Rattle.sentence.specs.SentenceAnswer.{byBuffer, byTable, sentenceMeaning, leftIn, SentenceOf};
 use judge::misses::Missed;
 use model::MOST_TASKS;
@@ -85,7 +85,7 @@ pub fn facts_of(bytes: &[u8]) -> ParsedFacts
 
 // Writes the sentence of a miss of a place at a tick at the front of the buffer, or returns 18 where it is too short.
 fn write_miss(table: Loaded, tick: u32, place: usize, buffer: &mut [u8]) -> SentenceAnswer
-    requires { ⌜ Fit table × FirstMiss (loadedTable table) tick (suc place) × (tick ≤ table .horizon) × Short table ⌝ }
+    requires { ⌜ Fit table × FirstMiss (loadedTable table) tick (suc place) × (tick ≤ table .horizon) × LengthsWithin table ⌝ }
     ensures { λ r. ⌜ (r ≡ byBuffer (factsAt (loadedTable table) tick place) (length (now (buffer .entry))))
         × (now (buffer .exit) ≡ leftIn (sentenceMeaning r) (factsAt (loadedTable table) tick place) (now (buffer .entry))) ⌝ }
 {
@@ -101,7 +101,7 @@ fn write_miss(table: Loaded, tick: u32, place: usize, buffer: &mut [u8]) -> Sent
 
 // The sentence of a table that passed: number 17 or 18, or its first miss.
 fn by_table(table: Loaded, buffer: &mut [u8]) -> SentenceAnswer
-    requires { ⌜ Fit table × Short table ⌝ }
+    requires { ⌜ Fit table × LengthsWithin table ⌝ }
     ensures { λ r. ⌜ (r ≡ byTable (loadedTable table) (length (now (buffer .entry)))) × (now (buffer .exit) ≡ leftIn (sentenceMeaning r) (factsIn (loadedTable table)) (now (buffer .entry))) ⌝ }
 {
     let missed = fast_judge::first_miss(table, table.horizon + 1);

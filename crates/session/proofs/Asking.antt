@@ -21,7 +21,7 @@ use Rattle.session.specs.declared.operations.Numbers.{Numbers}
 use Rattle.session.specs.declared.operations.Numbers.the-variants.{Bare, One, Two, Other}
 use Rattle.session.specs.declared.operations.Operation.{Operation}
 use Rattle.session.specs.declared.operations.Operation.the-variants.{Nothing}
-use Rattle.session.specs.Operation.{noneLong, wordsIn, oneOf, twoOf, numbersOf, numbersBehind, advanceBy, rowBy, setsBy, withdrawBy, withdrawAllBy}
+use Rattle.session.specs.Operation.{noneLong, wordsIn, oneOf, twoOf, numbersOf, numbersAfter, advanceBy, rowBy, setsBy, withdrawBy, withdrawAllBy}
 use Rattle.session.specs.Operation.{operationBy, operationOf}
 
 -- WORDS
@@ -96,8 +96,8 @@ numbers-two l h = ap numbersOf (words-more l h) ∙ numbers-last (take (lengthTo
 
 -- AFTER THE LETTER
 
-pub behind-none : (l : List ℕ) → length l ≡ 0 → Bare ≡ numbersBehind l
-unfolding numbersBehind
+pub behind-none : (l : List ℕ) → length l ≡ 0 → Bare ≡ numbersAfter l
+unfolding numbersAfter
 behind-none [] e = refl
 behind-none (b ∷ l) e = absurd (omega arith)
 
@@ -106,13 +106,13 @@ pub word-end : (l : List ℕ) (end : ℕ) → (length l ≡ 0 → ⊥) → end �
 word-end [] end n e = absurd (n refl)
 word-end (b ∷ l) end n e = omega (arith, e, mark-within space l)
 
-behind-space : (b : ℕ) (l : List ℕ) → b ≡ space → numbersOf (wordsIn l) ≡ numbersBehind (b ∷ l)
-unfolding numbersBehind
+behind-space : (b : ℕ) (l : List ℕ) → b ≡ space → numbersOf (wordsIn l) ≡ numbersAfter (b ∷ l)
+unfolding numbersAfter
 behind-space b l e = rw e
 
 pub behind-one :
     (l : List ℕ) (end : ℕ) → (length l ≡ 0 → ⊥) → getD l 0 0 ≡ space → end ≡ 1 + lengthTo space (drop 1 l) → end ≡ length l
-    → oneOf (parseNumber (take (end - 1) (drop 1 l))) ≡ numbersBehind l
+    → oneOf (parseNumber (take (end - 1) (drop 1 l))) ≡ numbersAfter l
 behind-one [] end n q e h = absurd (n refl)
 behind-one (b ∷ l) end n q e h =
     let whole : lengthTo space l ≡ length l = omega arith in
@@ -120,7 +120,7 @@ behind-one (b ∷ l) end n q e h =
 
 pub behind-two :
     (l : List ℕ) (end : ℕ) → (length l ≡ 0 → ⊥) → getD l 0 0 ≡ space → end ≡ 1 + lengthTo space (drop 1 l) → (end ≡ length l → ⊥)
-    → twoOf (parseNumber (take (end - 1) (drop 1 l))) (parseNumber (take (length l - (end + 1)) (drop (end + 1) l))) ≡ numbersBehind l
+    → twoOf (parseNumber (take (end - 1) (drop 1 l))) (parseNumber (take (length l - (end + 1)) (drop (end + 1) l))) ≡ numbersAfter l
 behind-two [] end n q e h = absurd (n refl)
 behind-two (b ∷ l) end n q e h =
     ap₂ (λ (x y : List ℕ). twoOf (parseNumber x) (parseNumber y)) (ap (λ (i : ℕ). take i l) first) (ap (λ (i : ℕ). take (length (b ∷ l) - i) (drop i (b ∷ l))) second ∙ rest)
@@ -138,8 +138,8 @@ behind-two (b ∷ l) end n q e h =
     rest : take (length (b ∷ l) - suc (suc (lengthTo space l))) (drop (suc (lengthTo space l)) l) ≡ drop (suc (lengthTo space l)) l
     rest = take-all (length (b ∷ l) - suc (suc (lengthTo space l))) (drop (suc (lengthTo space l)) l) (omega (arith, length-drop (suc (lengthTo space l)) l))
 
-pub behind-other : (l : List ℕ) → (length l ≡ 0 → ⊥) → (getD l 0 0 ≡ space → ⊥) → Other ≡ numbersBehind l
-unfolding numbersBehind
+pub behind-other : (l : List ℕ) → (length l ≡ 0 → ⊥) → (getD l 0 0 ≡ space → ⊥) → Other ≡ numbersAfter l
+unfolding numbersAfter
 behind-other [] n q = absurd (n refl)
 behind-other (b ∷ l) n q = rw (ne-eqb b space q)
 
@@ -174,10 +174,10 @@ unfolding operationOf
 asked-empty [] e = refl
 asked-empty (b ∷ l) e = absurd (omega arith)
 
-pub asked-by : (l : List ℕ) → (length l ≡ 0 → ⊥) → operationBy (getD l 0 0) (numbersBehind (take (length l - 1) (drop 1 l))) ≡ operationOf l
+pub asked-by : (l : List ℕ) → (length l ≡ 0 → ⊥) → operationBy (getD l 0 0) (numbersAfter (take (length l - 1) (drop 1 l))) ≡ operationOf l
 unfolding operationOf
 asked-by [] n = absurd (n refl)
-asked-by (b ∷ l) n = ap (λ (x : List ℕ). operationBy b (numbersBehind x)) (take-all (length (b ∷ l) - 1) l (omega arith))
+asked-by (b ∷ l) n = ap (λ (x : List ℕ). operationBy b (numbersAfter x)) (take-all (length (b ∷ l) - 1) l (omega arith))
 
 -- A LINE THAT IS TOO LONG
 
@@ -222,7 +222,7 @@ by-other b = go (eqb b 97) (eqb b 114) (eqb b 119) (eqb b 87) (eqb b 115)
 
 -- an operation has at most 23 bytes: a letter, and twice a space and ten digits
 pub long-none : (l : List ℕ) → noneLong ≤ length l → operationOf l ≡ Nothing
-unfolding operationOf numbersBehind
+unfolding operationOf numbersAfter
 long-none [] h = absurd (not-suc-le-zero h)
 long-none (a ∷ []) h = absurd (not-suc-le-zero (le-of-suc-le-suc h))
 long-none (a ∷ b ∷ l) h = ap (operationBy a) (go (eqb b space)) ∙ by-other a

@@ -12,7 +12,7 @@ use Rattle.phase.specs.declared.Task.{Task}
 use Rattle.phase.specs.Task.{unused}
 use Rattle.run.specs.declared.Run.{Run}
 use Rattle.run.specs.Run.{grantsIn, lentIn, mapFirst, moved, offerIn, seeksIn, withdrawnIn}
-use Rattle.run.specs.Numbers.{pastCount, runOut, firstLateIn, misemptiedIn, misreportedIn}
+use Rattle.run.specs.Numbers.{pastCount, runOut, firstLateIn, wrongEmptiesIn, wrongReportsIn}
 use Rattle.run.specs.Advance.{advanceAnswer, advanceOf}
 use Rattle.run.specs.Withdraw.{withdrawAnswer, withdrawOf, withdrawAllOf}
 use Rattle.run.specs.Row.{rowAnswer, bytesIn, rowOf}
@@ -22,7 +22,7 @@ use Rattle.text.specs.Format.{isNumber}
 use Rattle.text.specs.Output.{letters, fields, lineOf}
 use Rattle.session.specs.declared.operations.Operation.{Operation}
 use Rattle.session.specs.declared.operations.Operation.the-variants.{Advance, Withdraw, WithdrawAll, Row, Sets, Nothing}
-use Rattle.session.specs.Operation.{wordsIn, numbersOf, numbersBehind, operationBy, operationOf, plain, answerLine, shownLine, setsLine, reply, runAfter}
+use Rattle.session.specs.Operation.{wordsIn, numbersOf, numbersAfter, operationBy, operationOf, plain, answerLine, shownLine, setsLine, reply, runAfter}
 use Rattle.session.specs.Transcript.{nothing, lastLine, linesFrom, replies}
 
 -- THE OPERATION OF A LINE
@@ -139,7 +139,7 @@ abbrev worked : Line → Line
 worked l = asks (l .text) (operationOf (letters (l .text)))
 
 each-line : LineByLine worked lines lines
-unfolding operationOf operationBy numbersBehind numbersOf wordsIn isNumber all value
+unfolding operationOf operationBy numbersAfter numbersOf wordsIn isNumber all value
 each-line =
     let past-80 : LineByLine worked (drop 80 lines) (drop 80 lines) =
     (refl, (refl, (refl, (refl, (refl, (refl, (refl, (refl, tt)))))))) in
@@ -185,40 +185,40 @@ pub record TranscriptExample : Type 0 where
   pub input : String
   pub output : String
 
-abbrev transcript : Run → String → String → TranscriptExample
-transcript r i o = record { from = r; input = i; output = o }
+abbrev transcriptExample : Run → String → String → TranscriptExample
+transcriptExample r i o = record { from = r; input = i; output = o }
 
 abbrev pub transcripts : List TranscriptExample
 transcripts =
     -- a row asked with empties shows the task that has the core then, and changes nothing
-    transcript pair "r\nr 1\nr 2\nr 3\nr 4\nr" "row 1\nrow 2\nrow 1\nrow 0\nrefused 20 0\nrow 1\n"
+    transcriptExample pair "r\nr 1\nr 2\nr 3\nr 4\nr" "row 1\nrow 2\nrow 1\nrow 0\nrefused 20 0\nrow 1\n"
     -- reports are the first number and empties the second
-    ∷ transcript pair "a 2\na 1 1\na 2 1\nr\na 0 1\na 0\nr" "refused 16 0\nrefused 16 0\ntaken\nrow 0\nrefused 20 0\ntaken\nrow 1\n"
-    ∷ transcript pair "a 1 2\nr" "taken\nrow 0\n"
-    ∷ transcript pair "a 1\nr" "taken\nrow 2\n"
+    ∷ transcriptExample pair "a 2\na 1 1\na 2 1\nr\na 0 1\na 0\nr" "refused 16 0\nrefused 16 0\ntaken\nrow 0\nrefused 20 0\ntaken\nrow 1\n"
+    ∷ transcriptExample pair "a 1 2\nr" "taken\nrow 0\n"
+    ∷ transcriptExample pair "a 1\nr" "taken\nrow 2\n"
     -- withdrawn in the release tick: the job is empty at once, and so is the next; an empty bit on it, and withdrawing it again, change nothing
-    ∷ transcript pair "w 1\nr\nw 1\nr 1\na 1\na 2 1\nr\na 0\nr\nw 2\nr" "taken\nrow 2\ntaken\nrow 2\nrefused 16 0\ntaken\nrow 0\ntaken\nrow 2\ntaken\nrow 0\n"
+    ∷ transcriptExample pair "w 1\nr\nw 1\nr 1\na 1\na 2 1\nr\na 0\nr\nw 2\nr" "taken\nrow 2\ntaken\nrow 2\nrefused 16 0\ntaken\nrow 0\ntaken\nrow 2\ntaken\nrow 0\n"
     -- withdrawn a tick later: the job goes on, and the next is empty
-    ∷ transcript pair "a 0\nw 2\nr\na 0\na 0\nr" "taken\ntaken\nrow 2\ntaken\ntaken\nrow 0\n"
+    ∷ transcriptExample pair "a 0\nw 2\nr\na 0\na 0\nr" "taken\ntaken\nrow 2\ntaken\ntaken\nrow 0\n"
     -- no position 0 and none past the count; what is refused changes nothing
-    ∷ transcript pair "w 0\nw 3\nw 4294967295\nr" "refused 22 0\nrefused 22 0\nrefused 22 0\nrow 1\n"
-    ∷ transcript falling "w 1\nw 0\nr" "refused 21 0\nrefused 21 0\nrow 1 1\n"
+    ∷ transcriptExample pair "w 0\nw 3\nw 4294967295\nr" "refused 22 0\nrefused 22 0\nrefused 22 0\nrow 1\n"
+    ∷ transcriptExample falling "w 1\nw 0\nr" "refused 21 0\nrefused 21 0\nrow 1 1\n"
     -- both together, in the release tick and a tick later; the empty set changes nothing, and a set with a position past the count withdraws none
-    ∷ transcript pair "W 3\nr\nW 1\nW 0\nr\na 0\na 0\nr" "taken\nrow 0\ntaken\ntaken\nrow 0\ntaken\ntaken\nrow 0\n"
-    ∷ transcript pair "a 0\nW 3\nr\na 0\na 0\nr" "taken\ntaken\nrow 2\ntaken\ntaken\nrow 0\n"
-    ∷ transcript pair "W 0\nr\nW 5\nW 4294967295\nr\nw 1\nW 2\nr" "taken\nrow 1\nrefused 22 0\nrefused 22 0\nrow 1\ntaken\ntaken\nrow 0\n"
-    ∷ transcript falling "W 0\nW 1\nW 4\nr" "refused 21 0\nrefused 21 0\nrefused 21 0\nrow 1 1\n"
-    ∷ transcript none "a 0\nw 1\nW 0\nr\na 1 2" "refused 14 0\nrefused 14 0\nrefused 14 0\nrefused 14 0\nrefused 14 0\n"
+    ∷ transcriptExample pair "W 3\nr\nW 1\nW 0\nr\na 0\na 0\nr" "taken\nrow 0\ntaken\ntaken\nrow 0\ntaken\ntaken\nrow 0\n"
+    ∷ transcriptExample pair "a 0\nW 3\nr\na 0\na 0\nr" "taken\ntaken\nrow 2\ntaken\ntaken\nrow 0\n"
+    ∷ transcriptExample pair "W 0\nr\nW 5\nW 4294967295\nr\nw 1\nW 2\nr" "taken\nrow 1\nrefused 22 0\nrefused 22 0\nrow 1\ntaken\ntaken\nrow 0\n"
+    ∷ transcriptExample falling "W 0\nW 1\nW 4\nr" "refused 21 0\nrefused 21 0\nrefused 21 0\nrow 1 1\n"
+    ∷ transcriptExample none "a 0\nw 1\nW 0\nr\na 1 2" "refused 14 0\nrefused 14 0\nrefused 14 0\nrefused 14 0\nrefused 14 0\n"
     -- each release turns to the other width, that of an empty job too
-    ∷ transcript alternating "r\na 0\nr\na 0\nr\na 0 1\na 0\nr\na 0\na 0\nr" "row 1 0\ntaken\nrow 0 0\ntaken\nrow 1 1\ntaken\ntaken\nrow 1 0\ntaken\ntaken\nrow 1 1\n"
+    ∷ transcriptExample alternating "r\na 0\nr\na 0\nr\na 0 1\na 0\nr\na 0\na 0\nr" "row 1 0\ntaken\nrow 0 0\ntaken\nrow 1 1\ntaken\ntaken\nrow 1 0\ntaken\ntaken\nrow 1 1\n"
     -- under rule 4 an empty job lends its cores: the row shows the borrower, which may be reported; the lender may not
-    ∷ transcript lending "r\nr 1\na 2\na 1 1\na 2 1\nr" "row 1 1\nrow 2 1\nrefused 16 0\nrefused 16 0\ntaken\nrow 2 0\n"
+    ∷ transcriptExample lending "r\nr 1\na 2\na 1 1\na 2 1\nr" "row 1 1\nrow 2 1\nrefused 16 0\nrefused 16 0\ntaken\nrow 2 0\n"
     -- the same as sets: the lender keeps what it has not lent; a refusal has no sets; and nothing changes
-    ∷ transcript lending "s\ns 1\ns 4\nr"
+    ∷ transcriptExample lending "s\ns 1\ns 4\nr"
     "sets 3 0 0 0 0 0 0 0 0 0 0 0 0 0 0 0 0 0 0 0 0 0 0 0 0 0 0 0 0 0 0 0\nsets 2 1 0 0 0 0 0 0 0 0 0 0 0 0 0 0 0 0 0 0 0 0 0 0 0 0 0 0 0 0 0 0\nrefused 20 0\nrow 1 1\n"
-    ∷ transcript none "s" "refused 14 0\n"
+    ∷ transcriptExample none "s" "refused 14 0\n"
     -- after a line that is no operation nothing is written
-    ∷ transcript pair "r 1 2\nr\n" "not an operation\n"
+    ∷ transcriptExample pair "r 1 2\nr\n" "not an operation\n"
     ∷ []
 
 abbrev transcriptText : TranscriptExample → List ℕ
@@ -228,9 +228,9 @@ abbrev expected : TranscriptExample → List ℕ
 expected t = letters (t .output)
 
 each-transcript : LineByLine transcriptText transcripts (map expected transcripts)
-unfolding replies linesFrom lastLine reply runAfter plain answerLine shownLine setsLine operationOf operationBy numbersBehind numbersOf wordsIn isNumber all value lineOf fields
+unfolding replies linesFrom lastLine reply runAfter plain answerLine shownLine setsLine operationOf operationBy numbersAfter numbersOf wordsIn isNumber all value lineOf fields
     decimal lastDigits digitCount digitsWithin computing advanceOf advanceAnswer withdrawOf withdrawAllOf withdrawAnswer rowOf rowAnswer bytesIn setsOf setsIn pastCount runOut
-    firstLateIn misemptiedIn misreportedIn grantsIn lentIn offerIn seeksIn mapFirst moved withdrawnIn
+    firstLateIn wrongEmptiesIn wrongReportsIn grantsIn lentIn offerIn seeksIn mapFirst moved withdrawnIn
 each-transcript = (refl, (refl, (refl, (refl, (refl, (refl, (refl, (refl, (refl, (refl, (refl, (refl, (refl, (refl, (refl, (refl, (refl, (refl, tt))))))))))))))))))
 
 pub transcripts-exact : map (λ t. replies (t .from) (linesFrom nothing [] (letters (t .input)))) transcripts ≡ map (λ t. letters (t .output)) transcripts

@@ -25,7 +25,7 @@ use Rattle.session.specs.Session.{transcriptIn, transcriptOf, stageOf, I
 use Rattle.session.proofs.TextWritten.{text-nothing}
 use Rattle.session.proofs.Replying.{stage-within, table-not-over}
 use Rattle.session.proofs.Transcripts.{nil-right, begins-with, transcript-more, transcript-long, due-long, due-none, transcript-dashes, transcript-line, tooLong}
-use Rattle.session.proofs.Transcripts.{lines-more, lines-line, noOperation, replies-long, replies-due, replies-line, replies-last, due-empty}
+use Rattle.session.proofs.Transcripts.{lines-more, lines-line, noOperation, replies-long, replies-due, replies-line, replies-last, due-no-replies}
 
 -- a session of its parts
 abbrev pub session : Stage → List ℕ → ℕ → ℕ → Run → Session
@@ -35,10 +35,10 @@ session stage bytes from held run = record { stage = stage; bytes = bytes; from 
 within : (stage : Stage) (s : Session) → s .stage ≡ stage → s .from ≤ s .held → s .held ≤ tooMany → stageOf s ≡ stage
 within stage s e f h = rw (le-leb (s .from) (s .held) f, le-leb (s .held) tooMany h) e
 
-pub speaks :
+pub transcript-in-stage :
     (stage : Stage) (s : Session) (e : InputEnd) (bs : List ℕ) → s .stage ≡ stage → s .from ≤ s .held → s .held ≤ tooMany → transcriptOf s e bs ≡ transcriptIn stage s e bs
 unfolding transcriptOf
-speaks stage s e bs q f h = ap (λ (t : Stage). transcriptIn t s e bs) (within stage s q f h)
+transcript-in-stage stage s e bs q f h = ap (λ (t : Stage). transcriptIn t s e bs) (within stage s q f h)
 
 -- the transcript of a session in its stage
 pub transcript-in : (s : Session) (t : Stage) (e : InputEnd) (bs : List ℕ) → stageOf s ≡ t → transcriptOf s e bs ≡ transcriptIn t s e bs
@@ -99,7 +99,7 @@ nothing-due s = by-stage (stageOf s) refl
 
     by-stage : (t : Stage) → stageOf s ≡ t → transcriptOf s unknown [] ≡ []
     by-stage Table q = let w = stage-within s (table-not-over (stageOf s) q) in transcript-in s Table unknown [] q ∙ in-table (w .0) (w .1)
-    by-stage Operations q = transcript-in s Operations unknown [] q ∙ transcript-operations s unknown [] ∙ due-empty (s .run) (take (s .held) (s .bytes))
+    by-stage Operations q = transcript-in s Operations unknown [] q ∙ transcript-operations s unknown [] ∙ due-no-replies (s .run) (take (s .held) (s .bytes))
     by-stage Over q = over-transcript s unknown [] q
 
 -- the replies, and those of the session after them, make up the transcript
@@ -279,7 +279,7 @@ module _
         fed (transcriptIn Table s) chunk before before [] _ (omega arith) (λ o. omega (arith, q, o)) (text-nothing before)
         (λ x bs.
         table-on s chunk bytes tooMany end count held wide room fits e m p f x bs
-        ∙ sym (speaks Table (session Table bytes (s .from) held (s .run)) x bs refl (omega (arith, f, sum))
+        ∙ sym (transcript-in-stage Table (session Table bytes (s .from) held (s .run)) x bs refl (omega (arith, f, sum))
         (held-most s chunk bytes tooMany end count held wide room fits e m p) ∙ transcript-table _ x bs))
 
     -- the line ends: what comes is read after a newline
@@ -311,7 +311,7 @@ module _
         (λ x bs.
         line-ends n q x bs ∙ transcript-line x (take (s .from) bytes) (take (held - s .from) (drop (s .from) bytes)) bs d
         ∙ ap₂ (λ (y z : List ℕ). transcriptFrom x y z bs) lines none
-        ∙ sym (speaks Table (session Table (set bytes held newline) (held + 1) (held + 1) (s .run)) x bs refl (omega arith) more ∙ transcript-table _ x bs))
+        ∙ sym (transcript-in-stage Table (session Table (set bytes held newline) (held + 1) (held + 1) (s .run)) x bs refl (omega arith) more ∙ transcript-table _ x bs))
       where
         more : held + 1 ≤ tooMany
         more = omega (arith, held-most s chunk bytes tooMany end count held wide room fits e m p, n)
@@ -363,7 +363,7 @@ module _
         fed (transcriptIn Operations s) chunk before before [] _ (omega arith) (λ o. omega (arith, q, o)) (text-nothing before)
         (λ x bs.
         operations-on s chunk bytes noneLong end count held wide room few-bytes e m p x bs
-        ∙ sym (speaks Operations (session Operations bytes 0 held (s .run)) x bs refl (omega arith)
+        ∙ sym (transcript-in-stage Operations (session Operations bytes 0 held (s .run)) x bs refl (omega arith)
         (omega (arith, held-most s chunk bytes noneLong end count held wide room few-bytes e m p)) ∙ transcript-operations _ x bs))
 
     -- the line ends

@@ -8,7 +8,7 @@ use lib.Seq.{drop-at}
 use Rattle.text.specs.Decimal.{decimal}
 use Rattle.text.specs.Output.{fields, space}
 use Rattle.text.specs.Written.{Put}
-use Rattle.text.proofs.Spelling.{fields-next}
+use Rattle.text.proofs.RowText.{fields-next}
 use Rattle.text.proofs.Writing.{put-front, put-length}
 use Rattle.session.specs.Session.{TextWritten}
 

@@ -196,6 +196,6 @@ unfolding replies linesFrom lastLine
 replies-empty r = refl
 
 -- where more may come, what is held of a line is not answered yet
-pub due-empty : (r : Run) (l : List ℕ) → replies r (linesFrom unknown l []) ≡ []
+pub due-no-replies : (r : Run) (l : List ℕ) → replies r (linesFrom unknown l []) ≡ []
 unfolding replies linesFrom lastLine
-due-empty r l = refl
+due-no-replies r l = refl

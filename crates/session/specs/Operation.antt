@@ -54,9 +54,9 @@ numbersOf (l ∷ m ∷ []) = twoOf (parseNumber l) (parseNumber m)
 numbersOf (l ∷ m ∷ k ∷ ls) = Other
 
 -- what is after the letter of a line: nothing, or numbers with one space before each; or something else
-unfoldable pub numbersBehind : List ℕ → Numbers
-numbersBehind [] = Bare
-numbersBehind (b ∷ l) = cond (eqb b space) (numbersOf (wordsIn l)) Other
+unfoldable pub numbersAfter : List ℕ → Numbers
+numbersAfter [] = Bare
+numbersAfter (b ∷ l) = cond (eqb b space) (numbersOf (wordsIn l)) Other
 
 -- `a REPORTS EMPTIES` is an advance with these two sets; without the second number the empties are 0
 abbrev pub advanceBy : Numbers → Operation
@@ -105,7 +105,7 @@ operationBy letter ns =
 -- the operation of a line; an empty line is none
 unfoldable pub operationOf : List ℕ → Operation
 operationOf [] = Nothing
-operationOf (letter ∷ l) = operationBy letter (numbersBehind l)
+operationOf (letter ∷ l) = operationBy letter (numbersAfter l)
 
 -- a line that is only a word
 unfoldable pub plain : List ℕ → List ℕ

@@ -1,6 +1,6 @@
 // The operation of a line.
 ghost use mathlib.Core.Path.{_≡_};
-ghost use Rattle.session.specs.Operation.{operationOf, numbersBehind, oneOf, twoOf, advanceBy, rowBy, setsBy, withdrawBy, withdrawAllBy};
+ghost use Rattle.session.specs.Operation.{operationOf, numbersAfter, oneOf, twoOf, advanceBy, rowBy, setsBy, withdrawBy, withdrawAllBy};
 use text::line::ParsedNumber;
 
 // An advance with its reports and its empties, a position withdrawn, the positions of a set withdrawn together, a row asked with empties, one asked as
@@ -46,8 +46,8 @@ fn two(first: ParsedNumber, second: ParsedNumber) -> Numbers
 }
 
 // The numbers after the letter of a line, one space before each.
-fn behind(rest: &[u8]) -> Numbers
-    ensures { λ r. ⌜ r ≡ numbersBehind (now (rest .entry)) ⌝ }
+fn after(rest: &[u8]) -> Numbers
+    ensures { λ r. ⌜ r ≡ numbersAfter (now (rest .entry)) ⌝ }
 {
     let count = rest.len();
     if count == 0 {
@@ -132,7 +132,7 @@ pub fn operation_of(line: &[u8]) -> Operation
     if count == 0 {
         return Operation::Nothing;
     }
-    let numbers = behind(&line[1..count]);
+    let numbers = after(&line[1..count]);
     if line[0] == b'a' {
         return advance_by(numbers);
     }

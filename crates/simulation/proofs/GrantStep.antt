@@ -11,7 +11,7 @@ use lib.Pow.{pow-pos}
 use borrow.Author.Tests.{eq-eqb, ne-eqb}
 use Rattle.model.specs.Search.{bit}
 use Rattle.model.proofs.Bools.{and-left}
-use Rattle.model.proofs.Digits.{shifted-one, Without, withWithdrawn, Lowest, lowest-of}
+use Rattle.model.proofs.Digits.{shifted-one, BitCleared, clear-bit, Lowest, lowest-of}
 use Rattle.simulation.specs.Places.{segment}
 use Rattle.simulation.specs.Machine.{Machine, machine, machineOf, GrantedOwed, workedTick}
 use Rattle.simulation.proofs.Parts.{front-at, part-at, store-left, store-event}
@@ -73,8 +73,8 @@ module _ (granted rest : ℕ) (some : 0 < rest) (fits : rest < 2 ^ 32) (subset :
   one : digit rest ≡ 2 ^ first rest
   one = shifted-one 32 (first rest) (low .0)
 
-  out-of : Without rest (first rest)
-  out-of = withWithdrawn rest (first rest) (low .1 .here)
+  out-of : BitCleared rest (first rest)
+  out-of = clear-bit rest (first rest) (low .1 .here)
 
   others : (q : ℕ) → bit (rest - digit rest) q ≡ bit rest q && not (eqb q (first rest))
   others q = ap (λ (b : ℕ). bit (rest - b) q) one ∙ out-of .others q

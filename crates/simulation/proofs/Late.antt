@@ -16,9 +16,9 @@ use Rattle.model.proofs.Search.{any-some, any-of, least-any, least-lowest}
 use Rattle.simulation.specs.Machine.{Machine, overdue}
 use Rattle.model.proofs.Runs.{full-tick, missed-at}
 use Rattle.model.proofs.Faithful.{missed-exact}
-use Rattle.simulation.specs.PlaceRelation.{PlaceTiedAt}
+use Rattle.simulation.specs.PlaceRelation.{PlaceRelatedAt}
 use Rattle.simulation.proofs.Place.{overdue-has, overdue-is}
-use Rattle.simulation.proofs.Tied.{Walked, Ready}
+use Rattle.simulation.proofs.MachineRelated.{Walked, Ready}
 
 not-less : {a b : ℕ} → ¬ (a < b) → b ≤ a
 not-less h = omega arith
@@ -57,7 +57,7 @@ module _ (s : Table) (ok : AllValid s) where
         (h .done p l b) t (x .0) (omega arith) (x .1 ∙ full-tick s t) (x .2) in
         absurd (omega (arith, ahead (bit (m .claiming) p) (h .done p l b), y .0))
       where
-        ahead : (c : Bool) → PlaceTiedAt (task s p) (suc t) (full s t .job p) (getD (m .left) p 0) (getD (m .event) p 0) (getD (m .next) p 0) c → t < getD (m .event) p 0
+        ahead : (c : Bool) → PlaceRelatedAt (task s p) (suc t) (full s t .job p) (getD (m .left) p 0) (getD (m .event) p 0) (getD (m .next) p 0) c → t < getD (m .event) p 0
         ahead true w = w .ahead-of
         ahead false w = w .ahead-of
 

@@ -8,7 +8,7 @@ pub mod Moves
 pub mod Parts
 pub mod Served
 pub mod GrantStep
-pub mod Tied
+pub mod MachineRelated
 pub mod WidthParity
 pub mod NextEvent
 pub mod Late

@@ -11,19 +11,19 @@ use Rattle.model.specs.Search.{bit}
 use Rattle.model.specs.Task.{Table, task, AllValid}
 use Rattle.model.specs.Book.{full}
 use Rattle.simulation.specs.Machine.{Machine, withRelease, finishes, workedTick}
-use Rattle.simulation.proofs.Place.{pass-tied, event-first}
+use Rattle.simulation.proofs.Place.{pass-related, event-first}
 use Rattle.simulation.proofs.Moves.{worked-event}
-use Rattle.simulation.proofs.Tied.{Tied, Ready}
+use Rattle.simulation.proofs.MachineRelated.{MachineRelated, Ready}
 
 -- the next event is at or before every event of the first n places
 abbrev pub NextEventBound : ℕ → ℕ → Machine → Type 0
 NextEventBound n nextEvent m = (p : ℕ) → p < n → nextEvent ≤ getD (m .event) p 0
 
 -- one place more, with a next event that is no later
-pub next-event-more : (n nextEvent bell′ : ℕ) (m : Machine) → NextEventBound n nextEvent m → bell′ ≤ nextEvent → bell′ ≤ getD (m .event) n 0 → NextEventBound (suc n) bell′ m
-next-event-more n nextEvent bell′ m h le own p l =
+pub next-event-more : (n nextEvent event′ : ℕ) (m : Machine) → NextEventBound n nextEvent m → event′ ≤ nextEvent → event′ ≤ getD (m .event) n 0 → NextEventBound (suc n) event′ m
+next-event-more n nextEvent event′ m h le own p l =
     ⊎-elim
-    (λ (e : p ≡ n). subst (λ (q : ℕ). bell′ ≤ getD (m .event) q 0) (sym e) own)
+    (λ (e : p ≡ n). subst (λ (q : ℕ). event′ ≤ getD (m .event) q 0) (sym e) own)
     (λ (e : p < n). le-trans le (h p e))
     (eq-or-lt-of-le (omega arith))
 
@@ -34,11 +34,11 @@ next-event-release n nextEvent m h i t C D T le p l = rw (getD-set-other (m .eve
 
 module _ (s : Table) (ok : AllValid s) (few : length (s .tasks) ≤ 32) where
   -- no event is due before the next event: there is nothing to handle
-  pub no-event : (t nextEvent : ℕ) (m : Machine) → Tied s t m → NextEventBound (length (s .tasks)) nextEvent m → t < nextEvent → Ready s t m
+  pub no-event : (t nextEvent : ℕ) (m : Machine) → MachineRelated s t m → NextEventBound (length (s .tasks)) nextEvent m → t < nextEvent → Ready s t m
   no-event t nextEvent m h below before = record {
     sized = h .sized;
     done = λ p l b.
-        pass-tied (task s p) t (full s t .job p) (getD (m .left) p 0) (getD (m .event) p 0) (getD (m .next) p 0) (bit (m .claiming) p)
+        pass-related (task s p) t (full s t .job p) (getD (m .left) p 0) (getD (m .event) p 0) (getD (m .next) p 0) (bit (m .claiming) p)
         (h .waiting p l (omega arith)) (λ e. absurd (omega (arith, below p l)));
     waiting = λ p l b. absurd (omega arith);
     beyond = h .beyond;

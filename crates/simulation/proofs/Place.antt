@@ -11,17 +11,17 @@ use Rattle.model.specs.Task.{Task, ValidTask, Rule, release, due, newest}
 use Rattle.model.specs.Book.{Job, fresh, claims}
 use Rattle.model.proofs.Jobs.{mk, claims-if, newest-is, others, done-off}
 use Rattle.model.proofs.Faithful.{no-claim-before}
-use Rattle.simulation.specs.PlaceRelation.{PlaceWorks, PlaceRests, PlaceTiedAt}
+use Rattle.simulation.specs.PlaceRelation.{PlaceWorks, PlaceRests, PlaceRelatedAt}
 use Rattle.simulation.proofs.Lines.{lineOn, line-off, line-own, work-open}
 
 -- a place that claims is owed ticks, and a place that is owed ticks claims
-pub claims-owed : (τ : Task) (seen : ℕ) (js : ℕ → Job) (l m n : ℕ) (c : Bool) → PlaceTiedAt τ seen js l m n c → c ≡ ltb 0 l
-claims-owed τ seen js l m n true h = sym (lt-ltb 0 l (h .owed))
-claims-owed τ seen js l m n false h = rw (h .none)
+pub claims-owed : (τ : Task) (handledTo : ℕ) (js : ℕ → Job) (l m n : ℕ) (c : Bool) → PlaceRelatedAt τ handledTo js l m n c → c ≡ ltb 0 l
+claims-owed τ handledTo js l m n true h = sym (lt-ltb 0 l (h .owed))
+claims-owed τ handledTo js l m n false h = rw (h .none)
 
 -- THE START: the first release is at the offset, and every job is fresh
-pub start-tied : (τ : Task) (O : ℕ) → O ≡ τ .offset → PlaceTiedAt τ 0 (λ k. fresh) 0 O O false
-start-tied τ O e = record {
+pub start-related : (τ : Task) (O : ℕ) → O ≡ τ .offset → PlaceRelatedAt τ 0 (λ k. fresh) 0 O O false
+start-related τ O e = record {
   number = 0;
   none = refl;
   event = omega arith;
@@ -34,8 +34,8 @@ start-tied τ O e = record {
 -- THE DUE EVENTS OF A TICK
 
 -- a place whose event it is not
-pub pass-tied : (τ : Task) (t : ℕ) (js : ℕ → Job) (l m n : ℕ) (c : Bool) → PlaceTiedAt τ t js l m n c → (m ≡ t → ⊥) → PlaceTiedAt τ (suc t) js l m n c
-pass-tied τ t js l m n true h away = record {
+pub pass-related : (τ : Task) (t : ℕ) (js : ℕ → Job) (l m n : ℕ) (c : Bool) → PlaceRelatedAt τ t js l m n c → (m ≡ t → ⊥) → PlaceRelatedAt τ (suc t) js l m n c
+pass-related τ t js l m n true h away = record {
   number = h .number;
   had = h .had;
   owed = h .owed;
@@ -48,7 +48,7 @@ pass-tied τ t js l m n true h away = record {
   past = h .past;
   later = h .later;
 }
-pass-tied τ t js l m n false h away = record {
+pass-related τ t js l m n false h away = record {
   number = h .number;
   none = h .none;
   event = h .event;
@@ -59,11 +59,11 @@ pass-tied τ t js l m n false h away = record {
 }
 
 -- a place whose event it is, with nothing left: its next job is released
-pub release-tied :
-    (τ : Task) → ValidTask τ → (t : ℕ) (js : ℕ → Job) (l m n : ℕ) (c : Bool) → PlaceTiedAt τ t js l m n c → m ≡ t → l ≡ 0
-    → (C D T : ℕ) → C ≡ τ .length → D ≡ τ .deadline → T ≡ τ .period → PlaceTiedAt τ (suc t) js C (t + D) (t + T) true
-release-tied τ ok t js l m n true h at none C D T eC eD eT = absurd (omega (arith, h .owed))
-release-tied τ ok t js l m n false h at none C D T eC eD eT = record {
+pub release-related :
+    (τ : Task) → ValidTask τ → (t : ℕ) (js : ℕ → Job) (l m n : ℕ) (c : Bool) → PlaceRelatedAt τ t js l m n c → m ≡ t → l ≡ 0
+    → (C D T : ℕ) → C ≡ τ .length → D ≡ τ .deadline → T ≡ τ .period → PlaceRelatedAt τ (suc t) js C (t + D) (t + T) true
+release-related τ ok t js l m n true h at none C D T eC eD eT = absurd (omega (arith, h .owed))
+release-related τ ok t js l m n false h at none C D T eC eD eT = record {
   number = h .number;
   had = 0;
   owed = omega (arith, ok .length-pos);
@@ -83,16 +83,16 @@ release-order τ i k h = omega (arith, mul-le-mul-right (τ .period) h)
 
 -- a place at its event with ticks left has a job that is due and has not ended
 pub overdue-has :
-    (τ : Task) (t : ℕ) (js : ℕ → Job) (l m n : ℕ) (c : Bool) → PlaceTiedAt τ t js l m n c → m ≡ t → 0 < l
+    (τ : Task) (t : ℕ) (js : ℕ → Job) (l m n : ℕ) (c : Bool) → PlaceRelatedAt τ t js l m n c → m ≡ t → 0 < l
     → (k : ℕ) × (due τ k ≡ t) × (js k .ended ≡ false)
 overdue-has τ t js l m n true h at some = (h .number, sym (h .deadline) ∙ at, ap (λ (j : Job). j .ended) (h .line))
 overdue-has τ t js l m n false h at some = absurd (omega (arith, h .none))
 
--- a job due at a tick from `seen` back that has not ended is the one the place works on, at the tick `seen`
+-- a job due at a tick from `handledTo` back that has not ended is the one the place works on, at the tick `handledTo`
 pub overdue-is :
-    (τ : Task) → ValidTask τ → (seen : ℕ) (js : ℕ → Job) (l m n : ℕ) (c : Bool) → PlaceTiedAt τ seen js l m n c
-    → (t k : ℕ) → t ≤ seen → due τ k ≡ t → js k .ended ≡ false → (m ≡ t) × (0 < l)
-overdue-is τ ok seen js l m n true h t k before d o = go (leb k (h .number)) refl
+    (τ : Task) → ValidTask τ → (handledTo : ℕ) (js : ℕ → Job) (l m n : ℕ) (c : Bool) → PlaceRelatedAt τ handledTo js l m n c
+    → (t k : ℕ) → t ≤ handledTo → due τ k ≡ t → js k .ended ≡ false → (m ≡ t) × (0 < l)
+overdue-is τ ok handledTo js l m n true h t k before d o = go (leb k (h .number)) refl
   where
     go : (x : Bool) → leb k (h .number) ≡ x → (m ≡ t) × (0 < l)
     go true e =
@@ -103,7 +103,7 @@ overdue-is τ ok seen js l m n true h t k before d o = go (leb k (h .number)) re
     go false e =
         absurd
         (omega (arith, release-order τ (suc (h .number)) k (leb-false k (h .number) e), ok .deadline-pos, ok .constrained, h .deadline, h .ahead-of))
-overdue-is τ ok seen js l m n false h t k before d o = go (leb (h .number) k) refl
+overdue-is τ ok handledTo js l m n false h t k before d o = go (leb (h .number) k) refl
   where
     go : (x : Bool) → leb (h .number) k ≡ x → (m ≡ t) × (0 < l)
     go true e =
@@ -135,9 +135,9 @@ module _ (r : Rule) (τ : Task) (ok : ValidTask τ) (t : ℕ) (js : ℕ → Job)
           let o : js i .ended ≡ true = h .past i (leb-false (h .number) i e) in
           done-off r τ i t (js i) o (all i o)
 
-  pub tied-claims : (c : Bool) → PlaceTiedAt τ (suc t) js l m n c → claims r τ (newest τ t) t (js (newest τ t)) ≡ c
-  tied-claims true h = subst (λ (k : ℕ). claims r τ k t (js k) ≡ true) (sym (works-newest h)) (works-claims h)
-  tied-claims false h = rests-off h (newest τ t)
+  pub related-claims : (c : Bool) → PlaceRelatedAt τ (suc t) js l m n c → claims r τ (newest τ t) t (js (newest τ t)) ≡ c
+  related-claims true h = subst (λ (k : ℕ). claims r τ k t (js k) ≡ true) (sym (works-newest h)) (works-claims h)
+  related-claims false h = rests-off h (newest τ t)
 
   -- A TICK, in which the place has cores or not
 
@@ -214,23 +214,23 @@ module _ (r : Rule) (τ : Task) (ok : ValidTask τ) (t : ℕ) (js : ℕ → Job)
     later = λ i q. line-off r τ t w js i (rests-off h i) ∙ h .later i q;
   }
 
-  pub tick-tied :
-      (c w : Bool) → PlaceTiedAt τ (suc t) js l m n c
-      → PlaceTiedAt τ (suc t) (lineOn r τ t w js) (cond w (l - 1) l) (cond (w && eqb l 1) n m) n (c && not (w && eqb l 1))
-  tick-tied true false h = unserved h
-  tick-tied true true h = go (eqb l 1) refl
+  pub tick-related :
+      (c w : Bool) → PlaceRelatedAt τ (suc t) js l m n c
+      → PlaceRelatedAt τ (suc t) (lineOn r τ t w js) (cond w (l - 1) l) (cond (w && eqb l 1) n m) n (c && not (w && eqb l 1))
+  tick-related true false h = unserved h
+  tick-related true true h = go (eqb l 1) refl
     where
-      go : (x : Bool) → eqb l 1 ≡ x → PlaceTiedAt τ (suc t) (lineOn r τ t true js) (l - 1) (cond x n m) n (not x)
+      go : (x : Bool) → eqb l 1 ≡ x → PlaceRelatedAt τ (suc t) (lineOn r τ t true js) (l - 1) (cond x n m) n (not x)
       go true e = served-last h (eqb-true l 1 e)
       go false e = served-more h (eqb-false l 1 e)
-  tick-tied false false h = rests-on false h
-  tick-tied false true h = go (l - 1) (omega (arith, h .none)) (eqb l 1) (ap (λ (x : ℕ). eqb x 1) (h .none))
+  tick-related false false h = rests-on false h
+  tick-related false true h = go (l - 1) (omega (arith, h .none)) (eqb l 1) (ap (λ (x : ℕ). eqb x 1) (h .none))
     where
       go : (l′ : ℕ) → l′ ≡ l → (x : Bool) → x ≡ false → PlaceRests τ (suc t) (lineOn r τ t true js) l′ (cond x n m) n
       go l′ e true q = absurd (true≢false q)
       go l′ e false q = subst (λ (y : ℕ). PlaceRests τ (suc t) (lineOn r τ t true js) y m n) (sym e) (rests-on true h)
 
 -- THE NEXT EVENT: the event of a place is never after its next release
-pub event-first : (τ : Task) → ValidTask τ → (seen : ℕ) (js : ℕ → Job) (l m n : ℕ) (c : Bool) → PlaceTiedAt τ seen js l m n c → m ≤ n
-event-first τ ok seen js l m n true h = omega (arith, h .deadline, h .following, ok .constrained)
-event-first τ ok seen js l m n false h = omega (arith, h .event, h .following)
+pub event-first : (τ : Task) → ValidTask τ → (handledTo : ℕ) (js : ℕ → Job) (l m n : ℕ) (c : Bool) → PlaceRelatedAt τ handledTo js l m n c → m ≤ n
+event-first τ ok handledTo js l m n true h = omega (arith, h .deadline, h .following, ok .constrained)
+event-first τ ok handledTo js l m n false h = omega (arith, h .event, h .following)

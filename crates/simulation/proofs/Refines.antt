@@ -12,7 +12,7 @@ use Rattle.model.specs.Book.{Missed}
 use Rattle.rule.specs.Widths.{widthsIn}
 use Rattle.simulation.specs.Machine.{Machine, started, releasedDue, workedTick}
 use Rattle.simulation.specs.TickState.{toggledBy}
-use Rattle.simulation.proofs.Tied.{Tied, Ready, Columns, tied-start, tick-keeps}
+use Rattle.simulation.proofs.MachineRelated.{MachineRelated, Ready, Columns, related-start, tick-keeps}
 use Rattle.simulation.proofs.WidthParity.{WidthToggled, Paired, toggled-start, toggled-due, toggled-tick}
 use Rattle.simulation.proofs.Walk.{due-walked}
 use Rattle.simulation.proofs.SameClaimants.{all-agree, row-places}
@@ -47,18 +47,18 @@ runAt s q O v C D T (suc t) = stepped s q v C D T t (runAt s q O v C D T t)
 
 -- a run is related to the book, and so are its widths
 pub record RefinesFull (s : Table) (t : ℕ) (r : Run) : Type 0 where
-  pub tied : Tied s t (r .machine)
-  pub turns : WidthToggled s (r .machine) (r .even)
+  pub related : MachineRelated s t (r .machine)
+  pub toggles : WidthToggled s (r .machine) (r .even)
 
 module _
     (s : Table) (ok : AllValid s) (few : length (s .tasks) ≤ 32) (q : ℕ) (two : Paired s q) (O v C D T : List ℕ) (of : Columns s O v C D T)
   where
     -- where no deadline is missed at t, the due events leave the machine ready, with the widths of the jobs that are released
     pub ready : (t : ℕ) (r : Run) → RefinesFull s t r → ((p : ℕ) → ¬ Missed s p t) → Ready s t (events-handled s C D T t r)
-    ready t r h met = due-walked s ok few O v C D T of t (r .machine) (h .tied) met (length (s .tasks)) (omega arith)
+    ready t r h met = due-walked s ok few O v C D T of t (r .machine) (h .related) met (length (s .tasks)) (omega arith)
 
     pub turns : (t : ℕ) (r : Run) → RefinesFull s t r → ((p : ℕ) → ¬ Missed s p t) → WidthToggled s (events-handled s C D T t r) (width-toggled s q C D T t r)
-    turns t r h met = toggled-due s ok t (r .machine) (events-handled s C D T t r) q (r .even) (h .tied) (ready t r h met) two (h .turns)
+    turns t r h met = toggled-due s ok t (r .machine) (events-handled s C D T t r) q (r .even) (h .related) (ready t r h met) two (h .toggles)
 
     -- and the tick preserves the relation
     pub step-keeps : (t : ℕ) (r : Run) → RefinesFull s t r → ((p : ℕ) → ¬ Missed s p t) → RefinesFull s (suc t) (stepped s q v C D T t r)
@@ -67,13 +67,13 @@ module _
         let e = width-toggled s q C D T t r in
         let a = all-agree s ok few t m e (ready t r h met) (turns t r h met) O v C D T of in
         record {
-          tied = tick-keeps s ok few t m (ready t r h met) (granted s v m e) (λ p l. row-places s ok t m (ready t r h met) (widthsIn e v) a p);
-          turns = toggled-tick s ok m e (granted s v m e) (turns t r h met);
+          related = tick-keeps s ok few t m (ready t r h met) (granted s v m e) (λ p l. row-places s ok t m (ready t r h met) (widthsIn e v) a p);
+          toggles = toggled-tick s ok m e (granted s v m e) (turns t r h met);
         }
 
     -- THEOREM (machine-refines)
     pub machine-refines : (n : ℕ) → ((t p : ℕ) → t < n → ¬ Missed s p t) → RefinesFull s n (runAt s q O v C D T n)
     unfolding runAt
-    machine-refines zero met = record { tied = tied-start s ok few O (of .places) (of .offsets); turns = toggled-start s ok O q (of .offsets) two }
+    machine-refines zero met = record { related = related-start s ok few O (of .places) (of .offsets); toggles = toggled-start s ok O q (of .offsets) two }
     machine-refines (suc n) met =
         step-keeps n (runAt s q O v C D T n) (machine-refines n (λ t p b. met t p (omega arith))) (λ p. met n p (omega arith))

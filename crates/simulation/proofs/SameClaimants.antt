@@ -17,8 +17,8 @@ use Rattle.model.specs.Book.{claims, taskClaims, widths, grantsOf, bookRow, inR
 use Rattle.model.proofs.Bools.{not-false-true}
 use Rattle.simulation.specs.Machine.{Machine, GrantedOwed}
 use Rattle.model.proofs.Runs.{full-tick, full-claimed, full-row}
-use Rattle.simulation.proofs.Place.{claims-owed, tied-claims}
-use Rattle.simulation.proofs.Tied.{Ready, Columns}
+use Rattle.simulation.proofs.Place.{claims-owed, related-claims}
+use Rattle.simulation.proofs.MachineRelated.{Ready, Columns}
 use Rattle.simulation.proofs.WidthParity.{WidthToggled, width-newest}
 use Rattle.model.proofs.Grants.{grants-take, grants-widths, claimants-prefix, claimants-same, grants-length, grants-none}
 use Rattle.model.proofs.Lists.{map-at}
@@ -54,7 +54,7 @@ module _ (s : Table) (ok : AllValid s) (t : ℕ) (m : Machine) (h : Ready s t m)
   claims-same p l =
       sym
       (subst (λ (u : ℕ). claims (s .rule) (task s p) (newest (task s p) u) u (full s t .job p (newest (task s p) u)) ≡ bit (m .claiming) p) (sym (full-tick s t))
-      (tied-claims (s .rule) (task s p) (ok p l) t (full s t .job p) (full-claimed s t p)
+      (related-claims (s .rule) (task s p) (ok p l) t (full s t .job p) (full-claimed s t p)
       (getD (m .left) p 0) (getD (m .event) p 0) (getD (m .next) p 0) (bit (m .claiming) p) (h .done p l l)))
 
   -- a place that claims is owed ticks

@@ -7,7 +7,7 @@ use lib.ListN.{getD, set}
 use lib.Dec.{eqb}
 use borrow.Author.Tests.{eqb-true, eqb-false}
 use Rattle.model.specs.Search.{bit}
-use Rattle.model.proofs.Digits.{Without, withWithdrawn}
+use Rattle.model.proofs.Digits.{BitCleared, clear-bit}
 use Rattle.simulation.specs.Places.{mapPlaces, setWhere}
 use Rattle.simulation.specs.Machine.{Machine, machine, finishes, workedTick}
 use Rattle.simulation.proofs.Places.{each-none, each-still, each-more}
@@ -98,8 +98,8 @@ module _ (f g : ℕ → Bool) (m : Machine) (p : ℕ) (off : f p ≡ false) (on 
       G : ℕ → Bool
       G q = bit (m .claiming) q && not (finishes g m q)
 
-      out : Without (setWhere 32 F) p
-      out = withWithdrawn (setWhere 32 F) p (set-has 32 F p h ∙ rw (c, off))
+      out : BitCleared (setWhere 32 F) p
+      out = clear-bit (setWhere 32 F) p (set-has 32 F p h ∙ rw (c, off))
 
       bits : (q : ℕ) → q < 32 → bit (setWhere 32 F - 2 ^ p) q ≡ G q
       bits q l =

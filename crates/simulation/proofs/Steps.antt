@@ -29,9 +29,9 @@ module _ (n : Numbers) (s : TickState) where
 
   -- the due events are handled
   pub due-handled :
-      (m′ : Machine) (bell′ : ℕ) → s .event ≤ s .tick → DueEvents (s .tick) (n .count) (n .lengths) (n .deadlines) (n .periods) (s .machine) m′ bell′
-      → (m′ ≡ afterEvents n s) × (bell′ ≡ nextEventAfter n s)
-  due-handled m′ bell′ l d =
+      (m′ : Machine) (event′ : ℕ) → s .event ≤ s .tick → DueEvents (s .tick) (n .count) (n .lengths) (n .deadlines) (n .periods) (s .machine) m′ event′
+      → (m′ ≡ afterEvents n s) × (event′ ≡ nextEventAfter n s)
+  due-handled m′ event′ l d =
       let e = le-leb (s .event) (s .tick) l in
       let x : m′ ≡ afterEvents n s = d .machines ∙ after-by true e in
       (x, d .event ∙ ap (λ (m : Machine). earliest (n .count) (m .event)) x ∙ next-event-by true e)

@@ -13,7 +13,7 @@ use borrow.Author.Tests.{eq-eqb, ne-eqb, eqb-true, eqb-false}
 use Rattle.model.specs.Task.{Table, AllValid}
 use Rattle.model.specs.Book.{Missed}
 use Rattle.simulation.specs.Machine.{Machine, withRelease, releasedDue, earliest}
-use Rattle.simulation.proofs.Tied.{Walked, Tied, Columns, walk-pass, walk-release}
+use Rattle.simulation.proofs.MachineRelated.{Walked, MachineRelated, Columns, walk-pass, walk-release}
 use Rattle.simulation.proofs.NextEvent.{NextEventBound, next-event-more}
 use Rattle.simulation.proofs.Late.{late-missed}
 
@@ -24,8 +24,8 @@ earliest-set zero ms i v h = refl
 earliest-set (suc n) ms i v h = rw (earliest-set n ms i v (omega arith), getD-set-other ms i n v 0 (omega arith))
 
 -- what the walk does at place n
-abbrev look : ℕ → List ℕ → List ℕ → List ℕ → ℕ → Machine → Machine
-look t C D T n m = cond (eqb (getD (m .event) n 0) t) (withRelease n t (getD C n 0) (getD D n 0) (getD T n 0) m) m
+abbrev handledAt : ℕ → List ℕ → List ℕ → List ℕ → ℕ → Machine → Machine
+handledAt t C D T n m = cond (eqb (getD (m .event) n 0) t) (withRelease n t (getD C n 0) (getD D n 0) (getD T n 0) m) m
 
 -- the machine once place n has been handled, and the earliest of the first n events, which is as it was
 pub record EventsHandled (t : ℕ) (C D T : List ℕ) (n : ℕ) (start before after : Machine) : Type 0 where
@@ -33,9 +33,9 @@ pub record EventsHandled (t : ℕ) (C D T : List ℕ) (n : ℕ) (start before af
   pub same : earliest n (after .event) ≡ earliest n (before .event)
 
 module _ (t : ℕ) (C D T : List ℕ) (n : ℕ) (start before : Machine) (so-far : before ≡ releasedDue t C D T n start) (after : Machine) where
-  one-more : look t C D T n before ≡ releasedDue t C D T (suc n) start
+  one-more : handledAt t C D T n before ≡ releasedDue t C D T (suc n) start
   unfolding releasedDue
-  one-more = ap (look t C D T n) so-far
+  one-more = ap (handledAt t C D T n) so-far
 
   chosen : (b : Bool) → eqb (getD (before .event) n 0) t ≡ b → cond b (withRelease n t (getD C n 0) (getD D n 0) (getD T n 0) before) before ≡ releasedDue t C D T (suc n) start
   chosen b e = ap (λ (x : Bool). cond x (withRelease n t (getD C n 0) (getD D n 0) (getD T n 0) before) before) (sym e) ∙ one-more
@@ -71,7 +71,7 @@ earliest-event (suc n) m p l =
 module _ (s : Table) (ok : AllValid s) (few : length (s .tasks) ≤ 32) (O v C D T : List ℕ) (of : Columns s O v C D T) where
   -- where no deadline is missed at t, the walk has passed the first n places
   pub due-walked :
-      (t : ℕ) (m : Machine) → Tied s t m → ((p : ℕ) → ¬ Missed s p t)
+      (t : ℕ) (m : Machine) → MachineRelated s t m → ((p : ℕ) → ¬ Missed s p t)
       → (n : ℕ) → n ≤ length (s .tasks) → Walked s t n (releasedDue t C D T n m)
   unfolding releasedDue
   due-walked t m h met zero l = h

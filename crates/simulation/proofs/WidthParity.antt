@@ -15,10 +15,10 @@ use Rattle.model.proofs.Runs.{full-claimed}
 use Rattle.rule.specs.Widths.{widthIn}
 use Rattle.simulation.specs.Machine.{Machine, started, workedTick}
 use Rattle.simulation.specs.TickState.{toggledBy}
-use Rattle.simulation.specs.PlaceRelation.{PlaceWorks, PlaceTiedAt, evenJob, WidthParity}
+use Rattle.simulation.specs.PlaceRelation.{PlaceWorks, PlaceRelatedAt, evenJob, WidthParity}
 use Rattle.simulation.proofs.Place.{release-order, works-newest}
 use Rattle.simulation.proofs.Sets.{toggledBit, toggled-bit}
-use Rattle.simulation.proofs.Tied.{Tied, Ready, Columns}
+use Rattle.simulation.proofs.MachineRelated.{MachineRelated, Ready, Columns}
 
 -- ODD AND EVEN
 
@@ -81,8 +81,8 @@ parity-release τ n n′ e q two at h = record {
     go e false false m = rw m
 
 -- the mark of a place that works is right for its job
-pub parity-works : (τ : Task) → ValidTask τ → (seen : ℕ) (js : ℕ → Job) (l m n : ℕ) (e : Bool) (w : PlaceWorks τ seen js l m n) → WidthParity τ n e → e ≡ evenJob τ (w .number)
-parity-works τ ok seen js l m n e w h =
+pub parity-works : (τ : Task) → ValidTask τ → (handledTo : ℕ) (js : ℕ → Job) (l m n : ℕ) (e : Bool) (w : PlaceWorks τ handledTo js l m n) → WidthParity τ n e → e ≡ evenJob τ (w .number)
+parity-works τ ok handledTo js l m n e w h =
     let k : h .number ≡ suc (w .number) = same-release τ ok (h .number) (suc (w .number)) (sym (h .following) ∙ w .following) in
     h .mark ∙ (ap (λ (i : ℕ). evenJob τ (suc i)) k ∙ even-two τ (w .number))
 
@@ -93,7 +93,7 @@ module _ (τ : Task) (ok : ValidTask τ) (t : ℕ) (js : ℕ → Job) (l m n l�
   still false q h = subst (λ (x : ℕ). WidthParity τ x false) (sym q) h
 
   pub parity-due :
-      (c c′ e q : Bool) → PlaceTiedAt τ t js l m n c → PlaceTiedAt τ (suc t) js l′ m′ n′ c′ → q ≡ not (eqb (τ .oddWidth) (τ .evenWidth)) → WidthParity τ n e
+      (c c′ e q : Bool) → PlaceRelatedAt τ t js l m n c → PlaceRelatedAt τ (suc t) js l′ m′ n′ c′ → q ≡ not (eqb (τ .oddWidth) (τ .evenWidth)) → WidthParity τ n e
       → WidthParity τ n′ (toggledBit q e c c′)
   parity-due true true e q a b two h =
       let k : a .number ≡ b .number = neither (a .number) (b .number)
@@ -131,7 +131,7 @@ module _ (s : Table) (ok : AllValid s) where
   toggled-start offsets q at two p l = parity-start (task s p) (getD offsets p 0) (bit q p) (at p l) (two p l)
 
   pub toggled-due :
-      (t : ℕ) (m m′ : Machine) (q even : ℕ) → Tied s t m → Ready s t m′ → Paired s q → WidthToggled s m even
+      (t : ℕ) (m m′ : Machine) (q even : ℕ) → MachineRelated s t m → Ready s t m′ → Paired s q → WidthToggled s m even
       → WidthToggled s m′ (toggledBy q even (m .claiming) (m′ .claiming))
   toggled-due t m m′ q even a b two h p l =
       subst (WidthParity (task s p) (getD (m′ .next) p 0)) (sym (toggled-bit q even (m .claiming) (m′ .claiming) p))
@@ -153,7 +153,7 @@ module _ (s : Table) (ok : AllValid s) where
       τ = task s p
 
       works : PlaceWorks τ (suc t) (full s t .job p) (getD (m .left) p 0) (getD (m .event) p 0) (getD (m .next) p 0)
-      works = subst (PlaceTiedAt τ (suc t) (full s t .job p) (getD (m .left) p 0) (getD (m .event) p 0) (getD (m .next) p 0)) claims (h .done p l l)
+      works = subst (PlaceRelatedAt τ (suc t) (full s t .job p) (getD (m .left) p 0) (getD (m .event) p 0) (getD (m .next) p 0)) claims (h .done p l l)
 
       marked : bit even p ≡ evenJob τ (newest τ t)
       marked =

@@ -6,37 +6,37 @@ use lib.Dec.{eqb}
 use Rattle.model.specs.Task.{Task, release, due}
 use Rattle.model.specs.Book.{Job, fresh}
 
--- `seen` counts the ticks whose due events have been handled: it is t before those of tick t are, and t + 1 after.
+-- `handledTo` counts the ticks whose due events have been handled: it is t before those of tick t are, and t + 1 after.
 
 -- l ticks are left, the deadline m is ahead: a job was released, has not ended, and has had what is not left; those before it have ended,
 -- those after it are fresh, and the first of them comes at n
-pub record PlaceWorks (τ : Task) (seen : ℕ) (js : ℕ → Job) (l m n : ℕ) : Type 0 where
+pub record PlaceWorks (τ : Task) (handledTo : ℕ) (js : ℕ → Job) (l m n : ℕ) : Type 0 where
   pub number : ℕ
   pub had : ℕ
   pub owed : 1 ≤ l
   pub whole : had + l ≡ τ .length
-  pub begun : release τ number < seen
+  pub begun : release τ number < handledTo
   pub deadline : m ≡ due τ number
-  pub ahead-of : seen ≤ m
+  pub ahead-of : handledTo ≤ m
   pub following : n ≡ release τ (suc number)
   pub line : js number ≡ record { had = had; claimed = had; ended = false }
   pub past : (i : ℕ) → i < number → js i .ended ≡ true
   pub later : (i : ℕ) → number < i → js i ≡ fresh
 
 -- no tick is left, and m is n: every job released so far has ended, and the next, released at n, is fresh as are all after it
-pub record PlaceRests (τ : Task) (seen : ℕ) (js : ℕ → Job) (l m n : ℕ) : Type 0 where
+pub record PlaceRests (τ : Task) (handledTo : ℕ) (js : ℕ → Job) (l m n : ℕ) : Type 0 where
   pub number : ℕ
   pub none : l ≡ 0
   pub event : m ≡ release τ number
-  pub ahead-of : seen ≤ m
+  pub ahead-of : handledTo ≤ m
   pub following : n ≡ release τ number
   pub past : (i : ℕ) → i < number → js i .ended ≡ true
   pub later : (i : ℕ) → number ≤ i → js i ≡ fresh
 
 -- a place that claims or not
-abbrev pub PlaceTiedAt : Task → ℕ → (ℕ → Job) → ℕ → ℕ → ℕ → Bool → Type 0
-PlaceTiedAt τ seen js l m n true = PlaceWorks τ seen js l m n
-PlaceTiedAt τ seen js l m n false = PlaceRests τ seen js l m n
+abbrev pub PlaceRelatedAt : Task → ℕ → (ℕ → Job) → ℕ → ℕ → ℕ → Bool → Type 0
+PlaceRelatedAt τ handledTo js l m n true = PlaceWorks τ handledTo js l m n
+PlaceRelatedAt τ handledTo js l m n false = PlaceRests τ handledTo js l m n
 
 -- THE WIDTH
 

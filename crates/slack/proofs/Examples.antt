@@ -15,7 +15,7 @@ use Rattle.model.specs.Task.{AllValid, Rule, Table, greedy, idling, lending}
 use Rattle.model.specs.Verdict.{Firm, Full, Miss, Verdict, verdict}
 use Rattle.table.proofs.Examples.{chained}
 use Rattle.table.specs.Answer.{answerOf, byHorizon, byTasks, byWalk, endingOf, firstOut, headerNumber, lastStep}
-use Rattle.table.specs.Words.{chain, count, met, tableOf}
+use Rattle.table.specs.Words.{chain, count, visited, tableOf}
 use Rattle.slack.specs.declared.SlackAnswer.{SlackAnswer}
 use Rattle.slack.specs.Answer.{slackIn, hasSlack, slackOf, noSlack}
 use Rattle.slack.specs.Answer as answers
@@ -87,8 +87,8 @@ abbrev pub worked : Line → Line
 worked l = record { words = l .words; says = slackOf (l .words) }
 
 -- these numbers are given, with zeros past them; the words are turned down by a number, with its position
-abbrev givenSlack : List ℕ → List ℕ → Line
-givenSlack ws xs = record { words = ws; says = answers.givenSlack (xs ++ replicate (mostTasks - length xs) 0) }
+abbrev givenLine : List ℕ → List ℕ → Line
+givenLine ws xs = record { words = ws; says = answers.givenSlack (xs ++ replicate (mostTasks - length xs) 0) }
 
 abbrev refuses : List ℕ → ℕ → ℕ → Line
 refuses ws n p = record { words = ws; says = noSlack n p }
@@ -122,9 +122,9 @@ wordsE = header 1 1 2 ++ entry 2 1 1 1 1 2 ++ entry 0 0 1 1 2 3
 abbrev wordsF : ℕ → ℕ → List ℕ
 wordsF r c = header 1 1 r ++ entry 0 0 1 c 1 2
 
--- one core, rule 2: the tasks of `harmed` in other places: the chain 2, 3, 1 and a fourth record that is not on it
-abbrev harmed : List ℕ
-harmed = header 1 1 2 ++ entry 2 0 1 1 6 6 ++ entry 3 0 1 1 2 6 ++ entry 0 0 1 1 6 6
+-- one core, rule 2: the tasks of `reordered` in other places: the chain 2, 3, 1 and a fourth record that is not on it
+abbrev reordered : List ℕ
+reordered = header 1 1 2 ++ entry 2 0 1 1 6 6 ++ entry 3 0 1 1 2 6 ++ entry 0 0 1 1 6 6
 
 abbrev permuted : List ℕ
 permuted = header 2 1 2 ++ entry 0 0 1 1 6 6 ++ entry 3 0 1 1 6 6 ++ entry 1 0 1 1 2 6 ++ entry 9 0 0 0 0 0
@@ -143,29 +143,29 @@ six-at-once = header 1 1 1 ++ chained 7 1 (8 ∷ 27 ∷ 125 ∷ 7 ∷ 11 ∷ 13 
 abbrev pub lines : List Line
 lines =
     -- one task alone may grow to its deadline: it has no slack, or two of them with D below T
-    givenSlack (header 1 1 2 ++ entry 0 0 1 2 2 2) (0 ∷ []) ∷ givenSlack (header 1 1 2 ++ entry 0 0 1 1 3 5) (2 ∷ [])
+    givenLine (header 1 1 2 ++ entry 0 0 1 2 2 2) (0 ∷ []) ∷ givenLine (header 1 1 2 ++ entry 0 0 1 1 3 5) (2 ∷ [])
     -- two tasks share two ticks, each alone may have them; one is bounded by the other's deadline
-    ∷ givenSlack (header 1 1 2 ++ entry 2 0 1 1 4 4 ++ entry 0 0 1 1 4 4) (2 ∷ 2 ∷ [])
-    ∷ givenSlack (header 1 1 2 ++ entry 2 0 1 1 4 4 ++ entry 0 0 1 1 3 4) (1 ∷ 1 ∷ [])
+    ∷ givenLine (header 1 1 2 ++ entry 2 0 1 1 4 4 ++ entry 0 0 1 1 4 4) (2 ∷ 2 ∷ [])
+    ∷ givenLine (header 1 1 2 ++ entry 2 0 1 1 4 4 ++ entry 0 0 1 1 3 4) (1 ∷ 1 ∷ [])
     -- the second has no space, and so the first none, but the third; with the records in other places
-    ∷ givenSlack harmed (0 ∷ 0 ∷ 3 ∷ []) ∷ givenSlack permuted (0 ∷ 0 ∷ 3 ∷ [])
+    ∷ givenLine reordered (0 ∷ 0 ∷ 3 ∷ []) ∷ givenLine permuted (0 ∷ 0 ∷ 3 ∷ [])
     -- C2, in the width order, under rules 1 and 2; not under 3 and 4, though it is accepted
-    ∷ givenSlack (ruledC2 1) (0 ∷ 1 ∷ 0 ∷ []) ∷ givenSlack (ruledC2 2) (0 ∷ 1 ∷ 0 ∷ []) ∷ refuses (ruledC2 3) 23 0 ∷ refuses (ruledC2 4) 23 0
+    ∷ givenLine (ruledC2 1) (0 ∷ 1 ∷ 0 ∷ []) ∷ givenLine (ruledC2 2) (0 ∷ 1 ∷ 0 ∷ []) ∷ refuses (ruledC2 3) 23 0 ∷ refuses (ruledC2 4) 23 0
     -- E, whose first job is released late
-    ∷ givenSlack wordsE (0 ∷ 0 ∷ [])
+    ∷ givenLine wordsE (0 ∷ 0 ∷ [])
     -- two widths: rule 2 needs no order, rule 1 needs the larger of each to be at most the smaller of the next
-    ∷ givenSlack (alternating 2) (1 ∷ 1 ∷ []) ∷ refuses (alternating 1) 23 0 ∷ givenSlack (alternating-second 1) (1 ∷ 1 ∷ []) ∷ givenSlack (alternating-second 2) (1 ∷ 1 ∷ [])
+    ∷ givenLine (alternating 2) (1 ∷ 1 ∷ []) ∷ refuses (alternating 1) 23 0 ∷ givenLine (alternating-second 1) (1 ∷ 1 ∷ []) ∷ givenLine (alternating-second 2) (1 ∷ 1 ∷ [])
     -- on the one core that the fence leaves of two, and on both
-    ∷ givenSlack (1 ∷ 2 ∷ 2 ∷ 2 ∷ 0 ∷ entry 2 0 1 1 2 3 ++ entry 0 0 1 1 3 3) (1 ∷ 1 ∷ [])
-    ∷ givenSlack (header 1 2 2 ++ entry 2 0 1 1 2 3 ++ entry 0 0 1 1 3 3) (1 ∷ 2 ∷ [])
+    ∷ givenLine (1 ∷ 2 ∷ 2 ∷ 2 ∷ 0 ∷ entry 2 0 1 1 2 3 ++ entry 0 0 1 1 3 3) (1 ∷ 1 ∷ [])
+    ∷ givenLine (header 1 2 2 ++ entry 2 0 1 1 2 3 ++ entry 0 0 1 1 3 3) (1 ∷ 2 ∷ [])
     -- out of the width order under rule 1: A, B and C, which are Full
     ∷ refuses (ruledA 1) 23 0 ∷ refuses (ruledB 1) 23 0 ∷ refuses (ruledC 1) 23 0
     -- a miss under rule 2: A2, B2 and C; and under rule 1 in the width order: F
-    ∷ refuses (ruledA 2) 23 0 ∷ refuses (ruledB 2) 23 0 ∷ refuses (ruledC 2) 23 0 ∷ refuses (wordsF 1 2) 23 0 ∷ givenSlack (wordsF 1 1) (0 ∷ [])
+    ∷ refuses (ruledA 2) 23 0 ∷ refuses (ruledB 2) 23 0 ∷ refuses (ruledC 2) 23 0 ∷ refuses (wordsF 1 2) 23 0 ∷ givenLine (wordsF 1 1) (0 ∷ [])
     -- rules 3 and 4: A and B, which are Firm
     ∷ refuses (ruledA 3) 23 0 ∷ refuses (ruledA 4) 23 0 ∷ refuses (ruledB 3) 23 0 ∷ refuses (ruledB 4) 23 0
     -- 32 places, which have 32 numbers
-    ∷ givenSlack (header 1 32 1 ++ chained 0 1 (replicate 32 1)) (replicate 32 0)
+    ∷ givenLine (header 1 32 1 ++ chained 0 1 (replicate 32 1)) (replicate 32 0)
     -- C of 1,000,000 and one more: 23 and 8
     ∷ refuses (wordsF 2 1000000) 23 0 ∷ refuses (wordsF 2 1000001) 8 1
     -- 1, 2 before 23, 4, 7 with its position, and 9 before 23
@@ -176,10 +176,10 @@ lines =
 -- every line is its value by the definitions
 pub examples : map worked lines ≡ lines
 unfolding slackOf slackIn hasSlack ordered slack misses chained answerOf byWalk byTasks byHorizon firstOut endingOf lastStep headerNumber tableOf chain count
-    met computing
+    visited computing
 examples = refl
 
 -- the words with the third task of `permuted`, its first record, longer by 3
 pub grown-words : grownWords permuted 2 3 ≡ header 2 1 2 ++ entry 0 0 1 4 6 6 ++ entry 3 0 1 1 6 6 ++ entry 1 0 1 1 2 6 ++ entry 9 0 0 0 0 0
-unfolding grownWords met computing
+unfolding grownWords visited computing
 grown-words = refl

@@ -20,7 +20,7 @@ use Rattle.table.proofs.Tasks.{table-at, table-length}
 use Rattle.table.specs.Limits.{CoresOut, FenceOut, RuleOut, TimesOut, WidthOut, mostTime}
 use Rattle.table.specs.Numbers.{NoneApplies, Position, Reaches}
 use Rattle.table.specs.Numbers.{eight, five, four, nine, nineteen, one, seven, six, three, two}
-use Rattle.table.specs.Words.{coreCount, count, fence, fenceOf, field, headerWords, met, next, recordWords, records}
+use Rattle.table.specs.Words.{coreCount, count, fence, fenceOf, field, headerWords, visited, next, recordWords, records}
 use Rattle.table.specs.Words.{tableOf, taskAt, taskOfRecord, word}
 use Rattle.slack.specs.GrownWords.{grownWords, lengthAt}
 use Rattle.slack.specs.Longer.{grown, lengthen}
@@ -32,7 +32,7 @@ module _ (ws : List ℕ) (none : NoneApplies ws) (p : ℕ) (l : p < length (tabl
 
   -- the record that changes, and which word
   abbrev own : ℕ
-  own = met ws p
+  own = visited ws p
 
   abbrev at : ℕ
   at = lengthAt own
@@ -55,14 +55,14 @@ module _ (ws : List ℕ) (none : NoneApplies ws) (p : ℕ) (l : p < length (tabl
   same-next : (n : ℕ) → next us n ≡ next ws n
   same-next n = same-word (headerWords + (n - 1) * recordWords + 0) (λ e. omega arith)
 
-  same-met : (k : ℕ) → met us k ≡ met ws k
-  unfolding met
-  same-met zero = same-header 0 (omega arith)
-  same-met (suc k) = ap (next us) (same-met k) ∙ same-next (met ws k)
+  same-visited : (k : ℕ) → visited us k ≡ visited ws k
+  unfolding visited
+  same-visited zero = same-header 0 (omega arith)
+  same-visited (suc k) = ap (next us) (same-visited k) ∙ same-next (visited ws k)
 
   same-count : count us ≡ count ws
   unfolding count
-  same-count = ap₂ (λ (n : ℕ) (f : ℕ → ℕ). least (suc n) (λ k. eqb (f k) 0)) same-records (fun-ext same-met)
+  same-count = ap₂ (λ (n : ℕ) (f : ℕ → ℕ). least (suc n) (λ k. eqb (f k) 0)) same-records (fun-ext same-visited)
 
   -- every word but the one of the record at place p
   same-field : (n j : ℕ) → j < recordWords → (j ≡ 3 → ⊥) → field us n j ≡ field ws n j
@@ -78,7 +78,7 @@ module _ (ws : List ℕ) (none : NoneApplies ws) (p : ℕ) (l : p < length (tabl
       let b : ¬ (records ws < own) = passed-reached ws none p l′ .1 in
       omega arith
 
-  own-only : (q : ℕ) → q < count ws → (q ≡ p → ⊥) → met ws q ≡ own → ⊥
+  own-only : (q : ℕ) → q < count ws → (q ≡ p → ⊥) → visited ws q ≡ own → ⊥
   own-only q m d e = go (ltb q p) refl
     where
       go : (t : Bool) → ltb q p ≡ t → ⊥
@@ -109,19 +109,19 @@ module _ (ws : List ℕ) (none : NoneApplies ws) (p : ℕ) (l : p < length (tabl
       λ i. record { offset = one i; oddWidth = two i; length = three i; deadline = four i; period = five i; evenWidth = six i }
 
   -- the task at each place
-  task-grown : (q : ℕ) → q < count ws → taskOfRecord us (met us q) ≡ getD (grown (tableOf ws) p g .tasks) q absentTask
-  task-grown q m = ap (taskOfRecord us) (same-met q) ∙ go (eqb q p) refl
+  task-grown : (q : ℕ) → q < count ws → taskOfRecord us (visited us q) ≡ getD (grown (tableOf ws) p g .tasks) q absentTask
+  task-grown q m = ap (taskOfRecord us) (same-visited q) ∙ go (eqb q p) refl
     where
-      go : (t : Bool) → eqb q p ≡ t → taskOfRecord us (met ws q) ≡ getD (set (tableOf ws .tasks) p (lengthen g (task (tableOf ws) p))) q absentTask
+      go : (t : Bool) → eqb q p ≡ t → taskOfRecord us (visited ws q) ≡ getD (set (tableOf ws .tasks) p (lengthen g (task (tableOf ws) p))) q absentTask
       go true e =
           let i : q ≡ p = eqb-true q p e in
-          subst (λ (n : ℕ). taskOfRecord us (met ws n) ≡ getD (set (tableOf ws .tasks) p (lengthen g (task (tableOf ws) p))) n absentTask) (sym i)
+          subst (λ (n : ℕ). taskOfRecord us (visited ws n) ≡ getD (set (tableOf ws .tasks) p (lengthen g (task (tableOf ws) p))) n absentTask) (sym i)
           (own-record
           ∙ (ap (lengthen g) (sym (table-at ws p l′)) ∙ sym (getD-set-same (tableOf ws .tasks) p (lengthen g (task (tableOf ws) p)) absentTask l)))
       go false e =
           let d : ¬ (q ≡ p) = eqb-false q p e in
-          let a : ¬ (met ws q ≡ 0) = passed-reached ws none q m .0 in
-          other-record (met ws q) (omega arith) (own-only q m d)
+          let a : ¬ (visited ws q ≡ 0) = passed-reached ws none q m .0 in
+          other-record (visited ws q) (omega arith) (own-only q m d)
           ∙ (sym (table-at ws q m) ∙ sym (getD-set-other (tableOf ws .tasks) p q (lengthen g (task (tableOf ws) p)) absentTask d))
 
   tasks-grown : tableOf us .tasks ≡ grown (tableOf ws) p g .tasks
@@ -153,9 +153,9 @@ module _ (ws : List ℕ) (none : NoneApplies ws) (p : ℕ) (l : p < length (tabl
 
   reaches-back : (k : ℕ) → Reaches us k → Reaches ws k
   reaches-back k c j m = (
-    λ e. c j m .0 (same-met j ∙ e),
-    λ e. c j m .1 (omega (arith, e, same-met j, same-records)),
-    λ e. c j m .2 (e .0, e .1, same-met (e .0) ∙ (e .2 ∙ sym (same-met j))),
+    λ e. c j m .0 (same-visited j ∙ e),
+    λ e. c j m .1 (omega (arith, e, same-visited j, same-records)),
+    λ e. c j m .2 (e .0, e .1, same-visited (e .0) ∙ (e .2 ∙ sym (same-visited j))),
   )
 
   position : (q : ℕ) → Position us q → Position ws q
@@ -168,30 +168,30 @@ module _ (ws : List ℕ) (none : NoneApplies ws) (p : ℕ) (l : p < length (tabl
   task-kept : (q : ℕ) → Position ws q → Kept q
   task-kept q (a, b) = go (eqb (q - 1) p) refl
     where
-      same : taskAt us q ≡ taskOfRecord us (met ws (q - 1))
-      same = ap (taskOfRecord us) (same-met (q - 1))
+      same : taskAt us q ≡ taskOfRecord us (visited ws (q - 1))
+      same = ap (taskOfRecord us) (same-visited (q - 1))
 
       go : (t : Bool) → eqb (q - 1) p ≡ t → Kept q
       go true e =
           let i : q - 1 ≡ p = eqb-true (q - 1) p e in
-          inr (omega arith, same ∙ subst (λ (n : ℕ). taskOfRecord us (met ws n) ≡ lengthen g (taskOfRecord ws (met ws n))) (sym i) own-record)
+          inr (omega arith, same ∙ subst (λ (n : ℕ). taskOfRecord us (visited ws n) ≡ lengthen g (taskOfRecord ws (visited ws n))) (sym i) own-record)
       go false e =
           let d : ¬ (q - 1 ≡ p) = eqb-false (q - 1) p e in
           let m : q - 1 < count ws = omega arith in
-          let z : ¬ (met ws (q - 1) ≡ 0) = passed-reached ws none (q - 1) m .0 in
-          inl (same ∙ other-record (met ws (q - 1)) (omega arith) (own-only (q - 1) m d))
+          let z : ¬ (visited ws (q - 1) ≡ 0) = passed-reached ws none (q - 1) m .0 in
+          inl (same ∙ other-record (visited ws (q - 1)) (omega arith) (own-only (q - 1) m d))
 
   abbrev wide : List ℕ → ℕ
   wide vs = unfencedCount (fence vs) (coreCount vs)
 
-  same-wide : wide us ≡ wide ws
-  same-wide = ap₂ unfencedCount same-fence same-cores
+  same-width-limit : wide us ≡ wide ws
+  same-width-limit = ap₂ unfencedCount same-fence same-cores
 
   module _ (most : task (tableOf ws) p .length + g ≤ mostTime) where
     -- 7 reads no length, and 8 has it within its limit
     never-wide : (q : ℕ) → Kept q → WidthOut (wide us) (taskAt us q) → WidthOut (wide ws) (taskAt ws q)
-    never-wide q (inl e) h = subst (λ (m : ℕ). WidthOut m (taskAt ws q)) same-wide (subst (WidthOut (wide us)) e h)
-    never-wide q (inr (i, e)) h = subst (λ (m : ℕ). WidthOut m (taskAt ws q)) same-wide (subst (WidthOut (wide us)) e h)
+    never-wide q (inl e) h = subst (λ (m : ℕ). WidthOut m (taskAt ws q)) same-width-limit (subst (WidthOut (wide us)) e h)
+    never-wide q (inr (i, e)) h = subst (λ (m : ℕ). WidthOut m (taskAt ws q)) same-width-limit (subst (WidthOut (wide us)) e h)
 
     grown-times : (τ : Task) → 1 ≤ τ .length → τ .length + g ≤ mostTime → TimesOut (lengthen g τ) → TimesOut τ
     grown-times τ a b (inl h) = inl h
@@ -201,7 +201,7 @@ module _ (ws : List ℕ) (none : NoneApplies ws) (p : ℕ) (l : p < length (tabl
     never-times : (q : ℕ) → Kept q → TimesOut (taskAt us q) → TimesOut (taskAt ws q)
     never-times q (inl e) h = subst TimesOut e h
     never-times q (inr (i, e)) h =
-        let here : task (tableOf ws) p ≡ taskAt ws q = table-at ws p l′ ∙ ap (λ (n : ℕ). taskOfRecord ws (met ws n)) (omega arith) in
+        let here : task (tableOf ws) p ≡ taskAt ws q = table-at ws p l′ ∙ ap (λ (n : ℕ). taskOfRecord ws (visited ws n)) (omega arith) in
         grown-times (taskAt ws q)
         (subst (λ (τ : Task). 1 ≤ τ .length) here (passed-inside ws none p l .length-from .0))
         (subst (λ (τ : Task). τ .length + g ≤ mostTime) here most)
@@ -217,8 +217,8 @@ module _ (ws : List ℕ) (none : NoneApplies ws) (p : ℕ) (l : p < length (tabl
     grown-passes n q (nineteen h) =
         none 19 0 (nineteen (subst (FenceOut (coreCount ws)) same-fence (subst (λ (m : ℕ). FenceOut m (fence us)) same-cores h)))
     grown-passes n q (four h) = none 4 0 (four (sym (same-header 0 (omega arith)) ∙ h))
-    grown-passes n q (five k c h) = none 5 0 (five k (reaches-back k c) (omega (arith, h, same-met k, same-records)))
-    grown-passes n q (six k c h) = none 6 0 (six k (reaches-back k c) (h .0, h .1, sym (same-met (h .0)) ∙ (h .2 ∙ same-met k)))
+    grown-passes n q (five k c h) = none 5 0 (five k (reaches-back k c) (omega (arith, h, same-visited k, same-records)))
+    grown-passes n q (six k c h) = none 6 0 (six k (reaches-back k c) (h .0, h .1, sym (same-visited (h .0)) ∙ (h .2 ∙ same-visited k)))
     grown-passes n q (seven i o h) = none 7 i (seven i (position i o) (never-wide i (task-kept i (position i o)) h))
     grown-passes n q (eight i o h) = none 8 i (eight i (position i o) (never-times i (task-kept i (position i o)) h))
     grown-passes n q (nine h) =

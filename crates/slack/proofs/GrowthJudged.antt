@@ -21,7 +21,7 @@ use Rattle.table.proofs.Passed.{passed-valid}
 use Rattle.table.specs.Limits.{mostTime}
 use Rattle.table.specs.Numbers.{NoneApplies}
 use Rattle.table.specs.Words.{tableOf}
-use Rattle.judge.proofs.Promise.{passed-is}
+use Rattle.judge.proofs.Contract.{passed-is}
 use Rattle.judge.specs.declared.Verdict.the-variants.{Firm, Miss}
 use Rattle.judge.specs.Judged.{verdictOf}
 use Rattle.judge.specs.JudgeAnswer.{verdictCase, judged}

@@ -10,8 +10,8 @@ pub mod GrowthJudged
 pub mod Alone
 pub mod Judging
 pub mod LongerIn
-pub mod Halving
+pub mod Bisection
 pub mod Listed
-pub mod Promise
+pub mod Contract
 pub mod OffChain
 pub mod Examples

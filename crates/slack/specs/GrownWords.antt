@@ -3,7 +3,7 @@
 use mathlib.Core.List.{List}
 use Prim.Native.Nat.{ℕ, _*_, _+_, _-_}
 use lib.ListN.{set}
-use Rattle.table.specs.Words.{headerWords, met, recordWords, word}
+use Rattle.table.specs.Words.{headerWords, visited, recordWords, word}
 
 -- the index of the word with the length C of record n
 abbrev pub lengthAt : ℕ → ℕ
@@ -11,4 +11,4 @@ lengthAt n = headerWords + (n - 1) * recordWords + 3
 
 -- the words with the C of the task at place p grown by g ticks
 unfoldable pub grownWords : List ℕ → ℕ → ℕ → List ℕ
-grownWords ws p g = set ws (lengthAt (met ws p)) (word ws (lengthAt (met ws p)) + g)
+grownWords ws p g = set ws (lengthAt (visited ws p)) (word ws (lengthAt (visited ws p)) + g)

@@ -11,7 +11,7 @@ use borrow.Rule.Slice.PartMut.{putMid, take-put}
 use Rattle.stream.specs.declared.Reading.{Reading}
 use Rattle.stream.specs.declared.Sent.{Sent}
 use Rattle.stream.specs.Reading.{ReadAfter}
-use Rattle.stream.specs.Sent.{counted, SentOf}
+use Rattle.stream.specs.Sent.{saturated, SentOf}
 
 -- READING
 
@@ -35,11 +35,11 @@ behind-on {held} {before} {middle} {after} {r} {s} p q = record {
 
 -- WRITING
 
-pub sent-part : (n k count : ℕ) (bytes : List ℕ) → k < length bytes → count ≡ counted (n + k) → SentOf n bytes (record { count = count; whole = false })
+pub sent-part : (n k count : ℕ) (bytes : List ℕ) → k < length bytes → count ≡ saturated (n + k) → SentOf n bytes (record { count = count; whole = false })
 sent-part n k count bytes h e = record { all = λ w. absurd (false≢true w); part = λ w. (k, h, e) }
 
-pub sent-all : (n k count : ℕ) (bytes : List ℕ) → k ≡ length bytes → count ≡ counted (n + k) → SentOf n bytes (record { count = count; whole = true })
-sent-all n k count bytes h e = record { all = λ w. e ∙ ap (λ (m : ℕ). counted (n + m)) h; part = λ w. absurd (false≢true (sym w)) }
+pub sent-all : (n k count : ℕ) (bytes : List ℕ) → k ≡ length bytes → count ≡ saturated (n + k) → SentOf n bytes (record { count = count; whole = true })
+sent-all n k count bytes h e = record { all = λ w. e ∙ ap (λ (m : ℕ). saturated (n + m)) h; part = λ w. absurd (false≢true (sym w)) }
 
 -- what was passed to writes after what was taken whole
 pub sent-then :
@@ -57,5 +57,5 @@ sent-stopped n xs ys s p w = record {
 }
 
 -- nothing was passed, and nothing was to be
-pub sent-nothing : (n : ℕ) → n ≡ counted n → SentOf n [] (record { count = n; whole = true })
+pub sent-nothing : (n : ℕ) → n ≡ saturated n → SentOf n [] (record { count = n; whole = true })
 sent-nothing n e = sent-all n 0 n [] refl (omega (arith, e))

@@ -9,8 +9,8 @@ use lib.ListN.{length}
 use Rattle.stream.specs.declared.Sent.{Sent}
 
 -- a count that stops at the largest number that it can be
-abbrev pub counted : ℕ → ℕ
-counted n = min n 18446744073709551615
+abbrev pub saturated : ℕ → ℕ
+saturated n = min n 18446744073709551615
 
 -- the bytes of a text of plain letters; as `letters` in text/specs/Output
 abbrev letters : String → List ℕ
@@ -23,5 +23,5 @@ unreadBy name = name ++ letters ": standard input could not be read\n"
 
 -- after n bytes these were passed to writes: they took all of them; or they took a number of them, and not the rest
 pub record SentOf (n : ℕ) (bytes : List ℕ) (r : Sent) : Type 0 where
-  pub all : r .whole ≡ true → r .count ≡ counted (n + length bytes)
-  pub part : r .whole ≡ false → (k : ℕ) × (k < length bytes) × (r .count ≡ counted (n + k))
+  pub all : r .whole ≡ true → r .count ≡ saturated (n + length bytes)
+  pub part : r .whole ≡ false → (k : ℕ) × (k < length bytes) × (r .count ≡ saturated (n + k))

@@ -3,7 +3,7 @@ ghost use mathlib.Core.Path.{_≡_};
 ghost use Prim.Native.Nat.{_+_, _≤_};
 ghost use lib.ListN.{length};
 ghost use Rattle.stream.specs.Reading.{ReadOnceOf, FilledOf};
-ghost use Rattle.stream.specs.Sent.{counted, unreadBy, SentOf};
+ghost use Rattle.stream.specs.Sent.{saturated, unreadBy, SentOf};
 use libc::STDERR_FILENO;
 use libc::STDIN_FILENO;
 use libc::STDOUT_FILENO;
@@ -66,7 +66,7 @@ pub fn fill(buffer: &mut [u8], held: usize) -> Reading
 
 // A count and more, which stops at the largest number that a count can be.
 fn add(count: usize, more: usize) -> usize
-    ensures { λ r. ⌜ r ≡ counted (count + more) ⌝ }
+    ensures { λ r. ⌜ r ≡ saturated (count + more) ⌝ }
 {
     if usize::MAX - count < more {
         return usize::MAX;

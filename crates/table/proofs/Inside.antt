@@ -24,7 +24,7 @@ within a b x n = stable (inRange a b x) (InRange a b x) (from-decides a b x) n
 pub inside : (m : ℕ) (τ : Task) → ¬ (WidthOut m τ ⊎ TimesOut τ) → Inside m τ
 inside m τ n =
     let zero : ¬ (τ .oddWidth ≡ 0) = λ e. n (inl (inl (inl e))) in
-    let wide : ¬ (m < τ .oddWidth) = λ e. n (inl (inl (inr e))) in
+    let widthLimit : ¬ (m < τ .oddWidth) = λ e. n (inl (inl (inr e))) in
     let zero′ : ¬ (τ .evenWidth ≡ 0) = λ e. n (inl (inr (inl e))) in
     let wide′ : ¬ (m < τ .evenWidth) = λ e. n (inl (inr (inr e))) in
     let late : ¬ (mostTime < τ .offset) = λ e. n (inr (inl e)) in

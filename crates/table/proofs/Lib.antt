@@ -17,6 +17,6 @@ pub mod Inside
 pub mod Walking
 pub mod Loads
 pub mod Passed
-pub mod Promise
+pub mod Contract
 pub mod OffChain
 pub mod UnfencedWords

@@ -17,7 +17,7 @@ use Rattle.table.specs.declared.chain.Ending.the-variants.{Past, Again, 
 use Rattle.table.specs.Task.{taskOf, tasksOf, noTask, InLimits}
 use Rattle.table.specs.Words.{coreCount, rule, fence, count, tableOf}
 use Rattle.table.specs.Limits.{taskNumber, taskOut, horizonOut, mostHorizon}
-use Rattle.table.specs.Answer.{headerNumber, firstOut, wide, byHorizon, byTasks, endingOf, byWalk, answerOf}
+use Rattle.table.specs.Answer.{headerNumber, firstOut, widthLimit, byHorizon, byTasks, endingOf, byWalk, answerOf}
 use Rattle.table.specs.Load.{codeTask, codeTasks, passing, refusal, loadedBy, tableWith, loadOf}
 use Rattle.table.proofs.Places.{tasks-length, task-at}
 use Rattle.table.proofs.Tasks.{table-length}
@@ -74,8 +74,8 @@ made m f r tasks count start period there whole e g near =
 
 -- THE TASKS
 
-module _ (s : model.Table) (l : Loaded) (place : ℕ) (out : firstOut (wide s) (s .tasks) ≡ place) where
-  pub by-number : place < length (s .tasks) → loadedBy (byTasks s) l ≡ refusal (taskNumber (wide s) (model.task s place)) (suc place)
+module _ (s : model.Table) (l : Loaded) (place : ℕ) (out : firstOut (widthLimit s) (s .tasks) ≡ place) where
+  pub by-number : place < length (s .tasks) → loadedBy (byTasks s) l ≡ refusal (taskNumber (widthLimit s) (model.task s place)) (suc place)
   unfolding byTasks
   by-number h = rw (out, lt-ltb place (length (s .tasks)) h)
 

@@ -12,7 +12,7 @@ use Rattle.model.specs.Horizon.{horizon}
 use Rattle.model.proofs.Bools.{not-true-false}
 use Rattle.model.specs.Sizes.{mostCores, mostTasks}
 use Rattle.table.specs.declared.chain.Ending.the-variants.{Past, Again, Whole}
-use Rattle.table.specs.Words.{head, coreCount, rule, fence, met, count, taskAt, tableOf}
+use Rattle.table.specs.Words.{head, coreCount, rule, fence, visited, count, taskAt, tableOf}
 use Rattle.table.specs.Limits.{InRange, inRange, FenceOut, mostHorizon}
 use Rattle.table.specs.Numbers.{WordsOut, EndAt, Reaches, one, two, three, nineteen, four, seven, eight, nine, NoneApplies}
 use Rattle.table.specs.Answer.{headerNumber, pastAt, againAt, lastStep, endingOf}
@@ -27,7 +27,7 @@ use Rattle.table.proofs.Inside.{Inside, inside, inside-valid}
 
 -- a chain that ends at the zero and has a head has 1 to 32 records, of at most 32
 count-from : (ws : List ℕ) → ¬ WordsOut ws → ¬ (head ws ≡ 0) → pastAt ws (lastStep ws) ≡ false → againAt ws (lastStep ws) ≡ false → InRange 1 mostTasks (count ws)
-unfolding met
+unfolding visited
 count-from ws w headed p a =
     let few = words-few ws w in
     let short = reaches-short ws (lastStep ws) (last-reached ws) in
@@ -79,25 +79,25 @@ module _ (ws : List ℕ) (none : NoneApplies ws) where
   passed-fence h = none 19 0 (nineteen h)
 
   -- what a width is measured against
-  abbrev wideIn : ℕ
-  wideIn = unfencedCount (fence ws) (coreCount ws)
+  abbrev widthLimitOf : ℕ
+  widthLimitOf = unfencedCount (fence ws) (coreCount ws)
 
   -- each task is within its limits
-  pub passed-inside : (p : ℕ) → p < length (tableOf ws .tasks) → Inside wideIn (task (tableOf ws) p)
+  pub passed-inside : (p : ℕ) → p < length (tableOf ws .tasks) → Inside widthLimitOf (task (tableOf ws) p)
   passed-inside p l =
       let n = table-length ws in
       let e : suc p - 1 ≡ p = omega arith in
-      let i : Inside wideIn (taskAt ws (suc p)) =
-      inside wideIn (taskAt ws (suc p))
+      let i : Inside widthLimitOf (taskAt ws (suc p)) =
+      inside widthLimitOf (taskAt ws (suc p))
       (λ x. ⊎-elim (λ h. none 7 (suc p) (seven (suc p) (omega arith) h)) (λ h. none 8 (suc p) (eight (suc p) (omega arith) h)) x) in
       rw (table-at ws p (omega arith)) (rw e at i)
 
   -- so the theorems of the model hold of it
   pub passed-valid : AllValid (tableOf ws)
-  passed-valid p l = inside-valid wideIn (task (tableOf ws) p) (passed-inside p l)
+  passed-valid p l = inside-valid widthLimitOf (task (tableOf ws) p) (passed-inside p l)
 
   -- no width is above the number of unfenced cores
-  pub passed-widths : (p : ℕ) → p < length (tableOf ws .tasks) → (task (tableOf ws) p .oddWidth ≤ wideIn) × (task (tableOf ws) p .evenWidth ≤ wideIn)
+  pub passed-widths : (p : ℕ) → p < length (tableOf ws .tasks) → (task (tableOf ws) p .oddWidth ≤ widthLimitOf) × (task (tableOf ws) p .evenWidth ≤ widthLimitOf)
   passed-widths p l = (passed-inside p l .odd-from .1, passed-inside p l .even-from .1)
 
   -- the horizon is at most 1,000,000,000

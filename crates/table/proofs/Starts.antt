@@ -21,8 +21,8 @@ use Rattle.table.specs.Limits.{mostTime}
 abbrev pub since : ℕ → ℕ → ℕ
 since t offset = (t + 67108864 - offset) % 67108864 * ((t + 67108864 - offset) / 67108864)
 
-pub elapsed : (t offset : ℕ) → t < 67108864 → offset ≤ 67108864 → since t offset ≡ t - offset
-elapsed t offset h l = go (ltb t offset) refl
+pub since-difference : (t offset : ℕ) → t < 67108864 → offset ≤ 67108864 → since t offset ≡ t - offset
+since-difference t offset h l = go (ltb t offset) refl
   where
     go : (b : Bool) → ltb t offset ≡ b → since t offset ≡ t - offset
     go true e =

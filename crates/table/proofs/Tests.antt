@@ -14,7 +14,7 @@ use borrow.Author.Tests.{eqb-true, eq-eqb, le-leb, leb-true, ltb-true, ltb-false
 use Rattle.model.specs.Search.{bit}
 use Rattle.model.specs.Task.{Task}
 use Rattle.model.specs.Sizes.{mostCores, mostTasks}
-use Rattle.table.specs.Words.{headerWords, recordWords, records, met}
+use Rattle.table.specs.Words.{headerWords, recordWords, records, visited}
 use Rattle.table.specs.Limits.{InRange, inRange, CoresOut, coresOut, RuleOut, ruleOut, FenceOut, fenceOut, OneOut, oneOut, WidthOut, widthOut, TimesOut, timesOut, taskOut, mostTime}
 use Rattle.table.specs.Numbers.{WordsOut, EndAt, PastAt, AgainAt}
 use Rattle.table.specs.Answer.{wordsOut, pastAt, againAt, stopsAt}
@@ -103,10 +103,10 @@ pub task-decides : (m : ℕ) (τ : Task) → Decides (taskOut m τ) (WidthOut m 
 task-decides m τ = rw (task-out-is (widthOut m τ) (timesOut τ)) (decides-or (widthOut m τ) (timesOut τ) (WidthOut m τ) (TimesOut τ) (width-decides m τ) (times-decides τ))
 
 pub past-decides : (ws : List ℕ) (k : ℕ) → Decides (pastAt ws k) (PastAt ws k)
-past-decides ws k = decides-lt (records ws) (met ws k)
+past-decides ws k = decides-lt (records ws) (visited ws k)
 
 pub again-decides : (ws : List ℕ) (k : ℕ) → Decides (againAt ws k) (AgainAt ws k)
-again-decides ws k = decides-any k (λ j. eqb (met ws j) (met ws k)) (λ j. met ws j ≡ met ws k) (λ j. decides-eq (met ws j) (met ws k))
+again-decides ws k = decides-any k (λ j. eqb (visited ws j) (visited ws k)) (λ j. visited ws j ≡ visited ws k) (λ j. decides-eq (visited ws j) (visited ws k))
 
 pub stops-decides : (ws : List ℕ) (k : ℕ) → Decides (stopsAt ws k) (EndAt ws k ⊎ (PastAt ws k ⊎ AgainAt ws k))
-stops-decides ws k = decides-or _ _ _ _ (decides-eq (met ws k) 0) (decides-or _ _ _ _ (past-decides ws k) (again-decides ws k))
+stops-decides ws k = decides-or _ _ _ _ (decides-eq (visited ws k) 0) (decides-or _ _ _ _ (past-decides ws k) (again-decides ws k))

@@ -24,7 +24,7 @@ use Rattle.cores.proofs.Unfenced.{memb-open}
 use Rattle.table.specs.UnfencedWords.{unfencedWords}
 use Rattle.table.specs.Limits.{InRange, FenceOut, WidthOut, TimesOut, HorizonOut}
 use Rattle.table.specs.Numbers.{Applies, one, two, three, nineteen, four, five, six, seven, eight, nine, Position, Reaches, NoneApplies}
-use Rattle.table.specs.Words.{headerWords, recordWords, head, coreCount, rule, fence, records, field, met, count, chain, taskOfRecord, taskAt, tableOf}
+use Rattle.table.specs.Words.{headerWords, recordWords, head, coreCount, rule, fence, records, field, visited, count, chain, taskOfRecord, taskAt, tableOf}
 use Rattle.table.proofs.HeaderPasses.{words-long}
 use Rattle.table.proofs.Passed.{passed-cores, passed-fence}
 use Rattle.table.proofs.Tests.{fence-decides}
@@ -52,13 +52,13 @@ module _ (ws : List ℕ) (long : headerWords ≤ length ws) where
       let at : headerWords + (n - 1) * recordWords + j ≡ headerWords + ((n - 1) * recordWords + j) = omega arith in
       ap (λ (i : ℕ). getD us i 0) at ∙ (same-word ((n - 1) * recordWords + j) ∙ ap (λ (i : ℕ). getD ws i 0) (sym at))
 
-  same-met : (k : ℕ) → met us k ≡ met ws k
-  unfolding met unfencedWords
-  same-met zero = refl
-  same-met (suc k) = same-field (met us k) 0 ∙ ap (λ (n : ℕ). field ws n 0) (same-met k)
+  same-visited : (k : ℕ) → visited us k ≡ visited ws k
+  unfolding visited unfencedWords
+  same-visited zero = refl
+  same-visited (suc k) = same-field (visited us k) 0 ∙ ap (λ (n : ℕ). field ws n 0) (same-visited k)
 
-  mets : met us ≡ met ws
-  mets = fun-ext same-met
+  same-visits : visited us ≡ visited ws
+  same-visits = fun-ext same-visited
 
   same-task : (n : ℕ) → taskOfRecord us n ≡ taskOfRecord ws n
   same-task n = λ i. record {
@@ -71,15 +71,15 @@ module _ (ws : List ℕ) (long : headerWords ≤ length ws) where
   }
 
   same-at : (p : ℕ) → taskAt us p ≡ taskAt ws p
-  same-at p = same-task (met us (p - 1)) ∙ ap (taskOfRecord ws) (same-met (p - 1))
+  same-at p = same-task (visited us (p - 1)) ∙ ap (taskOfRecord ws) (same-visited (p - 1))
 
   same-count : count us ≡ count ws
   unfolding count
-  same-count = ap₂ (λ (n : ℕ) (f : ℕ → ℕ). least (suc n) (λ k. eqb (f k) 0)) same-records mets
+  same-count = ap₂ (λ (n : ℕ) (f : ℕ → ℕ). least (suc n) (λ k. eqb (f k) 0)) same-records same-visits
 
   same-tasks : tableOf us .tasks ≡ tableOf ws .tasks
   unfolding tableOf chain
-  same-tasks = λ i. map (fun-ext same-task i) (map (mets i) (upFrom 0 (same-count i)))
+  same-tasks = λ i. map (fun-ext same-task i) (map (same-visits i) (upFrom 0 (same-count i)))
 
   -- THE TABLE is the one with just its unfenced cores
   unfenced-is : tableOf us ≡ unfencedTable (tableOf ws)
@@ -137,7 +137,7 @@ module _ (ws : List ℕ) (none : NoneApplies ws) where
   reaches k c j l =
       let x = c j l in
       let r = same-records ws enough in
-      let e = same-met ws enough in (
+      let e = same-visited ws enough in (
         λ h. x .0 (e j ∙ h),
         λ h. x .1 (omega (arith, r, e j)),
         λ h. x .2 (h .0, h .1, e (h .0) ∙ (h .2 ∙ sym (e j))),
@@ -154,8 +154,8 @@ module _ (ws : List ℕ) (none : NoneApplies ws) where
   unfenced-passes n p (three h) = none 3 0 (three h)
   unfenced-passes n p (nineteen h) = no-fence m (open-from .0) h
   unfenced-passes n p (four h) = none 4 0 (four h)
-  unfenced-passes n p (five k c h) = none 5 0 (five k (reaches k c) (omega (arith, same-records ws enough, same-met ws enough k)))
-  unfenced-passes n p (six k c h) = none 6 0 (six k (reaches k c) (h .0, h .1, sym (same-met ws enough (h .0)) ∙ (h .2 ∙ same-met ws enough k)))
+  unfenced-passes n p (five k c h) = none 5 0 (five k (reaches k c) (omega (arith, same-records ws enough, same-visited ws enough k)))
+  unfenced-passes n p (six k c h) = none 6 0 (six k (reaches k c) (h .0, h .1, sym (same-visited ws enough (h .0)) ∙ (h .2 ∙ same-visited ws enough k)))
   unfenced-passes n p (seven q o h) =
       none 7 q (seven q (position q o) (subst (λ (k : ℕ). WidthOut k (taskAt ws q)) (unfenced-count m) (subst (λ (τ : Task). WidthOut (unfencedCount 0 m) τ) (same-at ws enough q) h)))
   unfenced-passes n p (eight q o h) = none 8 q (eight q (position q o) (subst TimesOut (same-at ws enough q) h))

@@ -11,7 +11,7 @@ use borrow.Author.Tests.{eq-eqb, ne-eqb}
 use Rattle.model.specs.Search.{any}
 use Rattle.model.proofs.Bools.{not-true-false, not-false-true}
 use Rattle.model.proofs.Search.{least-any, least-lowest, none-at, least-is}
-use Rattle.table.specs.Words.{records, met, count}
+use Rattle.table.specs.Words.{records, visited, count}
 use Rattle.table.specs.Numbers.{EndAt, PastAt, AgainAt, Reaches, Applies, five, six}
 use Rattle.table.specs.Answer.{pastAt, againAt, stopsAt, lastStep}
 use Rattle.table.proofs.Decide.{Decides, fails}
@@ -36,7 +36,7 @@ reaches-more ws k c n j l =
 -- as many steps as it comes to, at most as many records: those met differ
 pub reaches-short : (ws : List ℕ) (k : ℕ) → Reaches ws k → k ≤ records ws
 reaches-short ws k c =
-    pigeonhole (records ws) k (met ws)
+    pigeonhole (records ws) k (visited ws)
     (λ i l. let a = c i l .0 in let b = c i l .1 in omega arith)
     (λ i j l m e. c j m .2 (i, l, e))
 
@@ -90,4 +90,4 @@ pub ends-there : (ws : List ℕ) (k : ℕ) → Reaches ws k → EndAt ws k → c
 unfolding count
 ends-there ws k c e =
     let short = reaches-short ws k c in
-    least-is (suc (records ws)) (λ j. eqb (met ws j) 0) k (omega arith) (eq-eqb (met ws k) 0 e) (λ i l. ne-eqb (met ws i) 0 (c i l .0))
+    least-is (suc (records ws)) (λ j. eqb (visited ws j) 0) k (omega arith) (eq-eqb (visited ws k) 0 e) (λ i l. ne-eqb (visited ws i) 0 (c i l .0))

@@ -10,7 +10,7 @@ use Rattle.model.specs.Task.{Task, Table, task, absentTask}
 use Rattle.model.specs.Fence.{unfencedCount}
 use Rattle.model.specs.Horizon.{horizon}
 use Rattle.model.specs.Sizes.{mostTasks}
-use Rattle.table.specs.Words.{headerWords, recordWords, head, coreCount, rule, fence, records, met, tableOf}
+use Rattle.table.specs.Words.{headerWords, recordWords, head, coreCount, rule, fence, records, visited, tableOf}
 use Rattle.table.specs.Limits.{coresOut, ruleOut, fenceOut, taskNumber, taskOut, horizonOut}
 use Rattle.table.specs.declared.chain.Ending.{Ending}
 use Rattle.table.specs.declared.chain.Ending.the-variants.{Past, Again, Whole}
@@ -32,13 +32,13 @@ headerNumber ws =
 
 -- what the walk meets at step k, as tests: a number past the last record, a record again, or one of these or the zero
 abbrev pub pastAt : List ℕ → ℕ → Bool
-pastAt ws k = ltb (records ws) (met ws k)
+pastAt ws k = ltb (records ws) (visited ws k)
 
 abbrev pub againAt : List ℕ → ℕ → Bool
-againAt ws k = any k (λ j. eqb (met ws j) (met ws k))
+againAt ws k = any k (λ j. eqb (visited ws j) (visited ws k))
 
 abbrev pub stopsAt : List ℕ → ℕ → Bool
-stopsAt ws k = eqb (met ws k) 0 || (pastAt ws k || againAt ws k)
+stopsAt ws k = eqb (visited ws k) 0 || (pastAt ws k || againAt ws k)
 
 -- the step at which the walk stops: it reaches at most as many as there are records (`reaches-short`)
 unfoldable pub lastStep : List ℕ → ℕ
@@ -53,14 +53,14 @@ unfoldable pub byHorizon : Table → Answer
 byHorizon s = cond (horizonOut (horizon s)) (Refused 9 0) Passed
 
 -- the largest width that fits: the number of unfenced cores
-abbrev pub wide : Table → ℕ
-wide s = unfencedCount (s .fence) (s .cores)
+abbrev pub widthLimit : Table → ℕ
+widthLimit s = unfencedCount (s .fence) (s .cores)
 
 -- 7 or 8 with the first such position, else by the horizon
 unfoldable pub byTasks : Table → Answer
 byTasks s =
-    cond (ltb (firstOut (wide s) (s .tasks)) (length (s .tasks)))
-    (Refused (taskNumber (wide s) (task s (firstOut (wide s) (s .tasks)))) (suc (firstOut (wide s) (s .tasks))))
+    cond (ltb (firstOut (widthLimit s) (s .tasks)) (length (s .tasks)))
+    (Refused (taskNumber (widthLimit s) (task s (firstOut (widthLimit s) (s .tasks)))) (suc (firstOut (widthLimit s) (s .tasks))))
     (byHorizon s)
 
 -- how the walk ends: past the last record, at a record again, or at the zero

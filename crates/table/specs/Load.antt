@@ -65,7 +65,7 @@ unfoldable pub loadOf : List ℕ → Loaded
 loadOf ws = loadedBy (answerOf ws) (passing (word ws 2) (tableOf ws))
 
 -- the contents of a table that passed
-pub record Holds (ws : List ℕ) (r : Loaded) : Type 0 where
+pub record LoadedAs (ws : List ℕ) (r : Loaded) : Type 0 where
   -- as many tasks as the chain has, 1 to 32
   pub count : r .count ≡ length (tableOf ws .tasks)
   pub count-from : InRange 1 mostTasks (r .count)
@@ -97,7 +97,7 @@ pub record LoadOf (ws : List ℕ) (r : Loaded) : Type 0 where
   -- in a refusal all else is zero
   pub zeros : (n p : ℕ) → loadMeaning (r .answer) ≡ book.refused n p → r ≡ refusal n p
   -- in a table that passed the rest is the table
-  pub holds : loadMeaning (r .answer) ≡ book.taken → Holds ws r
+  pub holds : loadMeaning (r .answer) ≡ book.taken → LoadedAs ws r
 
 -- the tasks on this number of cores, with this fence and the rule of this number
 abbrev pub tableWith : ℕ → ℕ → ℕ → List model.Task → model.Table

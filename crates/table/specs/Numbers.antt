@@ -9,7 +9,7 @@ use lib.Dec.{eqb}
 use Rattle.model.specs.Fence.{unfencedCount}
 use Rattle.model.specs.Horizon.{horizon}
 use Rattle.model.specs.Sizes.{mostTasks}
-use Rattle.table.specs.Words.{headerWords, recordWords, head, coreCount, rule, fence, records, met, count, taskAt, tableOf}
+use Rattle.table.specs.Words.{headerWords, recordWords, head, coreCount, rule, fence, records, visited, count, taskAt, tableOf}
 use Rattle.table.specs.Limits.{InRange, CoresOut, RuleOut, FenceOut, WidthOut, TimesOut, HorizonOut}
 
 -- the slice has fewer than 5 words, or the rest is no whole number of records, or there are more than 32
@@ -18,13 +18,13 @@ WordsOut ws = (length ws < headerWords) ⊎ (((length ws - headerWords) % record
 
 -- what the walk can meet at step k: the zero that ends the chain, a number past the last record, a record again
 abbrev pub EndAt : List ℕ → ℕ → Type 0
-EndAt ws k = met ws k ≡ 0
+EndAt ws k = visited ws k ≡ 0
 
 abbrev pub PastAt : List ℕ → ℕ → Type 0
-PastAt ws k = records ws < met ws k
+PastAt ws k = records ws < visited ws k
 
 abbrev pub AgainAt : List ℕ → ℕ → Type 0
-AgainAt ws k = (j : ℕ) × (j < k) × (met ws j ≡ met ws k)
+AgainAt ws k = (j : ℕ) × (j < k) × (visited ws j ≡ visited ws k)
 
 -- the walk reaches step k: at no earlier step it met one of these
 abbrev pub Reaches : List ℕ → ℕ → Type 0

@@ -3,7 +3,7 @@ use mathlib.Core.Path.{_≡_}
 use mathlib.Core.List.{List}
 use Prim.Native.Nat.{ℕ, _<_}
 use lib.ListN.{length}
-use Rattle.table.specs.Words.{headerWords, recordWords, word, records, field, met}
+use Rattle.table.specs.Words.{headerWords, recordWords, word, records, field, visited}
 use Rattle.table.specs.Limits.{InRange}
 use Rattle.table.specs.Numbers.{Reaches}
 
@@ -11,4 +11,4 @@ use Rattle.table.specs.Numbers.{Reaches}
 pub record SameOnChain (ws us : List ℕ) : Type 0 where
   pub size : length ws ≡ length us
   pub header : (i : ℕ) → i < headerWords → word ws i ≡ word us i
-  pub on-chain : (k j : ℕ) → Reaches ws k → InRange 1 (records ws) (met ws k) → j < recordWords → field ws (met ws k) j ≡ field us (met ws k) j
+  pub on-chain : (k j : ℕ) → Reaches ws k → InRange 1 (records ws) (visited ws k) → j < recordWords → field ws (visited ws k) j ≡ field us (visited ws k) j

@@ -62,21 +62,21 @@ taskOfRecord ws n =
     }
 
 -- the number that the walk meets at step k: the head, then the next of each record met
-unfoldable pub met : List ℕ → ℕ → ℕ
-met ws zero = head ws
-met ws (suc k) = next ws (met ws k)
+unfoldable pub visited : List ℕ → ℕ → ℕ
+visited ws zero = head ws
+visited ws (suc k) = next ws (visited ws k)
 
 -- zero ends the chain: the number of records on it, searched within as many steps as there are records (`ends-there`: enough where 5 and 6 do not apply)
 unfoldable pub count : List ℕ → ℕ
-count ws = least (suc (records ws)) (λ k. eqb (met ws k) 0)
+count ws = least (suc (records ws)) (λ k. eqb (visited ws k) 0)
 
 -- the numbers of the records on the chain, highest priority first
 unfoldable pub chain : List ℕ → List ℕ
-chain ws = map (met ws) (upFrom 0 (count ws))
+chain ws = map (visited ws) (upFrom 0 (count ws))
 
 -- a task's position is its place on the chain, from 1, the highest priority (scope: position; the field: rank in fixed task priority order): the task at p
 abbrev pub taskAt : List ℕ → ℕ → Task
-taskAt ws p = taskOfRecord ws (met ws (p - 1))
+taskAt ws p = taskOfRecord ws (visited ws (p - 1))
 
 -- the table that the words represent
 unfoldable pub tableOf : List ℕ → Table

@@ -13,7 +13,7 @@ use Rattle.table.specs.Words.{tableOf}
 use Rattle.table.specs.Answer.{answerOf, headerNumber}
 use Rattle.judge.specs.Judged.{judgedBy, verdictOf}
 use Rattle.judge.specs.JudgeAnswer.{judged, verdictMeaning, verdictCase}
-use Rattle.judge.proofs.Promise.{meaning-case}
+use Rattle.judge.proofs.Contract.{meaning-case}
 use Rattle.text.specs.Format.{enoughBytes, Words, words, noText, wordsOf, numbersIn}
 use Rattle.text.specs.Output.{firstLine, rowLines, rowsPrinted, printed, printedBy, outputOf, output}
 use Rattle.text.specs.FirstLine.{firstFor}

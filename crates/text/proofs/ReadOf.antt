@@ -29,8 +29,8 @@ accepted bs ws e =
     same vs q = cc
 
 -- of other bytes
-turned-down : (bs : List ℕ) → wordsOf bs ≡ noText → ReadOf bs (inputOf noText)
-turned-down bs e =
+refused-text : (bs : List ℕ) → wordsOf bs ≡ noText → ReadOf bs (inputOf noText)
+refused-text bs e =
     record {
       value = ap inputOf (sym e);
       text = λ vs. (λ h. absurd (false≢true (h .0)), λ x. absurd (no-text-exact bs .0 e vs x));
@@ -44,7 +44,7 @@ read-of bs r e = subst⁻¹ (ReadOf bs) e (go (wordsOf bs) refl)
   where
     go : (w : Words) → wordsOf bs ≡ w → ReadOf bs (inputOf w)
     go (words ws) q = accepted bs ws q
-    go noText q = turned-down bs q
+    go noText q = refused-text bs q
 
 -- the numbers that were read
 pub numbers-read : (r : Input) (bs : List ℕ) → r ≡ inputOf (wordsOf bs) → take (r .count) (r .words) ≡ numbersIn (wordsOf bs)

@@ -9,7 +9,7 @@ use Rattle.judge.specs.JudgeAnswer.{verdictMeaning}
 use Rattle.conflict.specs.declared.ConflictAnswer.{ConflictAnswer}
 use Rattle.conflict.specs.Answer.{ConflictOf, conflictBy, givenConflict}
 use Rattle.conflict.specs.Conflict.{conflictSet}
-use Rattle.conflict.proofs.Promise.{by-verdict}
+use Rattle.conflict.proofs.Contract.{by-verdict}
 use Rattle.conflict.proofs.conflict.Statement.{statement}
 use Rattle.conflict.proofs.conflict.Tie as tie
 

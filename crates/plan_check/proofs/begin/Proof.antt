@@ -5,9 +5,9 @@ use mathlib.Core.Path.{ap, sym, _∙_, _≡_, subst⁻¹}
 use Prim.Native.Nat.{ℕ, _≤_}
 use borrow.Author.Needs.{needs}
 use Rattle.model.specs.Sizes.{mostTasks}
-use Rattle.table.proofs.Promise.{load-answer}
+use Rattle.table.proofs.Contract.{load-answer}
 use Rattle.table.specs.Answer.{answerOf}
-use Rattle.table.specs.Load.{Holds, loadMeaning}
+use Rattle.table.specs.Load.{LoadedAs, loadMeaning}
 use Rattle.table.specs.Words.{rule, tableOf}
 use Rattle.table.specs.declared.Answer.{Answer}
 use Rattle.table.specs.declared.Answer.the-variants.{Passed, Refused}
@@ -19,7 +19,7 @@ use Rattle.plan_check.specs.Begin.{firstState}
 use Rattle.plan_check.specs.State.{stateAt, startIn}
 use Rattle.plan_check.specs.declared.Begun.{Begun}
 use Rattle.plan_check.specs.declared.Note.{Note}
-use Rattle.plan_check.specs.declared.Supplied.{Supplied}
+use Rattle.plan_check.specs.declared.SuppliedPlan.{SuppliedPlan}
 use Rattle.plan_check.proofs.Starting.{begin-of, begin-passed, begin-refused, loaded-few, loaded-run, loaded-start}
 use Rattle.plan_check.proofs.begin.Statement.{statement}
 use Rattle.plan_check.proofs.begin.Tie as tie
@@ -29,14 +29,14 @@ answered : (c : tie.After-load) (a : Answer) → c .load .result .answer ≡ a �
 answered c a e = sym (load-answer (c .before .before .args .words .now)) ∙ (sym (ap (λ (l : Loaded). l .answer) (c .load .ensures .value)) ∙ e)
 
 -- where it passed, what was loaded is the table
-held : (c : tie.After-load) → c .load .result .answer ≡ Passed → Holds (c .before .before .args .words .now) (c .load .result)
+held : (c : tie.After-load) → c .load .result .answer ≡ Passed → LoadedAs (c .before .before .args .words .now) (c .load .result)
 held c e = c .load .ensures .holds (ap loadMeaning e)
 
 -- a table that passes, and one that is turned down
-abbrev passed : Supplied → Begun
+abbrev passed : SuppliedPlan → Begun
 passed w = record { answer = Passed; plan = w }
 
-abbrev turned : ℕ → ℕ → Supplied → Begun
+abbrev turned : ℕ → ℕ → SuppliedPlan → Begun
 turned n p w = record { answer = Refused n p; plan = w }
 
 -- its run is that of the table as it starts

@@ -71,8 +71,8 @@ text-of c =
 step-requires : tie.Need-step-requires
 step-requires c κs = let s = c .before .before in safe-steppable (nums s) (state s) (s .pre .safe) (s .pre .tick)
 
-put-cells-requires : tie.Need-put-cells-requires
-put-cells-requires c κs = let s = entry-from-then1 (c .before) in (s .pre .safe .cores, s .pre .safe .few, omega (arith, s .pre .wide))
+put-allocation-requires : tie.Need-put-allocation-requires
+put-allocation-requires c κs = let s = entry-from-then1 (c .before) in (s .pre .safe .cores, s .pre .safe .few, omega (arith, s .pre .wide))
 
 put-row-requires : tie.Need-put-row-requires
 put-row-requires c κs =
@@ -97,4 +97,4 @@ returns c =
     }
 
 pub next-line-spec : {M : Type 1} → statement M
-next-line-spec = tie.close (tie.spec step-requires put-cells-requires put-row-requires returns)
+next-line-spec = tie.close (tie.spec step-requires put-allocation-requires put-row-requires returns)

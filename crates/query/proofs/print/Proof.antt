@@ -26,7 +26,7 @@ abbrev μ-loop : tie.MeasureT-loop
 μ-loop bytes questions i₀ t6 i = length spec.questions - i
 
 -- the state in the loop
-abbrev in-loop : tie.After-table-behind Inv-loop μ-loop → tie.In-loop Inv-loop μ-loop
+abbrev in-loop : tie.After-table-after-word Inv-loop μ-loop → tie.In-loop Inv-loop μ-loop
 in-loop c = c .before .before
 
 -- the state at the call
@@ -41,11 +41,11 @@ question c = getD spec.questions (c .before .loop .i) Why
 here :
     (c : tie.Then1 Inv-loop μ-loop)
     → (startsWith (wordOf (question (in-loop (c .before)))) (entry (in-loop (c .before)) .args .bytes .now) ≡ true)
-    × (c .before .table-behind .result ≡ length (wordOf (question (in-loop (c .before)))))
-    × (c .before .table-behind .result ≤ length (entry (in-loop (c .before)) .args .bytes .now))
+    × (c .before .table-after-word .result ≡ length (wordOf (question (in-loop (c .before)))))
+    × (c .before .table-after-word .result ≤ length (entry (in-loop (c .before)) .args .bytes .now))
 here c =
     let b = c .before in
-    is-asked (question (in-loop b)) (entry (in-loop b) .args .bytes .now) (b .table-behind .result) (b .table-behind .ensures) (c .if1 .taken)
+    is-asked (question (in-loop b)) (entry (in-loop b) .args .bytes .now) (b .table-after-word .result) (b .table-after-word .ensures) (c .if1 .taken)
 
 loop-holds : tie.Need-loop-holds Inv-loop μ-loop
 unfolding queryOutput
@@ -54,8 +54,8 @@ loop-holds c = (omega arith, refl)
 array-copy-out-question : tie.Need-array-copy-out-question Inv-loop μ-loop
 array-copy-out-question c = search needs
 
-table-behind-requires : tie.Need-table-behind-requires Inv-loop μ-loop
-table-behind-requires c κs = search needs
+table-after-word-requires : tie.Need-table-after-word-requires Inv-loop μ-loop
+table-after-word-requires c κs = search needs
 
 sub-send-answer : tie.Need-sub-send-answer Inv-loop μ-loop
 sub-send-answer c = here c .2
@@ -77,7 +77,7 @@ returns c =
     let h = here t in
     let q = question l in
     subst (λ (s : List ℕ). SentOf 0 s (c .send-answer .result))
-    (ap (λ (s : List ℕ). answerTo q (numbersIn (wordsOf s))) (part-to-end bs (t .before .table-behind .result) ∙ ap (λ (k : ℕ). drop k bs) (h .1))
+    (ap (λ (s : List ℕ). answerTo q (numbersIn (wordsOf s))) (part-to-end bs (t .before .table-after-word .result) ∙ ap (λ (k : ℕ). drop k bs) (h .1))
     ∙ sym (l .before .loop .inv .1 ∙ asked-here (l .before .loop .i) bs (l .loop-test .taken) (h .0)))
     (c .send-answer .ensures)
 
@@ -92,7 +92,7 @@ loop-again c =
     let b = c .before in
     let l = in-loop b in
     let bs = entry l .args .bytes .now in
-    let n = not-asked (question l) bs (b .table-behind .result) (b .table-behind .ensures) (omega (arith, c .if1 .left)) in
+    let n = not-asked (question l) bs (b .table-after-word .result) (b .table-after-word .ensures) (omega (arith, c .if1 .left)) in
     (omega (arith, l .loop-test .taken), l .before .loop .inv .1 ∙ asked-on (l .before .loop .i) bs (l .loop-test .taken) n)
 
 slice-aggregate-send : tie.Need-slice-aggregate-send Inv-loop μ-loop
@@ -116,7 +116,7 @@ print-spec =
     μ-loop
     loop-holds
     array-copy-out-question
-    table-behind-requires
+    table-after-word-requires
     sub-send-answer
     part-send-answer-start
     part-send-answer-end

@@ -1,8 +1,8 @@
 -- `response_time::response_times` meets its contract: the contract of `load` fits the walk, and a refusal is the answer itself. Assumes nothing.
 use borrow.Author.Needs.{needs}
 use denote.Ref.{now}
-use Rattle.judge.proofs.Promise.{fit}
-use Rattle.response_time.proofs.Promise.{walked-promise, refused-all}
+use Rattle.judge.proofs.Contract.{fit}
+use Rattle.response_time.proofs.Contract.{walked-promise, refused-all}
 use Rattle.response_time.proofs.response_times.Statement.{statement}
 use Rattle.response_time.proofs.response_times.Tie as tie
 

@@ -47,7 +47,7 @@ returns c =
     c .row-of .ensures
     ∙ (ap (λ (start : List ℕ). shown start 1 gs) (p .mark .ensures ∙ ap (marked (replicate 64 0) fencedByte) fenced)
     ∙ shown-row 64 (a .cores) (a .fence) (outside free (upFrom 0 (a .cores))) (omega arith)
-    (λ x l. memb-fenced free (a .fence) (a .cores) x l opened) gs (s .pre .1 .apart) (s .pre .1 .open-only))
+    (λ x l. memb-fenced free (a .fence) (a .cores) x l opened) gs (s .pre .1 .apart) (s .pre .1 .unfenced-only))
 
 pub row-in-spec : {M : Type 1} → statement M
 row-in-spec = tie.close (tie.spec unfenced-cores-requires first-cores-requires difference-requires mark-requires row-of-requires returns)

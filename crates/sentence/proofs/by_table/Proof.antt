@@ -16,7 +16,7 @@ use Rattle.judge.proofs.FirstMiss.{never-found, one-found}
 use Rattle.sentence.specs.Facts.{Facts}
 use Rattle.sentence.specs.Waiting.{factsIn}
 use Rattle.sentence.specs.SentenceAnswer.{byBuffer, sentenceMeaning, leftIn}
-use Rattle.sentence.proofs.Speaking.{by-never, by-found, found-facts}
+use Rattle.sentence.proofs.WritingSentence.{by-never, by-found, found-facts}
 use Rattle.sentence.proofs.by_table.Statement.{statement}
 use Rattle.sentence.proofs.by_table.Tie as tie
 

@@ -17,7 +17,7 @@ use Rattle.sentence.specs.SentenceAnswer.{byBuffer, front}
 use Rattle.sentence.specs.declared.SentenceAnswer.the-variants.{Length}
 use Rattle.sentence.proofs.Waiting.{missed-here}
 use Rattle.sentence.proofs.Misses.{miss-short}
-use Rattle.sentence.proofs.Speaking.{too-short, long-enough, text-length, text-copied}
+use Rattle.sentence.proofs.WritingSentence.{too-short, long-enough, text-length, text-copied}
 use Rattle.sentence.proofs.write_miss.Statement.{statement}
 use Rattle.sentence.proofs.write_miss.Tie as tie
 

@@ -9,7 +9,7 @@ use Rattle.model.specs.Search.{bit}
 use Rattle.model.specs.Task.{ruleOf}
 use Rattle.model.specs.Grants.{claimants}
 use Rattle.rule.specs.Widths.{widthsIn}
-use Rattle.rule.proofs.Sets.{granted-open}
+use Rattle.rule.proofs.Sets.{granted-unfenced}
 use Rattle.simulation.specs.Machine.{Machine, machineOf, GrantedOwed}
 use Rattle.simulation.specs.TickState.{Numbers, numbersBy, TickState, tickStateOf, afterEvents, nextEventAfter, evenAtTick, grantedAt}
 use Rattle.simulation.proofs.Steps.{due-handled, due-skipped, even-handled, even-skipped, unchanged-by, unchanged-claims, chosen-kept, chosen-anew, step-taken}
@@ -57,7 +57,7 @@ granted-of c =
     ⊎-elim
     (λ w. w .4 ∙ chosen-anew n s (j .if1 .claiming) (j .if1 .even) _ (claims-of j) (even-of j)
     (unchanged-by n s (j .if1 .claiming) (j .if1 .even) true (claims-of j) (even-of j) (w .0 .taken)) (w .2 .ok)
-    (λ q. w .2 .ensures q ∙ granted-open (ruleOf (n .rule)) (claimants (widthsIn (j .if1 .even) (n .widths)) (bit (j .if1 .claiming))) _ (n .fence) (n .cores)
+    (λ q. w .2 .ensures q ∙ granted-unfenced (ruleOf (n .rule)) (claimants (widthsIn (j .if1 .even) (n .widths)) (bit (j .if1 .claiming))) _ (n .fence) (n .cores)
     (j .before .pre .narrow) (w .1 .ensures) q))
     (λ w. w .2 ∙ chosen-kept n s (unchanged-by n s (j .if1 .claiming) (j .if1 .even) false (claims-of j) (even-of j) (w .0 .left)))
     (c .if2 .came)

@@ -18,7 +18,7 @@ use Rattle.table.proofs.Tests.{from-decides}
 use Rattle.table.proofs.HeaderPasses.{header-passes, words-long}
 use Rattle.table.proofs.Loads.{walked-tasks, load-header, load-past, load-again, load-whole}
 use Rattle.table.proofs.Passed.{whole-count}
-use Rattle.table.proofs.Promise.{promise}
+use Rattle.table.proofs.Contract.{contract-of}
 use Rattle.table.proofs.load.Statement.{statement}
 use Rattle.table.proofs.load.Tie as tie
 
@@ -72,7 +72,7 @@ returns : tie.Need-returns
 returns c =
     let h = c .before .before .header-number .ensures in
     let ws = now (entry-from-refused c .args .words) in
-    promise ws (c .refused .result) (c .refused .ensures ∙ ap (λ n. refusal n 0) h ∙ sym (load-header ws (λ e. c .before .if1 .taken (h ∙ e))))
+    contract-of ws (c .refused .result) (c .refused .ensures ∙ ap (λ n. refusal n 0) h ∙ sym (load-header ws (λ e. c .before .if1 .taken (h ∙ e))))
 
 walk-requires : tie.Need-walk-requires
 walk-requires c κs = search needs
@@ -117,13 +117,13 @@ returns-2 : tie.Need-returns-2
 returns-2 c =
     let w = walk-from-refused2 c in
     let ws = now (entry-from-else1 (w .before) .args .words) in
-    promise ws (c .refused2 .result) (c .refused2 .ensures ∙ sym (load-past ws (fine (w .before)) (sym (w .walk .ensures .ending) ∙ c .before .enum-told .given .1)))
+    contract-of ws (c .refused2 .result) (c .refused2 .ensures ∙ sym (load-past ws (fine (w .before)) (sym (w .walk .ensures .ending) ∙ c .before .enum-told .given .1)))
 
 returns-3 : tie.Need-returns-3
 returns-3 c =
     let w = walk-from-refused3 c in
     let ws = now (entry-from-else1 (w .before) .args .words) in
-    promise ws (c .refused3 .result) (c .refused3 .ensures ∙ sym (load-again ws (fine (w .before)) (sym (w .walk .ensures .ending) ∙ c .before .enum-told2 .given .1)))
+    contract-of ws (c .refused3 .result) (c .refused3 .ensures ∙ sym (load-again ws (fine (w .before)) (sym (w .walk .ensures .ending) ∙ c .before .enum-told2 .given .1)))
 
 returns-4 : tie.Need-returns-4
 returns-4 c =
@@ -132,7 +132,7 @@ returns-4 c =
     let ws = now (entry-from-else1 (w .before) .args .words) in
     let told = e .enum-told3 .given .1 in
     let fenced = fence-in c .fence-in .ensures in
-    promise ws (c .by-tasks .result)
+    contract-of ws (c .by-tasks .result)
     (c .by-tasks .ensures
     ∙ ap (λ (f : ℕ). loadedBy (byTasks (tableWith (coreCount ws) f (rule ws) (tasksOf (w .walk .result .tasks) (w .walk .result .count))))
     (passing (rule ws) (tableWith (coreCount ws) f (rule ws) (tasksOf (w .walk .result .tasks) (w .walk .result .count))))) fenced

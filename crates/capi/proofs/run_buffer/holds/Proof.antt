@@ -1,4 +1,4 @@
--- `capi::run_buffer::holds` meets its contract. The loop's invariant: the places from here on decide (`look-on`).
+-- `capi::run_buffer::holds` meets its contract. The loop's invariant: the places from here on decide (`test-on`).
 -- Assumes nothing.
 use mathlib.Core.Path.{_≡_, sym, ap, _∙_}
 use Prim.Native.Nat.{ℕ, _+_, _-_, _≤_}
@@ -6,7 +6,7 @@ use native.Mathlib.Omega.{arith}
 use lib.ListN.{drop}
 use borrow.Author.Needs.{needs}
 use Rattle.capi.specs.Encoding.{headWords, eachWords, wordsTo, arePlaces, countIn}
-use Rattle.capi.proofs.Places.{look-on, look-stop, none-left, place-at, held-short, held-many, held-by}
+use Rattle.capi.proofs.Places.{test-on, test-stop, none-left, place-at, held-short, held-many, held-by}
 use Rattle.capi.proofs.run_buffer.holds.Statement.{statement}
 use Rattle.capi.proofs.run_buffer.holds.Tie as tie
 
@@ -105,7 +105,7 @@ loop-again c =
     let n = countIn ws in
     let e : wordsTo i + eachWords ≡ wordsTo (i + 1) = omega arith in (
       omega arith,
-      s .loop .inv .1 ∙ (look-on (n - i) (n - (i + 1)) (wordsTo i) ws (omega arith) (place-at ws (wordsTo i) ∙ (sym (p .is-task-state .ensures) ∙ c .if3 .taken))
+      s .loop .inv .1 ∙ (test-on (n - i) (n - (i + 1)) (wordsTo i) ws (omega arith) (place-at ws (wordsTo i) ∙ (sym (p .is-task-state .ensures) ∙ c .if3 .taken))
           ∙ ap (λ (k : ℕ). arePlaces (n - (i + 1)) (drop k ws)) e),
     )
 
@@ -119,7 +119,7 @@ returns-3 c =
     let n = countIn ws in
     sym
     (held-by ws (f .before .before .if1 .left) (f .if2 .left)
-    ∙ (s .loop .inv .1 ∙ look-stop (n - i) (n - (i + 1)) (wordsTo i) ws (omega arith) (place-at ws (wordsTo i) ∙ (sym (p .is-task-state .ensures) ∙ c .if3 .left))))
+    ∙ (s .loop .inv .1 ∙ test-stop (n - i) (n - (i + 1)) (wordsTo i) ws (omega arith) (place-at ws (wordsTo i) ∙ (sym (p .is-task-state .ensures) ∙ c .if3 .left))))
 
 returns-4 : tie.Need-returns-4 Inv-loop μ-loop
 returns-4 c =

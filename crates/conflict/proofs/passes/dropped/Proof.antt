@@ -5,7 +5,7 @@ use denote.Ref.{now}
 use native.Mathlib.Omega.{arith}
 use borrow.Author.Needs.{needs}
 use borrow.Author.Tests.{eq-eqb, ne-eqb}
-use Rattle.model.proofs.Digits.{shifted-one, withWithdrawn}
+use Rattle.model.proofs.Digits.{shifted-one, clear-bit}
 use Rattle.table.specs.Words.{tableOf}
 use Rattle.conflict.specs.Conflict.{conflicts}
 use Rattle.conflict.proofs.Dropping.{dropped-drops, dropped-needs, dropped-not}
@@ -25,7 +25,7 @@ shl-rest c = search needs
 sub-rest : tie.Need-sub-rest
 sub-rest c =
     let a = c .before .before .args in
-    omega (arith, one-place (c .before .before), withWithdrawn (a .kept) (a .place) (eq-eqb _ 1 (c .if1 .taken)) .within)
+    omega (arith, one-place (c .before .before), clear-bit (a .kept) (a .place) (eq-eqb _ 1 (c .if1 .taken)) .within)
 
 still-misses-requires : tie.Need-still-misses-requires
 still-misses-requires c κs = search needs

@@ -7,7 +7,7 @@ use native.Mathlib.Omega.{arith}
 use lib.ListN.{length}
 use borrow.Author.Needs.{needs}
 use Rattle.model.specs.Task.{Table}
-use Rattle.table.specs.Load.{Holds}
+use Rattle.table.specs.Load.{LoadedAs}
 use Rattle.table.specs.Words.{tableOf}
 use Rattle.conflict.specs.Conflict.{pass}
 use Rattle.conflict.proofs.Dropping.{Going, going-end, going-on, going-start, pass-falls}
@@ -29,7 +29,7 @@ abbrev loaded : tie.At-loop Inv-loop μ-loop → tie.After-load Inv-loop μ-loop
 loaded c = c .before .before .before
 
 -- what was loaded is the table of the words
-held : (c : tie.After-load Inv-loop μ-loop) → Holds (now (entry c .args .words)) (c .load .result)
+held : (c : tie.After-load Inv-loop μ-loop) → LoadedAs (now (entry c .args .words)) (c .load .result)
 held c = c .load .ensures .holds (c .load .ensures .passed .1 (entry c .pre))
 
 -- the table

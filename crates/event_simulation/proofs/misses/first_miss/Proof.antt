@@ -1,5 +1,5 @@
 -- `event_simulation::misses::first_miss` meets its contract. After each jump the run is that of the jumps from tick 0 on (`jumps`), at none of whose ticks a
--- deadline was missed, and so represents the table's full-length run; along the walk over the due claimants none so far has ticks left (`Looking`). A due
+-- deadline was missed, and so represents the table's full-length run; along the walk over the due claimants none so far has ticks left (`RemainingDue`). A due
 -- place with ticks left is the first miss; at the end nothing has been missed. Assumes nothing.
 use borrow.Author.Needs.{needs}
 use native.Mathlib.Nat.{not-suc-le-zero}
@@ -21,7 +21,7 @@ use Rattle.event_simulation.specs.declared.state.Registers.{Registers}
 use Rattle.event_simulation.specs.EventState.{EventState, eventStateOf, initialEventState, StateRepresents}
 use Rattle.event_simulation.specs.Jump.{jumped, JumpStarts, JumpOf, JumpLands, jumps, Unmissed}
 use Rattle.event_simulation.proofs.Sets.{lowest}
-use Rattle.event_simulation.proofs.Late.{Looking, walk-begins, at-lowest, walk-passes, walk-misses, walk-ends}
+use Rattle.event_simulation.proofs.Late.{RemainingDue, walk-begins, at-lowest, walk-passes, walk-misses, walk-ends}
 use Rattle.event_simulation.proofs.Events.{jumps-represent, unmissed-more}
 use Rattle.event_simulation.proofs.misses.first_miss.Statement.{statement}
 use Rattle.event_simulation.proofs.misses.first_miss.Tie as tie
@@ -30,24 +30,24 @@ use Rattle.event_simulation.proofs.misses.first_miss.Tie as tie
 record Run (t : Loaded) (x : Setting) (widths times : List ℕ) (p : Registers) (places : List ℕ) : Type 0 where
   pub fit : Fit t
   pub numbers : numbersBy x widths times ≡ loadedNumbers t
-  pub stand : eventStateOf p places ≡ initialEventState t
+  pub state-start : eventStateOf p places ≡ initialEventState t
 
 -- the run after a number of jumps, at none of whose ticks a deadline was missed
 abbrev Jumped : Loaded → EventState → Type 0
 Jumped t s = (n : ℕ) × Unmissed t n × (s ≡ jumps t n)
 
 abbrev Inv-loop : tie.InvT-loop
-Inv-loop end setting widths times registers places rest₀ rest = Looking (machineOf places (registers .claiming)) (registers .due) rest
+Inv-loop end setting widths times registers places rest₀ rest = RemainingDue (machineOf places (registers .claiming)) (registers .due) rest
 
 abbrev μ-loop : tie.MeasureT-loop
 μ-loop end setting widths times registers places rest₀ rest = rest
 
 -- of every table whose run begins so
 abbrev Inv-jumps : tie.InvT-jumps
-Inv-jumps end setting widths times pace₀ places₀ registers places = (t : Loaded) → Run t setting widths times pace₀ places₀ → Jumped t (eventStateOf registers places)
+Inv-jumps end setting widths times registers₀ places₀ registers places = (t : Loaded) → Run t setting widths times registers₀ places₀ → Jumped t (eventStateOf registers places)
 
 abbrev μ-leaps : tie.MeasureT-jumps
-μ-leaps end setting widths times pace₀ places₀ registers places = end - registers .tick
+μ-leaps end setting widths times registers₀ places₀ registers places = end - registers .tick
 
 -- the state past the loop
 abbrev past-loop : tie.After-places2 Inv-loop μ-loop Inv-jumps μ-leaps → tie.After-loop Inv-loop μ-loop Inv-jumps μ-leaps
@@ -89,7 +89,7 @@ own : (p : tie.After-places Inv-loop μ-loop Inv-jumps μ-leaps) → Of p (table
 own p = record {
   fit = columns-of-from-places p .before .pre .0;
   numbers = columns-of-from-places p .columns-of .ensures;
-  stand = p .before .before .start .ensures;
+  state-start = p .before .before .start .ensures;
 }
 
 -- the table's numbers, and the run at an event
@@ -144,7 +144,7 @@ start-requires c κs = search needs
 
 jumps-holds : tie.Need-jumps-holds Inv-loop μ-loop Inv-jumps μ-leaps
 unfolding jumps
-jumps-holds c = λ t b. (0, (λ i p l. absurd (not-suc-le-zero l)), b .stand)
+jumps-holds c = λ t b. (0, (λ i p l. absurd (not-suc-le-zero l)), b .state-start)
 
 loop-holds : tie.Need-loop-holds Inv-loop μ-loop Inv-jumps μ-leaps
 loop-holds c =

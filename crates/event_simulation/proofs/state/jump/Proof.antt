@@ -11,7 +11,7 @@ use Rattle.model.specs.Search.{bit}
 use Rattle.model.specs.Task.{ruleOf}
 use Rattle.model.specs.Grants.{claimants}
 use Rattle.rule.specs.Widths.{widthsIn}
-use Rattle.rule.proofs.Sets.{granted-open}
+use Rattle.rule.proofs.Sets.{granted-unfenced}
 use Rattle.simulation.specs.Machine.{Machine, machineOf}
 use Rattle.simulation.specs.TickState.{Numbers, numbersBy}
 use Rattle.event_simulation.specs.EventState.{EventState, eventStateOf}
@@ -83,7 +83,7 @@ granted-of c =
     ⊎-elim
     (λ w. w .4 ∙ chosen-anew n (state s) claiming even _ (claims-of j) (after-of j .even) (w .0 .taken) (w .2 .ok)
     (λ q. w .2 .ensures q
-    ∙ granted-open (ruleOf (n .rule)) (claimants (widthsIn even (n .widths)) (bit claiming)) _ (n .fence) (n .cores) (going s .narrow) (w .1 .ensures) q))
+    ∙ granted-unfenced (ruleOf (n .rule)) (claimants (widthsIn even (n .widths)) (bit claiming)) _ (n .fence) (n .cores) (going s .narrow) (w .1 .ensures) q))
     (λ w. w .2 ∙ chosen-kept n (state s) claiming even (claims-of j) (after-of j .even) (w .0 .left))
     (c .if2 .came)
 

@@ -1,5 +1,5 @@
 -- `judge::misses::first_miss` meets its contract. Before each tick the run represents the table's full-length run, and no deadline has been missed
--- (`RefinesTick`); along the walk over the claimants none so far is at its event (`Looking`). A claimant that is at its event is the first miss; at the end
+-- (`RefinesTick`); along the walk over the claimants none so far is at its event (`RemainingClaimants`). A claimant that is at its event is the first miss; at the end
 -- nothing has been missed. Assumes nothing.
 use borrow.Author.Needs.{needs}
 use native.Mathlib.Omega.{arith}
@@ -18,24 +18,24 @@ use Rattle.simulation.proofs.Parts.{part-at}
 use Rattle.simulation.proofs.Steps.{tick-on}
 use Rattle.judge.specs.Judged.{loadedTable}
 use Rattle.judge.proofs.Refines.{RefinesTick, Begins, refines-start, steppable, refines-on}
-use Rattle.judge.proofs.Late.{first, Looking, walk-begins, at-first, walk-passes, walk-misses, walk-ends, walk-skips}
+use Rattle.judge.proofs.Late.{first, RemainingClaimants, walk-begins, at-first, walk-passes, walk-misses, walk-ends, walk-skips}
 use Rattle.judge.proofs.FirstMiss.{by-none, by-first}
 use Rattle.judge.proofs.misses.first_miss.Statement.{statement}
 use Rattle.judge.proofs.misses.first_miss.Tie as tie
 
 abbrev Inv-loop : tie.InvT-loop
-Inv-loop end setting widths times registers places rest₀ rest = Looking (machineOf places (registers .claiming)) (registers .tick) rest
+Inv-loop end setting widths times registers places rest₀ rest = RemainingClaimants (machineOf places (registers .claiming)) (registers .tick) rest
 
 abbrev μ-loop : tie.MeasureT-loop
 μ-loop end setting widths times registers places rest₀ rest = rest
 
 -- of every table whose run begins so
 abbrev Inv-ticks : tie.InvT-ticks
-Inv-ticks end setting widths times pace₀ places₀ registers places =
-    (t : Loaded) → Begins t setting widths times pace₀ places₀ → RefinesTick t (tickStateOf registers places) × (registers .tick ≤ end)
+Inv-ticks end setting widths times registers₀ places₀ registers places =
+    (t : Loaded) → Begins t setting widths times registers₀ places₀ → RefinesTick t (tickStateOf registers places) × (registers .tick ≤ end)
 
 abbrev μ-ticks : tie.MeasureT-ticks
-μ-ticks end setting widths times pace₀ places₀ registers places = end - registers .tick
+μ-ticks end setting widths times registers₀ places₀ registers places = end - registers .tick
 
 -- the state where the ways of the test `if2` meet
 abbrev joined2 : tie.After-places2 Inv-loop μ-loop Inv-ticks μ-ticks → tie.Joined2 Inv-loop μ-loop Inv-ticks μ-ticks
@@ -82,7 +82,7 @@ own : (p : tie.After-places Inv-loop μ-loop Inv-ticks μ-ticks) → Of p (table
 own p = record {
   fit = columns-of-from-places p .before .pre .0;
   numbers = columns-of-from-places p .columns-of .ensures;
-  stand = p .before .before .start .ensures .0;
+  state-start = p .before .before .start .ensures .0;
 }
 
 -- the run before a tick
@@ -127,8 +127,8 @@ start-requires c κs = search needs
 ticks-holds : tie.Need-ticks-holds Inv-loop μ-loop Inv-ticks μ-ticks
 ticks-holds c =
     λ t b.
-    let e : c .before .before .start .result .registers .tick ≡ 0 = ap (λ (x : TickState). x .tick) (b .stand) in
-    (subst (RefinesTick t) (sym (b .stand)) (refines-start t (b .fit)), omega arith)
+    let e : c .before .before .start .result .registers .tick ≡ 0 = ap (λ (x : TickState). x .tick) (b .state-start) in
+    (subst (RefinesTick t) (sym (b .state-start)) (refines-start t (b .fit)), omega arith)
 
 loop-holds : tie.Need-loop-holds Inv-loop μ-loop Inv-ticks μ-ticks
 loop-holds c =

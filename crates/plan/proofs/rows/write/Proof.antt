@@ -22,11 +22,11 @@ use Rattle.plan.proofs.rows.write.Statement.{statement}
 use Rattle.plan.proofs.rows.write.Tie as tie
 
 abbrev Inv-loop : tie.InvT-loop
-Inv-loop table a b out₀ cores setting widths times pace₀ places₀ shown₀ even₀ row₀ at₀ out registers places shown even row at =
+Inv-loop table a b out₀ cores setting widths times registers₀ places₀ shown₀ even₀ row₀ at₀ out registers places shown even row at =
     RefinesTick table (tickStateOf registers places) × RowFor table shown even row × (registers .tick ≤ b) × Filled table a (registers .tick) at out₀ out
 
 abbrev μ-loop : tie.MeasureT-loop
-μ-loop table a b out₀ cores setting widths times pace₀ places₀ shown₀ even₀ row₀ at₀ out registers places shown even row at = b - registers .tick
+μ-loop table a b out₀ cores setting widths times registers₀ places₀ shown₀ even₀ row₀ at₀ out registers places shown even row at = b - registers .tick
 
 -- the state where the test `if1` holds
 abbrev then1-from-places2 : tie.After-places2 Inv-loop μ-loop → tie.Then1 Inv-loop μ-loop

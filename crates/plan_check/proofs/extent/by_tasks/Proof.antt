@@ -22,26 +22,26 @@ far :
     → horizonOut (c .before .before .last-start .result + c .before .hyperperiod .result) ≡ horizonOut (horizonIn (c .before .before .before .before .args .run))
 far c =
     let s = c .before .before .before in
-    horizon-out (s .before .args .run) (s .plain .result) _ _ (s .plain .ensures) (c .before .before .last-start .ensures) (c .before .hyperperiod .ensures)
+    horizon-out (s .before .args .run) (s .parameters .result) _ _ (s .parameters .ensures) (c .before .before .last-start .ensures) (c .before .hyperperiod .ensures)
 
 -- the run passes 14
 passed : (s : tie.Start) → runOut (s .args .run) ≡ false
 passed s = passes-run (s .args .run) (s .pre)
 
-plain-requires : tie.Need-plain-requires
-plain-requires c κs = few (c .args .run) (passed c)
+parameters-requires : tie.Need-parameters-requires
+parameters-requires c κs = few (c .args .run) (passed c)
 
 last-start-requires : tie.Need-last-start-requires
 last-start-requires c κs =
     let s = c .before in
     let r = s .args .run in
-    (some-tasks r (passed s), (few r (passed s), plain-within r (passed s) (c .plain .result) (c .plain .ensures)))
+    (some-tasks r (passed s), (few r (passed s), plain-within r (passed s) (c .parameters .result) (c .parameters .ensures)))
 
 hyperperiod-requires : tie.Need-hyperperiod-requires
 hyperperiod-requires c κs =
     let s = c .before .before in
     let r = s .args .run in
-    (few r (passed s), plain-within r (passed s) (c .before .plain .result) (c .before .plain .ensures))
+    (few r (passed s), plain-within r (passed s) (c .before .parameters .result) (c .before .parameters .ensures))
 
 horizon-out-requires : tie.Need-horizon-out-requires
 horizon-out-requires c κs = search needs
@@ -68,14 +68,14 @@ returns-2 c =
     let r = s .before .args .run in
     let near = sym (t .horizon-out .ensures) ∙ c .if1 .left in
     let n = number-none r (s .before .pre) (sym (far t) ∙ near) in
-    let ready = horizon-near r (s .plain .result) _ _ (s .plain .ensures) (t .before .before .last-start .ensures) (t .before .hyperperiod .ensures) near (s .before .pre) in
+    let ready = horizon-near r (s .parameters .result) _ _ (s .parameters .ensures) (t .before .before .last-start .ensures) (t .before .hyperperiod .ensures) near (s .before .pre) in
     record { value = extent-near r _ _ n ready; number = sym n; ready = λ _. ready }
 
 pub by-tasks-spec : {M : Type 1} → statement M
 by-tasks-spec =
     tie.close
     (tie.spec
-    plain-requires
+    parameters-requires
     last-start-requires
     hyperperiod-requires
     horizon-out-requires

@@ -12,20 +12,20 @@ use borrow.Author.Needs.{needs}
 use Rattle.model.proofs.Search.{any-of, none-any}
 use Rattle.model.specs.Sizes.{mostCores}
 use Rattle.plan_check.specs.Plan as plan
-use Rattle.plan_check.specs.Row.{strangerAt, anyStranger}
+use Rattle.plan_check.specs.Row.{unknownByteAt, anyUnknownByte}
 use Rattle.plan_check.proofs.Counting.{Counted, counted-more, counted-most, counted-none}
 use Rattle.plan_check.proofs.rows.counted.Statement.{statement}
 use Rattle.plan_check.proofs.rows.counted.Tie as tie
 
 abbrev Inv-loop : tie.InvT-loop
 Inv-loop row fence count cells₀ core₀ cells core =
-    (core ≤ length row) × ((length row ≤ mostCores) × (((k : ℕ) → k < core → strangerAt fence count row k ≡ false) × Counted cells (take core row)))
+    (core ≤ length row) × ((length row ≤ mostCores) × (((k : ℕ) → k < core → unknownByteAt fence count row k ≡ false) × Counted cells (take core row)))
 
 abbrev μ-loop : tie.MeasureT-loop
 μ-loop row fence count cells₀ core₀ cells core = length row - core
 
 -- the state at the head of the loop, and at the call
-abbrev loop : tie.After-stranger Inv-loop μ-loop → tie.At-loop Inv-loop μ-loop
+abbrev loop : tie.After-unknown-byte Inv-loop μ-loop → tie.At-loop Inv-loop μ-loop
 loop c = c .before .before .before
 
 abbrev entry : tie.At-loop Inv-loop μ-loop → tie.Start Inv-loop μ-loop
@@ -37,21 +37,21 @@ loop-holds c = (search needs, (search needs, (λ (k : ℕ) h. absurd (omega arit
 shared-slice-read-byte : tie.Need-shared-slice-read-byte Inv-loop μ-loop
 shared-slice-read-byte c = omega arith
 
-cast-stranger : tie.Need-cast-stranger Inv-loop μ-loop
-cast-stranger c = omega arith
+cast-unknown-byte : tie.Need-cast-unknown-byte Inv-loop μ-loop
+cast-unknown-byte c = omega arith
 
-stranger-requires : tie.Need-stranger-requires Inv-loop μ-loop
-stranger-requires c κs = omega arith
+unknown-byte-requires : tie.Need-unknown-byte-requires Inv-loop μ-loop
+unknown-byte-requires c κs = omega arith
 
 returns : tie.Need-returns Inv-loop μ-loop
-unfolding anyStranger
+unfolding anyUnknownByte
 returns c =
     let s = loop (c .before) in
     let a = entry s .args in
     record {
-      strange =
-          sym (any-of (length (a .row .now)) (strangerAt (a .fence) (a .count) (a .row .now)) (s .loop .core) (omega arith)
-          (sym (c .before .stranger .ensures) ∙ c .if1 .taken));
+      unknown =
+          sym (any-of (length (a .row .now)) (unknownByteAt (a .fence) (a .count) (a .row .now)) (s .loop .core) (omega arith)
+          (sym (c .before .unknown-byte .ensures) ∙ c .if1 .taken));
       counted = λ e. absurd (true≢false e);
     }
 
@@ -76,7 +76,7 @@ loop-again c =
       (
         s .loop .inv .1 .0,
         (
-          below-more _ _ (s .loop .inv .1 .1 .0) (sym (e .before .stranger .ensures) ∙ e .if1 .left),
+          below-more _ _ (s .loop .inv .1 .1 .0) (sym (e .before .unknown-byte .ensures) ∙ e .if1 .left),
           subst (λ (ns : List ℕ). Counted ns (take (s .loop .core + 1) row)) (sym (next .1))
               (counted-more (s .loop .cells) row (s .loop .core) (omega arith) (next .0) (s .loop .inv .1 .1 .1)),
         ),
@@ -84,14 +84,14 @@ loop-again c =
     )
 
 returns-2 : tie.Need-returns-2 Inv-loop μ-loop
-unfolding anyStranger
+unfolding anyUnknownByte
 returns-2 c =
     let s = c .before in
     let a = entry s .args in
     let row = a .row .now in
     let e : s .loop .core ≡ length row = omega arith in
     record {
-      strange = sym (none-any (length row) (strangerAt (a .fence) (a .count) row) (rw e at (s .loop .inv .1 .1 .0)));
+      unknown = sym (none-any (length row) (unknownByteAt (a .fence) (a .count) row) (rw e at (s .loop .inv .1 .1 .0)));
       counted = λ _ b w. s .loop .inv .1 .1 .1 .each b w ∙ ap (plan.cellCount b) (take-all (s .loop .core) row (omega arith));
     }
 
@@ -103,8 +103,8 @@ counted-spec =
     μ-loop
     loop-holds
     shared-slice-read-byte
-    cast-stranger
-    stranger-requires
+    cast-unknown-byte
+    unknown-byte-requires
     returns
     add-requires
     add-core

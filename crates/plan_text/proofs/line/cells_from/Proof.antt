@@ -11,7 +11,7 @@ use Rattle.text.specs.Output.{space}
 use Rattle.text.specs.declared.line.ParsedNumber.the-variants.{Value}
 use Rattle.text.proofs.Lines.{mark-within}
 use Rattle.text.proofs.Numbers.{value-found}
-use Rattle.plan_text.specs.Line.{wordsBehind, cellsOf, readLine, mostCells, padCells}
+use Rattle.plan_text.specs.Line.{wordsAfter, cellsOf, readLine, mostCells, padCells}
 use Rattle.plan_text.proofs.Reading.{behind-here, behind-none, byte-found, byte-large, byte-none, cellsFrom, from-full, from-more, from-none, from-start, from-wrong, line-of, placed-more}
 use Rattle.plan_text.proofs.line.cells_from.Statement.{statement}
 use Rattle.plan_text.proofs.line.cells_from.Tie as tie
@@ -19,7 +19,7 @@ use Rattle.plan_text.proofs.line.cells_from.Tie as tie
 abbrev Inv-loop : tie.InvT-loop
 Inv-loop line start tick cells₀ count₀ at₀ cells count at =
     (ns : List ℕ) × (cells ≡ padCells ns) × (count ≡ length ns) × (length ns ≤ mostCells) × (at ≤ length line)
-    × (cellsFrom tick ns (wordsBehind (drop at line)) ≡ cellsOf tick (take mostCells (wordsBehind (drop start line))))
+    × (cellsFrom tick ns (wordsAfter (drop at line)) ≡ cellsOf tick (take mostCells (wordsAfter (drop start line))))
 
 abbrev μ-loop : tie.MeasureT-loop
 μ-loop line start tick cells₀ count₀ at₀ cells count at = length line - at
@@ -49,8 +49,8 @@ here :
     (c : tie.After-end-from Inv-loop μ-loop)
     → let line = head c .before .before .args .line .now in
     let l = head c .loop in
-    cellsFrom (head c .before .before .args .tick) (l .inv .0) (take (c .end-from .result - (l .at + 1)) (drop (l .at + 1) line) ∷ wordsBehind (drop (c .end-from .result) line))
-    ≡ cellsOf (head c .before .before .args .tick) (take mostCells (wordsBehind (drop (head c .before .before .args .start) line)))
+    cellsFrom (head c .before .before .args .tick) (l .inv .0) (take (c .end-from .result - (l .at + 1)) (drop (l .at + 1) line) ∷ wordsAfter (drop (c .end-from .result) line))
+    ≡ cellsOf (head c .before .before .args .tick) (take mostCells (wordsAfter (drop (head c .before .before .args .start) line)))
 here c =
     let line = head c .before .before .args .line .now in
     let l = head c .loop in
@@ -130,7 +130,7 @@ loop-again c =
       omega (arith, more, l .inv .2),
       omega (arith, more, room),
       ends e,
-      ap (λ (x : ℕ). cellsFrom (head e .before .before .args .tick) (ns ++ (x ∷ [])) (wordsBehind (drop (e .end-from .result) line))) (v .1)
+      ap (λ (x : ℕ). cellsFrom (head e .before .before .args .tick) (ns ++ (x ∷ [])) (wordsAfter (drop (e .end-from .result) line))) (v .1)
           ∙ sym (from-more (head e .before .before .args .tick) ns _ _ room (byte-found _ n found (omega (arith, c .if2 .left)))) ∙ here e,
     )
 

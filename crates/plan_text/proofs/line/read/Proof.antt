@@ -9,7 +9,7 @@ use lib.Seq.{length-take-le}
 use Rattle.text.specs.Input.{parseNumber, lengthTo}
 use Rattle.text.specs.Output.{space}
 use Rattle.text.proofs.Lines.{mark-within}
-use Rattle.plan_text.specs.Line.{wordsBehind, cellsOf, readLine, mostCells}
+use Rattle.plan_text.specs.Line.{wordsAfter, cellsOf, readLine, mostCells}
 use Rattle.plan_text.proofs.Reading.{row-none, row-some}
 use Rattle.plan_text.proofs.line.read.Statement.{statement}
 use Rattle.plan_text.proofs.line.read.Tie as tie
@@ -53,7 +53,7 @@ returns-2 c =
     let line = e .before .before .args .line .now in
     let n = c .before .before .tick .given in
     c .cells-from .ensures
-    ∙ ap readLine (ap (λ (k : ℕ). cellsOf (n .0 .0) (take mostCells (wordsBehind (drop k line)))) (sym (first e))
+    ∙ ap readLine (ap (λ (k : ℕ). cellsOf (n .0 .0) (take mostCells (wordsAfter (drop k line)))) (sym (first e))
     ∙ sym (row-some line (n .0 .0) (ap (λ (k : ℕ). parseNumber (take k line)) (first e) ∙ sym (c .before .before .before .before .number .ensures) ∙ n .1)))
 
 pub read-spec : {M : Type 1} → statement M

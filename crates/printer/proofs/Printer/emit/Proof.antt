@@ -104,10 +104,10 @@ numbers c = columns-of-from-loop c .columns-of .ensures
 abbrev after-part : tie.After-struct-known2 Inv-loop μ-loop → Printer
 after-part c = at-given (now-of (loop-from-slice-known2 (c .before))) (loop-from-slice-known2 (c .before) .loop .given + smaller-from-slice-known2 (c .before) .smaller .result)
 
-parted :
+split-at-end :
     (c : tie.After-struct-known2 Inv-loop μ-loop)
     → Emitting (given-of (loop-from-slice-known2 (c .before))) (after-part c) (buffer-of (loop-from-slice-known2 (c .before))) (copy c .copy .last .1 .1 .1 .0) (copy c .copy .result)
-parted c =
+split-at-end c =
     let copy-state = copy c in
     let l = loop-from-slice-known2 (c .before) in
     emit-part (given-of l) (now-of l) (buffer-of l) (l .loop .buffer) (copy-state .copy .last .1 .1 .1 .0) (l .loop .at) (copy-state .copy .result)
@@ -115,14 +115,14 @@ parted c =
 
 -- a row is to come
 early : (c : tie.Else2 Inv-loop μ-loop) → loop-from-else2 c .loop .stage .registers .tick < given-of (loop-from-else2 c) .end
-early c = omega (arith, parted (struct-known2-from-else2 c) .limits .tick, c .if2 .left)
+early c = omega (arith, split-at-end (struct-known2-from-else2 c) .limits .tick, c .if2 .left)
 
 stepping :
     (c : tie.Else2 Inv-loop μ-loop)
     → Stepping (numbers-of (loop-from-else2 c)) (loop-from-else2 c .loop .stage) (loop-from-else2 c .loop .places) (loop-from-else2 c .loop .text) (loop-from-else2 c .loop .line)
 stepping c =
     let sk = struct-known2-from-else2 c in
-    stepping-of (after-part sk) (numbers-of (loop-from-else2 c)) (numbers (loop-from-else2 c)) (parted sk .limits) (parted sk .arrays) (early c)
+    stepping-of (after-part sk) (numbers-of (loop-from-else2 c)) (numbers (loop-from-else2 c)) (split-at-end sk .limits) (split-at-end sk .arrays) (early c)
 
 columns-of-requires : tie.Need-columns-of-requires Inv-loop μ-loop
 columns-of-requires c κs = search needs
@@ -172,27 +172,27 @@ loop-again c =
     let e = else2-from-line3 (c .before) in
     let k = struct-known2-from-else2 e in
     let l = loop-from-slice-known2 (k .before) in
-    emit-step (given-of l) (after-part k) (buffer-of l) _ _ (parted k) (e .before .before .if1 .left) (early e) (numbers-of l) (numbers l) _ _ _ _ (c .next-line .ensures)
+    emit-step (given-of l) (after-part k) (buffer-of l) _ _ (split-at-end k) (e .before .before .if1 .left) (early e) (numbers-of l) (numbers l) _ _ _ _ (c .next-line .ensures)
 
 same-length : tie.Need-same-length Inv-loop μ-loop
-same-length c = parted (c .before) .same
+same-length c = split-at-end (c .before) .same
 
 returns : tie.Need-returns Inv-loop μ-loop
 returns c =
     let k = c .before in
     let l = loop-from-slice-known2 (k .before) in
-    emit-full (given-of l) (after-part k) (buffer-of l) _ _ (entry (l .before) .pre) (parted k)
+    emit-full (given-of l) (after-part k) (buffer-of l) _ _ (entry (l .before) .pre) (split-at-end k)
     (part-fills (given-of l) (now-of l) (buffer-of l) (l .loop .buffer) _ (l .loop .at) _ _ (l .loop .inv)
     (smaller-from-slice-known2 (k .before) .smaller .ensures) (copy k .copy .ensures) (c .if1 .taken))
 
 same-length-2 : tie.Need-same-length-2 Inv-loop μ-loop
-same-length-2 c = parted (struct-known2-from-then2 c) .same
+same-length-2 c = split-at-end (struct-known2-from-then2 c) .same
 
 returns-2 : tie.Need-returns-2 Inv-loop μ-loop
 returns-2 c =
     let k = struct-known2-from-then2 c in
     let l = loop-from-slice-known2 (k .before) in
-    emit-done (given-of l) (after-part k) (buffer-of l) _ _ (entry (l .before) .pre) (parted k) (c .before .before .if1 .left) (c .if2 .taken)
+    emit-done (given-of l) (after-part k) (buffer-of l) _ _ (entry (l .before) .pre) (split-at-end k) (c .before .before .if1 .left) (c .if2 .taken)
 
 pub emit-spec : {M : Type 1} → statement M
 emit-spec =

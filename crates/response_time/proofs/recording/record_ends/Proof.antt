@@ -16,11 +16,11 @@ use Rattle.response_time.proofs.recording.record_ends.Statement.{statem
 use Rattle.response_time.proofs.recording.record_ends.Tie as tie
 
 abbrev Inv-loop : tie.InvT-loop
-Inv-loop ended tick times places longest₀ rest₀ longest rest =
-    (rest < 2 ^ 32) × ((p : ℕ) → bit rest p ≡ true → bit ended p ≡ true) × (longest ≡ recorded (taken ended rest) tick (segment 64 times) (segment 64 places) longest₀)
+Inv-loop ended tick times places times₀ rest₀ longest rest =
+    (rest < 2 ^ 32) × ((p : ℕ) → bit rest p ≡ true → bit ended p ≡ true) × (longest ≡ recorded (taken ended rest) tick (segment 64 times) (segment 64 places) times₀)
 
 abbrev μ-loop : tie.MeasureT-loop
-μ-loop ended tick times places longest₀ rest₀ longest rest = rest
+μ-loop ended tick times places times₀ rest₀ longest rest = rest
 
 loop-holds : tie.Need-loop-holds Inv-loop μ-loop
 loop-holds c =

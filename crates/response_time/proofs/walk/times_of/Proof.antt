@@ -17,10 +17,10 @@ use Rattle.response_time.proofs.walk.times_of.Statement.{statement}
 use Rattle.response_time.proofs.walk.times_of.Tie as tie
 
 abbrev Inv-loop : tie.InvT-loop
-Inv-loop table setting widths times pace₀ places₀ longest₀ registers places longest = StateRepresents table (eventStateOf registers places) × Noted table (registers .tick) longest
+Inv-loop table setting widths times registers₀ places₀ times₀ registers places longest = StateRepresents table (eventStateOf registers places) × Noted table (registers .tick) longest
 
 abbrev μ-loop : tie.MeasureT-loop
-μ-loop table setting widths times pace₀ places₀ longest₀ registers places longest = suc (table .horizon) - registers .tick
+μ-loop table setting widths times registers₀ places₀ times₀ registers places longest = suc (table .horizon) - registers .tick
 
 -- THE STATES: where the loop is entered, what it rests on, and the iteration that each step of it belongs to
 abbrev begin : tie.After-places Inv-loop μ-loop → tie.After-columns-of Inv-loop μ-loop

@@ -9,7 +9,7 @@ use borrow.Author.Needs.{needs}
 use borrow.Author.Tests.{eq-eqb, ne-eqb}
 use Rattle.model.specs.Sizes.{mostTasks}
 use Rattle.run.specs.declared.Answer.the-variants.{Taken}
-use Rattle.run.specs.Numbers.{misreportedIn}
+use Rattle.run.specs.Numbers.{wrongReportsIn}
 use Rattle.run.specs.Row.{rowAnswer}
 use Rattle.run.proofs.Cases.{advance-misreported, advance-refused, advance-taken, row-passes, sets-answer}
 use Rattle.run.proofs.Chosen.{may-report}
@@ -41,7 +41,7 @@ Within c =
     let t = looked c in
     let a = t .before .args in
     let k = t .tick .result in
-    misreportedIn (a .self) (a .empties) (a .reports) ≡ not (eqb (bitAnd (a .reports) (bitAnd (bitOr (k .given) (k .lent)) (k .working))) (a .reports))
+    wrongReportsIn (a .self) (a .empties) (a .reports) ≡ not (eqb (bitAnd (a .reports) (bitAnd (bitOr (k .given) (k .lent)) (k .working))) (a .reports))
 
 within : (c : tie.After-enum-told) → Within c
 within c =

@@ -11,13 +11,13 @@ use Rattle.model.specs.Sizes.{mostTasks}
 use Rattle.phase.specs.Task.{outIn}
 use Rattle.run.specs.declared.Run.{Run}
 use Rattle.run.specs.Run.{ruleIn, placeAt}
-use Rattle.run.specs.Numbers.{wideIn, placeOut}
+use Rattle.run.specs.Numbers.{widthLimitIn, placeOut}
 use Rattle.run.proofs.RunOut.{out-by-head, out-by-place, head-few, head-wide}
 use Rattle.run.proofs.Run.out.Statement.{statement}
 use Rattle.run.proofs.Run.out.Tie as tie
 
 abbrev Inv-loop : tie.InvT-loop
-Inv-loop run rule cores count wide i₀ i = (i ≤ count) × ((count ≤ mostTasks) × ((wide ≡ wideIn run) × ((k : ℕ) → k < i → placeOut run k ≡ false)))
+Inv-loop run rule cores count wide i₀ i = (i ≤ count) × ((count ≤ mostTasks) × ((wide ≡ widthLimitIn run) × ((k : ℕ) → k < i → placeOut run k ≡ false)))
 
 abbrev μ-loop : tie.MeasureT-loop
 μ-loop run rule cores count wide i₀ i = count - i
@@ -35,7 +35,7 @@ abbrev entry : tie.After-unfenced-count Inv-loop μ-loop → tie.Start Inv-loop 
 entry c = c .before .before .before
 
 -- a place is tested with the number of unfenced cores that was counted
-by-wide : (r : Run) (p wide : ℕ) → wide ≡ wideIn r → placeOut r p ≡ outIn wide (ruleIn r) (placeAt r p)
+by-wide : (r : Run) (p wide : ℕ) → wide ≡ widthLimitIn r → placeOut r p ≡ outIn wide (ruleIn r) (placeAt r p)
 by-wide r p wide e = ap (λ (m : ℕ). outIn m (ruleIn r) (placeAt r p)) (sym e)
 
 head-out-requires : tie.Need-head-out-requires Inv-loop μ-loop

@@ -22,7 +22,7 @@ use Rattle.run.specs.declared.Run.{Run}
 use Rattle.run.specs.declared.Sets.{Sets}
 use Rattle.run.specs.declared.tick.Tick.{Tick}
 use Rattle.run.specs.declared.Answer.the-variants.{Refused}
-use Rattle.run.specs.Numbers.{firstLateIn, lateAt, misemptiedIn, placeOut, runOut}
+use Rattle.run.specs.Numbers.{firstLateIn, lateAt, wrongEmptiesIn, placeOut, runOut}
 use Rattle.run.specs.Run.{ruleIn}
 use Rattle.run.specs.Sets.{noSets, setsOf}
 use Rattle.run.specs.Allocation.{AllocationOf}
@@ -74,7 +74,7 @@ passes : (c : tie.Else2) → runOut (entry (within c) .args .self) ≡ false
 passes c =
     let g = within c in
     let r = entry g .args .self in
-    out-by-place r (head-in (g .before)) ∙ none-gathered (placeOut r) (r .count) (g .claims .result .broken) (g .claims .ensures .breaking) (omega (arith, c .if2 .left))
+    out-by-place r (head-in (g .before)) ∙ none-gathered (placeOut r) (r .count) (g .claims .result .broken) (g .claims .ensures .outside-limits) (omega (arith, c .if2 .left))
 
 -- and past the third no task is late
 none-late : (c : tie.Else3) → (let r = entry (in-time c) .args .self in r .count ≤ firstLateIn r)
@@ -89,7 +89,7 @@ none-late c =
 abbrev Begun : tie.After-claims → Type 0
 Begun g =
     let s = entry g in
-    misemptiedIn (s .args .self) (s .args .empties) ≡ not (eqb (bitAnd (s .args .empties) (g .claims .result .released)) (s .args .empties))
+    wrongEmptiesIn (s .args .self) (s .args .empties) ≡ not (eqb (bitAnd (s .args .empties) (g .claims .result .released)) (s .args .empties))
 
 begun : (g : tie.After-claims) → Begun g
 begun g =
@@ -160,7 +160,7 @@ returns-2 c =
     refused r (a .empties) 14 0 (c .tick-refused2 .result) (c .tick-refused2 .ensures)
     (sets-out r (a .empties)
     (out-by-place r (head-in (g .before))
-    ∙ some-gathered (placeOut r) (r .count) (g .claims .result .broken) (g .claims .ensures .breaking) 32 (small g .0) (t .if2 .taken) .1))
+    ∙ some-gathered (placeOut r) (r .count) (g .claims .result .broken) (g .claims .ensures .outside-limits) 32 (small g .0) (t .if2 .taken) .1))
 
 add-tick-refused : tie.Need-add-tick-refused
 add-tick-refused c =
@@ -199,7 +199,7 @@ returns-4 c =
     let e = t .before .before in
     let g = in-time e in
     let a = entry g .args in
-    let m : misemptiedIn (a .self) (a .empties) ≡ false = begun g ∙ ap not (eq-eqb _ _ (t .if4 .taken)) in
+    let m : wrongEmptiesIn (a .self) (a .empties) ≡ false = begun g ∙ ap not (eq-eqb _ _ (t .if4 .taken)) in
     let q = sets-shown (a .self) (a .empties) (passes (e .before .before)) (none-late e) m in
     record {
       answered = sym (ap (λ (w : Sets). w .answer) q);

@@ -13,7 +13,7 @@ use Rattle.run.specs.declared.Answer.the-variants.{Taken}
 use Rattle.run.specs.Run.{firmIn, withdrawnIn}
 use Rattle.run.specs.Numbers.{runOut}
 use Rattle.run.proofs.RunOut.{few}
-use Rattle.run.proofs.Cases.{withdraw-out, withdraw-not-firm, withdraw-stranger, withdraw-taken}
+use Rattle.run.proofs.Cases.{withdraw-out, withdraw-not-firm, withdraw-unknown, withdraw-taken}
 use Rattle.run.proofs.WithdrawExact.{known-from, withdraw-of}
 use Rattle.run.proofs.Run.withdraw.Statement.{statement}
 use Rattle.run.proofs.Run.withdraw.Tie as tie
@@ -79,7 +79,7 @@ returns-2 c =
     let a = entry s .args in
     withdraw-of (a .self) (a .position) (c .refused2 .result)
     (c .refused2 .ensures
-    ∙ sym (withdraw-stranger (a .self) (a .position) (passes (s .before)) (firm-then (c .before .before .before)) (c .before .if3 .taken)))
+    ∙ sym (withdraw-unknown (a .self) (a .position) (passes (s .before)) (firm-then (c .before .before .before)) (c .before .if3 .taken)))
 
 sub-with-withdrawn : tie.Need-sub-with-withdrawn
 sub-with-withdrawn c = known c .0

@@ -10,7 +10,7 @@ use Rattle.run.specs.Run.{firmIn}
 use Rattle.run.specs.Numbers.{runOut}
 use Rattle.run.proofs.RunOut.{few}
 use Rattle.run.proofs.Cases.{withdraw-all-out, withdraw-all-not-firm, withdraw-all-past, withdraw-all-taken}
-use Rattle.run.proofs.Together.{withdraw-set}
+use Rattle.run.proofs.WithdrawSet.{withdraw-set}
 use Rattle.run.proofs.Run.withdraw_all.Statement.{statement}
 use Rattle.run.proofs.Run.withdraw_all.Tie as tie
 

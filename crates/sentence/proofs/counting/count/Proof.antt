@@ -16,25 +16,25 @@ use Rattle.simulation.specs.TickState.{Numbers, loadedNumbers, TickState, tickS
 use Rattle.simulation.specs.Machine.{machineOf}
 use Rattle.simulation.proofs.Parts.{front-at}
 use Rattle.simulation.proofs.Steps.{tick-on}
-use Rattle.simulation.proofs.Tied.{Tied}
+use Rattle.simulation.proofs.MachineRelated.{MachineRelated}
 use Rattle.judge.specs.Judged.{loadedTable, Fit}
 use Rattle.judge.proofs.Ticks.{size}
 use Rattle.judge.proofs.Refines.{Begins, steppable}
 use Rattle.sentence.specs.Facts.{named}
 use Rattle.sentence.specs.Waiting.{releaseOf, hadBy}
 use Rattle.sentence.proofs.Waiting.{missed-here, deadline-within, Counted, counted-small, counted-named}
-use Rattle.sentence.proofs.Standing.{left-had, Counting, counting-start, met-here, counting-early, counting-runs, counting-waits}
+use Rattle.sentence.proofs.CountingPass.{left-had, Counting, counting-start, met-here, counting-early, counting-runs, counting-waits}
 use Rattle.sentence.proofs.counting.count.Statement.{statement}
 use Rattle.sentence.proofs.counting.count.Tie as tie
 
 -- of every table whose run begins so and that misses here first
 abbrev Inv-loop : tie.InvT-loop
-Inv-loop tick place late release setting widths times pace₀ places₀ ran₀ registers places ran =
-    (t : Loaded) → Begins t setting widths times pace₀ places₀ → FirstMiss (loadedTable t) tick (suc place) → release ≡ releaseOf (loadedTable t) tick place
+Inv-loop tick place late release setting widths times registers₀ places₀ ran₀ registers places ran =
+    (t : Loaded) → Begins t setting widths times registers₀ places₀ → FirstMiss (loadedTable t) tick (suc place) → release ≡ releaseOf (loadedTable t) tick place
     → Counting t tick place (tickStateOf registers places) ran
 
 abbrev μ-loop : tie.MeasureT-loop
-μ-loop tick place late release setting widths times pace₀ places₀ ran₀ registers places ran = tick - registers .tick
+μ-loop tick place late release setting widths times registers₀ places₀ ran₀ registers places ran = tick - registers .tick
 
 -- the state after `places`
 abbrev places-from-else1 : tie.Else1 Inv-loop μ-loop → tie.After-places Inv-loop μ-loop
@@ -111,7 +111,7 @@ own : (p : tie.After-places Inv-loop μ-loop) → Of p (table-of p)
 own p = record {
   fit = entry-from-places p .pre .0;
   numbers = columns-of-from-places p .columns-of .ensures;
-  stand = p .before .before .start .ensures .0;
+  state-start = p .before .before .start .ensures .0;
 }
 
 -- the place is one of the table's
@@ -160,7 +160,7 @@ at-end e =
     let x = entry-from-places p in
     let t = table-of p in
     let h = left-had (loadedTable t) (x .pre .0 .valid) (tick-of p) (place-of p) (x .pre .1) (machineOf (k .loop .places) (k .loop .registers .claiming))
-    (subst (λ (n : ℕ). Tied (loadedTable t) n (machineOf (k .loop .places) (k .loop .registers .claiming))) (at-tick e) (counting-of k .follows .before .tied)) in
+    (subst (λ (n : ℕ). MachineRelated (loadedTable t) n (machineOf (k .loop .places) (k .loop .registers .claiming))) (at-tick e) (counting-of k .follows .before .related)) in
     let same = ap (λ (τ : Task). τ .length) (same-task t (x .pre .0) (tick-of p) (place-of p) (x .pre .1)) in
     let at = front-at (k .loop .places) (place-of p) (inside t (x .pre .0) (tick-of p) (place-of p) (x .pre .1) .1) in
     (omega (arith, same, at, h .0), omega (arith, same, at, h .1))
@@ -185,7 +185,7 @@ start-requires c κs = search needs
 
 loop-holds : tie.Need-loop-holds Inv-loop μ-loop
 loop-holds c =
-    λ t b f r. subst (λ (y : TickState). Counting t (tick-of c) (place-of c) y (replicate 32 0)) (sym (b .stand)) (counting-start t (b .fit) (tick-of c) (place-of c) f)
+    λ t b f r. subst (λ (y : TickState). Counting t (tick-of c) (place-of c) y (replicate 32 0)) (sym (b .state-start)) (counting-start t (b .fit) (tick-of c) (place-of c) f)
 
 step-requires : tie.Need-step-requires Inv-loop μ-loop
 step-requires c κs =

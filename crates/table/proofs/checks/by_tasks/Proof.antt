@@ -10,7 +10,7 @@ use Rattle.model.specs.Fence.{unfencedCount}
 use Rattle.model.specs.Task as model
 use Rattle.model.specs.Sizes.{mostTasks}
 use Rattle.table.specs.Task.{noTask, taskOf, tasksOf}
-use Rattle.table.specs.Answer.{firstOut, wide}
+use Rattle.table.specs.Answer.{firstOut, widthLimit}
 use Rattle.table.specs.Limits.{taskNumber}
 use Rattle.table.specs.Load.{tableWith, passing}
 use Rattle.table.proofs.Places.{tasks-length, task-at}
@@ -32,13 +32,13 @@ counted c =
     tasks-length (c .before .args .t4) (c .before .args .count) (omega arith)
 
 -- a width is measured against the unfenced cores
-measured : (c : tie.After-unfenced-count) → c .unfenced-count .result ≡ wide (given c)
+measured : (c : tie.After-unfenced-count) → c .unfenced-count .result ≡ widthLimit (given c)
 measured c =
     let all : min (c .before .args .cores) 64 ≡ c .before .args .cores = omega (arith, c .before .pre .0) in
     c .unfenced-count .ensures ∙ ap (unfencedCount (c .before .args .fence)) all
 
 -- the first place with a task that is turned down
-out : (c : tie.After-first-out) → firstOut (wide (given (c .before))) (given (c .before) .tasks) ≡ c .first-out .result
+out : (c : tie.After-first-out) → firstOut (widthLimit (given (c .before))) (given (c .before) .tasks) ≡ c .first-out .result
 out c = ap (λ (m : ℕ). firstOut m (given (c .before) .tasks)) (sym (measured (c .before))) ∙ sym (c .first-out .ensures)
 
 unfenced-count-requires : tie.Need-unfenced-count-requires
@@ -72,9 +72,9 @@ returns c =
     let o = f .before in
     let a = o .before .args in
     let place = f .first-out .result in
-    let number : n .task-number .result ≡ taskNumber (wide (given o)) (model.task (given o) place) =
+    let number : n .task-number .result ≡ taskNumber (widthLimit (given o)) (model.task (given o) place) =
     n .task-number .ensures
-    ∙ (ap (λ (m : ℕ). taskNumber m (taskOf (getD (a .t4) place noTask))) (measured o) ∙ sym (ap (taskNumber (wide (given o))) (task-at (a .t4) (a .count) place (omega arith)))) in
+    ∙ (ap (λ (m : ℕ). taskNumber m (taskOf (getD (a .t4) place noTask))) (measured o) ∙ sym (ap (taskNumber (widthLimit (given o))) (task-at (a .t4) (a .count) place (omega arith)))) in
     c .refused .ensures
     ∙ rw (number, add-one place)
     (sym (by-number (given o) (passing (a .rule) (given o)) place (out f) (omega (arith, counted o))))

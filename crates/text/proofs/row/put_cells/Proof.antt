@@ -9,7 +9,7 @@ use lib.ListN.{length, set, take, length-set}
 use Rattle.text.specs.Output.{fields}
 use Rattle.text.specs.Written.{Put}
 use Rattle.text.proofs.Writing.{put-none, put-one, put-then, put-length}
-use Rattle.text.proofs.Spelling.{put-core}
+use Rattle.text.proofs.RowText.{put-core}
 use Rattle.text.proofs.row.put_cells.Statement.{statement}
 use Rattle.text.proofs.row.put_cells.Tie as tie
 
