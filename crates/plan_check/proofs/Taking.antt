@@ -17,7 +17,7 @@ use Rattle.run.specs.Run.{tasksIn}
 use Rattle.run.specs.declared.Run.{Run}
 use Rattle.plan_check.specs.Extent.{Ready}
 use Rattle.plan_check.specs.Numbers.{Applies, eleven, fourteen, late-last, late-now, nine, ten, twenty-four, twenty-six}
-use Rattle.plan_check.specs.Numbers.{AnyLate, Differs, Earlier, Faulty, First, Last, NoneApplies, StateOut, afterRow, differs, missed, stateOut}
+use Rattle.plan_check.specs.Numbers.{AnyLate, Differs, EarlierFault, Faulty, First, Last, NoneApplies, StateOut, afterRow, differs, missed, stateOut}
 use Rattle.plan_check.specs.Row.{faulty, workedRow}
 use Rattle.plan_check.specs.RowAnswer.{stateByAnswer, rowAnswerMeaning}
 use Rattle.plan_check.specs.RowAnswer as meaning
@@ -58,7 +58,7 @@ module _ (w : SuppliedPlan) (row : List ℕ) where
   right-14 : StateOut r → First w row 14 0
   right-14 h = (fourteen h, earlier)
     where
-      earlier : (m s : ℕ) → Earlier m s 14 0 → ¬ Applies w row m s
+      earlier : (m s : ℕ) → EarlierFault m s 14 0 → ¬ Applies w row m s
       earlier m s x (fourteen y) = no-earlier 14 0 14 0 (omega arith) (omega arith) (omega arith) x
       earlier m s x (nine y) = later 9 0 14 0 (omega arith) x
       earlier m s x (ten y) = later 10 0 14 0 (omega arith) x
@@ -72,7 +72,7 @@ module _ (w : SuppliedPlan) (row : List ℕ) where
     right-9 : HorizonOut (horizonIn r) → First w row 9 0
     right-9 h = (nine h, earlier)
       where
-        earlier : (m s : ℕ) → Earlier m s 9 0 → ¬ Applies w row m s
+        earlier : (m s : ℕ) → EarlierFault m s 9 0 → ¬ Applies w row m s
         earlier m s x (fourteen y) = n14 y
         earlier m s x (nine y) = no-earlier 9 0 9 0 (omega arith) (omega arith) (omega arith) x
         earlier m s x (ten y) = later 10 0 9 0 (omega arith) x
@@ -86,7 +86,7 @@ module _ (w : SuppliedPlan) (row : List ℕ) where
       right-10 : horizonIn r ≤ t → First w row 10 0
       right-10 h = (ten h, earlier)
         where
-          earlier : (m s : ℕ) → Earlier m s 10 0 → ¬ Applies w row m s
+          earlier : (m s : ℕ) → EarlierFault m s 10 0 → ¬ Applies w row m s
           earlier m s x (fourteen y) = n14 y
           earlier m s x (nine y) = n9 y
           earlier m s x (ten y) = no-earlier 10 0 10 0 (omega arith) (omega arith) (omega arith) x
@@ -100,7 +100,7 @@ module _ (w : SuppliedPlan) (row : List ℕ) where
         right-11 : ¬ (length row ≡ r .cores) → First w row 11 0
         right-11 h = (eleven h, earlier)
           where
-            earlier : (m s : ℕ) → Earlier m s 11 0 → ¬ Applies w row m s
+            earlier : (m s : ℕ) → EarlierFault m s 11 0 → ¬ Applies w row m s
             earlier m s x (fourteen y) = n14 y
             earlier m s x (nine y) = n9 y
             earlier m s x (ten y) = omega (arith, n10)
@@ -114,7 +114,7 @@ module _ (w : SuppliedPlan) (row : List ℕ) where
           right-25 : AnyLate r → First w row 25 t
           right-25 h = (late-now h, earlier)
             where
-              earlier : (m s : ℕ) → Earlier m s 25 t → ¬ Applies w row m s
+              earlier : (m s : ℕ) → EarlierFault m s 25 t → ¬ Applies w row m s
               earlier m s x (fourteen y) = n14 y
               earlier m s x (nine y) = n9 y
               earlier m s x (ten y) = omega (arith, n10)
@@ -128,7 +128,7 @@ module _ (w : SuppliedPlan) (row : List ℕ) where
             right-24 : Faulty r row → First w row 24 t
             right-24 h = (twenty-four h, earlier)
               where
-                earlier : (m s : ℕ) → Earlier m s 24 t → ¬ Applies w row m s
+                earlier : (m s : ℕ) → EarlierFault m s 24 t → ¬ Applies w row m s
                 earlier m s x (fourteen y) = n14 y
                 earlier m s x (nine y) = n9 y
                 earlier m s x (ten y) = omega (arith, n10)
@@ -156,7 +156,7 @@ module _ (w : SuppliedPlan) (row : List ℕ) where
                 right-25-last : AnyLate (workedRow r row) → First w row 25 (suc t)
                 right-25-last h = (late-last last h, earlier)
                   where
-                    earlier : (m s : ℕ) → Earlier m s 25 (suc t) → ¬ Applies w row m s
+                    earlier : (m s : ℕ) → EarlierFault m s 25 (suc t) → ¬ Applies w row m s
                     earlier m s x (fourteen y) = n14 y
                     earlier m s x (nine y) = n9 y
                     earlier m s x (ten y) = omega (arith, n10)
@@ -170,7 +170,7 @@ module _ (w : SuppliedPlan) (row : List ℕ) where
                   right-26 : Differs (afterRow w row) → First w row 26 (suc t)
                   right-26 h = (twenty-six last h, earlier)
                     where
-                      earlier : (m s : ℕ) → Earlier m s 26 (suc t) → ¬ Applies w row m s
+                      earlier : (m s : ℕ) → EarlierFault m s 26 (suc t) → ¬ Applies w row m s
                       earlier m s x (fourteen y) = n14 y
                       earlier m s x (nine y) = n9 y
                       earlier m s x (ten y) = omega (arith, n10)
