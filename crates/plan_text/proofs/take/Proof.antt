@@ -18,5 +18,5 @@ check-row-requires c κs = search needs
 returns-2 : tie.Need-returns-2
 returns-2 c = (c .check-row .ensures .value, λ e. absurd (false≢true (sym (c .before .if1 .left) ∙ e)))
 
-pub check-row-spec : {M : Type 1} → statement M
-check-row-spec = tie.close (tie.spec enter-requires returns check-row-requires returns-2)
+pub take-spec : {M : Type 1} → statement M
+take-spec = tie.close (tie.spec enter-requires returns check-row-requires returns-2)
