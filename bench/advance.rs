@@ -261,16 +261,16 @@ impl Run {
         (number, self)
     }
 
-    fn paint(&self, empties: u32, row: &mut [u8; 64]) -> u32 {
+    fn fill_row(&self, empties: u32, row: &mut [u8; 64]) -> u32 {
         row.fill(0);
         let tick = match self.tick(empties) {
             Ok(tick) => tick,
             Err(number) => return number,
         };
         if self.fence != 0 {
-            self.paint_around(tick.granted, row);
+            self.fill_around_fence(tick.granted, row);
         } else {
-            self.paint_along(tick.granted, row);
+            self.fill_unfenced(tick.granted, row);
         }
         if tick.served != 0 {
             // a borrower takes the lowest cores that still show the holder
@@ -283,7 +283,7 @@ impl Run {
     }
 
     /// The row without a fence, task by task.
-    fn paint_along(&self, granted: u32, row: &mut [u8; 64]) {
+    fn fill_unfenced(&self, granted: u32, row: &mut [u8; 64]) {
         let mut core = 0;
         for (place, task) in self.tasks[..self.count].iter().enumerate() {
             if granted >> place & 1 != 0 {
@@ -295,7 +295,7 @@ impl Run {
     }
 
     /// The row with 255 on fenced cores, core by core.
-    fn paint_around(&self, granted: u32, row: &mut [u8; 64]) {
+    fn fill_around_fence(&self, granted: u32, row: &mut [u8; 64]) {
         for core in 0..self.cores as usize {
             row[core] = if self.fence >> core & 1 != 0 { 255 } else { 0 };
         }
@@ -312,20 +312,20 @@ impl Run {
 
     #[inline(never)]
     fn row_in_place(&self, empties: u32, row: &mut [u8; 64]) -> u32 {
-        self.paint(empties, row)
+        self.fill_row(empties, row)
     }
 
     #[inline(never)]
     fn row(self, empties: u32) -> (u32, [u8; 64]) {
         let mut row = [0; 64];
-        (self.paint(empties, &mut row), row)
+        (self.fill_row(empties, &mut row), row)
     }
 }
 
 /// A random number generator that is good enough for tables.
-struct Dice(u64);
+struct Rng(u64);
 
-impl Dice {
+impl Rng {
     fn below(&mut self, n: u32) -> u32 {
         self.0 = self.0.wrapping_mul(6364136223846793005).wrapping_add(1442695040888963407);
         ((self.0 >> 33) % u64::from(n)) as u32
@@ -334,15 +334,15 @@ impl Dice {
 
 /// The words of a table of `count` tasks on 64 cores that the judge calls Firm, with a short horizon.
 fn table(count: u32, rule: u32, fence: u64) -> Vec<u32> {
-    let mut dice = Dice(u64::from(count));
+    let mut rng = Rng(u64::from(count));
     loop {
         let mut words = vec![1, 64, rule, fence as u32, (fence >> 32) as u32];
-        let mut widths: Vec<u32> = (0..count).map(|_| 1 + dice.below(128 / count.max(4))).collect();
+        let mut widths: Vec<u32> = (0..count).map(|_| 1 + rng.below(128 / count.max(4))).collect();
         widths.sort();
         for (place, width) in (1..).zip(widths) {
-            let period = [8, 10, 16, 20, 40, 80][dice.below(6) as usize];
-            let length = period / 2 + dice.below(period / 2);
-            words.extend([if place < count { place + 1 } else { 0 }, dice.below(4), width, length, period, period, width]);
+            let period = [8, 10, 16, 20, 40, 80][rng.below(6) as usize];
+            let length = period / 2 + rng.below(period / 2);
+            words.extend([if place < count { place + 1 } else { 0 }, rng.below(4), width, length, period, period, width]);
         }
         let mut answer = [0; 3];
         unsafe { sivorandra_judge(words.as_ptr(), words.len(), answer.as_mut_ptr(), 3) };
@@ -361,11 +361,11 @@ fn for_simulator(words: &[u32]) -> Vec<u32> {
 
 /// Entries that are taken: now and then a job that works in the tick ends early.
 fn entries(words: &[u32]) -> Vec<Entry> {
-    let (mut dice, mut run) = (Dice(1), Run::start(words));
+    let (mut rng, mut run) = (Rng(1), Run::start(words));
     let mut list = Vec::with_capacity(TICKS);
     for _ in 0..TICKS {
         let tick = run.tick(0).expect("a firm table");
-        let ended = (tick.granted | tick.served) & tick.working & if dice.below(4) == 0 { 1 << dice.below(32) } else { 0 };
+        let ended = (tick.granted | tick.served) & tick.working & if rng.below(4) == 0 { 1 << rng.below(32) } else { 0 };
         assert_eq!(run.step(ended, 0), 0);
         list.push([0, ended, 0]);
     }

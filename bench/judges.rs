@@ -1,11 +1,11 @@
-//! Times the library's two judges and the peer (bench/peer.rs) in one process and by turns, on tables that are not refused: `judges RUNS TABLE..`.
-//! For each table a line: its name, the ticks up to the horizon or the miss, the moments among them, and in nanoseconds of processor time, best of so many runs,
-//! the faster of the two judges, the judge that goes tick by tick, which runs no more once it has taken some seconds, the peer that jumps, and the longest answers.
-#[path = "peer.rs"]
+//! Times the library's two judges and the baseline (bench/baseline.rs) in one process and by turns, on tables that are not refused: `judges RUNS TABLE..`.
+//! For each table a line: its name, the ticks up to the horizon or the miss, the events among them, and in nanoseconds of processor time, best of so many runs,
+//! the faster of the two judges, the judge that goes tick by tick, which runs no more once it has taken some seconds, the event-driven baseline, and the response times.
+#[path = "baseline.rs"]
 #[allow(dead_code)]
-mod peer;
+mod baseline;
 
-use peer::Table;
+use baseline::Table;
 
 /// Nanoseconds after which the judge that goes tick by tick is not asked again.
 const ENOUGH: u64 = 4_000_000_000;
@@ -14,7 +14,7 @@ const THREAD_TIME: i32 = 3;
 extern "C" {
     fn sivorandra_judge(words: *const u32, words_len: usize, answer: *mut u32, answer_len: usize) -> u32;
     fn sivorandra_judge_ticks(words: *const u32, words_len: usize, answer: *mut u32, answer_len: usize) -> u32;
-    fn sivorandra_longest(words: *const u32, words_len: usize, figures: *mut u32, figures_len: usize, answer: *mut u32, answer_len: usize) -> u32;
+    fn sivorandra_response_times(words: *const u32, words_len: usize, figures: *mut u32, figures_len: usize, answer: *mut u32, answer_len: usize) -> u32;
     fn clock_gettime(clock: i32, time: *mut [i64; 2]) -> i32;
 }
 
@@ -32,16 +32,16 @@ fn library(judge: Judge, words: &[u32]) -> String {
     format!("{} {} {}", ["firm", "full", "miss", "refused"][answer[0] as usize], answer[1], answer[2])
 }
 
-/// The longest answers, and the verdict that they go with: 13 for a miss.
-fn longest(words: &[u32], verdict: &str) -> String {
+/// The response times, and the verdict that they go with: 13 for a miss.
+fn response_times(words: &[u32], verdict: &str) -> String {
     let (mut figures, mut answer) = ([0; 32], [0; 3]);
-    let value = unsafe { sivorandra_longest(words.as_ptr(), words.len(), figures.as_mut_ptr(), figures.len(), answer.as_mut_ptr(), answer.len()) };
+    let value = unsafe { sivorandra_response_times(words.as_ptr(), words.len(), figures.as_mut_ptr(), figures.len(), answer.as_mut_ptr(), answer.len()) };
     assert_eq!((value, answer), (0, if verdict.starts_with("miss") { [3, 13, 0] } else { [0; 3] }), "the call is answered as the verdict says");
     verdict.into()
 }
 
-/// How many ticks after 0 and before `end`, or on it, are moments: some job is released, is due, ended or not, or ends.
-fn moments(table: &Table, end: u32) -> u64 {
+/// How many ticks after 0 and before `end`, or on it, are events: some job is released, is due, ended or not, or ends.
+fn events(table: &Table, end: u32) -> u64 {
     let count = table.tasks.len();
     let mut width = [0; 32];
     table.tasks.iter().enumerate().for_each(|(place, task)| width[place] = task.second);
@@ -60,10 +60,10 @@ fn moments(table: &Table, end: u32) -> u64 {
                 width[place] ^= task.width ^ task.second;
             }
         }
-        let granted = peer::choose(table, &width, claiming);
+        let granted = baseline::choose(table, &width, claiming);
         let runs = |place: &usize| granted >> place & 1 != 0;
-        let bell = (0..count).map(|place| due[place].min(next[place])).min().unwrap_or(end);
-        let ticks = (0..count).filter(runs).map(|place| left[place]).min().unwrap_or(u32::MAX).min(bell - tick);
+        let next_event = (0..count).map(|place| due[place].min(next[place])).min().unwrap_or(end);
+        let ticks = (0..count).filter(runs).map(|place| left[place]).min().unwrap_or(u32::MAX).min(next_event - tick);
         for place in (0..count).filter(runs) {
             left[place] -= ticks;
             if left[place] == 0 {
@@ -81,14 +81,14 @@ fn main() {
     let runs: u32 = given[0].parse().expect("a number of runs");
     for path in &given[1..] {
         let text = std::fs::read(path).expect("the table can be read");
-        let words = peer::numbers(&text).expect("a table's text");
-        let table = peer::load(&text).unwrap_or_else(|refusal| panic!("{path} is refused: {refusal:?}"));
-        let expected = peer::verdict(&table, true);
+        let words = baseline::numbers(&text).expect("a table's text");
+        let table = baseline::load(&text).unwrap_or_else(|refusal| panic!("{path} is refused: {refusal:?}"));
+        let expected = baseline::verdict(&table, true);
         let judges: [(bool, &dyn Fn() -> String); 4] = [
             (false, &|| library(sivorandra_judge, &words)),
             (true, &|| library(sivorandra_judge_ticks, &words)),
-            (false, &|| peer::verdict(&table, true)),
-            (false, &|| longest(&words, &expected)),
+            (false, &|| baseline::verdict(&table, true)),
+            (false, &|| response_times(&words, &expected)),
         ];
         let (mut least, mut spent) = ([u64::MAX; 4], [0; 4]);
         for _ in 0..runs {
@@ -108,6 +108,6 @@ fn main() {
             ("miss", rest) => rest.split(' ').next().and_then(|tick| tick.parse().ok()).expect("a tick"),
             _ => (table.s + table.p) as u32,
         };
-        println!("{path} {end} {} {} {} {} {}", moments(&table, end), least[0], least[1], least[2], least[3]);
+        println!("{path} {end} {} {} {} {} {}", events(&table, end), least[0], least[1], least[2], least[3]);
     }
 }

@@ -34,12 +34,12 @@ def library():
 
 @contextlib.contextmanager
 def heavy(*parts):
-    """The simulator and the peer, and the paths of the heavy tables, in a folder that goes away; in folders beside them the tables of other parts. `three` says where the simulator's own form of one is."""
+    """The simulator and the baseline, and the paths of the heavy tables, in a folder that goes away; in folders beside them the tables of other parts. `three` says where the simulator's own form of one is."""
     with tempfile.TemporaryDirectory() as work:
-        gangsim, peer = rust(HERE / "simulator.rs", work), rust(HERE / "peer.rs", work)
+        gangsim, baseline = rust(HERE / "simulator.rs", work), rust(HERE / "baseline.rs", work)
         tables = pathlib.Path(work) / "tables"
-        subprocess.run([sys.executable, str(HERE / "tables.py"), str(tables), gangsim, peer, *parts], check=True)
-        yield gangsim, peer, sorted(tables.glob("*.txt"))
+        subprocess.run([sys.executable, str(HERE / "tables.py"), str(tables), gangsim, baseline, *parts], check=True)
+        yield gangsim, baseline, sorted(tables.glob("*.txt"))
 
 
 def three(path):

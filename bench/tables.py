@@ -1,13 +1,13 @@
 #!/usr/bin/env python3
 """Tables for measuring, all of which fit.
 
-    bench/tables.py DIR GANGSIM PEER [pairs box longer more]
+    bench/tables.py DIR GANGSIM BASELINE [pairs box longer more]
 
 DIR/RULE-KIND.txt: heavy ones of 32 tasks, 64 cores and a horizon of up to 10,000,000, for each rule with short, long and mixed periods and with slow ones, of 10,000 ticks and more; where a name says early,
 deadlines come before the period's end; where it says fenced, 10 of the cores are. Their tasks have one width. The reference simulator picks one that fits. It reads tables of three header words and records of six,
 as they were before there was a fence: it has the same tasks on just the unfenced cores, in DIR/three/. In DIR/six/ they stand as they were before there were second widths.
 
-The other folders are made where they are named. DIR/pairs/: the same with a second width for every third task, so with twice the horizon, which the peer picks. DIR/box/: 30 tasks with periods of 500 to 20,000 ticks and a horizon near 1,000,000,000, which the peer picks.
+The other folders are made where they are named. DIR/pairs/: the same with a second width for every third task, so with twice the horizon, which the baseline picks. DIR/box/: 30 tasks with periods of 500 to 20,000 ticks and a horizon near 1,000,000,000, which the baseline picks.
 DIR/longer/: one table, and the same with all its numbers of ticks times 10 and times 100. DIR/more/: 27 tasks, and up to three more of which each multiplies P.
 """
 import math
@@ -135,52 +135,52 @@ def write_heavy(folder, gangsim):
                 (folder / f"{name}.txt").write_text(words(made, *header))
 
 
-def write_pairs(folder, peer):
+def write_pairs(folder, baseline):
     folder.mkdir(parents=True, exist_ok=True)
     for rule in (1, 2, 3):
         for kind in POOLS:
 
             def found(seed):
                 text = words(paired(heavy(kind, False, seed), seed), CORES, rule, 0, 0)
-                return text if fits([peer, "jump"], text) else None
+                return text if fits([baseline, "jump"], text) else None
 
             (folder / f"{rule}-{kind}-pairs.txt").write_text(first_that(found))
 
 
-def write_boxes(folder, peer):
+def write_boxes(folder, baseline):
     folder.mkdir(parents=True, exist_ok=True)
     for rule in (1, 2, 3):
         for early in (False, True):
 
             def found(seed):
                 text = words(box(early, seed), CORES, rule, 0, 0)
-                return text if fits([peer, "jump"], text) else None
+                return text if fits([baseline, "jump"], text) else None
 
             (folder / f"{rule}-box{'-early' if early else ''}.txt").write_text(first_that(found))
 
 
-def write_family(folder, peer, family):
+def write_family(folder, baseline, family):
     """Several tables of one seed, all of which fit."""
     folder.mkdir(parents=True, exist_ok=True)
 
     def found(seed):
         texts = {name: words(made, CORES, 1, 0, 0) for name, made in family(seed).items()}
-        return texts if all(fits([peer, "jump"], text) for text in texts.values()) else None
+        return texts if all(fits([baseline, "jump"], text) for text in texts.values()) else None
 
     for at, (name, text) in enumerate(first_that(found).items()):
         (folder / f"{at}-{name.replace(' ', '-')}.txt").write_text(text)
 
 
 def main():
-    folder, gangsim, peer, *parts = pathlib.Path(sys.argv[1]), *sys.argv[2:]
+    folder, gangsim, baseline, *parts = pathlib.Path(sys.argv[1]), *sys.argv[2:]
     write_heavy(folder, gangsim)
     if "pairs" in parts:
-        write_pairs(folder / "pairs", peer)
+        write_pairs(folder / "pairs", baseline)
     if "box" in parts:
-        write_boxes(folder / "box", peer)
+        write_boxes(folder / "box", baseline)
     for name, family in (("longer", longer), ("more", more)):
         if name in parts:
-            write_family(folder / name, peer, family)
+            write_family(folder / name, baseline, family)
 
 
 if __name__ == "__main__":

@@ -27,7 +27,7 @@ def some_pairs(rng, tasks, cores):
         task[5] = rng.randint(1, cores)
 
 
-def rising_pairs(rng, tasks, cores):
+def monotonic_pairs(rng, tasks, cores):
     """Neither width of a task is above one of the next: firm under every rule, where no deadline is missed."""
     widths = sorted(rng.randint(1, cores) for _ in range(2 * len(tasks)))
     for at, task in enumerate(tasks):
@@ -52,7 +52,7 @@ def second_half(rng, tasks, cores):
 def with_pairs(rng, tasks, cores):
     """Every third table has tasks of two widths."""
     if rng.random() < 1 / 3:
-        rng.choice([some_pairs, some_pairs, rising_pairs, crossing_pairs, second_half])(rng, tasks, cores)
+        rng.choice([some_pairs, some_pairs, monotonic_pairs, crossing_pairs, second_half])(rng, tasks, cores)
     return tasks
 
 
@@ -79,17 +79,17 @@ def fence(rng, cores):
     return some if some != all_cores else 0
 
 
-def leaving(rng, usable, cores):
+def fence_leaving(rng, usable, cores):
     """A fence that leaves so many of the cores."""
     return sum(1 << core for core in rng.sample(range(cores), cores - usable))
 
 
-def among(rng, usable):
+def cores_and_fence(rng, usable):
     """A core count and a fence that leaves so many cores, or of all 64 some: in every second table none is fenced."""
     if rng.random() < 0.5:
         return usable, 0
     cores = rng.choice([usable, min(64, usable + rng.randint(1, 4)), rng.randint(usable, 64), 64])
-    return cores, fence(rng, cores) if usable == 64 else leaving(rng, usable, cores)
+    return cores, fence(rng, cores) if usable == 64 else fence_leaving(rng, usable, cores)
 
 
 def linked(rng, cores, fenced, tasks, rule=None):
@@ -110,12 +110,12 @@ def linked(rng, cores, fenced, tasks, rule=None):
 
 def numbers(rng):
     """The words of a table within the limits."""
-    cores, fenced = among(rng, rng.choice([1, 2, 2, 3, 4, 6, 8, 64]))
+    cores, fenced = cores_and_fence(rng, rng.choice([1, 2, 2, 3, 4, 6, 8, 64]))
     usable = cores - fenced.bit_count()
     return linked(rng, cores, fenced, with_pairs(rng, [task(rng, usable) for _ in range(rng.randint(1, 6))], usable))
 
 
-def frail(rng):
+def not_sustainable(rng):
     """The words of three greedy tasks so tight that an early end can make another late: the second is too wide beside the first, the third is not. In every second table even jobs of the
     first and third may be narrower, and the second's have another width."""
     cores, long, short = rng.randint(2, 5), rng.randint(2, 6), rng.randint(1, 3)
@@ -124,7 +124,7 @@ def frail(rng):
     if rng.random() < 0.5:
         widths = [(width, width) for width, _ in widths]
     among = rng.choice([cores, cores + 1, 35, 64])
-    words = [1, among, 1, *two_words(leaving(rng, cores, among))]
+    words = [1, among, 1, *two_words(fence_leaving(rng, cores, among))]
     for following, (odd, even), length, deadline in zip((2, 3, 0), widths, (long, short, third), (rng.randint(long, period), period, third + rng.randint(0, short - 1))):
         words += [following, 0, odd, length, deadline, period, even]
     return words
@@ -145,7 +145,7 @@ def waiting(rng, rule=LENDING):
     tasks.sort(key=lambda task: order * task[1])
     if rng.random() < 1 / 3:
         some_pairs(rng, tasks, cores)
-    return linked(rng, *among(rng, cores), tasks, rule)
+    return linked(rng, *cores_and_fence(rng, cores), tasks, rule)
 
 
 def long_task(rng, usable, whole, periods, load, early):
@@ -161,17 +161,17 @@ def long_task(rng, usable, whole, periods, load, early):
 
 def long_periods(rng, hyperperiods):
     """The words of a table with periods of 10,000 ticks and more; in every second one deadlines come before the period's end."""
-    cores, fenced = among(rng, rng.choice([1, 2, 4, 8, 64]))
+    cores, fenced = cores_and_fence(rng, rng.choice([1, 2, 4, 8, 64]))
     whole = rng.choice(hyperperiods)
     periods = [whole // k for k in range(-(-whole // 1_000_000), whole // 10_000 + 1) if whole % k == 0]
     count, load, early = rng.choice([1, 2, 4, 8, 16, 32]), rng.choice([0.3, 0.5, 0.7, 0.9, 1.0]), rng.random() < 0.5
     return linked(rng, cores, fenced, [long_task(rng, cores - fenced.bit_count(), whole, periods, load / count * rng.uniform(0.5, 1.5), early) for _ in range(count)])
 
 
-def clash(rng):
-    """The words of a table of two tasks that cannot run together and have no room to wait; their periods share no factor, so that they meet late, if at all before the horizon.
+def late_miss(rng):
+    """The words of a table of two tasks that cannot run together and have no slack; their periods share no factor, so that they are active together late, if at all before the horizon.
     Where the first has two widths they can, with every second job of it."""
-    cores, fenced = among(rng, rng.choice([1, 3, 64]))
+    cores, fenced = cores_and_fence(rng, rng.choice([1, 3, 64]))
     usable = cores - fenced.bit_count()
     first, second = rng.choice([*NEAR, (997, 1009), (9973, 10_007), (10_007, 99_991)])
     room = rng.randint(0, 2)
@@ -220,7 +220,7 @@ def late_at_once(words):
     words[first + 1], words[first + 3] = 0, words[first + 4] + 1
 
 
-def spoilt(rng, words, printed):
+def with_fault(rng, words, printed):
     """The words with one change that a number from 1 to 9, or 19, may turn down. Where rows are printed, no more than some millions follow."""
     words = list(words)
     kind = rng.randint(0, 12)
@@ -276,5 +276,5 @@ def random_text(seed, printed=True):
     rng = random.Random(seed)
     words = numbers(rng)
     if rng.random() < 0.4:
-        words = spoilt(rng, words, printed)
+        words = with_fault(rng, words, printed)
     return text(rng, words)

@@ -1,5 +1,5 @@
 #!/usr/bin/env python3
-"""Hands a table and a supplied plan to the program `inspect` and prints its answer: check.py PLAN PROGRAM < table
+"""Hands a table and a supplied plan to the program `plan_checker` and prints its answer: check.py PLAN PROGRAM < table
 
 It reads no row: it hands the plan on as it comes, which may be a pipe, and stops where the program has answered. Where the program says which line is no row, that line
 is shown on standard error and nothing is printed. On a terminal it says from the second second on how many lines have gone by. Status: 0 accepted, 1 a fault or rows

@@ -2,11 +2,11 @@
 """Draws what the program prints for a table as an SVG 1.1: picture.py [--from TICK] [--to TICK] [--clash ANSWER | --replay LIST] PROGRAM... < table > out.svg
 
 It decides nothing. The cells are the program's rows and the words are the program's verdict; releases, deadlines, the fence and the
-numbers beside each task are the table's; the longest answers are what the program `ask` says, which stands beside it, and the job
+numbers beside each task are the table's; the longest answers are what the program `query` says, which stands beside it, and the job
 that is marked is found by its cells. The program's output is read as a stream: only the rows that are drawn are kept, and
 after the last of them the program is stopped. With --replay the program is `replay`: it is fed the table and the operations of LIST,
 with a row asked at each tick, and the rows of the list are drawn. A list is read on after the last of these, to say how many there
-are and whether something is refused, but no more than a million lines. With --clash, what `ask` said to `clash` on the table, the
+are and whether something is refused, but no more than a million lines. With --clash, what `query` said to `clash` on the table, the
 tasks in the clash alone are drawn: the program is handed the table with its chain linked over the others.
 The status is 0 where nothing is refused or missed, or the clash is drawn, 1 for a miss, 2 for a refusal, 3 where something could not be read or written, 64 for wrong arguments."""
 import collections
@@ -222,7 +222,7 @@ def rows_of(source, start, end, table, since, position, until=math.inf):
     return rows, had
 
 
-# The longest answers of the tasks, from the lines of `ask`.
+# The longest answers of the tasks, from the lines of `query`.
 def figures_of(source, table):
     lines = [line.split() for line in source.read().splitlines()]
     if [line[0] for line in lines if len(line) == 2 and line[1].isdigit()] != [b"%d" % position for position in range(1, len(table.tasks) + 1)]:
@@ -259,7 +259,7 @@ def draw_rows(sheet, word, first, second, figures, had):
     return [("longest", "longest: the most ticks that a job takes from its release to its end, of its D; marked is the first job drawn that takes so many")] if figures else []
 
 
-# The picture of a verdict that is no refusal, and of the rows that it needs from the program's output; `answers` is what `ask` says to `longest`.
+# The picture of a verdict that is no refusal, and of the rows that it needs from the program's output; `answers` is what `query` says to `longest`.
 def chart(word, first, second, table, source, asked, answers):
     count = first + (0 if word == "miss" else second)
     second = table.drawn[second - 1] if word == "miss" else second
@@ -554,10 +554,10 @@ def running(program):
     return subprocess.Popen(program, stdin=subprocess.PIPE, stdout=subprocess.PIPE)
 
 
-# What `ask`, which stands beside the program, says to a question on a table. Leaving this stops it.
+# What `query`, which stands beside the program, says to a question on a table. Leaving this stops it.
 @contextlib.contextmanager
 def answering(program, question, text):
-    with running([os.path.join(os.path.dirname(program[-1]), "ask")]) as process:
+    with running([os.path.join(os.path.dirname(program[-1]), "query")]) as process:
         try:
             process.stdin.write(question + text)
             process.stdin.close()
@@ -600,7 +600,7 @@ def draw(program, text, asked=Asked(), table=None):
         return chart(word, first, second, table or table_of(text), process.stdout, asked, answers)
 
 
-# The table with the positions in its clash, by what `ask` answered.
+# The table with the positions in its clash, by what `query` answered.
 def clash_in(answer, table):
     kept = [int(field) for field in answer.split()]
     if not kept or kept != sorted({*kept} & {*range(1, len(table.tasks) + 1)}):
@@ -608,7 +608,7 @@ def clash_in(answer, table):
     return table._replace(clash=kept)
 
 
-# The picture of the clash in a table by what `ask` answered, and the status.
+# The picture of the clash in a table by what `query` answered, and the status.
 def draw_clash(program, text, answer, asked=Asked()):
     if answer.startswith("refused"):
         return refusal(*numbers_in(answer.encode()))

@@ -125,7 +125,7 @@ class Programs:
                     self.line.say("still asking")
 
     def asking(self, question, text=None):
-        return self.start([self.path("ask")], question + b"\n" + (self.text if text is None else text))
+        return self.start([self.path("query")], question + b"\n" + (self.text if text is None else text))
 
     # The verdict on another text, or None.
     def verdict(self, text):

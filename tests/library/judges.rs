@@ -1,4 +1,4 @@
-//! Calls of the library for tests/outside/leap: each line of standard input is a call, and one line answers it.
+//! Calls of the library for tests/outside/judges: each line of standard input is a call, and one line answers it.
 //! `judge WORD..` asks the faster of the two judges, `ticks WORD..` the one that goes tick by tick; the answer is the program's verdict line.
 use sivorandra::{judge, judge_ticks, Refusal, Verdict};
 use std::io::{self, BufRead, Write};

@@ -1,4 +1,4 @@
-/* The stack that each call takes, found in a thread whose stack is painted before the call: tables of 32 tasks under each rule, with short and long periods, with a miss
+/* The stack that each call takes, found in a thread whose stack is filled with a pattern before the call: tables of 32 tasks under each rule, with short and long periods, with a miss
    and without, runs of them, and rows of others' plans. Prints the most of each call, and fails where one takes more than the header says. */
 #define _POSIX_C_SOURCE 200809L
 #include <pthread.h>
@@ -8,7 +8,7 @@
 #include "sivorandra.h"
 
 enum { TASKS = SIVORANDRA_MOST_TASKS, TABLE = SIVORANDRA_TABLE_WORDS, RUN = SIVORANDRA_RUN_WORDS, FACTS = SIVORANDRA_FACT_WORDS };
-enum { STACK = 1 << 18, PAINT = 0xa5, TICKS = 200 };
+enum { STACK = 1 << 18, FILL = 0xa5, TICKS = 200 };
 
 static uint32_t table[TABLE], run[RUN], supplied[SIVORANDRA_PLAN_WORDS], answer[3], entries[TICKS * SIVORANDRA_ENTRY_WORDS], numbers[TICKS];
 static uint8_t rows[TICKS * SIVORANDRA_MOST_CORES], sentence[SIVORANDRA_SENTENCE_BYTES], idle[SIVORANDRA_MOST_CORES];
@@ -27,40 +27,40 @@ static void row_as_sets(void) { sivorandra_sets(run, RUN, 0, sets, SIVORANDRA_SE
 static void advance(void) { sivorandra_advance(run, RUN, 0, 0, answer, 3); }
 static void withdraw(void) { sivorandra_withdraw(run, RUN, TASKS, answer, 3); }
 static void withdraw_all(void) { sivorandra_withdraw_all(run, RUN, 0xffffffffu, answer, 3); }
-static void say(void) { sivorandra_sentence(table, words, sentence, sizeof sentence, answer, 3); }
-static void read_back(void) { sivorandra_facts(sentence, length, facts, FACTS, answer, 3); }
-static void longest(void) { sivorandra_longest(table, words, numbers, TASKS, answer, 3); }
-static void spare(void) { sivorandra_spare(table, words, numbers, TASKS, answer, 3); }
-static void clash(void) { sivorandra_clash(table, words, answer, 3); }
-static void begin(void) { sivorandra_begin(table, words, supplied, SIVORANDRA_PLAN_WORDS, answer, 3); }
+static void explain(void) { sivorandra_sentence(table, words, sentence, sizeof sentence, answer, 3); }
+static void parse(void) { sivorandra_facts(sentence, length, facts, FACTS, answer, 3); }
+static void response_times(void) { sivorandra_response_times(table, words, numbers, TASKS, answer, 3); }
+static void slack(void) { sivorandra_slack(table, words, numbers, TASKS, answer, 3); }
+static void conflict(void) { sivorandra_conflict(table, words, answer, 3); }
+static void begin(void) { sivorandra_check_begin(table, words, supplied, SIVORANDRA_PLAN_WORDS, answer, 3); }
 /* an idle row, at the beginning and as the last */
 static void take(void)
 {
-    sivorandra_take(supplied, SIVORANDRA_PLAN_WORDS, idle, SIVORANDRA_MOST_CORES, answer, 3);
-    supplied[RUN] = last, sivorandra_take(supplied, SIVORANDRA_PLAN_WORDS, idle, SIVORANDRA_MOST_CORES, answer, 3);
+    sivorandra_check_row(supplied, SIVORANDRA_PLAN_WORDS, idle, SIVORANDRA_MOST_CORES, answer, 3);
+    supplied[RUN] = last, sivorandra_check_row(supplied, SIVORANDRA_PLAN_WORDS, idle, SIVORANDRA_MOST_CORES, answer, 3);
 }
 
 static struct { const char *name; void (*call)(void); size_t most; } calls[] = {
     { "version", version, 0 }, { "judge", judge, 0 }, { "judge_ticks", judge_ticks, 0 }, { "plan", plan, 0 }, { "replay", replay, 0 },
     { "start", start, 0 }, { "row", row, 0 }, { "sets", row_as_sets, 0 }, { "advance", advance, 0 }, { "withdraw", withdraw, 0 },
-    { "withdraw_all", withdraw_all, 0 }, { "sentence", say, 0 }, { "facts", read_back, 0 }, { "longest", longest, 0 }, { "clash", clash, 0 }, { "spare", spare, 0 },
+    { "withdraw_all", withdraw_all, 0 }, { "sentence", explain, 0 }, { "facts", parse, 0 }, { "response_times", response_times, 0 }, { "conflict", conflict, 0 }, { "slack", slack, 0 },
     { "begin", begin, 0 }, { "take", take, 0 },
 };
 enum { CALLS = sizeof calls / sizeof calls[0] };
 
 static unsigned char *stack;
 
-/* Paints what lies below this frame, calls, and looks how far down the paint is gone. */
-static void *painted(void *given)
+/* Fills what lies below this frame, calls, and looks how far down the pattern is overwritten. */
+static void *measured(void *given)
 {
     size_t *used = given, call = *used;
     volatile unsigned char here = 0, *place = stack;
-    size_t top = (size_t)((uintptr_t)&here - (uintptr_t)stack), below = top - 256; /* this frame is not painted */
+    size_t top = (size_t)((uintptr_t)&here - (uintptr_t)stack), below = top - 256; /* this frame is not filled */
     for (size_t at = 0; at < below; at++)
-        place[at] = PAINT;
+        place[at] = FILL;
     calls[call].call();
     size_t low = 0;
-    while (low < below && place[low] == PAINT)
+    while (low < below && place[low] == FILL)
         low++;
     *used = top - low;
     return NULL;
@@ -72,7 +72,7 @@ static size_t taken(size_t call)
     pthread_t thread;
     pthread_attr_t attr;
     size_t used = call;
-    if (pthread_attr_init(&attr) || pthread_attr_setstack(&attr, stack, STACK) || pthread_create(&thread, &attr, painted, &used) || pthread_join(thread, NULL)) {
+    if (pthread_attr_init(&attr) || pthread_attr_setstack(&attr, stack, STACK) || pthread_create(&thread, &attr, measured, &used) || pthread_join(thread, NULL)) {
         printf("no thread\n");
         exit(1);
     }
@@ -98,7 +98,7 @@ static void look(void)
     judge(), end = answer[0] == SIVORANDRA_MISS ? answer[1] : answer[1] + answer[2], last = end - 1;
     if (end > TICKS)
         end = TICKS;
-    start(), memcpy(begun, run, sizeof begun), say(), length = answer[0] == SIVORANDRA_LENGTH ? answer[1] : 0;
+    start(), memcpy(begun, run, sizeof begun), explain(), length = answer[0] == SIVORANDRA_LENGTH ? answer[1] : 0;
     for (uint32_t c = 0; c < 32; c++)
         idle[c] = table[3] >> c & 1 ? SIVORANDRA_FENCED : 0;
     for (size_t i = 0; i < CALLS; i++) {

@@ -20,7 +20,7 @@
 //! ```
 //!
 //! No function takes memory but `replay` and `sentence`, which return some, and none has a state of its own: any number of threads may call at once.
-//! What a call costs in time and stack stands in `include/sivorandra.h`.
+//! `include/sivorandra.h` has what a call costs in time and stack.
 #![warn(missing_docs)]
 
 mod refusal;
@@ -29,7 +29,7 @@ pub use refusal::Refusal;
 use std::fmt;
 
 /// The version that these bindings are for: major * 10000 + minor * 100 + patch. `version` is that of the library that is linked.
-pub const VERSION: u32 = 1700;
+pub const VERSION: u32 = 1800;
 
 /// The most tasks on a chain, and the most records of a table.
 pub const MOST_TASKS: usize = 32;
@@ -41,12 +41,12 @@ pub const MOST_OFFSET: u32 = 1_000_000;
 pub const MOST_LENGTH: u32 = 1_000_000;
 /// The most that T may be; D is at most T.
 pub const MOST_PERIOD: u32 = 1_000_000;
-/// The largest horizon, S + P, that a table may have: 9 turns down one that is larger.
+/// The largest horizon, S + P, that a table may have: 9 refuses a larger one.
 pub const MOST_HORIZON: u32 = 1_000_000_000;
 
-/// The rule by which who fits takes cores, and who does not is passed over.
+/// The rule by which a task that fits takes cores, and a task that does not fit is skipped.
 pub const GREEDY: u32 = 1;
-/// The rule by which the first who does not fit ends the choosing.
+/// The rule by which the first task that does not fit ends the choosing.
 pub const LIMITED: u32 = 2;
 /// The rule that is greedy, but a job that ended early still claims its cores until it has claimed C ticks or is due.
 pub const IDLING: u32 = 3;
@@ -60,13 +60,13 @@ pub const IDLING: u32 = 3;
 /// let mut run = Run::start(&[1, 2, LENDING, 0, 0, 2, 0, 2, 2, 4, 4, 2, 0, 0, 1, 2, 4, 4, 1])?;
 /// run.advance(1, 0)?; // position 1 has ended, and a tick more is reserved for it
 /// assert_eq!(run.row(0)?[..run.cores()], [2, 1]); // position 2 borrows one core of two
-/// assert_eq!(run.advance(1, 0), Err(Refusal::BadReport)); // who lends does not work
-/// run.advance(2, 0)?; // who borrows does
+/// assert_eq!(run.advance(1, 0), Err(Refusal::BadReport)); // a lender does not work
+/// run.advance(2, 0)?; // a borrower does
 /// # Ok::<(), Refusal>(())
 /// ```
 pub const LENDING: u32 = 4;
 
-/// The words of a table in front of its records: head, cores, rule, and the fence, the set of cores that no task has, its low word first:
+/// The words of a table in front of its records: head, cores, rule, and the fence, the set of cores that no task may use, its low word first:
 /// bit c of the low word is core c, bit c of the high word core 32 + c.
 pub const TABLE_HEAD_WORDS: usize = 5;
 /// The words of a record: next, O, v, C, D, T, w. Odd jobs take v cores, even ones w; where the two differ the task counts with 2T in P.
@@ -111,7 +111,7 @@ pub const SETS: usize = MOST_TASKS;
 /// The words of an entry of a list.
 const ENTRY_WORDS: usize = 3;
 
-/// No sentence is longer: a buffer of so many bytes is never refused with 18.
+/// No sentence is longer: a buffer of this size is never refused with 18.
 pub const SENTENCE_BYTES: usize = 700;
 /// The words of facts in front of the counts: position, tick, ticks had, and C.
 const FACT_HEAD_WORDS: usize = 4;
@@ -140,7 +140,7 @@ pub enum Verdict {
         /// How many ticks it takes to repeat: P.
         period: u32,
     },
-    /// The first deadline that is missed, and whose.
+    /// The first deadline that is missed, and the position of its task.
     Miss {
         /// The tick of the deadline.
         tick: u32,
@@ -159,7 +159,7 @@ impl fmt::Display for Verdict {
     }
 }
 
-/// An entry of a list, which `replay` takes a run through.
+/// An entry of a list, which `replay` applies to a run.
 ///
 /// ```
 /// use sivorandra::{replay, Entry};
@@ -169,7 +169,7 @@ impl fmt::Display for Verdict {
 /// let list = [Entry::Advance { reports: 0, empties: 1 }, Entry::Advance { reports: 2, empties: 0 }];
 /// assert_eq!(replay(&table, &list)?.row?[..3], [3, 0, 0]);
 ///
-/// // under rule 2 two of four tasks that take turns on one core are taken out, and then one that there is not
+/// // under rule 2 two of four tasks that share one core are withdrawn, and then one that does not exist
 /// let turns = [1, 1, 2, 0, 0, 2, 0, 1, 1, 4, 4, 1, 3, 0, 1, 1, 4, 4, 1, 4, 0, 1, 1, 4, 4, 1, 0, 0, 1, 1, 4, 4, 1];
 /// let out = replay(&turns, &[Entry::WithdrawAll { set: 0b101 }, Entry::WithdrawAll { set: 0b10010 }])?;
 /// assert_eq!(out.answers, [Ok(()), Err(sivorandra::Refusal::NoPosition)]);
@@ -179,19 +179,19 @@ impl fmt::Display for Verdict {
 #[derive(Clone, Copy, Debug, PartialEq, Eq, Hash)]
 #[non_exhaustive]
 pub enum Entry {
-    /// One tick on, as `Run::advance` takes a run.
+    /// One tick, as `Run::advance` moves a run.
     Advance {
         /// Bit p: the job of position p + 1 ends after this tick.
         reports: u32,
-        /// Bit p: the job of position p + 1, released in this very tick, is empty.
+        /// Bit p: the job of position p + 1, released in this tick, is empty.
         empties: u32,
     },
-    /// A task taken out, as by `Run::withdraw`; no tick passes.
+    /// A task withdrawn, as by `Run::withdraw`; no tick passes.
     Withdraw {
         /// The position, from 1.
         position: u32,
     },
-    /// Several tasks taken out together, or none, as by `Run::withdraw_all`; no tick passes.
+    /// Several tasks withdrawn together, or none, as by `Run::withdraw_all`; no tick passes.
     WithdrawAll {
         /// Bit p: position p + 1.
         set: u32,
@@ -249,30 +249,30 @@ pub struct Run {
 /// with 14. A plan that is accepted, repeated from the last S on, meets every deadline at every tick.
 ///
 /// ```
-/// use sivorandra::{Refusal, RowAnswer, Supplied, LIMITED};
+/// use sivorandra::{Refusal, RowAnswer, SuppliedPlan, LIMITED};
 ///
-/// // our own planner misses a deadline by this rule; theirs does not
+/// // by this rule a deadline is missed; the supplied plan misses none
 /// let table = [1, 3, LIMITED, 0, 0, 2, 0, 2, 2, 5, 5, 2, 3, 0, 2, 3, 5, 5, 2, 0, 0, 1, 4, 5, 5, 1];
-/// let mut plan = Supplied::begin(&table)?;
+/// let mut plan = SuppliedPlan::begin(&table)?;
 /// for row in [[1, 1, 3], [1, 1, 3], [2, 2, 3], [2, 2, 3]] {
-///     assert_eq!(plan.take(&row)?, RowAnswer::Taken);
+///     assert_eq!(plan.check_row(&row)?, RowAnswer::Taken);
 /// }
-/// assert_eq!(plan.take(&[0, 0, 0]), Err(Refusal::DeadlineMissed { tick: 5 }));
-/// assert_eq!(plan.take(&[2, 2, 0])?, RowAnswer::Accepted); // a refusal leaves the plan as it is
+/// assert_eq!(plan.check_row(&[0, 0, 0]), Err(Refusal::DeadlineMissed { tick: 5 }));
+/// assert_eq!(plan.check_row(&[2, 2, 0])?, RowAnswer::Accepted); // a refusal leaves the plan as it is
 /// # Ok::<(), Refusal>(())
 /// ```
 #[derive(Clone, Debug, PartialEq, Eq)]
-pub struct Supplied {
+pub struct SuppliedPlan {
     words: [u32; PLAN_WORDS],
 }
 
-/// What a row of a supplied plan is answered where it is not refused.
+/// The answer to a row of a supplied plan that is not refused.
 ///
 /// ```
-/// use sivorandra::{RowAnswer, Supplied};
+/// use sivorandra::{RowAnswer, SuppliedPlan};
 ///
-/// let mut plan = Supplied::begin(&[1, 1, 1, 0, 0, 0, 0, 1, 1, 2, 2, 1])?;
-/// assert_eq!([plan.take(&[0])?, plan.take(&[1])?], [RowAnswer::Taken, RowAnswer::Accepted]);
+/// let mut plan = SuppliedPlan::begin(&[1, 1, 1, 0, 0, 0, 0, 1, 1, 2, 2, 1])?;
+/// assert_eq!([plan.check_row(&[0])?, plan.check_row(&[1])?], [RowAnswer::Taken, RowAnswer::Accepted]);
 /// # Ok::<(), sivorandra::Refusal>(())
 /// ```
 #[derive(Clone, Copy, Debug, PartialEq, Eq, Hash)]
@@ -283,7 +283,7 @@ pub enum RowAnswer {
     Accepted,
 }
 
-/// What a sentence says of a miss.
+/// The facts of a miss that a sentence contains.
 ///
 /// ```
 /// let facts = sivorandra::facts_of(b"task 3 misses at tick 5 with 3 of 4 ticks; task 1 ran 2.").expect("a sentence");
@@ -330,11 +330,11 @@ extern "C" {
     fn sivorandra_sentence(words: *const u32, words_len: usize, buffer: *mut u8, buffer_len: usize, answer: *mut u32, answer_len: usize) -> u32;
     fn sivorandra_facts(bytes: *const u8, bytes_len: usize, facts: *mut u64, facts_len: usize, answer: *mut u32, answer_len: usize) -> u32;
     fn sivorandra_advance(run: *mut u32, run_len: usize, reports: u32, empties: u32, answer: *mut u32, answer_len: usize) -> u32;
-    fn sivorandra_longest(words: *const u32, words_len: usize, figures: *mut u32, figures_len: usize, answer: *mut u32, answer_len: usize) -> u32;
-    fn sivorandra_clash(words: *const u32, words_len: usize, answer: *mut u32, answer_len: usize) -> u32;
-    fn sivorandra_spare(words: *const u32, words_len: usize, figures: *mut u32, figures_len: usize, answer: *mut u32, answer_len: usize) -> u32;
-    fn sivorandra_begin(words: *const u32, words_len: usize, plan: *mut u32, plan_len: usize, answer: *mut u32, answer_len: usize) -> u32;
-    fn sivorandra_take(plan: *mut u32, plan_len: usize, row: *const u8, row_len: usize, answer: *mut u32, answer_len: usize) -> u32;
+    fn sivorandra_response_times(words: *const u32, words_len: usize, figures: *mut u32, figures_len: usize, answer: *mut u32, answer_len: usize) -> u32;
+    fn sivorandra_conflict(words: *const u32, words_len: usize, answer: *mut u32, answer_len: usize) -> u32;
+    fn sivorandra_slack(words: *const u32, words_len: usize, figures: *mut u32, figures_len: usize, answer: *mut u32, answer_len: usize) -> u32;
+    fn sivorandra_check_begin(words: *const u32, words_len: usize, plan: *mut u32, plan_len: usize, answer: *mut u32, answer_len: usize) -> u32;
+    fn sivorandra_check_row(plan: *mut u32, plan_len: usize, row: *const u8, row_len: usize, answer: *mut u32, answer_len: usize) -> u32;
 }
 
 /// The three words of an answer: every slice that these functions lend is long enough.
@@ -382,7 +382,7 @@ pub fn version() -> u32 {
     unsafe { sivorandra_version() }
 }
 
-/// The verdict on a table's words, from one release, end or deadline to the next or tick by tick, whichever is faster for the table's periods.
+/// The verdict on a table's words, event by event or tick by tick, whichever is faster for the table's periods.
 ///
 /// ```
 /// use sivorandra::{judge, Refusal, Verdict};
@@ -398,7 +398,7 @@ pub fn judge(words: &[u32]) -> Result<Verdict, Refusal> {
     verdict(ask(|answer, len| unsafe { sivorandra_judge(words.as_ptr(), words.len(), answer, len) }))
 }
 
-/// The same verdict, always tick by tick. It is there to be compared with the other.
+/// The same verdict, always tick by tick, for comparison with the other.
 ///
 /// ```
 /// use sivorandra::{judge, judge_ticks};
@@ -426,7 +426,7 @@ pub fn plan(words: &[u32], a: u32, b: u32, rows: &mut [u8]) -> Result<(), Refusa
     done(ask(|answer, len| unsafe { sivorandra_plan(words.as_ptr(), words.len(), a, b, rows.as_mut_ptr(), rows.len(), answer, len) }))
 }
 
-/// Writes the miss of a table's words as a sentence at the front of `buffer`, and gives its length. A refusal leaves the buffer as found: 17 where the table has no miss, 18 where
+/// Writes the miss of a table's words as a sentence at the front of `buffer`, and returns its length. A refusal leaves the buffer as found: 17 where the table has no miss, 18 where
 /// the buffer is shorter than the sentence.
 ///
 /// ```
@@ -460,7 +460,7 @@ pub fn sentence(words: &[u32]) -> Result<String, Refusal> {
     Ok(buffer[..length].iter().map(|&byte| byte as char).collect())
 }
 
-/// The facts that a sentence says; none where the bytes are no sentence.
+/// The facts of a sentence, parsed; none where the bytes are no sentence.
 ///
 /// ```
 /// use sivorandra::facts_of;
@@ -476,59 +476,59 @@ pub fn facts_of(bytes: &[u8]) -> Option<Facts> {
     (case == 0).then_some(Facts { position: words[0] as u32, tick: words[1], had: words[2], length: words[3], ran })
 }
 
-/// The longest answer of each task of a table's words: the most ticks from a job's release to its end, that of position 1 first, and 0 past the last task. No full-length job
-/// ever takes longer and some full-length job takes just that; in a run of a firm table no job takes longer, however early jobs end. 13 where the table misses.
+/// The worst-case response time of each task of a table's words: the most ticks from a job's release to its end, that of position 1 first, and 0 past the last task. No full-length job
+/// ever takes longer and some full-length job takes exactly that; in a run of a firm table no job takes longer, however early jobs end. 13 where the table misses.
 ///
 /// ```
-/// use sivorandra::{longest, Refusal, LIMITED};
+/// use sivorandra::{response_times, Refusal, LIMITED};
 ///
 /// let mut table = [1, 3, 1, 0, 0, 2, 0, 2, 2, 5, 5, 2, 3, 0, 2, 3, 5, 5, 2, 0, 0, 1, 4, 5, 5, 1];
-/// assert_eq!(longest(&table)?[..4], [2, 5, 4, 0]);
+/// assert_eq!(response_times(&table)?[..4], [2, 5, 4, 0]);
 /// table[2] = LIMITED;
-/// assert_eq!(longest(&table), Err(Refusal::TableMisses));
+/// assert_eq!(response_times(&table), Err(Refusal::TableMisses));
 /// # Ok::<(), Refusal>(())
 /// ```
-pub fn longest(words: &[u32]) -> Result<[u32; MOST_TASKS], Refusal> {
-    figures(|figures, most, answer, len| unsafe { sivorandra_longest(words.as_ptr(), words.len(), figures, most, answer, len) })
+pub fn response_times(words: &[u32]) -> Result<[u32; MOST_TASKS], Refusal> {
+    figures(|figures, most, answer, len| unsafe { sivorandra_response_times(words.as_ptr(), words.len(), figures, most, answer, len) })
 }
 
-/// The tasks in the clash of a table's words, which misses: the set of the positions kept, bit p for position p + 1. From the lowest priority upward a task is dropped if what
-/// remains still misses and is not empty, in whole passes until one drops nothing. The tasks kept still miss, and without any one of them the rest does not, or is empty. 17 where
-/// the table has no miss.
+/// A conflict of a table's words, which misses, a minimal set of tasks that misses: the set of the positions kept, bit p for position p + 1. From the lowest priority upward a task is
+/// dropped if some task remains and the remaining tasks still miss, in whole passes until one drops nothing. The tasks kept still miss, and without any one of them the rest does not,
+/// or is empty. 17 where the table has no miss.
 ///
 /// ```
-/// use sivorandra::{clash, Refusal, GREEDY};
+/// use sivorandra::{conflict, Refusal, GREEDY};
 ///
 /// let mut table = [1, 2, 2, 0, 0, 2, 0, 1, 3, 3, 4, 1, 3, 0, 2, 1, 4, 4, 2, 0, 0, 1, 2, 2, 4, 1];
-/// assert_eq!(clash(&table)?, 0b110); // positions 2 and 3
+/// assert_eq!(conflict(&table)?, 0b110); // positions 2 and 3
 /// table[2] = GREEDY;
-/// assert_eq!(clash(&table), Err(Refusal::NoMiss));
+/// assert_eq!(conflict(&table), Err(Refusal::NoMiss));
 /// # Ok::<(), Refusal>(())
 /// ```
-pub fn clash(words: &[u32]) -> Result<u32, Refusal> {
-    given(ask(|answer, len| unsafe { sivorandra_clash(words.as_ptr(), words.len(), answer, len) }))
+pub fn conflict(words: &[u32]) -> Result<u32, Refusal> {
+    given(ask(|answer, len| unsafe { sivorandra_conflict(words.as_ptr(), words.len(), answer, len) }))
 }
 
-/// The spare ticks of each task of a table's words: the largest number of ticks by which its C alone can grow with the table still accepted, that of position 1 first, and 0 past the
+/// The slack of each task of a table's words: the largest number of ticks by which its C alone can grow with the table still accepted, that of position 1 first, and 0 past the
 /// last task. Every smaller growth is accepted too, and one tick more misses, or takes C past `MOST_LENGTH`. 23 where the table is not accepted under rule 2, nor under rule 1 with no
 /// width of a task above one of the next.
 ///
 /// ```
-/// use sivorandra::{judge, spare, Refusal, Verdict, IDLING};
+/// use sivorandra::{judge, slack, Refusal, Verdict, IDLING};
 ///
 /// let mut table = [1, 1, 2, 0, 0, 2, 0, 1, 1, 4, 4, 1, 0, 0, 1, 1, 3, 4, 1];
-/// assert_eq!(spare(&table)?[..3], [1, 1, 0]);
+/// assert_eq!(slack(&table)?[..3], [1, 1, 0]);
 /// table[8] = 3; // two ticks more
 /// assert_eq!(judge(&table)?, Verdict::Miss { tick: 3, position: 2 });
 /// table[2] = IDLING;
-/// assert_eq!(spare(&table), Err(Refusal::SpareNotGiven));
+/// assert_eq!(slack(&table), Err(Refusal::SlackNotGiven));
 /// # Ok::<(), Refusal>(())
 /// ```
-pub fn spare(words: &[u32]) -> Result<[u32; MOST_TASKS], Refusal> {
-    figures(|figures, most, answer, len| unsafe { sivorandra_spare(words.as_ptr(), words.len(), figures, most, answer, len) })
+pub fn slack(words: &[u32]) -> Result<[u32; MOST_TASKS], Refusal> {
+    figures(|figures, most, answer, len| unsafe { sivorandra_slack(words.as_ptr(), words.len(), figures, most, answer, len) })
 }
 
-/// Starts a run, takes it through the entries of a list, and asks its row with no empty job.
+/// Starts a run, applies the entries of a list to it, and asks for its row with no empty job.
 ///
 /// ```
 /// use sivorandra::{replay, Entry, Refusal};
@@ -570,7 +570,7 @@ impl Run {
         Ok(Run { words: run })
     }
 
-    /// A run from its words, which may be any: what is no run is refused with 14 by `row`, `sets`, `advance` and the withdrawals.
+    /// A run from any words: words that are no run are refused with 14 by `row`, `sets`, `advance` and the withdrawals.
     ///
     /// ```
     /// use sivorandra::{Refusal, Run, RUN_WORDS};
@@ -595,7 +595,7 @@ impl Run {
         &self.words
     }
 
-    /// The core count, fenced ones too: so many bytes of a row are cores. Of words that are no run it is what stands in its place.
+    /// The core count, fenced ones too: the number of bytes of a row that are cores. For words that are no run it is the word in its place.
     ///
     /// ```
     /// let run = sivorandra::Run::start(&[1, 3, 1, 0, 0, 0, 0, 2, 2, 5, 5, 2])?;
@@ -606,7 +606,7 @@ impl Run {
         self.words[1] as usize
     }
 
-    /// How many tasks the run has, at positions 1 to this. Of words that are no run it is what stands in its place.
+    /// How many tasks the run has, at positions 1 to this. For words that are no run it is the word in its place.
     ///
     /// ```
     /// let run = sivorandra::Run::start(&[1, 3, 1, 0, 0, 0, 0, 2, 2, 5, 5, 2])?;
@@ -617,7 +617,7 @@ impl Run {
         self.words[2] as usize
     }
 
-    /// The set of withdrawn positions, bit p for position p + 1. Of words that are no run it is what stands in its place.
+    /// The set of withdrawn positions, bit p for position p + 1. For words that are no run it is the word in its place.
     ///
     /// ```
     /// let mut run = sivorandra::Run::start(&[1, 3, 1, 0, 0, 0, 0, 2, 2, 5, 5, 2])?;
@@ -629,8 +629,8 @@ impl Run {
         self.words[5]
     }
 
-    /// The row of the present tick, where bit p of `empties` says that the job of position p + 1, released in this very tick, is empty. The run stays as it is: the same set is
-    /// to be said to `advance`.
+    /// The row of the present tick, where bit p of `empties` is set if the job of position p + 1, released in this tick, is empty. The run stays as it is: `advance` needs
+    /// the same set.
     ///
     /// ```
     /// use sivorandra::{Refusal, Run};
@@ -649,7 +649,7 @@ impl Run {
     }
 
     /// The row of the present tick as sets of cores, that of position 1 first: core c is bit c. Held cores are in the holder's set, lent ones in the borrower's, fenced ones in none.
-    /// No two overlap, and each has as many cores as its job is wide, or none; but a holder that lends has what it has not lent. Sets past the count are 0. It has `row`'s numbers.
+    /// No two overlap, and each has as many cores as its job's width, or none; but a holder that lends has the cores that it has not lent. Sets past the count are 0. It has `row`'s numbers.
     ///
     /// ```
     /// use sivorandra::{Refusal, Run, LENDING};
@@ -671,7 +671,7 @@ impl Run {
         Ok(sets)
     }
 
-    /// One tick on, where bit p of `reports` says that the job of position p + 1 ends after this tick, and bit p of `empties` that it is released in this very tick and empty. A
+    /// Moves the run by one tick. Bit p of `reports` is set if the job of position p + 1 ends after this tick, bit p of `empties` if it is released in this tick and empty. A
     /// refusal leaves the run as it is.
     ///
     /// ```
@@ -688,9 +688,9 @@ impl Run {
         done(ask(|answer, len| unsafe { sivorandra_advance(self.words.as_mut_ptr(), self.words.len(), reports, empties, answer, len) }))
     }
 
-    /// Takes the task of a position, from 1, out of the run for good, at any time. A job of it that was released before this tick goes on; one released in this very tick, and all
+    /// Withdraws the task of a position, from 1, from the run for good, at any time. A job of it that was released before this tick goes on; one released in this tick, and all
     /// later ones, are empty, with or without their bit. A refusal leaves the run as it is: 21 where the table is not firm by its rule and widths, 22 where there is no such
-    /// position; 15 is not looked at.
+    /// position; 15 is not checked.
     ///
     /// ```
     /// use sivorandra::{Refusal, Run};
@@ -714,15 +714,15 @@ impl Run {
         done(ask(|answer, len| unsafe { sivorandra_withdraw(self.words.as_mut_ptr(), self.words.len(), position, answer, len) }))
     }
 
-    /// Takes the tasks of a set of positions out of the run together, as `withdraw` takes one, where bit p of `set` says position p + 1: all of them, or in a refusal none. It leaves
+    /// Withdraws the tasks of a set of positions together, as `withdraw` does one; bit p of `set` is position p + 1. It withdraws all of them, or in a refusal none, and leaves
     /// the run that single withdrawals leave, in any order. 14, 21 and 22 in this order, for the empty set too; 22 where a bit is past the count.
     ///
     /// ```
     /// use sivorandra::{Refusal, Run, LIMITED};
     ///
-    /// // three tasks that take turns on one core
+    /// // three tasks that share one core
     /// let mut run = Run::start(&[1, 1, LIMITED, 0, 0, 2, 0, 1, 1, 3, 3, 1, 3, 0, 1, 1, 3, 3, 1, 0, 0, 1, 1, 3, 3, 1])?;
-    /// assert_eq!(run.withdraw_all(0b1001), Err(Refusal::NoPosition)); // there is no position 4, so nobody is taken out
+    /// assert_eq!(run.withdraw_all(0b1001), Err(Refusal::NoPosition)); // there is no position 4, so no task is withdrawn
     /// assert_eq!(run.withdrawn(), 0);
     /// let mut single = run.clone();
     /// single.withdraw(3)?;
@@ -741,50 +741,50 @@ impl Run {
     }
 }
 
-impl Supplied {
+impl SuppliedPlan {
     /// The plan of a table's words as it begins, at tick 0, whatever the table's verdict.
     ///
     /// ```
-    /// use sivorandra::{Refusal, Supplied};
+    /// use sivorandra::{Refusal, SuppliedPlan};
     ///
-    /// assert_eq!(Supplied::begin(&[]), Err(Refusal::NotATable));
-    /// assert!(Supplied::begin(&[1, 1, 1, 0, 0, 0, 0, 1, 2, 1, 1, 1]).is_ok()); // C is above D, and so 25 will come
+    /// assert_eq!(SuppliedPlan::begin(&[]), Err(Refusal::NotATable));
+    /// assert!(SuppliedPlan::begin(&[1, 1, 1, 0, 0, 0, 0, 1, 2, 1, 1, 1]).is_ok()); // C is above D, and so 25 will come
     /// ```
-    pub fn begin(words: &[u32]) -> Result<Supplied, Refusal> {
+    pub fn begin(words: &[u32]) -> Result<SuppliedPlan, Refusal> {
         let mut plan = [0; PLAN_WORDS];
-        done(ask(|answer, len| unsafe { sivorandra_begin(words.as_ptr(), words.len(), plan.as_mut_ptr(), plan.len(), answer, len) }))?;
-        Ok(Supplied { words: plan })
+        done(ask(|answer, len| unsafe { sivorandra_check_begin(words.as_ptr(), words.len(), plan.as_mut_ptr(), plan.len(), answer, len) }))?;
+        Ok(SuppliedPlan { words: plan })
     }
 
-    /// A plan from its words, which may be any: what is no plan is refused with 14 by `take`. Words of a note that are no phase are kept, and agree with no phase (26).
+    /// A plan from any words: words that are no plan are refused with 14 by `take`. Words of a note that are no phase are kept, and agree with no phase (26).
     ///
     /// ```
-    /// use sivorandra::{Refusal, Supplied, PLAN_WORDS};
+    /// use sivorandra::{Refusal, SuppliedPlan, PLAN_WORDS};
     ///
-    /// let mut plan = Supplied::from_words([0; PLAN_WORDS]);
-    /// assert_eq!(plan.take(&[0]), Err(Refusal::NotARun));
+    /// let mut plan = SuppliedPlan::from_words([0; PLAN_WORDS]);
+    /// assert_eq!(plan.check_row(&[0]), Err(Refusal::NotARun));
     /// ```
-    pub fn from_words(words: [u32; PLAN_WORDS]) -> Supplied {
-        Supplied { words }
+    pub fn from_words(words: [u32; PLAN_WORDS]) -> SuppliedPlan {
+        SuppliedPlan { words }
     }
 
     /// The plan's words.
     ///
     /// ```
-    /// use sivorandra::Supplied;
+    /// use sivorandra::SuppliedPlan;
     ///
-    /// let plan = Supplied::begin(&[1, 3, 1, 0, 0, 0, 0, 2, 2, 5, 5, 2])?;
-    /// assert_eq!(Supplied::from_words(*plan.words()), plan);
+    /// let plan = SuppliedPlan::begin(&[1, 3, 1, 0, 0, 0, 0, 2, 2, 5, 5, 2])?;
+    /// assert_eq!(SuppliedPlan::from_words(*plan.words()), plan);
     /// # Ok::<(), sivorandra::Refusal>(())
     /// ```
     pub fn words(&self) -> &[u32; PLAN_WORDS] {
         &self.words
     }
 
-    /// The core count, fenced ones too: a row has so many bytes. Of words that are no plan it is what stands in its place.
+    /// The core count, fenced ones too: the number of bytes of a row. For words that are no plan it is the word in its place.
     ///
     /// ```
-    /// let plan = sivorandra::Supplied::begin(&[1, 3, 1, 0, 0, 0, 0, 2, 2, 5, 5, 2])?;
+    /// let plan = sivorandra::SuppliedPlan::begin(&[1, 3, 1, 0, 0, 0, 0, 2, 2, 5, 5, 2])?;
     /// assert_eq!(plan.cores(), 3);
     /// # Ok::<(), sivorandra::Refusal>(())
     /// ```
@@ -792,11 +792,11 @@ impl Supplied {
         self.words[1] as usize
     }
 
-    /// The tick whose row is next: so many rows have been taken.
+    /// The tick whose row is next: the number of rows taken.
     ///
     /// ```
-    /// let mut plan = sivorandra::Supplied::begin(&[1, 3, 1, 0, 0, 0, 0, 2, 2, 5, 5, 2])?;
-    /// plan.take(&[1, 0, 1])?;
+    /// let mut plan = sivorandra::SuppliedPlan::begin(&[1, 3, 1, 0, 0, 0, 0, 2, 2, 5, 5, 2])?;
+    /// plan.check_row(&[1, 0, 1])?;
     /// assert_eq!(plan.tick(), 1);
     /// # Ok::<(), sivorandra::Refusal>(())
     /// ```
@@ -808,16 +808,16 @@ impl Supplied {
     /// past the horizon, 11 where the row has not a byte for each core, 24 to 26 with their tick.
     ///
     /// ```
-    /// use sivorandra::{Refusal, Supplied};
+    /// use sivorandra::{Refusal, SuppliedPlan};
     ///
-    /// let mut plan = Supplied::begin(&[1, 3, 1, 0, 0, 0, 0, 2, 2, 5, 5, 2])?;
-    /// assert_eq!(plan.take(&[1, 1]), Err(Refusal::ShortRows));
-    /// assert_eq!(plan.take(&[1, 0, 0]), Err(Refusal::BadRow { tick: 0 })); // the job has two cores
-    /// plan.take(&[0, 1, 1])?;
+    /// let mut plan = SuppliedPlan::begin(&[1, 3, 1, 0, 0, 0, 0, 2, 2, 5, 5, 2])?;
+    /// assert_eq!(plan.check_row(&[1, 1]), Err(Refusal::ShortRows));
+    /// assert_eq!(plan.check_row(&[1, 0, 0]), Err(Refusal::BadRow { tick: 0 })); // the job has two cores
+    /// plan.check_row(&[0, 1, 1])?;
     /// # Ok::<(), Refusal>(())
     /// ```
-    pub fn take(&mut self, row: &[u8]) -> Result<RowAnswer, Refusal> {
-        let [case, number, tick] = ask(|answer, len| unsafe { sivorandra_take(self.words.as_mut_ptr(), self.words.len(), row.as_ptr(), row.len(), answer, len) });
+    pub fn check_row(&mut self, row: &[u8]) -> Result<RowAnswer, Refusal> {
+        let [case, number, tick] = ask(|answer, len| unsafe { sivorandra_check_row(self.words.as_mut_ptr(), self.words.len(), row.as_ptr(), row.len(), answer, len) });
         match case {
             0 => Ok(RowAnswer::Taken),
             6 => Ok(RowAnswer::Accepted),

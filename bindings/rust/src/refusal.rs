@@ -1,8 +1,8 @@
-//! The numbers by which a call is turned down.
+//! The numbers with which a call is refused.
 use std::error::Error;
 use std::fmt;
 
-/// Why a call is turned down: one variant for each number of the scope, with the position that is at fault, or the tick, where the number has one.
+/// Why a call is refused: one variant for each number of the scope, with the position that is at fault, or the tick, where the number has one.
 ///
 /// ```
 /// use sivorandra::{judge, Refusal};
@@ -24,9 +24,9 @@ pub enum Refusal {
     BadRule,
     /// 4: the head is zero.
     NoHead,
-    /// 5: along the chain a number past the last record is met.
+    /// 5: the chain leads to a number past the last record.
     NoRecord,
-    /// 6: along the chain a record is met again.
+    /// 6: the chain leads to a record for the second time.
     RecordAgain,
     /// 7: a width of this position is 0 or above the number of unfenced cores.
     BadWidth {
@@ -46,7 +46,7 @@ pub enum Refusal {
     ShortRows,
     /// 12, of a plan: b is above the tick of the first miss.
     PastMiss,
-    /// 13, of a start, a replay or the longest answers: the verdict is a miss.
+    /// 13, of a start, a replay or the response times: the verdict is a miss.
     TableMisses,
     /// 14, of a row, an advance or a withdrawal: the words are no run; of a row taken: they are no supplied plan's.
     NotARun,
@@ -57,20 +57,20 @@ pub enum Refusal {
     },
     /// 16, of an advance: a report for a position past the count, or for a task that is not working or has no cores, its own or lent, in this tick.
     BadReport,
-    /// 17, of a sentence or a clash: the table has no miss.
+    /// 17, of a sentence or a conflict: the table has no miss.
     NoMiss,
     /// 18, of a sentence: the buffer is shorter than the sentence.
     ShortBuffer,
-    /// 19: the fence names a core past the count, or all cores.
+    /// 19: the fence contains a core past the count, or all cores.
     BadFence,
-    /// 20, of a row or an advance: an empty job for a position past the count, or for a task whose job is not released in this very tick.
+    /// 20, of a row or an advance: an empty job for a position past the count, or for a task whose job is not released in this tick.
     BadEmpty,
     /// 21, of a withdrawal: the rule is greedy and a width of some task is above one of the next, so that others could be late without a task.
     NotFirm,
     /// 22, of a withdrawal: a position is 0 or past the count.
     NoPosition,
-    /// 23, of the spare ticks: the table is not accepted under rule 2, nor under rule 1 with no width of a task above one of the next.
-    SpareNotGiven,
+    /// 23, of the slack: the table is not accepted under rule 2, nor under rule 1 with no width of a task above one of the next.
+    SlackNotGiven,
     /// 24, of a row taken: a byte that is neither 0 nor a position, a fenced core without 255, a task with another width than its job's, or one with no work owed.
     BadRow {
         /// The tick of the row.
@@ -130,7 +130,7 @@ impl Refusal {
             (20, 0) => Refusal::BadEmpty,
             (21, 0) => Refusal::NotFirm,
             (22, 0) => Refusal::NoPosition,
-            (23, 0) => Refusal::SpareNotGiven,
+            (23, 0) => Refusal::SlackNotGiven,
             (24, tick) => Refusal::BadRow { tick },
             (25, tick) => Refusal::DeadlineMissed { tick },
             (26, tick) => Refusal::PhasesDiffer { tick },
@@ -167,7 +167,7 @@ impl Refusal {
             Refusal::BadEmpty => 20,
             Refusal::NotFirm => 21,
             Refusal::NoPosition => 22,
-            Refusal::SpareNotGiven => 23,
+            Refusal::SlackNotGiven => 23,
             Refusal::BadRow { .. } => 24,
             Refusal::DeadlineMissed { .. } => 25,
             Refusal::PhasesDiffer { .. } => 26,
@@ -232,7 +232,7 @@ impl fmt::Display for Refusal {
             Refusal::BadEmpty => write!(out, "an empty job for a position past the count, or for a task whose job is not released in this tick"),
             Refusal::NotFirm => write!(out, "the rule is greedy and a width of some task is above one of the next, so that others could be late without a task"),
             Refusal::NoPosition => write!(out, "a position is 0 or past the count"),
-            Refusal::SpareNotGiven => write!(out, "the table is not accepted under rule 2, nor under rule 1 with no width of a task above one of the next"),
+            Refusal::SlackNotGiven => write!(out, "the table is not accepted under rule 2, nor under rule 1 with no width of a task above one of the next"),
             Refusal::BadRow { tick } => write!(out, "the row of tick {tick} has a byte that it may not have, a task with another width than its job's, or one with no work owed"),
             Refusal::DeadlineMissed { tick } => write!(out, "some job is not done at its deadline at tick {tick}"),
             Refusal::PhasesDiffer { tick } => write!(out, "at tick {tick}, the horizon, some task is not in the phase that it had at the last S"),

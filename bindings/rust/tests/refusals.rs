@@ -1,5 +1,5 @@
-//! Every number there can be, both ways; what is displayed; a refusal as an error; the counts of a run and the positions of a clash.
-use sivorandra::{clash, judge, version, Refusal, Run, MOST_TASKS, VERSION};
+//! Every number there can be, both ways; what is displayed; a refusal as an error; the counts of a run and the positions of a conflict.
+use sivorandra::{conflict, judge, version, Refusal, Run, MOST_TASKS, VERSION};
 use std::error::Error;
 
 /// The last number that has a name of its own.
@@ -58,18 +58,18 @@ fn most_tasks() -> Vec<u32> {
 }
 
 #[test]
-fn a_run_tells_its_counts() {
+fn a_run_has_its_counts() {
     let run = Run::start(&most_tasks()).unwrap();
     assert_eq!((run.cores(), run.tasks()), (64, MOST_TASKS));
 }
 
 #[test]
-fn a_clash_tells_its_positions() {
+fn a_conflict_has_its_positions() {
     for place in [0, 1, MOST_TASKS - 1] {
         let mut table = most_tasks();
-        assert_eq!(clash(&table), Err(Refusal::NoMiss));
+        assert_eq!(conflict(&table), Err(Refusal::NoMiss));
         table[5 + 7 * place + 3] = 10; // C above D
-        assert_eq!(clash(&table), Ok(1 << place));
+        assert_eq!(conflict(&table), Ok(1 << place));
     }
 }
 

@@ -1,15 +1,16 @@
--- What a computed example of a call on a run opens: where an `unfolding` line names `calling`, what row, sets, advance and the withdrawals leave computes.
+-- Unfolding for the computed examples of calls on a run: where an `unfolding` line contains `calling`, the results of row, sets, advance and the withdrawals
+-- compute.
 use Rattle.model.proofs.Computing.{computing}
 use Rattle.run.specs.Advance.{advanceAnswer, advanceOf}
-use Rattle.run.specs.Numbers.{pastCount, runOut, firstLateIn, misemptiedIn, misreportedIn}
+use Rattle.run.specs.Numbers.{pastCount, runOut, firstLateIn, wrongEmptiesIn, wrongReportsIn}
 use Rattle.run.specs.Row.{rowAnswer, bytesIn, rowOf}
 use Rattle.run.specs.Sets.{setsIn, setsOf}
 use Rattle.run.specs.Run.{grantsIn, lentIn, mapFirst, moved, offerIn, seeksIn, withdrawnIn}
 use Rattle.run.specs.Withdraw.{withdrawAnswer, withdrawOf, withdrawAllOf}
-use Rattle.capi.specs.Encoding.{placesWords, encodeTo, arePlaces, placesIn, holds, runIn}
+use Rattle.capi.specs.Encoding.{placesWords, encodeTo, arePlaces, placesIn, holdsRun, runIn}
 use Rattle.capi.specs.Runs.{rowCall, setsCall, advanceCall, withdrawCall, withdrawAllCall}
 
 unfoldable pub calling : Unit {0}
-unfolding computing rowCall setsCall advanceCall withdrawCall withdrawAllCall holds arePlaces runIn placesIn encodeTo placesWords rowOf rowAnswer bytesIn setsOf setsIn advanceOf
-    advanceAnswer withdrawOf withdrawAllOf withdrawAnswer pastCount runOut firstLateIn misemptiedIn misreportedIn grantsIn lentIn offerIn seeksIn mapFirst moved withdrawnIn
+unfolding computing rowCall setsCall advanceCall withdrawCall withdrawAllCall holdsRun arePlaces runIn placesIn encodeTo placesWords rowOf rowAnswer bytesIn setsOf setsIn advanceOf
+    advanceAnswer withdrawOf withdrawAllOf withdrawAnswer pastCount runOut firstLateIn wrongEmptiesIn wrongReportsIn grantsIn lentIn offerIn seeksIn mapFirst moved withdrawnIn
 calling = tt

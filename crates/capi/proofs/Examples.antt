@@ -11,7 +11,7 @@ use Rattle.phase.specs.declared.Task.{Task}
 use Rattle.phase.specs.Task.{unused}
 use Rattle.run.specs.declared.Run.{Run}
 use Rattle.run.specs.Start.{emptyRun}
-use Rattle.capi.specs.Encoding.{placesWords, encodeTo, encode, arePlaces, placesIn, holds, runIn, run, none, decode}
+use Rattle.capi.specs.Encoding.{placesWords, encodeTo, encode, arePlaces, placesIn, holdsRun, runIn, run, none, decode}
 
 -- a task of six numbers, the parity of its job and a phase
 abbrev task : ℕ → ℕ → ℕ → ℕ → ℕ → ℕ → Bool → Phase → Task
@@ -69,17 +69,17 @@ refused-layout = refl
 
 -- all ones past the count are not read
 pub ones-past : decode (four-words ++ replicate 308 ones) ≡ run four
-unfolding holds arePlaces runIn placesIn
+unfolding holdsRun arePlaces runIn placesIn
 ones-past = refl
 
 -- one word less is no run
 pub one-short : decode (four-words ++ replicate 307 ones) ≡ none
-unfolding holds
+unfolding holdsRun
 one-short = refl
 
 -- all ones below the count are no run
 pub ones-below : decode (1 ∷ (2 ∷ (1 ∷ (0 ∷ (0 ∷ (0 ∷ replicate 352 ones)))))) ≡ none
-unfolding holds arePlaces
+unfolding holdsRun arePlaces
 ones-below = refl
 
 -- one task of width 1 with these words for its job's parity and for its phase
@@ -92,7 +92,7 @@ unfolding runIn placesIn
 even-held = refl
 
 pub no-parity : decode (one 2 1 0 0 0) ≡ none
-unfolding holds arePlaces
+unfolding holdsRun arePlaces
 no-parity = refl
 
 -- the third number is Working's alone ..
@@ -101,15 +101,15 @@ unfolding runIn placesIn
 third-held = refl
 
 pub coming-third : decode (one 0 0 5 0 1) ≡ none
-unfolding holds arePlaces
+unfolding holdsRun arePlaces
 coming-third = refl
 
 pub holding-third : decode (one 0 2 5 6 1) ≡ none
-unfolding holds arePlaces
+unfolding holdsRun arePlaces
 holding-third = refl
 
 pub resting-third : decode (one 0 3 5 0 1) ≡ none
-unfolding holds arePlaces
+unfolding holdsRun arePlaces
 resting-third = refl
 
 -- .. and the second is Holding's too
@@ -118,14 +118,14 @@ unfolding runIn placesIn
 second-held = refl
 
 pub coming-second : decode (one 0 0 5 6 0) ≡ none
-unfolding holds arePlaces
+unfolding holdsRun arePlaces
 coming-second = refl
 
 pub resting-second : decode (one 0 3 5 6 0) ≡ none
-unfolding holds arePlaces
+unfolding holdsRun arePlaces
 resting-second = refl
 
 -- no kind is above 3
 pub no-kind : decode (one 0 4 5 0 0) ≡ none
-unfolding holds arePlaces
+unfolding holdsRun arePlaces
 no-kind = refl

@@ -1,4 +1,4 @@
--- What the calls leave that give a figure for each task, by whether there is room. Assumes nothing.
+-- The results of the calls that give a number for each task, by whether there is space. Assumes nothing.
 use mathlib.Core.Path.{_≡_, sym, _∙_}
 use mathlib.Core.List.{List, [], _∷_, _++_}
 use Prim.Native.Nat.{ℕ, _≤_, _<_}
@@ -6,22 +6,22 @@ use lib.ListN.{length, drop}
 use borrow.Author.Tests.{le-leb, lt-leb}
 use Rattle.model.specs.Sizes.{mostTasks}
 use Rattle.table.specs.declared.Answer.{Answer}
-use Rattle.capi.specs.Told.{ofGiven, written}
-use Rattle.capi.specs.Calls.{left}
+use Rattle.capi.specs.AnswerWords.{ofGiven, answerWritten}
+use Rattle.capi.specs.Calls.{callResult}
 use Rattle.capi.specs.Figures.{figuresCall}
 use Rattle.capi.proofs.Calls.{both}
 
 module _ (given : Answer) (found figures answer : List ℕ) where
-  pub figures-narrow : length answer < 3 → figuresCall given found figures answer ≡ left 1 (figures ∷ (answer ∷ []))
+  pub figures-narrow : length answer < 3 → figuresCall given found figures answer ≡ callResult 1 (figures ∷ (answer ∷ []))
   unfolding figuresCall
   figures-narrow h = simp (lt-leb 3 (length answer) h)
 
-  pub figures-short : 3 ≤ length answer → length figures < mostTasks → figuresCall given found figures answer ≡ left 1 (figures ∷ (answer ∷ []))
+  pub figures-short : 3 ≤ length answer → length figures < mostTasks → figuresCall given found figures answer ≡ callResult 1 (figures ∷ (answer ∷ []))
   unfolding figuresCall
   figures-short h l = simp (le-leb 3 (length answer) h, lt-leb mostTasks (length figures) l)
 
   pub figures-room :
-      {k m : List ℕ} → 3 ≤ length answer → mostTasks ≤ length figures → k ≡ found ++ drop mostTasks figures → m ≡ written (ofGiven given 0) answer
-      → left 0 (k ∷ (m ∷ [])) ≡ figuresCall given found figures answer
+      {k m : List ℕ} → 3 ≤ length answer → mostTasks ≤ length figures → k ≡ found ++ drop mostTasks figures → m ≡ answerWritten (ofGiven given 0) answer
+      → callResult 0 (k ∷ (m ∷ [])) ≡ figuresCall given found figures answer
   unfolding figuresCall
   figures-room h l p q = both p q ∙ sym (simp (le-leb 3 (length answer) h, le-leb mostTasks (length figures) l))

@@ -20,10 +20,10 @@ use Rattle.run.specs.declared.Run.{Run}
 use Rattle.model.specs.Sizes.{mostWord}
 use Rattle.run.specs.Numbers.{RunOut}
 use Rattle.table.specs.Words.{fenceOf}
-use Rattle.capi.specs.Encoding.{headWords, eachWords, parityAt, kindAt, firstAt, secondAt, thirdAt, places, wordsTo, runWords, phaseWords}
+use Rattle.capi.specs.Encoding.{headWords, eachWords, parityAt, kindAt, firstNumberAt, secondNumberAt, thirdNumberAt, places, wordsTo, runWords, phaseWords}
 use Rattle.capi.specs.Encoding.{ofPhase, parityWord, placeWith, placeWords, placesWords, countWord, lowWord, highWord, fenceIn, encodeTo, encode, overwritten}
 use Rattle.capi.specs.Encoding.{phaseOf, isPhase, evenOf, isParity, placeIn}
-use Rattle.capi.specs.Encoding.{isPlace, placesIn, arePlaces, countIn, holds, padded, runIn, run, none, decode, cleared}
+use Rattle.capi.specs.Encoding.{isPlace, placesIn, arePlaces, countIn, holdsRun, padded, runIn, run, none, decode, cleared}
 use Rattle.capi.proofs.Places.{length-words, length-read, by-held, held-long, held-few, held-places}
 
 -- WHAT IS ENCODED IS DECODED
@@ -57,8 +57,8 @@ places-are (suc n) (t ∷ ts) behind h =
     (and-both (isParity (parityWord (t .even))) _ (parity-is (t .even)) (phase-is (t .phase)))
     (places-are n ts behind (le-of-suc-le-suc h))
 
-withStand : Task → Bool → Phase → Task
-withStand t e ph = record {
+withTaskState : Task → Bool → Phase → Task
+withTaskState t e ph = record {
   offset = t .offset;
   width = t .width;
   length = t .length;
@@ -70,25 +70,25 @@ withStand t e ph = record {
 }
 
 pub places-back : (n : ℕ) (ts : List Task) (behind : List ℕ) → n ≤ length ts → placesIn n (placesWords ts ++ behind) ≡ take n ts
-unfolding placesIn placesWords withStand
+unfolding placesIn placesWords withTaskState
 places-back zero ts behind h = refl
 places-back (suc n) [] behind h = absurd (not-suc-le-zero h)
 places-back (suc n) (t ∷ ts) behind h =
-    λ i. withStand t (parity-back (t .even) i) (phase-back (t .phase) i) ∷ places-back n ts behind (le-of-suc-le-suc h) i
+    λ i. withTaskState t (parity-back (t .even) i) (phase-back (t .phase) i) ∷ places-back n ts behind (le-of-suc-le-suc h) i
 
 -- the two words of a fence
 fence-back : (f : ℕ) → fenceOf (lowWord f) (highWord f) ≡ f
 fence-back f = omega arith
 
--- the head and n places are so many words
+-- the number of words of the head and n places
 pub length-to : (n : ℕ) (r : Run) → n ≤ length (r .tasks) → length (encodeTo n r) ≡ wordsTo n
 unfolding encodeTo
 length-to n r h = let a = length-words (take n (r .tasks)) in let b = length-take-le n (r .tasks) h in omega arith
 
--- a run whose places below the count are written comes back cleared, whatever stands behind them in a buffer that is long enough
+-- a run whose places below the count are written comes back cleared, whatever is after them in a buffer that is long enough
 module _ (n : ℕ) (r : Run) (behind : List ℕ) (all : length (r .tasks) ≡ places) (few : r .count ≤ n) (most : n ≤ places) (long : runWords ≤ length (encodeTo n r ++ behind)) where
-  abbrev written : List ℕ
-  written = placesWords (take n (r .tasks)) ++ behind
+  abbrev answerWritten : List ℕ
+  answerWritten = placesWords (take n (r .tasks)) ++ behind
 
   within : r .count ≤ length (take n (r .tasks))
   within = let l = length-take-le n (r .tasks) (omega arith) in omega arith
@@ -96,12 +96,12 @@ module _ (n : ℕ) (r : Run) (behind : List ℕ) (all : length (r .tasks) ≡ pl
   count-back : countWord (r .count) ≡ r .count
   count-back = ap (λ (t : Bool). cond t (r .count) 33) (le-leb (r .count) places (omega arith))
 
-  holds-encoded : holds (encodeTo n r ++ behind) ≡ true
-  unfolding holds encodeTo
+  holds-encoded : holdsRun (encodeTo n r ++ behind) ≡ true
+  unfolding holdsRun encodeTo
   holds-encoded =
       and-both (leb runWords (length (encodeTo n r ++ behind))) _
       (le-leb runWords (length (encodeTo n r ++ behind)) long)
-      (subst (λ (k : ℕ). leb k places && arePlaces k written ≡ true) (sym count-back)
+      (subst (λ (k : ℕ). leb k places && arePlaces k answerWritten ≡ true) (sym count-back)
       (and-both (leb (r .count) places) _ (le-leb (r .count) places (omega arith)) (places-are (r .count) (take n (r .tasks)) behind within)))
 
   run-back : runIn (encodeTo n r ++ behind) ≡ cleared r
@@ -113,7 +113,7 @@ module _ (n : ℕ) (r : Run) (behind : List ℕ) (all : length (r .tasks) ≡ pl
         fence = fence-back (r .fence) i;
         withdrawn = r .withdrawn;
         count = count-back i;
-        tasks = padded (count-back i) (placesIn (count-back i) written);
+        tasks = padded (count-back i) (placesIn (count-back i) answerWritten);
       })
       ∙ ap (λ (ts : List Task). record { rule = r .rule; cores = r .cores; fence = r .fence; withdrawn = r .withdrawn; count = r .count; tasks = padded (r .count) ts })
       (places-back (r .count) (take n (r .tasks)) behind within ∙ take-take (r .count) n (r .tasks) few)
@@ -136,7 +136,7 @@ few-accepted r fine = go (leb (r .count) places) refl
     go true e = leb-true (r .count) places e
     go false e = absurd (fine (inl (λ f. let h = leb-false (r .count) places e in let l = f .1 in omega arith)))
 
--- .. so every run that 14 accepts comes back cleared; `cleared-unread` says that it gets equal rows and answers
+-- .. so every run that 14 accepts comes back cleared; it gets equal rows and answers (`cleared-unread`)
 pub decode-accepted : (r : Run) → length (r .tasks) ≡ places → (¬ RunOut r) → decode (encode r) ≡ run (cleared r)
 decode-accepted r all fine =
     ap decode (sym (append-nil (encode r))) ∙ decode-encode r all (few-accepted r fine) []
@@ -148,25 +148,25 @@ no-number : (k a b c : ℕ) → eqb c 0 && eqb b 0 ≡ true → phaseWords k a 0
 no-number k a b c e =
     λ i. phaseWords k a (sym (eqb-true b 0 (and-right (eqb c 0) (eqb b 0) e)) i) (sym (eqb-true c 0 (and-left (eqb c 0) (eqb b 0) e)) i)
 
-pub phase-forth : (k a b c : ℕ) → isPhase k b c ≡ true → ofPhase (phaseOf k a b c) ≡ phaseWords k a b c
-phase-forth zero a b c e = no-number 0 a b c e
-phase-forth (suc zero) a b c e = refl
-phase-forth (suc (suc zero)) a b c e = ap (λ (n : ℕ). phaseWords 2 a b n) (sym (eqb-true c 0 (and-left (eqb c 0) true e)))
-phase-forth (suc (suc (suc zero))) a b c e = no-number 3 a b c e
-phase-forth (suc (suc (suc (suc k)))) a b c e =
+pub phase-encode : (k a b c : ℕ) → isPhase k b c ≡ true → ofPhase (phaseOf k a b c) ≡ phaseWords k a b c
+phase-encode zero a b c e = no-number 0 a b c e
+phase-encode (suc zero) a b c e = refl
+phase-encode (suc (suc zero)) a b c e = ap (λ (n : ℕ). phaseWords 2 a b n) (sym (eqb-true c 0 (and-left (eqb c 0) true e)))
+phase-encode (suc (suc (suc zero))) a b c e = no-number 3 a b c e
+phase-encode (suc (suc (suc (suc k)))) a b c e =
     let l = leb-true (suc (suc (suc (suc k)))) 3 (and-left (leb (suc (suc (suc (suc k)))) 3) _ e) in
     absurd (omega arith)
 
 -- and so is a parity's word
-parity-forth : (n : ℕ) → isParity n ≡ true → parityWord (evenOf n) ≡ n
-parity-forth zero e = refl
-parity-forth (suc zero) e = refl
-parity-forth (suc (suc n)) e = let l = leb-true (suc (suc n)) 1 e in absurd (omega arith)
+parity-encode : (n : ℕ) → isParity n ≡ true → parityWord (evenOf n) ≡ n
+parity-encode zero e = refl
+parity-encode (suc zero) e = refl
+parity-encode (suc (suc n)) e = let l = leb-true (suc (suc n)) 1 e in absurd (omega arith)
 
 -- the words of a place in front, one by one
 front :
     (ws : List ℕ) → eachWords ≤ length ws
-    → placeWith (placeIn ws) (getD ws parityAt 0) (phaseWords (getD ws kindAt 0) (getD ws firstAt 0) (getD ws secondAt 0) (getD ws thirdAt 0)) ++ drop eachWords ws
+    → placeWith (placeIn ws) (getD ws parityAt 0) (phaseWords (getD ws kindAt 0) (getD ws firstNumberAt 0) (getD ws secondNumberAt 0) (getD ws thirdNumberAt 0)) ++ drop eachWords ws
     ≡ ws
 front ws h =
     sym
@@ -182,30 +182,30 @@ front ws h =
     ∙ ap (λ (l : List ℕ). getD ws 8 0 ∷ l) (drop-cons ws 9 0 (omega arith)
     ∙ ap (λ (l : List ℕ). getD ws 9 0 ∷ l) (drop-cons ws 10 0 (omega arith))))))))))))
 
-place-forth : (ws : List ℕ) → eachWords ≤ length ws → isPlace ws ≡ true → placeWords (placeIn ws) ++ drop eachWords ws ≡ ws
-place-forth ws h e =
+place-encode : (ws : List ℕ) → eachWords ≤ length ws → isPlace ws ≡ true → placeWords (placeIn ws) ++ drop eachWords ws ≡ ws
+place-encode ws h e =
     let n = getD ws parityAt 0 in
     let k = getD ws kindAt 0 in
-    let a = getD ws firstAt 0 in
-    let b = getD ws secondAt 0 in
-    let c = getD ws thirdAt 0 in
-    (λ i. placeWith (placeIn ws) (parity-forth n (and-left (isParity n) (isPhase k b c) e) i) (phase-forth k a b c (and-right (isParity n) (isPhase k b c) e) i)
+    let a = getD ws firstNumberAt 0 in
+    let b = getD ws secondNumberAt 0 in
+    let c = getD ws thirdNumberAt 0 in
+    (λ i. placeWith (placeIn ws) (parity-encode n (and-left (isParity n) (isPhase k b c) e) i) (phase-encode k a b c (and-right (isParity n) (isPhase k b c) e) i)
     ++ drop eachWords ws)
     ∙ front ws h
 
-pub places-forth : (n : ℕ) (ws : List ℕ) → eachWords * n ≤ length ws → arePlaces n ws ≡ true → placesWords (placesIn n ws) ++ drop (eachWords * n) ws ≡ ws
+pub places-encode : (n : ℕ) (ws : List ℕ) → eachWords * n ≤ length ws → arePlaces n ws ≡ true → placesWords (placesIn n ws) ++ drop (eachWords * n) ws ≡ ws
 unfolding arePlaces placesIn placesWords
-places-forth zero ws h e = refl
-places-forth (suc n) ws h e =
+places-encode zero ws h e = refl
+places-encode (suc n) ws h e =
     let d = length-drop eachWords ws in
     let k : eachWords * suc n ≡ eachWords + eachWords * n = omega arith in
-    let rest = places-forth n (drop eachWords ws) (omega arith) (and-right (isPlace ws) (arePlaces n (drop eachWords ws)) e) in
+    let rest = places-encode n (drop eachWords ws) (omega arith) (and-right (isPlace ws) (arePlaces n (drop eachWords ws)) e) in
     ap (λ (m : ℕ). placesWords (placesIn (suc n) ws) ++ drop m ws) k
     ∙ (ap (λ (l : List ℕ). placesWords (placesIn (suc n) ws) ++ l) (sym (drop-drop (eachWords * n) eachWords ws))
     ∙ (ap (λ (l : List ℕ). placeWords (placeIn ws) ++ l) rest
-    ∙ place-forth ws (omega arith) (and-left (isPlace ws) (arePlaces n (drop eachWords ws)) e)))
+    ∙ place-encode ws (omega arith) (and-left (isPlace ws) (arePlaces n (drop eachWords ws)) e)))
 
-words-back : (ws : List ℕ) → getD ws 3 0 ≤ mostWord → holds ws ≡ true → overwritten (runIn ws .count) (runIn ws) ws ≡ ws
+words-back : (ws : List ℕ) → getD ws 3 0 ≤ mostWord → holdsRun ws ≡ true → overwritten (runIn ws .count) (runIn ws) ws ≡ ws
 unfolding encodeTo runIn
 words-back ws narrow e =
     let n = countIn ws in
@@ -219,7 +219,7 @@ words-back ws narrow e =
     let high : highWord (fenceIn ws) ≡ getD ws 4 0 = omega (arith, narrow) in
     (λ i. getD ws 0 0 ∷ (getD ws 1 0 ∷ (counted i ∷ (low i ∷ (high i ∷ (getD ws 5 0 ∷ (placesWords (used i) ++ drop (wordsTo n) ws)))))))
     ∙ (ap (λ (l : List ℕ). head-of (placesWords read ++ l)) (sym (drop-drop (eachWords * n) headWords ws))
-    ∙ (ap head-of (places-forth n (drop headWords ws) (omega arith) (held-places ws e))
+    ∙ (ap head-of (places-encode n (drop headWords ws) (omega arith) (held-places ws e))
     ∙ sym
     (drop-cons ws 0 0 (omega arith)
     ∙ ap (λ (l : List ℕ). getD ws 0 0 ∷ l) (drop-cons ws 1 0 (omega arith)
@@ -228,15 +228,15 @@ words-back ws narrow e =
     ∙ ap (λ (l : List ℕ). getD ws 3 0 ∷ l) (drop-cons ws 4 0 (omega arith)
     ∙ ap (λ (l : List ℕ). getD ws 4 0 ∷ l) (drop-cons ws 5 0 (omega arith)))))))))
   where
-    -- the words of the head, and what stands behind them
+    -- the words of the head, and what is after them
     head-of : List ℕ → List ℕ
     head-of l = getD ws 0 0 ∷ (getD ws 1 0 ∷ (countIn ws ∷ (getD ws 3 0 ∷ (getD ws 4 0 ∷ (getD ws 5 0 ∷ l)))))
 
 -- a buffer that is decoded to a run holds it
-pub held-run : (ws : List ℕ) (r : Run) → decode ws ≡ run r → (holds ws ≡ true) × (runIn ws ≡ r)
-held-run ws r e = go (holds ws) refl
+pub held-run : (ws : List ℕ) (r : Run) → decode ws ≡ run r → (holdsRun ws ≡ true) × (runIn ws ≡ r)
+held-run ws r e = go (holdsRun ws) refl
   where
-    go : (t : Bool) → holds ws ≡ t → (holds ws ≡ true) × (runIn ws ≡ r)
+    go : (t : Bool) → holdsRun ws ≡ t → (holdsRun ws ≡ true) × (runIn ws ≡ r)
     go true h =
         let same : run (runIn ws) ≡ run r = sym (by-held ws h) ∙ e in
         (h, cc)

@@ -1,4 +1,4 @@
--- What the calls on a run in a buffer leave under rule 4, computed from the definitions, for two tasks (O 0, C 2, D 4, T 4) of widths 2 and 1 on two cores:
+-- The results of the calls on a run in a buffer under rule 4, computed from the definitions, for two tasks (O 0, C 2, D 4, T 4) of widths 2 and 1 on two cores:
 -- what a holder lends is shown with the borrower's position, a lent tick is had and not reserved, and the borrower may be reported, not the holder.
 use mathlib.Core.Path.{_≡_, refl}
 use mathlib.Core.Bool.{false}
@@ -8,12 +8,12 @@ use lib.ListN.{replicate}
 use Rattle.phase.specs.declared.Phase.{Phase}
 use Rattle.phase.specs.declared.Phase.the-variants.{Working, Holding, Resting}
 use Rattle.phase.specs.declared.Task.{Task}
-use Rattle.capi.specs.Calls.{Left}
+use Rattle.capi.specs.Calls.{CallResult}
 use Rattle.capi.specs.Encoding.{placeWords}
 use Rattle.capi.specs.Runs.{rowCall, advanceCall}
 use Rattle.capi.proofs.Calling.{calling}
 
--- so many words as they are lent
+-- a number of words as they are lent
 abbrev found : ℕ → List ℕ
 found n = replicate n 77
 
@@ -29,7 +29,7 @@ abbrev pub held : ℕ → List ℕ
 held n = words n (Holding 1 1) (Working 1 0 0)
 
 -- the call is answered
-abbrev answered : List (List ℕ) → Left
+abbrev answered : List (List ℕ) → CallResult
 answered ls = record { value = 0; lent = ls }
 
 -- taken, and refused with number n

@@ -1,4 +1,4 @@
--- Laws of the calls: by room and by what a buffer holds; encoding and decoding; lists, number 14 and what is never read; computed examples.
+-- Laws of the calls: by space and by what a buffer holds; encoding and decoding; lists, number 14 and what is never read; computed examples.
 mod Calls
 mod Replaying
 mod Places
@@ -11,17 +11,17 @@ mod Noting
 mod Supplying
 pub mod Kept
 pub mod Listed
-pub mod Past
-pub mod Fourteen
+pub mod UnusedPlaces
+pub mod RunRefused
 pub mod SuppliedKept
 pub mod Examples
 pub mod Calling
 pub mod RunExamples
 pub mod SetsExamples
-pub mod TogetherExamples
+pub mod WithdrawSetExamples
 pub mod LendExamples
 pub mod SentenceExamples
 pub mod FigureExamples
-pub mod ClashExamples
-pub mod SpareExamples
+pub mod ConflictExamples
+pub mod SlackExamples
 pub mod SuppliedExamples

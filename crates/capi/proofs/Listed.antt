@@ -1,10 +1,10 @@
--- A list of entries on the run in a buffer is the list of entries on the run: what `follows` and `demand-3` say of the run holds of the calls.
+-- A list of entries on the run in a buffer is the list of entries on the run: `refines` and `demand-3` hold of the calls.
 use mathlib.Core.Path.{_≡_, refl}
 use mathlib.Core.List.{List, [], _∷_}
 use Prim.Native.Nat.{ℕ}
 use Rattle.run.specs.declared.Run.{Run}
 use Rattle.model.specs.Book.{Entry}
-use Rattle.demand.specs.Entries.{entryOf, answers, after}
+use Rattle.refinement.specs.Entries.{entryOf, answers, runAfterList}
 use Rattle.capi.specs.Encoding.{run, decode}
 use Rattle.capi.specs.Runs.{entryFrom}
 use Rattle.capi.specs.Lists.{bufferAnswers, bufferAfter}
@@ -18,7 +18,7 @@ answers-held ws r e (x ∷ xs) =
     let rest = answers-held (entryFrom (decode ws) x ws .buffer) (entryOf r x .run) (h .1) xs in
     λ i. h .0 i ∷ rest i
 
-pub after-held : (ws : List ℕ) (r : Run) → decode ws ≡ run r → (xs : List Entry) → decode (bufferAfter ws xs) ≡ run (after r xs)
-unfolding bufferAfter after
+pub after-held : (ws : List ℕ) (r : Run) → decode ws ≡ run r → (xs : List Entry) → decode (bufferAfter ws xs) ≡ run (runAfterList r xs)
+unfolding bufferAfter runAfterList
 after-held ws r e [] = e
 after-held ws r e (x ∷ xs) = after-held (entryFrom (decode ws) x ws .buffer) (entryOf r x .run) (advance-held ws r x e .1) xs

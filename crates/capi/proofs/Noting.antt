@@ -11,12 +11,12 @@ use Rattle.model.proofs.Bools.{and-left, and-right}
 use Rattle.phase.specs.declared.Phase.{Phase}
 use Rattle.phase.specs.declared.Phase.the-variants.{Coming, Working, Holding, Resting}
 use Rattle.run.proofs.Written.{take-more}
-use Rattle.foreign.specs.declared.Note.{Note}
-use Rattle.foreign.specs.State.{note, pastNote}
-use Rattle.capi.specs.declared.held.PhaseWords.{PhaseWords}
+use Rattle.plan_check.specs.declared.Note.{Note}
+use Rattle.plan_check.specs.State.{note, pastNote}
+use Rattle.capi.specs.declared.run_buffer.PhaseWords.{PhaseWords}
 use Rattle.capi.specs.Encoding.{phaseWords, ofPhase, phaseOf, isPhase}
 use Rattle.capi.specs.Supplied.{notesAt, noteSize, noteAt, fourWords, noteWords, notesWords, putAt, phaseNoted, noteIn, notesIn, isNote, areNotes}
-use Rattle.capi.proofs.Inverse.{phase-forth}
+use Rattle.capi.proofs.Inverse.{phase-encode}
 
 -- WORDS PUT INTO A BUFFER
 
@@ -34,21 +34,21 @@ module _ (n : ℕ) (vs ws : List ℕ) where
       let d = length-drop (n + length vs) ws in
       omega arith
 
-  -- what stands before them stays ..
+  -- what is before them stays ..
   pub take-put : (k : ℕ) → k ≤ n → n ≤ length ws → take k (putAt n vs ws) ≡ take k ws
   take-put k l h =
       sym (take-take k n (putAt n vs ws) l)
       ∙ (ap (take k) (ap (take n) (split h) ∙ take-at (take n ws) (vs ++ drop (n + length vs) ws) n (length-take-le n ws h))
       ∙ take-take k n ws l)
 
-  -- .. and what stands behind them
+  -- .. and what is after them
   pub drop-put : n ≤ length ws → drop (n + length vs) (putAt n vs ws) ≡ drop (n + length vs) ws
   drop-put h = drop-at (take n ws ++ vs) (drop (n + length vs) ws) (n + length vs) (length-front h)
 
   pub from-put : n ≤ length ws → drop n (putAt n vs ws) ≡ vs ++ drop (n + length vs) ws
   from-put h = ap (drop n) (split h) ∙ drop-at (take n ws) (vs ++ drop (n + length vs) ws) n (length-take-le n ws h)
 
-  -- more words, put right behind them
+  -- more words, put right after them
   pub put-next : (ys : List ℕ) (m : ℕ) → m ≡ n + length vs → n + length vs ≤ length ws → putAt m ys (putAt n vs ws) ≡ putAt n (vs ++ ys) ws
   put-next ys m e h =
       let front = take n ws ++ vs in
@@ -71,7 +71,7 @@ pub word-read : (ws : List ℕ) (n x : ℕ) → n < length ws → getD (putAt n 
 word-read ws n x h =
     ap (λ (l : List ℕ). getD l n 0) (split n (x ∷ []) ws (omega arith)) ∙ getD-at (take n ws) x (drop (n + 1) ws) 0 n (length-take-le n ws (omega arith))
 
--- to put again what stands there changes nothing
+-- to put again what is there changes nothing
 pub put-same : (ws vs : List ℕ) (n : ℕ) → vs ++ drop (n + length vs) ws ≡ drop n ws → n ≤ length ws → putAt n vs ws ≡ ws
 put-same ws vs n e h = split n vs ws h ∙ (ap (λ (l : List ℕ). take n ws ++ l) e ∙ take-append-drop n ws)
 
@@ -185,7 +185,7 @@ notes-back zero ns ws h = refl
 notes-back (suc k) [] ws h = absurd (not-suc-le-zero h)
 notes-back (suc k) (n ∷ ns) ws h = λ i. note (phase-noted (n .phase) i) ∷ notes-back k ns ws (le-of-suc-le-suc h) i
 
--- notes written over the first ones: those behind them are read as before
+-- notes written over the first ones: those after them are read as before
 pub notes-over :
     (k : ℕ) (ns : List Note) (ws : List ℕ) → length ns ≤ k
     → notesIn k (notesWords ns ++ drop (noteSize * length ns) ws) ≡ ns ++ drop (length ns) (notesIn k ws)
@@ -210,25 +210,25 @@ note-front ws h =
     ∙ ap (λ (l : List ℕ). getD ws 1 0 ∷ l) (drop-cons ws 2 0 (omega arith)
     ∙ ap (λ (l : List ℕ). getD ws 2 0 ∷ l) (drop-cons ws 3 0 (omega arith)))))
 
-note-forth : (ws : List ℕ) → noteSize ≤ length ws → isNote ws ≡ true → noteWords (noteIn ws) ++ drop noteSize ws ≡ ws
-note-forth ws h e =
+note-encode : (ws : List ℕ) → noteSize ≤ length ws → isNote ws ≡ true → noteWords (noteIn ws) ++ drop noteSize ws ≡ ws
+note-encode ws h e =
     let k = getD ws 0 0 in
     let a = getD ws 1 0 in
     let b = getD ws 2 0 in
     let c = getD ws 3 0 in
     let same : phaseNoted k a b c ≡ phaseOf k a b c = rw e refl in
-    (λ i. fourWords ((ap ofPhase same ∙ phase-forth k a b c e) i) ++ drop noteSize ws)
+    (λ i. fourWords ((ap ofPhase same ∙ phase-encode k a b c e) i) ++ drop noteSize ws)
     ∙ note-front ws h
 
 -- notes that are phases are the encoding of what is read of them
-pub notes-forth : (n : ℕ) (ws : List ℕ) → noteSize * n ≤ length ws → areNotes n ws ≡ true → notesWords (notesIn n ws) ++ drop (noteSize * n) ws ≡ ws
+pub notes-encode : (n : ℕ) (ws : List ℕ) → noteSize * n ≤ length ws → areNotes n ws ≡ true → notesWords (notesIn n ws) ++ drop (noteSize * n) ws ≡ ws
 unfolding areNotes notesIn notesWords
-notes-forth zero ws h e = refl
-notes-forth (suc n) ws h e =
+notes-encode zero ws h e = refl
+notes-encode (suc n) ws h e =
     let d = length-drop noteSize ws in
     let k : noteSize * suc n ≡ noteSize + noteSize * n = omega arith in
-    let rest = notes-forth n (drop noteSize ws) (omega arith) (and-right (isNote ws) (areNotes n (drop noteSize ws)) e) in
+    let rest = notes-encode n (drop noteSize ws) (omega arith) (and-right (isNote ws) (areNotes n (drop noteSize ws)) e) in
     ap (λ (m : ℕ). notesWords (notesIn (suc n) ws) ++ drop m ws) k
     ∙ (ap (λ (l : List ℕ). notesWords (notesIn (suc n) ws) ++ l) (sym (drop-drop (noteSize * n) noteSize ws))
     ∙ (ap (λ (l : List ℕ). noteWords (noteIn ws) ++ l) rest
-    ∙ note-forth ws (omega arith) (and-left (isNote ws) (areNotes n (drop noteSize ws)) e)))
+    ∙ note-encode ws (omega arith) (and-left (isNote ws) (areNotes n (drop noteSize ws)) e)))

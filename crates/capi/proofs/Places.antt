@@ -1,4 +1,4 @@
--- The words of places: one place more, written, read or looked at.
+-- The words of places: one place more, written, read or tested.
 use mathlib.Core.Path.{_≡_, refl, ap, _∙_}
 use mathlib.Core.Bool.{Bool, true, false, _&&_, cond}
 use mathlib.Core.List.{List, [], _∷_, _++_}
@@ -10,8 +10,8 @@ use lib.Dec.{leb}
 use borrow.Author.Tests.{le-leb, lt-leb, leb-true}
 use Rattle.model.proofs.Bools.{and-left, and-right}
 use Rattle.phase.specs.declared.Task.{Task}
-use Rattle.capi.specs.Encoding.{headWords, eachWords, parityAt, kindAt, secondAt, thirdAt, places, runWords, placeWords, placesWords, isStand, placeIn}
-use Rattle.capi.specs.Encoding.{isPlace, placesIn, arePlaces, countIn, holds, runIn, run, none, decode}
+use Rattle.capi.specs.Encoding.{headWords, eachWords, parityAt, kindAt, secondNumberAt, thirdNumberAt, places, runWords, placeWords, placesWords, isTaskState, placeIn}
+use Rattle.capi.specs.Encoding.{isPlace, placesIn, arePlaces, countIn, holdsRun, runIn, run, none, decode}
 
 -- written
 pub words-more : (ts : List Task) (t : Task) → placesWords (ts ++ (t ∷ [])) ≡ placesWords ts ++ placeWords t
@@ -38,10 +38,10 @@ unfolding placesIn
 length-read zero ws = refl
 length-read (suc n) ws = ap suc (length-read n (drop eachWords ws))
 
--- looked at: it is one, and the others decide ..
-pub look-on : (m n at : ℕ) (ws : List ℕ) → m ≡ suc n → isPlace (drop at ws) ≡ true → arePlaces m (drop at ws) ≡ arePlaces n (drop (at + eachWords) ws)
+-- tested: it is one, and the others decide ..
+pub test-on : (m n at : ℕ) (ws : List ℕ) → m ≡ suc n → isPlace (drop at ws) ≡ true → arePlaces m (drop at ws) ≡ arePlaces n (drop (at + eachWords) ws)
 unfolding arePlaces
-look-on m n at ws e p =
+test-on m n at ws e p =
     ap (λ (k : ℕ). arePlaces k (drop at ws)) e
     ∙ (ap (λ (t : Bool). t && arePlaces n (drop eachWords (drop at ws))) p ∙ ap (arePlaces n) (drop-drop eachWords at ws))
 
@@ -51,51 +51,51 @@ unfolding arePlaces
 none-left ws = refl
 
 -- .. or it is none, and decides
-pub look-stop : (m n at : ℕ) (ws : List ℕ) → m ≡ suc n → isPlace (drop at ws) ≡ false → arePlaces m (drop at ws) ≡ false
+pub test-stop : (m n at : ℕ) (ws : List ℕ) → m ≡ suc n → isPlace (drop at ws) ≡ false → arePlaces m (drop at ws) ≡ false
 unfolding arePlaces
-look-stop m n at ws e p =
+test-stop m n at ws e p =
     ap (λ (k : ℕ). arePlaces k (drop at ws)) e ∙ ap (λ (t : Bool). t && arePlaces n (drop eachWords (drop at ws))) p
 
 -- what is read at a place
 pub place-at :
     (ws : List ℕ) (at : ℕ) → isPlace (drop at ws)
-    ≡ isStand (getD ws (at + parityAt) 0) (getD ws (at + kindAt) 0) (getD ws (at + secondAt) 0) (getD ws (at + thirdAt) 0)
+    ≡ isTaskState (getD ws (at + parityAt) 0) (getD ws (at + kindAt) 0) (getD ws (at + secondNumberAt) 0) (getD ws (at + thirdNumberAt) 0)
 place-at ws at = simp getD-drop
 
 -- a buffer too short, or with too high a count, holds none; else the places below the count decide
-pub held-short : (ws : List ℕ) → length ws < runWords → holds ws ≡ false
-unfolding holds
+pub held-short : (ws : List ℕ) → length ws < runWords → holdsRun ws ≡ false
+unfolding holdsRun
 held-short ws h = simp (lt-leb runWords (length ws) h)
 
 module _ (ws : List ℕ) (h : runWords ≤ length ws) where
-  pub held-many : places < countIn ws → holds ws ≡ false
-  unfolding holds
+  pub held-many : places < countIn ws → holdsRun ws ≡ false
+  unfolding holdsRun
   held-many l = simp (le-leb runWords (length ws) h, lt-leb (countIn ws) places l)
 
-  pub held-by : countIn ws ≤ places → holds ws ≡ arePlaces (countIn ws) (drop headWords ws)
-  unfolding holds
+  pub held-by : countIn ws ≤ places → holdsRun ws ≡ arePlaces (countIn ws) (drop headWords ws)
+  unfolding holdsRun
   held-by l = simp (le-leb runWords (length ws) h, le-leb (countIn ws) places l)
 
 -- what a buffer is decoded to, by whether it holds a run
-pub by-held : (ws : List ℕ) {t : Bool} → holds ws ≡ t → decode ws ≡ cond t (run (runIn ws)) none
+pub by-held : (ws : List ℕ) {t : Bool} → holdsRun ws ≡ t → decode ws ≡ cond t (run (runIn ws)) none
 by-held ws e = ap (λ (t : Bool). cond t (run (runIn ws)) none) e
 
 -- what a buffer that holds a run has
-module _ (ws : List ℕ) (e : holds ws ≡ true) where
+module _ (ws : List ℕ) (e : holdsRun ws ≡ true) where
   abbrev rest : Bool
   rest = leb (countIn ws) places && arePlaces (countIn ws) (drop headWords ws)
 
   pub held-long : runWords ≤ length ws
-  unfolding holds
+  unfolding holdsRun
   held-long = leb-true runWords (length ws) (and-left (leb runWords (length ws)) rest e)
 
   pub held-few : countIn ws ≤ places
-  unfolding holds
+  unfolding holdsRun
   held-few =
       leb-true (countIn ws) places
       (and-left (leb (countIn ws) places) (arePlaces (countIn ws) (drop headWords ws)) (and-right (leb runWords (length ws)) rest e))
 
   pub held-places : arePlaces (countIn ws) (drop headWords ws) ≡ true
-  unfolding holds
+  unfolding holdsRun
   held-places =
       and-right (leb (countIn ws) places) (arePlaces (countIn ws) (drop headWords ws)) (and-right (leb runWords (length ws)) rest e)

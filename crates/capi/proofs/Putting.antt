@@ -16,7 +16,7 @@ pub head-put :
     → set (set (set (set (set (set ws 0 a) 1 b) 2 c) 3 d) 4 e) 5 f ≡ a ∷ (b ∷ (c ∷ (d ∷ (e ∷ (f ∷ drop headWords ws)))))
 head-put ws a b c d e f h = sets-eq (a ∷ (b ∷ (c ∷ (d ∷ (e ∷ (f ∷ [])))))) ws 0 h
 
--- a buffer whose head was written: what stands behind the head is as it was
+-- a buffer whose head was written: what is after the head is as it was
 pub head-behind : (ws vs : List ℕ) (r : Run) (n : ℕ) → vs ≡ overwritten 0 r ws → drop (headWords + n) vs ≡ drop (headWords + n) ws
 unfolding encodeTo placesWords
 head-behind ws vs r n e =

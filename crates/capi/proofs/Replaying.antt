@@ -1,4 +1,4 @@
--- What a call of the replay leaves, by whether the lent slices fit.
+-- The result of a call of the replay, by whether the lent slices fit.
 use mathlib.Core.Path.{_≡_, refl, sym, ap, _∙_}
 use mathlib.Core.Bool.{Bool, true, false, _&&_}
 use mathlib.Core.List.{List, [], _∷_}
@@ -7,11 +7,11 @@ use native.Mathlib.Omega.{arith}
 use lib.ListN.{length}
 use lib.Dec.{leb}
 use borrow.Author.Tests.{le-leb, lt-leb}
-use Rattle.demand.specs.declared.Replayed.{Replayed}
-use Rattle.demand.specs.declared.Replayed.the-variants.{Shown, RowRefused, Refused, Unfit}
-use Rattle.demand.specs.Replay.{Outcome, ReplayOf}
-use Rattle.capi.specs.Told.{written}
-use Rattle.capi.specs.Calls.{left, byRoom}
+use Rattle.refinement.specs.declared.Replayed.{Replayed}
+use Rattle.refinement.specs.declared.Replayed.the-variants.{Shown, RowRefused, Refused, Unfit}
+use Rattle.refinement.specs.Replay.{ReplayOutcome, ReplayOf}
+use Rattle.capi.specs.AnswerWords.{answerWritten}
+use Rattle.capi.specs.Calls.{callResult, byRoom}
 use Rattle.capi.specs.Replays.{fitted, ofReplayed, byOutcome, replayCall}
 
 not-fitted : (v : Replayed) → fitted v ≡ false → v ≡ Unfit
@@ -20,32 +20,32 @@ not-fitted (RowRefused n p) e = absurd (let z : _≡_ {A = Bool} true false = e 
 not-fitted (Refused n p) e = absurd (let z : _≡_ {A = Bool} true false = e in let n : _≡_ {A = ℕ} 0 1 = cc in omega arith)
 not-fitted Unfit e = refl
 
-short-by : (t u : Bool) (lent found : List (List ℕ)) → (u ≡ false) → byRoom (t && u) lent found ≡ left 1 found
+short-by : (t u : Bool) (lent found : List (List ℕ)) → (u ≡ false) → byRoom (t && u) lent found ≡ callResult 1 found
 short-by true u lent found e = ap (λ (b : Bool). byRoom b lent found) e
 short-by false u lent found e = refl
 
 module _ (ws es numbers row answer : List ℕ) where
   -- the slice `answer` is too short
-  pub replay-narrow : length answer < 3 → replayCall ws es numbers row answer ≡ left 1 (numbers ∷ (row ∷ (answer ∷ [])))
+  pub replay-narrow : length answer < 3 → replayCall ws es numbers row answer ≡ callResult 1 (numbers ∷ (row ∷ (answer ∷ [])))
   unfolding replayCall
   replay-narrow h = simp (lt-leb 3 (length answer) h)
 
-  module _ (o : Outcome) (r : ReplayOf ws es numbers row o) where
+  module _ (o : ReplayOutcome) (r : ReplayOf ws es numbers row o) where
     -- the call goes by the outcome
     by-outcome : replayCall ws es numbers row answer ≡ byOutcome o numbers row answer
     unfolding replayCall
-    by-outcome = ap (λ (q : Outcome). byOutcome q numbers row answer) (sym (r .value))
+    by-outcome = ap (λ (q : ReplayOutcome). byOutcome q numbers row answer) (sym (r .value))
 
     -- another lent slice does not fit
-    pub replay-unfit : fitted (o .answer) ≡ false → left 1 (o .numbers ∷ (o .bytes ∷ (answer ∷ []))) ≡ replayCall ws es numbers row answer
+    pub replay-unfit : fitted (o .answer) ≡ false → callResult 1 (o .numbers ∷ (o .bytes ∷ (answer ∷ []))) ≡ replayCall ws es numbers row answer
     replay-unfit e =
         let f = r .unfit-found (not-fitted (o .answer) e) in
-        (λ i. left 1 (f .0 i ∷ (f .1 i ∷ (answer ∷ []))))
+        (λ i. callResult 1 (f .0 i ∷ (f .1 i ∷ (answer ∷ []))))
         ∙ sym (by-outcome ∙ short-by (leb 3 (length answer)) (fitted (o .answer)) _ _ e)
 
     -- every lent slice fits
     pub replay-room :
-        {new : List ℕ} → fitted (o .answer) ≡ true → 3 ≤ length answer → new ≡ written (ofReplayed (o .answer)) answer
-        → left 0 (o .numbers ∷ (o .bytes ∷ (new ∷ []))) ≡ replayCall ws es numbers row answer
+        {new : List ℕ} → fitted (o .answer) ≡ true → 3 ≤ length answer → new ≡ answerWritten (ofReplayed (o .answer)) answer
+        → callResult 0 (o .numbers ∷ (o .bytes ∷ (new ∷ []))) ≡ replayCall ws es numbers row answer
     replay-room e h n =
-        ap (λ (l : List ℕ). left 0 (o .numbers ∷ (o .bytes ∷ (l ∷ [])))) n ∙ sym (by-outcome ∙ simp (le-leb 3 (length answer) h, e))
+        ap (λ (l : List ℕ). callResult 0 (o .numbers ∷ (o .bytes ∷ (l ∷ [])))) n ∙ sym (by-outcome ∙ simp (le-leb 3 (length answer) h, e))

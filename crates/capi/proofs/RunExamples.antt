@@ -1,4 +1,4 @@
--- What the calls on a run in a buffer leave, computed from the definitions, for one task (O 0, v 1, C 3, D 3, T 4, w 2) on two cores under greedy:
+-- The results of the calls on a run in a buffer, computed from the definitions, for one task (O 0, v 1, C 3, D 3, T 4, w 2) on two cores under greedy:
 -- which of the two sets of an advance is which, the set of a row, the positions of a withdrawal, and the parity of a job.
 use mathlib.Core.Path.{_≡_, refl}
 use mathlib.Core.Bool.{Bool, true, false}
@@ -7,12 +7,12 @@ use Prim.Native.Nat.{ℕ}
 use lib.ListN.{replicate}
 use Rattle.phase.specs.declared.Phase.{Phase}
 use Rattle.phase.specs.declared.Phase.the-variants.{Coming, Working, Resting}
-use Rattle.capi.specs.Calls.{Left}
+use Rattle.capi.specs.Calls.{CallResult}
 use Rattle.capi.specs.Encoding.{placeWords}
 use Rattle.capi.specs.Runs.{rowCall, advanceCall, withdrawCall}
 use Rattle.capi.proofs.Calling.{calling}
 
--- so many words as they are lent
+-- a number of words as they are lent
 abbrev lent : ℕ → List ℕ
 lent n = replicate n 77
 
@@ -26,7 +26,7 @@ words x e ph =
 abbrev without : ℕ → Phase → List ℕ
 without x ph = words x false ph
 
--- .. with nobody withdrawn, and so at an even one
+-- .. with no position withdrawn, and so at an even one
 abbrev one : Phase → List ℕ
 one ph = words 0 false ph
 
@@ -34,7 +34,7 @@ abbrev second : Phase → List ℕ
 second ph = words 0 true ph
 
 -- the call is answered
-abbrev answered : List (List ℕ) → Left
+abbrev answered : List (List ℕ) → CallResult
 answered ls = record { value = 0; lent = ls }
 
 -- taken, and refused with number n

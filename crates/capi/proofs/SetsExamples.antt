@@ -1,6 +1,6 @@
--- What the row of a run in a buffer leaves as sets of cores, computed from the definitions, for two tasks (O 0, C 2, D 4, T 4) of widths 2 and 1: a set of
--- each position, with a fence, with one that lends and with empty jobs; 14 before 15 before 20, with 32 zeros; what stands behind the sets and the answer
--- stays, and everything as found where there is no room for either.
+-- The result of a row asked as sets of cores, of a run in a buffer, computed from the definitions, for two tasks (O 0, C 2, D 4, T 4) of widths 2 and 1: a
+-- set of each position, with a fence, with one that lends and with empty jobs; 14 before 15 before 20, with 32 zeros; what is after the sets and the answer
+-- stays, and everything as found where there is no space for either.
 use mathlib.Core.List.{List, [], _∷_, _++_, map}
 use mathlib.Core.Path.{_≡_, refl}
 use mathlib.Core.Bool.{false}
@@ -10,7 +10,7 @@ use Rattle.model.proofs.LineByLine.{LineByLine, by-line}
 use Rattle.phase.specs.declared.Phase.{Phase}
 use Rattle.phase.specs.declared.Phase.the-variants.{Working, Holding, Resting}
 use Rattle.phase.specs.declared.Task.{Task}
-use Rattle.capi.specs.Calls.{Left, left}
+use Rattle.capi.specs.Calls.{CallResult, callResult}
 use Rattle.capi.specs.Encoding.{placeWords}
 use Rattle.capi.specs.Runs.{setsCall}
 use Rattle.capi.proofs.Calling.{calling}
@@ -22,9 +22,9 @@ pub record Line : Type 0 where
   pub empties : ℕ
   pub sets : List ℕ
   pub answer : List ℕ
-  pub leaves : Left
+  pub leaves : CallResult
 
--- what the definitions say of a line
+-- the value by the definitions of a line
 abbrev pub worked : Line → Line
 worked l = record {
   run = l .run;
@@ -34,7 +34,7 @@ worked l = record {
   leaves = setsCall (l .run) (l .empties) (l .sets) (l .answer);
 }
 
--- so many words as they are lent
+-- a number of words as they are lent
 abbrev lent : ℕ → List ℕ
 lent n = replicate n 77
 
@@ -45,7 +45,7 @@ task v ph = record { offset = 0; width = v; length = 2; deadline = 4; period = 4
 abbrev words : List ℕ → Phase → Phase → List ℕ
 words head a b = head ++ (placeWords (task 2 a) ++ (placeWords (task 1 b) ++ lent 330))
 
--- under rule n on c cores with no fence and nobody withdrawn
+-- under rule n on c cores with no fence and no position withdrawn
 abbrev plain : ℕ → ℕ → List ℕ
 plain n c = n ∷ c ∷ 2 ∷ 0 ∷ 0 ∷ 0 ∷ []
 
@@ -71,7 +71,7 @@ shows r e a b = record {
   empties = e;
   sets = lent 34;
   answer = lent 4;
-  leaves = left 0 ((a ∷ b ∷ (replicate 30 0 ++ lent 2)) ∷ (0 ∷ 0 ∷ 0 ∷ lent 1) ∷ []);
+  leaves = callResult 0 ((a ∷ b ∷ (replicate 30 0 ++ lent 2)) ∷ (0 ∷ 0 ∷ 0 ∷ lent 1) ∷ []);
 }
 
 -- refused with number m and position p, and 32 zeros
@@ -81,21 +81,21 @@ refuses r e m p = record {
   empties = e;
   sets = lent 34;
   answer = lent 4;
-  leaves = left 0 ((replicate 32 0 ++ lent 2) ∷ (3 ∷ m ∷ p ∷ lent 1) ∷ []);
+  leaves = callResult 0 ((replicate 32 0 ++ lent 2) ∷ (3 ∷ m ∷ p ∷ lent 1) ∷ []);
 }
 
--- so many words for the sets and for the answer are too few
+-- slices for the sets and for the answer with too few words
 abbrev stays : List ℕ → ℕ → ℕ → Line
-stays r s a = record { run = r; empties = 0; sets = lent s; answer = lent a; leaves = left 1 (lent s ∷ lent a ∷ []) }
+stays r s a = record { run = r; empties = 0; sets = lent s; answer = lent a; leaves = callResult 1 (lent s ∷ lent a ∷ []) }
 
--- just room
+-- just enough space
 abbrev fits : Line
 fits = record {
   run = fresh (plain 1 3);
   empties = 0;
   sets = lent 32;
   answer = lent 3;
-  leaves = left 0 ((3 ∷ 4 ∷ replicate 30 0) ∷ (0 ∷ 0 ∷ 0 ∷ []) ∷ []);
+  leaves = callResult 0 ((3 ∷ 4 ∷ replicate 30 0) ∷ (0 ∷ 0 ∷ 0 ∷ []) ∷ []);
 }
 
 abbrev pub lines : List Line
@@ -114,11 +114,11 @@ lines =
     ∷ refuses (held 4) 1 20 0 ∷ refuses (held 4) 2 20 0 ∷ refuses (fresh (plain 1 3)) 4 20 0 ∷ refuses (fresh (plain 1 3)) 5 20 0
     -- 14: no rule, a fence of all cores, also before 15 and 20, words that are no run
     ∷ refuses (fresh (plain 5 3)) 0 14 0 ∷ refuses (fresh (fenced 3 7 0)) 0 14 0 ∷ refuses (late 5 (Working 4 1 1) (Resting 2)) 4 14 0 ∷ refuses (lent 400) 0 14 0 ∷ refuses [] 0 14 0
-    -- the room
+    -- the space
     ∷ fits ∷ stays (fresh (plain 1 3)) 31 3 ∷ stays (fresh (plain 1 3)) 32 2 ∷ stays (fresh (plain 1 3)) 0 0 ∷ stays [] 31 3 ∷ stays [] 34 2
     ∷ []
 
--- every line is what the definitions say
+-- every line is its value by the definitions
 computed : LineByLine worked lines lines
 unfolding calling
 computed = (refl, (refl, (refl, (refl, (refl, (refl, (refl, (refl, (refl, (refl, (refl, (refl, (refl, (refl, (refl, (refl, (refl, (refl, (refl, (refl, (refl, (refl, (refl, (refl, (refl, (refl, (refl, (refl, (refl, (refl, (refl, (refl, tt))))))))))))))))))))))))))))))))

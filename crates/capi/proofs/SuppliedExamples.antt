@@ -1,5 +1,5 @@
--- What begin and take leave, computed from the definitions: a plan begun, with its phases noted at once or not yet; rows taken, up to the last; each number
--- once; the notes written at the last S and nowhere else; words of a note that are no phase; and everything as found where there is no room.
+-- The results of begin and take, computed from the definitions: a plan begun, with its phases recorded at once or not yet; rows taken, up to the last; each
+-- number once; the notes written at the last S and nowhere else; words of a note that are no phase; and everything as found where there is no space.
 use mathlib.Core.Path.{_≡_, refl}
 use mathlib.Core.Bool.{Bool, true, false}
 use mathlib.Core.List.{List, [], _∷_, _++_, map}
@@ -11,16 +11,16 @@ use Rattle.phase.specs.declared.Phase.{Phase}
 use Rattle.phase.specs.declared.Phase.the-variants.{Coming, Working, Resting}
 use Rattle.run.specs.Start.{startedRun}
 use Rattle.table.specs.Answer.{answerOf, byHorizon, byTasks, byWalk, endingOf, firstOut, headerNumber, lastStep}
-use Rattle.table.specs.Words.{chain, count, met, tableOf}
-use Rattle.foreign.specs.Begin.{beginOf}
-use Rattle.foreign.specs.Numbers.{differs, missed, stateOut}
-use Rattle.foreign.specs.Plan.{cells}
-use Rattle.foreign.specs.Row.{faulty, strangers, worked}
-use Rattle.foreign.specs.Take.{arrives, closed, takeAnswer, takeOf}
-use Rattle.capi.specs.Calls.{Left, left}
+use Rattle.table.specs.Words.{chain, count, visited, tableOf}
+use Rattle.plan_check.specs.Begin.{beginOf}
+use Rattle.plan_check.specs.Numbers.{differs, missed, stateOut}
+use Rattle.plan_check.specs.Plan.{cellCount}
+use Rattle.plan_check.specs.Row.{faulty, anyUnknownByte, workedRow}
+use Rattle.plan_check.specs.CheckRow.{answerAt, finalAnswer, checkRowAnswer, checkRowOf}
+use Rattle.capi.specs.Calls.{CallResult, callResult}
 use Rattle.capi.specs.Encoding.{placeWords}
 use Rattle.capi.specs.Supplied.{notesWords, planOver, notesIn, holdsPlan, planIn}
-use Rattle.capi.specs.Taking.{beginCall, takeCall}
+use Rattle.capi.specs.CheckRow.{beginCall, checkRowCall}
 use Rattle.capi.proofs.Calling.{calling}
 
 -- A LINE: its name, the call, the slices lent for the plan and the answer, and what is left
@@ -34,13 +34,13 @@ pub record Line : Type 0 where
   pub call : Call
   pub buffer : List ℕ
   pub answer : List ℕ
-  pub leaves : Left
+  pub leaves : CallResult
 
-abbrev pub leftBy : Call → List ℕ → List ℕ → Left
+abbrev pub leftBy : Call → List ℕ → List ℕ → CallResult
 leftBy (begins ws) buffer answer = beginCall ws buffer answer
-leftBy (takes row) buffer answer = takeCall buffer row answer
+leftBy (takes row) buffer answer = checkRowCall buffer row answer
 
--- what the definitions say of a line's call and slices
+-- the value by the definitions of a line's call and slices
 abbrev pub computes : Line → Line
 computes l = record {
   name = l .name;
@@ -50,18 +50,18 @@ computes l = record {
   leaves = leftBy (l .call) (l .buffer) (l .answer);
 }
 
--- so many words as they are lent
+-- a number of words as they are lent
 abbrev lent : ℕ → List ℕ
 lent n = replicate n 77
 
--- so many times these words
+-- these words, repeated a number of times
 unfoldable pub times : ℕ → List ℕ → List ℕ
 times zero ws = []
 times (suc n) ws = ws ++ times n ws
 
 -- the call is answered: the plan's words, three of an answer, and a fourth that stays
 abbrev leaves : String → Call → List ℕ → List ℕ → ℕ → ℕ → ℕ → Line
-leaves s c before after k a b = record { name = s; call = c; buffer = before; answer = lent 4; leaves = left 0 (after ∷ (k ∷ a ∷ b ∷ lent 1) ∷ []) }
+leaves s c before after k a b = record { name = s; call = c; buffer = before; answer = lent 4; leaves = callResult 0 (after ∷ (k ∷ a ∷ b ∷ lent 1) ∷ []) }
 
 -- refused with a number and a tick: the plan's words as found
 abbrev refuses : String → List ℕ → List ℕ → ℕ → ℕ → Line
@@ -69,7 +69,7 @@ refuses s row before n t = leaves s (takes row) before before 3 n t
 
 -- everything as found
 abbrev stays : String → Call → List ℕ → ℕ → Line
-stays s c before n = record { name = s; call = c; buffer = before; answer = lent n; leaves = left 1 (before ∷ lent n ∷ []) }
+stays s c before n = record { name = s; call = c; buffer = before; answer = lent n; leaves = callResult 1 (before ∷ lent n ∷ []) }
 
 -- PLANS IN WORDS
 
@@ -81,7 +81,7 @@ one o = 1 ∷ 1 ∷ 1 ∷ 0 ∷ 0 ∷ 0 ∷ o ∷ 1 ∷ 1 ∷ 1 ∷ 2 ∷ 1 ∷ 
 abbrev placed : ℕ → Bool → Phase → List ℕ
 placed o e ph = placeWords (record { offset = o; width = 1; length = 1; deadline = 1; period = 2; second = 1; even = e; phase = ph })
 
--- a plan of the task with O 1, whose last S is 1 and horizon 3, at this tick, with these words of a note; anything past the count, and a word behind the plan
+-- a plan of the task with O 1, whose last S is 1 and horizon 3, at this tick, with these words of a note; anything past the count, and a word after the plan
 abbrev plan : Bool → Phase → ℕ → List ℕ → List ℕ
 plan e ph t note = 1 ∷ 1 ∷ 1 ∷ 0 ∷ 0 ∷ 0 ∷ (placed 1 e ph ++ (lent 341 ++ (t ∷ (note ++ lent 125))))
 
@@ -92,8 +92,8 @@ released = 1 ∷ 0 ∷ 0 ∷ 0 ∷ []
 abbrev nothing : List ℕ
 nothing = 3 ∷ 0 ∷ 0 ∷ 0 ∷ []
 
-abbrev strange : List ℕ
-strange = 9 ∷ 8 ∷ 7 ∷ 6 ∷ []
+abbrev unknownByteState : List ℕ
+unknownByteState = 9 ∷ 8 ∷ 7 ∷ 6 ∷ []
 
 -- a place past the count as begin leaves it
 abbrev clear : List ℕ
@@ -120,12 +120,12 @@ lines =
     ∷ leaves "a refused beginning leaves zeros" (begins []) (lent 488) (times 6 (0 ∷ []) ++ (times 32 clear ++ (0 ∷ (times 32 nothing ++ lent 1)))) 3 1 0
     ∷ stays "begin, a word too few" (begins (one 1)) (lent 486) 4
     ∷ stays "begin, no room for an answer" (begins (one 1)) (lent 488) 2
-    ∷ leaves "a row that arrives at the last S, over words that are no phase" (takes (0 ∷ [])) (plan false (Coming 1) 0 strange) (plan false (Working 0 0 0) 1 released) 0 0 0
+    ∷ leaves "a row that arrives at the last S, over words that are no phase" (takes (0 ∷ [])) (plan false (Coming 1) 0 unknownByteState) (plan false (Working 0 0 0) 1 released) 0 0 0
     ∷ leaves "a row past it" (takes (1 ∷ [])) (plan false (Working 0 0 0) 1 released) (plan false (Resting 1) 2 released) 0 0 0
-    ∷ leaves "the same beside words that are no phase, which stay" (takes (1 ∷ [])) (plan false (Working 0 0 0) 1 strange) (plan false (Resting 1) 2 strange) 0 0 0
+    ∷ leaves "the same beside words that are no phase, which stay" (takes (1 ∷ [])) (plan false (Working 0 0 0) 1 unknownByteState) (plan false (Resting 1) 2 unknownByteState) 0 0 0
     ∷ leaves "the last row, and the plan is accepted" (takes (0 ∷ [])) (plan false (Resting 1) 2 released) (plan true (Working 0 0 0) 3 released) 6 0 0
     ∷ refuses "26 with the horizon" (0 ∷ []) (plan false (Resting 1) 2 nothing) 26 3
-    ∷ refuses "26: words that are no phase agree with none" (0 ∷ []) (plan false (Resting 1) 2 strange) 26 3
+    ∷ refuses "26: words that are no phase agree with none" (0 ∷ []) (plan false (Resting 1) 2 unknownByteState) 26 3
     ∷ refuses "25 with the horizon" (0 ∷ []) (plan false (Working 0 0 0) 2 released) 25 3
     ∷ refuses "25 with its tick" (1 ∷ []) (plan false (Working 1 0 0) 2 released) 25 2
     ∷ refuses "24 with its tick" (2 ∷ []) (plan false (Working 0 0 0) 1 released) 24 1
@@ -139,10 +139,10 @@ lines =
     ∷ stays "take, no room for an answer" (takes (0 ∷ [])) (plan false (Coming 1) 0 nothing) 2
     ∷ []
 
--- every line is what the definitions say, line by line
+-- every line is its value by the definitions, line by line
 computed : LineByLine computes lines lines
-unfolding times beginCall takeCall planOver notesWords notesIn holdsPlan planIn beginOf takeOf takeAnswer arrives closed differs missed stateOut faulty strangers
-    worked cells startedRun answerOf byWalk byTasks byHorizon firstOut endingOf lastStep headerNumber tableOf chain count met calling
+unfolding times beginCall checkRowCall planOver notesWords notesIn holdsPlan planIn beginOf checkRowOf checkRowAnswer answerAt finalAnswer differs missed stateOut faulty anyUnknownByte
+    workedRow cellCount startedRun answerOf byWalk byTasks byHorizon firstOut endingOf lastStep headerNumber tableOf chain count visited calling
 computed =
     (refl, (refl, (refl, (refl, (refl, (refl, (refl, (refl, (refl, (refl, (refl, (refl, (refl, (refl, (refl, (refl, (refl, (refl, (refl, (refl, (refl, (refl, tt))))))))))))))))))))))
 

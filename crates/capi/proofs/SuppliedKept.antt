@@ -1,4 +1,4 @@
--- The calls on a buffer are the calls on the plan that it holds: what begin writes and what a row leaves is decoded to the plan that they return; and to
+-- The calls on a buffer are the calls on the plan that it holds: what begin and a row write is decoded to the plan that they return; and to
 -- encode again what a buffer holds changes none of its words.
 use mathlib.Core.Path.{_≡_, refl, sym, ap, subst, _∙_}
 use mathlib.Core.Bool.{Bool, true, false, cond}
@@ -17,29 +17,29 @@ use Rattle.table.specs.declared.Answer as table
 use Rattle.table.specs.declared.Answer.the-variants.{Passed}
 use Rattle.table.specs.declared.Answer.the-variants as loaded
 use Rattle.table.specs.Answer.{answerOf}
-use Rattle.table.specs.Load.{loadTold}
+use Rattle.table.specs.Load.{loadMeaning}
 use Rattle.table.specs.Words.{rule, tableOf}
-use Rattle.foreign.specs.declared.Answer.{Answer}
-use Rattle.foreign.specs.declared.Answer.the-variants.{Taken, Accepted, Refused}
-use Rattle.foreign.specs.declared.Begun.{Begun}
-use Rattle.foreign.specs.declared.Note.{Note}
-use Rattle.foreign.specs.declared.Supplied.{Supplied}
-use Rattle.foreign.specs.Begin.{beginOf, firstState}
-use Rattle.foreign.specs.Numbers.{afterRow}
-use Rattle.foreign.specs.Row.{worked, workedAt}
-use Rattle.foreign.specs.Said.{byAnswer}
-use Rattle.foreign.specs.State.{blank, noteOf, noting, startIn}
-use Rattle.foreign.specs.Take.{takeAnswer, takeOf}
-use Rattle.foreign.proofs.Starting.{begin-passed, begin-refused, begin-of}
-use Rattle.capi.specs.Encoding.{headWords, eachWords, places, wordsTo, runWords, encodeTo, encode, overwritten, countIn, holds, runIn, run, decode, cleared}
-use Rattle.capi.specs.Past.{SameUsed}
-use Rattle.capi.specs.Supplied.{tickAt, notesAt, noteSize, noteAt, planWords, notesWords, encodePlan, putAt, movedIn, planOver, notesIn, areNotes, holdsPlan, planIn, HeldPlan, plan, none, decodePlan, clearedPlan}
-use Rattle.capi.specs.Taking.{begunIn, byTaken, takeFrom}
+use Rattle.plan_check.specs.declared.Answer.{Answer}
+use Rattle.plan_check.specs.declared.Answer.the-variants.{Taken, Accepted, Refused}
+use Rattle.plan_check.specs.declared.Begun.{Begun}
+use Rattle.plan_check.specs.declared.Note.{Note}
+use Rattle.plan_check.specs.declared.SuppliedPlan.{SuppliedPlan}
+use Rattle.plan_check.specs.Begin.{beginOf, firstState}
+use Rattle.plan_check.specs.Numbers.{afterRow}
+use Rattle.plan_check.specs.Row.{workedRow, workedAt}
+use Rattle.plan_check.specs.RowAnswer.{stateByAnswer}
+use Rattle.plan_check.specs.State.{blank, noteOf, noting, startIn}
+use Rattle.plan_check.specs.CheckRow.{checkRowAnswer, checkRowOf}
+use Rattle.plan_check.proofs.Starting.{begin-passed, begin-refused, begin-of}
+use Rattle.capi.specs.Encoding.{headWords, eachWords, places, wordsTo, runWords, encodeTo, encode, overwritten, countIn, holdsRun, runIn, run, decode, cleared}
+use Rattle.capi.specs.UnusedPlaces.{SameUsed}
+use Rattle.capi.specs.Supplied.{tickAt, notesAt, noteSize, noteAt, planWords, notesWords, encodePlan, putAt, movedIn, planOver, notesIn, areNotes, holdsPlan, planIn, BufferPlan, plan, none, decodePlan, clearedPlan}
+use Rattle.capi.specs.CheckRow.{begunIn, byTaken, checkRowFrom}
 use Rattle.capi.proofs.Places.{by-held, held-few, held-long}
 use Rattle.capi.proofs.Inverse.{length-to, decode-encode, few-accepted, encode-decode, held-run}
-use Rattle.capi.proofs.Kept.{Fits, clear-fits, fits-started, held-fits, fits-written}
-use Rattle.capi.proofs.Past.{same-held}
-use Rattle.capi.proofs.Noting.{length-put, take-put, drop-put, from-put, put-next, put-same, word-read, length-notes, length-noted, take-noted, notes-back, notes-over, notes-forth}
+use Rattle.capi.proofs.Kept.{StoredRun, clear-fits, fits-started, held-fits, fits-written}
+use Rattle.capi.proofs.UnusedPlaces.{same-held}
+use Rattle.capi.proofs.Noting.{length-put, take-put, drop-put, from-put, put-next, put-same, word-read, length-notes, length-noted, take-noted, notes-back, notes-over, notes-encode}
 use Rattle.capi.proofs.Supplying.{plan-by-run, by-held-plan, plan-long, plan-run}
 
 -- A PLAN FROM ITS PARTS
@@ -54,7 +54,7 @@ held-by-parts ws r long e f g =
     by-held-plan ws (plan-by-run ws long ∙ h .0) ∙ (λ i. plan (record { run = h .1 i; tick = f i; noted = g i }))
 
 -- a buffer that is decoded to a plan holds it
-pub held-plan : (ws : List ℕ) (w : Supplied) → decodePlan ws ≡ plan w → (holdsPlan ws ≡ true) × (planIn ws ≡ w)
+pub held-plan : (ws : List ℕ) (w : SuppliedPlan) → decodePlan ws ≡ plan w → (holdsPlan ws ≡ true) × (planIn ws ≡ w)
 held-plan ws w e = go (holdsPlan ws) refl
   where
     go : (t : Bool) → holdsPlan ws ≡ t → (holdsPlan ws ≡ true) × (planIn ws ≡ w)
@@ -66,13 +66,13 @@ held-plan ws w e = go (holdsPlan ws) refl
         absurd (let z : _≡_ {A = ℕ} 0 1 = cc in omega arith)
 
 -- its run is held by the same buffer
-run-held : (ws : List ℕ) (w : Supplied) → decodePlan ws ≡ plan w → decode ws ≡ run (w .run)
+run-held : (ws : List ℕ) (w : SuppliedPlan) → decodePlan ws ≡ plan w → decode ws ≡ run (w .run)
 unfolding planIn
 run-held ws w e =
     let h = held-plan ws w e in
-    by-held ws (plan-run ws (h .0)) ∙ ap (λ (v : Supplied). run (v .run)) (h .1)
+    by-held ws (plan-run ws (h .0)) ∙ ap (λ (v : SuppliedPlan). run (v .run)) (h .1)
 
--- WORDS PUT BEHIND A RUN
+-- WORDS PUT AFTER A RUN
 
 -- words put past the words of a run leave it as it is
 put-held : (n : ℕ) (vs ws : List ℕ) (r : Run) → runWords ≤ n → n + length vs ≤ length ws → decode ws ≡ run r → decode (putAt n vs ws) ≡ run r
@@ -88,7 +88,7 @@ put-held n vs ws r far h e =
     }))
     ∙ e
 
--- what stands past the words written of a run
+-- what is past the words written of a run
 behind-run : (n k : ℕ) (r : Run) (ws : List ℕ) → length (r .tasks) ≡ places → n ≤ places → wordsTo n ≤ k → drop k (overwritten n r ws) ≡ drop k ws
 behind-run n k r ws all few far =
     let j : wordsTo n + (k - wordsTo n) ≡ k = omega arith in
@@ -104,7 +104,7 @@ behind-run n k r ws all few far =
 abbrev notesOf : List ℕ → List Note
 notesOf ws = notesIn places (drop notesAt ws)
 
-module _ (w : Supplied) (ws : List ℕ) (f : Fits (w .run)) (long : planWords ≤ length ws) where
+module _ (w : SuppliedPlan) (ws : List ℕ) (f : StoredRun (w .run)) (long : planWords ≤ length ws) where
   abbrev n : ℕ
   n = w .run .count
 
@@ -186,8 +186,8 @@ module _ (w : Supplied) (ws : List ℕ) (f : Fits (w .run)) (long : planWords �
 
 -- A ROW
 
-fits-worked : (r : Run) (row : List ℕ) → Fits r → Fits (worked r row)
-unfolding worked
+fits-worked : (r : Run) (row : List ℕ) → StoredRun r → StoredRun (workedRow r row)
+unfolding workedRow
 fits-worked r row f = record {
   all = length-mapFirst (workedAt r row) (r .count) (r .tasks) ∙ f .all;
   few = f .few;
@@ -195,14 +195,14 @@ fits-worked r row f = record {
 }
 
 -- the notes of a run that fits, below its count
-noted-front : (r : Run) (ns : List Note) → Fits r → take (r .count) (noting r ns) ≡ map noteOf (take (r .count) (r .tasks))
+noted-front : (r : Run) (ns : List Note) → StoredRun r → take (r .count) (noting r ns) ≡ map noteOf (take (r .count) (r .tasks))
 noted-front r ns f =
     let all = f .all in
     let few = f .few in
     take-at (map noteOf (take (r .count) (r .tasks))) (drop (r .count) ns) (r .count)
     (length-map (take (r .count) (r .tasks)) noteOf ∙ length-take-le (r .count) (r .tasks) (omega arith))
 
-length-noting : (r : Run) (ns : List Note) → Fits r → length ns ≡ places → length (noting r ns) ≡ places
+length-noting : (r : Run) (ns : List Note) → StoredRun r → length ns ≡ places → length (noting r ns) ≡ places
 length-noting r ns f e =
     let all = f .all in
     let few = f .few in
@@ -212,28 +212,28 @@ length-noting r ns f e =
     let d = length-drop (r .count) ns in
     omega arith
 
-module _ (ws : List ℕ) (w : Supplied) (row : List ℕ) (e : decodePlan ws ≡ plan w) where
+module _ (ws : List ℕ) (w : SuppliedPlan) (row : List ℕ) (e : decodePlan ws ≡ plan w) where
   long : planWords ≤ length ws
   long = plan-long ws (held-plan ws w e .0)
 
-  fits : Fits (worked (w .run) row)
+  fits : StoredRun (workedRow (w .run) row)
   fits = fits-worked (w .run) row (held-fits ws (w .run) (run-held ws w e) .0)
 
   notes : w .noted ≡ notesOf ws
   unfolding planIn
-  notes = sym (ap (λ (v : Supplied). v .noted) (held-plan ws w e .1))
+  notes = sym (ap (λ (v : SuppliedPlan). v .noted) (held-plan ws w e .1))
 
   -- the plan one tick on, which is or is not at the last S
-  abbrev arriving : Bool → Supplied
+  abbrev arriving : Bool → SuppliedPlan
   arriving t = record {
-    run = worked (w .run) row;
+    run = workedRow (w .run) row;
     tick = afterRow w row .tick;
-    noted = cond t (noting (worked (w .run) row) (w .noted)) (w .noted);
+    noted = cond t (noting (workedRow (w .run) row) (w .noted)) (w .noted);
   }
 
-  arriving-held : (t : Bool) → decodePlan (planOver t (worked (w .run) row .count) (arriving t) ws) ≡ plan (arriving t)
+  arriving-held : (t : Bool) → decodePlan (planOver t (workedRow (w .run) row .count) (arriving t) ws) ≡ plan (arriving t)
   arriving-held true =
-      let r = worked (w .run) row in
+      let r = workedRow (w .run) row in
       let same = length-noting r (w .noted) fits (ap length notes ∙ length-noted places (drop notesAt ws)) in
       let few = fits .few in
       noted-held (arriving true) ws fits long (omega (arith, same, few))
@@ -242,20 +242,20 @@ module _ (ws : List ℕ) (w : Supplied) (row : List ℕ) (e : decodePlan ws ≡ 
   arriving-held false = plain-held (arriving false) ws fits long notes
 
   after-held : decodePlan (planOver (eqb (afterRow w row .tick) (startIn (afterRow w row .run))) (afterRow w row .run .count) (afterRow w row) ws) ≡ plan (afterRow w row)
-  after-held = arriving-held (eqb (afterRow w row .tick) (startIn (worked (w .run) row)))
+  after-held = arriving-held (eqb (afterRow w row .tick) (startIn (workedRow (w .run) row)))
 
 -- the answer to a row on the buffer is that of the plan that it holds, and the buffer afterwards holds the plan that the row returns
 pub take-held :
-    (ws : List ℕ) (w : Supplied) (row : List ℕ) → decodePlan ws ≡ plan w
-    → (takeFrom (decodePlan ws) row ws .answer ≡ takeOf w row .answer) × (decodePlan (takeFrom (decodePlan ws) row ws .buffer) ≡ plan (takeOf w row .plan))
-unfolding takeOf
+    (ws : List ℕ) (w : SuppliedPlan) (row : List ℕ) → decodePlan ws ≡ plan w
+    → (checkRowFrom (decodePlan ws) row ws .answer ≡ checkRowOf w row .answer) × (decodePlan (checkRowFrom (decodePlan ws) row ws .buffer) ≡ plan (checkRowOf w row .plan))
+unfolding checkRowOf
 take-held ws w row e = (
-  ap (λ (h : HeldPlan). takeFrom h row ws .answer) e,
-  ap (λ (h : HeldPlan). decodePlan (takeFrom h row ws .buffer)) e ∙ go (takeAnswer w row),
+  ap (λ (h : BufferPlan). checkRowFrom h row ws .answer) e,
+  ap (λ (h : BufferPlan). decodePlan (checkRowFrom h row ws .buffer)) e ∙ go (checkRowAnswer w row),
 )
   where
-    next : Answer → Supplied
-    next a = byAnswer a (afterRow w row) w
+    next : Answer → SuppliedPlan
+    next a = stateByAnswer a (afterRow w row) w
 
     go : (a : Answer) → decodePlan (byTaken a (planOver (eqb (next a .tick) (startIn (next a .run))) (next a .run .count) (next a) ws) ws) ≡ plan (next a)
     go Taken = after-held ws w row e
@@ -264,7 +264,7 @@ take-held ws w row e = (
 
 -- A WHOLE PLAN
 
-module _ (w : Supplied) (all : length (w .run .tasks) ≡ places) (many : length (w .noted) ≡ places) where
+module _ (w : SuppliedPlan) (all : length (w .run .tasks) ≡ places) (many : length (w .noted) ≡ places) where
   words-run : length (encode (w .run)) ≡ runWords
   words-run = length-to places (w .run) (omega arith)
 
@@ -292,7 +292,7 @@ module _ (w : Supplied) (all : length (w .run .tasks) ≡ places) (many : length
       (sym (drop-drop 1 tickAt (xs ++ (w .tick ∷ (ns ++ behind)))) ∙ ap (drop 1) (drop-at xs (w .tick ∷ (ns ++ behind)) tickAt words-run))
       ∙ (notes-back places (w .noted) behind (omega (arith, many)) ∙ take-all places (w .noted) (omega (arith, many)))))
 
-  -- written with all its places and notes, whatever stood there
+  -- written with all its places and notes, whatever was there
   pub over-whole : (ws : List ℕ) → planWords ≤ length ws → planOver true places w ws ≡ encodePlan w ++ drop planWords ws
   unfolding planOver encodePlan
   over-whole ws long =
@@ -314,8 +314,8 @@ module _ (w : Supplied) (all : length (w .run .tasks) ≡ places) (many : length
 -- BEGIN
 
 -- the plan that begin returns, begun or refused, is one that a buffer can hold
-pub record FitsPlan (w : Supplied) : Type 0 where
-  pub fits : Fits (w .run)
+pub record FitsPlan (w : SuppliedPlan) : Type 0 where
+  pub fits : StoredRun (w .run)
   pub many : length (w .noted) ≡ places
 
 fits-first : (ws : List ℕ) → startedRun (rule ws) (tableOf ws) .count ≤ places → FitsPlan (firstState ws)
@@ -334,13 +334,13 @@ fits-begun ws = go (answerOf ws) refl
     go : (a : table.Answer) → answerOf ws ≡ a → FitsPlan (beginOf ws .plan)
     go Passed e =
         let v = begin-passed ws e in
-        let fine = begin-of ws (beginOf ws) refl .passes (ap (λ (b : Begun). loadTold (b .answer)) v) in
+        let fine = begin-of ws (beginOf ws) refl .passes (ap (λ (b : Begun). loadMeaning (b .answer)) v) in
         let few = few-accepted (beginOf ws .plan .run) (λ out. fine (inl out)) in
         subst (λ (b : Begun). FitsPlan (b .plan)) (sym v) (fits-first ws (subst (λ (b : Begun). b .plan .run .count ≤ places) v few))
     go (loaded.Refused n p) e =
         subst (λ (b : Begun). FitsPlan (b .plan)) (sym (begin-refused ws n p e)) (record { fits = record { all = refl; few = omega arith; past = refl }; many = refl })
 
--- begin writes all words of the plan that it returns, whatever stood there
+-- begin writes all words of the plan that it returns, whatever was there
 pub begin-whole : (ws buffer : List ℕ) → planWords ≤ length buffer → take planWords (begunIn ws buffer) ≡ encodePlan (beginOf ws .plan)
 begin-whole ws buffer long =
     let w = beginOf ws .plan in
@@ -359,14 +359,14 @@ begin-held ws buffer long =
 
 -- WHAT IS DECODED IS ENCODED
 
-module _ (ws : List ℕ) (narrow : getD ws 3 0 ≤ mostWord) (w : Supplied) (e : decodePlan ws ≡ plan w) where
+module _ (ws : List ℕ) (narrow : getD ws 3 0 ≤ mostWord) (w : SuppliedPlan) (e : decodePlan ws ≡ plan w) where
   moved-same : movedIn (w .run .count) w ws ≡ ws
   unfolding planIn
   moved-same =
       let h = held-plan ws w e in
       let long = plan-long ws (h .0) in
       ap (putAt tickAt (w .tick ∷ [])) (encode-decode ws narrow (w .run) (run-held ws w e))
-      ∙ (ap (λ (v : Supplied). putAt tickAt (v .tick ∷ []) ws) (sym (h .1))
+      ∙ (ap (λ (v : SuppliedPlan). putAt tickAt (v .tick ∷ []) ws) (sym (h .1))
       ∙ put-same ws (getD ws tickAt 0 ∷ []) tickAt (sym (drop-cons ws tickAt 0 (omega (arith, long)))) (omega (arith, long)))
 
   -- to encode the run and the tick again changes no word, where the fence's low number is a word, as it is in every lent buffer ..
@@ -390,6 +390,6 @@ module _ (ws : List ℕ) (narrow : getD ws 3 0 ≤ mostWord) (w : Supplied) (e :
       let back : notesWords (notesIn n (drop notesAt ws)) ++ drop (notesAt + length (notesWords (notesIn n (drop notesAt ws)))) ws ≡ drop notesAt ws =
       ap (λ (l : List ℕ). notesWords (notesIn n (drop notesAt ws)) ++ l)
       (ap (λ (k : ℕ). drop (notesAt + k) ws) len ∙ sym (drop-drop (noteSize * n) notesAt ws))
-      ∙ notes-forth n (drop notesAt ws) (omega (arith, long, few, d)) are in
+      ∙ notes-encode n (drop notesAt ws) (omega (arith, long, few, d)) are in
       (λ i. putAt notesAt (notesWords (read i)) (moved-same i))
       ∙ put-same ws (notesWords (notesIn n (drop notesAt ws))) notesAt back (omega (arith, long))

@@ -1,4 +1,4 @@
--- What begin and take leave, by whether there is room and by what the buffer holds.
+-- The results of begin and take, by whether there is space and by what the buffer holds.
 use mathlib.Core.Path.{_≡_, refl, sym, ap, _∙_}
 use mathlib.Core.Bool.{Bool, true, false, _&&_, cond}
 use mathlib.Core.List.{List, [], _∷_, _++_}
@@ -8,30 +8,30 @@ use lib.Dec.{leb, eqb}
 use borrow.Author.Tests.{le-leb, lt-leb, leb-true}
 use Rattle.model.proofs.Bools.{and-left, and-right}
 use Rattle.run.specs.declared.Run.{Run}
-use Rattle.foreign.specs.declared.Answer.{Answer}
-use Rattle.foreign.specs.declared.Answer.the-variants.{Taken, Accepted, Refused}
-use Rattle.foreign.specs.declared.Begun.{Begun}
-use Rattle.foreign.specs.declared.Entered.{Entered}
-use Rattle.foreign.specs.declared.Note.{Note}
-use Rattle.foreign.specs.declared.Supplied.{Supplied}
-use Rattle.foreign.specs.Ahead.{firstNumber}
-use Rattle.foreign.specs.Begin.{beginOf}
-use Rattle.foreign.specs.State.{startIn}
-use Rattle.foreign.specs.Take.{takeOf}
-use Rattle.foreign.proofs.Cases.{take-turned}
-use Rattle.capi.specs.Told.{ofGiven, written}
-use Rattle.capi.specs.Calls.{left, byRoom, room}
-use Rattle.capi.specs.Encoding.{places, runWords, overwritten, countIn, holds, runIn}
-use Rattle.capi.specs.Supplied.{tickAt, notesAt, planWords, notesWords, putAt, movedIn, planOver, notesIn, holdsPlan, planIn, HeldPlan, plan, none, decodePlan}
-use Rattle.capi.specs.Taking.{beginCall, ofTaken, RowTaken, keptPlan, takeFrom, takeCall}
+use Rattle.plan_check.specs.declared.Answer.{Answer}
+use Rattle.plan_check.specs.declared.Answer.the-variants.{Taken, Accepted, Refused}
+use Rattle.plan_check.specs.declared.Begun.{Begun}
+use Rattle.plan_check.specs.declared.Entered.{Entered}
+use Rattle.plan_check.specs.declared.Note.{Note}
+use Rattle.plan_check.specs.declared.SuppliedPlan.{SuppliedPlan}
+use Rattle.plan_check.specs.Extent.{firstNumber}
+use Rattle.plan_check.specs.Begin.{beginOf}
+use Rattle.plan_check.specs.State.{startIn}
+use Rattle.plan_check.specs.CheckRow.{checkRowOf}
+use Rattle.plan_check.proofs.Cases.{take-refused}
+use Rattle.capi.specs.AnswerWords.{ofGiven, answerWritten}
+use Rattle.capi.specs.Calls.{callResult, byRoom, answerFits}
+use Rattle.capi.specs.Encoding.{places, runWords, overwritten, countIn, holdsRun, runIn}
+use Rattle.capi.specs.Supplied.{tickAt, notesAt, planWords, notesWords, putAt, movedIn, planOver, notesIn, holdsPlan, planIn, BufferPlan, plan, none, decodePlan}
+use Rattle.capi.specs.CheckRow.{beginCall, ofTaken, RowChecked, keptPlan, checkRowFrom, checkRowCall}
 use Rattle.capi.proofs.Calls.{both}
 use Rattle.capi.proofs.Places.{held-few}
-use Rattle.capi.proofs.Keeping.{narrow, short, roomy}
+use Rattle.capi.proofs.Keeping.{narrow, short, has-room}
 use Rattle.capi.proofs.Noting.{word-put}
 
 -- WRITTEN
 
-module _ (n : ℕ) (w : Supplied) (ws : List ℕ) where
+module _ (n : ℕ) (w : SuppliedPlan) (ws : List ℕ) where
   pub tick-over : {vs : List ℕ} → vs ≡ overwritten n (w .run) ws → tickAt < length vs → set vs tickAt (w .tick) ≡ movedIn n w ws
   tick-over {vs} e h = word-put vs tickAt (w .tick) h ∙ ap (putAt tickAt (w .tick ∷ [])) e
 
@@ -46,39 +46,39 @@ module _ (n : ℕ) (w : Supplied) (ws : List ℕ) where
 -- BEGIN
 
 module _ (ws buffer answer : List ℕ) where
-  pub begin-narrow : length answer < 3 → beginCall ws buffer answer ≡ left 1 (buffer ∷ (answer ∷ []))
+  pub begin-narrow : length answer < 3 → beginCall ws buffer answer ≡ callResult 1 (buffer ∷ (answer ∷ []))
   unfolding beginCall
   begin-narrow h = narrow planWords buffer answer _ _ h
 
-  pub begin-short : 3 ≤ length answer → length buffer < planWords → beginCall ws buffer answer ≡ left 1 (buffer ∷ (answer ∷ []))
+  pub begin-short : 3 ≤ length answer → length buffer < planWords → beginCall ws buffer answer ≡ callResult 1 (buffer ∷ (answer ∷ []))
   unfolding beginCall
   begin-short h l = short planWords buffer answer _ _ h l
 
   pub begin-room :
       (b : Begun) {k m : List ℕ} → 3 ≤ length answer → planWords ≤ length buffer → b ≡ beginOf ws → k ≡ planOver true places (b .plan) buffer
-      → m ≡ written (ofGiven (b .answer) 0) answer → left 0 (k ∷ (m ∷ [])) ≡ beginCall ws buffer answer
+      → m ≡ answerWritten (ofGiven (b .answer) 0) answer → callResult 0 (k ∷ (m ∷ [])) ≡ beginCall ws buffer answer
   unfolding beginCall
   begin-room b h l e p q =
       both
       (p ∙ ap (λ (t : Begun). planOver true places (t .plan) buffer) e)
-      (q ∙ ap (λ (t : Begun). written (ofGiven (t .answer) 0) answer) e)
-      ∙ sym (roomy planWords buffer answer _ _ h l)
+      (q ∙ ap (λ (t : Begun). answerWritten (ofGiven (t .answer) 0) answer) e)
+      ∙ sym (has-room planWords buffer answer _ _ h l)
 
 -- TAKE
 
 module _ (buffer row answer : List ℕ) where
-  pub take-narrow : length answer < 3 → takeCall buffer row answer ≡ left 1 (buffer ∷ (answer ∷ []))
-  unfolding takeCall
+  pub take-narrow : length answer < 3 → checkRowCall buffer row answer ≡ callResult 1 (buffer ∷ (answer ∷ []))
+  unfolding checkRowCall
   take-narrow h = simp (lt-leb 3 (length answer) h)
 
   pub take-room :
-      (a : Answer) {k m : List ℕ} → 3 ≤ length answer → _≡_ {A = RowTaken} (record { answer = a; buffer = k }) (takeFrom (decodePlan buffer) row buffer)
-      → m ≡ written (ofTaken a) answer → left 0 (k ∷ (m ∷ [])) ≡ takeCall buffer row answer
-  unfolding takeCall
+      (a : Answer) {k m : List ℕ} → 3 ≤ length answer → _≡_ {A = RowChecked} (record { answer = a; buffer = k }) (checkRowFrom (decodePlan buffer) row buffer)
+      → m ≡ answerWritten (ofTaken a) answer → callResult 0 (k ∷ (m ∷ [])) ≡ checkRowCall buffer row answer
+  unfolding checkRowCall
   take-room a h d q =
       both
-      (ap (λ (v : RowTaken). v .buffer) d)
-      (q ∙ ap (λ (v : RowTaken). written (ofTaken (v .answer)) answer) d)
+      (ap (λ (v : RowChecked). v .buffer) d)
+      (q ∙ ap (λ (v : RowChecked). answerWritten (ofTaken (v .answer)) answer) d)
       ∙ sym (simp (le-leb 3 (length answer) h))
 
 -- WHAT A BUFFER HOLDS
@@ -87,11 +87,11 @@ module _ (ws : List ℕ) where
   -- a buffer too short holds no plan; else its run decides
   pub plan-short : length ws < planWords → holdsPlan ws ≡ false
   unfolding holdsPlan
-  plan-short h = ap (λ (t : Bool). t && holds ws) (lt-leb planWords (length ws) h)
+  plan-short h = ap (λ (t : Bool). t && holdsRun ws) (lt-leb planWords (length ws) h)
 
-  pub plan-by-run : planWords ≤ length ws → holdsPlan ws ≡ holds ws
+  pub plan-by-run : planWords ≤ length ws → holdsPlan ws ≡ holdsRun ws
   unfolding holdsPlan
-  plan-by-run h = ap (λ (t : Bool). t && holds ws) (le-leb planWords (length ws) h)
+  plan-by-run h = ap (λ (t : Bool). t && holdsRun ws) (le-leb planWords (length ws) h)
 
   pub by-held-plan : {t : Bool} → holdsPlan ws ≡ t → decodePlan ws ≡ cond t (plan (planIn ws)) none
   by-held-plan e = ap (λ (t : Bool). cond t (plan (planIn ws)) none) e
@@ -100,59 +100,59 @@ module _ (ws : List ℕ) where
   module _ (e : holdsPlan ws ≡ true) where
     pub plan-long : planWords ≤ length ws
     unfolding holdsPlan
-    plan-long = leb-true planWords (length ws) (and-left (leb planWords (length ws)) (holds ws) e)
+    plan-long = leb-true planWords (length ws) (and-left (leb planWords (length ws)) (holdsRun ws) e)
 
-    pub plan-run : holds ws ≡ true
+    pub plan-run : holdsRun ws ≡ true
     unfolding holdsPlan
-    plan-run = and-right (leb planWords (length ws)) (holds ws) e
+    plan-run = and-right (leb planWords (length ws)) (holdsRun ws) e
 
     pub plan-few : countIn ws ≤ places
     plan-few = held-few ws plan-run
 
   pub plan-read :
       {r : Run} {ns : List Note} → r ≡ runIn ws → ns ≡ notesIn places (drop notesAt ws)
-      → _≡_ {A = Supplied} (record { run = r; tick = getD ws tickAt 0; noted = ns }) (planIn ws)
+      → _≡_ {A = SuppliedPlan} (record { run = r; tick = getD ws tickAt 0; noted = ns }) (planIn ws)
   unfolding planIn
   plan-read e f = λ i. record { run = e i; tick = getD ws tickAt 0; noted = f i }
 
   module _ (row : List ℕ) where
     -- 14 and 9, whatever the row is
-    pub take-looked :
-        (w : Supplied) {n : ℕ} → holdsPlan ws ≡ true → w ≡ planIn ws → n ≡ firstNumber (w .run) → ¬ (n ≡ 0)
-        → _≡_ {A = RowTaken} (record { answer = Refused n 0; buffer = ws }) (takeFrom (decodePlan ws) row ws)
-    take-looked w h e p q =
+    pub take-extent :
+        (w : SuppliedPlan) {n : ℕ} → holdsPlan ws ≡ true → w ≡ planIn ws → n ≡ firstNumber (w .run) → ¬ (n ≡ 0)
+        → _≡_ {A = RowChecked} (record { answer = Refused n 0; buffer = ws }) (checkRowFrom (decodePlan ws) row ws)
+    take-extent w h e p q =
         ap (λ (k : ℕ). keptPlan (Refused k 0) w ws) p
-        ∙ (ap (λ (t : Entered). keptPlan (t .answer) (t .plan) ws) (sym (take-turned w row (λ z. q (p ∙ z))))
-        ∙ ap (λ (v : HeldPlan). takeFrom v row ws) (ap plan e ∙ sym (by-held-plan h)))
+        ∙ (ap (λ (t : Entered). keptPlan (t .answer) (t .plan) ws) (sym (take-refused w row (λ z. q (p ∙ z))))
+        ∙ ap (λ (v : BufferPlan). checkRowFrom v row ws) (ap plan e ∙ sym (by-held-plan h)))
 
     -- what is kept of a row taken by the plan that the buffer holds
     pub take-kept :
-        (t : Entered) (w : Supplied) {v : RowTaken} → holdsPlan ws ≡ true → w ≡ planIn ws → t ≡ takeOf w row → v ≡ keptPlan (t .answer) (t .plan) ws
-        → v ≡ takeFrom (decodePlan ws) row ws
+        (t : Entered) (w : SuppliedPlan) {v : RowChecked} → holdsPlan ws ≡ true → w ≡ planIn ws → t ≡ checkRowOf w row → v ≡ keptPlan (t .answer) (t .plan) ws
+        → v ≡ checkRowFrom (decodePlan ws) row ws
     take-kept t w h e p k =
         k
         ∙ (ap (λ (v : Entered). keptPlan (v .answer) (v .plan) ws) p
-        ∙ ap (λ (v : HeldPlan). takeFrom v row ws) (ap plan e ∙ sym (by-held-plan h)))
+        ∙ ap (λ (v : BufferPlan). checkRowFrom v row ws) (ap plan e ∙ sym (by-held-plan h)))
 
-    pub take-none : holdsPlan ws ≡ false → _≡_ {A = RowTaken} (record { answer = Refused 14 0; buffer = ws }) (takeFrom (decodePlan ws) row ws)
-    take-none h = ap (λ (v : HeldPlan). takeFrom v row ws) (sym (by-held-plan h))
+    pub take-none : holdsPlan ws ≡ false → _≡_ {A = RowChecked} (record { answer = Refused 14 0; buffer = ws }) (checkRowFrom (decodePlan ws) row ws)
+    take-none h = ap (λ (v : BufferPlan). checkRowFrom v row ws) (sym (by-held-plan h))
 
 -- what is kept of a row, by its answer
 module _ (ws : List ℕ) (t : Entered) where
   pub kept-row-taken :
       {s : ℕ} {new : List ℕ} → t .answer ≡ Taken → s ≡ startIn (t .plan .run) → new ≡ planOver (eqb (t .plan .tick) s) (t .plan .run .count) (t .plan) ws
-      → _≡_ {A = RowTaken} (record { answer = Taken; buffer = new }) (keptPlan (t .answer) (t .plan) ws)
+      → _≡_ {A = RowChecked} (record { answer = Taken; buffer = new }) (keptPlan (t .answer) (t .plan) ws)
   kept-row-taken a e n =
       ap (λ (l : List ℕ). record { answer = Taken; buffer = l }) (n ∙ ap (λ (s : ℕ). planOver (eqb (t .plan .tick) s) (t .plan .run .count) (t .plan) ws) e)
       ∙ ap (λ (v : Answer). keptPlan v (t .plan) ws) (sym a)
 
   pub kept-row-accepted :
       {s : ℕ} {new : List ℕ} → t .answer ≡ Accepted → s ≡ startIn (t .plan .run) → new ≡ planOver (eqb (t .plan .tick) s) (t .plan .run .count) (t .plan) ws
-      → _≡_ {A = RowTaken} (record { answer = Accepted; buffer = new }) (keptPlan (t .answer) (t .plan) ws)
+      → _≡_ {A = RowChecked} (record { answer = Accepted; buffer = new }) (keptPlan (t .answer) (t .plan) ws)
   kept-row-accepted a e n =
       ap (λ (l : List ℕ). record { answer = Accepted; buffer = l }) (n ∙ ap (λ (s : ℕ). planOver (eqb (t .plan .tick) s) (t .plan .run .count) (t .plan) ws) e)
       ∙ ap (λ (v : Answer). keptPlan v (t .plan) ws) (sym a)
 
   pub kept-row-refused :
-      {n p : ℕ} → t .answer ≡ Refused n p → _≡_ {A = RowTaken} (record { answer = Refused n p; buffer = ws }) (keptPlan (t .answer) (t .plan) ws)
+      {n p : ℕ} → t .answer ≡ Refused n p → _≡_ {A = RowChecked} (record { answer = Refused n p; buffer = ws }) (keptPlan (t .answer) (t .plan) ws)
   kept-row-refused a = ap (λ (v : Answer). keptPlan v (t .plan) ws) (sym a)

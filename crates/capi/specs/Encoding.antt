@@ -1,5 +1,5 @@
--- A run in a lent buffer: rule, cores, count, the fence in two words and the withdrawn set, then eleven words for each of the 32 places. What stands past
--- the count is not looked at.
+-- A run in a lent buffer: rule, cores, count, the fence in two words and the withdrawn set, then eleven words for each of the 32 places. The words past
+-- the count are not read.
 use mathlib.Core.Bool.{Bool, true, _&&_, _||_, cond}
 use mathlib.Core.List.{List, [], _∷_, _++_}
 use Prim.Native.Nat.{ℕ, zero, suc, _+_, _*_, _-_, _/_, _%_, _^_}
@@ -11,7 +11,7 @@ use Rattle.phase.specs.declared.Task.{Task}
 use Rattle.phase.specs.Task.{unused}
 use Rattle.run.specs.declared.Run.{Run}
 use Rattle.table.specs.Words.{fenceOf}
-use Rattle.capi.specs.declared.held.PhaseWords.{PhaseWords}
+use Rattle.capi.specs.declared.run_buffer.PhaseWords.{PhaseWords}
 use Rattle.model.specs.Sizes.{mostTasks}
 
 -- THE SIZES
@@ -24,7 +24,7 @@ headWords = 6
 abbrev pub eachWords : ℕ
 eachWords = 11
 
--- where a place has the parity of its job ..
+-- the index of the parity of a place's job ..
 abbrev pub parityAt : ℕ
 parityAt = 6
 
@@ -33,16 +33,16 @@ abbrev pub kindAt : ℕ
 kindAt = parityAt + 1
 
 -- .. its first number ..
-abbrev pub firstAt : ℕ
-firstAt = kindAt + 1
+abbrev pub firstNumberAt : ℕ
+firstNumberAt = kindAt + 1
 
 -- .. its second ..
-abbrev pub secondAt : ℕ
-secondAt = kindAt + 2
+abbrev pub secondNumberAt : ℕ
+secondNumberAt = kindAt + 2
 
 -- .. and its third
-abbrev pub thirdAt : ℕ
-thirdAt = kindAt + 3
+abbrev pub thirdNumberAt : ℕ
+thirdNumberAt = kindAt + 3
 
 -- the places of a run
 abbrev pub places : ℕ
@@ -108,7 +108,7 @@ encodeTo n r =
 abbrev pub encode : Run → List ℕ
 encode r = encodeTo places r
 
--- a buffer after the head and the first n places of a run are written into it: what stands behind them stays
+-- a buffer after the head and the first n places of a run are written into it: the words after them stay
 abbrev pub overwritten : ℕ → Run → List ℕ → List ℕ
 overwritten n r ws = encodeTo n r ++ drop (wordsTo n) ws
 
@@ -131,10 +131,10 @@ abbrev pub isParity : ℕ → Bool
 isParity n = leb n 1
 
 -- a parity, and a phase
-abbrev pub isStand : ℕ → ℕ → ℕ → ℕ → Bool
-isStand n k b c = isParity n && isPhase k b c
+abbrev pub isTaskState : ℕ → ℕ → ℕ → ℕ → Bool
+isTaskState n k b c = isParity n && isPhase k b c
 
--- the place whose words stand in front
+-- the place whose words are in front
 abbrev pub placeIn : List ℕ → Task
 placeIn ws = record {
   offset = getD ws 0 0;
@@ -144,12 +144,12 @@ placeIn ws = record {
   period = getD ws 4 0;
   second = getD ws 5 0;
   even = evenOf (getD ws parityAt 0);
-  phase = phaseOf (getD ws kindAt 0) (getD ws firstAt 0) (getD ws secondAt 0) (getD ws thirdAt 0);
+  phase = phaseOf (getD ws kindAt 0) (getD ws firstNumberAt 0) (getD ws secondNumberAt 0) (getD ws thirdNumberAt 0);
 }
 
 -- they are a place: they have a parity and a phase
 abbrev pub isPlace : List ℕ → Bool
-isPlace ws = isStand (getD ws parityAt 0) (getD ws kindAt 0) (getD ws secondAt 0) (getD ws thirdAt 0)
+isPlace ws = isTaskState (getD ws parityAt 0) (getD ws kindAt 0) (getD ws secondNumberAt 0) (getD ws thirdNumberAt 0)
 
 -- the first n places
 unfoldable pub placesIn : ℕ → List ℕ → List Task
@@ -161,23 +161,23 @@ unfoldable pub arePlaces : ℕ → List ℕ → Bool
 arePlaces zero ws = true
 arePlaces (suc n) ws = isPlace ws && arePlaces n (drop eachWords ws)
 
--- the count that a buffer says
+-- the count in a buffer
 abbrev pub countIn : List ℕ → ℕ
 countIn ws = getD ws 2 0
 
 -- a buffer holds a run: it has the words of one, the count is at most 32, and every parity and phase below the count is one
-unfoldable pub holds : List ℕ → Bool
-holds ws = leb runWords (length ws) && (leb (countIn ws) places && arePlaces (countIn ws) (drop headWords ws))
+unfoldable pub holdsRun : List ℕ → Bool
+holdsRun ws = leb runWords (length ws) && (leb (countIn ws) places && arePlaces (countIn ws) (drop headWords ws))
 
 -- these tasks in front, and zeros and Resting(0) in the places past them
 abbrev pub padded : ℕ → List Task → List Task
 padded n ts = ts ++ replicate (places - n) unused
 
--- the fence that a buffer says
+-- the fence in a buffer
 abbrev pub fenceIn : List ℕ → ℕ
 fenceIn ws = fenceOf (getD ws 3 0) (getD ws 4 0)
 
--- the run that stands in front of the buffer
+-- the run at the front of the buffer
 unfoldable pub runIn : List ℕ → Run
 runIn ws = record {
   rule = getD ws 0 0;
@@ -188,14 +188,14 @@ runIn ws = record {
   tasks = padded (countIn ws) (placesIn (countIn ws) (drop headWords ws));
 }
 
--- what a buffer holds
-pub data Held : Type 0 where
-  run : Run → Held
-  none : Held
+-- the run that a buffer holds, or none
+pub data BufferRun : Type 0 where
+  run : Run → BufferRun
+  none : BufferRun
 
 -- the run where it holds one
-abbrev pub decode : List ℕ → Held
-decode ws = cond (holds ws) (run (runIn ws)) none
+abbrev pub decode : List ℕ → BufferRun
+decode ws = cond (holdsRun ws) (run (runIn ws)) none
 
 -- a run with its places past the count cleared: zeros and Resting(0), as start leaves them
 abbrev pub cleared : Run → Run

@@ -1,4 +1,4 @@
--- What the calls leave that give a figure for each task: 32 figures in a lent buffer of words, and the answer.
+-- The results of the calls that give a number for each task: 32 numbers in a lent buffer of words, and the answer.
 use mathlib.Core.Bool.{_&&_}
 use mathlib.Core.List.{List, [], _∷_, _++_}
 use Prim.Native.Nat.{ℕ}
@@ -6,22 +6,22 @@ use lib.ListN.{length, drop}
 use lib.Dec.{leb}
 use Rattle.model.specs.Sizes.{mostTasks}
 use Rattle.table.specs.declared.Answer.{Answer}
-use Rattle.longest.specs.Longest.{longestOf}
-use Rattle.spare.specs.Answer.{spareOf}
-use Rattle.capi.specs.Told.{ofGiven, written}
-use Rattle.capi.specs.Calls.{Left, byRoom, room}
+use Rattle.response_time.specs.ResponseTimes.{responseTimesOf}
+use Rattle.slack.specs.Answer.{slackOf}
+use Rattle.capi.specs.AnswerWords.{ofGiven, answerWritten}
+use Rattle.capi.specs.Calls.{CallResult, byRoom, answerFits}
 
--- 32 figures in front, and the answer
-unfoldable pub figuresCall : Answer → List ℕ → List ℕ → List ℕ → Left
+-- 32 numbers in front, and the answer
+unfoldable pub figuresCall : Answer → List ℕ → List ℕ → List ℕ → CallResult
 figuresCall given found figures answer =
-    byRoom (room answer && leb mostTasks (length figures))
-    ((found ++ drop mostTasks figures) ∷ (written (ofGiven given 0) answer ∷ []))
+    byRoom (answerFits answer && leb mostTasks (length figures))
+    ((found ++ drop mostTasks figures) ∷ (answerWritten (ofGiven given 0) answer ∷ []))
     (figures ∷ (answer ∷ []))
 
--- the longest answer of each task; those past the count and all of a refusal are 0
-abbrev pub longestCall : List ℕ → List ℕ → List ℕ → Left
-longestCall ws figures answer = figuresCall (longestOf ws .answer) (longestOf ws .longest) figures answer
+-- the worst-case response time of each task; those past the count and all of a refusal are 0
+abbrev pub responseTimesCall : List ℕ → List ℕ → List ℕ → CallResult
+responseTimesCall ws figures answer = figuresCall (responseTimesOf ws .answer) (responseTimesOf ws .responses) figures answer
 
--- the spare ticks of each task; those past the count and all of a refusal are 0
-abbrev pub spareCall : List ℕ → List ℕ → List ℕ → Left
-spareCall ws figures answer = figuresCall (spareOf ws .answer) (spareOf ws .spare) figures answer
+-- the slack of each task; those past the count and all of a refusal are 0
+abbrev pub slackCall : List ℕ → List ℕ → List ℕ → CallResult
+slackCall ws figures answer = figuresCall (slackOf ws .answer) (slackOf ws .slack) figures answer

@@ -1,4 +1,4 @@
--- What the calls on a sentence leave: its bytes in a lent buffer, and the facts that bytes are read back to, in words.
+-- The results of the calls on a sentence: its bytes in a lent buffer, and the facts that bytes are parsed to, in words.
 use mathlib.Core.Bool.{Bool, true, false, _&&_, cond}
 use mathlib.Core.List.{List, [], _∷_, _++_}
 use Prim.Native.Nat.{ℕ, zero, suc, _+_}
@@ -6,24 +6,24 @@ use lib.ListN.{length, drop, replicate}
 use lib.Dec.{leb, eqb}
 use Rattle.model.specs.Sizes.{mostTasks}
 use Rattle.sentence.specs.Facts.{Facts, Part}
-use Rattle.sentence.specs.Unsaid.{Unsaid, facts, none, unsaid}
+use Rattle.sentence.specs.Parsed.{ParsedSentence, facts, none, parsed}
 use Rattle.sentence.specs.Waiting.{factsOf}
-use Rattle.sentence.specs.Spoken.{spokenOf, spokenTold, leftIn}
-use Rattle.capi.specs.declared.told.Told.{Told}
-use Rattle.capi.specs.Told.{says, ofSpoken, written}
-use Rattle.capi.specs.Calls.{Left, byRoom, room}
+use Rattle.sentence.specs.SentenceAnswer.{sentenceAnswerOf, sentenceMeaning, leftIn}
+use Rattle.capi.specs.declared.answer_words.AnswerWords.{AnswerWords}
+use Rattle.capi.specs.AnswerWords.{answerWords, ofSentence, answerWritten}
+use Rattle.capi.specs.Calls.{CallResult, byRoom, answerFits}
 
 -- THE SENTENCE
 
 -- the sentence at the front of the buffer, which a refusal leaves as found, and the answer
-unfoldable pub sentenceCall : List ℕ → List ℕ → List ℕ → Left
+unfoldable pub sentenceCall : List ℕ → List ℕ → List ℕ → CallResult
 sentenceCall ws buffer answer =
-    let v = spokenOf ws (length buffer) in
-    byRoom (room answer) (leftIn (spokenTold v) (factsOf ws) buffer ∷ (written (ofSpoken v) answer ∷ [])) (buffer ∷ (answer ∷ []))
+    let v = sentenceAnswerOf ws (length buffer) in
+    byRoom (answerFits answer) (leftIn (sentenceMeaning v) (factsOf ws) buffer ∷ (answerWritten (ofSentence v) answer ∷ [])) (buffer ∷ (answer ∷ []))
 
 -- THE FACTS IN WORDS
 
--- the count of the part that names position p; 0 where none does
+-- the count of the part of position p; 0 where there is none
 unfoldable pub countOf : ℕ → List Part → ℕ
 countOf p [] = 0
 countOf p (x ∷ xs) = cond (eqb (x .position) p) (x .count) (countOf p xs)
@@ -45,24 +45,24 @@ factWords = factHead + mostTasks
 abbrev pub inWords : ℕ → ℕ → ℕ → ℕ → List ℕ → List ℕ
 inWords p t h c counts = p ∷ (t ∷ (h ∷ (c ∷ counts)))
 
--- facts in words: position, tick, ticks had, C, and the count of each position from 1 on, 0 for one that is not named; all zeros where there are none
-unfoldable pub wordsOf : Unsaid → List ℕ
-wordsOf (facts f) = inWords (f .position) (f .tick) (f .had) (f .length) (countsFrom 0 mostTasks (f .others))
-wordsOf none = replicate factWords 0
+-- facts in words: position, tick, ticks had, C, and the count of each position from 1 on, 0 for one that has no part; all zeros where there are no facts
+unfoldable pub factWordsOf : ParsedSentence → List ℕ
+factWordsOf (facts f) = inWords (f .position) (f .tick) (f .had) (f .length) (countsFrom 0 mostTasks (f .others))
+factWordsOf none = replicate factWords 0
 
--- whether bytes are read back: 0 if they are, 5 where they are no sentence
-abbrev pub ofFound : Bool → Told
-ofFound true = says 0 0 0
-ofFound false = says 5 0 0
+-- whether bytes are parsed: 0 if they are, 5 where they are no sentence
+abbrev pub ofReadBack : Bool → AnswerWords
+ofReadBack true = answerWords 0 0 0
+ofReadBack false = answerWords 5 0 0
 
--- .. by what they are read back to
-abbrev pub ofUnsaid : Unsaid → Told
-ofUnsaid (facts f) = ofFound true
-ofUnsaid none = ofFound false
+-- .. by what they are parsed to
+abbrev pub ofParsed : ParsedSentence → AnswerWords
+ofParsed (facts f) = ofReadBack true
+ofParsed none = ofReadBack false
 
--- facts: those that the bytes are read back to, in front, and the answer
-unfoldable pub factsCall : List ℕ → List ℕ → List ℕ → Left
+-- facts: those that the bytes are parsed to, in front, and the answer
+unfoldable pub factsCall : List ℕ → List ℕ → List ℕ → CallResult
 factsCall bs words answer =
-    byRoom (room answer && leb factWords (length words))
-    ((wordsOf (unsaid bs) ++ drop factWords words) ∷ (written (ofUnsaid (unsaid bs)) answer ∷ []))
+    byRoom (answerFits answer && leb factWords (length words))
+    ((factWordsOf (parsed bs) ++ drop factWords words) ∷ (answerWritten (ofParsed (parsed bs)) answer ∷ []))
     (words ∷ (answer ∷ []))

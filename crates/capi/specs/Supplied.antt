@@ -6,19 +6,19 @@ use lib.ListN.{length, getD, take, drop}
 use lib.Dec.{leb}
 use Rattle.phase.specs.declared.Phase.{Phase}
 use Rattle.phase.specs.declared.Phase.the-variants.{Resting}
-use Rattle.foreign.specs.declared.Note.{Note}
-use Rattle.foreign.specs.declared.Supplied.{Supplied}
-use Rattle.foreign.specs.State.{note}
-use Rattle.capi.specs.declared.held.PhaseWords.{PhaseWords}
-use Rattle.capi.specs.Encoding.{places, runWords, ofPhase, encode, overwritten, phaseOf, isPhase, holds, runIn, cleared}
+use Rattle.plan_check.specs.declared.Note.{Note}
+use Rattle.plan_check.specs.declared.SuppliedPlan.{SuppliedPlan}
+use Rattle.plan_check.specs.State.{note}
+use Rattle.capi.specs.declared.run_buffer.PhaseWords.{PhaseWords}
+use Rattle.capi.specs.Encoding.{places, runWords, ofPhase, encode, overwritten, phaseOf, isPhase, holdsRun, runIn, cleared}
 
 -- THE SIZES
 
--- where the tick stands: right behind the run
+-- the index of the tick: right after the run
 abbrev pub tickAt : ℕ
 tickAt = runWords
 
--- where the notes begin
+-- the index of the first note
 abbrev pub notesAt : ℕ
 notesAt = tickAt + 1
 
@@ -26,7 +26,7 @@ notesAt = tickAt + 1
 abbrev pub noteSize : ℕ
 noteSize = 4
 
--- where note n begins
+-- the index of note n
 abbrev pub noteAt : ℕ → ℕ
 noteAt n = notesAt + noteSize * n
 
@@ -50,19 +50,19 @@ notesWords [] = []
 notesWords (n ∷ ns) = noteWords n ++ notesWords ns
 
 -- a plan in words: the run with all its places, the tick, and all notes
-unfoldable pub encodePlan : Supplied → List ℕ
+unfoldable pub encodePlan : SuppliedPlan → List ℕ
 encodePlan w = encode (w .run) ++ (w .tick ∷ notesWords (w .noted))
 
--- a buffer after these words are put into it from word n on: what stands before and behind them stays
+-- a buffer after these words are written into it from word n on: the words before and after them stay
 abbrev pub putAt : ℕ → List ℕ → List ℕ → List ℕ
 putAt n vs ws = (take n ws ++ vs) ++ drop (n + length vs) ws
 
 -- a buffer after the head and the first n places of a plan's run, and its tick, are written into it ..
-abbrev pub movedIn : ℕ → Supplied → List ℕ → List ℕ
+abbrev pub movedIn : ℕ → SuppliedPlan → List ℕ → List ℕ
 movedIn n w ws = putAt tickAt (w .tick ∷ []) (overwritten n (w .run) ws)
 
 -- .. and its first n notes, where they are to be written too
-unfoldable pub planOver : Bool → ℕ → Supplied → List ℕ → List ℕ
+unfoldable pub planOver : Bool → ℕ → SuppliedPlan → List ℕ → List ℕ
 planOver noting n w ws = cond noting (putAt notesAt (notesWords (take n (w .noted))) (movedIn n w ws)) (movedIn n w ws)
 
 -- THE DECODING
@@ -71,7 +71,7 @@ planOver noting n w ws = cond noting (putAt notesAt (notesWords (take n (w .note
 abbrev pub phaseNoted : ℕ → ℕ → ℕ → ℕ → Phase
 phaseNoted k a b c = cond (isPhase k b c) (phaseOf k a b c) (Resting 0)
 
--- the note whose words stand in front
+-- the note whose words are in front
 abbrev pub noteIn : List ℕ → Note
 noteIn ws = note (phaseNoted (getD ws 0 0) (getD ws 1 0) (getD ws 2 0) (getD ws 3 0))
 
@@ -91,21 +91,21 @@ areNotes (suc n) ws = isNote ws && areNotes n (drop noteSize ws)
 
 -- a buffer holds a plan: it has the words of one, and those in front are a run; any words are a tick, and any are notes
 unfoldable pub holdsPlan : List ℕ → Bool
-holdsPlan ws = leb planWords (length ws) && holds ws
+holdsPlan ws = leb planWords (length ws) && holdsRun ws
 
--- the plan that stands in front of the buffer
-unfoldable pub planIn : List ℕ → Supplied
+-- the plan at the front of the buffer
+unfoldable pub planIn : List ℕ → SuppliedPlan
 planIn ws = record { run = runIn ws; tick = getD ws tickAt 0; noted = notesIn places (drop notesAt ws) }
 
--- what a buffer holds
-pub data HeldPlan : Type 0 where
-  plan : Supplied → HeldPlan
-  none : HeldPlan
+-- the plan that a buffer holds, or none
+pub data BufferPlan : Type 0 where
+  plan : SuppliedPlan → BufferPlan
+  none : BufferPlan
 
 -- the plan where it holds one
-abbrev pub decodePlan : List ℕ → HeldPlan
+abbrev pub decodePlan : List ℕ → BufferPlan
 decodePlan ws = cond (holdsPlan ws) (plan (planIn ws)) none
 
 -- a plan with the places of its run past the count cleared
-abbrev pub clearedPlan : Supplied → Supplied
+abbrev pub clearedPlan : SuppliedPlan → SuppliedPlan
 clearedPlan w = record { run = cleared (w .run); tick = w .tick; noted = w .noted }

@@ -4,8 +4,8 @@ ghost use mathlib.Core.Path.{_≡_};
 ghost use Prim.Native.Nat.{_≤_};
 ghost use lib.ListN.{length, drop};
 ghost use Rattle.model.specs.Sizes.{mostTasks};
-ghost use Rattle.capi.specs.Sentences.{factWords, inWords, ofFound};
-use crate::told::Told;
+ghost use Rattle.capi.specs.Sentences.{factWords, inWords, ofReadBack};
+use crate::answer_words::AnswerWords;
 use sentence::Facts;
 
 // The words in front of the counts: position, tick, ticks had, and C.
@@ -15,25 +15,25 @@ const COUNTS: usize = model::MOST_TASKS;
 // The words of facts.
 pub(crate) const WORDS: usize = HEAD + COUNTS;
 
-// Read back, or no sentence.
-pub(crate) fn of_found(found: bool) -> Told
-    ensures { λ r. ⌜ r ≡ ofFound found ⌝ }
+// Parsed, or no sentence.
+pub(crate) fn of_parsed(found: bool) -> AnswerWords
+    ensures { λ r. ⌜ r ≡ ofReadBack found ⌝ }
 {
     if found {
-        return Told {
+        return AnswerWords {
             kind: 0,
             first: 0,
             second: 0,
         };
     }
-    Told {
+    AnswerWords {
         kind: 5,
         first: 0,
         second: 0,
     }
 }
 
-// Writes the words of facts; what stands behind them stays.
+// Writes the words of facts; the words after them stay.
 pub(crate) fn put_facts(facts: Facts, words: &mut [u64])
     requires { ⌜ factWords ≤ length (now words) ⌝ }
     ensures { λ r. ⌜ (now (words .exit) ≡ inWords (facts .position) (facts .tick) (facts .had) (facts .length) (facts .ran) ++ drop factWords (now (words .entry)))

@@ -1,4 +1,4 @@
-// A figure for each task in a lent buffer of words.
+// A number for each task in a lent buffer of words.
 ghost use mathlib.Core.List.{_++_};
 ghost use mathlib.Core.Path.{_≡_};
 ghost use Prim.Native.Nat.{_≤_};
@@ -6,7 +6,7 @@ ghost use lib.ListN.{length, drop};
 ghost use Rattle.model.specs.Sizes.{mostTasks};
 use model::MOST_TASKS;
 
-// Writes the figures; what stands behind them stays.
+// Writes the numbers; the words after them stay.
 pub(crate) fn put_figures(figures: [u32; MOST_TASKS], words: &mut [u32])
     requires { ⌜ mostTasks ≤ length (now words) ⌝ }
     ensures { λ r. ⌜ now (words .exit) ≡ figures ++ drop mostTasks (now (words .entry)) ⌝ }

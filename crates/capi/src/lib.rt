@@ -1,30 +1,30 @@
 // The library to link: the judge, the plan, the replay, the run in the cab and plans by others for C and Rust, on numbers and lent slices.
-// Each function but sivorandra_version returns 0 where the call is answered, and 1 where a lent slice is too short or a list of entries is none: then everything is as found.
-// Short rows of a plan are 11 instead, and a buffer lent to row, sets, advance, a withdrawal or take that is too short for a run or a plan holds none: 14.
-// The answer stands in the three first words of `answer`: a case and two numbers.
+// Each function but sivorandra_version returns 0 where the call is answered, and 1 where a lent slice is too short or a list of entries is none: then
+// everything is as found. Short rows of a plan are 11 instead, and a buffer lent to row, sets, advance, a withdrawal or take that is too short for a run or
+// a plan holds none: 14. The answer is in the first three words of `answer`: a case and two numbers.
 ghost use mathlib.Core.Path.{_≡_};
 ghost use mathlib.Core.List.{[], _∷_};
-ghost use Rattle.capi.specs.Calls.{judgeCall, planCall, clashCall};
+ghost use Rattle.capi.specs.Calls.{judgeCall, planCall, conflictCall};
 ghost use Rattle.capi.specs.Replays.{replayCall};
 ghost use Rattle.capi.specs.Runs.{startCall, rowCall, setsCall, advanceCall, withdrawCall, withdrawAllCall};
 ghost use Rattle.capi.specs.Sentences.{sentenceCall, factsCall};
-ghost use Rattle.capi.specs.Figures.{longestCall, spareCall};
-ghost use Rattle.capi.specs.Taking.{beginCall, takeCall};
+ghost use Rattle.capi.specs.Figures.{responseTimesCall, slackCall};
+ghost use Rattle.capi.specs.CheckRow.{beginCall, checkRowCall};
 ghost use Rattle.capi.specs.Version.{version};
 use model::MOST_TASKS;
 use model::ROW;
 
 mod facts; // facts.rt: the facts of a miss in a lent buffer of words
-mod figures; // figures.rt: a figure for each task in a lent buffer of words
-mod held; // held.rt: a run in a lent buffer of words
-mod replays; // replays.rt: what a replay says
-mod supplied; // supplied.rt: a supplied plan in a lent buffer of words
-mod told; // told.rt: an answer in three words
+mod figures; // figures.rt: a number for each task in a lent buffer of words
+mod run_buffer; // run_buffer.rt: a run in a lent buffer of words
+mod replays; // replays.rt: the answer of a replay
+mod plan_buffer; // plan_buffer.rt: a supplied plan in a lent buffer of words
+mod answer_words; // answer_words.rt: an answer in three words
 
 // The version of the library as one number: major * 10000 + minor * 100 + patch.
-const VERSION: u32 = 1700;
+const VERSION: u32 = 1800;
 
-// The version of the library that is linked; the header has that of the header.
+// The version of the library that is linked; the header has its own.
 #[no_mangle]
 pub extern "C" fn sivorandra_version() -> u32
     ensures { λ r. ⌜ r ≡ version ⌝ }
@@ -40,13 +40,13 @@ pub extern "C" fn sivorandra_judge(words: &[u32], answer: &mut [u32]) -> u32
     if answer.len() < 3 {
         return 1;
     }
-    let verdict = quick::judge(words);
-    let told = told::of_verdict(verdict);
-    told::put(told, answer);
+    let verdict = fast_judge::judge(words);
+    let encoded = answer_words::of_verdict(verdict);
+    answer_words::put(encoded, answer);
     0
 }
 
-// The same verdict, by the judge that takes every tick.
+// The same verdict, by the tick judge.
 #[no_mangle]
 pub extern "C" fn sivorandra_judge_ticks(words: &[u32], answer: &mut [u32]) -> u32
     ensures { λ r. ⌜ record { value = r; lent = now (answer .exit) ∷ [] } ≡ judgeCall (now (words .entry)) (now (answer .entry)) ⌝ }
@@ -55,8 +55,8 @@ pub extern "C" fn sivorandra_judge_ticks(words: &[u32], answer: &mut [u32]) -> u
         return 1;
     }
     let verdict = judge::judge(words);
-    let told = told::of_verdict(verdict);
-    told::put(told, answer);
+    let encoded = answer_words::of_verdict(verdict);
+    answer_words::put(encoded, answer);
     0
 }
 
@@ -75,8 +75,8 @@ pub extern "C" fn sivorandra_plan(
         return 1;
     }
     let planned = plan::plan(words, a, b, rows);
-    let told = told::of_planned(planned);
-    told::put(told, answer);
+    let encoded = answer_words::of_planned(planned);
+    answer_words::put(encoded, answer);
     0
 }
 
@@ -96,10 +96,10 @@ pub extern "C" fn sivorandra_replay(
     if answer.len() < 3 {
         return 1;
     }
-    let replayed = demand::replay(words, entries, numbers, row);
+    let replayed = refinement::replay(words, entries, numbers, row);
     if replays::fitted(replayed) {
-        let told = replays::of_replayed(replayed);
-        told::put(told, answer);
+        let encoded = replays::of_replayed(replayed);
+        answer_words::put(encoded, answer);
         return 0;
     }
     1
@@ -113,20 +113,20 @@ pub extern "C" fn sivorandra_start(words: &[u32], run: &mut [u32], answer: &mut 
     if answer.len() < 3 {
         return 1;
     }
-    if run.len() < held::WORDS {
+    if run.len() < run_buffer::WORDS {
         return 1;
     }
     let started = run::start(words);
     let first = started.run;
-    held::put_run(first, held::PLACES, run);
+    run_buffer::put_run(first, run_buffer::PLACES, run);
     let given = started.answer;
-    let told = told::of_answer(given);
-    told::put(told, answer);
+    let encoded = answer_words::of_answer(given);
+    answer_words::put(encoded, answer);
     0
 }
 
-// The row of the present tick into the first 64 bytes of `row`, where bit p of `empties` says that the job of position p + 1, released in this very
-// tick, is empty: case 0, or 3 Refused number position and 64 zeros; 14 where `run` holds no run.
+// The row of the present tick into the first 64 bytes of `row`. Bit p of `empties` is set if the job of position p + 1, released in this
+// tick, is empty. Case 0, or 3 Refused number position and 64 zeros; 14 where `run` holds no run.
 #[no_mangle]
 pub extern "C" fn sivorandra_row(
     run: &[u32],
@@ -142,12 +142,12 @@ pub extern "C" fn sivorandra_row(
     if row.len() < ROW {
         return 1;
     }
-    let shown = held::row_of(run, empties);
+    let shown = run_buffer::row_of(run, empties);
     let bytes = shown.bytes;
-    held::put_row(bytes, row);
+    run_buffer::put_row(bytes, row);
     let given = shown.answer;
-    let told = told::of_answer(given);
-    told::put(told, answer);
+    let encoded = answer_words::of_answer(given);
+    answer_words::put(encoded, answer);
     0
 }
 
@@ -169,17 +169,17 @@ pub extern "C" fn sivorandra_sets(
     if sets.len() < MOST_TASKS {
         return 1;
     }
-    let shown = held::sets_of(run, empties);
+    let shown = run_buffer::sets_of(run, empties);
     let found = shown.sets;
-    held::put_sets(found, sets);
+    run_buffer::put_sets(found, sets);
     let given = shown.answer;
-    let told = told::of_answer(given);
-    told::put(told, answer);
+    let encoded = answer_words::of_answer(given);
+    answer_words::put(encoded, answer);
     0
 }
 
-// The run one tick on, where bit p of `reports` says that the job of position p + 1 ends after this tick, and bit p of `empties` that it is released
-// in this very tick and empty: case 0, or 3 Refused number position and `run` as found; 14 where `run` holds no run.
+// The run one tick on. Bit p of `reports` is set if the job of position p + 1 ends after this tick, and bit p of `empties` if it is released
+// in this tick and empty. Case 0, or 3 Refused number position and `run` as found; 14 where `run` holds no run.
 #[no_mangle]
 pub extern "C" fn sivorandra_advance(
     run: &mut [u32],
@@ -192,9 +192,9 @@ pub extern "C" fn sivorandra_advance(
     if answer.len() < 3 {
         return 1;
     }
-    let given = held::advance(run, reports, empties);
-    let told = told::of_answer(given);
-    told::put(told, answer);
+    let given = run_buffer::advance(run, reports, empties);
+    let encoded = answer_words::of_answer(given);
+    answer_words::put(encoded, answer);
     0
 }
 
@@ -207,13 +207,13 @@ pub extern "C" fn sivorandra_withdraw(run: &mut [u32], position: u32, answer: &m
     if answer.len() < 3 {
         return 1;
     }
-    let given = held::withdraw(run, position);
-    let told = told::of_answer(given);
-    told::put(told, answer);
+    let given = run_buffer::withdraw(run, position);
+    let encoded = answer_words::of_answer(given);
+    answer_words::put(encoded, answer);
     0
 }
 
-// The run with all positions of a set withdrawn, or none, where bit p of `set` says position p + 1. Case 0, or 3 Refused number position and `run` as
+// The run with all positions of a set withdrawn, or none; bit p of `set` is for position p + 1. Case 0, or 3 Refused number position and `run` as
 // found; 14 where `run` holds no run.
 #[no_mangle]
 pub extern "C" fn sivorandra_withdraw_all(run: &mut [u32], set: u32, answer: &mut [u32]) -> u32
@@ -222,9 +222,9 @@ pub extern "C" fn sivorandra_withdraw_all(run: &mut [u32], set: u32, answer: &mu
     if answer.len() < 3 {
         return 1;
     }
-    let given = held::withdraw_all(run, set);
-    let told = told::of_answer(given);
-    told::put(told, answer);
+    let given = run_buffer::withdraw_all(run, set);
+    let encoded = answer_words::of_answer(given);
+    answer_words::put(encoded, answer);
     0
 }
 
@@ -236,14 +236,14 @@ pub extern "C" fn sivorandra_sentence(words: &[u32], buffer: &mut [u8], answer: 
     if answer.len() < 3 {
         return 1;
     }
-    let spoken = sentence::sentence(words, buffer);
-    let told = told::of_spoken(spoken);
-    told::put(told, answer);
+    let outcome = sentence::sentence(words, buffer);
+    let encoded = answer_words::of_sentence(outcome);
+    answer_words::put(encoded, answer);
     0
 }
 
-// The facts that the bytes of a sentence say into the first 36 words of `facts`: position, tick, ticks had, C, and the counts of positions 1 to 32,
-// 0 for one that is not named. Case 0; 5 where the bytes are no sentence, and 36 zeros.
+// The facts in the bytes of a sentence into the first 36 words of `facts`: position, tick, ticks had, C, and the counts of positions 1 to 32,
+// 0 for one that has no part. Case 0; 5 where the bytes are no sentence, and 36 zeros.
 #[no_mangle]
 pub extern "C" fn sivorandra_facts(bytes: &[u8], facts: &mut [u64], answer: &mut [u32]) -> u32
     ensures { λ r. ⌜ record { value = r; lent = now (facts .exit) ∷ (now (answer .exit) ∷ []) } ≡ factsCall (now (bytes .entry)) (now (facts .entry)) (now (answer .entry)) ⌝ }
@@ -257,16 +257,20 @@ pub extern "C" fn sivorandra_facts(bytes: &[u8], facts: &mut [u64], answer: &mut
     let found = sentence::facts_of(bytes);
     let held = found.facts;
     facts::put_facts(held, facts);
-    let told = facts::of_found(found.found);
-    told::put(told, answer);
+    let encoded = facts::of_parsed(found.found);
+    answer_words::put(encoded, answer);
     0
 }
 
-// The longest answer of each task of a table's words into the first 32 words of `figures`, 0 past the last task: case 0, or 3 Refused number position
-// and 32 zeros.
+// The worst-case response time of each task of a table's words into the first 32 words of `figures`, 0 past the last task: case 0, or 3 Refused number
+// position and 32 zeros.
 #[no_mangle]
-pub extern "C" fn sivorandra_longest(words: &[u32], figures: &mut [u32], answer: &mut [u32]) -> u32
-    ensures { λ r. ⌜ record { value = r; lent = now (figures .exit) ∷ (now (answer .exit) ∷ []) } ≡ longestCall (now (words .entry)) (now (figures .entry)) (now (answer .entry)) ⌝ }
+pub extern "C" fn sivorandra_response_times(
+    words: &[u32],
+    figures: &mut [u32],
+    answer: &mut [u32],
+) -> u32
+    ensures { λ r. ⌜ record { value = r; lent = now (figures .exit) ∷ (now (answer .exit) ∷ []) } ≡ responseTimesCall (now (words .entry)) (now (figures .entry)) (now (answer .entry)) ⌝ }
 {
     if answer.len() < 3 {
         return 1;
@@ -274,36 +278,36 @@ pub extern "C" fn sivorandra_longest(words: &[u32], figures: &mut [u32], answer:
     if figures.len() < MOST_TASKS {
         return 1;
     }
-    let found = longest::longest(words);
-    let longest = found.longest;
-    figures::put_figures(longest, figures);
+    let found = response_time::response_times(words);
+    let responses = found.responses;
+    figures::put_figures(responses, figures);
     let given = found.answer;
-    let told = told::of_given(given, 0);
-    told::put(told, answer);
+    let encoded = answer_words::of_given(given, 0);
+    answer_words::put(encoded, answer);
     0
 }
 
-// The tasks in the clash of a table's words, of which none can be spared: case 0 and the set of their positions, bit p for position p + 1, or 3 Refused
+// The tasks in conflict of a table's words, of which none can be dropped: case 0 and the set of their positions, bit p for position p + 1, or 3 Refused
 // number position.
 #[no_mangle]
-pub extern "C" fn sivorandra_clash(words: &[u32], answer: &mut [u32]) -> u32
-    ensures { λ r. ⌜ record { value = r; lent = now (answer .exit) ∷ [] } ≡ clashCall (now (words .entry)) (now (answer .entry)) ⌝ }
+pub extern "C" fn sivorandra_conflict(words: &[u32], answer: &mut [u32]) -> u32
+    ensures { λ r. ⌜ record { value = r; lent = now (answer .exit) ∷ [] } ≡ conflictCall (now (words .entry)) (now (answer .entry)) ⌝ }
 {
     if answer.len() < 3 {
         return 1;
     }
-    let clashing = clash::clash(words);
-    let given = clashing.answer;
-    let told = told::of_given(given, clashing.kept);
-    told::put(told, answer);
+    let conflict = conflict::conflict(words);
+    let given = conflict.answer;
+    let encoded = answer_words::of_given(given, conflict.kept);
+    answer_words::put(encoded, answer);
     0
 }
 
-// The spare ticks of each task of a table's words into the first 32 words of `figures`, 0 past the last task: case 0, or 3 Refused number position and
+// The slack of each task of a table's words into the first 32 words of `figures`, 0 past the last task: case 0, or 3 Refused number position and
 // 32 zeros.
 #[no_mangle]
-pub extern "C" fn sivorandra_spare(words: &[u32], figures: &mut [u32], answer: &mut [u32]) -> u32
-    ensures { λ r. ⌜ record { value = r; lent = now (figures .exit) ∷ (now (answer .exit) ∷ []) } ≡ spareCall (now (words .entry)) (now (figures .entry)) (now (answer .entry)) ⌝ }
+pub extern "C" fn sivorandra_slack(words: &[u32], figures: &mut [u32], answer: &mut [u32]) -> u32
+    ensures { λ r. ⌜ record { value = r; lent = now (figures .exit) ∷ (now (answer .exit) ∷ []) } ≡ slackCall (now (words .entry)) (now (figures .entry)) (now (answer .entry)) ⌝ }
 {
     if answer.len() < 3 {
         return 1;
@@ -311,47 +315,47 @@ pub extern "C" fn sivorandra_spare(words: &[u32], figures: &mut [u32], answer: &
     if figures.len() < MOST_TASKS {
         return 1;
     }
-    let found = spare::spare(words);
-    let spare = found.spare;
-    figures::put_figures(spare, figures);
+    let found = slack::slack(words);
+    let slack = found.slack;
+    figures::put_figures(slack, figures);
     let given = found.answer;
-    let told = told::of_given(given, 0);
-    told::put(told, answer);
+    let encoded = answer_words::of_given(given, 0);
+    answer_words::put(encoded, answer);
     0
 }
 
 // The plan of a table's words from the supplier's own planner as it begins, all its words, into the front of `plan`: case 0, or 3 Refused number position
 // and the plan of all zeros.
 #[no_mangle]
-pub extern "C" fn sivorandra_begin(words: &[u32], plan: &mut [u32], answer: &mut [u32]) -> u32
+pub extern "C" fn sivorandra_check_begin(words: &[u32], plan: &mut [u32], answer: &mut [u32]) -> u32
     ensures { λ r. ⌜ record { value = r; lent = now (plan .exit) ∷ (now (answer .exit) ∷ []) } ≡ beginCall (now (words .entry)) (now (plan .entry)) (now (answer .entry)) ⌝ }
 {
     if answer.len() < 3 {
         return 1;
     }
-    if plan.len() < supplied::WORDS {
+    if plan.len() < plan_buffer::WORDS {
         return 1;
     }
-    let begun = foreign::begin(words);
+    let begun = plan_check::begin(words);
     let first = begun.plan;
-    supplied::put_plan(first, held::PLACES, true, plan);
+    plan_buffer::put_plan(first, run_buffer::PLACES, true, plan);
     let given = begun.answer;
-    let told = told::of_given(given, 0);
-    told::put(told, answer);
+    let encoded = answer_words::of_given(given, 0);
+    answer_words::put(encoded, answer);
     0
 }
 
 // The row of the plan's present tick, one byte a core, as the supplier has it: case 0 taken, 6 taken as the last, and the whole plan accepted; or
 // 3 Refused number tick and `plan` as found; 14 where `plan` holds no plan.
 #[no_mangle]
-pub extern "C" fn sivorandra_take(plan: &mut [u32], row: &[u8], answer: &mut [u32]) -> u32
-    ensures { λ r. ⌜ record { value = r; lent = now (plan .exit) ∷ (now (answer .exit) ∷ []) } ≡ takeCall (now (plan .entry)) (now (row .entry)) (now (answer .entry)) ⌝ }
+pub extern "C" fn sivorandra_check_row(plan: &mut [u32], row: &[u8], answer: &mut [u32]) -> u32
+    ensures { λ r. ⌜ record { value = r; lent = now (plan .exit) ∷ (now (answer .exit) ∷ []) } ≡ checkRowCall (now (plan .entry)) (now (row .entry)) (now (answer .entry)) ⌝ }
 {
     if answer.len() < 3 {
         return 1;
     }
-    let given = supplied::take(plan, row);
-    let told = supplied::of_taken(given);
-    told::put(told, answer);
+    let given = plan_buffer::take(plan, row);
+    let encoded = plan_buffer::of_taken(given);
+    answer_words::put(encoded, answer);
     0
 }

@@ -1,8 +1,8 @@
-// What a replay says.
+// The answer of a replay.
 ghost use mathlib.Core.Path.{_≡_};
 ghost use Rattle.capi.specs.Replays.{fitted, ofReplayed};
-use crate::told::Told;
-use demand::Replayed;
+use crate::answer_words::AnswerWords;
+use refinement::Replayed;
 
 // Whether the replay's own lent slices fit.
 pub(crate) fn fitted(replayed: Replayed) -> bool
@@ -17,26 +17,26 @@ pub(crate) fn fitted(replayed: Replayed) -> bool
 }
 
 // The cases of a replay whose slices fit.
-pub(crate) fn of_replayed(replayed: Replayed) -> Told
+pub(crate) fn of_replayed(replayed: Replayed) -> AnswerWords
     ensures { λ r. ⌜ r ≡ ofReplayed replayed ⌝ }
 {
     match replayed {
-        Replayed::Shown => Told {
+        Replayed::Shown => AnswerWords {
             kind: 0,
             first: 0,
             second: 0,
         },
-        Replayed::RowRefused(number, position) => Told {
+        Replayed::RowRefused(number, position) => AnswerWords {
             kind: 4,
             first: number,
             second: position,
         },
-        Replayed::Refused(number, position) => Told {
+        Replayed::Refused(number, position) => AnswerWords {
             kind: 3,
             first: number,
             second: position,
         },
-        Replayed::Unfit => Told {
+        Replayed::Unfit => AnswerWords {
             kind: 0,
             first: 0,
             second: 0,

@@ -1,4 +1,4 @@
--- A set and its list of cores: the two directions undo each other, and what ones, trailing zeros, take and drop say of them.
+-- A set and its list of cores: the two directions are inverse, and the laws of ones, trailing zeros, take and drop.
 use mathlib.Core.Path.{_≡_, refl, sym, ap, ap₂, _∙_, subst}
 use mathlib.Core.Bool.{Bool, true, false, _&&_, true-and}
 use mathlib.Core.Logic.{⊎-elim}
@@ -12,7 +12,7 @@ use lib.Count.{ones, ones-step, trailingZeros}
 use lib.Dec.{eqb, ltb}
 use lib.Pow.{pow-mono, pow-pos, ones-lt}
 use borrow.Author.Tests.{ltb-false, ltb-true}
-use Rattle.model.specs.Search.{bit, kept, keptIf, memb, upFrom}
+use Rattle.model.specs.Search.{bit, filtered, consIf, member, upFrom}
 use Rattle.model.specs.Sets.{setOf}
 use Rattle.model.proofs.Digits.{bit-past, bit-zero, bit-suc, even-half, odd-half, half, tz-out, tz-into}
 use Rattle.cores.specs.Cores.{cores}
@@ -20,7 +20,7 @@ use Rattle.cores.proofs.Ascending.{Range, range-weaken, range-take, ran
 
 -- ---- the cores, digit by digit
 
--- the digit b says whether the core c stands in front of the rest
+-- core c before the rest if the digit b is 1
 abbrev pub named : ℕ → ℕ → List ℕ → List ℕ
 named zero c l = l
 named (suc b) c l = c ∷ l
@@ -30,18 +30,18 @@ unfoldable pub coresFrom : ℕ → ℕ → ℕ → List ℕ
 coresFrom zero c n = []
 coresFrom (suc d) c n = named (n % 2) c (coresFrom d (suc c) (n / 2))
 
-named-kept : (b c : ℕ) (l : List ℕ) → b < 2 → keptIf (eqb b 1) c l ≡ named b c l
+named-kept : (b c : ℕ) (l : List ℕ) → b < 2 → consIf (eqb b 1) c l ≡ named b c l
 named-kept zero c l h = refl
 named-kept (suc zero) c l h = refl
 named-kept (suc (suc b)) c l h = absurd (omega arith)
 
-kept-digits : (f : ℕ → Bool) (d c n : ℕ) → ((i : ℕ) → f (c + i) ≡ bit n i) → kept f (upFrom c d) ≡ coresFrom d c n
-unfolding kept upFrom coresFrom
+kept-digits : (f : ℕ → Bool) (d c n : ℕ) → ((i : ℕ) → f (c + i) ≡ bit n i) → filtered f (upFrom c d) ≡ coresFrom d c n
+unfolding filtered upFrom coresFrom
 kept-digits f zero c n h = refl
 kept-digits f (suc d) c n h =
     let first : f c ≡ eqb (n % 2) 1 = ap f (sym (add-zero c)) ∙ h 0 ∙ bit-zero n in
-    let rest : kept f (upFrom (suc c) d) ≡ coresFrom d (suc c) (n / 2) = kept-digits f d (suc c) (n / 2) (λ i. ap f (next i) ∙ h (suc i) ∙ bit-suc n i) in
-    ap₂ (λ (q : Bool) (l : List ℕ). keptIf q c l) first rest ∙ named-kept (n % 2) c (coresFrom d (suc c) (n / 2)) (omega arith)
+    let rest : filtered f (upFrom (suc c) d) ≡ coresFrom d (suc c) (n / 2) = kept-digits f d (suc c) (n / 2) (λ i. ap f (next i) ∙ h (suc i) ∙ bit-suc n i) in
+    ap₂ (λ (q : Bool) (l : List ℕ). consIf q c l) first rest ∙ named-kept (n % 2) c (coresFrom d (suc c) (n / 2)) (omega arith)
   where
     next : (i : ℕ) → suc c + i ≡ c + suc i
     next i = omega arith
@@ -191,7 +191,7 @@ module _ (n w r : ℕ) (h : n < 2 ^ 64) (k : r < 2 ^ 64) where
       ap cores d ∙ cores-set (take w (cores n)) (range-take w 0 64 (cores n) (cores-range n))
 
 pub cores-none : cores 0 ≡ []
-unfolding cores kept upFrom
+unfolding cores filtered upFrom
 cores-none = refl
 
 -- ---- a set that is not empty: its first core by trailing zeros, and the set without it, in the machine's words
@@ -227,7 +227,7 @@ popped n p h = popped-as n p h (cores n) refl
 
 -- ---- membership is the digit
 
-pub cores-memb : (n c : ℕ) → c < 64 → memb c (cores n) ≡ bit n c
+pub cores-memb : (n c : ℕ) → c < 64 → member c (cores n) ≡ bit n c
 unfolding cores
 cores-memb n c h = memb-kept (bit n) c (upFrom 0 64) ∙ ap (λ (t : Bool). t && bit n c) (memb-up c 0 64 (omega arith) h) ∙ true-and (bit n c)
 
@@ -243,11 +243,11 @@ set-room lo hi (c ∷ l) h r =
 pub set-lt : (l : List ℕ) → Range 0 64 l → setOf l < 2 ^ 64
 set-lt l r = omega (arith, set-room 0 64 l (omega arith) r)
 
-pub set-bit : (l : List ℕ) → Range 0 64 l → (c : ℕ) → bit (setOf l) c ≡ memb c l
+pub set-bit : (l : List ℕ) → Range 0 64 l → (c : ℕ) → bit (setOf l) c ≡ member c l
 set-bit l r c = go (ltb c 64) refl
   where
-    go : (t : Bool) → ltb c 64 ≡ t → bit (setOf l) c ≡ memb c l
-    go true e = sym (cores-memb (setOf l) c (ltb-true c 64 e)) ∙ ap (memb c) (cores-set l r)
+    go : (t : Bool) → ltb c 64 ≡ t → bit (setOf l) c ≡ member c l
+    go true e = sym (cores-memb (setOf l) c (ltb-true c 64 e)) ∙ ap (member c) (cores-set l r)
     go false e = bit-past 64 (setOf l) c (set-lt l r) (ltb-false c 64 e) ∙ sym (memb-past c 0 64 l r (ltb-false c 64 e))
 
 pub set-ones : (l : List ℕ) → Range 0 64 l → ones (setOf l) ≡ length l

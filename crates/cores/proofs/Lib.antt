@@ -1,6 +1,6 @@
--- Laws of sets of cores: ascending lists, a set and its list, the open cores, runs of free cores; and computed examples.
+-- Laws of sets of cores: ascending lists, a set and its list, the unfenced cores, runs of free cores; and computed examples.
 pub mod Examples
 pub mod Ascending
 pub mod Cores
-pub mod Open
+pub mod Unfenced
 pub mod Runs

@@ -1,5 +1,5 @@
 -- A run of free cores: trailing zeros find its first core, trailing zeros of the complement of the shifted set its length;
--- a piece of it taken off the set leaves the cores behind the piece.
+-- a piece of it taken off the set leaves the cores after the piece.
 use mathlib.Core.Path.{_≡_, sym, ap, ap₂, subst, _∙_}
 use mathlib.Core.Logic.{⊎-elim}
 use mathlib.Core.List.{List, [], _∷_, _++_}

@@ -3,7 +3,7 @@ ghost use mathlib.Core.Path.{_≡_};
 ghost use Prim.Native.Nat.{min};
 ghost use lib.ListN.{take};
 ghost use Rattle.model.specs.Search.{upFrom};
-ghost use Rattle.model.specs.Fence.{openCount, outside, unfenced};
+ghost use Rattle.model.specs.Fence.{unfencedCount, outside, unfenced};
 ghost use Rattle.model.specs.Sizes.{mostCores};
 ghost use Rattle.cores.specs.Cores.{cores};
 use model::MOST_CORES;
@@ -26,7 +26,7 @@ fn fewer(a: u32, b: u32) -> u32
     if a < b { a } else { b }
 }
 
-// The set of the `width` lowest-numbered free cores; all of them where there are fewer. A whole run of free cores is taken at a stroke.
+// The set of the `width` lowest-numbered free cores; all of them where there are fewer. A whole run of adjacent free cores is taken in one step.
 pub fn lowest(free: u64, width: u32) -> u64
     ensures { λ r. ⌜ cores r ≡ take width (cores free) ⌝ }
 {
@@ -43,22 +43,22 @@ pub fn lowest(free: u64, width: u32) -> u64
 }
 
 // The cores of a set that another does not have.
-pub fn without(all: u64, fence: u64) -> u64
+pub fn difference(all: u64, fence: u64) -> u64
     ensures { λ r. ⌜ cores r ≡ outside fence (cores all) ⌝ }
 {
     all & (all ^ fence)
 }
 
 // The cores below the count that are outside the fence.
-pub fn open_cores(count: u32, fence: u64) -> u64
+pub fn unfenced_cores(count: u32, fence: u64) -> u64
     ensures { λ r. ⌜ cores r ≡ unfenced fence (min count mostCores) ⌝ }
 {
-    without(first_cores(count), fence)
+    difference(first_cores(count), fence)
 }
 
 // How many cores below the count are outside the fence.
-pub fn open_count(count: u32, fence: u64) -> u32
-    ensures { λ r. ⌜ r ≡ openCount fence (min count mostCores) ⌝ }
+pub fn unfenced_count(count: u32, fence: u64) -> u32
+    ensures { λ r. ⌜ r ≡ unfencedCount fence (min count mostCores) ⌝ }
 {
-    u64::count_ones(open_cores(count, fence))
+    u64::count_ones(unfenced_cores(count, fence))
 }

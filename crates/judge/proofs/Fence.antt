@@ -4,18 +4,18 @@ use mathlib.Core.Path.{_≡_, sym, ap, _∙_}
 use Prim.Native.Nat.{ℕ}
 use Rattle.model.specs.Verdict.{Verdict, verdict}
 use Rattle.model.proofs.Fence.{fence-verdict}
-use Rattle.table.specs.Bare.{bared}
+use Rattle.table.specs.UnfencedWords.{unfencedWords}
 use Rattle.table.specs.Numbers.{NoneApplies}
 use Rattle.table.specs.Words.{tableOf}
-use Rattle.table.proofs.Bare.{bare-passes, bare-table}
+use Rattle.table.proofs.UnfencedWords.{unfenced-passes, unfenced-table}
 use Rattle.table.proofs.Exact.{passed-exact}
-use Rattle.judge.specs.Said.{judged, caseOf}
+use Rattle.judge.specs.JudgeAnswer.{judged, verdictCase}
 use Rattle.judge.specs.Judged.{verdictOf}
-use Rattle.judge.proofs.Promise.{passed-is}
+use Rattle.judge.proofs.Contract.{passed-is}
 
 -- THE THEOREM, of the words of a table
-pub fence-judged : (ws : List ℕ) → NoneApplies ws → verdictOf ws ≡ verdictOf (bared ws)
+pub fence-judged : (ws : List ℕ) → NoneApplies ws → verdictOf ws ≡ verdictOf (unfencedWords ws)
 fence-judged ws none =
     passed-is ws (passed-exact ws .1 none)
-    ∙ (ap (λ (v : Verdict). caseOf (judged v)) (fence-verdict (tableOf ws) ∙ ap verdict (sym (bare-table ws none)))
-    ∙ sym (passed-is (bared ws) (passed-exact (bared ws) .1 (bare-passes ws none))))
+    ∙ (ap (λ (v : Verdict). verdictCase (judged v)) (fence-verdict (tableOf ws) ∙ ap verdict (sym (unfenced-table ws none)))
+    ∙ sym (passed-is (unfencedWords ws) (passed-exact (unfencedWords ws) .1 (unfenced-passes ws none))))

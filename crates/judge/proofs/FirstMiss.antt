@@ -5,7 +5,7 @@ use mathlib.Core.Bool.{Bool, true, false, cond}
 use Prim.Native.Nat.{ℕ, suc, _<_}
 use lib.ListN.{length}
 use Rattle.model.specs.Search.{any, least}
-use Rattle.model.specs.Task.{Table, AllSound}
+use Rattle.model.specs.Task.{Table, AllValid}
 use Rattle.model.specs.Book.{Missed}
 use Rattle.model.specs.Horizon.{lastS, hyperperiod, horizon}
 use Rattle.model.specs.Firm.{firm}
@@ -18,16 +18,16 @@ use Rattle.table.specs.declared.Loaded.{Loaded}
 use Rattle.judge.specs.declared.Verdict.the-variants.{Firm, Full}
 use Rattle.judge.specs.declared.misses.Missed as missed
 use Rattle.judge.specs.declared.misses.Missed.the-variants.{Never, At}
-use Rattle.judge.specs.Said.{judged, caseOf}
-use Rattle.judge.specs.Judged.{tableIn, Fit, acceptedOf}
-use Rattle.judge.specs.FirstMiss.{missedBefore, noMiss, firstAt, missTold, MissedOf, byMiss}
+use Rattle.judge.specs.JudgeAnswer.{judged, verdictCase}
+use Rattle.judge.specs.Judged.{loadedTable, Fit, acceptedOf}
+use Rattle.judge.specs.FirstMiss.{missedBefore, noMiss, firstAt, missMeaning, MissedOf, byMiss}
 
-module _ (s : Table) (ok : AllSound s) where
+module _ (s : Table) (ok : AllValid s) where
   -- a deadline missed before b is found
   pub found : (b p t : ℕ) → t < b → Missed s p t → any b (missedIn s) ≡ true
   found b p t l m = any-of b (missedIn s) t l (missed-in-exact s ok t .1 (p, m))
 
-  -- where it is not missed, the test says so
+  -- where it is not missed, the test is false
   met-in : (t : ℕ) → ((p : ℕ) → ¬ Missed s p t) → missedIn s t ≡ false
   met-in t met = not-true-false (missedIn s t) (λ e. let x = missed-in-exact s ok t .0 e in met (x .0) (x .1))
 
@@ -54,25 +54,25 @@ module _ (s : Table) (ok : AllSound s) where
       (λ x l. not-true-false (missedAt s t x) (λ e. f .no-higher x l (missed-exact s ok t x (omega arith) .0 e))) in
       rw (some, tick, place, f .place .1)
 
-  -- what is found is what is promised
-  settled :
+  -- what is found meets its contract
+  determined :
       (b : ℕ) (m : missed.Missed) → m ≡ missedBefore s b
-      → ((t p : ℕ) → missTold m ≡ firstAt t p → FirstMiss s t p × (t < b)) → (missTold m ≡ noMiss → (p t : ℕ) → t < b → ¬ Missed s p t)
+      → ((t p : ℕ) → missMeaning m ≡ firstAt t p → FirstMiss s t p × (t < b)) → (missMeaning m ≡ noMiss → (p t : ℕ) → t < b → ¬ Missed s p t)
       → MissedOf s b m
-  settled b m e first none = record {
+  determined b m e first none = record {
     value = e;
-    first = λ t p. (first t p, λ x. ap missTold (e ∙ sym (is-first b t p (x .1) (x .0))));
-    none = (none, λ met. ap missTold (e ∙ sym (is-none b met)));
+    first = λ t p. (first t p, λ x. ap missMeaning (e ∙ sym (is-first b t p (x .1) (x .0))));
+    none = (none, λ met. ap missMeaning (e ∙ sym (is-none b met)));
   }
 
   pub by-none : (b : ℕ) → ((p t : ℕ) → t < b → ¬ Missed s p t) → MissedOf s b Never
-  by-none b met = settled b Never (is-none b met) (λ t p e. absurd (apart e)) (λ e. met)
+  by-none b met = determined b Never (is-none b met) (λ t p e. absurd (apart e)) (λ e. met)
     where
       apart : {t p : ℕ} → noMiss ≡ firstAt t p → ⊥
       apart e = let z : _≡_ {A = ℕ} 0 1 = cc in omega arith
 
   pub by-first : (b t p : ℕ) → t < b → FirstMiss s t p → MissedOf s b (At t p)
-  by-first b t p h f = settled b (At t p) (is-first b t p h f) same (λ e. absurd (apart e))
+  by-first b t p h f = determined b (At t p) (is-first b t p h f) same (λ e. absurd (apart e))
     where
       same : (u q : ℕ) → firstAt t p ≡ firstAt u q → FirstMiss s u q × (u < b)
       same u q e = let i : t ≡ u = cc in let j : p ≡ q = cc in (rw (i, j) at f, omega arith)
@@ -80,7 +80,7 @@ module _ (s : Table) (ok : AllSound s) where
       apart : firstAt t p ≡ noMiss → ⊥
       apart e = let z : _≡_ {A = ℕ} 0 1 = cc in omega arith
 
--- none is found exactly if the test says no
+-- none is found exactly if the test is false
 pub never-found : (s : Table) (b : ℕ) → missedBefore s b ≡ Never → any b (missedIn s) ≡ false
 unfolding missedBefore
 never-found s b = go (any b (missedIn s)) (least b (missedIn s)) (suc (least (length (s .tasks)) (missedAt s (least b (missedIn s)))))
@@ -102,7 +102,7 @@ one-found s b u q = go (any b (missedIn s)) (least b (missedIn s)) (suc (least (
 by-search :
     (s : Table)
     → byMiss (missedBefore s (suc (horizon s))) (cond (firm (s .rule) (s .tasks)) (Firm (lastS (s .tasks)) (hyperperiod (s .tasks))) (Full (lastS (s .tasks)) (hyperperiod (s .tasks))))
-    ≡ caseOf (judged (verdict s))
+    ≡ verdictCase (judged (verdict s))
 unfolding missedBefore verdict firstMiss
 by-search s = go (any (suc (horizon s)) (missedIn s)) (firm (s .rule) (s .tasks))
   where
@@ -114,10 +114,10 @@ by-search s = go (any (suc (horizon s)) (missedIn s)) (firm (s .rule) (s .tasks)
 
     go : (m f : Bool)
         → byMiss (cond m (At t p) Never) (cond f (Firm (lastS (s .tasks)) (hyperperiod (s .tasks))) (Full (lastS (s .tasks)) (hyperperiod (s .tasks))))
-        ≡ caseOf (judged (cond m (model.Miss t p) (cond f (model.Firm (lastS (s .tasks)) (hyperperiod (s .tasks))) (model.Full (lastS (s .tasks)) (hyperperiod (s .tasks))))))
+        ≡ verdictCase (judged (cond m (model.Miss t p) (cond f (model.Firm (lastS (s .tasks)) (hyperperiod (s .tasks))) (model.Full (lastS (s .tasks)) (hyperperiod (s .tasks))))))
     go true f = refl
     go false true = refl
     go false false = refl
 
-pub verdict-by : (t : Loaded) → Fit t → byMiss (missedBefore (tableIn t) (suc (t .horizon))) (acceptedOf t) ≡ caseOf (judged (verdict (tableIn t)))
-verdict-by t fit = rw (fit .start, fit .period, fit .horizon) (by-search (tableIn t))
+pub verdict-by : (t : Loaded) → Fit t → byMiss (missedBefore (loadedTable t) (suc (t .horizon))) (acceptedOf t) ≡ verdictCase (judged (verdict (loadedTable t)))
+verdict-by t fit = rw (fit .start, fit .period, fit .horizon) (by-search (loadedTable t))

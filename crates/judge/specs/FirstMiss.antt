@@ -1,4 +1,4 @@
--- The first missed deadline before a tick, and what is promised of it.
+-- The first missed deadline before a tick, and its contract.
 use mathlib.Core.Path.{_≡_}
 use mathlib.Core.Logic.{_↔_}
 use mathlib.Core.Bool.{cond}
@@ -13,7 +13,7 @@ use Rattle.judge.specs.declared.Verdict.the-variants.{Miss}
 use Rattle.judge.specs.declared.misses.Missed.{Missed}
 use Rattle.judge.specs.declared.misses.Missed.the-variants.{Never, At}
 
--- the first deadline missed before tick b, at equal ticks that of the first task in priority: the search of the model's `verdict`, which looks
+-- the first deadline missed before tick b, at equal ticks that of the first task in priority: the search of the model's `verdict`, which goes
 -- up to and including the horizon
 unfoldable pub missedBefore : Table → ℕ → Missed
 missedBefore s b =
@@ -21,24 +21,24 @@ missedBefore s b =
     (At (least b (missedIn s)) (suc (least (length (s .tasks)) (missedAt s (least b (missedIn s))))))
     Never
 
--- what is found, in the scope's words: no deadline is missed, or the first at a tick, of a position
-pub data Found : Type 0 where
-  noMiss : Found
-  firstAt : ℕ → ℕ → Found
+-- the result in the scope's words: no deadline is missed, or the first at a tick, of a position
+pub data MissOutcome : Type 0 where
+  noMiss : MissOutcome
+  firstAt : ℕ → ℕ → MissOutcome
 
--- what each case says: Never no miss, At tick and position
-abbrev pub missTold : Missed → Found
-missTold Never = noMiss
-missTold (At t p) = firstAt t p
+-- the meaning of each case: Never no miss, At tick and position
+abbrev pub missMeaning : Missed → MissOutcome
+missMeaning Never = noMiss
+missMeaning (At t p) = firstAt t p
 
--- what is promised of the search before tick b of the full-length run of table s
+-- the contract of the search before tick b of the full-length run of table s
 pub record MissedOf (s : Table) (b : ℕ) (m : Missed) : Type 0 where
   -- its value
   pub value : m ≡ missedBefore s b
   -- at t, of p, exactly if (t, p) is the first miss and t is before b
-  pub first : (t p : ℕ) → (missTold m ≡ firstAt t p) ↔ (FirstMiss s t p × (t < b))
+  pub first : (t p : ℕ) → (missMeaning m ≡ firstAt t p) ↔ (FirstMiss s t p × (t < b))
   -- none exactly if no deadline is missed before b
-  pub none : (missTold m ≡ noMiss) ↔ ((p t : ℕ) → t < b → ¬ book.Missed s p t)
+  pub none : (missMeaning m ≡ noMiss) ↔ ((p t : ℕ) → t < b → ¬ book.Missed s p t)
 
 -- the verdict by it: a miss, and where there is none the verdict v
 abbrev pub byMiss : Missed → Verdict → Verdict

@@ -1,14 +1,14 @@
--- The judge's answer, and what is promised of it (demand 2).
+-- The judge's answer, and its contract (demand 2).
 use mathlib.Core.Path.{_≡_}
 use mathlib.Core.Bool.{cond}
 use mathlib.Core.List.{List}
 use mathlib.Core.Logic.{_↔_, _⊎_}
 use Prim.Native.Nat.{ℕ, _≤_, _<_}
 use lib.ListN.{length}
-use Rattle.model.specs.Task.{Table, AllSound, task, ruleOf}
+use Rattle.model.specs.Task.{Table, AllValid, task, ruleOf}
 use Rattle.model.specs.Book.{NeverMissed}
 use Rattle.model.specs.Horizon.{lastS, hyperperiod, horizon}
-use Rattle.model.specs.Firm.{firm, Rising}
+use Rattle.model.specs.Firm.{firm, ParallelismMonotonic}
 use Rattle.model.specs.Verdict.{FirstMiss, verdict}
 use Rattle.model.specs.Verdict as model
 use Rattle.model.specs.Sizes.{mostCores, mostTasks}
@@ -23,41 +23,41 @@ use Rattle.table.specs.Answer.{answerOf}
 use Rattle.table.specs.Limits.{mostTime}
 use Rattle.judge.specs.declared.Verdict.{Verdict}
 use Rattle.judge.specs.declared.Verdict.the-variants.{Firm, Full}
-use Rattle.judge.specs.Said.{Said, judged, saidBy, caseOf}
-use Rattle.judge.specs.Said as said
+use Rattle.judge.specs.JudgeAnswer.{JudgeAnswer, judged, verdictMeaning, verdictCase}
+use Rattle.judge.specs.JudgeAnswer as meaning
 
 -- by the table's answer: the verdict on one that passes, or its refusal with number and position
-abbrev pub judgedBy : Answer → Table → Said
+abbrev pub judgedBy : Answer → Table → JudgeAnswer
 judgedBy Passed s = judged (verdict s)
-judgedBy (table.Refused n p) s = said.refused n p
+judgedBy (table.Refused n p) s = meaning.refused n p
 
 -- the verdict of a table's words
 unfoldable pub verdictOf : List ℕ → Verdict
-verdictOf ws = caseOf (judgedBy (answerOf ws) (tableOf ws))
+verdictOf ws = verdictCase (judgedBy (answerOf ws) (tableOf ws))
 
 -- the scope's condition for firm: rule 2, 3 or 4, or rule 1 with widths that never fall
 abbrev pub FirmWords : List ℕ → Type 0
-FirmWords ws = (rule ws ≡ 2) ⊎ ((rule ws ≡ 3) ⊎ ((rule ws ≡ 4) ⊎ ((rule ws ≡ 1) × Rising (tableOf ws .tasks))))
+FirmWords ws = (rule ws ≡ 2) ⊎ ((rule ws ≡ 3) ⊎ ((rule ws ≡ 4) ⊎ ((rule ws ≡ 1) × ParallelismMonotonic (tableOf ws .tasks))))
 
--- what is promised of the answer v to the words ws
+-- the contract of the answer v to the words ws
 pub record Judged (ws : List ℕ) (v : Verdict) : Type 0 where
   -- it is the verdict of the words
   pub value : v ≡ verdictOf ws
   -- refused with n and p exactly if n is the first number that applies, at p
-  pub refused : (n p : ℕ) → (saidBy v ≡ said.refused n p) ↔ First ws n p
+  pub refused : (n p : ℕ) → (verdictMeaning v ≡ meaning.refused n p) ↔ First ws n p
   -- Firm or Full exactly if no number applies and no deadline of the full-length run is missed at any tick
-  pub accepted : ((s p : ℕ) × ((saidBy v ≡ judged (model.Firm s p)) ⊎ (saidBy v ≡ judged (model.Full s p)))) ↔ (NoneApplies ws × NeverMissed (tableOf ws))
+  pub accepted : ((s p : ℕ) × ((verdictMeaning v ≡ judged (model.Firm s p)) ⊎ (verdictMeaning v ≡ judged (model.Full s p)))) ↔ (NoneApplies ws × NeverMissed (tableOf ws))
   -- Miss t p exactly if no number applies and (t, p) is the earliest missed deadline, at equal ticks the first in priority
-  pub miss : (t p : ℕ) → (saidBy v ≡ judged (model.Miss t p)) ↔ (NoneApplies ws × FirstMiss (tableOf ws) t p)
+  pub miss : (t p : ℕ) → (verdictMeaning v ≡ judged (model.Miss t p)) ↔ (NoneApplies ws × FirstMiss (tableOf ws) t p)
   -- an accepted table is Firm exactly for rules 2, 3 and 4 and for rule 1 with widths never falling; S and P as defined
-  pub firm : (s p : ℕ) → (saidBy v ≡ judged (model.Firm s p)) ↔ (NoneApplies ws × NeverMissed (tableOf ws) × FirmWords ws × (s ≡ lastS (tableOf ws .tasks)) × (p ≡ hyperperiod (tableOf ws .tasks)))
-  pub full : (s p : ℕ) → (saidBy v ≡ judged (model.Full s p)) ↔ (NoneApplies ws × NeverMissed (tableOf ws) × (¬ FirmWords ws) × (s ≡ lastS (tableOf ws .tasks)) × (p ≡ hyperperiod (tableOf ws .tasks)))
+  pub firm : (s p : ℕ) → (verdictMeaning v ≡ judged (model.Firm s p)) ↔ (NoneApplies ws × NeverMissed (tableOf ws) × FirmWords ws × (s ≡ lastS (tableOf ws .tasks)) × (p ≡ hyperperiod (tableOf ws .tasks)))
+  pub full : (s p : ℕ) → (verdictMeaning v ≡ judged (model.Full s p)) ↔ (NoneApplies ws × NeverMissed (tableOf ws) × (¬ FirmWords ws) × (s ≡ lastS (tableOf ws .tasks)) × (p ≡ hyperperiod (tableOf ws .tasks)))
 
 -- THE RUN, on a table that passed
 
 -- the table that was loaded
-abbrev pub tableIn : Loaded → Table
-tableIn t = record { tasks = tasksOf (t .tasks) (t .count); cores = t .cores; fence = t .fence; rule = ruleOf (t .rule) }
+abbrev pub loadedTable : Loaded → Table
+loadedTable t = record { tasks = tasksOf (t .tasks) (t .count); cores = t .cores; fence = t .fence; rule = ruleOf (t .rule) }
 
 -- what the run needs of it
 pub record Fit (t : Loaded) : Type 0 where
@@ -65,11 +65,11 @@ pub record Fit (t : Loaded) : Type 0 where
   pub some : 0 < t .count
   pub few : t .count ≤ mostTasks
   pub narrow : t .cores ≤ mostCores
-  pub sound : AllSound (tableIn t)
-  pub short : (p : ℕ) → p < t .count → task (tableIn t) p .period ≤ mostTime
-  pub start : t .start ≡ lastS (tableIn t .tasks)
-  pub period : t .period ≡ hyperperiod (tableIn t .tasks)
-  pub horizon : t .horizon ≡ horizon (tableIn t)
+  pub valid : AllValid (loadedTable t)
+  pub short : (p : ℕ) → p < t .count → task (loadedTable t) p .period ≤ mostTime
+  pub start : t .start ≡ lastS (loadedTable t .tasks)
+  pub period : t .period ≡ hyperperiod (loadedTable t .tasks)
+  pub horizon : t .horizon ≡ horizon (loadedTable t)
   pub limit : t .horizon ≤ 1000000000
 
 -- the answer where no deadline is missed

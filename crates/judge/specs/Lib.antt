@@ -1,4 +1,4 @@
--- What the judge answers, what is promised of it (demand 2), and the first missed deadline.
-pub mod Said
+-- The judge's answer, its contract (demand 2), and the first missed deadline.
+pub mod JudgeAnswer
 pub mod Judged
 pub mod FirstMiss

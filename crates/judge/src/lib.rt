@@ -2,11 +2,11 @@
 ghost use mathlib.Core.Path.{_≡_};
 ghost use Prim.Native.Nat.{suc, _≤_, max, min};
 ghost use Rattle.model.specs.Task.{ruleOf};
-ghost use Rattle.model.specs.Firm.{rising, firm};
+ghost use Rattle.model.specs.Firm.{parallelismMonotonic, firm};
 ghost use Rattle.model.specs.Sizes.{mostTasks};
 ghost use Rattle.table.specs.Task.{tasksOf};
 ghost use Rattle.judge.specs.FirstMiss.{missedBefore, byMiss};
-ghost use Rattle.judge.specs.Judged.{Judged, tableIn, Fit, acceptedOf};
+ghost use Rattle.judge.specs.Judged.{Judged, loadedTable, Fit, acceptedOf};
 use misses::Missed;
 use model::MOST_TASKS;
 use table::Answer;
@@ -38,9 +38,9 @@ fn narrower(a: u32, b: u32) -> u32
 }
 
 // Whether widths never fall along the first `count` tasks: the larger of each is at most the smaller of the next.
-fn rising(tasks: [Task; MOST_TASKS], count: usize) -> bool
+fn parallelism_monotonic(tasks: [Task; MOST_TASKS], count: usize) -> bool
     requires { ⌜ count ≤ mostTasks ⌝ }
-    ensures { λ r. ⌜ r ≡ rising (tasksOf tasks count) ⌝ }
+    ensures { λ r. ⌜ r ≡ parallelismMonotonic (tasksOf tasks count) ⌝ }
 {
     let mut i: usize = 1;
     while i < count {
@@ -54,8 +54,8 @@ fn rising(tasks: [Task; MOST_TASKS], count: usize) -> bool
     true
 }
 
-// Whether the rule and the widths of the first `count` tasks keep their promise for shorter jobs too: rules 2, 3 and 4, and any other where widths
-// never fall. The verdict asks it of a table, number 21 of a run.
+// Whether the rule and the widths of the first `count` tasks are firm, that is predictable for shorter jobs too: rules 2, 3 and 4, and any other where widths
+// never fall. The verdict tests it of a table, number 21 of a run.
 pub fn is_firm(rule: u32, tasks: [Task; MOST_TASKS], count: usize) -> bool
     requires { ⌜ count ≤ mostTasks ⌝ }
     ensures { λ r. ⌜ r ≡ firm (ruleOf rule) (tasksOf tasks count) ⌝ }
@@ -63,7 +63,7 @@ pub fn is_firm(rule: u32, tasks: [Task; MOST_TASKS], count: usize) -> bool
     if (2 <= rule) & (rule <= 4) {
         return true;
     }
-    rising(tasks, count)
+    parallelism_monotonic(tasks, count)
 }
 
 // The verdict on a table that misses no deadline.
@@ -81,7 +81,7 @@ pub fn accepted(table: Loaded) -> Verdict
 // The verdict of the full-length run: its first miss up to and including the horizon, or accepted.
 fn run(table: Loaded) -> Verdict
     requires { ⌜ Fit table ⌝ }
-    ensures { λ r. ⌜ r ≡ byMiss (missedBefore (tableIn table) (suc (table .horizon))) (acceptedOf table) ⌝ }
+    ensures { λ r. ⌜ r ≡ byMiss (missedBefore (loadedTable table) (suc (table .horizon))) (acceptedOf table) ⌝ }
 {
     let missed = misses::first_miss(table, table.horizon + 1);
     match missed {

@@ -1,4 +1,4 @@
--- What 'longer' and 'behind' say: as tests, of every kind of pair of lines, and of books: no book is longer than the full-length one,
+-- The meaning of 'longer' and 'behind': as tests, of every kind of pair of lines, and of books: no book is longer than the full-length one,
 -- and on a table that is Full and not Firm a list with no longer job can be behind.
 use mathlib.Core.Bool.{Bool, _&&_, _||_, false, not, true}
 use mathlib.Core.List.{List, [], map, _∷_}
@@ -14,10 +14,10 @@ use Rattle.model.proofs.Computing.{computing}
 use Rattle.model.proofs.Examples.{B, reports}
 use Rattle.model.proofs.Jobs.{mk}
 use Rattle.model.proofs.LineByLine.{LineByLine, by-line}
-use Rattle.model.proofs.Runs.{GoodBook, WholeBook, good-book, whole-empty}
-use Rattle.model.specs.Book.{Book, Entry, Job, book, quiet}
-use Rattle.model.specs.Compare.{Behind, FullLongest, KeepsAbreast, Longer, NoneLonger, behind, longer}
-use Rattle.model.specs.Task.{AllSound, Table, greedy}
+use Rattle.model.proofs.Runs.{BookBounds, WholeBook, bounds-book, whole-empty}
+use Rattle.model.specs.Book.{Book, Entry, Job, book, noReports}
+use Rattle.model.specs.Compare.{Behind, FullLongest, Sustainable, Longer, NoneLonger, behind, longer}
+use Rattle.model.specs.Task.{AllValid, Table, greedy}
 use Rattle.model.specs.Verdict.{Full, verdict}
 
 -- THE TESTS
@@ -84,7 +84,7 @@ pub record Pair : Type 0 where
   pub first-behind : Bool
   pub second-behind : Bool
 
--- what the definitions say of a pair
+-- the value by the definitions of a pair
 abbrev pub compared : Pair → Pair
 compared l = record {
   first = l .first;
@@ -106,7 +106,7 @@ going h c = mk h c false
 abbrev ended : ℕ → ℕ → Job
 ended h c = mk h c true
 
--- neither, one or both have ended; the first has had fewer, as many or more; the ticks claimed say nothing
+-- neither, one or both have ended; the first has had fewer, as many or more; the ticks claimed do not matter
 abbrev pub pairs : List Pair
 pairs =
     pair (going 1 1) (going 2 2) false false true false
@@ -125,7 +125,7 @@ pairs =
     ∷ pair (ended 2 2) (ended 2 5) false false false false
     ∷ []
 
--- every pair is what the definitions say, line by line
+-- every pair is its value by the definitions, line by line
 each-pair : LineByLine compared pairs pairs
 unfolding longer behind
 each-pair = (refl, (refl, (refl, (refl, (refl, (refl, (refl, (refl, (refl, (refl, (refl, (refl, (refl, (refl, tt))))))))))))))
@@ -137,7 +137,7 @@ pairs-compared = by-line compared pairs pairs each-pair
 -- BOOKS
 
 -- a book of good lines has no longer job than one in which jobs end only at C ticks
-pub none-longer : (s : Table) (a b : Book) → GoodBook s a → WholeBook s b → NoneLonger s a b
+pub none-longer : (s : Table) (a b : Book) → BookBounds s a → WholeBook s b → NoneLonger s a b
 none-longer s a b good whole p k l (e, x) = go x
   where
     go : (b .job p k .had < a .job p k .had) ⊎ ((a .job p k .had ≡ b .job p k .had) × (a .job p k .ended ≡ false)) → ⊥
@@ -145,23 +145,23 @@ none-longer s a b good whole p k l (e, x) = go x
     go (inr h) = omega (arith, good p k l .short (h .1), h .0, whole p k e)
 
 -- THE THEOREM: under every rule, Firm or not, no book is longer than the full-length one
-pub full-longest : (s : Table) → AllSound s → FullLongest s
-full-longest s ok xs n = none-longer s (book s xs) (book s (replicate n quiet)) (good-book s ok xs) (whole-empty s n)
+pub full-longest : (s : Table) → AllValid s → FullLongest s
+full-longest s ok xs n = none-longer s (book s xs) (book s (replicate n noReports)) (bounds-book s ok xs) (whole-empty s n)
 
 -- B UNDER GREEDY
 
-sound-B : AllSound (B greedy)
-sound-B zero l = record { odd-pos = omega arith; even-pos = omega arith; length-pos = omega arith; deadline-pos = omega arith; constrained = omega arith }
-sound-B (suc zero) l = record { odd-pos = omega arith; even-pos = omega arith; length-pos = omega arith; deadline-pos = omega arith; constrained = omega arith }
-sound-B (suc (suc zero)) l = record { odd-pos = omega arith; even-pos = omega arith; length-pos = omega arith; deadline-pos = omega arith; constrained = omega arith }
-sound-B (suc (suc (suc p))) l = absurd (omega arith)
+valid-B : AllValid (B greedy)
+valid-B zero l = record { odd-pos = omega arith; even-pos = omega arith; length-pos = omega arith; deadline-pos = omega arith; constrained = omega arith }
+valid-B (suc zero) l = record { odd-pos = omega arith; even-pos = omega arith; length-pos = omega arith; deadline-pos = omega arith; constrained = omega arith }
+valid-B (suc (suc zero)) l = record { odd-pos = omega arith; even-pos = omega arith; length-pos = omega arith; deadline-pos = omega arith; constrained = omega arith }
+valid-B (suc (suc (suc p))) l = absurd (omega arith)
 
 -- position 1 reported in tick 0, and the same ticks at full length
 abbrev one-reported : List Entry
-one-reported = reports 1 ∷ quiet ∷ []
+one-reported = reports 1 ∷ noReports ∷ []
 
 abbrev none-reported : List Entry
-none-reported = quiet ∷ quiet ∷ []
+none-reported = noReports ∷ noReports ∷ []
 
 -- at tick 2 the job of position 3 has ended at full length, and has had one tick where position 1 was reported in tick 0
 pub B-behind : Behind (book (B greedy) one-reported .job 2 0) (book (B greedy) none-reported .job 2 0)
@@ -169,6 +169,6 @@ unfolding computing
 B-behind = (refl, inl refl)
 
 -- both lists are at tick 2 and no job is longer in the first, which is behind: B is Full, and is not kept abreast
-pub full-not-abreast : (verdict (B greedy) ≡ Full 0 4) × (¬ KeepsAbreast (B greedy) one-reported none-reported)
+pub full-not-sustainable : (verdict (B greedy) ≡ Full 0 4) × (¬ Sustainable (B greedy) one-reported none-reported)
 unfolding computing
-full-not-abreast = (refl, λ h. h refl (full-longest (B greedy) sound-B one-reported 2) 2 0 (omega arith) B-behind)
+full-not-sustainable = (refl, λ h. h refl (full-longest (B greedy) valid-B one-reported 2) 2 0 (omega arith) B-behind)

@@ -1,17 +1,17 @@
--- What a computed example opens: where an `unfolding` line names `computing`, a table's verdict, and the answers, rows and book of a list, compute.
+-- Unfolding for the computed examples: where an `unfolding` line contains `computing`, a table's verdict, and the answers, rows and book of a list, compute.
 use Rattle.model.specs.Book.{afterTaken, answer, answersFrom, asked, bookFrom, borrowed, borrowing, claims, emptiable, emptied, enter, full}
-use Rattle.model.specs.Book.{late, misemptied, misreported, offer, reportable, rowsFrom, seeks, served, step, strangers, takenFrom, work, workLent}
-use Rattle.model.specs.Firm.{firm, rising}
+use Rattle.model.specs.Book.{late, wrongEmpties, wrongReports, offer, reportable, rowsFrom, seeks, served, step, unknownPositions, takenFrom, work, workLent}
+use Rattle.model.specs.Firm.{firm, parallelismMonotonic}
 use Rattle.model.specs.Grants.{claimants, given, grants, left}
 use Rattle.model.specs.Horizon.{S, horizon, hyperperiod, lcm}
-use Rattle.model.specs.Lending.{among, beside, lent}
+use Rattle.model.specs.Lending.{among, merged, lent}
 use Rattle.model.specs.Row.{owner, row}
-use Rattle.model.specs.Search.{any, kept, least, memb, upFrom}
+use Rattle.model.specs.Search.{any, filtered, least, member, upFrom}
 use Rattle.model.specs.Sets.{setOf, setsAsked}
 use Rattle.model.specs.Verdict.{firstMiss, missedAt, missedIn, verdict}
 
 unfoldable pub computing : Unit {0}
-unfolding verdict firstMiss missedIn missedAt firm rising horizon S hyperperiod lcm least any memb upFrom kept owner row given left grants claimants
-    claims served lent beside among borrowed borrowing offer seeks work workLent step full late reportable misreported emptied emptiable misemptied
-    strangers answer asked afterTaken enter bookFrom answersFrom takenFrom rowsFrom setOf setsAsked
+unfolding verdict firstMiss missedIn missedAt firm parallelismMonotonic horizon S hyperperiod lcm least any member upFrom filtered owner row given left grants claimants
+    claims served lent merged among borrowed borrowing offer seeks work workLent step full late reportable wrongReports emptied emptiable wrongEmpties
+    unknownPositions answer asked afterTaken enter bookFrom answersFrom takenFrom rowsFrom setOf setsAsked
 computing = tt

@@ -6,10 +6,10 @@ use Prim.Native.Nat.{_<_, ℕ, _≤_}
 use lib.ListN.{length}
 use Rattle.model.proofs.Jobs.{even-next, start-even}
 use Rattle.model.proofs.Lending.{not-borrowing, offer-none}
-use Rattle.model.proofs.Runs.{Move, book-run, good-book, moved, movesOf, run}
+use Rattle.model.proofs.Runs.{Move, book-run, bounds-book, moved, movesOf, run}
 use Rattle.model.specs.Book.{Book, Entry, book, emptied, emptyBook, releasedNow, served, step}
 use Rattle.model.specs.Lending.{lends}
-use Rattle.model.specs.Task.{AllSound, Table, task}
+use Rattle.model.specs.Task.{AllValid, Table, task}
 
 -- every job that has not ended has had as many ticks as it has claimed
 abbrev pub Even : Book → Type 0
@@ -37,6 +37,6 @@ module _ (s : Table) (keeps : lends (s .rule) ≡ false) where
 
 -- under rule 4 too it has had no fewer than it has claimed, for a lent tick is had and not claimed
 pub claimed-had :
-    (s : Table) → AllSound s → (xs : List Entry) (p k : ℕ) → p < length (s .tasks)
+    (s : Table) → AllValid s → (xs : List Entry) (p k : ℕ) → p < length (s .tasks)
     → book s xs .job p k .ended ≡ false → book s xs .job p k .claimed ≤ book s xs .job p k .had
-claimed-had s ok xs p k l = good-book s ok xs p k l .paid
+claimed-had s ok xs p k l = bounds-book s ok xs p k l .claimed-had

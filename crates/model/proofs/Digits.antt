@@ -165,12 +165,12 @@ without-bit a b i =
 -- ---- the set without one number
 
 -- the power of a number that is there is within the set, and the set without it has the others
-pub record Without (x p : ℕ) : Type 0 where
+pub record BitCleared (x p : ℕ) : Type 0 where
   pub within : 2 ^ p ≤ x
   pub others : (q : ℕ) → bit (x - 2 ^ p) q ≡ bit x q && not (eqb q p)
 
 -- from the half
-double : (x p : ℕ) → Without (x / 2) p → Without x (suc p)
+double : (x p : ℕ) → BitCleared (x / 2) p → BitCleared x (suc p)
 double x p half = record { within = omega (arith, pow-suc 2 p, half .within); others = go }
   where
     go : (q : ℕ) → bit (x - 2 ^ suc p) q ≡ bit x q && not (eqb q (suc p))
@@ -181,8 +181,8 @@ double x p half = record { within = omega (arith, pow-suc 2 p, half .within); ot
         let r : (x - 2 ^ suc p) / 2 ≡ x / 2 - 2 ^ p = omega (arith, pow-suc 2 p, half .within) in
         rw (bit-suc (x - 2 ^ suc p) q, r, bit-suc x q, eqb·suc-suc q p) (half .others q)
 
-pub without : (x p : ℕ) → bit x p ≡ true → Without x p
-without x zero e = record { within = omega (arith, odd); others = go }
+pub clear-bit : (x p : ℕ) → bit x p ≡ true → BitCleared x p
+clear-bit x zero e = record { within = omega (arith, odd); others = go }
   where
     odd : x % 2 ≡ 1
     odd = eqb-true (x % 2) 1 (sym (bit-zero x) ∙ e)
@@ -194,7 +194,7 @@ without x zero e = record { within = omega (arith, odd); others = go }
     go (suc q) =
         let r : (x - 1) / 2 ≡ x / 2 = omega (arith, odd) in
         rw (bit-suc (x - 1) q, r, bit-suc x q, eqb·suc-zero q) (sym (and-true (bit (x / 2) q)))
-without x (suc p) e = double x p (without (x / 2) p (sym (bit-suc x p) ∙ e))
+clear-bit x (suc p) e = double x p (clear-bit (x / 2) p (sym (bit-suc x p) ∙ e))
 
 -- ---- the lowest number of a set that is not empty
 
@@ -209,7 +209,7 @@ pub record Lowest (n q : ℕ) : Type 0 where
 
 lowest-is : (n q : ℕ) → bit n q ≡ true → ((i : ℕ) → i < q → bit n i ≡ false) → Lowest n q
 lowest-is n q h b =
-    let w = without n q h in
+    let w = clear-bit n q h in
     record {
       within = w .within;
       here = h;
@@ -263,15 +263,15 @@ cleared-from (suc d) n p h =
     omega (arith, and-step n (n - 1), i, ap (λ (x : ℕ). 2 ^ x) (tz-into d n (n / 2) z)))
     (eq-zero-or-pos (n % 2))
 
--- one turn of a walk through the d digits of a set: its lowest number, and the set without it
-pub record Turn (d n : ℕ) : Type 0 where
+-- one step of a walk through the d digits of a set: its lowest number, and the set without it
+pub record LowestDigit (d n : ℕ) : Type 0 where
   pub place : trailingZeros d n < d
   pub lowest : Lowest n (trailingZeros d n)
   pub after : bitAnd n (n - 1) ≡ n - 2 ^ trailingZeros d n
   pub falls : bitAnd n (n - 1) < n
 
-pub turn : (d n : ℕ) → 0 < n → n < 2 ^ d → Turn d n
-turn d n p h =
+pub lowest-digit : (d n : ℕ) → 0 < n → n < 2 ^ d → LowestDigit d n
+lowest-digit d n p h =
     let l = lowest-of d n p h in
     record {
       place = l .0;

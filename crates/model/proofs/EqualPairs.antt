@@ -8,8 +8,8 @@ use native.Mathlib.Omega.{arith}
 use lib.Dec.{eqb}
 use lib.ListN.{getD, length}
 use borrow.Author.Tests.{eq-eqb}
-use Rattle.model.specs.Firm.{Rising}
-use Rattle.model.specs.Task.{Task, cycle, nobody, widthOf}
+use Rattle.model.specs.Firm.{ParallelismMonotonic}
+use Rattle.model.specs.Task.{Task, cycle, absentTask, widthOf}
 
 pub equal-width : (τ : Task) → τ .oddWidth ≡ τ .evenWidth → (k : ℕ) → widthOf τ k ≡ τ .oddWidth
 equal-width τ e k = go (eqb (k % 2) 0)
@@ -22,10 +22,10 @@ pub equal-cycle : (τ : Task) → τ .oddWidth ≡ τ .evenWidth → cycle τ �
 equal-cycle τ e = rw (eq-eqb (τ .oddWidth) (τ .evenWidth) e)
 
 -- each width is at most the next
-pub equal-rising :
-    (τs : List Task) → ((p : ℕ) → p < length τs → getD τs p nobody .oddWidth ≡ getD τs p nobody .evenWidth)
-    → Rising τs ↔ ((p : ℕ) → suc p < length τs → getD τs p nobody .oddWidth ≤ getD τs (suc p) nobody .oddWidth)
-equal-rising τs e = (
+pub equal-monotonic :
+    (τs : List Task) → ((p : ℕ) → p < length τs → getD τs p absentTask .oddWidth ≡ getD τs p absentTask .evenWidth)
+    → ParallelismMonotonic τs ↔ ((p : ℕ) → suc p < length τs → getD τs p absentTask .oddWidth ≤ getD τs (suc p) absentTask .oddWidth)
+equal-monotonic τs e = (
   (λ h p l. omega (arith, h p l, e p (omega arith), e (suc p) l)),
   (λ h p l. omega (arith, h p l, e p (omega arith), e (suc p) l)),
 )

@@ -1,5 +1,6 @@
--- The lines of the scope's table of examples that are marked *, and lines of our own for what those leave open (16, two positions late at once, tables with a fence), computed from the definitions.
--- A line's list goes on where start would refuse the table by 13 (A2, F): the book of a list is defined for every table.
+-- The lines of the scope's table of examples that are marked *, and lines of our own for what those leave open (16, two positions late at once, tables with
+-- a fence), computed from the definitions. A line's list goes on where start would refuse the table by 13 (A2, F): the book of a list is defined for every
+-- table.
 use mathlib.Core.Bool.{false, true}
 use mathlib.Core.List.{List, [], map, _∷_}
 use mathlib.Core.Path.{refl, _≡_}
@@ -8,8 +9,8 @@ use Prim.Native.String.{String}
 use Rattle.model.proofs.Computing.{computing}
 use Rattle.model.proofs.LineByLine.{LineByLine, by-line}
 use Rattle.model.specs.Book.{Answer, Asked, Entry, advance, answersFrom, claims, emptyBook, fresh, refused, rowRefused, rowsFrom, shown, taken, takenOf}
-use Rattle.model.specs.Fence.{justOpen, spread}
-use Rattle.model.specs.Search.{kept, upFrom}
+use Rattle.model.specs.Fence.{unfencedTable, spread}
+use Rattle.model.specs.Search.{filtered, upFrom}
 use Rattle.model.specs.Task.{Rule, Table, Task, greedy, idling, limited}
 use Rattle.model.specs.Verdict.{Firm, Full, Miss, Verdict, verdict}
 
@@ -40,17 +41,17 @@ pub record Line : Type 0 where
   pub name : String
   pub table : Table
   pub entries : List Entry
-  pub says : Verdict
+  pub result : Verdict
   pub answers : List Answer
   pub rows : List Asked
 
--- what the definitions say of a line's table and list
+-- the value by the definitions of a line's table and list
 abbrev pub worked : Line → Line
 worked l = record {
   name = l .name;
   table = l .table;
   entries = l .entries;
-  says = verdict (l .table);
+  result = verdict (l .table);
   answers = answersFrom (l .table) emptyBook (l .entries);
   rows = rowsFrom (l .table) emptyBook (l .entries);
 }
@@ -61,7 +62,7 @@ reports x = advance x 0
 
 -- a line from its parts, the advances by their reports
 abbrev line : String → Table → Verdict → List ℕ → List Answer → List Asked → Line
-line n s v xs ws rs = record { name = n; table = s; entries = map reports xs; says = v; answers = ws; rows = rs }
+line n s v xs ws rs = record { name = n; table = s; entries = map reports xs; result = v; answers = ws; rows = rs }
 
 -- a row of two cores, and of three
 abbrev pub two : ℕ → ℕ → Asked
@@ -118,7 +119,7 @@ lines =
     (fencedOn 5 9 limited (A greedy .tasks)) (Miss 5 3) [] [] (shown (255 ∷ 1 ∷ 1 ∷ 255 ∷ 0 ∷ []) ∷ [])
     ∷ []
 
--- every line is what the definitions say, line by line
+-- every line is its value by the definitions, line by line
 computed : LineByLine worked lines lines
 unfolding computing
 computed = (refl, (refl, (refl, (refl, (refl, (refl, (refl, (refl, (refl, (refl, (refl, (refl, (refl, (refl, (refl, (refl, (refl, tt)))))))))))))))))
@@ -128,20 +129,20 @@ pub examples : map worked lines ≡ lines
 examples = by-line worked lines lines computed
 
 -- A on five cores with that fence is A with just its unfenced cores, and its rows are A's spread over them; with no fence a table is itself
-pub just-open : justOpen (fencedOn 5 9 greedy (A greedy .tasks)) ≡ A greedy
-unfolding kept upFrom
+pub just-open : unfencedTable (fencedOn 5 9 greedy (A greedy .tasks)) ≡ A greedy
+unfolding filtered upFrom
 just-open = refl
 
-pub just-all : justOpen (A limited) ≡ A limited
-unfolding kept upFrom
+pub just-all : unfencedTable (A limited) ≡ A limited
+unfolding filtered upFrom
 just-all = refl
 
 pub spread-row : spread 9 5 (1 ∷ 1 ∷ 3 ∷ []) ≡ 255 ∷ 1 ∷ 1 ∷ 255 ∷ 3 ∷ []
-unfolding spread kept upFrom
+unfolding spread filtered upFrom
 spread-row = refl
 
 pub spread-none : spread 0 3 (1 ∷ 1 ∷ 3 ∷ []) ≡ 1 ∷ 1 ∷ 3 ∷ []
-unfolding spread kept upFrom
+unfolding spread filtered upFrom
 spread-none = refl
 
 -- a job released at 1 with D 3 claims in ticks 1, 2 and 3, and not when it is due at 4 or later

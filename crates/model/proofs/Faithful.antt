@@ -1,4 +1,4 @@
--- The definitions say what the scope says: one claim a task loses nothing, the bounded searches miss nothing, S and P are what they are called.
+-- The definitions agree with the scope: one claim a task loses nothing, the bounded searches miss nothing, S and P are what they are called.
 use mathlib.Core.Bool.{_&&_, Bool, false, not, true, true≢false}
 use mathlib.Core.List.{List, [], _∷_}
 use mathlib.Core.Logic.{_↔_}
@@ -17,18 +17,18 @@ use Rattle.model.proofs.Runs.{early-book, full-tick, missed-at}
 use Rattle.model.proofs.Search.{any-of, any-some}
 use Rattle.model.proofs.Starts.{Periods, S-release, hyperperiod-cycles, hyperperiod-least, hyperperiod-pos, release-first, release-from}
 use Rattle.model.specs.Book.{AllTaken, Answer, Book, Entry, Job, Missed, advance, advanced, afterTaken, answer, answersFrom, book, bookFrom, claims}
-use Rattle.model.specs.Book.{emptiable, emptied, emptyBook, emptyIn, endedWith, enter, entered, full, jobClaims, keep, late, misemptied, misreported, only, refused}
-use Rattle.model.specs.Book.{reportable, step, strangers, taken, takenFrom, takenIn, takenOf, taskClaims, ticksOf, withdraw, withdrawAll, without}
+use Rattle.model.specs.Book.{emptiable, emptied, emptyBook, emptyIn, endedWith, enter, entered, full, jobClaims, keep, late, wrongEmpties, wrongReports, singleton, refused}
+use Rattle.model.specs.Book.{reportable, step, unknownPositions, taken, takenFrom, takenIn, takenOf, taskClaims, ticksOf, withdraw, withdrawAll, withWithdrawn}
 use Rattle.model.specs.Horizon.{Later, LeastCommonMultiple, S, hyperperiod, releaseFrom}
 use Rattle.model.specs.Search.{any, bit}
-use Rattle.model.specs.Task.{AllSound, Rule, Sound, Table, Task, due, newest, release, task}
+use Rattle.model.specs.Task.{AllValid, Rule, ValidTask, Table, Task, due, newest, release, task}
 use Rattle.model.specs.Verdict.{missedAt, missedIn}
 
 -- CLAIMS
 
 -- only the newest job of a task claims ..
 pub only-newest :
-    (s : Table) → AllSound s → (b : Book) (p k : ℕ) → p < length (s .tasks) → jobClaims s b p k ≡ true → newest (task s p) (b .tick) ≡ k
+    (s : Table) → AllValid s → (b : Book) (p k : ℕ) → p < length (s .tasks) → jobClaims s b p k ≡ true → newest (task s p) (b .tick) ≡ k
 only-newest s ok b p k l c =
     newest-is (task s p) k (b .tick) (ok p l .constrained)
     (after-release (s .rule) (task s p) k (b .tick) (b .job p k) c)
@@ -36,7 +36,7 @@ only-newest s ok b p k l c =
 
 -- .. so a task claims exactly if some job of it does
 pub claims-exact :
-    (s : Table) → AllSound s → (b : Book) (p : ℕ) → p < length (s .tasks)
+    (s : Table) → AllValid s → (b : Book) (p : ℕ) → p < length (s .tasks)
     → (taskClaims s b p ≡ true) ↔ ((k : ℕ) × (jobClaims s b p k ≡ true))
 claims-exact s ok b p l = (
   λ e. (newest (task s p) (b .tick), e),
@@ -54,12 +54,12 @@ no-claim-before r τ k t j h = not-true-false (claims r τ k t j) (λ e. let l =
 -- SEARCHES
 
 -- the number of a job is at most the tick that it is due
-job-number : (τ : Task) (k t : ℕ) → Sound τ → due τ k ≤ t → k < suc t
+job-number : (τ : Task) (k t : ℕ) → ValidTask τ → due τ k ≤ t → k < suc t
 job-number τ k t ok h = omega (arith, mul-le-mul-left k (le-trans (ok .deadline-pos) (ok .constrained)), mul-one k)
 
 -- a place is late exactly if some job of it, of any number, has r + D at or before t and has not ended
 pub late-exact :
-    (s : Table) → AllSound s → (b : Book) (p : ℕ) → p < length (s .tasks)
+    (s : Table) → AllValid s → (b : Book) (p : ℕ) → p < length (s .tasks)
     → (late s b p ≡ true) ↔ ((k : ℕ) × (due (task s p) k ≤ b .tick) × (b .job p k .ended ≡ false))
 unfolding late
 late-exact s ok b p l = (
@@ -86,30 +86,30 @@ set-exact x f = (
         go false q = leb-false x p q
 
 -- a report set is refused by 16 exactly if some bit of it, however high, is set for a position that may not be reported
-pub misreported-exact :
+pub wrong-reports-exact :
     (s : Table) (b : Book) (x : ℕ)
-    → (misreported s b x ≡ true) ↔ ((p : ℕ) × (bit x p ≡ true) × (reportable s b p ≡ false))
-unfolding misreported
-misreported-exact s b x = set-exact x (reportable s b)
+    → (wrongReports s b x ≡ true) ↔ ((p : ℕ) × (bit x p ≡ true) × (reportable s b p ≡ false))
+unfolding wrongReports
+wrong-reports-exact s b x = set-exact x (reportable s b)
 
 -- and a set of empty jobs by 20, where some bit is set for a position that may not be empty
-pub misemptied-exact :
+pub wrong-empties-exact :
     (s : Table) (b : Book) (e : ℕ)
-    → (misemptied s b e ≡ true) ↔ ((p : ℕ) × (bit e p ≡ true) × (emptiable s b p ≡ false))
-unfolding misemptied
-misemptied-exact s b e = set-exact e (emptiable s b)
+    → (wrongEmpties s b e ≡ true) ↔ ((p : ℕ) × (bit e p ≡ true) × (emptiable s b p ≡ false))
+unfolding wrongEmpties
+wrong-empties-exact s b e = set-exact e (emptiable s b)
 
 -- and a set to be withdrawn by 22, where some bit is set for a position that is none of the table's
-pub strangers-exact : (s : Table) (x : ℕ) → (strangers s x ≡ true) ↔ ((p : ℕ) × (bit x p ≡ true) × (length (s .tasks) ≤ p))
-unfolding strangers
-strangers-exact s x = (
+pub unknown-positions-exact : (s : Table) (x : ℕ) → (unknownPositions s x ≡ true) ↔ ((p : ℕ) × (bit x p ≡ true) × (length (s .tasks) ≤ p))
+unfolding unknownPositions
+unknown-positions-exact s x = (
   λ e. let y = set-exact x (λ p. ltb p (length (s .tasks))) .0 e in (y .0, y .1, ltb-false (y .0) (length (s .tasks)) (y .2)),
   λ y. set-exact x (λ p. ltb p (length (s .tasks))) .1 (y .0, y .1, le-ltb (y .0) (length (s .tasks)) (y .2)),
 )
 
 -- a position may be empty exactly if it is one of the table and some job of it, of any number, is released in this tick and has not ended
 pub emptiable-exact :
-    (s : Table) → AllSound s → (b : Book) (p : ℕ)
+    (s : Table) → AllValid s → (b : Book) (p : ℕ)
     → (emptiable s b p ≡ true) ↔ ((p < length (s .tasks)) × ((k : ℕ) × (release (task s p) k ≡ b .tick) × (b .job p k .ended ≡ false)))
 unfolding emptiable
 emptiable-exact s ok b p = (
@@ -152,7 +152,7 @@ empty-ends s xs e p k h r =
 
 -- a deadline of place p is found missed at t exactly if it is
 pub missed-exact :
-    (s : Table) → AllSound s → (t p : ℕ) → p < length (s .tasks) → (missedAt s t p ≡ true) ↔ Missed s p t
+    (s : Table) → AllValid s → (t p : ℕ) → p < length (s .tasks) → (missedAt s t p ≡ true) ↔ Missed s p t
 unfolding missedAt
 missed-exact s ok t p l = (
   λ e. let x = any-some (suc t) (λ k. eqb (due (task s p) k) t && not (full s t .job p k .ended)) e in
@@ -168,7 +168,7 @@ missed-exact s ok t p l = (
 
 -- and at some place of the table
 pub missed-in-exact :
-    (s : Table) → AllSound s → (t : ℕ) → (missedIn s t ≡ true) ↔ ((p : ℕ) × Missed s p t)
+    (s : Table) → AllValid s → (t : ℕ) → (missedIn s t ≡ true) ↔ ((p : ℕ) × Missed s p t)
 unfolding missedIn
 missed-in-exact s ok t = (
   λ e. let x = any-some (length (s .tasks)) (missedAt s t) e in (x .0, missed-exact s ok t (x .0) (x .1) .0 (x .2)),
@@ -185,9 +185,9 @@ tick-from s (x ∷ xs) b = go x (answer s b x) (tick-from s xs)
         → bookFrom s (entered w (afterTaken s x b) b) xs .tick ≡ b .tick + (ticksOf x w + takenIn xs (answersFrom s (entered w (afterTaken s x b) b) xs))
     go (advance x e) taken ih = ih (advanced s (bit x) (emptyIn b e) b) ∙ omega arith
     go (advance x e) (refused n p) ih = ih b ∙ omega arith
-    go (withdraw p) taken ih = ih (without (only p) b) ∙ omega arith
+    go (withdraw p) taken ih = ih (withWithdrawn (singleton p) b) ∙ omega arith
     go (withdraw p) (refused n q) ih = ih b ∙ omega arith
-    go (withdrawAll x) taken ih = ih (without x b) ∙ omega arith
+    go (withdrawAll x) taken ih = ih (withWithdrawn x b) ∙ omega arith
     go (withdrawAll x) (refused n q) ih = ih b ∙ omega arith
 
 pub tick-taken : (s : Table) (xs : List Entry) → book s xs .tick ≡ takenIn xs (answersFrom s emptyBook xs)
@@ -242,7 +242,7 @@ pub S-first : (s : Table) → S (s .tasks) 0 ≡ task s 0 .offset
 unfolding S
 S-first s = refl
 
-pub S-later : (s : Table) → AllSound s → (p : ℕ) → suc p < length (s .tasks) → Later (task s (suc p)) (S (s .tasks) p) (S (s .tasks) (suc p))
+pub S-later : (s : Table) → AllValid s → (p : ℕ) → suc p < length (s .tasks) → Later (task s (suc p)) (S (s .tasks) p) (S (s .tasks) (suc p))
 unfolding S
 S-later s ok p l =
     let τ : Task = task s (suc p) in
@@ -256,7 +256,7 @@ S-later s ok p l =
     }
 
 -- P is the least of the positive common multiples of the periods
-pub P-exact : (s : Table) → AllSound s → LeastCommonMultiple (s .tasks) (hyperperiod (s .tasks))
+pub P-exact : (s : Table) → AllValid s → LeastCommonMultiple (s .tasks) (hyperperiod (s .tasks))
 P-exact s ok =
     let periods : Periods (s .tasks) = λ p l. le-trans (ok p l .deadline-pos) (ok p l .constrained) in
     record {

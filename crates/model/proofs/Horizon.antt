@@ -15,12 +15,12 @@ use Rattle.model.proofs.Grants.{claimants-cut, grants-take}
 use Rattle.model.proofs.Jobs.{after-release, before-due, claims-if, newest-is, still}
 use Rattle.model.proofs.Lists.{map-first}
 use Rattle.model.proofs.Runs.{full-fresh, full-next, full-tick, missed-at}
-use Rattle.model.proofs.Starts.{Periods, S-last, S-release, S-rises, hyperperiod-divides, hyperperiod-pos, width-shift}
+use Rattle.model.proofs.Starts.{Periods, S-last, S-release, S-monotonic, hyperperiod-divides, hyperperiod-pos, width-shift}
 use Rattle.model.specs.Book.{Job, Missed, NeverMissed, claims, full, inRow, jobClaims, served, taskClaims, widths}
 use Rattle.model.specs.Grants.{claimants, grants, some}
 use Rattle.model.specs.Horizon.{S, horizon, hyperperiod}
-use Rattle.model.specs.Fence.{openCores}
-use Rattle.model.specs.Task.{AllSound, Rule, Table, Task, due, newest, nobody, release, task, widthOf}
+use Rattle.model.specs.Fence.{unfencedCores}
+use Rattle.model.specs.Task.{AllValid, Rule, Table, Task, due, newest, absentTask, release, task, widthOf}
 
 -- claims at a tick and P later are the same
 claims-shift :
@@ -59,7 +59,7 @@ factor : (m n : ℕ) → 0 < m * n → 0 < m
 factor zero n h = omega arith
 factor (suc m) n h = omega arith
 
-module _ (s : Table) (ok : AllSound s) where
+module _ (s : Table) (ok : AllValid s) where
   abbrev P : ℕ
   P = hyperperiod (s .tasks)
 
@@ -127,8 +127,8 @@ module _ (s : Table) (ok : AllSound s) where
 
   widths-repeat : (p : ℕ) → p < length (s .tasks) → (t : ℕ) → S (s .tasks) p ≤ t → take (suc p) (widths s t) ≡ take (suc p) (widths s (t + P))
   widths-repeat p l t h =
-      map-first (λ τ. widthOf τ (newest τ t)) (λ τ. widthOf τ (newest τ (t + P))) nobody (suc p) (s .tasks)
-      (λ q g i. width-repeat q i t (le-trans (S-rises (s .tasks) q p periods (le-of-suc-le-suc g) l) h))
+      map-first (λ τ. widthOf τ (newest τ t)) (λ τ. widthOf τ (newest τ (t + P))) absentTask (suc p) (s .tasks)
+      (λ q g i. width-repeat q i t (le-trans (S-monotonic (s .tasks) q p periods (le-of-suc-le-suc g) l) h))
 
   module _ (p : ℕ) (l : p < length (s .tasks)) (above : (q : ℕ) → q < p → Repeats q) (m : ℕ) (e : P ≡ m * task s p .period) where
     -- a job is in the row exactly if the job P later is
@@ -139,7 +139,7 @@ module _ (s : Table) (ok : AllSound s) where
     served-repeat k t h same =
         same-and (jobClaims s (full s t) p k) (jobClaims s (full s (t + P)) p (k + m))
         (inRow s (full s t) p) (inRow s (full s (t + P)) p) own
-        (λ c. ap some (row-local (s .rule) (widths s (full s t .tick)) (widths s (full s (t + P) .tick)) (openCores s) (taskClaims s (full s t)) (taskClaims s (full s (t + P))) p
+        (λ c. ap some (row-local (s .rule) (widths s (full s t .tick)) (widths s (full s (t + P) .tick)) (unfencedCores s) (taskClaims s (full s t)) (taskClaims s (full s (t + P))) p
         (rw (full-tick s t, full-tick s (t + P)) (widths-repeat p l t h)) (all c)))
       where
         own : jobClaims s (full s t) p k ≡ jobClaims s (full s (t + P)) p (k + m)
@@ -160,7 +160,7 @@ module _ (s : Table) (ok : AllSound s) where
             ∙ (own ∙ ap (λ (x : ℕ). jobClaims s (full s (t + P)) p x) (sym (new (t + P) (k + m) (sym own ∙ c))))))
             (λ (i : q < p).
             claims-repeat q (le-trans i (le-trans (omega arith) l)) (above q i) t
-            (le-trans (S-rises (s .tasks) q p periods g l) h))
+            (le-trans (S-monotonic (s .tasks) q p periods g l) h))
             (eq-or-lt-of-le g)
 
     job-repeat :
@@ -238,7 +238,7 @@ module _ (s : Table) (ok : AllSound s) where
 
 -- THE THEOREM. For all four rules: if no deadline up to and including the horizon is missed at full length, none ever is
 pub horizon-enough :
-    (s : Table) → AllSound s
+    (s : Table) → AllValid s
     → ((p t : ℕ) → t ≤ horizon s → ¬ Missed s p t)
     → NeverMissed s
 horizon-enough s ok hyp p t (l, (k, e, o)) =

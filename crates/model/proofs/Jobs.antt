@@ -87,18 +87,18 @@ longer-right C f true a h c true l = l
 longer-right C f true a h c false l = absurd (false≢true (l .0))
 
 -- a job that is not behind, that runs where the other runs, and that is not longer after the tick, is not behind after it
-pub abreast :
+pub sustained-line :
     (C : ℕ) (f g s t : Bool) (h c : ℕ) (e : Bool) (h′ c′ : ℕ) (e′ : Bool)
     → ¬ Behind (mk h c e) (mk h′ c′ e′)
     → (e ≡ false → t ≡ true → s ≡ true)
     → ¬ Longer (next C f s (mk h c e)) (next C g t (mk h′ c′ e′))
     → ¬ Behind (next C f s (mk h c e)) (next C g t (mk h′ c′ e′))
 unfolding work
-abreast C f g true t h c true h′ c′ e′ nb both nl (o, x) = absurd (true≢false o)
-abreast C f g false t h c true h′ c′ e′ nb both nl (o, x) = absurd (true≢false o)
-abreast C f g true t h c false h′ c′ true nb both nl (o, x) = absurd (nb (refl, inl refl))
-abreast C f g false t h c false h′ c′ true nb both nl (o, x) = absurd (nb (refl, inl refl))
-abreast C f g true true h c false h′ c′ false nb both nl (o, x) = go x
+sustained-line C f g true t h c true h′ c′ e′ nb both nl (o, x) = absurd (true≢false o)
+sustained-line C f g false t h c true h′ c′ e′ nb both nl (o, x) = absurd (true≢false o)
+sustained-line C f g true t h c false h′ c′ true nb both nl (o, x) = absurd (nb (refl, inl refl))
+sustained-line C f g false t h c false h′ c′ true nb both nl (o, x) = absurd (nb (refl, inl refl))
+sustained-line C f g true true h c false h′ c′ false nb both nl (o, x) = go x
   where
     less : ¬ (h < h′)
     less l = nb (refl, inr (refl, l))
@@ -110,7 +110,7 @@ abreast C f g true true h c false h′ c′ false nb both nl (o, x) = go x
         (λ (q : suc h′ < suc h). nl (d, inl q))
         (eq-or-lt-of-le (omega (arith, less)))
     go (inr d) = less (omega arith)
-abreast C f g true false h c false h′ c′ false nb both nl (o, x) = go x
+sustained-line C f g true false h c false h′ c′ false nb both nl (o, x) = go x
   where
     less : ¬ (h < h′)
     less l = nb (refl, inr (refl, l))
@@ -118,29 +118,29 @@ abreast C f g true false h c false h′ c′ false nb both nl (o, x) = go x
     go : (false ≡ true) ⊎ ((false ≡ false) × (suc h < h′)) → ⊥
     go (inl d) = false≢true d
     go (inr d) = less (omega arith)
-abreast C f g false true h c false h′ c′ false nb both nl (o, x) = false≢true (both refl refl)
-abreast C f g false false h c false h′ c′ false nb both nl (o, x) = nb (refl, x)
+sustained-line C f g false true h c false h′ c′ false nb both nl (o, x) = false≢true (both refl refl)
+sustained-line C f g false false h c false h′ c′ false nb both nl (o, x) = nb (refl, x)
 
 -- what holds of every line of a book: at most C ticks had; and while it has not ended, fewer, and no fewer than claimed
-pub record Good (C : ℕ) (j : Job) : Type 0 where
+pub record LineBounds (C : ℕ) (j : Job) : Type 0 where
   pub within : j .had ≤ C
   pub short : j .ended ≡ false → j .had < C
-  pub paid : j .ended ≡ false → j .claimed ≤ j .had
+  pub claimed-had : j .ended ≡ false → j .claimed ≤ j .had
 
-pub good-fresh : (C : ℕ) → 1 ≤ C → Good C (mk 0 0 false)
-good-fresh C h = record { within = omega arith; short = λ e. h; paid = λ e. omega arith }
+pub bounds-fresh : (C : ℕ) → 1 ≤ C → LineBounds C (mk 0 0 false)
+bounds-fresh C h = record { within = omega arith; short = λ e. h; claimed-had = λ e. omega arith }
 
-pub good-next : (C : ℕ) (f s : Bool) (h c : ℕ) (e : Bool) → Good C (mk h c e) → Good C (next C f s (mk h c e))
+pub bounds-next : (C : ℕ) (f s : Bool) (h c : ℕ) (e : Bool) → LineBounds C (mk h c e) → LineBounds C (next C f s (mk h c e))
 unfolding work
-good-next C f false h c e g = g
-good-next C f true h c true g = record { within = g .within; short = λ o. absurd (true≢false o); paid = λ o. absurd (true≢false o) }
-good-next C f true h c false g = record {
+bounds-next C f false h c e g = g
+bounds-next C f true h c true g = record { within = g .within; short = λ o. absurd (true≢false o); claimed-had = λ o. absurd (true≢false o) }
+bounds-next C f true h c false g = record {
   within = g .short refl;
   short = λ o. leb-false C (suc h) (or-right-false f (leb C (suc h)) o);
-  paid = λ o. omega (arith, g .paid refl);
+  claimed-had = λ o. omega (arith, g .claimed-had refl);
 }
 
--- where nobody lends, a job that has not ended has had as many ticks as it has claimed
+-- where no place lends, a job that has not ended has had as many ticks as it has claimed
 pub even-next :
     (C : ℕ) (f s : Bool) (h c : ℕ) (e : Bool) → (e ≡ false → c ≡ h)
     → next C f s (mk h c e) .ended ≡ false → next C f s (mk h c e) .claimed ≡ next C f s (mk h c e) .had
@@ -164,42 +164,42 @@ next-claimed C f true h c true = refl
 next-claimed C f true h c false = refl
 
 -- LENDING: a job after a tick in which it was given cores (s), or borrowed some (l), or neither
-abbrev pub turn : ℕ → Bool → Bool → Bool → Job → Job
-turn C f s l j = cond s (work C f j) (cond l (workLent C f j) j)
+abbrev pub lineStep : ℕ → Bool → Bool → Bool → Job → Job
+lineStep C f s l j = cond s (work C f j) (cond l (workLent C f j) j)
 
-pub turn-ended : (C : ℕ) (f s l : Bool) (j : Job) → j .ended ≡ true → (turn C f s l j .ended ≡ true) × (turn C f s l j .had ≡ j .had)
+pub step-ended : (C : ℕ) (f s l : Bool) (j : Job) → j .ended ≡ true → (lineStep C f s l j .ended ≡ true) × (lineStep C f s l j .had ≡ j .had)
 unfolding workLent
-turn-ended C f true l j e = next-ended C f true j e
-turn-ended C f false true j e = rw e (refl, refl)
-turn-ended C f false false j e = (e, refl)
+step-ended C f true l j e = next-ended C f true j e
+step-ended C f false true j e = rw e (refl, refl)
+step-ended C f false false j e = (e, refl)
 
-pub turn-good : (C : ℕ) (f s l : Bool) (h c : ℕ) (e : Bool) → Good C (mk h c e) → Good C (turn C f s l (mk h c e))
+pub step-bounds : (C : ℕ) (f s l : Bool) (h c : ℕ) (e : Bool) → LineBounds C (mk h c e) → LineBounds C (lineStep C f s l (mk h c e))
 unfolding workLent
-turn-good C f true l h c e g = good-next C f true h c e g
-turn-good C f false false h c e g = g
-turn-good C f false true h c true g = g
-turn-good C f false true h c false g = record {
+step-bounds C f true l h c e g = bounds-next C f true h c e g
+step-bounds C f false false h c e g = g
+step-bounds C f false true h c true g = g
+step-bounds C f false true h c false g = record {
   within = g .short refl;
   short = λ o. leb-false C (suc h) (or-right-false f (leb C (suc h)) o);
-  paid = λ o. omega (arith, g .paid refl);
+  claimed-had = λ o. omega (arith, g .claimed-had refl);
 }
 
-pub turn-whole :
+pub step-whole :
     (C : ℕ) (s l : Bool) (h c : ℕ) (e : Bool) → (e ≡ true → C ≤ h)
-    → turn C false s l (mk h c e) .ended ≡ true → C ≤ turn C false s l (mk h c e) .had
+    → lineStep C false s l (mk h c e) .ended ≡ true → C ≤ lineStep C false s l (mk h c e) .had
 unfolding workLent
-turn-whole C true l h c e w o = whole-next C true h c e w o
-turn-whole C false false h c e w o = w o
-turn-whole C false true h c true w o = w o
-turn-whole C false true h c false w o = leb-true C (suc h) o
+step-whole C true l h c e w o = whole-next C true h c e w o
+step-whole C false false h c e w o = w o
+step-whole C false true h c true w o = w o
+step-whole C false true h c false w o = leb-true C (suc h) o
 
 -- ticks claimed do not grow by lent ones
-pub turn-claimed : (C : ℕ) (f s l : Bool) (h c : ℕ) (e : Bool) → turn C f s l (mk h c e) .claimed ≡ cond s (suc c) c
+pub step-claimed : (C : ℕ) (f s l : Bool) (h c : ℕ) (e : Bool) → lineStep C f s l (mk h c e) .claimed ≡ cond s (suc c) c
 unfolding workLent
-turn-claimed C f true l h c e = next-claimed C f true h c e
-turn-claimed C f false false h c e = refl
-turn-claimed C f false true h c true = refl
-turn-claimed C f false true h c false = refl
+step-claimed C f true l h c e = next-claimed C f true h c e
+step-claimed C f false false h c e = refl
+step-claimed C f false true h c true = refl
+step-claimed C f false true h c false = refl
 
 -- EMPTY JOBS
 
@@ -211,49 +211,49 @@ pub start-claimed : (x : Bool) (j : Job) → start x j .claimed ≡ j .claimed
 start-claimed true j = refl
 start-claimed false j = refl
 
-pub start-good : (C : ℕ) (x : Bool) (j : Job) → Good C j → Good C (start x j)
-start-good C true j g = record { within = g .within; short = λ o. absurd (true≢false o); paid = λ o. absurd (true≢false o) }
-start-good C false j g = g
+pub start-bounds : (C : ℕ) (x : Bool) (j : Job) → LineBounds C j → LineBounds C (start x j)
+start-bounds C true j g = record { within = g .within; short = λ o. absurd (true≢false o); claimed-had = λ o. absurd (true≢false o) }
+start-bounds C false j g = g
 
 pub start-even : (x : Bool) (j : Job) → (j .ended ≡ false → j .claimed ≡ j .had) → start x j .ended ≡ false → start x j .claimed ≡ start x j .had
 start-even true j g o = absurd (true≢false o)
 start-even false j g o = g o
 
 -- an empty job is behind nothing
-pub start-near : (x : Bool) (a b : Job) → ¬ Behind a b → ¬ Behind (start x a) b
-start-near true a b nb h = true≢false (h .0)
-start-near false a b nb h = nb h
+pub start-not-behind : (x : Bool) (a b : Job) → ¬ Behind a b → ¬ Behind (start x a) b
+start-not-behind true a b nb h = true≢false (h .0)
+start-not-behind false a b nb h = nb h
 
 -- of two jobs just released, of which the first is not longer, the first is not behind
-pub fresh-near : (x y : Bool) → ¬ Longer (start x (mk 0 0 false)) (start y (mk 0 0 false)) → ¬ Behind (start x (mk 0 0 false)) (start y (mk 0 0 false))
-fresh-near true y nl h = true≢false (h .0)
-fresh-near false true nl h = nl (refl, inr (refl, refl))
-fresh-near false false nl (o, inl d) = false≢true d
-fresh-near false false nl (o, inr d) = omega arith
+pub fresh-not-behind : (x y : Bool) → ¬ Longer (start x (mk 0 0 false)) (start y (mk 0 0 false)) → ¬ Behind (start x (mk 0 0 false)) (start y (mk 0 0 false))
+fresh-not-behind true y nl h = true≢false (h .0)
+fresh-not-behind false true nl h = nl (refl, inr (refl, refl))
+fresh-not-behind false false nl (o, inl d) = false≢true d
+fresh-not-behind false false nl (o, inr d) = omega arith
 
 -- a rule under which a job that ended claims until it has claimed C ticks
 abbrev pub Reserving : Rule → Type 0
 Reserving r = (τ : Task) (j : Job) → holds r τ j ≡ ltb (j .claimed) (τ .length)
 
 -- under such a rule a good line claims by its window and the ticks claimed
-idle-test : (C h c : ℕ) (e : Bool) → Good C (mk h c e) → not e || ltb c C ≡ ltb c C
+idle-test : (C h c : ℕ) (e : Bool) → LineBounds C (mk h c e) → not e || ltb c C ≡ ltb c C
 idle-test C h c true g = refl
-idle-test C h c false g = sym (lt-ltb c C (omega (arith, g .paid refl, g .short refl)))
+idle-test C h c false g = sym (lt-ltb c C (omega (arith, g .claimed-had refl, g .short refl)))
 
 pub idle-claims :
-    (r : Rule) → Reserving r → (τ : Task) (k t : ℕ) (a b : Job) → Good (τ .length) a → Good (τ .length) b → a .claimed ≡ b .claimed
+    (r : Rule) → Reserving r → (τ : Task) (k t : ℕ) (a b : Job) → LineBounds (τ .length) a → LineBounds (τ .length) b → a .claimed ≡ b .claimed
     → claims r τ k t a ≡ claims r τ k t b
 unfolding claims
 idle-claims r q τ k t a b ga gb e =
     rw (q τ a, q τ b, idle-test (τ .length) (a .had) (a .claimed) (a .ended) ga, idle-test (τ .length) (b .had) (b .claimed) (b .ended) gb, e)
 
 -- a rule under which a job that ended claims no more
-abbrev pub Letting : Rule → Type 0
-Letting r = (τ : Task) (j : Job) → holds r τ j ≡ false
+abbrev pub Releasing : Rule → Type 0
+Releasing r = (τ : Task) (j : Job) → holds r τ j ≡ false
 
 -- under such a rule a job that claims, and is not behind, claims in the other book too
 pub claims-less :
-    (r : Rule) (τ : Task) (k t : ℕ) (a b : Job) → Letting r → ¬ Behind a b
+    (r : Rule) (τ : Task) (k t : ℕ) (a b : Job) → Releasing r → ¬ Behind a b
     → claims r τ k t a ≡ true → claims r τ k t b ≡ true
 claims-less r τ k t a b q nb e =
     let o : a .ended ≡ false = not-true (a .ended) (or-left-true (not (a .ended)) (holds r τ a) (still r τ k t a e) (q τ a)) in

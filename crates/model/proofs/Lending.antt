@@ -16,10 +16,10 @@ use Rattle.model.proofs.Jobs.{done-off}
 use Rattle.model.proofs.Lists.{take-map}
 use Rattle.model.specs.Book.{Book, borrowed, borrowing, borrows, grantsOf, inRow, jobClaims, lentOf, newestEnded, offer, seeks, shownOf}
 use Rattle.model.specs.Book.{taskClaims, widths}
-use Rattle.model.specs.Fence.{openCores}
+use Rattle.model.specs.Fence.{unfencedCores}
 use Rattle.model.specs.Grants.{Claimant, claimants, grants, some}
-use Rattle.model.specs.Lending.{among, beside, lendOnce, lends, lent, shownCores, tries, unlent}
-use Rattle.model.specs.Search.{kept, memb}
+use Rattle.model.specs.Lending.{among, merged, lendOnce, lends, lent, shownCores, tries, unlent}
+use Rattle.model.specs.Search.{filtered, member}
 use Rattle.model.specs.Task.{Rule, Table, greedy, lending, limited, idling, newest, task, widthOf}
 
 -- the rules but rule 4 lend nothing
@@ -31,7 +31,7 @@ not-lending lending h = absurd (h refl)
 
 -- WHERE NOTHING IS OFFERED
 
--- of no free cores nobody is given any
+-- of no free cores no place is given any
 grants-nothing : (r : Rule) (bs : List Claimant) (q : ℕ) → getD (grants r bs []) q [] ≡ []
 unfolding grants
 grants-nothing r [] q = refl
@@ -39,16 +39,16 @@ grants-nothing r (b ∷ bs) zero = given-nothing b
 grants-nothing r (b ∷ bs) (suc q) = rw (left-nothing r b) (grants-nothing r bs q)
 
 -- nothing beside a list changes nothing, ..
-beside-none : (gs hs : List (List ℕ)) → ((q : ℕ) → getD hs q [] ≡ []) → beside gs hs ≡ gs
-unfolding beside
+beside-none : (gs hs : List (List ℕ)) → ((q : ℕ) → getD hs q [] ≡ []) → merged gs hs ≡ gs
+unfolding merged
 beside-none [] hs e = refl
 beside-none (g ∷ gs) [] e = refl
 beside-none (g ∷ gs) (h ∷ hs) e =
     ap₂ (λ (x : List ℕ) (l : List (List ℕ)). x ∷ l) (ap (λ (x : List ℕ). g ++ x) (e 0) ∙ append-nil g) (beside-none gs hs (λ q. e (suc q)))
 
 -- .. and nothing at a place nothing there
-beside-at : (gs hs : List (List ℕ)) (q : ℕ) → getD hs q [] ≡ [] → getD (beside gs hs) q [] ≡ getD gs q []
-unfolding beside
+beside-at : (gs hs : List (List ℕ)) (q : ℕ) → getD hs q [] ≡ [] → getD (merged gs hs) q [] ≡ getD gs q []
+unfolding merged
 beside-at [] hs q e = refl
 beside-at (g ∷ gs) [] q e = refl
 beside-at (g ∷ gs) (h ∷ hs) zero e = ap (λ (x : List ℕ). g ++ x) e ∙ append-nil g
@@ -74,8 +74,8 @@ lent-nothing ws sk o e (suc n) q =
 
 -- LOCALITY: what the first n places borrow depends on the first n places alone
 
-beside-take : (n : ℕ) (gs hs : List (List ℕ)) → take n (beside gs hs) ≡ beside (take n gs) (take n hs)
-unfolding beside
+beside-take : (n : ℕ) (gs hs : List (List ℕ)) → take n (merged gs hs) ≡ merged (take n gs) (take n hs)
+unfolding merged
 beside-take zero gs hs = refl
 beside-take (suc n) [] hs = refl
 beside-take (suc n) (g ∷ gs) [] = refl
@@ -93,7 +93,7 @@ lent-local n ws vs sk sk′ o o′ e es eo (suc m) l = go (lent ws sk o m) (lent
     go : (bs bs′ : List (List ℕ)) → take n bs ≡ take n bs′ → take n (lendOnce ws sk (o m) m bs) ≡ take n (lendOnce vs sk′ (o′ m) m bs′)
     go bs bs′ ih =
         beside-take n bs (grants greedy (claimants ws (tries sk m bs)) (o m))
-        ∙ (ap₂ beside ih
+        ∙ (ap₂ merged ih
         (grants-take greedy n (claimants ws (tries sk m bs)) (o m)
         ∙ (ap₂ (grants greedy) (claimants-cut n ws vs (tries sk m bs) (tries sk′ m bs′) e same) (eo m l)
         ∙ sym (grants-take greedy n (claimants vs (tries sk′ m bs′)) (o′ m))))
@@ -105,28 +105,28 @@ lent-local n ws vs sk sk′ o o′ e es eo (suc m) l = go (lent ws sk o m) (lent
             rw (es q h, x)
 
 -- a place and those below it lend it nothing: what it borrows is settled once the places above it have lent
-pub lent-settled :
+pub lent-final :
     (ws : List ℕ) (sk : ℕ → Bool) (o : ℕ → List ℕ) (p d : ℕ) → getD (lent ws sk o (p + d)) p [] ≡ getD (lent ws sk o p) p []
 unfolding lent
-lent-settled ws sk o p zero = rw add-zero
-lent-settled ws sk o p (suc d) = rw add-suc (later (lent ws sk o (p + d)) ∙ lent-settled ws sk o p d)
+lent-final ws sk o p zero = rw add-zero
+lent-final ws sk o p (suc d) = rw add-suc (later (lent ws sk o (p + d)) ∙ lent-final ws sk o p d)
   where
     later : (bs : List (List ℕ)) → getD (lendOnce ws sk (o (p + d)) (p + d) bs) p [] ≡ getD bs p []
     later bs =
         beside-at bs (grants greedy (claimants ws (tries sk (p + d) bs)) (o (p + d))) p
         (grants-none greedy ws (tries sk (p + d) bs) (o (p + d)) p (rw (le-ltb (p + d) p (omega arith))))
 
--- WHO BORROWS
+-- PLACES THAT BORROW
 
-beside-some : (gs hs : List (List ℕ)) (q : ℕ) → some (getD (beside gs hs) q []) ≡ true → (some (getD gs q []) ≡ true) ⊎ (some (getD hs q []) ≡ true)
-unfolding beside
+beside-some : (gs hs : List (List ℕ)) (q : ℕ) → some (getD (merged gs hs) q []) ≡ true → (some (getD gs q []) ≡ true) ⊎ (some (getD hs q []) ≡ true)
+unfolding merged
 beside-some [] hs q e = absurd (false≢true e)
 beside-some (g ∷ gs) [] q e = inl e
 beside-some ([] ∷ gs) (h ∷ hs) zero e = inr e
 beside-some ((c ∷ g) ∷ gs) (h ∷ hs) zero e = inl refl
 beside-some (g ∷ gs) (h ∷ hs) (suc q) e = beside-some gs hs q e
 
--- who has borrowed seeks cores
+-- a place that has borrowed seeks cores
 pub lent-seeks : (ws : List ℕ) (sk : ℕ → Bool) (o : ℕ → List ℕ) (n q : ℕ) → some (getD (lent ws sk o n) q []) ≡ true → sk q ≡ true
 unfolding lent
 lent-seeks ws sk o zero q e = absurd (false≢true (sym (ap some (map-nil ws q)) ∙ e))
@@ -141,8 +141,8 @@ lent-seeks ws sk o (suc n) q e = go (lent-seeks ws sk o n q) (beside-some (lent 
     go ih (inr h) = not-false-true (sk q) (λ f. false≢true (sym (ap some (grants-none greedy ws tried (o n) q (rw (f, and-false (ltb n q))))) ∙ h))
 
 -- a list of cores for each place, however many have lent
-beside-length : (gs hs : List (List ℕ)) → length (beside gs hs) ≡ length gs
-unfolding beside
+beside-length : (gs hs : List (List ℕ)) → length (merged gs hs) ≡ length gs
+unfolding merged
 beside-length [] hs = refl
 beside-length (g ∷ gs) [] = refl
 beside-length (g ∷ gs) (h ∷ hs) = ap suc (beside-length gs hs)
@@ -166,7 +166,7 @@ lent-above ws sk o n p h = go (leb p n) refl
     go : (t : Bool) → leb p n ≡ t → getD (lent ws sk o n) p [] ≡ getD (lent ws sk o p) p []
     go true e =
         let d = le-dest (leb-true p n e) in
-        subst (λ (m : ℕ). getD (lent ws sk o m) p [] ≡ getD (lent ws sk o p) p []) (d .1) (lent-settled ws sk o p (d .0))
+        subst (λ (m : ℕ). getD (lent ws sk o m) p [] ≡ getD (lent ws sk o p) p []) (d .1) (lent-final ws sk o p (d .0))
     go false e =
         let far : length ws ≤ p = omega (arith, leb-false p n e) in
         past-end (lent ws sk o n) p (rw (lent-length ws sk o n) far) ∙ sym (past-end (lent ws sk o p) p (rw (lent-length ws sk o p) far))
@@ -175,12 +175,12 @@ lent-above ws sk o n p h = go (leb p n) refl
 
 -- of empty lists none has a core
 among-none : (c : ℕ) (bs : List (List ℕ)) → ((q : ℕ) → getD bs q [] ≡ []) → among c bs ≡ false
-unfolding among memb
+unfolding among member
 among-none c [] e = refl
 among-none c (l ∷ ls) e = rw (e 0) (among-none c ls (λ q. e (suc q)))
 
 unlent-all : (bs : List (List ℕ)) → ((q : ℕ) → getD bs q [] ≡ []) → (g : List ℕ) → unlent bs g ≡ g
-unfolding kept
+unfolding filtered
 unlent-all bs e [] = refl
 unlent-all bs e (c ∷ g) = rw (among-none c bs e, unlent-all bs e g)
 
@@ -189,8 +189,8 @@ map-id f e [] = refl
 map-id f e (g ∷ gs) = ap₂ (λ (x : List ℕ) (l : List (List ℕ)). x ∷ l) (e g) (map-id f e gs)
 
 -- empty lists beside others of as many places
-none-beside : (bs gs : List (List ℕ)) → length bs ≡ length gs → ((q : ℕ) → getD bs q [] ≡ []) → beside bs gs ≡ gs
-unfolding beside
+none-beside : (bs gs : List (List ℕ)) → length bs ≡ length gs → ((q : ℕ) → getD bs q [] ≡ []) → merged bs gs ≡ gs
+unfolding merged
 none-beside [] [] l e = refl
 none-beside [] (g ∷ gs) l e = absurd (omega arith)
 none-beside (b ∷ bs) [] l e = absurd (omega arith)
@@ -200,7 +200,7 @@ none-beside (b ∷ bs) (g ∷ gs) l e =
 pub shown-own :
     (gs bs : List (List ℕ)) → length bs ≡ length gs → ((q : ℕ) → getD bs q [] ≡ []) → shownCores gs bs ≡ gs
 shown-own gs bs l e =
-    ap (beside bs) (map-id (unlent bs) (unlent-all bs e) gs) ∙ none-beside bs gs l e
+    ap (merged bs) (map-id (unlent bs) (unlent-all bs e) gs) ∙ none-beside bs gs l e
 
 -- BOOKS
 
@@ -213,7 +213,7 @@ pub borrowed-above : (s : Table) (b : Book) (p : ℕ) → borrowed s b p ≡ get
 unfolding borrowed
 borrowed-above s b p = lent-above (widths s (b .tick)) (seeks s b) (offer s b) (length (s .tasks)) p (le-of-eq (widths-length s (b .tick)))
 
--- who borrows has unfinished work, and is given no cores of its own
+-- a place that borrows has unfinished work, and is given no cores of its own
 pub record Borrower (s : Table) (b : Book) (p : ℕ) : Type 0 where
   pub claiming : taskClaims s b p ≡ true
   pub unfinished : newestEnded s b p ≡ false
@@ -232,7 +232,7 @@ borrower s b p e =
       unserved = not-true (inRow s b p) (and-right (c && not u) (not (inRow s b p)) h);
     }
 
--- IN WHICH NOBODY LENDS
+-- IN WHICH NO PLACE LENDS
 
 module _ (s : Table) (b : Book) (nothing : (q : ℕ) → offer s b q ≡ []) where
   lent-none : (p : ℕ) → getD (lentOf s b) p [] ≡ []
@@ -254,7 +254,7 @@ module _ (s : Table) (b : Book) (nothing : (q : ℕ) → offer s b q ≡ []) whe
   shown-given =
       shown-own (grantsOf s b) (lentOf s b)
       (lent-length (widths s (b .tick)) (seeks s b) (offer s b) (length (s .tasks))
-      ∙ sym (grants-length (s .rule) (widths s (b .tick)) (taskClaims s b) (openCores s)))
+      ∙ sym (grants-length (s .rule) (widths s (b .tick)) (taskClaims s b) (unfencedCores s)))
       lent-none
 
 -- those of rules 1 to 3
@@ -262,7 +262,7 @@ pub offer-none : (s : Table) (b : Book) → lends (s .rule) ≡ false → (q : �
 unfolding offer
 offer-none s b e q = rw e
 
--- and under any rule a book in which who has ended has claimed C ticks
+-- and under any rule a book in which every job that has ended has claimed C ticks
 pub offer-whole :
     (s : Table) (b : Book) → ((p k : ℕ) → b .job p k .ended ≡ true → task s p .length ≤ b .job p k .claimed)
     → (q : ℕ) → offer s b q ≡ []
@@ -277,5 +277,5 @@ offer-whole s b h q = go (newestEnded s b q) refl
     go false e = rw (and-false (lends (s .rule)))
     go true e =
         let k : ℕ = newest (task s q) (b .tick) in
-        rw (grants-none (s .rule) (widths s (b .tick)) (taskClaims s b) (openCores s) q (done-off (s .rule) (task s q) k (b .tick) (b .job q k) e (h q k e)))
+        rw (grants-none (s .rule) (widths s (b .tick)) (taskClaims s b) (unfencedCores s) q (done-off (s .rule) (task s q) k (b .tick) (b .job q k) e (h q k e)))
         (same (lends (s .rule) && true))

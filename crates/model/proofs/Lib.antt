@@ -1,10 +1,10 @@
--- The theorems on the definitions alone: computed examples, laws of searches, lists and digits, and what the book, the horizon and the verdict promise.
+-- The theorems on the definitions alone: computed examples, laws of searches, lists and digits, and those of the book, the horizon and the verdict.
 pub mod LineByLine
 pub mod Computing
 pub mod Examples
 pub mod EmptyExamples
 pub mod WithdrawExamples
-pub mod TogetherExamples
+pub mod WithdrawSetExamples
 pub mod WidthExamples
 pub mod LendExamples
 pub mod SetsExamples
@@ -22,7 +22,7 @@ pub mod FullLength
 pub mod Multiples
 pub mod Starts
 pub mod Horizon
-pub mod Level
+pub mod SameClaims
 pub mod Sustain
 pub mod Firm
 pub mod EqualPairs
@@ -33,6 +33,6 @@ pub mod Verdict
 pub mod Renumbered
 pub mod Fence
 pub mod Withdraw
-pub mod Together
+pub mod WithdrawSet
 pub mod Counts
-pub mod Crowd
+pub mod LendingExample

@@ -1,4 +1,4 @@
--- No task changes the core of a task above it: what stands below position n changes nothing for positions 1 to n.
+-- No task changes the core of a task above it: what is below position n changes nothing for positions 1 to n.
 use mathlib.Core.Bool.{Bool, cond, false, true, _||_}
 use mathlib.Core.List.{List, [], map, _∷_}
 use mathlib.Core.Logic.{inl, inr, _⊎_, ⊎-elim}
@@ -19,15 +19,15 @@ use Rattle.model.proofs.Lists.{take-map}
 use Rattle.model.proofs.Runs.{full-offer}
 use Rattle.model.proofs.Search.{none-at}
 use Rattle.model.specs.Book.{Answer, Book, Entry, Job, advance, afterTaken, answer, book, bookFrom, borrowed, borrowing, emptied, emptyBook}
-use Rattle.model.specs.Book.{emptyIn, enter, entered, full, grantsOf, jobClaims, keep, newestEnded, none, offer, only, quiet, refused, rowOf, seeks}
-use Rattle.model.specs.Book.{served, step, taken, takenFrom, takenOf, taskClaims, widths, withdraw, withdrawAll, without}
-use Rattle.model.specs.Fence.{openCores}
+use Rattle.model.specs.Book.{emptyIn, enter, entered, full, grantsOf, jobClaims, keep, newestEnded, noPlaces, offer, singleton, noReports, refused, bookRow, seeks}
+use Rattle.model.specs.Book.{served, step, taken, takenFrom, takenOf, taskClaims, widths, withdraw, withdrawAll, withWithdrawn}
+use Rattle.model.specs.Fence.{unfencedCores}
 use Rattle.model.specs.Grants.{claimants}
 use Rattle.model.specs.Lending.{lent}
-use Rattle.model.specs.Local.{Alike, SameBits, SameCores, SameEntries, SameEntry, SameReports, noticed, noticedIf, upTo}
+use Rattle.model.specs.Local.{EqualAbove, SameBits, SameCoresAbove, SameEntries, SameEntry, SameReports, relevant, relevantIf, upTo}
 use Rattle.model.specs.Row.{byteOf, owner, row}
-use Rattle.model.specs.Search.{any, bit, memb, upFrom}
-use Rattle.model.specs.Task.{Table, Task, newest, nobody, task, widthOf}
+use Rattle.model.specs.Search.{any, bit, member, upFrom}
+use Rattle.model.specs.Task.{Table, Task, newest, absentTask, task, widthOf}
 
 -- two books with the same tick, and the same jobs and withdrawals of the first n places
 pub record Agree (n : ℕ) (b b′ : Book) : Type 0 where
@@ -35,8 +35,8 @@ pub record Agree (n : ℕ) (b b′ : Book) : Type 0 where
   pub jobs : (p k : ℕ) → p < n → b .job p k ≡ b′ .job p k
   pub gone : SameBits n (b .withdrawn) (b′ .withdrawn)
 
-alike-self : (n : ℕ) (s : Table) → Alike n s s
-alike-self n s = record { rules = refl; cores = refl; fences = refl; tasks = refl }
+equal-above-self : (n : ℕ) (s : Table) → EqualAbove n s s
+equal-above-self n s = record { rules = refl; cores = refl; fences = refl; tasks = refl }
 
 or-false : (u : Bool) → u || false ≡ u
 or-false true = refl
@@ -57,7 +57,7 @@ book-took s (x ∷ xs) b = go (answer s b x) (book-took s xs)
     go taken ih = ih (afterTaken s x b)
     go (refused n p) ih = ih b
 
--- WHAT THE FIRST PLACES BRING TO A TICK
+-- WHAT THE FIRST PLACES CLAIM IN A TICK
 
 -- the widths of the first n places in tick t
 first-widths : (n t : ℕ) (s s′ : Table) → take n (s .tasks) ≡ take n (s′ .tasks) → take n (widths s t) ≡ take n (widths s′ t)
@@ -70,7 +70,7 @@ first-widths n t s s′ e =
 owner-from : (c p : ℕ) (gs : List (List ℕ)) → (owner c p gs ≡ 0) ⊎ (p ≤ owner c p gs)
 unfolding owner
 owner-from c p [] = inl refl
-owner-from c p (g ∷ gs) = go (memb c g) (owner-from c (suc p) gs)
+owner-from c p (g ∷ gs) = go (member c g) (owner-from c (suc p) gs)
   where
     go : (t : Bool) → (owner c (suc p) gs ≡ 0) ⊎ (suc p ≤ owner c (suc p) gs)
         → (cond t p (owner c (suc p) gs) ≡ 0) ⊎ (p ≤ cond t p (owner c (suc p) gs))
@@ -100,7 +100,7 @@ owner-cut c (suc n) p [] = go (ltb 0 (p + suc n))
     go : (t : Bool) → cond {A = ℕ} t 0 0 ≡ 0
     go true = refl
     go false = refl
-owner-cut c (suc n) p (g ∷ gs) = go (memb c g) (owner-cut c n (suc p) gs)
+owner-cut c (suc n) p (g ∷ gs) = go (member c g) (owner-cut c n (suc p) gs)
   where
     more : suc p + n ≡ p + suc n
     more = omega arith
@@ -138,9 +138,9 @@ row-upTo n f m gs hs e = each (upFrom 0 m)
     each [] = refl
     each (c ∷ cs) = ap₂ (λ (x : ℕ) (l : List ℕ). x ∷ l) (byte (bit f c) c) (each cs)
 
-module _ (n : ℕ) (s s′ : Table) (al : Alike n s s′) where
+module _ (n : ℕ) (s s′ : Table) (al : EqualAbove n s s′) where
   same-task : (p : ℕ) → p < n → task s p ≡ task s′ p
-  same-task p l = sym (getD-take n (s .tasks) p nobody l) ∙ (ap (λ (x : List Task). getD x p nobody) (al .tasks) ∙ getD-take n (s′ .tasks) p nobody l)
+  same-task p l = sym (getD-take n (s .tasks) p absentTask l) ∙ (ap (λ (x : List Task). getD x p absentTask) (al .tasks) ∙ getD-take n (s′ .tasks) p absentTask l)
 
   same-job-claims : (b b′ : Book) → Agree n b b′ → (p k : ℕ) → p < n → jobClaims s b p k ≡ jobClaims s′ b′ p k
   same-job-claims b b′ ag p k l = rw (same-task p l, al .rules, ag .ticks, ag .jobs p k l)
@@ -156,9 +156,9 @@ module _ (n : ℕ) (s s′ : Table) (al : Alike n s s′) where
   same-grants : (b b′ : Book) → Agree n b b′ → take n (grantsOf s b) ≡ take n (grantsOf s′ b′)
   same-grants b b′ ag =
       let ws = same-widths b b′ ag in
-      grants-take (s .rule) n (claimants (widths s (b .tick)) (taskClaims s b)) (openCores s)
+      grants-take (s .rule) n (claimants (widths s (b .tick)) (taskClaims s b)) (unfencedCores s)
       ∙ (rw (claimants-cut n (widths s (b .tick)) (widths s′ (b′ .tick)) (taskClaims s b) (taskClaims s′ b′) ws (same-claims b b′ ag), al .rules, al .cores, al .fences)
-      (sym (grants-take (s′ .rule) n (claimants (widths s′ (b′ .tick)) (taskClaims s′ b′)) (openCores s′))))
+      (sym (grants-take (s′ .rule) n (claimants (widths s′ (b′ .tick)) (taskClaims s′ b′)) (unfencedCores s′))))
 
   same-cores : (b b′ : Book) → Agree n b b′ → (p : ℕ) → p < n → getD (grantsOf s b) p [] ≡ getD (grantsOf s′ b′) p []
   same-cores b b′ ag p l =
@@ -166,7 +166,7 @@ module _ (n : ℕ) (s s′ : Table) (al : Alike n s s′) where
       ∙ (ap (λ (x : List (List ℕ)). getD x p []) (same-grants b b′ ag)
       ∙ getD-take n (grantsOf s′ b′) p [] l)
 
-  -- who has ended, seeks and offers, and so what is borrowed
+  -- the places that have ended, that seek and that offer, and so what is borrowed
   same-ended : (b b′ : Book) → Agree n b b′ → (p : ℕ) → p < n → newestEnded s b p ≡ newestEnded s′ b′ p
   same-ended b b′ ag p l =
       ap (λ (j : Job). j .ended) (ag .jobs p (newest (task s p) (b .tick)) l)
@@ -190,8 +190,8 @@ module _ (n : ℕ) (s s′ : Table) (al : Alike n s s′) where
       ∙ (getD-take n (lent (widths s′ (b′ .tick)) (seeks s′ b′) (offer s′ b′) p) p [] l
       ∙ sym (borrowed-above s′ b′ p))))
 
-  shown-alike : (b b′ : Book) → Agree n b b′ → SameCores n s b s′ b′
-  shown-alike b b′ ag = record {
+  shown-same : (b b′ : Book) → Agree n b b′ → SameCoresAbove n s b s′ b′
+  shown-same b b′ ag = record {
     lists = same-cores b b′ ag;
     offers = same-offer b b′ ag;
     borrows = same-borrowed b b′ ag;
@@ -225,9 +225,9 @@ module _ (n : ℕ) (s s′ : Table) (al : Alike n s s′) where
   full-agree : (t : ℕ) → Agree n (full s t) (full s′ t)
   unfolding full
   full-agree zero = start-agree
-  full-agree (suc t) = same-step none none (λ q l. refl) (full s t) (full s′ t) (full-agree t)
+  full-agree (suc t) = same-step noPlaces noPlaces (λ q l. refl) (full s t) (full s′ t) (full-agree t)
 
-  same-without : (b b′ : Book) → Agree n b b′ → (x y : ℕ) → SameBits n x y → Agree n (without x b) (without y b′)
+  same-without : (b b′ : Book) → Agree n b b′ → (x y : ℕ) → SameBits n x y → Agree n (withWithdrawn x b) (withWithdrawn y b′)
   same-without b b′ ag x y h = record {
     ticks = ag .ticks;
     jobs = ag .jobs;
@@ -244,10 +244,10 @@ module _ (n : ℕ) (s s′ : Table) (al : Alike n s s′) where
   same-after (advance x e) (withdraw q) h b b′ ag = absurd h
   same-after (advance x e) (withdrawAll y) h b b′ ag = absurd h
   same-after (withdraw p) (advance y g) h b b′ ag = absurd h
-  same-after (withdraw p) (withdraw q) h b b′ ag = same-without b b′ ag (only p) (only q) (λ i l. ap (λ (k : ℕ). bit (only k) i) h)
-  same-after (withdraw p) (withdrawAll y) h b b′ ag = same-without b b′ ag (only p) y h
+  same-after (withdraw p) (withdraw q) h b b′ ag = same-without b b′ ag (singleton p) (singleton q) (λ i l. ap (λ (k : ℕ). bit (singleton k) i) h)
+  same-after (withdraw p) (withdrawAll y) h b b′ ag = same-without b b′ ag (singleton p) y h
   same-after (withdrawAll x) (advance y g) h b b′ ag = absurd h
-  same-after (withdrawAll x) (withdraw q) h b b′ ag = same-without b b′ ag x (only q) h
+  same-after (withdrawAll x) (withdraw q) h b b′ ag = same-without b b′ ag x (singleton q) h
   same-after (withdrawAll x) (withdrawAll y) h b b′ ag = same-without b b′ ag x y h
 
   took-agree : (xs ys : List Entry) → SameEntries n xs ys → (b b′ : Book) → Agree n b b′ → Agree n (took s b xs) (took s′ b′ ys)
@@ -257,7 +257,7 @@ module _ (n : ℕ) (s s′ : Table) (al : Alike n s s′) where
   took-agree (x ∷ xs) [] r b b′ ag = absurd r
   took-agree (x ∷ xs) (y ∷ ys) r b b′ ag = took-agree xs ys (r .1) (afterTaken s x b) (afterTaken s′ y b′) (same-after x y (r .0) b b′ ag)
 
--- WHAT IS WITHDRAWN BELOW POSITION n IS NOT NOTICED
+-- WHAT IS WITHDRAWN BELOW POSITION n CHANGES NOTHING ABOVE
 
 agree-sym : (n : ℕ) (b c : Book) → Agree n b c → Agree n c b
 agree-sym n b c h = record { ticks = sym (h .ticks); jobs = λ p k l. sym (h .jobs p k l); gone = λ q l. sym (h .gone q l) }
@@ -270,77 +270,77 @@ agree-trans n b c d h g = record {
 }
 
 -- a position below n is no place above it
-only-below : (n p q : ℕ) → leb p n ≡ false → q < n → bit (only p) q ≡ false
+only-below : (n p q : ℕ) → leb p n ≡ false → q < n → bit (singleton p) q ≡ false
 only-below n p q h l = bit-power (p - 1) q ∙ ne-eqb q (p - 1) (λ e. omega (arith, leb-false p n h))
 
 -- a withdrawal of places from n on alone
-unnoticed : (n : ℕ) (b c : Book) → Agree n b c → (x : ℕ) → ((q : ℕ) → q < n → bit x q ≡ false) → Agree n (without x b) c
-unnoticed n b c ag x off = record {
+irrelevant-withdrawal : (n : ℕ) (b c : Book) → Agree n b c → (x : ℕ) → ((q : ℕ) → q < n → bit x q ≡ false) → Agree n (withWithdrawn x b) c
+irrelevant-withdrawal n b c ag x off = record {
   ticks = ag .ticks;
   jobs = ag .jobs;
   gone = λ q l. or-bit (b .withdrawn) x q ∙ (rw (off q l) (or-false (bit (b .withdrawn) q)) ∙ ag .gone q l);
 }
 
--- an entry goes on with what stands behind it, or is left out
-noticed-step :
+-- an entry goes on with what is after it, or is left out
+relevant-step :
     (n : ℕ) (s : Table) (x : Entry) (xs : List Entry) (b c : Book) → Agree n b c
-    → ((d : Book) → Agree n (afterTaken s x b) d → Agree n (took s (afterTaken s x b) xs) (took s d (noticed n xs)))
-    → Agree n (took s (afterTaken s x b) xs) (took s c (noticedIf n x (noticed n xs)))
-noticed-step n s (advance x e) xs b c ag more =
-    unfold took in more (afterTaken s (advance x e) c) (same-after n s s (alike-self n s) (advance x e) (advance x e) (λ q l. refl, λ q l. refl) b c ag)
-noticed-step n s (withdraw p) xs b c ag more = go (leb p n) refl
+    → ((d : Book) → Agree n (afterTaken s x b) d → Agree n (took s (afterTaken s x b) xs) (took s d (relevant n xs)))
+    → Agree n (took s (afterTaken s x b) xs) (took s c (relevantIf n x (relevant n xs)))
+relevant-step n s (advance x e) xs b c ag more =
+    unfold took in more (afterTaken s (advance x e) c) (same-after n s s (equal-above-self n s) (advance x e) (advance x e) (λ q l. refl, λ q l. refl) b c ag)
+relevant-step n s (withdraw p) xs b c ag more = go (leb p n) refl
   where
     go : (t : Bool) → leb p n ≡ t
-        → Agree n (took s (afterTaken s (withdraw p) b) xs) (took s c (cond t (withdraw p ∷ noticed n xs) (noticed n xs)))
-    go true h = unfold took in more (afterTaken s (withdraw p) c) (same-after n s s (alike-self n s) (withdraw p) (withdraw p) refl b c ag)
-    go false h = more c (unfold afterTaken in unnoticed n b c ag (only p) (λ q l. only-below n p q h l))
-noticed-step n s (withdrawAll x) xs b c ag more = go (any n (bit x)) refl
+        → Agree n (took s (afterTaken s (withdraw p) b) xs) (took s c (cond t (withdraw p ∷ relevant n xs) (relevant n xs)))
+    go true h = unfold took in more (afterTaken s (withdraw p) c) (same-after n s s (equal-above-self n s) (withdraw p) (withdraw p) refl b c ag)
+    go false h = more c (unfold afterTaken in irrelevant-withdrawal n b c ag (singleton p) (λ q l. only-below n p q h l))
+relevant-step n s (withdrawAll x) xs b c ag more = go (any n (bit x)) refl
   where
     go : (t : Bool) → any n (bit x) ≡ t
-        → Agree n (took s (afterTaken s (withdrawAll x) b) xs) (took s c (cond t (withdrawAll x ∷ noticed n xs) (noticed n xs)))
+        → Agree n (took s (afterTaken s (withdrawAll x) b) xs) (took s c (cond t (withdrawAll x ∷ relevant n xs) (relevant n xs)))
     go true h =
-        unfold took in more (afterTaken s (withdrawAll x) c) (same-after n s s (alike-self n s) (withdrawAll x) (withdrawAll x) (λ q l. refl) b c ag)
-    go false h = more c (unfold afterTaken in unnoticed n b c ag x (λ q l. none-at n (bit x) q h l))
+        unfold took in more (afterTaken s (withdrawAll x) c) (same-after n s s (equal-above-self n s) (withdrawAll x) (withdrawAll x) (λ q l. refl) b c ag)
+    go false h = more c (unfold afterTaken in irrelevant-withdrawal n b c ag x (λ q l. none-at n (bit x) q h l))
 
-noticed-took : (n : ℕ) (s : Table) (xs : List Entry) (b c : Book) → Agree n b c → Agree n (took s b xs) (took s c (noticed n xs))
-unfolding noticed took
-noticed-took n s [] b c ag = ag
-noticed-took n s (x ∷ xs) b c ag = noticed-step n s x xs b c ag (noticed-took n s xs (afterTaken s x b))
+relevant-took : (n : ℕ) (s : Table) (xs : List Entry) (b c : Book) → Agree n b c → Agree n (took s b xs) (took s c (relevant n xs))
+unfolding relevant took
+relevant-took n s [] b c ag = ag
+relevant-took n s (x ∷ xs) b c ag = relevant-step n s x xs b c ag (relevant-took n s xs (afterTaken s x b))
 
-noticed-book : (n : ℕ) (s : Table) (xs : List Entry) → Agree n (book s xs) (took s emptyBook (noticed n (takenOf s xs)))
-noticed-book n s xs =
-    subst (λ (b : Book). Agree n b (took s emptyBook (noticed n (takenOf s xs)))) (sym (book-took s xs emptyBook))
-    (noticed-took n s (takenOf s xs) emptyBook emptyBook (start-agree n s s (alike-self n s)))
+relevant-book : (n : ℕ) (s : Table) (xs : List Entry) → Agree n (book s xs) (took s emptyBook (relevant n (takenOf s xs)))
+relevant-book n s xs =
+    subst (λ (b : Book). Agree n b (took s emptyBook (relevant n (takenOf s xs)))) (sym (book-took s xs emptyBook))
+    (relevant-took n s (takenOf s xs) emptyBook emptyBook (start-agree n s s (equal-above-self n s)))
 
-module _ (n : ℕ) (s s′ : Table) (al : Alike n s s′) where
+module _ (n : ℕ) (s s′ : Table) (al : EqualAbove n s s′) where
   -- THE THEOREM, for the full-length runs
-  pub local-full : (t : ℕ) → SameCores n s (full s t) s′ (full s′ t)
-  local-full t = shown-alike n s s′ al (full s t) (full s′ t) (full-agree n s s′ al t)
+  pub local-full : (t : ℕ) → SameCoresAbove n s (full s t) s′ (full s′ t)
+  local-full t = shown-same n s s′ al (full s t) (full s′ t) (full-agree n s s′ al t)
 
-  -- .. whose rows, since nobody lends at full length, show them alike under every rule
-  pub local-rows : (t : ℕ) → map (upTo n) (rowOf s (full s t)) ≡ map (upTo n) (rowOf s′ (full s′ t))
+  -- .. whose rows, since no place lends at full length, show them alike under every rule
+  pub local-rows : (t : ℕ) → map (upTo n) (bookRow s (full s t)) ≡ map (upTo n) (bookRow s′ (full s′ t))
   local-rows t = local-full t .bytes (full-offer s t) (full-offer s′ t)
 
   -- the same of books of empty sets: at every tick that both reach (up to the first miss, all: `full-length`)
   pub local-empty :
-      (t u : ℕ) → book s (replicate t quiet) .tick ≡ book s′ (replicate u quiet) .tick
-      → SameCores n s (book s (replicate t quiet)) s′ (book s′ (replicate u quiet))
+      (t u : ℕ) → book s (replicate t noReports) .tick ≡ book s′ (replicate u noReports) .tick
+      → SameCoresAbove n s (book s (replicate t noReports)) s′ (book s′ (replicate u noReports))
   local-empty t u e =
-      subst₂ (λ (a b : Book). SameCores n s a s′ b)
+      subst₂ (λ (a b : Book). SameCoresAbove n s a s′ b)
       (sym (empty-full s t)) (sym (empty-full s′ u ∙ ap (full s′) (sym e)))
-      (local-full (book s (replicate t quiet) .tick))
+      (local-full (book s (replicate t noReports) .tick))
 
   -- THE THEOREM, for any two lists whose taken entries agree on positions 1 to n, and rows asked with empty jobs that do; what is refused
   -- changes nothing and is dropped
   pub local-lists :
       (xs ys : List Entry) → SameReports n (takenOf s xs) (takenOf s′ ys) → (e e′ : ℕ) → SameBits n e e′
-      → SameCores n s (emptied s (emptyIn (book s xs) e) (book s xs)) s′ (emptied s′ (emptyIn (book s′ ys) e′) (book s′ ys))
+      → SameCoresAbove n s (emptied s (emptyIn (book s xs) e) (book s xs)) s′ (emptied s′ (emptyIn (book s′ ys) e′) (book s′ ys))
   local-lists xs ys r e e′ h =
       let b : Book = book s xs in
       let b′ : Book = book s′ ys in
       let ag : Agree n b b′ =
-      agree-trans n b (took s emptyBook (noticed n (takenOf s xs))) b′ (noticed-book n s xs)
-      (agree-trans n (took s emptyBook (noticed n (takenOf s xs))) (took s′ emptyBook (noticed n (takenOf s′ ys))) b′
-      (took-agree n s s′ al (noticed n (takenOf s xs)) (noticed n (takenOf s′ ys)) r emptyBook emptyBook (start-agree n s s′ al))
-      (agree-sym n b′ (took s′ emptyBook (noticed n (takenOf s′ ys))) (noticed-book n s′ ys))) in
-      shown-alike n s s′ al (emptied s (emptyIn b e) b) (emptied s′ (emptyIn b′ e′) b′) (same-empty n s s′ al b b′ ag e e′ h)
+      agree-trans n b (took s emptyBook (relevant n (takenOf s xs))) b′ (relevant-book n s xs)
+      (agree-trans n (took s emptyBook (relevant n (takenOf s xs))) (took s′ emptyBook (relevant n (takenOf s′ ys))) b′
+      (took-agree n s s′ al (relevant n (takenOf s xs)) (relevant n (takenOf s′ ys)) r emptyBook emptyBook (start-agree n s s′ al))
+      (agree-sym n b′ (took s′ emptyBook (relevant n (takenOf s′ ys))) (relevant-book n s′ ys))) in
+      shown-same n s s′ al (emptied s (emptyIn b e) b) (emptied s′ (emptyIn b′ e′) b′) (same-empty n s s′ al b b′ ag e e′ h)

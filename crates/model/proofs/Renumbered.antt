@@ -1,4 +1,4 @@
--- Cores by other numbers: nothing looks at which numbers the cores have, and where no two get one number the rows are the same too.
+-- Cores by other numbers: nothing depends on which numbers the cores have, and where no two get one number the rows are the same too.
 use mathlib.Core.Bool.{Bool, _&&_, cond, false, not, true}
 use mathlib.Core.List.{List, [], map, _++_, _∷_}
 use mathlib.Core.Path.{ap, ap₂, refl, sym, _∙_, _≡_}
@@ -10,9 +10,9 @@ use Rattle.model.proofs.Bools.{same-test}
 use Rattle.model.proofs.Grants.{claimants-same}
 use Rattle.model.proofs.Lists.{take-map}
 use Rattle.model.specs.Grants.{Claimant, claimants, endsChoosing, fits, given, grants, left, some}
-use Rattle.model.specs.Lending.{among, beside, lendOnce, lent, shownCores, tries, unlent}
+use Rattle.model.specs.Lending.{among, merged, lendOnce, lent, shownCores, tries, unlent}
 use Rattle.model.specs.Row.{owner}
-use Rattle.model.specs.Search.{kept, keptIf, memb}
+use Rattle.model.specs.Search.{filtered, consIf, member}
 use Rattle.model.specs.Task.{Rule, greedy}
 
 module _ (f : ℕ → ℕ) where
@@ -55,8 +55,8 @@ module _ (f : ℕ → ℕ) where
   at-map gs q = List·getD-map (map f) gs q []
 
   -- what is lent
-  beside-map : (gs hs : List (List ℕ)) → beside (map (map f) gs) (map (map f) hs) ≡ map (map f) (beside gs hs)
-  unfolding beside
+  beside-map : (gs hs : List (List ℕ)) → merged (map (map f) gs) (map (map f) hs) ≡ map (map f) (merged gs hs)
+  unfolding merged
   beside-map [] hs = refl
   beside-map (g ∷ gs) [] = refl
   beside-map (g ∷ gs) (h ∷ hs) = ap₂ (λ (x : List ℕ) (l : List (List ℕ)). x ∷ l) (sym (append-with g h)) (beside-map gs hs)
@@ -74,7 +74,7 @@ module _ (f : ℕ → ℕ) where
     where
       go : (bs bs′ : List (List ℕ)) → bs ≡ map (map f) bs′ → lendOnce ws sk (o n) n bs ≡ map (map f) (lendOnce ws sk′ (o′ n) n bs′)
       go bs bs′ ih =
-          ap₂ beside ih
+          ap₂ merged ih
           (ap₂ (grants greedy) (claimants-same ws (tries sk n bs) (tries sk′ n bs′) (λ q l. same q)) (eo n)
           ∙ grants-map greedy (claimants ws (tries sk′ n bs′)) (o′ n))
           ∙ beside-map bs′ (grants greedy (claimants ws (tries sk′ n bs′)) (o′ n))
@@ -93,8 +93,8 @@ module _ (f : ℕ → ℕ) where
         (λ e. eq-eqb i j (apart i j (eqb-true (f i) (f j) e)))
         (λ e. eq-eqb (f i) (f j) (ap f (eqb-true i j e)))
 
-    memb-map : (c : ℕ) (l : List ℕ) → memb (f c) (map f l) ≡ memb c l
-    unfolding memb
+    memb-map : (c : ℕ) (l : List ℕ) → member (f c) (map f l) ≡ member c l
+    unfolding member
     memb-map c [] = refl
     memb-map c (x ∷ l) = rw (eqb-map c x, memb-map c l)
 
@@ -104,11 +104,11 @@ module _ (f : ℕ → ℕ) where
     among-map c (l ∷ ls) = rw (memb-map c l, among-map c ls)
 
     unlent-map : (bs : List (List ℕ)) (g : List ℕ) → unlent (map (map f) bs) (map f g) ≡ map f (unlent bs g)
-    unfolding kept
+    unfolding filtered
     unlent-map bs [] = refl
     unlent-map bs (c ∷ g) = rw (among-map c bs, unlent-map bs g) (go (not (among c bs)))
       where
-        go : (t : Bool) → keptIf t (f c) (map f (unlent bs g)) ≡ map f (keptIf t c (unlent bs g))
+        go : (t : Bool) → consIf t (f c) (map f (unlent bs g)) ≡ map f (consIf t c (unlent bs g))
         go true = refl
         go false = refl
 
@@ -117,7 +117,7 @@ module _ (f : ℕ → ℕ) where
     unlents-map bs (g ∷ gs) = ap₂ (λ (x : List ℕ) (l : List (List ℕ)). x ∷ l) (unlent-map bs g) (unlents-map bs gs)
 
     pub shown-map : (gs bs : List (List ℕ)) → shownCores (map (map f) gs) (map (map f) bs) ≡ map (map f) (shownCores gs bs)
-    shown-map gs bs = ap (beside (map (map f) bs)) (unlents-map bs gs) ∙ beside-map bs (map (unlent bs) gs)
+    shown-map gs bs = ap (merged (map (map f) bs)) (unlents-map bs gs) ∙ beside-map bs (map (unlent bs) gs)
 
     pub owner-map : (c p : ℕ) (gs : List (List ℕ)) → owner (f c) p (map (map f) gs) ≡ owner c p gs
     unfolding owner

@@ -10,21 +10,21 @@ use lib.ListN.{length, replicate}
 use borrow.Author.Tests.{ne-eqb}
 use Rattle.model.proofs.Bools.{not-true-false}
 use Rattle.model.proofs.Digits.{bit-none}
-use Rattle.model.proofs.Jobs.{Good, after-release, good-fresh, mk, next, start-good, turn-ended, turn-good, turn-whole}
+use Rattle.model.proofs.Jobs.{LineBounds, after-release, bounds-fresh, mk, next, start-bounds, step-ended, step-bounds, step-whole}
 use Rattle.model.proofs.Lending.{not-borrowing, offer-whole, shown-given}
 use Rattle.model.specs.Book.{Answer, Book, Entry, Job, Missed, advance, advanced, afterTaken, answer, book, bookFrom, borrowed, borrowing, emptied}
-use Rattle.model.specs.Book.{emptyBook, emptyIn, enter, entered, fresh, full, grantsOf, jobClaims, keep, none, offer, only, quiet, refused}
-use Rattle.model.specs.Book.{releasedNow, rowOf, seeks, served, shownOf, step, taken, takenFrom, takenOf, withdraw, withdrawAll, without, work}
+use Rattle.model.specs.Book.{emptyBook, emptyIn, enter, entered, fresh, full, grantsOf, jobClaims, keep, noPlaces, offer, singleton, noReports, refused}
+use Rattle.model.specs.Book.{releasedNow, bookRow, seeks, served, shownOf, step, taken, takenFrom, takenOf, withdraw, withdrawAll, withWithdrawn, work}
 use Rattle.model.specs.Row.{row}
 use Rattle.model.specs.Search.{bit}
-use Rattle.model.specs.Task.{AllSound, Table, due, release, task}
+use Rattle.model.specs.Task.{AllValid, Table, due, release, task}
 
--- an advance by its tests: who is reported, and whose job is empty
+-- an advance by its tests: which jobs are reported, and which are empty
 pub record Move : Type 0 where
   pub reports : ℕ → Bool
   pub empties : ℕ → Bool
 
--- the book after one, entered whatever it says
+-- the book after one, entered without a test whether it is refused
 abbrev pub moved : Table → Move → Book → Book
 moved s m b = advanced s (m .reports) (m .empties) b
 
@@ -37,11 +37,11 @@ run s b (m ∷ ms) = run s (moved s m b) ms
 abbrev pub moveWith : ℕ → ℕ → ℕ → Move
 moveWith w x e = record { reports = bit x; empties = λ p. bit e p || bit w p }
 
--- those of a list: a withdrawal is none, and says whose jobs are empty in the advances that follow
+-- those of a list: a withdrawal is none, and determines which jobs are empty in the advances that follow
 unfoldable pub movesWith : ℕ → List Entry → List Move
 movesWith w [] = []
 movesWith w (advance x e ∷ xs) = moveWith w x e ∷ movesWith w xs
-movesWith w (withdraw p ∷ xs) = movesWith (bitOr w (only p)) xs
+movesWith w (withdraw p ∷ xs) = movesWith (bitOr w (singleton p)) xs
 movesWith w (withdrawAll x ∷ xs) = movesWith (bitOr w x) xs
 
 -- those of a list's taken entries
@@ -73,77 +73,77 @@ before-release s f b p k h = rw off
 pub full-fresh : (s : Table) (n p k : ℕ) → n ≤ release (task s p) k → full s n .job p k ≡ fresh
 unfolding full
 full-fresh s zero p k h = refl
-full-fresh s (suc n) p k h = before-release s none (full s n) p k (omega (arith, full-tick s n)) ∙ full-fresh s n p k (omega arith)
+full-fresh s (suc n) p k h = before-release s noPlaces (full s n) p k (omega (arith, full-tick s n)) ∙ full-fresh s n p k (omega arith)
 
 -- every line of a book is good
-abbrev pub GoodBook : Table → Book → Type 0
-GoodBook s b = (p k : ℕ) → p < length (s .tasks) → Good (task s p .length) (b .job p k)
+abbrev pub BookBounds : Table → Book → Type 0
+BookBounds s b = (p k : ℕ) → p < length (s .tasks) → LineBounds (task s p .length) (b .job p k)
 
-module _ (s : Table) (ok : AllSound s) where
-  pub good-step : (f : ℕ → Bool) (b : Book) → GoodBook s b → GoodBook s (step s f b)
+module _ (s : Table) (ok : AllValid s) where
+  pub bounds-step : (f : ℕ → Bool) (b : Book) → BookBounds s b → BookBounds s (step s f b)
   unfolding step
-  good-step f b g p k l =
-      turn-good (task s p .length) (f p) (served s b p k) (borrowing s b p k) (b .job p k .had) (b .job p k .claimed) (b .job p k .ended) (g p k l)
+  bounds-step f b g p k l =
+      step-bounds (task s p .length) (f p) (served s b p k) (borrowing s b p k) (b .job p k .had) (b .job p k .claimed) (b .job p k .ended) (g p k l)
 
-  pub good-emptied : (e : ℕ → Bool) (b : Book) → GoodBook s b → GoodBook s (emptied s e b)
+  pub bounds-emptied : (e : ℕ → Bool) (b : Book) → BookBounds s b → BookBounds s (emptied s e b)
   unfolding emptied
-  good-emptied e b g p k l = start-good (task s p .length) (e p && releasedNow s b p k) (b .job p k) (g p k l)
+  bounds-emptied e b g p k l = start-bounds (task s p .length) (e p && releasedNow s b p k) (b .job p k) (g p k l)
 
-  good-moved : (m : Move) (b : Book) → GoodBook s b → GoodBook s (moved s m b)
-  good-moved m b g = good-step (m .reports) (emptied s (m .empties) b) (good-emptied (m .empties) b g)
+  bounds-moved : (m : Move) (b : Book) → BookBounds s b → BookBounds s (moved s m b)
+  bounds-moved m b g = bounds-step (m .reports) (emptied s (m .empties) b) (bounds-emptied (m .empties) b g)
 
-  pub good-start : GoodBook s emptyBook
-  good-start p k l = good-fresh (task s p .length) (ok p l .length-pos)
+  pub bounds-start : BookBounds s emptyBook
+  bounds-start p k l = bounds-fresh (task s p .length) (ok p l .length-pos)
 
-  pub good-run : (ms : List Move) (b : Book) → GoodBook s b → GoodBook s (run s b ms)
+  pub bounds-run : (ms : List Move) (b : Book) → BookBounds s b → BookBounds s (run s b ms)
   unfolding run
-  good-run [] b g = g
-  good-run (m ∷ ms) b g = good-run ms (moved s m b) (good-moved m b g)
+  bounds-run [] b g = g
+  bounds-run (m ∷ ms) b g = bounds-run ms (moved s m b) (bounds-moved m b g)
 
-  pub good-full : (n : ℕ) → GoodBook s (full s n)
+  pub bounds-full : (n : ℕ) → BookBounds s (full s n)
   unfolding full
-  good-full zero = good-start
-  good-full (suc n) = good-step none (full s n) (good-full n)
+  bounds-full zero = bounds-start
+  bounds-full (suc n) = bounds-step noPlaces (full s n) (bounds-full n)
 
 -- the full-length run is the run of empty sets
 abbrev pub stillMove : Move
-stillMove = record { reports = none; empties = none }
+stillMove = record { reports = noPlaces; empties = noPlaces }
 
-step-last : (s : Table) (n : ℕ) (b : Book) → run s (step s none b) (replicate n stillMove) ≡ step s none (run s b (replicate n stillMove))
+step-last : (s : Table) (n : ℕ) (b : Book) → run s (step s noPlaces b) (replicate n stillMove) ≡ step s noPlaces (run s b (replicate n stillMove))
 unfolding run emptied
 step-last s zero b = refl
-step-last s (suc n) b = step-last s n (step s none b)
+step-last s (suc n) b = step-last s n (step s noPlaces b)
 
 pub full-run : (s : Table) (n : ℕ) → run s emptyBook (replicate n stillMove) ≡ full s n
 unfolding run full emptied
 full-run s zero = refl
-full-run s (suc n) = step-last s n emptyBook ∙ ap (step s none) (full-run s n)
+full-run s (suc n) = step-last s n emptyBook ∙ ap (step s noPlaces) (full-run s n)
 
--- in the full-length run nobody is withdrawn
+-- in the full-length run no position is withdrawn
 pub full-withdrawn : (s : Table) (n : ℕ) → full s n .withdrawn ≡ 0
 unfolding full step
 full-withdrawn s zero = refl
 full-withdrawn s (suc n) = full-withdrawn s n
 
--- where nobody is withdrawn no bit of the empty set names an empty job, so an advance whose sets are both empty is a step with no report
+-- where no position is withdrawn no bit of the empty set names an empty job, so an advance whose sets are both empty is a step with no report
 pub still-emptied : (s : Table) (b : Book) → b .withdrawn ≡ 0 → emptied s (emptyIn b 0) b ≡ b
 unfolding emptied
-still-emptied s b w = ap (λ (f : ℕ → Bool). emptied s f b) (fun-ext nobody)
+still-emptied s b w = ap (λ (f : ℕ → Bool). emptied s f b) (fun-ext absentTask)
   where
-    nobody : (p : ℕ) → emptyIn b 0 p ≡ false
-    nobody p = rw (w, bit-none p)
+    absentTask : (p : ℕ) → emptyIn b 0 p ≡ false
+    absentTask p = rw (w, bit-none p)
 
-pub still-advance : (s : Table) (b : Book) → b .withdrawn ≡ 0 → advanced s (bit 0) (emptyIn b 0) b ≡ step s none b
+pub still-advance : (s : Table) (b : Book) → b .withdrawn ≡ 0 → advanced s (bit 0) (emptyIn b 0) b ≡ step s noPlaces b
 still-advance s b w = ap₂ (λ (f : ℕ → Bool) (c : Book). step s f c) (fun-ext bit-none) (still-emptied s b w)
 
 -- every job that has ended in a book has had C ticks
 abbrev pub WholeBook : Table → Book → Type 0
 WholeBook s b = (p k : ℕ) → b .job p k .ended ≡ true → task s p .length ≤ b .job p k .had
 
-whole-step : (s : Table) (b : Book) → WholeBook s b → WholeBook s (step s none b)
+whole-step : (s : Table) (b : Book) → WholeBook s b → WholeBook s (step s noPlaces b)
 unfolding step
 whole-step s b w p k =
-    turn-whole (task s p .length) (served s b p k) (borrowing s b p k) (b .job p k .had) (b .job p k .claimed) (b .job p k .ended) (w p k)
+    step-whole (task s p .length) (served s b p k) (borrowing s b p k) (b .job p k .had) (b .job p k .claimed) (b .job p k .ended) (w p k)
 
 -- in it a job ends only at C ticks, and stays ended
 pub full-whole : (s : Table) (n : ℕ) → WholeBook s (full s n)
@@ -152,10 +152,10 @@ full-whole s zero p k e = absurd (false≢true e)
 full-whole s (suc n) p k e = whole-step s (full s n) (full-whole s n) p k e
 
 -- and so in the book of empty sets, past a miss too
-whole-from : (s : Table) (n : ℕ) (b : Book) → b .withdrawn ≡ 0 → WholeBook s b → WholeBook s (bookFrom s b (replicate n quiet))
+whole-from : (s : Table) (n : ℕ) (b : Book) → b .withdrawn ≡ 0 → WholeBook s b → WholeBook s (bookFrom s b (replicate n noReports))
 unfolding bookFrom enter afterTaken
 whole-from s zero b o w = w
-whole-from s (suc n) b o w = whole-from s n (enter s quiet b) (out (answer s b quiet)) (go (answer s b quiet))
+whole-from s (suc n) b o w = whole-from s n (enter s noReports b) (out (answer s b noReports)) (go (answer s b noReports))
   where
     out : (a : Answer) → entered a (advanced s (bit 0) (emptyIn b 0) b) b .withdrawn ≡ 0
     out taken = unfold step emptied in o
@@ -165,10 +165,10 @@ whole-from s (suc n) b o w = whole-from s n (enter s quiet b) (out (answer s b q
     go taken = subst (WholeBook s) (sym (still-advance s b o)) (whole-step s b w)
     go (refused n p) = w
 
-pub whole-empty : (s : Table) (n : ℕ) → WholeBook s (book s (replicate n quiet))
+pub whole-empty : (s : Table) (n : ℕ) → WholeBook s (book s (replicate n noReports))
 whole-empty s n = whole-from s n emptyBook refl (λ p k e. absurd (false≢true e))
 
--- the ticks claimed are no fewer than those had: nobody lends, since who has ended has claimed C ticks
+-- the ticks claimed are no fewer than those had: no place lends, since a job that has ended has claimed C ticks
 had-claimed : (C : ℕ) (f s : Bool) (h c : ℕ) (e : Bool) → h ≤ c → next C f s (mk h c e) .had ≤ next C f s (mk h c e) .claimed
 unfolding work
 had-claimed C f false h c e l = l
@@ -200,7 +200,7 @@ full-offer s n = offer-whole s (full s n) (full-claimed s n)
 pub full-shown : (s : Table) (n : ℕ) → shownOf s (full s n) ≡ grantsOf s (full s n)
 full-shown s n = shown-given s (full s n) (full-offer s n)
 
-pub full-row : (s : Table) (n : ℕ) → rowOf s (full s n) ≡ row (s .fence) (s .cores) (grantsOf s (full s n))
+pub full-row : (s : Table) (n : ℕ) → bookRow s (full s n) ≡ row (s .fence) (s .cores) (grantsOf s (full s n))
 full-row s n = ap (row (s .fence) (s .cores)) (full-shown s n)
 
 -- .. and a job goes on by these alone
@@ -214,7 +214,7 @@ full-stays s n (suc d) p k e = rw add-suc (more (full-stays s n d p k e))
   where
     more : full s (n + d) .job p k .ended ≡ true → full s (suc (n + d)) .job p k .ended ≡ true
     more h = unfold full step in
-        turn-ended (task s p .length) false (served s (full s (n + d)) p k) (borrowing s (full s (n + d)) p k) (full s (n + d) .job p k) h .0
+        step-ended (task s p .length) false (served s (full s (n + d)) p k) (borrowing s (full s (n + d)) p k) (full s (n + d) .job p k) h .0
 
 pub run-tick : (s : Table) (ms : List Move) (b : Book) → run s b ms .tick ≡ b .tick + length ms
 unfolding run step emptied
@@ -257,9 +257,9 @@ book-from s (x ∷ xs) b = go x (answer s b x) (book-from s xs)
         ≡ run s (lines b) (movesWith (b .withdrawn) (keep w x (takenFrom s (entered w (afterTaken s x b) b) xs)))
     go (advance x e) taken ih = ih (advanced s (bit x) (emptyIn b e) b)
     go (advance x e) (refused n p) ih = ih b
-    go (withdraw p) taken ih = ih (without (only p) b)
+    go (withdraw p) taken ih = ih (withWithdrawn (singleton p) b)
     go (withdraw p) (refused n q) ih = ih b
-    go (withdrawAll x) taken ih = ih (without x b)
+    go (withdrawAll x) taken ih = ih (withWithdrawn x b)
     go (withdrawAll x) (refused n q) ih = ih b
 
 pub book-run : (s : Table) (xs : List Entry) → lines (book s xs) ≡ run s emptyBook (movesOf s xs)
@@ -272,9 +272,9 @@ book-tick s xs =
     sym (ap (λ (b : Book). b .tick) (book-run s xs) ∙ (run-tick s ms emptyBook ∙ zero-add (length ms)))
 
 -- so every line of it is good
-pub good-book : (s : Table) → AllSound s → (xs : List Entry) → GoodBook s (book s xs)
-good-book s ok xs =
-    subst (GoodBook s) (sym (book-run s xs)) (good-run s ok (movesOf s xs) emptyBook (good-start s ok))
+pub bounds-book : (s : Table) → AllValid s → (xs : List Entry) → BookBounds s (book s xs)
+bounds-book s ok xs =
+    subst (BookBounds s) (sym (book-run s xs)) (bounds-run s ok (movesOf s xs) emptyBook (bounds-start s ok))
 
 -- and a job is fresh until its release
 pub early-book : (s : Table) (xs : List Entry) → Early s (book s xs)

@@ -12,11 +12,11 @@ use lib.ListN.{getD, length, take}
 use borrow.Author.Tests.{eqb-true}
 use Rattle.model.proofs.Multiples.{lcm-assoc, lcm-comm, lcm-divides, lcm-left, lcm-pos, lcm-right}
 use Rattle.model.specs.Horizon.{CommonMultiple, S, hyperperiod, lastS, lcm, releaseFrom}
-use Rattle.model.specs.Task.{Task, cycle, nobody, release, widthOf}
+use Rattle.model.specs.Task.{Task, cycle, absentTask, release, widthOf}
 
 -- every period is positive
 abbrev pub Periods : List Task → Type 0
-Periods τs = (p : ℕ) → p < length τs → 0 < getD τs p nobody .period
+Periods τs = (p : ℕ) → p < length τs → 0 < getD τs p absentTask .period
 
 -- so is every cycle
 pub cycle-pos : (τ : Task) → 0 < τ .period → 0 < cycle τ
@@ -31,7 +31,7 @@ pub release-from : (τ : Task) (t : ℕ) → 0 < τ .period → t ≤ releaseFro
 release-from τ t h =
     omega (arith, div-add-mod' (t - τ .offset + (τ .period - 1)) (τ .period), mod-lt (t - τ .offset + (τ .period - 1)) h)
 
--- .. and no release between is passed over
+-- .. and no release between is skipped
 pub release-first : (τ : Task) (t k : ℕ) → 0 < τ .period → t ≤ release τ k → releaseFrom τ t ≤ release τ k
 release-first τ t k h l =
     let few : (t - τ .offset + (τ .period - 1)) / τ .period < suc k = div-lt-iff-lt-mul h .1 (omega arith) in
@@ -40,25 +40,25 @@ release-first τ t k h l =
 -- a later S is no earlier
 pub S-next : (τs : List Task) (p : ℕ) → Periods τs → suc p < length τs → S τs p ≤ S τs (suc p)
 unfolding S
-S-next τs p h l = release-from (getD τs (suc p) nobody) (S τs p) (h (suc p) l)
+S-next τs p h l = release-from (getD τs (suc p) absentTask) (S τs p) (h (suc p) l)
 
-pub S-rises : (τs : List Task) (q p : ℕ) → Periods τs → q ≤ p → p < length τs → S τs q ≤ S τs p
-S-rises τs q zero h l k = le-of-eq (ap (S τs) (omega arith))
-S-rises τs q (suc p) h l k =
+pub S-monotonic : (τs : List Task) (q p : ℕ) → Periods τs → q ≤ p → p < length τs → S τs q ≤ S τs p
+S-monotonic τs q zero h l k = le-of-eq (ap (S τs) (omega arith))
+S-monotonic τs q (suc p) h l k =
     ⊎-elim
     (λ (e : q ≡ suc p). le-of-eq (ap (S τs) e))
-    (λ (e : q < suc p). le-trans (S-rises τs q p h (le-of-suc-le-suc e) (omega arith)) (S-next τs p h k))
+    (λ (e : q < suc p). le-trans (S-monotonic τs q p h (le-of-suc-le-suc e) (omega arith)) (S-next τs p h k))
     (eq-or-lt-of-le l)
 
 pub S-last : (τs : List Task) (p : ℕ) → Periods τs → p < length τs → S τs p ≤ lastS τs
-S-last τs p h l = S-rises τs p (length τs - 1) h (omega arith) (omega arith)
+S-last τs p h l = S-monotonic τs p (length τs - 1) h (omega arith) (omega arith)
 
 -- it is a release of its place
-pub S-release : (τs : List Task) (p : ℕ) → (a : ℕ) × (S τs p ≡ release (getD τs p nobody) a)
+pub S-release : (τs : List Task) (p : ℕ) → (a : ℕ) × (S τs p ≡ release (getD τs p absentTask) a)
 unfolding S
 S-release τs zero = (0, omega arith)
 S-release τs (suc p) =
-    ((S τs p - getD τs (suc p) nobody .offset + (getD τs (suc p) nobody .period - 1)) / getD τs (suc p) nobody .period, refl)
+    ((S τs p - getD τs (suc p) absentTask .offset + (getD τs (suc p) absentTask .period - 1)) / getD τs (suc p) absentTask .period, refl)
 
 pub hyperperiod-pos : (τs : List Task) → 0 < hyperperiod τs
 unfolding hyperperiod
@@ -66,24 +66,24 @@ hyperperiod-pos [] = omega arith
 hyperperiod-pos (τ ∷ τs) = lcm-pos (cycle τ) (hyperperiod τs) (hyperperiod-pos τs)
 
 -- every cycle divides P
-pub cycle-divides : (τs : List Task) (p : ℕ) → Periods τs → p < length τs → cycle (getD τs p nobody) ∣ hyperperiod τs
+pub cycle-divides : (τs : List Task) (p : ℕ) → Periods τs → p < length τs → cycle (getD τs p absentTask) ∣ hyperperiod τs
 unfolding hyperperiod
 cycle-divides [] p h l = absurd (not-suc-le-zero l)
 cycle-divides (τ ∷ τs) zero h l = lcm-left (cycle τ) (hyperperiod τs) (cycle-pos τ (h 0 (omega arith)))
 cycle-divides (τ ∷ τs) (suc p) h l =
-    dvd-trans (cycle (getD τs p nobody)) (cycle-divides τs p (λ p l. h (suc p) (omega arith)) (omega arith)) (lcm-right (cycle τ) (hyperperiod τs))
+    dvd-trans (cycle (getD τs p absentTask)) (cycle-divides τs p (λ p l. h (suc p) (omega arith)) (omega arith)) (lcm-right (cycle τ) (hyperperiod τs))
 
-pub hyperperiod-cycles : (τs : List Task) (p : ℕ) → Periods τs → p < length τs → (m : ℕ) × (hyperperiod τs ≡ m * cycle (getD τs p nobody))
+pub hyperperiod-cycles : (τs : List Task) (p : ℕ) → Periods τs → p < length τs → (m : ℕ) × (hyperperiod τs ≡ m * cycle (getD τs p absentTask))
 hyperperiod-cycles τs p h l =
-    let T : ℕ = cycle (getD τs p nobody) in
+    let T : ℕ = cycle (getD τs p absentTask) in
     (hyperperiod τs / T, sym (div-mul-cancel T (cycle-divides τs p h l)))
 
 -- so P is a number of periods ..
-pub hyperperiod-divides : (τs : List Task) (p : ℕ) → Periods τs → p < length τs → (m : ℕ) × (hyperperiod τs ≡ m * getD τs p nobody .period)
+pub hyperperiod-divides : (τs : List Task) (p : ℕ) → Periods τs → p < length τs → (m : ℕ) × (hyperperiod τs ≡ m * getD τs p absentTask .period)
 hyperperiod-divides τs p h l = go (eqb (τ .oddWidth) (τ .evenWidth)) (hyperperiod-cycles τs p h l)
   where
     τ : Task
-    τ = getD τs p nobody
+    τ = getD τs p absentTask
 
     go : (t : Bool) → (m : ℕ) × (hyperperiod τs ≡ m * cond t (τ .period) (2 * τ .period)) → (m : ℕ) × (hyperperiod τs ≡ m * τ .period)
     go true x = x
@@ -91,12 +91,12 @@ hyperperiod-divides τs p h l = go (eqb (τ .oddWidth) (τ .evenWidth)) (hyperpe
 
 -- .. after which the widths are the same again: an even number where they differ
 pub width-shift :
-    (τs : List Task) (p : ℕ) → Periods τs → p < length τs → (m : ℕ) → hyperperiod τs ≡ m * getD τs p nobody .period
-    → (k : ℕ) → widthOf (getD τs p nobody) (k + m) ≡ widthOf (getD τs p nobody) k
+    (τs : List Task) (p : ℕ) → Periods τs → p < length τs → (m : ℕ) → hyperperiod τs ≡ m * getD τs p absentTask .period
+    → (k : ℕ) → widthOf (getD τs p absentTask) (k + m) ≡ widthOf (getD τs p absentTask) k
 width-shift τs p h l m e k = go (eqb (τ .oddWidth) (τ .evenWidth)) refl (hyperperiod-cycles τs p h l)
   where
     τ : Task
-    τ = getD τs p nobody
+    τ = getD τs p absentTask
 
     same : (t u : Bool) → τ .oddWidth ≡ τ .evenWidth → cond t (τ .oddWidth) (τ .evenWidth) ≡ cond u (τ .oddWidth) (τ .evenWidth)
     same true true q = refl
@@ -113,7 +113,7 @@ width-shift τs p h l m e k = go (eqb (τ .oddWidth) (τ .evenWidth)) refl (hype
         ap (λ (n : ℕ). cond (eqb n 0) (τ .oddWidth) (τ .evenWidth)) even
 
 -- P divides every common multiple of the cycles
-pub hyperperiod-common : (τs : List Task) → Periods τs → (n : ℕ) → ((p : ℕ) → p < length τs → cycle (getD τs p nobody) ∣ n) → hyperperiod τs ∣ n
+pub hyperperiod-common : (τs : List Task) → Periods τs → (n : ℕ) → ((p : ℕ) → p < length τs → cycle (getD τs p absentTask) ∣ n) → hyperperiod τs ∣ n
 unfolding hyperperiod
 hyperperiod-common [] h n d = one-dvd n
 hyperperiod-common (τ ∷ τs) h n d =
@@ -124,18 +124,18 @@ pub hyperperiod-least : (τs : List Task) → Periods τs → (n : ℕ) → 0 < 
 hyperperiod-least τs h n pos d =
     le-of-dvd pos
     (hyperperiod-common τs h n
-    (λ p l. subst⁻¹ (λ (x : ℕ). cycle (getD τs p nobody) ∣ x) (d p l .1) (dvd-mul-left (cycle (getD τs p nobody)) (d p l .0))))
+    (λ p l. subst⁻¹ (λ (x : ℕ). cycle (getD τs p absentTask) ∣ x) (d p l .1) (dvd-mul-left (cycle (getD τs p absentTask)) (d p l .0))))
 
 -- one more task: the least common multiple with its cycle
 pub hyperperiod-more :
     (τs : List Task) (i : ℕ) → Periods τs → i < length τs
-    → hyperperiod (take (suc i) τs) ≡ lcm (hyperperiod (take i τs)) (cycle (getD τs i nobody))
+    → hyperperiod (take (suc i) τs) ≡ lcm (hyperperiod (take i τs)) (cycle (getD τs i absentTask))
 unfolding hyperperiod
 hyperperiod-more [] i h l = absurd (not-suc-le-zero l)
 hyperperiod-more (τ ∷ τs) zero h l = lcm-comm (cycle τ) 1 (cycle-pos τ (h 0 l)) (omega arith)
 hyperperiod-more (τ ∷ τs) (suc i) h l =
     ap (lcm (cycle τ)) (hyperperiod-more τs i (λ p q. h (suc p) (omega arith)) (omega arith))
-    ∙ lcm-assoc (cycle τ) (hyperperiod (take i τs)) (cycle (getD τs i nobody)) (cycle-pos τ (h 0 (omega arith))) (hyperperiod-pos (take i τs)) (cycle-pos (getD τs i nobody) (h (suc i) l))
+    ∙ lcm-assoc (cycle τ) (hyperperiod (take i τs)) (cycle (getD τs i absentTask)) (cycle-pos τ (h 0 (omega arith))) (hyperperiod-pos (take i τs)) (cycle-pos (getD τs i absentTask) (h (suc i) l))
 
 -- fewer tasks: a divisor
 pub hyperperiod-fewer : (τs : List Task) (i : ℕ) → Periods τs → hyperperiod (take i τs) ∣ hyperperiod τs

@@ -1,4 +1,5 @@
--- Withdrawals (requests 106 and 113): when one is taken, that only the set moves, that withdrawing again changes nothing, and whose jobs are empty from then on.
+-- Withdrawals (requests 106 and 113): when one is taken, that only the set changes, that withdrawing again changes nothing, and which jobs are empty from then
+-- on.
 use mathlib.Core.Bool.{Bool, cond, false, not, true, true≢false, _||_}
 use mathlib.Core.List.{List, [], _∷_}
 use mathlib.Core.Logic.{_↔_, inl, inr, _⊎_}
@@ -11,26 +12,26 @@ use lib.ListN.{length}
 use borrow.Author.Tests.{eq-eqb, eqb-true, le-ltb, lt-ltb, ltb-false, ltb-true, ne-eqb}
 use Rattle.model.proofs.Bools.{not-true-false, or-cases, or-left, or-right}
 use Rattle.model.proofs.Digits.{bit-power, or-bit, same-set}
-use Rattle.model.proofs.Faithful.{strangers-exact}
+use Rattle.model.proofs.Faithful.{unknown-positions-exact}
 use Rattle.model.proofs.Verdict.{firm-exact}
-use Rattle.model.specs.Book.{Answer, Book, Entry, advance, afterTaken, answer, bookFrom, emptied, enter, entered, only, refused}
-use Rattle.model.specs.Book.{step, taken, stranger, strangers, withdraw, withdrawAll, withdrawing, without}
+use Rattle.model.specs.Book.{Answer, Book, Entry, advance, afterTaken, answer, bookFrom, emptied, enter, entered, singleton, refused}
+use Rattle.model.specs.Book.{step, taken, unknownPosition, unknownPositions, withdraw, withdrawAll, withdrawing, withWithdrawn}
 use Rattle.model.specs.Firm.{FirmRule, firm}
 use Rattle.model.specs.Search.{bit}
 use Rattle.model.specs.Task.{Table}
-use Rattle.model.specs.Together.{Within}
+use Rattle.model.specs.WithdrawSet.{SetBelow}
 
--- WHAT IT IS ANSWERED, whatever stands in the book: 15 is not looked at
+-- THE ANSWER, whatever is in the book: 15 is not tested
 
 -- a position is none of the table exactly if it is 0 or past the count
-pub stranger-exact : (s : Table) (p : ℕ) → (stranger s p ≡ true) ↔ ((p ≡ 0) ⊎ (length (s .tasks) < p))
-stranger-exact s p = (λ e. says (or-cases (eqb p 0) (ltb (length (s .tasks)) p) e), found)
+pub unknown-position-exact : (s : Table) (p : ℕ) → (unknownPosition s p ≡ true) ↔ ((p ≡ 0) ⊎ (length (s .tasks) < p))
+unknown-position-exact s p = (λ e. says (or-cases (eqb p 0) (ltb (length (s .tasks)) p) e), found)
   where
     says : (eqb p 0 ≡ true) ⊎ (ltb (length (s .tasks)) p ≡ true) → (p ≡ 0) ⊎ (length (s .tasks) < p)
     says (inl e) = inl (eqb-true p 0 e)
     says (inr e) = inr (ltb-true (length (s .tasks)) p e)
 
-    found : (p ≡ 0) ⊎ (length (s .tasks) < p) → stranger s p ≡ true
+    found : (p ≡ 0) ⊎ (length (s .tasks) < p) → unknownPosition s p ≡ true
     found (inl e) = or-left (eqb p 0) (ltb (length (s .tasks)) p) (eq-eqb p 0 e)
     found (inr l) = or-right (eqb p 0) (ltb (length (s .tasks)) p) (lt-ltb (length (s .tasks)) p l)
 
@@ -65,24 +66,24 @@ by-none false u e = absurd (let n : 21 ≡ 0 = ap number e in omega arith)
 pub withdraw-not-firm : (s : Table) (b : Book) (p : ℕ) → (answer s b (withdraw p) ≡ refused 21 0) ↔ (¬ FirmRule s)
 unfolding answer chosen
 withdraw-not-firm s b p = (
-  λ e f. true≢false (sym (firm-exact s .1 f) ∙ by-21 (firm (s .rule) (s .tasks)) (stranger s p) e),
+  λ e f. true≢false (sym (firm-exact s .1 f) ∙ by-21 (firm (s .rule) (s .tasks)) (unknownPosition s p) e),
   λ n. rw (not-true-false (firm (s .rule) (s .tasks)) (λ e. n (firm-exact s .0 e))),
 )
 
 -- .. 22 exactly where they are and the position is 0 or past the count ..
-pub withdraw-stranger : (s : Table) (b : Book) (p : ℕ) → (answer s b (withdraw p) ≡ refused 22 0) ↔ (FirmRule s × ((p ≡ 0) ⊎ (length (s .tasks) < p)))
+pub withdraw-unknown : (s : Table) (b : Book) (p : ℕ) → (answer s b (withdraw p) ≡ refused 22 0) ↔ (FirmRule s × ((p ≡ 0) ⊎ (length (s .tasks) < p)))
 unfolding answer chosen
-withdraw-stranger s b p = (
-  λ e. let x = by-22 (firm (s .rule) (s .tasks)) (stranger s p) e in (firm-exact s .0 (x .0), stranger-exact s p .0 (x .1)),
-  λ x. rw (firm-exact s .1 (x .0), stranger-exact s p .1 (x .1)),
+withdraw-unknown s b p = (
+  λ e. let x = by-22 (firm (s .rule) (s .tasks)) (unknownPosition s p) e in (firm-exact s .0 (x .0), unknown-position-exact s p .0 (x .1)),
+  λ x. rw (firm-exact s .1 (x .0), unknown-position-exact s p .1 (x .1)),
 )
 
 -- .. and else it is taken
 pub withdraw-taken : (s : Table) (b : Book) (p : ℕ) → (answer s b (withdraw p) ≡ taken) ↔ (FirmRule s × (1 ≤ p) × (p ≤ length (s .tasks)))
 unfolding answer chosen
 withdraw-taken s b p = (
-  λ e. let x = by-none (firm (s .rule) (s .tasks)) (stranger s p) e in
-      let within : ¬ ((p ≡ 0) ⊎ (length (s .tasks) < p)) = λ y. true≢false (sym (stranger-exact s p .1 y) ∙ x .1) in
+  λ e. let x = by-none (firm (s .rule) (s .tasks)) (unknownPosition s p) e in
+      let within : ¬ ((p ≡ 0) ⊎ (length (s .tasks) < p)) = λ y. true≢false (sym (unknown-position-exact s p .1 y) ∙ x .1) in
       let first : ¬ (p ≡ 0) = λ y. within (inl y) in
       let last : ¬ (length (s .tasks) < p) = λ y. within (inr y) in
       (firm-exact s .0 (x .0), omega arith, omega arith),
@@ -93,57 +94,57 @@ withdraw-taken s b p = (
 pub withdraw-all-not-firm : (s : Table) (b : Book) (x : ℕ) → (answer s b (withdrawAll x) ≡ refused 21 0) ↔ (¬ FirmRule s)
 unfolding answer chosen
 withdraw-all-not-firm s b x = (
-  λ e f. true≢false (sym (firm-exact s .1 f) ∙ by-21 (firm (s .rule) (s .tasks)) (strangers s x) e),
+  λ e f. true≢false (sym (firm-exact s .1 f) ∙ by-21 (firm (s .rule) (s .tasks)) (unknownPositions s x) e),
   λ n. rw (not-true-false (firm (s .rule) (s .tasks)) (λ e. n (firm-exact s .0 e))),
 )
 
 -- .. 22 exactly where it names a position past the count ..
-pub withdraw-all-strangers :
+pub withdraw-all-unknown :
     (s : Table) (b : Book) (x : ℕ)
     → (answer s b (withdrawAll x) ≡ refused 22 0) ↔ (FirmRule s × ((p : ℕ) × (bit x p ≡ true) × (length (s .tasks) ≤ p)))
 unfolding answer chosen
-withdraw-all-strangers s b x = (
-  λ e. let y = by-22 (firm (s .rule) (s .tasks)) (strangers s x) e in (firm-exact s .0 (y .0), strangers-exact s x .0 (y .1)),
-  λ y. rw (firm-exact s .1 (y .0), strangers-exact s x .1 (y .1)),
+withdraw-all-unknown s b x = (
+  λ e. let y = by-22 (firm (s .rule) (s .tasks)) (unknownPositions s x) e in (firm-exact s .0 (y .0), unknown-positions-exact s x .0 (y .1)),
+  λ y. rw (firm-exact s .1 (y .0), unknown-positions-exact s x .1 (y .1)),
 )
 
 -- .. and else it is taken
-pub within-strangers : (s : Table) (x : ℕ) → (strangers s x ≡ false) ↔ Within (length (s .tasks)) x
-within-strangers s x = (
+pub within-unknown : (s : Table) (x : ℕ) → (unknownPositions s x ≡ false) ↔ SetBelow (length (s .tasks)) x
+within-unknown s x = (
   λ e q h. go e q h (ltb q (length (s .tasks))) refl,
-  λ h. not-true-false (strangers s x) (λ e. let y = strangers-exact s x .0 e in omega (arith, h (y .0) (y .1), y .2)),
+  λ h. not-true-false (unknownPositions s x) (λ e. let y = unknown-positions-exact s x .0 e in omega (arith, h (y .0) (y .1), y .2)),
 )
   where
-    go : strangers s x ≡ false → (q : ℕ) → bit x q ≡ true → (t : Bool) → ltb q (length (s .tasks)) ≡ t → q < length (s .tasks)
+    go : unknownPositions s x ≡ false → (q : ℕ) → bit x q ≡ true → (t : Bool) → ltb q (length (s .tasks)) ≡ t → q < length (s .tasks)
     go e q h true i = ltb-true q (length (s .tasks)) i
-    go e q h false i = absurd (true≢false (sym (strangers-exact s x .1 (q, h, ltb-false q (length (s .tasks)) i)) ∙ e))
+    go e q h false i = absurd (true≢false (sym (unknown-positions-exact s x .1 (q, h, ltb-false q (length (s .tasks)) i)) ∙ e))
 
-pub withdraw-all-taken : (s : Table) (b : Book) (x : ℕ) → (answer s b (withdrawAll x) ≡ taken) ↔ (FirmRule s × Within (length (s .tasks)) x)
+pub withdraw-all-taken : (s : Table) (b : Book) (x : ℕ) → (answer s b (withdrawAll x) ≡ taken) ↔ (FirmRule s × SetBelow (length (s .tasks)) x)
 unfolding answer chosen
 withdraw-all-taken s b x = (
-  λ e. let y = by-none (firm (s .rule) (s .tasks)) (strangers s x) e in (firm-exact s .0 (y .0), within-strangers s x .0 (y .1)),
-  λ y. rw (firm-exact s .1 (y .0), within-strangers s x .1 (y .1)),
+  λ e. let y = by-none (firm (s .rule) (s .tasks)) (unknownPositions s x) e in (firm-exact s .0 (y .0), within-unknown s x .0 (y .1)),
+  λ y. rw (firm-exact s .1 (y .0), within-unknown s x .1 (y .1)),
 )
 
--- ONLY THE SET MOVES
+-- ONLY THE SET CHANGES
 
 -- the position is in it, and nothing else comes in ..
 pub withdrawn-now : (s : Table) (b : Book) (p q : ℕ) → bit (afterTaken s (withdraw p) b .withdrawn) q ≡ bit (b .withdrawn) q || eqb q (p - 1)
 unfolding afterTaken
-withdrawn-now s b p q = or-bit (b .withdrawn) (only p) q ∙ ap (λ (t : Bool). bit (b .withdrawn) q || t) (bit-power (p - 1) q)
+withdrawn-now s b p q = or-bit (b .withdrawn) (singleton p) q ∙ ap (λ (t : Bool). bit (b .withdrawn) q || t) (bit-power (p - 1) q)
 
 -- .. the tick and every line stay, so that a job that was released before goes on
 pub withdraw-lines : (s : Table) (b : Book) (p : ℕ) → (enter s (withdraw p) b .tick ≡ b .tick) × (enter s (withdraw p) b .job ≡ b .job)
 unfolding enter afterTaken
 withdraw-lines s b p = go (answer s b (withdraw p))
   where
-    go : (w : Answer) → (entered w (without (only p) b) b .tick ≡ b .tick) × (entered w (without (only p) b) b .job ≡ b .job)
+    go : (w : Answer) → (entered w (withWithdrawn (singleton p) b) b .tick ≡ b .tick) × (entered w (withWithdrawn (singleton p) b) b .job ≡ b .job)
     go taken = (refl, refl)
     go (refused n q) = (refl, refl)
 
 -- ONCE WITHDRAWN, FOR EVER
 
--- an entry takes nobody out of the set
+-- an entry takes no position out of the set
 stays-one : (s : Table) (x : Entry) (b : Book) (q : ℕ) → bit (b .withdrawn) q ≡ true → bit (enter s x b .withdrawn) q ≡ true
 unfolding enter afterTaken step emptied
 stays-one s x b q h = go x (answer s b x)
@@ -151,7 +152,7 @@ stays-one s x b q h = go x (answer s b x)
     go : (x : Entry) (w : Answer) → bit (entered w (afterTaken s x b) b .withdrawn) q ≡ true
     go (advance x e) taken = h
     go (advance x e) (refused n p) = h
-    go (withdraw p) taken = or-bit (b .withdrawn) (only p) q ∙ rw h refl
+    go (withdraw p) taken = or-bit (b .withdrawn) (singleton p) q ∙ rw h refl
     go (withdraw p) (refused n r) = h
     go (withdrawAll x) taken = or-bit (b .withdrawn) x q ∙ rw h refl
     go (withdrawAll x) (refused n r) = h
@@ -162,8 +163,8 @@ withdrawn-stays s [] b q h = h
 withdrawn-stays s (x ∷ xs) b q h = withdrawn-stays s xs (enter s x b) q (stays-one s x b q h)
 
 -- a position that is in the set is not added again
-or-again : (w p : ℕ) → bit w (p - 1) ≡ true → bitOr w (only p) ≡ w
-or-again w p h = same-set (bitOr w (only p)) w (λ i. or-bit w (only p) i ∙ (rw (bit-power (p - 1) i) (go i (eqb i (p - 1)) refl)))
+or-again : (w p : ℕ) → bit w (p - 1) ≡ true → bitOr w (singleton p) ≡ w
+or-again w p h = same-set (bitOr w (singleton p)) w (λ i. or-bit w (singleton p) i ∙ (rw (bit-power (p - 1) i) (go i (eqb i (p - 1)) refl)))
   where
     go : (i : ℕ) (t : Bool) → eqb i (p - 1) ≡ t → bit w i || t ≡ bit w i
     go i true e = let here : i ≡ p - 1 = eqb-true i (p - 1) e in rw (here, h) refl
@@ -178,7 +179,7 @@ pub withdraw-again : (s : Table) (b : Book) (p : ℕ) → bit (b .withdrawn) (p 
 unfolding enter afterTaken
 withdraw-again s b p h = go (answer s b (withdraw p))
   where
-    go : (w : Answer) → entered w (without (only p) b) b ≡ b
+    go : (w : Answer) → entered w (withWithdrawn (singleton p) b) b ≡ b
     go taken = ap (λ (n : ℕ). record { tick = b .tick; job = b .job; withdrawn = n }) (or-again (b .withdrawn) p h)
     go (refused n q) = refl
 

@@ -1,4 +1,4 @@
--- Who runs in a tick, from who claims (scope, section 'Who runs in a tick'; Goossens and Berten, definitions 5 and 18).
+-- Which tasks run in a tick, from those that claim (scope, section 'Who runs in a tick'; Goossens and Berten, definitions 5 and 18).
 -- Idling and lending choose as greedy does; their claims are in Book.antt, and what is lent in Lending.antt.
 use mathlib.Core.Bool.{Bool, true, false, _&&_, cond}
 use mathlib.Core.List.{List, [], _∷_}
@@ -7,12 +7,12 @@ use lib.ListN.{length, take, drop}
 use lib.Dec.{leb}
 use Rattle.model.specs.Task.{Rule, greedy, limited, idling, lending}
 
--- what a task brings to a tick: whether it has a job that claims, and its width
+-- what the rule reads of a task: whether it has a job that claims, and its width
 pub record Claimant : Type 0 where
   pub claims : Bool
   pub width : ℕ
 
--- the tasks of these widths, in priority order; c says of each place whether it claims
+-- the tasks of these widths, in priority order; c p is true if place p claims
 unfoldable pub claimants : List ℕ → (ℕ → Bool) → List Claimant
 claimants [] c = []
 claimants (w ∷ ws) c = record { claims = c 0; width = w } ∷ claimants ws (λ p. c (suc p))
@@ -21,7 +21,7 @@ claimants (w ∷ ws) c = record { claims = c 0; width = w } ∷ claimants ws (λ
 abbrev pub fits : Claimant → List ℕ → Bool
 fits b free = b .claims && leb (b .width) (length free)
 
--- limited: the first task that doesn't fit ends the tick's choosing; the other rules pass over it
+-- limited: the first task that doesn't fit ends the tick's choosing; the other rules skip it
 abbrev pub endsChoosing : Rule → Bool
 endsChoosing greedy = false
 endsChoosing limited = true

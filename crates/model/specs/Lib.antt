@@ -1,4 +1,4 @@
--- What the whole project is judged by, in reading order: sizes, the table, the fence, who runs in a tick, what is lent, rows,
+-- The definitions that the whole project rests on, in reading order: sizes, the table, the fence, the grants of a tick, what is lent, rows,
 -- which rules and widths are firm, the book, its rows as sets, the horizon and the verdict.
 pub mod Sizes
 pub mod Search
@@ -9,10 +9,10 @@ pub mod Lending
 pub mod Row
 pub mod Firm
 pub mod Book
-pub mod Together
+pub mod WithdrawSet
 pub mod Sets
 pub mod Compare
 pub mod Horizon
 pub mod Verdict
-pub mod Kept
+pub mod FirmGuarantee
 pub mod Local

@@ -15,11 +15,12 @@ use Rattle.model.specs.Task.{Table, due, task}
 unfoldable pub missedAt : Table → ℕ → ℕ → Bool
 missedAt s t p = any (suc t) (λ k. eqb (due (task s p) k) t && not (full s t .job p k .ended))
 
--- some place does
+-- some place misses one
 unfoldable pub missedIn : Table → ℕ → Bool
 missedIn s t = any (length (s .tasks)) (missedAt s t)
 
--- Firm with S and P, Full with S and P, Miss with tick and position; the fourth answer, Refused, is for words that a number turns down
+-- Firm with S and P (the field: predictable, sustainable), Full with S and P (the field: schedulable with exact execution times, in the full-length run), Miss
+-- with tick and position; the fourth answer, Refused, is for words that a number turns down
 pub data Verdict : Type 0 where
   Firm : ℕ → ℕ → Verdict
   Full : ℕ → ℕ → Verdict
@@ -45,7 +46,7 @@ pub record FirstMiss (s : Table) (t p : ℕ) : Type 0 where
   pub no-earlier : (q u : ℕ) → u < t → ¬ Missed s q u
   pub no-higher : (q : ℕ) → q < place .0 → ¬ Missed s q t
 
--- what is claimed of a verdict v on table s (`verdict-exact` shows it of the verdict)
+-- the claims about a verdict v on table s (`verdict-exact` shows them of the verdict)
 pub record Exact (s : Table) (v : Verdict) : Type 0 where
   -- Firm or Full exactly if no deadline is missed at any tick
   pub accepted : ((a b : ℕ) × ((v ≡ Firm a b) ⊎ (v ≡ Full a b))) ↔ NeverMissed s

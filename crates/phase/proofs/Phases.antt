@@ -7,12 +7,12 @@ use native.Mathlib.Omega.{arith}
 use lib.Dec.{eqb}
 use borrow.Author.Tests.{eqb-true, eqb-false, eq-eqb}
 use Rattle.model.specs.Lending.{lends}
-use Rattle.model.specs.Task.{Task, Sound, Rule, greedy, limited, idling, lending}
+use Rattle.model.specs.Task.{Task, ValidTask, Rule, greedy, limited, idling, lending}
 use Rattle.table.proofs.Decide.{Decides, decides-le, decides-lt, decides-eq, decides-and, decides-or}
 use Rattle.phase.specs.declared.Phase.{Phase}
 use Rattle.phase.specs.declared.Phase.the-variants.{Coming, Working, Holding, Resting}
-use Rattle.phase.specs.declared.Stand.{Stand}
-use Rattle.phase.specs.Phase.{PhaseIn, idles, phaseIn, lateIn, released, emptyPhase, seen, stand, startStand, resting, holding, ended, worked, nextStand}
+use Rattle.phase.specs.declared.TaskState.{TaskState}
+use Rattle.phase.specs.Phase.{PhaseIn, idles, phaseIn, lateIn, released, emptyPhase, phaseEmptied, taskState, startState, resting, holding, ended, worked, nextState}
 
 -- TESTS
 
@@ -84,56 +84,56 @@ phase-decides r τ even (Resting z) = (
 pub hold-ends : (τ : Task) (even : Bool) (u : ℕ) → holding τ even (τ .deadline) u ≡ resting τ even (τ .deadline)
 hold-ends τ even u = rw (eq-eqb (τ .deadline) (τ .deadline) refl) (go (eqb u (τ .length)))
   where
-    go : (x : Bool) → cond (x || true) (resting τ even (τ .deadline)) (stand even (Holding (τ .deadline) u)) ≡ resting τ even (τ .deadline)
+    go : (x : Bool) → cond (x || true) (resting τ even (τ .deadline)) (taskState even (Holding (τ .deadline) u)) ≡ resting τ even (τ .deadline)
     go true = refl
     go false = refl
 
 -- ONE TICK KEEPS THE LIMITS
 
--- where a task stands is within the limits
-abbrev pub StandIn : Rule → Task → Stand → Type 0
-StandIn r τ w = PhaseIn r τ (w .even) (w .phase)
+-- the state of a task is within the limits
+abbrev pub StateIn : Rule → Task → TaskState → Type 0
+StateIn r τ w = PhaseIn r τ (w .even) (w .phase)
 
-module _ (r : Rule) (τ : Task) (ok : Sound τ) where
-  resting-in : (even : Bool) (z : ℕ) → 1 ≤ z → z ≤ τ .period → StandIn r τ (resting τ even z)
+module _ (r : Rule) (τ : Task) (ok : ValidTask τ) where
+  resting-in : (even : Bool) (z : ℕ) → 1 ≤ z → z ≤ τ .period → StateIn r τ (resting τ even z)
   resting-in even z a b =
-      by-eq (λ (x : Bool). StandIn r τ (cond x (stand (not even) (Working 0 0 0)) (stand even (Resting z)))) z (τ .period)
+      by-eq (λ (x : Bool). StateIn r τ (cond x (taskState (not even) (Working 0 0 0)) (taskState even (Resting z)))) z (τ .period)
       (λ e. ((omega arith, omega arith), ok .length-pos, omega arith, omega arith, inr refl))
       (λ n. (a, omega arith))
 
   holding-in :
       (r ≡ idling) ⊎ (r ≡ lending) → (even : Bool) (z u : ℕ) → 1 ≤ z → z ≤ τ .deadline → u ≤ τ .length → u ≤ z
-      → StandIn r τ (holding τ even z u)
+      → StateIn r τ (holding τ even z u)
   holding-in i even z u a b d w =
-      by-eq (λ (x : Bool). StandIn r τ (cond (x || eqb z (τ .deadline)) (resting τ even z) (stand even (Holding z u)))) u (τ .length)
+      by-eq (λ (x : Bool). StateIn r τ (cond (x || eqb z (τ .deadline)) (resting τ even z) (taskState even (Holding z u)))) u (τ .length)
       (λ e. resting-in even z a (omega (arith, ok .constrained)))
       (λ n.
-      by-eq (λ (x : Bool). StandIn r τ (cond x (resting τ even z) (stand even (Holding z u)))) z (τ .deadline)
+      by-eq (λ (x : Bool). StateIn r τ (cond x (resting τ even z) (taskState even (Holding z u)))) z (τ .deadline)
       (λ e. resting-in even z a (omega (arith, ok .constrained)))
       (λ m. (i, omega arith, omega arith, w)))
 
-  ended-in : (even : Bool) (z u : ℕ) → 1 ≤ z → z ≤ τ .deadline → u ≤ τ .length → u ≤ z → StandIn r τ (ended r τ even z u)
+  ended-in : (even : Bool) (z u : ℕ) → 1 ≤ z → z ≤ τ .deadline → u ≤ τ .length → u ≤ z → StateIn r τ (ended r τ even z u)
   ended-in even z u a b d w = go (idles r) refl
     where
-      go : (x : Bool) → idles r ≡ x → StandIn r τ (cond x (holding τ even z u) (resting τ even z))
+      go : (x : Bool) → idles r ≡ x → StateIn r τ (cond x (holding τ even z u) (resting τ even z))
       go true e = holding-in (idles-decides r .0 e) even z u a b d w
       go false e = resting-in even z a (omega (arith, ok .constrained))
 
   worked-in :
       (f even : Bool) (z h u : ℕ) → 1 ≤ z → z ≤ τ .deadline → h ≤ τ .length → h ≤ z → u ≤ h → (r ≡ lending) ⊎ (u ≡ h)
-      → StandIn r τ (worked r τ f even z h u)
+      → StateIn r τ (worked r τ f even z h u)
   worked-in true even z h u a b d w q i = ended-in even z u a b (omega arith) (omega arith)
   worked-in false even z h u a b d w q i =
-      by-eq (λ (x : Bool). StandIn r τ (cond x (ended r τ even z u) (stand even (Working z h u)))) h (τ .length)
+      by-eq (λ (x : Bool). StateIn r τ (cond x (ended r τ even z u) (taskState even (Working z h u)))) h (τ .length)
       (λ e. ended-in even z u a b (omega arith) (omega arith))
       (λ n. ((omega arith, b), omega arith, w, q, i))
 
   -- a phase within its limits, whose task is not late and borrows only under rule 4, is within them one tick on
   pub next-in :
       (given lent f even : Bool) → (lent ≡ true → r ≡ lending) → (ph : Phase) → PhaseIn r τ even ph → lateIn (τ .deadline) ph ≡ false
-      → StandIn r τ (nextStand r τ given lent f even ph)
+      → StateIn r τ (nextState r τ given lent f even ph)
   next-in given lent f even j (Coming left) h n =
-      by-eq (λ (x : Bool). StandIn r τ (stand even (cond x (Working 0 0 0) (Coming (left - 1))))) (left - 1) 0
+      by-eq (λ (x : Bool). StateIn r τ (taskState even (cond x (Working 0 0 0) (Coming (left - 1))))) (left - 1) 0
       (λ e. ((omega arith, omega arith), ok .length-pos, omega arith, omega arith, inr refl))
       (λ e. ((omega arith, omega arith), h .1))
   next-in true lent f even j (Working z had u) h n =
@@ -151,29 +151,29 @@ module _ (r : Rule) (τ : Task) (ok : Sound τ) where
   next-in given lent f even j (Resting z) h n = resting-in even (z + 1) (omega arith) (omega arith)
 
   -- .. and so if its job, released in this tick, is empty
-  pub seen-in :
+  pub emptied-in :
       (empty given lent f even : Bool) → (lent ≡ true → r ≡ lending) → (ph : Phase) → PhaseIn r τ even ph → lateIn (τ .deadline) ph ≡ false
-      → StandIn r τ (nextStand r τ given lent f even (seen r empty ph))
-  seen-in empty given lent f even j ph h n = go (empty && released ph)
+      → StateIn r τ (nextState r τ given lent f even (phaseEmptied r empty ph))
+  emptied-in empty given lent f even j ph h n = go (empty && released ph)
     where
-      none : (x : Bool) → idles r ≡ x → StandIn r τ (nextStand r τ given lent f even (cond x (Holding 0 0) (Resting 0)))
+      none : (x : Bool) → idles r ≡ x → StateIn r τ (nextState r τ given lent f even (cond x (Holding 0 0) (Resting 0)))
       none true e = next-in given lent f even j (Holding 0 0) (idles-decides r .0 e, ok .deadline-pos, ok .length-pos, omega arith) refl
       none false e = resting-in even (0 + 1) (omega arith) (omega (arith, ok .constrained, ok .deadline-pos))
 
-      go : (x : Bool) → StandIn r τ (nextStand r τ given lent f even (cond x (emptyPhase r) ph))
+      go : (x : Bool) → StateIn r τ (nextState r τ given lent f even (cond x (emptyPhase r) ph))
       go true = none (idles r) refl
       go false = next-in given lent f even j ph h n
 
   -- and so is the start
-  pub start-in : StandIn r τ (startStand (τ .offset))
+  pub start-in : StateIn r τ (startState (τ .offset))
   start-in =
-      by-eq (λ (x : Bool). StandIn r τ (stand false (cond x (Working 0 0 0) (Coming (τ .offset))))) (τ .offset) 0
+      by-eq (λ (x : Bool). StateIn r τ (taskState false (cond x (Working 0 0 0) (Coming (τ .offset))))) (τ .offset) 0
       (λ e. ((omega arith, omega arith), ok .length-pos, omega arith, omega arith, inr refl))
       (λ n. ((omega arith, omega arith), refl))
 
 -- an empty job is not late
-pub seen-late : (r : Rule) (D : ℕ) (empty : Bool) (ph : Phase) → lateIn D ph ≡ false → lateIn D (seen r empty ph) ≡ false
-seen-late r D empty ph n = go (empty && released ph)
+pub emptied-late : (r : Rule) (D : ℕ) (empty : Bool) (ph : Phase) → lateIn D ph ≡ false → lateIn D (phaseEmptied r empty ph) ≡ false
+emptied-late r D empty ph n = go (empty && released ph)
   where
     none : (x : Bool) → lateIn D (cond x (Holding 0 0) (Resting 0)) ≡ false
     none true = refl

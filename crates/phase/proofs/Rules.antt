@@ -1,4 +1,4 @@
--- Under which rules' numbers ended work holds its cores, and cores are lent; and a phase with room for one more tick has it as it is seen.
+-- Under which rules' numbers ended work holds its cores, and cores are lent; and a phase with space for one more tick has it as it is seen.
 use mathlib.Core.Path.{_≡_, refl}
 use mathlib.Core.Bool.{Bool, true, false, _||_, _&&_, cond}
 use Prim.Native.Nat.{ℕ}
@@ -8,8 +8,8 @@ use Rattle.model.specs.Lending.{lends}
 use Rattle.model.specs.Task.{Rule, greedy, limited, idling, lending, ruleOf}
 use Rattle.phase.specs.declared.Phase.{Phase}
 use Rattle.phase.specs.declared.Phase.the-variants.{Holding, Resting}
-use Rattle.phase.specs.Headroom.{Roomy}
-use Rattle.phase.specs.Phase.{idles, released, emptyPhase, seen}
+use Rattle.phase.specs.NoOverflow.{NoOverflow}
+use Rattle.phase.specs.Phase.{idles, released, emptyPhase, phaseEmptied}
 use Rattle.phase.proofs.Phases.{by-eq}
 
 pub idles-rule : (n : ℕ) → idles (ruleOf n) ≡ eqb n 3 || eqb n 4
@@ -36,13 +36,13 @@ lends-rule n =
     go true = refl
     go false = refl
 
-pub seen-roomy : (r : Rule) (empty : Bool) (ph : Phase) → Roomy ph → Roomy (seen r empty ph)
-seen-roomy r empty ph h = go (empty && released ph)
+pub emptied-no-overflow : (r : Rule) (empty : Bool) (ph : Phase) → NoOverflow ph → NoOverflow (phaseEmptied r empty ph)
+emptied-no-overflow r empty ph h = go (empty && released ph)
   where
-    none : (x : Bool) → Roomy (cond x (Holding 0 0) (Resting 0))
+    none : (x : Bool) → NoOverflow (cond x (Holding 0 0) (Resting 0))
     none true = (omega arith, omega arith)
     none false = omega arith
 
-    go : (x : Bool) → Roomy (cond x (emptyPhase r) ph)
+    go : (x : Bool) → NoOverflow (cond x (emptyPhase r) ph)
     go true = none (idles r)
     go false = h

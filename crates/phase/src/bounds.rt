@@ -9,7 +9,7 @@ use crate::Task;
 
 impl Task {
     // The task of the table that it is.
-    pub fn plain(self) -> table::Task
+    pub fn parameters(self) -> table::Task
         ensures { λ r. ⌜ table.taskOf r ≡ taskOf self ⌝ }
     {
         table::Task {
@@ -42,11 +42,11 @@ impl Task {
         }
     }
 
-    // Whether the task breaks 7 or 8 on so many unfenced cores, or its phase or its parity is outside the limits.
+    // Whether the task breaks 7 or 8 on this number of unfenced cores, or its phase or its parity is outside the limits.
     pub fn out(self, rule: u32, wide: u32) -> bool
         ensures { λ r. ⌜ r ≡ outIn wide (ruleOf rule) self ⌝ }
     {
-        let plain = self.plain();
+        let plain = self.parameters();
         !(table::limits::task_number(wide, plain) == 0) | !self.phase_in(rule)
     }
 

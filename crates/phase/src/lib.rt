@@ -1,15 +1,16 @@
-// A task with its phase: what it is doing, and what that claims.
+// A task with its phase: its state in the run, and what that claims.
 ghost use mathlib.Core.Path.{_≡_};
 ghost use Rattle.model.specs.Task.{ruleOf};
 ghost use Rattle.phase.specs.Phase.{claiming, idles, working};
 
 mod bounds; // bounds.rt: the limits of a task and its phase, and lateness
-mod looks; // looks.rt: a phase as it is seen when cores are chosen
+mod empties; // empties.rt: a phase as it is seen when cores are chosen
 mod moves; // moves.rt: one tick
 pub mod starts; // starts.rt: a task as it starts, and a place past the count
 
-// What a task is doing, with the scope's counts: Coming(ticks left to the first release), Working(ticks since release, ticks had, ticks reserved),
-// Holding(ticks since release, ticks reserved), Resting(ticks since release).
+// The phase of a task in the run, with its counts: Coming(ticks left to the first release; the field: not yet released), Working(ticks since release, ticks
+// had, ticks reserved; the field: pending), Holding(ticks since release, ticks reserved; the field: completed early, processors reserved),
+// Resting(ticks since release; the field: completed).
 pub enum Phase {
     Coming(u32),
     Working(u32, u32, u32),
@@ -17,8 +18,8 @@ pub enum Phase {
     Resting(u32),
 }
 
-// Where a task stands: whether its job is an even one, and its phase.
-pub struct Stand {
+// The state of a task: whether its job is an even one, and its phase.
+pub struct TaskState {
     pub even: bool,
     pub phase: Phase,
 }
@@ -36,7 +37,7 @@ pub struct Task {
     pub phase: Phase,
 }
 
-// Whether ended work holds its cores: under rules 3 and 4.
+// Whether a job that ended holds its cores: under rules 3 and 4.
 fn idles(rule: u32) -> bool
     ensures { λ r. ⌜ r ≡ idles (ruleOf rule) ⌝ }
 {

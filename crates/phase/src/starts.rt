@@ -1,7 +1,7 @@
-// A task as it starts from a table, and what stands in a place past the count.
+// A task as it starts from a table, and the value of a place past the count.
 ghost use mathlib.Core.Path.{_≡_};
 ghost use Rattle.table.specs.Task as table;
-ghost use Rattle.phase.specs.Phase.{startStand};
+ghost use Rattle.phase.specs.Phase.{startState};
 ghost use Rattle.phase.specs.Task.{unused, startTask};
 use crate::Phase;
 use crate::Task;
@@ -24,7 +24,7 @@ pub fn unused() -> Task
 
 // The phase at tick 0 of a task of this offset.
 fn start_phase(offset: u32) -> Phase
-    ensures { λ r. ⌜ r ≡ startStand offset .phase ⌝ }
+    ensures { λ r. ⌜ r ≡ startState offset .phase ⌝ }
 {
     if offset == 0 {
         Phase::Working(0, 0, 0)

@@ -19,10 +19,10 @@ use Rattle.table.specs.Answer.{answerOf}
 use Rattle.table.proofs.Decide.{Decides, fails, decides-lt, decides-or}
 use Rattle.table.proofs.Order.{not-before-itself, later, number-most, first-only}
 use Rattle.table.proofs.Exact.{refusal-exact, passed-exact}
-use Rattle.table.proofs.Passed.{passed-sound}
+use Rattle.table.proofs.Passed.{passed-valid}
 use Rattle.plan.specs.declared.Planned.{Planned}
 use Rattle.plan.specs.declared.Planned.the-variants.{Written, Refused}
-use Rattle.plan.specs.Numbers.{RangeOut, BufferOut, MissOut, Applies, words, ten, eleven, twelve, First, NoneApplies}
+use Rattle.plan.specs.Numbers.{RangeOut, BufferShort, MissBefore, Applies, words, ten, eleven, twelve, First, NoneApplies}
 use Rattle.plan.specs.Plan.{byPlan, plannedBy, plannedOf}
 use Rattle.plan.proofs.Late.{miss-decides}
 
@@ -61,7 +61,7 @@ module _ (ws : List ℕ) (a b bytes : ℕ) where
         none _ _ e (eleven x) = later 11 0 10 0 (omega arith) e
         none _ _ e (twelve x) = later 12 0 10 0 (omega arith) e
 
-    is-eleven : (¬ RangeOut s a b) → BufferOut s a b bytes → First ws a b bytes 11 0
+    is-eleven : (¬ RangeOut s a b) → BufferShort s a b bytes → First ws a b bytes 11 0
     unfolding place
     is-eleven h y = (eleven y, none)
       where
@@ -71,7 +71,7 @@ module _ (ws : List ℕ) (a b bytes : ℕ) where
         none _ _ e (eleven x) = not-before-itself 11 0 e
         none _ _ e (twelve x) = later 12 0 11 0 (omega arith) e
 
-    is-twelve : (¬ RangeOut s a b) → (¬ BufferOut s a b bytes) → MissOut s b → First ws a b bytes 12 0
+    is-twelve : (¬ RangeOut s a b) → (¬ BufferShort s a b bytes) → MissBefore s b → First ws a b bytes 12 0
     is-twelve h k y = (twelve y, none)
       where
         none : (m q : ℕ) → Earlier m q 12 0 → ¬ Applies ws a b bytes m q
@@ -80,7 +80,7 @@ module _ (ws : List ℕ) (a b bytes : ℕ) where
         none _ _ e (eleven x) = k x
         none _ _ e (twelve x) = not-before-itself 12 0 e
 
-    is-none : (¬ RangeOut s a b) → (¬ BufferOut s a b bytes) → (¬ MissOut s b) → NoneApplies ws a b bytes
+    is-none : (¬ RangeOut s a b) → (¬ BufferShort s a b bytes) → (¬ MissBefore s b) → NoneApplies ws a b bytes
     is-none h k l m q (words _ _ x) = passed m q x
     is-none h k l _ _ (ten x) = h x
     is-none h k l _ _ (eleven x) = k x
@@ -89,11 +89,11 @@ module _ (ws : List ℕ) (a b bytes : ℕ) where
     range-decides : Decides (ltb b a || ltb (horizon s) b) (RangeOut s a b)
     range-decides = decides-or (ltb b a) (ltb (horizon s) b) (b < a) (horizon s < b) (decides-lt b a) (decides-lt (horizon s) b)
 
-    buffer-decides : Decides (ltb bytes ((b - a) * s .cores)) (BufferOut s a b bytes)
+    buffer-decides : Decides (ltb bytes ((b - a) * s .cores)) (BufferShort s a b bytes)
     buffer-decides = decides-lt bytes ((b - a) * s .cores)
 
-    late-decides : Decides (any b (missedIn s)) (MissOut s b)
-    late-decides = miss-decides s (passed-sound ws passed) b
+    late-decides : Decides (any b (missedIn s)) (MissBefore s b)
+    late-decides = miss-decides s (passed-valid ws passed) b
 
     -- 10, 11 and 12 by their tests
     right-plan : Right (byPlan s a b bytes)
@@ -106,11 +106,11 @@ module _ (ws : List ℕ) (a b bytes : ℕ) where
         go false e true f v g = is-eleven (fails (ltb b a || ltb (horizon s) b) (RangeOut s a b) range-decides e) (buffer-decides .0 f)
         go false e false f true g =
             is-twelve (fails (ltb b a || ltb (horizon s) b) (RangeOut s a b) range-decides e)
-            (fails (ltb bytes ((b - a) * s .cores)) (BufferOut s a b bytes) buffer-decides f) (late-decides .0 g)
+            (fails (ltb bytes ((b - a) * s .cores)) (BufferShort s a b bytes) buffer-decides f) (late-decides .0 g)
         go false e false f false g =
             is-none (fails (ltb b a || ltb (horizon s) b) (RangeOut s a b) range-decides e)
-            (fails (ltb bytes ((b - a) * s .cores)) (BufferOut s a b bytes) buffer-decides f)
-            (fails (any b (missedIn s)) (MissOut s b) late-decides g)
+            (fails (ltb bytes ((b - a) * s .cores)) (BufferShort s a b bytes) buffer-decides f)
+            (fails (any b (missedIn s)) (MissBefore s b) late-decides g)
 
   right : Right (plannedOf ws a b bytes)
   unfolding plannedOf
@@ -121,12 +121,12 @@ module _ (ws : List ℕ) (a b bytes : ℕ) where
       go (answer.Refused n p) e = by-words n p (refusal-exact ws n p .0 e)
 
   -- what is right of an answer determines it
-  settled : (v : Planned) → Right v → ((n p : ℕ) → (v ≡ Refused n p) ↔ First ws a b bytes n p) × ((v ≡ Written) ↔ NoneApplies ws a b bytes)
-  settled Written r = (λ n p. (λ e. absurd (written-not-refused e), λ f. absurd (r n p (f .0))), (λ e. r, λ n. refl))
+  determined : (v : Planned) → Right v → ((n p : ℕ) → (v ≡ Refused n p) ↔ First ws a b bytes n p) × ((v ≡ Written) ↔ NoneApplies ws a b bytes)
+  determined Written r = (λ n p. (λ e. absurd (written-not-refused e), λ f. absurd (r n p (f .0))), (λ e. r, λ n. refl))
     where
       written-not-refused : {n p : ℕ} → Written ≡ Refused n p → ⊥
       written-not-refused e = let z : _≡_ {A = ℕ} 0 1 = cc in omega arith
-  settled (Refused m q) r = (λ n p. (λ e. to n p e, λ f. from n p f), (λ e. absurd (refused-not-written e), λ none. absurd (none m q (r .0))))
+  determined (Refused m q) r = (λ n p. (λ e. to n p e, λ f. from n p f), (λ e. absurd (refused-not-written e), λ none. absurd (none m q (r .0))))
     where
       refused-not-written : Refused m q ≡ Written → ⊥
       refused-not-written e = let z : _≡_ {A = ℕ} 0 1 = cc in omega arith
@@ -139,8 +139,8 @@ module _ (ws : List ℕ) (a b bytes : ℕ) where
 
   -- the plan refuses with n and p exactly if number n applies with position p and no earlier one does
   pub refused-exact : (n p : ℕ) → (plannedOf ws a b bytes ≡ Refused n p) ↔ First ws a b bytes n p
-  refused-exact n p = settled (plannedOf ws a b bytes) right .0 n p
+  refused-exact n p = determined (plannedOf ws a b bytes) right .0 n p
 
   -- and the rows are written exactly if no number applies
   pub written-exact : (plannedOf ws a b bytes ≡ Written) ↔ NoneApplies ws a b bytes
-  written-exact = settled (plannedOf ws a b bytes) right .1
+  written-exact = determined (plannedOf ws a b bytes) right .1

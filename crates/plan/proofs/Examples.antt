@@ -7,13 +7,13 @@ use Prim.Native.String.{String}
 use lib.ListN.{drop, length, replicate}
 use Rattle.model.proofs.Computing.{computing}
 use Rattle.model.proofs.LineByLine.{LineByLine, by-line}
-use Rattle.table.specs.Words.{met, count, chain, tableOf}
+use Rattle.table.specs.Words.{visited, count, chain, tableOf}
 use Rattle.table.specs.Answer.{headerNumber, lastStep, endingOf, firstOut, byHorizon, byTasks, byWalk, answerOf}
 use Rattle.table.proofs.Examples.{wordsA}
 use Rattle.plan.specs.declared.Planned.{Planned}
 use Rattle.plan.specs.declared.Planned.the-variants.{Written, Refused}
-use Rattle.plan.specs.Rows.{rowsFrom}
-use Rattle.plan.specs.Plan.{byPlan, plannedOf, planTold, bufferOf}
+use Rattle.plan.specs.Rows.{fullRowsFrom}
+use Rattle.plan.specs.Plan.{byPlan, plannedOf, planMeaning, bufferOf}
 
 -- a line: its name, the words of a table, a, b and a lent buffer; the answer, and the buffer afterwards
 pub record Line : Type 0 where
@@ -22,10 +22,10 @@ pub record Line : Type 0 where
   pub a : ℕ
   pub b : ℕ
   pub lent : List ℕ
-  pub says : Planned
+  pub result : Planned
   pub leaves : List ℕ
 
--- what the definitions say of a line's words, a, b and buffer
+-- the value by the definitions of a line's words, a, b and buffer
 abbrev pub worked : Line → Line
 worked l =
     let v = plannedOf (l .words) (l .a) (l .b) (length (l .lent)) in
@@ -35,20 +35,20 @@ worked l =
       a = l .a;
       b = l .b;
       lent = l .lent;
-      says = v;
-      leaves = bufferOf (planTold v) (tableOf (l .words)) (l .a) (l .b) (l .lent);
+      result = v;
+      leaves = bufferOf (planMeaning v) (tableOf (l .words)) (l .a) (l .b) (l .lent);
     }
 
--- so many bytes, none of which is a position
+-- a number of bytes, none of which is a position
 abbrev lent : ℕ → List ℕ
 lent n = replicate n 9
 
 -- a buffer of n bytes: what is written over it, and that it is refused by number n and left as found
 abbrev writes : String → List ℕ → ℕ → ℕ → ℕ → List ℕ → Line
-writes s ws a b n new = record { name = s; words = ws; a = a; b = b; lent = lent n; says = Written; leaves = new }
+writes s ws a b n new = record { name = s; words = ws; a = a; b = b; lent = lent n; result = Written; leaves = new }
 
 abbrev refuses : String → List ℕ → ℕ → ℕ → ℕ → ℕ → Line
-refuses s ws a b n number = record { name = s; words = ws; a = a; b = b; lent = lent n; says = Refused number 0; leaves = lent n }
+refuses s ws a b n number = record { name = s; words = ws; a = a; b = b; lent = lent n; result = Refused number 0; leaves = lent n }
 
 -- A under a rule
 abbrev ruledA : ℕ → List ℕ
@@ -65,7 +65,7 @@ fencedA = 3 ∷ 5 ∷ 1 ∷ 9 ∷ 0 ∷ drop 5 wordsA
 abbrev fencedF : List ℕ
 fencedF = 1 ∷ 34 ∷ 1 ∷ 4294967295 ∷ 1 ∷ drop 5 wordsF
 
--- two cores, horizon 2: one task of widths 1 and 2, released in every tick; and behind one of width 1, where position 2 misses at tick 2
+-- two cores, horizon 2: one task of widths 1 and 2, released in every tick; and below one of width 1, where position 2 misses at tick 2
 abbrev pairs : List ℕ
 pairs = 1 ∷ 2 ∷ 1 ∷ 0 ∷ 0 ∷ 0 ∷ 0 ∷ 1 ∷ 1 ∷ 1 ∷ 1 ∷ 2 ∷ []
 
@@ -106,9 +106,9 @@ lines =
     ∷ writes "the second width does not fit: b = the tick of that miss" behind 0 2 4 (1 ∷ 2 ∷ 1 ∷ 0 ∷ [])
     ∷ []
 
--- every line is what the definitions say, line by line
+-- every line is its value by the definitions, line by line
 computed : LineByLine worked lines lines
-unfolding plannedOf byPlan rowsFrom answerOf byWalk byTasks byHorizon firstOut endingOf lastStep headerNumber tableOf chain count met computing
+unfolding plannedOf byPlan fullRowsFrom answerOf byWalk byTasks byHorizon firstOut endingOf lastStep headerNumber tableOf chain count visited computing
 computed =
     let past-14 : LineByLine worked (drop 14 lines) (drop 14 lines) =
     (refl, (refl, (refl, (refl, (refl, (refl, (refl, (refl, (refl, (refl, (refl, (refl, (refl, (refl, (refl, (refl, tt)))))))))))))))) in

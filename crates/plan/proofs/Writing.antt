@@ -16,16 +16,16 @@ use Rattle.model.specs.Search.{bit}
 use Rattle.model.specs.Task.{Table, ruleOf}
 use Rattle.model.specs.Grants.{claimants, grants}
 use Rattle.model.specs.Row.{row}
-use Rattle.model.specs.Book.{rowOf, full}
+use Rattle.model.specs.Book.{bookRow, full}
 use Rattle.model.specs.Sizes.{mostCores}
 use Rattle.table.specs.declared.Loaded.{Loaded}
 use Rattle.rule.specs.Widths.{widthsIn}
-use Rattle.full.specs.Machine.{Machine}
-use Rattle.full.specs.Stand.{numbersIn}
-use Rattle.full.proofs.Alike.{row-alike}
-use Rattle.judge.specs.Judged.{tableIn, Fit}
+use Rattle.simulation.specs.Machine.{Machine}
+use Rattle.simulation.specs.TickState.{loadedNumbers}
+use Rattle.simulation.proofs.SameClaimants.{row-same}
+use Rattle.judge.specs.Judged.{loadedTable, Fit}
 use Rattle.judge.proofs.Ticks.{After, front-agree}
-use Rattle.plan.specs.Plan.{over}
+use Rattle.plan.specs.Plan.{withRows}
 use Rattle.plan.proofs.Buffer.{over-none, over-more, with-length}
 
 -- the widths of the table's tasks in a tick, by both widths of each place, where those of the set e are at their second
@@ -41,7 +41,7 @@ RowBy t v c e bytes =
 
 -- by the table's widths
 abbrev pub RowFor : Loaded → ℕ → ℕ → List ℕ → Type 0
-RowFor t c e bytes = RowBy t (numbersIn t .widths) c e bytes
+RowFor t c e bytes = RowBy t (loadedNumbers t .widths) c e bytes
 
 -- where neither of two numbers has changed
 pub none-changed : (a b c d : ℕ) → not (eqb a b) || not (eqb c d) ≡ false → (a ≡ b) × (c ≡ d)
@@ -55,11 +55,11 @@ none-changed a b c d e = go (eqb a b) refl (eqb c d) refl e
 -- the buffer before a tick: the rows from a on, and after them as found
 pub record Filled (t : Loaded) (a tick at : ℕ) (old out : List ℕ) : Type 0 where
   pub next : at ≡ (tick - a) * t .cores
-  pub bytes : out ≡ over (tableIn t) a tick old
+  pub bytes : out ≡ withRows (loadedTable t) a tick old
   pub size : length out ≡ length old
 
 pub filled-start : (t : Loaded) (a : ℕ) (old : List ℕ) → Filled t a 0 0 old old
-filled-start t a old = record { next = zeros; bytes = sym (over-none (tableIn t) a 0 old (omega arith)); size = refl }
+filled-start t a old = record { next = zeros; bytes = sym (over-none (loadedTable t) a 0 old (omega arith)); size = refl }
   where
     zeros : 0 ≡ (0 - a) * t .cores
     zeros = let e : 0 - a ≡ 0 = omega arith in rw e (omega arith)
@@ -70,7 +70,7 @@ filled-pass t a tick at old out f h =
     let e : tick - a ≡ tick + 1 - a = omega arith in
     record {
       next = f .next ∙ ap (λ (n : ℕ). n * t .cores) e;
-      bytes = f .bytes ∙ (over-none (tableIn t) a tick old (omega arith) ∙ sym (over-none (tableIn t) a (tick + 1) old (omega arith)));
+      bytes = f .bytes ∙ (over-none (loadedTable t) a tick old (omega arith) ∙ sym (over-none (loadedTable t) a (tick + 1) old (omega arith)));
       size = f .size;
     }
 
@@ -85,13 +85,13 @@ filled-room t a b tick at old out f h k enough =
 -- a tick from a on
 pub filled-more :
     (t : Loaded) (a b tick at at′ : ℕ) (old out out′ row : List ℕ) → Filled t a tick at old out → a ≤ tick → tick < b → (b - a) * t .cores ≤ length old
-    → take (t .cores) row ≡ rowOf (tableIn t) (full (tableIn t) tick) → at′ ≡ at + t .cores → out′ ≡ paste out at row (t .cores)
+    → take (t .cores) row ≡ bookRow (loadedTable t) (full (loadedTable t) tick) → at′ ≡ at + t .cores → out′ ≡ paste out at row (t .cores)
     → Filled t a (tick + 1) at′ old out′
 filled-more t a b tick at at′ old out out′ row f h k enough e ea eo =
     rw add-one (record {
       next = ea ∙ (ap (λ (n : ℕ). n + t .cores) (f .next) ∙ (sym (suc-mul (tick - a) (t .cores)) ∙ ap (λ (n : ℕ). n * t .cores) one-more));
       bytes = new;
-      size = ap length new ∙ with-length (tableIn t) a (suc tick - a) old (le-trans (mul-le-mul-right (t .cores) fewer) enough);
+      size = ap length new ∙ with-length (loadedTable t) a (suc tick - a) old (le-trans (mul-le-mul-right (t .cores) fewer) enough);
     })
   where
     one-more : suc (tick - a) ≡ suc tick - a
@@ -100,30 +100,30 @@ filled-more t a b tick at at′ old out out′ row f h k enough e ea eo =
     fewer : suc tick - a ≤ b - a
     fewer = omega arith
 
-    new : out′ ≡ over (tableIn t) a (suc tick) old
+    new : out′ ≡ withRows (loadedTable t) a (suc tick) old
     new =
         eo
         ∙ (ap (λ (l : List ℕ). paste l at row (t .cores)) (f .bytes)
-        ∙ (ap (λ (n : ℕ). paste (over (tableIn t) a tick old) n row (t .cores)) (f .next)
-        ∙ over-more (tableIn t) a tick old row h e))
+        ∙ (ap (λ (n : ℕ). paste (withRows (loadedTable t) a tick old) n row (t .cores)) (f .next)
+        ∙ over-more (loadedTable t) a tick old row h e))
 
 -- THE ROW
 
 module _ (t : Loaded) (fit : Fit t) where
   abbrev s : Table
-  s = tableIn t
+  s = loadedTable t
 
   -- the row that the claimants give with their widths is the book's
   pub row-bytes :
-      (m : Machine) (even bell tick : ℕ) (bytes : List ℕ) → After t m even bell tick → RowFor t (m .claiming) even bytes
-      → take (t .cores) bytes ≡ rowOf s (full s tick)
-  row-bytes m even bell tick bytes a e =
+      (m : Machine) (even nextEvent tick : ℕ) (bytes : List ℕ) → After t m even nextEvent tick → RowFor t (m .claiming) even bytes
+      → take (t .cores) bytes ≡ bookRow s (full s tick)
+  row-bytes m even nextEvent tick bytes a e =
       ap (take (t .cores)) e
       ∙ (take-at (row (t .fence) (t .cores) given) (replicate (mostCores - t .cores) 0) (t .cores) (row-length (t .fence) (t .cores) given)
-      ∙ row-alike s (fit .sound) tick m (a .ready) widths (front-agree t fit m even bell tick a))
+      ∙ row-same s (fit .valid) tick m (a .ready) widths (front-agree t fit m even nextEvent tick a))
     where
       widths : List ℕ
-      widths = widthsBy t (numbersIn t .widths) even
+      widths = widthsBy t (loadedNumbers t .widths) even
 
       given : List (List ℕ)
       given = grants (ruleOf (t .rule)) (claimants widths (bit (m .claiming))) (unfenced (t .fence) (t .cores))

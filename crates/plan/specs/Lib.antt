@@ -1,4 +1,4 @@
--- What the plan is: its rows, its numbers for what is turned down, and what is promised of the buffer.
+-- The plan: its rows, its numbers for what is turned down, and the contract of the buffer.
 pub mod Rows
 pub mod Numbers
 pub mod Plan

@@ -13,24 +13,24 @@ use Rattle.table.specs.Numbers as table
 abbrev pub RangeOut : Table → ℕ → ℕ → Type 0
 RangeOut s a b = (b < a) ⊎ (horizon s < b)
 
--- a lent buffer of so many bytes has fewer than (b − a) × cores
-abbrev pub BufferOut : Table → ℕ → ℕ → ℕ → Type 0
-BufferOut s a b bytes = bytes < (b - a) * s .cores
+-- a lent buffer of this number of bytes has fewer than (b − a) × cores
+abbrev pub BufferShort : Table → ℕ → ℕ → ℕ → Type 0
+BufferShort s a b bytes = bytes < (b - a) * s .cores
 
 -- b is above the tick of the first miss
-abbrev pub MissOut : Table → ℕ → Type 0
-MissOut s b = (t : ℕ) × (p : ℕ) × FirstMiss s t p × (t < b)
+abbrev pub MissBefore : Table → ℕ → Type 0
+MissBefore s b = (t : ℕ) × (p : ℕ) × FirstMiss s t p × (t < b)
 
--- number n applies, with position p, to the words, a, b and a buffer of so many bytes
+-- number n applies, with position p, to the words, a, b and a buffer of this number of bytes. As in table/specs/Numbers: `Applies`, `First`, `NoneApplies`
 pub data Applies (ws : List ℕ) (a b bytes : ℕ) : ℕ → ℕ → Type 0 where
   -- those of the table
   words : (n p : ℕ) → table.Applies ws n p → Applies ws a b bytes n p
   -- 10. Plan: a is above b, or b is above the horizon.
   ten : RangeOut (tableOf ws) a b → Applies ws a b bytes 10 0
   -- 11. Plan: the lent buffer has fewer bytes than (b−a) × cores.
-  eleven : BufferOut (tableOf ws) a b bytes → Applies ws a b bytes 11 0
+  eleven : BufferShort (tableOf ws) a b bytes → Applies ws a b bytes 11 0
   -- 12. Plan: b is above the tick of the first miss.
-  twelve : MissOut (tableOf ws) b → Applies ws a b bytes 12 0
+  twelve : MissBefore (tableOf ws) b → Applies ws a b bytes 12 0
 
 -- number n is the first that applies, with position p
 abbrev pub First : List ℕ → ℕ → ℕ → ℕ → ℕ → ℕ → Type 0

@@ -1,4 +1,4 @@
--- What the plan answers, and what is promised of it and of the buffer (scope, 'The plan').
+-- The plan's answer, and the contract of it and of the buffer (scope, 'The plan').
 use mathlib.Core.Path.{_≡_}
 use mathlib.Core.Bool.{_||_, cond}
 use mathlib.Core.List.{List, _++_}
@@ -8,7 +8,7 @@ use lib.ListN.{length, getD, drop, replicate}
 use lib.Dec.{ltb}
 use Rattle.model.specs.Search.{any}
 use Rattle.model.specs.Task.{Table}
-use Rattle.model.specs.Book.{book, quiet, rowOf}
+use Rattle.model.specs.Book.{book, noReports, bookRow}
 use Rattle.model.specs.Book as model
 use Rattle.model.specs.Horizon.{horizon}
 use Rattle.model.specs.Verdict.{missedIn}
@@ -33,39 +33,39 @@ abbrev pub plannedBy : Answer → Planned → Planned
 plannedBy table.Passed v = v
 plannedBy (table.Refused n p) v = Refused n p
 
--- what the plan answers of the words, a, b and a buffer of so many bytes
+-- the plan's answer to the words, a, b and a buffer of this number of bytes
 unfoldable pub plannedOf : List ℕ → ℕ → ℕ → ℕ → Planned
 plannedOf ws a b bytes = plannedBy (answerOf ws) (byPlan (tableOf ws) a b bytes)
 
 -- the rows over the first bytes of the buffer, and after the last row the bytes as found
-abbrev pub over : Table → ℕ → ℕ → List ℕ → List ℕ
-over s a b old = rowsOf s a b ++ drop ((b - a) * s .cores) old
+abbrev pub withRows : Table → ℕ → ℕ → List ℕ → List ℕ
+withRows s a b old = rowsOf s a b ++ drop ((b - a) * s .cores) old
 
--- the answer that each case is: taken where the rows are written, or refused with number and position
-abbrev pub planTold : Planned → model.Answer
-planTold Written = model.taken
-planTold (Refused n p) = model.refused n p
+-- the meaning of each case: taken where the rows are written, or refused with number and position
+abbrev pub planMeaning : Planned → model.Answer
+planMeaning Written = model.taken
+planMeaning (Refused n p) = model.refused n p
 
 -- the buffer afterwards: the rows where the plan is taken, and as found in a refusal
 abbrev pub bufferOf : model.Answer → Table → ℕ → ℕ → List ℕ → List ℕ
-bufferOf model.taken s a b old = over s a b old
+bufferOf model.taken s a b old = withRows s a b old
 bufferOf (model.refused n p) s a b old = old
 
--- what is promised of the answer v to the words, a and b with a buffer that was `old` and is `new`
+-- the contract of the answer v to the words, a and b with a buffer that was `old` and is `new`
 pub record PlanOf (ws : List ℕ) (a b : ℕ) (old new : List ℕ) (v : Planned) : Type 0 where
   -- its value
   pub value : v ≡ plannedOf ws a b (length old)
-  -- refused with n and p exactly if n is the first number that applies, at p; taken, so that the rows are written, exactly if none applies
-  pub refused : (n p : ℕ) → (planTold v ≡ model.refused n p) ↔ First ws a b (length old) n p
-  pub written : (planTold v ≡ model.taken) ↔ NoneApplies ws a b (length old)
+  -- refused with n and p exactly if n is the first number that applies, at p; taken, with the rows written, exactly if none applies
+  pub refused : (n p : ℕ) → (planMeaning v ≡ model.refused n p) ↔ First ws a b (length old) n p
+  pub written : (planMeaning v ≡ model.taken) ↔ NoneApplies ws a b (length old)
   -- the buffer afterwards
-  pub buffer : new ≡ bufferOf (planTold v) (tableOf ws) a b old
+  pub buffer : new ≡ bufferOf (planMeaning v) (tableOf ws) a b old
   -- byte by byte: the byte of core c in row t is that of the row of the book of t advances with empty sets ..
   pub byte :
-      planTold v ≡ model.taken → (t c : ℕ) → a ≤ t → t < b → c < tableOf ws .cores
-      → getD new ((t - a) * tableOf ws .cores + c) 0 ≡ getD (rowOf (tableOf ws) (book (tableOf ws) (replicate t quiet))) c 0
-  -- .. and nothing after the last row is touched
-  pub past : planTold v ≡ model.taken → (i : ℕ) → (b - a) * tableOf ws .cores ≤ i → getD new i 0 ≡ getD old i 0
+      planMeaning v ≡ model.taken → (t c : ℕ) → a ≤ t → t < b → c < tableOf ws .cores
+      → getD new ((t - a) * tableOf ws .cores + c) 0 ≡ getD (bookRow (tableOf ws) (book (tableOf ws) (replicate t noReports))) c 0
+  -- .. and nothing after the last row is changed
+  pub past : planMeaning v ≡ model.taken → (i : ℕ) → (b - a) * tableOf ws .cores ≤ i → getD new i 0 ≡ getD old i 0
   pub size : length new ≡ length old
   -- a refusal leaves the buffer as found
-  pub found : (n p : ℕ) → planTold v ≡ model.refused n p → new ≡ old
+  pub found : (n p : ℕ) → planMeaning v ≡ model.refused n p → new ≡ old

@@ -2,13 +2,13 @@
 use mathlib.Core.List.{List, [], _++_}
 use Prim.Native.Nat.{ℕ, zero, suc, _-_}
 use Rattle.model.specs.Task.{Table}
-use Rattle.model.specs.Book.{rowOf, full}
+use Rattle.model.specs.Book.{bookRow, full}
 
 -- n rows of the full-length run, one after the other, from tick t on
-unfoldable pub rowsFrom : Table → ℕ → ℕ → List ℕ
-rowsFrom s t zero = []
-rowsFrom s t (suc n) = rowOf s (full s t) ++ rowsFrom s (suc t) n
+unfoldable pub fullRowsFrom : Table → ℕ → ℕ → List ℕ
+fullRowsFrom s t zero = []
+fullRowsFrom s t (suc n) = bookRow s (full s t) ++ fullRowsFrom s (suc t) n
 
 -- rows a up to but not including b
 abbrev pub rowsOf : Table → ℕ → ℕ → List ℕ
-rowsOf s a b = rowsFrom s a (b - a)
+rowsOf s a b = fullRowsFrom s a (b - a)

@@ -2,8 +2,8 @@
 ghost use mathlib.Core.Path.{_≡_};
 ghost use Prim.Native.Nat.{_≤_};
 ghost use lib.ListN.{length};
-ghost use Rattle.judge.specs.Judged.{tableIn, Fit};
-ghost use Rattle.plan.specs.Plan.{byPlan, planTold, bufferOf, PlanOf};
+ghost use Rattle.judge.specs.Judged.{loadedTable, Fit};
+ghost use Rattle.plan.specs.Plan.{byPlan, planMeaning, bufferOf, PlanOf};
 ghost use Rattle.model.specs.Sizes.{mostCores};
 use judge::misses::Missed;
 use table::Answer;
@@ -20,7 +20,7 @@ pub enum Planned {
 // The plan of a table that passed: number 10, 11 or 12, or the rows.
 fn by_table(table: Loaded, a: u32, b: u32, out: &mut [u8]) -> Planned
     requires { ⌜ Fit table × (table .cores ≤ mostCores) ⌝ }
-    ensures { λ r. ⌜ (r ≡ byPlan (tableIn table) a b (length (now (out .entry)))) × (now (out .exit) ≡ bufferOf (planTold r) (tableIn table) a b (now (out .entry))) ⌝ }
+    ensures { λ r. ⌜ (r ≡ byPlan (loadedTable table) a b (length (now (out .entry)))) × (now (out .exit) ≡ bufferOf (planMeaning r) (loadedTable table) a b (now (out .entry))) ⌝ }
 {
     if b < a {
         return Planned::Refused(10, 0);
@@ -32,7 +32,7 @@ fn by_table(table: Loaded, a: u32, b: u32, out: &mut [u8]) -> Planned
     if (out.len() as u64) < bytes {
         return Planned::Refused(11, 0);
     }
-    let missed = quick::first_miss(table, b);
+    let missed = fast_judge::first_miss(table, b);
     match missed {
         Missed::Never => {
             rows::write(table, a, b, out);

@@ -7,12 +7,12 @@ ghost use lib.Seq.{paste};
 ghost use Rattle.model.specs.Search.{any};
 ghost use Rattle.model.specs.Verdict.{missedIn};
 ghost use Rattle.model.specs.Sizes.{mostCores};
-ghost use Rattle.judge.specs.Judged.{tableIn, Fit};
-ghost use Rattle.plan.specs.Plan.{over};
+ghost use Rattle.judge.specs.Judged.{loadedTable, Fit};
+ghost use Rattle.plan.specs.Plan.{withRows};
 use model::ROW;
 use table::Loaded;
 
-// Puts the first `count` bytes of a row into the buffer, from byte `at` on.
+// Writes the first `count` bytes of a row into the buffer, from byte `at` on.
 fn put(row: [u8; ROW], count: usize, at: usize, out: &mut [u8])
     requires { ⌜ (count ≤ mostCores) × (at + count ≤ length (now out)) ⌝ }
     ensures { λ _. ⌜ now (out .exit) ≡ paste (now (out .entry)) at row count ⌝ }
@@ -26,11 +26,11 @@ fn put(row: [u8; ROW], count: usize, at: usize, out: &mut [u8])
 
 // Writes rows `a` up to but not including `b` of a full-length run that meets every deadline before `b`.
 pub(crate) fn write(table: Loaded, a: u32, b: u32, out: &mut [u8])
-    requires { ⌜ Fit table × (table .cores ≤ mostCores) × (b ≤ table .horizon) × (any b (missedIn (tableIn table)) ≡ false) × ((b - a) * table .cores ≤ length (now out)) ⌝ }
-    ensures { λ _. ⌜ now (out .exit) ≡ over (tableIn table) a b (now (out .entry)) ⌝ }
+    requires { ⌜ Fit table × (table .cores ≤ mostCores) × (b ≤ table .horizon) × (any b (missedIn (loadedTable table)) ≡ false) × ((b - a) * table .cores ≤ length (now out)) ⌝ }
+    ensures { λ _. ⌜ now (out .exit) ≡ withRows (loadedTable table) a b (now (out .entry)) ⌝ }
 {
     let cores = table.cores as usize;
-    let columns = full::columns::columns_of(table);
+    let columns = simulation::columns::columns_of(table);
     let setting = columns.setting;
     let widths = columns.widths;
     let times = columns.times;
@@ -43,30 +43,30 @@ pub(crate) fn write(table: Loaded, a: u32, b: u32, out: &mut [u8])
         &widths,
         table.count,
     );
-    let machine = full::machine::start(table);
-    let mut pace = machine.pace;
+    let machine = simulation::machine::start(table);
+    let mut registers = machine.registers;
     let mut places = machine.places;
     let mut shown: u32 = 0;
     let mut even: u32 = 0;
     let mut row = idle;
     let mut at: usize = 0;
-    while pace.tick < b {
-        let tick = pace.tick;
-        pace = full::step(setting, &widths, &times, pace, &mut places);
+    while registers.tick < b {
+        let tick = registers.tick;
+        registers = simulation::step(setting, &widths, &times, registers, &mut places);
         if a <= tick {
-            if (pace.chosen != shown) | (pace.even != even) {
+            if (registers.chosen != shown) | (registers.even != even) {
                 let fresh = rule::show(
                     table.rule,
                     table.cores,
                     table.fence,
-                    pace.chosen,
-                    pace.even,
+                    registers.chosen,
+                    registers.even,
                     &widths,
                     table.count,
                 );
                 row = fresh;
-                shown = pace.chosen;
-                even = pace.even;
+                shown = registers.chosen;
+                even = registers.even;
             }
             put(row, cores, at, out);
             at += cores;

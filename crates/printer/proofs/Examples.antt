@@ -7,22 +7,22 @@ use Prim.Native.String.{String}
 use Rattle.model.specs.Grants.{claimants, given, grants, left}
 use Rattle.model.specs.Horizon.{S, horizon, hyperperiod, lcm}
 use Rattle.model.specs.Row.{owner, row}
-use Rattle.model.specs.Search.{any, kept, least, memb, upFrom}
+use Rattle.model.specs.Search.{any, filtered, least, member, upFrom}
 use Rattle.model.proofs.Computing.{computing}
 use Rattle.model.proofs.LineByLine.{LineByLine, by-line}
 use Rattle.rule.specs.Widths.{widthsIn}
 use Rattle.table.specs.Answer.{headerNumber, lastStep, endingOf, firstOut, byHorizon, byTasks, byWalk, answerOf}
 use Rattle.table.specs.Load.{loadOf}
-use Rattle.table.specs.Words.{met, count, chain, tableOf}
+use Rattle.table.specs.Words.{visited, count, chain, tableOf}
 use Rattle.table.specs.declared.Loaded.{Loaded}
-use Rattle.full.specs.Machine.{released, releasedDue, earliest, worked}
-use Rattle.full.specs.Places.{each, setOf}
-use Rattle.full.specs.Stand.{pairedIn, numbersIn, begun, after, bellAfter, evenAfter, grantedIn, next}
+use Rattle.simulation.specs.Machine.{withRelease, releasedDue, earliest, workedTick}
+use Rattle.simulation.specs.Places.{mapPlaces, setWhere}
+use Rattle.simulation.specs.TickState.{pairedIn, loadedNumbers, initialTickState, afterEvents, nextEventAfter, evenAtTick, grantedAt, nextTickState}
 use Rattle.text.specs.Decimal.{all, value, decimal, lastDigits, digitCount, digitsWithin}
 use Rattle.text.specs.Format.{wordsOf, lines, isNumber}
 use Rattle.text.specs.Output.{letters, fields, lineOf, firstLine, rowLine, rowLines, printed, output}
 use Rattle.printer.specs.Cells.{cells}
-use Rattle.printer.specs.Rows.{textOf, textIn, lineIn, linesIn}
+use Rattle.printer.specs.Rows.{rowTextOf, textIn, lineIn, linesIn}
 
 -- a table: its name, its words and the text of them, the first line of what is printed, how many rows, and their lines
 pub record Print : Type 0 where
@@ -70,7 +70,7 @@ whole p = letters (p .first) ++ letters (p .lines)
 
 each-text : LineByLine printing prints (map whole prints)
 unfolding output wordsOf lines isNumber all value printed firstLine rowLine rowLines lineOf fields decimal lastDigits digitCount digitsWithin answerOf byWalk
-    byTasks byHorizon firstOut endingOf lastStep headerNumber tableOf chain count met computing
+    byTasks byHorizon firstOut endingOf lastStep headerNumber tableOf chain count visited computing
 each-text = (refl, (refl, (refl, tt)))
 
 pub texts : map (λ p. output (letters (p .text))) prints ≡ map (λ p. letters (p .first) ++ letters (p .lines)) prints
@@ -78,7 +78,7 @@ texts = by-line printing prints (map whole prints) each-text
 
 -- the lines that the run of a table gives from tick 0 on, beginning with the text of no claimants
 abbrev pub stepped : Loaded → ℕ → List ℕ
-stepped t k = linesIn (numbersIn t) k (begun t) (textOf (numbersIn t) 0 (begun t .even))
+stepped t k = linesIn (loadedNumbers t) k (initialTickState t) (rowTextOf (loadedNumbers t) 0 (initialTickState t .even))
 
 abbrev stepping : Print → List ℕ
 stepping p = stepped (loadOf (p .words)) (p .rows)
@@ -87,9 +87,9 @@ abbrev rows : Print → List ℕ
 rows p = letters (p .lines)
 
 each-run : LineByLine stepping prints (map rows prints)
-unfolding linesIn lineIn textIn cells next after bellAfter evenAfter grantedIn pairedIn released releasedDue earliest worked each setOf widthsIn fields decimal
-    lastDigits digitCount digitsWithin loadOf answerOf byWalk byTasks byHorizon firstOut endingOf lastStep headerNumber tableOf chain count met horizon S
-    hyperperiod lcm least any kept memb upFrom owner row given left grants claimants
+unfolding linesIn lineIn textIn cells nextTickState afterEvents nextEventAfter evenAtTick grantedAt pairedIn withRelease releasedDue earliest workedTick mapPlaces setWhere widthsIn fields decimal
+    lastDigits digitCount digitsWithin loadOf answerOf byWalk byTasks byHorizon firstOut endingOf lastStep headerNumber tableOf chain count visited horizon S
+    hyperperiod lcm least any filtered member upFrom owner row given left grants claimants
 each-run = (refl, (refl, (refl, tt)))
 
 pub runs : map (λ p. stepped (loadOf (p .words)) (p .rows)) prints ≡ map (λ p. letters (p .lines)) prints

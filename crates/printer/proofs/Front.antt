@@ -11,9 +11,9 @@ use Rattle.printer.specs.Pieces.{Pieces, Printed}
 use Rattle.printer.specs.declared.Printer.{Printer}
 use Rattle.printer.proofs.Pieces.{pieces}
 
--- a printer of the front has all of the output of the whole input still to hand out
+-- a printer of the front has all of the output of the whole input left
 pub front-made : (bs : List ℕ) {p : Printer} → MadeFrom (take enoughBytes bs) p → MadeFrom bs p
-front-made bs m = record { sound = m .sound; whole = m .whole ∙ output-enough bs }
+front-made bs m = record { valid = m .valid; whole = m .whole ∙ output-enough bs }
 
 -- THEOREM (front-pieces)
 pub front-pieces :

@@ -8,24 +8,24 @@ use lib.Dec.{ltb}
 use lib.ListN.{getD}
 use lib.Pow.{pow-mono}
 use borrow.Author.Tests.{lt-ltb, le-ltb}
-use Rattle.full.specs.Places.{setOf}
-use Rattle.full.proofs.Sets.{set-lt}
-use Rattle.printer.specs.Sound.{owed}
+use Rattle.simulation.specs.Places.{setWhere}
+use Rattle.simulation.proofs.Sets.{set-lt}
+use Rattle.printer.specs.Valid.{owed}
 use Rattle.model.specs.Sizes.{mostTasks}
 
 -- a set is the same where its test is
-same-set : (n : ℕ) (f g : ℕ → Bool) → ((p : ℕ) → f p ≡ g p) → setOf n f ≡ setOf n g
-unfolding setOf
+same-set : (n : ℕ) (f g : ℕ → Bool) → ((p : ℕ) → f p ≡ g p) → setWhere n f ≡ setWhere n g
+unfolding setWhere
 same-set zero f g e = refl
 same-set (suc n) f g e =
     ap₂ (λ (b : Bool) (x : ℕ). cond b 1 0 + 2 * x) (e 0) (same-set n (λ p. f (suc p)) (λ p. g (suc p)) (λ p. e (suc p)))
 
 -- the places from i on, counted from i
 unfoldable pub owedFrom : List ℕ → ℕ → ℕ
-owedFrom left i = setOf (mostTasks - i) (λ p. ltb 0 (getD left (i + p) 0))
+owedFrom left i = setWhere (mostTasks - i) (λ p. ltb 0 (getD left (i + p) 0))
 
 pub owed-none : (left : List ℕ) → 0 ≡ owedFrom left mostTasks
-unfolding owedFrom setOf
+unfolding owedFrom setWhere
 owed-none left = refl
 
 pub owed-all : (left : List ℕ) → owedFrom left 0 ≡ owed left
@@ -37,10 +37,10 @@ owed-all left =
 -- one place more, below the others
 module _ (left : List ℕ) (i : ℕ) (h : i < mostTasks) where
   owed-more : (b : Bool) → ltb 0 (getD left i 0) ≡ b → owedFrom left i ≡ cond b 1 0 + 2 * owedFrom left (i + 1)
-  unfolding owedFrom setOf
+  unfolding owedFrom setWhere
   owed-more b e =
       let n : mostTasks - i ≡ suc (mostTasks - (i + 1)) = omega arith in
-      ap (λ (k : ℕ). setOf k (λ p. ltb 0 (getD left (i + p) 0))) n
+      ap (λ (k : ℕ). setWhere k (λ p. ltb 0 (getD left (i + p) 0))) n
       ∙ ap₂ (λ (x : Bool) (y : ℕ). cond x 1 0 + 2 * y) first
       (same-set (mostTasks - (i + 1)) (λ p. ltb 0 (getD left (i + suc p) 0)) (λ p. ltb 0 (getD left (i + 1 + p) 0))
       (λ p. let s : i + suc p ≡ i + 1 + p = omega arith in ap (λ (q : ℕ). ltb 0 (getD left q 0)) s))
@@ -48,7 +48,7 @@ module _ (left : List ℕ) (i : ℕ) (h : i < mostTasks) where
       first : ltb 0 (getD left (i + 0) 0) ≡ b
       first = let z : i + 0 ≡ i = omega arith in ap (λ (q : ℕ). ltb 0 (getD left q 0)) z ∙ e
 
-  -- it has room
+  -- it has space
   pub owed-room : owedFrom left (i + 1) * 2 + 1 < 2 ^ 32
   unfolding owedFrom
   owed-room =

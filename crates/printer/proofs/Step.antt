@@ -6,28 +6,28 @@ use Prim.Native.Nat.{ℕ, _≤_}
 use native.Mathlib.Omega.{arith}
 use lib.Dec.{eqb}
 use lib.ListN.{length, take}
-use Rattle.full.specs.Stand.{Numbers, Stand, after, evenAfter}
-use Rattle.full.proofs.Steps.{unchanged-by}
+use Rattle.simulation.specs.TickState.{Numbers, TickState, afterEvents, evenAtTick}
+use Rattle.simulation.proofs.Steps.{unchanged-by}
 use Rattle.text.specs.Decimal.{decimal}
 use Rattle.text.specs.Written.{Put}
 use Rattle.text.proofs.Writing.{put-length, put-front}
 use Rattle.text.specs.Output.{longestCells}
-use Rattle.printer.specs.Rows.{textOf, textIn, lineIn}
+use Rattle.printer.specs.Rows.{rowTextOf, textIn, lineIn}
 
 -- the text of a row in its array
-abbrev pub Text : Numbers → Stand → List ℕ → ℕ → List ℕ → Type 0
+abbrev pub Text : Numbers → TickState → List ℕ → ℕ → List ℕ → Type 0
 Text n s kept text row = (take text row ≡ textIn n s kept) × (text ≤ longestCells) × (length row ≡ longestCells)
 
-module _ (n : Numbers) (s : Stand) (kept : List ℕ) (c e : ℕ) (claims : c ≡ after n s .claiming) (turned : e ≡ evenAfter n s) where
+module _ (n : Numbers) (s : TickState) (kept : List ℕ) (c e : ℕ) (claims : c ≡ afterEvents n s .claiming) (turned : e ≡ evenAtTick n s) where
   -- other claimants than those of the text that is kept, or other widths
   abbrev changed : Bool
   changed = not (eqb c (s .chosen)) || not (eqb e (s .even))
 
-  text-by : (b : Bool) → changed ≡ b → cond (not b) kept (textOf n c e) ≡ textIn n s kept
+  text-by : (b : Bool) → changed ≡ b → cond (not b) kept (rowTextOf n c e) ≡ textIn n s kept
   unfolding textIn
   text-by b h =
-      ap₂ (λ (x y : ℕ). cond (not b) kept (textOf n x y)) claims turned
-      ∙ ap (λ (x : Bool). cond x kept (textOf n (after n s .claiming) (evenAfter n s))) (sym (unchanged-by n s c e b claims turned h))
+      ap₂ (λ (x y : ℕ). cond (not b) kept (rowTextOf n x y)) claims turned
+      ∙ ap (λ (x : Bool). cond x kept (rowTextOf n (afterEvents n s .claiming) (evenAtTick n s))) (sym (unchanged-by n s c e b claims turned h))
 
   -- the text is kept
   pub text-kept : changed ≡ false → kept ≡ textIn n s kept
@@ -35,7 +35,7 @@ module _ (n : Numbers) (s : Stand) (kept : List ℕ) (c e : ℕ) (claims : c ≡
 
   -- or made anew
   pub text-put :
-      (text : ℕ) (row row′ : List ℕ) → changed ≡ true → length row ≡ longestCells → (Put row 0 (textOf n c e) row′ text) × (text ≤ longestCells)
+      (text : ℕ) (row row′ : List ℕ) → changed ≡ true → length row ≡ longestCells → (Put row 0 (rowTextOf n c e) row′ text) × (text ≤ longestCells)
       → Text n s kept text row′
   text-put text row row′ h wide q = (
     put-front (q .0) ∙ text-by true h,
@@ -43,7 +43,7 @@ module _ (n : Numbers) (s : Stand) (kept : List ℕ) (c e : ℕ) (claims : c ≡
     put-length (q .0) (omega (arith, wide, q .1)) ∙ wide,
   )
 
-module _ (n : Numbers) (s : Stand) (kept : List ℕ) where
+module _ (n : Numbers) (s : TickState) (kept : List ℕ) where
   -- the line of the tick
   pub line-put :
       (text ready : ℕ) (row old new : List ℕ) → take text row ≡ textIn n s kept → Put old 0 (decimal (s .tick) ++ take text row) new ready

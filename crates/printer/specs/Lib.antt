@@ -1,6 +1,6 @@
--- What a printer hands out: the text of rows, what is left of it, a whole sequence of pieces, and when a printer is sound.
+-- The output of a printer: the text of rows, what is left of it, a whole sequence of pieces, and when a printer is valid.
 pub mod Cells
 pub mod Rows
-pub mod Sound
+pub mod Valid
 pub mod Printer
 pub mod Pieces

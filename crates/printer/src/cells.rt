@@ -10,8 +10,8 @@ use rule::PAIR;
 use text::row;
 
 // Writes the bytes of the cores, and a newline, where the places of the set `claims` claim, those of the set `even` with their second width;
-// the answer is where they end.
-pub(crate) fn put_cells(
+// returns where they end.
+pub(crate) fn put_allocation(
     rule: u32,
     cores: u32,
     fence: u64,
@@ -26,5 +26,5 @@ pub(crate) fn put_cells(
         × (r ≤ longestCells) ⌝ }
 {
     let row = rule::show(rule, cores, fence, claims, even, widths, count);
-    row::spell(row, cores as usize, text)
+    row::put_cells(row, cores as usize, text)
 }

@@ -3,34 +3,34 @@ ghost use mathlib.Core.Bool.{true};
 ghost use mathlib.Core.Path.{_≡_};
 ghost use Prim.Native.Nat.{_≤_};
 ghost use lib.ListN.{take};
-ghost use Rattle.full.specs.Stand.{numbersBy, standAt};
-ghost use Rattle.printer.specs.Sound.{sound};
-ghost use Rattle.printer.specs.Printer.{Stepping, Stepped, StartOf, WordsPrinter, MadeFrom, PieceOf};
+ghost use Rattle.simulation.specs.TickState.{numbersBy, tickStateOf};
+ghost use Rattle.printer.specs.Valid.{valid};
+ghost use Rattle.printer.specs.Printer.{Stepping, Stepped, PrinterStartOf, WordsPrinter, MadeFrom, PieceOf};
 ghost use Rattle.model.specs.Sizes.{mostCores, mostTasks};
 
 mod cells; // cells.rt: the text of a row's cores
-mod sound; // sound.rt: whether a printer can be stepped
+mod valid; // valid.rt: whether a printer can be stepped
 
-use full::TRIPLE;
-use full::columns::Setting;
-use full::machine::Pace;
 use judge::Verdict;
 use rule::PAIR;
+use simulation::TRIPLE;
+use simulation::columns::Setting;
+use simulation::machine::Registers;
 use table::Loaded;
 use text::first;
 use text::row;
 use text::row::CELLS;
 use text::row::LINE;
 
-// Where the printing stands: the pace of its run, how long the text of the row is, and how long the line.
+// The state of the printing: the registers of its run, the length of the row's text, and that of the line.
 pub struct Stage {
-    pub pace: Pace,
+    pub registers: Registers,
     pub text: usize,
     pub ready: usize,
 }
 
-// What is still to be printed of an input: the table, where its rows end, its run, the text of the row,
-// the line that is being handed out, and how much of it has been.
+// What is left to print of an input: the table, where its rows end, its run, the text of the row,
+// the line that is being written, and how much of it has been.
 pub struct Printer {
     pub table: Loaded,
     pub end: u32,
@@ -41,7 +41,7 @@ pub struct Printer {
     pub given: usize,
 }
 
-// How many bytes were handed out, and the printer of what is left.
+// The number of bytes written, and the printer of what is left.
 pub struct Piece {
     pub printer: Printer,
     pub length: usize,
@@ -58,14 +58,14 @@ fn next_line(
     line: &mut [u8; LINE],
 ) -> Stage
     requires { ⌜ Stepping (numbersBy setting (now widths) (now times)) stage (now places) (now text) (now line) ⌝ }
-    ensures { λ r. ⌜ Stepped (numbersBy setting (now (widths .entry)) (now (times .entry))) (standAt (stage .pace) (now (places .entry)))
+    ensures { λ r. ⌜ Stepped (numbersBy setting (now (widths .entry)) (now (times .entry))) (tickStateOf (stage .registers) (now (places .entry)))
         (take (stage .text) (now (text .entry))) (now (line .entry)) r (now (places .exit)) (now (text .exit)) (now (line .exit)) ⌝ }
 {
-    let pace = stage.pace;
-    let next = full::step(setting, widths, times, pace, places);
+    let registers = stage.registers;
+    let next = simulation::step(setting, widths, times, registers, places);
     let mut size = stage.text;
-    if (next.chosen != pace.chosen) | (next.even != pace.even) {
-        size = cells::put_cells(
+    if (next.chosen != registers.chosen) | (next.even != registers.even) {
+        size = cells::put_allocation(
             setting.rule,
             setting.cores,
             setting.fence,
@@ -76,9 +76,9 @@ fn next_line(
             text,
         );
     }
-    let ready = row::put_row(line, pace.tick, text, size);
+    let ready = row::put_row(line, registers.tick, text, size);
     Stage {
-        pace: next,
+        registers: next,
         text: size,
         ready: ready,
     }
@@ -87,20 +87,20 @@ fn next_line(
 // The printer of a verdict's line and of the rows of its table up to a tick.
 fn start(table: Loaded, end: u32, verdict: Verdict) -> Printer
     requires { ⌜ (table .cores ≤ mostCores) × (table .count ≤ mostTasks) ⌝ }
-    ensures { λ r. ⌜ StartOf table end verdict r ⌝ }
+    ensures { λ r. ⌜ PrinterStartOf table end verdict r ⌝ }
 {
-    let columns = full::columns::columns_of(table);
+    let columns = simulation::columns::columns_of(table);
     let widths = columns.widths;
-    let machine = full::machine::start(table);
+    let machine = simulation::machine::start(table);
     let places = machine.places;
-    let pace = machine.pace;
+    let registers = machine.registers;
     let mut text = [0u8; CELLS];
-    let size = cells::put_cells(
+    let size = cells::put_allocation(
         table.rule,
         table.cores,
         table.fence,
         0,
-        pace.even,
+        registers.even,
         &widths,
         table.count,
         &mut text,
@@ -108,7 +108,7 @@ fn start(table: Loaded, end: u32, verdict: Verdict) -> Printer
     let mut line = [0u8; LINE];
     let ready = first::put_first(&mut line, verdict);
     let stage = Stage {
-        pace: pace,
+        registers: registers,
         text: size,
         ready: ready,
     };
@@ -128,7 +128,7 @@ fn of_words(words: &[u32]) -> Printer
     ensures { λ r. ⌜ WordsPrinter (now (words .entry)) r ⌝ }
 {
     let table = table::load(words);
-    let verdict = quick::judge(words);
+    let verdict = fast_judge::judge(words);
     let end = first::rows_end(verdict, table.horizon);
     start(table, end, verdict)
 }
@@ -138,21 +138,21 @@ impl Printer {
     pub fn new(bytes: &[u8]) -> Printer
         ensures { λ r. ⌜ MadeFrom (now (bytes .entry)) r ⌝ }
     {
-        // what is no table's text has no numbers, and no words are refused as it is: 1 0
+        // what is no table's text has no numbers, and no words are refused likewise: 1 0
         let input = text::read(bytes);
         let words = input.words;
         let count = input.count;
         of_words(&words[..count])
     }
 
-    // Fills the buffer with the next bytes of the output, from a printer that is sound.
-    fn hand_out(self, buffer: &mut [u8]) -> Piece
-        requires { ⌜ sound self ≡ true ⌝ }
+    // Fills the buffer with the next bytes of the output, from a printer that is valid.
+    fn emit(self, buffer: &mut [u8]) -> Piece
+        requires { ⌜ valid self ≡ true ⌝ }
         ensures { λ r. ⌜ PieceOf self (now (buffer .entry)) (now (buffer .exit)) r ⌝ }
     {
         let table = self.table;
         let end = self.end;
-        let columns = full::columns::columns_of(table);
+        let columns = simulation::columns::columns_of(table);
         let setting = columns.setting;
         let widths = columns.widths;
         let times = columns.times;
@@ -169,7 +169,7 @@ impl Printer {
             if given < stage.ready {
                 break;
             }
-            if stage.pace.tick == end {
+            if stage.registers.tick == end {
                 break;
             }
             stage = next_line(
@@ -198,13 +198,13 @@ impl Printer {
         }
     }
 
-    // Fills the buffer with the next bytes of the output; a printer that is not sound has none.
+    // Fills the buffer with the next bytes of the output; a printer that is not valid has none.
     pub fn piece(self, buffer: &mut [u8]) -> Piece
         ensures { λ r. ⌜ PieceOf self (now (buffer .entry)) (now (buffer .exit)) r ⌝ }
     {
         let printer = self;
-        if printer.sound() {
-            return printer.hand_out(buffer);
+        if printer.valid() {
+            return printer.emit(buffer);
         }
         Piece {
             printer: printer,

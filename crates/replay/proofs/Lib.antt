@@ -1,2 +1,2 @@
--- The law behind `replay`: turn by turn it says what the session says.
-pub mod Turning
+-- The law of `replay`: round by round it writes the replies of the session.
+pub mod Rounds

@@ -1,2 +1,2 @@
--- What the program `replay` promises of one turn of reading and answering.
-pub mod Turns
+-- The contract of one round of reading and answering of the program replay.
+pub mod Rounds

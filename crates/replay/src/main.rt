@@ -1,30 +1,30 @@
 // Reads a table, a line `--` and operations from standard input as they come, and prints the answers of the run.
 ghost use mathlib.Core.List.{[]};
-ghost use Rattle.session.specs.Talk.{nothing};
-ghost use Rattle.session.specs.Session.{spoken};
+ghost use Rattle.session.specs.Transcript.{nothing};
+ghost use Rattle.session.specs.Session.{transcriptOf};
 ghost use Rattle.stream.specs.Sent.{SentOf};
-ghost use Rattle.replay.specs.Turns.{TurnOf, HeardOf};
+ghost use Rattle.replay.specs.Rounds.{RoundOf, ReceivedOf};
 use session::REPLY;
 use session::Session;
 use stream::Reading;
 use stream::Sent;
 
-// What came of a part of the input: the session after it, what was written, and whether it reads again.
-struct Turn {
+// The result of a part of the input: the session after it, what was written, and whether it reads again.
+struct Round {
     session: Session,
     sent: Sent,
     again: bool,
 }
 
-// What came of a read.
-struct Heard {
+// The result of a read.
+struct Received {
     reading: Reading,
-    turn: Turn,
+    round: Round,
 }
 
-// Feeds a chunk to a session, and writes what it says.
-fn talk(start: Session, chunk: &[u8]) -> Turn
-    ensures { λ r. ⌜ TurnOf start (now (chunk .entry)) r ⌝ }
+// Feeds a chunk to a session, and writes its replies.
+fn feed_chunk(start: Session, chunk: &[u8]) -> Round
+    ensures { λ r. ⌜ RoundOf start (now (chunk .entry)) r ⌝ }
 {
     let mut session = start;
     let mut sent = Sent {
@@ -41,83 +41,83 @@ fn talk(start: Session, chunk: &[u8]) -> Turn
         let length = fed.length;
         sent = stream::send(sent.count, &out[..length]);
         if sent.whole {} else {
-            return Turn {
+            return Round {
                 session: session,
                 sent: sent,
                 again: false,
             };
         }
     }
-    Turn {
+    Round {
         session: session,
         sent: sent,
         again: !session.is_over(),
     }
 }
 
-// Writes what is said at the end of the input.
+// Writes the reply at the end of the input.
 fn finish(session: Session) -> Sent
-    ensures { λ r. ⌜ SentOf 0 (spoken session nothing []) r ⌝ }
+    ensures { λ r. ⌜ SentOf 0 (transcriptOf session nothing []) r ⌝ }
 {
     let mut out = [0u8; REPLY];
     let length = session.end(&mut out);
     stream::send(0, &out[..length])
 }
 
-// Reads once, and writes what is said to what came.
-fn listen(session: Session, chunk: &mut [u8]) -> Heard
-    ensures { λ r. ⌜ HeardOf session (now (chunk .exit)) r ⌝ }
+// Reads once, and writes the replies to the bytes read.
+fn receive(session: Session, chunk: &mut [u8]) -> Received
+    ensures { λ r. ⌜ ReceivedOf session (now (chunk .exit)) r ⌝ }
 {
     let reading = stream::read(chunk, 0);
     if reading.failed {
-        stream::say_unread(b"replay");
+        stream::report_unread(b"replay");
         let sent = Sent {
             count: 0,
             whole: true,
         };
-        let turn = Turn {
+        let round = Round {
             session: session,
             sent: sent,
             again: false,
         };
-        return Heard {
+        return Received {
             reading: reading,
-            turn: turn,
+            round: round,
         };
     }
     if reading.ended {
         let sent = finish(session);
-        let turn = Turn {
+        let round = Round {
             session: session,
             sent: sent,
             again: false,
         };
-        return Heard {
+        return Received {
             reading: reading,
-            turn: turn,
+            round: round,
         };
     }
     let held = reading.held;
-    let turn = talk(session, &chunk[..held]);
-    Heard {
+    let round = feed_chunk(session, &chunk[..held]);
+    Received {
         reading: reading,
-        turn: turn,
+        round: round,
     }
 }
 
-// A proved loop has to end, and nothing says that standard input does: the turns are counted down from a number that no run uses up.
+// A proved loop has to end, and no contract ensures that standard input does: the rounds are counted down from a number that no run uses up.
 fn main() {
     let mut session = Session::new();
     let mut chunk = io::buffer();
-    let mut turns = u64::MAX;
-    while turns > 0 {
-        let heard = listen(session, &mut chunk);
-        let turn = heard.turn;
-        if !turn.again {
+    let mut rounds = u64::MAX;
+    while rounds > 0 {
+        let received = receive(session, &mut chunk);
+        let round = received.round;
+        if !round.again {
             return;
         }
-        let next = turn.session;
+        let next = round.session;
         session = next;
-        turns -= 1;
+        rounds -= 1;
     }
 }

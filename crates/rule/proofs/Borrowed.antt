@@ -1,5 +1,5 @@
--- Laws of the model's lending, place by place: who borrows seeks cores, and borrows as many as its width; each of them is lent by a place, and none twice.
--- What a row shows then: no core stands twice, and each is one that is given or borrowed.
+-- Laws of the model's lending, place by place: a place that borrows seeks cores, and borrows as many as its width; each core is lent by a place, and none
+-- twice. What a row shows then: no core is there twice, and each is one that is given or borrowed.
 use mathlib.Core.Path.{_≡_, refl, sym, ap, _∙_}
 use mathlib.Core.Logic.{_⊎_, inl, inr, ⊎-elim}
 use mathlib.Core.Bool.{Bool, true, false, _&&_, _||_, and-false, false≢true, not, or-assoc}
@@ -9,8 +9,8 @@ use native.Mathlib.Omega.{arith}
 use lib.Dec.{eqb, ltb}
 use lib.ListN.{length, getD, length-map}
 use Rattle.model.specs.Grants.{claimants, grants, some}
-use Rattle.model.specs.Lending.{among, beside, lent, shownCores, tries, unlent}
-use Rattle.model.specs.Search.{kept, memb}
+use Rattle.model.specs.Lending.{among, merged, lent, shownCores, tries, unlent}
+use Rattle.model.specs.Search.{filtered, member}
 use Rattle.model.specs.Task.{greedy}
 use Rattle.model.proofs.Bools.{and-left, and-right, not-true-false, or-cases, or-left, or-right}
 use Rattle.model.proofs.Grants.{grants-length, grants-none}
@@ -20,14 +20,14 @@ use Rattle.rule.proofs.Granting.{Apart, apart, idle, in-grants, width-o
 
 -- ---- lists beside one another, place by place
 
-pub beside-length : (gs hs : List (List ℕ)) → length (beside gs hs) ≡ length gs
-unfolding beside
+pub beside-length : (gs hs : List (List ℕ)) → length (merged gs hs) ≡ length gs
+unfolding merged
 beside-length [] hs = refl
 beside-length (g ∷ gs) [] = refl
 beside-length (g ∷ gs) (h ∷ hs) = ap suc (beside-length gs hs)
 
-pub beside-place : (gs hs : List (List ℕ)) → length hs ≤ length gs → (q : ℕ) → getD (beside gs hs) q [] ≡ getD gs q [] ++ getD hs q []
-unfolding beside
+pub beside-place : (gs hs : List (List ℕ)) → length hs ≤ length gs → (q : ℕ) → getD (merged gs hs) q [] ≡ getD gs q [] ++ getD hs q []
+unfolding merged
 beside-place [] [] l q = refl
 beside-place [] (h ∷ hs) l q = absurd (omega arith)
 beside-place (g ∷ gs) [] l q = sym (append-nil (getD (g ∷ gs) q []))
@@ -51,21 +51,21 @@ width-of [] c q = refl
 width-of (w ∷ ws) c zero = refl
 width-of (w ∷ ws) c (suc q) = width-of ws (λ p. c (suc p)) q
 
-pub memb-append : (c : ℕ) (a b : List ℕ) → memb c (a ++ b) ≡ memb c a || memb c b
-unfolding memb
+pub memb-append : (c : ℕ) (a b : List ℕ) → member c (a ++ b) ≡ member c a || member c b
+unfolding member
 memb-append c [] b = refl
-memb-append c (x ∷ a) b = ap (λ (t : Bool). eqb c x || t) (memb-append c a b) ∙ sym (or-assoc (eqb c x) (memb c a) (memb c b))
+memb-append c (x ∷ a) b = ap (λ (t : Bool). eqb c x || t) (memb-append c a b) ∙ sym (or-assoc (eqb c x) (member c a) (member c b))
 
--- a number that stands in two lists, one behind the other, stands in one of them
+-- a number that is in two lists, one after the other, is in one of them
 in-append : (c : ℕ) (a b : List ℕ) → In c (a ++ b) → (In c a) ⊎ (In c b)
-in-append c a b h = or-cases (memb c a) (memb c b) (sym (memb-append c a b) ∙ h)
+in-append c a b h = or-cases (member c a) (member c b) (sym (memb-append c a b) ∙ h)
 
 module _ (ws : List ℕ) (sk : ℕ → Bool) (o : ℕ → List ℕ) where
   -- what each place has borrowed
   abbrev pub had : ℕ → ℕ → List ℕ
   had n q = getD (lent ws sk o n) q []
 
-  -- who is tried as place n lends, and what they are given
+  -- the places that are tried as place n lends, and what they are given
   abbrev pub tried : ℕ → ℕ → Bool
   tried n = tries sk n (lent ws sk o n)
 
@@ -89,7 +89,7 @@ module _ (ws : List ℕ) (sk : ℕ → Bool) (o : ℕ → List ℕ) where
       none true b = and-false b
       none false b = refl
 
-  -- who does not seek cores borrows none
+  -- a place that does not seek cores borrows none
   pub lent-seekers : (n q : ℕ) → sk q ≡ false → had n q ≡ []
   lent-seekers n q e = none-some (had n q) (not-true-false (some (had n q)) (λ h. false≢true (sym e ∙ lent-seeks ws sk o n q h)))
 
@@ -108,18 +108,18 @@ module _ (ws : List ℕ) (sk : ℕ → Bool) (o : ℕ → List ℕ) where
 
   -- each core that is borrowed is lent by one of the places
   pub lent-from : (c n q : ℕ) → In c (had n q) → (m : ℕ) × (m < n) × In c (o m)
-  lent-from c zero q h = absurd (not-in-none c (sym (ap (memb c) (lent-none q)) ∙ h))
+  lent-from c zero q h = absurd (not-in-none c (sym (ap (member c) (lent-none q)) ∙ h))
   lent-from c (suc n) q h =
       ⊎-elim
       (λ k. let f = lent-from c n q k in (f .0, omega (arith, f .1), f .2))
       (λ k. (n, omega arith, in-grants greedy c (claimants ws (tried n)) (o n) q k))
-      (in-append c (had n q) (getD (lentBy n) q []) (sym (ap (memb c) (lent-more n q)) ∙ h))
+      (in-append c (had n q) (getD (lentBy n) q []) (sym (ap (member c) (lent-more n q)) ∙ h))
 
-  -- no core is lent twice, where the places lend ascending lists and no core stands in two of these
+  -- no core is lent twice, where the places lend ascending lists and no core is in two of these
   pub lent-apart :
       (hi : ℕ) → ((m : ℕ) → Range 0 hi (o m)) → ((c i j : ℕ) → i < j → In c (o i) → In c (o j) → ⊥)
       → (n : ℕ) → Apart (lent ws sk o n)
-  lent-apart hi r a zero c i j l h k = not-in-none c (sym (ap (memb c) (lent-none i)) ∙ h)
+  lent-apart hi r a zero c i j l h k = not-in-none c (sym (ap (member c) (lent-none i)) ∙ h)
   lent-apart hi r a (suc n) c i j l h k =
       ⊎-elim
       (λ x. ⊎-elim (λ y. lent-apart hi r a n c i j l x y) (λ y. cross i j x y) (split j k))
@@ -127,7 +127,7 @@ module _ (ws : List ℕ) (sk : ℕ → Bool) (o : ℕ → List ℕ) where
       (split i h)
     where
       split : (q : ℕ) → In c (had (suc n) q) → (In c (had n q)) ⊎ (In c (getD (lentBy n) q []))
-      split q x = in-append c (had n q) (getD (lentBy n) q []) (sym (ap (memb c) (lent-more n q)) ∙ x)
+      split q x = in-append c (had n q) (getD (lentBy n) q []) (sym (ap (member c) (lent-more n q)) ∙ x)
 
       -- lent before, and lent by place n
       cross : (q q′ : ℕ) → In c (had n q) → In c (getD (lentBy n) q′ []) → ⊥
@@ -137,12 +137,12 @@ module _ (ws : List ℕ) (sk : ℕ → Bool) (o : ℕ → List ℕ) where
 
 -- ---- what a row shows
 
--- a core of one of the lists stands among them
+-- a core of one of the lists is among them
 among-of : (c : ℕ) (bs : List (List ℕ)) (j : ℕ) → In c (getD bs j []) → among c bs ≡ true
 unfolding among
 among-of c [] j h = absurd (not-in-none c h)
-among-of c (b ∷ bs) zero h = or-left (memb c b) (among c bs) h
-among-of c (b ∷ bs) (suc j) h = or-right (memb c b) (among c bs) (among-of c bs j h)
+among-of c (b ∷ bs) zero h = or-left (member c b) (among c bs) h
+among-of c (b ∷ bs) (suc j) h = or-right (member c b) (among c bs) (among-of c bs j h)
 
 map-place : (f : List ℕ → List ℕ) → f [] ≡ [] → (gs : List (List ℕ)) (q : ℕ) → getD (map f gs) q [] ≡ f (getD gs q [])
 map-place f e [] q = sym e
@@ -153,22 +153,22 @@ module _ (gs bs : List (List ℕ)) (same : length gs ≡ length bs) where
   pub shown-length : length (shownCores gs bs) ≡ length gs
   shown-length = beside-length bs (map (unlent bs) gs) ∙ sym same
 
-  -- of each place: what it borrows, and what nobody borrows of its own
+  -- of each place: what it borrows, and what no place borrows of its own
   pub shown-place : (q : ℕ) → getD (shownCores gs bs) q [] ≡ getD bs q [] ++ unlent bs (getD gs q [])
-  unfolding kept
+  unfolding filtered
   shown-place q =
       beside-place bs (map (unlent bs) gs) (omega (arith, length-map gs (unlent bs))) q
       ∙ ap (λ (l : List ℕ). getD bs q [] ++ l) (map-place (unlent bs) refl gs q)
 
   module _ (c : ℕ) where
     split : (q : ℕ) → In c (getD (shownCores gs bs) q []) → (In c (getD bs q [])) ⊎ (In c (unlent bs (getD gs q [])))
-    split q h = in-append c (getD bs q []) (unlent bs (getD gs q [])) (sym (ap (memb c) (shown-place q)) ∙ h)
+    split q h = in-append c (getD bs q []) (unlent bs (getD gs q [])) (sym (ap (member c) (shown-place q)) ∙ h)
 
-    -- what is kept is of its own, and nobody's
+    -- what is kept is of its own, and of no other place
     kept-own : (q : ℕ) → In c (unlent bs (getD gs q [])) → (In c (getD gs q [])) × (among c bs ≡ false)
     kept-own q h =
         let e = sym (memb-kept (λ x. not (among x bs)) c (getD gs q [])) ∙ h in
-        (and-left (memb c (getD gs q [])) (not (among c bs)) e, not-not (among c bs) (and-right (memb c (getD gs q [])) (not (among c bs)) e))
+        (and-left (member c (getD gs q [])) (not (among c bs)) e, not-not (among c bs) (and-right (member c (getD gs q [])) (not (among c bs)) e))
       where
         not-not : (t : Bool) → not t ≡ true → t ≡ false
         not-not false e = refl
@@ -181,7 +181,7 @@ module _ (gs bs : List (List ℕ)) (same : length gs ≡ length bs) where
     borrowed-kept : (i j : ℕ) → In c (getD bs i []) → In c (unlent bs (getD gs j [])) → ⊥
     borrowed-kept i j h k = false≢true (sym (kept-own j k .1) ∙ among-of c bs i h)
 
-  -- and none stands twice
+  -- and none is there twice
   pub shown-apart : Apart gs → Apart bs → Apart (shownCores gs bs)
   shown-apart ag ab c i j l h k =
       ⊎-elim

@@ -11,10 +11,10 @@ use Rattle.model.specs.Task.{Rule}
 use Rattle.model.specs.Grants.{Claimant, claimants, endsChoosing, given, left, grants, some}
 use Rattle.model.specs.Search.{bit, upFrom}
 use Rattle.model.proofs.Bools.{and-left}
-use Rattle.model.proofs.Grants.{claimant, claimants-same, grants-none, grants-nobody}
+use Rattle.model.proofs.Grants.{claimant, claimants-same, grants-none, grants-empty}
 use Rattle.model.proofs.Lists.{up-length}
 use Rattle.model.proofs.Digits.{Lowest}
-use Rattle.rule.specs.Shares.{granted}
+use Rattle.rule.specs.Granted.{granted}
 use Rattle.rule.proofs.Granting.{unclaimed, fitting, ended, passed, none-granted, some-take, some-given, same-places, same-either}
 
 -- q is the first place of c, and d is c without it
@@ -97,7 +97,7 @@ module _ (r : Rule) where
   only-first (suc n) (w ∷ ws) c free zero h = refl
   only-first (suc n) (w ∷ ws) c free (suc p) h = only-first n ws (lower c) (left r (claimant (c 0) w) free) p (λ i k. h (suc i) (omega arith))
 
-  -- who is given cores claims
+  -- a place that is given cores claims
   pub granted-claims : (ws : List ℕ) (c : ℕ → Bool) (free : List ℕ) (p : ℕ) → granted r (claimants ws c) free p ≡ true → (p < length ws) × (c p ≡ true)
   unfolding grants claimants
   granted-claims [] c free p h = absurd (false≢true h)
@@ -115,7 +115,7 @@ pub places-on : (r : Rule) (ws : List ℕ) (x p : ℕ) (free : List ℕ) → pla
 places-on r ws x p free = same-places r (claimants ws (bit x)) (upFrom 0 (length free)) free (up-length 0 (length free)) p
 
 pub places-none : (r : Rule) (ws : List ℕ) (n p : ℕ) → places r ws 0 n p ≡ false
-places-none r ws n p = grants-nobody r ws (upFrom 0 n) p
+places-none r ws n p = grants-empty r ws (upFrom 0 n) p
 
 pub some-append : (a b : List ℕ) → some (a ++ b) ≡ some a || some b
 some-append [] b = refl

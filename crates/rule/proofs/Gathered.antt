@@ -42,6 +42,6 @@ one-more f i p = go (eqb p i) refl (ltb p i) refl
         let m : i ≤ p = ltb-false p i l in
         and-false (f i) ∙ sym (ap (λ (t : Bool). t && f p) (le-ltb p (i + 1) (omega arith)))
 
--- place i looked at too
+-- place i tested too
 pub gathered-more : (f : ℕ → Bool) (i x y : ℕ) (b : Bool) → Gathered f i x → b ≡ f i → ((p : ℕ) → bit y p ≡ bit x p || (b && eqb p i)) → Gathered f (i + 1) y
 gathered-more f i x y b g e w p = w p ∙ rw (g p, e) (one-more f i p)

@@ -1,4 +1,4 @@
--- Laws of the model's choosing: the cases of one claimant; who is given cores depends on the number of free cores alone;
+-- Laws of the model's choosing: the cases of one claimant; which claimants are given cores depends on the number of free cores alone;
 -- no core is given twice; each is given its width or nothing.
 use mathlib.Core.Path.{_≡_, refl, sym, ap, _∙_}
 use mathlib.Core.Logic.{_⊎_, inl, inr}
@@ -14,9 +14,9 @@ use Rattle.model.specs.Task.{Rule}
 use Rattle.model.specs.Grants.{Claimant, fits, endsChoosing, given, left, grants, some}
 use Rattle.model.proofs.Bools.{and-right}
 use Rattle.model.proofs.Grants.{given-nothing, left-nothing}
-use Rattle.rule.specs.Shares.{served, givenBy, leftBy, granted}
-use Rattle.rule.specs.declared.Served.{Served}
-use Rattle.rule.specs.declared.Served.the-variants.{Takes, Passed, Ends}
+use Rattle.rule.specs.Granted.{selection, givenBy, leftBy, granted}
+use Rattle.rule.specs.declared.Selection.{Selection}
+use Rattle.rule.specs.declared.Selection.the-variants.{Takes, Passed, Ends}
 use Rattle.cores.proofs.Ascending.{Range, range-drop, In, not-in-none, in-take, in-drop, split-apart}
 
 -- ---- the four cases of a claimant
@@ -42,10 +42,10 @@ module _ (r : Rule) (b : Claimant) (free : List ℕ) where
   unfolding given left
   passed e f g = rw (e, f, g) (refl, refl)
 
--- ---- what the rule's answers to a claimant say
+-- ---- the meaning of the rule's answers to a claimant
 
 module _ (r : Rule) (free width : ℕ) where
-  pub takes : served r free width ≡ Takes → width ≤ free
+  pub takes : selection r free width ≡ Takes → width ≤ free
   takes = go (leb width free) refl (endsChoosing r)
     where
       go : (t : Bool) → leb width free ≡ t → (u : Bool) → cond t Takes (cond u Ends Passed) ≡ Takes → width ≤ free
@@ -53,7 +53,7 @@ module _ (r : Rule) (free width : ℕ) where
       go false h true e = let z : _≡_ {A = ℕ} 0 1 = cc in absurd (omega arith)
       go false h false e = let z : _≡_ {A = ℕ} 0 1 = cc in absurd (omega arith)
 
-  pub passes : served r free width ≡ Passed → (free < width) × (endsChoosing r ≡ false)
+  pub passes : selection r free width ≡ Passed → (free < width) × (endsChoosing r ≡ false)
   passes = go (leb width free) refl (endsChoosing r) refl
     where
       go : (t : Bool) → leb width free ≡ t → (u : Bool) → endsChoosing r ≡ u → cond t Takes (cond u Ends Passed) ≡ Passed → (free < width) × (endsChoosing r ≡ false)
@@ -61,7 +61,7 @@ module _ (r : Rule) (free width : ℕ) where
       go false h true k e = let z : _≡_ {A = ℕ} 0 1 = cc in absurd (omega arith)
       go false h false k e = (leb-false width free h, k)
 
-  pub ends : served r free width ≡ Ends → (free < width) × (endsChoosing r ≡ true)
+  pub ends : selection r free width ≡ Ends → (free < width) × (endsChoosing r ≡ true)
   ends = go (leb width free) refl (endsChoosing r) refl
     where
       go : (t : Bool) → leb width free ≡ t → (u : Bool) → endsChoosing r ≡ u → cond t Takes (cond u Ends Passed) ≡ Ends → (free < width) × (endsChoosing r ≡ true)
@@ -69,8 +69,8 @@ module _ (r : Rule) (free width : ℕ) where
       go false h true k e = (leb-false width free h, k)
       go false h false k e = let z : _≡_ {A = ℕ} 0 1 = cc in absurd (omega arith)
 
--- each answer means what its definition says: what the claimant is given of any list of free cores, and what it leaves
-pub answer-means : (r : Rule) (width : ℕ) (free : List ℕ) (s : Served) → served r (length free) width ≡ s
+-- each answer has the meaning of its definition: what the claimant is given of any list of free cores, and what it leaves
+pub answer-means : (r : Rule) (width : ℕ) (free : List ℕ) (s : Selection) → selection r (length free) width ≡ s
     → Case r (record { claims = true; width = width }) free (givenBy s width free) (leftBy s width free)
 answer-means r width free Takes e = fitting r (record { claims = true; width = width }) free refl (le-leb width (length free) (takes r (length free) width e))
 answer-means r width free Passed e =
@@ -95,7 +95,7 @@ none-given r (b ∷ bs) (suc p) = ap (λ (l : List ℕ). getD (grants r bs l) p 
 pub none-granted : (r : Rule) (bs : List Claimant) (p : ℕ) → granted r bs [] p ≡ false
 none-granted r bs p = ap some (none-given r bs p)
 
--- ---- who is given cores depends on the number of free cores alone
+-- ---- which claimants are given cores depends on the number of free cores alone
 
 pub some-take : (w : ℕ) (l : List ℕ) → w ≤ length l → some (take w l) ≡ ltb 0 w
 some-take zero l h = refl
@@ -133,7 +133,7 @@ same-places r (b ∷ bs) free other e (suc p) = same-places r bs (left r b free)
 
 -- ---- each is given as many cores as its width, or none
 
--- no claimant: what stands past the last place
+-- no claimant: what is past the last place
 abbrev pub idle : Claimant
 idle = record { claims = false; width = 0 }
 
@@ -193,7 +193,7 @@ range-left r b hi free o =
     range-either (fits b free) hi (drop (b .width) free) (cond (b .claims && endsChoosing r) [] free) (range-drop (b .width) 0 hi free o)
     (range-either (b .claims && endsChoosing r) hi [] free tt o)
 
--- no number stands in two of the lists
+-- no number is in two of the lists
 abbrev pub Apart : List (List ℕ) → Type 0
 Apart gs = (c i j : ℕ) → i < j → In c (getD gs i []) → In c (getD gs j []) → ⊥
 

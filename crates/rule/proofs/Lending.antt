@@ -1,5 +1,5 @@
--- What holds while the places lend, one turn each: the sets are what the model's places have borrowed so far, and the seekers that are left are those that
--- the place of the turn tries.
+-- What holds while the places lend, one iteration each: the sets are what the model's places have borrowed so far, and the seekers that are left are those that
+-- the place of the iteration tries.
 use borrow.Author.Tests.{eqb-false, eqb-true, le-leb, le-ltb, leb-false, leb-true, lt-leb, lt-ltb, ltb-false, ltb-true}
 use native.Mathlib.Omega.{arith}
 use mathlib.Core.Path.{_≡_, refl, sym, ap, ap₂, _∙_, subst}
@@ -22,7 +22,7 @@ use Rattle.model.proofs.Lists.{getD-zeros}
 use Rattle.cores.specs.Cores.{cores}
 use Rattle.cores.proofs.Cores.{cores-none}
 use Rattle.rule.specs.Lent.{LentAs, offered}
-use Rattle.rule.specs.Shares.{GrantedAs}
+use Rattle.rule.specs.Granted.{GrantedAs}
 use Rattle.rule.proofs.Borrowed.{had, lent-more, lent-none, lent-once, lentBy, none-some, tried}
 use Rattle.rule.proofs.Choosing.{some-append}
 use Rattle.rule.proofs.Granting.{none-given}
@@ -41,7 +41,7 @@ module _ (ws reserved : List ℕ) (holders seekers count : ℕ) where
   abbrev pub borrowedBy : ℕ → ℕ → List ℕ
   borrowedBy n p = had ws (bit seekers) (offered reserved holders) n p
 
-  -- what holds before each turn
+  -- what holds before each iteration
   pub record Lending (sets : List ℕ) (seeking i : ℕ) : Type 0 where
     pub fit : seeking < 2 ^ 32
     pub size : length sets ≡ 32
@@ -67,7 +67,7 @@ module _ (ws reserved : List ℕ) (holders seekers count : ℕ) where
       first true e b true k = absurd (false≢true (sym k))
       first false e b t k = absurd (false≢true e)
 
-  -- ---- one turn, at place i: the place itself no longer seeks, and then those are left that it tries
+  -- ---- one iteration, at place i: the place itself no longer seeks, and then those are left that it tries
   module _ (sets : List ℕ) (seeking i : ℕ) (h : Lending sets seeking i) (inside : i < 32)
       (y : ℕ) (ye : y ≡ bitAnd seeking (bitXor seeking ((1 * 2 ^ i) % 2 ^ 32))) where
     pub left-lt : y < 2 ^ 32
@@ -120,7 +120,7 @@ module _ (ws reserved : List ℕ) (holders seekers count : ℕ) where
             (ap (λ (t : Bool). cond t (cores (getD reserved i 0)) []) e)
             ∙ (ap (λ (l : List ℕ). borrowedBy i p ++ l) (none-given greedy (claimants ws (tried ws (bit seekers) o i)) p) ∙ append-nil (borrowedBy i p)))
 
-    -- a holder lends: `more` is what is borrowed of its set, `owned` who borrows it, and `next` all that is borrowed then
+    -- a holder lends: `more` is what is borrowed of its set, `owned` the places that borrow it, and `next` all that is borrowed then
     module _ (e : bit holders i ≡ true) (more : List ℕ) (g : GrantedAs greedy (claimants ws (bit y)) count (getD reserved i 0) more)
         (owned : ℕ) (w : (p : ℕ) → bit owned p ≡ ltb p 32 && some (cores (getD more p 0)))
         (next : List ℕ) (size : length next ≡ 32) (n : (p : ℕ) → p < 32 → getD next p 0 ≡ bitOr (getD sets p 0) (getD more p 0)) where

@@ -1,5 +1,5 @@
--- What a caller learns of the sets that are borrowed in a tick, and of those that a row shows: place by place in the model's words, that nobody borrows who
--- does not seek, and that each that borrows counts its width.
+-- The laws of the sets that are borrowed in a tick, and of those that a row shows: place by place in the model's words, a place that does not seek borrows
+-- none, and each that borrows has as many as its width.
 use mathlib.Core.Path.{_≡_, refl, sym, ap, ap₂, _∙_}
 use mathlib.Core.Logic.{_⊎_, inl, inr, ⊎-elim}
 use mathlib.Core.Bool.{Bool, true, false, _&&_}
@@ -21,7 +21,7 @@ use Rattle.model.proofs.Lists.{getD-zeros}
 use Rattle.cores.specs.Cores.{cores}
 use Rattle.cores.proofs.Cores.{cores-length, cores-none}
 use Rattle.rule.specs.Lent.{LentAs, NotBoth, ShownAs, offered}
-use Rattle.rule.specs.Shares.{GrantedAs, granted}
+use Rattle.rule.specs.Granted.{GrantedAs, granted}
 use Rattle.rule.proofs.Borrowed.{lent-seekers, lent-width, shown-length, shown-place}
 use Rattle.rule.proofs.Sets.{no-cores, sets-at}
 
@@ -74,11 +74,11 @@ module _ (ws reserved : List ℕ) (holders seekers count : ℕ) (size : length w
           omega (arith, lent-length ws (bit seekers) (offered reserved holders) count) in
           ap cores (borrowed-past p k) ∙ (cores-none ∙ sym (List·getD-eq-default (lent ws (bit seekers) (offered reserved holders) count) [] n))
 
-  -- who does not seek cores borrows none
+  -- a place that does not seek cores borrows none
   pub borrows-seeks : (p : ℕ) → bit seekers p ≡ false → cores (getD borrowed p 0) ≡ []
   borrows-seeks p e = borrowed-in p ∙ lent-seekers ws (bit seekers) (offered reserved holders) count p e
 
-  -- so nobody has cores of its own and borrows some, where who seeks cores has none
+  -- so no place has cores of its own and borrows some, where every place that seeks cores has none
   pub not-both : ((p : ℕ) → bit seekers p ≡ true → cores (getD reserved p 0) ≡ []) → NotBoth reserved borrowed
   not-both own p = go (bit seekers p) refl
     where
@@ -94,7 +94,7 @@ module _ (ws reserved : List ℕ) (holders seekers count : ℕ) (size : length w
       (λ e. inr (no-cores (getD borrowed p 0) h (borrowed-in p ∙ e)))
       (lent-width ws (bit seekers) (offered reserved holders) count p)
 
-  -- in the model's words: sk says who seeks cores, o what a place lends
+  -- in the model's words: sk tests whether a place seeks cores, o is what a place lends
   module _ (sk : ℕ → Bool) (o : ℕ → List ℕ)
       (seeking : (q : ℕ) → q < count → bit seekers q ≡ sk q) (offering : (q : ℕ) → q < count → offered reserved holders q ≡ o q) where
     -- what each place borrows, once every place has lent
@@ -112,13 +112,13 @@ module _ (ws reserved : List ℕ) (holders seekers count : ℕ) (size : length w
     pub borrowed-at : (p : ℕ) → cores (getD borrowed p 0) ≡ getD (lent ws sk o count) p []
     borrowed-at p = borrowed-in p ∙ ap (λ (l : List (List ℕ)). getD l p []) (sym (b .gives) ∙ borrowed-list)
 
-    -- and who does, as `owners` finds them
+    -- and the places that do, as `owners` finds them
     pub borrowers : count ≤ 32 → (owned : ℕ) → ((p : ℕ) → bit owned p ≡ ltb p 32 && some (cores (getD borrowed p 0)))
         → (p : ℕ) → bit owned p ≡ some (getD (lent ws sk o count) p [])
     borrowers few owned w p =
         owners-all borrowed owned w (λ q h. ap cores (borrowed-past q (omega arith)) ∙ cores-none) p ∙ ap some (borrowed-at p)
 
--- who is given cores, as `owners` finds them
+-- the places that are given cores, as `owners` finds them
 pub reserved-owners :
     (r : Rule) (ws : List ℕ) (c : ℕ → Bool) (count free : ℕ) (reserved : List ℕ) → GrantedAs r (claimants ws c) count free reserved → length ws ≤ 32
     → (owned : ℕ) → ((p : ℕ) → bit owned p ≡ ltb p 32 && some (cores (getD reserved p 0)))

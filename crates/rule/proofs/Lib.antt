@@ -1,4 +1,4 @@
--- Laws of the widths of a tick, of the choosing and of lending: claimant by claimant, set by set, and as a painted row; and computed examples.
+-- Laws of the widths of a tick, of the choosing and of lending: claimant by claimant, set by set, and as a marked row; and computed examples.
 pub mod Examples
 pub mod LendExamples
 pub mod Widths

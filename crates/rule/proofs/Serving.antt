@@ -1,5 +1,5 @@
--- What holds while the claimants of a tick are served, one turn each: each place's set and what the rest will give it stay what all give it;
--- when no one is left, the sets are the model's grants.
+-- What holds while the claimants of a tick are served, one iteration each: each place's set and what the rest will give it stay what all give it;
+-- when none is left, the sets are the model's grants.
 use borrow.Author.Tests.{eqb-true, eqb-false}
 use native.Mathlib.Omega.{arith}
 use mathlib.Core.Path.{_≡_, refl, sym, ap, _∙_}
@@ -17,9 +17,9 @@ use Rattle.model.proofs.Lists.{getD-zeros}
 use Rattle.model.proofs.Digits.{Lowest, bit-none}
 use Rattle.model.proofs.Grants.{claimant, claimants-same, grants-none, grants-length}
 use Rattle.cores.specs.Cores.{cores}
-use Rattle.rule.specs.Shares.{served, givenBy, leftBy, GrantedAs}
-use Rattle.rule.specs.declared.Served.{Served}
-use Rattle.rule.specs.declared.Served.the-variants.{Takes, Passed, Ends}
+use Rattle.rule.specs.Granted.{selection, givenBy, leftBy, GrantedAs}
+use Rattle.rule.specs.declared.Selection.{Selection}
+use Rattle.rule.specs.declared.Selection.the-variants.{Takes, Passed, Ends}
 use Rattle.cores.proofs.Cores.{cores-none, cores-length, back-of}
 use Rattle.rule.proofs.Granting.{Case, answer-means, same-either, none-given}
 use Rattle.rule.proofs.Choosing.{first-of, first-given}
@@ -28,7 +28,7 @@ use Rattle.rule.proofs.Choosing.{first-of, first-given}
 abbrev pub share : Rule → List ℕ → ℕ → List ℕ → ℕ → List ℕ
 share r ws x free p = getD (grants r (claimants ws (bit x)) free) p []
 
--- what holds before each turn; ws are the widths that are looked at, set and left the free cores and how many they are
+-- what holds before each iteration; ws are the widths that are read, set and left the free cores and how many they are
 pub record Held (r : Rule) (ws : List ℕ) (claims free count : ℕ) (sets : List ℕ) (rest set left : ℕ) : Type 0 where
   pub fit : rest < 2 ^ 32
   pub whole : set < 2 ^ 64
@@ -51,7 +51,7 @@ begun r ws claims free count h k = record {
   gives = λ p. ap (λ (x : List ℕ). x ++ share r ws claims (cores free) p) (ap cores (getD-zeros 32 p) ∙ cores-none);
 }
 
--- ---- one turn, at the lowest digit q of the rest; y is the rest after it
+-- ---- one iteration, at the lowest digit q of the rest; y is the rest after it
 
 module _ (r : Rule) (ws : List ℕ) (claims free count : ℕ) (sets : List ℕ) (rest set left q y : ℕ) (h : Held r ws claims free count sets rest set left) (l : Lowest rest q) (e : y ≡ rest - 2 ^ q) where
   abbrev pub width : ℕ
@@ -66,16 +66,16 @@ module _ (r : Rule) (ws : List ℕ) (claims free count : ℕ) (sets : List ℕ) 
   less : y < 2 ^ 32
   less = omega (arith, h .fit)
 
-  -- what the rule says to it, of the free cores
-  answer : (s : Served) → served r left width ≡ s → Case r (claimant true width) (cores set) (givenBy s width (cores set)) (leftBy s width (cores set))
-  answer s a = answer-means r width (cores set) s (ap (λ (n : ℕ). served r n width) (sym (h .counted)) ∙ a)
+  -- the rule's answer to it, of the free cores
+  answer : (s : Selection) → selection r left width ≡ s → Case r (claimant true width) (cores set) (givenBy s width (cores set)) (leftBy s width (cores set))
+  answer s a = answer-means r width (cores set) s (ap (λ (n : ℕ). selection r n width) (sym (h .counted)) ∙ a)
 
-  one-turn : (s : Served) → served r left width ≡ s → (p : ℕ)
+  one-step : (s : Selection) → selection r left width ≡ s → (p : ℕ)
       → share r ws rest (cores set) p ≡ cond (eqb p q) (givenBy s width (cores set)) [] ++ share r ws y (leftBy s width (cores set)) p
-  one-turn s a p = rw (e, ← answer s a .0, ← answer s a .1) (first-given r q ws (bit rest) (bit (rest - 2 ^ q)) (cores set) p (first-of l))
+  one-step s a p = rw (e, ← answer s a .0, ← answer s a .1) (first-given r q ws (bit rest) (bit (rest - 2 ^ q)) (cores set) p (first-of l))
 
   -- it takes its cores
-  module _ (c : q < count) (s : ℕ) (k : s < 2 ^ 64) (g : cores s ≡ take width (cores set)) (a : served r left width ≡ Takes) where
+  module _ (c : q < count) (s : ℕ) (k : s < 2 ^ 64) (g : cores s ≡ take width (cores set)) (a : selection r left width ≡ Takes) where
     stored : (p : ℕ) (t : Bool) → q < 32 → eqb p q ≡ t → cores (getD (put sets q s) p 0) ≡ cores (getD sets p 0) ++ cond t (cores s) []
     stored p true k z =
         let i : p ≡ q = eqb-true p q z in
@@ -88,7 +88,7 @@ module _ (r : Rule) (ws : List ℕ) (claims free count : ℕ) (sets : List ℕ) 
     behind = back-of set width s (h .whole) k g
 
     served-one : (p : ℕ) → share r ws rest (cores set) p ≡ cond (eqb p q) (cores s) [] ++ share r ws y (cores (set - s)) p
-    served-one p = rw (g, behind) (one-turn Takes a p)
+    served-one p = rw (g, behind) (one-step Takes a p)
 
     pub taken : q < 32 → Held r ws claims free count (put sets q s) y (set - s) (left - width)
     taken k = record {
@@ -105,13 +105,13 @@ module _ (r : Rule) (ws : List ℕ) (claims free count : ℕ) (sets : List ℕ) 
     }
 
   -- it is given nothing: what the rest gives is what those below it are given
-  nothing : (s : Served) → served r left width ≡ s → givenBy s width (cores set) ≡ [] → (p : ℕ) → share r ws rest (cores set) p ≡ share r ws y (leftBy s width (cores set)) p
+  nothing : (s : Selection) → selection r left width ≡ s → givenBy s width (cores set) ≡ [] → (p : ℕ) → share r ws rest (cores set) p ≡ share r ws y (leftBy s width (cores set)) p
   nothing s a z p =
-      one-turn s a p ∙ ap (λ (x : List ℕ). cond (eqb p q) x [] ++ share r ws y (leftBy s width (cores set)) p) z
+      one-step s a p ∙ ap (λ (x : List ℕ). cond (eqb p q) x [] ++ share r ws y (leftBy s width (cores set)) p) z
       ∙ ap (λ (x : List ℕ). x ++ share r ws y (leftBy s width (cores set)) p) (same-either (eqb p q) [])
 
-  -- it is passed over
-  pub passed-over : served r left width ≡ Passed → Held r ws claims free count sets y set left
+  -- it is skipped
+  pub passed-over : selection r left width ≡ Passed → Held r ws claims free count sets y set left
   passed-over a = record {
     fit = less;
     whole = h .whole;
@@ -123,7 +123,7 @@ module _ (r : Rule) (ws : List ℕ) (claims free count : ℕ) (sets : List ℕ) 
   }
 
   -- it ends the choosing
-  pub over : served r left width ≡ Ends → Held r ws claims free count sets 0 set left
+  pub over : selection r left width ≡ Ends → Held r ws claims free count sets 0 set left
   over a = record {
     fit = omega arith;
     whole = h .whole;
@@ -137,7 +137,7 @@ module _ (r : Rule) (ws : List ℕ) (claims free count : ℕ) (sets : List ℕ) 
         ap (λ (x : List ℕ). cores (getD sets p 0) ++ x) (none ∙ sym (nothing Ends a refl p)) ∙ h .gives p;
   }
 
-  -- it stands past the count
+  -- it is past the count
   pub skipped : length ws ≤ q → Held r ws claims free count sets y set left
   skipped k =
       let same : claimants ws (bit y) ≡ claimants ws (bit rest) = claimants-same ws (bit y) (bit rest) (λ i j. rw e (l .others i (λ z. omega arith))) in

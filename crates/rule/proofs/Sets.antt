@@ -1,4 +1,4 @@
--- What a caller learns of the sets of one tick: place by place, that no two overlap, that each counts its width or nothing, and that a row can show them.
+-- The laws of the sets of one tick: place by place, no two overlap, each has as many cores as its width or none, and a row can show them.
 use mathlib.Core.Path.{_≡_, refl, sym, ap, _∙_, subst}
 use mathlib.Core.Logic.{_⊎_, inl, inr, ⊎-elim}
 use mathlib.Core.Bool.{Bool, true, false, not, _&&_}
@@ -20,18 +20,18 @@ use Rattle.model.proofs.Bools.{and-left, and-right, not-true-false}
 use Rattle.model.proofs.Lists.{getD-zeros}
 use Rattle.model.proofs.Digits.{and-bit}
 use Rattle.cores.specs.Cores.{cores}
-use Rattle.rule.specs.Shares.{GrantedAs, granted}
+use Rattle.rule.specs.Granted.{GrantedAs, granted}
 use Rattle.rule.specs.Lent.{Showable}
 use Rattle.cores.proofs.Ascending.{range-kept, range-up, In, kept-same, kept-none}
 use Rattle.cores.proofs.Cores.{cores-none, cores-range, cores-length, set-cores, cores-memb}
-use Rattle.cores.proofs.Open.{in-open, open-of}
+use Rattle.cores.proofs.Unfenced.{in-open, open-of}
 use Rattle.rule.proofs.Granting.{idle, apart, in-grants, width-or-none}
 
--- who is given cores of the set of the open ones
-pub granted-open :
+-- the places that are given cores of the set of the unfenced ones
+pub granted-unfenced :
     (r : Rule) (bs : List Claimant) (free f n : ℕ) → n ≤ 64 → cores free ≡ unfenced f (min n 64)
     → (p : ℕ) → granted r bs (cores free) p ≡ granted r bs (unfenced f n) p
-granted-open r bs free f n h e p = ap (λ (l : List ℕ). granted r bs l p) (open-of free f n h e)
+granted-unfenced r bs free f n h e p = ap (λ (l : List ℕ). granted r bs l p) (open-of free f n h e)
 
 -- a set with no cores is 0
 pub no-cores : (n : ℕ) → n < 2 ^ 64 → cores n ≡ [] → n ≡ 0
@@ -47,11 +47,11 @@ no-common a b h k f =
     and-bit a b c ∙ not-true-false (bit a c && bit b c) (λ e. f c (cores-memb a c l ∙ and-left (bit a c) (bit b c) e) (cores-memb b c l ∙ and-right (bit a c) (bit b c) e)))
     ∙ kept-none (upFrom 0 64))
 
--- a row can show what is given of the open cores
+-- a row can show what is given of the unfenced cores
 pub grants-showable : (r : Rule) (bs : List Claimant) (f m : ℕ) → Showable f m (grants r bs (unfenced f m))
 grants-showable r bs f m = record {
   apart = apart r m bs (unfenced f m) (range-kept (λ c. not (bit f c)) 0 m (upFrom 0 m) (range-up 0 m m (omega arith)));
-  open-only = λ c j i. in-open f m c (in-grants r c bs (unfenced f m) j i);
+  unfenced-only = λ c j i. in-open f m c (in-grants r c bs (unfenced f m) j i);
 }
 
 module _ (r : Rule) (bs : List Claimant) (count free : ℕ) (sets : List ℕ) (h : GrantedAs r bs count free sets) where
@@ -87,7 +87,7 @@ module _ (r : Rule) (bs : List Claimant) (count free : ℕ) (sets : List ℕ) (h
       (λ e. inr (no-cores s k (sets-at p ∙ e)))
       (width-or-none r bs (cores free) p)
 
-  -- a row can show them, where they are given of the open cores
+  -- a row can show them, where they are given of the unfenced cores
   pub sets-showable : (f m : ℕ) → cores free ≡ unfenced f m → Showable f m (map cores (take count sets))
   sets-showable f m o =
       let same : map cores (take count sets) ≡ grants r bs (unfenced f m) = h .gives ∙ ap (grants r bs) o in

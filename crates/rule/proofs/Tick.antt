@@ -1,5 +1,5 @@
--- What a row shows of one tick, in the model's words: no core stands under two places, and each is open; a place that has nothing to lend has its width
--- or nothing, and keeps what it is given; one that may lend keeps what nobody borrows, and that and what is borrowed of it are its width.
+-- What a row shows of one tick, in the model's words: no core is under two places, and each is unfenced; a place that has nothing to lend has its width
+-- or nothing, and keeps what it is given; one that may lend keeps what no place borrows, and that and what is borrowed of it are its width.
 use mathlib.Core.Path.{_≡_, refl, sym, ap, subst, _∙_}
 use mathlib.Core.Logic.{_⊎_, inl, inr, ⊎-elim}
 use mathlib.Core.Bool.{Bool, true, false, not, cond, false≢true}
@@ -13,8 +13,8 @@ use borrow.Author.Tests.{eq-eqb, eqb-false, eqb-true, ltb-false, ltb-true}
 use Rattle.model.specs.Fence.{unfenced}
 use Rattle.model.specs.Grants.{Claimant, claimants, fits, given, grants, left, some}
 use Rattle.model.specs.Lending.{among, lent, lentAway, shownCores, unlent}
-use Rattle.model.specs.Search.{bit, kept, keptIf, memb, upFrom}
-use Rattle.model.specs.Sets.{SetsApart, SetsCount, SetsOpen, setOf}
+use Rattle.model.specs.Search.{bit, filtered, consIf, member, upFrom}
+use Rattle.model.specs.Sets.{SetsApart, SetsCount, SetsUnfenced, setOf}
 use Rattle.model.specs.Task.{Rule, greedy}
 use Rattle.model.proofs.Bools.{not-false-true, not-true-false, or-cases, or-right}
 use Rattle.model.proofs.Grants.{grants-length}
@@ -58,26 +58,26 @@ lent-range ws sk o hi r (suc n) q = go (some (had ws sk o n q)) refl (lent-range
         (sym (lent-more ws sk o n q ∙ ap (λ (l : List ℕ). l ++ getD (lentBy ws sk o n) q []) (none-some (had ws sk o n q) e)))
         (grants-range greedy (claimants ws (tried ws sk o n)) hi (o n) (r n) q)
 
--- ---- what nobody borrows
+-- ---- what no place borrows
 
 among-some : (c : ℕ) (bs : List (List ℕ)) → among c bs ≡ true → (q : ℕ) × In c (getD bs q [])
 unfolding among
 among-some c [] e = absurd (false≢true e)
 among-some c (b ∷ bs) e =
     ⊎-elim
-    (λ (h : memb c b ≡ true). (0, h))
+    (λ (h : member c b ≡ true). (0, h))
     (λ (h : among c bs ≡ true). let x = among-some c bs h in (suc (x .0), x .1))
-    (or-cases (memb c b) (among c bs) e)
+    (or-cases (member c b) (among c bs) e)
 
-kept-all : (f : ℕ → Bool) (l : List ℕ) → ((c : ℕ) → In c l → f c ≡ true) → kept f l ≡ l
-unfolding kept memb
+kept-all : (f : ℕ → Bool) (l : List ℕ) → ((c : ℕ) → In c l → f c ≡ true) → filtered f l ≡ l
+unfolding filtered member
 kept-all f [] h = refl
 kept-all f (x ∷ l) h =
-    ap (λ (t : Bool). keptIf t x (kept f l)) (h x (rw (eq-eqb x x refl)))
-    ∙ ap (λ (k : List ℕ). x ∷ k) (kept-all f l (λ c e. h c (or-right (eqb c x) (memb c l) e)))
+    ap (λ (t : Bool). consIf t x (filtered f l)) (h x (rw (eq-eqb x x refl)))
+    ∙ ap (λ (k : List ℕ). x ∷ k) (kept-all f l (λ c e. h c (or-right (eqb c x) (member c l) e)))
 
--- ---- the cores of a tick: ws are the widths and c the claims, of which the rule gives the open cores; who seeks has none of them, and what a place offers
--- is what it is given, or nothing
+-- ---- the cores of a tick: ws are the widths and c the claims, of which the rule gives the unfenced cores; a place that seeks has none of them, and what a
+-- place offers is what it is given, or nothing
 
 module _ (r : Rule) (ws : List ℕ) (c : ℕ → Bool) (f m : ℕ) (sk : ℕ → Bool) (o : ℕ → List ℕ) (n : ℕ) where
   abbrev pub gs : List (List ℕ)
@@ -116,22 +116,22 @@ module _ (r : Rule) (ws : List ℕ) (c : ℕ → Bool) (f m : ℕ) (sk : ℕ →
 
     -- a row can show it
     pub tick-showable : Showable f m (shownCores gs bs)
-    tick-showable = record { apart = shown-apart gs bs same (given-show .apart) twice; open-only = open-only }
+    tick-showable = record { apart = shown-apart gs bs same (given-show .apart) twice; unfenced-only = open-only }
       where
         open-only : (x j : ℕ) → In x (shownAt j) → (x < m) × (bit f x ≡ false)
         open-only x j h =
             ⊎-elim
             (λ (k : In x (getD bs j [])).
             let u = lent-from ws sk o x n j k in
-            given-show .open-only x (u .0) (offer-in x (u .0) (u .2)))
-            (given-show .open-only x j)
+            given-show .unfenced-only x (u .0) (offer-in x (u .0) (u .2)))
+            (given-show .unfenced-only x j)
             (shown-in gs bs same x j h)
 
-    -- each place: what it borrows, and what nobody borrows of its own
+    -- each place: what it borrows, and what no place borrows of its own
     pub tick-place : (p : ℕ) → shownAt p ≡ getD bs p [] ++ unlent bs (getD gs p [])
     tick-place = shown-place gs bs same
 
-    -- nobody has cores of its own and borrows some
+    -- no place has cores of its own and borrows some
     pub tick-either : (p : ℕ) → (getD gs p [] ≡ []) ⊎ (getD bs p [] ≡ [])
     tick-either p = go (sk p) refl
       where
@@ -148,7 +148,7 @@ module _ (r : Rule) (ws : List ℕ) (c : ℕ → Bool) (f m : ℕ) (sk : ℕ →
         let u = lent-from ws sk o x n (y .0) (y .1) in
         lender x h (u .0) (u .2) (eqb (u .0) p) refl)))
       where
-        -- who lends one of its cores is no other place
+        -- no other place lends one of its cores
         lender : (x : ℕ) → In x (getD gs p []) → (q : ℕ) → In x (o q) → (t : Bool) → eqb q p ≡ t → ⊥
         lender x h q k true e = not-in-none x (subst (In x) none (subst (λ (i : ℕ). In x (o i)) (eqb-true q p e) k))
         lender x h q k false e = go (ltb q p) refl
@@ -179,7 +179,7 @@ module _ (r : Rule) (ws : List ℕ) (c : ℕ → Bool) (f m : ℕ) (sk : ℕ →
         ⊎-elim (λ w. inl (ap length z ∙ (w ∙ width-of ws c p))) (λ w. inr (z ∙ w)) (width-or-none r (claimants ws c) (unfenced f m) p))
         (tick-either p)
 
-    -- a place that may lend keeps what nobody borrows
+    -- a place that may lend keeps what no place borrows
     pub tick-lender : (p : ℕ) → some (o p) ≡ true → shownAt p ≡ unlent bs (o p)
     tick-lender p e =
         ⊎-elim
@@ -208,7 +208,7 @@ module _ (r : Rule) (ws : List ℕ) (c : ℕ → Bool) (f m : ℕ) (sk : ℕ →
 
     -- in ascending order
     pub tick-range : (p : ℕ) → Range 0 m (shownAt p)
-    unfolding kept
+    unfolding filtered
     tick-range p =
         ⊎-elim
         (λ (e : getD gs p [] ≡ []).
@@ -232,7 +232,7 @@ module _ (r : Rule) (ws : List ℕ) (c : ℕ → Bool) (f m : ℕ) (sk : ℕ →
       unfolding setOf
       at p = List·getD-map setOf (shownCores gs bs) p []
 
-      has : (p x : ℕ) → bit (getD sets p 0) x ≡ memb x (shownAt p)
+      has : (p x : ℕ) → bit (getD sets p 0) x ≡ member x (shownAt p)
       has p x = ap (λ (n : ℕ). bit n x) (at p) ∙ set-bit (shownAt p) (ascending p) x
 
       pub tick-sets-apart : SetsApart sets
@@ -258,8 +258,8 @@ module _ (r : Rule) (ws : List ℕ) (c : ℕ → Bool) (f m : ℕ) (sk : ℕ →
                   let b = ltb-false p q l in
                   tick-showable .apart x q p (omega arith) j i
 
-      pub tick-sets-open : SetsOpen f m sets
-      tick-sets-open p x h = tick-showable .open-only x p (sym (has p x) ∙ h)
+      pub tick-sets-unfenced : SetsUnfenced f m sets
+      tick-sets-unfenced p x h = tick-showable .unfenced-only x p (sym (has p x) ∙ h)
 
       may : (p : ℕ) → ¬ (o p ≡ []) → some (o p) ≡ true
       may p e = not-false-true (some (o p)) (λ z. e (none-some (o p) z))

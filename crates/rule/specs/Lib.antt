@@ -1,5 +1,5 @@
 -- The widths of a tick, what the tick rule gives to the claimants, as shares of cores, what is lent of it, and the row that shows it.
 pub mod Widths
-pub mod Shares
+pub mod Granted
 pub mod Lent
-pub mod Painted
+pub mod Marked

@@ -1,4 +1,4 @@
--- The widths of a tick: each place has two (request 108), and a set of places says who is at its second.
+-- The widths of a tick: each place has two (request 108), and bit p of a set is set if the job at place p uses its second.
 use mathlib.Core.Bool.{cond}
 use mathlib.Core.List.{List, map}
 use Prim.Native.Nat.{ℕ, _+_, _*_}
@@ -6,7 +6,7 @@ use lib.ListN.{getD}
 use Rattle.model.specs.Search.{bit, upFrom}
 use Rattle.model.specs.Sizes.{mostTasks}
 
--- how long a list of both widths of the 32 places is: the first of every place stands before the second of any
+-- the length of a list of both widths of the 32 places: the first of every place is before the second of any
 abbrev pub pair : ℕ
 pair = 2 * mostTasks
 

@@ -1,4 +1,4 @@
-// The tick rule: who of the claimants is given cores in a tick, which cores, what is lent of them, and the row that shows it.
+// The tick rule: the claimants that are given cores in a tick, their cores, what is lent of them, and the row that shows it.
 ghost use mathlib.Core.Path.{_≡_};
 ghost use mathlib.Core.Bool.{_&&_};
 ghost use mathlib.Core.List.{map, _++_};
@@ -15,38 +15,38 @@ ghost use Rattle.model.specs.Row.{row};
 ghost use Rattle.model.specs.Sizes.{mostCores, mostTasks};
 ghost use Rattle.cores.specs.Cores.{cores};
 ghost use Rattle.cores.specs.Cores as listed;
-ghost use Rattle.rule.specs.Shares.{served, GrantedAs, granted};
+ghost use Rattle.rule.specs.Granted.{selection, GrantedAs, granted};
 ghost use Rattle.rule.specs.Lent.{LentAs, NotBoth, ShownAs, Showable};
-ghost use Rattle.rule.specs.Painted.{painted, shown};
+ghost use Rattle.rule.specs.Marked.{marked, shownBytes};
 ghost use Rattle.rule.specs.Widths.{widthsIn};
 use model::FENCED;
 use model::MOST_TASKS;
 use model::ROW;
 
-// Each place has two widths: the first of every place stands before the second of any. How many they are.
+// The number of widths: each place has two, the first of every place before the second of any.
 pub const PAIR: usize = 2 * MOST_TASKS;
 
-// Rule 1: a claimant that doesn't fit is passed over.
+// Rule 1: a claimant that doesn't fit is skipped.
 const GREEDY: u32 = 1;
 
-// What the tick rule says to a claimant: it takes its cores, it is passed over, or it ends the tick's choosing.
-pub enum Served {
+// The tick rule's answer to a claimant: it takes its cores, it is skipped, or it ends the tick's choosing.
+pub enum Selection {
     Takes,
     Passed,
     Ends,
 }
 
-// The tick rule, for one claimant on so many free cores: a width that fits takes its cores.
-pub fn serve(rule: u32, free: u32, width: u32) -> Served
-    ensures { λ r. ⌜ r ≡ served (ruleOf rule) free width ⌝ }
+// The tick rule, for one claimant on this number of free cores: a width that fits takes its cores.
+pub fn select(rule: u32, free: u32, width: u32) -> Selection
+    ensures { λ r. ⌜ r ≡ selection (ruleOf rule) free width ⌝ }
 {
     if width <= free {
-        return Served::Takes;
+        return Selection::Takes;
     }
     if model::ends_choosing(rule) {
-        return Served::Ends;
+        return Selection::Ends;
     }
-    Served::Passed
+    Selection::Passed
 }
 
 // The width of a place in a tick: its second where the place is in the set, else its first.
@@ -54,8 +54,8 @@ pub fn width_at(even: u32, widths: &[u32; PAIR], place: u32) -> u32
     requires { ⌜ place < mostTasks ⌝ }
     ensures { λ r. ⌜ r ≡ getD (widthsIn even (now (widths .entry))) place 0 ⌝ }
 {
-    let turned = (even >> place) % 2;
-    widths[MOST_TASKS * turned as usize + place as usize]
+    let shifted = (even >> place) % 2;
+    widths[MOST_TASKS * shifted as usize + place as usize]
 }
 
 // The set of positions that are given cores, of the set that claims; bit 0 is for position 1. The free cores are counted once.
@@ -69,15 +69,15 @@ pub fn choose(rule: u32, free: u64, claims: u32, even: u32, widths: &[u32; PAIR]
         let p = u32::trailing_zeros(rest);
         rest &= rest - 1;
         let width = width_at(even, widths, p);
-        match serve(rule, left, width) {
-            Served::Takes => {
+        match select(rule, left, width) {
+            Selection::Takes => {
                 left -= width;
                 if 0 < width {
                     chosen |= 1u32 << p;
                 }
             }
-            Served::Passed => {}
-            Served::Ends => {
+            Selection::Passed => {}
+            Selection::Ends => {
                 return chosen;
             }
         }
@@ -106,15 +106,15 @@ pub fn grants(
         rest &= rest - 1;
         if at < count {
             let width = width_at(even, widths, p);
-            match serve(rule, left, width) {
-                Served::Takes => {
+            match select(rule, left, width) {
+                Selection::Takes => {
                     let taken = cores::lowest(set, width);
                     sets[at] = taken;
                     set -= taken;
                     left -= width;
                 }
-                Served::Passed => {}
-                Served::Ends => {
+                Selection::Passed => {}
+                Selection::Ends => {
                     return sets;
                 }
             }
@@ -124,8 +124,8 @@ pub fn grants(
 }
 
 // The row with a mark on each core of a set.
-pub fn paint(row: [u8; ROW], set: u64, mark: u8) -> [u8; ROW]
-    ensures { λ r. ⌜ r ≡ painted row mark (cores set) ⌝ }
+pub fn mark(row: [u8; ROW], set: u64, mark: u8) -> [u8; ROW]
+    ensures { λ r. ⌜ r ≡ marked row mark (cores set) ⌝ }
 {
     let mut out = row;
     let mut rest = set;
@@ -140,12 +140,12 @@ pub fn paint(row: [u8; ROW], set: u64, mark: u8) -> [u8; ROW]
 // The row with each position on its cores; the first set is that of position `first`.
 pub fn row_of(start: [u8; ROW], first: u8, sets: &[u64; MOST_TASKS], count: usize) -> [u8; ROW]
     requires { ⌜ (count ≤ mostTasks) × (first + count ≤ 256) ⌝ }
-    ensures { λ r. ⌜ r ≡ shown start first (map cores (take count (now (sets .entry)))) ⌝ }
+    ensures { λ r. ⌜ r ≡ shownBytes start first (map cores (take count (now (sets .entry)))) ⌝ }
 {
     let mut out = start;
     let mut i: usize = 0;
     while i < count {
-        let next = paint(out, sets[i], (first as usize + i) as u8);
+        let next = mark(out, sets[i], (first as usize + i) as u8);
         out = next;
         i += 1;
     }
@@ -158,9 +158,9 @@ pub fn row_in(cores: u32, fence: u64, sets: &[u64; MOST_TASKS], count: usize) ->
     requires { ⌜ (cores ≤ mostCores) × (count ≤ mostTasks) ⌝ ∗ ⌜ Showable fence cores (map listed.cores (take count (now sets))) ⌝ }
     ensures { λ r. ⌜ r ≡ row fence cores (map listed.cores (take count (now (sets .entry)))) ++ replicate (mostCores - cores) 0 ⌝ }
 {
-    let free = cores::open_cores(cores, fence);
-    let fenced = cores::without(cores::first_cores(cores), free);
-    let start = paint([0u8; ROW], fenced, FENCED);
+    let free = cores::unfenced_cores(cores, fence);
+    let fenced = cores::difference(cores::first_cores(cores), free);
+    let start = mark([0u8; ROW], fenced, FENCED);
     row_of(start, 1, sets, count)
 }
 
@@ -177,7 +177,7 @@ pub fn show(
     requires { ⌜ (cores ≤ mostCores) × (count ≤ mostTasks) ⌝ }
     ensures { λ r. ⌜ r ≡ row fence cores (grants (ruleOf rule) (claimants (take count (widthsIn even (now (widths .entry)))) (bit claiming)) (unfenced fence cores)) ++ replicate (mostCores - cores) 0 ⌝ }
 {
-    let free = cores::open_cores(cores, fence);
+    let free = cores::unfenced_cores(cores, fence);
     let sets = grants(rule, free, claiming, even, widths, count);
     row_in(cores, fence, &sets, count)
 }
@@ -205,7 +205,7 @@ pub fn owners(sets: &[u64; MOST_TASKS]) -> u32
 }
 
 // The sets of each position in one list and in another.
-fn beside(sets: [u64; MOST_TASKS], more: &[u64; MOST_TASKS]) -> [u64; MOST_TASKS]
+fn merged(sets: [u64; MOST_TASKS], more: &[u64; MOST_TASKS]) -> [u64; MOST_TASKS]
     ensures { λ r. ⌜ ((p : ℕ) → p < mostTasks → getD r p 0 ≡ bitOr (getD sets p 0) (getD (now (more .entry)) p 0)) ⌝ }
 {
     let mut out = sets;
@@ -218,7 +218,7 @@ fn beside(sets: [u64; MOST_TASKS], more: &[u64; MOST_TASKS]) -> [u64; MOST_TASKS
 }
 
 // The set of cores that each of the first `count` positions borrows, 0 where none. Of the sets reserved for them each holder, by priority, lends its
-// own: the seekers below it that are not yet served are the claimants, and are served as under rule 1.
+// own: the seekers below it that have not yet borrowed are the claimants, and they are granted cores as under rule 1.
 pub fn lend(
     reserved: &[u64; MOST_TASKS],
     holders: u32,
@@ -239,7 +239,7 @@ pub fn lend(
         if (holders >> place) % 2 == 1 {
             let more = grants(GREEDY, reserved[i], seeking, even, widths, count);
             seeking &= seeking ^ owners(&more);
-            let next = beside(sets, &more);
+            let next = merged(sets, &more);
             sets = next;
         }
         i += 1;
@@ -261,7 +261,7 @@ fn union(sets: &[u64; MOST_TASKS], count: usize) -> u64
     all
 }
 
-// The set of cores that the row shows of each of the first `count` positions: those that it borrows, or of its own those that nobody does.
+// The set of cores that the row shows of each of the first `count` positions: those that it borrows, or its own cores that no place borrows.
 pub fn shown(
     reserved: &[u64; MOST_TASKS],
     borrowed: &[u64; MOST_TASKS],
@@ -274,7 +274,7 @@ pub fn shown(
     let mut sets = [0u64; MOST_TASKS];
     let mut i: usize = 0;
     while i < count {
-        sets[i] = borrowed[i] | cores::without(reserved[i], lent);
+        sets[i] = borrowed[i] | cores::difference(reserved[i], lent);
         i += 1;
     }
     sets

@@ -1,11 +1,11 @@
--- What a start gives, by the judge's verdict on the words.
+-- The result of a start, by the judge's verdict on the words.
 use mathlib.Core.Path.{_≡_, refl, sym, ap}
 use mathlib.Core.List.{List}
 use Prim.Native.Nat.{ℕ}
 use Rattle.table.specs.declared.Loaded.{Loaded}
 use Rattle.table.specs.Words.{rule, tableOf}
 use Rattle.table.specs.Task.{tasksOf}
-use Rattle.table.specs.Load.{tableWith, Holds}
+use Rattle.table.specs.Load.{tableWith, LoadedAs}
 use Rattle.judge.specs.declared.Verdict.{Verdict}
 use Rattle.judge.specs.Judged.{verdictOf}
 use Rattle.run.specs.declared.Answer.the-variants.{Taken, Refused}
@@ -27,6 +27,6 @@ module _ (ws : List ℕ) where
   start-refused n p e = rw e refl
 
 -- the table that was loaded is that of the words
-pub loaded-table : (ws : List ℕ) (l : Loaded) → Holds ws l → startedRun (l .rule) (tableWith (l .cores) (l .fence) (l .rule) (tasksOf (l .tasks) (l .count))) ≡ startedRun (rule ws) (tableOf ws)
+pub loaded-table : (ws : List ℕ) (l : Loaded) → LoadedAs ws l → startedRun (l .rule) (tableWith (l .cores) (l .fence) (l .rule) (tasksOf (l .tasks) (l .count))) ≡ startedRun (rule ws) (tableOf ws)
 unfolding tableOf
 loaded-table ws l h = rw (h .rule, h .cores, h .fence, h .tasks) refl

@@ -1,17 +1,17 @@
--- What sets, a row, an advance and a withdrawal give, case by case, in the order in which code looks.
+-- The results of sets, a row, an advance and a withdrawal, case by case, in the order in which code tests.
 use mathlib.Core.Path.{_≡_, refl, sym, _∙_}
 use mathlib.Core.Bool.{Bool, true, false, cond}
 use Prim.Native.Nat.{ℕ, suc, _≤_, _<_}
 use lib.Dec.{ltb}
 use borrow.Author.Tests.{lt-ltb, le-ltb}
 use Rattle.model.specs.Search.{bit}
-use Rattle.model.specs.Book.{only}
+use Rattle.model.specs.Book.{singleton}
 use Rattle.run.specs.declared.Run.{Run}
 use Rattle.run.specs.declared.Answer.{Answer}
 use Rattle.run.specs.declared.Answer.the-variants.{Taken, Refused}
 use Rattle.run.specs.Answer.{byAnswer}
 use Rattle.run.specs.Run.{firmIn, moved, withdrawnIn}
-use Rattle.run.specs.Numbers.{runOut, pastCount, strangerIn, firstLateIn, misemptiedIn, misreportedIn}
+use Rattle.run.specs.Numbers.{runOut, pastCount, unknownIn, firstLateIn, wrongEmptiesIn, wrongReportsIn}
 use Rattle.run.specs.Row.{rowAnswer, bytesIn, noBytes, rowOf}
 use Rattle.run.specs.Sets.{noSets, setsIn, setsOf}
 use Rattle.run.specs.Advance.{advanceAnswer, advanceOf}
@@ -28,11 +28,11 @@ module _ (r : Run) (e : ℕ) where
   unfolding setsOf rowAnswer
   sets-late q l = rw (q, lt-ltb (firstLateIn r) (r .count) l) refl
 
-  pub sets-empty : runOut r ≡ false → r .count ≤ firstLateIn r → misemptiedIn r e ≡ true → setsOf r e ≡ record { answer = Refused 20 0; sets = noSets }
+  pub sets-empty : runOut r ≡ false → r .count ≤ firstLateIn r → wrongEmptiesIn r e ≡ true → setsOf r e ≡ record { answer = Refused 20 0; sets = noSets }
   unfolding setsOf rowAnswer
   sets-empty q l m = rw (q, le-ltb (firstLateIn r) (r .count) l, m) refl
 
-  pub sets-shown : runOut r ≡ false → r .count ≤ firstLateIn r → misemptiedIn r e ≡ false → setsOf r e ≡ record { answer = Taken; sets = setsIn r e }
+  pub sets-shown : runOut r ≡ false → r .count ≤ firstLateIn r → wrongEmptiesIn r e ≡ false → setsOf r e ≡ record { answer = Taken; sets = setsIn r e }
   unfolding setsOf rowAnswer
   sets-shown q l m = rw (q, le-ltb (firstLateIn r) (r .count) l, m) refl
 
@@ -64,15 +64,15 @@ module _ (r : Run) (e : ℕ) where
 
   -- an advance: as the row, then 16, taken ..
   module _ (x : ℕ) where
-    by-row : advanceAnswer r x e ≡ byAnswer (rowAnswer r e) (cond (misreportedIn r e x) (Refused 16 0) Taken) (rowAnswer r e)
+    by-row : advanceAnswer r x e ≡ byAnswer (rowAnswer r e) (cond (wrongReportsIn r e x) (Refused 16 0) Taken) (rowAnswer r e)
     unfolding advanceAnswer rowAnswer
-    by-row = go (runOut r) (ltb (firstLateIn r) (r .count)) (misemptiedIn r e)
+    by-row = go (runOut r) (ltb (firstLateIn r) (r .count)) (wrongEmptiesIn r e)
       where
         late : Answer
         late = Refused 15 (suc (firstLateIn r))
 
         last : Answer
-        last = cond (misreportedIn r e x) (Refused 16 0) Taken
+        last = cond (wrongReportsIn r e x) (Refused 16 0) Taken
 
         go : (a b c : Bool)
             → cond a (Refused 14 0) (cond b late (cond c (Refused 20 0) last))
@@ -84,11 +84,11 @@ module _ (r : Run) (e : ℕ) where
         go false false false = refl
 
     -- .. and the run that goes with the answer
-    pub advance-taken : rowAnswer r e ≡ Taken → misreportedIn r e x ≡ false → advanceOf r x e ≡ record { answer = Taken; run = moved (bit x) e r }
+    pub advance-taken : rowAnswer r e ≡ Taken → wrongReportsIn r e x ≡ false → advanceOf r x e ≡ record { answer = Taken; run = moved (bit x) e r }
     unfolding advanceOf
     advance-taken q m = rw (by-row, q, m) refl
 
-    pub advance-misreported : rowAnswer r e ≡ Taken → misreportedIn r e x ≡ true → advanceOf r x e ≡ record { answer = Refused 16 0; run = r }
+    pub advance-misreported : rowAnswer r e ≡ Taken → wrongReportsIn r e x ≡ true → advanceOf r x e ≡ record { answer = Refused 16 0; run = r }
     unfolding advanceOf
     advance-misreported q m = rw (by-row, q, m) refl
 
@@ -106,12 +106,12 @@ module _ (r : Run) (p : ℕ) where
   unfolding withdrawOf withdrawAnswer
   withdraw-not-firm q f = rw (q, f) refl
 
-  pub withdraw-stranger : runOut r ≡ false → firmIn r ≡ true → strangerIn r p ≡ true → withdrawOf r p ≡ record { answer = Refused 22 0; run = r }
+  pub withdraw-unknown : runOut r ≡ false → firmIn r ≡ true → unknownIn r p ≡ true → withdrawOf r p ≡ record { answer = Refused 22 0; run = r }
   unfolding withdrawOf withdrawAnswer
-  withdraw-stranger q f u = rw (q, f, u) refl
+  withdraw-unknown q f u = rw (q, f, u) refl
 
   pub withdraw-taken :
-      runOut r ≡ false → firmIn r ≡ true → strangerIn r p ≡ false → withdrawOf r p ≡ record { answer = Taken; run = withdrawnIn (only p) r }
+      runOut r ≡ false → firmIn r ≡ true → unknownIn r p ≡ false → withdrawOf r p ≡ record { answer = Taken; run = withdrawnIn (singleton p) r }
   unfolding withdrawOf withdrawAnswer
   withdraw-taken q f u = rw (q, f, u) refl
 

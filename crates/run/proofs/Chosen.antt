@@ -1,4 +1,4 @@
--- Who has cores in a run's present tick and who borrows some, from the sets that code gathers; and 20 and 16 by one test of sets each.
+-- The places that have cores in a run's present tick and those that borrow some, from the sets that code gathers; and 20 and 16 by one test of sets each.
 use mathlib.Core.Path.{_≡_, refl, sym, ap, ap₂, _∙_}
 use mathlib.Core.Bool.{Bool, true, false, not, _&&_, _||_, cond, and-assoc, true≢false}
 use mathlib.Core.List.{List, [], map}
@@ -22,28 +22,28 @@ use Rattle.rule.specs.Widths.{widthsIn}
 use Rattle.rule.proofs.Granting.{same-either}
 use Rattle.run.specs.declared.Run.{Run}
 use Rattle.run.specs.declared.choosing.Claims.{Claims}
-use Rattle.run.specs.declared.shares.Shares.{Shares}
+use Rattle.run.specs.declared.allocation.Allocation.{Allocation}
 use Rattle.phase.specs.declared.Phase.{Phase}
 use Rattle.phase.specs.declared.Phase.the-variants.{Coming, Working, Holding, Resting}
 use Rattle.phase.specs.Phase.{claiming, holder, working}
 use Rattle.phase.specs.Phase as phase
 use Rattle.phase.specs.Task.{widthNow}
-use Rattle.run.specs.Run.{ruleIn, seenAt, widthsNow, grantsIn, hasCores, offerIn, seeksIn, lentIn, hasLent}
-use Rattle.run.specs.Numbers.{emptiableAt, misemptiedIn, reportableAt, misreportedIn}
+use Rattle.run.specs.Run.{ruleIn, emptiedAt, widthsNow, grantsIn, hasCores, offerIn, seeksIn, lentIn, hasLent}
+use Rattle.run.specs.Numbers.{emptiableAt, wrongEmptiesIn, reportableAt, wrongReportsIn}
 use Rattle.run.specs.Claims.{ClaimsOf}
 use Rattle.run.specs.Sets.{in32, setsIn}
-use Rattle.run.specs.Shares.{SharesOf, givenTo, isGiven, lentTo}
+use Rattle.run.specs.Allocation.{AllocationOf, givenTo, isGiven, lentTo}
 use Rattle.run.proofs.Lent.{past-grants, past-offer}
 
--- ---- who has cores, and who borrows some
+-- ---- the places that have cores, and those that borrow some
 
 module _ (r : Run) (e : ℕ) (c : Claims) (h : ClaimsOf r e c) where
-  below : (q : ℕ) → q < r .count → bit (c .claiming) q ≡ claiming (seenAt r e q)
-  below q l = h .claimed q ∙ ap (λ (t : Bool). t && claiming (seenAt r e q)) (lt-ltb q (r .count) l)
+  below : (q : ℕ) → q < r .count → bit (c .claiming) q ≡ claiming (emptiedAt r e q)
+  below q l = h .claimed q ∙ ap (λ (t : Bool). t && claiming (emptiedAt r e q)) (lt-ltb q (r .count) l)
 
-  -- nobody claims past the count
+  -- no place claims past the count
   pub claims-below : (q : ℕ) → r .count ≤ q → bit (c .claiming) q ≡ false
-  claims-below q l = h .claimed q ∙ ap (λ (t : Bool). t && claiming (seenAt r e q)) (le-ltb q (r .count) l)
+  claims-below q l = h .claimed q ∙ ap (λ (t : Bool). t && claiming (emptiedAt r e q)) (le-ltb q (r .count) l)
 
   -- the widths of the places below the count, and the cores that the rule gives from
   abbrev pub ws : List ℕ
@@ -58,21 +58,21 @@ module _ (r : Run) (e : ℕ) (c : Claims) (h : ClaimsOf r e c) where
   same-given =
       ap (λ (vs : List ℕ). grants (ruleIn r) (claimants vs (bit (c .claiming))) F) (h .width)
       ∙ ap (λ (bs : List Claimant). grants (ruleIn r) bs F)
-      (claimants-same (widthsNow r) (bit (c .claiming)) (λ q. claiming (seenAt r e q))
+      (claimants-same (widthsNow r) (bit (c .claiming)) (λ q. claiming (emptiedAt r e q))
       (λ q l. below q (omega (arith, length-map (take (r .count) (r .tasks)) widthNow, length-take (r .count) (r .tasks)))))
 
   same-seeks : (p : ℕ) → bit (c .working) p && not (isGiven (ruleIn r) ws (c .claiming) F p) ≡ seeksIn r e p
   unfolding seeksIn
   same-seeks p =
       ap₂ (λ (t : Bool) (gs : List (List ℕ)). t && not (some (getD gs p []))) (h .worked p) same-given
-      ∙ and-assoc (ltb p (r .count)) (working (seenAt r e p)) (not (hasCores r e p))
+      ∙ and-assoc (ltb p (r .count)) (working (emptiedAt r e p)) (not (hasCores r e p))
 
   same-offer : (p : ℕ)
       → cond (lends (ruleIn r) && (bit (c .claiming) p && not (bit (c .working) p))) (getD (givenTo (ruleIn r) ws (c .claiming) F) p []) [] ≡ offerIn r e p
   unfolding offerIn
   same-offer p = go (ltb p (r .count)) refl
     where
-      -- who claims and is not Working holds
+      -- a place that claims and is not Working holds
       held : (ph : Phase) → claiming ph && not (working ph) ≡ holder ph
       held (Coming left) = refl
       held (Working z had reserved) = refl
@@ -84,9 +84,9 @@ module _ (r : Run) (e : ℕ) (c : Claims) (h : ClaimsOf r e c) where
           ≡ offerIn r e p
       go true q =
           ap₂ (λ (t : Bool) (gs : List (List ℕ)). cond (lends (ruleIn r) && t) (getD gs p []) [])
-          (ap₂ (λ (a b : Bool). a && not b) (h .claimed p ∙ ap (λ (t : Bool). t && claiming (seenAt r e p)) q)
-          (h .worked p ∙ ap (λ (t : Bool). t && working (seenAt r e p)) q)
-          ∙ held (seenAt r e p)) same-given
+          (ap₂ (λ (a b : Bool). a && not b) (h .claimed p ∙ ap (λ (t : Bool). t && claiming (emptiedAt r e p)) q)
+          (h .worked p ∙ ap (λ (t : Bool). t && working (emptiedAt r e p)) q)
+          ∙ held (emptiedAt r e p)) same-given
       go false q =
           ap (λ (l : List ℕ). cond (lends (ruleIn r) && (bit (c .claiming) p && not (bit (c .working) p))) l [])
           (ap (λ (gs : List (List ℕ)). getD gs p []) same-given ∙ past-grants r e p (ltb-false p (r .count) q))
@@ -98,7 +98,7 @@ module _ (r : Run) (e : ℕ) (c : Claims) (h : ClaimsOf r e c) where
   same-lent = λ i. lent (h .width i) (λ p. same-seeks p i) (λ p. same-offer p i) (r .count)
 
   -- so the sets that the choosing gives are those of the places with cores
-  module _ (s : Shares) (q : SharesOf (ruleIn r) ws (c .claiming) (c .working) F (r .count) s) where
+  module _ (s : Allocation) (q : AllocationOf (ruleIn r) ws (c .claiming) (c .working) F (r .count) s) where
     pub has-cores : (p : ℕ) → bit (s .given) p ≡ hasCores r e p
     has-cores p = q .given p ∙ ap (λ (gs : List (List ℕ)). some (getD gs p [])) same-given
 
@@ -167,18 +167,18 @@ module _ (x m : ℕ) (f : ℕ → Bool) (e : (p : ℕ) → bit m p ≡ f p) wher
 
 -- 20 by one test of sets: the empties are within the places whose job is released in this tick
 pub may-begin :
-    (r : Run) (e : ℕ) (c : Claims) → ClaimsOf r e c → (k : ℕ) → e < 2 ^ k → misemptiedIn r e ≡ not (eqb (bitAnd e (c .released)) e)
-unfolding misemptiedIn
+    (r : Run) (e : ℕ) (c : Claims) → ClaimsOf r e c → (k : ℕ) → e < 2 ^ k → wrongEmptiesIn r e ≡ not (eqb (bitAnd e (c .released)) e)
+unfolding wrongEmptiesIn
 may-begin r e c h k l = outside e (c .released) (emptiableAt r) (h .begun) k l
 
 -- and 16: the reports are within the places that work and are given or borrow cores
 module _ (r : Run) (e given lent working : ℕ) (gives : (p : ℕ) → bit given p ≡ hasCores r e p) (lends : (p : ℕ) → bit lent p ≡ hasLent r e p)
-    (works : (p : ℕ) → bit working p ≡ ltb p (r .count) && phase.working (seenAt r e p)) where
+    (works : (p : ℕ) → bit working p ≡ ltb p (r .count) && phase.working (emptiedAt r e p)) where
   may-end : (p : ℕ) → bit (bitAnd (bitOr given lent) working) p ≡ reportableAt r e p
   may-end p =
       and-bit (bitOr given lent) working p
       ∙ (ap₂ (λ (a b : Bool). a && b) (or-bit given lent p ∙ ap₂ (λ (a b : Bool). a || b) (gives p) (lends p)) (works p)
-      ∙ turned (hasCores r e p || hasLent r e p) (ltb p (r .count)) (phase.working (seenAt r e p)))
+      ∙ turned (hasCores r e p || hasLent r e p) (ltb p (r .count)) (phase.working (emptiedAt r e p)))
     where
       turned : (a b d : Bool) → a && (b && d) ≡ b && (d && a)
       turned true true true = refl
@@ -188,6 +188,6 @@ module _ (r : Run) (e given lent working : ℕ) (gives : (p : ℕ) → bit given
       turned false true false = refl
       turned false false d = refl
 
-  pub may-report : (x k : ℕ) → x < 2 ^ k → misreportedIn r e x ≡ not (eqb (bitAnd x (bitAnd (bitOr given lent) working)) x)
-  unfolding misreportedIn
+  pub may-report : (x k : ℕ) → x < 2 ^ k → wrongReportsIn r e x ≡ not (eqb (bitAnd x (bitAnd (bitOr given lent) working)) x)
+  unfolding wrongReportsIn
   may-report x k l = outside x (bitAnd (bitOr given lent) working) (reportableAt r e) may-end k l

@@ -1,4 +1,4 @@
--- A set of gathered places says whether some place passes the test, and its lowest is the first that does.
+-- A set of gathered places is empty exactly if no place passes the test, and its lowest is the first that does.
 use mathlib.Core.Path.{_≡_, sym, ap, _∙_}
 use mathlib.Core.Bool.{Bool, true, false, _&&_}
 use Prim.Native.Nat.{ℕ, _^_, _<_}

@@ -15,7 +15,7 @@ use Rattle.phase.specs.Task.{widthNow}
 use Rattle.phase.proofs.Phases.{lends-decides}
 use Rattle.rule.proofs.Granting.{same-either}
 use Rattle.run.specs.declared.Run.{Run}
-use Rattle.run.specs.Run.{ruleIn, seenAt, widthsNow, grantsIn, offerIn, seeksIn, lentIn, hasLent}
+use Rattle.run.specs.Run.{ruleIn, emptiedAt, widthsNow, grantsIn, offerIn, seeksIn, lentIn, hasLent}
 use Rattle.run.proofs.Loans.{lent-nothing}
 
 pub past-grants : (r : Run) (e p : ℕ) → r .count ≤ p → getD (grantsIn r e) p [] ≡ []
@@ -24,14 +24,14 @@ past-grants r e p l =
     List·getD-eq-default (grantsIn r e) []
     (omega (
       arith,
-      grants-length (ruleIn r) (widthsNow r) (λ q. claiming (seenAt r e q)) (unfenced (r .fence) (r .cores)),
+      grants-length (ruleIn r) (widthsNow r) (λ q. claiming (emptiedAt r e q)) (unfenced (r .fence) (r .cores)),
       length-map (take (r .count) (r .tasks)) widthNow,
       length-take (r .count) (r .tasks),
     ))
 
 pub past-offer : (r : Run) (e p : ℕ) → r .count ≤ p → offerIn r e p ≡ []
 unfolding offerIn
-past-offer r e p l = rw (past-grants r e p l) (same-either (lends (ruleIn r) && holder (seenAt r e p)) [])
+past-offer r e p l = rw (past-grants r e p l) (same-either (lends (ruleIn r) && holder (emptiedAt r e p)) [])
 
 pub lent-lends : (r : Run) (e p : ℕ) → hasLent r e p ≡ true → ruleIn r ≡ lending
 unfolding lentIn offerIn

@@ -5,11 +5,11 @@ pub mod Places
 pub mod SetTests
 pub mod Limits
 pub mod First
-pub mod Past
+pub mod UnusedPlaces
 pub mod Again
 pub mod Exact
 pub mod WithdrawExact
-pub mod Together
+pub mod WithdrawSet
 pub mod StartPasses
 pub mod StartExact
 pub mod ByVerdict

@@ -1,4 +1,5 @@
--- Who is given cores and who borrows some, from sets of places: under rule 4 what is reserved, borrowed and shown; the other rules lend nothing.
+-- The places that are given cores and those that borrow some, from sets of places: under rule 4 what is reserved, borrowed and shown; the other rules lend
+-- nothing.
 use mathlib.Core.Path.{_≡_, refl, sym, ap, ap₂, subst, _∙_}
 use mathlib.Core.Bool.{Bool, true, false, _&&_, not, cond}
 use mathlib.Core.List.{List, [], _∷_, _++_, map}
@@ -13,7 +14,7 @@ use borrow.Author.Tests.{eq-eqb, ltb-false, ltb-true, not-true}
 use Rattle.model.specs.Task.{Rule}
 use Rattle.model.specs.Grants.{claimants, some}
 use Rattle.model.specs.Lending.{lends, lent, shownCores}
-use Rattle.model.specs.Search.{bit, memb}
+use Rattle.model.specs.Search.{bit, member}
 use Rattle.model.specs.Sets.{setOf}
 use Rattle.model.proofs.Bools.{and-right}
 use Rattle.model.proofs.Digits.{bit-none, without-bit}
@@ -24,18 +25,18 @@ use Rattle.cores.specs.Cores.{cores}
 use Rattle.cores.proofs.Ascending.{In, not-in-none}
 use Rattle.cores.proofs.Cores.{set-cores}
 use Rattle.rule.specs.Lent.{LentAs, NotBoth, ShownAs, offered}
-use Rattle.rule.specs.Shares.{GrantedAs}
+use Rattle.rule.specs.Granted.{GrantedAs}
 use Rattle.rule.proofs.Borrowed.{lent-from, none-some}
 use Rattle.rule.proofs.LentSets.{borrowers, not-both, reserved-owners, shown-sets}
 use Rattle.rule.proofs.Sets.{sets-at}
-use Rattle.run.specs.declared.shares.Shares.{Shares}
+use Rattle.run.specs.declared.allocation.Allocation.{Allocation}
 use Rattle.run.specs.Sets.{in32}
-use Rattle.run.specs.Shares.{SharesOf, givenTo, isGiven, lentTo}
+use Rattle.run.specs.Allocation.{AllocationOf, givenTo, isGiven, lentTo}
 
 -- ---- where nothing is offered nothing is borrowed
 
 pub lent-nothing : (ws : List ℕ) (sk : ℕ → Bool) (o : ℕ → List ℕ) → ((q : ℕ) → o q ≡ []) → (n q : ℕ) → getD (lent ws sk o n) q [] ≡ []
-unfolding memb
+unfolding member
 lent-nothing ws sk o e n q = go (getD (lent ws sk o n) q []) refl
   where
     here : (c : ℕ) (cs : List ℕ) → In c (c ∷ cs)
@@ -44,7 +45,7 @@ lent-nothing ws sk o e n q = go (getD (lent ws sk o n) q []) refl
     go : (l : List ℕ) → getD (lent ws sk o n) q [] ≡ l → l ≡ []
     go [] i = refl
     go (c ∷ cs) i =
-        let f = lent-from ws sk o c n q (ap (memb c) i ∙ here c cs) in
+        let f = lent-from ws sk o c n q (ap (member c) i ∙ here c cs) in
         absurd (not-in-none c (subst (In c) (e (f .0)) (f .2)))
 
 -- so it is under rules 1 to 3
@@ -102,7 +103,7 @@ module _ (r : Rule) (ws : List ℕ) (claiming working free count : ℕ) (size : 
 
   -- under rules 1 to 3
   pub shared-own :
-      Machine reserved → lends r ≡ false → SharesOf r ws claiming working (cores free) count (record { given = given; lent = 0; sets = reserved })
+      Machine reserved → lends r ≡ false → AllocationOf r ws claiming working (cores free) count (record { given = given; lent = 0; sets = reserved })
   shared-own machine none = record {
     given = owners;
     lent = λ p. bit-none p ∙ sym (ap some (nothing-lent r none ws claiming working (cores free) count p));
@@ -111,7 +112,7 @@ module _ (r : Rule) (ws : List ℕ) (claiming working free count : ℕ) (size : 
         (g .gives ∙ sym (own-shown r none ws claiming working (cores free) count)) (g .none);
   }
 
-  -- under rule 4, by who holds and who seeks
+  -- under rule 4, by the places that hold and those that seek
   module _ (lending : lends r ≡ true) where
     abbrev pub holders : ℕ
     holders = bitAnd claiming (bitXor claiming working)
@@ -132,7 +133,7 @@ module _ (r : Rule) (ws : List ℕ) (claiming working free count : ℕ) (size : 
         ∙ ap (λ (t : Bool). cond (t && (bit claiming q && not (bit working q))) (getD (givenTo r ws claiming (cores free)) q []) []) (sym lending))
 
     module _ (borrowed : List ℕ) (b : LentAs ws reserved holders seekers count borrowed) where
-      -- nobody has cores of its own and borrows some
+      -- no place has cores of its own and borrows some
       pub one-or-other : NotBoth reserved borrowed
       one-or-other =
           not-both ws reserved holders seekers count size borrowed b (λ p e.
@@ -148,7 +149,7 @@ module _ (r : Rule) (ws : List ℕ) (claiming working free count : ℕ) (size : 
       pub shared-lent :
           (lent : ℕ) → ((p : ℕ) → bit lent p ≡ ltb p 32 && some (cores (getD borrowed p 0)))
           → (sets : List ℕ) → ShownAs reserved borrowed count sets → Machine sets
-          → SharesOf r ws claiming working (cores free) count (record { given = given; lent = lent; sets = sets })
+          → AllocationOf r ws claiming working (cores free) count (record { given = given; lent = lent; sets = sets })
       shared-lent lent w sets s machine = record {
         given = owners;
         lent =

@@ -1,4 +1,4 @@
--- Start from no words at all is turned down with 1, as from what is no table's text: the refusal that a session gives by hand to a text that is
+-- Start from no words at all is turned down with 1, as from what is no table's text: the refusal that a session writes itself for a text that is
 -- too long is this one.
 use mathlib.Core.List.{[]}
 use mathlib.Core.Path.{_≡_, refl}

@@ -1,4 +1,4 @@
--- What the words of a record off the chain say changes no start, neither its answer nor its run:
+-- The words of a record off the chain change no start, neither its answer nor its run:
 -- the verdict is the same, where the table passes it is the same table, and a refusal has the run of all zeros.
 use mathlib.Core.Path.{_≡_, refl, sym, ap, _∙_}
 use mathlib.Core.List.{List}
@@ -10,7 +10,7 @@ use Rattle.table.specs.Answer.{answerOf}
 use Rattle.table.specs.OffChain.{SameOnChain}
 use Rattle.table.proofs.OffChain.{off-chain-answer, off-chain-table}
 use Rattle.judge.specs.declared.Verdict.the-variants as judge
-use Rattle.judge.proofs.Promise.{refused-is}
+use Rattle.judge.proofs.Contract.{refused-is}
 use Rattle.judge.proofs.OffChain.{off-chain-verdict}
 use Rattle.run.specs.Answer.{byAnswer}
 use Rattle.run.specs.Start.{startedRun, emptyRun, byVerdict, startAnswer, startOf}

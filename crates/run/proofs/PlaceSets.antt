@@ -19,7 +19,7 @@ use Rattle.table.specs.declared.Task.{Task}
 use Rattle.table.specs.Task as table
 use Rattle.phase.specs.declared.Task as phase
 use Rattle.phase.specs.Task.{taskOf, pastEnd, widthNow}
-use Rattle.run.specs.Run.{placeAt, taskAt, evenAt, tasksIn, widthsNow}
+use Rattle.run.specs.Run.{placeAt, runTaskAt, evenAt, tasksIn, widthsNow}
 
 -- ---- both widths, stored place after place: the first at the place, the second at as many places further on as there are
 
@@ -79,11 +79,11 @@ widths-stored r even ws few b e g = front-is even ws (widthsNow r) (r .count) fe
 
 -- ---- tasks of the table, stored place after place
 
-pub told-more :
+pub tasks-known-more :
     (ts : List Task) (f : ℕ → model.Task) (i : ℕ) (t : Task) → i < length ts → table.taskOf t ≡ f i
     → ((p : ℕ) → p < i → table.taskOf (getD ts p table.noTask) ≡ f p)
     → (p : ℕ) → p < i + 1 → table.taskOf (getD (set ts i t) p table.noTask) ≡ f p
-told-more ts f i t h v g p l = go (eqb p i) refl
+tasks-known-more ts f i t h v g p l = go (eqb p i) refl
   where
     go : (b : Bool) → eqb p i ≡ b → table.taskOf (getD (set ts i t) p table.noTask) ≡ f p
     go true e =
@@ -94,13 +94,13 @@ told-more ts f i t h v g p l = go (eqb p i) refl
         ap table.taskOf (getD-set-other ts i p t table.noTask n) ∙ g p (omega arith)
 
 -- they are the run's tasks below the count
-pub tasks-told :
+pub tasks-known :
     (r : Run) (ts : List Task) → r .count ≤ 32 → length ts ≡ 32 → length (r .tasks) ≡ 32
-    → ((p : ℕ) → p < r .count → table.taskOf (getD ts p table.noTask) ≡ taskAt r p) → table.tasksOf ts (r .count) ≡ tasksIn r
-tasks-told r ts few a b g =
+    → ((p : ℕ) → p < r .count → table.taskOf (getD ts p table.noTask) ≡ runTaskAt r p) → table.tasksOf ts (r .count) ≡ tasksIn r
+tasks-known r ts few a b g =
     let x : length (table.tasksOf ts (r .count)) ≡ r .count = length-map (take (r .count) ts) table.taskOf ∙ (length-take (r .count) ts ∙ omega arith) in
     let y : length (tasksIn r) ≡ r .count = length-map (take (r .count) (r .tasks)) taskOf ∙ (length-take (r .count) (r .tasks) ∙ omega arith) in
-    ext-getD model.nobody (table.tasksOf ts (r .count)) (tasksIn r) (x ∙ sym y)
+    ext-getD model.absentTask (table.tasksOf ts (r .count)) (tasksIn r) (x ∙ sym y)
     (λ p l.
     let m : p < r .count = omega arith in
     List·getD-map table.taskOf (take (r .count) ts) p table.noTask ∙ (ap table.taskOf (getD-take (r .count) ts p table.noTask m) ∙ (g p m

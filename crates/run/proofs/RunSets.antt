@@ -1,6 +1,6 @@
--- The sets of cores of a run's present tick: 32, empty past the count; no two overlap, none has a fenced core or one past the count, each counts its job's
--- width or nothing, but of what a place offers it keeps what nobody borrows; who works has the tick exactly if its set is not empty; and the row's bytes
--- are those of the sets, core by core.
+-- The sets of cores of a run's present tick: 32, empty past the count; no two overlap, none has a fenced core or one past the count, each has as many cores
+-- as its job's width or none, but a place that lends keeps what no place borrows; a task that works has the tick exactly if its set is not empty; and the
+-- row's bytes are those of the sets, core by core.
 use mathlib.Core.Path.{_≡_, refl, sym, ap, ap₂, _∙_}
 use mathlib.Core.Logic.{_⊎_, inl, inr}
 use mathlib.Core.Bool.{Bool, true, false, not, _&&_, _||_, cond, false≢true}
@@ -16,7 +16,7 @@ use Rattle.model.specs.Grants.{some}
 use Rattle.model.specs.Lending.{lends}
 use Rattle.model.specs.Row.{row}
 use Rattle.model.specs.Search.{bit}
-use Rattle.model.specs.Sets.{SetsApart, SetsCount, SetsOpen, setOf}
+use Rattle.model.specs.Sets.{SetsApart, SetsCount, SetsUnfenced, setOf}
 use Rattle.model.specs.Sizes.{mostCores, mostTasks}
 use Rattle.model.specs.Book as model
 use Rattle.model.proofs.Bools.{and-right, or-comm}
@@ -33,14 +33,14 @@ use Rattle.phase.specs.Phase.{claiming, holder, working}
 use Rattle.phase.specs.Task.{widthNow}
 use Rattle.rule.specs.Lent.{Showable}
 use Rattle.rule.proofs.Borrowed.{none-some, shown-length}
-use Rattle.rule.proofs.Tick.{tick-range, tick-sets-apart, tick-sets-count, tick-sets-open, tick-showable, tick-shows}
+use Rattle.rule.proofs.Tick.{tick-range, tick-sets-apart, tick-sets-count, tick-sets-unfenced, tick-showable, tick-shows}
 use Rattle.run.specs.declared.Run.{Run}
 use Rattle.run.specs.declared.Sets.{Sets}
 use Rattle.run.specs.declared.Answer.{Answer}
 use Rattle.run.specs.declared.Answer.the-variants.{Taken, Refused}
-use Rattle.run.specs.Answer.{byAnswer, in64, told}
+use Rattle.run.specs.Answer.{byAnswer, in64, answerMeaning}
 use Rattle.run.specs.Row.{bytesIn, noBytes, rowAnswer, rowOf}
-use Rattle.run.specs.Run.{borrowedIn, grantsIn, hasCores, hasLent, lentIn, offerIn, ruleIn, seeksIn, seenAt, shownIn, widthsNow}
+use Rattle.run.specs.Run.{borrowedIn, grantsIn, hasCores, hasLent, lentIn, offerIn, ruleIn, seeksIn, emptiedAt, shownIn, widthsNow}
 use Rattle.run.specs.Sets.{SetsOf, bytesOf, in32, noSets, setsIn, setsOf}
 use Rattle.run.proofs.Cases.{row-passes}
 use Rattle.run.proofs.Exact.{sets-exact, sets-taken}
@@ -58,10 +58,10 @@ lists-again (g ∷ gs) h = ap₂ (λ (l : List ℕ) (ls : List (List ℕ)). l �
 -- ---- of one tick
 
 module _ (r : Run) (e : ℕ) where
-  -- what is offered is what is given, or nothing; who seeks is given nothing
+  -- what is offered is what is given, or nothing; a place that seeks is given nothing
   offers : (p : ℕ) → (offerIn r e p ≡ []) ⊎ (offerIn r e p ≡ getD (grantsIn r e) p [])
   unfolding offerIn
-  offers p = go (lends (ruleIn r) && holder (seenAt r e p))
+  offers p = go (lends (ruleIn r) && holder (emptiedAt r e p))
     where
       go : (t : Bool) → (cond t (getD (grantsIn r e) p []) [] ≡ []) ⊎ (cond t (getD (grantsIn r e) p []) [] ≡ getD (grantsIn r e) p [])
       go true = inr refl
@@ -72,19 +72,19 @@ module _ (r : Run) (e : ℕ) where
   seekers p q =
       none-some (getD (grantsIn r e) p [])
       (not-true (hasCores r e p)
-      (and-right (working (seenAt r e p)) (not (hasCores r e p)) (and-right (ltb p (r .count)) (working (seenAt r e p) && not (hasCores r e p)) q)))
+      (and-right (working (emptiedAt r e p)) (not (hasCores r e p)) (and-right (ltb p (r .count)) (working (emptiedAt r e p) && not (hasCores r e p)) q)))
 
   -- a row can show the cores
   pub run-showable : Showable (r .fence) (r .cores) (shownIn r e)
   unfolding grantsIn lentIn
   run-showable =
-      tick-showable (ruleIn r) (widthsNow r) (λ p. claiming (seenAt r e p)) (r .fence) (r .cores) (seeksIn r e) (offerIn r e) (r .count) seekers offers
+      tick-showable (ruleIn r) (widthsNow r) (λ p. claiming (emptiedAt r e p)) (r .fence) (r .cores) (seeksIn r e) (offerIn r e) (r .count) seekers offers
 
   -- a place below the count has its list
   shown-min : length (shownIn r e) ≡ min (r .count) (length (r .tasks))
   unfolding grantsIn lentIn
   shown-min =
-      let g = grants-length (ruleIn r) (widthsNow r) (λ p. claiming (seenAt r e p)) (unfenced (r .fence) (r .cores)) in
+      let g = grants-length (ruleIn r) (widthsNow r) (λ p. claiming (emptiedAt r e p)) (unfenced (r .fence) (r .cores)) in
       let l = lent-length (widthsNow r) (seeksIn r e) (offerIn r e) (r .count) in
       shown-length (grantsIn r e) (lentIn r e) (g ∙ sym l)
       ∙ (g ∙ (length-map (take (r .count) (r .tasks)) widthNow ∙ length-take (r .count) (r .tasks)))
@@ -121,19 +121,19 @@ module _ (r : Run) (e : ℕ) where
     apart-in : SetsApart (setsIn r e)
     unfolding grantsIn lentIn
     apart-in p q c h k =
-        tick-sets-apart (ruleIn r) (widthsNow r) (λ p. claiming (seenAt r e p)) (r .fence) (r .cores) (seeksIn r e) (offerIn r e) (r .count) seekers offers few
+        tick-sets-apart (ruleIn r) (widthsNow r) (λ p. claiming (emptiedAt r e p)) (r .fence) (r .cores) (seeksIn r e) (offerIn r e) (r .count) seekers offers few
         p q c (has p c h) (has q c k)
 
-    open-in : SetsOpen (r .fence) (r .cores) (setsIn r e)
+    open-in : SetsUnfenced (r .fence) (r .cores) (setsIn r e)
     unfolding grantsIn lentIn
     open-in p c h =
-        tick-sets-open (ruleIn r) (widthsNow r) (λ p. claiming (seenAt r e p)) (r .fence) (r .cores) (seeksIn r e) (offerIn r e) (r .count) seekers offers few
+        tick-sets-unfenced (ruleIn r) (widthsNow r) (λ p. claiming (emptiedAt r e p)) (r .fence) (r .cores) (seeksIn r e) (offerIn r e) (r .count) seekers offers few
         p c (has p c h)
 
     lists-count : SetsCount (widthsNow r) (offerIn r e) (lentIn r e) (map setOf (shownIn r e))
     unfolding grantsIn lentIn
     lists-count =
-        tick-sets-count (ruleIn r) (widthsNow r) (λ p. claiming (seenAt r e p)) (r .fence) (r .cores) (seeksIn r e) (offerIn r e) (r .count) seekers offers few
+        tick-sets-count (ruleIn r) (widthsNow r) (λ p. claiming (emptiedAt r e p)) (r .fence) (r .cores) (seeksIn r e) (offerIn r e) (r .count) seekers offers few
 
     count-in : SetsCount (widthsNow r) (offerIn r e) (lentIn r e) (setsIn r e)
     count-in = record {
@@ -146,13 +146,13 @@ module _ (r : Run) (e : ℕ) where
     unfolding grantsIn lentIn
     ascending p =
         range-weaken (getD (shownIn r e) p []) (omega arith) few
-        (tick-range (ruleIn r) (widthsNow r) (λ p. claiming (seenAt r e p)) (r .fence) (r .cores) (seeksIn r e) (offerIn r e) (r .count) seekers offers p)
+        (tick-range (ruleIn r) (widthsNow r) (λ p. claiming (emptiedAt r e p)) (r .fence) (r .cores) (seeksIn r e) (offerIn r e) (r .count) seekers offers p)
 
     -- the lists of the sets are the lists that are shown
     pub listed-in : map cores (map setOf (shownIn r e)) ≡ shownIn r e
     listed-in = lists-again (shownIn r e) ascending
 
-    -- they are the first, as many as the count says
+    -- they are the first, as many as the count
     pub front-in : length (r .tasks) ≡ 32 → r .count ≤ 32 → map cores (take (r .count) (setsIn r e)) ≡ shownIn r e
     unfolding setsIn
     front-in len most =
@@ -176,10 +176,10 @@ module _ (r : Run) (e : ℕ) where
         ap (λ (n : ℕ). bit n c) (set-at p)
         ∙ (set-bit (getD (shownIn r e) p []) (ascending p) c ∙ shown-owned (r .fence) (r .cores) (shownIn r e) run-showable p c l)
 
-  -- who works offers nothing, so its set has what it borrows and what it is given
-  works-none : (p : ℕ) → working (seenAt r e p) ≡ true → offerIn r e p ≡ []
+  -- a place that works offers nothing, so its set has what it borrows and what it is given
+  works-none : (p : ℕ) → working (emptiedAt r e p) ≡ true → offerIn r e p ≡ []
   unfolding offerIn
-  works-none p h = go (seenAt r e p) h (lends (ruleIn r)) (getD (grantsIn r e) p [])
+  works-none p h = go (emptiedAt r e p) h (lends (ruleIn r)) (getD (grantsIn r e) p [])
     where
       go : (ph : Phase) → working ph ≡ true → (t : Bool) (l : List ℕ) → cond (t && holder ph) l [] ≡ []
       go (Coming left) w t l = absurd (false≢true w)
@@ -188,14 +188,14 @@ module _ (r : Run) (e : ℕ) where
       go (Holding z reserved) w t l = absurd (false≢true w)
       go (Resting z) w t l = absurd (false≢true w)
 
-  works-in : (p : ℕ) → working (seenAt r e p) ≡ true → (hasCores r e p || hasLent r e p) ≡ ltb 0 (getD (setsIn r e) p 0)
+  works-in : (p : ℕ) → working (emptiedAt r e p) ≡ true → (hasCores r e p || hasLent r e p) ≡ ltb 0 (getD (setsIn r e) p 0)
   unfolding grantsIn lentIn
   works-in p h =
       or-comm (hasCores r e p) (hasLent r e p)
       ∙ sym (ap (ltb 0) (set-at p)
       ∙ (set-some (getD (shownIn r e) p [])
       ∙ (ap some
-      (tick-shows (ruleIn r) (widthsNow r) (λ p. claiming (seenAt r e p)) (r .fence) (r .cores) (seeksIn r e) (offerIn r e) (r .count) seekers offers p
+      (tick-shows (ruleIn r) (widthsNow r) (λ p. claiming (emptiedAt r e p)) (r .fence) (r .cores) (seeksIn r e) (offerIn r e) (r .count) seekers offers p
       (works-none p h))
       ∙ some-append (borrowedIn r e p) (getD (grantsIn r e) p []))))
 
@@ -232,29 +232,29 @@ module _ (r : Run) (e : ℕ) where
       go Taken q = apart-in (few q)
       go (Refused n i) q = λ p j c h k. absurd (none-in p c h)
 
-  pub sets-open : SetsOpen (r .fence) (r .cores) (setsOf r e .sets)
+  pub sets-unfenced : SetsUnfenced (r .fence) (r .cores) (setsOf r e .sets)
   unfolding setsOf
-  sets-open = go (rowAnswer r e) refl
+  sets-unfenced = go (rowAnswer r e) refl
     where
-      go : (a : Answer) → rowAnswer r e ≡ a → SetsOpen (r .fence) (r .cores) (byAnswer a (setsIn r e) noSets)
+      go : (a : Answer) → rowAnswer r e ≡ a → SetsUnfenced (r .fence) (r .cores) (byAnswer a (setsIn r e) noSets)
       go Taken q = open-in (few q)
       go (Refused n i) q = λ p c h. absurd (none-in p c h)
 
-  pub sets-count : told (setsOf r e .answer) ≡ model.taken → SetsCount (widthsNow r) (offerIn r e) (lentIn r e) (setsOf r e .sets)
+  pub sets-count : answerMeaning (setsOf r e .answer) ≡ model.taken → SetsCount (widthsNow r) (offerIn r e) (lentIn r e) (setsOf r e .sets)
   unfolding setsOf
   sets-count = go (rowAnswer r e) refl
     where
-      go : (a : Answer) → rowAnswer r e ≡ a → told a ≡ model.taken → SetsCount (widthsNow r) (offerIn r e) (lentIn r e) (byAnswer a (setsIn r e) noSets)
+      go : (a : Answer) → rowAnswer r e ≡ a → answerMeaning a ≡ model.taken → SetsCount (widthsNow r) (offerIn r e) (lentIn r e) (byAnswer a (setsIn r e) noSets)
       go Taken q t = count-in (few q)
       go (Refused n p) q t = absurd (let z : _≡_ {A = ℕ} 0 1 = cc in omega arith)
 
   pub sets-works :
-      told (setsOf r e .answer) ≡ model.taken
-      → (p : ℕ) → working (seenAt r e p) ≡ true → (hasCores r e p || hasLent r e p) ≡ ltb 0 (getD (setsOf r e .sets) p 0)
+      answerMeaning (setsOf r e .answer) ≡ model.taken
+      → (p : ℕ) → working (emptiedAt r e p) ≡ true → (hasCores r e p || hasLent r e p) ≡ ltb 0 (getD (setsOf r e .sets) p 0)
   unfolding setsOf
   sets-works t p h = works-in p h ∙ ap (λ (sets : List ℕ). ltb 0 (getD sets p 0)) (sym (by-taken (rowAnswer r e) (setsIn r e) noSets t))
 
-  -- core by core, the row's bytes say the sets
+  -- core by core, the row's bytes represent the sets
   pub sets-each : (p c : ℕ) → p < mostTasks → bit (getD (setsOf r e .sets) p 0) c ≡ eqb (getD (rowOf r e .bytes) c 0) (suc p)
   unfolding rowOf setsOf
   sets-each p c l = go (rowAnswer r e) refl
@@ -276,7 +276,7 @@ module _ (r : Run) (e : ℕ) where
       go Taken q = bytes-in (few q)
       go (Refused n p) q = refl
 
-  -- a value that is the sets' by definition keeps what sets promise
+  -- a value that is the sets' by definition meets the contract of sets
   pub sets-of : (w : Sets) → w ≡ setsOf r e → SetsOf r e w
   sets-of w q = rw q record {
     value = refl;
@@ -287,7 +287,7 @@ module _ (r : Run) (e : ℕ) where
     size = sets-size;
     past = sets-past;
     apart = sets-apart;
-    open-only = sets-open;
+    unfenced-only = sets-unfenced;
     count = sets-count;
     works = sets-works;
     each = sets-each;

@@ -9,7 +9,7 @@ use lib.Pow.{pow-add, pow-pos}
 use lib.Dec.{ltb, leb}
 use borrow.Author.Tests.{ltb-false, le-ltb, lt-ltb, leb-true, leb-false, ne-eqb, not-true}
 use Rattle.model.specs.Search.{any, bit}
-use Rattle.model.specs.Book.{only}
+use Rattle.model.specs.Book.{singleton}
 use Rattle.model.proofs.Bools.{and-left, and-right, and-both, not-false-true, not-true-false, same-test}
 use Rattle.model.proofs.Digits.{bit-high, bit-none, bit-past, bit-power, or-bit, same-set}
 use Rattle.model.proofs.Search.{any-some, any-of}
@@ -94,8 +94,8 @@ within-none n = within-is n 0 (λ p l. bit-none p)
 pub within-or : (n x y : ℕ) → pastCount n x ≡ false → pastCount n y ≡ false → pastCount n (bitOr x y) ≡ false
 within-or n x y a b = within-is n (bitOr x y) (λ p l. or-bit x y p ∙ rw (within-if n x a p l, within-if n y b p l))
 
-pub within-only : (n p : ℕ) → 1 ≤ p → p ≤ n → pastCount n (only p) ≡ false
-within-only n p a b = within-is n (only p) (λ q l. bit-power (p - 1) q ∙ ne-eqb q (p - 1) (λ e. omega arith))
+pub within-only : (n p : ℕ) → 1 ≤ p → p ≤ n → pastCount n (singleton p) ≡ false
+within-only n p a b = within-is n (singleton p) (λ q l. bit-power (p - 1) q ∙ ne-eqb q (p - 1) (λ e. omega arith))
 
 -- BY ONE SHIFT: what is left of a set are its places from the count on
 pub past-shift : (n x : ℕ) → pastCount n x ≡ ltb 0 (x / 2 ^ n)

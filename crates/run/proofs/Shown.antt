@@ -14,7 +14,7 @@ use Rattle.run.specs.Run.{shownIn}
 use Rattle.run.specs.declared.Answer.{Answer}
 use Rattle.run.specs.declared.Answer.the-variants.{Taken, Refused}
 use Rattle.run.specs.Answer.{byAnswer}
-use Rattle.run.specs.Numbers.{runOut, firstLateIn, misemptiedIn}
+use Rattle.run.specs.Numbers.{runOut, firstLateIn, wrongEmptiesIn}
 use Rattle.run.specs.Row.{rowAnswer, bytesIn, noBytes, rowOf}
 use Rattle.run.proofs.RunOut.{few-cores}
 
@@ -40,8 +40,8 @@ shown-length r e = by-out (runOut r) refl
     by-rest q false false = in-order q
 
     rest : Answer
-    rest = cond (ltb (firstLateIn r) (r .count)) (Refused 15 (suc (firstLateIn r))) (cond (misemptiedIn r e) (Refused 20 0) Taken)
+    rest = cond (ltb (firstLateIn r) (r .count)) (Refused 15 (suc (firstLateIn r))) (cond (wrongEmptiesIn r e) (Refused 20 0) Taken)
 
     by-out : (t : Bool) → runOut r ≡ t → length (byAnswer (cond t (Refused 14 0) rest) (bytesIn r e) noBytes) ≡ mostCores
     by-out true q = refl
-    by-out false q = by-rest q (ltb (firstLateIn r) (r .count)) (misemptiedIn r e)
+    by-out false q = by-rest q (ltb (firstLateIn r) (r .count)) (wrongEmptiesIn r e)

@@ -14,12 +14,12 @@ use Rattle.table.proofs.Decide.{fails}
 use Rattle.table.proofs.Order.{not-before-itself, later, number-most}
 use Rattle.judge.specs.declared.Verdict.{Verdict}
 use Rattle.judge.specs.declared.Verdict.the-variants.{Firm, Full, Miss, Refused}
-use Rattle.judge.specs.Said.{judged, saidBy}
+use Rattle.judge.specs.JudgeAnswer.{judged, verdictMeaning}
 use Rattle.judge.specs.Judged.{Judged, verdictOf}
-use Rattle.judge.proofs.Promise.{judged-exact}
+use Rattle.judge.proofs.Contract.{judged-exact}
 use Rattle.run.specs.declared.Run.{Run}
 use Rattle.run.specs.declared.Started.{Started}
-use Rattle.run.specs.Answer.{told}
+use Rattle.run.specs.Answer.{answerMeaning}
 use Rattle.run.specs.Numbers.{RunOut, runOut}
 use Rattle.run.specs.Start.{StartApplies, as-table, thirteen, byVerdict, startAnswer, startedRun, emptyRun, startOf, StartOf}
 use Rattle.run.proofs.Limits.{run-decides, passes-runs}
@@ -41,14 +41,14 @@ module _ (ws : List ℕ) where
       earlier m q e (as-table i j h) = f .1 m q e h
       earlier m q e (thirteen t j h) = later 13 0 n p (omega (arith, number-most ws n p (f .0))) e
 
-  start-13 : table-numbers.NoneApplies ws → (t p : ℕ) → saidBy (verdictOf ws) ≡ judged (verdict.Miss t p) → FirstOf (StartApplies ws) 13 0
+  start-13 : table-numbers.NoneApplies ws → (t p : ℕ) → verdictMeaning (verdictOf ws) ≡ judged (verdict.Miss t p) → FirstOf (StartApplies ws) 13 0
   start-13 none t p e = (thirteen t p e, earlier)
     where
       earlier : (m q : ℕ) → Earlier m q 13 0 → ¬ StartApplies ws m q
       earlier m q x (as-table i j h) = none m q h
       earlier m q x (thirteen u j h) = not-before-itself 13 0 x
 
-  start-none : table-numbers.NoneApplies ws → ((t p : ℕ) → ¬ (saidBy (verdictOf ws) ≡ judged (verdict.Miss t p))) → NoneOf (StartApplies ws)
+  start-none : table-numbers.NoneApplies ws → ((t p : ℕ) → ¬ (verdictMeaning (verdictOf ws) ≡ judged (verdict.Miss t p))) → NoneOf (StartApplies ws)
   start-none none never m q (as-table i j h) = none m q h
   start-none none never m q (thirteen t j h) = never t j h
 
@@ -66,25 +66,25 @@ module _ (ws : List ℕ) where
       full-not-miss e = let z : _≡_ {A = ℕ} 0 1 = cc in omega arith
 
       go : (v : Verdict) → verdictOf ws ≡ v → Right (StartApplies ws) (byVerdict v)
-      go (Firm a b) e = start-none (promised .firm a b .0 (ap saidBy e) .0) (λ t p f. firm-not-miss (sym (ap saidBy e) ∙ f))
-      go (Full a b) e = start-none (promised .full a b .0 (ap saidBy e) .0) (λ t p f. full-not-miss (sym (ap saidBy e) ∙ f))
-      go (Miss t p) e = start-13 (promised .miss t p .0 (ap saidBy e) .0) t p (ap saidBy e)
-      go (Refused n p) e = as-start n p (promised .refused n p .0 (ap saidBy e))
+      go (Firm a b) e = start-none (promised .firm a b .0 (ap verdictMeaning e) .0) (λ t p f. firm-not-miss (sym (ap verdictMeaning e) ∙ f))
+      go (Full a b) e = start-none (promised .full a b .0 (ap verdictMeaning e) .0) (λ t p f. full-not-miss (sym (ap verdictMeaning e) ∙ f))
+      go (Miss t p) e = start-13 (promised .miss t p .0 (ap verdictMeaning e) .0) t p (ap verdictMeaning e)
+      go (Refused n p) e = as-start n p (promised .refused n p .0 (ap verdictMeaning e))
 
   -- THE LAW OF A START
-  pub start-exact : (n p : ℕ) → (told (startOf ws .answer) ≡ model.refused n p) ↔ FirstOf (StartApplies ws) n p
+  pub start-exact : (n p : ℕ) → (answerMeaning (startOf ws .answer) ≡ model.refused n p) ↔ FirstOf (StartApplies ws) n p
   unfolding startOf
   start-exact = refused-exact (StartApplies ws) (startAnswer ws) start-right
 
-  pub start-taken : (told (startOf ws .answer) ≡ model.taken) ↔ NoneOf (StartApplies ws)
+  pub start-taken : (answerMeaning (startOf ws .answer) ≡ model.taken) ↔ NoneOf (StartApplies ws)
   unfolding startOf
   start-taken = taken-exact (StartApplies ws) (startAnswer ws) start-right
 
   -- a start that is taken passes 1 to 9 and 19
-  pub taken-passes : told (startOf ws .answer) ≡ model.taken → table-numbers.NoneApplies ws
+  pub taken-passes : answerMeaning (startOf ws .answer) ≡ model.taken → table-numbers.NoneApplies ws
   taken-passes e n p h = start-taken .0 e n p (as-table n p h)
 
-  -- a value that is the start's by definition keeps what a start promises
+  -- a value that is the start's by definition meets the contract of a start
   pub start-of : (s : Started) → s ≡ startOf ws → StartOf ws s
   start-of s e = rw e record {
     value = refl;
@@ -101,8 +101,8 @@ module _ (ws : List ℕ) where
       first : Run
       first = startedRun (rule ws) (tableOf ws)
 
-      started : told (startOf ws .answer) ≡ model.taken → startOf ws .run ≡ first
+      started : answerMeaning (startOf ws .answer) ≡ model.taken → startOf ws .run ≡ first
       started = unfold startOf in by-taken (startAnswer ws) first emptyRun
 
-      zeros : (n p : ℕ) → told (startOf ws .answer) ≡ model.refused n p → startOf ws .run ≡ emptyRun
+      zeros : (n p : ℕ) → answerMeaning (startOf ws .answer) ≡ model.refused n p → startOf ws .run ≡ emptyRun
       zeros = unfold startOf in by-refused (startAnswer ws) first emptyRun

@@ -7,16 +7,16 @@ use Prim.Native.Nat.{ℕ, zero, suc, _-_, _<_}
 use native.Mathlib.Nat.{not-suc-le-zero, le-of-suc-le-suc}
 use native.Mathlib.Omega.{arith}
 use lib.ListN.{length, getD, replicate}
-use Rattle.model.specs.Fence.{openCount}
-use Rattle.model.specs.Task.{task, nobody}
+use Rattle.model.specs.Fence.{unfencedCount}
+use Rattle.model.specs.Task.{task, absentTask}
 use Rattle.model.specs.Task as model
 use Rattle.model.proofs.Bools.{not-true-false}
 use Rattle.model.specs.Sizes.{mostTasks}
-use Rattle.table.specs.Words.{cores, rule, fence, tableOf}
+use Rattle.table.specs.Words.{coreCount, rule, fence, tableOf}
 use Rattle.table.specs.Limits.{coresOut, ruleOut, fenceOut, taskOut}
 use Rattle.table.specs.Numbers.{NoneApplies, two, three, nineteen}
 use Rattle.table.proofs.Tests.{from-decides, cores-decides, rule-decides, fence-decides, task-decides}
-use Rattle.table.proofs.Passed.{passed-count, passed-inside, passed-sound}
+use Rattle.table.proofs.Passed.{passed-count, passed-inside, passed-valid}
 use Rattle.phase.specs.declared.Task.{Task}
 use Rattle.phase.specs.Phase.{PhaseIn}
 use Rattle.phase.specs.Task.{taskOf, pastEnd, unused, startTask}
@@ -26,33 +26,33 @@ use Rattle.run.proofs.Limits.{Passes}
 use Rattle.run.proofs.SetTests.{within-none}
 
 -- the task at a place of a started run
-pub started-at : (τs : List model.Task) (us : List Task) (p : ℕ) → p < length τs → getD (map startTask τs ++ us) p pastEnd ≡ startTask (getD τs p nobody)
+pub started-at : (τs : List model.Task) (us : List Task) (p : ℕ) → p < length τs → getD (map startTask τs ++ us) p pastEnd ≡ startTask (getD τs p absentTask)
 started-at [] us p l = absurd (not-suc-le-zero l)
 started-at (τ ∷ τs) us zero l = refl
 started-at (τ ∷ τs) us (suc p) l = started-at τs us p (le-of-suc-le-suc l)
 
 module _ (ws : List ℕ) (none : NoneApplies ws) where
   -- 2, 3 and 19
-  cores-in : coresOut (cores ws) ≡ false
-  cores-in = not-true-false (coresOut (cores ws)) (λ e. none 2 0 (two (cores-decides (cores ws) .0 e)))
+  cores-in : coresOut (coreCount ws) ≡ false
+  cores-in = not-true-false (coresOut (coreCount ws)) (λ e. none 2 0 (two (cores-decides (coreCount ws) .0 e)))
 
   rule-in : ruleOut (rule ws) ≡ false
   rule-in = not-true-false (ruleOut (rule ws)) (λ e. none 3 0 (three (rule-decides (rule ws) .0 e)))
 
-  fence-in : fenceOut (cores ws) (fence ws) ≡ false
-  fence-in = not-true-false (fenceOut (cores ws) (fence ws)) (λ e. none 19 0 (nineteen (fence-decides (cores ws) (fence ws) .0 e)))
+  fence-in : fenceOut (coreCount ws) (fence ws) ≡ false
+  fence-in = not-true-false (fenceOut (coreCount ws) (fence ws)) (λ e. none 19 0 (nineteen (fence-decides (coreCount ws) (fence ws) .0 e)))
 
   -- 7 and 8
-  task-in : (p : ℕ) → p < length (tableOf ws .tasks) → taskOut (openCount (fence ws) (cores ws)) (task (tableOf ws) p) ≡ false
+  task-in : (p : ℕ) → p < length (tableOf ws .tasks) → taskOut (unfencedCount (fence ws) (coreCount ws)) (task (tableOf ws) p) ≡ false
   task-in p l =
-      not-true-false (taskOut (openCount (fence ws) (cores ws)) (task (tableOf ws) p)) (λ e.
+      not-true-false (taskOut (unfencedCount (fence ws) (coreCount ws)) (task (tableOf ws) p)) (λ e.
       let i = passed-inside ws none p l in
       ⊎-elim
       (λ w. ⊎-elim (λ x. ⊎-elim (λ y. omega arith) (λ y. omega arith) x) (λ x. ⊎-elim (λ y. omega arith) (λ y. omega arith) x) w)
       (λ w. ⊎-elim (λ x. omega arith) (λ w. ⊎-elim (λ x. x (i .length-from)) (λ w. ⊎-elim (λ x. x (i .period-from)) (λ x. x (i .deadline-from)) w) w) w)
-      (task-decides (openCount (fence ws) (cores ws)) (task (tableOf ws) p) .0 e))
+      (task-decides (unfencedCount (fence ws) (coreCount ws)) (task (tableOf ws) p) .0 e))
 
-  same-cores : tableOf ws .cores ≡ cores ws
+  same-cores : tableOf ws .cores ≡ coreCount ws
   unfolding tableOf
   same-cores = refl
 
@@ -72,7 +72,7 @@ module _ (ws : List ℕ) (none : NoneApplies ws) where
     tasks = λ p l. rw (at p l, same-cores, same-fence) (task-in p l);
     phases = λ p l.
         subst (λ (t : Task). PhaseIn (model.ruleOf (rule ws)) (taskOf t) (t .even) (t .phase)) (sym (at p l))
-        (start-in (model.ruleOf (rule ws)) (task (tableOf ws) p) (passed-sound ws none p l));
+        (start-in (model.ruleOf (rule ws)) (task (tableOf ws) p) (passed-valid ws none p l));
   }
     where
       at : (p : ℕ) → p < length (tableOf ws .tasks)

@@ -1,5 +1,5 @@
 -- A withdrawal is refused with n and p exactly if n is the first of 14, 21 and 22 that applies, with position p; and taken exactly if none applies. What
--- it hands back passes 14 again, and withdrawing again changes nothing.
+-- it returns passes 14 again, and withdrawing again changes nothing.
 use mathlib.Core.Path.{_≡_, refl, sym, subst, ap, _∙_}
 use mathlib.Core.Bool.{Bool, true, false, _||_, cond}
 use mathlib.Core.Logic.{_↔_, _⊎_, inl, inr}
@@ -22,78 +22,78 @@ use Rattle.run.specs.declared.Run.{Run}
 use Rattle.run.specs.declared.Answer.{Answer}
 use Rattle.run.specs.declared.Answer.the-variants.{Taken, Refused}
 use Rattle.run.specs.declared.Advanced.{Advanced}
-use Rattle.run.specs.Run.{tableIn, firmIn, withdrawnIn}
-use Rattle.run.specs.Answer.{told, byAnswer}
-use Rattle.run.specs.Numbers.{RunOut, WithdrawApplies, not-a-run, twenty-one, twenty-two, Stranger, pastCount, runOut, strangerIn}
+use Rattle.run.specs.Run.{runTable, firmIn, withdrawnIn}
+use Rattle.run.specs.Answer.{answerMeaning, byAnswer}
+use Rattle.run.specs.Numbers.{RunOut, WithdrawApplies, not-a-run, twenty-one, twenty-two, NoSuchPosition, pastCount, runOut, unknownIn}
 use Rattle.run.specs.Withdraw.{withdrawAnswer, withdrawOf, WithdrawnOf, WithdrawOf}
 use Rattle.run.proofs.First.{by-taken, by-refused, Right, refused-exact, taken-exact}
 use Rattle.run.proofs.SetTests.{within-only}
 use Rattle.run.proofs.Limits.{run-decides, passes-if, passes-runs, withdrawn-passes}
 
 -- the test of 22
-pub stranger-decides : (r : Run) (p : ℕ) → Decides (strangerIn r p) (Stranger r p)
-stranger-decides r p = decides-or _ _ _ _ (decides-eq p 0) (decides-lt (r .count) p)
+pub unknown-decides : (r : Run) (p : ℕ) → Decides (unknownIn r p) (NoSuchPosition r p)
+unknown-decides r p = decides-or _ _ _ _ (decides-eq p 0) (decides-lt (r .count) p)
 
--- THE FIRST NUMBER, where the test t decides whether a stranger is named
-module _ (r : Run) (t : Bool) (stranger : Type 0) (d : Decides t stranger) where
-  withdraw-14 : runOut r ≡ true → FirstOf (WithdrawApplies r stranger) 14 0
+-- THE FIRST NUMBER, where the test t decides whether there is an unknown position
+module _ (r : Run) (t : Bool) (unknown : Type 0) (d : Decides t unknown) where
+  withdraw-14 : runOut r ≡ true → FirstOf (WithdrawApplies r unknown) 14 0
   unfolding place
   withdraw-14 q = (not-a-run (run-decides r .0 q), earlier)
     where
-      earlier : (m i : ℕ) → Earlier m i 14 0 → ¬ WithdrawApplies r stranger m i
+      earlier : (m i : ℕ) → Earlier m i 14 0 → ¬ WithdrawApplies r unknown m i
       earlier m i x (not-a-run h) = not-before-itself 14 0 x
       earlier m i x (twenty-one h) = later 21 0 14 0 (omega arith) x
       earlier m i x (twenty-two h) = later 22 0 14 0 (omega arith) x
 
-  withdraw-21 : runOut r ≡ false → firmIn r ≡ false → FirstOf (WithdrawApplies r stranger) 21 0
+  withdraw-21 : runOut r ≡ false → firmIn r ≡ false → FirstOf (WithdrawApplies r unknown) 21 0
   unfolding place
-  withdraw-21 q f = (twenty-one (fails (firmIn r) (FirmRule (tableIn r)) (firm-exact (tableIn r)) f), earlier)
+  withdraw-21 q f = (twenty-one (fails (firmIn r) (FirmRule (runTable r)) (firm-exact (runTable r)) f), earlier)
     where
-      earlier : (m i : ℕ) → Earlier m i 21 0 → ¬ WithdrawApplies r stranger m i
+      earlier : (m i : ℕ) → Earlier m i 21 0 → ¬ WithdrawApplies r unknown m i
       earlier m i x (not-a-run h) = fails (runOut r) (RunOut r) (run-decides r) q h
       earlier m i x (twenty-one h) = not-before-itself 21 0 x
       earlier m i x (twenty-two h) = later 22 0 21 0 (omega arith) x
 
-  withdraw-22 : runOut r ≡ false → firmIn r ≡ true → t ≡ true → FirstOf (WithdrawApplies r stranger) 22 0
+  withdraw-22 : runOut r ≡ false → firmIn r ≡ true → t ≡ true → FirstOf (WithdrawApplies r unknown) 22 0
   withdraw-22 q f g = (twenty-two (d .0 g), earlier)
     where
-      earlier : (m i : ℕ) → Earlier m i 22 0 → ¬ WithdrawApplies r stranger m i
+      earlier : (m i : ℕ) → Earlier m i 22 0 → ¬ WithdrawApplies r unknown m i
       earlier m i x (not-a-run h) = fails (runOut r) (RunOut r) (run-decides r) q h
-      earlier m i x (twenty-one h) = h (firm-exact (tableIn r) .0 f)
+      earlier m i x (twenty-one h) = h (firm-exact (runTable r) .0 f)
       earlier m i x (twenty-two h) = not-before-itself 22 0 x
 
-  withdraw-none : runOut r ≡ false → firmIn r ≡ true → t ≡ false → NoneOf (WithdrawApplies r stranger)
+  withdraw-none : runOut r ≡ false → firmIn r ≡ true → t ≡ false → NoneOf (WithdrawApplies r unknown)
   withdraw-none q f g m i (not-a-run h) = fails (runOut r) (RunOut r) (run-decides r) q h
-  withdraw-none q f g m i (twenty-one h) = h (firm-exact (tableIn r) .0 f)
-  withdraw-none q f g m i (twenty-two h) = fails t stranger d g h
+  withdraw-none q f g m i (twenty-one h) = h (firm-exact (runTable r) .0 f)
+  withdraw-none q f g m i (twenty-two h) = fails t unknown d g h
 
   -- THE LAW OF A WITHDRAWAL
-  withdraw-right : Right (WithdrawApplies r stranger) (withdrawAnswer r t)
+  withdraw-right : Right (WithdrawApplies r unknown) (withdrawAnswer r t)
   unfolding withdrawAnswer
   withdraw-right = go (runOut r) refl (firmIn r) refl t refl
     where
       go : (a : Bool) → runOut r ≡ a → (b : Bool) → firmIn r ≡ b → (c : Bool) → t ≡ c
-          → Right (WithdrawApplies r stranger) (cond a (Refused 14 0) (cond b (cond c (Refused 22 0) Taken) (Refused 21 0)))
+          → Right (WithdrawApplies r unknown) (cond a (Refused 14 0) (cond b (cond c (Refused 22 0) Taken) (Refused 21 0)))
       go true q b f c g = withdraw-14 q
       go false q false f c g = withdraw-21 q f
       go false q true f true g = withdraw-22 q f g
       go false q true f false g = withdraw-none q f g
 
--- a taken withdrawal passed 14, was firm and named no stranger
-pub taken-parts : (r : Run) (t : Bool) → told (withdrawAnswer r t) ≡ model.taken → (runOut r ≡ false) × (firmIn r ≡ true) × (t ≡ false)
+-- a taken withdrawal passed 14, was firm and had no unknown position
+pub taken-parts : (r : Run) (t : Bool) → answerMeaning (withdrawAnswer r t) ≡ model.taken → (runOut r ≡ false) × (firmIn r ≡ true) × (t ≡ false)
 unfolding withdrawAnswer
 taken-parts r t e = go (runOut r) (firmIn r) t e
   where
-    go : (a b c : Bool) → told (cond a (Refused 14 0) (cond b (cond c (Refused 22 0) Taken) (Refused 21 0))) ≡ model.taken
+    go : (a b c : Bool) → answerMeaning (cond a (Refused 14 0) (cond b (cond c (Refused 22 0) Taken) (Refused 21 0))) ≡ model.taken
         → (a ≡ false) × (b ≡ true) × (c ≡ false)
     go true b c q = absurd (let z : _≡_ {A = ℕ} 0 1 = cc in omega arith)
     go false false c q = absurd (let z : _≡_ {A = ℕ} 0 1 = cc in omega arith)
     go false true true q = absurd (let z : _≡_ {A = ℕ} 0 1 = cc in omega arith)
     go false true false q = (refl, refl, refl)
 
--- what a withdrawal of the set x gives, where no stranger is named only if x is within the count
-module _ (r : Run) (t : Bool) (stranger : Type 0) (d : Decides t stranger) (x : ℕ) (known : runOut r ≡ false → t ≡ false → pastCount (r .count) x ≡ false) where
-  again-passes : told (withdrawAnswer r t) ≡ model.taken → ¬ RunOut (byAnswer (withdrawAnswer r t) (withdrawnIn x r) r)
+-- the result of a withdrawal of the set x, where there is no unknown position only if x is within the count
+module _ (r : Run) (t : Bool) (unknown : Type 0) (d : Decides t unknown) (x : ℕ) (known : runOut r ≡ false → t ≡ false → pastCount (r .count) x ≡ false) where
+  again-passes : answerMeaning (withdrawAnswer r t) ≡ model.taken → ¬ RunOut (byAnswer (withdrawAnswer r t) (withdrawnIn x r) r)
   again-passes e =
       let parts = taken-parts r t e in
       let next : Run = withdrawnIn x r in
@@ -108,10 +108,10 @@ module _ (r : Run) (t : Bool) (stranger : Type 0) (d : Decides t stranger) (x : 
       go Taken = unfold withdrawnIn in refl
       go (Refused n p) = refl
 
-  pub withdrawn-of : WithdrawnOf r stranger x (record { answer = withdrawAnswer r t; run = byAnswer (withdrawAnswer r t) (withdrawnIn x r) r })
+  pub withdrawn-of : WithdrawnOf r unknown x (record { answer = withdrawAnswer r t; run = byAnswer (withdrawAnswer r t) (withdrawnIn x r) r })
   withdrawn-of = record {
-    refused = refused-exact (WithdrawApplies r stranger) (withdrawAnswer r t) (withdraw-right r t stranger d);
-    taken = taken-exact (WithdrawApplies r stranger) (withdrawAnswer r t) (withdraw-right r t stranger d);
+    refused = refused-exact (WithdrawApplies r unknown) (withdrawAnswer r t) (withdraw-right r t unknown d);
+    taken = taken-exact (WithdrawApplies r unknown) (withdrawAnswer r t) (withdraw-right r t unknown d);
     on = by-taken (withdrawAnswer r t) (withdrawnIn x r) r;
     as-given = by-refused (withdrawAnswer r t) (withdrawnIn x r) r;
     passes = again-passes;
@@ -121,25 +121,25 @@ module _ (r : Run) (t : Bool) (stranger : Type 0) (d : Decides t stranger) (x : 
 -- ONE POSITION
 
 -- a position that is known is within the count
-pub known-from : (r : Run) (p : ℕ) → strangerIn r p ≡ false → (1 ≤ p) × (p ≤ r .count)
+pub known-from : (r : Run) (p : ℕ) → unknownIn r p ≡ false → (1 ≤ p) × (p ≤ r .count)
 known-from r p e =
-    let no : ¬ Stranger r p = fails (strangerIn r p) (Stranger r p) (stranger-decides r p) e in
+    let no : ¬ NoSuchPosition r p = fails (unknownIn r p) (NoSuchPosition r p) (unknown-decides r p) e in
     let first : ¬ (p ≡ 0) = λ z. no (inl z) in
     let last : ¬ (r .count < p) = λ z. no (inr z) in
     (omega arith, omega arith)
 
-known-within : (r : Run) (p : ℕ) → strangerIn r p ≡ false → pastCount (r .count) (model.only p) ≡ false
+known-within : (r : Run) (p : ℕ) → unknownIn r p ≡ false → pastCount (r .count) (model.singleton p) ≡ false
 known-within r p e = let k = known-from r p e in within-only (r .count) p (k .0) (k .1)
 
 -- so a taken one's is
-pub taken-within : (r : Run) (p : ℕ) → withdrawAnswer r (strangerIn r p) ≡ Taken → pastCount (r .count) (model.only p) ≡ false
-taken-within r p e = known-within r p (taken-parts r (strangerIn r p) (ap told e) .2)
+pub taken-within : (r : Run) (p : ℕ) → withdrawAnswer r (unknownIn r p) ≡ Taken → pastCount (r .count) (model.singleton p) ≡ false
+taken-within r p e = known-within r p (taken-parts r (unknownIn r p) (ap answerMeaning e) .2)
 
--- a value that is the withdrawal's by definition keeps what a withdrawal promises
+-- a value that is the withdrawal's by definition meets the contract of a withdrawal
 pub withdraw-of : (r : Run) (p : ℕ) (a : Advanced) → a ≡ withdrawOf r p → WithdrawOf r p a
 withdraw-of r p a q = rw q record {
   value = refl;
-  exact = unfold withdrawOf in withdrawn-of r (strangerIn r p) (Stranger r p) (stranger-decides r p) (model.only p) (λ o e. known-within r p e);
+  exact = unfold withdrawOf in withdrawn-of r (unknownIn r p) (NoSuchPosition r p) (unknown-decides r p) (model.singleton p) (λ o e. known-within r p e);
 }
 
 -- what is taken is in the set, so that it is not added again
@@ -160,7 +160,7 @@ pub same-answer :
     (r : Run) (t : Bool) (x : ℕ) → withdrawAnswer r t ≡ Taken → pastCount (r .count) x ≡ false → withdrawAnswer (withdrawnIn x r) t ≡ Taken
 unfolding withdrawAnswer withdrawnIn
 same-answer r t x e within =
-    let parts = taken-parts r t (ap told e) in
+    let parts = taken-parts r t (ap answerMeaning e) in
     let next : Run = withdrawnIn x r in
     let in-limits : runOut next ≡ false = passes-runs next (withdrawn-passes x r (passes-if r (parts .0)) within) in
     rw (in-limits, parts .1, parts .2)
@@ -172,11 +172,11 @@ twice x r = ap (with-set r) (or-again (r .withdrawn) x)
 -- THE LAW: withdrawing a position again gets the same answer and leaves the same run
 pub withdraw-twice : (r : Run) (p : ℕ) → withdrawOf (withdrawOf r p .run) p ≡ withdrawOf r p
 unfolding withdrawOf withdrawnIn
-withdraw-twice r p = go (withdrawAnswer r (strangerIn r p)) refl
+withdraw-twice r p = go (withdrawAnswer r (unknownIn r p)) refl
   where
     next : Run
-    next = withdrawnIn (model.only p) r
+    next = withdrawnIn (model.singleton p) r
 
-    go : (a : Answer) → withdrawAnswer r (strangerIn r p) ≡ a → withdrawOf (byAnswer a next r) p ≡ record { answer = a; run = byAnswer a next r }
-    go Taken e = rw (same-answer r (strangerIn r p) (model.only p) e (taken-within r p e), twice (model.only p) r)
+    go : (a : Answer) → withdrawAnswer r (unknownIn r p) ≡ a → withdrawOf (byAnswer a next r) p ≡ record { answer = a; run = byAnswer a next r }
+    go Taken e = rw (same-answer r (unknownIn r p) (model.singleton p) e (taken-within r p e), twice (model.singleton p) r)
     go (Refused n q) e = rw e

@@ -1,4 +1,4 @@
--- A list that is written from the front, one store after the other: what is written, then what stood there before.
+-- A list that is written from the front, one store after the other: what is written, then what was there before.
 use mathlib.Core.Path.{_≡_, refl, sym, ap, _∙_}
 use mathlib.Core.List.{List, [], _∷_, _++_}
 use Prim.Native.Nat.{ℕ, zero, suc, _+_, _-_, _<_}

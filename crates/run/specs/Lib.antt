@@ -1,4 +1,4 @@
--- What the run in the cab is: its places, its answers and their numbers, advance, row and start, and what its tasks bring to a tick, are given and borrow.
+-- The run in the cab: its places, its answers and their numbers, advance, row and start, and what its tasks claim in a tick, are given and borrow.
 pub mod Run
 pub mod Answer
 pub mod Numbers
@@ -8,6 +8,6 @@ pub mod Row
 pub mod Sets
 pub mod Tick
 pub mod Start
-pub mod Past
+pub mod UnusedPlaces
 pub mod Claims
-pub mod Shares
+pub mod Allocation

@@ -14,19 +14,19 @@ use Rattle.model.specs.Search.{bit}
 use Rattle.phase.specs.declared.Phase.{Phase}
 use Rattle.phase.specs.declared.Task.{Task}
 use Rattle.run.specs.declared.Run.{Run}
-use Rattle.phase.specs.Phase.{claiming, working, holder, seen}
+use Rattle.phase.specs.Phase.{claiming, working, holder, phaseEmptied}
 use Rattle.phase.specs.Task.{taskOf, pastEnd, widthNow, nextTask}
 
 -- the run's rule
 abbrev pub ruleIn : Run → model.Rule
 ruleIn r = model.ruleOf (r .rule)
 
--- what stands at place p: a task, whether its job is an even one (request 108), and its phase
+-- the task at place p, with the parity of its job (request 108) and its phase
 abbrev pub placeAt : Run → ℕ → Task
 placeAt r p = getD (r .tasks) p pastEnd
 
-abbrev pub taskAt : Run → ℕ → model.Task
-taskAt r p = taskOf (placeAt r p)
+abbrev pub runTaskAt : Run → ℕ → model.Task
+runTaskAt r p = taskOf (placeAt r p)
 
 abbrev pub evenAt : Run → ℕ → Bool
 evenAt r p = placeAt r p .even
@@ -38,28 +38,28 @@ phaseAt r p = placeAt r p .phase
 abbrev pub widthsNow : Run → List ℕ
 widthsNow r = map widthNow (take (r .count) (r .tasks))
 
--- the tasks below the count as a table has them, and the table that the run is of
+-- the tasks below the count as a table has them, and the table of the run
 abbrev pub tasksIn : Run → List model.Task
 tasksIn r = map taskOf (take (r .count) (r .tasks))
 
-abbrev pub tableIn : Run → model.Table
-tableIn r = record { tasks = tasksIn r; cores = r .cores; fence = r .fence; rule = ruleIn r }
+abbrev pub runTable : Run → model.Table
+runTable r = record { tasks = tasksIn r; cores = r .cores; fence = r .fence; rule = ruleIn r }
 
 -- EMPTY JOBS: sets have bit 0 for position 1
 
--- the job of place p, if it is released in this very tick, is empty: its bit is set, or its position is withdrawn
+-- the job of place p, if released in this tick, is empty: its bit is set, or its position is withdrawn
 abbrev pub emptyAt : Run → ℕ → ℕ → Bool
 emptyAt r e p = bit e p || bit (r .withdrawn) p
 
 -- the phase of place p as cores are chosen
-abbrev pub seenAt : Run → ℕ → ℕ → Phase
-seenAt r e p = seen (ruleIn r) (emptyAt r e p) (phaseAt r p)
+abbrev pub emptiedAt : Run → ℕ → ℕ → Phase
+emptiedAt r e p = phaseEmptied (ruleIn r) (emptyAt r e p) (phaseAt r p)
 
 -- THE CORES OF A TICK
 
 -- the tasks that work or hold claim; the rule gives the cores of each in the present tick, from those outside the fence; under rule 4 it reserves them
 unfoldable pub grantsIn : Run → ℕ → List (List ℕ)
-grantsIn r e = grants (ruleIn r) (claimants (widthsNow r) (λ p. claiming (seenAt r e p))) (unfenced (r .fence) (r .cores))
+grantsIn r e = grants (ruleIn r) (claimants (widthsNow r) (λ p. claiming (emptiedAt r e p))) (unfenced (r .fence) (r .cores))
 
 -- the task at place p is given cores in this tick
 abbrev pub hasCores : Run → ℕ → ℕ → Bool
@@ -67,11 +67,11 @@ hasCores r e p = some (getD (grantsIn r e) p [])
 
 -- the cores that place p lends (request 109): under rule 4 those reserved for a holder
 unfoldable pub offerIn : Run → ℕ → ℕ → List ℕ
-offerIn r e p = cond (lends (ruleIn r) && holder (seenAt r e p)) (getD (grantsIn r e) p []) []
+offerIn r e p = cond (lends (ruleIn r) && holder (emptiedAt r e p)) (getD (grantsIn r e) p []) []
 
 -- place p seeks cores: its task is Working, and is given none
 unfoldable pub seeksIn : Run → ℕ → ℕ → Bool
-seeksIn r e p = ltb p (r .count) && (working (seenAt r e p) && not (hasCores r e p))
+seeksIn r e p = ltb p (r .count) && (working (emptiedAt r e p) && not (hasCores r e p))
 
 -- what each place borrows, once every place has lent, by priority; only rule 4 lends (`lent-lends`)
 unfoldable pub lentIn : Run → ℕ → List (List ℕ)
@@ -85,23 +85,23 @@ borrowedIn r e p = getD (lentIn r e) p []
 abbrev pub hasLent : Run → ℕ → ℕ → Bool
 hasLent r e p = some (borrowedIn r e p)
 
--- the cores of each place as the row shows them: those that it borrows, or of its own those that nobody does
+-- the cores of each place as the row shows them: those that it borrows, or its own cores that no place borrows
 abbrev pub shownIn : Run → ℕ → List (List ℕ)
 shownIn r e = shownCores (grantsIn r e) (lentIn r e)
 
 -- ONE TICK
 
--- f of its place applied to each of the first n tasks
+-- the list with f applied to each of its first n tasks and their places
 unfoldable pub mapFirst : (ℕ → Task → Task) → ℕ → List Task → List Task
 mapFirst f zero ts = ts
 mapFirst f (suc n) [] = []
 mapFirst f (suc n) (t ∷ ts) = f 0 t ∷ mapFirst (λ p. f (suc p)) n ts
 
--- what a tick makes of the task at place p
+-- the task at place p one tick on
 abbrev pub nextAt : Run → (ℕ → Bool) → ℕ → ℕ → Task → Task
 nextAt r reported e p t = nextTask (ruleIn r) (emptyAt r e p) (hasCores r e p) (hasLent r e p) (reported p) t
 
--- the run one tick on, by who is reported and the set of empty jobs: each task below the count moves, the places past it stay, and so does the
+-- the run one tick on, by the reports and the set of empty jobs: each task below the count changes, the places past it stay, and so does the
 -- withdrawn set
 unfoldable pub moved : (ℕ → Bool) → ℕ → Run → Run
 moved reported e r = record {
@@ -115,11 +115,11 @@ moved reported e r = record {
 
 -- WITHDRAWALS
 
--- the run's rule and widths are firm: the test that the verdict asks of a table
+-- the run's rule and widths are firm: the verdict's test of a table
 abbrev pub firmIn : Run → Bool
 firmIn r = firm (ruleIn r) (tasksIn r)
 
--- the run with the positions of a set withdrawn: only the set moves, and every phase stays
+-- the run with the positions of a set withdrawn: only the withdrawn set changes, and every phase stays
 unfoldable pub withdrawnIn : ℕ → Run → Run
 withdrawnIn x r = record {
   rule = r .rule;

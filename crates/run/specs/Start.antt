@@ -12,17 +12,17 @@ use Rattle.table.specs.Words.{rule, tableOf}
 use Rattle.table.specs.Numbers.{Applies, FirstOf, NoneOf}
 use Rattle.judge.specs.declared.Verdict.{Verdict}
 use Rattle.judge.specs.declared.Verdict.the-variants as judge
-use Rattle.judge.specs.Said.{judged, saidBy}
+use Rattle.judge.specs.JudgeAnswer.{judged, verdictMeaning}
 use Rattle.judge.specs.Judged.{verdictOf}
 use Rattle.run.specs.declared.Run.{Run}
 use Rattle.run.specs.declared.Answer.{Answer}
 use Rattle.run.specs.declared.Answer.the-variants.{Taken, Refused}
 use Rattle.run.specs.declared.Started.{Started}
 use Rattle.phase.specs.Task.{startTask, unused}
-use Rattle.run.specs.Answer.{told, byAnswer}
+use Rattle.run.specs.Answer.{answerMeaning, byAnswer}
 use Rattle.run.specs.Numbers.{RunOut}
 
--- a table, whose rule has number n, as it starts, nobody withdrawn; places past the count hold zeros and Resting(0)
+-- the run of a table, whose rule has number n, as it starts, with no position withdrawn; places past the count hold zeros and Resting(0)
 unfoldable pub startedRun : ℕ → model.Table → Run
 startedRun n s = record {
   rule = n;
@@ -42,9 +42,9 @@ pub data StartApplies (ws : List ℕ) : ℕ → ℕ → Type 0 where
   -- 1 to 9 and 19
   as-table : (n p : ℕ) → Applies ws n p → StartApplies ws n p
   -- 13. Start: the verdict is Miss.
-  thirteen : (t p : ℕ) → saidBy (verdictOf ws) ≡ judged (verdict.Miss t p) → StartApplies ws 13 0
+  thirteen : (t p : ℕ) → verdictMeaning (verdictOf ws) ≡ judged (verdict.Miss t p) → StartApplies ws 13 0
 
--- by the judge's verdict: Firm and Full are taken, Miss is 13, and 1 to 9 and 19 turn down as they do there
+-- by the judge's verdict: Firm and Full are taken, Miss is 13, and the refusals 1 to 9 and 19 are the same
 abbrev pub byVerdict : Verdict → Answer
 byVerdict (judge.Firm a b) = Taken
 byVerdict (judge.Full a b) = Taken
@@ -59,17 +59,17 @@ startAnswer ws = byVerdict (verdictOf ws)
 unfoldable pub startOf : List ℕ → Started
 startOf ws = record { answer = startAnswer ws; run = byAnswer (startAnswer ws) (startedRun (rule ws) (tableOf ws)) emptyRun }
 
--- what a start from the words promises
+-- what a start from the words guarantees
 pub record StartOf (ws : List ℕ) (s : Started) : Type 0 where
   -- its value
   pub value : s ≡ startOf ws
   -- refused with n and p exactly if number n applies with position p and no earlier one does; taken exactly if none applies
-  pub refused : (n p : ℕ) → (told (s .answer) ≡ book.refused n p) ↔ FirstOf (StartApplies ws) n p
-  pub taken : (told (s .answer) ≡ book.taken) ↔ NoneOf (StartApplies ws)
+  pub refused : (n p : ℕ) → (answerMeaning (s .answer) ≡ book.refused n p) ↔ FirstOf (StartApplies ws) n p
+  pub taken : (answerMeaning (s .answer) ≡ book.taken) ↔ NoneOf (StartApplies ws)
   -- taken: the table as it starts
-  pub started : told (s .answer) ≡ book.taken → s .run ≡ startedRun (rule ws) (tableOf ws)
+  pub started : answerMeaning (s .answer) ≡ book.taken → s .run ≡ startedRun (rule ws) (tableOf ws)
   -- refused: all zeros
-  pub zeros : (n p : ℕ) → told (s .answer) ≡ book.refused n p → s .run ≡ emptyRun
-  -- 14 passes the one, and turns the other down
-  pub passes : told (s .answer) ≡ book.taken → ¬ RunOut (s .run)
-  pub out : (n p : ℕ) → told (s .answer) ≡ book.refused n p → RunOut (s .run)
+  pub zeros : (n p : ℕ) → answerMeaning (s .answer) ≡ book.refused n p → s .run ≡ emptyRun
+  -- a run that starts passes 14; the run of all zeros does not
+  pub passes : answerMeaning (s .answer) ≡ book.taken → ¬ RunOut (s .run)
+  pub out : (n p : ℕ) → answerMeaning (s .answer) ≡ book.refused n p → RunOut (s .run)

@@ -1,5 +1,5 @@
--- What is known of the present tick of a run with the empty jobs e: row's answer and the sets of cores; and where it is taken, who is given cores, who
--- borrows some and who is Working.
+-- The present tick of a run with the empty jobs e: the answer to a row and the sets of cores; and where it is taken, the places that are given cores, that
+-- borrow some and that are Working.
 use mathlib.Core.Path.{_≡_}
 use mathlib.Core.Bool.{_&&_}
 use Prim.Native.Nat.{ℕ}
@@ -9,7 +9,7 @@ use Rattle.phase.specs.Phase.{working}
 use Rattle.run.specs.declared.Run.{Run}
 use Rattle.run.specs.declared.Answer.the-variants.{Taken}
 use Rattle.run.specs.declared.tick.Tick.{Tick}
-use Rattle.run.specs.Run.{hasCores, hasLent, seenAt}
+use Rattle.run.specs.Run.{hasCores, hasLent, emptiedAt}
 use Rattle.run.specs.Sets.{setsOf}
 
 pub record TickOf (r : Run) (e : ℕ) (t : Tick) : Type 0 where
@@ -17,4 +17,4 @@ pub record TickOf (r : Run) (e : ℕ) (t : Tick) : Type 0 where
   pub shows : t .sets ≡ setsOf r e .sets
   pub gives : t .answer ≡ Taken → (p : ℕ) → bit (t .given) p ≡ hasCores r e p
   pub lends : t .answer ≡ Taken → (p : ℕ) → bit (t .lent) p ≡ hasLent r e p
-  pub works : t .answer ≡ Taken → (p : ℕ) → bit (t .working) p ≡ ltb p (r .count) && working (seenAt r e p)
+  pub works : t .answer ≡ Taken → (p : ℕ) → bit (t .working) p ≡ ltb p (r .count) && working (emptiedAt r e p)

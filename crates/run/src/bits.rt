@@ -1,4 +1,4 @@
-// Sets of places as numbers: whether a place is in one, a place added, and whether one names a place past the count.
+// Sets of places as numbers: whether a place is in one, a place added, and whether one contains a place past the count.
 ghost use mathlib.Core.Path.{_≡_};
 ghost use mathlib.Core.Bool.{_||_, _&&_};
 ghost use Prim.Native.Nat.{ℕ, _<_};
@@ -24,7 +24,7 @@ pub(crate) fn with(set: u32, place: u32, on: bool) -> u32
     if on { set | (1u32 << place) } else { set }
 }
 
-// Whether a set names a place at or past the count.
+// Whether a set contains a place at or past the count.
 pub(crate) fn past(set: u32, count: usize) -> bool
     ensures { λ r. ⌜ r ≡ pastCount count set ⌝ }
 {

@@ -1,7 +1,7 @@
 // Number 14: whether a run is outside its limits.
 ghost use mathlib.Core.Path.{_≡_};
 ghost use mathlib.Core.Bool.{_||_, not};
-ghost use Rattle.table.specs.Limits.{from, coresOut, ruleOut, fenceOut};
+ghost use Rattle.table.specs.Limits.{inRange, coresOut, ruleOut, fenceOut};
 ghost use Rattle.run.specs.Numbers.{runOut, pastCount};
 ghost use Rattle.model.specs.Sizes.{mostTasks};
 use crate::Run;
@@ -10,7 +10,7 @@ use model::MOST_TASKS;
 
 // Whether a run's count, core count, rule, fence or withdrawn set is out of range.
 pub(crate) fn head_out(count: usize, cores: u32, rule: u32, fence: u64, withdrawn: u32) -> bool
-    ensures { λ r. ⌜ r ≡ not (from 1 mostTasks count) || (coresOut cores || (ruleOut rule || (fenceOut cores fence || pastCount count withdrawn))) ⌝ }
+    ensures { λ r. ⌜ r ≡ not (inRange 1 mostTasks count) || (coresOut cores || (ruleOut rule || (fenceOut cores fence || pastCount count withdrawn))) ⌝ }
 {
     !((1 <= count) & (count <= MOST_TASKS))
         | (table::limits::cores_out(cores)
@@ -29,7 +29,7 @@ impl Run {
         if head_out(count, cores, rule, self.fence, self.withdrawn) {
             return true;
         }
-        let wide = cores::open_count(cores, self.fence);
+        let wide = cores::unfenced_count(cores, self.fence);
         let mut i: usize = 0;
         while i < count {
             let task = self.tasks[i];

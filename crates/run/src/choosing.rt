@@ -1,4 +1,4 @@
-// One look at the tasks of a run in the present tick: who is outside its limits or late, who claims, with which of its widths, and whose job is released.
+// One pass over the tasks of a run in the present tick: those outside their limits, late, claiming (with which width), and those whose job is released.
 ghost use mathlib.Core.Path.{_≡_};
 ghost use Prim.Native.Nat.{_≤_};
 ghost use Rattle.run.specs.Claims.{ClaimsOf};
@@ -7,9 +7,9 @@ use crate::Run;
 use crate::bits;
 use model::MOST_TASKS;
 
-// What the tasks bring to a tick: the set of those that are outside their limits, the set of those that are Working at their deadline, the set of those
-// that claim, the set of those that are Working, the set of those whose job is released in this very tick, the set of those whose job is an even one,
-// and both widths: the first of each place, then the second of each. Who claims and who is Working is said of the tasks as they are seen with their
+// What the rule reads of the tasks in a tick: the set of those that are outside their limits, the set of those that are Working at their deadline, the set of
+// those that claim, the set of those that are Working, the set of those whose job is released in this tick, the set of those whose job is an even one,
+// and both widths: the first of each place, then the second of each. The sets of those that claim and that are Working are of the tasks as seen with their
 // empty jobs.
 pub struct Claims {
     pub broken: u32,
@@ -22,15 +22,15 @@ pub struct Claims {
 }
 
 impl Run {
-    // What the tasks below the count bring to the present tick, where bit p of `empties` says that the job of position p + 1 is empty; a withdrawn
-    // position's is.
+    // What the tasks below the count claim in the present tick. Bit p of `empties` is set if the job of position p + 1 is empty; that of a withdrawn position
+    // is too.
     pub(crate) fn claims(self, empties: u32) -> Claims
         requires { ⌜ (self .count ≤ mostTasks) × (self .cores ≤ mostCores) ⌝ }
         ensures { λ r. ⌜ ClaimsOf self empties r ⌝ }
     {
         let rule = self.rule;
         let count = self.count;
-        let wide = cores::open_count(self.cores, self.fence);
+        let wide = cores::unfenced_count(self.cores, self.fence);
         let emptied = empties | self.withdrawn;
         let mut broken: u32 = 0;
         let mut late: u32 = 0;
@@ -46,7 +46,7 @@ impl Run {
             let place = i as u32;
             broken = bits::with(broken, place, task.out(rule, wide));
             late = bits::with(late, place, task.late());
-            let seen = phase.seen(rule, bits::has(emptied, place));
+            let seen = phase.emptied(rule, bits::has(emptied, place));
             claiming = bits::with(claiming, place, seen.claims());
             working = bits::with(working, place, seen.works());
             released = bits::with(released, place, phase.released());

@@ -10,13 +10,13 @@ ghost use Rattle.run.specs.Withdraw.{WithdrawOf, WithdrawAllOf};
 
 mod bits; // bits.rt: sets of places
 mod bounds; // bounds.rt: number 14
-mod choosing; // choosing.rt: one look at the tasks in the present tick
+mod choosing; // choosing.rt: one pass over the tasks in the present tick
 mod moves; // moves.rt: one tick
-mod plain; // plain.rt: the tasks as a table has them
-mod shares; // shares.rt: who is given cores in a tick, who borrows some, and which are shown
+mod parameters; // parameters.rt: the tasks as a table has them
+mod allocation; // allocation.rt: the positions that are given cores in a tick, those that borrow some, and the cores that are shown
 pub mod starts; // starts.rt: the run of a table as it starts
-mod tick; // tick.rt: the present tick, of which row, sets and advance speak
-mod withdrawals; // withdrawals.rt: whether a run is firm, and positions taken out
+mod tick; // tick.rt: the present tick, which row, sets and advance use
+mod withdrawals; // withdrawals.rt: whether a run is firm, and positions withdrawn
 
 use judge::Verdict;
 use model::MOST_TASKS;
@@ -34,31 +34,31 @@ pub struct Run {
     pub tasks: [Task; MOST_TASKS],
 }
 
-// What a call is answered: taken, or refused with number and position.
+// The answer to a call: taken, or refused with number and position.
 pub enum Answer {
     Taken,
     Refused(u32, u32),
 }
 
-// What start gives: the answer, and the run as it starts.
+// The result of start: the answer, and the run as it starts.
 pub struct Started {
     pub answer: Answer,
     pub run: Run,
 }
 
-// What an advance or a withdrawal gives: the answer, and the next run.
+// The result of an advance or a withdrawal: the answer, and the next run.
 pub struct Advanced {
     pub answer: Answer,
     pub run: Run,
 }
 
-// What a row asked as sets gives: the answer, and of each position the set of its cores, core 0 the lowest bit; a position past the count has none.
+// The result of a row asked as sets: the answer, and of each position the set of its cores, core 0 the lowest bit; a position past the count has none.
 pub struct Sets {
     pub answer: Answer,
     pub sets: [u64; MOST_TASKS],
 }
 
-// What a row asked gives: the answer, and one byte a core, the position or 0 for idle, 255 on a fenced core; bytes past the core count are 0.
+// The result of a row asked: the answer, and one byte a core, the position or 0 for idle, 255 on a fenced core; bytes past the core count are 0.
 pub struct Row {
     pub answer: Answer,
     pub bytes: [u8; ROW],
@@ -68,7 +68,7 @@ pub struct Row {
 pub fn start(words: &[u32]) -> Started
     ensures { λ r. ⌜ StartOf (now (words .entry)) r ⌝ }
 {
-    let verdict = quick::judge(words);
+    let verdict = fast_judge::judge(words);
     match verdict {
         Verdict::Firm(_, _) => starts::begun(words),
         Verdict::Full(_, _) => starts::begun(words),
@@ -90,7 +90,7 @@ fn row_refused(number: u32, position: u32) -> Row
 
 impl Run {
     // The sets of cores of the present tick, one of each position, core 0 the lowest bit: held cores are in the holder's, lent ones in the borrower's and
-    // fenced ones in none. Bit p of `empties` says that the job of position p + 1, released in this very tick, is empty; or 14, 15 with the lowest late
+    // fenced ones in none. Bit p of `empties` is set if the job of position p + 1, released in this tick, is empty. Refused: 14, 15 with the lowest late
     // position, or 20.
     pub fn sets(self, empties: u32) -> Sets
         ensures { λ r. ⌜ SetsOf self empties r ⌝ }
@@ -104,8 +104,8 @@ impl Run {
         }
     }
 
-    // The row of the present tick, held cores with the holder's position and lent ones with the borrower's, where bit p of `empties` says that the job
-    // of position p + 1, released in this very tick, is empty; or 14, 15 with the lowest late position, or 20. Its bytes come from the sets and the fence.
+    // The row of the present tick, held cores with the holder's position and lent ones with the borrower's. Bit p of `empties` is set if the job of
+    // position p + 1, released in this tick, is empty. Refused: 14, 15 with the lowest late position, or 20. Its bytes come from the sets and the fence.
     pub fn row(self, empties: u32) -> Row
         ensures { λ r. ⌜ RowOf self empties r ⌝ }
     {
@@ -132,8 +132,8 @@ impl Run {
         }
     }
 
-    // The run one tick on, where bit p of `reports` says that the job of position p + 1 ends after this tick, and bit p of `empties` that it is
-    // released in this very tick and empty; or 14, 15, 20, 16 and the run as given.
+    // The run one tick on. Bit p of `reports` is set if the job of position p + 1 ends after this tick, and bit p of `empties` if it is
+    // released in this tick and empty. Refused: 14, 15, 20 or 16, and the run as given.
     pub fn advance(self, reports: u32, empties: u32) -> Advanced
         ensures { λ r. ⌜ AdvanceOf self reports empties r ⌝ }
     {
@@ -149,8 +149,8 @@ impl Run {
         self.refused(16, 0)
     }
 
-    // The run with a position taken out: a job of it released before the present tick goes on, one released in this very tick and all later ones
-    // are empty; or 14, 21, 22 and the run as given. 15 is not looked at.
+    // The run with a position withdrawn: a job of it released before the present tick goes on, one released in this tick and all later ones
+    // are empty. Refused: 14, 21 or 22, and the run as given. 15 is not tested.
     pub fn withdraw(self, position: u32) -> Advanced
         ensures { λ r. ⌜ WithdrawOf self position r ⌝ }
     {
@@ -161,7 +161,7 @@ impl Run {
             if (position == 0) | ((self.count as u32) < position) {
                 return self.refused(22, 0);
             }
-            let next = self.without(1u32 << (position - 1));
+            let next = self.with_withdrawn(1u32 << (position - 1));
             return Advanced {
                 answer: Answer::Taken,
                 run: next,
@@ -170,8 +170,8 @@ impl Run {
         self.refused(21, 0)
     }
 
-    // The run with all positions of a set taken out together, bit 0 for position 1; or 14, 21, for the empty set too, 22 where a position is past the
-    // count, and the run as given. 15 is not looked at.
+    // The run with all positions of a set withdrawn together, bit 0 for position 1. Refused: 14, 21, for the empty set too, or 22 where a position is past
+    // the count, and the run as given. 15 is not tested.
     pub fn withdraw_all(self, set: u32) -> Advanced
         ensures { λ r. ⌜ WithdrawAllOf self set r ⌝ }
     {
@@ -182,7 +182,7 @@ impl Run {
             if bits::past(set, self.count) {
                 return self.refused(22, 0);
             }
-            let next = self.without(set);
+            let next = self.with_withdrawn(set);
             return Advanced {
                 answer: Answer::Taken,
                 run: next,

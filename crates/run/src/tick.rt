@@ -1,15 +1,15 @@
-// The present tick of a run: row's numbers, and the cores of each position. Row, sets and advance all look at it.
+// The present tick of a run: the numbers of a row, and the cores of each position. Row, sets and advance all use it.
 ghost use mathlib.Core.Path.{_≡_};
 ghost use Rattle.run.specs.declared.Answer.the-variants.{Refused};
 ghost use Rattle.run.specs.Sets.{noSets};
 ghost use Rattle.run.specs.Tick.{TickOf};
 use crate::Answer;
 use crate::Run;
+use crate::allocation;
 use crate::bounds;
-use crate::shares;
 use model::MOST_TASKS;
 
-// What a row asked is answered; where it is taken, the sets of the positions that are given cores, that borrow some, and that are Working, bit 0 for
+// The answer to a row asked; where it is taken, the sets of the positions that are given cores, that borrow some, and that are Working, bit 0 for
 // position 1; and of each position the set of cores that the row shows.
 pub struct Tick {
     pub answer: Answer,
@@ -19,8 +19,8 @@ pub struct Tick {
     pub sets: [u64; MOST_TASKS],
 }
 
-// A tick that is not looked at: no sets.
-fn unseen(number: u32, position: u32) -> Tick
+// A tick that is refused: no sets.
+fn tick_refused(number: u32, position: u32) -> Tick
     ensures { λ r. ⌜ r ≡ record { answer = Refused number position; given = 0; lent = 0; working = 0; sets = noSets } ⌝ }
 {
     let sets = [0u64; MOST_TASKS];
@@ -34,27 +34,27 @@ fn unseen(number: u32, position: u32) -> Tick
 }
 
 impl Run {
-    // The present tick, where bit p of `empties` says that the job of position p + 1, released in this very tick, is empty; or 14, 15 with the lowest
+    // The present tick. Bit p of `empties` is set if the job of position p + 1, released in this tick, is empty. Refused: 14, 15 with the lowest
     // late position, or 20.
     pub(crate) fn tick(self, empties: u32) -> Tick
         ensures { λ r. ⌜ TickOf self empties r ⌝ }
     {
         let count = self.count;
         if bounds::head_out(count, self.cores, self.rule, self.fence, self.withdrawn) {
-            return unseen(14, 0);
+            return tick_refused(14, 0);
         }
         let claims = self.claims(empties);
         if 0 < claims.broken {
-            return unseen(14, 0);
+            return tick_refused(14, 0);
         }
         if 0 < claims.late {
-            return unseen(15, u32::trailing_zeros(claims.late) + 1);
+            return tick_refused(15, u32::trailing_zeros(claims.late) + 1);
         }
         let begun = empties & claims.released;
         if begun == empties {
             let widths = claims.widths;
-            let free = cores::open_cores(self.cores, self.fence);
-            let shares = shares::chosen(
+            let free = cores::unfenced_cores(self.cores, self.fence);
+            let shares = allocation::allocate(
                 self.rule,
                 free,
                 claims.claiming,
@@ -72,6 +72,6 @@ impl Run {
                 sets: sets,
             };
         }
-        unseen(20, 0)
+        tick_refused(20, 0)
     }
 }

@@ -1,4 +1,4 @@
-// Whether a run's rule and widths are firm (number 21), and positions taken out of it.
+// Whether a run's rule and widths are firm (number 21), and positions withdrawn from it.
 ghost use mathlib.Core.Path.{_≡_};
 ghost use Prim.Native.Nat.{_≤_};
 ghost use Rattle.model.specs.Sizes.{mostTasks};
@@ -6,17 +6,17 @@ ghost use Rattle.run.specs.Run.{firmIn, withdrawnIn};
 use crate::Run;
 
 impl Run {
-    // Whether the rule and the widths are firm: the judge is asked.
+    // Whether the rule and the widths are firm, by the judge's test.
     pub(crate) fn is_firm(self) -> bool
         requires { ⌜ self .count ≤ mostTasks ⌝ }
         ensures { λ r. ⌜ r ≡ firmIn self ⌝ }
     {
-        let tasks = self.plain();
+        let tasks = self.parameters();
         judge::is_firm(self.rule, tasks, self.count)
     }
 
-    // The run with the positions of a set withdrawn: only the withdrawn set moves.
-    pub(crate) fn without(self, set: u32) -> Run
+    // The run with the positions of a set withdrawn: only the withdrawn set changes.
+    pub(crate) fn with_withdrawn(self, set: u32) -> Run
         ensures { λ r. ⌜ r ≡ withdrawnIn set self ⌝ }
     {
         let mut run = self;

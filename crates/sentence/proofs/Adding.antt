@@ -1,4 +1,4 @@
--- The counts of 32 places, one more for each place of a set: place after place as the set is walked, and what stands at a place.
+-- The counts of 32 places, one more for each place of a set: place after place as the set is walked, and the value at a place.
 use mathlib.Core.Path.{_≡_, refl, sym, ap, _∙_}
 use mathlib.Core.Bool.{Bool, true, false, not, _&&_, cond, and-true}
 use mathlib.Core.List.{List, _++_}
@@ -8,14 +8,14 @@ use lib.ListN.{length, getD, set, take, replicate, length-append, length-replica
 use lib.Seq.{set-at, take-suc, append-snoc, length-take-le}
 use Rattle.model.specs.Search.{bit}
 use Rattle.model.proofs.Digits.{bit-none}
-use Rattle.full.specs.Places.{each}
-use Rattle.full.proofs.Places.{each-none, each-still, each-more, each-same, each-length, each-at}
-use Rattle.full.proofs.Turn.{taken, first, digit, Off}
+use Rattle.simulation.specs.Places.{mapPlaces}
+use Rattle.simulation.proofs.Places.{each-none, each-still, each-more, each-same, each-length, each-at}
+use Rattle.simulation.proofs.GrantStep.{taken, first, digit, Off}
 use Rattle.sentence.specs.Counting.{added, above}
 
 -- one more for each place that passes the test
 abbrev pub counted : (ℕ → Bool) → List ℕ → List ℕ
-counted f ran = each (λ q n. cond (f q) (n + 1) n) ran
+counted f ran = mapPlaces (λ q n. cond (f q) (n + 1) n) ran
 
 -- nothing is taken off the set yet
 pub counted-none : (granted : ℕ) (ran : List ℕ) → counted (taken granted granted) ran ≡ ran
@@ -46,7 +46,7 @@ counted-all granted rest ran z =
     each-same (λ q n. cond (taken granted rest q) (n + 1) n) (λ q n. cond (bit granted q) (n + 1) n) ran
     (λ q. ap (λ (b : Bool). cond b (getD ran q 0 + 1) (getD ran q 0)) (ap (λ (b : Bool). bit granted q && not b) (ap (λ (x : ℕ). bit x q) z ∙ bit-none q) ∙ and-true (bit granted q)))
 
--- what stands at a place
+-- the value at a place
 pub added-at : (granted : ℕ) (ran : List ℕ) (q : ℕ) → q < length ran → getD (added granted ran) q 0 ≡ cond (bit granted q) (getD ran q 0 + 1) (getD ran q 0)
 added-at granted ran q l = each-at (λ q n. cond (bit granted q) (n + 1) n) ran q l
 

@@ -9,7 +9,7 @@ use lib.Dec.{ltb}
 use lib.ListN.{length}
 use borrow.Author.Tests.{ltb-true, ltb-false}
 use Rattle.model.specs.Search.{any, least}
-use Rattle.model.specs.Task.{Table, AllSound}
+use Rattle.model.specs.Task.{Table, AllValid}
 use Rattle.model.specs.Book.{NeverMissed}
 use Rattle.model.specs.Horizon.{horizon, lastS, hyperperiod}
 use Rattle.model.specs.Firm.{firm}
@@ -24,18 +24,18 @@ use Rattle.table.specs.Numbers as table
 use Rattle.table.specs.Answer.{answerOf}
 use Rattle.table.proofs.Order.{not-before-itself, later, number-most, first-only}
 use Rattle.table.proofs.Exact.{refusal-exact, passed-exact}
-use Rattle.table.proofs.Passed.{passed-sound}
+use Rattle.table.proofs.Passed.{passed-valid}
 use Rattle.judge.proofs.FirstMiss.{none-missed}
-use Rattle.sentence.specs.Sentence.{said}
+use Rattle.sentence.specs.Sentence.{sentenceText}
 use Rattle.sentence.specs.Waiting.{factsAt, missPlace, factsIn, factsOf}
 use Rattle.sentence.specs.Numbers.{Applies, words, seventeen, eighteen, First, NoneApplies}
-use Rattle.sentence.specs.Spoken.{byBuffer, byTable, spokenBy, spokenOf}
-use Rattle.sentence.specs.declared.Spoken.{Spoken}
-use Rattle.sentence.specs.declared.Spoken.the-variants.{Length, Refused}
+use Rattle.sentence.specs.SentenceAnswer.{byBuffer, byTable, sentenceAnswerBy, sentenceAnswerOf}
+use Rattle.sentence.specs.declared.SentenceAnswer.{SentenceAnswer}
+use Rattle.sentence.specs.declared.SentenceAnswer.the-variants.{Length, Refused}
 
--- WHAT THE SEARCH SAYS OF THE TABLE
+-- THE RESULT OF THE SEARCH IN THE TABLE
 
-module _ (s : Table) (ok : AllSound s) where
+module _ (s : Table) (ok : AllValid s) where
   -- where it finds nothing no deadline is ever missed
   pub never : any (suc (horizon s)) (missedIn s) ≡ false → NeverMissed s
   unfolding verdict
@@ -79,8 +79,8 @@ module _ (ws : List ℕ) (bytes : ℕ) where
   abbrev s : Table
   s = tableOf ws
 
-  abbrev Right : Spoken → Type 0
-  Right (Length n) = NoneApplies ws bytes × (n ≡ length (said (factsOf ws)))
+  abbrev Right : SentenceAnswer → Type 0
+  Right (Length n) = NoneApplies ws bytes × (n ≡ length (sentenceText (factsOf ws)))
   Right (Refused n p) = First ws bytes n p
 
   -- a number of the table
@@ -106,7 +106,7 @@ module _ (ws : List ℕ) (bytes : ℕ) where
         none _ _ e (seventeen x) = not-before-itself 17 0 e
         none _ _ e (eighteen x) = later 18 0 17 0 (omega arith) e
 
-    is-eighteen : (¬ NeverMissed s) → bytes < length (said (factsOf ws)) → First ws bytes 18 0
+    is-eighteen : (¬ NeverMissed s) → bytes < length (sentenceText (factsOf ws)) → First ws bytes 18 0
     is-eighteen h y = (eighteen y, none)
       where
         none : (m q : ℕ) → Earlier m q 18 0 → ¬ Applies ws bytes m q
@@ -114,41 +114,41 @@ module _ (ws : List ℕ) (bytes : ℕ) where
         none _ _ e (seventeen x) = h x
         none _ _ e (eighteen x) = not-before-itself 18 0 e
 
-    is-none : (¬ NeverMissed s) → (¬ (bytes < length (said (factsOf ws)))) → NoneApplies ws bytes
+    is-none : (¬ NeverMissed s) → (¬ (bytes < length (sentenceText (factsOf ws)))) → NoneApplies ws bytes
     is-none h k m q (words _ _ x) = passed m q x
     is-none h k _ _ (seventeen x) = h x
     is-none h k _ _ (eighteen x) = k x
 
     -- one that is found is missed
     some : any (suc (horizon s)) (missedIn s) ≡ true → ¬ NeverMissed s
-    some e nm = true≢false (sym e ∙ none-missed s (passed-sound ws passed) (suc (horizon s)) (λ p t l. nm p t))
+    some e nm = true≢false (sym e ∙ none-missed s (passed-valid ws passed) (suc (horizon s)) (λ p t l. nm p t))
 
     right-table : Right (byTable s bytes)
     unfolding byTable byBuffer
-    right-table = go (any (suc (horizon s)) (missedIn s)) refl (ltb bytes (length (said (factsOf ws)))) refl
+    right-table = go (any (suc (horizon s)) (missedIn s)) refl (ltb bytes (length (sentenceText (factsOf ws)))) refl
       where
-        go : (a : Bool) → any (suc (horizon s)) (missedIn s) ≡ a → (b : Bool) → ltb bytes (length (said (factsOf ws))) ≡ b
-            → Right (cond a (cond b (Refused 18 0) (Length (length (said (factsOf ws))))) (Refused 17 0))
-        go false e b q = is-seventeen (never s (passed-sound ws passed) e)
-        go true e true q = is-eighteen (some e) (ltb-true bytes (length (said (factsOf ws))) q)
-        go true e false q = (is-none (some e) (λ l. let g = ltb-false bytes (length (said (factsOf ws))) q in omega arith), refl)
+        go : (a : Bool) → any (suc (horizon s)) (missedIn s) ≡ a → (b : Bool) → ltb bytes (length (sentenceText (factsOf ws))) ≡ b
+            → Right (cond a (cond b (Refused 18 0) (Length (length (sentenceText (factsOf ws))))) (Refused 17 0))
+        go false e b q = is-seventeen (never s (passed-valid ws passed) e)
+        go true e true q = is-eighteen (some e) (ltb-true bytes (length (sentenceText (factsOf ws))) q)
+        go true e false q = (is-none (some e) (λ l. let g = ltb-false bytes (length (sentenceText (factsOf ws))) q in omega arith), refl)
 
-  right : Right (spokenOf ws bytes)
-  unfolding spokenOf
+  right : Right (sentenceAnswerOf ws bytes)
+  unfolding sentenceAnswerOf
   right = go (answerOf ws) refl
     where
-      go : (x : Answer) → answerOf ws ≡ x → Right (spokenBy x (byTable s bytes))
+      go : (x : Answer) → answerOf ws ≡ x → Right (sentenceAnswerBy x (byTable s bytes))
       go answer.Passed e = right-table (passed-exact ws .0 e)
       go (answer.Refused n p) e = by-words n p (refusal-exact ws n p .0 e)
 
   -- what is right of an answer determines it
-  settled : (v : Spoken) → Right v
-      → ((n p : ℕ) → (v ≡ Refused n p) ↔ First ws bytes n p) × ((n : ℕ) → (v ≡ Length n) ↔ (NoneApplies ws bytes × (n ≡ length (said (factsOf ws)))))
-  settled (Length m) r = (λ n p. (λ e. absurd (apart e), λ f. absurd (r .0 n p (f .0))), λ n. (λ e. let i : m ≡ n = cc in (r .0, sym i ∙ r .1), λ x. ap Length (r .1 ∙ sym (x .1))))
+  determined : (v : SentenceAnswer) → Right v
+      → ((n p : ℕ) → (v ≡ Refused n p) ↔ First ws bytes n p) × ((n : ℕ) → (v ≡ Length n) ↔ (NoneApplies ws bytes × (n ≡ length (sentenceText (factsOf ws)))))
+  determined (Length m) r = (λ n p. (λ e. absurd (apart e), λ f. absurd (r .0 n p (f .0))), λ n. (λ e. let i : m ≡ n = cc in (r .0, sym i ∙ r .1), λ x. ap Length (r .1 ∙ sym (x .1))))
     where
       apart : {n p : ℕ} → Length m ≡ Refused n p → ⊥
       apart e = let z : _≡_ {A = ℕ} 0 1 = cc in omega arith
-  settled (Refused m q) r = (λ n p. (λ e. to n p e, λ f. from n p f), λ n. (λ e. absurd (apart e), λ x. absurd (x .0 m q (r .0))))
+  determined (Refused m q) r = (λ n p. (λ e. to n p e, λ f. from n p f), λ n. (λ e. absurd (apart e), λ x. absurd (x .0 m q (r .0))))
     where
       apart : {n : ℕ} → Refused m q ≡ Length n → ⊥
       apart e = let z : _≡_ {A = ℕ} 0 1 = cc in omega arith
@@ -160,9 +160,9 @@ module _ (ws : List ℕ) (bytes : ℕ) where
       from n p f = let x = first-only (Applies ws bytes) m q n p r f in rw (x .0, x .1)
 
   -- refused with n and p exactly if number n applies with position p and no earlier one does
-  pub refused-exact : (n p : ℕ) → (spokenOf ws bytes ≡ Refused n p) ↔ First ws bytes n p
-  refused-exact n p = settled (spokenOf ws bytes) right .0 n p
+  pub refused-exact : (n p : ℕ) → (sentenceAnswerOf ws bytes ≡ Refused n p) ↔ First ws bytes n p
+  refused-exact n p = determined (sentenceAnswerOf ws bytes) right .0 n p
 
   -- and a length exactly if no number applies: the sentence's
-  pub length-exact : (n : ℕ) → (spokenOf ws bytes ≡ Length n) ↔ (NoneApplies ws bytes × (n ≡ length (said (factsOf ws))))
-  length-exact n = settled (spokenOf ws bytes) right .1 n
+  pub length-exact : (n : ℕ) → (sentenceAnswerOf ws bytes ≡ Length n) ↔ (NoneApplies ws bytes × (n ≡ length (sentenceText (factsOf ws))))
+  length-exact n = determined (sentenceAnswerOf ws bytes) right .1 n

@@ -1,4 +1,4 @@
--- Sentences, and texts with what they are read back to, computed from the definitions.
+-- Sentences, and texts with what they are parsed to, computed from the definitions.
 use mathlib.Core.List.{List, [], _∷_, map}
 use mathlib.Core.Path.{_≡_, refl}
 use Prim.Native.Nat.{ℕ}
@@ -7,9 +7,9 @@ use lib.ListN.{drop}
 use Rattle.model.proofs.LineByLine.{LineByLine, by-line}
 use Rattle.text.specs.Decimal.{value, decimal, lastDigits, digitCount, digitsWithin}
 use Rattle.text.specs.Output.{letters}
-use Rattle.sentence.specs.Facts.{Facts, Part, sayable, rising}
-use Rattle.sentence.specs.Sentence.{parts, head, said}
-use Rattle.sentence.specs.Unsaid.{Unsaid, facts, none, unsaid, guess, numbersFrom, paired, same}
+use Rattle.sentence.specs.Facts.{Facts, Part, expressible, ascending}
+use Rattle.sentence.specs.Sentence.{parts, sentenceHead, sentenceText}
+use Rattle.sentence.specs.Parsed.{ParsedSentence, facts, none, parsed, candidate, numbersFrom, paired, same}
 
 abbrev miss : ℕ → ℕ → ℕ → ℕ → List Part → Facts
 miss position tick had length others = record { position = position; tick = tick; had = had; length = length; others = others }
@@ -20,9 +20,9 @@ ran position count = record { position = position; count = count }
 -- a text and what it is read back to
 pub record Case : Type 0 where
   pub text : String
-  pub reads : Unsaid
+  pub reads : ParsedSentence
 
-abbrev case : String → Unsaid → Case
+abbrev case : String → ParsedSentence → Case
 case s u = record { text = s; reads = u }
 
 abbrev pub cases : List Case
@@ -64,42 +64,42 @@ cases =
     ∷ case "" none
     ∷ []
 
--- what the definitions say of a text; a case is named by its text
+-- the value by the definitions of a text; a case is named by its text
 abbrev read : Case → Case
-read c = case (c .text) (unsaid (letters (c .text)))
+read c = case (c .text) (parsed (letters (c .text)))
 
 each-case : LineByLine read cases cases
-unfolding unsaid guess numbersFrom paired same said head parts sayable rising value decimal lastDigits digitCount digitsWithin
+unfolding parsed candidate numbersFrom paired same sentenceText sentenceHead parts expressible ascending value decimal lastDigits digitCount digitsWithin
 each-case =
     let past-13 : LineByLine read (drop 13 cases) (drop 13 cases) =
     (refl, (refl, (refl, (refl, (refl, (refl, (refl, (refl, (refl, (refl, (refl, (refl, tt)))))))))))) in
     (refl, (refl, (refl, (refl, (refl, (refl, (refl, (refl, (refl, (refl, (refl, (refl, (refl, past-13)))))))))))))
 
-pub read-cases : map (λ c. case (c .text) (unsaid (letters (c .text)))) cases ≡ cases
+pub read-cases : map (λ c. case (c .text) (parsed (letters (c .text)))) cases ≡ cases
 read-cases = by-line read cases cases each-case
 
--- what is said of facts, also of such as are not read back
-pub record Saying : Type 0 where
+-- the sentence of facts, also of some that are not parsed back
+pub record SentenceExample : Type 0 where
   pub of : Facts
   pub text : String
 
-abbrev pub sayings : List Saying
-sayings =
+abbrev pub sentenceExamples : List SentenceExample
+sentenceExamples =
     record { of = miss 3 5 3 4 (ran 1 2 ∷ []); text = "task 3 misses at tick 5 with 3 of 4 ticks; task 1 ran 2." }
     ∷ record { of = miss 1 1 1 2 []; text = "task 1 misses at tick 1 with 1 of 2 ticks." }
     ∷ record { of = miss 0 0 0 0 (ran 9 0 ∷ ran 9 0 ∷ []); text = "task 0 misses at tick 0 with 0 of 0 ticks; task 9 ran 0; task 9 ran 0." }
     ∷ []
 
--- what is said, and what is to be
-abbrev saying : Saying → List ℕ
-saying s = said (s .of)
+-- the sentence, and the expected one
+abbrev sentenceExample : SentenceExample → List ℕ
+sentenceExample s = sentenceText (s .of)
 
-abbrev expected : Saying → List ℕ
+abbrev expected : SentenceExample → List ℕ
 expected s = letters (s .text)
 
-each-saying : LineByLine saying sayings (map expected sayings)
-unfolding said head parts decimal lastDigits digitCount digitsWithin
-each-saying = (refl, (refl, (refl, tt)))
+each-example : LineByLine sentenceExample sentenceExamples (map expected sentenceExamples)
+unfolding sentenceText sentenceHead parts decimal lastDigits digitCount digitsWithin
+each-example = (refl, (refl, (refl, tt)))
 
-pub sayings-exact : map (λ s. said (s .of)) sayings ≡ map (λ s. letters (s .text)) sayings
-sayings-exact = by-line saying sayings (map expected sayings) each-saying
+pub examples-exact : map (λ s. sentenceText (s .of)) sentenceExamples ≡ map (λ s. letters (s .text)) sentenceExamples
+examples-exact = by-line sentenceExample sentenceExamples (map expected sentenceExamples) each-example

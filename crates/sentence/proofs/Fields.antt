@@ -1,4 +1,4 @@
--- A word and a number after it: found where they stand, and nothing else can stand there.
+-- A word and a number after it: found where they are, and nothing else can be there.
 use mathlib.Core.Bool.{true, false, false≢true}
 use mathlib.Core.List.{List, _++_}
 use mathlib.Core.Path.{_≡_, ap, sym, subst, _∙_}
@@ -9,15 +9,15 @@ use lib.Seq.{drop-drop, drop-append-seam}
 use Rattle.model.proofs.Bools.{not-false-true}
 use Rattle.text.specs.Decimal.{decimal}
 use Rattle.sentence.specs.Facts.{limit}
-use Rattle.sentence.specs.Sentence.{field}
-use Rattle.sentence.specs.Reading.{begins, Stops, NumberOf, FieldOf}
+use Rattle.sentence.specs.Sentence.{wordField}
+use Rattle.sentence.specs.Reading.{startsWith, Stops, NumberOf, FieldOf}
 use Rattle.sentence.specs.declared.reader.Field.{Field}
 use Rattle.sentence.proofs.Numbers.{number-only}
 use Rattle.sentence.proofs.Reading.{begins-there, begins-append}
 use Rattle.sentence.proofs.Scanning.{missing}
 
 module _ (bs word : List ℕ) (before r : Field) where
-  no-field : r ≡ missing → (before .found ≡ true → (n : ℕ) (rest : List ℕ) → n < limit → Stops rest → ¬ (drop (before .next) bs ≡ field word n rest)) → FieldOf bs word before r
+  no-field : r ≡ missing → (before .found ≡ true → (n : ℕ) (rest : List ℕ) → n < limit → Stops rest → ¬ (drop (before .next) bs ≡ wordField word n rest)) → FieldOf bs word before r
   no-field e h =
       subst (FieldOf bs word before) (sym e) (record { within = omega arith; there = λ q. absurd (false≢true q); none = λ q. h })
 
@@ -26,11 +26,11 @@ module _ (bs word : List ℕ) (before r : Field) where
   field-none e h = no-field e (λ f. absurd (false≢true (sym h ∙ f)))
 
   -- the word is not there
-  pub field-other : r ≡ missing → begins word (drop (before .next) bs) ≡ false → FieldOf bs word before r
-  field-other e h = no-field e (λ f n rest l q d. false≢true (sym h ∙ ap (begins word) d ∙ begins-append word (decimal n ++ rest)))
+  pub field-other : r ≡ missing → startsWith word (drop (before .next) bs) ≡ false → FieldOf bs word before r
+  field-other e h = no-field e (λ f n rest l q d. false≢true (sym h ∙ ap (startsWith word) d ∙ begins-append word (decimal n ++ rest)))
 
   -- the word is there
-  pub field-word : before .found ≡ true → begins word (drop (before .next) bs) ≡ true → NumberOf bs (before .next + length word) r → FieldOf bs word before r
+  pub field-word : before .found ≡ true → startsWith word (drop (before .next) bs) ≡ true → NumberOf bs (before .next + length word) r → FieldOf bs word before r
   field-word f h m =
       let d : drop (length word) (drop (before .next) bs) ≡ drop (before .next + length word) bs = drop-drop (length word) (before .next) bs in
       record {
@@ -42,8 +42,8 @@ module _ (bs word : List ℕ) (before r : Field) where
         none = λ q g n rest l s e. m .none q n rest l s (sym d ∙ ap (drop (length word)) e ∙ drop-append-seam word (decimal n ++ rest));
       }
 
-  -- what stands there is found
-  pub field-found : FieldOf bs word before r → before .found ≡ true → (n : ℕ) (rest : List ℕ) → n < limit → Stops rest → drop (before .next) bs ≡ field word n rest →
+  -- what is there is found
+  pub field-found : FieldOf bs word before r → before .found ≡ true → (n : ℕ) (rest : List ℕ) → n < limit → Stops rest → drop (before .next) bs ≡ wordField word n rest →
       (r .found ≡ true) × (r .value ≡ n) × (drop (r .next) bs ≡ rest)
   field-found o f n rest l s e =
       let yes : r .found ≡ true = not-false-true (r .found) (λ q. o .none q f n rest l s e) in

@@ -1,4 +1,4 @@
--- The head of a sentence: four fields and a word, each found where it stands.
+-- The head of a sentence: four fields and a word, each found where it is.
 use mathlib.Core.Bool.{Bool, true, false, _&&_, false≢true}
 use mathlib.Core.List.{List, _++_}
 use mathlib.Core.Path.{_≡_, refl, ap, sym, subst, _∙_}
@@ -10,9 +10,9 @@ use lib.Dec.{leb, ltb}
 use borrow.Author.Tests.{leb-true, le-leb, ltb-true, lt-ltb}
 use Rattle.model.proofs.Bools.{and-left, and-right, and-both}
 use Rattle.text.specs.Output.{letters}
-use Rattle.sentence.specs.Facts.{Facts, Rising, Sayable}
-use Rattle.sentence.specs.Sentence.{field, parts, head, said}
-use Rattle.sentence.specs.Reading.{begins, FieldOf, HeadOf}
+use Rattle.sentence.specs.Facts.{Facts, Ascending, Expressible}
+use Rattle.sentence.specs.Sentence.{wordField, parts, sentenceHead, sentenceText}
+use Rattle.sentence.specs.Reading.{startsWith, FieldOf, HeadOf}
 use Rattle.sentence.specs.declared.reader.Field.{Field}
 use Rattle.sentence.specs.declared.reader.Head.{Head}
 use Rattle.sentence.proofs.Reading.{begins-there, begins-append, begins-within}
@@ -23,7 +23,7 @@ use Rattle.sentence.proofs.Parting.{place}
 abbrev pub noHead : Head
 noHead = record { found = false; position = 0; tick = 0; had = 0; length = 0; next = 0 }
 
-no-head : (bs : List ℕ) (r : Head) → r ≡ noHead → ((f : Facts) → Sayable f → ¬ (bs ≡ said f)) → HeadOf bs r
+no-head : (bs : List ℕ) (r : Head) → r ≡ noHead → ((f : Facts) → Expressible f → ¬ (bs ≡ sentenceText f)) → HeadOf bs r
 no-head bs r e h = subst (HeadOf bs) (sym e) (record { within = omega arith; there = λ q. absurd (false≢true q); only = λ f s q. absurd (h f s q) })
 
 -- the tests of a head's numbers
@@ -33,16 +33,16 @@ late position had all = leb 1 position && (leb position 32 && ltb had all)
 module _ (bs : List ℕ) (p t h l : Field)
     (first : FieldOf bs (letters "task ") (place 0) p) (second : FieldOf bs (letters " misses at tick ") p t)
     (third : FieldOf bs (letters " with ") t h) (fourth : FieldOf bs (letters " of ") h l) where
-  -- of a sentence of Sayable facts each field is found
-  fields-found : (f : Facts) → Sayable f → bs ≡ said f →
+  -- of a sentence of expressible facts each field is found
+  fields-found : (f : Facts) → Expressible f → bs ≡ sentenceText f →
       (l .found ≡ true) × (p .value ≡ f .position) × (h .value ≡ f .had) × (l .value ≡ f .length) × (drop (l .next) bs ≡ letters " ticks" ++ parts (f .others) (letters "."))
-  unfolding said head
+  unfolding sentenceText sentenceHead
   fields-found f s e =
       let rest : List ℕ = letters " ticks" ++ parts (f .others) (letters ".") in
       let x = field-found bs (letters "task ") (place 0) p first refl (f .position)
-      (field (letters " misses at tick ") (f .tick) (field (letters " with ") (f .had) (field (letters " of ") (f .length) rest))) (omega (arith, s .last)) refl e in
-      let y = field-found bs (letters " misses at tick ") p t second (x .0) (f .tick) (field (letters " with ") (f .had) (field (letters " of ") (f .length) rest)) (s .tick) refl (x .2) in
-      let z = field-found bs (letters " with ") t h third (y .0) (f .had) (field (letters " of ") (f .length) rest) (omega (arith, s .short, s .length)) refl (y .2) in
+      (wordField (letters " misses at tick ") (f .tick) (wordField (letters " with ") (f .had) (wordField (letters " of ") (f .length) rest))) (omega (arith, s .last)) refl e in
+      let y = field-found bs (letters " misses at tick ") p t second (x .0) (f .tick) (wordField (letters " with ") (f .had) (wordField (letters " of ") (f .length) rest)) (s .tick) refl (x .2) in
+      let z = field-found bs (letters " with ") t h third (y .0) (f .had) (wordField (letters " of ") (f .length) rest) (omega (arith, s .short, s .length)) refl (y .2) in
       let w = field-found bs (letters " of ") h l fourth (z .0) (f .length) rest (s .length) refl (z .2) in
       (w .0, x .1, z .1, w .1, w .2)
 
@@ -50,7 +50,7 @@ module _ (bs : List ℕ) (p t h l : Field)
   pub head-none : (r : Head) → r ≡ noHead → l .found ≡ false → HeadOf bs r
   head-none r e q = no-head bs r e (λ f s d. false≢true (sym q ∙ fields-found f s d .0))
 
-  -- the numbers may not be said
+  -- the numbers are not expressible
   pub head-wrong : (r : Head) → r ≡ noHead → late (p .value) (h .value) (l .value) ≡ false → HeadOf bs r
   head-wrong r e q =
       no-head bs r e
@@ -64,14 +64,14 @@ module _ (bs : List ℕ) (p t h l : Field)
       (and-both (leb (p .value) 32) (ltb (h .value) (l .value)) (le-leb (p .value) 32 (omega (arith, s .last))) (lt-ltb (h .value) (l .value) (omega (arith, s .short))))))
 
   -- the last word is not there
-  pub head-other : (r : Head) → r ≡ noHead → begins (letters " ticks") (drop (l .next) bs) ≡ false → HeadOf bs r
+  pub head-other : (r : Head) → r ≡ noHead → startsWith (letters " ticks") (drop (l .next) bs) ≡ false → HeadOf bs r
   head-other r e q =
-      no-head bs r e (λ f s d. false≢true (sym q ∙ ap (begins (letters " ticks")) (fields-found f s d .4) ∙ begins-append (letters " ticks") (parts (f .others) (letters "."))))
+      no-head bs r e (λ f s d. false≢true (sym q ∙ ap (startsWith (letters " ticks")) (fields-found f s d .4) ∙ begins-append (letters " ticks") (parts (f .others) (letters "."))))
 
   -- all is there
-  pub head-there : l .found ≡ true → late (p .value) (h .value) (l .value) ≡ true → begins (letters " ticks") (drop (l .next) bs) ≡ true →
+  pub head-there : l .found ≡ true → late (p .value) (h .value) (l .value) ≡ true → startsWith (letters " ticks") (drop (l .next) bs) ≡ true →
       HeadOf bs (record { found = true; position = p .value; tick = t .value; had = h .value; length = l .value; next = l .next + 6 })
-  unfolding head Rising
+  unfolding sentenceHead Ascending
   head-there q m b =
       let w = fourth .there q in
       let z = third .there (w .0) in
@@ -94,10 +94,10 @@ module _ (bs : List ℕ) (p t h l : Field)
                 others = tt;
               },
               x .1
-                  ∙ ap (λ (r : List ℕ). field (letters "task ") (p .value) r)
+                  ∙ ap (λ (r : List ℕ). wordField (letters "task ") (p .value) r)
                   (y .1
-                  ∙ ap (λ (r : List ℕ). field (letters " misses at tick ") (t .value) r)
-                  (z .1 ∙ ap (λ (r : List ℕ). field (letters " with ") (h .value) r) (w .1 ∙ ap (λ (r : List ℕ). field (letters " of ") (l .value) r) ticks))),
+                  ∙ ap (λ (r : List ℕ). wordField (letters " misses at tick ") (t .value) r)
+                  (z .1 ∙ ap (λ (r : List ℕ). wordField (letters " with ") (h .value) r) (w .1 ∙ ap (λ (r : List ℕ). wordField (letters " of ") (l .value) r) ticks))),
             );
         only =
             λ f s e.

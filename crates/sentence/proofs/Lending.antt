@@ -6,7 +6,7 @@ use Prim.Native.Nat.{ℕ, suc}
 use lib.Dec.{eqb, leb}
 use lib.ListN.{length, getD}
 use Rattle.model.specs.Book.{Book, claims, inRow, taskClaims, widths}
-use Rattle.model.specs.Fence.{openCores}
+use Rattle.model.specs.Fence.{unfencedCores}
 use Rattle.model.specs.Grants.{Claimant, claimants, given, grants, left, some}
 use Rattle.model.specs.Horizon.{horizon}
 use Rattle.model.specs.Search.{any, least, upFrom}
@@ -17,10 +17,10 @@ use Rattle.sentence.specs.Facts.{Facts, named}
 use Rattle.sentence.specs.Waiting.{tally, bookAt, releaseOf, lateJob, ranWhileWaiting, factsAt, missPlace, factsIn}
 
 -- both rules pass over a misfit
-choose-alike : (bs : List Claimant) (F : List ℕ) → grants lending bs F ≡ grants idling bs F
+choose-same : (bs : List Claimant) (F : List ℕ) → grants lending bs F ≡ grants idling bs F
 unfolding grants left
-choose-alike [] F = refl
-choose-alike (b ∷ bs) F = ap {B = List (List ℕ)} (λ x. given b F ∷ x) (choose-alike bs (left idling b F))
+choose-same [] F = refl
+choose-same (b ∷ bs) F = ap {B = List (List ℕ)} (λ x. given b F ∷ x) (choose-same bs (left idling b F))
 
 module _ (τs : List Task) (m f : ℕ) where
   abbrev l : Table
@@ -33,7 +33,7 @@ module _ (τs : List Task) (m f : ℕ) where
   same-row : (u q : ℕ) → inRow l (bookAt l u) q ≡ inRow i (bookAt i u) q
   unfolding claims
   same-row u q =
-      ap (λ (gs : List (List ℕ)). some (getD gs q [])) (choose-alike (claimants (widths l (bookAt l u .tick)) (taskClaims l (bookAt l u))) (openCores l))
+      ap (λ (gs : List (List ℕ)). some (getD gs q [])) (choose-same (claimants (widths l (bookAt l u .tick)) (taskClaims l (bookAt l u))) (unfencedCores l))
       ∙ ap (λ (b : Book). inRow i b q) (lending-idling-books τs m f u)
 
   same-ran : (t p q : ℕ) → ranWhileWaiting l t p q ≡ ranWhileWaiting i t p q

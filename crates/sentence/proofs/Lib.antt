@@ -1,4 +1,4 @@
--- The proofs of the sentence: reading back is exact, counting finds the facts of the miss, no sentence is longer than said; and computed examples.
+-- The proofs of the sentence: parsing is exact, counting finds the facts of the miss, no sentence is longer than its limit; and computed examples.
 pub mod Numbers
 pub mod Exact
 pub mod Reading
@@ -15,10 +15,10 @@ pub mod Adding
 pub mod Tallies
 pub mod Waiting
 pub mod Lending
-pub mod Standing
+pub mod CountingPass
 pub mod Misses
-pub mod Speaking
+pub mod WritingSentence
 pub mod Answers
-pub mod Short
-pub mod Promise
+pub mod LengthsWithin
+pub mod Contract
 pub mod Lines

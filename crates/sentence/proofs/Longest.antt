@@ -12,12 +12,12 @@ use borrow.Author.Tests.{ltb-true, ltb-false}
 use Rattle.text.specs.Decimal.{decimal, lastDigits, digitCount, digitsWithin}
 use Rattle.text.specs.Output.{letters}
 use Rattle.text.proofs.Decimals.{decimal-length, count-one, count-most}
-use Rattle.sentence.specs.Facts.{Facts, Part, Follows, Rising, named, namedFrom}
-use Rattle.sentence.specs.Sentence.{field, parts, head, said}
-use Rattle.sentence.specs.Limits.{Together, Limited, longest}
+use Rattle.sentence.specs.Facts.{Facts, Part, MayFollow, Ascending, named, namedFrom}
+use Rattle.sentence.specs.Sentence.{wordField, parts, sentenceHead, sentenceText}
+use Rattle.sentence.specs.Limits.{CountsWithin, FactsWithinLimits, longestSentence}
 
 -- a field's length
-field-length : (word : List ℕ) (n : ℕ) (rest : List ℕ) → length (field word n rest) ≡ length word + digitCount n + length rest
+field-length : (word : List ℕ) (n : ℕ) (rest : List ℕ) → length (wordField word n rest) ≡ length word + digitCount n + length rest
 field-length word n rest =
     let a = length-append word (decimal n ++ rest) in
     let b = length-append (decimal n) rest in
@@ -33,16 +33,16 @@ position-digits last q l h = go (ltb q 10) refl
     go false e = let b = ltb-false q 10 e in let c = count-most 1 q (omega arith) in omega arith
 
 -- the parts, where each count has at most d digits
-parts-short : (d had last position : ℕ) (ps : List Part) (rest : List ℕ) → position ≤ 32 → last ≤ 31 → Rising last position ps → Together had 1000000 ps →
+parts-short : (d had last position : ℕ) (ps : List Part) (rest : List ℕ) → position ≤ 32 → last ≤ 31 → Ascending last position ps → CountsWithin had 1000000 ps →
     ((n : ℕ) → had + n ≤ 1000000 → digitCount n ≤ d) → length (parts ps rest) + (13 + d) * last + max last 9 ≤ (13 + d) * 31 + 31 + length rest
-unfolding parts Rising Together
+unfolding parts Ascending CountsWithin
 parts-short d had last position [] rest p l r t c = let m : (13 + d) * last ≤ (13 + d) * 31 = mul-le-mul-left (13 + d) l in omega arith
 parts-short d had last position (x ∷ ps) rest p l r t c =
-    let f : Follows last position x = r .0 in
+    let f : MayFollow last position x = r .0 in
     let u : last < x .position = f .later in
     let w : x .position < position = f .above in
     let ih = parts-short d had (x .position) position ps rest p (omega arith) (r .1) (t .1) c in
-    let a = field-length (letters "; task ") (x .position) (field (letters " ran ") (x .count) (parts ps rest)) in
+    let a = field-length (letters "; task ") (x .position) (wordField (letters " ran ") (x .count) (parts ps rest)) in
     let b = field-length (letters " ran ") (x .count) (parts ps rest) in
     let e = position-digits last (x .position) u (omega arith) in
     let g = c (x .count) (t .0) in
@@ -50,23 +50,23 @@ parts-short d had last position (x ∷ ps) rest p l r t c =
     omega arith
 
 -- the whole sentence
-pub said-short : (last : ℕ) (f : Facts) → Limited last f → length (said f) ≤ longest last
-unfolding said head
-said-short last f h = go (ltb (f .had) 10) refl
+pub sentence-short : (last : ℕ) (f : Facts) → FactsWithinLimits last f → length (sentenceText f) ≤ longestSentence last
+unfolding sentenceText sentenceHead
+sentence-short last f h = go (ltb (f .had) 10) refl
   where
     rest : List ℕ
     rest = parts (f .others) (letters ".")
 
-    words : length (said f) ≡ 37 + digitCount (f .position) + digitCount (f .tick) + digitCount (f .had) + digitCount (f .length) + length rest
+    words : length (sentenceText f) ≡ 37 + digitCount (f .position) + digitCount (f .tick) + digitCount (f .had) + digitCount (f .length) + length rest
     words =
         let e = field-length (letters " of ") (f .length) (letters " ticks" ++ rest) in
-        let d = field-length (letters " with ") (f .had) (field (letters " of ") (f .length) (letters " ticks" ++ rest)) in
-        let c = field-length (letters " misses at tick ") (f .tick) (field (letters " with ") (f .had) (field (letters " of ") (f .length) (letters " ticks" ++ rest))) in
+        let d = field-length (letters " with ") (f .had) (wordField (letters " of ") (f .length) (letters " ticks" ++ rest)) in
+        let c = field-length (letters " misses at tick ") (f .tick) (wordField (letters " with ") (f .had) (wordField (letters " of ") (f .length) (letters " ticks" ++ rest))) in
         let b = field-length (letters "task ") (f .position)
-        (field (letters " misses at tick ") (f .tick) (field (letters " with ") (f .had) (field (letters " of ") (f .length) (letters " ticks" ++ rest)))) in
+        (wordField (letters " misses at tick ") (f .tick) (wordField (letters " with ") (f .had) (wordField (letters " of ") (f .length) (letters " ticks" ++ rest)))) in
         omega arith
 
-    go : (t : Bool) → ltb (f .had) 10 ≡ t → length (said f) ≤ longest last
+    go : (t : Bool) → ltb (f .had) 10 ≡ t → length (sentenceText f) ≤ longestSentence last
     go true e =
         let o = count-one (f .had) (ltb-true (f .had) 10 e) in
         let p = count-most 1 (f .position) (omega (arith, h .position)) in
@@ -82,11 +82,11 @@ said-short last f h = go (ltb (f .had) 10) refl
         omega (arith, words, h .tick)
 
 -- .. in numbers
-pub longest-now : longest 1000000000 ≡ 700
+pub longest-now : longestSentence 1000000000 ≡ 700
 unfolding digitCount digitsWithin
 longest-now = refl
 
 -- it is reached: 32 tasks, each above the late one ran in all of its 1,000,000 waiting ticks
-pub longest-reached : length (said (record { position = 32; tick = 1000000000; had = 0; length = 1000000; others = named (replicate 31 1000000) })) ≡ 700
-unfolding said head parts namedFrom decimal lastDigits digitCount digitsWithin
+pub longest-reached : length (sentenceText (record { position = 32; tick = 1000000000; had = 0; length = 1000000; others = named (replicate 31 1000000) })) ≡ 700
+unfolding sentenceText sentenceHead parts namedFrom decimal lastDigits digitCount digitsWithin
 longest-reached = refl

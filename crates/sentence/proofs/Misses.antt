@@ -1,4 +1,4 @@
--- The facts of every first miss may be said, and their sentence is short: the late job had fewer than C ticks, and the ticks that it had and its waiting
+-- The facts of every first miss are expressible, and their sentence is short: the late job had fewer than C ticks, and the ticks that it had and its waiting
 -- ticks are together at most D.
 use mathlib.Core.Path.{_≡_, refl, sym, ap, _∙_, subst}
 use mathlib.Core.Bool.{Bool, true, false, not, _&&_, cond, and-false}
@@ -10,22 +10,22 @@ use lib.Dec.{leb}
 use lib.ListN.{length, getD, length-map, List·getD-eq-default}
 use borrow.Author.Tests.{leb-true, leb-false, not-true}
 use Rattle.model.specs.Search.{upFrom}
-use Rattle.model.specs.Task.{Table, AllSound, task, release}
+use Rattle.model.specs.Task.{Table, AllValid, task, release}
 use Rattle.model.specs.Book.{Book, Job, full, work, served, jobClaims, inRow}
 use Rattle.model.specs.Verdict.{FirstMiss}
 use Rattle.model.proofs.Bools.{and-left, and-right, not-true-false}
 use Rattle.model.proofs.Jobs.{after-release}
 use Rattle.model.proofs.Lists.{up-length, up-at, map-at}
-use Rattle.model.proofs.Runs.{full-next, full-tick, good-full}
+use Rattle.model.proofs.Runs.{full-next, full-tick, bounds-full}
 use Rattle.table.specs.Limits.{mostHorizon}
 use Rattle.text.specs.Decimal.{digitCount, digitsWithin}
 use Rattle.text.proofs.Decimals.{count-most}
-use Rattle.sentence.specs.Facts.{limit, Sayable}
-use Rattle.sentence.specs.Limits.{Limited, longest}
-use Rattle.sentence.specs.Sentence.{said}
+use Rattle.sentence.specs.Facts.{limit, Expressible}
+use Rattle.sentence.specs.Limits.{FactsWithinLimits, longestSentence}
+use Rattle.sentence.specs.Sentence.{sentenceText}
 use Rattle.sentence.specs.Waiting.{tally, bookAt, releaseOf, hadBy, waits, ranWhileWaiting, factsAt}
-use Rattle.sentence.proofs.Longest.{said-short, longest-now}
-use Rattle.sentence.proofs.Naming.{named-rising, named-together}
+use Rattle.sentence.proofs.Longest.{sentence-short, longest-now}
+use Rattle.sentence.proofs.Naming.{named-ascending, named-together}
 use Rattle.sentence.proofs.Tallies.{tally-most, tally-apart}
 use Rattle.sentence.proofs.Waiting.{missed-here, due-here, released-here, deadline-within, same-book, had-full, ranIn}
 
@@ -55,7 +55,7 @@ horizon-digits : digitCount mostHorizon ≡ 10
 unfolding digitCount digitsWithin
 horizon-digits = refl
 
-module _ (s : Table) (ok : AllSound s) (t p : ℕ) (f : FirstMiss s t (suc p)) where
+module _ (s : Table) (ok : AllValid s) (t p : ℕ) (f : FirstMiss s t (suc p)) where
   abbrev job : ℕ
   job = missed-here s ok t p f .1 .0
 
@@ -64,7 +64,7 @@ module _ (s : Table) (ok : AllSound s) (t p : ℕ) (f : FirstMiss s t (suc p)) w
 
   -- fewer ticks than C
   pub had-short : hadBy s t p < task s p .length
-  had-short = omega (arith, had-full s ok t p f, good-full s ok t p job below .short (missed-here s ok t p f .1 .2))
+  had-short = omega (arith, had-full s ok t p f, bounds-full s ok t p job below .short (missed-here s ok t p f .1 .2))
 
   -- its ticks and its waiting ticks are at most D
   pub had-waiting : (q : ℕ) → hadBy s t p + ranWhileWaiting s t p q ≤ task s p .deadline
@@ -117,38 +117,38 @@ module _ (s : Table) (ok : AllSound s) (t p : ℕ) (f : FirstMiss s t (suc p)) w
   few-ticks q = tally-most t (ranIn s t p q)
 
   module _ (few : length (s .tasks) ≤ 32) where
-    -- THE LAW: the facts of the first miss may be said
-    pub miss-sayable : t < limit → task s p .length < limit → Sayable (factsAt s t p)
-    miss-sayable lt lc = record {
+    -- THE LAW: the facts of the first miss are expressible
+    pub miss-expressible : t < limit → task s p .length < limit → Expressible (factsAt s t p)
+    miss-expressible lt lc = record {
       first = omega arith;
       last = omega (arith, below);
       tick = lt;
       short = had-short;
       length = lc;
       others =
-          named-rising 0 (suc p) counts (each-count (λ n. n < limit) (omega arith) (λ q. omega (arith, few-ticks q)))
+          named-ascending 0 (suc p) counts (each-count (λ n. n < limit) (omega arith) (λ q. omega (arith, few-ticks q)))
           (λ k l. past k (omega arith));
     }
 
     module _ (lc : task s p .length ≤ 1000000) (ld : task s p .deadline ≤ 1000000) where
       -- and their sentence is short: as long as the limit of the ticks lets it be
-      pub miss-within : (last : ℕ) → digitCount t ≤ digitCount last → t < limit → length (said (factsAt s t p)) ≤ longest last
-      miss-within last d lt = said-short last (factsAt s t p) limited
+      pub miss-within : (last : ℕ) → digitCount t ≤ digitCount last → t < limit → length (sentenceText (factsAt s t p)) ≤ longestSentence last
+      miss-within last d lt = sentence-short last (factsAt s t p) limited
         where
-          limited : Limited last (factsAt s t p)
+          limited : FactsWithinLimits last (factsAt s t p)
           limited = record {
             position = omega (arith, below);
             tick = d;
             short = had-short;
             length = lc;
-            others = miss-sayable lt (omega arith) .others;
+            others = miss-expressible lt (omega arith) .others;
             together = named-together 0 (hadBy s t p) 1000000 counts (each-count (λ n. hadBy s t p + n ≤ 1000000) (omega (arith, had-waiting 0)) (λ q. omega (arith, had-waiting q)));
           }
 
     -- for ticks up to the limit of a horizon
-    pub miss-longest : t ≤ mostHorizon → task s p .length ≤ 1000000 → task s p .deadline ≤ 1000000 → length (said (factsAt s t p)) ≤ longest mostHorizon
-    miss-longest lt lc ld = miss-within lc ld mostHorizon (omega (arith, count-most 9 t (omega arith), horizon-digits)) (omega arith)
+    pub miss-at-most : t ≤ mostHorizon → task s p .length ≤ 1000000 → task s p .deadline ≤ 1000000 → length (sentenceText (factsAt s t p)) ≤ longestSentence mostHorizon
+    miss-at-most lt lc ld = miss-within lc ld mostHorizon (omega (arith, count-most 9 t (omega arith), horizon-digits)) (omega arith)
 
     -- .. in bytes
-    pub miss-short : t ≤ mostHorizon → task s p .length ≤ 1000000 → task s p .deadline ≤ 1000000 → length (said (factsAt s t p)) ≤ 700
-    miss-short lt lc ld = omega (arith, miss-longest lt lc ld, longest-now)
+    pub miss-short : t ≤ mostHorizon → task s p .length ≤ 1000000 → task s p .deadline ≤ 1000000 → length (sentenceText (factsAt s t p)) ≤ 700
+    miss-short lt lc ld = omega (arith, miss-at-most lt lc ld, longest-now)

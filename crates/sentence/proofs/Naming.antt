@@ -1,4 +1,4 @@
--- The parts that an array of counts names: they rise by themselves, and a count set after the last one names a part at the end.
+-- The parts of an array of counts: they rise by themselves, and a count set after the last one adds a part at the end.
 use mathlib.Core.Bool.{Bool, true, false, cond}
 use mathlib.Core.List.{List, [], _∷_, _++_}
 use mathlib.Core.Path.{_≡_, refl, ap, ap₂, sym, _∙_}
@@ -9,16 +9,16 @@ use lib.ListN.{length, getD, set}
 use lib.Dec.{eqb, leb}
 use borrow.Author.Tests.{ne-eqb, eqb-true, eqb-false, leb-true, leb-false}
 use Rattle.text.specs.Output.{letters}
-use Rattle.sentence.specs.Facts.{Facts, Part, limit, Follows, Rising, namedFrom, factsBy}
-use Rattle.sentence.specs.Limits.{Together}
+use Rattle.sentence.specs.Facts.{Facts, Part, limit, MayFollow, Ascending, namedFrom, factsBy}
+use Rattle.sentence.specs.Limits.{CountsWithin}
 use Rattle.sentence.specs.declared.Facts as code
-use Rattle.sentence.specs.Sentence.{field, parts}
+use Rattle.sentence.specs.Sentence.{wordField, parts}
 
 -- parts and more parts
 pub parts-append : (ps qs : List Part) (rest : List ℕ) → parts (ps ++ qs) rest ≡ parts ps (parts qs rest)
 unfolding parts
 parts-append [] qs rest = refl
-parts-append (p ∷ ps) qs rest = ap (λ (x : List ℕ). field (letters "; task ") (p .position) (field (letters " ran ") (p .count) x)) (parts-append ps qs rest)
+parts-append (p ∷ ps) qs rest = ap (λ (x : List ℕ). wordField (letters "; task ") (p .position) (wordField (letters " ran ") (p .count) x)) (parts-append ps qs rest)
 
 -- zeros name nothing
 pub named-zeros : (i : ℕ) (ns : List ℕ) → ((k : ℕ) → getD ns k 0 ≡ 0) → namedFrom i ns ≡ []
@@ -26,19 +26,19 @@ unfolding namedFrom
 named-zeros i [] h = refl
 named-zeros i (n ∷ ns) h = let e : n ≡ 0 = h 0 in rw e (named-zeros (suc i) ns (λ k. h (suc k)))
 
--- .. also behind other counts
+-- .. also after other counts
 pub named-behind : (i : ℕ) (ns zs : List ℕ) → ((k : ℕ) → getD zs k 0 ≡ 0) → namedFrom i (ns ++ zs) ≡ namedFrom i ns
 unfolding namedFrom
 named-behind i [] zs h = named-zeros i zs h
 named-behind i (n ∷ ns) zs h = rw (named-behind (suc i) ns zs h)
 
--- where each count and what was had are together at most so many, so they are in each part
-pub named-together : (i had most : ℕ) (ns : List ℕ) → ((k : ℕ) → had + getD ns k 0 ≤ most) → Together had most (namedFrom i ns)
-unfolding namedFrom Together
+-- where each count and what was had are together at most `most`, so they are in each part
+pub named-together : (i had most : ℕ) (ns : List ℕ) → ((k : ℕ) → had + getD ns k 0 ≤ most) → CountsWithin had most (namedFrom i ns)
+unfolding namedFrom CountsWithin
 named-together i had most [] h = tt
 named-together i had most (n ∷ ns) h = go (eqb n 0) (named-together (suc i) had most ns (λ k. h (suc k)))
   where
-    go : (t : Bool) → Together had most (namedFrom (suc i) ns) → Together had most (cond t (namedFrom (suc i) ns) (record { position = suc i; count = n } ∷ namedFrom (suc i) ns))
+    go : (t : Bool) → CountsWithin had most (namedFrom (suc i) ns) → CountsWithin had most (cond t (namedFrom (suc i) ns) (record { position = suc i; count = n } ∷ namedFrom (suc i) ns))
     go true ih = ih
     go false ih = (h 0, ih)
 
@@ -66,31 +66,31 @@ named-set i (x ∷ xs) (suc j) n l p h = go (eqb x 0) (named-set (suc i) xs j n 
         ap (λ (ps : List Part). record { position = suc i; count = x } ∷ ps) (ih ∙ ap (λ (m : ℕ). namedFrom (suc i) xs ++ (record { position = suc m; count = n } ∷ [])) more)
 
 -- parts that rise from a later task on rise from an earlier one on
-rising-weaken : (a b position : ℕ) (ps : List Part) → a ≤ b → Rising b position ps → Rising a position ps
-unfolding Rising
-rising-weaken a b position [] l h = tt
-rising-weaken a b position (p ∷ ps) l h =
+ascending-weaken : (a b position : ℕ) (ps : List Part) → a ≤ b → Ascending b position ps → Ascending a position ps
+unfolding Ascending
+ascending-weaken a b position [] l h = tt
+ascending-weaken a b position (p ∷ ps) l h =
     let f = h .0 in
     (record { later = omega arith; above = f .above; some = f .some; fits = f .fits }, h .1)
 
 -- what is named rises
-pub named-rising : (i position : ℕ) (ns : List ℕ) → ((k : ℕ) → getD ns k 0 < limit) → ((k : ℕ) → position ≤ suc (i + k) → getD ns k 0 ≡ 0) → Rising i position (namedFrom i ns)
-unfolding namedFrom Rising
-named-rising i position [] f z = tt
-named-rising i position (n ∷ ns) f z = go (eqb n 0) refl (named-rising (suc i) position ns (λ k. f (suc k)) (λ k l. z (suc k) (omega arith)))
+pub named-ascending : (i position : ℕ) (ns : List ℕ) → ((k : ℕ) → getD ns k 0 < limit) → ((k : ℕ) → position ≤ suc (i + k) → getD ns k 0 ≡ 0) → Ascending i position (namedFrom i ns)
+unfolding namedFrom Ascending
+named-ascending i position [] f z = tt
+named-ascending i position (n ∷ ns) f z = go (eqb n 0) refl (named-ascending (suc i) position ns (λ k. f (suc k)) (λ k l. z (suc k) (omega arith)))
   where
     above : (t : Bool) → leb position (suc i) ≡ t → (n ≡ 0 → ⊥) → suc i < position
     above true e q = absurd (q (z 0 (omega (arith, leb-true position (suc i) e))))
     above false e q = leb-false position (suc i) e
 
-    first : eqb n 0 ≡ false → Follows i position (record { position = suc i; count = n })
+    first : eqb n 0 ≡ false → MayFollow i position (record { position = suc i; count = n })
     first e =
         let p : n ≡ 0 → ⊥ = eqb-false n 0 e in
         let s = f 0 in
         record { later = omega arith; above = above (leb position (suc i)) refl p; some = omega arith; fits = s }
 
-    go : (t : Bool) → eqb n 0 ≡ t → Rising (suc i) position (namedFrom (suc i) ns) → Rising i position (cond t (namedFrom (suc i) ns) (record { position = suc i; count = n } ∷ namedFrom (suc i) ns))
-    go true e ih = rising-weaken i (suc i) position (namedFrom (suc i) ns) (omega arith) ih
+    go : (t : Bool) → eqb n 0 ≡ t → Ascending (suc i) position (namedFrom (suc i) ns) → Ascending i position (cond t (namedFrom (suc i) ns) (record { position = suc i; count = n } ∷ namedFrom (suc i) ns))
+    go true e ih = ascending-weaken i (suc i) position (namedFrom (suc i) ns) (omega arith) ih
     go false e ih = (first e, ih)
 
 -- the position of the first part
@@ -136,9 +136,9 @@ named-injective i (x ∷ xs) (y ∷ ys) l e = go (eqb x 0) refl (eqb y 0) refl (
     go false p true q ih h = let z = first-later (suc i) ys (record { position = suc i; count = x }) (namedFrom (suc i) xs) (sym h) in absurd (omega arith)
     go false p false q ih h = ap₂ (λ (z : ℕ) (zs : List ℕ). z ∷ zs) (ap firstCount h) (ih (ap laterParts h))
 
--- two structs of 32 counts that tell the same facts are the same
-pub told-injective : (f g : code.Facts) → length (f .ran) ≡ length (g .ran) → factsBy f ≡ factsBy g → f ≡ g
-told-injective f g l e =
+-- two structs of 32 counts with the same facts are the same
+pub meaning-injective : (f g : code.Facts) → length (f .ran) ≡ length (g .ran) → factsBy f ≡ factsBy g → f ≡ g
+meaning-injective f g l e =
     let p : f .position ≡ g .position = ap (λ (x : Facts). x .position) e in
     let t : f .tick ≡ g .tick = ap (λ (x : Facts). x .tick) e in
     let h : f .had ≡ g .had = ap (λ (x : Facts). x .had) e in

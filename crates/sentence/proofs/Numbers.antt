@@ -13,8 +13,8 @@ use Rattle.text.specs.Output.{letters}
 use Rattle.text.proofs.Values.{digits-exact}
 use Rattle.text.proofs.Decimals.{decimal-digits, decimal-some, decimal-value}
 use Rattle.sentence.specs.Facts.{Facts, Part}
-use Rattle.sentence.specs.Sentence.{parts, head, said}
-use Rattle.sentence.specs.Unsaid.{closed, numbersFrom, paired, arranged, guess}
+use Rattle.sentence.specs.Sentence.{parts, sentenceHead, sentenceText}
+use Rattle.sentence.specs.Parsed.{numberBefore, numbersFrom, paired, arranged, candidate}
 use Rattle.sentence.specs.Reading.{Stops}
 
 -- digits lengthen the run
@@ -25,8 +25,8 @@ digits-on run (d ∷ ds) rest e =
     rw (and-left (isDigit d) (all isDigit ds) e)
     (digits-on (run ++ (d ∷ [])) ds rest (and-right (isDigit d) (all isDigit ds) e) ∙ ap (λ (r : List ℕ). numbersFrom r rest) (append-snoc run d ds))
 
--- a run of digits says its number
-closed-some : (ds ns : List ℕ) → 1 ≤ length ds → closed ds ns ≡ value ds ∷ ns
+-- a run of digits represents its number
+closed-some : (ds ns : List ℕ) → 1 ≤ length ds → numberBefore ds ns ≡ value ds ∷ ns
 closed-some [] ns h = absurd (omega arith)
 closed-some (d ∷ ds) ns h = refl
 
@@ -48,33 +48,33 @@ number-only m n x y p q e =
     ap (λ (ns : List ℕ). getD ns 0 0) (sym (number-first m x p) ∙ ap (numbersFrom []) e ∙ number-first n y q) in
     (one, sym (drop-append-seam (decimal m) x) ∙ ap (drop (length (decimal m))) e ∙ ap (λ (k : ℕ). drop (length (decimal k)) (decimal n ++ y)) one ∙ drop-append-seam (decimal n) y)
 
--- after a number stands a part or the full stop
+-- after a number is a part or the full stop
 pub parts-stop : (ps : List Part) → Stops (parts ps (letters "."))
 unfolding parts
 parts-stop [] = refl
 parts-stop (p ∷ ps) = refl
 
 -- the numbers of the parts
-flat : List Part → List ℕ
-flat [] = []
-flat (p ∷ ps) = p .position ∷ p .count ∷ flat ps
+partNumbers : List Part → List ℕ
+partNumbers [] = []
+partNumbers (p ∷ ps) = p .position ∷ p .count ∷ partNumbers ps
 
-parts-numbers : (ps : List Part) → numbersFrom [] (parts ps (letters ".")) ≡ flat ps
-unfolding numbersFrom parts flat
+parts-numbers : (ps : List Part) → numbersFrom [] (parts ps (letters ".")) ≡ partNumbers ps
+unfolding numbersFrom parts partNumbers
 parts-numbers [] = refl
 parts-numbers (p ∷ ps) =
     number-first (p .position) (letters " ran " ++ (decimal (p .count) ++ parts ps (letters "."))) refl
     ∙ ap (λ (ns : List ℕ). p .position ∷ ns) (number-first (p .count) (parts ps (letters ".")) (parts-stop ps) ∙ ap (λ (ns : List ℕ). p .count ∷ ns) (parts-numbers ps))
 
-paired-flat : (ps : List Part) → paired (flat ps) ≡ ps
-unfolding paired flat
-paired-flat [] = refl
-paired-flat (p ∷ ps) = ap (λ (qs : List Part). p ∷ qs) (paired-flat ps)
+paired-part-numbers : (ps : List Part) → paired (partNumbers ps) ≡ ps
+unfolding paired partNumbers
+paired-part-numbers [] = refl
+paired-part-numbers (p ∷ ps) = ap (λ (qs : List Part). p ∷ qs) (paired-part-numbers ps)
 
 -- the numbers of a sentence
-said-numbers : (f : Facts) → numbersFrom [] (said f) ≡ f .position ∷ f .tick ∷ f .had ∷ f .length ∷ flat (f .others)
-unfolding said head numbersFrom
-said-numbers f =
+sentence-numbers : (f : Facts) → numbersFrom [] (sentenceText f) ≡ f .position ∷ f .tick ∷ f .had ∷ f .length ∷ partNumbers (f .others)
+unfolding sentenceText sentenceHead numbersFrom
+sentence-numbers f =
     let rest : List ℕ = parts (f .others) (letters ".") in
     number-first (f .position) (letters " misses at tick " ++ (decimal
     (f .tick) ++ (letters " with " ++ (decimal (f .had) ++ (letters " of " ++ (decimal (f .length) ++ (letters " ticks" ++ rest))))))) refl
@@ -86,12 +86,12 @@ said-numbers f =
     (number-first (f .length) (letters " ticks" ++ rest) refl ∙ ap (λ (ns : List ℕ). f .length ∷ ns) (parts-numbers (f .others)))))
 
 -- they are the facts
-pub numbers-said : (f : Facts) → guess (said f) ≡ f
-unfolding guess
-numbers-said f =
-    ap arranged (said-numbers f)
-    ∙ ap (λ (ps : List Part). record { position = f .position; tick = f .tick; had = f .had; length = f .length; others = ps }) (paired-flat (f .others))
+pub numbers-sentence : (f : Facts) → candidate (sentenceText f) ≡ f
+unfolding candidate
+numbers-sentence f =
+    ap arranged (sentence-numbers f)
+    ∙ ap (λ (ps : List Part). record { position = f .position; tick = f .tick; had = f .had; length = f .length; others = ps }) (paired-part-numbers (f .others))
 
 -- two different sets of facts never give the same sentence
-pub said-injective : (f g : Facts) → said f ≡ said g → f ≡ g
-said-injective f g e = sym (numbers-said f) ∙ ap guess e ∙ numbers-said g
+pub sentence-injective : (f g : Facts) → sentenceText f ≡ sentenceText g → f ≡ g
+sentence-injective f g e = sym (numbers-sentence f) ∙ ap candidate e ∙ numbers-sentence g

@@ -1,4 +1,4 @@
--- Reading the parts one by one: those read so far are what the counts so far name,
+-- Reading the parts one by one: those read so far are those of the counts so far,
 -- and parts that rise from the start are, from here on, parts that rise after the last task read.
 use mathlib.Core.Bool.{Bool, true, false, _&&_, false≢true}
 use mathlib.Core.List.{List, [], _∷_, _++_}
@@ -11,16 +11,16 @@ use lib.Dec.{eqb, ltb}
 use borrow.Author.Tests.{ltb-true, lt-ltb, eqb-true, eqb-false}
 use Rattle.model.proofs.Bools.{and-left, and-right, and-both}
 use Rattle.text.specs.Output.{letters}
-use Rattle.sentence.specs.Facts.{Part, limit, Follows, Rising, named}
-use Rattle.sentence.specs.Sentence.{field, parts}
-use Rattle.sentence.specs.Unsaid.{same}
+use Rattle.sentence.specs.Facts.{Part, limit, MayFollow, Ascending, named}
+use Rattle.sentence.specs.Sentence.{wordField, parts}
+use Rattle.sentence.specs.Parsed.{same}
 use Rattle.sentence.specs.Reading.{FieldOf, PartsOf}
 use Rattle.sentence.specs.declared.reader.Field.{Field}
 use Rattle.sentence.specs.declared.reader.Parts as code
 use Rattle.sentence.proofs.Numbers.{parts-stop}
 use Rattle.sentence.proofs.Exact.{same-exact}
 use Rattle.sentence.proofs.Fields.{field-found}
-use Rattle.sentence.proofs.Naming.{parts-append, named-zeros, named-set, named-rising}
+use Rattle.sentence.proofs.Naming.{parts-append, named-zeros, named-set, named-ascending}
 
 -- a place where a field may begin
 abbrev pub place : ℕ → Field
@@ -34,8 +34,8 @@ pub record Read (bs : List ℕ) (from position : ℕ) (ran : List ℕ) (last at 
   pub fits : (k : ℕ) → getD ran k 0 < limit
   pub zeros : (k : ℕ) → last ≤ k → getD ran k 0 ≡ 0
   pub before : drop from bs ≡ parts (named ran) (drop at bs)
-  pub after : (ps : List Part) → Rising 0 position ps → drop from bs ≡ parts ps (letters ".") →
-      (qs : List Part) × Rising last position qs × (drop at bs ≡ parts qs (letters "."))
+  pub after : (ps : List Part) → Ascending 0 position ps → drop from bs ≡ parts ps (letters ".") →
+      (qs : List Part) × Ascending last position qs × (drop at bs ≡ parts qs (letters "."))
 
 no-counts : (n k : ℕ) → _≡_ {A = ℕ} (getD (replicate n 0) k 0) 0
 no-counts zero k = refl
@@ -69,18 +69,18 @@ passed last position task count t =
 module _ (bs : List ℕ) (from position : ℕ) (ran : List ℕ) (last at : ℕ) (task count : Field)
     (read : Read bs from position ran last at) (small : position ≤ 32)
     (first : FieldOf bs (letters "; task ") (place at) task) (second : FieldOf bs (letters " ran ") task count) where
-  -- a part that stands here is found
-  part-found : (p : Part) (qs : List Part) → Follows last position p → drop at bs ≡ parts (p ∷ qs) (letters ".") →
+  -- a part that is here is found
+  part-found : (p : Part) (qs : List Part) → MayFollow last position p → drop at bs ≡ parts (p ∷ qs) (letters ".") →
       (count .found ≡ true) × (task .value ≡ p .position) × (count .value ≡ p .count) × (drop (count .next) bs ≡ parts qs (letters "."))
   unfolding parts
   part-found p qs f e =
-      let x = field-found bs (letters "; task ") (place at) task first refl (p .position) (field (letters " ran ") (p .count) (parts qs (letters "."))) (omega (arith, f .above)) refl e in
+      let x = field-found bs (letters "; task ") (place at) task first refl (p .position) (wordField (letters " ran ") (p .count) (parts qs (letters "."))) (omega (arith, f .above)) refl e in
       let y = field-found bs (letters " ran ") task count second (x .0) (p .count) (parts qs (letters ".")) (f .fits) (parts-stop qs) (x .2) in
       (y .0, x .1, y .1, y .2)
 
-  -- the part that was found stands here
+  -- the part that was found is here
   pub here : count .found ≡ true → (at < count .next) × (count .next ≤ length bs) × (count .value < limit) × (task .value < limit)
-      × (drop at bs ≡ field (letters "; task ") (task .value) (field (letters " ran ") (count .value) (drop (count .next) bs)))
+      × (drop at bs ≡ wordField (letters "; task ") (task .value) (wordField (letters " ran ") (count .value) (drop (count .next) bs)))
   here f =
       let y = second .there f in
       let x = first .there (y .0) in
@@ -93,23 +93,23 @@ module _ (bs : List ℕ) (from position : ℕ) (ran : List ℕ) (last at : ℕ) 
   no-part f e = let z : _≡_ {A = ℕ} 59 46 = ap (λ (xs : List ℕ). getD xs 0 0) (sym (here f .4) ∙ e) in omega arith
 
   -- the parts that are left, where one was found here
-  pub part-left : count .found ≡ true → (ps : List Part) → Rising 0 position ps → drop from bs ≡ parts ps (letters ".") →
-      Follows last position (record { position = task .value; count = count .value })
-      × ((qs : List Part) × Rising (task .value) position qs × (drop (count .next) bs ≡ parts qs (letters ".")))
-  unfolding parts Rising
+  pub part-left : count .found ≡ true → (ps : List Part) → Ascending 0 position ps → drop from bs ≡ parts ps (letters ".") →
+      MayFollow last position (record { position = task .value; count = count .value })
+      × ((qs : List Part) × Ascending (task .value) position qs × (drop (count .next) bs ≡ parts qs (letters ".")))
+  unfolding parts Ascending
   part-left f ps r e = let a = read .after ps r e in go (a .0) (a .1) (a .2)
     where
-      go : (qs : List Part) → Rising last position qs → drop at bs ≡ parts qs (letters ".") →
-          Follows last position (record { position = task .value; count = count .value })
-          × ((rs : List Part) × Rising (task .value) position rs × (drop (count .next) bs ≡ parts rs (letters ".")))
+      go : (qs : List Part) → Ascending last position qs → drop at bs ≡ parts qs (letters ".") →
+          MayFollow last position (record { position = task .value; count = count .value })
+          × ((rs : List Part) × Ascending (task .value) position rs × (drop (count .next) bs ≡ parts rs (letters ".")))
       go [] s d = absurd (no-part f d)
       go (q ∷ qs) s d =
           let x = part-found q qs (s .0) d in
-          let g : Follows last position q = s .0 in
+          let g : MayFollow last position q = s .0 in
           let m : task .value ≡ q .position = x .1 in
           let n : count .value ≡ q .count = x .2 in (
             record { later = omega (arith, g .later); above = omega (arith, g .above); some = omega (arith, g .some); fits = here f .2 },
-            (qs, subst (λ (k : ℕ). Rising k position qs) (sym m) (s .1), x .3),
+            (qs, subst (λ (k : ℕ). Ascending k position qs) (sym m) (s .1), x .3),
           )
 
   -- it is read
@@ -147,7 +147,7 @@ module _ (bs : List ℕ) (from position : ℕ) (ran : List ℕ) (last at : ℕ) 
           let v = getD-set-other ran (task .value - 1) k (count .value) 0 (eqb-false k (task .value - 1) e) in
           omega (arith, read .fits k)
 
-  -- it may not stand here
+  -- it may not be here
   pub read-wrong : count .found ≡ true → tests last position (task .value) (count .value) ≡ false → PartsOf bs from position (record { found = false; ran = ran })
   read-wrong f t = record {
     there = λ q. absurd (false≢true q);
@@ -161,16 +161,16 @@ module _ (bs : List ℕ) (from position : ℕ) (ran : List ℕ) (last at : ℕ) 
 
   -- there is no part: the sentence ends here or nowhere
   pub read-stop : count .found ≡ false → PartsOf bs from position (record { found = same (drop at bs) (letters "."); ran = ran })
-  unfolding parts Rising
+  unfolding parts Ascending
   read-stop f = record {
     there =
         λ q. (
-          named-rising 0 position ran (read .fits) (λ k l. read .zeros k (let a = read .above in omega arith)),
+          named-ascending 0 position ran (read .fits) (λ k l. read .zeros k (let a = read .above in omega arith)),
           read .before ∙ ap (parts (named ran)) (same-exact (drop at bs) (letters ".") .0 q),
         );
     none = λ q ps r e. let a = read .after ps r e in go q (a .0) (a .1) (a .2);
   }
     where
-      go : same (drop at bs) (letters ".") ≡ false → (qs : List Part) → Rising last position qs → drop at bs ≡ parts qs (letters ".") → ⊥
+      go : same (drop at bs) (letters ".") ≡ false → (qs : List Part) → Ascending last position qs → drop at bs ≡ parts qs (letters ".") → ⊥
       go q [] s d = false≢true (sym q ∙ same-exact (drop at bs) (letters ".") .1 d)
       go q (p ∷ qs) s d = false≢true (sym f ∙ part-found p qs (s .0) d .0)

@@ -1,4 +1,4 @@
--- Bytes put one after the other into a buffer that has room for all of them, and the parts of an array one count after the other.
+-- Bytes put one after the other into a buffer that has space for all of them, and the parts of an array one count after the other.
 use mathlib.Core.Bool.{Bool, true, false, cond}
 use mathlib.Core.List.{List, [], _∷_, _++_, append-assoc, append-nil}
 use mathlib.Core.Path.{_≡_, refl, ap, sym, subst, _∙_}
@@ -15,10 +15,10 @@ use Rattle.text.specs.Output.{letters}
 use Rattle.text.specs.Written.{Put}
 use Rattle.text.proofs.Writing.{put-then, put-length}
 use Rattle.sentence.specs.Facts.{Facts, Part, named, namedFrom}
-use Rattle.sentence.specs.Sentence.{field, parts, head, said}
+use Rattle.sentence.specs.Sentence.{wordField, parts, sentenceHead, sentenceText}
 use Rattle.sentence.proofs.Naming.{parts-append}
 
--- there is room for what comes next
+-- there is space for what comes next
 pub room-after : {a b : List ℕ} {i j : ℕ} {s : List ℕ} (u : List ℕ) → Put a i s b j → i + length (s ++ u) ≤ length a → j + length u ≤ length b
 room-after {a} {b} {i} {j} {s} u p h =
     let n = length-append s u in
@@ -38,7 +38,7 @@ pub parts-rest : (ps : List Part) (rest : List ℕ) → parts ps rest ≡ parts 
 unfolding parts
 parts-rest [] rest = refl
 parts-rest (p ∷ ps) rest =
-    ap (λ (x : List ℕ). field (letters "; task ") (p .position) (field (letters " ran ") (p .count) x)) (parts-rest ps rest) ∙ simp append-assoc
+    ap (λ (x : List ℕ). wordField (letters "; task ") (p .position) (wordField (letters " ran ") (p .count) x)) (parts-rest ps rest) ∙ simp append-assoc
 
 -- counts and more counts
 named-append : (i : ℕ) (xs ys : List ℕ) → namedFrom i (xs ++ ys) ≡ namedFrom i xs ++ namedFrom (i + length xs) ys
@@ -70,7 +70,7 @@ parts-next ran k h =
     ap (λ (j : ℕ). parts (named (take k ran)) [] ++ parts (namedFrom j (getD ran k 0 ∷ [])) []) (sym n) ∙ sym (parts-named (take k ran) (getD ran k 0 ∷ []))
     ∙ ap (λ (xs : List ℕ). parts (named xs) []) (sym (ap (λ (j : ℕ). take j ran) (add-one k) ∙ take-suc ran k 0 h))
 
--- the first counts take no more room than all
+-- the first counts take no more space than all
 pub parts-first : (ran : List ℕ) (k : ℕ) → length (parts (named (take k ran)) []) ≤ length (parts (named ran) [])
 parts-first ran k =
     let e : parts (named ran) [] ≡ parts (named (take k ran)) [] ++ parts (namedFrom (length (take k ran)) (drop k ran)) [] =
@@ -90,7 +90,7 @@ part-some q n h =
     let z : q + 1 ≡ suc q = omega arith in
     rw (e, z) (simp (append-assoc, append-nil))
 
--- there is room for the first of two
+-- there is space for the first of two
 pub room-first : (i n : ℕ) (s u : List ℕ) → i + length (s ++ u) ≤ n → i + length s ≤ n
 room-first i n s u h = omega (arith, length-append s u)
 
@@ -117,14 +117,14 @@ module _ (f : Facts) where
   abbrev pub upTo6 : List ℕ
   upTo6 = (upTo4 ++ letters " ticks") ++ parts (f .others) []
 
-  pub pieces : upTo6 ++ letters "." ≡ said f
-  unfolding said head
+  pub pieces : upTo6 ++ letters "." ≡ sentenceText f
+  unfolding sentenceText sentenceHead
   pieces =
       in-a-row first second third fourth (letters " ticks") (parts (f .others) []) (letters ".")
       ∙ ap (λ (x : List ℕ). first ++ (second ++ (third ++ (fourth ++ (letters " ticks" ++ x))))) (sym (parts-rest (f .others) (letters ".")))
 
-  -- the room that a buffer has which the sentence fits in
-  module _ (n : ℕ) (fits : length (said f) ≤ n) where
+  -- the space that a buffer has which the sentence fits in
+  module _ (n : ℕ) (fits : length (sentenceText f) ≤ n) where
     pub room-7 : 0 + length (upTo6 ++ letters ".") ≤ n
     room-7 = subst (λ (x : List ℕ). 0 + length x ≤ n) (sym pieces) (omega arith)
 

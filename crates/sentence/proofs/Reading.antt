@@ -15,43 +15,43 @@ use Rattle.text.specs.Decimal.{all, isDigit, Digit, value, decimal}
 use Rattle.text.proofs.Values.{digit-exact, digits-exact}
 use Rattle.text.proofs.Decimals.{decimal-digits, decimal-some, decimal-length, decimal-lead, decimal-only, count-one}
 use Rattle.text.specs.Output.{letters}
-use Rattle.sentence.specs.Unsaid.{same}
-use Rattle.sentence.specs.Reading.{begins, digitsOf, Stops}
+use Rattle.sentence.specs.Parsed.{same}
+use Rattle.sentence.specs.Reading.{startsWith, digitsOf, Stops}
 
 -- WORDS
 
 -- a text begins with a word: the word and the rest
-pub begins-there : (word bs : List ℕ) → begins word bs ≡ true → bs ≡ word ++ drop (length word) bs
-unfolding begins
+pub begins-there : (word bs : List ℕ) → startsWith word bs ≡ true → bs ≡ word ++ drop (length word) bs
+unfolding startsWith
 begins-there [] bs e = refl
 begins-there (c ∷ cs) [] e = absurd (false≢true e)
 begins-there (c ∷ cs) (b ∷ bs) e =
-    ap₂ (λ (x : ℕ) (xs : List ℕ). x ∷ xs) (sym (eqb-true c b (and-left (eqb c b) (begins cs bs) e))) (begins-there cs bs (and-right (eqb c b) (begins cs bs) e))
+    ap₂ (λ (x : ℕ) (xs : List ℕ). x ∷ xs) (sym (eqb-true c b (and-left (eqb c b) (startsWith cs bs) e))) (begins-there cs bs (and-right (eqb c b) (startsWith cs bs) e))
 
-pub begins-append : (word rest : List ℕ) → begins word (word ++ rest) ≡ true
-unfolding begins
+pub begins-append : (word rest : List ℕ) → startsWith word (word ++ rest) ≡ true
+unfolding startsWith
 begins-append [] rest = refl
-begins-append (c ∷ cs) rest = and-both (eqb c c) (begins cs (cs ++ rest)) (eq-eqb c c refl) (begins-append cs rest)
+begins-append (c ∷ cs) rest = and-both (eqb c c) (startsWith cs (cs ++ rest)) (eq-eqb c c refl) (begins-append cs rest)
 
 -- a word that a place begins with ends within the text
-pub begins-within : (word bs : List ℕ) (i : ℕ) → i ≤ length bs → begins word (drop i bs) ≡ true → i + length word ≤ length bs
+pub begins-within : (word bs : List ℕ) (i : ℕ) → i ≤ length bs → startsWith word (drop i bs) ≡ true → i + length word ≤ length bs
 begins-within word bs i l e =
     let n : length (drop i bs) ≡ length word + length (drop (length word) (drop i bs)) =
     ap length (begins-there word (drop i bs) e) ∙ length-append word (drop (length word) (drop i bs)) in
     omega (arith, length-drop i bs)
 
 -- .. byte by byte
-pub begins-over : (word bs : List ℕ) (k : ℕ) → length word ≤ k → begins (drop k word) bs ≡ true
-unfolding begins
+pub begins-over : (word bs : List ℕ) (k : ℕ) → length word ≤ k → startsWith (drop k word) bs ≡ true
+unfolding startsWith
 begins-over word bs k h = rw (drop-of-length-le word h)
 
-pub begins-past : (word bs : List ℕ) (k i : ℕ) → k < length word → length bs ≤ i → begins (drop k word) (drop i bs) ≡ false
-unfolding begins
+pub begins-past : (word bs : List ℕ) (k i : ℕ) → k < length word → length bs ≤ i → startsWith (drop k word) (drop i bs) ≡ false
+unfolding startsWith
 begins-past word bs k i h l = rw (drop-cons word k 0 h, drop-of-length-le bs l)
 
 pub begins-on : (word bs : List ℕ) (k i : ℕ) → k < length word → i < length bs →
-    begins (drop k word) (drop i bs) ≡ eqb (getD word k 0) (getD bs i 0) && begins (drop (suc k) word) (drop (suc i) bs)
-unfolding begins
+    startsWith (drop k word) (drop i bs) ≡ eqb (getD word k 0) (getD bs i 0) && startsWith (drop (suc k) word) (drop (suc i) bs)
+unfolding startsWith
 begins-on word bs k i h l = rw (drop-cons word k 0 h, drop-cons bs i 0 l)
 
 -- DIGITS
@@ -150,7 +150,7 @@ number-plain bs rest n h e = go (eqb (getD bs 0 0) 48) refl
         let o = count-one n (omega arith) in
         not-below (digitsOf bs) (omega arith)
 
--- the first digits say no more than all
+-- the first digits represent no more than all
 value-first : (xs ys : List ℕ) → value xs ≤ value (xs ++ ys)
 unfolding value
 value-first [] ys = omega arith

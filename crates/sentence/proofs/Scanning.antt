@@ -28,7 +28,7 @@ no-number bs i r e h =
     subst (NumberOf bs i) (sym e) (record { within = omega arith; there = λ q. absurd (false≢true q); none = λ q. h })
 
 module _ (bs : List ℕ) (i : ℕ) where
-  -- where no digit stands
+  -- where no digit is
   pub no-digits : i + digitsOf (drop i bs) ≤ i → (n : ℕ) (rest : List ℕ) → n < limit → Stops rest → ¬ (drop i bs ≡ decimal n ++ rest)
   no-digits h n rest l q e = omega (arith, number-front (drop i bs) rest n q e .0, decimal-some n)
 
@@ -38,7 +38,7 @@ module _ (bs : List ℕ) (i : ℕ) where
       let b : getD bs i 0 ≡ getD (drop i bs) 0 0 = ap (λ (k : ℕ). getD bs k 0) (sym (add-zero i)) ∙ sym (getD-drop i bs 0 0) in
       ap₂ (λ (x k : ℕ). eqb x 48 && ltb 1 k) b n
 
-  -- where a zero stands in front of other digits
+  -- where a zero is in front of other digits
   pub zero-first : (end : ℕ) → end ≡ i + digitsOf (drop i bs) → eqb (getD bs i 0) 48 && ltb 1 (end - i) ≡ true →
       (n : ℕ) (rest : List ℕ) → n < limit → Stops rest → ¬ (drop i bs ≡ decimal n ++ rest)
   zero-first end h z n rest l q e = false≢true (sym (here end h ∙ number-plain (drop i bs) rest n q e) ∙ z)
@@ -64,7 +64,7 @@ module _ (bs : List ℕ) (i : ℕ) where
       let b : getD (drop i bs) (j - i) 0 ≡ getD bs j 0 = getD-drop i bs (j - i) 0 ∙ ap (λ (x : ℕ). getD bs x 0) k in
       ap₂ (λ (x y : ℕ). x * 10 + (y - 48)) e (sym b) ∙ value-on (drop i bs) (j - i) (omega (arith, length-drop i bs)) ∙ ap (λ (x : ℕ). value (take x (drop i bs))) m
 
-  -- where the digits so far say too much
+  -- where the digits so far represent too much
   pub too-large : (j v : ℕ) → i ≤ j → j < i + digitsOf (drop i bs) → i ≤ length bs → v ≡ value (take (j - i) (drop i bs)) → limit ≤ v * 10 + (getD bs j 0 - 48) →
       (n : ℕ) (rest : List ℕ) → n < limit → Stops rest → ¬ (drop i bs ≡ decimal n ++ rest)
   too-large j v l h w e m n rest b q f =
@@ -76,7 +76,7 @@ module _ (bs : List ℕ) (i : ℕ) where
       let u : value (take (j + 1 - i) s) ≤ value (front s) = subst (λ (ds : List ℕ). value ds ≤ value (front s)) t y in
       omega arith
 
-  -- the number that stands there
+  -- the number that is there
   pub is-number : (end v : ℕ) → end ≡ i + digitsOf (drop i bs) → i < end → i ≤ length bs → eqb (getD bs i 0) 48 && ltb 1 (end - i) ≡ false → v < limit → v ≡ value (take (end - i) (drop i bs)) →
       NumberOf bs i (record { found = true; value = v; next = end })
   is-number end v h l w z b e =

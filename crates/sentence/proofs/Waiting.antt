@@ -10,7 +10,7 @@ use lib.ListN.{length, getD, take, replicate, length-map, List·getD-eq-default}
 use lib.Seq.{getD-take, length-take-le, ext-getD}
 use borrow.Author.Tests.{leb-true, leb-false, le-leb, lt-leb}
 use Rattle.model.specs.Search.{bit, upFrom}
-use Rattle.model.specs.Task.{Table, AllSound, task, release, due}
+use Rattle.model.specs.Task.{Table, AllValid, task, release, due}
 use Rattle.model.specs.Book.{Book, full, inRow, Missed, shownOf}
 use Rattle.model.specs.Grants.{some}
 use Rattle.model.specs.Verdict.{FirstMiss}
@@ -27,7 +27,7 @@ use Rattle.sentence.proofs.Tallies.{tally-none, tally-more, tally-most}
 
 -- THE LATE JOB
 
-module _ (s : Table) (ok : AllSound s) (t p : ℕ) (f : FirstMiss s t (suc p)) where
+module _ (s : Table) (ok : AllValid s) (t p : ℕ) (f : FirstMiss s t (suc p)) where
   same-place : f .place .0 ≡ p
   same-place = omega (arith, f .place .1)
 
@@ -60,7 +60,7 @@ module _ (s : Table) (ok : AllSound s) (t p : ℕ) (f : FirstMiss s t (suc p)) w
   pub had-full : hadBy s t p ≡ full s t .job p job .had
   had-full = ap (λ (b : Book). b .job p (lateJob s t p) .had) (same-book t (omega arith)) ∙ ap (λ (k : ℕ). full s t .job p k .had) late-job
 
--- WHO RUNS: at full length nobody lends, so that who is given cores is just who the row shows, under rule 4 too
+-- THE TASKS THAT RUN: at full length no place lends, so that the places that are given cores are exactly those that the row shows, under rule 4 too
 pub shown-runs : (s : Table) (u q : ℕ) → some (getD (shownOf s (bookAt s u)) q []) ≡ inRow s (bookAt s u) q
 shown-runs s u q =
     ap (λ (b : Book). some (getD (shownOf s b) q [])) (empty-full s u)

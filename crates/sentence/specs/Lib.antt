@@ -1,10 +1,10 @@
--- What the sentence of a miss is: its facts, its bytes, how it is read back, and the numbers for what is turned down.
+-- The sentence of a miss: its facts, its bytes, its parser, and the numbers for what is turned down.
 pub mod Facts
 pub mod Sentence
-pub mod Unsaid
+pub mod Parsed
 pub mod Limits
 pub mod Reading
 pub mod Waiting
 pub mod Counting
 pub mod Numbers
-pub mod Spoken
+pub mod SentenceAnswer

@@ -5,7 +5,7 @@ ghost use lib.ListN.{length, getD};
 ghost use Rattle.model.specs.Search.{bit};
 ghost use Rattle.model.specs.Sizes.{mostTasks};
 ghost use Rattle.model.specs.Verdict.{FirstMiss};
-ghost use Rattle.judge.specs.Judged.{tableIn, Fit};
+ghost use Rattle.judge.specs.Judged.{loadedTable, Fit};
 ghost use Rattle.sentence.specs.Facts.{factsBy};
 ghost use Rattle.sentence.specs.Waiting.{factsAt};
 ghost use Rattle.sentence.specs.Counting.{added, above};
@@ -48,28 +48,28 @@ fn counts_above(ran: [u64; MOST_TASKS], place: usize) -> [u64; MOST_TASKS]
     counts
 }
 
-// The facts of the first miss, of a place at a tick: the run up to that tick, in which from the late job's release on each tick that it is not granted
-// counts for those that are.
+// The facts of the first miss, of a place at a tick: the run up to that tick; from the late job's release on, each tick in which it is not granted cores
+// is counted for the places that are.
 pub(crate) fn count(table: Loaded, tick: u32, place: usize) -> Facts
-    requires { ⌜ Fit table × FirstMiss (tableIn table) tick (suc place) × (tick ≤ table .horizon) ⌝ }
-    ensures { λ r. ⌜ factsBy r ≡ factsAt (tableIn table) tick place ⌝ }
+    requires { ⌜ Fit table × FirstMiss (loadedTable table) tick (suc place) × (tick ≤ table .horizon) ⌝ }
+    ensures { λ r. ⌜ factsBy r ≡ factsAt (loadedTable table) tick place ⌝ }
 {
     let tasks = table.tasks;
     let late = tasks[place];
     let release = tick - late.deadline;
-    let columns = full::columns::columns_of(table);
+    let columns = simulation::columns::columns_of(table);
     let setting = columns.setting;
     let widths = columns.widths;
     let times = columns.times;
-    let machine = full::machine::start(table);
-    let mut pace = machine.pace;
+    let machine = simulation::machine::start(table);
+    let mut registers = machine.registers;
     let mut places = machine.places;
     let mut ran = [0u64; MOST_TASKS];
-    while pace.tick < tick {
-        let before = pace.tick;
-        pace = full::step(setting, &widths, &times, pace, &mut places);
+    while registers.tick < tick {
+        let before = registers.tick;
+        registers = simulation::step(setting, &widths, &times, registers, &mut places);
         if release <= before {
-            let granted = pace.granted;
+            let granted = registers.granted;
             let runs = has(granted, place);
             if !runs {
                 add(granted, &mut ran);

@@ -5,8 +5,8 @@ ghost use Prim.Native.Nat.{_+_, _≤_};
 ghost use lib.Dec.{eqb, leb, ltb};
 ghost use lib.ListN.{length, drop};
 ghost use Rattle.text.specs.Output.{letters};
-ghost use Rattle.sentence.specs.Unsaid.{same};
-ghost use Rattle.sentence.specs.Reading.{begins, digitsOf, NumberOf, FieldOf, PartsOf, HeadOf};
+ghost use Rattle.sentence.specs.Parsed.{same};
+ghost use Rattle.sentence.specs.Reading.{startsWith, digitsOf, NumberOf, FieldOf, PartsOf, HeadOf};
 ghost use Rattle.model.specs.Sizes.{mostTasks};
 use model::MOST_TASKS;
 
@@ -36,7 +36,7 @@ pub struct Head {
 // Whether the bytes from `at` on begin with a word.
 pub fn begins_with(bytes: &[u8], at: usize, word: &[u8]) -> bool
     requires { ⌜ at ≤ length (now bytes) ⌝ }
-    ensures { λ r. ⌜ r ≡ begins (now (word .entry)) (drop at (now (bytes .entry))) ⌝ }
+    ensures { λ r. ⌜ r ≡ startsWith (now (word .entry)) (drop at (now (bytes .entry))) ⌝ }
 {
     let mut k: usize = 0;
     while k < word.len() {
@@ -69,7 +69,7 @@ fn digits_end(bytes: &[u8], at: usize) -> usize
     end
 }
 
-// A zero stands in front of other digits.
+// Whether a zero is in front of other digits.
 fn is_padded(first: u8, count: usize) -> bool
     ensures { λ r. ⌜ r ≡ eqb first 48 && ltb 1 count ⌝ }
 {
@@ -87,7 +87,7 @@ fn missing() -> Field
     }
 }
 
-// The number at `at`, of all the digits that stand there: no zero in front of others, and below 2^64.
+// The number at `at`, of all the digits there: no zero in front of others, and below 2^64.
 fn read_number(bytes: &[u8], at: usize) -> Field
     requires { ⌜ at ≤ length (now bytes) ⌝ }
     ensures { λ r. ⌜ NumberOf (now (bytes .entry)) at r ⌝ }
@@ -116,7 +116,7 @@ fn read_number(bytes: &[u8], at: usize) -> Field
     }
 }
 
-// The number after a word that stands where another field ends.
+// The number after a word where another field ends.
 pub(crate) fn read_field(bytes: &[u8], before: Field, word: &[u8]) -> Field
     requires { ⌜ before .next ≤ length (now bytes) ⌝ }
     ensures { λ r. ⌜ FieldOf (now (bytes .entry)) (now (word .entry)) before r ⌝ }
@@ -143,7 +143,7 @@ pub(crate) fn place(at: usize) -> Field
     }
 }
 
-// A part may follow one that names the task `last`, in the sentence of a late task at a position.
+// Whether a part may follow one of the task `last`, in the sentence of a late task at a position.
 fn may_follow(last: u64, position: u64, task: u64, count: u64) -> bool
     ensures { λ r. ⌜ r ≡ ltb last task && (ltb task position && ltb 0 count) ⌝ }
 {
@@ -192,14 +192,14 @@ pub(crate) fn read_parts(bytes: &[u8], from: usize, position: u64) -> Parts
     }
 }
 
-// A task at such a position may be late, with so many ticks had out of its length.
+// Whether a task at such a position may be late, with this number of ticks had out of its length.
 fn may_be_late(position: u64, had: u64, length: u64) -> bool
     ensures { λ r. ⌜ r ≡ leb 1 position && (leb position mostTasks && ltb had length) ⌝ }
 {
     (1 <= position) & ((position <= 32) & (had < length))
 }
 
-// No sentence begins so.
+// No sentence begins with these bytes.
 fn no_head() -> Head
     ensures { λ r. ⌜ r ≡ record { found = mathlib.Core.Bool.false; position = 0; tick = 0; had = 0; length = 0; next = 0 } ⌝ }
 {

@@ -1,4 +1,4 @@
--- What a line asks, as the code finds it: the numbers behind the letter by the first space among them, and the operation by its letter.
+-- The operation of a line, as the code finds it: the numbers after the letter by the first space among them, and the operation by its letter.
 use mathlib.Core.Bool.{Bool, true, false, cond}
 use mathlib.Core.List.{List, [], _∷_}
 use mathlib.Core.Logic.{⊎-elim}
@@ -11,17 +11,17 @@ use lib.Seq.{take-all}
 use lib.Dec.{eqb, leb}
 use borrow.Author.Tests.{ne-eqb, leb-true, leb-false}
 use Rattle.text.specs.Format.{mostDigits, joined}
-use Rattle.text.specs.Input.{lengthTo, foundIn}
+use Rattle.text.specs.Input.{lengthTo, parseNumber}
 use Rattle.text.specs.Output.{space}
-use Rattle.text.specs.declared.line.Found.{Found}
-use Rattle.text.specs.declared.line.Found.the-variants as found
+use Rattle.text.specs.declared.line.ParsedNumber.{ParsedNumber}
+use Rattle.text.specs.declared.line.ParsedNumber.the-variants as found
 use Rattle.text.proofs.Lines.{mark-within, mark-stop}
 use Rattle.text.proofs.Numbers.{found-nothing}
 use Rattle.session.specs.declared.operations.Numbers.{Numbers}
 use Rattle.session.specs.declared.operations.Numbers.the-variants.{Bare, One, Two, Other}
 use Rattle.session.specs.declared.operations.Operation.{Operation}
 use Rattle.session.specs.declared.operations.Operation.the-variants.{Nothing}
-use Rattle.session.specs.Operation.{noneLong, wordsIn, oneOf, twoOf, numbersOf, numbersBehind, advanceBy, rowBy, setsBy, withdrawBy, withdrawAllBy}
+use Rattle.session.specs.Operation.{noneLong, wordsIn, oneOf, twoOf, numbersOf, numbersAfter, advanceBy, rowBy, setsBy, withdrawBy, withdrawAllBy}
 use Rattle.session.specs.Operation.{operationBy, operationOf}
 
 -- WORDS
@@ -38,7 +38,7 @@ words-one (b ∷ l) e = go (eqb b space) e (words-one l)
     go true e ih = absurd (omega arith)
     go false e ih = ap (joined b) (ih (omega arith))
 
--- else it is its first word, and the words behind the space
+-- else it is its first word, and the words after the space
 pub words-more : (l : List ℕ) → lengthTo space l < length l → wordsIn l ≡ take (lengthTo space l) l ∷ wordsIn (drop (suc (lengthTo space l)) l)
 unfolding wordsIn lengthTo
 words-more [] h = absurd (not-suc-le-zero h)
@@ -58,11 +58,11 @@ words-some l = ⊎-elim (λ e. (l, [], words-one l e)) (λ h. (take (lengthTo sp
 
 -- NUMBERS
 
--- a text with a space says no number
-spaced : (l : List ℕ) → lengthTo space l < length l → found.Nothing ≡ foundIn l
+-- a text with a space represents no number
+spaced : (l : List ℕ) → lengthTo space l < length l → found.Nothing ≡ parseNumber l
 spaced l h = found-nothing l (λ n. omega (arith, mark-stop space l h, n .digits (lengthTo space l) h))
 
-two-none : (f : Found) → twoOf f found.Nothing ≡ Other
+two-none : (f : ParsedNumber) → twoOf f found.Nothing ≡ Other
 two-none (found.Value n) = refl
 two-none found.Nothing = refl
 
@@ -71,59 +71,59 @@ numbers-many : (w v l : List ℕ) → numbersOf (w ∷ v ∷ wordsIn l) ≡ Othe
 unfolding numbersOf
 numbers-many w v l = let s = words-some l in ap (λ (ls : List (List ℕ)). numbersOf (w ∷ v ∷ ls)) (s .2)
 
-numbers-last : (w l : List ℕ) → numbersOf (w ∷ wordsIn l) ≡ twoOf (foundIn w) (foundIn l)
+numbers-last : (w l : List ℕ) → numbersOf (w ∷ wordsIn l) ≡ twoOf (parseNumber w) (parseNumber l)
 unfolding numbersOf
 numbers-last w l = ⊎-elim whole part (eq-or-lt-of-le (mark-within space l))
   where
-    whole : lengthTo space l ≡ length l → numbersOf (w ∷ wordsIn l) ≡ twoOf (foundIn w) (foundIn l)
+    whole : lengthTo space l ≡ length l → numbersOf (w ∷ wordsIn l) ≡ twoOf (parseNumber w) (parseNumber l)
     whole e = ap (λ (ls : List (List ℕ)). numbersOf (w ∷ ls)) (words-one l e)
 
-    part : lengthTo space l < length l → numbersOf (w ∷ wordsIn l) ≡ twoOf (foundIn w) (foundIn l)
+    part : lengthTo space l < length l → numbersOf (w ∷ wordsIn l) ≡ twoOf (parseNumber w) (parseNumber l)
     part h =
         ap (λ (ls : List (List ℕ)). numbersOf (w ∷ ls)) (words-more l h) ∙ numbers-many w (take (lengthTo space l) l) (drop (suc (lengthTo space l)) l)
-        ∙ sym (two-none (foundIn w)) ∙ ap (twoOf (foundIn w)) (spaced l h)
+        ∙ sym (two-none (parseNumber w)) ∙ ap (twoOf (parseNumber w)) (spaced l h)
 
 -- with no space there is one number or none
-numbers-one : (l : List ℕ) → lengthTo space l ≡ length l → numbersOf (wordsIn l) ≡ oneOf (foundIn l)
+numbers-one : (l : List ℕ) → lengthTo space l ≡ length l → numbersOf (wordsIn l) ≡ oneOf (parseNumber l)
 unfolding numbersOf
 numbers-one l e = ap numbersOf (words-one l e)
 
--- else what stands before the first space and what stands behind it are the two numbers
+-- else what is before the first space and what is after it are the two numbers
 numbers-two :
     (l : List ℕ) → lengthTo space l < length l
-    → numbersOf (wordsIn l) ≡ twoOf (foundIn (take (lengthTo space l) l)) (foundIn (drop (suc (lengthTo space l)) l))
+    → numbersOf (wordsIn l) ≡ twoOf (parseNumber (take (lengthTo space l) l)) (parseNumber (drop (suc (lengthTo space l)) l))
 numbers-two l h = ap numbersOf (words-more l h) ∙ numbers-last (take (lengthTo space l) l) (drop (suc (lengthTo space l)) l)
 
--- BEHIND THE LETTER
+-- AFTER THE LETTER
 
-pub behind-none : (l : List ℕ) → length l ≡ 0 → Bare ≡ numbersBehind l
-unfolding numbersBehind
+pub behind-none : (l : List ℕ) → length l ≡ 0 → Bare ≡ numbersAfter l
+unfolding numbersAfter
 behind-none [] e = refl
 behind-none (b ∷ l) e = absurd (omega arith)
 
--- a word behind the first byte ends within the bytes
+-- a word after the first byte ends within the bytes
 pub word-end : (l : List ℕ) (end : ℕ) → (length l ≡ 0 → ⊥) → end ≡ 1 + lengthTo space (drop 1 l) → end ≤ length l
 word-end [] end n e = absurd (n refl)
 word-end (b ∷ l) end n e = omega (arith, e, mark-within space l)
 
-behind-space : (b : ℕ) (l : List ℕ) → b ≡ space → numbersOf (wordsIn l) ≡ numbersBehind (b ∷ l)
-unfolding numbersBehind
+behind-space : (b : ℕ) (l : List ℕ) → b ≡ space → numbersOf (wordsIn l) ≡ numbersAfter (b ∷ l)
+unfolding numbersAfter
 behind-space b l e = rw e
 
 pub behind-one :
     (l : List ℕ) (end : ℕ) → (length l ≡ 0 → ⊥) → getD l 0 0 ≡ space → end ≡ 1 + lengthTo space (drop 1 l) → end ≡ length l
-    → oneOf (foundIn (take (end - 1) (drop 1 l))) ≡ numbersBehind l
+    → oneOf (parseNumber (take (end - 1) (drop 1 l))) ≡ numbersAfter l
 behind-one [] end n q e h = absurd (n refl)
 behind-one (b ∷ l) end n q e h =
     let whole : lengthTo space l ≡ length l = omega arith in
-    ap (λ (x : List ℕ). oneOf (foundIn x)) (take-all (end - 1) l (omega arith)) ∙ sym (numbers-one l whole) ∙ behind-space b l q
+    ap (λ (x : List ℕ). oneOf (parseNumber x)) (take-all (end - 1) l (omega arith)) ∙ sym (numbers-one l whole) ∙ behind-space b l q
 
 pub behind-two :
     (l : List ℕ) (end : ℕ) → (length l ≡ 0 → ⊥) → getD l 0 0 ≡ space → end ≡ 1 + lengthTo space (drop 1 l) → (end ≡ length l → ⊥)
-    → twoOf (foundIn (take (end - 1) (drop 1 l))) (foundIn (take (length l - (end + 1)) (drop (end + 1) l))) ≡ numbersBehind l
+    → twoOf (parseNumber (take (end - 1) (drop 1 l))) (parseNumber (take (length l - (end + 1)) (drop (end + 1) l))) ≡ numbersAfter l
 behind-two [] end n q e h = absurd (n refl)
 behind-two (b ∷ l) end n q e h =
-    ap₂ (λ (x y : List ℕ). twoOf (foundIn x) (foundIn y)) (ap (λ (i : ℕ). take i l) first) (ap (λ (i : ℕ). take (length (b ∷ l) - i) (drop i (b ∷ l))) second ∙ rest)
+    ap₂ (λ (x y : List ℕ). twoOf (parseNumber x) (parseNumber y)) (ap (λ (i : ℕ). take i l) first) (ap (λ (i : ℕ). take (length (b ∷ l) - i) (drop i (b ∷ l))) second ∙ rest)
     ∙ sym (numbers-two l part) ∙ behind-space b l q
   where
     part : lengthTo space l < length l
@@ -138,8 +138,8 @@ behind-two (b ∷ l) end n q e h =
     rest : take (length (b ∷ l) - suc (suc (lengthTo space l))) (drop (suc (lengthTo space l)) l) ≡ drop (suc (lengthTo space l)) l
     rest = take-all (length (b ∷ l) - suc (suc (lengthTo space l))) (drop (suc (lengthTo space l)) l) (omega (arith, length-drop (suc (lengthTo space l)) l))
 
-pub behind-other : (l : List ℕ) → (length l ≡ 0 → ⊥) → (getD l 0 0 ≡ space → ⊥) → Other ≡ numbersBehind l
-unfolding numbersBehind
+pub behind-other : (l : List ℕ) → (length l ≡ 0 → ⊥) → (getD l 0 0 ≡ space → ⊥) → Other ≡ numbersAfter l
+unfolding numbersAfter
 behind-other [] n q = absurd (n refl)
 behind-other (b ∷ l) n q = rw (ne-eqb b space q)
 
@@ -174,10 +174,10 @@ unfolding operationOf
 asked-empty [] e = refl
 asked-empty (b ∷ l) e = absurd (omega arith)
 
-pub asked-by : (l : List ℕ) → (length l ≡ 0 → ⊥) → operationBy (getD l 0 0) (numbersBehind (take (length l - 1) (drop 1 l))) ≡ operationOf l
+pub asked-by : (l : List ℕ) → (length l ≡ 0 → ⊥) → operationBy (getD l 0 0) (numbersAfter (take (length l - 1) (drop 1 l))) ≡ operationOf l
 unfolding operationOf
 asked-by [] n = absurd (n refl)
-asked-by (b ∷ l) n = ap (λ (x : List ℕ). operationBy b (numbersBehind x)) (take-all (length (b ∷ l) - 1) l (omega arith))
+asked-by (b ∷ l) n = ap (λ (x : List ℕ). operationBy b (numbersAfter x)) (take-all (length (b ∷ l) - 1) l (omega arith))
 
 -- A LINE THAT IS TOO LONG
 
@@ -185,7 +185,7 @@ asked-by (b ∷ l) n = ap (λ (x : List ℕ). operationBy b (numbersBehind x)) (
 numbers-long : (l : List ℕ) → 2 * mostDigits + 1 < length l → numbersOf (wordsIn l) ≡ Other
 numbers-long l h = ⊎-elim whole part (eq-or-lt-of-le (mark-within space l))
   where
-    none : (w : List ℕ) → mostDigits < length w → found.Nothing ≡ foundIn w
+    none : (w : List ℕ) → mostDigits < length w → found.Nothing ≡ parseNumber w
     none w q = found-nothing w (λ n. omega (arith, q, n .short))
 
     whole : lengthTo space l ≡ length l → numbersOf (wordsIn l) ≡ Other
@@ -200,13 +200,13 @@ numbers-long l h = ⊎-elim whole part (eq-or-lt-of-le (mark-within space l))
         second : List ℕ
         second = drop (suc (lengthTo space l)) l
 
-        go : (t : Bool) → leb (lengthTo space l) mostDigits ≡ t → twoOf (foundIn first) (foundIn second) ≡ Other
+        go : (t : Bool) → leb (lengthTo space l) mostDigits ≡ t → twoOf (parseNumber first) (parseNumber second) ≡ Other
         go true e =
             let s = leb-true (lengthTo space l) mostDigits e in
-            ap (twoOf (foundIn first)) (sym (none second (omega (arith, h, s, length-drop (suc (lengthTo space l)) l)))) ∙ two-none (foundIn first)
+            ap (twoOf (parseNumber first)) (sym (none second (omega (arith, h, s, length-drop (suc (lengthTo space l)) l)))) ∙ two-none (parseNumber first)
         go false e =
             let s = leb-false (lengthTo space l) mostDigits e in
-            ap (λ (f : Found). twoOf f (foundIn second)) (sym (none first (omega (arith, q, s, length-take (lengthTo space l) l))))
+            ap (λ (f : ParsedNumber). twoOf f (parseNumber second)) (sym (none first (omega (arith, q, s, length-take (lengthTo space l) l))))
 
 by-other : (b : ℕ) → operationBy b Other ≡ Nothing
 unfolding operationBy
@@ -222,7 +222,7 @@ by-other b = go (eqb b 97) (eqb b 114) (eqb b 119) (eqb b 87) (eqb b 115)
 
 -- an operation has at most 23 bytes: a letter, and twice a space and ten digits
 pub long-none : (l : List ℕ) → noneLong ≤ length l → operationOf l ≡ Nothing
-unfolding operationOf numbersBehind
+unfolding operationOf numbersAfter
 long-none [] h = absurd (not-suc-le-zero h)
 long-none (a ∷ []) h = absurd (not-suc-le-zero (le-of-suc-le-suc h))
 long-none (a ∷ b ∷ l) h = ap (operationBy a) (go (eqb b space)) ∙ by-other a

@@ -1,4 +1,4 @@
--- Lines and what they ask, and operations of small runs with what is said to them, computed from the definitions.
+-- Lines and their operations, and operations of small runs with the replies to them, computed from the definitions.
 use mathlib.Core.Bool.{false}
 use mathlib.Core.List.{List, [], _∷_, map}
 use mathlib.Core.Path.{_≡_, refl}
@@ -12,7 +12,7 @@ use Rattle.phase.specs.declared.Task.{Task}
 use Rattle.phase.specs.Task.{unused}
 use Rattle.run.specs.declared.Run.{Run}
 use Rattle.run.specs.Run.{grantsIn, lentIn, mapFirst, moved, offerIn, seeksIn, withdrawnIn}
-use Rattle.run.specs.Numbers.{pastCount, runOut, firstLateIn, misemptiedIn, misreportedIn}
+use Rattle.run.specs.Numbers.{pastCount, runOut, firstLateIn, wrongEmptiesIn, wrongReportsIn}
 use Rattle.run.specs.Advance.{advanceAnswer, advanceOf}
 use Rattle.run.specs.Withdraw.{withdrawAnswer, withdrawOf, withdrawAllOf}
 use Rattle.run.specs.Row.{rowAnswer, bytesIn, rowOf}
@@ -22,10 +22,10 @@ use Rattle.text.specs.Format.{isNumber}
 use Rattle.text.specs.Output.{letters, fields, lineOf}
 use Rattle.session.specs.declared.operations.Operation.{Operation}
 use Rattle.session.specs.declared.operations.Operation.the-variants.{Advance, Withdraw, WithdrawAll, Row, Sets, Nothing}
-use Rattle.session.specs.Operation.{wordsIn, numbersOf, numbersBehind, operationBy, operationOf, plain, answerLine, shownLine, setsLine, said, runAfter}
-use Rattle.session.specs.Talk.{nothing, lastLine, linesFrom, replies}
+use Rattle.session.specs.Operation.{wordsIn, numbersOf, numbersAfter, operationBy, operationOf, wordLine, answerLine, shownLine, setsLine, reply, runAfter}
+use Rattle.session.specs.Transcript.{nothing, lastLine, linesFrom, replies}
 
--- WHAT A LINE ASKS
+-- THE OPERATION OF A LINE
 
 -- a line and the operation that it is
 pub record Line : Type 0 where
@@ -66,7 +66,7 @@ lines =
     ∷ asks "w 1 2" Nothing
     ∷ asks "W" Nothing
     ∷ asks "W 1 2" Nothing
-    -- one space before each number, and nothing behind the last
+    -- one space before each number, and nothing after the last
     ∷ asks "a " Nothing
     ∷ asks "a  1" Nothing
     ∷ asks "a 1 " Nothing
@@ -134,12 +134,12 @@ lines =
     ∷ asks "a 4294967295  4294967295" Nothing
     ∷ []
 
--- what the definitions say of a line; it is named by its text
+-- the value by the definitions of a line; it is named by its text
 abbrev worked : Line → Line
 worked l = asks (l .text) (operationOf (letters (l .text)))
 
 each-line : LineByLine worked lines lines
-unfolding operationOf operationBy numbersBehind numbersOf wordsIn isNumber all value
+unfolding operationOf operationBy numbersAfter numbersOf wordsIn isNumber all value
 each-line =
     let past-80 : LineByLine worked (drop 80 lines) (drop 80 lines) =
     (refl, (refl, (refl, (refl, (refl, (refl, (refl, (refl, tt)))))))) in
@@ -154,7 +154,7 @@ each-line =
 pub lines-asked : map (λ l. asks (l .text) (operationOf (letters (l .text)))) lines ≡ lines
 lines-asked = by-line worked lines lines each-line
 
--- WHAT IS SAID
+-- THE REPLIES
 
 -- a task of one tick in the release tick of an odd job, by its widths
 abbrev task : ℕ → ℕ → Task
@@ -168,8 +168,8 @@ abbrev pub falling : Run
 falling = record { rule = 1; cores = 2; fence = 0; withdrawn = 0; count = 2; tasks = task 2 2 ∷ task 1 1 ∷ replicate 30 unused }
 
 -- one of them, whose even jobs are wider than its odd ones
-abbrev pub turning : Run
-turning = record { rule = 1; cores = 2; fence = 0; withdrawn = 0; count = 1; tasks = task 1 2 ∷ replicate 31 unused }
+abbrev pub alternating : Run
+alternating = record { rule = 1; cores = 2; fence = 0; withdrawn = 0; count = 1; tasks = task 1 2 ∷ replicate 31 unused }
 
 -- two of widths 2 and 1 on two cores, under rule 4
 abbrev pub lending : Run
@@ -179,59 +179,59 @@ lending = record { rule = 4; cores = 2; fence = 0; withdrawn = 0; count = 2; tas
 abbrev pub none : Run
 none = record { rule = 0; cores = 0; fence = 0; withdrawn = 0; count = 0; tasks = replicate 32 unused }
 
--- operations of a run, and what is said to them
-pub record Talk : Type 0 where
+-- operations of a run, and the replies to them
+pub record TranscriptExample : Type 0 where
   pub from : Run
   pub input : String
   pub output : String
 
-abbrev talk : Run → String → String → Talk
-talk r i o = record { from = r; input = i; output = o }
+abbrev transcriptExample : Run → String → String → TranscriptExample
+transcriptExample r i o = record { from = r; input = i; output = o }
 
-abbrev pub talks : List Talk
-talks =
-    -- a row asked with empties shows who has the core then, and changes nothing
-    talk pair "r\nr 1\nr 2\nr 3\nr 4\nr" "row 1\nrow 2\nrow 1\nrow 0\nrefused 20 0\nrow 1\n"
+abbrev pub transcripts : List TranscriptExample
+transcripts =
+    -- a row asked with empties shows the task that has the core then, and changes nothing
+    transcriptExample pair "r\nr 1\nr 2\nr 3\nr 4\nr" "row 1\nrow 2\nrow 1\nrow 0\nrefused 20 0\nrow 1\n"
     -- reports are the first number and empties the second
-    ∷ talk pair "a 2\na 1 1\na 2 1\nr\na 0 1\na 0\nr" "refused 16 0\nrefused 16 0\ntaken\nrow 0\nrefused 20 0\ntaken\nrow 1\n"
-    ∷ talk pair "a 1 2\nr" "taken\nrow 0\n"
-    ∷ talk pair "a 1\nr" "taken\nrow 2\n"
+    ∷ transcriptExample pair "a 2\na 1 1\na 2 1\nr\na 0 1\na 0\nr" "refused 16 0\nrefused 16 0\ntaken\nrow 0\nrefused 20 0\ntaken\nrow 1\n"
+    ∷ transcriptExample pair "a 1 2\nr" "taken\nrow 0\n"
+    ∷ transcriptExample pair "a 1\nr" "taken\nrow 2\n"
     -- withdrawn in the release tick: the job is empty at once, and so is the next; an empty bit on it, and withdrawing it again, change nothing
-    ∷ talk pair "w 1\nr\nw 1\nr 1\na 1\na 2 1\nr\na 0\nr\nw 2\nr" "taken\nrow 2\ntaken\nrow 2\nrefused 16 0\ntaken\nrow 0\ntaken\nrow 2\ntaken\nrow 0\n"
+    ∷ transcriptExample pair "w 1\nr\nw 1\nr 1\na 1\na 2 1\nr\na 0\nr\nw 2\nr" "taken\nrow 2\ntaken\nrow 2\nrefused 16 0\ntaken\nrow 0\ntaken\nrow 2\ntaken\nrow 0\n"
     -- withdrawn a tick later: the job goes on, and the next is empty
-    ∷ talk pair "a 0\nw 2\nr\na 0\na 0\nr" "taken\ntaken\nrow 2\ntaken\ntaken\nrow 0\n"
+    ∷ transcriptExample pair "a 0\nw 2\nr\na 0\na 0\nr" "taken\ntaken\nrow 2\ntaken\ntaken\nrow 0\n"
     -- no position 0 and none past the count; what is refused changes nothing
-    ∷ talk pair "w 0\nw 3\nw 4294967295\nr" "refused 22 0\nrefused 22 0\nrefused 22 0\nrow 1\n"
-    ∷ talk falling "w 1\nw 0\nr" "refused 21 0\nrefused 21 0\nrow 1 1\n"
-    -- both together, in the release tick and a tick later; the empty set changes nothing, and a set with a position past the count withdraws nobody
-    ∷ talk pair "W 3\nr\nW 1\nW 0\nr\na 0\na 0\nr" "taken\nrow 0\ntaken\ntaken\nrow 0\ntaken\ntaken\nrow 0\n"
-    ∷ talk pair "a 0\nW 3\nr\na 0\na 0\nr" "taken\ntaken\nrow 2\ntaken\ntaken\nrow 0\n"
-    ∷ talk pair "W 0\nr\nW 5\nW 4294967295\nr\nw 1\nW 2\nr" "taken\nrow 1\nrefused 22 0\nrefused 22 0\nrow 1\ntaken\ntaken\nrow 0\n"
-    ∷ talk falling "W 0\nW 1\nW 4\nr" "refused 21 0\nrefused 21 0\nrefused 21 0\nrow 1 1\n"
-    ∷ talk none "a 0\nw 1\nW 0\nr\na 1 2" "refused 14 0\nrefused 14 0\nrefused 14 0\nrefused 14 0\nrefused 14 0\n"
+    ∷ transcriptExample pair "w 0\nw 3\nw 4294967295\nr" "refused 22 0\nrefused 22 0\nrefused 22 0\nrow 1\n"
+    ∷ transcriptExample falling "w 1\nw 0\nr" "refused 21 0\nrefused 21 0\nrow 1 1\n"
+    -- both together, in the release tick and a tick later; the empty set changes nothing, and a set with a position past the count withdraws none
+    ∷ transcriptExample pair "W 3\nr\nW 1\nW 0\nr\na 0\na 0\nr" "taken\nrow 0\ntaken\ntaken\nrow 0\ntaken\ntaken\nrow 0\n"
+    ∷ transcriptExample pair "a 0\nW 3\nr\na 0\na 0\nr" "taken\ntaken\nrow 2\ntaken\ntaken\nrow 0\n"
+    ∷ transcriptExample pair "W 0\nr\nW 5\nW 4294967295\nr\nw 1\nW 2\nr" "taken\nrow 1\nrefused 22 0\nrefused 22 0\nrow 1\ntaken\ntaken\nrow 0\n"
+    ∷ transcriptExample falling "W 0\nW 1\nW 4\nr" "refused 21 0\nrefused 21 0\nrefused 21 0\nrow 1 1\n"
+    ∷ transcriptExample none "a 0\nw 1\nW 0\nr\na 1 2" "refused 14 0\nrefused 14 0\nrefused 14 0\nrefused 14 0\nrefused 14 0\n"
     -- each release turns to the other width, that of an empty job too
-    ∷ talk turning "r\na 0\nr\na 0\nr\na 0 1\na 0\nr\na 0\na 0\nr" "row 1 0\ntaken\nrow 0 0\ntaken\nrow 1 1\ntaken\ntaken\nrow 1 0\ntaken\ntaken\nrow 1 1\n"
-    -- under rule 4 an empty job lends its cores: the row shows the borrower, who may be reported; the lender may not
-    ∷ talk lending "r\nr 1\na 2\na 1 1\na 2 1\nr" "row 1 1\nrow 2 1\nrefused 16 0\nrefused 16 0\ntaken\nrow 2 0\n"
+    ∷ transcriptExample alternating "r\na 0\nr\na 0\nr\na 0 1\na 0\nr\na 0\na 0\nr" "row 1 0\ntaken\nrow 0 0\ntaken\nrow 1 1\ntaken\ntaken\nrow 1 0\ntaken\ntaken\nrow 1 1\n"
+    -- under rule 4 an empty job lends its cores: the row shows the borrower, which may be reported; the lender may not
+    ∷ transcriptExample lending "r\nr 1\na 2\na 1 1\na 2 1\nr" "row 1 1\nrow 2 1\nrefused 16 0\nrefused 16 0\ntaken\nrow 2 0\n"
     -- the same as sets: the lender keeps what it has not lent; a refusal has no sets; and nothing changes
-    ∷ talk lending "s\ns 1\ns 4\nr"
+    ∷ transcriptExample lending "s\ns 1\ns 4\nr"
     "sets 3 0 0 0 0 0 0 0 0 0 0 0 0 0 0 0 0 0 0 0 0 0 0 0 0 0 0 0 0 0 0 0\nsets 2 1 0 0 0 0 0 0 0 0 0 0 0 0 0 0 0 0 0 0 0 0 0 0 0 0 0 0 0 0 0 0\nrefused 20 0\nrow 1 1\n"
-    ∷ talk none "s" "refused 14 0\n"
-    -- after a line that is no operation nothing is said
-    ∷ talk pair "r 1 2\nr\n" "not an operation\n"
+    ∷ transcriptExample none "s" "refused 14 0\n"
+    -- after a line that is no operation nothing is written
+    ∷ transcriptExample pair "r 1 2\nr\n" "not an operation\n"
     ∷ []
 
-abbrev saying : Talk → List ℕ
-saying t = replies (t .from) (linesFrom nothing [] (letters (t .input)))
+abbrev transcriptText : TranscriptExample → List ℕ
+transcriptText t = replies (t .from) (linesFrom nothing [] (letters (t .input)))
 
-abbrev expected : Talk → List ℕ
+abbrev expected : TranscriptExample → List ℕ
 expected t = letters (t .output)
 
-each-talk : LineByLine saying talks (map expected talks)
-unfolding replies linesFrom lastLine said runAfter plain answerLine shownLine setsLine operationOf operationBy numbersBehind numbersOf wordsIn isNumber all value lineOf fields
+each-transcript : LineByLine transcriptText transcripts (map expected transcripts)
+unfolding replies linesFrom lastLine reply runAfter wordLine answerLine shownLine setsLine operationOf operationBy numbersAfter numbersOf wordsIn isNumber all value lineOf fields
     decimal lastDigits digitCount digitsWithin computing advanceOf advanceAnswer withdrawOf withdrawAllOf withdrawAnswer rowOf rowAnswer bytesIn setsOf setsIn pastCount runOut
-    firstLateIn misemptiedIn misreportedIn grantsIn lentIn offerIn seeksIn mapFirst moved withdrawnIn
-each-talk = (refl, (refl, (refl, (refl, (refl, (refl, (refl, (refl, (refl, (refl, (refl, (refl, (refl, (refl, (refl, (refl, (refl, (refl, tt))))))))))))))))))
+    firstLateIn wrongEmptiesIn wrongReportsIn grantsIn lentIn offerIn seeksIn mapFirst moved withdrawnIn
+each-transcript = (refl, (refl, (refl, (refl, (refl, (refl, (refl, (refl, (refl, (refl, (refl, (refl, (refl, (refl, (refl, (refl, (refl, (refl, tt))))))))))))))))))
 
-pub talks-said : map (λ t. replies (t .from) (linesFrom nothing [] (letters (t .input)))) talks ≡ map (λ t. letters (t .output)) talks
-talks-said = by-line saying talks (map expected talks) each-talk
+pub transcripts-exact : map (λ t. replies (t .from) (linesFrom nothing [] (letters (t .input)))) transcripts ≡ map (λ t. letters (t .output)) transcripts
+transcripts-exact = by-line transcriptText transcripts (map expected transcripts) each-transcript

@@ -1,7 +1,7 @@
--- Laws of a session: what is said case by case, how lines come in pieces, a chunk of the input, and the whole of it. Computed examples.
-pub mod Saying
+-- Laws of a session: the replies case by case, lines that come in pieces, a chunk of the input, and the whole of it. Computed examples.
+pub mod TextWritten
 pub mod Asking
-pub mod Talking
+pub mod Transcripts
 pub mod Feeding
 pub mod Replying
 pub mod Starts

@@ -1,4 +1,4 @@
--- What is said, case by case.
+-- The replies, case by case.
 use mathlib.Core.Bool.{Bool, true, false, _&&_, cond}
 use mathlib.Core.List.{List, [], _∷_, _++_}
 use mathlib.Core.Path.{_≡_, refl, sym, ap, _∙_}
@@ -23,14 +23,14 @@ use Rattle.session.specs.declared.Stage.the-variants.{Table, Operations,
 use Rattle.session.specs.declared.Session.{Session}
 use Rattle.session.specs.declared.operations.Operation.{Operation}
 use Rattle.session.specs.declared.operations.Operation.the-variants.{Advance, Withdraw, WithdrawAll, Row, Sets, Nothing}
-use Rattle.session.specs.Operation.{plain, answerLine, shownLine, setsLine, said, runAfter, isLast}
-use Rattle.session.specs.Talk.{tooMany, isDashes, startLine, opened, replies}
-use Rattle.session.specs.Session.{stageOf, Said, OpenedOf}
-use Rattle.session.proofs.Talking.{nil-right, tooLong, opened-long}
+use Rattle.session.specs.Operation.{wordLine, answerLine, shownLine, setsLine, reply, runAfter, isLast}
+use Rattle.session.specs.Transcript.{tooMany, isDashes, startLine, opened, replies}
+use Rattle.session.specs.Session.{stageOf, TextWritten, OpenedOf}
+use Rattle.session.proofs.Transcripts.{nil-right, tooLong, opened-long}
 
 -- ANSWERS
 
-pub answer-taken : (w : List ℕ) (a : Answer) → a ≡ Taken → plain w ≡ answerLine w a
+pub answer-taken : (w : List ℕ) (a : Answer) → a ≡ Taken → wordLine w ≡ answerLine w a
 unfolding answerLine
 answer-taken w a e = rw e
 
@@ -56,9 +56,9 @@ sets-refused a sets n p e = rw e
 
 -- OPERATIONS
 
-pub said-advance : (o : Operation) (r : Run) (x e : ℕ) → o ≡ Advance x e → answerLine (letters "taken") (advanceOf r x e .answer) ≡ said o r
-unfolding said
-said-advance o r x e q = rw q
+pub reply-advance : (o : Operation) (r : Run) (x e : ℕ) → o ≡ Advance x e → answerLine (letters "taken") (advanceOf r x e .answer) ≡ reply o r
+unfolding reply
+reply-advance o r x e q = rw q
 
 pub run-advance : (o : Operation) (r : Run) (x e : ℕ) → o ≡ Advance x e → advanceOf r x e .run ≡ runAfter o r
 unfolding runAfter
@@ -67,9 +67,9 @@ run-advance o r x e q = rw q
 pub last-advance : (o : Operation) (x e : ℕ) → o ≡ Advance x e → false ≡ isLast o
 last-advance o x e q = rw q
 
-pub said-withdraw : (o : Operation) (r : Run) (p : ℕ) → o ≡ Withdraw p → answerLine (letters "taken") (withdrawOf r p .answer) ≡ said o r
-unfolding said
-said-withdraw o r p q = rw q
+pub reply-withdraw : (o : Operation) (r : Run) (p : ℕ) → o ≡ Withdraw p → answerLine (letters "taken") (withdrawOf r p .answer) ≡ reply o r
+unfolding reply
+reply-withdraw o r p q = rw q
 
 pub run-withdraw : (o : Operation) (r : Run) (p : ℕ) → o ≡ Withdraw p → withdrawOf r p .run ≡ runAfter o r
 unfolding runAfter
@@ -78,9 +78,9 @@ run-withdraw o r p q = rw q
 pub last-withdraw : (o : Operation) (p : ℕ) → o ≡ Withdraw p → false ≡ isLast o
 last-withdraw o p q = rw q
 
-pub said-withdraw-all : (o : Operation) (r : Run) (x : ℕ) → o ≡ WithdrawAll x → answerLine (letters "taken") (withdrawAllOf r x .answer) ≡ said o r
-unfolding said
-said-withdraw-all o r x q = rw q
+pub reply-withdraw-all : (o : Operation) (r : Run) (x : ℕ) → o ≡ WithdrawAll x → answerLine (letters "taken") (withdrawAllOf r x .answer) ≡ reply o r
+unfolding reply
+reply-withdraw-all o r x q = rw q
 
 pub run-withdraw-all : (o : Operation) (r : Run) (x : ℕ) → o ≡ WithdrawAll x → withdrawAllOf r x .run ≡ runAfter o r
 unfolding runAfter
@@ -89,9 +89,9 @@ run-withdraw-all o r x q = rw q
 pub last-withdraw-all : (o : Operation) (x : ℕ) → o ≡ WithdrawAll x → false ≡ isLast o
 last-withdraw-all o x q = rw q
 
-pub said-row : (o : Operation) (r : Run) (e : ℕ) → o ≡ Row e → shownLine (r .cores) (rowOf r e .answer) (rowOf r e .bytes) ≡ said o r
-unfolding said
-said-row o r e q = rw q
+pub reply-row : (o : Operation) (r : Run) (e : ℕ) → o ≡ Row e → shownLine (r .cores) (rowOf r e .answer) (rowOf r e .bytes) ≡ reply o r
+unfolding reply
+reply-row o r e q = rw q
 
 pub run-row : (o : Operation) (r : Run) (e : ℕ) → o ≡ Row e → r ≡ runAfter o r
 unfolding runAfter
@@ -100,9 +100,9 @@ run-row o r e q = rw q
 pub last-row : (o : Operation) (e : ℕ) → o ≡ Row e → false ≡ isLast o
 last-row o e q = rw q
 
-pub said-sets : (o : Operation) (r : Run) (e : ℕ) → o ≡ Sets e → setsLine (setsOf r e .answer) (setsOf r e .sets) ≡ said o r
-unfolding said
-said-sets o r e q = rw q
+pub reply-sets : (o : Operation) (r : Run) (e : ℕ) → o ≡ Sets e → setsLine (setsOf r e .answer) (setsOf r e .sets) ≡ reply o r
+unfolding reply
+reply-sets o r e q = rw q
 
 pub run-sets : (o : Operation) (r : Run) (e : ℕ) → o ≡ Sets e → r ≡ runAfter o r
 unfolding runAfter
@@ -111,9 +111,9 @@ run-sets o r e q = rw q
 pub last-sets : (o : Operation) (e : ℕ) → o ≡ Sets e → false ≡ isLast o
 last-sets o e q = rw q
 
-pub said-none : (o : Operation) (r : Run) → o ≡ Nothing → plain (letters "not an operation") ≡ said o r
-unfolding said
-said-none o r e = rw e
+pub reply-none : (o : Operation) (r : Run) → o ≡ Nothing → wordLine (letters "not an operation") ≡ reply o r
+unfolding reply
+reply-none o r e = rw e
 
 pub run-none : (o : Operation) (r : Run) → o ≡ Nothing → r ≡ runAfter o r
 unfolding runAfter
@@ -141,7 +141,7 @@ no-dashes (a ∷ b ∷ c ∷ l) e = refl
 -- THE TABLE
 
 pub opened-refused :
-    (table before after : List ℕ) (run : Run) (n : ℕ) → mostBytes < length table → Said tooLong before after n
+    (table before after : List ℕ) (run : Run) (n : ℕ) → mostBytes < length table → TextWritten tooLong before after n
     → OpenedOf table before after (record { run = run; length = n; over = true })
 opened-refused table before after run n h s = record {
   room = s .room;
@@ -152,7 +152,7 @@ opened-refused table before after run n h s = record {
 
 pub opened-run :
     (table before after : List ℕ) (s : Started) (n : ℕ) → length table ≤ mostBytes → s ≡ startOf (numbersIn (wordsOf table))
-    → Said (answerLine (letters "ok") (s .answer)) before after n → OpenedOf table before after (record { run = s .run; length = n; over = false })
+    → TextWritten (answerLine (letters "ok") (s .answer)) before after n → OpenedOf table before after (record { run = s .run; length = n; over = false })
 unfolding opened startLine
 opened-run table before after s n h e w = record {
   room = w .room;

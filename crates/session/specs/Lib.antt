@@ -1,4 +1,4 @@
--- What is said to a table and its operations as they come: a line's operation, the whole talk, and where a session stands.
+-- The answers to a table and its operations as they come: the operation of a line, the whole transcript, and the state of a session.
 pub mod Operation
-pub mod Talk
+pub mod Transcript
 pub mod Session

@@ -1,4 +1,4 @@
--- What a line after the table asks of the run, and what is said to it.
+-- The operation of a line after the table, and the reply to it.
 use mathlib.Core.Bool.{Bool, true, false, cond}
 use mathlib.Core.List.{List, [], _∷_, _++_}
 use Prim.Native.Nat.{ℕ, _+_, _*_}
@@ -6,10 +6,10 @@ use lib.ListN.{take}
 use lib.Dec.{eqb}
 use Rattle.model.specs.Sizes.{mostTasks}
 use Rattle.text.specs.Format.{newline, mostDigits, joined}
-use Rattle.text.specs.Input.{foundIn}
+use Rattle.text.specs.Input.{parseNumber}
 use Rattle.text.specs.Output.{letters, lineOf, space}
-use Rattle.text.specs.declared.line.Found.{Found}
-use Rattle.text.specs.declared.line.Found.the-variants as found
+use Rattle.text.specs.declared.line.ParsedNumber.{ParsedNumber}
+use Rattle.text.specs.declared.line.ParsedNumber.the-variants as found
 use Rattle.run.specs.declared.Run.{Run}
 use Rattle.run.specs.declared.Answer.{Answer}
 use Rattle.run.specs.declared.Answer.the-variants.{Taken, Refused}
@@ -22,57 +22,57 @@ use Rattle.session.specs.declared.operations.Numbers.the-variants.{Bare,
 use Rattle.session.specs.declared.operations.Operation.{Operation}
 use Rattle.session.specs.declared.operations.Operation.the-variants.{Advance, Withdraw, WithdrawAll, Row, Sets, Nothing}
 
--- a line of so many bytes is no operation: one more than a letter and two numbers, each with a space before it
+-- a line of this number of bytes is no operation: one more than a letter and two numbers, each with a space before it
 abbrev pub noneLong : ℕ
 noneLong = 1 + 2 * (1 + mostDigits) + 1
 
--- no more bytes than these are said at once: `sets`, for each of 32 positions a space and up to 20 digits, and a newline
+-- the most bytes of a reply: `sets`, for each of 32 positions a space and up to 20 digits, and a newline
 abbrev pub longestReply : ℕ
 longestReply = 4 + mostTasks * (1 + 20) + 1
 
--- the words of a text: what stands before, between and behind its spaces
+-- the words of a text: what is before, between and after its spaces
 unfoldable pub wordsIn : List ℕ → List (List ℕ)
 wordsIn [] = [] ∷ []
 wordsIn (b ∷ bs) = cond (eqb b space) ([] ∷ wordsIn bs) (joined b (wordsIn bs))
 
 -- one number, of one to ten digits, up to 4,294,967,295
-abbrev pub oneOf : Found → Numbers
+abbrev pub oneOf : ParsedNumber → Numbers
 oneOf (found.Value n) = One n
 oneOf found.Nothing = Other
 
 -- two of them
-abbrev pub twoOf : Found → Found → Numbers
+abbrev pub twoOf : ParsedNumber → ParsedNumber → Numbers
 twoOf (found.Value n) (found.Value m) = Two n m
 twoOf (found.Value n) found.Nothing = Other
 twoOf found.Nothing f = Other
 
--- the numbers that words say: one or two
+-- the numbers that words represent: one or two
 unfoldable pub numbersOf : List (List ℕ) → Numbers
 numbersOf [] = Other
-numbersOf (l ∷ []) = oneOf (foundIn l)
-numbersOf (l ∷ m ∷ []) = twoOf (foundIn l) (foundIn m)
+numbersOf (l ∷ []) = oneOf (parseNumber l)
+numbersOf (l ∷ m ∷ []) = twoOf (parseNumber l) (parseNumber m)
 numbersOf (l ∷ m ∷ k ∷ ls) = Other
 
--- what stands behind the letter of a line: nothing, or numbers with one space before each; or something else
-unfoldable pub numbersBehind : List ℕ → Numbers
-numbersBehind [] = Bare
-numbersBehind (b ∷ l) = cond (eqb b space) (numbersOf (wordsIn l)) Other
+-- what is after the letter of a line: nothing, or numbers with one space before each; or something else
+unfoldable pub numbersAfter : List ℕ → Numbers
+numbersAfter [] = Bare
+numbersAfter (b ∷ l) = cond (eqb b space) (numbersOf (wordsIn l)) Other
 
--- `a REPORTS EMPTIES` is an advance with these two sets; empties that are left out are 0
+-- `a REPORTS EMPTIES` is an advance with these two sets; without the second number the empties are 0
 abbrev pub advanceBy : Numbers → Operation
 advanceBy Bare = Nothing
 advanceBy (One x) = Advance x 0
 advanceBy (Two x e) = Advance x e
 advanceBy Other = Nothing
 
--- `r EMPTIES` asks a row with that set; empties that are left out are 0
+-- `r EMPTIES` asks a row with that set; without a number it is 0
 abbrev pub rowBy : Numbers → Operation
 rowBy Bare = Row 0
 rowBy (One e) = Row e
 rowBy (Two e n) = Nothing
 rowBy Other = Nothing
 
--- `s EMPTIES` asks the row as sets with that set; empties that are left out are 0
+-- `s EMPTIES` asks the row as sets with that set; without a number it is 0
 abbrev pub setsBy : Numbers → Operation
 setsBy Bare = Sets 0
 setsBy (One e) = Sets e
@@ -93,7 +93,7 @@ withdrawAllBy (One x) = WithdrawAll x
 withdrawAllBy (Two x n) = Nothing
 withdrawAllBy Other = Nothing
 
--- the operation of a letter, `a`, `r`, `w`, `W` or `s`, and what stands behind it; with any other letter it is none
+-- the operation of a letter, `a`, `r`, `w`, `W` or `s`, and what is after it; with any other letter it is none
 unfoldable pub operationBy : ℕ → Numbers → Operation
 operationBy letter ns =
     cond (eqb letter 97) (advanceBy ns)
@@ -105,15 +105,15 @@ operationBy letter ns =
 -- the operation of a line; an empty line is none
 unfoldable pub operationOf : List ℕ → Operation
 operationOf [] = Nothing
-operationOf (letter ∷ l) = operationBy letter (numbersBehind l)
+operationOf (letter ∷ l) = operationBy letter (numbersAfter l)
 
 -- a line that is only a word
-unfoldable pub plain : List ℕ → List ℕ
-plain word = word ++ (newline ∷ [])
+unfoldable pub wordLine : List ℕ → List ℕ
+wordLine word = word ++ (newline ∷ [])
 
 -- a refusal is `refused`, number, position; what is taken is the word given
 unfoldable pub answerLine : List ℕ → Answer → List ℕ
-answerLine word Taken = plain word
+answerLine word Taken = wordLine word
 answerLine word (Refused n p) = lineOf (letters "refused") (n ∷ p ∷ [])
 
 -- a row is `row` and the cores' bytes: positions, 0 where idle, 255 where fenced; or its refusal
@@ -126,14 +126,14 @@ unfoldable pub setsLine : Answer → List ℕ → List ℕ
 setsLine Taken sets = lineOf (letters "sets") sets
 setsLine (Refused n p) sets = lineOf (letters "refused") (n ∷ p ∷ [])
 
--- what is said to an operation of run r
-unfoldable pub said : Operation → Run → List ℕ
-said (Advance x e) r = answerLine (letters "taken") (advanceOf r x e .answer)
-said (Withdraw p) r = answerLine (letters "taken") (withdrawOf r p .answer)
-said (WithdrawAll x) r = answerLine (letters "taken") (withdrawAllOf r x .answer)
-said (Row e) r = shownLine (r .cores) (rowOf r e .answer) (rowOf r e .bytes)
-said (Sets e) r = setsLine (setsOf r e .answer) (setsOf r e .sets)
-said Nothing r = plain (letters "not an operation")
+-- the reply to an operation on run r
+unfoldable pub reply : Operation → Run → List ℕ
+reply (Advance x e) r = answerLine (letters "taken") (advanceOf r x e .answer)
+reply (Withdraw p) r = answerLine (letters "taken") (withdrawOf r p .answer)
+reply (WithdrawAll x) r = answerLine (letters "taken") (withdrawAllOf r x .answer)
+reply (Row e) r = shownLine (r .cores) (rowOf r e .answer) (rowOf r e .bytes)
+reply (Sets e) r = setsLine (setsOf r e .answer) (setsOf r e .sets)
+reply Nothing r = wordLine (letters "not an operation")
 
 -- the run after it
 unfoldable pub runAfter : Operation → Run → Run

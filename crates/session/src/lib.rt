@@ -1,35 +1,35 @@
-// A session: the table and the operations of a run, read as they come, and what is said to each.
+// A session: the table and the operations of a run, read as they come, and the reply to each.
 ghost use mathlib.Core.Path.{_≡_};
 ghost use mathlib.Core.List.{[]};
 ghost use Prim.Native.Nat.{_≤_, min};
 ghost use Rattle.session.specs.declared.Stage.the-variants.{Table, Operations};
-ghost use Rattle.session.specs.Talk.{tooMany, nothing};
-ghost use Rattle.session.specs.Session.{Said, spokenIn, stageOf, isOver, stageAfter, FedBy, FedOf, LastOf, NewOf, overWith};
+ghost use Rattle.session.specs.Transcript.{tooMany, nothing};
+ghost use Rattle.session.specs.Session.{TextWritten, transcriptIn, stageOf, isOver, stageAfter, FedBy, FedOf, LastOf, NewOf, overWith};
 
 pub mod open; // open.rt: the table, and the run that it starts
-pub mod operations; // operations.rt: what a line asks
-mod replies; // replies.rt: what is said to an operation
+pub mod operations; // operations.rt: the operation of a line
+mod replies; // replies.rt: the reply to an operation
 
 use model::MOST_TASKS;
 use run::Run;
 
-// So many bytes with no line `--` in them are too many for a table: the longest text, the two dashes, and one more.
+// This number of bytes with no line `--` in them is too many for a table: the longest text, the two dashes, and one more.
 pub const TOO_MANY: usize = text::BYTES + 3;
 
-// A line of so many bytes is no operation: one more than a letter and two numbers, each with a space before it.
+// A line of this number of bytes is no operation: one more than a letter and two numbers, each with a space before it.
 const NONE_LONG: usize = 1 + 2 * (1 + text::DIGITS) + 1;
 
-// No more bytes than these are said at once: `sets`, for each of 32 positions a space and up to 20 digits, and a newline.
+// The most bytes of a reply: `sets`, for each of 32 positions a space and up to 20 digits, and a newline.
 pub const REPLY: usize = 4 + MOST_TASKS * (1 + 20) + 1;
 
-// What the bytes that come are read as: the table, the operations, or nothing any more.
+// What the next bytes are read as: the table, the operations, or nothing any more.
 pub enum Stage {
     Table,
     Operations,
     Over,
 }
 
-// Where a session stands: the bytes that it holds and their count, where the last line of the table's begins, and the run.
+// The state of a session: the bytes that it holds and their count, where the last line of the table's begins, and the run.
 pub struct Session {
     pub stage: Stage,
     pub bytes: [u8; TOO_MANY],
@@ -38,7 +38,7 @@ pub struct Session {
     pub run: Run,
 }
 
-// How many bytes were taken, how many were said, and the session after them.
+// The number of bytes taken, the number of bytes written, and the session after them.
 pub struct Fed {
     pub session: Session,
     pub taken: usize,
@@ -71,10 +71,10 @@ fn stage_after(over: bool) -> Stage
     if over { Stage::Over } else { Stage::Operations }
 }
 
-// A chunk of the table: up to the end of its first line, or as much as there is room for.
+// A chunk of the table: up to the end of its first line, or as much as there is space for.
 fn feed_table(session: Session, chunk: &[u8], out: &mut [u8; REPLY]) -> Fed
     requires { ⌜ (session .from ≤ session .held) × (session .held ≤ tooMany) ⌝ }
-    ensures { λ r. ⌜ FedBy (spokenIn Table session) (now (chunk .entry)) (now (out .entry)) (now (out .exit)) r ⌝ }
+    ensures { λ r. ⌜ FedBy (transcriptIn Table session) (now (chunk .entry)) (now (out .entry)) (now (out .exit)) r ⌝ }
 {
     let mut bytes = session.bytes;
     let from = session.from;
@@ -82,7 +82,7 @@ fn feed_table(session: Session, chunk: &[u8], out: &mut [u8; REPLY]) -> Fed
     let count = text::smaller(end, TOO_MANY - session.held);
     let held = text::row::copy(chunk, 0, count, &mut bytes, session.held);
     if held == TOO_MANY {
-        let length = replies::say_refused(1, 0, out);
+        let length = replies::write_refused(1, 0, out);
         return over(session, chunk.len(), length);
     }
     let run = session.run;
@@ -133,10 +133,10 @@ fn feed_table(session: Session, chunk: &[u8], out: &mut [u8; REPLY]) -> Fed
 // A chunk of the operations: up to the end of its first line; a line longer than any operation is none.
 fn feed_operations(session: Session, chunk: &[u8], out: &mut [u8; REPLY]) -> Fed
     requires { ⌜ session .held ≤ tooMany ⌝ }
-    ensures { λ r. ⌜ FedBy (spokenIn Operations session) (now (chunk .entry)) (now (out .entry)) (now (out .exit)) r ⌝ }
+    ensures { λ r. ⌜ FedBy (transcriptIn Operations session) (now (chunk .entry)) (now (out .entry)) (now (out .exit)) r ⌝ }
 {
     if NONE_LONG <= session.held {
-        let length = replies::say_word(b"not an operation", out);
+        let length = replies::write_word(b"not an operation", out);
         return over(session, chunk.len(), length);
     }
     let mut bytes = session.bytes;
@@ -144,7 +144,7 @@ fn feed_operations(session: Session, chunk: &[u8], out: &mut [u8; REPLY]) -> Fed
     let count = text::smaller(end, NONE_LONG - session.held);
     let held = text::row::copy(chunk, 0, count, &mut bytes, session.held);
     if held == NONE_LONG {
-        let length = replies::say_word(b"not an operation", out);
+        let length = replies::write_word(b"not an operation", out);
         return over(session, chunk.len(), length);
     }
     let run = session.run;
@@ -161,7 +161,7 @@ fn feed_operations(session: Session, chunk: &[u8], out: &mut [u8; REPLY]) -> Fed
             length: 0,
         };
     }
-    let reply = replies::answer(run, operations::asked(&bytes[..held]), out);
+    let reply = replies::answer(run, operations::operation_of(&bytes[..held]), out);
     if reply.last {
         return over(session, chunk.len(), reply.length);
     }
@@ -179,10 +179,10 @@ fn feed_operations(session: Session, chunk: &[u8], out: &mut [u8; REPLY]) -> Fed
     }
 }
 
-// The end of the input in the table: what is said to it.
+// The end of the input in the table: the answer to it.
 fn end_table(session: Session, out: &mut [u8; REPLY]) -> usize
     requires { ⌜ (session .from ≤ session .held) × (session .held ≤ tooMany) ⌝ }
-    ensures { λ r. ⌜ Said (spokenIn Table session nothing []) (now (out .entry)) (now (out .exit)) r ⌝ }
+    ensures { λ r. ⌜ TextWritten (transcriptIn Table session nothing []) (now (out .entry)) (now (out .exit)) r ⌝ }
 {
     let bytes = session.bytes;
     let from = session.from;
@@ -192,10 +192,10 @@ fn end_table(session: Session, out: &mut [u8; REPLY]) -> usize
     opened.length
 }
 
-// The end of the input in the operations: what is said to a last line that lacks its newline.
+// The end of the input in the operations: the reply to a last line that lacks its newline.
 fn end_operations(session: Session, out: &mut [u8; REPLY]) -> usize
     requires { ⌜ session .held ≤ tooMany ⌝ }
-    ensures { λ r. ⌜ Said (spokenIn Operations session nothing []) (now (out .entry)) (now (out .exit)) r ⌝ }
+    ensures { λ r. ⌜ TextWritten (transcriptIn Operations session nothing []) (now (out .entry)) (now (out .exit)) r ⌝ }
 {
     let bytes = session.bytes;
     let held = session.held;
@@ -203,7 +203,7 @@ fn end_operations(session: Session, out: &mut [u8; REPLY]) -> usize
         return 0;
     }
     let run = session.run;
-    let reply = replies::answer(run, operations::asked(&bytes[..held]), out);
+    let reply = replies::answer(run, operations::operation_of(&bytes[..held]), out);
     reply.length
 }
 
@@ -239,7 +239,7 @@ impl Session {
         }
     }
 
-    // Takes bytes of a chunk, at least one where there is one, and writes what is said to them.
+    // Takes bytes of a chunk, at least one where there is one, and writes the replies to them.
     pub fn feed(self, chunk: &[u8], out: &mut [u8; REPLY]) -> Fed
         ensures { λ r. ⌜ FedOf self (now (chunk .entry)) (now (out .entry)) (now (out .exit)) r ⌝ }
     {
@@ -251,7 +251,7 @@ impl Session {
         }
     }
 
-    // Whether the session is over: it says nothing any more, whatever comes.
+    // Whether the session is over: it writes nothing any more, whatever comes.
     pub fn is_over(self) -> bool
         ensures { λ r. ⌜ r ≡ isOver (stageOf self) ⌝ }
     {
@@ -263,7 +263,7 @@ impl Session {
         }
     }
 
-    // Writes what is said where no more bytes come.
+    // Writes the rest of the transcript where no more bytes come.
     pub fn end(self, out: &mut [u8; REPLY]) -> usize
         ensures { λ r. ⌜ LastOf self (now (out .entry)) (now (out .exit)) r ⌝ }
     {

@@ -1,6 +1,6 @@
 // The table of a session, and the run that it starts.
 ghost use mathlib.Core.Path.{_≡_};
-ghost use Rattle.session.specs.Talk.{isDashes};
+ghost use Rattle.session.specs.Transcript.{isDashes};
 ghost use Rattle.text.specs.Format.{wordsOf, numbersIn};
 ghost use Rattle.run.specs.Start.{startOf};
 ghost use Rattle.session.specs.Session.{OpenedOf};
@@ -12,7 +12,7 @@ use crate::replies;
 use run::Run;
 use run::Started;
 
-// What was said to the table, its run, and whether the session is over.
+// The length of the answer to the table, its run, and whether the session is over.
 pub struct Opened {
     pub run: Run,
     pub length: usize,
@@ -58,14 +58,14 @@ pub(crate) fn begin(table: &[u8], out: &mut [u8; REPLY]) -> Opened
     let answer = started.answer;
     let run = started.run;
     if text::BYTES < table.len() {
-        let length = replies::say_refused(1, 0, out);
+        let length = replies::write_refused(1, 0, out);
         return Opened {
             run: run,
             length: length,
             over: true,
         };
     }
-    let length = replies::say_answer(b"ok", answer, out);
+    let length = replies::write_answer(b"ok", answer, out);
     Opened {
         run: run,
         length: length,

@@ -1,7 +1,7 @@
-// What a line asks of the run.
+// The operation of a line.
 ghost use mathlib.Core.Path.{_≡_};
-ghost use Rattle.session.specs.Operation.{operationOf, numbersBehind, oneOf, twoOf, advanceBy, rowBy, setsBy, withdrawBy, withdrawAllBy};
-use text::line::Found;
+ghost use Rattle.session.specs.Operation.{operationOf, numbersAfter, oneOf, twoOf, advanceBy, rowBy, setsBy, withdrawBy, withdrawAllBy};
+use text::line::ParsedNumber;
 
 // An advance with its reports and its empties, a position withdrawn, the positions of a set withdrawn together, a row asked with empties, one asked as
 // sets, or nothing that a run can do.
@@ -14,7 +14,7 @@ pub enum Operation {
     Nothing,
 }
 
-// What stands behind the letter of a line: nothing, one or two numbers, or something else.
+// What is after the letter of a line: nothing, one or two numbers, or something else.
 pub enum Numbers {
     Bare,
     One(u32),
@@ -22,32 +22,32 @@ pub enum Numbers {
     Other,
 }
 
-// The number that is found.
-fn one(found: Found) -> Numbers
+// The number found.
+fn one(found: ParsedNumber) -> Numbers
     ensures { λ r. ⌜ r ≡ oneOf found ⌝ }
 {
     match found {
-        Found::Value(number) => Numbers::One(number),
-        Found::Nothing => Numbers::Other,
+        ParsedNumber::Value(number) => Numbers::One(number),
+        ParsedNumber::Nothing => Numbers::Other,
     }
 }
 
-// The two numbers that are found.
-fn two(first: Found, second: Found) -> Numbers
+// The two numbers found.
+fn two(first: ParsedNumber, second: ParsedNumber) -> Numbers
     ensures { λ r. ⌜ r ≡ twoOf first second ⌝ }
 {
     match first {
-        Found::Value(number) => match second {
-            Found::Value(other) => Numbers::Two(number, other),
-            Found::Nothing => Numbers::Other,
+        ParsedNumber::Value(number) => match second {
+            ParsedNumber::Value(other) => Numbers::Two(number, other),
+            ParsedNumber::Nothing => Numbers::Other,
         },
-        Found::Nothing => Numbers::Other,
+        ParsedNumber::Nothing => Numbers::Other,
     }
 }
 
-// The numbers behind the letter of a line, one space before each.
-fn behind(rest: &[u8]) -> Numbers
-    ensures { λ r. ⌜ r ≡ numbersBehind (now (rest .entry)) ⌝ }
+// The numbers after the letter of a line, one space before each.
+fn after(rest: &[u8]) -> Numbers
+    ensures { λ r. ⌜ r ≡ numbersAfter (now (rest .entry)) ⌝ }
 {
     let count = rest.len();
     if count == 0 {
@@ -64,7 +64,7 @@ fn behind(rest: &[u8]) -> Numbers
     Numbers::Other
 }
 
-// An advance with the numbers behind its letter.
+// An advance with the numbers after its letter.
 fn advance_by(numbers: Numbers) -> Operation
     ensures { λ r. ⌜ r ≡ advanceBy numbers ⌝ }
 {
@@ -76,7 +76,7 @@ fn advance_by(numbers: Numbers) -> Operation
     }
 }
 
-// A row asked with the number behind its letter.
+// A row asked with the number after its letter.
 fn row_by(numbers: Numbers) -> Operation
     ensures { λ r. ⌜ r ≡ rowBy numbers ⌝ }
 {
@@ -88,7 +88,7 @@ fn row_by(numbers: Numbers) -> Operation
     }
 }
 
-// A row asked as sets with the number behind its letter.
+// A row asked as sets with the number after its letter.
 fn sets_by(numbers: Numbers) -> Operation
     ensures { λ r. ⌜ r ≡ setsBy numbers ⌝ }
 {
@@ -100,7 +100,7 @@ fn sets_by(numbers: Numbers) -> Operation
     }
 }
 
-// A withdrawal of the position behind its letter.
+// A withdrawal of the position after its letter.
 fn withdraw_by(numbers: Numbers) -> Operation
     ensures { λ r. ⌜ r ≡ withdrawBy numbers ⌝ }
 {
@@ -112,7 +112,7 @@ fn withdraw_by(numbers: Numbers) -> Operation
     }
 }
 
-// A withdrawal of the positions of the set behind its letter together.
+// A withdrawal of the positions of the set after its letter together.
 fn withdraw_all_by(numbers: Numbers) -> Operation
     ensures { λ r. ⌜ r ≡ withdrawAllBy numbers ⌝ }
 {
@@ -125,14 +125,14 @@ fn withdraw_all_by(numbers: Numbers) -> Operation
 }
 
 // The operation of a line: `a REPORTS EMPTIES`, `r EMPTIES`, `s EMPTIES`, `w POSITION`, `W SET`, or none.
-pub fn asked(line: &[u8]) -> Operation
+pub fn operation_of(line: &[u8]) -> Operation
     ensures { λ r. ⌜ r ≡ operationOf (now (line .entry)) ⌝ }
 {
     let count = line.len();
     if count == 0 {
         return Operation::Nothing;
     }
-    let numbers = behind(&line[1..count]);
+    let numbers = after(&line[1..count]);
     if line[0] == b'a' {
         return advance_by(numbers);
     }

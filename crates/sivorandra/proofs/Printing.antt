@@ -1,4 +1,4 @@
--- What a printer's pieces come to as they are sent: those that were taken whole, put together, stand before what is left.
+-- What a printer's pieces come to as they are sent: those that were taken whole, put together, are before what is left.
 -- Assumes nothing.
 use mathlib.Core.Bool.{true, false}
 use mathlib.Core.List.{List, [], _∷_, _++_, append-assoc, append-nil}
@@ -14,7 +14,7 @@ use Rattle.stream.specs.declared.Sent.{Sent}
 use Rattle.stream.specs.Sent.{SentOf}
 use Rattle.stream.proofs.Moving.{sent-nothing, sent-then, sent-stopped}
 
--- of `whole`, what was sent so far, all of it taken, stands before `left`
+-- of `whole`, what was sent so far, all of it taken, is before `left`
 pub record Printing (whole left : List ℕ) (sent : Sent) : Type 0 where
   pub done : List ℕ
   pub together : done ++ left ≡ whole
@@ -31,7 +31,7 @@ module _ (whole : List ℕ) (p : Printer) (before after : List ℕ) (r : Piece) 
   on : SentOf 0 (i .done ++ take (r .length) after) t
   on = sent-then 0 (i .done) (take (r .length) after) s t (i .counted) (i .taken) u
 
-  -- .. stand before what is left after it
+  -- .. are before what is left after it
   together-on : (i .done ++ take (r .length) after) ++ rest (r .printer) ≡ whole
   together-on =
       append-assoc (i .done) (take (r .length) after) (rest (r .printer))

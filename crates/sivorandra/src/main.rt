@@ -10,7 +10,7 @@ use stream::Reading;
 use stream::Sent;
 use text::ENOUGH;
 
-// What came of it: the buffer and what was read into it, and what was printed.
+// The result: the buffer and what was read into it, and what was printed.
 struct Outcome {
     bytes: [u8; ENOUGH],
     reading: Reading,
@@ -43,14 +43,15 @@ fn print(start: Printer) -> Sent
     }
 }
 
-// Reads standard input until its end, or until it is longer than any table can be, and prints what is printed for it; a read that fails is said, and nothing is printed.
+// Reads standard input until its end, or until it is longer than any table can be, and prints the output for it; a read that fails is reported, and nothing is
+// printed.
 fn answer() -> Outcome
     ensures { λ r. ⌜ Answered output (r .bytes) (r .reading) (r .sent) ⌝ }
 {
     let mut bytes = [0u8; ENOUGH];
     let reading = stream::fill(&mut bytes, 0);
     if reading.failed {
-        stream::say_unread(b"sivorandra");
+        stream::report_unread(b"sivorandra");
         let sent = Sent {
             count: 0,
             whole: true,

@@ -1,4 +1,4 @@
--- An input is answered by what was read of it, where so many bytes as the buffer takes are enough for the answer.
+-- An input is answered by what was read of it, where as many bytes as the buffer holds are enough for the answer.
 -- Assumes nothing.
 use mathlib.Core.Bool.{Bool, true, false, false≢true}
 use mathlib.Core.List.{List, [], _++_, append-nil}

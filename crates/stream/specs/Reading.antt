@@ -1,5 +1,5 @@
--- What reading leaves in a buffer: the bytes that it held stay in place, and what a read brings stands behind them.
--- Which bytes a read brings no contract says.
+-- The buffer after a read: the bytes that it held stay in place, and the bytes read come after them.
+-- No contract determines which bytes a read gives.
 use mathlib.Core.Bool.{true, false}
 use mathlib.Core.List.{List}
 use mathlib.Core.Path.{_≡_}
@@ -7,19 +7,19 @@ use Prim.Native.Nat.{ℕ, _≤_, _<_}
 use lib.ListN.{length, take}
 use Rattle.stream.specs.declared.Reading.{Reading}
 
--- behind the first `held` bytes of a buffer more was read: those are as they were, and the buffer holds at most what it has room for
-pub record Behind (held : ℕ) (before after : List ℕ) (r : Reading) : Type 0 where
+-- after the first `held` bytes of a buffer more was read: those are as they were, and the buffer holds at most its length
+pub record ReadAfter (held : ℕ) (before after : List ℕ) (r : Reading) : Type 0 where
   pub kept : take held after ≡ take held before
   pub same : length after ≡ length before
   pub least : held ≤ r .held
   pub most : r .held ≤ length before
 
--- one read: it brought bytes, or it said that the input has ended, or it failed
-pub record ReadOf (held : ℕ) (before after : List ℕ) (r : Reading) : Type 0 where
-  pub behind : Behind held before after r
+-- one read: it gave bytes, or it returned that the input has ended, or it failed
+pub record ReadOnceOf (held : ℕ) (before after : List ℕ) (r : Reading) : Type 0 where
+  pub behind : ReadAfter held before after r
   pub more : r .ended ≡ false → r .failed ≡ false → held < r .held
 
--- reading on: until the buffer is full, or a read said that the input has ended, or one failed
+-- repeated reads: until the buffer is full, or a read returned that the input has ended, or one failed
 pub record FilledOf (held : ℕ) (before after : List ℕ) (r : Reading) : Type 0 where
-  pub behind : Behind held before after r
+  pub behind : ReadAfter held before after r
   pub full : r .ended ≡ false → r .failed ≡ false → r .held ≡ length before

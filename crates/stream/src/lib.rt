@@ -1,30 +1,30 @@
-// Reading standard input and writing standard output, with counts of what was moved.
+// Reading standard input and writing standard output, with the numbers of bytes read and written.
 ghost use mathlib.Core.Path.{_≡_};
 ghost use Prim.Native.Nat.{_+_, _≤_};
 ghost use lib.ListN.{length};
-ghost use Rattle.stream.specs.Reading.{ReadOf, FilledOf};
-ghost use Rattle.stream.specs.Sent.{counted, unreadBy, SentOf};
+ghost use Rattle.stream.specs.Reading.{ReadOnceOf, FilledOf};
+ghost use Rattle.stream.specs.Sent.{saturated, unreadBy, SentOf};
 use libc::STDERR_FILENO;
 use libc::STDIN_FILENO;
 use libc::STDOUT_FILENO;
 
-// How many bytes a buffer holds, whether a read said that the input has ended, and whether one failed.
+// The number of bytes that a buffer holds, whether a read returned that the input has ended, and whether one failed.
 pub struct Reading {
     pub held: usize,
     pub ended: bool,
     pub failed: bool,
 }
 
-// How many bytes writes have taken, and whether they took all that they were last handed.
+// The number of bytes that writes have taken, and whether they took all that they were last passed.
 pub struct Sent {
     pub count: usize,
     pub whole: bool,
 }
 
-// Reads once, behind the bytes that the buffer holds.
+// Reads once, after the bytes that the buffer holds.
 pub fn read(buffer: &mut [u8], held: usize) -> Reading
     requires { ⌜ held ≤ length (now buffer) ⌝ }
-    ensures { λ r. ⌜ ReadOf held (now (buffer .entry)) (now (buffer .exit)) r ⌝ }
+    ensures { λ r. ⌜ ReadOnceOf held (now (buffer .entry)) (now (buffer .exit)) r ⌝ }
 {
     let got = libc::read(STDIN_FILENO, &mut buffer[held..]);
     if got < 0 {
@@ -42,7 +42,7 @@ pub fn read(buffer: &mut [u8], held: usize) -> Reading
     }
 }
 
-// Reads on behind the bytes that the buffer holds, until it is full, the input ends or a read fails.
+// Reads after the bytes that the buffer holds, until it is full, the input ends or a read fails.
 pub fn fill(buffer: &mut [u8], held: usize) -> Reading
     requires { ⌜ held ≤ length (now buffer) ⌝ }
     ensures { λ r. ⌜ FilledOf held (now (buffer .entry)) (now (buffer .exit)) r ⌝ }
@@ -66,7 +66,7 @@ pub fn fill(buffer: &mut [u8], held: usize) -> Reading
 
 // A count and more, which stops at the largest number that a count can be.
 fn add(count: usize, more: usize) -> usize
-    ensures { λ r. ⌜ r ≡ counted (count + more) ⌝ }
+    ensures { λ r. ⌜ r ≡ saturated (count + more) ⌝ }
 {
     if usize::MAX - count < more {
         return usize::MAX;
@@ -74,8 +74,8 @@ fn add(count: usize, more: usize) -> usize
     count + more
 }
 
-// Hands bytes to writes on `out` until all are taken or a write takes none, after `count` bytes that were taken before.
-fn hand(out: i32, count: usize, bytes: &[u8]) -> Sent
+// Passes bytes to writes on `out` until all are taken or a write takes none, after `count` bytes that were taken before.
+fn write_all(out: i32, count: usize, bytes: &[u8]) -> Sent
     ensures { λ r. ⌜ SentOf count (now (bytes .entry)) r ⌝ }
 {
     let mut at: usize = 0;
@@ -96,20 +96,20 @@ fn hand(out: i32, count: usize, bytes: &[u8]) -> Sent
     }
 }
 
-// Hands bytes to standard output until all are taken or a write takes none, after `count` bytes that were taken before.
+// Passes bytes to standard output until all are taken or a write takes none, after `count` bytes that were taken before.
 pub fn send(count: usize, bytes: &[u8]) -> Sent
     ensures { λ r. ⌜ SentOf count (now (bytes .entry)) r ⌝ }
 {
-    hand(STDOUT_FILENO, count, bytes)
+    write_all(STDOUT_FILENO, count, bytes)
 }
 
-// Says on standard error that a program could not read its input; the answer is how much of it writes took.
-pub fn say_unread(name: &[u8]) -> Sent
+// Writes to standard error that a program could not read its input; returns how much of it writes took.
+pub fn report_unread(name: &[u8]) -> Sent
     ensures { λ r. ⌜ SentOf 0 (unreadBy (now (name .entry))) r ⌝ }
 {
-    let sent = hand(STDERR_FILENO, 0, name);
+    let sent = write_all(STDERR_FILENO, 0, name);
     if sent.whole {
-        return hand(
+        return write_all(
             STDERR_FILENO,
             sent.count,
             b": standard input could not be read\n",

@@ -4,7 +4,7 @@ use mathlib.Core.List.{List, [], _∷_, map, _++_}
 use Prim.Native.Nat.{ℕ, zero, suc, _+_, _-_, _*_, _/_, _^_}
 use Prim.Native.String.{String}
 use lib.ListN.{length, drop, replicate}
-use Rattle.model.specs.Search.{any, kept, least, upFrom}
+use Rattle.model.specs.Search.{any, filtered, least, upFrom}
 use Rattle.model.specs.Task.{Task, Table, cycle, greedy}
 use Rattle.model.specs.Horizon.{S, lastS, lcm, hyperperiod, horizon, releaseFrom}
 use Rattle.model.proofs.LineByLine.{LineByLine, by-line}
@@ -12,10 +12,10 @@ use Rattle.model.proofs.Examples.{t, t₂, on, A}
 use Rattle.table.proofs.Starts.{since}
 use Rattle.table.specs.declared.Answer.the-variants.{Passed}
 use Rattle.table.specs.declared.Loaded.{Loaded}
-use Rattle.table.specs.Words.{met, count, chain, tableOf}
+use Rattle.table.specs.Words.{visited, count, chain, tableOf}
 use Rattle.table.specs.Answer.{headerNumber, lastStep, endingOf, firstOut, byHorizon, byTasks, byWalk, answerOf}
-use Rattle.table.specs.Load.{places, refusal, loadOf}
-use Rattle.table.specs.Bare.{bared}
+use Rattle.table.specs.Load.{codeTasks, refusal, loadOf}
+use Rattle.table.specs.UnfencedWords.{unfencedWords}
 
 -- a line: its name, the words of a table, and what `load` gives of them
 pub record Line : Type 0 where
@@ -23,7 +23,7 @@ pub record Line : Type 0 where
   pub words : List ℕ
   pub gives : Loaded
 
--- what the definitions say of a line's words
+-- the value by the definitions of a line's words
 abbrev pub worked : Line → Line
 worked l = record { name = l .name; words = l .words; gives = loadOf (l .words) }
 
@@ -39,7 +39,7 @@ passes s start period horizon =
       cores = s .cores;
       fence = s .fence;
       rule = 1;
-      tasks = places (s .tasks);
+      tasks = codeTasks (s .tasks);
       start = start;
       period = period;
       horizon = horizon;
@@ -97,15 +97,15 @@ abbrev breaks : String → ℕ → ℕ → ℕ → Task → Line
 breaks s n p m τ = line s (alone m τ) (refusal n p)
 
 -- one task of width v on m cores with this fence: it passes, or it is refused, with its number and position
-abbrev wall : ℕ → ℕ → ℕ → ℕ → List ℕ
-wall m low high v = fenced 1 m 1 low high ++ entry 0 0 v 1 1 1
+abbrev fencedWords : ℕ → ℕ → ℕ → ℕ → List ℕ
+fencedWords m low high v = fenced 1 m 1 low high ++ entry 0 0 v 1 1 1
 
-abbrev wallOf : String → ℕ → ℕ → ℕ → ℕ → Line
-wallOf s m low high v =
-    line s (wall m low high v) (passes (record { tasks = t 0 v 1 1 1 ∷ []; cores = m; fence = low + high * 2 ^ 32; rule = greedy }) 0 1 1)
+abbrev fencedPasses : String → ℕ → ℕ → ℕ → ℕ → Line
+fencedPasses s m low high v =
+    line s (fencedWords m low high v) (passes (record { tasks = t 0 v 1 1 1 ∷ []; cores = m; fence = low + high * 2 ^ 32; rule = greedy }) 0 1 1)
 
-abbrev walled : String → ℕ → ℕ → ℕ → ℕ → ℕ → ℕ → Line
-walled s m low high p v n = line s (wall m low high v) (refusal n p)
+abbrev fencedRefused : String → ℕ → ℕ → ℕ → ℕ → ℕ → ℕ → Line
+fencedRefused s m low high p v n = line s (fencedWords m low high v) (refusal n p)
 
 -- a header of this rule and the head 0, which number 4 turns down where the rule passes 3
 abbrev ruled : String → ℕ → ℕ → Line
@@ -157,18 +157,18 @@ lines =
     ∷ fits "D 1" 1 (t 0 1 1 1 7)
     ∷ fits "D at T, and C above D" 1 (t 0 1 8 7 7)
     ∷ breaks "D above T" 8 1 1 (t 0 1 1 8 7)
-    ∷ walled "all of five cores fenced" 5 31 0 0 1 19
-    ∷ wallOf "all but one of five cores fenced" 5 15 0 1
-    ∷ walled "core 5 of five fenced" 5 32 0 0 1 19
-    ∷ walled "cores 5 and 0 of five fenced" 5 33 0 0 1 19
-    ∷ wallOf "core 32 of 33 fenced, by the second word" 33 0 1 32
-    ∷ walled "core 33 of 33 fenced, by the second word" 33 0 2 0 1 19
-    ∷ walled "all of 64 cores fenced" 64 4294967295 4294967295 0 1 19
-    ∷ wallOf "all but core 63 of 64 fenced" 64 4294967295 2147483647 1
-    ∷ walled "the one core fenced" 1 1 0 0 1 19
-    ∷ wallOf "the empty fence leaves all cores" 5 0 0 5
-    ∷ wallOf "a width of what the fence leaves, 2 of 5" 5 25 0 2
-    ∷ walled "a width above what the fence leaves" 5 25 0 1 3 7
+    ∷ fencedRefused "all of five cores fenced" 5 31 0 0 1 19
+    ∷ fencedPasses "all but one of five cores fenced" 5 15 0 1
+    ∷ fencedRefused "core 5 of five fenced" 5 32 0 0 1 19
+    ∷ fencedRefused "cores 5 and 0 of five fenced" 5 33 0 0 1 19
+    ∷ fencedPasses "core 32 of 33 fenced, by the second word" 33 0 1 32
+    ∷ fencedRefused "core 33 of 33 fenced, by the second word" 33 0 2 0 1 19
+    ∷ fencedRefused "all of 64 cores fenced" 64 4294967295 4294967295 0 1 19
+    ∷ fencedPasses "all but core 63 of 64 fenced" 64 4294967295 2147483647 1
+    ∷ fencedRefused "the one core fenced" 1 1 0 0 1 19
+    ∷ fencedPasses "the empty fence leaves all cores" 5 0 0 5
+    ∷ fencedPasses "a width of what the fence leaves, 2 of 5" 5 25 0 2
+    ∷ fencedRefused "a width above what the fence leaves" 5 25 0 1 3 7
     ∷ line "2 before 19" (fenced 0 65 1 1 0 ++ entry 0 0 1 1 1 1) (refusal 2 0)
     ∷ line "3 before 19" (fenced 0 1 5 1 0 ++ entry 0 0 1 1 1 1) (refusal 3 0)
     ∷ line "19 before 4" (fenced 0 1 1 1 0 ++ entry 0 0 1 1 1 1) (refusal 19 0)
@@ -242,17 +242,17 @@ unfolding S
 largest-S = refl
 
 -- the words with just the unfenced cores: three of five, and core 32 of 33
-pub bare-words : bared (fenced 1 5 1 9 0 ++ entry 0 0 3 1 1 1) ≡ header 1 3 1 ++ entry 0 0 3 1 1 1
-unfolding bared kept upFrom
-bare-words = refl
+pub unfenced-words : unfencedWords (fenced 1 5 1 9 0 ++ entry 0 0 3 1 1 1) ≡ header 1 3 1 ++ entry 0 0 3 1 1 1
+unfolding unfencedWords filtered upFrom
+unfenced-words = refl
 
-pub bare-last : bared (fenced 1 33 2 4294967295 0 ++ entry 0 0 1 1 1 1) ≡ header 1 1 2 ++ entry 0 0 1 1 1 1
-unfolding bared kept upFrom
-bare-last = refl
+pub unfenced-last : unfencedWords (fenced 1 33 2 4294967295 0 ++ entry 0 0 1 1 1 1) ≡ header 1 1 2 ++ entry 0 0 1 1 1 1
+unfolding unfencedWords filtered upFrom
+unfenced-last = refl
 
--- every line is what the definitions say, line by line
+-- every line is its value by the definitions, line by line
 computed : LineByLine worked lines lines
-unfolding chained kept loadOf answerOf byWalk byTasks byHorizon firstOut endingOf lastStep headerNumber tableOf chain count met horizon S hyperperiod lcm least any upFrom
+unfolding chained filtered loadOf answerOf byWalk byTasks byHorizon firstOut endingOf lastStep headerNumber tableOf chain count visited horizon S hyperperiod lcm least any upFrom
 computed =
     let past-47 : LineByLine worked (drop 47 lines) (drop 47 lines) =
     (refl, (refl, (refl, (refl, (refl, (refl, (refl, (refl, (refl, (refl, (refl, (refl, (refl, (refl, (refl, (refl, (refl, (refl, (refl, tt))))))))))))))))))) in

@@ -1,4 +1,4 @@
--- Euclid's step keeps the common divisors, at its end the greatest of them is in hand, and the least common multiple is the
+-- Euclid's step preserves the common divisors, at its end the greatest of them is found, and the least common multiple is the
 -- one number over it, times the other.
 use mathlib.Core.Path.{_≡_, sym, ap, _∙_, subst, subst⁻¹}
 use Prim.Native.Nat.{ℕ, _*_, _/_, _%_, _<_, _∣_}

@@ -11,19 +11,19 @@ use lib.Seq.{take-all}
 use lib.Dec.{eqb, ltb}
 use borrow.Author.Tests.{lt-ltb, ltb-true}
 use Rattle.model.specs.Task as model
-use Rattle.model.specs.Task.{nobody}
+use Rattle.model.specs.Task.{absentTask}
 use Rattle.model.specs.Horizon.{lcm, hyperperiod}
 use Rattle.model.proofs.Bools.{same-test}
 use Rattle.model.proofs.Starts.{Periods, cycle-pos, hyperperiod-pos, hyperperiod-more, hyperperiod-fewer}
 use Rattle.table.specs.declared.Task.{Task}
-use Rattle.table.specs.Task.{taskOf, tasksOf, noTask, InLimits, Within}
+use Rattle.table.specs.Task.{taskOf, tasksOf, noTask, InLimits, TimesWithin}
 use Rattle.table.specs.Limits.{mostTime}
 use Rattle.table.specs.Gcd.{Gcd}
 use Rattle.table.proofs.Places.{tasks-length, task-at}
 use Rattle.table.proofs.Gcd.{lcm-by-gcd}
 
 -- a cycle is at most twice the longest period
-pub cycle-most : (t : Task) → Within t → model.cycle (taskOf t) ≤ 2 * mostTime
+pub cycle-most : (t : Task) → TimesWithin t → model.cycle (taskOf t) ≤ 2 * mostTime
 cycle-most t w = go (eqb (t .width) (t .second))
   where
     go : (b : Bool) → cond b (t .period) (2 * t .period) ≤ 2 * mostTime
@@ -44,8 +44,8 @@ module _ (tasks : List Task) (count : ℕ) (limits : InLimits tasks count) (ther
       let T : ℕ = model.cycle (taskOf (getD tasks i noTask)) in
       let τs : List model.Task = tasksOf tasks count in
       let m-pos : 0 < m = omega (arith, hyperperiod-pos (take i τs)) in
-      let same : model.cycle (getD τs i nobody) ≡ T = ap model.cycle (task-at tasks count i h) in
-      let more : hyperperiod (take (suc i) τs) ≡ lcm (hyperperiod (take i τs)) (model.cycle (getD τs i nobody)) =
+      let same : model.cycle (getD τs i absentTask) ≡ T = ap model.cycle (task-at tasks count i h) in
+      let more : hyperperiod (take (suc i) τs) ≡ lcm (hyperperiod (take i τs)) (model.cycle (getD τs i absentTask)) =
       hyperperiod-more τs i periods (omega (arith, tasks-length tasks count there)) in
       sym (lcm-by-gcd m T g m-pos (cycle-pos (taskOf (getD tasks i noTask)) (limits i h .period-least)) d) ∙ rw (add-one, more, same, e)
 

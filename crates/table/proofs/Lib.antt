@@ -1,4 +1,4 @@
--- The proofs of what `load` promises: tests that decide, the walk along the chain, the order of the numbers, S and P; and computed examples.
+-- The proofs of the contract of `load`: tests that decide, the walk along the chain, the order of the numbers, S and P; and computed examples.
 pub mod Examples
 pub mod Decide
 pub mod Tests
@@ -12,11 +12,11 @@ pub mod Exact
 pub mod Starts
 pub mod Gcd
 pub mod Hyperperiods
-pub mod HeaderFine
+pub mod HeaderPasses
 pub mod Inside
 pub mod Walking
 pub mod Loads
 pub mod Passed
-pub mod Promise
+pub mod Contract
 pub mod OffChain
-pub mod Bare
+pub mod UnfencedWords

@@ -1,4 +1,4 @@
--- What code gives at each stage of `load` is what the definitions say.
+-- What code gives at each stage of `load` is the value by the definitions.
 use mathlib.Core.Path.{_≡_, refl, sym, ap, _∙_}
 use mathlib.Core.Bool.{true, false}
 use mathlib.Core.List.{List, [], _∷_, map}
@@ -15,31 +15,31 @@ use Rattle.table.specs.declared.Answer.the-variants.{Passed}
 use Rattle.table.specs.declared.Loaded.{Loaded}
 use Rattle.table.specs.declared.chain.Ending.the-variants.{Past, Again, Whole}
 use Rattle.table.specs.Task.{taskOf, tasksOf, noTask, InLimits}
-use Rattle.table.specs.Words.{cores, rule, fence, count, tableOf}
+use Rattle.table.specs.Words.{coreCount, rule, fence, count, tableOf}
 use Rattle.table.specs.Limits.{taskNumber, taskOut, horizonOut, mostHorizon}
-use Rattle.table.specs.Answer.{headerNumber, firstOut, wide, byHorizon, byTasks, endingOf, byWalk, answerOf}
-use Rattle.table.specs.Load.{placed, places, passing, refusal, loadedBy, tableWith, loadOf}
+use Rattle.table.specs.Answer.{headerNumber, firstOut, widthLimit, byHorizon, byTasks, endingOf, byWalk, answerOf}
+use Rattle.table.specs.Load.{codeTask, codeTasks, passing, refusal, loadedBy, tableWith, loadOf}
 use Rattle.table.proofs.Places.{tasks-length, task-at}
 use Rattle.table.proofs.Tasks.{table-length}
 use Rattle.table.proofs.FirstOut.{out-lowest}
 use Rattle.table.proofs.Inside.{inside-test}
 use Rattle.table.proofs.Hyperperiods.{exceeds-capped, capped-exact}
 
--- the tasks that stand in the places
-placed-back : (τs : List model.Task) → map taskOf (map placed τs) ≡ τs
+-- the tasks that are in the places
+placed-back : (τs : List model.Task) → map taskOf (map codeTask τs) ≡ τs
 placed-back [] = refl
 placed-back (τ ∷ τs) = ap {B = List model.Task} (λ ts. τ ∷ ts) (placed-back τs)
 
-pub places-tasks : (τs : List model.Task) → tasksOf (places τs) (length τs) ≡ τs
+pub places-tasks : (τs : List model.Task) → tasksOf (codeTasks τs) (length τs) ≡ τs
 places-tasks τs =
-    ap (map taskOf) (take-at (map placed τs) (replicate (mostTasks - length τs) noTask) (length τs) (length-map τs placed)) ∙ placed-back τs
+    ap (map taskOf) (take-at (map codeTask τs) (replicate (mostTasks - length τs) noTask) (length τs) (length-map τs codeTask)) ∙ placed-back τs
 
 -- so the places of a walk that ended at the zero hold the tasks of the words
-pub walked-tasks : (ws : List ℕ) (tasks : List Task) (many : ℕ) → tasks ≡ places (tableOf ws .tasks) → many ≡ count ws → tasksOf tasks many ≡ tableOf ws .tasks
+pub walked-tasks : (ws : List ℕ) (tasks : List Task) (many : ℕ) → tasks ≡ codeTasks (tableOf ws .tasks) → many ≡ count ws → tasksOf tasks many ≡ tableOf ws .tasks
 walked-tasks ws tasks many e n = rw (e, n ∙ sym (table-length ws)) (places-tasks (tableOf ws .tasks))
 
-pub places-past : (τs : List model.Task) → drop (length τs) (places τs) ≡ replicate (mostTasks - length τs) noTask
-places-past τs = drop-at (map placed τs) (replicate (mostTasks - length τs) noTask) (length τs) (length-map τs placed)
+pub places-past : (τs : List model.Task) → drop (length τs) (codeTasks τs) ≡ replicate (mostTasks - length τs) noTask
+places-past τs = drop-at (map codeTask τs) (replicate (mostTasks - length τs) noTask) (length τs) (length-map τs codeTask)
 
 -- THE HORIZON
 
@@ -58,7 +58,7 @@ unfolding byHorizon
 by-near s l e = rw e
 
 -- .. and where it does not exceed, the table is made of it
-pub made : (m f r : ℕ) (tasks : List Task) (count start period : ℕ) → count ≤ length tasks → tasks ≡ places (tasksOf tasks count)
+pub made : (m f r : ℕ) (tasks : List Task) (count start period : ℕ) → count ≤ length tasks → tasks ≡ codeTasks (tasksOf tasks count)
     → start ≡ lastS (tasksOf tasks count) → period ≡ min (hyperperiod (tasksOf tasks count)) (mostHorizon + 1) → horizonOut (start + period) ≡ false
     → _≡_ {A = Loaded}
     (record { answer = Passed; count = count; cores = m; fence = f; rule = r; tasks = tasks; start = start; period = period; horizon = start + period })
@@ -74,8 +74,8 @@ made m f r tasks count start period there whole e g near =
 
 -- THE TASKS
 
-module _ (s : model.Table) (l : Loaded) (place : ℕ) (out : firstOut (wide s) (s .tasks) ≡ place) where
-  pub by-number : place < length (s .tasks) → loadedBy (byTasks s) l ≡ refusal (taskNumber (wide s) (model.task s place)) (suc place)
+module _ (s : model.Table) (l : Loaded) (place : ℕ) (out : firstOut (widthLimit s) (s .tasks) ≡ place) where
+  pub by-number : place < length (s .tasks) → loadedBy (byTasks s) l ≡ refusal (taskNumber (widthLimit s) (model.task s place)) (suc place)
   unfolding byTasks
   by-number h = rw (out, lt-ltb place (length (s .tasks)) h)
 
@@ -91,7 +91,7 @@ in-limits m tasks count l p h =
 
 -- THE HEADER AND THE WALK
 
-table-with : (ws : List ℕ) → tableWith (cores ws) (fence ws) (rule ws) (tableOf ws .tasks) ≡ tableOf ws
+table-with : (ws : List ℕ) → tableWith (coreCount ws) (fence ws) (rule ws) (tableOf ws .tasks) ≡ tableOf ws
 unfolding tableOf
 table-with ws = refl
 
@@ -112,10 +112,10 @@ module _ (ws : List ℕ) (fine : headerNumber ws ≡ 0) where
   unfolding loadOf answerOf byWalk
   load-tasks e = rw (fine, e)
 
-  pub load-whole : endingOf ws ≡ Whole → (tasks : List Task) (many : ℕ) → tasks ≡ places (tableOf ws .tasks) → many ≡ count ws
-      → loadedBy (byTasks (tableWith (cores ws) (fence ws) (rule ws) (tasksOf tasks many))) (passing (rule ws) (tableWith (cores ws) (fence ws) (rule ws) (tasksOf tasks many))) ≡ loadOf ws
+  pub load-whole : endingOf ws ≡ Whole → (tasks : List Task) (many : ℕ) → tasks ≡ codeTasks (tableOf ws .tasks) → many ≡ count ws
+      → loadedBy (byTasks (tableWith (coreCount ws) (fence ws) (rule ws) (tasksOf tasks many))) (passing (rule ws) (tableWith (coreCount ws) (fence ws) (rule ws) (tasksOf tasks many))) ≡ loadOf ws
   load-whole e tasks many h n =
-      ap (λ (τs : List model.Task). loadedBy (byTasks (tableWith (cores ws) (fence ws) (rule ws) τs)) (passing (rule ws) (tableWith (cores ws) (fence ws) (rule ws) τs)))
+      ap (λ (τs : List model.Task). loadedBy (byTasks (tableWith (coreCount ws) (fence ws) (rule ws) τs)) (passing (rule ws) (tableWith (coreCount ws) (fence ws) (rule ws) τs)))
       (walked-tasks ws tasks many h n)
       ∙ ap (λ (s : model.Table). loadedBy (byTasks s) (passing (rule ws) s)) (table-with ws)
       ∙ sym (load-tasks e)

@@ -8,35 +8,35 @@ use lib.Dec.{eqb, ltb}
 use lib.ListN.{length}
 use lib.Seq.{ext-getD}
 use borrow.Author.Tests.{eqb-true, eqb-false}
-use Rattle.model.specs.Task.{Table, nobody, ruleOf}
+use Rattle.model.specs.Task.{Table, absentTask, ruleOf}
 use Rattle.model.proofs.Bools.{not-true-false}
 use Rattle.model.proofs.Search.{any-same}
 use Rattle.table.specs.declared.Answer.the-variants.{Passed}
 use Rattle.table.specs.declared.Loaded.{Loaded}
 use Rattle.table.specs.declared.chain.Ending.the-variants.{Past, Again, Whole}
-use Rattle.table.specs.Words.{headerWords, recordWords, cores, rule, fenceOf, records, field, next, met, count, taskOfRecord, tableOf}
-use Rattle.table.specs.Limits.{From}
+use Rattle.table.specs.Words.{headerWords, recordWords, coreCount, rule, fenceOf, records, field, next, visited, count, taskOfRecord, tableOf}
+use Rattle.table.specs.Limits.{InRange}
 use Rattle.table.specs.Numbers.{EndAt, Reaches}
-use Rattle.table.specs.Answer.{headerNumber, pastAt, againAt, stopsAt, lastStep, endingOf, byTasks, answerOf}
+use Rattle.table.specs.Answer.{headerNumber, outOfRangeAt, repeatedAt, stopsAt, lastStep, endingOf, byTasks, answerOf}
 use Rattle.table.specs.Load.{passing, refusal, loadedBy, loadOf}
 use Rattle.table.specs.OffChain.{SameOnChain}
 use Rattle.table.proofs.Walk.{last-reached, last-stops, last-ends, stops-there, ends-there, five-decides, six-decides}
 use Rattle.table.proofs.Tasks.{table-length, table-at}
 use Rattle.table.proofs.Exact.{passed-exact}
-use Rattle.table.proofs.Promise.{load-answer}
+use Rattle.table.proofs.Contract.{load-answer}
 use Rattle.table.proofs.Loads.{load-header, load-past, load-again, load-tasks}
 
 -- how the walk ends, by what it meets last
 module _ (ws : List ℕ) where
-  ending-past : pastAt ws (lastStep ws) ≡ true → endingOf ws ≡ Past
+  ending-past : outOfRangeAt ws (lastStep ws) ≡ true → endingOf ws ≡ Past
   unfolding endingOf
   ending-past p = rw p
 
-  ending-again : pastAt ws (lastStep ws) ≡ false → againAt ws (lastStep ws) ≡ true → endingOf ws ≡ Again
+  ending-again : outOfRangeAt ws (lastStep ws) ≡ false → repeatedAt ws (lastStep ws) ≡ true → endingOf ws ≡ Again
   unfolding endingOf
   ending-again p a = rw (p, a)
 
-  ending-whole : pastAt ws (lastStep ws) ≡ false → againAt ws (lastStep ws) ≡ false → endingOf ws ≡ Whole
+  ending-whole : outOfRangeAt ws (lastStep ws) ≡ false → repeatedAt ws (lastStep ws) ≡ false → endingOf ws ≡ Whole
   unfolding endingOf
   ending-whole p a = rw (p, a)
 
@@ -52,38 +52,38 @@ module _ (ws us : List ℕ) (s : SameOnChain ws us) where
   reaches-down : (j k : ℕ) → j ≤ k → Reaches ws k → Reaches ws j
   reaches-down j k l c i h = c i (omega arith)
 
-  record-met : (k : ℕ) → Reaches ws (suc k) → From 1 (records ws) (met ws k)
-  record-met k c =
+  record-visited : (k : ℕ) → Reaches ws (suc k) → InRange 1 (records ws) (visited ws k)
+  record-visited k c =
       let a = c k (omega arith) .0 in
       let b = c k (omega arith) .1 in
       omega arith
 
-  same-met : (k : ℕ) → Reaches ws k → met ws k ≡ met us k
-  unfolding met
-  same-met zero c = s .header 0 (omega arith)
-  same-met (suc k) c =
+  same-visited : (k : ℕ) → Reaches ws k → visited ws k ≡ visited us k
+  unfolding visited
+  same-visited zero c = s .header 0 (omega arith)
+  same-visited (suc k) c =
       let d = reaches-down k (suc k) (omega arith) c in
-      s .on-chain k 0 d (record-met k c) (omega arith) ∙ ap (next us) (same-met k d)
+      s .on-chain k 0 d (record-visited k c) (omega arith) ∙ ap (next us) (same-visited k d)
 
-  same-past : (k : ℕ) → Reaches ws k → pastAt ws k ≡ pastAt us k
-  same-past k c = ap (λ (n : ℕ). ltb n (met ws k)) same-records ∙ ap (ltb (records us)) (same-met k c)
+  same-past : (k : ℕ) → Reaches ws k → outOfRangeAt ws k ≡ outOfRangeAt us k
+  same-past k c = ap (λ (n : ℕ). ltb n (visited ws k)) same-records ∙ ap (ltb (records us)) (same-visited k c)
 
-  same-again : (k : ℕ) → Reaches ws k → againAt ws k ≡ againAt us k
+  same-again : (k : ℕ) → Reaches ws k → repeatedAt ws k ≡ repeatedAt us k
   same-again k c =
-      any-same k (λ j. eqb (met ws j) (met ws k)) (λ j. eqb (met us j) (met us k))
-      (λ j l. ap (λ (n : ℕ). eqb n (met ws k)) (same-met j (reaches-down j k (omega arith) c)) ∙ ap (eqb (met us j)) (same-met k c))
+      any-same k (λ j. eqb (visited ws j) (visited ws k)) (λ j. eqb (visited us j) (visited us k))
+      (λ j l. ap (λ (n : ℕ). eqb n (visited ws k)) (same-visited j (reaches-down j k (omega arith) c)) ∙ ap (eqb (visited us j)) (same-visited k c))
 
   same-stops : (k : ℕ) → Reaches ws k → stopsAt ws k ≡ stopsAt us k
-  same-stops k c = rw (same-past k c, same-again k c, same-met k c)
+  same-stops k c = rw (same-past k c, same-again k c, same-visited k c)
 
   reaches-same : (k : ℕ) → Reaches ws k → Reaches us k
   reaches-same k c j l =
       let d = reaches-down j k (omega arith) c in
-      let e = same-met j d in
+      let e = same-visited j d in
       let r = same-records in (
         λ x. c j l .0 (e ∙ x),
         λ x. c j l .1 (omega arith),
-        λ x. c j l .2 (x .0, x .1, same-met (x .0) (reaches-down (x .0) j (let h = x .1 in omega arith) d) ∙ x .2 ∙ sym e),
+        λ x. c j l .2 (x .0, x .1, same-visited (x .0) (reaches-down (x .0) j (let h = x .1 in omega arith) d) ∙ x .2 ∙ sym e),
       )
 
   same-last : lastStep us ≡ lastStep ws
@@ -96,7 +96,7 @@ module _ (ws us : List ℕ) (s : SameOnChain ws us) where
   same-ending = rw (same-last, same-past (lastStep ws) (last-reached ws), same-again (lastStep ws) (last-reached ws))
 
   -- and where it ends at the zero, the tasks are the same
-  module _ (p : pastAt ws (lastStep ws) ≡ false) (a : againAt ws (lastStep ws) ≡ false) where
+  module _ (p : outOfRangeAt ws (lastStep ws) ≡ false) (a : repeatedAt ws (lastStep ws) ≡ false) where
     ends : EndAt ws (lastStep ws)
     ends = last-ends ws p a
 
@@ -104,30 +104,30 @@ module _ (ws us : List ℕ) (s : SameOnChain ws us) where
     count-last = ends-there ws (lastStep ws) (last-reached ws) ends
 
     same-count : count us ≡ count ws
-    same-count = ends-there us (lastStep ws) (reaches-same (lastStep ws) (last-reached ws)) (sym (same-met (lastStep ws) (last-reached ws)) ∙ ends) ∙ sym count-last
+    same-count = ends-there us (lastStep ws) (reaches-same (lastStep ws) (last-reached ws)) (sym (same-visited (lastStep ws) (last-reached ws)) ∙ ends) ∙ sym count-last
 
-    same-record : (k : ℕ) → k < count ws → taskOfRecord ws (met ws k) ≡ taskOfRecord us (met us k)
+    same-record : (k : ℕ) → k < count ws → taskOfRecord ws (visited ws k) ≡ taskOfRecord us (visited us k)
     same-record k l =
         let n = count-last in
         let c = reaches-down (suc k) (lastStep ws) (omega arith) (last-reached ws) in
         let d = reaches-down k (suc k) (omega arith) c in
-        let f : (j : ℕ) → j < 7 → field ws (met ws k) j ≡ field us (met ws k) j = λ j h. s .on-chain k j d (record-met k c) h in
+        let f : (j : ℕ) → j < 7 → field ws (visited ws k) j ≡ field us (visited ws k) j = λ j h. s .on-chain k j d (record-visited k c) h in
         let one = f 1 (omega arith) in
         let two = f 2 (omega arith) in
         let three = f 3 (omega arith) in
         let four = f 4 (omega arith) in
         let five = f 5 (omega arith) in
         let six = f 6 (omega arith) in
-        let same : taskOfRecord ws (met ws k) ≡ taskOfRecord us (met ws k) =
+        let same : taskOfRecord ws (visited ws k) ≡ taskOfRecord us (visited ws k) =
         λ i. record { offset = one i; oddWidth = two i; length = three i; deadline = four i; period = five i; evenWidth = six i } in
-        same ∙ ap (taskOfRecord us) (same-met k d)
+        same ∙ ap (taskOfRecord us) (same-visited k d)
 
     same-tasks : tableOf ws .tasks ≡ tableOf us .tasks
     same-tasks =
         let m = table-length ws in
         let n = table-length us in
         let e = same-count in
-        ext-getD nobody (tableOf ws .tasks) (tableOf us .tasks) (omega arith)
+        ext-getD absentTask (tableOf ws .tasks) (tableOf us .tasks) (omega arith)
         (λ k l. table-at ws k (omega arith) ∙ same-record k (omega arith) ∙ sym (table-at us k (omega arith)))
 
     same-table : tableOf ws ≡ tableOf us
@@ -141,7 +141,7 @@ module _ (ws us : List ℕ) (s : SameOnChain ws us) where
         λ i. record { tasks = τs i; cores = m i; fence = fenceOf (low i) (high i); rule = r i }
 
   -- by how the walk ends
-  by-ending : (t : Bool) → pastAt ws (lastStep ws) ≡ t → (u : Bool) → againAt ws (lastStep ws) ≡ u → headerNumber ws ≡ 0 → loadOf ws ≡ loadOf us
+  by-ending : (t : Bool) → outOfRangeAt ws (lastStep ws) ≡ t → (u : Bool) → repeatedAt ws (lastStep ws) ≡ u → headerNumber ws ≡ 0 → loadOf ws ≡ loadOf us
   by-ending true p u a h =
       let e = ending-past ws p in
       load-past ws h e ∙ sym (load-past us (sym same-header ∙ h) (sym same-ending ∙ e))
@@ -156,7 +156,7 @@ module _ (ws us : List ℕ) (s : SameOnChain ws us) where
       ∙ sym (load-tasks us (sym same-header ∙ h) (sym same-ending ∙ e))
 
   by-header : (t : Bool) → eqb (headerNumber ws) 0 ≡ t → loadOf ws ≡ loadOf us
-  by-header true e = by-ending (pastAt ws (lastStep ws)) refl (againAt ws (lastStep ws)) refl (eqb-true (headerNumber ws) 0 e)
+  by-header true e = by-ending (outOfRangeAt ws (lastStep ws)) refl (repeatedAt ws (lastStep ws)) refl (eqb-true (headerNumber ws) 0 e)
   by-header false e =
       let n = eqb-false (headerNumber ws) 0 e in
       load-header ws n ∙ ap (λ (h : ℕ). refusal h 0) same-header ∙ sym (load-header us (λ z. n (same-header ∙ z)))
@@ -174,5 +174,5 @@ module _ (ws us : List ℕ) (s : SameOnChain ws us) where
   off-chain-table e =
       let none = passed-exact ws .0 e in
       same-table
-      (not-true-false (pastAt ws (lastStep ws)) (λ x. none 5 0 (five-decides ws .0 x)))
-      (not-true-false (againAt ws (lastStep ws)) (λ x. none 6 0 (six-decides ws .0 x)))
+      (not-true-false (outOfRangeAt ws (lastStep ws)) (λ x. none 5 0 (five-decides ws .0 x)))
+      (not-true-false (repeatedAt ws (lastStep ws)) (λ x. none 6 0 (six-decides ws .0 x)))

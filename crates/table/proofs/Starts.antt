@@ -12,17 +12,17 @@ use Rattle.model.specs.Task as model
 use Rattle.model.specs.Horizon.{releaseFrom, S, lastS}
 use Rattle.model.specs.Sizes.{mostTasks}
 use Rattle.table.specs.declared.Task.{Task}
-use Rattle.table.specs.Task.{taskOf, tasksOf, noTask, Within, InLimits}
+use Rattle.table.specs.Task.{taskOf, tasksOf, noTask, TimesWithin, InLimits}
 use Rattle.table.proofs.Places.{tasks-length, task-at}
 use Rattle.table.specs.Limits.{mostTime}
 
--- the ticks of t since an offset, by arithmetic alone: with 2^26 added first, the quotient by 2^26 says whether t has
--- reached the offset, and the rest by how much
+-- the ticks of t since an offset, by arithmetic alone: with 2^26 added first, the quotient by 2^26 is 1 if t has
+-- reached the offset, and the rest is by how much
 abbrev pub since : ℕ → ℕ → ℕ
 since t offset = (t + 67108864 - offset) % 67108864 * ((t + 67108864 - offset) / 67108864)
 
-pub elapsed : (t offset : ℕ) → t < 67108864 → offset ≤ 67108864 → since t offset ≡ t - offset
-elapsed t offset h l = go (ltb t offset) refl
+pub since-difference : (t offset : ℕ) → t < 67108864 → offset ≤ 67108864 → since t offset ≡ t - offset
+since-difference t offset h l = go (ltb t offset) refl
   where
     go : (b : Bool) → ltb t offset ≡ b → since t offset ≡ t - offset
     go true e =
@@ -46,7 +46,7 @@ module _ (tasks : List Task) (count : ℕ) (limits : InLimits tasks count) where
   S-bound zero h =
       subst⁻¹ (λ (τ : model.Task). τ .offset ≤ 1 * mostTime) (task-at tasks count 0 h) (omega (arith, limits 0 h .offset-most))
   S-bound (suc p) h =
-      let within : Within (getD tasks (suc p) noTask) = limits (suc p) h in
+      let within : TimesWithin (getD tasks (suc p) noTask) = limits (suc p) h in
       let before : S (tasksOf tasks count) p ≤ suc p * mostTime = S-bound p (omega arith) in
       subst⁻¹ (λ (τ : model.Task). releaseFrom τ (S (tasksOf tasks count) p) ≤ suc (suc p) * mostTime) (task-at tasks count (suc p) h)
       (le-trans (release-bound (taskOf (getD tasks (suc p) noTask)) (S (tasksOf tasks count) p)) (omega arith))

@@ -1,4 +1,4 @@
--- The tests of the numbers decide what the numbers say.
+-- The tests of the numbers decide their conditions.
 use mathlib.Core.Path.{_≡_, refl, sym, ap, subst, _∙_}
 use mathlib.Core.Bool.{Bool, true, false, not, _||_, cond, true≢false}
 use mathlib.Core.List.{List}
@@ -14,18 +14,18 @@ use borrow.Author.Tests.{eqb-true, eq-eqb, le-leb, leb-true, ltb-true, ltb-false
 use Rattle.model.specs.Search.{bit}
 use Rattle.model.specs.Task.{Task}
 use Rattle.model.specs.Sizes.{mostCores, mostTasks}
-use Rattle.table.specs.Words.{headerWords, recordWords, records, met}
-use Rattle.table.specs.Limits.{From, from, CoresOut, coresOut, RuleOut, ruleOut, FenceOut, fenceOut, OneOut, oneOut, WidthOut, widthOut, TimesOut, timesOut, taskOut, mostTime}
-use Rattle.table.specs.Numbers.{WordsOut, EndAt, PastAt, AgainAt}
-use Rattle.table.specs.Answer.{wordsOut, pastAt, againAt, stopsAt}
+use Rattle.table.specs.Words.{headerWords, recordWords, records, visited}
+use Rattle.table.specs.Limits.{InRange, inRange, CoresOut, coresOut, RuleOut, ruleOut, FenceOut, fenceOut, OneOut, oneOut, WidthOut, widthOut, TimesOut, timesOut, taskOut, mostTime}
+use Rattle.table.specs.Numbers.{WordsOut, EndAt, OutOfRangeAt, RepeatedAt}
+use Rattle.table.specs.Answer.{wordsOut, outOfRangeAt, repeatedAt, stopsAt}
 use Rattle.model.proofs.Digits.{bit-zero, bit-suc, bit-past, odd-half, below-pow, lowest-of}
 use Rattle.table.proofs.Decide.{Decides, decides-le, decides-lt, decides-eq, decides-not, decides-and, decides-or, decides-any}
 
-pub from-decides : (a b x : ℕ) → Decides (from a b x) (From a b x)
+pub from-decides : (a b x : ℕ) → Decides (inRange a b x) (InRange a b x)
 from-decides a b x = decides-and (leb a x) (leb x b) (a ≤ x) (x ≤ b) (decides-le a x) (decides-le x b)
 
-out-decides : (a b x : ℕ) → Decides (not (from a b x)) (¬ From a b x)
-out-decides a b x = decides-not (from a b x) (From a b x) (from-decides a b x)
+out-decides : (a b x : ℕ) → Decides (not (inRange a b x)) (¬ InRange a b x)
+out-decides a b x = decides-not (inRange a b x) (InRange a b x) (from-decides a b x)
 
 pub words-decides : (ws : List ℕ) → Decides (wordsOut ws) (WordsOut ws)
 words-decides ws =
@@ -65,7 +65,7 @@ some-past (suc m) f h =
     (suc (x .0), omega (arith, x .1), bit-suc f (x .0) ∙ x .2)
 
 pub fence-decides : (m f : ℕ) → Decides (fenceOut m f) (FenceOut m f)
-fence-decides m f = (λ e. to (leb-true (2 ^ m - 1) f e), λ x. le-leb (2 ^ m - 1) f (from x))
+fence-decides m f = (λ e. to (leb-true (2 ^ m - 1) f e), λ x. le-leb (2 ^ m - 1) f (inRange x))
   where
     to : 2 ^ m - 1 ≤ f → FenceOut m f
     to l = ⊎-elim
@@ -73,13 +73,13 @@ fence-decides m f = (λ e. to (leb-true (2 ^ m - 1) f e), λ x. le-leb (2 ^ m - 
         (λ (g : 2 ^ m - 1 < f). inl (some-past m f (omega arith)))
         (eq-or-lt-of-le l)
 
-    from : FenceOut m f → 2 ^ m - 1 ≤ f
-    from (inl (c, l, e)) = go (ltb f (2 ^ m)) refl
+    inRange : FenceOut m f → 2 ^ m - 1 ≤ f
+    inRange (inl (c, l, e)) = go (ltb f (2 ^ m)) refl
       where
         go : (t : Bool) → ltb f (2 ^ m) ≡ t → 2 ^ m - 1 ≤ f
         go true b = absurd (true≢false (sym e ∙ bit-past m f c (ltb-true f (2 ^ m) b) l))
         go false b = omega (arith, ltb-false f (2 ^ m) b)
-    from (inr h) = all-there m f h
+    inRange (inr h) = all-there m f h
 
 one-decides : (m v : ℕ) → Decides (oneOut m v) (OneOut m v)
 one-decides m v = decides-or _ _ _ _ (decides-eq v 0) (decides-lt m v)
@@ -102,11 +102,11 @@ task-out-is false false = refl
 pub task-decides : (m : ℕ) (τ : Task) → Decides (taskOut m τ) (WidthOut m τ ⊎ TimesOut τ)
 task-decides m τ = rw (task-out-is (widthOut m τ) (timesOut τ)) (decides-or (widthOut m τ) (timesOut τ) (WidthOut m τ) (TimesOut τ) (width-decides m τ) (times-decides τ))
 
-pub past-decides : (ws : List ℕ) (k : ℕ) → Decides (pastAt ws k) (PastAt ws k)
-past-decides ws k = decides-lt (records ws) (met ws k)
+pub past-decides : (ws : List ℕ) (k : ℕ) → Decides (outOfRangeAt ws k) (OutOfRangeAt ws k)
+past-decides ws k = decides-lt (records ws) (visited ws k)
 
-pub again-decides : (ws : List ℕ) (k : ℕ) → Decides (againAt ws k) (AgainAt ws k)
-again-decides ws k = decides-any k (λ j. eqb (met ws j) (met ws k)) (λ j. met ws j ≡ met ws k) (λ j. decides-eq (met ws j) (met ws k))
+pub again-decides : (ws : List ℕ) (k : ℕ) → Decides (repeatedAt ws k) (RepeatedAt ws k)
+again-decides ws k = decides-any k (λ j. eqb (visited ws j) (visited ws k)) (λ j. visited ws j ≡ visited ws k) (λ j. decides-eq (visited ws j) (visited ws k))
 
-pub stops-decides : (ws : List ℕ) (k : ℕ) → Decides (stopsAt ws k) (EndAt ws k ⊎ (PastAt ws k ⊎ AgainAt ws k))
-stops-decides ws k = decides-or _ _ _ _ (decides-eq (met ws k) 0) (decides-or _ _ _ _ (past-decides ws k) (again-decides ws k))
+pub stops-decides : (ws : List ℕ) (k : ℕ) → Decides (stopsAt ws k) (EndAt ws k ⊎ (OutOfRangeAt ws k ⊎ RepeatedAt ws k))
+stops-decides ws k = decides-or _ _ _ _ (decides-eq (visited ws k) 0) (decides-or _ _ _ _ (past-decides ws k) (again-decides ws k))

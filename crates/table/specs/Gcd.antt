@@ -1,4 +1,4 @@
--- The greatest common divisor, by which the least common multiple of the periods is found (scope, 'Look-ahead and verdict').
+-- The greatest common divisor, from which the least common multiple of the periods is computed (scope, 'Look-ahead and verdict').
 use Prim.Native.Nat.{ℕ, _∣_}
 
 -- g is the greatest common divisor of a and b: it divides both, and every common divisor divides it

@@ -1,4 +1,4 @@
--- What a table's words say: tasks, limits, the numbers for what is turned down, and what `load` gives; then records off the chain and bare tables.
+-- The meaning of a table's words: tasks, limits, the numbers for what is turned down, and the result of `load`; then records off the chain and bare tables.
 pub mod Task
 pub mod Words
 pub mod Limits
@@ -7,4 +7,4 @@ pub mod Answer
 pub mod Gcd
 pub mod Load
 pub mod OffChain
-pub mod Bare
+pub mod UnfencedWords

@@ -1,4 +1,4 @@
--- The limits on the header and on a task (scope, 'The table'): for each what it says, and the test that decides it.
+-- The limits on the header and on a task (scope, 'The table'): the condition of each, and the test that decides it.
 use mathlib.Core.Path.{_≡_}
 use mathlib.Core.Bool.{Bool, true, not, _&&_, _||_, cond}
 use mathlib.Core.Logic.{_⊎_}
@@ -17,30 +17,30 @@ abbrev pub mostHorizon : ℕ
 mostHorizon = 1000000000
 
 -- x is a to b
-abbrev pub From : ℕ → ℕ → ℕ → Type 0
-From a b x = (a ≤ x) × (x ≤ b)
+abbrev pub InRange : ℕ → ℕ → ℕ → Type 0
+InRange a b x = (a ≤ x) × (x ≤ b)
 
 -- .. as a test (`from-decides`)
-abbrev pub from : ℕ → ℕ → ℕ → Bool
-from a b x = leb a x && leb x b
+abbrev pub inRange : ℕ → ℕ → ℕ → Bool
+inRange a b x = leb a x && leb x b
 
 -- 2: the core count is not 1 to 64
 abbrev pub CoresOut : ℕ → Type 0
-CoresOut m = ¬ From 1 mostCores m
+CoresOut m = ¬ InRange 1 mostCores m
 
 -- .. as a test (`cores-decides`)
 abbrev pub coresOut : ℕ → Bool
-coresOut m = not (from 1 mostCores m)
+coresOut m = not (inRange 1 mostCores m)
 
 -- 3: the rule is not 1 to 4
 abbrev pub RuleOut : ℕ → Type 0
-RuleOut n = ¬ From 1 4 n
+RuleOut n = ¬ InRange 1 4 n
 
 -- .. as a test (`rule-decides`)
 abbrev pub ruleOut : ℕ → Bool
-ruleOut n = not (from 1 4 n)
+ruleOut n = not (inRange 1 4 n)
 
--- 19: the fence names a core past the count m, or all cores
+-- 19: the fence contains a core past the count m, or all cores
 abbrev pub FenceOut : ℕ → ℕ → Type 0
 FenceOut m fence = ((c : ℕ) × (m ≤ c) × (bit fence c ≡ true)) ⊎ ((c : ℕ) → c < m → bit fence c ≡ true)
 
@@ -52,7 +52,7 @@ fenceOut m fence = leb (2 ^ m - 1) fence
 abbrev pub OneOut : ℕ → ℕ → Type 0
 OneOut m v = (v ≡ 0) ⊎ (m < v)
 
--- 7: so is a width of the task, that of its odd jobs or that of its even ones (request 108)
+-- 7: this holds of a width of the task, that of its odd jobs or that of its even ones (request 108)
 abbrev pub WidthOut : ℕ → Task → Type 0
 WidthOut m τ = OneOut m (τ .oddWidth) ⊎ OneOut m (τ .evenWidth)
 
@@ -67,13 +67,13 @@ widthOut m τ = oneOut m (τ .oddWidth) || oneOut m (τ .evenWidth)
 abbrev pub TimesOut : Task → Type 0
 TimesOut τ =
     (mostTime < τ .offset)
-    ⊎ ((¬ From 1 mostTime (τ .length)) ⊎ ((¬ From 1 mostTime (τ .period)) ⊎ (¬ From 1 (τ .period) (τ .deadline))))
+    ⊎ ((¬ InRange 1 mostTime (τ .length)) ⊎ ((¬ InRange 1 mostTime (τ .period)) ⊎ (¬ InRange 1 (τ .period) (τ .deadline))))
 
 -- .. as a test (`times-decides`)
 abbrev pub timesOut : Task → Bool
 timesOut τ =
     ltb mostTime (τ .offset)
-    || (not (from 1 mostTime (τ .length)) || (not (from 1 mostTime (τ .period)) || not (from 1 (τ .period) (τ .deadline))))
+    || (not (inRange 1 mostTime (τ .length)) || (not (inRange 1 mostTime (τ .period)) || not (inRange 1 (τ .period) (τ .deadline))))
 
 -- the number that turns a task down, within a task 7 first; 0 where neither does
 abbrev pub taskNumber : ℕ → Task → ℕ

@@ -6,11 +6,11 @@ use mathlib.Core.Logic.{_⊎_}
 use Prim.Native.Nat.{ℕ, suc, _-_, _%_, _<_}
 use lib.ListN.{length}
 use lib.Dec.{eqb}
-use Rattle.model.specs.Fence.{openCount}
+use Rattle.model.specs.Fence.{unfencedCount}
 use Rattle.model.specs.Horizon.{horizon}
 use Rattle.model.specs.Sizes.{mostTasks}
-use Rattle.table.specs.Words.{headerWords, recordWords, head, cores, rule, fence, records, met, count, taskAt, tableOf}
-use Rattle.table.specs.Limits.{From, CoresOut, RuleOut, FenceOut, WidthOut, TimesOut, HorizonOut}
+use Rattle.table.specs.Words.{headerWords, recordWords, head, coreCount, rule, fence, records, visited, count, taskAt, tableOf}
+use Rattle.table.specs.Limits.{InRange, CoresOut, RuleOut, FenceOut, WidthOut, TimesOut, HorizonOut}
 
 -- the slice has fewer than 5 words, or the rest is no whole number of records, or there are more than 32
 abbrev pub WordsOut : List ℕ → Type 0
@@ -18,50 +18,50 @@ WordsOut ws = (length ws < headerWords) ⊎ (((length ws - headerWords) % record
 
 -- what the walk can meet at step k: the zero that ends the chain, a number past the last record, a record again
 abbrev pub EndAt : List ℕ → ℕ → Type 0
-EndAt ws k = met ws k ≡ 0
+EndAt ws k = visited ws k ≡ 0
 
-abbrev pub PastAt : List ℕ → ℕ → Type 0
-PastAt ws k = records ws < met ws k
+abbrev pub OutOfRangeAt : List ℕ → ℕ → Type 0
+OutOfRangeAt ws k = records ws < visited ws k
 
-abbrev pub AgainAt : List ℕ → ℕ → Type 0
-AgainAt ws k = (j : ℕ) × (j < k) × (met ws j ≡ met ws k)
+abbrev pub RepeatedAt : List ℕ → ℕ → Type 0
+RepeatedAt ws k = (j : ℕ) × (j < k) × (visited ws j ≡ visited ws k)
 
 -- the walk reaches step k: at no earlier step it met one of these
 abbrev pub Reaches : List ℕ → ℕ → Type 0
-Reaches ws k = (j : ℕ) → j < k → (¬ EndAt ws j) × (¬ PastAt ws j) × (¬ AgainAt ws j)
+Reaches ws k = (j : ℕ) → j < k → (¬ EndAt ws j) × (¬ OutOfRangeAt ws j) × (¬ RepeatedAt ws j)
 
 -- p is a position on the chain
 abbrev pub Position : List ℕ → ℕ → Type 0
-Position ws p = From 1 (count ws) p
+Position ws p = InRange 1 (count ws) p
 
--- number n applies, with position p
+-- number n applies, with position p. In the other crates' specs/Numbers the names `Applies`, `First` and `NoneApplies` mean the same, of their own routine
 pub data Applies (ws : List ℕ) : ℕ → ℕ → Type 0 where
   -- 1. The slice has fewer than 5 words, or the rest is no whole number of records, or there are more than 32.
   one : WordsOut ws → Applies ws 1 0
   -- 2. The core count is not 1 to 64.
-  two : CoresOut (cores ws) → Applies ws 2 0
+  two : CoresOut (coreCount ws) → Applies ws 2 0
   -- 3. The rule is not 1 to 4.
   three : RuleOut (rule ws) → Applies ws 3 0
-  -- 19. The fence names a core past the count, or all cores.
-  nineteen : FenceOut (cores ws) (fence ws) → Applies ws 19 0
+  -- 19. The fence contains a core past the count, or all cores.
+  nineteen : FenceOut (coreCount ws) (fence ws) → Applies ws 19 0
   -- 4. The head is zero.
   four : head ws ≡ 0 → Applies ws 4 0
   -- 5. Walking the chain, a number past the last record is met.
-  five : (k : ℕ) → Reaches ws k → PastAt ws k → Applies ws 5 0
+  five : (k : ℕ) → Reaches ws k → OutOfRangeAt ws k → Applies ws 5 0
   -- 6. Walking the chain, a record is met again (5 and 6: whichever the walk meets first).
-  six : (k : ℕ) → Reaches ws k → AgainAt ws k → Applies ws 6 0
+  six : (k : ℕ) → Reaches ws k → RepeatedAt ws k → Applies ws 6 0
   -- 7. A width of a task, that of its odd jobs or that of its even ones, is 0 or above the number of unfenced cores.
-  seven : (p : ℕ) → Position ws p → WidthOut (openCount (fence ws) (cores ws)) (taskAt ws p) → Applies ws 7 p
+  seven : (p : ℕ) → Position ws p → WidthOut (unfencedCount (fence ws) (coreCount ws)) (taskAt ws p) → Applies ws 7 p
   -- 8. A task's O, C, T or D is outside its limits.
   eight : (p : ℕ) → Position ws p → TimesOut (taskAt ws p) → Applies ws 8 p
   -- 9. The horizon exceeds 1,000,000,000.
   nine : HorizonOut (horizon (tableOf ws)) → Applies ws 9 0
 
--- checked in this order; 8 stands where 7 does
+-- the numbers of all routines in the order in which they are checked; 8 has the place of 7
 abbrev pub order : List ℕ
 order = 1 ∷ 2 ∷ 3 ∷ 19 ∷ 4 ∷ 5 ∷ 6 ∷ 7 ∷ 9 ∷ 10 ∷ 11 ∷ 12 ∷ 13 ∷ 14 ∷ 21 ∷ 22 ∷ 15 ∷ 20 ∷ 16 ∷ 17 ∷ 18 ∷ 23 ∷ []
 
--- where n stands in a list whose first place is i
+-- the index of n in a list whose first index is i
 abbrev pub placeFrom : ℕ → List ℕ → ℕ → ℕ
 placeFrom i [] n = i
 placeFrom i (m ∷ ms) n = cond (eqb n m) i (placeFrom (suc i) ms n)

@@ -1,4 +1,4 @@
--- The tasks that code keeps, 32 places with a count, read as the model's tasks.
+-- The tasks that code stores, 32 places with a count, as the model's tasks.
 use mathlib.Core.List.{List, map}
 use Prim.Native.Nat.{ℕ, _≤_, _<_}
 use lib.ListN.{getD, take}
@@ -6,7 +6,7 @@ use Rattle.model.specs.Task as model
 use Rattle.table.specs.declared.Task.{Task}
 use Rattle.table.specs.Limits.{mostTime}
 
--- a task's six numbers, as the model has them
+-- a task's six numbers, as the model has them; as in phase/specs/Task: the model's task of a task in code
 abbrev pub taskOf : Task → model.Task
 taskOf t = record {
   offset = t .offset;
@@ -21,16 +21,16 @@ taskOf t = record {
 abbrev pub tasksOf : List Task → ℕ → List model.Task
 tasksOf tasks count = map taskOf (take count tasks)
 
--- no task: what stands past the count
+-- no task: the value past the count
 abbrev pub noTask : Task
 noTask = record { offset = 0; width = 0; length = 0; deadline = 0; period = 0; second = 0 }
 
--- the limits on one task that finding S and P asks for: O at most 1,000,000, T from 1 to 1,000,000
-pub record Within (t : Task) : Type 0 where
+-- the limits on one task that S and P need: O at most 1,000,000, T from 1 to 1,000,000
+pub record TimesWithin (t : Task) : Type 0 where
   pub offset-most : t .offset ≤ mostTime
   pub period-least : 1 ≤ t .period
   pub period-most : t .period ≤ mostTime
 
 -- each of the first count tasks is within them
 abbrev pub InLimits : List Task → ℕ → Type 0
-InLimits tasks count = (p : ℕ) → p < count → Within (getD tasks p noTask)
+InLimits tasks count = (p : ℕ) → p < count → TimesWithin (getD tasks p noTask)

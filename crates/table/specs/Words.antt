@@ -23,21 +23,21 @@ abbrev pub head : List ℕ → ℕ
 head ws = word ws 0
 
 -- word 1 the core count
-abbrev pub cores : List ℕ → ℕ
-cores ws = word ws 1
+abbrev pub coreCount : List ℕ → ℕ
+coreCount ws = word ws 1
 
 -- word 2 the rule
 abbrev pub rule : List ℕ → ℕ
 rule ws = word ws 2
 
--- words 3 and 4 the fence (request 102), a set of cores as one 64-bit number, low word first
+-- words 3 and 4 the fence (request 102; the field: reserved processors), a set of cores as one 64-bit number, low word first
 abbrev pub fenceOf : ℕ → ℕ → ℕ
 fenceOf low high = low + high * 2 ^ 32
 
 abbrev pub fence : List ℕ → ℕ
 fence ws = fenceOf (word ws 3) (word ws 4)
 
--- records follow: how many there are
+-- records follow: the number of them
 abbrev pub records : List ℕ → ℕ
 records ws = (length ws - headerWords) / recordWords
 
@@ -62,22 +62,22 @@ taskOfRecord ws n =
     }
 
 -- the number that the walk meets at step k: the head, then the next of each record met
-unfoldable pub met : List ℕ → ℕ → ℕ
-met ws zero = head ws
-met ws (suc k) = next ws (met ws k)
+unfoldable pub visited : List ℕ → ℕ → ℕ
+visited ws zero = head ws
+visited ws (suc k) = next ws (visited ws k)
 
--- zero ends the chain: how many records stand on it, searched within as many steps as there are records (`ends-there`: enough where 5 and 6 do not apply)
+-- zero ends the chain: the number of records on it, searched within as many steps as there are records (`ends-there`: enough where 5 and 6 do not apply)
 unfoldable pub count : List ℕ → ℕ
-count ws = least (suc (records ws)) (λ k. eqb (met ws k) 0)
+count ws = least (suc (records ws)) (λ k. eqb (visited ws k) 0)
 
 -- the numbers of the records on the chain, highest priority first
 unfoldable pub chain : List ℕ → List ℕ
-chain ws = map (met ws) (upFrom 0 (count ws))
+chain ws = map (visited ws) (upFrom 0 (count ws))
 
--- a task's position is its place on the chain, from 1, the highest priority: the task at position p
+-- a task's position is its place on the chain, from 1, the highest priority (scope: position; the field: rank in fixed task priority order): the task at p
 abbrev pub taskAt : List ℕ → ℕ → Task
-taskAt ws p = taskOfRecord ws (met ws (p - 1))
+taskAt ws p = taskOfRecord ws (visited ws (p - 1))
 
--- the table that the words say
+-- the table that the words represent
 unfoldable pub tableOf : List ℕ → Table
-tableOf ws = record { tasks = map (taskOfRecord ws) (chain ws); cores = cores ws; fence = fence ws; rule = ruleOf (rule ws) }
+tableOf ws = record { tasks = map (taskOfRecord ws) (chain ws); cores = coreCount ws; fence = fence ws; rule = ruleOf (rule ws) }

@@ -4,7 +4,7 @@ ghost use Prim.Native.Nat.{_≤_};
 ghost use Rattle.table.specs.Task.{noTask};
 ghost use Rattle.table.specs.Words.{records, taskOfRecord};
 ghost use Rattle.table.specs.Answer.{headerNumber};
-ghost use Rattle.table.specs.Load.{placed, WalkOf};
+ghost use Rattle.table.specs.Load.{codeTask, WalkOf};
 use crate::HEADER;
 use crate::RECORD;
 use crate::Task;
@@ -24,7 +24,7 @@ pub struct Walked {
     pub tasks: [Task; MOST_TASKS],
 }
 
-// No task: what stands past the count.
+// No task: the value past the count.
 pub(crate) fn no_task() -> Task
     ensures { λ r. ⌜ r ≡ noTask ⌝ }
 {
@@ -41,7 +41,7 @@ pub(crate) fn no_task() -> Task
 // The task of a record.
 fn task_of(words: &[u32], number: usize) -> Task
     requires { ⌜ 1 ≤ number ⌝ ∗ ⌜ number ≤ records (now words) ⌝ }
-    ensures { λ r. ⌜ r ≡ placed (taskOfRecord (now (words .entry)) number) ⌝ }
+    ensures { λ r. ⌜ r ≡ codeTask (taskOfRecord (now (words .entry)) number) ⌝ }
 {
     let at = HEADER + (number - 1) * RECORD;
     Task {

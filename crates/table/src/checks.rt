@@ -4,7 +4,7 @@ ghost use Prim.Native.Nat.{_≤_, _+_};
 ghost use Rattle.table.specs.Task.{tasksOf, InLimits};
 ghost use Rattle.table.specs.Limits.{horizonOut};
 ghost use Rattle.table.specs.Answer.{firstOut, byHorizon, byTasks};
-ghost use Rattle.table.specs.Load.{places, refusal, passing, loadedBy, tableWith};
+ghost use Rattle.table.specs.Load.{codeTasks, refusal, passing, loadedBy, tableWith};
 ghost use Rattle.model.specs.Sizes.{mostCores, mostTasks};
 use crate::Answer;
 use crate::Loaded;
@@ -31,7 +31,7 @@ pub(crate) fn refused(number: u32, position: u32) -> Loaded
     }
 }
 
-// Whether the last S and P reach past the longest horizon (number 9).
+// Whether the last S plus P exceeds the longest horizon (number 9).
 pub fn horizon_out(start: u32, period: u32) -> bool
     ensures { λ r. ⌜ r ≡ horizonOut (start + period) ⌝ }
 {
@@ -40,7 +40,7 @@ pub fn horizon_out(start: u32, period: u32) -> bool
 
 // A table whose tasks are within their limits: number 9, or the table.
 fn by_horizon(cores: u32, fence: u64, rule: u32, tasks: [Task; MOST_TASKS], count: usize) -> Loaded
-    requires { ⌜ 1 ≤ count ⌝ ∗ ⌜ count ≤ mostTasks ⌝ ∗ ⌜ InLimits tasks count ⌝ ∗ ⌜ tasks ≡ places (tasksOf tasks count) ⌝ }
+    requires { ⌜ 1 ≤ count ⌝ ∗ ⌜ count ≤ mostTasks ⌝ ∗ ⌜ InLimits tasks count ⌝ ∗ ⌜ tasks ≡ codeTasks (tasksOf tasks count) ⌝ }
     ensures { λ r. ⌜ r ≡ loadedBy (byHorizon (tableWith cores fence rule (tasksOf tasks count))) (passing rule (tableWith cores fence rule (tasksOf tasks count))) ⌝ }
 {
     let start = crate::positions::last_start(tasks, count);
@@ -85,10 +85,10 @@ pub(crate) fn by_tasks(
     tasks: [Task; MOST_TASKS],
     count: usize,
 ) -> Loaded
-    requires { ⌜ cores ≤ mostCores ⌝ ∗ ⌜ 1 ≤ count ⌝ ∗ ⌜ count ≤ mostTasks ⌝ ∗ ⌜ tasks ≡ places (tasksOf tasks count) ⌝ }
+    requires { ⌜ cores ≤ mostCores ⌝ ∗ ⌜ 1 ≤ count ⌝ ∗ ⌜ count ≤ mostTasks ⌝ ∗ ⌜ tasks ≡ codeTasks (tasksOf tasks count) ⌝ }
     ensures { λ r. ⌜ r ≡ loadedBy (byTasks (tableWith cores fence rule (tasksOf tasks count))) (passing rule (tableWith cores fence rule (tasksOf tasks count))) ⌝ }
 {
-    let wide = cores::open_count(cores, fence);
+    let wide = cores::unfenced_count(cores, fence);
     let place = first_out(wide, tasks, count);
     if place < count {
         let task = tasks[place];

@@ -8,7 +8,7 @@ use crate::HEADER;
 use crate::RECORD;
 use model::MOST_TASKS;
 
-// The fence that the header names.
+// The fence in the header.
 pub(crate) fn fence_in(words: &[u32]) -> u64
     requires { ⌜ headerWords ≤ length (now words) ⌝ }
     ensures { λ r. ⌜ r ≡ fence (now (words .entry)) ⌝ }

@@ -1,4 +1,4 @@
-// P, the least common multiple of the periods, a task whose widths differ counting with 2T.
+// P, the least common multiple of the periods, 2T for a task whose widths differ (scope: P; the field: hyperperiod).
 ghost use mathlib.Core.Path.{_≡_};
 ghost use Prim.Native.Nat.{_+_, _≤_, min};
 ghost use Rattle.model.specs.Horizon.{hyperperiod};
@@ -30,7 +30,7 @@ pub(crate) fn gcd(a: u64, b: u64) -> u64
     x
 }
 
-// After how many ticks a task's releases and widths repeat: T, or 2T where its widths differ.
+// The number of ticks after which a task's releases and widths repeat: T, or 2T where its widths differ.
 fn cycle(task: Task) -> u64
     ensures { λ r. ⌜ r ≡ cycle (taskOf task) ⌝ }
 {

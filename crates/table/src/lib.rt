@@ -1,4 +1,4 @@
-// The supplier's words: the numbers 1 to 9 and 19, the chain, the tasks, S, P and the horizon.
+// The table in the supplier's words: the numbers 1 to 9 and 19, the chain, the tasks, S, P and the horizon.
 ghost use Rattle.table.specs.Load.{LoadOf};
 
 pub mod limits; // limits.rt: numbers 2, 3, 19, 7 and 8 on plain values
@@ -12,7 +12,7 @@ pub mod hyperperiod; // hyperperiod.rt: P, the least common multiple of the peri
 use chain::Ending;
 use model::MOST_TASKS;
 
-// How many words the header has, and how many each record.
+// The number of words of the header, and of each record.
 pub const HEADER: usize = 5;
 
 pub const RECORD: usize = 7;
@@ -33,7 +33,8 @@ pub enum Answer {
     Refused(u32, u32),
 }
 
-// The answer, and beside it the table: the cores, the fence, which is a set of them, the tasks in priority order, zeros past the count, the last S, P and the horizon.
+// The answer, and beside it the table: the cores, the fence, which is a set of them, the tasks in priority order, zeros past the count, the last S, P and the
+// horizon.
 pub struct Loaded {
     pub answer: Answer,
     pub count: usize,
@@ -46,7 +47,7 @@ pub struct Loaded {
     pub horizon: u32,
 }
 
-// The table that the words say, or the first number that applies.
+// The table that the words represent, or the first number that applies.
 pub fn load(words: &[u32]) -> Loaded
     ensures { λ r. ⌜ LoadOf (now (words .entry)) r ⌝ }
 {

@@ -29,14 +29,14 @@ pub fn rule_out(rule: u32) -> bool
     !((1 <= rule) & (rule <= 4))
 }
 
-// The fence of its two words, low word first.
+// The fence from its two words, low word first.
 pub fn fence_of(low: u32, high: u32) -> u64
     ensures { λ r. ⌜ r ≡ fenceOf low high ⌝ }
 {
     low as u64 + high as u64 * HIGH
 }
 
-// Whether the fence names a core past the count, or all cores (number 19).
+// Whether the fence contains a core past the count, or all cores (number 19).
 pub fn fence_out(cores: u32, fence: u64) -> bool
     ensures { λ r. ⌜ r ≡ fenceOut cores fence ⌝ }
 {
@@ -60,7 +60,7 @@ fn times_out(task: Task) -> bool
                 | !((1 <= task.deadline) & (task.deadline <= task.period))))
 }
 
-// The number that turns a task down on so many unfenced cores: 7, else 8; 0 where neither does.
+// The number that turns a task down on this number of unfenced cores: 7, else 8; 0 where neither does.
 pub fn task_number(wide: u32, task: Task) -> u32
     ensures { λ r. ⌜ r ≡ taskNumber wide (taskOf task) ⌝ }
 {

@@ -1,4 +1,4 @@
--- Decimal output: digits only, no zeros in front, and reading back gives the number.
+-- Decimal output: digits only, no zeros in front, and parsing gives the number.
 use mathlib.Core.Bool.{Bool, true, false, cond}
 use mathlib.Core.List.{List, [], _∷_, _++_}
 use mathlib.Core.Path.{_≡_, refl, ap, ap₂, sym, _∙_}
@@ -22,7 +22,7 @@ unfolding lastDigits all
 last-all zero n = refl
 last-all (suc k) n = all-more isDigit (lastDigits k (n / 10)) (48 + n % 10) (last-all k (n / 10)) (digit-exact (48 + n % 10) .1 (omega arith))
 
--- they say the number, if it has no more
+-- they represent the number, if it has no more
 pub last-value : (k n : ℕ) → n < 10 ^ k → value (lastDigits k n) ≡ n
 unfolding lastDigits value
 last-value zero n h = omega arith
@@ -58,7 +58,7 @@ pub count-more : (n : ℕ) → 10 ≤ n → digitCount n ≡ suc (digitCount (n 
 unfolding digitCount
 count-more n h = within-more n n h ∙ ap suc (within-enough n (suc (n / 10)) (n / 10) (omega arith) (omega arith))
 
--- so many digits are enough for n
+-- this number of digits is enough for n
 within-fits : (k n : ℕ) → n < k → n < 10 ^ digitsWithin k n
 unfolding digitsWithin
 within-fits zero n h = absurd (not-suc-le-zero h)
@@ -156,7 +156,7 @@ decimal-lead n e = lead-within (suc n) n (omega arith) e
 abbrev pub NoZeros : List ℕ → Type 0
 NoZeros ds = getD ds 0 0 ≡ 48 → length ds ≡ 1
 
--- the first digit and what the rest say are a quotient and a remainder
+-- the first digit and the value of the rest are a quotient and a remainder
 quotient : (a v m : ℕ) → v < m → (a * m + v) / m ≡ a
 quotient a v m h = let q = mul-add-div-right {m = m} (omega arith) a v in let r = div-eq-of-lt h in omega arith
 
@@ -166,7 +166,7 @@ first-digit a b v w m p q e =
     let rest : b * m + v ≡ b * m + w = rw same at e in
     (same, omega arith)
 
--- as many digits that say the same are the same
+-- as many digits with the same value are the same
 same-digits : (ds es : List ℕ) → Digits ds → Digits es → length ds ≡ length es → value ds ≡ value es → ds ≡ es
 unfolding value
 same-digits [] [] p q l e = refl

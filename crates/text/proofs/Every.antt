@@ -1,4 +1,4 @@
--- What a test on every element of a list says of each element, and of the list's parts.
+-- A test on every element of a list: each element, and the list's parts.
 use mathlib.Core.Bool.{Bool, true, false, false≢true}
 use mathlib.Core.List.{List, [], _∷_, _++_}
 use mathlib.Core.Path.{_≡_, refl}

@@ -12,21 +12,21 @@ use Rattle.table.specs.declared.Answer.the-variants.{Passed, Refused}
 use Rattle.table.specs.Words.{tableOf}
 use Rattle.table.specs.Answer.{answerOf, headerNumber}
 use Rattle.judge.specs.Judged.{judgedBy, verdictOf}
-use Rattle.judge.specs.Said.{judged, saidBy, caseOf}
-use Rattle.judge.proofs.Promise.{said-case}
-use Rattle.text.specs.Format.{enoughBytes, Words, words, noText, wordsOf, numbersIn}
+use Rattle.judge.specs.JudgeAnswer.{judged, verdictMeaning, verdictCase}
+use Rattle.judge.proofs.Contract.{meaning-case}
+use Rattle.text.specs.Format.{enoughBytes, Words, readWords, noText, wordsOf, numbersIn}
 use Rattle.text.specs.Output.{firstLine, rowLines, rowsPrinted, printed, printedBy, outputOf, output}
-use Rattle.text.specs.Said.{firstFor}
+use Rattle.text.specs.FirstLine.{firstFor}
 use Rattle.text.proofs.Exact.{first-enough}
 
 -- by what is answered to the words
-first-of : (a : loaded.Answer) (s : Table) → (rows : List ℕ) × (printedBy a s ≡ firstLine (saidBy (caseOf (judgedBy a s))) ++ rows)
+first-of : (a : loaded.Answer) (s : Table) → (rows : List ℕ) × (printedBy a s ≡ firstLine (verdictMeaning (verdictCase (judgedBy a s))) ++ rows)
 unfolding printed
-first-of Passed s = (rowLines s 0 (rowsPrinted (verdict s) (horizon s)), ap (λ x. firstLine x ++ rowLines s 0 (rowsPrinted (verdict s) (horizon s))) (sym (said-case (judged (verdict s)))))
-first-of (Refused n p) s = ([], sym (append-nil (firstLine (saidBy (caseOf (judgedBy (Refused n p) s))))))
+first-of Passed s = (rowLines s 0 (rowsPrinted (verdict s) (horizon s)), ap (λ x. firstLine x ++ rowLines s 0 (rowsPrinted (verdict s) (horizon s))) (sym (meaning-case (judged (verdict s)))))
+first-of (Refused n p) s = ([], sym (append-nil (firstLine (verdictMeaning (verdictCase (judgedBy (Refused n p) s))))))
 
 -- no numbers are turned down with 1, as what is no table's text
-first-none : (rows : List ℕ) × (outputOf noText ≡ firstLine (saidBy (verdictOf [])) ++ rows)
+first-none : (rows : List ℕ) × (outputOf noText ≡ firstLine (verdictMeaning (verdictOf [])) ++ rows)
 unfolding verdictOf answerOf headerNumber
 first-none = ([], sym (append-nil (outputOf noText)))
 
@@ -35,11 +35,11 @@ pub first-printed : (bs : List ℕ) → (rows : List ℕ) × (output bs ≡ firs
 unfolding output firstFor verdictOf
 first-printed bs = go (wordsOf bs)
   where
-    go : (w : Words) → (rows : List ℕ) × (outputOf w ≡ firstLine (saidBy (verdictOf (numbersIn w))) ++ rows)
-    go (words ws) = first-of (answerOf ws) (tableOf ws)
+    go : (w : Words) → (rows : List ℕ) × (outputOf w ≡ firstLine (verdictMeaning (verdictOf (numbersIn w))) ++ rows)
+    go (readWords ws) = first-of (answerOf ws) (tableOf ws)
     go noText = first-none
 
 -- so the first 2,520 bytes of an input decide it
 pub first-line-enough : (bs : List ℕ) → firstFor (take enoughBytes bs) ≡ firstFor bs
 unfolding firstFor
-first-line-enough bs = ap (λ w. firstLine (saidBy (verdictOf (numbersIn w)))) (first-enough bs enoughBytes (omega arith))
+first-line-enough bs = ap (λ w. firstLine (verdictMeaning (verdictOf (numbersIn w)))) (first-enough bs enoughBytes (omega arith))

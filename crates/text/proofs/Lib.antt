@@ -11,5 +11,5 @@ pub mod Canonical
 pub mod FirstLine
 pub mod FirstPrinted
 pub mod Writing
-pub mod Spelling
+pub mod RowText
 pub mod Examples

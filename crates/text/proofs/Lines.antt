@@ -59,7 +59,7 @@ line-stop = mark-stop newline
 pub line-split : (bs : List ℕ) → lineLength bs < length bs → bs ≡ take (lineLength bs) bs ++ (newline ∷ drop (suc (lineLength bs)) bs)
 line-split bs l = split-at bs (lineLength bs) 0 l ∙ ap (λ (b : ℕ). take (lineLength bs) bs ++ (b ∷ drop (suc (lineLength bs)) bs)) (line-stop bs l)
 
--- the lines of a text that is not empty: the first one, and the lines of what stands after its newline
+-- the lines of a text that is not empty: the first one, and the lines of what is after its newline
 pub lines-first : (b : ℕ) (bs : List ℕ) → lines (b ∷ bs) ≡ take (lineLength (b ∷ bs)) (b ∷ bs) ∷ lines (drop (suc (lineLength (b ∷ bs))) (b ∷ bs))
 unfolding lines lengthTo
 lines-first b [] = go (eqb b newline)

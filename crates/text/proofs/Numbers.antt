@@ -1,4 +1,4 @@
--- A line says a number exactly where the test says so.
+-- A line represents a number exactly where the test is true.
 use mathlib.Core.Bool.{Bool, true, false, _&&_, cond}
 use mathlib.Core.List.{List}
 use mathlib.Core.Logic.{_↔_}
@@ -13,8 +13,8 @@ use borrow.Author.Tests.{leb-true, le-leb}
 use Rattle.model.proofs.Bools.{and-left, and-right, and-both, not-true-false}
 use Rattle.text.specs.Decimal.{all, isDigit, Digit, value}
 use Rattle.text.specs.Format.{Number, isNumber, largest}
-use Rattle.text.specs.Input.{foundIn}
-use Rattle.text.specs.declared.line.Found.the-variants.{Value, Nothing}
+use Rattle.text.specs.Input.{parseNumber}
+use Rattle.text.specs.declared.line.ParsedNumber.the-variants.{Value, Nothing}
 use Rattle.text.proofs.Every.{all-more}
 use Rattle.text.proofs.Values.{digit-exact, digits-exact, value-more, value-within}
 
@@ -40,10 +40,10 @@ number-exact l = (to, from)
         (and-both (leb (length l) 10) _ (le-leb (length l) 10 (n .short))
         (and-both (all isDigit l) _ (digits-exact l .1 (n .digits)) (le-leb (value l) largest (n .fits))))
 
-pub found-value : (l : List ℕ) → Number l → Value (value l) ≡ foundIn l
+pub found-value : (l : List ℕ) → Number l → Value (value l) ≡ parseNumber l
 found-value l n = rw (number-exact l .1 n)
 
-pub found-nothing : (l : List ℕ) → (Number l → ⊥) → Nothing ≡ foundIn l
+pub found-nothing : (l : List ℕ) → (Number l → ⊥) → Nothing ≡ parseNumber l
 found-nothing l h = rw (not-true-false (isNumber l) (λ e. h (number-exact l .0 e)))
 
 -- reading one digit more: all so far are digits, and the value is that of the digits so far
@@ -53,19 +53,19 @@ digits-more l i q e d = rw (add-one, take-suc l i 0 q) (all-more isDigit (take i
 pub value-on : (l : List ℕ) (i : ℕ) → i < length l → value (take i l) * 10 + (getD l i 0 - 48) ≡ value (take (i + 1) l)
 value-on l i q = sym (rw (add-one, take-suc l i 0 q) (value-more (take i l) (getD l i 0)))
 
--- up to nine digits say less than 10^9
+-- up to nine digits represent less than 10^9
 pub value-nine : (l : List ℕ) (i : ℕ) → i ≤ 9 → all isDigit (take i l) ≡ true → value (take i l) < 1000000000
 value-nine l i q e = value-within (take i l) 9 (digits-exact (take i l) .0 e) (simp length-take (omega arith))
 
--- what was found says whether the line says a number, and which
-pub nothing-found : (l : List ℕ) → foundIn l ≡ Nothing → isNumber l ≡ false
+-- what was found decides whether the line represents a number, and which
+pub nothing-found : (l : List ℕ) → parseNumber l ≡ Nothing → isNumber l ≡ false
 nothing-found l = go (isNumber l)
   where
     go : (t : Bool) → cond t (Value (value l)) Nothing ≡ Nothing → t ≡ false
     go true e = let z : _≡_ {A = ℕ} 0 1 = cc in absurd (omega arith)
     go false e = refl
 
-pub value-found : (l : List ℕ) (n : ℕ) → foundIn l ≡ Value n → (isNumber l ≡ true) × (n ≡ value l)
+pub value-found : (l : List ℕ) (n : ℕ) → parseNumber l ≡ Value n → (isNumber l ≡ true) × (n ≡ value l)
 value-found l n = go (isNumber l)
   where
     go : (t : Bool) → cond t (Value (value l)) Nothing ≡ Value n → (t ≡ true) × (n ≡ value l)

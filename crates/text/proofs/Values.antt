@@ -1,4 +1,4 @@
--- The number that digits say: one digit more at the end, and how large it can be.
+-- The number that digits represent: one digit more at the end, and how large it can be.
 use mathlib.Core.Bool.{true}
 use mathlib.Core.List.{List, [], _∷_, _++_}
 use mathlib.Core.Logic.{_↔_}
@@ -32,7 +32,7 @@ value-more (x ∷ ds) d =
     let n : length (ds ++ (d ∷ [])) ≡ suc (length ds) = length-append ds (d ∷ []) ∙ omega arith in
     rw (n, e, pow-suc) (omega arith)
 
--- n digits say less than 10^n
+-- n digits represent less than 10^n
 pub value-below : (ds : List ℕ) → Digits ds → value ds < 10 ^ length ds
 unfolding value
 value-below [] h = omega arith

@@ -87,7 +87,7 @@ put-next l m i k s p h f e =
     let t : take k s ++ (getD s k 0 ∷ []) ≡ take (k + 1) s = sym (ap (λ (j : ℕ). take j s) (add-one k) ∙ take-suc s k 0 h) in
     subst₂ (λ (x : List ℕ) (j : ℕ). Put l i x (set m (i + k) (getD s k 0)) j) t n q
 
--- what was put at the front stands there
+-- what was written at the front is there
 pub put-front : {a b : List ℕ} {j : ℕ} {s : List ℕ} → Put a 0 s b j → take j b ≡ s
 put-front {a} {b} {j} {s} p =
     ap (take j) (p .bytes) ∙ take-at s (drop (0 + length s) a) j (omega (arith, p .ends))

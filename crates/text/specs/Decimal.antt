@@ -22,7 +22,7 @@ isDigit b = leb 48 b && leb b 57
 abbrev pub Digits : List ℕ → Type 0
 Digits ds = (i : ℕ) → i < length ds → Digit (getD ds i 0)
 
--- the number that digits say: a digit with n digits after it counts 10^n times its own value
+-- the number that digits represent: a digit with n digits after it counts 10^n times its own value
 unfoldable pub value : List ℕ → ℕ
 value [] = 0
 value (d ∷ ds) = (d - 48) * 10 ^ length ds + value ds
@@ -32,15 +32,15 @@ unfoldable pub lastDigits : ℕ → ℕ → List ℕ
 lastDigits zero n = []
 lastDigits (suc k) n = lastDigits k (n / 10) ++ ((48 + n % 10) ∷ [])
 
--- how many digits n has, at most k
+-- the number of digits of n, at most k
 unfoldable pub digitsWithin : ℕ → ℕ → ℕ
 digitsWithin zero n = 0
 digitsWithin (suc k) n = let more = suc (digitsWithin k (n / 10)) in cond (ltb n 10) 1 more
 
--- how many digits n has: 1 below 10, else one more than n / 10 has (`count-one`, `count-more`)
+-- the number of digits of n: 1 below 10, else one more than n / 10 has (`count-one`, `count-more`)
 unfoldable pub digitCount : ℕ → ℕ
 digitCount n = digitsWithin (suc n) n
 
--- n in decimal: all of its digits, no zeros in front, and `0` for 0; it says n, and no other such digits do (`decimal-value`, `decimal-only`)
+-- n in decimal: all of its digits, no zeros in front, and `0` for 0; it represents n, and no other such digits do (`decimal-value`, `decimal-only`)
 unfoldable pub decimal : ℕ → List ℕ
 decimal n = lastDigits (digitCount n) n

@@ -13,23 +13,23 @@ use Rattle.text.specs.Decimal.{all, isDigit, Digits, value, decimal}
 abbrev pub newline : ℕ
 newline = 10
 
--- the largest number that a line may say
+-- the largest number of a line
 abbrev pub largest : ℕ
 largest = mostWord
 
--- how many numbers a text may have: the words of a header and of 32 records
+-- the most numbers of a text: the words of a header and of 32 records
 abbrev pub mostNumbers : ℕ
 mostNumbers = headerWords + recordWords * mostTasks
 
--- how many digits a line may have
+-- the most digits of a line
 abbrev pub mostDigits : ℕ
 mostDigits = 10
 
--- how many bytes a table's text can have: so many lines of so many digits and a newline (`long-refused`)
+-- the most bytes of a table's text: the most lines, each of the most digits and a newline (`long-refused`)
 abbrev pub mostBytes : ℕ
 mostBytes = (mostDigits + 1) * mostNumbers
 
--- how many bytes of an input are enough: one more than a table's text can have (`output-enough`)
+-- the number of bytes of an input that are enough: one more than a table's text can have (`output-enough`)
 abbrev pub enoughBytes : ℕ
 enoughBytes = mostBytes + 1
 
@@ -38,12 +38,12 @@ abbrev pub joined : ℕ → List (List ℕ) → List (List ℕ)
 joined b [] = (b ∷ []) ∷ []
 joined b (l ∷ ls) = (b ∷ l) ∷ ls
 
--- the lines of a text: what stands before each newline, and what stands after the last one unless that is nothing
+-- the lines of a text: what is before each newline, and what is after the last one unless that is nothing
 unfoldable pub lines : List ℕ → List (List ℕ)
 lines [] = []
 lines (b ∷ bs) = cond (eqb b newline) ([] ∷ lines bs) (joined b (lines bs))
 
--- a line says a number: it has one to ten digits and nothing else, and the number is at most 4,294,967,295
+-- a line represents a number: it has one to ten digits and nothing else, and the number is at most 4,294,967,295
 pub record Number (l : List ℕ) : Type 0 where
   pub some : 1 ≤ length l
   pub short : length l ≤ mostDigits
@@ -56,17 +56,17 @@ isNumber l = leb 1 (length l) && (leb (length l) mostDigits && (all isDigit l &&
 
 -- the numbers of a text, or that it is no table's text
 pub data Words : Type 0 where
-  words : List ℕ → Words
+  readWords : List ℕ → Words
   noText : Words
 
 -- the numbers of a text; what is no table's text has none, which are turned down with `refused 1 0`
 abbrev pub numbersIn : Words → List ℕ
-numbersIn (words ws) = ws
+numbersIn (readWords ws) = ws
 numbersIn noText = []
 
--- every line says a number, and there are at most 229: the numbers of the lines
+-- every line represents a number, and there are at most 229: the numbers of the lines
 unfoldable pub wordsOf : List ℕ → Words
-wordsOf bs = cond (all isNumber (lines bs) && leb (length (lines bs)) mostNumbers) (words (map value (lines bs))) noText
+wordsOf bs = cond (all isNumber (lines bs) && leb (length (lines bs)) mostNumbers) (readWords (map value (lines bs))) noText
 
 -- the bytes are these numbers, one to a line; each line ends with a newline, which the last may lack
 pub data Lines : List ℕ → List ℕ → Type 0 where

@@ -1,7 +1,7 @@
--- What text is read and printed: numbers in decimal, the table's format, the verdict's line and the rows, and what a buffer holds.
+-- The text that is read and printed: numbers in decimal, the table's format, the verdict's line and the rows, and the contents of a buffer.
 pub mod Decimal
 pub mod Format
 pub mod Input
 pub mod Output
-pub mod Said
+pub mod FirstLine
 pub mod Written

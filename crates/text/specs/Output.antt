@@ -4,7 +4,7 @@ use Prim.Native.Char.{code}
 use Prim.Native.Nat.{ℕ, zero, suc, _+_, _*_}
 use Prim.Native.String.{String}
 use Rattle.model.specs.Task.{Table}
-use Rattle.model.specs.Book.{full, rowOf}
+use Rattle.model.specs.Book.{full, bookRow}
 use Rattle.model.specs.Horizon.{horizon}
 use Rattle.model.specs.Verdict.{Verdict, Firm, Full, Miss, verdict}
 use Rattle.model.specs.Sizes.{mostCores}
@@ -12,11 +12,11 @@ use Rattle.table.specs.declared.Answer.{Answer}
 use Rattle.table.specs.declared.Answer.the-variants.{Passed, Refused}
 use Rattle.table.specs.Words.{tableOf}
 use Rattle.table.specs.Answer.{answerOf}
-use Rattle.judge.specs.Said.{Said, judged, refused}
+use Rattle.judge.specs.JudgeAnswer.{JudgeAnswer, judged, refused}
 use Rattle.text.specs.Decimal.{decimal}
-use Rattle.text.specs.Format.{newline, mostDigits, Words, words, noText, wordsOf}
+use Rattle.text.specs.Format.{newline, mostDigits, Words, readWords, noText, wordsOf}
 
--- the bytes of a word of plain letters
+-- the bytes of a word of plain letters; as `letters` in stream/specs/Sent
 abbrev pub letters : String → List ℕ
 letters String.[] = []
 letters (String._∷_ c s) = code c ∷ letters s
@@ -30,7 +30,7 @@ unfoldable pub fields : List ℕ → List ℕ
 fields [] = []
 fields (n ∷ ns) = space ∷ (decimal n ++ fields ns)
 
--- a line that begins so and has these numbers
+-- a line with this beginning and these numbers
 unfoldable pub lineOf : List ℕ → List ℕ → List ℕ
 lineOf begin ns = begin ++ (fields ns ++ (newline ∷ []))
 
@@ -43,7 +43,7 @@ abbrev pub longestLine : ℕ
 longestLine = mostDigits + longestCells
 
 -- a Firm table begins `firm`, S, P; a Full one `full`, S, P; a miss `miss`, tick, position; a refusal is `refused`, number, position
-unfoldable pub firstLine : Said → List ℕ
+unfoldable pub firstLine : JudgeAnswer → List ℕ
 firstLine (judged (Firm s p)) = lineOf (letters "firm") (s ∷ p ∷ [])
 firstLine (judged (Full s p)) = lineOf (letters "full") (s ∷ p ∷ [])
 firstLine (judged (Miss t p)) = lineOf (letters "miss") (t ∷ p ∷ [])
@@ -62,7 +62,7 @@ rowsPrinted (Miss t p) h = t
 -- the lines of n rows of the full-length run, from tick t on
 unfoldable pub rowLines : Table → ℕ → ℕ → List ℕ
 rowLines s t zero = []
-rowLines s t (suc n) = rowLine t (rowOf s (full s t)) ++ rowLines s (suc t) n
+rowLines s t (suc n) = rowLine t (bookRow s (full s t)) ++ rowLines s (suc t) n
 
 -- all that is printed for a table that no number turns down
 unfoldable pub printed : Table → List ℕ
@@ -75,7 +75,7 @@ printedBy (Refused n p) s = firstLine (refused n p)
 
 -- all that is printed for the numbers of a text; what is no table's text prints `refused 1 0`
 abbrev pub outputOf : Words → List ℕ
-outputOf (words ws) = printedBy (answerOf ws) (tableOf ws)
+outputOf (readWords ws) = printedBy (answerOf ws) (tableOf ws)
 outputOf noText = firstLine (refused 1 0)
 
 -- everything that the program prints for the bytes that it reads

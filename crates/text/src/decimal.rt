@@ -5,7 +5,7 @@ ghost use lib.ListN.{length};
 ghost use Rattle.text.specs.Decimal.{digitCount, decimal};
 ghost use Rattle.text.specs.Written.{Put};
 
-// How many digits a number has.
+// The number of digits of a number.
 fn digits(number: u64) -> usize
     ensures { λ r. ⌜ r ≡ digitCount number ⌝ }
 {
@@ -18,7 +18,7 @@ fn digits(number: u64) -> usize
     count
 }
 
-// Writes a number in decimal into the line from `at` on; the answer is where it ends.
+// Writes a number in decimal into the line from `at` on; returns where it ends.
 pub fn put(line: &mut [u8], at: usize, number: u64) -> usize
     requires { ⌜ at + digitCount number ≤ length (now line) ⌝ }
     ensures { λ r. ⌜ Put (now (line .entry)) at (decimal number) (now (line .exit)) r ⌝ }

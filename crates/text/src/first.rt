@@ -1,4 +1,4 @@
-// The first line that is printed, the verdict's, and how many rows follow it.
+// The first line that is printed, the verdict's, and the number of rows after it.
 ghost use mathlib.Core.Path.{_≡_};
 ghost use mathlib.Core.List.{[], _∷_};
 ghost use Prim.Native.Nat.{_+_, _≤_};
@@ -6,13 +6,13 @@ ghost use lib.ListN.{length};
 ghost use Rattle.text.specs.Decimal.{decimal};
 ghost use Rattle.text.specs.Output.{space, lineOf, longestLine, firstLine};
 ghost use Rattle.text.specs.Written.{Put};
-ghost use Rattle.judge.specs.Said.{saidBy};
-ghost use Rattle.text.specs.Said.{endOf};
+ghost use Rattle.judge.specs.JudgeAnswer.{verdictMeaning};
+ghost use Rattle.text.specs.FirstLine.{endOf};
 use crate::decimal;
 use crate::row;
 use judge::Verdict;
 
-// Writes a space and a number; the answer is where they end.
+// Writes a space and a number; returns where they end.
 pub fn put_field(line: &mut [u8], at: usize, number: u32) -> usize
     requires { ⌜ at + 11 ≤ length (now line) ⌝ }
     ensures { λ r. ⌜ (Put (now (line .entry)) at (space ∷ decimal number) (now (line .exit)) r) × (r ≤ at + 11) ⌝ }
@@ -21,7 +21,7 @@ pub fn put_field(line: &mut [u8], at: usize, number: u32) -> usize
     decimal::put(line, at + 1, number as u64)
 }
 
-// Writes a line of a word and two numbers; the answer is where it ends.
+// Writes a line of a word and two numbers; returns where it ends.
 pub fn put_pair(line: &mut [u8], word: &[u8], first: u32, second: u32) -> usize
     requires { ⌜ (length (now word) ≤ 7) × (longestLine ≤ length (now line)) ⌝ }
     ensures { λ r. ⌜ (Put (now (line .entry)) 0 (lineOf (now (word .entry)) (first ∷ second ∷ [])) (now (line .exit)) r) × (r ≤ longestLine) ⌝ }
@@ -33,10 +33,10 @@ pub fn put_pair(line: &mut [u8], word: &[u8], first: u32, second: u32) -> usize
     end + 1
 }
 
-// Writes the first line, which says the verdict; the answer is where it ends.
+// Writes the first line, the verdict's; returns where it ends.
 pub fn put_first(line: &mut [u8], verdict: Verdict) -> usize
     requires { ⌜ longestLine ≤ length (now line) ⌝ }
-    ensures { λ r. ⌜ (Put (now (line .entry)) 0 (firstLine (saidBy verdict)) (now (line .exit)) r) × (r ≤ longestLine) ⌝ }
+    ensures { λ r. ⌜ (Put (now (line .entry)) 0 (firstLine (verdictMeaning verdict)) (now (line .exit)) r) × (r ≤ longestLine) ⌝ }
 {
     match verdict {
         Verdict::Firm(start, period) => put_pair(line, b"firm", start, period),
@@ -46,7 +46,7 @@ pub fn put_first(line: &mut [u8], verdict: Verdict) -> usize
     }
 }
 
-// Where the rows end: at the horizon, or before the tick of the miss; a refusal has none.
+// The number of rows: up to the horizon, or up to but not including the tick of the miss; a refusal has none.
 pub fn rows_end(verdict: Verdict, horizon: u32) -> u32
     ensures { λ r. ⌜ r ≡ endOf verdict horizon ⌝ }
 {

@@ -1,4 +1,4 @@
-// Decimal lines in: the words of a table from the bytes that the program is given. The modules write lines.
+// The words of a table, parsed from the decimal lines that the program is given. The modules write lines.
 ghost use mathlib.Core.Path.{_≡_};
 ghost use Prim.Native.Nat.{min};
 ghost use Rattle.text.specs.Format.{noText};
@@ -7,20 +7,20 @@ ghost use Rattle.text.specs.Input.{inputOf, ReadOf};
 pub mod decimal; // decimal.rt: numbers in decimal
 pub mod row; // row.rt: the text of a row
 pub mod first; // first.rt: the first line
-pub mod line; // line.rt: where a line ends and which number it says
+pub mod line; // line.rt: where a line ends and the number that it represents
 
-use line::Found;
+use line::ParsedNumber;
 
-// How many numbers a table's text may have: the words of a header and of 32 records.
+// The most numbers of a table's text: the words of a header and of 32 records.
 pub const NUMBERS: usize = table::HEADER + table::RECORD * model::MOST_TASKS;
 
-// How many digits a line may have.
+// The most digits of a line.
 pub const DIGITS: usize = 10;
 
-// How many bytes a table's text can have.
+// The most bytes of a table's text.
 pub const BYTES: usize = (DIGITS + 1) * NUMBERS;
 
-// How many bytes of an input are enough to tell all that is printed for it: one more.
+// The number of bytes of an input that decide all that is printed for it: one more.
 pub const ENOUGH: usize = BYTES + 1;
 
 // What was read: whether it is a table's text, and its numbers, zeros past the count; all zeros where it is none.
@@ -52,8 +52,8 @@ pub fn read(bytes: &[u8]) -> Input
     while at < bytes.len() {
         let end = line::end_from(bytes, at, b'\n');
         match line::number(&bytes[at..end]) {
-            Found::Nothing => return no_text(),
-            Found::Value(number) => {
+            ParsedNumber::Nothing => return no_text(),
+            ParsedNumber::Value(number) => {
                 if count == NUMBERS {
                     return no_text();
                 }

@@ -1,14 +1,14 @@
-// One line of the input: where it or a word of it ends, and which number it says.
+// One line of the input: where it or a word of it ends, and the number that it represents.
 ghost use mathlib.Core.Path.{_≡_};
 ghost use Prim.Native.Nat.{_+_};
 ghost use lib.ListN.{drop};
-ghost use Rattle.text.specs.Input.{lengthTo, foundIn};
+ghost use Rattle.text.specs.Input.{lengthTo, parseNumber};
 
-// The largest number that a line may say.
+// The largest number of a line.
 const LARGEST: u64 = u32::MAX as u64;
 
-// The number that a line says, if it says one.
-pub enum Found {
+// The number that a line represents, if there is one.
+pub enum ParsedNumber {
     Value(u32),
     Nothing,
 }
@@ -28,30 +28,30 @@ pub fn end_from(bytes: &[u8], from: usize, mark: u8) -> usize
 }
 
 // The number of a line of one to ten digits, up to 4,294,967,295.
-pub fn number(line: &[u8]) -> Found
-    ensures { λ r. ⌜ r ≡ foundIn (now (line .entry)) ⌝ }
+pub fn number(line: &[u8]) -> ParsedNumber
+    ensures { λ r. ⌜ r ≡ parseNumber (now (line .entry)) ⌝ }
 {
     if line.len() < 1 {
-        return Found::Nothing;
+        return ParsedNumber::Nothing;
     }
     if crate::DIGITS < line.len() {
-        return Found::Nothing;
+        return ParsedNumber::Nothing;
     }
     let mut value: u64 = 0;
     let mut i = 0;
     while i < line.len() {
         let byte = line[i];
         if byte < b'0' {
-            return Found::Nothing;
+            return ParsedNumber::Nothing;
         }
         if b'9' < byte {
-            return Found::Nothing;
+            return ParsedNumber::Nothing;
         }
         value = value * 10 + (byte - b'0') as u64;
         i += 1;
     }
     if LARGEST < value {
-        return Found::Nothing;
+        return ParsedNumber::Nothing;
     }
-    Found::Value(value as u32)
+    ParsedNumber::Value(value as u32)
 }

@@ -16,7 +16,7 @@ pub const CELLS: usize = ROW * (1 + 3) + 1;
 // The most bytes that a line can take: a tick and the cells of its row.
 pub const LINE: usize = crate::DIGITS + CELLS;
 
-// Writes `count` bytes, those of `from` that begin at `start`, into `to` from `at` on; the answer is where they end.
+// Writes `count` bytes, those of `from` that begin at `start`, into `to` from `at` on; returns where they end.
 pub fn copy(from: &[u8], start: usize, count: usize, to: &mut [u8], at: usize) -> usize
     requires { ⌜ (start + count ≤ length (now from)) × (at + count ≤ length (now to)) ⌝ }
     ensures { λ r. ⌜ Put (now (to .entry)) at (take count (drop start (now (from .entry)))) (now (to .exit)) r ⌝ }
@@ -29,7 +29,7 @@ pub fn copy(from: &[u8], start: usize, count: usize, to: &mut [u8], at: usize) -
     at + count
 }
 
-// Writes a byte's value in decimal into the text from `at` on; the answer is where it ends.
+// Writes a byte's value in decimal into the text from `at` on; returns where it ends.
 fn put_byte(text: &mut [u8], at: usize, number: u8) -> usize
     requires { ⌜ at + 3 ≤ length (now text) ⌝ }
     ensures { λ r. ⌜ (Put (now (text .entry)) at (decimal number) (now (text .exit)) r) × (r ≤ at + 3) ⌝ }
@@ -46,8 +46,8 @@ fn put_byte(text: &mut [u8], at: usize, number: u8) -> usize
     decimal::put(text, at, number as u64)
 }
 
-// Writes the positions of the first `cores` cores, a space before each, and a newline; the answer is where they end.
-pub fn spell(row: [u8; ROW], cores: usize, text: &mut [u8]) -> usize
+// Writes the positions of the first `cores` cores, a space before each, and a newline; returns where they end.
+pub fn put_cells(row: [u8; ROW], cores: usize, text: &mut [u8]) -> usize
     requires { ⌜ (cores ≤ mostCores) × (longestCells ≤ length (now text)) ⌝ }
     ensures { λ r. ⌜ (Put (now (text .entry)) 0 (fields (take cores row) ++ (newline ∷ [])) (now (text .exit)) r) × (r ≤ longestCells) ⌝ }
 {
@@ -62,7 +62,7 @@ pub fn spell(row: [u8; ROW], cores: usize, text: &mut [u8]) -> usize
     at + 1
 }
 
-// Writes the line of a row: the tick, and the text of its cores; the answer is where it ends.
+// Writes the line of a row: the tick, and the text of its cores; returns where it ends.
 pub fn put_row(line: &mut [u8], tick: u32, text: &[u8], count: usize) -> usize
     requires { ⌜ (count ≤ length (now text)) × (count ≤ longestCells) × (longestLine ≤ length (now line)) ⌝ }
     ensures { λ r. ⌜ (Put (now (line .entry)) 0 (decimal tick ++ take count (now (text .entry))) (now (line .exit)) r) × (r ≤ longestLine) ⌝ }

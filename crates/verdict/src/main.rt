@@ -1,7 +1,7 @@
 // Reads a table from standard input, one decimal number a line, and prints the verdict line alone.
 ghost use mathlib.Core.Path.{_≡_};
 ghost use Rattle.text.specs.Format.{wordsOf, numbersIn};
-ghost use Rattle.text.specs.Said.{firstFor};
+ghost use Rattle.text.specs.FirstLine.{firstFor};
 ghost use Rattle.judge.specs.Judged.{verdictOf};
 ghost use Rattle.stream.specs.Sent.{SentOf};
 ghost use Rattle.stream.specs.Answered.{Answered};
@@ -11,21 +11,21 @@ use stream::Sent;
 use text::ENOUGH;
 use text::row::LINE;
 
-// What came of it: the buffer and what was read into it, and what was printed.
+// The result: the buffer and what was read into it, and what was printed.
 struct Outcome {
     bytes: [u8; ENOUGH],
     reading: Reading,
     sent: Sent,
 }
 
-// The verdict on a table's text; what is none has no numbers, and those are refused as it is: 1 0.
+// The verdict on a table's text; what is none has no numbers, and those are refused likewise: 1 0.
 fn verdict_on(bytes: &[u8]) -> Verdict
     ensures { λ r. ⌜ r ≡ verdictOf (numbersIn (wordsOf (now (bytes .entry)))) ⌝ }
 {
     let input = text::read(bytes);
     let words = input.words;
     let count = input.count;
-    quick::judge(&words[..count])
+    fast_judge::judge(&words[..count])
 }
 
 // Writes the verdict's line.
@@ -37,14 +37,15 @@ fn print(bytes: &[u8]) -> Sent
     stream::send(0, &line[..length])
 }
 
-// Reads standard input until its end, or until it is longer than any table can be, and prints the verdict on it; a read that fails is said, and nothing is printed.
+// Reads standard input until its end, or until it is longer than any table can be, and prints the verdict on it; a read that fails is reported, and nothing is
+// printed.
 fn answer() -> Outcome
     ensures { λ r. ⌜ Answered firstFor (r .bytes) (r .reading) (r .sent) ⌝ }
 {
     let mut bytes = [0u8; ENOUGH];
     let reading = stream::fill(&mut bytes, 0);
     if reading.failed {
-        stream::say_unread(b"verdict");
+        stream::report_unread(b"verdict");
         let sent = Sent {
             count: 0,
             whole: true,

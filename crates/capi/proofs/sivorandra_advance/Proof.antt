@@ -1,8 +1,8 @@
--- `capi::sivorandra_advance` meets its contract: buffer and answer are those of the advance, and its three words are put where there is room.
+-- `capi::sivorandra_advance` meets its contract: buffer and answer are those of the advance, and its three words are written where there is space.
 -- Assumes nothing.
 use mathlib.Core.Path.{sym, ap, _∙_}
-use Rattle.capi.specs.declared.told.Told.{Told}
-use Rattle.capi.specs.Told.{written}
+use Rattle.capi.specs.declared.answer_words.AnswerWords.{AnswerWords}
+use Rattle.capi.specs.AnswerWords.{answerWritten}
 use Rattle.capi.proofs.Keeping.{advance-narrow, advance-room}
 use borrow.Author.Needs.{needs}
 use Rattle.capi.proofs.sivorandra_advance.Statement.{statement}
@@ -49,7 +49,7 @@ returns-2 c =
     advance-room (a .run .now) (a .answer .now) (a .reports) (a .empties) (v .advance .result)
     (e .if1 .left)
     (v .advance .ensures)
-    (p .put .ensures ∙ ap (λ (t : Told). written t (a .answer .now)) (o .of-answer .ensures))
+    (p .put .ensures ∙ ap (λ (t : AnswerWords). answerWritten t (a .answer .now)) (o .of-answer .ensures))
 
 pub sivorandra-advance-spec : {M : Type 1} → statement M
 sivorandra-advance-spec =

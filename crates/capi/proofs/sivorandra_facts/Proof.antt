@@ -1,9 +1,9 @@
--- `capi::sivorandra_facts` meets its contract: the facts that are read back and the answer are put where there is room.
+-- `capi::sivorandra_facts` meets its contract: the parsed facts and the answer are written where there is space.
 -- Assumes nothing.
 use mathlib.Core.Path.{sym, ap, _∙_}
 use borrow.Author.Needs.{needs}
-use Rattle.capi.specs.declared.told.Told.{Told}
-use Rattle.capi.specs.Told.{written}
+use Rattle.capi.specs.declared.answer_words.AnswerWords.{AnswerWords}
+use Rattle.capi.specs.AnswerWords.{answerWritten}
 use Rattle.capi.proofs.Sentences.{facts-narrow, facts-short, facts-room}
 use Rattle.capi.proofs.sivorandra_facts.Statement.{statement}
 use Rattle.capi.proofs.sivorandra_facts.Tie as tie
@@ -13,7 +13,7 @@ abbrev entry : tie.After-slice-known2 → tie.Start
 entry c = c .before .before .before
 
 -- the state after `put-facts`
-abbrev put-facts : tie.After-of-found → tie.After-put-facts
+abbrev put-facts : tie.After-of-parsed → tie.After-put-facts
 put-facts c = c .before .before .before
 
 -- the state after `facts-of`
@@ -36,8 +36,8 @@ facts-of-requires c κs = search needs
 put-facts-requires : tie.Need-put-facts-requires
 put-facts-requires c κs = search needs
 
-of-found-requires : tie.Need-of-found-requires
-of-found-requires c κs = search needs
+of-parsed-requires : tie.Need-of-parsed-requires
+of-parsed-requires c κs = search needs
 
 put-requires : tie.Need-put-requires
 put-requires c κs = search needs
@@ -61,7 +61,7 @@ returns-3 c =
     (s .facts-of .ensures)
     (r .put-facts .ensures .1)
     (r .put-facts .ensures .0)
-    (p .put .ensures ∙ ap (λ (t : Told). written t (a .answer .now)) (o .of-found .ensures))
+    (p .put .ensures ∙ ap (λ (t : AnswerWords). answerWritten t (a .answer .now)) (o .of-parsed .ensures))
 
 pub sivorandra-facts-spec : {M : Type 1} → statement M
 sivorandra-facts-spec =
@@ -71,7 +71,7 @@ sivorandra-facts-spec =
     returns-2
     facts-of-requires
     put-facts-requires
-    of-found-requires
+    of-parsed-requires
     put-requires
     same-length
     same-length-2

@@ -1,12 +1,12 @@
--- `capi::sivorandra_judge_ticks` meets its contract: the verdict is the judge's, and its three words are put where there is room.
+-- `capi::sivorandra_judge_ticks` meets its contract: the verdict is the judge's, and its three words are written where there is space.
 -- Assumes nothing.
 use mathlib.Core.Path.{sym, ap, _∙_}
 use mathlib.Core.List.{List, [], _∷_}
 use Prim.Native.Nat.{ℕ}
 use borrow.Author.Needs.{needs}
-use Rattle.capi.specs.declared.told.Told.{Told}
-use Rattle.capi.specs.Told.{ofVerdict, written}
-use Rattle.capi.specs.Calls.{left}
+use Rattle.capi.specs.declared.answer_words.AnswerWords.{AnswerWords}
+use Rattle.capi.specs.AnswerWords.{ofVerdict, answerWritten}
+use Rattle.capi.specs.Calls.{callResult}
 use Rattle.capi.proofs.Calls.{judge-room, judge-short}
 use Rattle.capi.proofs.sivorandra_judge_ticks.Statement.{statement}
 use Rattle.capi.proofs.sivorandra_judge_ticks.Tie as tie
@@ -41,7 +41,7 @@ returns-2 c =
     let v = p .before .before in
     let j = v .before in
     let a = entry-from-judge j .args in
-    ap (λ (l : List ℕ). left 0 (l ∷ [])) (p .put .ensures ∙ ap (λ (t : Told). written t (a .answer .now)) (v .of-verdict .ensures ∙ ap ofVerdict (j .judge .ensures .value)))
+    ap (λ (l : List ℕ). callResult 0 (l ∷ [])) (p .put .ensures ∙ ap (λ (t : AnswerWords). answerWritten t (a .answer .now)) (v .of-verdict .ensures ∙ ap ofVerdict (j .judge .ensures .value)))
     ∙ sym (judge-room (a .words .now) (a .answer .now) (j .before .if1 .left))
 
 pub sivorandra-judge-ticks-spec : {M : Type 1} → statement M

@@ -1,12 +1,12 @@
--- `capi::sivorandra_plan` meets its contract: rows and answer are the plan's, and its three words are put where there is room.
+-- `capi::sivorandra_plan` meets its contract: rows and answer are the plan's, and its three words are written where there is space.
 -- Assumes nothing.
 use mathlib.Core.Path.{sym, ap, _∙_}
 use borrow.Author.Needs.{needs}
 use Rattle.table.specs.Words.{tableOf}
 use Rattle.plan.specs.declared.Planned.{Planned}
-use Rattle.plan.specs.Plan.{planTold, bufferOf}
-use Rattle.capi.specs.declared.told.Told.{Told}
-use Rattle.capi.specs.Told.{ofPlanned, written}
+use Rattle.plan.specs.Plan.{planMeaning, bufferOf}
+use Rattle.capi.specs.declared.answer_words.AnswerWords.{AnswerWords}
+use Rattle.capi.specs.AnswerWords.{ofPlanned, answerWritten}
 use Rattle.capi.proofs.Calls.{both, plan-room, plan-short}
 use Rattle.capi.proofs.sivorandra_plan.Statement.{statement}
 use Rattle.capi.proofs.sivorandra_plan.Tie as tie
@@ -48,8 +48,8 @@ returns-2 c =
     let a = entry (e .before) .args in
     let table = tableOf (a .words .now) in
     both
-    (q .plan .ensures .buffer ∙ ap (λ (v : Planned). bufferOf (planTold v) table (a .a) (a .b) (a .rows .now)) (q .plan .ensures .value))
-    (p .put .ensures ∙ ap (λ (t : Told). written t (a .answer .now)) (o .of-planned .ensures ∙ ap ofPlanned (q .plan .ensures .value)))
+    (q .plan .ensures .buffer ∙ ap (λ (v : Planned). bufferOf (planMeaning v) table (a .a) (a .b) (a .rows .now)) (q .plan .ensures .value))
+    (p .put .ensures ∙ ap (λ (t : AnswerWords). answerWritten t (a .answer .now)) (o .of-planned .ensures ∙ ap ofPlanned (q .plan .ensures .value)))
     ∙ sym (plan-room (a .words .now) (a .a) (a .b) (a .rows .now) (a .answer .now) (e .if1 .left))
 
 pub sivorandra-plan-spec : {M : Type 1} → statement M

@@ -1,9 +1,9 @@
--- `capi::sivorandra_replay` meets its contract: numbers, row and answer are the replay's, and its three words are put where there is room.
+-- `capi::sivorandra_replay` meets its contract: numbers, row and answer are the replay's, and its three words are written where there is space.
 -- Assumes nothing.
 use mathlib.Core.Path.{sym, ap, _∙_}
 use borrow.Author.Needs.{needs}
-use Rattle.capi.specs.declared.told.Told.{Told}
-use Rattle.capi.specs.Told.{written}
+use Rattle.capi.specs.declared.answer_words.AnswerWords.{AnswerWords}
+use Rattle.capi.specs.AnswerWords.{answerWritten}
 use Rattle.capi.proofs.Replaying.{replay-narrow, replay-unfit, replay-room}
 use Rattle.capi.proofs.sivorandra_replay.Statement.{statement}
 use Rattle.capi.proofs.sivorandra_replay.Tie as tie
@@ -63,7 +63,7 @@ returns-2 c =
     replay-room (a .words .now) (a .entries .now) (a .numbers .now) (a .row .now) (a .answer .now) _ (q .replay .ensures)
     (sym (h .fitted .ensures) ∙ o .before .if2 .taken)
     (e .if1 .left)
-    (p .put .ensures ∙ ap (λ (t : Told). written t (a .answer .now)) (o .of-replayed .ensures))
+    (p .put .ensures ∙ ap (λ (t : AnswerWords). answerWritten t (a .answer .now)) (o .of-replayed .ensures))
 
 same-length-4 : tie.Need-same-length-4
 same-length-4 c = search needs

@@ -1,10 +1,10 @@
--- `capi::sivorandra_sentence` meets its contract: buffer and answer are the sentence's, and its three words are put where there is room.
+-- `capi::sivorandra_sentence` meets its contract: buffer and answer are the sentence's, and its three words are written where there is space.
 -- Assumes nothing.
 use mathlib.Core.Path.{sym, ap, _∙_}
 use native.Mathlib.Omega.{arith}
 use borrow.Author.Needs.{needs}
-use Rattle.capi.specs.declared.told.Told.{Told}
-use Rattle.capi.specs.Told.{written}
+use Rattle.capi.specs.declared.answer_words.AnswerWords.{AnswerWords}
+use Rattle.capi.specs.AnswerWords.{answerWritten}
 use Rattle.capi.proofs.Sentences.{sentence-fits, sentence-narrow, sentence-room}
 use Rattle.capi.proofs.sivorandra_sentence.Statement.{statement}
 use Rattle.capi.proofs.sivorandra_sentence.Tie as tie
@@ -14,7 +14,7 @@ abbrev entry : tie.After-slice-known2 → tie.Start
 entry c = c .before .before .before
 
 -- the state after `sentence`
-abbrev sentence : tie.After-of-spoken → tie.After-sentence
+abbrev sentence : tie.After-of-sentence → tie.After-sentence
 sentence c = c .before .before .before
 
 returns : tie.Need-returns
@@ -25,8 +25,8 @@ returns c =
 sentence-requires : tie.Need-sentence-requires
 sentence-requires c κs = search needs
 
-of-spoken-requires : tie.Need-of-spoken-requires
-of-spoken-requires c κs = sentence-fits _ _ _ (c .before .before .sentence .result) (c .before .before .sentence .ensures)
+of-sentence-requires : tie.Need-of-sentence-requires
+of-sentence-requires c κs = sentence-fits _ _ _ (c .before .before .sentence .result) (c .before .before .sentence .ensures)
 
 put-requires : tie.Need-put-requires
 put-requires c κs = search needs
@@ -47,9 +47,9 @@ returns-2 c =
     sentence-room (a .words .now) (a .buffer .now) (a .answer .now) (q .sentence .result)
     (e .if1 .left)
     (q .sentence .ensures)
-    (p .put .ensures ∙ ap (λ (t : Told). written t (a .answer .now)) (o .of-spoken .ensures))
+    (p .put .ensures ∙ ap (λ (t : AnswerWords). answerWritten t (a .answer .now)) (o .of-sentence .ensures))
 
 pub sivorandra-sentence-spec : {M : Type 1} → statement M
 sivorandra-sentence-spec =
     tie.close
-    (tie.spec returns sentence-requires of-spoken-requires put-requires same-length same-length-2 returns-2)
+    (tie.spec returns sentence-requires of-sentence-requires put-requires same-length same-length-2 returns-2)

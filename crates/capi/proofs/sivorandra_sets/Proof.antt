@@ -1,8 +1,8 @@
--- `capi::sivorandra_sets` meets its contract: the sets and their answer are put where there is room.
+-- `capi::sivorandra_sets` meets its contract: the sets and their answer are written where there is space.
 -- Assumes nothing.
 use mathlib.Core.Path.{sym, ap, _∙_}
-use Rattle.capi.specs.declared.told.Told.{Told}
-use Rattle.capi.specs.Told.{written}
+use Rattle.capi.specs.declared.answer_words.AnswerWords.{AnswerWords}
+use Rattle.capi.specs.AnswerWords.{answerWritten}
 use Rattle.capi.proofs.Keeping.{sets-narrow, sets-short, sets-room}
 use borrow.Author.Needs.{needs}
 use Rattle.capi.proofs.sivorandra_sets.Statement.{statement}
@@ -61,7 +61,7 @@ returns-3 c =
     (e .if2 .left)
     (s .sets-of .ensures)
     (r .put-sets .ensures)
-    (p .put .ensures ∙ ap (λ (t : Told). written t (a .answer .now)) (o .of-answer .ensures))
+    (p .put .ensures ∙ ap (λ (t : AnswerWords). answerWritten t (a .answer .now)) (o .of-answer .ensures))
 
 pub sivorandra-sets-spec : {M : Type 1} → statement M
 sivorandra-sets-spec =

@@ -1,8 +1,8 @@
--- `capi::sivorandra_start` meets its contract: the run that start returns and its answer are put where there is room.
+-- `capi::sivorandra_start` meets its contract: the run that start returns and its answer are written where there is space.
 -- Assumes nothing.
 use mathlib.Core.Path.{sym, ap, _∙_}
-use Rattle.capi.specs.declared.told.Told.{Told}
-use Rattle.capi.specs.Told.{written}
+use Rattle.capi.specs.declared.answer_words.AnswerWords.{AnswerWords}
+use Rattle.capi.specs.AnswerWords.{answerWritten}
 use Rattle.capi.proofs.Keeping.{start-narrow, start-short, start-room}
 use borrow.Author.Needs.{needs}
 use Rattle.capi.proofs.sivorandra_start.Statement.{statement}
@@ -61,7 +61,7 @@ returns-3 c =
     (e .if2 .left)
     (s .start .ensures .value)
     (r .put-run .ensures)
-    (p .put .ensures ∙ ap (λ (t : Told). written t (a .answer .now)) (o .of-answer .ensures))
+    (p .put .ensures ∙ ap (λ (t : AnswerWords). answerWritten t (a .answer .now)) (o .of-answer .ensures))
 
 pub sivorandra-start-spec : {M : Type 1} → statement M
 sivorandra-start-spec =

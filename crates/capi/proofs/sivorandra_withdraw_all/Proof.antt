@@ -1,8 +1,8 @@
--- `capi::sivorandra_withdraw_all` meets its contract: buffer and answer are those of the withdrawal of the set, and its three words are put where there is room.
--- Assumes nothing.
+-- `capi::sivorandra_withdraw_all` meets its contract: buffer and answer are those of the withdrawal of the set, and its three words are put where there is
+-- space. Assumes nothing.
 use mathlib.Core.Path.{sym, ap, _∙_}
-use Rattle.capi.specs.declared.told.Told.{Told}
-use Rattle.capi.specs.Told.{written}
+use Rattle.capi.specs.declared.answer_words.AnswerWords.{AnswerWords}
+use Rattle.capi.specs.AnswerWords.{answerWritten}
 use Rattle.capi.proofs.Keeping.{withdraw-all-narrow, withdraw-all-room}
 use borrow.Author.Needs.{needs}
 use Rattle.capi.proofs.sivorandra_withdraw_all.Statement.{statement}
@@ -49,7 +49,7 @@ returns-2 c =
     withdraw-all-room (a .run .now) (a .answer .now) (a .set) (v .withdraw-all .result)
     (e .if1 .left)
     (v .withdraw-all .ensures)
-    (p .put .ensures ∙ ap (λ (t : Told). written t (a .answer .now)) (o .of-answer .ensures))
+    (p .put .ensures ∙ ap (λ (t : AnswerWords). answerWritten t (a .answer .now)) (o .of-answer .ensures))
 
 pub sivorandra-withdraw-all-spec : {M : Type 1} → statement M
 sivorandra-withdraw-all-spec =

@@ -1,5 +1,5 @@
--- `cores::lowest` meets its contract: each turn takes a piece of the first run off the rest, so the rest is the free cores from the place on that is taken up to.
--- Assumes nothing.
+-- `cores::lowest` meets its contract: each iteration takes a piece of the first run off the rest, so the rest is the free cores from the place on that is
+-- taken up to. Assumes nothing.
 use borrow.Author.Needs.{needs}
 use borrow.Author.Tests.{ltb-true, ltb-false}
 use native.Mathlib.Omega.{arith}

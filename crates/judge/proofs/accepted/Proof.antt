@@ -1,4 +1,4 @@
--- `judge::accepted` meets its contract: the two ways out are the two cases of the test. Assumes nothing.
+-- `judge::accepted` meets its contract: the two returns are the two cases of the test. Assumes nothing.
 use borrow.Author.Needs.{needs}
 use Rattle.judge.proofs.accepted.Statement.{statement}
 use Rattle.judge.proofs.accepted.Tie as tie

@@ -1,7 +1,7 @@
--- `judge::judge` meets its contract: what `load` promises of the words fits the run, and a refusal is the verdict itself. Assumes nothing.
+-- `judge::judge` meets its contract: the contract of `load` fits the run, and a refusal is the verdict itself. Assumes nothing.
 use borrow.Author.Needs.{needs}
 use denote.Ref.{now}
-use Rattle.judge.proofs.Promise.{fit, run-value, refused-value}
+use Rattle.judge.proofs.Contract.{fit, run-value, refused-value}
 use Rattle.judge.proofs.judge.Statement.{statement}
 use Rattle.judge.proofs.judge.Tie as tie
 

@@ -7,7 +7,7 @@ use Rattle.table.specs.declared.Loaded.{Loaded}
 use Rattle.judge.specs.declared.Verdict.{Verdict}
 use Rattle.judge.specs.declared.misses.Missed.{Missed}
 use Rattle.judge.specs.declared.misses.Missed.the-variants.{Never, At}
-use Rattle.judge.specs.Judged.{tableIn, acceptedOf}
+use Rattle.judge.specs.Judged.{loadedTable, acceptedOf}
 use Rattle.judge.specs.FirstMiss.{missedBefore, byMiss}
 use Rattle.judge.proofs.run.Statement.{statement}
 use Rattle.judge.proofs.run.Tie as tie
@@ -20,8 +20,8 @@ abbrev first-miss-from-known-told : tie.After-known-told → tie.After-first-mis
 first-miss-from-known-told c = c .before .before .before
 
 -- up to and including the horizon is before the tick after it
-up-to : (t : Loaded) (m m′ : Missed) (v : Verdict) → m ≡ m′ → m ≡ missedBefore (tableIn t) (t .horizon + 1)
-    → v ≡ acceptedOf t → byMiss m′ v ≡ byMiss (missedBefore (tableIn t) (suc (t .horizon))) (acceptedOf t)
+up-to : (t : Loaded) (m m′ : Missed) (v : Verdict) → m ≡ m′ → m ≡ missedBefore (loadedTable t) (t .horizon + 1)
+    → v ≡ acceptedOf t → byMiss m′ v ≡ byMiss (missedBefore (loadedTable t) (suc (t .horizon))) (acceptedOf t)
 up-to t m m′ v told e f = rw (f, ← told, e, add-one)
 
 add-first-miss : tie.Need-add-first-miss

@@ -1,4 +1,4 @@
--- `plan::by_table` meets its contract: the tests are made in the scope's order, and the rows are written where none of them says no. Assumes nothing.
+-- `plan::by_table` meets its contract: the tests are made in the scope's order, and the rows are written where none of them refuses. Assumes nothing.
 use borrow.Author.Needs.{needs}
 use native.Mathlib.Omega.{arith}
 use native.Mathlib.Nat.{mul-le-mul}
@@ -6,7 +6,7 @@ use mathlib.Core.Path.{refl, sym, _∙_}
 use mathlib.Core.Bool.{true, false}
 use Prim.Native.Nat.{_-_, _≤_}
 use lib.ListN.{length}
-use Rattle.judge.specs.Judged.{tableIn}
+use Rattle.judge.specs.Judged.{loadedTable}
 use Rattle.judge.proofs.FirstMiss.{never-found, one-found}
 use Rattle.plan.proofs.Cases.{above, beyond, too-short, long-enough}
 use Rattle.plan.proofs.by_table.Statement.{statement}
@@ -44,13 +44,13 @@ else1 c = c .before .before .before .before
 returns : tie.Need-returns
 returns c =
     let x = c .before .before .args in
-    (above (tableIn (x .table)) (x .a) (x .b) (length (x .out .now)) (c .if1 .taken), refl)
+    (above (loadedTable (x .table)) (x .a) (x .b) (length (x .out .now)) (c .if1 .taken), refl)
 
 returns-2 : tie.Need-returns-2
 returns-2 c =
     let x = entry-from-then2 c .args in
     let p = entry-from-then2 c .pre in
-    (beyond (tableIn (x .table)) (x .a) (x .b) (length (x .out .now)) (c .before .before .if1 .left) (omega (arith, c .if2 .taken, p .0 .horizon)), refl)
+    (beyond (loadedTable (x .table)) (x .a) (x .b) (length (x .out .now)) (c .before .before .if1 .left) (omega (arith, c .if2 .taken, p .0 .horizon)), refl)
 
 cast-bytes : tie.Need-cast-bytes
 cast-bytes c = search needs
@@ -69,7 +69,7 @@ returns-3 : tie.Need-returns-3
 returns-3 c =
     let x = entry-from-struct-known2 (c .before) .args in
     let p = entry-from-struct-known2 (c .before) .pre in
-    (too-short (tableIn (x .table)) (x .a) (x .b) (length (x .out .now)) (else1 c .if1 .left) (omega (arith, c .before .before .if2 .left, p .0 .horizon)) (c .if3 .taken), refl)
+    (too-short (loadedTable (x .table)) (x .a) (x .b) (length (x .out .now)) (else1 c .if1 .left) (omega (arith, c .before .before .if2 .left, p .0 .horizon)) (c .if3 .taken), refl)
 
 first-miss-requires : tie.Need-first-miss-requires
 first-miss-requires c κs = search needs
@@ -85,7 +85,7 @@ write-requires c κs =
       p .0,
       p .1,
       else2 fm .if2 .left,
-      never-found (tableIn (x .table)) (x .b) (sym (fm .first-miss .ensures .value) ∙ c .before .enum-told .given .1),
+      never-found (loadedTable (x .table)) (x .b) (sym (fm .first-miss .ensures .value) ∙ c .before .enum-told .given .1),
       fm .before .if3 .left,
     )
 
@@ -100,8 +100,8 @@ returns-4 c =
     let f = enum-told-from-out (c .before) .before .before in
     let x = entry-from-struct-known2 (f .before .before) .args in
     let p = entry-from-struct-known2 (f .before .before) .pre in
-    let none = never-found (tableIn (x .table)) (x .b) (sym (f .first-miss .ensures .value) ∙ enum-told-from-out (c .before) .enum-told .given .1) in (
-      long-enough (tableIn (x .table)) (x .a) (x .b) (length (x .out .now)) (else2 f .before .before .if1 .left) (omega (arith, else2 f .if2 .left, p .0 .horizon)) (f .before .if3 .left) false none,
+    let none = never-found (loadedTable (x .table)) (x .b) (sym (f .first-miss .ensures .value) ∙ enum-told-from-out (c .before) .enum-told .given .1) in (
+      long-enough (loadedTable (x .table)) (x .a) (x .b) (length (x .out .now)) (else2 f .before .before .if1 .left) (omega (arith, else2 f .if2 .left, p .0 .horizon)) (f .before .if3 .left) false none,
       c .before .before .write .ensures,
     )
 
@@ -110,8 +110,8 @@ returns-5 c =
     let f = c .before .before in
     let x = entry-from-struct-known2 (f .before .before) .args in
     let p = entry-from-struct-known2 (f .before .before) .pre in
-    let some = one-found (tableIn (x .table)) (x .b) _ _ (sym (f .first-miss .ensures .value) ∙ c .enum-told2 .given .1) in (
-      long-enough (tableIn (x .table)) (x .a) (x .b) (length (x .out .now)) (else2 f .before .before .if1 .left)
+    let some = one-found (loadedTable (x .table)) (x .b) _ _ (sym (f .first-miss .ensures .value) ∙ c .enum-told2 .given .1) in (
+      long-enough (loadedTable (x .table)) (x .a) (x .b) (length (x .out .now)) (else2 f .before .before .if1 .left)
           (omega (arith, else2 f .if2 .left, p .0 .horizon)) (f .before .if3 .left) true some,
       refl,
     )

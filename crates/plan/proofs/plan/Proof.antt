@@ -1,9 +1,9 @@
--- `plan::plan` meets its contract: what `load` promises of the words fits the plan of a table, and a refusal of the table is the plan's. Assumes nothing.
+-- `plan::plan` meets its contract: the contract of `load` fits the plan of a table, and a refusal of the table is the plan's. Assumes nothing.
 use borrow.Author.Needs.{needs}
 use mathlib.Core.Path.{refl}
 use denote.Ref.{now}
-use Rattle.judge.proofs.Promise.{fit}
-use Rattle.plan.proofs.Promise.{cores-most, passed-plan, refused-plan}
+use Rattle.judge.proofs.Contract.{fit}
+use Rattle.plan.proofs.Contract.{cores-most, passed-plan, refused-plan}
 use Rattle.plan.proofs.plan.Statement.{statement}
 use Rattle.plan.proofs.plan.Tie as tie
 

@@ -1,8 +1,8 @@
--- `printer::of_words` meets its contract: the verdict of the words says what is printed of the table that was loaded.
+-- `printer::of_words` meets its contract: the verdict of the words determines what is printed of the table that was loaded.
 -- Assumes nothing.
 use mathlib.Core.Path.{subst}
 use Prim.Native.Nat.{ℕ}
-use Rattle.printer.specs.Printer.{StartOf}
+use Rattle.printer.specs.Printer.{PrinterStartOf}
 use Rattle.printer.proofs.Made.{load-small, words-made}
 use borrow.Author.Needs.{needs}
 use Rattle.printer.proofs.of_words.Statement.{statement}
@@ -33,7 +33,7 @@ returns c =
     let l = load c .load in
     let j = c .before .before .judge in
     words-made (entry (c .before) .args .words .now) (l .result) (j .result) (c .start .result) (l .ensures) (j .ensures)
-    (subst (λ (e : ℕ). StartOf (l .result) e (j .result) (c .start .result)) (c .before .rows-end .ensures) (c .start .ensures))
+    (subst (λ (e : ℕ). PrinterStartOf (l .result) e (j .result) (c .start .result)) (c .before .rows-end .ensures) (c .start .ensures))
 
 pub of-words-spec : {M : Type 1} → statement M
 of-words-spec =

@@ -1,4 +1,4 @@
--- `replay::finish` meets its contract: what is sent is what was said at the front of the buffer. Assumes nothing.
+-- `replay::finish` meets its contract: what is sent is the reply at the front of the buffer. Assumes nothing.
 use native.Mathlib.Omega.{arith}
 use mathlib.Core.List.{List}
 use mathlib.Core.Path.{sym, subst}

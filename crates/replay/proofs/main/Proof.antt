@@ -1,4 +1,4 @@
--- `replay::main` is safe and ends: the measure is the number of turns that are left. Assumes nothing.
+-- `replay::main` is safe and ends: the measure is the number of rounds that are left. Assumes nothing.
 use borrow.Author.Needs.{needs}
 use native.Mathlib.Omega.{arith}
 use mathlib.Core.Path.{_≡_, sym}
@@ -21,17 +21,17 @@ buffer-requires c κs = search needs
 loop-holds : tie.Need-loop-holds Inv-loop μ-loop
 loop-holds c = search needs
 
-slice-aggregate-listen : tie.Need-slice-aggregate-listen Inv-loop μ-loop
-slice-aggregate-listen c = search needs
+slice-aggregate-receive : tie.Need-slice-aggregate-receive Inv-loop μ-loop
+slice-aggregate-receive c = search needs
 
-listen-requires : tie.Need-listen-requires Inv-loop μ-loop
-listen-requires c κs = search needs
+receive-requires : tie.Need-receive-requires Inv-loop μ-loop
+receive-requires c κs = search needs
 
 returns : tie.Need-returns Inv-loop μ-loop
 returns c = search needs
 
-sub-turns : tie.Need-sub-turns Inv-loop μ-loop
-sub-turns c = search needs
+sub-rounds : tie.Need-sub-rounds Inv-loop μ-loop
+sub-rounds c = search needs
 
 loop-less : tie.Need-loop-less Inv-loop μ-loop
 loop-less c = search needs
@@ -51,10 +51,10 @@ main-spec =
     new-requires
     buffer-requires
     loop-holds
-    slice-aggregate-listen
-    listen-requires
+    slice-aggregate-receive
+    receive-requires
     returns
-    sub-turns
+    sub-rounds
     loop-less
     loop-again
     returns-2)

@@ -1,5 +1,5 @@
--- `rule::grants` meets its contract: in each turn the lowest digit of the rest is the first claimant, and what the rule says to it is one turn of `Serving`.
--- Assumes nothing.
+-- `rule::grants` meets its contract: in each iteration the lowest digit of the rest is the first claimant, and the rule's answer to it is one iteration of
+-- `Serving`. Assumes nothing.
 use borrow.Author.Needs.{needs}
 use native.Mathlib.Omega.{arith}
 use mathlib.Core.Path.{_≡_, sym, ap, _∙_}
@@ -8,8 +8,8 @@ use lib.Count.{trailingZeros}
 use lib.ListN.{getD, take, length-take}
 use lib.Seq.{getD-take}
 use Rattle.model.specs.Task.{ruleOf}
-use Rattle.model.proofs.Digits.{Turn, turn}
-use Rattle.rule.specs.Shares.{served}
+use Rattle.model.proofs.Digits.{LowestDigit, lowest-digit}
+use Rattle.rule.specs.Granted.{selection}
 use Rattle.rule.specs.Widths.{widthsIn}
 use Rattle.cores.proofs.Cores.{front-le}
 use Rattle.rule.proofs.Granting.{takes}
@@ -30,20 +30,20 @@ abbrev entry-from-loop : tie.At-loop Inv-loop μ-loop → tie.Start Inv-loop μ-
 entry-from-loop c = c .before
 
 -- the state in the loop
-abbrev in-loop-from-serve : tie.After-serve Inv-loop μ-loop → tie.In-loop Inv-loop μ-loop
-in-loop-from-serve c = c .before .before .before
+abbrev in-loop-from-select : tie.After-select Inv-loop μ-loop → tie.In-loop Inv-loop μ-loop
+in-loop-from-select c = c .before .before .before
 
--- the state after `serve`
-abbrev serve : tie.After-lowest Inv-loop μ-loop → tie.After-serve Inv-loop μ-loop
-serve c = c .before .before .before
+-- the state after `select`
+abbrev select : tie.After-lowest Inv-loop μ-loop → tie.After-select Inv-loop μ-loop
+select c = c .before .before .before
 
 -- the state in the loop
 abbrev in-loop-from-lowest : tie.After-lowest Inv-loop μ-loop → tie.In-loop Inv-loop μ-loop
-in-loop-from-lowest c = in-loop-from-serve (serve c)
+in-loop-from-lowest c = in-loop-from-select (select c)
 
 -- the state at the call
-abbrev entry-from-serve : tie.After-serve Inv-loop μ-loop → tie.Start Inv-loop μ-loop
-entry-from-serve c = entry-from-loop (in-loop-from-serve c .before)
+abbrev entry-from-select : tie.After-select Inv-loop μ-loop → tie.Start Inv-loop μ-loop
+entry-from-select c = entry-from-loop (in-loop-from-select c .before)
 
 loop-holds : tie.Need-loop-holds Inv-loop μ-loop
 loop-holds c =
@@ -51,20 +51,20 @@ loop-holds c =
     begun (ruleOf (a .rule)) (take (a .count) (widthsIn (a .even) (a .widths .now))) (a .claims) (a .free) (a .count)
     (c .fits .claims .fits) (c .fits .free .fits)
 
-at-turn : (c : tie.In-loop Inv-loop μ-loop) → Turn 32 (c .before .loop .rest)
-at-turn c = turn 32 (c .before .loop .rest) (c .loop-test .taken) (c .before .loop .inv .fit)
+at-step : (c : tie.In-loop Inv-loop μ-loop) → LowestDigit 32 (c .before .loop .rest)
+at-step c = lowest-digit 32 (c .before .loop .rest) (c .loop-test .taken) (c .before .loop .inv .fit)
 
 cast-at : tie.Need-cast-at Inv-loop μ-loop
-cast-at c = omega (arith, at-turn c .place)
+cast-at c = omega (arith, at-step c .place)
 
 sub-rest : tie.Need-sub-rest Inv-loop μ-loop
 sub-rest c = omega arith
 
 width-at-requires : tie.Need-width-at-requires Inv-loop μ-loop
-width-at-requires c κs = at-turn (c .before) .place
+width-at-requires c κs = at-step (c .before) .place
 
-serve-requires : tie.Need-serve-requires Inv-loop μ-loop
-serve-requires c κs = search needs
+select-requires : tie.Need-select-requires Inv-loop μ-loop
+select-requires c κs = search needs
 
 enum-told : tie.Need-enum-told Inv-loop μ-loop
 enum-told c = search needs
@@ -73,75 +73,75 @@ lowest-requires : tie.Need-lowest-requires Inv-loop μ-loop
 lowest-requires c κs = search needs
 
 mul-sets : tie.Need-mul-sets Inv-loop μ-loop
-mul-sets c = omega (arith, at-turn (in-loop-from-lowest c) .place)
+mul-sets c = omega (arith, at-step (in-loop-from-lowest c) .place)
 
 array-write-sets : tie.Need-array-write-sets Inv-loop μ-loop
-array-write-sets c = at-turn (in-loop-from-lowest c) .place
+array-write-sets c = at-step (in-loop-from-lowest c) .place
 
 -- the width that is read
-abbrev width : tie.After-serve Inv-loop μ-loop → ℕ
+abbrev width : tie.After-select Inv-loop μ-loop → ℕ
 width c = c .before .width-at .result
 
 -- it is that of the place
-abbrev own : tie.After-serve Inv-loop μ-loop → ℕ
+abbrev own : tie.After-select Inv-loop μ-loop → ℕ
 own c =
-    let a = entry-from-serve c .args in
-    getD (take (a .count) (widthsIn (a .even) (a .widths .now))) (trailingZeros 32 (in-loop-from-serve c .before .loop .rest)) 0
+    let a = entry-from-select c .args in
+    getD (take (a .count) (widthsIn (a .even) (a .widths .now))) (trailingZeros 32 (in-loop-from-select c .before .loop .rest)) 0
 
-read : (c : tie.After-serve Inv-loop μ-loop) → own c ≡ width c
+read : (c : tie.After-select Inv-loop μ-loop) → own c ≡ width c
 read c =
-    let a = entry-from-serve c .args in
-    getD-take (a .count) (widthsIn (a .even) (a .widths .now)) (trailingZeros 32 (in-loop-from-serve c .before .loop .rest)) 0 (c .before .before .if1 .taken)
+    let a = entry-from-select c .args in
+    getD-take (a .count) (widthsIn (a .even) (a .widths .now)) (trailingZeros 32 (in-loop-from-select c .before .loop .rest)) 0 (c .before .before .if1 .taken)
     ∙ sym (c .before .width-at .ensures)
 
--- what the rule said to it
-said : (c : tie.After-serve Inv-loop μ-loop)
-    → served (ruleOf (entry-from-serve c .args .rule)) (in-loop-from-serve c .before .loop .left) (own c) ≡ c .serve .result
+-- the rule's answer to it
+said : (c : tie.After-select Inv-loop μ-loop)
+    → selection (ruleOf (entry-from-select c .args .rule)) (in-loop-from-select c .before .loop .left) (own c) ≡ c .select .result
 said c =
-    let r = ruleOf (entry-from-serve c .args .rule) in
-    ap (served r (in-loop-from-serve c .before .loop .left)) (read c) ∙ sym (c .serve .ensures)
+    let r = ruleOf (entry-from-select c .args .rule) in
+    ap (selection r (in-loop-from-select c .before .loop .left)) (read c) ∙ sym (c .select .ensures)
 
 sub-set : tie.Need-sub-set Inv-loop μ-loop
 sub-set c =
     let l = in-loop-from-lowest c .before .loop in
-    front-le (l .set) (width (serve c)) (c .lowest .result) (l .inv .whole) (omega (arith, c .lowest .ok)) (c .lowest .ensures)
+    front-le (l .set) (width (select c)) (c .lowest .result) (l .inv .whole) (omega (arith, c .lowest .ok)) (c .lowest .ensures)
 
 sub-left : tie.Need-sub-left Inv-loop μ-loop
 sub-left c =
     let l = in-loop-from-lowest c .before .loop in
-    let a = entry-from-serve (serve c) .args in
-    takes (ruleOf (a .rule)) (l .left) (width (serve c)) (sym (serve c .serve .ensures) ∙ c .before .enum-told .given .1)
+    let a = entry-from-select (select c) .args in
+    takes (ruleOf (a .rule)) (l .left) (width (select c)) (sym (select c .select .ensures) ∙ c .before .enum-told .given .1)
 
 loop-less : tie.Need-loop-less Inv-loop μ-loop
-loop-less c = at-turn (in-loop-from-lowest c) .falls
+loop-less c = at-step (in-loop-from-lowest c) .falls
 
 loop-again : tie.Need-loop-again Inv-loop μ-loop
 loop-again c =
-    let n = serve c in
-    let t = in-loop-from-serve n in
+    let n = select c in
+    let t = in-loop-from-select n in
     let a = entry-from-loop (t .before) .args in
     let l = t .before .loop in
     let q = trailingZeros 32 (l .rest) in
     let w = read n in
     rw (← w)
     (taken (ruleOf (a .rule)) (take (a .count) (widthsIn (a .even) (a .widths .now))) (a .claims) (a .free) (a .count) (l .sets) (l .rest) (l .set) (l .left)
-    q _ (l .inv) (at-turn t .lowest) (at-turn t .after) (n .before .before .if1 .taken) (c .lowest .result) (omega (arith, c .lowest .ok))
-    (rw w (c .lowest .ensures)) (said n ∙ c .before .enum-told .given .1) (at-turn t .place))
+    q _ (l .inv) (at-step t .lowest) (at-step t .after) (n .before .before .if1 .taken) (c .lowest .result) (omega (arith, c .lowest .ok))
+    (rw w (c .lowest .ensures)) (said n ∙ c .before .enum-told .given .1) (at-step t .place))
 
 enum-told-2 : tie.Need-enum-told-2 Inv-loop μ-loop
 enum-told-2 c = search needs
 
 loop-less-2 : tie.Need-loop-less-2 Inv-loop μ-loop
-loop-less-2 c = at-turn (in-loop-from-serve (c .before .before)) .falls
+loop-less-2 c = at-step (in-loop-from-select (c .before .before)) .falls
 
 loop-again-2 : tie.Need-loop-again-2 Inv-loop μ-loop
 loop-again-2 c =
     let n = c .before .before in
-    let t = in-loop-from-serve n in
+    let t = in-loop-from-select n in
     let a = entry-from-loop (t .before) .args in
     let l = t .before .loop in
     passed-over (ruleOf (a .rule)) (take (a .count) (widthsIn (a .even) (a .widths .now))) (a .claims) (a .free) (a .count) (l .sets) (l .rest) (l .set)
-    (l .left) (trailingZeros 32 (l .rest)) _ (l .inv) (at-turn t .lowest) (at-turn t .after) (said n ∙ c .enum-told2 .given .1)
+    (l .left) (trailingZeros 32 (l .rest)) _ (l .inv) (at-step t .lowest) (at-step t .after) (said n ∙ c .enum-told2 .given .1)
 
 enum-told-3 : tie.Need-enum-told-3 Inv-loop μ-loop
 enum-told-3 c = search needs
@@ -149,16 +149,16 @@ enum-told-3 c = search needs
 returns : tie.Need-returns Inv-loop μ-loop
 returns c =
     let n = c .before .before in
-    let t = in-loop-from-serve n in
+    let t = in-loop-from-select n in
     let a = entry-from-loop (t .before) .args in
     let l = t .before .loop in
     let h = over (ruleOf (a .rule)) (take (a .count) (widthsIn (a .even) (a .widths .now))) (a .claims) (a .free) (a .count) (l .sets) (l .rest) (l .set)
-    (l .left) (trailingZeros 32 (l .rest)) _ (l .inv) (at-turn t .lowest) (at-turn t .after) (said n ∙ c .enum-told3 .given .1) in
+    (l .left) (trailingZeros 32 (l .rest)) _ (l .inv) (at-step t .lowest) (at-step t .after) (said n ∙ c .enum-told3 .given .1) in
     all-granted (ruleOf (a .rule)) (widthsIn (a .even) (a .widths .now)) (a .claims) (a .free) (a .count) (l .sets) (l .set) (l .left)
     (widths-length (a .even) (a .widths .now)) h
 
 loop-less-3 : tie.Need-loop-less-3 Inv-loop μ-loop
-loop-less-3 c = at-turn (c .before) .falls
+loop-less-3 c = at-step (c .before) .falls
 
 loop-again-3 : tie.Need-loop-again-3 Inv-loop μ-loop
 loop-again-3 c =
@@ -166,7 +166,7 @@ loop-again-3 c =
     let a = entry-from-loop (t .before) .args in
     let l = t .before .loop in
     skipped (ruleOf (a .rule)) (take (a .count) (widthsIn (a .even) (a .widths .now))) (a .claims) (a .free) (a .count) (l .sets) (l .rest) (l .set) (l .left)
-    (trailingZeros 32 (l .rest)) _ (l .inv) (at-turn t .lowest) (at-turn t .after)
+    (trailingZeros 32 (l .rest)) _ (l .inv) (at-step t .lowest) (at-step t .after)
     (omega (arith, length-take (a .count) (widthsIn (a .even) (a .widths .now)), c .if1 .left))
 
 returns-2 : tie.Need-returns-2 Inv-loop μ-loop
@@ -189,7 +189,7 @@ grants-spec =
     cast-at
     sub-rest
     width-at-requires
-    serve-requires
+    select-requires
     enum-told
     lowest-requires
     mul-sets

@@ -1,5 +1,5 @@
--- `rule::lend` meets its contract: each turn is one place that lends or holds nothing (`Lending`), and after the last the sets are the model's (`all-lent`).
--- Assumes nothing.
+-- `rule::lend` meets its contract: each iteration is one place that lends or holds nothing (`Lending`), and after the last the sets are the model's
+-- (`all-lent`). Assumes nothing.
 use borrow.Author.Needs.{needs}
 use native.Mathlib.Omega.{arith}
 use native.Mathlib.Numerals.{add-one}
@@ -50,8 +50,8 @@ grants-requires c κs = search needs
 owners-requires : tie.Need-owners-requires Inv-loop μ-loop
 owners-requires c κs = search needs
 
-beside-requires : tie.Need-beside-requires Inv-loop μ-loop
-beside-requires c κs = search needs
+merged-requires : tie.Need-merged-requires Inv-loop μ-loop
+merged-requires c κs = search needs
 
 add-i : tie.Need-add-i Inv-loop μ-loop
 add-i c = omega arith
@@ -59,7 +59,7 @@ add-i c = omega arith
 loop-less : tie.Need-loop-less Inv-loop μ-loop
 loop-less c = omega arith
 
--- the state before the turn
+-- the state before the iteration
 abbrev loop : tie.Joined1 Inv-loop μ-loop → tie.At-loop Inv-loop μ-loop
 loop c = c .before .before
 
@@ -69,7 +69,7 @@ Holds c =
     let a = loop c .before .args in
     Lending (take (a .count) (widthsIn (a .even) (a .widths .now))) (a .reserved .now) (a .holders) (a .seekers) (a .count)
 
--- one turn
+-- one iteration
 turned : (c : tie.Joined1 Inv-loop μ-loop) → Holds c (c .if1 .sets) (c .if1 .seeking) (suc (loop c .loop .i))
 turned c =
     let a = loop c .before .args in
@@ -115,7 +115,7 @@ lend-spec =
     element-copy-out-grants
     grants-requires
     owners-requires
-    beside-requires
+    merged-requires
     add-i
     loop-less
     loop-again

@@ -1,4 +1,4 @@
--- `rule::owners` meets its contract: each turn looks at one place more (`gathered-more`). Assumes nothing.
+-- `rule::owners` meets its contract: each iteration tests one place more (`gathered-more`). Assumes nothing.
 use borrow.Author.Needs.{needs}
 use native.Mathlib.Omega.{arith}
 use mathlib.Core.Path.{_≡_, sym, ap, _∙_}

@@ -1,4 +1,4 @@
--- `rule::row_in` meets its contract: lists that a row can show, painted over zeros and the fence's marks, are the model's row (`shown-row`).
+-- `rule::row_in` meets its contract: lists that a row can show, marked over zeros and the fence's marks, are the model's row (`shown-row`).
 -- Assumes nothing.
 use borrow.Author.Needs.{needs}
 use native.Mathlib.Omega.{arith}
@@ -10,23 +10,23 @@ use Rattle.model.specs.Fence.{outside, unfenced}
 use Rattle.model.specs.Search.{upFrom}
 use Rattle.model.specs.Sizes.{fencedByte}
 use Rattle.cores.specs.Cores.{cores}
-use Rattle.cores.proofs.Open.{memb-fenced, open-of}
-use Rattle.rule.specs.Painted.{painted, shown}
+use Rattle.cores.proofs.Unfenced.{memb-fenced, open-of}
+use Rattle.rule.specs.Marked.{marked, shownBytes}
 use Rattle.rule.proofs.Rows.{shown-row}
 use Rattle.rule.proofs.row_in.Statement.{statement}
 use Rattle.rule.proofs.row_in.Tie as tie
 
-open-cores-requires : tie.Need-open-cores-requires
-open-cores-requires c κs = search needs
+unfenced-cores-requires : tie.Need-unfenced-cores-requires
+unfenced-cores-requires c κs = search needs
 
 first-cores-requires : tie.Need-first-cores-requires
 first-cores-requires c κs = search needs
 
-without-requires : tie.Need-without-requires
-without-requires c κs = search needs
+difference-requires : tie.Need-difference-requires
+difference-requires c κs = search needs
 
-paint-requires : tie.Need-paint-requires
-paint-requires c κs = search needs
+mark-requires : tie.Need-mark-requires
+mark-requires c κs = search needs
 
 row-of-requires : tie.Need-row-of-requires
 row-of-requires c κs = search needs
@@ -38,16 +38,16 @@ returns c =
     let o = w .before .before in
     let s = o .before in
     let a = s .args in
-    let free = o .open-cores .result in
+    let free = o .unfenced-cores .result in
     let all : min (a .cores) 64 ≡ a .cores = omega arith in
-    let opened : cores free ≡ unfenced (a .fence) (a .cores) = open-of free (a .fence) (a .cores) (omega arith) (o .open-cores .ensures) in
-    let fenced : cores (w .without .result) ≡ outside free (upFrom 0 (a .cores)) =
-    w .without .ensures ∙ ap (outside free) (w .before .first-cores .ensures ∙ ap (upFrom 0) all) in
+    let opened : cores free ≡ unfenced (a .fence) (a .cores) = open-of free (a .fence) (a .cores) (omega arith) (o .unfenced-cores .ensures) in
+    let fenced : cores (w .difference .result) ≡ outside free (upFrom 0 (a .cores)) =
+    w .difference .ensures ∙ ap (outside free) (w .before .first-cores .ensures ∙ ap (upFrom 0) all) in
     let gs = map cores (take (a .count) (a .sets .now)) in
     c .row-of .ensures
-    ∙ (ap (λ (start : List ℕ). shown start 1 gs) (p .paint .ensures ∙ ap (painted (replicate 64 0) fencedByte) fenced)
+    ∙ (ap (λ (start : List ℕ). shownBytes start 1 gs) (p .mark .ensures ∙ ap (marked (replicate 64 0) fencedByte) fenced)
     ∙ shown-row 64 (a .cores) (a .fence) (outside free (upFrom 0 (a .cores))) (omega arith)
-    (λ x l. memb-fenced free (a .fence) (a .cores) x l opened) gs (s .pre .1 .apart) (s .pre .1 .open-only))
+    (λ x l. memb-fenced free (a .fence) (a .cores) x l opened) gs (s .pre .1 .apart) (s .pre .1 .unfenced-only))
 
 pub row-in-spec : {M : Type 1} → statement M
-row-in-spec = tie.close (tie.spec open-cores-requires first-cores-requires without-requires paint-requires row-of-requires returns)
+row-in-spec = tie.close (tie.spec unfenced-cores-requires first-cores-requires difference-requires mark-requires row-of-requires returns)

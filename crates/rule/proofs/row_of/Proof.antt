@@ -1,4 +1,4 @@
--- `rule::row_of` meets its contract: each turn paints one position, so showing the positions that are left still gives the whole row.
+-- `rule::row_of` meets its contract: each iteration marks one position, so showing the positions that are left still gives the whole row.
 -- Assumes nothing.
 use borrow.Author.Needs.{needs}
 use native.Mathlib.Omega.{arith}
@@ -10,38 +10,38 @@ use Prim.Native.Nat.{ℕ, suc, _+_, _-_, _≤_}
 use lib.ListN.{length, getD, take, drop, length-take}
 use lib.Seq.{getD-take}
 use Rattle.cores.specs.Cores.{cores}
-use Rattle.rule.specs.Painted.{shown}
+use Rattle.rule.specs.Marked.{shownBytes}
 use Rattle.rule.proofs.Rows.{shown-next, shown-end}
 use Rattle.rule.proofs.row_of.Statement.{statement}
 use Rattle.rule.proofs.row_of.Tie as tie
 
 abbrev Inv-loop : tie.InvT-loop
-Inv-loop first sets count out₀ i₀ out i = (i ≤ count) × (shown out (first + i) (map cores (drop i (take count sets))) ≡ shown out₀ first (map cores (take count sets)))
+Inv-loop first sets count out₀ i₀ out i = (i ≤ count) × (shownBytes out (first + i) (map cores (drop i (take count sets))) ≡ shownBytes out₀ first (map cores (take count sets)))
 
 abbrev μ-loop : tie.MeasureT-loop
 μ-loop first sets count out₀ i₀ out i = count - i
 
 -- the state at the head of the loop
-abbrev loop : tie.After-paint Inv-loop μ-loop → tie.At-loop Inv-loop μ-loop
+abbrev loop : tie.After-mark Inv-loop μ-loop → tie.At-loop Inv-loop μ-loop
 loop c = c .before .before .before
 
 loop-holds : tie.Need-loop-holds Inv-loop μ-loop
-loop-holds c = (search needs, ap (λ (p : ℕ). shown (c .args .start) p (map cores (take (c .args .count) (c .args .sets .now)))) (add-zero (c .args .first)))
+loop-holds c = (search needs, ap (λ (p : ℕ). shownBytes (c .args .start) p (map cores (take (c .args .count) (c .args .sets .now)))) (add-zero (c .args .first)))
 
-mul-paint : tie.Need-mul-paint Inv-loop μ-loop
-mul-paint c = omega arith
+mul-mark : tie.Need-mul-mark Inv-loop μ-loop
+mul-mark c = omega arith
 
-element-copy-out-paint : tie.Need-element-copy-out-paint Inv-loop μ-loop
-element-copy-out-paint c = omega arith
+element-copy-out-mark : tie.Need-element-copy-out-mark Inv-loop μ-loop
+element-copy-out-mark c = omega arith
 
-add-paint : tie.Need-add-paint Inv-loop μ-loop
-add-paint c = omega arith
+add-mark : tie.Need-add-mark Inv-loop μ-loop
+add-mark c = omega arith
 
-cast-paint : tie.Need-cast-paint Inv-loop μ-loop
-cast-paint c = omega arith
+cast-mark : tie.Need-cast-mark Inv-loop μ-loop
+cast-mark c = omega arith
 
-paint-requires : tie.Need-paint-requires Inv-loop μ-loop
-paint-requires c κs = search needs
+mark-requires : tie.Need-mark-requires Inv-loop μ-loop
+mark-requires c κs = search needs
 
 add-i : tie.Need-add-i Inv-loop μ-loop
 add-i c = omega arith
@@ -57,8 +57,8 @@ loop-again c =
     let ss = take (a .count) (a .sets .now) in
     let w : getD ss (l .i) 0 ≡ getD (a .sets .now) (l .i) 0 = getD-take (a .count) (a .sets .now) (l .i) 0 (omega arith) in
     let p : a .first + (l .i + 1) ≡ suc (a .first + l .i) = omega arith in
-    let next : shown (l .out) (a .first + l .i) (map cores (drop (l .i) ss)) ≡ shown (c .paint .result) (a .first + (l .i + 1)) (map cores (drop (l .i + 1) ss)) =
-    shown-next (l .out) (a .first + l .i) (l .i) ss ∙ cc (w, p, add-one (l .i), c .paint .ensures) in
+    let next : shownBytes (l .out) (a .first + l .i) (map cores (drop (l .i) ss)) ≡ shownBytes (c .mark .result) (a .first + (l .i + 1)) (map cores (drop (l .i + 1) ss)) =
+    shown-next (l .out) (a .first + l .i) (l .i) ss ∙ cc (w, p, add-one (l .i), c .mark .ensures) in
     (omega arith, sym next ∙ l .inv .1)
 
 returns : tie.Need-returns Inv-loop μ-loop
@@ -75,11 +75,11 @@ row-of-spec =
     Inv-loop
     μ-loop
     loop-holds
-    mul-paint
-    element-copy-out-paint
-    add-paint
-    cast-paint
-    paint-requires
+    mul-mark
+    element-copy-out-mark
+    add-mark
+    cast-mark
+    mark-requires
     add-i
     loop-less
     loop-again

@@ -1,5 +1,5 @@
--- `rule::shown` meets its contract: each turn puts together what one place borrows and what nobody borrows of its own; one of them is nothing (`cores-or`).
--- Assumes nothing.
+-- `rule::shown` meets its contract: each iteration puts together what one place borrows and what no place borrows of its own; one of them is nothing
+-- (`cores-or`). Assumes nothing.
 use borrow.Author.Needs.{needs}
 use native.Mathlib.Omega.{arith}
 use mathlib.Core.Path.{_≡_, refl, sym, ap, _∙_, subst}
@@ -14,7 +14,7 @@ use lib.Seq.{getD-set-same, getD-set-other}
 use borrow.Author.Tests.{eqb-true, eqb-false}
 use Rattle.model.specs.Fence.{outside}
 use Rattle.model.specs.Lending.{among, unlent}
-use Rattle.model.specs.Search.{bit, kept}
+use Rattle.model.specs.Search.{bit, filtered}
 use Rattle.model.proofs.Lists.{getD-zeros}
 use Rattle.cores.specs.Cores.{cores}
 use Rattle.cores.proofs.Ascending.{kept-same}
@@ -30,7 +30,7 @@ pub record Shows (reserved borrowed : List ℕ) (count : ℕ) (sets : List ℕ) 
   pub below : (p : ℕ) → p < i → cores (getD sets p 0) ≡ shownAt reserved borrowed count p
   pub above : (p : ℕ) → i ≤ p → getD sets p 0 ≡ 0
 
--- one place more; w is the set of what nobody borrows of its own
+-- one place more; w is the set of what no place borrows of its own
 module _ (reserved borrowed : List ℕ) (count : ℕ) (sets : List ℕ) (i lent w : ℕ) (h : Shows reserved borrowed count sets i) (inside : i < 32)
     (all : (c : ℕ) → c < 64 → bit lent c ≡ among c (map cores (take count borrowed))) (own : cores w ≡ outside lent (cores (getD reserved i 0)))
     (once : NotBoth reserved borrowed) where
@@ -45,7 +45,7 @@ module _ (reserved borrowed : List ℕ) (count : ℕ) (sets : List ℕ) (i lent 
 
   -- one of the two sets has no core
   one-empty : (cores (getD borrowed i 0) ≡ []) ⊎ (cores w ≡ [])
-  unfolding kept
+  unfolding filtered
   one-empty = ⊎-elim (λ e. inr (own ∙ ap (outside lent) e)) inl (once i)
 
   here : cores x ≡ shownAt reserved borrowed count i
@@ -85,14 +85,14 @@ mul-sets c = omega arith
 element-copy-out-sets : tie.Need-element-copy-out-sets Inv-loop μ-loop
 element-copy-out-sets c = omega arith
 
-mul-without : tie.Need-mul-without Inv-loop μ-loop
-mul-without c = omega arith
+mul-difference : tie.Need-mul-difference Inv-loop μ-loop
+mul-difference c = omega arith
 
-element-copy-out-without : tie.Need-element-copy-out-without Inv-loop μ-loop
-element-copy-out-without c = omega arith
+element-copy-out-difference : tie.Need-element-copy-out-difference Inv-loop μ-loop
+element-copy-out-difference c = omega arith
 
-without-requires : tie.Need-without-requires Inv-loop μ-loop
-without-requires c κs = search needs
+difference-requires : tie.Need-difference-requires Inv-loop μ-loop
+difference-requires c κs = search needs
 
 mul-sets-2 : tie.Need-mul-sets-2 Inv-loop μ-loop
 mul-sets-2 c = omega arith
@@ -114,8 +114,8 @@ loop-again c =
     let a = s .args in
     let l = t .loop in (
       omega arith,
-      shows-more (a .reserved .now) (a .borrowed .now) (a .count) (l .sets) (l .i) (u .union .result) (c .without .result) (l .inv .1)
-          (omega (arith, s .pre .0)) (u .union .ensures) (c .without .ensures) (s .pre .1),
+      shows-more (a .reserved .now) (a .borrowed .now) (a .count) (l .sets) (l .i) (u .union .result) (c .difference .result) (l .inv .1)
+          (omega (arith, s .pre .0)) (u .union .ensures) (c .difference .ensures) (s .pre .1),
     )
 
 returns : tie.Need-returns Inv-loop μ-loop
@@ -138,9 +138,9 @@ shown-spec =
     loop-holds
     mul-sets
     element-copy-out-sets
-    mul-without
-    element-copy-out-without
-    without-requires
+    mul-difference
+    element-copy-out-difference
+    difference-requires
     mul-sets-2
     array-write-sets
     add-i

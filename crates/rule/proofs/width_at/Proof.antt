@@ -1,4 +1,4 @@
--- `rule::width_at` meets its contract: the set's digit, times the number of places, is where the width stands (`read-at`). Assumes nothing.
+-- `rule::width_at` meets its contract: the set's digit, times the number of places, is the offset of the width (`read-at`). Assumes nothing.
 use borrow.Author.Needs.{needs}
 use mathlib.Core.Path.{_≡_, sym, ap, _∙_}
 use Prim.Native.Nat.{ℕ}
@@ -7,8 +7,8 @@ use Rattle.rule.proofs.Widths.{read-at, widths-at}
 use Rattle.rule.proofs.width_at.Statement.{statement}
 use Rattle.rule.proofs.width_at.Tie as tie
 
-shr-turned : tie.Need-shr-turned
-shr-turned c = search needs
+shr-shifted : tie.Need-shr-shifted
+shr-shifted c = search needs
 
 cast-result : tie.Need-cast-result
 cast-result c = search needs
@@ -34,7 +34,7 @@ pub width-at-spec : {M : Type 1} → statement M
 width-at-spec =
     tie.close
     (tie.spec
-    shr-turned
+    shr-shifted
     cast-result
     mul-result
     add-result

@@ -1,10 +1,10 @@
--- `run::start` meets its contract: the answer goes by the judge's verdict, and the run goes with the answer (`ByVerdict`).
+-- `run::start` meets its contract: the judge's verdict determines the answer, and the answer the run (`ByVerdict`).
 -- Assumes nothing.
 use mathlib.Core.Path.{_≡_, sym, ap, _∙_}
 use mathlib.Core.Logic.{inl, inr}
 use borrow.Author.Needs.{needs}
 use Rattle.judge.specs.declared.Verdict.{Verdict}
-use Rattle.judge.specs.Said.{saidBy}
+use Rattle.judge.specs.JudgeAnswer.{verdictMeaning}
 use Rattle.run.specs.Start.{byVerdict, startAnswer}
 use Rattle.run.proofs.ByVerdict.{start-answer, start-taken, start-refused}
 use Rattle.run.proofs.StartExact.{start-of}
@@ -35,13 +35,13 @@ enum-told : tie.Need-enum-told
 enum-told c = search needs
 
 begun-requires : tie.Need-begun-requires
-begun-requires c κs = c .before .before .judge .ensures .accepted .0 (_, _, inl (ap saidBy (c .enum-told .given .1))) .0
+begun-requires c κs = c .before .before .judge .ensures .accepted .0 (_, _, inl (ap verdictMeaning (c .enum-told .given .1))) .0
 
 enum-told-2 : tie.Need-enum-told-2
 enum-told-2 c = search needs
 
 begun-requires-2 : tie.Need-begun-requires-2
-begun-requires-2 c κs = c .before .before .judge .ensures .accepted .0 (_, _, inr (ap saidBy (c .enum-told2 .given .1))) .0
+begun-requires-2 c κs = c .before .before .judge .ensures .accepted .0 (_, _, inr (ap verdictMeaning (c .enum-told2 .given .1))) .0
 
 enum-told-3 : tie.Need-enum-told-3
 enum-told-3 c = search needs

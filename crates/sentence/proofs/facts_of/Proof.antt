@@ -3,7 +3,7 @@
 use mathlib.Core.Path.{refl}
 use native.Mathlib.Omega.{arith}
 use borrow.Author.Tests.{not-true, not-false}
-use Rattle.sentence.proofs.Finding.{facts-found, facts-none, headless, partless, whole}
+use Rattle.sentence.proofs.Finding.{facts-found, facts-none, no-head, no-parts, whole}
 use borrow.Author.Needs.{needs}
 use Rattle.sentence.proofs.facts_of.Statement.{statement}
 use Rattle.sentence.proofs.facts_of.Tie as tie
@@ -36,7 +36,7 @@ returns : tie.Need-returns
 returns c =
     let bs = read-head-from-no-facts c .before .before .args .bytes .now in
     let h = read-head-from-no-facts c .read-head in
-    facts-none bs _ (c .no-facts .ensures) (headless bs (h .result) (h .ensures) (not-true _ (c .before .if1 .taken)))
+    facts-none bs _ (c .no-facts .ensures) (no-head bs (h .result) (h .ensures) (not-true _ (c .before .if1 .taken)))
 
 read-parts-requires : tie.Need-read-parts-requires
 read-parts-requires c κs =
@@ -51,7 +51,7 @@ returns-2 c =
     let bs = read-head-from-no-facts2 c .before .before .args .bytes .now in
     let h = read-head-from-no-facts2 c .read-head in
     let p = read-parts-from-no-facts2 c .read-parts in
-    facts-none bs _ (c .no-facts2 .ensures) (partless bs (h .result) (h .ensures) (p .result) (p .ensures) (not-true _ (c .before .if2 .taken)))
+    facts-none bs _ (c .no-facts2 .ensures) (no-parts bs (h .result) (h .ensures) (p .result) (p .ensures) (not-true _ (c .before .if2 .taken)))
 
 cast-t6 : tie.Need-cast-t6
 cast-t6 c =

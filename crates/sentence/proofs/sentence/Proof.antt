@@ -1,10 +1,10 @@
--- `sentence::sentence` meets its contract: what `load` promises of the words fits the sentence of a table, and a refusal of the table is the sentence's.
+-- `sentence::sentence` meets its contract: the contract of `load` fits the sentence of a table, and a refusal of the table is the sentence's.
 -- Assumes nothing.
 use borrow.Author.Needs.{needs}
 use mathlib.Core.Path.{refl}
 use denote.Ref.{now}
-use Rattle.judge.proofs.Promise.{fit}
-use Rattle.sentence.proofs.Promise.{short-table, passed-sentence, refused-sentence}
+use Rattle.judge.proofs.Contract.{fit}
+use Rattle.sentence.proofs.Contract.{short-table, passed-sentence, refused-sentence}
 use Rattle.sentence.proofs.sentence.Statement.{statement}
 use Rattle.sentence.proofs.sentence.Tie as tie
 

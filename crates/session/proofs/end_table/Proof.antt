@@ -1,4 +1,4 @@
--- `session::end_table` meets its contract: the table ends before a last line of dashes or with the bytes held, and `begin` says what is said to it.
+-- `session::end_table` meets its contract: the table ends before a last line of dashes or with the bytes held, and `begin` writes the answer to it.
 -- Assumes nothing.
 use borrow.Author.Needs.{needs}
 use native.Mathlib.Omega.{arith}
@@ -11,10 +11,10 @@ use lib.Seq.{length-take-le, take-add}
 use Rattle.session.specs.declared.Session.{Session}
 use Rattle.session.specs.declared.Stage.the-variants.{Table}
 use Rattle.session.specs.declared.open.Opened.{Opened}
-use Rattle.session.specs.Talk.{tooMany, nothing, isDashes, opened, replies}
-use Rattle.session.specs.Session.{spokenIn, Said, OpenedOf}
-use Rattle.session.proofs.Talking.{nil-right, talk-end}
-use Rattle.session.proofs.Feeding.{spoken-table}
+use Rattle.session.specs.Transcript.{tooMany, nothing, isDashes, opened, replies}
+use Rattle.session.specs.Session.{transcriptIn, TextWritten, OpenedOf}
+use Rattle.session.proofs.Transcripts.{nil-right, transcript-end}
+use Rattle.session.proofs.Feeding.{transcript-table}
 use Rattle.session.proofs.end_table.Statement.{statement}
 use Rattle.session.proofs.end_table.Tie as tie
 
@@ -40,7 +40,7 @@ end-within s end w f h e = go (isDashes (take (s .held - s .from) (drop (s .from
 table-ended :
     (s : Session) (before after : List ℕ) (end : ℕ) (o : Opened) → s .from ≤ s .held
     → end ≡ cond (isDashes (take (s .held - s .from) (drop (s .from) (s .bytes)))) (s .from) (s .held)
-    → OpenedOf (take end (s .bytes)) before after o → Said (spokenIn Table s nothing []) before after (o .length)
+    → OpenedOf (take end (s .bytes)) before after o → TextWritten (transcriptIn Table s nothing []) before after (o .length)
 unfolding replies
 table-ended s before after end o f e w = record {
   room = w .room;
@@ -48,7 +48,7 @@ table-ended s before after end o f e w = record {
   behind = w .behind;
   front =
       sym
-      (spoken-table s nothing [] ∙ talk-end (take (s .from) (s .bytes)) line ∙ ap (λ (t : List ℕ). opened t []) (go (isDashes line) end e)
+      (transcript-table s nothing [] ∙ transcript-end (take (s .from) (s .bytes)) line ∙ ap (λ (t : List ℕ). opened t []) (go (isDashes line) end e)
       ∙ w .text [] ∙ none (o .over));
 }
   where

@@ -1,4 +1,4 @@
--- `session::feed_operations` meets its contract: each way out is a law of Feeding, a line too long, a part held, the last operation, or one more line answered.
+-- `session::feed_operations` meets its contract: each return is a law of Feeding, a line too long, a part held, the last operation, or one more line answered.
 -- Assumes nothing.
 use borrow.Author.Needs.{needs}
 use native.Mathlib.Omega.{arith}
@@ -7,13 +7,13 @@ use Prim.Native.Nat.{_-_}
 use lib.ListN.{length}
 use lib.Seq.{length-take-le}
 use Rattle.text.proofs.Lines.{line-within}
-use Rattle.session.proofs.Saying.{said-of}
+use Rattle.session.proofs.TextWritten.{text-of}
 use Rattle.session.proofs.Feeding.{operation-long, operation-full, operation-held, operation-none, operation-done, still-wide, held-most}
 use Rattle.session.specs.declared.operations.Operation.{Operation}
-use Rattle.session.specs.Operation.{noneLong, said, runAfter, isLast}
+use Rattle.session.specs.Operation.{noneLong, reply, runAfter, isLast}
 use Rattle.session.proofs.feed_operations.Statement.{statement}
 use Rattle.session.proofs.feed_operations.Tie as tie
-use Rattle.session.specs.Talk.{tooMany}
+use Rattle.session.specs.Transcript.{tooMany}
 
 -- the state after `end-from`
 abbrev end-from-from-bytes2 : tie.After-bytes2 → tie.After-end-from
@@ -26,12 +26,12 @@ copy-from-else3 c = c .before .before .before .before
 abbrev copy-from-then3 : tie.Then3 → tie.After-copy
 copy-from-then3 c = c .before .before .before .before
 
--- the state after `asked`
-abbrev asked-from-next : tie.After-next → tie.After-asked
-asked-from-next c = c .before .before .before .before
+-- the state after `operation_of`
+abbrev operation-of-from-next : tie.After-next → tie.After-operation-of
+operation-of-from-next c = c .before .before .before .before
 
-abbrev asked-from-over3 : tie.After-over3 → tie.After-asked
-asked-from-over3 c = c .before .before .before .before
+abbrev operation-of-from-over3 : tie.After-over3 → tie.After-operation-of
+operation-of-from-over3 c = c .before .before .before .before
 
 -- the state where the test `if2` holds
 abbrev then2 : tie.After-over2 → tie.Then2
@@ -54,11 +54,11 @@ entry-from-bytes2 c = entry-from-bytes (c .before .before .before .before)
 abbrev entry-from-run : tie.After-run → tie.Start
 entry-from-run c = entry-from-bytes2 (c .before .before .before .before)
 
-abbrev entry-from-asked : tie.After-asked → tie.Start
-entry-from-asked c = entry-from-run (c .before .before .before)
+abbrev entry-from-operation-of : tie.After-operation-of → tie.Start
+entry-from-operation-of c = entry-from-run (c .before .before .before)
 
 abbrev entry-from-answer : tie.After-answer → tie.Start
-entry-from-answer c = entry-from-asked (c .before .before)
+entry-from-answer c = entry-from-operation-of (c .before .before)
 
 -- the state after `end-from`
 abbrev end-from-from-else3 : tie.Else3 → tie.After-end-from
@@ -73,10 +73,10 @@ smaller-from-over2 c = then2 c .before .before .before .before
 
 -- the state where the test `if2` fails
 abbrev else2-from-over3 : tie.After-over3 → tie.Else2
-else2-from-over3 c = asked-from-over3 c .before .before .before .before
+else2-from-over3 c = operation-of-from-over3 c .before .before .before .before
 
 abbrev else2-from-next : tie.After-next → tie.Else2
-else2-from-next c = asked-from-next c .before .before .before .before
+else2-from-next c = operation-of-from-next c .before .before .before .before
 
 -- the state after `smaller`
 abbrev smaller-from-over3 : tie.After-over3 → tie.After-smaller
@@ -102,11 +102,11 @@ entry-from-over2 c = else1-from-over2 c .before .before .before
 wide : (c : tie.After-struct-known) → length (c .before .before .args .session .bytes) ≡ tooMany
 wide c = search needs
 
-slice-aggregate-say-word : tie.Need-slice-aggregate-say-word
-slice-aggregate-say-word c = search needs
+slice-aggregate-write-word : tie.Need-slice-aggregate-write-word
+slice-aggregate-write-word c = search needs
 
-say-word-requires : tie.Need-say-word-requires
-say-word-requires c κs = search needs
+write-word-requires : tie.Need-write-word-requires
+write-word-requires c κs = search needs
 
 over-requires : tie.Need-over-requires
 over-requires c κs = search needs
@@ -115,7 +115,7 @@ returns : tie.Need-returns
 returns c =
     let s = entry-from-over c in
     let w : length (s .args .session .bytes) ≡ tooMany = search needs in
-    operation-long (s .args .session) (s .args .chunk .now) (s .args .out .now) _ _ _ w (s .pre) (then1 c .if1 .taken) (c .before .say-word .ensures) (c .over .ensures)
+    operation-long (s .args .session) (s .args .chunk .now) (s .args .out .now) _ _ _ w (s .pre) (then1 c .if1 .taken) (c .before .write-word .ensures) (c .over .ensures)
 
 end-from-requires : tie.Need-end-from-requires
 end-from-requires c κs = search needs
@@ -135,11 +135,11 @@ copy-requires c κs =
     let w : length (s .args .session .bytes) ≡ tooMany = search needs in
     (omega (arith, c .before .smaller .ensures, end-from-from-bytes2 c .end-from .ensures, line-within (s .args .chunk .now)), omega (arith, c .before .smaller .ensures, s .pre, w))
 
-slice-aggregate-say-word-2 : tie.Need-slice-aggregate-say-word-2
-slice-aggregate-say-word-2 c = search needs
+slice-aggregate-write-word-2 : tie.Need-slice-aggregate-write-word-2
+slice-aggregate-write-word-2 c = search needs
 
-say-word-requires-2 : tie.Need-say-word-requires-2
-say-word-requires-2 c κs = search needs
+write-word-requires-2 : tie.Need-write-word-requires-2
+write-word-requires-2 c κs = search needs
 
 over-requires-2 : tie.Need-over-requires-2
 over-requires-2 c κs = search needs
@@ -150,7 +150,7 @@ returns-2 c =
     let w : length (s .args .session .bytes) ≡ tooMany = search needs in
     operation-full (s .args .session) (s .args .chunk .now) _ (s .args .out .now) _ _ _ _ w (omega (arith, else1-from-over2 c .if1 .left))
     (smaller-from-over2 c .before .before .end-from .ensures) (smaller-from-over2 c .smaller .ensures) (then2 c .before .before .copy .ensures)
-    _ _ (then2 c .if2 .taken) (c .before .say-word2 .ensures) (c .over2 .ensures)
+    _ _ (then2 c .if2 .taken) (c .before .write-word2 .ensures) (c .over2 .ensures)
 
 returns-3 : tie.Need-returns-3
 returns-3 c =
@@ -171,8 +171,8 @@ array-share-prefix-bytes c =
     let h = held-most (s .args .session) (s .args .chunk .now) _ noneLong _ _ _ w (omega (arith, e .before .before .if1 .left))
     (omega arith) (e .end-from .ensures) (copy .before .before .smaller .ensures) (copy .copy .ensures) in omega (arith, v, h)
 
-slice-aggregate-asked : tie.Need-slice-aggregate-asked
-slice-aggregate-asked c =
+slice-aggregate-operation-of : tie.Need-slice-aggregate-operation-of
+slice-aggregate-operation-of c =
     let s = entry-from-run (c .before .before) in
     let e = end-from-from-else3 (c .before) in
     let copy = copy-from-else3 (c .before) in
@@ -182,8 +182,8 @@ slice-aggregate-asked c =
     let h = held-most (s .args .session) (s .args .chunk .now) _ noneLong _ _ _ w (omega (arith, e .before .before .if1 .left)) (omega arith)
     (e .end-from .ensures) (copy .before .before .smaller .ensures) (copy .copy .ensures) in sym (length-take-le _ _ (omega (arith, v, h)))
 
-asked-requires : tie.Need-asked-requires
-asked-requires c κs = search needs
+operation-of-requires : tie.Need-operation-of-requires
+operation-of-requires c κs = search needs
 
 answer-requires : tie.Need-answer-requires
 answer-requires c κs = search needs
@@ -194,11 +194,11 @@ over-requires-3 c κs = search needs
 returns-4 : tie.Need-returns-4
 returns-4 c =
     let s = entry-from-answer (c .before .before) in
-    let a = asked-from-over3 c in
+    let a = operation-of-from-over3 c in
     operation-none (s .args .session) (s .args .chunk .now) _ (s .args .out .now) _ _ _ _ (wide (else1-from-over3 c .before)) (omega (arith, else1-from-over3 c .if1 .left))
     (smaller-from-over3 c .before .before .end-from .ensures) (smaller-from-over3 c .smaller .ensures) (else2-from-over3 c .before .before .copy .ensures)
-    _ _ (else2-from-over3 c .if2 .left) (a .before .before .if3 .left) (sym (ap isLast (a .asked .ensures)) ∙ sym (c .before .before .answer .ensures .2) ∙ c .before .if4 .taken)
-    (said-of (ap (λ (x : Operation). said x (s .args .session .run)) (a .asked .ensures)) (c .before .before .answer .ensures .0)) (c .over3 .ensures)
+    _ _ (else2-from-over3 c .if2 .left) (a .before .before .if3 .left) (sym (ap isLast (a .operation-of .ensures)) ∙ sym (c .before .before .answer .ensures .2) ∙ c .before .if4 .taken)
+    (text-of (ap (λ (x : Operation). reply x (s .args .session .run)) (a .operation-of .ensures)) (c .before .before .answer .ensures .0)) (c .over3 .ensures)
 
 add-t20 : tie.Need-add-t20
 add-t20 c = search needs
@@ -206,19 +206,19 @@ add-t20 c = search needs
 returns-5 : tie.Need-returns-5
 returns-5 c =
     let s = entry-from-answer (c .before .before) in
-    let a = asked-from-next c in
+    let a = operation-of-from-next c in
     operation-done (s .args .session) (s .args .chunk .now) _ (s .args .out .now) _ _ _ _ (wide (else1-from-next c .before)) (omega (arith, else1-from-next c .if1 .left))
     (smaller-from-next c .before .before .end-from .ensures) (smaller-from-next c .smaller .ensures) (else2-from-next c .before .before .copy .ensures)
-    _ _ (else2-from-next c .if2 .left) (a .before .before .if3 .left) (sym (ap isLast (a .asked .ensures)) ∙ sym (c .before .before .answer .ensures .2) ∙ c .before .if4 .left)
-    (said-of (ap (λ (x : Operation). said x (s .args .session .run)) (a .asked .ensures)) (c .before .before .answer .ensures .0))
-    (c .before .before .answer .ensures .1 ∙ ap (λ (x : Operation). runAfter x (s .args .session .run)) (a .asked .ensures))
+    _ _ (else2-from-next c .if2 .left) (a .before .before .if3 .left) (sym (ap isLast (a .operation-of .ensures)) ∙ sym (c .before .before .answer .ensures .2) ∙ c .before .if4 .left)
+    (text-of (ap (λ (x : Operation). reply x (s .args .session .run)) (a .operation-of .ensures)) (c .before .before .answer .ensures .0))
+    (c .before .before .answer .ensures .1 ∙ ap (λ (x : Operation). runAfter x (s .args .session .run)) (a .operation-of .ensures))
 
 pub feed-operations-spec : {M : Type 1} → statement M
 feed-operations-spec =
     tie.close
     (tie.spec
-    slice-aggregate-say-word
-    say-word-requires
+    slice-aggregate-write-word
+    write-word-requires
     over-requires
     returns
     end-from-requires
@@ -226,14 +226,14 @@ feed-operations-spec =
     smaller-requires
     slice-aggregate-copy
     copy-requires
-    slice-aggregate-say-word-2
-    say-word-requires-2
+    slice-aggregate-write-word-2
+    write-word-requires-2
     over-requires-2
     returns-2
     returns-3
     array-share-prefix-bytes
-    slice-aggregate-asked
-    asked-requires
+    slice-aggregate-operation-of
+    operation-of-requires
     answer-requires
     over-requires-3
     returns-4

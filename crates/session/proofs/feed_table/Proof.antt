@@ -1,5 +1,5 @@
--- `session::feed_table` meets its contract: each way out is a law of Feeding, a text too long, a part held, the dashes that open the run, or one more line held.
--- Assumes nothing.
+-- `session::feed_table` meets its contract: each return is a law of Feeding, a text too long, a part held, the dashes that open the run, or one more line
+-- held. Assumes nothing.
 use borrow.Author.Needs.{needs}
 use native.Mathlib.Omega.{arith}
 use mathlib.Core.Path.{_≡_, sym, _∙_}
@@ -10,7 +10,7 @@ use Rattle.text.proofs.Lines.{line-within}
 use Rattle.session.proofs.Feeding.{table-full, table-held, table-opened, table-more, still-wide, held-most}
 use Rattle.session.proofs.feed_table.Statement.{statement}
 use Rattle.session.proofs.feed_table.Tie as tie
-use Rattle.session.specs.Talk.{tooMany}
+use Rattle.session.specs.Transcript.{tooMany}
 
 -- the state where the test `if1` holds
 abbrev then1 : tie.After-over → tie.Then1
@@ -102,8 +102,8 @@ copy-requires c κs =
     let w : length (s .args .session .bytes) ≡ tooMany = search needs in
     (omega (arith, c .before .smaller .ensures, end-from-from-bytes2 c .end-from .ensures, line-within (s .args .chunk .now)), omega (arith, c .before .smaller .ensures, s .pre .1, w))
 
-say-refused-requires : tie.Need-say-refused-requires
-say-refused-requires c κs = search needs
+write-refused-requires : tie.Need-write-refused-requires
+write-refused-requires c κs = search needs
 
 over-requires : tie.Need-over-requires
 over-requires c κs = search needs
@@ -114,7 +114,7 @@ returns c =
     let w : length (s .args .session .bytes) ≡ tooMany = search needs in
     table-full (s .args .session) (s .args .chunk .now) _ (s .args .out .now) _ _ _ _ w (s .pre .0) (s .pre .1)
     (smaller c .before .before .end-from .ensures) (smaller c .smaller .ensures) (then1 c .before .before .copy .ensures)
-    _ _ (then1 c .if1 .taken) (c .before .say-refused .ensures) (c .over .ensures)
+    _ _ (then1 c .if1 .taken) (c .before .write-refused .ensures) (c .over .ensures)
 
 returns-2 : tie.Need-returns-2
 returns-2 c =
@@ -222,7 +222,7 @@ feed-table-spec =
     smaller-requires
     slice-aggregate-copy
     copy-requires
-    say-refused-requires
+    write-refused-requires
     over-requires
     returns
     returns-2

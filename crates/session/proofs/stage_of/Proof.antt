@@ -1,4 +1,4 @@
--- `session::stage_of` meets its contract: each way out is a case of Replying, by the numbers of the bytes held.
+-- `session::stage_of` meets its contract: each return is a case of Replying, by the numbers of the bytes held.
 -- Assumes nothing.
 use Rattle.session.proofs.Replying.{stage-left, stage-long, stage-in}
 use Rattle.session.proofs.stage_of.Statement.{statement}

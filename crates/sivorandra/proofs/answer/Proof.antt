@@ -17,8 +17,8 @@ use Rattle.sivorandra.proofs.answer.Tie as tie
 abbrev fill-from-bytes3 : tie.After-bytes3 → tie.After-fill
 fill-from-bytes3 c = c .before .before .before
 
-abbrev fill-from-say-unread : tie.After-say-unread → tie.After-fill
-fill-from-say-unread c = c .before .before .before .before
+abbrev fill-from-report-unread : tie.After-report-unread → tie.After-fill
+fill-from-report-unread c = c .before .before .before .before
 
 -- the state where the test `if1` fails
 abbrev else1 : tie.After-print → tie.Else1
@@ -30,14 +30,14 @@ slice-aggregate-fill c = search needs
 fill-requires : tie.Need-fill-requires
 fill-requires c κs = search needs
 
-slice-aggregate-say-unread : tie.Need-slice-aggregate-say-unread
-slice-aggregate-say-unread c = search needs
+slice-aggregate-report-unread : tie.Need-slice-aggregate-report-unread
+slice-aggregate-report-unread c = search needs
 
-say-unread-requires : tie.Need-say-unread-requires
-say-unread-requires c κs = search needs
+report-unread-requires : tie.Need-report-unread-requires
+report-unread-requires c κs = search needs
 
 returns : tie.Need-returns
-returns c = unanswered output _ (fill-from-say-unread c .fill .result) _ (c .before .before .if1 .taken) refl
+returns c = unanswered output _ (fill-from-report-unread c .fill .result) _ (c .before .before .if1 .taken) refl
 
 array-share-prefix-bytes : tie.Need-array-share-prefix-bytes
 array-share-prefix-bytes c = search needs
@@ -65,8 +65,8 @@ answer-spec =
     (tie.spec
     slice-aggregate-fill
     fill-requires
-    slice-aggregate-say-unread
-    say-unread-requires
+    slice-aggregate-report-unread
+    report-unread-requires
     returns
     array-share-prefix-bytes
     slice-aggregate-new

@@ -1,4 +1,4 @@
--- `stream::fill` meets its contract and ends: each read that brings bytes leaves less room, and keeps what was read before.
+-- `stream::fill` meets its contract and ends: each read that gives bytes leaves less space, and keeps what was read before.
 -- Assumes nothing.
 use borrow.Author.Needs.{needs}
 use native.Mathlib.Omega.{arith}
@@ -7,12 +7,12 @@ use mathlib.Core.Path.{sym, _∙_}
 use Rattle.stream.proofs.Moving.{behind-on}
 use Prim.Native.Nat.{_-_}
 use lib.ListN.{length}
-use Rattle.stream.specs.Reading.{Behind}
+use Rattle.stream.specs.Reading.{ReadAfter}
 use Rattle.stream.proofs.fill.Statement.{statement}
 use Rattle.stream.proofs.fill.Tie as tie
 
 abbrev Inv-loop : tie.InvT-loop
-Inv-loop buffer₀ held reading₀ buffer reading = Behind held buffer₀ buffer reading
+Inv-loop buffer₀ held reading₀ buffer reading = ReadAfter held buffer₀ buffer reading
 
 abbrev μ-loop : tie.MeasureT-loop
 μ-loop buffer₀ held reading₀ buffer reading = length buffer - reading .held

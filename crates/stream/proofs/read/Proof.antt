@@ -1,4 +1,4 @@
--- `stream::read` meets its contract: what stands before the part that is lent stays, and a read that does not fail brings as many bytes as it says.
+-- `stream::read` meets its contract: what is before the part that is lent stays, and a read that does not fail gives as many bytes as it returns.
 -- Assumes nothing.
 use native.Mathlib.Omega.{arith}
 use mathlib.Core.Bool.{false≢true}

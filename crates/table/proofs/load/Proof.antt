@@ -1,4 +1,4 @@
--- `table::load` meets its contract: its value is `loadOf` of the words at each return, and the value settles what is promised.
+-- `table::load` meets its contract: its value is `loadOf` of the words at each return, and the value determines the rest.
 -- Assumes nothing.
 use Prim.Native.Nat.{ℕ, _≤_}
 use mathlib.Core.Path.{_≡_, sym, ap, _∙_}
@@ -8,17 +8,17 @@ use native.Mathlib.Omega.{arith}
 use lib.ListN.{length}
 use Rattle.table.specs.declared.chain.Ending.the-variants.{Whole}
 use Rattle.model.specs.Sizes.{mostCores}
-use Rattle.table.specs.Words.{headerWords, cores, rule}
-use Rattle.table.specs.Limits.{From, from}
+use Rattle.table.specs.Words.{headerWords, coreCount, rule}
+use Rattle.table.specs.Limits.{InRange, inRange}
 use Rattle.table.specs.Task.{tasksOf}
 use Rattle.table.specs.Answer.{headerNumber, endingOf, byTasks}
-use Rattle.table.specs.Load.{loadedBy, passing, places, refusal, tableWith}
+use Rattle.table.specs.Load.{loadedBy, passing, codeTasks, refusal, tableWith}
 use Rattle.table.proofs.Decide.{stable}
 use Rattle.table.proofs.Tests.{from-decides}
-use Rattle.table.proofs.HeaderFine.{header-fine, words-long}
+use Rattle.table.proofs.HeaderPasses.{header-passes, words-long}
 use Rattle.table.proofs.Loads.{walked-tasks, load-header, load-past, load-again, load-whole}
 use Rattle.table.proofs.Passed.{whole-count}
-use Rattle.table.proofs.Promise.{promise}
+use Rattle.table.proofs.Contract.{contract-of}
 use Rattle.table.proofs.load.Statement.{statement}
 use Rattle.table.proofs.load.Tie as tie
 
@@ -56,7 +56,7 @@ fine : (c : tie.Else1) → headerNumber (now (entry-from-else1 c .args .words)) 
 fine c = sym (c .before .header-number .ensures) ∙ c .if1 .left
 
 long : (c : tie.Else1) → headerWords ≤ length (now (entry-from-else1 c .args .words))
-long c = let ws = now (entry-from-else1 c .args .words) in words-long ws (header-fine ws (fine c) .words-in)
+long c = let ws = now (entry-from-else1 c .args .words) in words-long ws (header-passes ws (fine c) .words-in)
 
 -- the chain ends at the zero
 whole : (c : tie.After-enum-told3) → endingOf (now (entry-from-arm3 (c .before) .args .words)) ≡ Whole
@@ -72,7 +72,7 @@ returns : tie.Need-returns
 returns c =
     let h = c .before .before .header-number .ensures in
     let ws = now (entry-from-refused c .args .words) in
-    promise ws (c .refused .result) (c .refused .ensures ∙ ap (λ n. refusal n 0) h ∙ sym (load-header ws (λ e. c .before .if1 .taken (h ∙ e))))
+    contract-of ws (c .refused .result) (c .refused .ensures ∙ ap (λ n. refusal n 0) h ∙ sym (load-header ws (λ e. c .before .if1 .taken (h ∙ e))))
 
 walk-requires : tie.Need-walk-requires
 walk-requires c κs = search needs
@@ -110,20 +110,20 @@ by-tasks-requires c κs =
     let counted = w .walk .ensures .counted told in
     let many = whole-count ws (fine (w .before)) (whole e) in
     let kept = w .walk .ensures .placed told in
-    let narrow : From 1 mostCores (cores ws) = stable (from 1 mostCores (cores ws)) (From 1 mostCores (cores ws)) (from-decides 1 mostCores (cores ws)) (header-fine ws (fine (w .before)) .cores-in) in
-    (narrow .1, (omega arith, (omega arith, kept ∙ ap places (sym (walked-tasks ws (w .walk .result .tasks) (w .walk .result .count) kept counted)))))
+    let narrow : InRange 1 mostCores (coreCount ws) = stable (inRange 1 mostCores (coreCount ws)) (InRange 1 mostCores (coreCount ws)) (from-decides 1 mostCores (coreCount ws)) (header-passes ws (fine (w .before)) .cores-in) in
+    (narrow .1, (omega arith, (omega arith, kept ∙ ap codeTasks (sym (walked-tasks ws (w .walk .result .tasks) (w .walk .result .count) kept counted)))))
 
 returns-2 : tie.Need-returns-2
 returns-2 c =
     let w = walk-from-refused2 c in
     let ws = now (entry-from-else1 (w .before) .args .words) in
-    promise ws (c .refused2 .result) (c .refused2 .ensures ∙ sym (load-past ws (fine (w .before)) (sym (w .walk .ensures .ending) ∙ c .before .enum-told .given .1)))
+    contract-of ws (c .refused2 .result) (c .refused2 .ensures ∙ sym (load-past ws (fine (w .before)) (sym (w .walk .ensures .ending) ∙ c .before .enum-told .given .1)))
 
 returns-3 : tie.Need-returns-3
 returns-3 c =
     let w = walk-from-refused3 c in
     let ws = now (entry-from-else1 (w .before) .args .words) in
-    promise ws (c .refused3 .result) (c .refused3 .ensures ∙ sym (load-again ws (fine (w .before)) (sym (w .walk .ensures .ending) ∙ c .before .enum-told2 .given .1)))
+    contract-of ws (c .refused3 .result) (c .refused3 .ensures ∙ sym (load-again ws (fine (w .before)) (sym (w .walk .ensures .ending) ∙ c .before .enum-told2 .given .1)))
 
 returns-4 : tie.Need-returns-4
 returns-4 c =
@@ -132,10 +132,10 @@ returns-4 c =
     let ws = now (entry-from-else1 (w .before) .args .words) in
     let told = e .enum-told3 .given .1 in
     let fenced = fence-in c .fence-in .ensures in
-    promise ws (c .by-tasks .result)
+    contract-of ws (c .by-tasks .result)
     (c .by-tasks .ensures
-    ∙ ap (λ (f : ℕ). loadedBy (byTasks (tableWith (cores ws) f (rule ws) (tasksOf (w .walk .result .tasks) (w .walk .result .count))))
-    (passing (rule ws) (tableWith (cores ws) f (rule ws) (tasksOf (w .walk .result .tasks) (w .walk .result .count))))) fenced
+    ∙ ap (λ (f : ℕ). loadedBy (byTasks (tableWith (coreCount ws) f (rule ws) (tasksOf (w .walk .result .tasks) (w .walk .result .count))))
+    (passing (rule ws) (tableWith (coreCount ws) f (rule ws) (tasksOf (w .walk .result .tasks) (w .walk .result .count))))) fenced
     ∙ load-whole ws (fine (w .before)) (whole e) (w .walk .result .tasks) (w .walk .result .count) (w .walk .ensures .placed told) (w .walk .ensures .counted told))
 
 pub load-spec : {M : Type 1} → statement M

@@ -6,8 +6,8 @@ use Prim.Native.Nat.{ℕ, _+_, _-_, _≤_}
 use native.Mathlib.Omega.{arith}
 use borrow.Author.Needs.{needs}
 use lib.ListN.{length, take, drop, set, length-drop, length-append}
-use Rattle.text.specs.Format.{words, wordsOf, lines, mostNumbers}
-use Rattle.text.specs.Input.{lineLength, foundIn, placed, inputOf}
+use Rattle.text.specs.Format.{readWords, wordsOf, lines, mostNumbers}
+use Rattle.text.specs.Input.{lineLength, parseNumber, padNumbers, inputOf}
 use Rattle.text.proofs.Lines.{line-within}
 use Rattle.text.proofs.Numbers.{nothing-found, value-found}
 use Rattle.text.proofs.ReadOf.{read-of}
@@ -17,7 +17,7 @@ use Rattle.text.proofs.read.Tie as tie
 
 abbrev Inv-loop : tie.InvT-loop
 Inv-loop bytes places₀ count₀ at₀ places count at =
-    (ws : List ℕ) × (places ≡ placed ws) × (count ≡ length ws) × (length ws ≤ mostNumbers) × (wordsFrom ws (lines (drop at bytes)) ≡ wordsOf bytes)
+    (ws : List ℕ) × (places ≡ padNumbers ws) × (count ≡ length ws) × (length ws ≤ mostNumbers) × (wordsFrom ws (lines (drop at bytes)) ≡ wordsOf bytes)
 
 abbrev μ-loop : tie.MeasureT-loop
 μ-loop bytes places₀ count₀ at₀ places count at = length bytes - at
@@ -61,12 +61,12 @@ ends c =
 found : (c : tie.After-number Inv-loop μ-loop) →
     let bytes = entry-from-end-from (c .before .before) .args .bytes .now in
     let at = loop c .loop .at in
-    c .number .result ≡ foundIn (take (lineLength (drop at bytes)) (drop at bytes))
+    c .number .result ≡ parseNumber (take (lineLength (drop at bytes)) (drop at bytes))
 found c =
     let bytes = entry-from-end-from (c .before .before) .args .bytes .now in
     let at = loop c .loop .at in
     let n : c .before .before .end-from .result - at ≡ lineLength (drop at bytes) = omega arith in
-    c .number .ensures ∙ ap (λ (k : ℕ). foundIn (take k (drop at bytes))) n
+    c .number .ensures ∙ ap (λ (k : ℕ). parseNumber (take k (drop at bytes))) n
 
 -- the answer for that line and the lines after it
 here : (c : tie.After-number Inv-loop μ-loop) →
@@ -154,7 +154,7 @@ returns-3 : tie.Need-returns-3 Inv-loop μ-loop
 returns-3 c =
     let l = c .before .loop in
     let bytes = entry-from-past-loop c .args .bytes .now in
-    let e : words (l .inv .0) ≡ wordsOf bytes =
+    let e : readWords (l .inv .0) ≡ wordsOf bytes =
     sym (from-end (l .inv .0) (l .inv .3)) ∙ ap (wordsFrom (l .inv .0)) (sym (lines-past bytes (l .at) (omega arith))) ∙ l .inv .4 in
     read-of bytes _ (input-of (l .inv .0) (l .words) (l .count) (l .inv .1) (l .inv .2) ∙ ap inputOf e)
 

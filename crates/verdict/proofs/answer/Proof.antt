@@ -2,7 +2,7 @@
 use native.Mathlib.Omega.{arith}
 use mathlib.Core.Path.{refl, sym}
 use lib.Seq.{length-take-le}
-use Rattle.text.specs.Said.{firstFor}
+use Rattle.text.specs.FirstLine.{firstFor}
 use Rattle.text.proofs.FirstPrinted.{first-line-enough}
 use Rattle.stream.proofs.Answering.{answered, unanswered}
 use borrow.Author.Needs.{needs}
@@ -13,8 +13,8 @@ use Rattle.verdict.proofs.answer.Tie as tie
 abbrev fill-from-bytes3 : tie.After-bytes3 → tie.After-fill
 fill-from-bytes3 c = c .before .before .before
 
-abbrev fill-from-say-unread : tie.After-say-unread → tie.After-fill
-fill-from-say-unread c = c .before .before .before .before
+abbrev fill-from-report-unread : tie.After-report-unread → tie.After-fill
+fill-from-report-unread c = c .before .before .before .before
 
 slice-aggregate-fill : tie.Need-slice-aggregate-fill
 slice-aggregate-fill c = search needs
@@ -22,14 +22,14 @@ slice-aggregate-fill c = search needs
 fill-requires : tie.Need-fill-requires
 fill-requires c κs = search needs
 
-slice-aggregate-say-unread : tie.Need-slice-aggregate-say-unread
-slice-aggregate-say-unread c = search needs
+slice-aggregate-report-unread : tie.Need-slice-aggregate-report-unread
+slice-aggregate-report-unread c = search needs
 
-say-unread-requires : tie.Need-say-unread-requires
-say-unread-requires c κs = search needs
+report-unread-requires : tie.Need-report-unread-requires
+report-unread-requires c κs = search needs
 
 returns : tie.Need-returns
-returns c = unanswered firstFor _ (fill-from-say-unread c .fill .result) _ (c .before .before .if1 .taken) refl
+returns c = unanswered firstFor _ (fill-from-report-unread c .fill .result) _ (c .before .before .if1 .taken) refl
 
 array-share-prefix-bytes : tie.Need-array-share-prefix-bytes
 array-share-prefix-bytes c = search needs
@@ -53,8 +53,8 @@ answer-spec =
     (tie.spec
     slice-aggregate-fill
     fill-requires
-    slice-aggregate-say-unread
-    say-unread-requires
+    slice-aggregate-report-unread
+    report-unread-requires
     returns
     array-share-prefix-bytes
     slice-aggregate-print

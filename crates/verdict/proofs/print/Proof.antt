@@ -1,4 +1,4 @@
--- `verdict::print` meets its contract: what is sent is the line that was put at the front of the buffer. Assumes nothing.
+-- `verdict::print` meets its contract: what is sent is the line that was written at the front of the buffer. Assumes nothing.
 use native.Mathlib.Omega.{arith}
 use mathlib.Core.List.{List}
 use mathlib.Core.Path.{_≡_, sym, ap, subst, _∙_}
@@ -7,8 +7,8 @@ use lib.ListN.{length}
 use lib.Seq.{length-take-le}
 use Rattle.judge.specs.declared.Verdict.{Verdict}
 use Rattle.text.specs.Output.{firstLine}
-use Rattle.judge.specs.Said.{saidBy}
-use Rattle.text.specs.Said.{firstFor}
+use Rattle.judge.specs.JudgeAnswer.{verdictMeaning}
+use Rattle.text.specs.FirstLine.{firstFor}
 use Rattle.text.proofs.Writing.{put-front}
 use Rattle.stream.specs.Sent.{SentOf}
 use borrow.Author.Needs.{needs}
@@ -44,7 +44,7 @@ unfolding firstFor
 returns c =
     let h = put-first c .put-first in
     let v = put-first c .before .verdict-on .ensures in
-    subst (λ (l : List ℕ). SentOf 0 l (c .send .result)) (put-front (h .ensures .0) ∙ ap (λ (x : Verdict). firstLine (saidBy x)) v) (c .send .ensures)
+    subst (λ (l : List ℕ). SentOf 0 l (c .send .result)) (put-front (h .ensures .0) ∙ ap (λ (x : Verdict). firstLine (verdictMeaning x)) v) (c .send .ensures)
 
 pub print-spec : {M : Type 1} → statement M
 print-spec =

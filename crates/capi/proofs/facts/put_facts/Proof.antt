@@ -1,4 +1,4 @@
--- `capi::facts::put_facts` meets its contract. The loop's invariant: the first i counts are written behind four words as found (`one-more`);
+-- `capi::facts::put_facts` meets its contract. The loop's invariant: the first i counts are written after four words as found (`one-more`);
 -- then the four words are. Assumes nothing.
 use mathlib.Core.Path.{_≡_, refl, sym, ap, _∙_}
 use mathlib.Core.List.{List, [], _∷_, _++_, append-assoc}
@@ -13,7 +13,7 @@ use Rattle.capi.specs.Sentences.{factHead, factWords}
 use Rattle.capi.proofs.facts.put_facts.Statement.{statement}
 use Rattle.capi.proofs.facts.put_facts.Tie as tie
 
--- four words as found, the first i counts, and what stands behind
+-- four words as found, the first i counts, and what is after
 abbrev begun : List ℕ → List ℕ → ℕ → List ℕ
 begun ran w i = (take factHead w ++ take i ran) ++ drop (factHead + i) w
 

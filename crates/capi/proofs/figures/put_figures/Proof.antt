@@ -1,4 +1,4 @@
--- `capi::figures::put_figures` meets its contract. The loop's invariant: the first i words are figures, and the others are as found (`written-more`).
+-- `capi::figures::put_figures` meets its contract. The loop's invariant: the first i words are numbers, and the others are as found (`written-more`).
 -- Assumes nothing.
 use mathlib.Core.Path.{_≡_, sym, ap, _∙_}
 use mathlib.Core.List.{List, _++_}

@@ -1,5 +1,5 @@
--- `judge::misses::first_miss` meets its contract. Before each tick the run stands as the table's full-length run does, and no deadline has been missed
--- (`Follows`); along the walk over the claimants none so far is at its moment (`Looking`). A claimant that is at its moment is the first miss; at the end
+-- `judge::misses::first_miss` meets its contract. Before each tick the run represents the table's full-length run, and no deadline has been missed
+-- (`RefinesTick`); along the walk over the claimants none so far is at its event (`RemainingClaimants`). A claimant that is at its event is the first miss; at the end
 -- nothing has been missed. Assumes nothing.
 use borrow.Author.Needs.{needs}
 use native.Mathlib.Omega.{arith}
@@ -11,31 +11,31 @@ use lib.ListN.{getD}
 use Rattle.model.specs.Book.{Missed}
 use Rattle.model.specs.Sizes.{mostTasks}
 use Rattle.table.specs.declared.Loaded.{Loaded}
-use Rattle.full.specs.Machine.{machineOf}
-use Rattle.full.specs.Places.{part, second}
-use Rattle.full.specs.Stand.{Numbers, Stand, standAt, Steppable, next}
-use Rattle.full.proofs.Parts.{part-at}
-use Rattle.full.proofs.Steps.{tick-on}
-use Rattle.judge.specs.Judged.{tableIn}
-use Rattle.judge.proofs.Follows.{Follows, Begins, follows-start, steppable, follows-on}
-use Rattle.judge.proofs.Late.{first, Looking, look-begins, at-first, look-passes, look-misses, look-ends, look-skipped}
+use Rattle.simulation.specs.Machine.{machineOf}
+use Rattle.simulation.specs.Places.{segment, second}
+use Rattle.simulation.specs.TickState.{Numbers, TickState, tickStateOf, Steppable, nextTickState}
+use Rattle.simulation.proofs.Parts.{part-at}
+use Rattle.simulation.proofs.Steps.{tick-on}
+use Rattle.judge.specs.Judged.{loadedTable}
+use Rattle.judge.proofs.Refines.{RefinesTick, Begins, refines-start, steppable, refines-on}
+use Rattle.judge.proofs.Late.{first, RemainingClaimants, walk-begins, at-first, walk-passes, walk-misses, walk-ends, walk-skips}
 use Rattle.judge.proofs.FirstMiss.{by-none, by-first}
 use Rattle.judge.proofs.misses.first_miss.Statement.{statement}
 use Rattle.judge.proofs.misses.first_miss.Tie as tie
 
 abbrev Inv-loop : tie.InvT-loop
-Inv-loop end setting widths times pace places rest₀ rest = Looking (machineOf places (pace .claiming)) (pace .tick) rest
+Inv-loop end setting widths times registers places rest₀ rest = RemainingClaimants (machineOf places (registers .claiming)) (registers .tick) rest
 
 abbrev μ-loop : tie.MeasureT-loop
-μ-loop end setting widths times pace places rest₀ rest = rest
+μ-loop end setting widths times registers places rest₀ rest = rest
 
 -- of every table whose run begins so
 abbrev Inv-ticks : tie.InvT-ticks
-Inv-ticks end setting widths times pace₀ places₀ pace places =
-    (t : Loaded) → Begins t setting widths times pace₀ places₀ → Follows t (standAt pace places) × (pace .tick ≤ end)
+Inv-ticks end setting widths times registers₀ places₀ registers places =
+    (t : Loaded) → Begins t setting widths times registers₀ places₀ → RefinesTick t (tickStateOf registers places) × (registers .tick ≤ end)
 
 abbrev μ-ticks : tie.MeasureT-ticks
-μ-ticks end setting widths times pace₀ places₀ pace places = end - pace .tick
+μ-ticks end setting widths times registers₀ places₀ registers places = end - registers .tick
 
 -- the state where the ways of the test `if2` meet
 abbrev joined2 : tie.After-places2 Inv-loop μ-loop Inv-ticks μ-ticks → tie.Joined2 Inv-loop μ-loop Inv-ticks μ-ticks
@@ -76,45 +76,45 @@ abbrev Of : tie.After-places Inv-loop μ-loop Inv-ticks μ-ticks → Loaded → 
 Of p t =
     let co = columns-of-from-places p in
     Begins t (co .columns-of .result .setting) (co .columns-of .result .widths)
-    (co .columns-of .result .times) (p .before .before .start .result .pace) (p .before .before .start .result .places)
+    (co .columns-of .result .times) (p .before .before .start .result .registers) (p .before .before .start .result .places)
 
 own : (p : tie.After-places Inv-loop μ-loop Inv-ticks μ-ticks) → Of p (table-of p)
 own p = record {
   fit = columns-of-from-places p .before .pre .0;
   numbers = columns-of-from-places p .columns-of .ensures;
-  stand = p .before .before .start .ensures .0;
+  state-start = p .before .before .start .ensures .0;
 }
 
 -- the run before a tick
-abbrev stand-of : tie.At-ticks Inv-loop μ-loop Inv-ticks μ-ticks → Stand
-stand-of k = standAt (k .ticks .pace) (k .ticks .places)
+abbrev state-of : tie.At-ticks Inv-loop μ-loop Inv-ticks μ-ticks → TickState
+state-of k = tickStateOf (k .ticks .registers) (k .ticks .places)
 
-follows : (k : tie.At-ticks Inv-loop μ-loop Inv-ticks μ-ticks) (t : Loaded) → Of (k .before) t → Follows t (stand-of k)
+follows : (k : tie.At-ticks Inv-loop μ-loop Inv-ticks μ-ticks) (t : Loaded) → Of (k .before) t → RefinesTick t (state-of k)
 follows k t b = k .ticks .inv t b .0
 
 -- in a tick that is entered it is before the end, and so small
-early : (e : tie.Else1 Inv-loop μ-loop Inv-ticks μ-ticks) → e .before .before .ticks .pace .tick < entry e .args .end
+early : (e : tie.Else1 Inv-loop μ-loop Inv-ticks μ-ticks) → e .before .before .ticks .registers .tick < entry e .args .end
 early e =
     let k = e .before .before in
     omega (arith, k .ticks .inv (table-of (k .before)) (own (k .before)) .1, e .if1 .left)
 
-small : (e : tie.Else1 Inv-loop μ-loop Inv-ticks μ-ticks) → e .before .before .ticks .pace .tick ≤ 1000000000
+small : (e : tie.Else1 Inv-loop μ-loop Inv-ticks μ-ticks) → e .before .before .ticks .registers .tick ≤ 1000000000
 small e = omega (arith, early e, entry e .pre .1, entry e .pre .0 .limit)
 
 -- in the walk: the first claimant that is left is one of 32 places
 inside : (c : tie.In-loop Inv-loop μ-loop Inv-ticks μ-ticks) → first (c .before .loop .rest) < mostTasks
 inside c = at-first _ _ (c .before .loop .rest) (c .before .loop .inv) (c .loop-test .taken) .place
 
-moment : (c : tie.In-loop Inv-loop μ-loop Inv-ticks μ-ticks) (xs : List ℕ) → getD (part second xs) (first (c .before .loop .rest)) 0 ≡ getD xs (mostTasks + first (c .before .loop .rest)) 0
-moment c xs = part-at mostTasks xs (first (c .before .loop .rest)) (inside c)
+event : (c : tie.In-loop Inv-loop μ-loop Inv-ticks μ-ticks) (xs : List ℕ) → getD (segment second xs) (first (c .before .loop .rest)) 0 ≡ getD xs (mostTasks + first (c .before .loop .rest)) 0
+event c xs = part-at mostTasks xs (first (c .before .loop .rest)) (inside c)
 
 -- where the walk has ended or was not needed no deadline of the tick is missed
-met : (c : tie.Joined2 Inv-loop μ-loop Inv-ticks μ-ticks) (t : Loaded) → Of (at-ticks-from-joined2 c .before) t → (q : ℕ) → ¬ Missed (tableIn t) q (at-ticks-from-joined2 c .ticks .pace .tick)
+met : (c : tie.Joined2 Inv-loop μ-loop Inv-ticks μ-ticks) (t : Loaded) → Of (at-ticks-from-joined2 c .before) t → (q : ℕ) → ¬ Missed (loadedTable t) q (at-ticks-from-joined2 c .ticks .registers .tick)
 met c t b =
     let k = at-ticks-from-joined2 c in
     ⊎-elim
-    (λ w. look-ends t (b .fit) (stand-of k) (follows k t b) (w .1 .rest) (w .1 .inv) (w .2 .left))
-    (λ w. look-skipped t (b .fit) (stand-of k) (follows k t b) (w .left))
+    (λ w. walk-ends t (b .fit) (state-of k) (follows k t b) (w .1 .rest) (w .1 .inv) (w .2 .left))
+    (λ w. walk-skips t (b .fit) (state-of k) (follows k t b) (w .left))
     (c .if2 .came)
 
 -- THE ANSWERS
@@ -127,13 +127,13 @@ start-requires c κs = search needs
 ticks-holds : tie.Need-ticks-holds Inv-loop μ-loop Inv-ticks μ-ticks
 ticks-holds c =
     λ t b.
-    let e : c .before .before .start .result .pace .tick ≡ 0 = ap (λ (x : Stand). x .tick) (b .stand) in
-    (subst (Follows t) (sym (b .stand)) (follows-start t (b .fit)), omega arith)
+    let e : c .before .before .start .result .registers .tick ≡ 0 = ap (λ (x : TickState). x .tick) (b .state-start) in
+    (subst (RefinesTick t) (sym (b .state-start)) (refines-start t (b .fit)), omega arith)
 
 loop-holds : tie.Need-loop-holds Inv-loop μ-loop Inv-ticks μ-ticks
 loop-holds c =
     let k = at-ticks-from-then2 c in
-    look-begins (machineOf (k .ticks .places) (k .ticks .pace .claiming)) (k .ticks .pace .tick) (follows k (table-of (k .before)) (own (k .before)) .small)
+    walk-begins (machineOf (k .ticks .places) (k .ticks .registers .claiming)) (k .ticks .registers .tick) (follows k (table-of (k .before)) (own (k .before)) .small)
 
 cast-at : tie.Need-cast-at Inv-loop μ-loop Inv-ticks μ-ticks
 cast-at c = omega (arith, inside c)
@@ -160,7 +160,7 @@ loop-again : tie.Need-loop-again Inv-loop μ-loop Inv-ticks μ-ticks
 loop-again c =
     let n = c .before .before in
     let k = at-ticks-from-then2 (n .before .before) in
-    look-passes _ _ (n .before .loop .rest) (n .before .loop .inv) (n .loop-test .taken) (λ e. c .if3 .left (sym (moment n (k .ticks .places)) ∙ e))
+    walk-passes _ _ (n .before .loop .rest) (n .before .loop .inv) (n .loop-test .taken) (λ e. c .if3 .left (sym (event n (k .ticks .places)) ∙ e))
 
 step-requires : tie.Need-step-requires Inv-loop μ-loop Inv-ticks μ-ticks
 step-requires c κs =
@@ -168,8 +168,8 @@ step-requires c κs =
     let k = at-ticks-from-joined2 j in
     let t = table-of (k .before) in
     let b = own (k .before) in
-    subst (λ (n : Numbers). Steppable n (stand-of k)) (sym (b .numbers))
-    (steppable t (b .fit) (stand-of k) (follows k t b) (met j t b) (small (j .before .before)))
+    subst (λ (n : Numbers). Steppable n (state-of k)) (sym (b .numbers))
+    (steppable t (b .fit) (state-of k) (follows k t b) (met j t b) (small (j .before .before)))
 
 ticks-less : tie.Need-ticks-less Inv-loop μ-loop Inv-ticks μ-ticks
 ticks-less c = omega (arith, tick-on _ _ _ (c .step .ensures), early (joined2 (c .before) .before .before))
@@ -179,7 +179,7 @@ ticks-again c =
     let j = joined2 (c .before) in
     let k = at-ticks-from-joined2 j in
     λ t b. (
-      follows-on t (b .fit) (stand-of k) (follows k t b) (met j t b) _ (c .step .ensures ∙ ap (λ (n : Numbers). next n (stand-of k)) (b .numbers)),
+      refines-on t (b .fit) (state-of k) (follows k t b) (met j t b) _ (c .step .ensures ∙ ap (λ (n : Numbers). nextTickState n (state-of k)) (b .numbers)),
       omega (arith, tick-on _ _ _ (c .step .ensures), early (j .before .before)),
     )
 
@@ -188,7 +188,7 @@ returns c =
     let k = c .before .before in
     let t = table-of (k .before) in
     let b = own (k .before) in
-    by-none (tableIn t) (b .fit .sound) _ (λ q u h. follows k t b .before .met q u (omega (arith, c .if1 .taken)))
+    by-none (loadedTable t) (b .fit .valid) _ (λ q u h. follows k t b .before .met q u (omega (arith, c .if1 .taken)))
 
 returns-2 : tie.Need-returns-2 Inv-loop μ-loop Inv-ticks μ-ticks
 returns-2 c =
@@ -196,9 +196,9 @@ returns-2 c =
     let k = at-ticks-from-then2 (n .before .before) in
     let t = table-of (k .before) in
     let b = own (k .before) in
-    by-first (tableIn t) (b .fit .sound) _ (k .ticks .pace .tick) (first (n .before .loop .rest) + 1) (early (else1 n))
-    (look-misses t (b .fit) (stand-of k) (follows k t b) (n .before .loop .rest) (n .before .loop .inv) (n .loop-test .taken)
-    (moment n (k .ticks .places) ∙ c .if3 .taken))
+    by-first (loadedTable t) (b .fit .valid) _ (k .ticks .registers .tick) (first (n .before .loop .rest) + 1) (early (else1 n))
+    (walk-misses t (b .fit) (state-of k) (follows k t b) (n .before .loop .rest) (n .before .loop .inv) (n .loop-test .taken)
+    (event n (k .ticks .places) ∙ c .if3 .taken))
 
 pub first-miss-spec : {M : Type 1} → statement M
 first-miss-spec =

@@ -1,4 +1,4 @@
--- `phase::Task::ended` meets its contract: ended work holds exactly where `idles` says so.
+-- `phase::Task::ended` meets its contract: ended work holds exactly where `idles` is true.
 -- Assumes nothing.
 use borrow.Author.Needs.{needs}
 use Rattle.phase.proofs.Task.ended.Statement.{statement}

@@ -1,19 +1,19 @@
--- `phase::Task::next` meets its contract: it is what its calls promise, one after the other; a phase has room as it is seen, too.
+-- `phase::Task::next` meets its contract: it follows from the contracts of its calls; a phase has space as it is seen, too.
 -- Assumes nothing.
 use borrow.Author.Needs.{needs}
 use Rattle.model.specs.Task.{ruleOf}
-use Rattle.phase.proofs.Rules.{seen-roomy}
+use Rattle.phase.proofs.Rules.{emptied-no-overflow}
 use Rattle.phase.proofs.Task.next.Statement.{statement}
 use Rattle.phase.proofs.Task.next.Tie as tie
 
-seen-requires : tie.Need-seen-requires
-seen-requires c κs = search needs
+emptied-requires : tie.Need-emptied-requires
+emptied-requires c κs = search needs
 
 stepped-requires : tie.Need-stepped-requires
-stepped-requires c κs = rw (c .seen .ensures) (seen-roomy (ruleOf (c .before .args .rule)) (c .before .args .empty) (c .before .args .self .phase) (c .before .pre))
+stepped-requires c κs = rw (c .emptied .ensures) (emptied-no-overflow (ruleOf (c .before .args .rule)) (c .before .args .empty) (c .before .args .self .phase) (c .before .pre))
 
 returns : tie.Need-returns
-returns c = simp (c .stepped .ensures, c .before .seen .ensures)
+returns c = simp (c .stepped .ensures, c .before .emptied .ensures)
 
 pub next-spec : {M : Type 1} → statement M
-next-spec = tie.close (tie.spec seen-requires stepped-requires returns)
+next-spec = tie.close (tie.spec emptied-requires stepped-requires returns)

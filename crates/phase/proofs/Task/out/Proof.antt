@@ -6,8 +6,8 @@ use Rattle.table.specs.Limits.{taskNumber}
 use Rattle.phase.proofs.Task.out.Statement.{statement}
 use Rattle.phase.proofs.Task.out.Tie as tie
 
-plain-requires : tie.Need-plain-requires
-plain-requires c κs = search needs
+parameters-requires : tie.Need-parameters-requires
+parameters-requires c κs = search needs
 
 task-number-requires : tie.Need-task-number-requires
 task-number-requires c κs = search needs
@@ -20,7 +20,7 @@ returns c =
     let n = c .before in
     let p = n .before in
     let a = p .before .args in
-    simp (n .task-number .ensures ∙ ap (taskNumber (a .wide)) (p .plain .ensures), c .phase-in .ensures)
+    simp (n .task-number .ensures ∙ ap (taskNumber (a .wide)) (p .parameters .ensures), c .phase-in .ensures)
 
 pub out-spec : {M : Type 1} → statement M
-out-spec = tie.close (tie.spec plain-requires task-number-requires phase-in-requires returns)
+out-spec = tie.close (tie.spec parameters-requires task-number-requires phase-in-requires returns)

@@ -1,4 +1,4 @@
--- `phase::Task::stepped` meets its contract: each arm is the clause of its phase; the sums fit, since the phase leaves room.
+-- `phase::Task::stepped` meets its contract: each arm is the clause of its phase; the sums fit, since the phase has space.
 -- Assumes nothing.
 use mathlib.Core.Path.{_≡_, refl}
 use mathlib.Core.Bool.{Bool, true, false, _||_, cond, false≢true, true≢false}
@@ -8,20 +8,20 @@ use borrow.Author.Tests.{eq-eqb, ne-eqb}
 use borrow.Author.Needs.{needs}
 use Rattle.model.specs.Task.{Rule, Task, ruleOf}
 use Rattle.phase.specs.declared.Phase.the-variants.{Working}
-use Rattle.phase.specs.declared.Stand.{Stand}
-use Rattle.phase.specs.Phase.{nextStand, worked}
+use Rattle.phase.specs.declared.TaskState.{TaskState}
+use Rattle.phase.specs.Phase.{nextState, worked}
 use Rattle.phase.specs.Task.{taskOf}
 use Rattle.phase.proofs.Task.stepped.Statement.{statement}
 use Rattle.phase.proofs.Task.stepped.Tie as tie
 
 -- a tick of work, own or lent, and one without
 busy : (r : Rule) (τ : Task) (given lent f even : Bool) (z h u : ℕ) → given || lent ≡ true
-    → worked r τ f even (z + 1) (h + 1) (cond given (u + 1) u) ≡ nextStand r τ given lent f even (Working z h u)
+    → worked r τ f even (z + 1) (h + 1) (cond given (u + 1) u) ≡ nextState r τ given lent f even (Working z h u)
 busy r τ true lent f even z h u e = refl
 busy r τ false true f even z h u e = refl
 busy r τ false false f even z h u e = absurd (false≢true e)
 
-idle : (given lent : Bool) → given || lent ≡ false → (own borrowed other : Stand) → cond given own (cond lent borrowed other) ≡ other
+idle : (given lent : Bool) → given || lent ≡ false → (own borrowed other : TaskState) → cond given own (cond lent borrowed other) ≡ other
 idle true lent e own borrowed other = absurd (true≢false e)
 idle false true e own borrowed other = absurd (true≢false e)
 idle false false e own borrowed other = refl

@@ -1,4 +1,4 @@
--- `plan::rows::put` meets its contract: after each turn one byte more of the row stands in the buffer. Assumes nothing.
+-- `plan::rows::put` meets its contract: after each iteration one byte more of the row is in the buffer. Assumes nothing.
 use borrow.Author.Needs.{needs}
 use native.Mathlib.Omega.{arith}
 use native.Mathlib.Numerals.{add-one}

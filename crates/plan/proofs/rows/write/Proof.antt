@@ -1,4 +1,4 @@
--- `plan::rows::write` meets its contract. Before each tick the run stands as the table's full-length run does (`Follows`) and the buffer has the rows so
+-- `plan::rows::write` meets its contract. Before each tick the run represents the table's full-length run (`RefinesTick`) and the buffer has the rows so
 -- far (`Filled`); the row is kept with the claimants and the widths it was made for (`RowFor`). Assumes nothing.
 use borrow.Author.Needs.{needs}
 use native.Mathlib.Omega.{arith}
@@ -11,22 +11,22 @@ use lib.ListN as list
 use Rattle.model.specs.Book.{Missed}
 use Rattle.model.specs.Sizes.{mostCores}
 use Rattle.table.specs.declared.Loaded.{Loaded}
-use Rattle.full.specs.Stand.{Numbers, numbersBy, numbersIn, Stand, standAt, after, bellAfter, evenAfter, Steppable, next}
-use Rattle.full.proofs.Steps.{tick-on, chosen-on, even-on}
-use Rattle.judge.specs.Judged.{tableIn, Fit}
-use Rattle.judge.proofs.Follows.{Follows, follows-start, looked, steppable, follows-on}
+use Rattle.simulation.specs.TickState.{Numbers, numbersBy, loadedNumbers, TickState, tickStateOf, afterEvents, nextEventAfter, evenAtTick, Steppable, nextTickState}
+use Rattle.simulation.proofs.Steps.{tick-on, chosen-on, even-on}
+use Rattle.judge.specs.Judged.{loadedTable, Fit}
+use Rattle.judge.proofs.Refines.{RefinesTick, refines-start, looked, steppable, refines-on}
 use Rattle.plan.proofs.Late.{all-met}
-use Rattle.plan.specs.Plan.{over}
+use Rattle.plan.specs.Plan.{withRows}
 use Rattle.plan.proofs.Writing.{RowBy, RowFor, Filled, filled-start, filled-pass, filled-room, filled-more, none-changed, row-bytes}
 use Rattle.plan.proofs.rows.write.Statement.{statement}
 use Rattle.plan.proofs.rows.write.Tie as tie
 
 abbrev Inv-loop : tie.InvT-loop
-Inv-loop table a b out₀ cores setting widths times pace₀ places₀ shown₀ even₀ row₀ at₀ out pace places shown even row at =
-    Follows table (standAt pace places) × RowFor table shown even row × (pace .tick ≤ b) × Filled table a (pace .tick) at out₀ out
+Inv-loop table a b out₀ cores setting widths times registers₀ places₀ shown₀ even₀ row₀ at₀ out registers places shown even row at =
+    RefinesTick table (tickStateOf registers places) × RowFor table shown even row × (registers .tick ≤ b) × Filled table a (registers .tick) at out₀ out
 
 abbrev μ-loop : tie.MeasureT-loop
-μ-loop table a b out₀ cores setting widths times pace₀ places₀ shown₀ even₀ row₀ at₀ out pace places shown even row at = b - pace .tick
+μ-loop table a b out₀ cores setting widths times registers₀ places₀ shown₀ even₀ row₀ at₀ out registers places shown even row at = b - registers .tick
 
 -- the state where the test `if1` holds
 abbrev then1-from-places2 : tie.After-places2 Inv-loop μ-loop → tie.Then1 Inv-loop μ-loop
@@ -114,47 +114,47 @@ enough-of : (p : tie.After-places Inv-loop μ-loop) → (last-of p - first-of p)
 enough-of p = entry-from-places p .pre .4
 
 numbers : (p : tie.After-places Inv-loop μ-loop) → numbersBy (columns-of-from-places p .columns-of .result .setting)
-    (columns-of-from-places p .columns-of .result .widths) (columns-of-from-places p .columns-of .result .times) ≡ numbersIn (table-of p)
+    (columns-of-from-places p .columns-of .result .widths) (columns-of-from-places p .columns-of .result .times) ≡ loadedNumbers (table-of p)
 numbers p = columns-of-from-places p .columns-of .ensures
 
 -- the run before a tick
-abbrev stand-of : tie.At-loop Inv-loop μ-loop → Stand
-stand-of k = standAt (k .loop .pace) (k .loop .places)
+abbrev state-of : tie.At-loop Inv-loop μ-loop → TickState
+state-of k = tickStateOf (k .loop .registers) (k .loop .places)
 
 -- in the loop: ticks are small, and no deadline of the tick is missed
-small : (c : tie.Then1 Inv-loop μ-loop) → c .before .before .loop .pace .tick ≤ 1000000000
+small : (c : tie.Then1 Inv-loop μ-loop) → c .before .before .loop .registers .tick ≤ 1000000000
 small c =
     let p = places-from-then1 c in
     omega (arith, c .if1 .taken, fit-of p .limit, entry-from-places p .pre .2)
 
-met : (c : tie.Then1 Inv-loop μ-loop) (q : ℕ) → ¬ Missed (tableIn (table-of (places-from-then1 c))) q (c .before .before .loop .pace .tick)
+met : (c : tie.Then1 Inv-loop μ-loop) (q : ℕ) → ¬ Missed (loadedTable (table-of (places-from-then1 c))) q (c .before .before .loop .registers .tick)
 met c q =
     let p = places-from-then1 c in
-    all-met (tableIn (table-of p)) (fit-of p .sound) (last-of p) (entry-from-places p .pre .3) q (c .before .before .loop .pace .tick) (c .if1 .taken)
+    all-met (loadedTable (table-of p)) (fit-of p .valid) (last-of p) (entry-from-places p .pre .3) q (c .before .before .loop .registers .tick) (c .if1 .taken)
 
 -- the tick is taken: the run follows on, and its choice is for the claimants of the tick
-on : (c : tie.After-step Inv-loop μ-loop) → Follows (table-of (places-from-step c)) (standAt (c .step .result) (c .step .last .1 .1 .1 .1 .0))
+on : (c : tie.After-step Inv-loop μ-loop) → RefinesTick (table-of (places-from-step c)) (tickStateOf (c .step .result) (c .step .last .1 .1 .1 .1 .0))
 on c =
     let k = loop-from-places2 (c .before) in
     let p = k .before in
-    follows-on (table-of p) (fit-of p) (stand-of k) (k .loop .inv .0) (met (then1-from-places2 (c .before))) _
-    (c .step .ensures ∙ ap (λ (n : Numbers). next n (stand-of k)) (numbers p))
+    refines-on (table-of p) (fit-of p) (state-of k) (k .loop .inv .0) (met (then1-from-places2 (c .before))) _
+    (c .step .ensures ∙ ap (λ (n : Numbers). nextTickState n (state-of k)) (numbers p))
 
-tick : (c : tie.After-step Inv-loop μ-loop) → c .step .result .tick ≡ loop-from-places2 (c .before) .loop .pace .tick + 1
+tick : (c : tie.After-step Inv-loop μ-loop) → c .step .result .tick ≡ loop-from-places2 (c .before) .loop .registers .tick + 1
 tick c = tick-on _ _ _ (c .step .ensures)
 
-claims : (c : tie.After-step Inv-loop μ-loop) → c .step .result .chosen ≡ after (numbersIn (table-of (places-from-step c))) (stand-of (loop-from-places2 (c .before))) .claiming
+claims : (c : tie.After-step Inv-loop μ-loop) → c .step .result .chosen ≡ afterEvents (loadedNumbers (table-of (places-from-step c))) (state-of (loop-from-places2 (c .before))) .claiming
 claims c =
     let k = loop-from-places2 (c .before) in
-    chosen-on _ _ _ (c .step .ensures) ∙ ap (λ (n : Numbers). after n (stand-of k) .claiming) (numbers (k .before))
+    chosen-on _ _ _ (c .step .ensures) ∙ ap (λ (n : Numbers). afterEvents n (state-of k) .claiming) (numbers (k .before))
 
 -- .. and for their widths in it
 turned :
     (c : tie.After-step Inv-loop μ-loop)
-    → c .step .result .even ≡ evenAfter (numbersIn (table-of (places-from-step c))) (stand-of (loop-from-places2 (c .before)))
+    → c .step .result .even ≡ evenAtTick (loadedNumbers (table-of (places-from-step c))) (state-of (loop-from-places2 (c .before)))
 turned c =
     let k = loop-from-places2 (c .before) in
-    even-on _ _ _ (c .step .ensures) ∙ ap (λ (n : Numbers). evenAfter n (stand-of k)) (numbers (k .before))
+    even-on _ _ _ (c .step .ensures) ∙ ap (λ (n : Numbers). evenAtTick n (state-of k)) (numbers (k .before))
 
 -- from tick a on the row is that of the claimants and their widths: it was just made, or they are those it was made for
 row-of :
@@ -205,8 +205,8 @@ show-requires c κs = let s = entry-from-widths2 c in (s .pre .1, s .pre .0 .few
 loop-holds : tie.Need-loop-holds Inv-loop μ-loop
 loop-holds c =
     let begins = c .before .before .start .ensures .0 in
-    let e : c .before .before .start .result .pace .tick ≡ 0 = ap (λ (x : Stand). x .tick) begins in (
-      subst (Follows (table-of c)) (sym begins) (follows-start (table-of c) (fit-of c)),
+    let e : c .before .before .start .result .registers .tick ≡ 0 = ap (λ (x : TickState). x .tick) begins in (
+      subst (RefinesTick (table-of c)) (sym begins) (refines-start (table-of c) (fit-of c)),
       subst (λ (n : Numbers). RowBy (table-of c) (n .widths) 0 0 (show c .show .result)) (numbers c) (show c .show .ensures),
       omega arith,
       subst (λ (n : ℕ). Filled (table-of c) (first-of c) n 0 (found-of c) (found-of c)) (sym e) (filled-start (table-of c) (first-of c) (found-of c)),
@@ -216,8 +216,8 @@ step-requires : tie.Need-step-requires Inv-loop μ-loop
 step-requires c κs =
     let k = loop-from-places2 c in
     let p = k .before in
-    subst (λ (n : Numbers). Steppable n (stand-of k)) (sym (numbers p))
-    (steppable (table-of p) (fit-of p) (stand-of k) (k .loop .inv .0) (met (then1-from-places2 c)) (small (then1-from-places2 c)))
+    subst (λ (n : Numbers). Steppable n (state-of k)) (sym (numbers p))
+    (steppable (table-of p) (fit-of p) (state-of k) (k .loop .inv .0) (met (then1-from-places2 c)) (small (then1-from-places2 c)))
 
 show-requires-2 : tie.Need-show-requires-2 Inv-loop μ-loop
 show-requires-2 c κs = let p = places-from-widths4 c in (cores-of p, fit-of p .few)
@@ -227,7 +227,7 @@ put-requires c κs =
     let k = loop-from-joined3 (c .before) in
     let p = k .before in (
       cores-of p,
-      filled-room (table-of p) (first-of p) (last-of p) (k .loop .pace .tick) (k .loop .at) (found-of p) (k .loop .out) (k .loop .inv .3)
+      filled-room (table-of p) (first-of p) (last-of p) (k .loop .registers .tick) (k .loop .at) (found-of p) (k .loop .out) (k .loop .inv .3)
           (then2-from-put-arg c .if2 .taken) (then1-from-places2 (step (c .before) .before) .if1 .taken) (enough-of p),
     )
 
@@ -235,7 +235,7 @@ add-at : tie.Need-add-at Inv-loop μ-loop
 add-at c =
     let k = then1-from-slice-known2 c .before .before in
     let p = k .before in
-    let short : k .loop .pace .tick - first-of p ≤ 1000000000 = omega (arith, small (then1-from-slice-known2 c)) in
+    let short : k .loop .registers .tick - first-of p ≤ 1000000000 = omega (arith, small (then1-from-slice-known2 c)) in
     omega (arith, k .loop .inv .3 .next, cores-of p, mul-le-mul short (cores-of p))
 
 loop-less : tie.Need-loop-less Inv-loop μ-loop
@@ -249,15 +249,15 @@ loop-again c =
     let k = loop-from-places2 (g .before) in
     let p = k .before in
     let t = table-of p in
-    let s = stand-of k in
+    let s = state-of k in
     let row = subst₂ (λ (x y : ℕ). RowFor t x y (j .if3 .row)) (claims g) (turned g) (row-of j) in (
       on g,
       row-kept j,
       omega (arith, tick g, then1 .if1 .taken),
       rw (tick g)
-          (filled-more t (first-of p) (last-of p) (k .loop .pace .tick) (k .loop .at) _ (found-of p) (k .loop .out) _ (j .if3 .row)
+          (filled-more t (first-of p) (last-of p) (k .loop .registers .tick) (k .loop .at) _ (found-of p) (k .loop .out) _ (j .if3 .row)
           (k .loop .inv .3) (then2-from-slice-known2 c .if2 .taken) (then1 .if1 .taken) (enough-of p)
-          (row-bytes t (fit-of p) (after (numbersIn t) s) (evenAfter (numbersIn t) s) (bellAfter (numbersIn t) s) (k .loop .pace .tick) (j .if3 .row)
+          (row-bytes t (fit-of p) (afterEvents (loadedNumbers t) s) (evenAtTick (loadedNumbers t) s) (nextEventAfter (loadedNumbers t) s) (k .loop .registers .tick) (j .if3 .row)
           (looked t (fit-of p) s (k .loop .inv .0) (met then1)) row)
           refl (c .before .before .put .ensures)),
     )
@@ -274,7 +274,7 @@ loop-again-2 c =
       k .loop .inv .1,
       omega (arith, tick g, then1-from-places2 (c .before .before) .if1 .taken),
       subst (λ (n : ℕ). Filled (table-of p) (first-of p) n (k .loop .at) (found-of p) (k .loop .out)) (sym (tick g))
-          (filled-pass (table-of p) (first-of p) (k .loop .pace .tick) (k .loop .at) (found-of p) (k .loop .out) (k .loop .inv .3) (c .if2 .left)),
+          (filled-pass (table-of p) (first-of p) (k .loop .registers .tick) (k .loop .at) (found-of p) (k .loop .out) (k .loop .inv .3) (c .if2 .left)),
     )
 
 same-length : tie.Need-same-length Inv-loop μ-loop
@@ -284,8 +284,8 @@ returns : tie.Need-returns Inv-loop μ-loop
 returns c =
     let k = c .before .before in
     let p = k .before in
-    let e : k .loop .pace .tick ≡ last-of p = omega (arith, k .loop .inv .2, c .if1 .left) in
-    k .loop .inv .3 .bytes ∙ ap (λ (n : ℕ). over (tableIn (table-of p)) (first-of p) n (found-of p)) e
+    let e : k .loop .registers .tick ≡ last-of p = omega (arith, k .loop .inv .2, c .if1 .left) in
+    k .loop .inv .3 .bytes ∙ ap (λ (n : ℕ). withRows (loadedTable (table-of p)) (first-of p) n (found-of p)) e
 
 pub write-spec : {M : Type 1} → statement M
 write-spec =

@@ -1,15 +1,15 @@
--- `printer::Printer::piece` meets its contract: a sound printer hands out its next piece, another is handed back as it is. Assumes nothing.
+-- `printer::Printer::piece` meets its contract: a valid printer writes its next piece, another is returned as it is. Assumes nothing.
 use borrow.Author.Needs.{needs}
 use mathlib.Core.Path.{sym, _∙_}
-use Rattle.printer.proofs.Hand.{piece-refused}
+use Rattle.printer.proofs.Emitting.{piece-refused}
 use Rattle.printer.proofs.Printer.piece.Statement.{statement}
 use Rattle.printer.proofs.Printer.piece.Tie as tie
 
-sound-requires : tie.Need-sound-requires
-sound-requires c κs = search needs
+valid-requires : tie.Need-valid-requires
+valid-requires c κs = search needs
 
-hand-out-requires : tie.Need-hand-out-requires
-hand-out-requires c κs = sym (c .before .before .sound .ensures) ∙ c .before .if1 .taken
+emit-requires : tie.Need-emit-requires
+emit-requires c κs = sym (c .before .before .valid .ensures) ∙ c .before .if1 .taken
 
 same-length : tie.Need-same-length
 same-length c = search needs
@@ -18,7 +18,7 @@ returns : tie.Need-returns
 returns c = search needs
 
 returns-2 : tie.Need-returns-2
-returns-2 c = piece-refused _ _ (sym (c .before .sound .ensures) ∙ c .if1 .left)
+returns-2 c = piece-refused _ _ (sym (c .before .valid .ensures) ∙ c .if1 .left)
 
 pub piece-spec : {M : Type 1} → statement M
-piece-spec = tie.close (tie.spec sound-requires hand-out-requires same-length returns returns-2)
+piece-spec = tie.close (tie.spec valid-requires emit-requires same-length returns returns-2)

@@ -1,5 +1,5 @@
--- `run::Run::advance` meets its contract: as the tick answers; then 16 by one test of sets, since the reports are within the set of what they may name
--- exactly if no bit is set that may not be (`may-report`); and the run goes with the answer.
+-- `run::Run::advance` meets its contract: the tick's answer; then 16 by one test of sets, since the reports are within the set of the jobs that may be reported
+-- exactly if no bit is set that may not be (`may-report`); and the answer determines the run.
 -- Assumes nothing.
 use mathlib.Core.Path.{_≡_, sym, ap, _∙_}
 use mathlib.Core.Bool.{not}
@@ -9,7 +9,7 @@ use borrow.Author.Needs.{needs}
 use borrow.Author.Tests.{eq-eqb, ne-eqb}
 use Rattle.model.specs.Sizes.{mostTasks}
 use Rattle.run.specs.declared.Answer.the-variants.{Taken}
-use Rattle.run.specs.Numbers.{misreportedIn}
+use Rattle.run.specs.Numbers.{wrongReportsIn}
 use Rattle.run.specs.Row.{rowAnswer}
 use Rattle.run.proofs.Cases.{advance-misreported, advance-refused, advance-taken, row-passes, sets-answer}
 use Rattle.run.proofs.Chosen.{may-report}
@@ -17,7 +17,7 @@ use Rattle.run.proofs.Exact.{advance-of}
 use Rattle.run.proofs.Run.advance.Statement.{statement}
 use Rattle.run.proofs.Run.advance.Tie as tie
 
--- the state after the tick is looked at, where its answer is taken
+-- the state after the tick is read, where its answer is taken
 abbrev looked : tie.After-enum-told → tie.After-tick
 looked c = c .before .before
 
@@ -35,13 +35,13 @@ answered c = let a = c .before .args in c .tick .ensures .answered ∙ sets-answ
 taken : (c : tie.After-enum-told) → (let a = looked c .before .args in rowAnswer (a .self) (a .empties) ≡ Taken)
 taken c = sym (answered (looked c)) ∙ c .enum-told .given .1
 
--- 16 is looked at by one test of sets
+-- 16 is decided by one test of sets
 abbrev Within : tie.After-enum-told → Type 0
 Within c =
     let t = looked c in
     let a = t .before .args in
     let k = t .tick .result in
-    misreportedIn (a .self) (a .empties) (a .reports) ≡ not (eqb (bitAnd (a .reports) (bitAnd (bitOr (k .given) (k .lent)) (k .working))) (a .reports))
+    wrongReportsIn (a .self) (a .empties) (a .reports) ≡ not (eqb (bitAnd (a .reports) (bitAnd (bitOr (k .given) (k .lent)) (k .working))) (a .reports))
 
 within : (c : tie.After-enum-told) → Within c
 within c =

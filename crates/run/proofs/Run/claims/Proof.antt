@@ -8,16 +8,16 @@ use Prim.Native.Nat.{ℕ, _+_, _≤_, _<_, _-_, min}
 use native.Mathlib.Omega.{arith}
 use lib.ListN.{length, length-set, length-map}
 use borrow.Author.Needs.{needs}
-use Rattle.model.specs.Fence.{openCount}
+use Rattle.model.specs.Fence.{unfencedCount}
 use Rattle.model.proofs.Digits.{or-bit}
 use Rattle.model.specs.Sizes.{mostCores, mostTasks}
-use Rattle.phase.specs.Phase.{claiming, working, released, seen}
+use Rattle.phase.specs.Phase.{claiming, working, released, phaseEmptied}
 use Rattle.phase.specs.Task.{outIn}
 use Rattle.rule.specs.Widths.{pair}
 use Rattle.rule.proofs.Gathered.{Gathered, gathered-none, gathered-more}
 use Rattle.run.specs.declared.Run.{Run}
-use Rattle.run.specs.Numbers.{lateAt, placeOut, wideIn}
-use Rattle.run.specs.Run.{ruleIn, placeAt, evenAt, phaseAt, seenAt}
+use Rattle.run.specs.Numbers.{lateAt, placeOut, widthLimitIn}
+use Rattle.run.specs.Run.{ruleIn, placeAt, evenAt, phaseAt, emptiedAt}
 use Rattle.run.proofs.PlaceSets.{Stored, stored-more, widths-stored}
 use Rattle.run.proofs.Run.claims.Statement.{statement}
 use Rattle.run.proofs.Run.claims.Tie as tie
@@ -26,8 +26,8 @@ use Rattle.run.proofs.Run.claims.Tie as tie
 pub record Passed (r : Run) (e i k l c w b v : ℕ) (ws : List ℕ) : Type 0 where
   pub broken : Gathered (placeOut r) i k
   pub late : Gathered (lateAt r) i l
-  pub claims : Gathered (λ p. claiming (seenAt r e p)) i c
-  pub works : Gathered (λ p. working (seenAt r e p)) i w
+  pub claims : Gathered (λ p. claiming (emptiedAt r e p)) i c
+  pub works : Gathered (λ p. working (emptiedAt r e p)) i w
   pub begins : Gathered (λ p. released (phaseAt r p)) i b
   pub evens : Gathered (evenAt r) i v
   pub stored : Stored r i ws
@@ -50,7 +50,7 @@ abbrev third : tie.After-with5 Inv-loop μ-loop → tie.After-with3 Inv-loop μ-
 third c = fourth c .before .before
 
 -- the state after the phase is seen
-abbrev looked : tie.After-with5 Inv-loop μ-loop → tie.After-seen Inv-loop μ-loop
+abbrev looked : tie.After-with5 Inv-loop μ-loop → tie.After-emptied Inv-loop μ-loop
 looked c = third c .before .before
 
 -- the state after the empty bit is read
@@ -68,7 +68,7 @@ abbrev loop : tie.After-with5 Inv-loop μ-loop → tie.At-loop Inv-loop μ-loop
 loop c = first c .before .before .before .before
 
 -- the state after the unfenced cores are counted, and the state at the call
-abbrev counted : tie.At-loop Inv-loop μ-loop → tie.After-open-count Inv-loop μ-loop
+abbrev counted : tie.At-loop Inv-loop μ-loop → tie.After-unfenced-count Inv-loop μ-loop
 counted s = s .before
 
 abbrev entry : tie.At-loop Inv-loop μ-loop → tie.Start Inv-loop μ-loop
@@ -81,14 +81,14 @@ below c =
     (l, omega (arith, l, entry (loop c) .pre .0))
 
 -- the unfenced cores, of 64 at most, are those of the core count
-wide : (s : tie.At-loop Inv-loop μ-loop) → counted s .open-count .result ≡ wideIn (entry s .args .t1)
+wide : (s : tie.At-loop Inv-loop μ-loop) → counted s .unfenced-count .result ≡ widthLimitIn (entry s .args .t1)
 wide s =
     let r = entry s .args .t1 in
     let all : min (r .cores) mostCores ≡ r .cores = omega (arith, entry s .pre .1) in
-    counted s .open-count .ensures ∙ ap (openCount (r .fence)) all
+    counted s .unfenced-count .ensures ∙ ap (unfencedCount (r .fence)) all
 
-open-count-requires : tie.Need-open-count-requires Inv-loop μ-loop
-open-count-requires c κs = search needs
+unfenced-count-requires : tie.Need-unfenced-count-requires Inv-loop μ-loop
+unfenced-count-requires c κs = search needs
 
 loop-holds : tie.Need-loop-holds Inv-loop μ-loop
 loop-holds c =
@@ -100,8 +100,8 @@ loop-holds c =
         record {
           broken = gathered-none (placeOut r);
           late = gathered-none (lateAt r);
-          claims = gathered-none (λ p. claiming (seenAt r e p));
-          works = gathered-none (λ p. working (seenAt r e p));
+          claims = gathered-none (λ p. claiming (emptiedAt r e p));
+          works = gathered-none (λ p. working (emptiedAt r e p));
           begins = gathered-none (λ p. released (phaseAt r p));
           evens = gathered-none (evenAt r);
           stored = λ p h. absurd (omega arith);
@@ -133,8 +133,8 @@ with-requires-2 c κs = omega arith
 has-requires : tie.Need-has-requires Inv-loop μ-loop
 has-requires c κs = omega arith
 
-seen-requires : tie.Need-seen-requires Inv-loop μ-loop
-seen-requires c κs = search needs
+emptied-requires : tie.Need-emptied-requires Inv-loop μ-loop
+emptied-requires c κs = search needs
 
 claims-requires : tie.Need-claims-requires Inv-loop μ-loop
 claims-requires c κs = search needs
@@ -186,8 +186,8 @@ loop-again c =
     let e = entry s .args .empties in
     let i = s .loop .i in
     let v = s .loop .inv .1 .1 in
-    let phase : looked h .seen .result ≡ seenAt r e i =
-    looked h .seen .ensures ∙ ap (λ (empty : Bool). seen (ruleIn r) empty (phaseAt r i)) (read h .has .ensures ∙ or-bit e (r .withdrawn) i) in (
+    let phase : looked h .emptied .result ≡ emptiedAt r e i =
+    looked h .emptied .ensures ∙ ap (λ (empty : Bool). phaseEmptied (ruleIn r) empty (phaseAt r i)) (read h .has .ensures ∙ or-bit e (r .withdrawn) i) in (
       omega (arith, below h),
       (
         simp length-set (s .loop .inv .1 .0),
@@ -199,10 +199,10 @@ loop-again c =
               gathered-more (lateAt r) i (s .loop .late) (second h .with2 .result) (second h .before .late .result) (v .late)
               (second h .before .late .ensures) (second h .with2 .ensures);
           claims =
-              gathered-more (λ p. claiming (seenAt r e p)) i (s .loop .claiming) (third h .with3 .result) (third h .before .claims .result) (v .claims)
+              gathered-more (λ p. claiming (emptiedAt r e p)) i (s .loop .claiming) (third h .with3 .result) (third h .before .claims .result) (v .claims)
               (third h .before .claims .ensures ∙ ap claiming phase) (third h .with3 .ensures);
           works =
-              gathered-more (λ p. working (seenAt r e p)) i (s .loop .working) (fourth h .with4 .result) (fourth h .before .works .result) (v .works)
+              gathered-more (λ p. working (emptiedAt r e p)) i (s .loop .working) (fourth h .with4 .result) (fourth h .before .works .result) (v .works)
               (fourth h .before .works .ensures ∙ ap working phase) (fourth h .with4 .ensures);
           begins =
               gathered-more (λ p. released (phaseAt r p)) i (s .loop .released) (h .with5 .result) (h .before .released .result) (v .begins)
@@ -221,7 +221,7 @@ returns c =
     let e : s .loop .i ≡ r .count = omega arith in
     let len : length (r .tasks) ≡ mostTasks = simp length-map at (entry s .good .0 .1 .1 .1 .1 .1 .1 .1 .0 .1 .0 .1) in
     record {
-      breaking = rw e at (v .broken);
+      outside-limits = rw e at (v .broken);
       being-late = rw e at (v .late);
       claimed = rw e at (v .claims);
       worked = rw e at (v .works);
@@ -235,7 +235,7 @@ claims-spec =
     (tie.spec
     Inv-loop
     μ-loop
-    open-count-requires
+    unfenced-count-requires
     loop-holds
     mul-task
     element-copy-out-task
@@ -245,7 +245,7 @@ claims-spec =
     late-requires
     with-requires-2
     has-requires
-    seen-requires
+    emptied-requires
     claims-requires
     with-requires-3
     works-requires

@@ -1,4 +1,4 @@
--- `run::Run::is_firm` meets its contract: the judge is asked of the run's tasks.
+-- `run::Run::is_firm` meets its contract: it is the judge's test of the run's tasks.
 -- Assumes nothing.
 use mathlib.Core.Path.{ap, _∙_}
 use borrow.Author.Needs.{needs}
@@ -7,14 +7,14 @@ use Rattle.run.specs.Run.{ruleIn}
 use Rattle.run.proofs.Run.is_firm.Statement.{statement}
 use Rattle.run.proofs.Run.is_firm.Tie as tie
 
-plain-requires : tie.Need-plain-requires
-plain-requires c κs = search needs
+parameters-requires : tie.Need-parameters-requires
+parameters-requires c κs = search needs
 
 is-firm-requires : tie.Need-is-firm-requires
 is-firm-requires c κs = search needs
 
 returns : tie.Need-returns
-returns c = c .is-firm .ensures ∙ ap (firm (ruleIn (c .before .before .args .self))) (c .before .plain .ensures)
+returns c = c .is-firm .ensures ∙ ap (firm (ruleIn (c .before .before .args .self))) (c .before .parameters .ensures)
 
 pub is-firm-spec : {M : Type 1} → statement M
-is-firm-spec = tie.close (tie.spec plain-requires is-firm-requires returns)
+is-firm-spec = tie.close (tie.spec parameters-requires is-firm-requires returns)

@@ -17,7 +17,7 @@ use Rattle.run.specs.declared.Answer.the-variants.{Taken}
 use Rattle.phase.specs.Task.{pastEnd}
 use Rattle.run.specs.Run.{mapFirst, nextAt, moved}
 use Rattle.run.proofs.Places.{mapFirst-past, mapFirst-step}
-use Rattle.run.proofs.RunOut.{few, roomy}
+use Rattle.run.proofs.RunOut.{few, has-room}
 use Rattle.run.proofs.Run.moved.Statement.{statement}
 use Rattle.run.proofs.Run.moved.Tie as tie
 
@@ -85,7 +85,7 @@ next-requires c κs =
     let a = entry s .args in
     let i = s .loop .i in
     simp (s .loop .inv .1 .1, mapFirst-past (nextAt (a .self) (bit (a .reports)) (a .empties)) i (a .self .tasks) i pastEnd (le-refl i))
-    (roomy (a .self) (entry s .pre .0) i (omega arith))
+    (has-room (a .self) (entry s .pre .0) i (omega arith))
 
 mul-next : tie.Need-mul-next Inv-loop μ-loop
 mul-next c = omega arith

@@ -1,5 +1,5 @@
--- `run::Run::out` meets its contract. The loop's invariant: no place passed is out of its limits, measured against the unfenced cores; the head is looked at first (`out-by-head`, `out-by-place`).
--- Assumes nothing.
+-- `run::Run::out` meets its contract. The loop's invariant: no place passed is out of its limits, measured against the unfenced cores; the head is tested
+-- first (`out-by-head`, `out-by-place`). Assumes nothing.
 use mathlib.Core.Path.{_≡_, sym, ap, _∙_}
 use mathlib.Core.Bool.{true, false}
 use Prim.Native.Nat.{ℕ, _≤_, _<_, _-_}
@@ -11,13 +11,13 @@ use Rattle.model.specs.Sizes.{mostTasks}
 use Rattle.phase.specs.Task.{outIn}
 use Rattle.run.specs.declared.Run.{Run}
 use Rattle.run.specs.Run.{ruleIn, placeAt}
-use Rattle.run.specs.Numbers.{wideIn, placeOut}
+use Rattle.run.specs.Numbers.{widthLimitIn, placeOut}
 use Rattle.run.proofs.RunOut.{out-by-head, out-by-place, head-few, head-wide}
 use Rattle.run.proofs.Run.out.Statement.{statement}
 use Rattle.run.proofs.Run.out.Tie as tie
 
 abbrev Inv-loop : tie.InvT-loop
-Inv-loop run rule cores count wide i₀ i = (i ≤ count) × ((count ≤ mostTasks) × ((wide ≡ wideIn run) × ((k : ℕ) → k < i → placeOut run k ≡ false)))
+Inv-loop run rule cores count wide i₀ i = (i ≤ count) × ((count ≤ mostTasks) × ((wide ≡ widthLimitIn run) × ((k : ℕ) → k < i → placeOut run k ≡ false)))
 
 abbrev μ-loop : tie.MeasureT-loop
 μ-loop run rule cores count wide i₀ i = count - i
@@ -31,11 +31,11 @@ abbrev loop : tie.After-out Inv-loop μ-loop → tie.At-loop Inv-loop μ-loop
 loop c = c .before .before .before
 
 -- the state at the call
-abbrev entry : tie.After-open-count Inv-loop μ-loop → tie.Start Inv-loop μ-loop
+abbrev entry : tie.After-unfenced-count Inv-loop μ-loop → tie.Start Inv-loop μ-loop
 entry c = c .before .before .before
 
--- a place is looked at with the number of unfenced cores that was counted
-by-wide : (r : Run) (p wide : ℕ) → wide ≡ wideIn r → placeOut r p ≡ outIn wide (ruleIn r) (placeAt r p)
+-- a place is tested with the number of unfenced cores that was counted
+by-wide : (r : Run) (p wide : ℕ) → wide ≡ widthLimitIn r → placeOut r p ≡ outIn wide (ruleIn r) (placeAt r p)
 by-wide r p wide e = ap (λ (m : ℕ). outIn m (ruleIn r) (placeAt r p)) (sym e)
 
 head-out-requires : tie.Need-head-out-requires Inv-loop μ-loop
@@ -44,14 +44,14 @@ head-out-requires c κs = search needs
 returns : tie.Need-returns Inv-loop μ-loop
 returns c = sym (out-by-head (c .before .before .args .t1) (sym (c .before .head-out .ensures) ∙ c .if1 .taken))
 
-open-count-requires : tie.Need-open-count-requires Inv-loop μ-loop
-open-count-requires c κs = search needs
+unfenced-count-requires : tie.Need-unfenced-count-requires Inv-loop μ-loop
+unfenced-count-requires c κs = search needs
 
 loop-holds : tie.Need-loop-holds Inv-loop μ-loop
 loop-holds c =
     let r = entry c .args .t1 in
     let e = sym (c .before .before .head-out .ensures) ∙ c .before .if1 .left in
-    (search needs, (head-few r e, (c .open-count .ensures ∙ head-wide r e, λ (k : ℕ) h. absurd (omega arith))))
+    (search needs, (head-few r e, (c .unfenced-count .ensures ∙ head-wide r e, λ (k : ℕ) h. absurd (omega arith))))
 
 mul-task : tie.Need-mul-task Inv-loop μ-loop
 mul-task c = omega arith
@@ -96,7 +96,7 @@ out-spec =
     μ-loop
     head-out-requires
     returns
-    open-count-requires
+    unfenced-count-requires
     loop-holds
     mul-task
     element-copy-out-task

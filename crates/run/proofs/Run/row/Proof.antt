@@ -21,7 +21,7 @@ use Rattle.run.proofs.RunSets.{front-in, run-showable}
 use Rattle.run.proofs.Run.row.Statement.{statement}
 use Rattle.run.proofs.Run.row.Tie as tie
 
--- the state after the tick is looked at, where its answer is taken
+-- the state after the tick is read, where its answer is taken
 abbrev looked : tie.After-enum-told → tie.After-tick
 looked c = c .before .before
 

@@ -10,7 +10,7 @@ use Rattle.run.proofs.RunSets.{sets-of}
 use Rattle.run.proofs.Run.sets.Statement.{statement}
 use Rattle.run.proofs.Run.sets.Tie as tie
 
--- what is handed back
+-- what is returned
 abbrev both : Answer → List ℕ → Sets
 both a sets = record { answer = a; sets = sets }
 

@@ -17,15 +17,15 @@ use mir.Val.{Fits}
 use Rattle.model.specs.Fence.{unfenced}
 use Rattle.model.specs.Sizes.{mostTasks}
 use Rattle.model.proofs.Search.{least-none}
-use Rattle.cores.proofs.Open.{open-of}
+use Rattle.cores.proofs.Unfenced.{open-of}
 use Rattle.run.specs.declared.Run.{Run}
 use Rattle.run.specs.declared.Sets.{Sets}
 use Rattle.run.specs.declared.tick.Tick.{Tick}
 use Rattle.run.specs.declared.Answer.the-variants.{Refused}
-use Rattle.run.specs.Numbers.{firstLateIn, lateAt, misemptiedIn, placeOut, runOut}
+use Rattle.run.specs.Numbers.{firstLateIn, lateAt, wrongEmptiesIn, placeOut, runOut}
 use Rattle.run.specs.Run.{ruleIn}
 use Rattle.run.specs.Sets.{noSets, setsOf}
-use Rattle.run.specs.Shares.{SharesOf}
+use Rattle.run.specs.Allocation.{AllocationOf}
 use Rattle.run.specs.Tick.{TickOf}
 use Rattle.run.proofs.Cases.{sets-empty, sets-late, sets-out, sets-shown}
 use Rattle.run.proofs.Chosen.{has-cores, has-lent, may-begin, same-sets, ws}
@@ -36,10 +36,10 @@ use Rattle.run.proofs.Run.tick.Statement.{statement}
 use Rattle.run.proofs.Run.tick.Tie as tie
 
 -- a tick that is refused
-abbrev unseen : ℕ → ℕ → Tick
-unseen n p = record { answer = Refused n p; given = 0; lent = 0; working = 0; sets = noSets }
+abbrev tick-refused : ℕ → ℕ → Tick
+tick-refused n p = record { answer = Refused n p; given = 0; lent = 0; working = 0; sets = noSets }
 
-refused : (r : Run) (e n p : ℕ) (t : Tick) → t ≡ unseen n p → setsOf r e ≡ record { answer = Refused n p; sets = noSets } → TickOf r e t
+refused : (r : Run) (e n p : ℕ) (t : Tick) → t ≡ tick-refused n p → setsOf r e ≡ record { answer = Refused n p; sets = noSets } → TickOf r e t
 refused r e n p t i q = record {
   answered = ap (λ (t : Tick). t .answer) i ∙ sym (ap (λ (w : Sets). w .answer) q);
   shows = ap (λ (t : Tick). t .sets) i ∙ sym (ap (λ (w : Sets). w .sets) q);
@@ -59,10 +59,10 @@ within c = c .before .before
 abbrev in-time : tie.Else3 → tie.After-claims
 in-time c = within (c .before .before)
 
-abbrev begun-in : tie.After-chosen → tie.Then4
+abbrev begun-in : tie.After-allocate → tie.Then4
 begun-in c = c .before .before .before .before
 
-abbrev gathered : tie.After-chosen → tie.After-claims
+abbrev gathered : tie.After-allocate → tie.After-claims
 gathered c = in-time (begun-in c .before .before)
 
 -- past the first test the head passes 14
@@ -74,9 +74,9 @@ passes : (c : tie.Else2) → runOut (entry (within c) .args .self) ≡ false
 passes c =
     let g = within c in
     let r = entry g .args .self in
-    out-by-place r (head-in (g .before)) ∙ none-gathered (placeOut r) (r .count) (g .claims .result .broken) (g .claims .ensures .breaking) (omega (arith, c .if2 .left))
+    out-by-place r (head-in (g .before)) ∙ none-gathered (placeOut r) (r .count) (g .claims .result .broken) (g .claims .ensures .outside-limits) (omega (arith, c .if2 .left))
 
--- and past the third nobody is late
+-- and past the third no task is late
 none-late : (c : tie.Else3) → (let r = entry (in-time c) .args .self in r .count ≤ firstLateIn r)
 unfolding firstLateIn
 none-late c =
@@ -85,11 +85,11 @@ none-late c =
     let n = least-none (r .count) (lateAt r) (none-gathered (lateAt r) (r .count) (g .claims .result .late) (g .claims .ensures .being-late) (omega (arith, c .if3 .left))) in
     omega (arith, n)
 
--- 20 is looked at by one test of sets
+-- 20 is decided by one test of sets
 abbrev Begun : tie.After-claims → Type 0
 Begun g =
     let s = entry g in
-    misemptiedIn (s .args .self) (s .args .empties) ≡ not (eqb (bitAnd (s .args .empties) (g .claims .result .released)) (s .args .empties))
+    wrongEmptiesIn (s .args .self) (s .args .empties) ≡ not (eqb (bitAnd (s .args .empties) (g .claims .result .released)) (s .args .empties))
 
 begun : (g : tie.After-claims) → Begun g
 begun g =
@@ -97,20 +97,20 @@ begun g =
     may-begin (s .args .self) (s .args .empties) (g .claims .result) (g .claims .ensures) mostTasks (s .fits .empties .fits)
 
 -- what the tasks are given and borrow of these cores
-abbrev SharedOf : tie.After-chosen → List ℕ → Type 0
+abbrev SharedOf : tie.After-allocate → List ℕ → Type 0
 SharedOf c F =
     let g = gathered c in
     let a = entry g .args in
     let k = g .claims .result in
-    SharesOf (ruleIn (a .self)) (ws (a .self) (a .empties) k (g .claims .ensures)) (k .claiming) (k .working) F (a .self .count) (c .chosen .result)
+    AllocationOf (ruleIn (a .self)) (ws (a .self) (a .empties) k (g .claims .ensures)) (k .claiming) (k .working) F (a .self .count) (c .allocate .result)
 
 -- they are the cores outside the fence
-shared : (c : tie.After-chosen) → (let r = entry (gathered c) .args .self in SharedOf c (unfenced (r .fence) (r .cores)))
+shared : (c : tie.After-allocate) → (let r = entry (gathered c) .args .self in SharedOf c (unfenced (r .fence) (r .cores)))
 shared c =
-    let f = c .before .before .open-cores in
+    let f = c .before .before .unfenced-cores in
     let g = gathered c in
     let r = entry g .args .self in
-    subst (SharedOf c) (open-of (f .result) (r .fence) (r .cores) (head-few-cores r (head-in (g .before))) (f .ensures)) (c .chosen .ensures)
+    subst (SharedOf c) (open-of (f .result) (r .fence) (r .cores) (head-few-cores r (head-in (g .before))) (f .ensures)) (c .allocate .ensures)
 
 -- the sets of places have 32 digits
 small : (g : tie.After-claims) → (g .claims .result .broken < 2 ^ 32) × (g .claims .result .late < 2 ^ 32)
@@ -133,14 +133,14 @@ first-late c =
 head-out-requires : tie.Need-head-out-requires
 head-out-requires c κs = search needs
 
-unseen-requires : tie.Need-unseen-requires
-unseen-requires c κs = search needs
+tick-refused-requires : tie.Need-tick-refused-requires
+tick-refused-requires c κs = search needs
 
 returns : tie.Need-returns
 returns c =
     let h = c .before .before in
     let a = h .before .args in
-    refused (a .self) (a .empties) 14 0 (c .unseen .result) (c .unseen .ensures)
+    refused (a .self) (a .empties) 14 0 (c .tick-refused .result) (c .tick-refused .ensures)
     (sets-out (a .self) (a .empties) (out-by-head (a .self) (sym (h .head-out .ensures) ∙ c .before .if1 .taken)))
 
 claims-requires : tie.Need-claims-requires
@@ -148,8 +148,8 @@ claims-requires c κs =
     let r = c .before .before .args .self in
     (head-few r (head-in c), head-few-cores r (head-in c))
 
-unseen-requires-2 : tie.Need-unseen-requires-2
-unseen-requires-2 c κs = search needs
+tick-refused-requires-2 : tie.Need-tick-refused-requires-2
+tick-refused-requires-2 c κs = search needs
 
 returns-2 : tie.Need-returns-2
 returns-2 c =
@@ -157,19 +157,19 @@ returns-2 c =
     let g = t .before .before in
     let a = entry g .args in
     let r = a .self in
-    refused r (a .empties) 14 0 (c .unseen2 .result) (c .unseen2 .ensures)
+    refused r (a .empties) 14 0 (c .tick-refused2 .result) (c .tick-refused2 .ensures)
     (sets-out r (a .empties)
     (out-by-place r (head-in (g .before))
-    ∙ some-gathered (placeOut r) (r .count) (g .claims .result .broken) (g .claims .ensures .breaking) 32 (small g .0) (t .if2 .taken) .1))
+    ∙ some-gathered (placeOut r) (r .count) (g .claims .result .broken) (g .claims .ensures .outside-limits) 32 (small g .0) (t .if2 .taken) .1))
 
-add-unseen : tie.Need-add-unseen
-add-unseen c =
+add-tick-refused : tie.Need-add-tick-refused
+add-tick-refused c =
     let g = within (c .before .before .before) in
     let r = entry g .args .self in
     fits-under w32 (trailingZeros 32 (g .claims .result .late) + 1) 33 (omega (arith, first-late (c .before) .0, head-few r (head-in (g .before)))) tt
 
-unseen-requires-3 : tie.Need-unseen-requires-3
-unseen-requires-3 c κs = search needs
+tick-refused-requires-3 : tie.Need-tick-refused-requires-3
+tick-refused-requires-3 c κs = search needs
 
 returns-3 : tie.Need-returns-3
 returns-3 c =
@@ -181,14 +181,14 @@ returns-3 c =
     let f = first-late t in
     let at : trailingZeros 32 (g .claims .result .late) + 1 ≡ suc (firstLateIn r) =
     add-one (trailingZeros 32 (g .claims .result .late)) ∙ ap (λ (n : ℕ). suc n) (sym (f .1)) in
-    refused r (a .empties) 15 (suc (firstLateIn r)) (c .unseen3 .result) (c .unseen3 .ensures ∙ ap (unseen 15) at)
+    refused r (a .empties) 15 (suc (firstLateIn r)) (c .tick-refused3 .result) (c .tick-refused3 .ensures ∙ ap (tick-refused 15) at)
     (sets-late r (a .empties) (passes e) (omega (arith, f .0, f .1)))
 
-open-cores-requires : tie.Need-open-cores-requires
-open-cores-requires c κs = search needs
+unfenced-cores-requires : tie.Need-unfenced-cores-requires
+unfenced-cores-requires c κs = search needs
 
-chosen-requires : tie.Need-chosen-requires
-chosen-requires c κs =
+allocate-requires : tie.Need-allocate-requires
+allocate-requires c κs =
     let g = in-time (c .before .before .before .before .before) in
     head-few (entry g .args .self) (head-in (g .before))
 
@@ -199,20 +199,20 @@ returns-4 c =
     let e = t .before .before in
     let g = in-time e in
     let a = entry g .args in
-    let m : misemptiedIn (a .self) (a .empties) ≡ false = begun g ∙ ap not (eq-eqb _ _ (t .if4 .taken)) in
+    let m : wrongEmptiesIn (a .self) (a .empties) ≡ false = begun g ∙ ap not (eq-eqb _ _ (t .if4 .taken)) in
     let q = sets-shown (a .self) (a .empties) (passes (e .before .before)) (none-late e) m in
     record {
       answered = sym (ap (λ (w : Sets). w .answer) q);
       shows =
-          same-sets (a .self) (a .empties) (g .claims .result) (g .claims .ensures) (o .chosen .result) (shared o)
+          same-sets (a .self) (a .empties) (g .claims .result) (g .claims .ensures) (o .allocate .result) (shared o)
           ∙ sym (ap (λ (w : Sets). w .sets) q);
-      gives = λ x. has-cores (a .self) (a .empties) (g .claims .result) (g .claims .ensures) (o .chosen .result) (shared o);
-      lends = λ x. has-lent (a .self) (a .empties) (g .claims .result) (g .claims .ensures) (o .chosen .result) (shared o);
+      gives = λ x. has-cores (a .self) (a .empties) (g .claims .result) (g .claims .ensures) (o .allocate .result) (shared o);
+      lends = λ x. has-lent (a .self) (a .empties) (g .claims .result) (g .claims .ensures) (o .allocate .result) (shared o);
       works = λ x. g .claims .ensures .worked;
     }
 
-unseen-requires-4 : tie.Need-unseen-requires-4
-unseen-requires-4 c κs = search needs
+tick-refused-requires-4 : tie.Need-tick-refused-requires-4
+tick-refused-requires-4 c κs = search needs
 
 returns-5 : tie.Need-returns-5
 returns-5 c =
@@ -221,7 +221,7 @@ returns-5 c =
     let g = in-time e in
     let a = entry g .args in
     let m = begun g ∙ ap not (ne-eqb _ _ (t .if4 .left)) in
-    refused (a .self) (a .empties) 20 0 (c .unseen4 .result) (c .unseen4 .ensures)
+    refused (a .self) (a .empties) 20 0 (c .tick-refused4 .result) (c .tick-refused4 .ensures)
     (sets-empty (a .self) (a .empties) (passes (e .before .before)) (none-late e) m)
 
 pub tick-spec : {M : Type 1} → statement M
@@ -229,16 +229,16 @@ tick-spec =
     tie.close
     (tie.spec
     head-out-requires
-    unseen-requires
+    tick-refused-requires
     returns
     claims-requires
-    unseen-requires-2
+    tick-refused-requires-2
     returns-2
-    add-unseen
-    unseen-requires-3
+    add-tick-refused
+    tick-refused-requires-3
     returns-3
-    open-cores-requires
-    chosen-requires
+    unfenced-cores-requires
+    allocate-requires
     returns-4
-    unseen-requires-4
+    tick-refused-requires-4
     returns-5)

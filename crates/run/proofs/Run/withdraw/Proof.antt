@@ -1,4 +1,4 @@
--- `run::Run::withdraw` meets its contract: each way out is a case of the withdrawal's definition, in its order (`Cases`).
+-- `run::Run::withdraw` meets its contract: each return is a case of the withdrawal's definition, in its order (`Cases`).
 -- Assumes nothing.
 use mathlib.Core.Path.{_≡_, sym, ap, _∙_}
 use mathlib.Core.Bool.{true, false}
@@ -13,7 +13,7 @@ use Rattle.run.specs.declared.Answer.the-variants.{Taken}
 use Rattle.run.specs.Run.{firmIn, withdrawnIn}
 use Rattle.run.specs.Numbers.{runOut}
 use Rattle.run.proofs.RunOut.{few}
-use Rattle.run.proofs.Cases.{withdraw-out, withdraw-not-firm, withdraw-stranger, withdraw-taken}
+use Rattle.run.proofs.Cases.{withdraw-out, withdraw-not-firm, withdraw-unknown, withdraw-taken}
 use Rattle.run.proofs.WithdrawExact.{known-from, withdraw-of}
 use Rattle.run.proofs.Run.withdraw.Statement.{statement}
 use Rattle.run.proofs.Run.withdraw.Tie as tie
@@ -79,24 +79,24 @@ returns-2 c =
     let a = entry s .args in
     withdraw-of (a .self) (a .position) (c .refused2 .result)
     (c .refused2 .ensures
-    ∙ sym (withdraw-stranger (a .self) (a .position) (passes (s .before)) (firm-then (c .before .before .before)) (c .before .if3 .taken)))
+    ∙ sym (withdraw-unknown (a .self) (a .position) (passes (s .before)) (firm-then (c .before .before .before)) (c .before .if3 .taken)))
 
-sub-without : tie.Need-sub-without
-sub-without c = known c .0
+sub-with-withdrawn : tie.Need-sub-with-withdrawn
+sub-with-withdrawn c = known c .0
 
-shl-without : tie.Need-shl-without
-shl-without c = omega (arith, known c .0, known c .1)
+shl-with-withdrawn : tie.Need-shl-with-withdrawn
+shl-with-withdrawn c = omega (arith, known c .0, known c .1)
 
-without-requires : tie.Need-without-requires
-without-requires c κs = search needs
+with-withdrawn-requires : tie.Need-with-withdrawn-requires
+with-withdrawn-requires c κs = search needs
 
 returns-3 : tie.Need-returns-3
 returns-3 c =
     let s = asked-known (c .before) in
     let a = entry s .args in
     let one = shifted-one 32 (a .position - 1) (omega (arith, known (c .before) .0, known (c .before) .1)) in
-    withdraw-of (a .self) (a .position) (taken (c .without .result))
-    (ap taken (c .without .ensures ∙ ap (λ (x : ℕ). withdrawnIn x (a .self)) one)
+    withdraw-of (a .self) (a .position) (taken (c .with-withdrawn .result))
+    (ap taken (c .with-withdrawn .ensures ∙ ap (λ (x : ℕ). withdrawnIn x (a .self)) one)
     ∙ sym (withdraw-taken (a .self) (a .position) (passes (s .before)) (firm-then (c .before .before .before)) (c .before .if3 .left)))
 
 refused-requires-3 : tie.Need-refused-requires-3
@@ -121,9 +121,9 @@ withdraw-spec =
     cast-if3
     refused-requires-2
     returns-2
-    sub-without
-    shl-without
-    without-requires
+    sub-with-withdrawn
+    shl-with-withdrawn
+    with-withdrawn-requires
     returns-3
     refused-requires-3
     returns-4)

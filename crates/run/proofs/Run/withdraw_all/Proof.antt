@@ -1,4 +1,4 @@
--- `run::Run::withdraw_all` meets its contract: each way out is a case of the withdrawal's definition, in its order (`Cases`).
+-- `run::Run::withdraw_all` meets its contract: each return is a case of the withdrawal's definition, in its order (`Cases`).
 -- Assumes nothing.
 use mathlib.Core.Path.{_≡_, sym, ap, _∙_}
 use mathlib.Core.Bool.{true, false}
@@ -10,7 +10,7 @@ use Rattle.run.specs.Run.{firmIn}
 use Rattle.run.specs.Numbers.{runOut}
 use Rattle.run.proofs.RunOut.{few}
 use Rattle.run.proofs.Cases.{withdraw-all-out, withdraw-all-not-firm, withdraw-all-past, withdraw-all-taken}
-use Rattle.run.proofs.Together.{withdraw-set}
+use Rattle.run.proofs.WithdrawSet.{withdraw-set}
 use Rattle.run.proofs.Run.withdraw_all.Statement.{statement}
 use Rattle.run.proofs.Run.withdraw_all.Tie as tie
 
@@ -61,16 +61,16 @@ returns-2 c =
     (c .refused2 .ensures
     ∙ sym (withdraw-all-past (a .self) (a .set) (passes (s .before)) (firm-then (l .before)) (sym (l .past .ensures) ∙ c .before .if3 .taken)))
 
-without-requires : tie.Need-without-requires
-without-requires c κs = search needs
+with-withdrawn-requires : tie.Need-with-withdrawn-requires
+with-withdrawn-requires c κs = search needs
 
 returns-3 : tie.Need-returns-3
 returns-3 c =
     let l = c .before .before in
     let s = l .before .before in
     let a = entry s .args in
-    withdraw-set (a .self) (a .set) (taken (c .without .result))
-    (ap taken (c .without .ensures)
+    withdraw-set (a .self) (a .set) (taken (c .with-withdrawn .result))
+    (ap taken (c .with-withdrawn .ensures)
     ∙ sym (withdraw-all-taken (a .self) (a .set) (passes (s .before)) (firm-then (l .before)) (sym (l .past .ensures) ∙ c .before .if3 .left)))
 
 refused-requires-3 : tie.Need-refused-requires-3
@@ -95,7 +95,7 @@ withdraw-all-spec =
     past-requires
     refused-requires-2
     returns-2
-    without-requires
+    with-withdrawn-requires
     returns-3
     refused-requires-3
     returns-4)

@@ -4,7 +4,7 @@ use borrow.Author.Needs.{needs}
 use Rattle.run.proofs.bounds.head_out.Statement.{statement}
 use Rattle.run.proofs.bounds.head_out.Tie as tie
 
--- the states after the core count and the rule are looked at
+-- the states after the core count and the rule are tested
 abbrev of-rule : tie.After-past → tie.After-rule-out
 of-rule c = c .before .before
 

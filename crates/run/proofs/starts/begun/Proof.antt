@@ -1,8 +1,8 @@
--- `run::starts::begun` meets its contract: the table that is loaded is that of the words (`Holds`), and `started` gives it as it starts.
+-- `run::starts::begun` meets its contract: the table that is loaded is that of the words (`LoadedAs`), and `started` gives it as it starts.
 -- Assumes nothing.
 use mathlib.Core.Path.{ap, _∙_}
 use borrow.Author.Needs.{needs}
-use Rattle.table.specs.Load.{Holds}
+use Rattle.table.specs.Load.{LoadedAs}
 use Rattle.run.specs.declared.Answer.the-variants.{Taken}
 use Rattle.run.specs.declared.Run.{Run}
 use Rattle.run.specs.declared.Started.{Started}
@@ -11,7 +11,7 @@ use Rattle.run.proofs.starts.begun.Statement.{statement}
 use Rattle.run.proofs.starts.begun.Tie as tie
 
 -- the table passed, so what was loaded is the table
-held : (c : tie.After-load) → Holds (c .before .before .args .words .now) (c .load .result)
+held : (c : tie.After-load) → LoadedAs (c .before .before .args .words .now) (c .load .result)
 held c = c .load .ensures .holds (c .load .ensures .passed .1 (c .before .before .pre))
 
 -- a run as it starts

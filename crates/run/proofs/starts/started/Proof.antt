@@ -1,5 +1,5 @@
--- `run::starts::started` meets its contract. The loop's invariant: the places passed hold their tasks as they start, and the others are as they were made (`written-more`).
--- Assumes nothing.
+-- `run::starts::started` meets its contract. The loop's invariant: the places passed hold their tasks as they start, and the others are as they were made
+-- (`written-more`). Assumes nothing.
 use mathlib.Core.Path.{_≡_, sym, ap, _∙_}
 use mathlib.Core.List.{List, [], _∷_, _++_, map}
 use Prim.Native.Nat.{ℕ, _+_, _-_, _≤_, _<_}

@@ -1,10 +1,10 @@
--- `sentence::counting::add` meets its contract: after each turn the places taken off the set have one more. Assumes nothing.
+-- `sentence::counting::add` meets its contract: after each iteration the places taken off the set have one more. Assumes nothing.
 use mathlib.Core.Path.{_≡_, refl, sym, ap, _∙_, subst}
 use mathlib.Core.Bool.{Bool, true}
 use Prim.Native.Nat.{ℕ, _≤_}
 use native.Mathlib.Omega.{arith}
 use Rattle.model.specs.Search.{bit}
-use Rattle.full.proofs.Turn.{taken, first, Off, taken-off}
+use Rattle.simulation.proofs.GrantStep.{taken, first, Off, taken-off}
 use Rattle.sentence.proofs.Adding.{counted, counted-none, count-still, counted-more, counted-all}
 use Rattle.sentence.proofs.counting.add.Statement.{statement}
 use Rattle.sentence.proofs.counting.add.Tie as tie

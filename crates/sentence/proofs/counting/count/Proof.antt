@@ -1,4 +1,4 @@
--- `sentence::counting::count` meets its contract: before each tick the run stands as the table's full-length run does, and the waiting ticks so far are
+-- `sentence::counting::count` meets its contract: before each tick the run represents the table's full-length run, and the waiting ticks so far are
 -- counted (`Counting`); at the end what is left of C is what the late job did not have. Assumes nothing.
 use borrow.Author.Needs.{needs}
 use mathlib.Core.Path.{_≡_, refl, sym, ap, _∙_, subst}
@@ -12,29 +12,29 @@ use Rattle.model.specs.Verdict.{FirstMiss}
 use Rattle.table.specs.declared.Loaded.{Loaded}
 use Rattle.table.specs.Task.{taskOf, noTask}
 use Rattle.table.proofs.Places.{task-at}
-use Rattle.full.specs.Stand.{Numbers, numbersIn, Stand, standAt, Steppable, next}
-use Rattle.full.specs.Machine.{machineOf}
-use Rattle.full.proofs.Parts.{front-at}
-use Rattle.full.proofs.Steps.{tick-on}
-use Rattle.full.proofs.Tied.{Tied}
-use Rattle.judge.specs.Judged.{tableIn, Fit}
+use Rattle.simulation.specs.TickState.{Numbers, loadedNumbers, TickState, tickStateOf, Steppable, nextTickState}
+use Rattle.simulation.specs.Machine.{machineOf}
+use Rattle.simulation.proofs.Parts.{front-at}
+use Rattle.simulation.proofs.Steps.{tick-on}
+use Rattle.simulation.proofs.MachineRelated.{MachineRelated}
+use Rattle.judge.specs.Judged.{loadedTable, Fit}
 use Rattle.judge.proofs.Ticks.{size}
-use Rattle.judge.proofs.Follows.{Begins, steppable}
+use Rattle.judge.proofs.Refines.{Begins, steppable}
 use Rattle.sentence.specs.Facts.{named}
 use Rattle.sentence.specs.Waiting.{releaseOf, hadBy}
 use Rattle.sentence.proofs.Waiting.{missed-here, deadline-within, Counted, counted-small, counted-named}
-use Rattle.sentence.proofs.Standing.{left-had, Counting, counting-start, met-here, counting-early, counting-runs, counting-waits}
+use Rattle.sentence.proofs.CountingPass.{left-had, Counting, counting-start, met-here, counting-early, counting-runs, counting-waits}
 use Rattle.sentence.proofs.counting.count.Statement.{statement}
 use Rattle.sentence.proofs.counting.count.Tie as tie
 
 -- of every table whose run begins so and that misses here first
 abbrev Inv-loop : tie.InvT-loop
-Inv-loop tick place late release setting widths times pace₀ places₀ ran₀ pace places ran =
-    (t : Loaded) → Begins t setting widths times pace₀ places₀ → FirstMiss (tableIn t) tick (suc place) → release ≡ releaseOf (tableIn t) tick place
-    → Counting t tick place (standAt pace places) ran
+Inv-loop tick place late release setting widths times registers₀ places₀ ran₀ registers places ran =
+    (t : Loaded) → Begins t setting widths times registers₀ places₀ → FirstMiss (loadedTable t) tick (suc place) → release ≡ releaseOf (loadedTable t) tick place
+    → Counting t tick place (tickStateOf registers places) ran
 
 abbrev μ-loop : tie.MeasureT-loop
-μ-loop tick place late release setting widths times pace₀ places₀ ran₀ pace places ran = tick - pace .tick
+μ-loop tick place late release setting widths times registers₀ places₀ ran₀ registers places ran = tick - registers .tick
 
 -- the state after `places`
 abbrev places-from-else1 : tie.Else1 Inv-loop μ-loop → tie.After-places Inv-loop μ-loop
@@ -105,27 +105,27 @@ abbrev Of : tie.After-places Inv-loop μ-loop → Loaded → Type 0
 Of p t =
     let co = columns-of-from-places p in
     Begins t (co .columns-of .result .setting) (co .columns-of .result .widths)
-    (co .columns-of .result .times) (p .before .before .start .result .pace) (p .before .before .start .result .places)
+    (co .columns-of .result .times) (p .before .before .start .result .registers) (p .before .before .start .result .places)
 
 own : (p : tie.After-places Inv-loop μ-loop) → Of p (table-of p)
 own p = record {
   fit = entry-from-places p .pre .0;
   numbers = columns-of-from-places p .columns-of .ensures;
-  stand = p .before .before .start .ensures .0;
+  state-start = p .before .before .start .ensures .0;
 }
 
 -- the place is one of the table's
-inside : (t : Loaded) (fit : Fit t) (tick place : ℕ) → FirstMiss (tableIn t) tick (suc place) → (place < t .count) × (place < 32)
+inside : (t : Loaded) (fit : Fit t) (tick place : ℕ) → FirstMiss (loadedTable t) tick (suc place) → (place < t .count) × (place < 32)
 inside t fit tick place f =
-    let l = missed-here (tableIn t) (fit .sound) tick place f .0 in
+    let l = missed-here (loadedTable t) (fit .valid) tick place f .0 in
     (omega (arith, size t fit), omega (arith, size t fit, fit .few))
 
 -- the task there
-same-task : (t : Loaded) (fit : Fit t) (tick place : ℕ) → FirstMiss (tableIn t) tick (suc place) → task (tableIn t) place ≡ taskOf (getD (t .tasks) place noTask)
+same-task : (t : Loaded) (fit : Fit t) (tick place : ℕ) → FirstMiss (loadedTable t) tick (suc place) → task (loadedTable t) place ≡ taskOf (getD (t .tasks) place noTask)
 same-task t fit tick place f = task-at (t .tasks) (t .count) place (inside t fit tick place f .0)
 
 -- before each tick
-counting-of : (k : tie.At-loop Inv-loop μ-loop) → Counting (table-of (k .before)) (tick-of (k .before)) (place-of (k .before)) (standAt (k .loop .pace) (k .loop .places)) (k .loop .ran)
+counting-of : (k : tie.At-loop Inv-loop μ-loop) → Counting (table-of (k .before)) (tick-of (k .before)) (place-of (k .before)) (tickStateOf (k .loop .registers) (k .loop .places)) (k .loop .ran)
 counting-of k =
     let p = k .before in
     let x = entry-from-places p in
@@ -133,34 +133,34 @@ counting-of k =
 
 -- a tick is taken
 stepped : (g : tie.After-step Inv-loop μ-loop) (t : Loaded) → Of (loop-from-places2 (g .before) .before) t
-    → standAt (g .step .result) (g .step .last .1 .1 .1 .1 .0) ≡ next (numbersIn t) (standAt (loop-from-places2 (g .before) .loop .pace) (loop-from-places2 (g .before) .loop .places))
-stepped g t b = g .step .ensures ∙ ap (λ (n : Numbers). next n (standAt (loop-from-places2 (g .before) .loop .pace) (loop-from-places2 (g .before) .loop .places))) (b .numbers)
+    → tickStateOf (g .step .result) (g .step .last .1 .1 .1 .1 .0) ≡ nextTickState (loadedNumbers t) (tickStateOf (loop-from-places2 (g .before) .loop .registers) (loop-from-places2 (g .before) .loop .places))
+stepped g t b = g .step .ensures ∙ ap (λ (n : Numbers). nextTickState n (tickStateOf (loop-from-places2 (g .before) .loop .registers) (loop-from-places2 (g .before) .loop .places))) (b .numbers)
 
-on : (g : tie.After-step Inv-loop μ-loop) → g .step .result .tick ≡ loop-from-places2 (g .before) .loop .pace .tick + 1
+on : (g : tie.After-step Inv-loop μ-loop) → g .step .result .tick ≡ loop-from-places2 (g .before) .loop .registers .tick + 1
 on g = tick-on _ _ _ (g .step .ensures)
 
 -- at the end: the tick is that of the miss, and what is left of the late job
-at-tick : (e : tie.Else1 Inv-loop μ-loop) → e .before .before .loop .pace .tick ≡ tick-of (places-from-else1 e)
+at-tick : (e : tie.Else1 Inv-loop μ-loop) → e .before .before .loop .registers .tick ≡ tick-of (places-from-else1 e)
 at-tick e = omega (arith, counting-of (e .before .before) .within, e .if1 .left)
 
-counted-end : (e : tie.Else1 Inv-loop μ-loop) → Counted (tableIn (table-of (places-from-else1 e)))
+counted-end : (e : tie.Else1 Inv-loop μ-loop) → Counted (loadedTable (table-of (places-from-else1 e)))
     (tick-of (places-from-else1 e)) (place-of (places-from-else1 e)) (tick-of (places-from-else1 e)) (e .before .before .loop .ran)
 counted-end e =
     let places-state = places-from-else1 e in
-    subst (λ (n : ℕ). Counted (tableIn (table-of places-state)) (tick-of places-state) (place-of places-state) n (e .before .before .loop .ran)) (at-tick e)
+    subst (λ (n : ℕ). Counted (loadedTable (table-of places-state)) (tick-of places-state) (place-of places-state) n (e .before .before .loop .ran)) (at-tick e)
     (counting-of (e .before .before) .counted)
 
 at-end : (e : tie.Else1 Inv-loop μ-loop)
     → (getD (e .before .before .loop .places) (place-of (places-from-else1 e)) 0 ≤ getD (table-of (places-from-else1 e) .tasks) (place-of (places-from-else1 e)) noTask .length)
     × (getD (table-of (places-from-else1 e) .tasks) (place-of (places-from-else1 e)) noTask .length - getD (e .before .before .loop .places) (place-of (places-from-else1 e)) 0
-    ≡ hadBy (tableIn (table-of (places-from-else1 e))) (tick-of (places-from-else1 e)) (place-of (places-from-else1 e)))
+    ≡ hadBy (loadedTable (table-of (places-from-else1 e))) (tick-of (places-from-else1 e)) (place-of (places-from-else1 e)))
 at-end e =
     let k = e .before .before in
     let p = k .before in
     let x = entry-from-places p in
     let t = table-of p in
-    let h = left-had (tableIn t) (x .pre .0 .sound) (tick-of p) (place-of p) (x .pre .1) (machineOf (k .loop .places) (k .loop .pace .claiming))
-    (subst (λ (n : ℕ). Tied (tableIn t) n (machineOf (k .loop .places) (k .loop .pace .claiming))) (at-tick e) (counting-of k .follows .before .tied)) in
+    let h = left-had (loadedTable t) (x .pre .0 .valid) (tick-of p) (place-of p) (x .pre .1) (machineOf (k .loop .places) (k .loop .registers .claiming))
+    (subst (λ (n : ℕ). MachineRelated (loadedTable t) n (machineOf (k .loop .places) (k .loop .registers .claiming))) (at-tick e) (counting-of k .follows .before .related)) in
     let same = ap (λ (τ : Task). τ .length) (same-task t (x .pre .0) (tick-of p) (place-of p) (x .pre .1)) in
     let at = front-at (k .loop .places) (place-of p) (inside t (x .pre .0) (tick-of p) (place-of p) (x .pre .1) .1) in
     (omega (arith, same, at, h .0), omega (arith, same, at, h .1))
@@ -175,7 +175,7 @@ sub-release : tie.Need-sub-release Inv-loop μ-loop
 sub-release c =
     let x = entry-from-struct-known c in
     subst (λ (τ : Task). τ .deadline ≤ x .args .tick) (same-task (x .args .table) (x .pre .0) (x .args .tick) (x .args .place) (x .pre .1))
-    (deadline-within (tableIn (x .args .table)) (x .pre .0 .sound) (x .args .tick) (x .args .place) (x .pre .1))
+    (deadline-within (loadedTable (x .args .table)) (x .pre .0 .valid) (x .args .tick) (x .args .place) (x .pre .1))
 
 columns-of-requires : tie.Need-columns-of-requires Inv-loop μ-loop
 columns-of-requires c κs = search needs
@@ -185,16 +185,16 @@ start-requires c κs = search needs
 
 loop-holds : tie.Need-loop-holds Inv-loop μ-loop
 loop-holds c =
-    λ t b f r. subst (λ (y : Stand). Counting t (tick-of c) (place-of c) y (replicate 32 0)) (sym (b .stand)) (counting-start t (b .fit) (tick-of c) (place-of c) f)
+    λ t b f r. subst (λ (y : TickState). Counting t (tick-of c) (place-of c) y (replicate 32 0)) (sym (b .state-start)) (counting-start t (b .fit) (tick-of c) (place-of c) f)
 
 step-requires : tie.Need-step-requires Inv-loop μ-loop
 step-requires c κs =
     let k = loop-from-places2 c in
     let p = k .before in
     let x = entry-from-places p in
-    subst (λ (n : Numbers). Steppable n (standAt (k .loop .pace) (k .loop .places))) (sym (own p .numbers))
-    (steppable (table-of p) (x .pre .0) (standAt (k .loop .pace) (k .loop .places)) (counting-of k .follows)
-    (met-here (table-of p) (x .pre .0) (tick-of p) (place-of p) (x .pre .1) (standAt (k .loop .pace) (k .loop .places)) (k .loop .ran) (counting-of k) (then1 c .if1 .taken))
+    subst (λ (n : Numbers). Steppable n (tickStateOf (k .loop .registers) (k .loop .places))) (sym (own p .numbers))
+    (steppable (table-of p) (x .pre .0) (tickStateOf (k .loop .registers) (k .loop .places)) (counting-of k .follows)
+    (met-here (table-of p) (x .pre .0) (tick-of p) (place-of p) (x .pre .1) (tickStateOf (k .loop .registers) (k .loop .places)) (k .loop .ran) (counting-of k) (then1 c .if1 .taken))
     (omega (arith, then1 c .if1 .taken, x .pre .2, x .pre .0 .limit)))
 
 has-requires : tie.Need-has-requires Inv-loop μ-loop
@@ -216,8 +216,8 @@ loop-again c =
     let g = has-state .before .before in
     let k = loop-from-places2 (g .before) in
     let p = k .before in
-    subst (λ (l : List ℕ). Counting t (tick-of p) (place-of p) (standAt (g .step .result) (g .step .last .1 .1 .1 .1 .0)) l) (sym (c .add .ensures))
-    (counting-waits t (b .fit) (tick-of p) (place-of p) f (standAt (k .loop .pace) (k .loop .places)) (k .loop .ran) (k .loop .inv t b f r) (then1 (g .before) .if1 .taken) _
+    subst (λ (l : List ℕ). Counting t (tick-of p) (place-of p) (tickStateOf (g .step .result) (g .step .last .1 .1 .1 .1 .0)) l) (sym (c .add .ensures))
+    (counting-waits t (b .fit) (tick-of p) (place-of p) f (tickStateOf (k .loop .registers) (k .loop .places)) (k .loop .ran) (k .loop .inv t b f r) (then1 (g .before) .if1 .taken) _
     (stepped g t b) (omega (arith, r, has-state .before .if2 .taken)) (sym (has-state .has .ensures) ∙ not-true _ (c .before .before .if3 .taken)))
 
 loop-less-2 : tie.Need-loop-less-2 Inv-loop μ-loop
@@ -229,7 +229,7 @@ loop-again-2 c =
     let g = step c in
     let k = loop-from-places2 (g .before) in
     let p = k .before in
-    counting-runs t (b .fit) (tick-of p) (place-of p) f (standAt (k .loop .pace) (k .loop .places)) (k .loop .ran) (k .loop .inv t b f r)
+    counting-runs t (b .fit) (tick-of p) (place-of p) f (tickStateOf (k .loop .registers) (k .loop .places)) (k .loop .ran) (k .loop .inv t b f r)
     (then1 (g .before) .if1 .taken) _ (stepped g t b) (omega (arith, r, c .before .before .if2 .taken)) (sym (c .before .has .ensures) ∙ not-false _ (c .if3 .left))
 
 loop-less-3 : tie.Need-loop-less-3 Inv-loop μ-loop
@@ -241,7 +241,7 @@ loop-again-3 c =
     let g = c .before in
     let k = loop-from-places2 (g .before) in
     let p = k .before in
-    counting-early t (b .fit) (tick-of p) (place-of p) f (standAt (k .loop .pace) (k .loop .places)) (k .loop .ran)
+    counting-early t (b .fit) (tick-of p) (place-of p) f (tickStateOf (k .loop .registers) (k .loop .places)) (k .loop .ran)
     (k .loop .inv t b f r) (then1 (g .before) .if1 .taken) _ (stepped g t b) (omega (arith, r, c .if2 .left))
 
 cast-position : tie.Need-cast-position Inv-loop μ-loop
@@ -282,7 +282,7 @@ returns c =
     let same = same-task t (x .pre .0) (tick-of p) (place-of p) (x .pre .1) in
     let w = at-end e in
     let position : place-of p + 1 ≡ suc (place-of p) = omega arith in
-    let others = ap named (c .before .counts-above .ensures) ∙ counted-named (tableIn t) (tick-of p) (place-of p)
+    let others = ap named (c .before .counts-above .ensures) ∙ counted-named (loadedTable t) (tick-of p) (place-of p)
     (k .loop .ran) (counted-end e) (omega (arith, inside t (x .pre .0) (tick-of p) (place-of p) (x .pre .1) .1)) in
     λ i. record {
       position = position i;

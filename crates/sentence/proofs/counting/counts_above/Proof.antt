@@ -1,4 +1,4 @@
--- `sentence::counting::counts_above` meets its contract: the counts so far, and zeros behind them. Assumes nothing.
+-- `sentence::counting::counts_above` meets its contract: the counts so far, and zeros after them. Assumes nothing.
 use mathlib.Core.Path.{_≡_, ap, _∙_}
 use mathlib.Core.List.{List}
 use Prim.Native.Nat.{ℕ, _-_, _≤_, _<_}

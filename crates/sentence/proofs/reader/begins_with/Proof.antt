@@ -9,13 +9,13 @@ use borrow.Author.Needs.{needs}
 use borrow.Author.Tests.{eq-eqb, ne-eqb}
 use lib.Dec.{eqb}
 use lib.ListN.{length, getD, drop}
-use Rattle.sentence.specs.Reading.{begins}
+use Rattle.sentence.specs.Reading.{startsWith}
 use Rattle.sentence.proofs.Reading.{begins-over, begins-past, begins-on}
 use Rattle.sentence.proofs.reader.begins_with.Statement.{statement}
 use Rattle.sentence.proofs.reader.begins_with.Tie as tie
 
 abbrev Inv-loop : tie.InvT-loop
-Inv-loop bytes at word k₀ k = (k ≤ length word) × (begins word (drop at bytes) ≡ begins (drop k word) (drop (at + k) bytes))
+Inv-loop bytes at word k₀ k = (k ≤ length word) × (startsWith word (drop at bytes) ≡ startsWith (drop k word) (drop (at + k) bytes))
 
 abbrev μ-loop : tie.MeasureT-loop
 μ-loop bytes at word k₀ k = length word - k

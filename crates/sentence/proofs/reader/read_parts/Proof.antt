@@ -1,4 +1,4 @@
--- `sentence::reader::read_parts` meets its contract: part after part, what was read is what the counts name, and the rest is what is left (Parting).
+-- `sentence::reader::read_parts` meets its contract: part after part, what was read is the parts of the counts, and the rest is what is left (Parting).
 -- Assumes nothing.
 use mathlib.Core.Bool.{Bool}
 use mathlib.Core.Path.{ap, sym, _∙_, subst}

@@ -1,4 +1,4 @@
--- `sentence::writer::put` meets its contract: piece after piece, each has room since the whole sentence has.
+-- `sentence::writer::put` meets its contract: piece after piece, each has space since the whole sentence has.
 -- Assumes nothing.
 use mathlib.Core.List.{List, []}
 use mathlib.Core.Path.{_≡_, subst, _∙_}

@@ -1,4 +1,4 @@
--- `sentence::writer::put_part` meets its contract: a count of 0 is left out, any other has its two fields.
+-- `sentence::writer::put_part` meets its contract: a count of 0 has no part, any other has its two fields.
 -- Assumes nothing.
 use mathlib.Core.List.{List, _++_}
 use mathlib.Core.Path.{sym, subst}

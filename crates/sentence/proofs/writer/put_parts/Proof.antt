@@ -1,4 +1,4 @@
--- `sentence::writer::put_parts` meets its contract: after k turns the parts of the first k counts are in their place.
+-- `sentence::writer::put_parts` meets its contract: after k iterations the parts of the first k counts are in their place.
 -- Assumes nothing.
 use mathlib.Core.List.{List, [], _∷_, _++_}
 use mathlib.Core.Path.{_≡_, refl, sym, subst}

@@ -1,12 +1,12 @@
--- `session::Session::end` meets its contract: the stage is the definition's, and the end of each stage says what is spoken in it; one that is over says nothing.
+-- `session::Session::end` meets its contract: the stage is the definition's, and the end of each stage gives its transcript; one that is over writes nothing.
 -- Assumes nothing.
 use borrow.Author.Needs.{needs}
 use mathlib.Core.Path.{sym, _∙_}
 use mathlib.Core.List.{[]}
-use Rattle.session.specs.Talk.{nothing}
-use Rattle.session.proofs.Saying.{said-nothing, said-of}
+use Rattle.session.specs.Transcript.{nothing}
+use Rattle.session.proofs.TextWritten.{text-nothing, text-of}
 use Rattle.session.proofs.Replying.{stage-within, table-not-over, operations-not-over}
-use Rattle.session.proofs.Feeding.{spoken-in, over-spoken}
+use Rattle.session.proofs.Feeding.{transcript-in, over-transcript}
 use Rattle.session.proofs.Session.end.Statement.{statement}
 use Rattle.session.proofs.Session.end.Tie as tie
 
@@ -42,16 +42,16 @@ enum-told-3 c = search needs
 
 returns : tie.Need-returns
 returns c =
-    said-of (sym (spoken-in (stage-of-from-end-table-arg (c .before) .before .args .self) _ nothing []
+    text-of (sym (transcript-in (stage-of-from-end-table-arg (c .before) .before .args .self) _ nothing []
     (sym (stage-of-from-end-table-arg (c .before) .stage-of .ensures) ∙ c .before .before .enum-told .given .1))) (c .end-table .ensures)
 
 returns-2 : tie.Need-returns-2
 returns-2 c =
-    said-of (sym (spoken-in (stage-of-from-end-operations-arg (c .before) .before .args .self) _ nothing []
+    text-of (sym (transcript-in (stage-of-from-end-operations-arg (c .before) .before .args .self) _ nothing []
     (sym (stage-of-from-end-operations-arg (c .before) .stage-of .ensures) ∙ c .before .before .enum-told2 .given .1))) (c .end-operations .ensures)
 
 returns-3 : tie.Need-returns-3
-returns-3 c = said-of (sym (over-spoken (entry c .args .self) nothing [] (sym (c .before .before .stage-of .ensures) ∙ c .enum-told3 .given .1))) (said-nothing (entry c .args .out .now))
+returns-3 c = text-of (sym (over-transcript (entry c .args .self) nothing [] (sym (c .before .before .stage-of .ensures) ∙ c .enum-told3 .given .1))) (text-nothing (entry c .args .out .now))
 
 pub end-spec : {M : Type 1} → statement M
 end-spec =

@@ -1,16 +1,16 @@
--- `session::Session::feed` meets its contract: the stage is the definition's, and each stage's feed says what is spoken in it; one that is over is silent.
+-- `session::Session::feed` meets its contract: the stage is the definition's, and each stage's feed gives its transcript; one that is over writes nothing.
 -- Assumes nothing.
 use borrow.Author.Needs.{needs}
 use mathlib.Core.Path.{_≡_, sym, _∙_, subst}
 use mathlib.Core.List.{List, [], _++_}
 use Prim.Native.Nat.{ℕ}
-use Rattle.session.specs.Talk.{Ahead, nothing, unknown}
-use Rattle.session.specs.Session.{spoken, FedBy}
-use Rattle.session.proofs.Talking.{begins-with}
-use Rattle.session.proofs.Saying.{said-nothing}
+use Rattle.session.specs.Transcript.{InputEnd, nothing, unknown}
+use Rattle.session.specs.Session.{transcriptOf, FedBy}
+use Rattle.session.proofs.Transcripts.{begins-with}
+use Rattle.session.proofs.TextWritten.{text-nothing}
 use Rattle.session.proofs.Replying.{stage-within, table-not-over, operations-not-over}
 use Rattle.session.specs.declared.Fed.{Fed}
-use Rattle.session.proofs.Feeding.{over-spoken, fed-in, fed-over}
+use Rattle.session.proofs.Feeding.{over-transcript, fed-in, fed-over}
 use Rattle.session.proofs.Session.feed.Statement.{statement}
 use Rattle.session.proofs.Session.feed.Tie as tie
 
@@ -65,11 +65,11 @@ returns-2 c =
 returns-3 : tie.Need-returns-3
 returns-3 c =
     let a = entry c .args in
-    subst (λ (x : Fed). FedBy (spoken (a .self)) (a .chunk .now) (a .out .now) (a .out .now) x) (sym (c .over .ensures))
-    (fed-over (spoken (a .self)) (a .self) (a .chunk .now) (a .out .now) (a .out .now) [] 0 (said-nothing (a .out .now)) (λ bs. silent nothing bs) (λ bs. begins-with (sym (silent unknown bs))))
+    subst (λ (x : Fed). FedBy (transcriptOf (a .self)) (a .chunk .now) (a .out .now) (a .out .now) x) (sym (c .over .ensures))
+    (fed-over (transcriptOf (a .self)) (a .self) (a .chunk .now) (a .out .now) (a .out .now) [] 0 (text-nothing (a .out .now)) (λ bs. no-reply nothing bs) (λ bs. begins-with (sym (no-reply unknown bs))))
   where
-    silent : (e : Ahead) (bs : List ℕ) → spoken (entry c .args .self) e (entry c .args .chunk .now ++ bs) ≡ []
-    silent e bs = over-spoken (entry c .args .self) e (entry c .args .chunk .now ++ bs) (sym (stage-of-from-over c .stage-of .ensures) ∙ c .before .enum-told3 .given .1)
+    no-reply : (e : InputEnd) (bs : List ℕ) → transcriptOf (entry c .args .self) e (entry c .args .chunk .now ++ bs) ≡ []
+    no-reply e bs = over-transcript (entry c .args .self) e (entry c .args .chunk .now ++ bs) (sym (stage-of-from-over c .stage-of .ensures) ∙ c .before .enum-told3 .given .1)
 
 pub feed-spec : {M : Type 1} → statement M
 feed-spec =

@@ -1,4 +1,4 @@
--- `session::open::table_end` meets its contract: the two ways out are the two cases of the test for dashes.
+-- `session::open::table_end` meets its contract: the two returns are the two cases of the test for dashes.
 -- Assumes nothing.
 use borrow.Author.Needs.{needs}
 use Rattle.session.proofs.open.table_end.Statement.{statement}

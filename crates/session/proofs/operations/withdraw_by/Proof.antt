@@ -1,4 +1,4 @@
--- `session::operations::withdraw_by` meets its contract: each arm is the clause of what stands behind the letter.
+-- `session::operations::withdraw_by` meets its contract: each arm is the clause of what is after the letter.
 -- Assumes nothing.
 use borrow.Author.Needs.{needs}
 use Rattle.session.proofs.operations.withdraw_by.Statement.{statement}

@@ -1,4 +1,4 @@
--- `session::replies::put_sets` meets its contract: after k turns the first k sets are written, 21 bytes for each at most.
+-- `session::replies::put_sets` meets its contract: after k iterations the first k sets are written, 21 bytes for each at most.
 -- Assumes nothing.
 use mathlib.Core.List.{List, _∷_, _++_}
 use mathlib.Core.Path.{_≡_, refl, subst}
@@ -10,7 +10,7 @@ use Rattle.text.specs.Decimal.{decimal}
 use Rattle.text.specs.Output.{fields, space}
 use Rattle.text.specs.Written.{Put}
 use Rattle.text.proofs.Writing.{put-none, put-then, put-length}
-use Rattle.session.proofs.Saying.{fields-more}
+use Rattle.session.proofs.TextWritten.{fields-more}
 use borrow.Author.Needs.{needs}
 use Rattle.session.proofs.replies.put_sets.Statement.{statement}
 use Rattle.session.proofs.replies.put_sets.Tie as tie

@@ -8,7 +8,7 @@ use native.Mathlib.Nat.{add-zero}
 use native.Mathlib.Numerals.{add-one}
 use lib.ListN.{length}
 use Rattle.table.specs.Words.{headerWords, recordWords, records}
-use Rattle.table.proofs.HeaderFine.{header-fine, words-long, words-few}
+use Rattle.table.proofs.HeaderPasses.{header-passes, words-long, words-few}
 use Rattle.table.proofs.Walking.{Walking, walking-none, walking-again, walking-room, walking-more, walked-past, walked-again, walked-whole}
 use Rattle.table.proofs.chain.walk.Statement.{statement}
 use Rattle.table.proofs.chain.walk.Tie as tie
@@ -30,13 +30,13 @@ entry c = c .before .before .before
 
 -- the header passes
 long : (c : tie.After-shared-slice-known Inv-loop μ-loop) → headerWords ≤ length (now (c .before .args .words))
-long c = let ws = now (c .before .args .words) in words-long ws (header-fine ws (c .before .pre) .words-in)
+long c = let ws = now (c .before .args .words) in words-long ws (header-passes ws (c .before .pre) .words-in)
 
 few : (c : tie.At-loop Inv-loop μ-loop) → records (now (entry (c .before) .args .words)) ≤ mostTasks
 few c =
     let s = entry (c .before) in
     let ws = now (s .args .words) in
-    words-few ws (header-fine ws (s .pre) .words-in)
+    words-few ws (header-passes ws (s .pre) .words-in)
 
 -- where a record is met for the first time there is a place for its task
 room : (c : tie.Else3 Inv-loop μ-loop)

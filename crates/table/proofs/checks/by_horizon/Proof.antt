@@ -23,7 +23,7 @@ entry c = c .before .before .before
 abbrev last-start : tie.Else1 → tie.After-last-start
 last-start c = c .before .before .before
 
--- what the test says of the horizon
+-- the test of the horizon
 test : (c : tie.After-horizon-out)
     → horizonOut (c .before .before .last-start .result + c .before .hyperperiod .result)
     ≡ horizonOut (horizon (tableWith (entry c .args .cores) (entry c .args .fence) (entry c .args .rule) (tasksOf (entry c .args .tasks) (entry c .args .count))))

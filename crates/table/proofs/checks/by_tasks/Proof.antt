@@ -1,16 +1,16 @@
 -- `table::checks::by_tasks` meets its contract: the first task that is turned down is answered with its number and position;
--- where there is none, each task is within its limits and the horizon is looked at. Assumes nothing.
+-- where there is none, each task is within its limits and the horizon is tested. Assumes nothing.
 use mathlib.Core.Path.{_≡_, sym, ap, _∙_}
 use borrow.Author.Needs.{needs}
 use native.Mathlib.Omega.{arith}
 use native.Mathlib.Numerals.{add-one}
 use Prim.Native.Nat.{ℕ, min}
 use lib.ListN.{getD, length}
-use Rattle.model.specs.Fence.{openCount}
+use Rattle.model.specs.Fence.{unfencedCount}
 use Rattle.model.specs.Task as model
 use Rattle.model.specs.Sizes.{mostTasks}
 use Rattle.table.specs.Task.{noTask, taskOf, tasksOf}
-use Rattle.table.specs.Answer.{firstOut, wide}
+use Rattle.table.specs.Answer.{firstOut, widthLimit}
 use Rattle.table.specs.Limits.{taskNumber}
 use Rattle.table.specs.Load.{tableWith, passing}
 use Rattle.table.proofs.Places.{tasks-length, task-at}
@@ -22,27 +22,27 @@ use Rattle.table.proofs.checks.by_tasks.Tie as tie
 abbrev first-out : tie.After-task-number → tie.After-first-out
 first-out c = c .before .before .before
 
--- the table that is looked at, and its tasks counted
-abbrev given : tie.After-open-count → model.Table
+-- the table that is tested, and its tasks counted
+abbrev given : tie.After-unfenced-count → model.Table
 given c = tableWith (c .before .args .cores) (c .before .args .fence) (c .before .args .rule) (tasksOf (c .before .args .t4) (c .before .args .count))
 
-counted : (c : tie.After-open-count) → length (given c .tasks) ≡ c .before .args .count
+counted : (c : tie.After-unfenced-count) → length (given c .tasks) ≡ c .before .args .count
 counted c =
     let there : length (c .before .args .t4) ≡ mostTasks = search needs in
     tasks-length (c .before .args .t4) (c .before .args .count) (omega arith)
 
--- a width is measured against the open cores
-measured : (c : tie.After-open-count) → c .open-count .result ≡ wide (given c)
+-- a width is measured against the unfenced cores
+measured : (c : tie.After-unfenced-count) → c .unfenced-count .result ≡ widthLimit (given c)
 measured c =
     let all : min (c .before .args .cores) 64 ≡ c .before .args .cores = omega (arith, c .before .pre .0) in
-    c .open-count .ensures ∙ ap (openCount (c .before .args .fence)) all
+    c .unfenced-count .ensures ∙ ap (unfencedCount (c .before .args .fence)) all
 
 -- the first place with a task that is turned down
-out : (c : tie.After-first-out) → firstOut (wide (given (c .before))) (given (c .before) .tasks) ≡ c .first-out .result
+out : (c : tie.After-first-out) → firstOut (widthLimit (given (c .before))) (given (c .before) .tasks) ≡ c .first-out .result
 out c = ap (λ (m : ℕ). firstOut m (given (c .before) .tasks)) (sym (measured (c .before))) ∙ sym (c .first-out .ensures)
 
-open-count-requires : tie.Need-open-count-requires
-open-count-requires c κs = search needs
+unfenced-count-requires : tie.Need-unfenced-count-requires
+unfenced-count-requires c κs = search needs
 
 first-out-requires : tie.Need-first-out-requires
 first-out-requires c κs = search needs
@@ -72,9 +72,9 @@ returns c =
     let o = f .before in
     let a = o .before .args in
     let place = f .first-out .result in
-    let number : n .task-number .result ≡ taskNumber (wide (given o)) (model.task (given o) place) =
+    let number : n .task-number .result ≡ taskNumber (widthLimit (given o)) (model.task (given o) place) =
     n .task-number .ensures
-    ∙ (ap (λ (m : ℕ). taskNumber m (taskOf (getD (a .t4) place noTask))) (measured o) ∙ sym (ap (taskNumber (wide (given o))) (task-at (a .t4) (a .count) place (omega arith)))) in
+    ∙ (ap (λ (m : ℕ). taskNumber m (taskOf (getD (a .t4) place noTask))) (measured o) ∙ sym (ap (taskNumber (widthLimit (given o))) (task-at (a .t4) (a .count) place (omega arith)))) in
     c .refused .ensures
     ∙ rw (number, add-one place)
     (sym (by-number (given o) (passing (a .rule) (given o)) place (out f) (omega (arith, counted o))))
@@ -85,7 +85,7 @@ by-horizon-requires c κs =
     let o = f .before in
     let a = o .before .args in
     let e = f .first-out .ensures in
-    (search needs, (search needs, (in-limits (o .open-count .result) (a .t4) (a .count) (omega arith), o .before .pre .1 .1 .1)))
+    (search needs, (search needs, (in-limits (o .unfenced-count .result) (a .t4) (a .count) (omega arith), o .before .pre .1 .1 .1)))
 
 returns-2 : tie.Need-returns-2
 returns-2 c =
@@ -99,7 +99,7 @@ pub by-tasks-spec : {M : Type 1} → statement M
 by-tasks-spec =
     tie.close
     (tie.spec
-    open-count-requires
+    unfenced-count-requires
     first-out-requires
     mul-task
     array-copy-out-task

@@ -7,7 +7,7 @@ use Prim.Native.Nat.{ℕ}
 use denote.Ref.{now}
 use borrow.Author.Needs.{needs}
 use borrow.Author.Tests.{lt-ltb, le-ltb, eq-eqb, ne-eqb}
-use Rattle.table.specs.Words.{cores, rule, fence}
+use Rattle.table.specs.Words.{coreCount, rule, fence}
 use Rattle.table.specs.Limits.{coresOut, ruleOut, fenceOut}
 use Rattle.table.specs.Answer.{wordsOut, headerNumber}
 use Rattle.table.proofs.header.header_number.Statement.{statement}
@@ -42,20 +42,20 @@ entry-from-else5 c = entry-from-else3 (else3-from-else4 (else4-from-else5 c))
 words-fine : (c : tie.Else3) → wordsOut (now (entry-from-else3 c .args .words)) ≡ false
 words-fine c = simp (le-ltb _ _ (c .before .before .if1 .left), eq-eqb _ _ (c .before .if2 .left), le-ltb _ _ (c .if3 .left))
 
-cores-fine : (c : tie.Else4) → coresOut (cores (now (entry-from-else3 (else3-from-else4 c) .args .words))) ≡ false
+cores-fine : (c : tie.Else4) → coresOut (coreCount (now (entry-from-else3 (else3-from-else4 c) .args .words))) ≡ false
 cores-fine c = sym (c .before .cores-out .ensures) ∙ c .if4 .left
 
 rule-fine : (c : tie.Else5) → ruleOut (rule (now (entry-from-else5 c .args .words))) ≡ false
 rule-fine c = sym (c .before .rule-out .ensures) ∙ c .if5 .left
 
--- the words, and what the test of the fence says of them
+-- the words, and the test of their fence
 abbrev words-of : tie.Else5 → List ℕ
 words-of c = now (entry-from-else5 c .args .words)
 
-fenced : (c : tie.After-fence-out) → c .fence-out .result ≡ fenceOut (cores (words-of (else5 c))) (fence (words-of (else5 c)))
-fenced c = c .fence-out .ensures ∙ ap (fenceOut (cores (words-of (else5 c)))) (c .before .fence-in .ensures)
+fenced : (c : tie.After-fence-out) → c .fence-out .result ≡ fenceOut (coreCount (words-of (else5 c))) (fence (words-of (else5 c)))
+fenced c = c .fence-out .ensures ∙ ap (fenceOut (coreCount (words-of (else5 c)))) (c .before .fence-in .ensures)
 
-fence-fine : (c : tie.Else6) → fenceOut (cores (words-of (else5 (c .before)))) (fence (words-of (else5 (c .before)))) ≡ false
+fence-fine : (c : tie.Else6) → fenceOut (coreCount (words-of (else5 (c .before)))) (fence (words-of (else5 (c .before)))) ≡ false
 fence-fine c = sym (fenced (c .before)) ∙ c .if6 .left
 
 returns : tie.Need-returns

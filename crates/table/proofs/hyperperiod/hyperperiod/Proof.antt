@@ -10,7 +10,7 @@ use lib.ListN.{length, getD, take}
 use Rattle.model.specs.Horizon.{hyperperiod}
 use Rattle.model.proofs.Starts.{hyperperiod-pos}
 use Rattle.model.specs.Sizes.{mostTasks}
-use Rattle.table.specs.Task.{tasksOf, noTask, Within}
+use Rattle.table.specs.Task.{tasksOf, noTask, TimesWithin}
 use Rattle.table.proofs.Hyperperiods.{cycle-most, hyperperiod-next, hyperperiod-over, hyperperiod-all}
 use Rattle.table.proofs.hyperperiod.hyperperiod.Statement.{statement}
 use Rattle.table.proofs.hyperperiod.hyperperiod.Tie as tie
@@ -51,7 +51,7 @@ div-multiple c =
 mul-multiple : tie.Need-mul-multiple Inv-loop μ-loop
 mul-multiple c =
     let s = loop c in
-    let within : Within (getD (s .before .args .t1) (s .loop .i) noTask) = s .before .pre .1 (s .loop .i) (omega arith) in
+    let within : TimesWithin (getD (s .before .args .t1) (s .loop .i) noTask) = s .before .pre .1 (s .loop .i) (omega arith) in
     let most : c .before .cycle .result ≤ 2 * mostTime = omega (arith, c .before .cycle .ensures, cycle-most (getD (s .before .args .t1) (s .loop .i) noTask) within) in
     record { fits = lt-of-le-of-lt (mul-le-mul (le-trans (div-le-self (s .loop .multiple) (c .gcd .result)) (s .loop .inv .1)) most) (lit< tt) }
 

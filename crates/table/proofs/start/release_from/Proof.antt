@@ -1,11 +1,11 @@
 -- `table::start::release_from` meets its contract. The product of rest and quotient by 2^26 is the ticks since the offset,
--- cut off at 0 (`elapsed`), and rounding them up to whole periods is the model's own formula. Assumes nothing.
+-- cut off at 0 (`since-difference`), and rounding them up to whole periods is the model's own formula. Assumes nothing.
 use Prim.Native.Nat.{ℕ, _+_, _*_, _-_, _/_}
 use mathlib.Core.Path.{_≡_, ap}
 use borrow.Author.Needs.{needs}
 use native.Mathlib.Nat.{div-mul-le-self, lt-of-le-of-lt, add-le-add, le-refl}
 use native.Mathlib.Omega.{arith}
-use Rattle.table.proofs.Starts.{since, elapsed}
+use Rattle.table.proofs.Starts.{since, since-difference}
 use Rattle.table.proofs.start.release_from.Statement.{statement}
 use Rattle.table.proofs.start.release_from.Tie as tie
 
@@ -16,7 +16,7 @@ sub-ahead : tie.Need-sub-ahead
 sub-ahead c = search needs
 
 since-elapsed : (c : tie.Start) → since (c .args .t) (c .args .task .offset) ≡ c .args .t - c .args .task .offset
-since-elapsed c = elapsed (c .args .t) (c .args .task .offset) (omega arith) (omega arith)
+since-elapsed c = since-difference (c .args .t) (c .args .task .offset) (omega arith) (omega arith)
 
 mul-since : tie.Need-mul-since
 mul-since c = omega (arith, since-elapsed c)

@@ -3,7 +3,7 @@
 use mathlib.Core.Path.{sym, subst}
 use Rattle.judge.specs.declared.Verdict.{Verdict}
 use Rattle.text.specs.Output.{firstLine}
-use Rattle.judge.specs.Said.{saidBy}
+use Rattle.judge.specs.JudgeAnswer.{verdictMeaning}
 use Rattle.text.specs.Written.{Put}
 use borrow.Author.Needs.{needs}
 use Rattle.text.proofs.first.put_first.Statement.{statement}
@@ -94,7 +94,7 @@ unfolding firstLine
 returns c =
     let a = entry-from-line (c .before) .args in
     let f = c .before .before .put-pair in
-    (subst (λ (v : Verdict). Put (a .line .now) 0 (firstLine (saidBy v)) (f .last .0) (f .result)) (sym (verdict-from-line (c .before) .verdict .given .1)) (f .ensures .0), f .ensures .1)
+    (subst (λ (v : Verdict). Put (a .line .now) 0 (firstLine (verdictMeaning v)) (f .last .0) (f .result)) (sym (verdict-from-line (c .before) .verdict .given .1)) (f .ensures .0), f .ensures .1)
 
 same-length-2 : tie.Need-same-length-2
 same-length-2 c = search needs
@@ -104,7 +104,7 @@ unfolding firstLine
 returns-2 c =
     let a = entry-from-line2 (c .before) .args in
     let f = c .before .before .put-pair2 in
-    (subst (λ (v : Verdict). Put (a .line .now) 0 (firstLine (saidBy v)) (f .last .0) (f .result)) (sym (verdict2-from-line2 (c .before) .verdict2 .given .1)) (f .ensures .0), f .ensures .1)
+    (subst (λ (v : Verdict). Put (a .line .now) 0 (firstLine (verdictMeaning v)) (f .last .0) (f .result)) (sym (verdict2-from-line2 (c .before) .verdict2 .given .1)) (f .ensures .0), f .ensures .1)
 
 same-length-3 : tie.Need-same-length-3
 same-length-3 c = search needs
@@ -114,7 +114,7 @@ unfolding firstLine
 returns-3 c =
     let a = entry-from-line3 (c .before) .args in
     let f = c .before .before .put-pair3 in
-    (subst (λ (v : Verdict). Put (a .line .now) 0 (firstLine (saidBy v)) (f .last .0) (f .result)) (sym (verdict3-from-line3 (c .before) .verdict3 .given .1)) (f .ensures .0), f .ensures .1)
+    (subst (λ (v : Verdict). Put (a .line .now) 0 (firstLine (verdictMeaning v)) (f .last .0) (f .result)) (sym (verdict3-from-line3 (c .before) .verdict3 .given .1)) (f .ensures .0), f .ensures .1)
 
 same-length-4 : tie.Need-same-length-4
 same-length-4 c = search needs
@@ -124,7 +124,7 @@ unfolding firstLine
 returns-4 c =
     let a = entry-from-line4 (c .before) .args in
     let f = c .before .before .put-pair4 in
-    (subst (λ (v : Verdict). Put (a .line .now) 0 (firstLine (saidBy v)) (f .last .0) (f .result)) (sym (verdict4-from-line4 (c .before) .verdict4 .given .1)) (f .ensures .0), f .ensures .1)
+    (subst (λ (v : Verdict). Put (a .line .now) 0 (firstLine (verdictMeaning v)) (f .last .0) (f .result)) (sym (verdict4-from-line4 (c .before) .verdict4 .given .1)) (f .ensures .0), f .ensures .1)
 
 pub put-first-spec : {M : Type 1} → statement M
 put-first-spec =

@@ -10,7 +10,7 @@ use Rattle.text.specs.Decimal.{decimal}
 use Rattle.text.specs.Output.{space}
 use Rattle.text.specs.Written.{Put}
 use Rattle.text.proofs.Writing.{put-one, put-then, put-length}
-use Rattle.text.proofs.Spelling.{pair-text}
+use Rattle.text.proofs.RowText.{pair-text}
 use borrow.Author.Needs.{needs}
 use Rattle.text.proofs.first.put_pair.Statement.{statement}
 use Rattle.text.proofs.first.put_pair.Tie as tie

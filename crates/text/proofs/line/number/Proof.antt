@@ -7,7 +7,7 @@ use native.Mathlib.Omega.{arith}
 use lib.ListN.{length, take, getD}
 use lib.Seq.{take-all}
 use Rattle.text.specs.Decimal.{all, isDigit, value}
-use Rattle.text.specs.declared.line.Found.the-variants.{Value}
+use Rattle.text.specs.declared.line.ParsedNumber.the-variants.{Value}
 use Rattle.text.proofs.Values.{digits-exact}
 use Rattle.text.proofs.Numbers.{found-value, found-nothing, digits-more, value-on, value-nine}
 use Rattle.text.proofs.line.number.Statement.{statement}

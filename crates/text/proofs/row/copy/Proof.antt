@@ -1,4 +1,4 @@
--- `text::row::copy` meets its contract: after k turns the first k bytes are in their place.
+-- `text::row::copy` meets its contract: after k iterations the first k bytes are in their place.
 -- Assumes nothing.
 use mathlib.Core.Path.{_≡_, refl, _∙_, subst}
 use Prim.Native.Nat.{ℕ, _+_, _-_, _≤_, _<_}

@@ -10,7 +10,7 @@ use Rattle.text.specs.Decimal.{decimal}
 use Rattle.text.specs.Written.{Put}
 use Rattle.text.proofs.Decimals.{decimal-one, decimal-length, count-most}
 use Rattle.text.proofs.Writing.{put-one, put-then}
-use Rattle.text.proofs.Spelling.{decimal-two}
+use Rattle.text.proofs.RowText.{decimal-two}
 use Rattle.text.proofs.row.put_byte.Statement.{statement}
 use Rattle.text.proofs.row.put_byte.Tie as tie
 

@@ -1,4 +1,4 @@
--- `text::row::put_row` meets its contract: the tick has at most ten digits, and the text of the cores stands after them.
+-- `text::row::put_row` meets its contract: the tick has at most ten digits, and the text of the cores is after them.
 -- Assumes nothing.
 use Prim.Native.Nat.{_≤_}
 use native.Mathlib.Omega.{arith}

@@ -1,4 +1,0 @@
--- What `ask` prints: one definition, of the whole input.
-pub mod Figures
-pub mod Positions
-pub mod Asked

@@ -1,0 +1,65 @@
+-- `capi::run_buffer::put_sets` meets its contract. The loop's invariant: the first i words are sets, and the others are as found (`written-more`).
+-- Assumes nothing.
+use mathlib.Core.Path.{_≡_, sym, ap, _∙_}
+use mathlib.Core.List.{List, _++_}
+use Prim.Native.Nat.{ℕ, _+_, _-_, _≤_}
+use native.Mathlib.Omega.{arith}
+use lib.ListN.{length, getD, take, drop, length-set}
+use lib.Seq.{length-take-le, take-all}
+use borrow.Author.Needs.{needs}
+use Rattle.run.proofs.Written.{written-more, take-more}
+use Rattle.capi.proofs.run_buffer.put_sets.Statement.{statement}
+use Rattle.capi.proofs.run_buffer.put_sets.Tie as tie
+use Rattle.model.specs.Sizes.{mostTasks}
+
+abbrev Inv-loop : tie.InvT-loop
+Inv-loop words₀ sets i₀ words i = (i ≤ mostTasks) × ((length words ≡ length words₀) × (words ≡ take i sets ++ drop i words₀))
+
+abbrev μ-loop : tie.MeasureT-loop
+μ-loop words₀ sets i₀ words i = mostTasks - i
+
+loop-holds : tie.Need-loop-holds Inv-loop μ-loop
+loop-holds c = search needs
+
+mul-words : tie.Need-mul-words Inv-loop μ-loop
+mul-words c = search needs
+
+array-read-words : tie.Need-array-read-words Inv-loop μ-loop
+array-read-words c = omega arith
+
+mul-words-2 : tie.Need-mul-words-2 Inv-loop μ-loop
+mul-words-2 c = search needs
+
+slice-write-words : tie.Need-slice-write-words Inv-loop μ-loop
+slice-write-words c = omega arith
+
+add-i : tie.Need-add-i Inv-loop μ-loop
+add-i c = omega arith
+
+loop-less : tie.Need-loop-less Inv-loop μ-loop
+loop-less c = omega arith
+
+loop-again : tie.Need-loop-again Inv-loop μ-loop
+loop-again c =
+    let s = c .before in
+    let a = s .before .args in
+    let i = s .loop .i in
+    let len : length (a .t1) ≡ mostTasks = search needs in
+    let n : length (take i (a .t1)) ≡ i = length-take-le i (a .t1) (omega arith) in
+    let more = written-more (take i (a .t1)) (a .words .now) i (getD (a .t1) i 0) 0 n (omega arith) in
+    (omega arith, (simp length-set (s .loop .inv .1 .0), simp (s .loop .inv .1 .1) (more ∙ ap (λ (l : List ℕ). l ++ drop (i + 1) (a .words .now)) (sym (take-more (a .t1) i 0 (omega arith))))))
+
+same-length : tie.Need-same-length Inv-loop μ-loop
+same-length c = c .before .loop .inv .1 .0
+
+returns : tie.Need-returns Inv-loop μ-loop
+returns c =
+    let s = c .before in
+    let a = s .before .args in
+    let len : length (a .t1) ≡ mostTasks = search needs in
+    let e : s .loop .i ≡ mostTasks = omega arith in
+    s .loop .inv .1 .1 ∙ (ap (λ (k : ℕ). take k (a .t1) ++ drop k (a .words .now)) e ∙ ap (λ (l : List ℕ). l ++ drop mostTasks (a .words .now)) (take-all mostTasks (a .t1) (omega arith)))
+
+pub put-sets-spec : {M : Type 1} → statement M
+put-sets-spec =
+    tie.close (tie.spec Inv-loop μ-loop loop-holds mul-words array-read-words mul-words-2 slice-write-words add-i loop-less loop-again same-length returns)

@@ -1,0 +1,2 @@
+-- The cost of the two judges, by which the faster one is chosen.
+pub mod Cost

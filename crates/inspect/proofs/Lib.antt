@@ -1,2 +1,0 @@
--- Laws of a turn.
-pub mod Turning

@@ -1,2 +1,0 @@
--- What the program `inspect` promises of one turn of reading and answering.
-pub mod Turns

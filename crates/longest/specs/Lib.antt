@@ -1,6 +1,0 @@
--- The longest answer of each task: the time of a job and the figure, what a firm table keeps of it, and what is promised.
-pub mod Response
-pub mod Kept
-pub mod Numbers
-pub mod Noting
-pub mod Longest

@@ -1,0 +1,2 @@
+-- Laws of a round.
+pub mod Rounds

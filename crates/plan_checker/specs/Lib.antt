@@ -1,0 +1,2 @@
+-- The contract of one round of reading and answering of the program plan_checker.
+pub mod Rounds

@@ -1,0 +1,19 @@
+-- The relation of the machine to the full-length run of the book: from one line of jobs and one place to a tick and to a whole run.
+pub mod Examples
+pub mod Lines
+pub mod Places
+pub mod Sets
+pub mod Place
+pub mod Moves
+pub mod Parts
+pub mod Served
+pub mod GrantStep
+pub mod MachineRelated
+pub mod WidthParity
+pub mod NextEvent
+pub mod Late
+pub mod Walk
+pub mod SameClaimants
+pub mod Refines
+pub mod Fields
+pub mod Steps

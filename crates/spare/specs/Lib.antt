@@ -1,7 +1,0 @@
--- Spare ticks: tables with longer lengths, the rules that they are given for, the figure of a task, its words, and what is promised.
-pub mod Longer
-pub mod Ordered
-pub mod Spare
-pub mod GrownWords
-pub mod Numbers
-pub mod Answer
