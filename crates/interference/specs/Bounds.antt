@@ -22,7 +22,7 @@ use Rattle.judge.specs.Judged.{Fit, loadedTable}
 use Rattle.interference.specs.declared.Bounds.{Bounds}
 use Rattle.interference.specs.declared.Tested.{Tested}
 
--- a window and a bound together have at most so many ticks
+-- the most ticks of a window and a bound together
 abbrev pub mostSpan : ℕ
 mostSpan = 2000000
 
@@ -68,7 +68,7 @@ pub record TestedOf (s : Table) (r : Tested) : Type 0 where
   pub value : r ≡ testedOf s
   -- where the table passes, no deadline of the full-length run is missed at any tick ..
   pub meets : r .met ≡ true → NeverMissed s
-  -- .. and the bounds are those of the test: every job has ended so many ticks after its release
+  -- .. and the bounds are those of the test: every job has ended within its bound after its release
   pub bounds : r .met ≡ true → (p : ℕ) → p < length (s .tasks) → getD (r .bounds) p 0 ≡ responseBound s p
   pub ends : r .met ≡ true → (p : ℕ) → p < length (s .tasks) → EndsWithin s p (getD (r .bounds) p 0)
 

@@ -1,4 +1,4 @@
-// The interference test: a table that passes misses no deadline, and no tick of its run is looked at. One that does not pass may still be met.
+// The interference test: a table that passes misses no deadline, and is not simulated. One that does not pass may still be met.
 ghost use mathlib.Core.Bool.{cond};
 ghost use mathlib.Core.Path.{_≡_};
 ghost use Prim.Native.Nat.{suc, _-_, _≤_};
@@ -12,7 +12,7 @@ use table::Loaded;
 mod search; // search.rt: the window of a place
 mod workload; // workload.rt: the interference on a place
 
-// Whether a table passes, and where it does, for each place its response-time bound: every job ends within so many ticks of its release. Zeros past the
+// Whether a table passes, and where it does, for each place its response-time bound: every job ends within that many ticks of its release. Zeros past the
 // count, and where it does not pass.
 pub struct Tested {
     pub met: bool,
@@ -25,7 +25,7 @@ pub struct Bounds {
     pub tested: Tested,
 }
 
-// How many cores the places above are given at least while a job waits, of so many free ones, where a width of `refused` does not fit.
+// How many cores the places above are given at least while a job waits, where `free` cores are unfenced and a width of `refused` does not fit.
 fn need_of(free: u32, refused: u32) -> u32
     requires { ⌜ free ≤ mostCores ⌝ }
     ensures { λ r. ⌜ (r ≡ suc free - refused) × (r ≤ 65) ⌝ }

@@ -25,7 +25,7 @@ pub(crate) fn smaller(a: u32, b: u32) -> u32
     if a < b { a } else { b }
 }
 
-// In how many ticks jobs of this length are given cores at most, where so many are whole and of one more there are `rest` ticks.
+// In how many ticks jobs of this length are given cores at most, where `whole` jobs are in the window and `rest` ticks of one more.
 fn ticks_of(length: u32, whole: u32, rest: u32) -> u32
     requires { ⌜ (whole * length ≤ mostSpan) × (length ≤ mostTime) ⌝ }
     ensures { λ r. ⌜ r ≡ whole * length + min length rest ⌝ }
@@ -34,7 +34,7 @@ fn ticks_of(length: u32, whole: u32, rest: u32) -> u32
     whole * length + last
 }
 
-// How many cores a task is given at most in so many ticks of a window, summed over the ticks; one division tells the workload of all jobs and of every second one.
+// How many cores a task is given at most in `waits` ticks of a window, summed over the ticks; one division gives the workload of all jobs and of every second one.
 fn cores_in(task: Task, end: u32, window: u32, waits: u32) -> u64
     requires { ⌜ (1 ≤ task .period) × (task .period ≤ mostTime) × (task .length ≤ task .period) × (task .length ≤ end) × (end ≤ mostTime) × (window ≤ mostTime) × (waits ≤ mostTime) ⌝ }
     ensures { λ r. ⌜ (r ≡ coresIn (taskOf task) end window waits) × (r ≤ mostCoresIn) ⌝ }
@@ -58,7 +58,7 @@ fn cores_in(task: Task, end: u32, window: u32, waits: u32) -> u64
     sum + (wide - narrow) as u64 * second as u64
 }
 
-// How many cores the places above one are given at most in so many ticks of a window, summed over the ticks.
+// How many cores the places above one are given at most in `waits` ticks of a window, summed over the ticks.
 pub(crate) fn interference_in(
     table: Loaded,
     ends: [u32; MOST_TASKS],

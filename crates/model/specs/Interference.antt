@@ -1,4 +1,4 @@
--- The interference test: a table that passes it misses no deadline, and no tick of its run is looked at. A table that fails it may still be met.
+-- The interference test: a table that passes it misses no deadline, and is not simulated. A table that fails it may still be met.
 -- A job that has not ended L ticks after its release waited in all but fewer than C of them. A job waits only while places above are given cores.
 -- So where the interference of these is too small, the job has ended: L bounds its response time. `interference-meets` shows it.
 -- The workload is that of Bertogna and Cirinei (RTSS 2007) for tasks of one core; Goossens and Berten's paper on gang tasks has no such test.
@@ -36,7 +36,7 @@ abbrev pub coresIn : Task → ℕ → ℕ → ℕ → ℕ
 coresIn τ e L n =
     narrowest τ * min n (workloadIn τ (τ .period) e L) + (widest τ - narrowest τ) * min n (workloadIn τ (2 * τ .period) e L)
 
--- a job that has not ended L ticks after its release waited in at least so many of them
+-- the least number of ticks in which a job waited that has not ended L ticks after its release
 abbrev pub waitsIn : Task → ℕ → ℕ
 waitsIn τ L = suc L - τ .length
 
@@ -49,7 +49,7 @@ interferenceIn s e p L n = sumBelow p (λ i. coresIn (task s i) (e i) L n)
 unfoldable pub refusedWidth : Table → ℕ → ℕ
 refusedWidth s p = cond (endsChoosing (s .rule)) (largestBelow (suc p) (λ i. widest (task s i))) (widest (task s p))
 
--- in a tick in which a job of place p waits the places above it are given at least so many cores
+-- the least number of cores that the places above p are given in a tick in which a job of p waits
 unfoldable pub need : Table → ℕ → ℕ
 need s p = suc (unfencedCount (s .fence) (s .cores)) - refusedWidth s p
 
@@ -82,7 +82,7 @@ shortenedWindow s e p (suc n) low high =
     (cond (suffices s e p ((low + high) / 2)) low (suc ((low + high) / 2)))
     (cond (suffices s e p ((low + high) / 2)) ((low + high) / 2) high)
 
--- so many tries take any search to the deadline, and so many halvings to one window: more change nothing (`first-enough`, `halvings-enough`)
+-- the tries that take any search to the deadline, and the halvings that take it to one window: more change nothing (`first-enough`, `halvings-enough`)
 abbrev pub mostTries : ℕ
 mostTries = 21
 

@@ -6,7 +6,7 @@ use Rattle.interference.proofs.Contract.{loaded-contract, refused-contr
 use Rattle.interference.proofs.response_bounds.Statement.{statement}
 use Rattle.interference.proofs.response_bounds.Tie as tie
 
--- THE STATES: the words, and the table that was loaded before it was turned down
+-- THE STATES: the words, and the table that was loaded before it was refused
 abbrev begin : tie.After-load → tie.Start
 begin l = l .before .before
 
