@@ -33,10 +33,10 @@ extern "C" {
 /* The version of this header; sivorandra_version returns that of the library that is linked. One number, which grows with the version:
    major * 10000 + minor * 100 + patch. */
 #define SIVORANDRA_VERSION_MAJOR 0
-#define SIVORANDRA_VERSION_MINOR 18
+#define SIVORANDRA_VERSION_MINOR 19
 #define SIVORANDRA_VERSION_PATCH 0
 #define SIVORANDRA_VERSION (SIVORANDRA_VERSION_MAJOR * 10000 + SIVORANDRA_VERSION_MINOR * 100 + SIVORANDRA_VERSION_PATCH)
-#define SIVORANDRA_VERSION_TEXT "0.18.0"
+#define SIVORANDRA_VERSION_TEXT "0.19.0"
 
 /* No call uses more bytes of the stack. */
 #define SIVORANDRA_STACK_BYTES 20480
@@ -55,6 +55,7 @@ extern "C" {
 #define SIVORANDRA_MISS 2u        /* tick and position */
 #define SIVORANDRA_LENGTH 0u      /* from sivorandra_sentence: the sentence's length, and 0 */
 #define SIVORANDRA_KEPT 0u        /* from sivorandra_conflict: the set of the positions kept, bit 0 for position 1, and 0 */
+#define SIVORANDRA_TESTED 0u      /* from sivorandra_bounds: 1 where the table passes the interference test, else 0; and 0 */
 #define SIVORANDRA_REFUSED 3u     /* number, one of enum sivorandra_number, and position; from sivorandra_check_row the tick instead */
 #define SIVORANDRA_ROW_REFUSED 4u /* the last row of a replay: number and position */
 #define SIVORANDRA_NO_SENTENCE 5u /* from sivorandra_facts: 0 and 0 */
@@ -277,6 +278,15 @@ uint32_t sivorandra_conflict(const uint32_t *words, size_t words_len,
 uint32_t sivorandra_slack(const uint32_t *words, size_t words_len,
                           uint32_t *figures, size_t figures_len,
                           uint32_t *answer, size_t answer_len);
+
+/* The response-time bounds of the table in `words`, by the interference test, without simulation. Done and 1: the table passes, so it never
+   misses a deadline, and at full length no job of a task takes more ticks from release to end than the task's word in the first
+   SIVORANDRA_MOST_TASKS words of `figures`, position 1 first. Done and 0: the table does not pass, and may be accepted all the same; sivorandra_judge
+   decides. Or refused by the table's numbers. A bound is at least the figure of sivorandra_response_times, and at most D. Words past the last task are 0,
+   and so are all 32 where the table does not pass or is refused; words behind them stay. At most 41 windows are tried for each task. */
+uint32_t sivorandra_bounds(const uint32_t *words, size_t words_len,
+                           uint32_t *figures, size_t figures_len,
+                           uint32_t *answer, size_t answer_len);
 
 /* Begins a plan that another planner makes for the table in `words`, whatever the table's verdict: done, or refused by the table's numbers, 1 to 9 and
    19. Its rows are then lent to sivorandra_check_row, from tick 0 on, as many as the horizon, S + P.

@@ -1,7 +1,7 @@
 #!/usr/bin/env python3
 """Writes a page on a table: report.py [--name NAME] [--from TICK] [--to TICK] [--replay LIST] PROGRAM... < table > report.html
 
-It decides nothing. The verdict, the rows, the sentence on a miss, the clash, the longest answers and the spare ticks are what the proved programs print, which stand beside
+It decides nothing. The verdict, the rows, the sentence on a miss, the clash, the longest answers, their bounds and the spare ticks are what the proved programs print, which stand beside
 PROGRAM; the tasks are the table's. What could be changed is the same table with one change, and the verdict on it the program's. It counts cells of printed rows, or where they are
 too many the jobs of one P by the table, and no more.
 What takes long is waited for so many seconds; then the page says that it is not there.
@@ -139,6 +139,14 @@ def most(table, pictures):
     return min(SHOWN, int(BYTES / pictures / tick))
 
 
+# The bounds of the interference test, or None where the table does not pass it.
+def bounds_in(said, table):
+    found = [] if said in (None, b"none\n") else figures_in(said, table)
+    if isinstance(found, int):
+        raise Trouble(f"the bounds are refused by {found}")
+    return found or None
+
+
 # Lines of `position figure` for each position, or the number of the refusal.
 def figures_in(said, table):
     if said.startswith(b"refused "):
@@ -182,13 +190,19 @@ def verdict_header(word, name, lead, more=None, look="lead"):
                    element("div", page.icon(word), element("h1", FITS[word]), class_="top"), paragraph(*lead, class_="lead"), paragraph(more, class_=look) if more else None, class_=word, id="verdict")
 
 
-def facts(word, first, second, table):
+# Where the verdict on an accepted table comes from: the test looks at no tick.
+BY_TEST = ("Verdict by", "the interference test", "every job of every task ends within a bound that is no later than its deadline; no tick was simulated")
+BY_SIMULATION = ("Verdict by", "simulation", "of the full-length run up to the horizon; the table does not pass the interference test, which is quicker and accepts fewer tables")
+
+
+def facts(word, first, second, table, bounds=None):
     fenced = f"{len(table.fenced)} of them fenced: they belong to the hydraulics" if table.fenced else "none of them fenced"
     found = [("Start of the repeat, S", number(first), "from this tick on everything repeats"), ("Period, P", number(second), f"it repeats every {'tick' if second == 1 else ticks(second)}"),
              ("Horizon, S + P", number(first + second), "no deadline missed up to this tick means that none ever is")] if word != "miss" else [
              ("First miss", f"tick {number(first)}", "the earliest; at one tick the highest in priority"), ("Late task", f"position {second}", f"record {table.records[second - 1]} of the table")]
     found += [("Tasks", len(table.tasks), "position 1 has the highest priority"), ("Cores", table.cores, fenced),
               ("Rule", f"{table.rule}, {picture.RULES[table.rule]}", RULES[table.rule])]
+    found += [BY_TEST if bounds else BY_SIMULATION] if word != "miss" else []
     promises = [(element("b", f"{known.capitalize()}: ", class_="good" if known == "firm" else "fair"), words, element("b", f" This table is {word}.") if known == word else None) for known, words in PROMISES.items()] + ([element("b", "This table is neither.")] if word == "miss" else [])
     return section("In short", paragraph(WORDS, class_="soft") if word != "miss" else None, element("dl", *(element("div", element("dt", what), element("dd", figure, element("small", words))) for what, figure, words in found), class_="facts"),
                    listing(promises, class_="promises"), id="short")
@@ -393,20 +407,22 @@ def change_section(programs, word, table, late=None, kept=()):
 # ---- An accepted table
 
 # Of a judged table each task, and where there are figures how close it comes; `spare` has the figures, or the words why there are none.
-def answers_section(programs, word, table, longest, spare, listed=None):
+def answers_section(programs, word, table, longest, spare, listed=None, bounds=None):
     items = []
     for position, task in enumerate(table.tasks, 1):
         fill, figures = colour(position)[0], []
         line = lambda what, drawn, said: [element("div", element("span", what, class_="what"), drawn, element("span", said, class_="number"))]
         if longest:
             figures += line("longest answer", page.bar(task.D, [(longest[position - 1], fill)]), f"{number(longest[position - 1])} of {ticks(task.D)}")
+        elif bounds:
+            figures += line("bound", page.bar(task.D, [(bounds[position - 1], fill)]), f"at most {number(bounds[position - 1])} of {ticks(task.D)}")
         if isinstance(spare, list):
             grown = spare[position - 1]
             figures += line("length and spare", page.bar(task.D, [(task.C, fill), (grown, "spare")]), f"{number(task.C)} + {number(grown)} to spare")
         items.append(element("li", chip(position), element("div", element("b", f"Position {position}"), element("span", f" record {table.records[position - 1]}", class_="soft"), element("br"),
                                                           element("span", task_words(task), class_="soft")),
                              element("div", *figures, class_="figures") if figures else None, id=f"task-{position}"))
-    inner = [element("ul", *items, class_="tasks" if longest or isinstance(spare, list) else "tasks plain")]
+    inner = [element("ul", *items, class_="tasks" if longest or bounds or isinstance(spare, list) else "tasks plain")]
     if word == "miss":
         return section("The tasks", *inner, id="tasks")
     words = "The longest answer is the most ticks that a job of the task ever takes from its release to its end, beside its deadline. " + (
@@ -414,6 +430,9 @@ def answers_section(programs, word, table, longest, spare, listed=None):
     inner.insert(0, paragraph(words, NOT_OF_THE_LIST if listed else None, class_="soft"))
     if longest is None:
         inner.append(waited(programs, "The question for the longest answers", "--longest"))
+        if bounds:
+            inner.insert(1, paragraph(element("b", "Shown are bounds, not longest answers. "), "By the interference test no full-length job takes more ticks from its release to its end than its bound; it may take fewer. ",
+                                      element("code", "./sivorandra --bounds"), " prints them.", class_="note", id="bounds"))
     if spare is None:
         inner.append(waited(programs, "The question for the spare ticks", "--spare"))
     elif isinstance(spare, list):
@@ -671,6 +690,7 @@ def miss_page(programs, text, name, first, second, table, source, asked, listed)
 
 
 def accepted_page(programs, text, name, word, first, second, table, source, asked, listed):
+    bounds = bounds_in(programs.heard(programs.asking(b"bounds")), table)
     longest, spare = programs.asking(b"longest"), programs.asking(b"spare")
     shown = None if listed else picture_rows(programs, word, first, second, table, source, asked, 1)
     fullness = fullness_section(programs, first, second, table, listed)
@@ -690,8 +710,8 @@ def accepted_page(programs, text, name, word, first, second, table, source, aske
             raise Trouble(f"the spare ticks are refused by {room}")
         room = no_spare(table)
     changed = change_section(programs, word, table) if word == "full" else None
-    return page.document(f"{FITS[word]} \u2013 {name}", range(1, len(table.tasks) + 1), verdict_header(word, name, LEADS[word], lead, "lead" if status == FINE else "lead bad"), facts(word, first, second, table), drawn,
-                         answers_section(programs, word, table, answers, room, listed), fullness, changed, table_section(text, table, f"{word} {first} {second}"), footer()), status
+    return page.document(f"{FITS[word]} \u2013 {name}", range(1, len(table.tasks) + 1), verdict_header(word, name, LEADS[word], lead, "lead" if status == FINE else "lead bad"), facts(word, first, second, table, bounds), drawn,
+                         answers_section(programs, word, table, answers, room, listed, bounds), fullness, changed, table_section(text, table, f"{word} {first} {second}"), footer()), status
 
 
 # The page on a table, and the status; `listed` is the list's name, its lines and whether there are more.

@@ -146,6 +146,8 @@ static uint32_t take(const uint8_t *row_lent, size_t len) { return sivorandra_ch
 static uint32_t response_times(const uint32_t *table, size_t len) { return sivorandra_response_times(table, len, words_at(&numbers), numbers.len, ANSWER); }
 static uint32_t slack(const uint32_t *table, size_t len) { return sivorandra_slack(table, len, words_at(&numbers), numbers.len, ANSWER); }
 
+static uint32_t bounded(const uint32_t *table, size_t len) { return sivorandra_bounds(table, len, words_at(&numbers), numbers.len, ANSWER); }
+
 /* A slice of length 0 whose pointer is NULL. */
 #define NONE(slice) ((slice).len = 0, (slice).null = 1)
 
@@ -239,7 +241,7 @@ static void sentences(void)
     fresh(), NONE(answer), expect("facts: no answer", 1, sivorandra_facts(NULL, 0, none, FACTS, ANSWER));
 }
 
-/* The response times and the slacks: 32 words in front and no more, all zeros in a refusal, lengths around 32, and NULL for each slice. `numbers`
+/* The response times, the slacks and the bounds, of which 0 is no refusal: 32 words in front and no more, all zeros in a refusal, lengths around 32, and NULL for each slice. `numbers`
    has the figures. */
 static void figures_given(uint32_t a, uint32_t b, uint32_t c)
 {
@@ -248,18 +250,18 @@ static void figures_given(uint32_t a, uint32_t b, uint32_t c)
     memcpy(numbers.want + GUARD, three, sizeof three);
 }
 
-static void figures_by(uint32_t (*call)(const uint32_t *, size_t), const uint32_t *given, const uint32_t *three, const uint32_t *turned, uint32_t number)
+static void figures_by(uint32_t (*call)(const uint32_t *, size_t), const uint32_t *given, uint32_t beside, const uint32_t *three, const uint32_t *turned, uint32_t number)
 {
     enum { FIGURES = SIVORANDRA_MOST_TASKS };
     static const size_t lens[] = { 1, FIGURES - 1, FIGURES, FIGURES + 1, 100 };
     for (size_t i = 0; i < sizeof lens / sizeof lens[0]; i++) {
         fresh(), numbers.len = lens[i];
         if (lens[i] >= FIGURES)
-            answered(SIVORANDRA_DONE, 0, 0), figures_given(three[0], three[1], three[2]);
+            answered(SIVORANDRA_DONE, beside, 0), figures_given(three[0], three[1], three[2]);
         expect("figures: every length", lens[i] < FIGURES, call(given, TABLE));
         fresh(), numbers.len = lens[i];
         if (lens[i] >= FIGURES)
-            refused(number), figures_given(0, 0, 0);
+            number ? refused(number) : answered(SIVORANDRA_TESTED, 0, 0), figures_given(0, 0, 0);
         expect("figures: a refusal", lens[i] < FIGURES, call(turned, TABLE));
     }
     fresh(), numbers.len = FIGURES, refused(1), figures_given(0, 0, 0), expect("figures: no words", 0, call(NULL, 0));
@@ -272,10 +274,12 @@ static void figures_by(uint32_t (*call)(const uint32_t *, size_t), const uint32_
 static void figures(void)
 {
     static const uint32_t limited[TABLE] = { 1, 1, 2, 0, 0, 2, 0, 1, 1, 6, 6, 1, 3, 0, 1, 1, 2, 6, 1, 0, 0, 1, 1, 6, 6, 1 };
-    static const uint32_t response_times_of_full[3] = { 2, 5, 4 }, slack_of_limited[3] = { 0, 0, 3 };
-    figures_by(response_times, full, response_times_of_full, miss, 13);
-    figures_by(slack, limited, slack_of_limited, miss, 23);
-    figures_by(slack, limited, slack_of_limited, full, 23); /* rule 1 out of the width order */
+    static const uint32_t response_times_of_full[3] = { 2, 5, 4 }, slack_of_limited[3] = { 0, 0, 3 }, bounds_of_limited[3] = { 1, 2, 3 };
+    figures_by(response_times, full, 0, response_times_of_full, miss, 13);
+    figures_by(slack, limited, 0, slack_of_limited, miss, 23);
+    figures_by(slack, limited, 0, slack_of_limited, full, 23); /* rule 1 out of the width order */
+    figures_by(bounded, limited, 1, bounds_of_limited, miss, 0);
+    figures_by(bounded, limited, 1, bounds_of_limited, full, 0); /* accepted, and does not pass */
 }
 
 /* Every lent slice afresh, and a plan of the table in `run`: the run at tick 0, and its phases noted, S being 0. */

@@ -51,6 +51,7 @@ static uint32_t withdraw_all(uint32_t set) { return sivorandra_withdraw_all(run,
 static uint32_t sentence(size_t len) { return sivorandra_sentence(table, words, rows, len, answer, SIVORANDRA_ANSWER_WORDS); }
 static uint32_t response_times(void) { return sivorandra_response_times(table, words, run, SIVORANDRA_MOST_TASKS, answer, SIVORANDRA_ANSWER_WORDS); }
 static uint32_t slack(void) { return sivorandra_slack(table, words, run, SIVORANDRA_MOST_TASKS, answer, SIVORANDRA_ANSWER_WORDS); }
+static uint32_t bounds(void) { return sivorandra_bounds(table, words, run, SIVORANDRA_MOST_TASKS, answer, SIVORANDRA_ANSWER_WORDS); }
 static uint32_t begin(void) { return sivorandra_check_begin(table, words, run, PLAN, answer, SIVORANDRA_ANSWER_WORDS); }
 static uint32_t take(uint8_t a, uint8_t b)
 {
@@ -137,6 +138,11 @@ static void numbers(void)
     table[RULE] = SIVORANDRA_LENDING, expect("the same under lending", slack(), SIVORANDRA_SLACK_NOT_GIVEN, 0);
     with(C, 6), table[RULE] = SIVORANDRA_LIMITED, expect("a miss under limited", slack(), SIVORANDRA_SLACK_NOT_GIVEN, 0);
     with(V, 3), table[RULE] = SIVORANDRA_IDLING, expect("too wide, asked for the slack", slack(), SIVORANDRA_BAD_WIDTH, 1);
+    with(V, 3), expect("too wide, asked for the bounds", bounds(), SIVORANDRA_BAD_WIDTH, 1);
+    fresh(2), expect("bounds", bounds(), PASSES, 0);
+    expect("that are there", answer[1] != 1 || run[0] != 1 || run[1] != 1 || run[2] != 0, PASSES, 0);
+    with(C, 6), expect("a miss has no bounds", bounds(), PASSES, 0);
+    expect("none", answer[1] != 0 || run[0] != 0, PASSES, 0);
 
     /* plans by others: a row without a task is idle */
     with(V, 3), expect("too wide for a plan by others", begin(), SIVORANDRA_BAD_WIDTH, 1);

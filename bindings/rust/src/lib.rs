@@ -29,7 +29,7 @@ pub use refusal::Refusal;
 use std::fmt;
 
 /// The version that these bindings are for: major * 10000 + minor * 100 + patch. `version` is that of the library that is linked.
-pub const VERSION: u32 = 1800;
+pub const VERSION: u32 = 1900;
 
 /// The most tasks on a chain, and the most records of a table.
 pub const MOST_TASKS: usize = 32;
@@ -333,6 +333,7 @@ extern "C" {
     fn sivorandra_response_times(words: *const u32, words_len: usize, figures: *mut u32, figures_len: usize, answer: *mut u32, answer_len: usize) -> u32;
     fn sivorandra_conflict(words: *const u32, words_len: usize, answer: *mut u32, answer_len: usize) -> u32;
     fn sivorandra_slack(words: *const u32, words_len: usize, figures: *mut u32, figures_len: usize, answer: *mut u32, answer_len: usize) -> u32;
+    fn sivorandra_bounds(words: *const u32, words_len: usize, figures: *mut u32, figures_len: usize, answer: *mut u32, answer_len: usize) -> u32;
     fn sivorandra_check_begin(words: *const u32, words_len: usize, plan: *mut u32, plan_len: usize, answer: *mut u32, answer_len: usize) -> u32;
     fn sivorandra_check_row(plan: *mut u32, plan_len: usize, row: *const u8, row_len: usize, answer: *mut u32, answer_len: usize) -> u32;
 }
@@ -526,6 +527,26 @@ pub fn conflict(words: &[u32]) -> Result<u32, Refusal> {
 /// ```
 pub fn slack(words: &[u32]) -> Result<[u32; MOST_TASKS], Refusal> {
     figures(|figures, most, answer, len| unsafe { sivorandra_slack(words.as_ptr(), words.len(), figures, most, answer, len) })
+}
+
+/// The response-time bounds of a table's words, by the interference test, without simulation. `Some`: the table passes, so it never misses a deadline, and at full length
+/// no job of a task takes more ticks from release to end than the task's bound, that of position 1 first, and 0 past the last task. `None`: the table does not pass, and may be
+/// accepted all the same; `judge` decides. A bound is at least the figure of `response_times`, and at most D.
+///
+/// ```
+/// use sivorandra::{bounds, judge, Refusal, Verdict};
+///
+/// let mut table = [1, 1, 2, 0, 0, 2, 0, 1, 1, 4, 4, 1, 0, 0, 1, 1, 3, 4, 1];
+/// assert_eq!(bounds(&table)?.map(|bounds| [bounds[0], bounds[1], bounds[2]]), Some([1, 2, 0]));
+/// table[16] = 1; // the deadline of position 2
+/// assert_eq!(bounds(&table)?, None);
+/// assert_eq!(judge(&table)?, Verdict::Miss { tick: 1, position: 2 });
+/// # Ok::<(), Refusal>(())
+/// ```
+pub fn bounds(words: &[u32]) -> Result<Option<[u32; MOST_TASKS]>, Refusal> {
+    let mut found = [0; MOST_TASKS];
+    let passes = given(ask(|answer, len| unsafe { sivorandra_bounds(words.as_ptr(), words.len(), found.as_mut_ptr(), found.len(), answer, len) }))?;
+    Ok((passes == 1).then_some(found))
 }
 
 /// Starts a run, applies the entries of a list to it, and asks for its row with no empty job.

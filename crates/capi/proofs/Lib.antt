@@ -24,4 +24,5 @@ pub mod SentenceExamples
 pub mod FigureExamples
 pub mod ConflictExamples
 pub mod SlackExamples
+pub mod BoundsExamples
 pub mod SuppliedExamples

@@ -4,6 +4,7 @@ ghost use mathlib.Core.Path.{_≡_};
 ghost use Prim.Native.Nat.{_≤_};
 ghost use lib.ListN.{length, drop};
 ghost use Rattle.model.specs.Sizes.{mostTasks};
+ghost use Rattle.capi.specs.Figures.{metWord};
 use model::MOST_TASKS;
 
 // Writes the numbers; the words after them stay.
@@ -16,4 +17,14 @@ pub(crate) fn put_figures(figures: [u32; MOST_TASKS], words: &mut [u32])
         words[i] = figures[i];
         i += 1;
     }
+}
+
+// 1 where a table passes the interference test, 0 where it does not.
+pub(crate) fn met_word(met: bool) -> u32
+    ensures { λ r. ⌜ r ≡ metWord met ⌝ }
+{
+    if met {
+        return 1;
+    }
+    0
 }

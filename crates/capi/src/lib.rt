@@ -8,7 +8,7 @@ ghost use Rattle.capi.specs.Calls.{judgeCall, planCall, conflictCall};
 ghost use Rattle.capi.specs.Replays.{replayCall};
 ghost use Rattle.capi.specs.Runs.{startCall, rowCall, setsCall, advanceCall, withdrawCall, withdrawAllCall};
 ghost use Rattle.capi.specs.Sentences.{sentenceCall, factsCall};
-ghost use Rattle.capi.specs.Figures.{responseTimesCall, slackCall};
+ghost use Rattle.capi.specs.Figures.{boundsCall, responseTimesCall, slackCall};
 ghost use Rattle.capi.specs.CheckRow.{beginCall, checkRowCall};
 ghost use Rattle.capi.specs.Version.{version};
 use model::MOST_TASKS;
@@ -22,7 +22,7 @@ mod plan_buffer; // plan_buffer.rt: a supplied plan in a lent buffer of words
 mod answer_words; // answer_words.rt: an answer in three words
 
 // The version of the library as one number: major * 10000 + minor * 100 + patch.
-const VERSION: u32 = 1800;
+const VERSION: u32 = 1900;
 
 // The version of the library that is linked; the header has its own.
 #[no_mangle]
@@ -320,6 +320,29 @@ pub extern "C" fn sivorandra_slack(words: &[u32], figures: &mut [u32], answer: &
     figures::put_figures(slack, figures);
     let given = found.answer;
     let encoded = answer_words::of_given(given, 0);
+    answer_words::put(encoded, answer);
+    0
+}
+
+// The response-time bound of each task of a table's words into the first 32 words of `figures`, 0 past the last task: case 0 and 1 where the table passes
+// the interference test; case 0 and 0 where it does not, and 32 zeros; or 3 Refused number position and 32 zeros.
+#[no_mangle]
+pub extern "C" fn sivorandra_bounds(words: &[u32], figures: &mut [u32], answer: &mut [u32]) -> u32
+    ensures { λ r. ⌜ record { value = r; lent = now (figures .exit) ∷ (now (answer .exit) ∷ []) } ≡ boundsCall (now (words .entry)) (now (figures .entry)) (now (answer .entry)) ⌝ }
+{
+    if answer.len() < 3 {
+        return 1;
+    }
+    if figures.len() < MOST_TASKS {
+        return 1;
+    }
+    let found = interference::response_bounds(words);
+    let tested = found.tested;
+    let bounds = tested.bounds;
+    figures::put_figures(bounds, figures);
+    let given = found.answer;
+    let met = figures::met_word(tested.met);
+    let encoded = answer_words::of_given(given, met);
     answer_words::put(encoded, answer);
     0
 }

@@ -1,4 +1,5 @@
-// The verdict and the first miss by the faster of the two judges. The choice depends on the table alone: on the number of events of its tasks in a sample of
+// The verdict and the first miss by the fastest way. A table that passes the interference test misses no deadline, and is not simulated.
+// Else the faster of the two judges answers. The choice depends on the table alone: on the number of events of its tasks in a sample of
 // ticks. Where nearly every tick is an event, the tick judge is faster, else the event judge.
 ghost use mathlib.Core.Path.{_≡_};
 ghost use Prim.Native.Nat.{_+_, _≤_, suc};
@@ -18,6 +19,10 @@ pub fn first_miss(table: Loaded, end: u32) -> Missed
     requires { ⌜ Fit table × (end ≤ table .horizon + 1) ⌝ }
     ensures { λ r. ⌜ MissedOf (loadedTable table) end r ⌝ }
 {
+    let tested = interference::test(table);
+    if tested.met {
+        return Missed::Never;
+    }
     if cost::ticks_cheaper(table) {
         return judge::misses::first_miss(table, end);
     }

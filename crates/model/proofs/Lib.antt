@@ -36,3 +36,9 @@ pub mod Withdraw
 pub mod WithdrawSet
 pub mod Counts
 pub mod LendingExample
+pub mod Waiting
+pub mod Shares
+pub mod Interference
+pub mod Tries
+pub mod Windows
+pub mod InterferenceExamples

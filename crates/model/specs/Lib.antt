@@ -16,3 +16,4 @@ pub mod Horizon
 pub mod Verdict
 pub mod FirmGuarantee
 pub mod Local
+pub mod Interference

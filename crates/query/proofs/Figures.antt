@@ -1,4 +1,5 @@
 -- The lines of numbers: one line more, as it is written; and the meaning of an answer. Assumes nothing.
+use mathlib.Core.Bool.{Bool, false, true}
 use mathlib.Core.List.{List, [], _∷_, _++_, append-assoc, append-nil}
 use mathlib.Core.Path.{_≡_, refl, ap, sym, _∙_, subst}
 use Prim.Native.Nat.{ℕ, suc, _+_, _≤_, _<_}
@@ -23,8 +24,10 @@ use Rattle.response_time.specs.Numbers.{words}
 use Rattle.slack.specs.declared.SlackAnswer.{SlackAnswer}
 use Rattle.slack.specs.Answer.{SlackOf}
 use Rattle.slack.specs.Numbers as sparing
-use Rattle.query.specs.Figures.{figureLines, figureLinesBy}
-use Rattle.query.specs.Query.{responseTimesText, slackText}
+use Rattle.interference.specs.declared.Bounds.{Bounds}
+use Rattle.interference.specs.Bounds.{BoundsOf}
+use Rattle.query.specs.Figures.{boundLinesBy, figureLines, figureLinesBy, noBoundsLine}
+use Rattle.query.specs.Query.{boundsText, responseTimesText, slackText}
 
 -- a line for each number, from position 1 on, as it is printed
 pub figures-printed : figureLines 0 (2 ∷ 50 ∷ []) ≡ letters "1 2" ++ (newline ∷ (letters "2 50" ++ (newline ∷ [])))
@@ -112,3 +115,32 @@ module _ (ws : List ℕ) (r : SlackAnswer) (h : SlackOf ws r) where
   -- no number turns down a table whose slack is given
   pub slack-none : r .answer ≡ Passed → NoneApplies ws
   slack-none e n p a = h .passed .0 (ap loadMeaning e) n p (sparing.words n p a)
+
+-- WHAT `response_bounds` ANSWERS
+
+module _ (ws : List ℕ) (r : Bounds) (h : BoundsOf ws r) where
+  -- what is said goes by it
+  bounds-by : boundLinesBy (r .tested .met) (r .answer) (take (length (tableOf ws .tasks)) (r .tested .bounds)) ≡ boundsText ws
+  unfolding boundsText
+  bounds-by =
+      ap (λ (w : Bounds). boundLinesBy (w .tested .met) (w .answer) (take (length (tableOf ws .tasks)) (w .tested .bounds))) (h .value)
+
+  pub bounds-met : r .tested .met ≡ true → figureLinesBy (r .answer) (take (length (tableOf ws .tasks)) (r .tested .bounds)) ≡ boundsText ws
+  bounds-met e =
+      ap (λ (t : Bool). boundLinesBy t (r .answer) (take (length (tableOf ws .tasks)) (r .tested .bounds))) (sym e) ∙ bounds-by
+
+  pub bounds-unmet : r .tested .met ≡ false → noBoundsLine (r .answer) ≡ boundsText ws
+  bounds-unmet e =
+      ap (λ (t : Bool). boundLinesBy t (r .answer) (take (length (tableOf ws .tasks)) (r .tested .bounds))) (sym e) ∙ bounds-by
+
+  -- no number turns down a table whose test is given
+  pub bounds-none : r .answer ≡ Passed → NoneApplies ws
+  bounds-none e = h .passed .0 (ap loadMeaning e)
+
+-- that there are none, or the refusal
+pub none-text : (a : Answer) → a ≡ Passed → letters "none" ++ (newline ∷ []) ≡ noBoundsLine a
+none-text a e = ap noBoundsLine (sym e)
+
+pub none-refused : (a : Answer) (n p : ℕ) → a ≡ Refused n p → lineOf (letters "refused") (n ∷ p ∷ []) ≡ noBoundsLine a
+unfolding firstLine
+none-refused a n p e = ap noBoundsLine (sym e)

@@ -1,5 +1,5 @@
 -- The answer to a question on a table: the first line of the input is the question's word, and the table follows.
-use mathlib.Core.Bool.{cond}
+use mathlib.Core.Bool.{Bool, cond}
 use mathlib.Core.List.{List, [], _∷_, _++_}
 use Prim.Native.Nat.{ℕ, _+_}
 use lib.ListN.{length, take, drop}
@@ -15,9 +15,10 @@ use Rattle.sentence.specs.SentenceAnswer.{SentenceOutcome, ofLength, refusedBy,
 use Rattle.response_time.specs.ResponseTimes.{responseTimesOf}
 use Rattle.conflict.specs.Answer.{conflictOf}
 use Rattle.slack.specs.Answer.{slackOf}
+use Rattle.interference.specs.Bounds.{boundsOf}
 use Rattle.query.specs.declared.Question.{Question}
-use Rattle.query.specs.declared.Question.the-variants.{Why, ResponseTimes, Conflict, Slack}
-use Rattle.query.specs.Figures.{figureLinesBy}
+use Rattle.query.specs.declared.Question.the-variants.{Why, ResponseTimes, Conflict, Slack, Bounds}
+use Rattle.query.specs.Figures.{boundLinesBy, figureLinesBy}
 use Rattle.query.specs.Positions.{positionsBy}
 
 -- the most bytes of an answer: a sentence, of at most 700 bytes while ticks are at most 1,000,000,000, and a newline
@@ -45,12 +46,18 @@ conflictText ws = positionsBy (conflictOf ws .answer) (conflictOf ws .kept)
 unfoldable pub slackText : List ℕ → List ℕ
 slackText ws = figureLinesBy (slackOf ws .answer) (take (length (tableOf ws .tasks)) (slackOf ws .slack))
 
+-- the response-time bound of each task where the table passes the interference test, or `none` where it does not, or the refusal
+unfoldable pub boundsText : List ℕ → List ℕ
+boundsText ws =
+    boundLinesBy (boundsOf ws .tested .met) (boundsOf ws .answer) (take (length (tableOf ws .tasks)) (boundsOf ws .tested .bounds))
+
 -- the answer to a question on the words of a table
 abbrev pub answerTo : Question → List ℕ → List ℕ
 answerTo Why ws = whyOf ws
 answerTo ResponseTimes ws = responseTimesText ws
 answerTo Conflict ws = conflictText ws
 answerTo Slack ws = slackText ws
+answerTo Bounds ws = boundsText ws
 
 -- the word of a question and a newline
 abbrev pub wordOf : Question → List ℕ
@@ -58,6 +65,7 @@ wordOf Why = letters "why" ++ (newline ∷ [])
 wordOf ResponseTimes = letters "longest" ++ (newline ∷ [])
 wordOf Conflict = letters "clash" ++ (newline ∷ [])
 wordOf Slack = letters "spare" ++ (newline ∷ [])
+wordOf Bounds = letters "bounds" ++ (newline ∷ [])
 
 -- .. on the table after the word
 abbrev pub answerAfterWord : Question → List ℕ → List ℕ
@@ -74,7 +82,7 @@ queryOutputOf (q ∷ qs) bs = cond (startsWith (wordOf q) bs) (answerAfterWord q
 
 -- all questions; no word is the beginning of another's
 abbrev pub questions : List Question
-questions = Why ∷ ResponseTimes ∷ Conflict ∷ Slack ∷ []
+questions = Why ∷ ResponseTimes ∷ Conflict ∷ Slack ∷ Bounds ∷ []
 
 -- everything that is printed for the bytes of an input
 unfoldable pub queryOutput : List ℕ → List ℕ

@@ -2,7 +2,8 @@
 // The question `why` is answered by the miss in a sentence, and by the verdict's line where the table has no miss or is refused;
 // `longest` by a line for each task, its position and the worst-case response time of its jobs, or by the refusal;
 // `clash` by one line, the positions of the tasks in conflict, or by the refusal;
-// `spare` by a line for each task, its position and its slack, or by the refusal.
+// `spare` by a line for each task, its position and its slack, or by the refusal;
+// `bounds` by a line for each task, its position and its response-time bound, by `none` where the table does not pass the interference test, or by the refusal.
 ghost use mathlib.Core.Path.{_≡_};
 ghost use mathlib.Core.Bool.{cond};
 ghost use Prim.Native.Nat.{_+_, _≤_};
@@ -16,9 +17,9 @@ ghost use Rattle.text.specs.Format.{wordsOf, numbersIn};
 ghost use Rattle.stream.specs.Sent.{SentOf};
 ghost use Rattle.stream.specs.Answered.{Answered};
 ghost use Rattle.sentence.specs.Reading.{startsWith};
-ghost use Rattle.query.specs.Figures.{figureLines, figureLinesBy};
+ghost use Rattle.query.specs.Figures.{figureLines, figureLinesBy, noBoundsLine};
 ghost use Rattle.query.specs.Positions.{spacedAt, positionLine};
-ghost use Rattle.query.specs.Query.{answerRoom, whyOf, responseTimesText, conflictText, slackText, answerTo, wordOf, queryOutput};
+ghost use Rattle.query.specs.Query.{answerRoom, whyOf, responseTimesText, conflictText, slackText, boundsText, answerTo, wordOf, queryOutput};
 use model::MOST_TASKS;
 use sentence::LONGEST;
 use sentence::SentenceAnswer;
@@ -34,6 +35,7 @@ enum Question {
     ResponseTimes,
     Conflict,
     Slack,
+    Bounds,
 }
 
 // The most bytes of a question's word and its newline.
@@ -168,6 +170,34 @@ fn slack(words: &[u32], lines: &mut [u8]) -> usize
     put_answer(words, answer, figures, lines)
 }
 
+// Writes that a table does not pass the interference test at the front of the line, or the refusal; returns where it ends.
+fn put_none(answer: Answer, line: &mut [u8]) -> usize
+    requires { ⌜ length (now line) ≡ answerRoom ⌝ }
+    ensures { λ r. ⌜ (r ≤ answerRoom) × (take r (now (line .exit)) ≡ noBoundsLine answer) ⌝ }
+{
+    match answer {
+        Answer::Passed => text::row::copy(b"none\n", 0, 5, line, 0),
+        Answer::Refused(number, position) => {
+            text::first::put_pair(line, b"refused", number, position)
+        }
+    }
+}
+
+// Writes the response-time bound of each task at the front of the lines, or that there is none, or the refusal; returns where they end.
+fn bounds(words: &[u32], lines: &mut [u8]) -> usize
+    requires { ⌜ length (now lines) ≡ answerRoom ⌝ }
+    ensures { λ r. ⌜ (r ≤ answerRoom) × (take r (now (lines .exit)) ≡ boundsText (now (words .entry))) ⌝ }
+{
+    let found = interference::response_bounds(words);
+    let answer = found.answer;
+    let tested = found.tested;
+    let figures = tested.bounds;
+    if tested.met {
+        return put_answer(words, answer, figures, lines);
+    }
+    put_none(answer, lines)
+}
+
 // Writes the answer to a question on a table at the front of the lines; returns where it ends.
 fn put(question: Question, words: &[u32], lines: &mut [u8]) -> usize
     requires { ⌜ length (now lines) ≡ answerRoom ⌝ }
@@ -178,6 +208,7 @@ fn put(question: Question, words: &[u32], lines: &mut [u8]) -> usize
         Question::ResponseTimes => response_times(words, lines),
         Question::Conflict => conflict(words, lines),
         Question::Slack => slack(words, lines),
+        Question::Bounds => bounds(words, lines),
     }
 }
 
@@ -213,6 +244,7 @@ fn table_after_word(question: Question, bytes: &[u8]) -> usize
         Question::ResponseTimes => after_word(bytes, b"longest\n"),
         Question::Conflict => after_word(bytes, b"clash\n"),
         Question::Slack => after_word(bytes, b"spare\n"),
+        Question::Bounds => after_word(bytes, b"bounds\n"),
     }
 }
 
@@ -225,6 +257,7 @@ fn print(bytes: &[u8]) -> Sent
         Question::ResponseTimes,
         Question::Conflict,
         Question::Slack,
+        Question::Bounds,
     ];
     let mut i: usize = 0;
     while i < questions.len() {

@@ -20,6 +20,9 @@ told-3 c = c .before .before
 abbrev told-4 : tie.After-slack → tie.After-enum-told4
 told-4 c = c .before .before
 
+abbrev told-5 : tie.After-bounds → tie.After-enum-told5
+told-5 c = c .before .before
+
 -- the state at the call
 abbrev entry : tie.After-enum-told → tie.Start
 entry c = c .before .before .before .before
@@ -32,6 +35,9 @@ entry-3 c = c .before .before .before .before
 
 abbrev entry-4 : tie.After-enum-told4 → tie.Start
 entry-4 c = c .before .before .before .before
+
+abbrev entry-5 : tie.After-enum-told5 → tie.Start
+entry-5 c = c .before .before .before .before
 
 enum-told : tie.Need-enum-told
 enum-told c = search needs
@@ -56,6 +62,12 @@ enum-told-4 c = search needs
 
 slack-requires : tie.Need-slack-requires
 slack-requires c κs = search needs
+
+enum-told-5 : tie.Need-enum-told-5
+enum-told-5 c = search needs
+
+bounds-requires : tie.Need-bounds-requires
+bounds-requires c κs = search needs
 
 same-length : tie.Need-same-length
 same-length c = search needs
@@ -97,6 +109,16 @@ returns-4 c =
     let ws = now (entry-4 t .args .words) in
     (y .slack .ensures .0, y .slack .ensures .1 ∙ ap (λ (q : Question). answerTo q ws) (sym (t .enum-told4 .given .1)))
 
+same-length-5 : tie.Need-same-length-5
+same-length-5 c = search needs
+
+returns-5 : tie.Need-returns-5
+returns-5 c =
+    let y = c .before .before in
+    let t = told-5 y in
+    let ws = now (entry-5 t .args .words) in
+    (y .bounds .ensures .0, y .bounds .ensures .1 ∙ ap (λ (q : Question). answerTo q ws) (sym (t .enum-told5 .given .1)))
+
 pub put-spec : {M : Type 1} → statement M
 put-spec =
     tie.close
@@ -109,6 +131,8 @@ put-spec =
     conflict-requires
     enum-told-4
     slack-requires
+    enum-told-5
+    bounds-requires
     same-length
     returns
     same-length-2
@@ -116,4 +140,6 @@ put-spec =
     same-length-3
     returns-3
     same-length-4
-    returns-4)
+    returns-4
+    same-length-5
+    returns-5)

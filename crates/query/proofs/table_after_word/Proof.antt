@@ -46,6 +46,15 @@ slice-aggregate-after-word-4 c = search needs
 after-word-requires-4 : tie.Need-after-word-requires-4
 after-word-requires-4 c κs = search needs
 
+enum-told-5 : tie.Need-enum-told-5
+enum-told-5 c = search needs
+
+slice-aggregate-after-word-5 : tie.Need-slice-aggregate-after-word-5
+slice-aggregate-after-word-5 c = search needs
+
+after-word-requires-5 : tie.Need-after-word-requires-5
+after-word-requires-5 c κs = search needs
+
 returns : tie.Need-returns
 returns c =
     let t = c .before .before in
@@ -70,6 +79,12 @@ returns-4 c =
     let bs = now (t .before .before .before .args .bytes) in
     c .after-word4 .ensures ∙ ap (λ (q : Question). cond (startsWith (wordOf q) bs) (length (wordOf q)) 0) (sym (t .enum-told4 .given .1))
 
+returns-5 : tie.Need-returns-5
+returns-5 c =
+    let t = c .before .before in
+    let bs = now (t .before .before .before .args .bytes) in
+    c .after-word5 .ensures ∙ ap (λ (q : Question). cond (startsWith (wordOf q) bs) (length (wordOf q)) 0) (sym (t .enum-told5 .given .1))
+
 pub table-after-word-spec : {M : Type 1} → statement M
 table-after-word-spec =
     tie.close
@@ -86,7 +101,11 @@ table-after-word-spec =
     enum-told-4
     slice-aggregate-after-word-4
     after-word-requires-4
+    enum-told-5
+    slice-aggregate-after-word-5
+    after-word-requires-5
     returns
     returns-2
     returns-3
-    returns-4)
+    returns-4
+    returns-5)

@@ -1,0 +1,5 @@
+-- How the interference test meets its contract.
+pub mod Sums
+pub mod Finding
+pub mod Passing
+pub mod Contract

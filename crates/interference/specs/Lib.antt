@@ -1,0 +1,2 @@
+-- What is promised of the interference test.
+pub mod Bounds
