@@ -397,12 +397,10 @@ class Listed:
         self.row(line)
 
     # What is said to a row asked, as sets too: nothing changes, but it can be refused.
-    def question(self, line, answer):
-        if answer and answer.startswith(b"refused "):
-            self.questions += 1
-            self.refused(line.decode(), answer)
+    def question(self, answer):
+        self.questions += answer.startswith(b"refused ")
 
-    # A line that is refused. Where a task is late the row has said it.
+    # A move that is refused. Where a task is late the row has said it.
     def refused(self, operation, answer):
         number, position = numbers_in(answer)
         self.refusals += 1
@@ -423,7 +421,7 @@ class Listed:
             for line, operation in sent:
                 read, since = read + 1, since + 1
                 if operation and operation[0] in "rs":
-                    self.question(line, next_line(process.stdout) if asks_empties(operation) else None)
+                    self.question(next_line(process.stdout) if asks_empties(operation) else b"")
                     continue
                 left = next_line(process.stdout) if has_empties(operation) else None
                 answer = next_line(process.stdout)
@@ -481,15 +479,17 @@ def list_words(listed, ticks):
     if listed.late:
         title += f": position {listed.late[1]} misses its deadline at tick {listed.late[0]}"
     elif listed.refusals:
-        title += f", {number_of(listed.refusals, 'line') if listed.questions else f'{listed.refusals:,}'} refused"
+        title += f", {listed.refusals:,} refused"
     elif listed.advances + listed.withdrawals:
         title += ", all taken" if listed.advances + listed.withdrawals > 1 else ", taken"
     red = listed.words[:]
     if listed.refusals > len(red) + bool(listed.late):
-        red.append(f"In all {number_of(listed.refusals, 'line')} of the list are refused." if listed.withdrawals or listed.questions else f"In all {number_of(listed.refusals, 'advance')} are refused.")
+        red.append(f"In all {number_of(listed.refusals, 'line')} of the list are refused." if listed.withdrawals else f"In all {number_of(listed.refusals, 'advance')} are refused.")
     if listed.late:
         tick, position, had = listed.late
         red.append(f"At tick {tick} the row is refused, number {LATE}, position {position}: its job is due and had {had} of {listed.table.tasks[position - 1].C}.")
+    if listed.questions:
+        red.append(f"{number_of(listed.questions, 'question')} for a row {'is' if listed.questions == 1 else 'are'} refused; --replay shows which.")
     return [title, about(listed.table), ticks, "These are the rows of the list, not of the full-length run."], red
 
 
@@ -538,7 +538,7 @@ def list_chart(listed):
     head, red = list_words(listed, f"{shown(start, end, count, listed.more)}: {what}.")
     sheet = Chart(listed.table, start, listed.rows, head, red)
     sheet.legend(*draw_listed(sheet, listed))
-    return Made(sheet.out(head[0], head[1:] + red + [words for _, words in told(listed)]), REFUSED if listed.late or listed.refusals else FINE, "ok")
+    return Made(sheet.out(head[0], head[1:] + red + [words for _, words in told(listed)]), REFUSED if listed.late or listed.refusals or listed.questions else FINE, "ok")
 
 
 # What `query`, which stands beside the program, says to a question on a table.

@@ -606,8 +606,6 @@ def list_title(run):
     if run.late:
         tick, position, _ = run.late
         return f"{title}: position {position} misses its deadline at tick {number(tick)}."
-    if run.questions:
-        return f"{title}; {number_of(run.refusals, 'line')} {'is' if run.refusals == 1 else 'are'} refused."
     if run.refusals:
         return f"{title}; {number(run.refusals)} of these {number_of(count, 'line')} {'is' if run.refusals == 1 else 'are'} refused." if count > 1 else f"{title}; it is refused."
     return f"{title}, {'all taken' if count > 1 else 'taken'}." if count else f"{title}."
@@ -645,7 +643,7 @@ def list_section(programs, word, first, second, table, name, lines, more, asked)
     inner += [caption(start, end, count, what, after=[" Above the full-length run, below the list's."], id="ticks"), *page.charts(sheets, titles, ["At full length", "With the list"]), *page.legend(sheets[1], keys)]
     inner += both_rows(table, run, full, differs[0]) if differs else []
     inner += [element("h3", "What it says of these ticks"), listing(events[:SAID] + ([f"And {number(len(events) - SAID)} more."] if len(events) > SAID else []))] if events else []
-    return section("What the list does", *inner, id="list"), title, REFUSED if run.late or run.refusals or wrong else FINE
+    return section("What the list does", *inner, id="list"), title, REFUSED if run.late or run.refusals or run.questions or wrong else FINE
 
 
 # ---- The page

@@ -3,11 +3,13 @@
 Nothing else in these tools starts a program, opens a list, writes to standard output or error, takes a signal or ends the process."""
 import contextlib
 import dataclasses
+import errno
 import io
 import os
 import re
 import select
 import signal
+import stat
 import subprocess
 import time
 from typing import Callable, Iterator, List, NamedTuple, Optional
@@ -134,6 +136,8 @@ class Bytes(io.RawIOBase):
     def __init__(self, descriptor: int):
         super().__init__()
         self.descriptor = descriptor
+        if stat.S_ISDIR(os.fstat(descriptor).st_mode):
+            raise OSError(errno.EISDIR, os.strerror(errno.EISDIR))
 
     def readable(self) -> bool:
         return True
