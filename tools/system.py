@@ -42,10 +42,6 @@ class Gone(Exception):
 class Stopped(BaseException):
     """A signal came."""
 
-    def __init__(self, number: int):
-        super().__init__(number)
-        self.number = number
-
 
 @dataclasses.dataclass(frozen=True)
 class Call:
@@ -180,7 +176,7 @@ class Source:
 # ---- The programs
 
 _running: List[subprocess.Popen] = []
-_starting, _pending = False, 0
+_starting, _ending, _pending = False, False, 0  # whether a program is being started, whether all is ending, the signal that came
 
 
 def start(command: List[str], given: Optional[bytes] = None) -> subprocess.Popen:
@@ -195,7 +191,7 @@ def start(command: List[str], given: Optional[bytes] = None) -> subprocess.Popen
     finally:
         _starting = False
         if _pending:
-            raise Stopped(_pending)
+            raise Stopped
     if given is not None:
         send(process, given)
         with contextlib.suppress(BrokenPipeError):
@@ -243,11 +239,11 @@ def first_line(process: subprocess.Popen, most: int = 1 << 12) -> bytes:
 # ---- The end
 
 def stop(number: int, _frame) -> None:
+    """A signal stops what is done, once a program that is being started is known; where all is ending anyway it changes nothing."""
     global _pending
-    if _starting:
-        _pending = number
-    else:
-        raise Stopped(number)
+    _pending = _pending or number
+    if not (_starting or _ending):
+        raise Stopped
 
 
 def fault(error: Exception) -> str:
@@ -280,21 +276,23 @@ def ended(mode: Callable[[Call], "tuple[int, str]"], call: Call) -> int:
 
 def main(mode: Callable[[Call], "tuple[int, str]"], call: Call) -> None:
     """Answers a mode and ends: what it has started with it, by a signal as the signal does."""
+    global _ending
     for number in SIGNALS:
         if signal.getsignal(number) != signal.SIG_IGN:
             signal.signal(number, stop)
     signal.signal(signal.SIGCHLD, signal.SIG_DFL)
-    status, number = TROUBLE, 0
+    status = TROUBLE
     try:
-        status = ended(mode, call)
-    except Stopped as stopped:
-        number = stopped.number
-    for one in SIGNALS:
-        signal.signal(one, signal.SIG_IGN)
+        try:
+            status = ended(mode, call)
+        finally:
+            _ending = True
+    except Stopped:
+        _ending = True
     for process in list(_running):
         end(process)
-    if number:
+    if _pending:
         LINE.clear()
-        signal.signal(number, signal.SIG_DFL)
-        os.kill(os.getpid(), number)
+        signal.signal(_pending, signal.SIG_DFL)
+        os.kill(os.getpid(), _pending)
     os._exit(ANSWERED + status)
