@@ -68,6 +68,8 @@ def played(program: List[str], table: bytes, lines: Iterable[bytes], name: str) 
     with system.running(program) as process:
         session = Session(process)
         tick, started = 0, session.started(table)
+        if not re.fullmatch(rb"ok|refused \d+ \d+", started):
+            raise Trouble(f"the program answered {started[:MOST]!r}")
         yield started
         if started != b"ok":
             return

@@ -4,6 +4,7 @@ Nothing else in these tools starts a program, opens a list, writes to standard o
 import contextlib
 import dataclasses
 import errno
+import fcntl
 import io
 import os
 import re
@@ -132,8 +133,9 @@ class Bytes(io.RawIOBase):
     def __init__(self, descriptor: int):
         super().__init__()
         self.descriptor = descriptor
-        if stat.S_ISDIR(os.fstat(descriptor).st_mode):
-            raise OSError(errno.EISDIR, os.strerror(errno.EISDIR))
+        for fails, number in (stat.S_ISDIR(os.fstat(descriptor).st_mode), errno.EISDIR), (fcntl.fcntl(descriptor, fcntl.F_GETFL) & os.O_ACCMODE == os.O_WRONLY, errno.EBADF):
+            if fails:
+                raise OSError(number, os.strerror(number))
 
     def readable(self) -> bool:
         return True
