@@ -146,7 +146,7 @@ static uint32_t take(const uint8_t *row_lent, size_t len) { return sivorandra_ch
 static uint32_t response_times(const uint32_t *table, size_t len) { return sivorandra_response_times(table, len, words_at(&numbers), numbers.len, ANSWER); }
 static uint32_t slack(const uint32_t *table, size_t len) { return sivorandra_slack(table, len, words_at(&numbers), numbers.len, ANSWER); }
 
-static uint32_t bounds(const uint32_t *table, size_t len) { return sivorandra_bounds(table, len, words_at(&numbers), numbers.len, ANSWER); }
+static uint32_t bounded(const uint32_t *table, size_t len) { return sivorandra_bounds(table, len, words_at(&numbers), numbers.len, ANSWER); }
 
 /* A slice of length 0 whose pointer is NULL. */
 #define NONE(slice) ((slice).len = 0, (slice).null = 1)
@@ -273,6 +273,7 @@ static void figures_by(uint32_t (*call)(const uint32_t *, size_t), const uint32_
 
 static void figures(void)
 {
+<<<<<<< ours
     static const uint32_t limited[TABLE] = { 1, 1, 2, 0, 0, 2, 0, 1, 1, 6, 6, 1, 3, 0, 1, 1, 2, 6, 1, 0, 0, 1, 1, 6, 6, 1 };
     static const uint32_t response_times_of_full[3] = { 2, 5, 4 }, slack_of_limited[3] = { 0, 0, 3 }, bounds_of_limited[3] = { 1, 2, 3 };
     figures_by(response_times, full, 0, response_times_of_full, miss, 13);
@@ -280,6 +281,15 @@ static void figures(void)
     figures_by(slack, limited, 0, slack_of_limited, full, 23); /* rule 1 out of the width order */
     figures_by(bounds, limited, 1, bounds_of_limited, miss, 0);
     figures_by(bounds, limited, 1, bounds_of_limited, full, 0); /* accepted, and does not pass */
+=======
+    static const uint32_t hurt[TABLE] = { 1, 1, 2, 0, 0, 2, 0, 1, 1, 6, 6, 1, 3, 0, 1, 1, 2, 6, 1, 0, 0, 1, 1, 6, 6, 1 };
+    static const uint32_t longest_of_full[3] = { 2, 5, 4 }, spare_of_hurt[3] = { 0, 0, 3 }, bounds_of_hurt[3] = { 1, 2, 3 };
+    figures_by(longest, full, 0, longest_of_full, miss, 13);
+    figures_by(spare, hurt, 0, spare_of_hurt, miss, 23);
+    figures_by(spare, hurt, 0, spare_of_hurt, full, 23); /* rule 1 out of the width order */
+    figures_by(bounded, hurt, 1, bounds_of_hurt, miss, 0);
+    figures_by(bounded, hurt, 1, bounds_of_hurt, full, 0); /* accepted, and does not pass */
+>>>>>>> theirs
 }
 
 /* Every lent slice afresh, and a plan of the table in `run`: the run at tick 0, and its phases noted, S being 0. */
