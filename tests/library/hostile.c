@@ -273,23 +273,13 @@ static void figures_by(uint32_t (*call)(const uint32_t *, size_t), const uint32_
 
 static void figures(void)
 {
-<<<<<<< ours
     static const uint32_t limited[TABLE] = { 1, 1, 2, 0, 0, 2, 0, 1, 1, 6, 6, 1, 3, 0, 1, 1, 2, 6, 1, 0, 0, 1, 1, 6, 6, 1 };
     static const uint32_t response_times_of_full[3] = { 2, 5, 4 }, slack_of_limited[3] = { 0, 0, 3 }, bounds_of_limited[3] = { 1, 2, 3 };
     figures_by(response_times, full, 0, response_times_of_full, miss, 13);
     figures_by(slack, limited, 0, slack_of_limited, miss, 23);
     figures_by(slack, limited, 0, slack_of_limited, full, 23); /* rule 1 out of the width order */
-    figures_by(bounds, limited, 1, bounds_of_limited, miss, 0);
-    figures_by(bounds, limited, 1, bounds_of_limited, full, 0); /* accepted, and does not pass */
-=======
-    static const uint32_t hurt[TABLE] = { 1, 1, 2, 0, 0, 2, 0, 1, 1, 6, 6, 1, 3, 0, 1, 1, 2, 6, 1, 0, 0, 1, 1, 6, 6, 1 };
-    static const uint32_t longest_of_full[3] = { 2, 5, 4 }, spare_of_hurt[3] = { 0, 0, 3 }, bounds_of_hurt[3] = { 1, 2, 3 };
-    figures_by(longest, full, 0, longest_of_full, miss, 13);
-    figures_by(spare, hurt, 0, spare_of_hurt, miss, 23);
-    figures_by(spare, hurt, 0, spare_of_hurt, full, 23); /* rule 1 out of the width order */
-    figures_by(bounded, hurt, 1, bounds_of_hurt, miss, 0);
-    figures_by(bounded, hurt, 1, bounds_of_hurt, full, 0); /* accepted, and does not pass */
->>>>>>> theirs
+    figures_by(bounded, limited, 1, bounds_of_limited, miss, 0);
+    figures_by(bounded, limited, 1, bounds_of_limited, full, 0); /* accepted, and does not pass */
 }
 
 /* Every lent slice afresh, and a plan of the table in `run`: the run at tick 0, and its phases noted, S being 0. */
