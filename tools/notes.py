@@ -1,9 +1,7 @@
-#!/usr/bin/env python3
-"""Says on standard error where a refused table is at fault, and of one that is not refused which records are on no chain: notes.py 'refused 5 0' < table
+"""Says where a refused table is at fault, and of one that is not refused which records are on no chain.
 
 It decides nothing: the number is the program's, and where the table has no such fault nothing is said. Lines count from 1, so word k stands on line k + 1."""
 import math
-import sys
 
 HEAD, RECORD = 5, 7  # words of a table and of a record
 MOST_BYTES, MOST_RECORDS, LARGEST, TICKS, HORIZON = 2519, 32, 2**32 - 1, 1_000_000, 1_000_000_000
@@ -187,9 +185,6 @@ def notes(text, answer):
     return [fault] if fault else []
 
 
-if __name__ == "__main__":
-    try:
-        said = notes(sys.stdin.buffer.read(MOST_BYTES + 1), " ".join(sys.argv[1:]))
-        sys.stderr.write("".join(f"sivorandra: {note}\n" for note in said))
-    except (OSError, KeyboardInterrupt):  # nobody is there to be told
-        pass
+def answer(call):
+    """The mode of the notes alone: the program's first line stands where a list would. What is to be said is said at its end."""
+    return 0, call.list

@@ -1,27 +1,24 @@
-#!/usr/bin/env python3
-"""Draws what the program prints for a table as an SVG 1.1: picture.py [--from TICK] [--to TICK] [--clash ANSWER | --replay LIST] PROGRAM... < table > out.svg
+"""Draws what the program prints for a table as an SVG 1.1: the modes of --picture.
 
 It decides nothing. The cells are the program's rows and the words are the program's verdict; releases, deadlines, the fence and the
 numbers beside each task are the table's; the longest answers are what the program `query` says, which stands beside it, and the job
 that is marked is found by its cells. The program's output is read as a stream: only the rows that are drawn are kept, and
-after the last of them the program is stopped. With --replay the program is `replay`: it is fed the table and the operations of LIST,
+after the last of them the program is stopped. Of a list the program is `replay`: it is fed the table and the operations,
 with a row asked at each tick, and the rows of the list are drawn. A list is read on after the last of these, to say how many there
-are and whether something is refused, but no more than a million lines. With --clash, what `query` said to `clash` on the table, the
-tasks in the clash alone are drawn: the program is handed the table with its chain linked over the others.
-The status is 0 where nothing is refused or missed, or the clash is drawn, 1 for a miss, 2 for a refusal, 3 where something could not be read or written, 64 for wrong arguments."""
+are and whether something is refused, but no more than a million lines. Of the clash the tasks in it alone are drawn: the program is
+handed the table with its chain linked over the others.
+The status is 0 where nothing is refused or missed, or the clash is drawn, 1 for a miss, 2 for a refusal."""
 import collections
-import contextlib
 import functools
 import math
 import os
 import re
-import subprocess
-import sys
 import time
 
+import system
 from chart import BLUE, Chart, Sheet, moments
+from system import Call, Declined, FINE, MISSED, Made, REFUSED, Trouble, USAGE, running
 
-LONGEST = 2520  # bytes: no table is longer, and the program reads no more
 BLOCK = 1 << 18  # bytes of rows that are passed over at once
 MOST = 100  # ticks in one picture
 HEAD, RECORD = 5, 7  # words of a table and of a record
@@ -70,24 +67,11 @@ REFUSALS = {
     17: ["The table misses no deadline at full length, so no task is in a clash.", "A picture without --clash shows its rows."],
     19: ["The fence (words 3 and 4) names a core past the count, or all cores."],
 }
-FINE, MISSED, REFUSED, TROUBLE, USAGE = 0, 1, 2, 3, 64
-
-
-# Not the words of the program: nothing is drawn.
-class Trouble(Exception):
-    pass
 
 
 # What is waited for has not come in time.
 class TooLong(Exception):
     pass
-
-
-# What was asked for cannot be drawn: what is said of it, and the status.
-class Declined(Exception):
-    def __init__(self, words, status):
-        super().__init__(words)
-        self.status = status
 
 
 # The table that the program took, its tasks in the order of its chain.
@@ -172,7 +156,7 @@ def refusal(number, position):
     sheet.text(16, 30, title, 17, font_weight="bold", id="refused")
     for k, line in enumerate(lines):
         sheet.text(16, 56 + 20 * k, line, 13)
-    return sheet.out(title, lines), REFUSED
+    return Made(sheet.out(title, lines), REFUSED, f"refused {number} {position}")
 
 
 # The program's lines after so many, which are passed over by whole blocks, up to a moment.
@@ -272,7 +256,7 @@ def chart(word, first, second, table, source, asked, answers):
     sheet.legend(*draw_rows(sheet, word, first, second, figures, had))
     tell = [f"The late job had {had} of {table.tasks[second - 1].C}."] if seen else []
     tell += [f"Longest answers: {', '.join(f'position {position} {figure} of {task.D}' for position, (figure, task) in enumerate(zip(figures, table.tasks), 1))}."] if figures else []
-    return sheet.out(head[0], head[1:] + tell), MISSED if word == "miss" else FINE
+    return Made(sheet.out(head[0], head[1:] + tell), MISSED if word == "miss" else FINE, word)
 
 
 def next_line(source):
@@ -300,13 +284,10 @@ def operation_in(line):
 
 
 # The lines of a list, some at a time; the first that is no operation is the last, whatever comes after it.
-def parts(name, source):
+def parts(source):
     part, fine = [], True
     while fine:
-        try:
-            line = source.readline(LINE)
-        except OSError as error:
-            raise Declined(f"{name} could not be read: {error.strerror}", TROUBLE)
+        line = source.readline(LINE)
         if not line:
             break
         line = line.removesuffix(b"\n")
@@ -326,7 +307,7 @@ class Listed:
         self.jobs = {}  # of a position's job that was released last: which it is, the ticks that it had or held, whether it ended
         self.rows, self.held, self.ended, self.empty, self.unused = [], set(), [], [], []
         self.withdrawn, self.out = set(), []  # the positions that are withdrawn, and the drawn ticks in which they were
-        self.refusals, self.marks, self.words, self.late = 0, {}, [], None
+        self.refusals, self.questions, self.marks, self.words, self.late = 0, 0, {}, [], None  # `questions`: the rows asked that are refused
         self.parsed = functools.lru_cache(1024)(lambda line: row_in(line.split()[1:], self.tick, table))
 
     def drawn(self):
@@ -415,7 +396,11 @@ class Listed:
         self.tick += 1
         self.row(line)
 
-    # An advance that is refused. Where a task is late the row has said it.
+    # What is said to a row asked, as sets too: nothing changes, but it can be refused.
+    def question(self, answer):
+        self.questions += answer.startswith(b"refused ")
+
+    # A move that is refused. Where a task is late the row has said it.
     def refused(self, operation, answer):
         number, position = numbers_in(answer)
         self.refusals += 1
@@ -430,13 +415,13 @@ class Listed:
     def follow(self, name, source, process):
         self.row(next_line(process.stdout))
         read = since = 0
-        for part in parts(name, source):
+        for part in parts(source):
             sent = [(line, operation_in(line)) for line in part]
-            process.stdin.write(b"".join(asking(line, operation) for line, operation in sent))
-            process.stdin.flush()
+            system.send(process, b"".join(asking(line, operation) for line, operation in sent))
             for line, operation in sent:
                 read, since = read + 1, since + 1
                 if operation and operation[0] in "rs":
+                    self.question(next_line(process.stdout) if asks_empties(operation) else b"")
                     continue
                 left = next_line(process.stdout) if has_empties(operation) else None
                 answer = next_line(process.stdout)
@@ -465,10 +450,15 @@ def has_empties(operation):
     return operation is not None and operation[0] == "a" and operation[2] > 0
 
 
-# What is sent for a line of a list: of a row asked, as sets too, nothing; before an advance with empty jobs the row that they leave, after a move the next row.
+# Whether an operation asks the row that empty jobs leave, as sets too.
+def asks_empties(operation):
+    return operation[0] in "rs" and any(operation[1:])
+
+
+# What is sent for a line of a list: of a row asked nothing, unless it has empty jobs; before an advance with empty jobs the row that they leave, after a move the next row.
 def asking(line, operation):
     if operation and operation[0] in "rs":
-        return b""
+        return line + b"\n" if asks_empties(operation) else b""
     return (b"r %d\n" % operation[2] if has_empties(operation) else b"") + line + b"\nr\n"
 
 
@@ -498,6 +488,8 @@ def list_words(listed, ticks):
     if listed.late:
         tick, position, had = listed.late
         red.append(f"At tick {tick} the row is refused, number {LATE}, position {position}: its job is due and had {had} of {listed.table.tasks[position - 1].C}.")
+    if listed.questions:
+        red.append(f"{number_of(listed.questions, 'question')} for a row {'is' if listed.questions == 1 else 'are'} refused; --replay shows which.")
     return [title, about(listed.table), ticks, "These are the rows of the list, not of the full-length run."], red
 
 
@@ -546,24 +538,12 @@ def list_chart(listed):
     head, red = list_words(listed, f"{shown(start, end, count, listed.more)}: {what}.")
     sheet = Chart(listed.table, start, listed.rows, head, red)
     sheet.legend(*draw_listed(sheet, listed))
-    return sheet.out(head[0], head[1:] + red + [words for _, words in told(listed)]), REFUSED if listed.late or listed.refusals else FINE
+    return Made(sheet.out(head[0], head[1:] + red + [words for _, words in told(listed)]), REFUSED if listed.late or listed.refusals or listed.questions else FINE, "ok")
 
 
-# A program that reads what it is sent. Leaving this closes its pipes: it stops at its next read or write, however many rows are left.
-def running(program):
-    return subprocess.Popen(program, stdin=subprocess.PIPE, stdout=subprocess.PIPE)
-
-
-# What `query`, which stands beside the program, says to a question on a table. Leaving this stops it.
-@contextlib.contextmanager
+# What `query`, which stands beside the program, says to a question on a table.
 def answering(program, question, text):
-    with running([os.path.join(os.path.dirname(program[-1]), "query")]) as process:
-        try:
-            process.stdin.write(question + text)
-            process.stdin.close()
-            yield process.stdout
-        finally:
-            process.kill()
+    return running([os.path.join(os.path.dirname(program[-1]), "query")], question + text)
 
 
 # The word and the two numbers of a verdict's line.
@@ -587,17 +567,15 @@ def relinked(text, records, kept):
     return b"".join(word + b"\n" for word in words)
 
 
-# The picture of a table, and the status; of the clash in it, where the table says so.
+# The picture of a table; of the clash in it, where the table says so.
 def draw(program, text, asked=Asked(), table=None):
-    with running(program) as process, answering(program, b"longest\n", text) as answers:
-        process.stdin.write(text)
-        process.stdin.close()
-        word, first, second = verdict_in(process.stdout.readline(64))
+    with running(program, text) as process, answering(program, b"longest\n", text) as answers:
+        word, first, second = verdict_in(system.first_line(process))
         if word == "refused":
             return refusal(first, second)
         if table and word != "miss":
             raise Trouble(f"the program's verdict is {word!r}")
-        return chart(word, first, second, table or table_of(text), process.stdout, asked, answers)
+        return chart(word, first, second, table or table_of(text), process.stdout, asked, answers.stdout)
 
 
 # The table with the positions in its clash, by what `query` answered.
@@ -608,94 +586,51 @@ def clash_in(answer, table):
     return table._replace(clash=kept)
 
 
-# The picture of the clash in a table by what `query` answered, and the status.
+# The picture of the clash in a table by what `query` answered.
 def draw_clash(program, text, answer, asked=Asked()):
     if answer.startswith("refused"):
         return refusal(*numbers_in(answer.encode()))
     table = clash_in(answer, table_of(text))
-    return draw(program, relinked(text, table.records, table.clash), asked, table)[0], FINE
-
-
-# What a list is called, and where it is read.
-def opened(path):
-    handed = re.fullmatch("/dev/fd/([0-9]+)", path)  # a descriptor that was handed down is read from where it stands
-    name = "the list" if handed else path
-    try:
-        return name, os.fdopen(int(handed[1]), "rb") if handed else open(path, "rb")
-    except OSError as error:
-        raise Declined(f"{name} could not be read: {error.strerror}", TROUBLE)
+    return draw(program, relinked(text, table.records, table.clash), asked, table)._replace(status=FINE, first=answer)
 
 
 # What start answers to a table, of which the row of tick 0 is asked too.
 def begun(process, text):
     # a line `--` in a table is none of ours, so it is made another that is no number; the last line has its newline
     text = re.sub(rb"(?m)^--$", b"---", text)
-    process.stdin.write(text + (b"" if text.endswith(b"\n") or not text else b"\n") + b"--\nr\n")
-    process.stdin.flush()
-    return next_line(process.stdout)
+    system.send(process, text + (b"" if text.endswith(b"\n") or not text else b"\n") + b"--\nr\n")
+    return system.first_line(process).removesuffix(b"\n")
 
 
-# The picture of a list of operations of a table, and the status.
-def draw_list(program, text, path, asked=Asked()):
-    name, source = opened(path)
-    with source, running(program) as process:
+# The picture of a list of operations of a table.
+def draw_list(program, text, source, asked=Asked()):
+    with running(program) as process:
         started = begun(process, text)
         if started != b"ok":
             return refusal(*numbers_in(started))
         listed = Listed(table_of(text), asked)
-        listed.follow(name, source, process)
+        listed.follow(source.name, source, process)
         return list_chart(listed)
 
 
-# Says what went wrong, where that can be said, and ends: what is still to be written to standard output is not.
-def fail(words, status=TROUBLE, who="picture"):
-    with contextlib.suppress(OSError):
-        os.write(2, f"{who}: {words}\n".encode("utf-8", "backslashreplace"))
-    os._exit(status)
+# ---- The modes
+
+def written(made: Made):
+    system.write(made.text.encode())
+    return made.status, made.first
 
 
-# The options before the program, and the program.
-def arguments(words):
-    given = {}
-    while words[:1] and words[0] in ("--from", "--to", "--clash", "--replay") and len(words) > 1:
-        given[words[0]] = words[1]
-        words = words[2:]
-    ticks = [given.get(name) for name in ("--from", "--to")]
-    if not words or words[0].startswith("--") or not all(tick is None or re.fullmatch("[0-9]{1,10}", tick) for tick in ticks):
-        fail("picture.py [--from TICK] [--to TICK] [--clash ANSWER | --replay LIST] PROGRAM... < table > out.svg", USAGE, "usage")
-    return Asked(*(tick and int(tick) for tick in ticks)), given.get("--clash"), given.get("--replay"), words
+def answer(call: Call):
+    return written(draw(call.program("sivorandra"), call.table, Asked(call.since, call.until)))
 
 
-def main():
-    try:
-        asked, clash, name, program = arguments(sys.argv[1:])
-    except Declined as declined:
-        fail(declined, declined.status, "sivorandra")
-    try:
-        text = sys.stdin.buffer.read(LONGEST + 1)
-    except (OSError, AttributeError):  # it is None where it is closed
-        fail("standard input could not be read")
-    try:
-        if clash is not None:
-            drawn, status = draw_clash(program, text, clash, asked)
-        else:
-            drawn, status = draw(program, text, asked) if name is None else draw_list(program, text, name, asked)
-    except Declined as declined:
-        fail(declined, declined.status, "sivorandra")
-    except (Trouble, OSError, ValueError, IndexError, KeyError, TypeError) as trouble:
-        fail(trouble)
-    try:
-        sys.stdout.buffer.write(drawn.encode())
-        sys.stdout.buffer.flush()
-    except BrokenPipeError:  # who reads has gone away
-        os._exit(TROUBLE)
-    except (OSError, AttributeError):
-        fail("standard output could not be written")
-    sys.exit(status)
+def answer_clash(call: Call):
+    asked, program = Asked(call.since, call.until), call.program("sivorandra")
+    with answering(program, b"clash\n", call.table) as clash:
+        said = system.first_line(clash).decode("ascii", "replace").removesuffix("\n")
+    return written(draw_clash(program, call.table, said, asked))
 
 
-if __name__ == "__main__":
-    try:
-        main()
-    except KeyboardInterrupt:  # stopped by a key
-        os._exit(130)
+def answer_list(call: Call):
+    asked = Asked(call.since, call.until)
+    return written(draw_list(call.program("replay"), call.table, system.Source(call.list, "the list"), asked))

@@ -1,62 +1,34 @@
-#!/usr/bin/env python3
-"""Runs the program, hands its output on as it is, and says on standard error from the second second on that it is judging, and then how many of the rows have gone by:
-progress.py [--judging] PROGRAM < table
+"""Hands standard input on to standard output as it is, and says on a terminal from the second second on that a table is being judged, and then how many of the rows have gone by.
 
-How many there will be it reads from the verdict line. With --judging it is silent from the first line on."""
+How many there will be it reads from the verdict line. The mode `judging` is silent from the first line on."""
+import contextlib
 import fcntl
 import os
 import select
-import signal
-import subprocess
-import sys
-import time
 
-QUIET = 2.0  # seconds before the first word
-EVERY = 0.5  # seconds between two words
+import system
+from system import Call, FINE
+
 BLOCK = 1 << 18  # bytes that are handed on at once
+F_SETPIPE_SZ = 1031  # a longer pipe, fewer turns
 
 
-# How many rows follow a verdict line.
-def rows_after(line):
+def rows_after(line: bytes) -> int:
+    """How many rows follow a verdict line."""
     fields = line.split()
-    if len(fields) != 3 or fields[0] == b"refused":
+    if len(fields) != 3 or fields[0] == b"refused" or not (fields[1] + fields[2]).isdigit():
         return 0
     return int(fields[1]) + (0 if fields[0] == b"miss" else int(fields[2]))
 
 
-def write_all(block):
-    while block:
-        block = block[os.write(1, block):]
-
-
-# The line that is rewritten, where somebody sees it.
-class Line:
-    def __init__(self, seen=True):
-        self.begun = self.last = time.monotonic()
-        self.seen, self.shown = seen, False
-
-    def say(self, words):
-        now = time.monotonic()
-        if self.seen and now - self.begun >= QUIET and now - self.last >= EVERY:
-            os.write(2, f"\r\033[Ksivorandra: {words}, {now - self.begun:.0f} s".encode())
-            self.last, self.shown = now, True
-
-    def clear(self):
-        if self.shown:
-            os.write(2, b"\r\033[K")
-        self.shown = False
-
-
-def hand_on(source, line, judging):
-    try:
-        fcntl.fcntl(source, 1031, BLOCK)  # F_SETPIPE_SZ: a longer pipe, fewer turns
-    except OSError:
-        pass
+def hand_on(counting: bool) -> None:
+    with contextlib.suppress(OSError):
+        fcntl.fcntl(0, F_SETPIPE_SZ, BLOCK)
     first, lines, total = b"", 0, None
     buffer = bytearray(BLOCK)
     while True:
-        if select.select([source], [], [], EVERY)[0]:
-            count = os.readv(source, [buffer])
+        if system.ready(0, select.POLLIN, system.EVERY):
+            count = os.readv(0, [buffer])
             if not count:
                 return
             if total is None:
@@ -64,37 +36,20 @@ def hand_on(source, line, judging):
                 if b"\n" in first:
                     total = rows_after(first[:first.index(b"\n")])
             lines += buffer.count(b"\n", 0, count)
-            if judging:
-                line.clear()
-            write_all(memoryview(buffer)[:count])
+            if not counting:
+                system.LINE.clear()
+            system.write(memoryview(buffer)[:count])
         if total is None:
-            line.say("still judging")
-        elif not judging:
-            line.say(f"{lines - 1:,} of {total:,} rows")
+            system.LINE.say("still judging")
+        elif counting:
+            system.LINE.say(f"{lines - 1:,} of {total:,} rows")
 
 
-def main():
-    judging = sys.argv[1:2] == ["--judging"]
-    signal.signal(signal.SIGTERM, signal.default_int_handler)  # stopped by it as by a key
-    line = Line()
-    process = subprocess.Popen(sys.argv[1 + judging:], stdout=subprocess.PIPE)
-    lost = False
-    try:
-        hand_on(process.stdout.fileno(), line, judging)
-    except BrokenPipeError:  # nobody reads any more: the program stops at its next write
-        pass
-    except OSError:
-        lost = True
-    except KeyboardInterrupt:
-        process.terminate()
-    line.clear()
-    process.stdout.close()
-    status = process.wait()
-    if lost:
-        os.write(2, b"sivorandra: standard output could not be written\n")
-        return 3
-    return status if status >= 0 else 128 - status
+def judging(_call: Call):
+    hand_on(False)
+    return FINE, ""
 
 
-if __name__ == "__main__":
-    sys.exit(main())
+def counting(_call: Call):
+    hand_on(True)
+    return FINE, ""

@@ -1,27 +1,26 @@
-#!/usr/bin/env python3
-"""Writes a page on a table: report.py [--name NAME] [--from TICK] [--to TICK] [--replay LIST] PROGRAM... < table > report.html
+"""Writes a page on a table: the modes of --report.
 
 It decides nothing. The verdict, the rows, the sentence on a miss, the clash, the longest answers, their bounds and the spare ticks are what the proved programs print, which stand beside
 PROGRAM; the tasks are the table's. What could be changed is the same table with one change, and the verdict on it the program's. It counts cells of printed rows, or where they are
 too many the jobs of one P by the table, and no more.
 What takes long is waited for so many seconds; then the page says that it is not there.
-The status is 0 where nothing is refused or missed, 1 for a miss, 2 for a refusal, 3 where something could not be read or written, 64 for wrong arguments."""
+The status is 0 where nothing is refused or missed, 1 for a miss, 2 for a refusal."""
 import collections
 import contextlib
 import io
 import os
 import re
 import subprocess
-import sys
 import time
 
 import notes
 import page
-import progress
 import picture
+import system
 from chart import Inset, colour
 from page import chip, element, listing, number, paragraph, section
-from picture import Declined, FENCED, FINE, HEAD, MISSED, RECORD, REFUSED, TROUBLE, TooLong, Trouble, USAGE, number_of
+from picture import FENCED, HEAD, RECORD, TooLong, number_of
+from system import Call, Declined, FINE, MISSED, Made, REFUSED, Trouble
 
 PATIENCE = 20  # seconds that an answer is waited for, once the verdict is there; where that took long, twice as long
 SHOWN = 200  # ticks in one picture of a page, where they are not too many bytes
@@ -79,7 +78,7 @@ def ticks(count):
 # The programs on one table. What has not answered at `until` has not; leaving this stops all of them.
 class Programs:
     def __init__(self, program, text):
-        self.program, self.text, self.stack, self.line = program, text, contextlib.ExitStack(), progress.Line()
+        self.program, self.text, self.stack = program, text, contextlib.ExitStack()
         self.notes = []  # what standard error is told
         self.begun, self.patience = time.monotonic(), PATIENCE
 
@@ -96,8 +95,9 @@ class Programs:
         return self
 
     def __exit__(self, *_):
-        self.line.clear()
-        sys.stderr.writelines(f"sivorandra: {note}\n" for note in self.notes)
+        system.LINE.clear()
+        for note in self.notes:
+            system.say(note)
         self.stack.close()
 
     def path(self, name):
@@ -105,24 +105,19 @@ class Programs:
 
     # A program that has been given all that it reads, started.
     def start(self, command, given):
-        process = self.stack.enter_context(picture.running(command))
-        self.stack.callback(process.kill)
-        process.stdin.write(given)
-        process.stdin.close()
-        return process
+        return self.stack.enter_context(system.running(command, given))
 
     # What a program says in time, or None. A terminal shows that it is waited for.
     def heard(self, process):
         process.stdin = None
         while True:
             try:
-                return process.communicate(timeout=max(0.1, min(progress.EVERY, self.until - time.monotonic())))[0]
+                return process.communicate(timeout=max(0.1, min(system.EVERY, self.until - time.monotonic())))[0]
             except subprocess.TimeoutExpired:
                 if time.monotonic() > self.until:
                     process.kill()
                     return None
-                if os.isatty(2):
-                    self.line.say("still asking")
+                system.LINE.say("still asking")
 
     def asking(self, question, text=None):
         return self.start([self.path("query")], question + b"\n" + (self.text if text is None else text))
@@ -479,7 +474,7 @@ def fullness_section(programs, first, second, table, listed):
     except TooLong:
         end, cells = first, None
     finally:
-        process.kill()
+        system.end(process)
     open_cores = [core for core in range(table.cores) if core not in table.fenced]
     length, whole = end - first, second * len(open_cores)
     where = f"tick {number(first)}" if length == 1 else f"ticks {number(first)} to {number(end - 1)}"
@@ -559,32 +554,29 @@ class Followed(picture.Listed):
 
 
 # The lines of a list, at most so many, and whether there are more. After one that is no operation nothing counts.
-def lines_of(name, source):
+def lines_of(source):
     kept = []
-    try:
-        while len(kept) < LINES:
-            line = source.readline(picture.LINE)
-            if not line:
-                return kept, False
-            kept.append(line if line.endswith(b"\n") else line + b"\n")
-            if picture.operation_in(line.removesuffix(b"\n")) is None:
-                return kept, False
-        return kept, bool(source.read(1))
-    except OSError as error:
-        raise Declined(f"{name} could not be read: {error.strerror}", TROUBLE)
+    while len(kept) < LINES:
+        line = source.readline(picture.LINE)
+        if not line:
+            return kept, False
+        kept.append(line if line.endswith(b"\n") else line + b"\n")
+        if picture.operation_in(line.removesuffix(b"\n")) is None:
+            return kept, False
+    return kept, bool(source.readline(1))
 
 
 # Plays lines through the program `replay`: what became of them, and what is said of one that is no operation.
 def play(programs, table, name, lines, asked):
-    with picture.running([programs.path("replay")]) as process:
+    with system.running([programs.path("replay")]) as process:
         if picture.begun(process, programs.text) != b"ok":
             raise Trouble("the program starts no run of a table that it accepted")
-        run, wrong = Followed(table, asked), None
+        followed, wrong = Followed(table, asked), None
         try:
-            run.follow(name, io.BytesIO(b"".join(lines)), process)
+            followed.follow(name, io.BytesIO(b"".join(lines)), process)
         except Declined as declined:
             wrong = str(declined)
-        return run, wrong
+        return followed, wrong
 
 
 # The row of a line of the program in words.
@@ -670,7 +662,7 @@ def list_section(programs, word, first, second, table, name, lines, more, asked)
     inner += [caption(start, end, count, what, after=[" Above the full-length run, below the list's."], id="ticks"), *page.charts(sheets, titles, ["At full length", "With the list"]), *page.legend(sheets[1], keys)]
     inner += both_rows(table, run, full, differs[0]) if differs else []
     inner += [element("h3", "What it says of these ticks"), listing(events[:SAID] + ([f"And {number(len(events) - SAID)} more."] if len(events) > SAID else []))] if events else []
-    return section("What the list does", *inner, id="list"), title, REFUSED if run.late or run.refusals or wrong else FINE
+    return section("What the list does", *inner, id="list"), title, REFUSED if run.late or run.refusals or run.questions or wrong else FINE
 
 
 # ---- The page
@@ -714,58 +706,26 @@ def accepted_page(programs, text, name, word, first, second, table, source, aske
                          answers_section(programs, word, table, answers, room, listed, bounds), fullness, changed, table_section(text, table, f"{word} {first} {second}"), footer()), status
 
 
-# The page on a table, and the status; `listed` is the list's name, its lines and whether there are more.
+# The page on a table; `listed` is the list's name, its lines and whether there are more.
 def report(program, text, name, asked=picture.Asked(), listed=None):
     with Programs(program, text) as programs:
         process = programs.start(program, text)
-        word, first, second = picture.verdict_in(process.stdout.readline(64))
+        word, first, second = picture.verdict_in(system.first_line(process))
         programs.judged()
         if word == "refused":
-            return refused_page(text, name, first, second), REFUSED
+            return Made(refused_page(text, name, first, second), REFUSED, f"refused {first} {second}")
         table = picture.table_of(text)
         if word == "miss":
-            return miss_page(programs, text, name, first, second, table, process.stdout, asked, listed), REFUSED if listed else MISSED
-        return accepted_page(programs, text, name, word, first, second, table, process.stdout, asked, listed)
+            made = miss_page(programs, text, name, first, second, table, process.stdout, asked, listed)
+            return Made(made, REFUSED, "refused 13 0") if listed else Made(made, MISSED, word)
+        return Made(*accepted_page(programs, text, name, word, first, second, table, process.stdout, asked, listed), word)
 
 
-# The options before the program, and the program.
-def arguments(words):
-    given = {}
-    while words[:1] and words[0] in ("--name", "--from", "--to", "--replay") and len(words) > 1:
-        given[words[0]] = words[1]
-        words = words[2:]
-    asked = [given.get(name) for name in ("--from", "--to")]
-    if not words or words[0].startswith("--") or not all(tick is None or re.fullmatch("[0-9]{1,10}", tick) for tick in asked):
-        picture.fail("report.py [--name NAME] [--from TICK] [--to TICK] [--replay LIST] PROGRAM... < table > report.html", USAGE, "usage")
-    return picture.Asked(*(tick and int(tick) for tick in asked)), given.get("--name", "a table"), given.get("--replay"), words
-
-
-def main():
-    try:
-        asked, name, path, program = arguments(sys.argv[1:])
-        text = sys.stdin.buffer.read(picture.LONGEST + 1)
-        listed = None
-        if path is not None:
-            called, source = picture.opened(path)
-            with source:
-                listed = called, *lines_of(called, source)
-        made, status = report(program, text, name, asked, listed)
-    except Declined as declined:
-        picture.fail(declined, declined.status, "sivorandra")
-    except (Trouble, OSError, ValueError, IndexError, KeyError, TypeError, AttributeError) as trouble:
-        picture.fail(trouble, TROUBLE, "report")
-    try:
-        sys.stdout.buffer.write(made.encode())
-        sys.stdout.buffer.flush()
-    except BrokenPipeError:  # who reads has gone away
-        os._exit(TROUBLE)
-    except (OSError, AttributeError):
-        picture.fail("standard output could not be written", TROUBLE, "report")
-    sys.exit(status)
-
-
-if __name__ == "__main__":
-    try:
-        main()
-    except KeyboardInterrupt:  # stopped by a key
-        os._exit(130)
+# The mode: the table is called by the last part of its file's name.
+def answer(call: Call):
+    asked, listed = picture.Asked(call.since, call.until), None
+    name = system.shown(call.file.rpartition("/")[2]) if call.file not in ("", "-") else "a table without a file name"
+    if call.list:
+        source = system.Source(call.list, "the list")
+        listed = source.name, *lines_of(source)
+    return picture.written(report(call.program("sivorandra"), call.table, name, asked, listed))

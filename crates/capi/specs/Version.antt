@@ -5,7 +5,7 @@ abbrev pub major : ℕ
 major = 0
 
 abbrev pub minor : ℕ
-minor = 19
+minor = 20
 
 abbrev pub patch : ℕ
 patch = 0

@@ -1,0 +1,41 @@
+"""The modes that Python answers: python3 -I -S tools NOTES MODE PROGRAMS TABLE FILE LIST FROM TO
+
+NOTES is the descriptor that notes go to, PROGRAMS the folder of the proved programs, TABLE a path to the table's bytes, FILE the table's name; what is not there is empty.
+Until all is loaded standard error is whatever the front has put there: it says in a note why a Python could not start."""
+import importlib
+import os
+import sys
+
+import system
+
+MODES = {  # module and function
+    "picture": ("picture", "answer"),
+    "clash picture": ("picture", "answer_clash"),
+    "picture replay": ("picture", "answer_list"),
+    "replay": ("replay", "answer"),
+    "check": ("check", "answer"),
+    "report": ("report", "answer"),
+    "report replay": ("report", "answer"),
+    "notes": ("notes", "answer"),
+    "judging": ("progress", "judging"),
+    "counting": ("progress", "counting"),
+}
+
+
+def bytes_of(path: str) -> bytes:
+    if not path:
+        return b""
+    with open(path, "rb") as source:
+        return source.read()
+
+
+def main(noted: str, mode: str, programs: str = "", table: str = "", file: str = "", listed: str = "", since: str = "", until: str = "") -> None:
+    name, function = MODES[mode]
+    answer = getattr(importlib.import_module(name), function)
+    call = system.Call(programs, bytes_of(table), file, listed, int(since) if since else None, int(until) if until else None)
+    os.dup2(int(noted), 2)
+    system.LINE = system.Line()
+    system.main(answer, call)
+
+
+main(*sys.argv[1:])
