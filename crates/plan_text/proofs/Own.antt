@@ -60,7 +60,7 @@ module _ (ws : List ℕ) (none : NoneApplies ws) where
   expressible rows a t h = (omega (arith, row .size, few-cores), λ c l. byte c (omega (arith, l, row .size)))
     where
       row : ValidRow s (rowAt rows) t
-      row = a .fine t (omega (arith, h, a .count))
+      row = a .rows-valid t (omega (arith, h, a .count))
 
       byte : (c : ℕ) → c < s .cores → getD (rowAt rows t) c 0 ≤ 255
       byte c l = by-fence (bit (s .fence) c) refl (eqb (getD (rowAt rows t) c 0) fencedByte) refl
