@@ -1,30 +1,30 @@
 # Completion of sivorandra for bash: the options that can still be added, and file names.
 _sivorandra() {
-    local word=${COMP_WORDS[COMP_CWORD]} before=${COMP_WORDS[COMP_CWORD - 1]} given options
+    local word=${COMP_WORDS[COMP_CWORD]} before=${COMP_WORDS[COMP_CWORD - 1]} given option other without=''
+    local options='--verdict --why --longest --spare --clash --picture --report --from --to --replay --check --help --version'
+    local alone='--verdict --why --longest --spare --check --help --version'
     COMPREPLY=()
     case $before in
     --from | --to) return ;;
-    --replay | --check) mapfile -t COMPREPLY < <(compgen -f -- "$word"); compopt -o filenames 2>/dev/null; return ;;
+    --replay | --check) options='' ;;
     esac
     given=" ${COMP_WORDS[*]:1:COMP_CWORD-1} "
-    case $given in
-    *' --help '* | *' --version '*) return ;;
-    *' --verdict '* | *' --why '* | *' --longest '* | *' --spare '* | *' --check '*) options='' ;;
-    *' --clash '*' --picture '* | *' --picture '*' --clash '*) options='--from --to' ;;
-    *' --clash '*) options='--picture' ;;
-    *' --picture '*' --replay '* | *' --replay '*' --picture '*) options='--from --to' ;;
-    *' --picture '*) options='--from --to --clash --replay' ;;
-    *' --report '*) options='--from --to --replay' ;;
-    *' --replay '*) options='--picture --report' ;;
-    *' --from '* | *' --to '*) options='--picture --report --from --to' ;;
-    *) options='--verdict --why --longest --spare --clash --picture --report --from --to --replay --check --help --version' ;;
-    esac
-    if [[ $word == -* ]]; then
-        local option
-        for option in $options; do
-            [[ $option != "$word"* || $given == *" $option "* ]] || COMPREPLY+=("$option")
-        done
-    else
+    [[ $given != *' --help '* && $given != *' --version '* ]] || return
+    for option in $options; do # each option rules out itself and those that it cannot stand beside
+        [[ $given == *" $option "* ]] || continue
+        without+=" $alone $option"
+        case $option in
+        --verdict | --why | --longest | --spare | --check) without+=" $options" ;;
+        --clash) without+=' --report --replay' ;;
+        --picture) without+=' --report' ;;
+        --report) without+=' --picture --clash' ;;
+        --replay) without+=' --clash' ;;
+        esac
+    done
+    for other in $options; do
+        [[ $other != "$word"* || $word != -* || "$without " == *" $other "* ]] || COMPREPLY+=("$other")
+    done
+    if [[ $word != -* ]]; then
         mapfile -t COMPREPLY < <(compgen -f -- "$word")
         compopt -o filenames 2>/dev/null
     fi
